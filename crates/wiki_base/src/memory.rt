@@ -1,0 +1,18 @@
+// Want of memory, the one free answer.
+use std::alloc::{AllocError, AllocFailed};
+
+/// An allocation was refused. It may come from any call that allocates, and tells nothing else.
+#[derive(Clone, Copy, Debug, PartialEq, Eq)]
+pub struct Memory;
+
+impl From<AllocError> for Memory {
+    fn from(_: AllocError) -> Self {
+        Memory
+    }
+}
+
+impl<T: Drop> From<AllocFailed<T>> for Memory {
+    fn from(_: AllocFailed<T>) -> Self {
+        Memory
+    }
+}

@@ -1,0 +1,7 @@
+pub mod Concept
+pub mod Interpretation
+pub mod Meaning
+pub mod Reading
+pub mod Shown
+pub mod Structure
+pub mod Truth

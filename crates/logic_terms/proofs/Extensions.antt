@@ -29,10 +29,10 @@ in_cases r rs q h = elim (Contains-append_cases (r ∷ []) rs q h) [ inl a ↦ i
 not_in_none : (q : ℕ) → ¬ Contains [] q
 not_in_none q (k, h, e) = absurd (omega arith)
 
-same_at : (f : ℕ → ℕ) (r x q : ℕ) → r ≡ q → giving f r x q ≡ x
+pub same_at : (f : ℕ → ℕ) (r x q : ℕ) → r ≡ q → giving f r x q ≡ x
 same_at f r x q e = cond-true (q == r) x (f q) (eq-eqb q r (sym e))
 
-other_at : (f : ℕ → ℕ) (r x q : ℕ) → ¬ (r ≡ q) → giving f r x q ≡ f q
+pub other_at : (f : ℕ → ℕ) (r x q : ℕ) → ¬ (r ≡ q) → giving f r x q ≡ f q
 other_at f r x q ne = cond-false (q == r) x (f q) (ne_eqb q r (λ e. ne (sym e)))
 
 -- an extension to one more referent is an extension of an assignment that gives it an element

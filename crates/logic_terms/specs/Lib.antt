@@ -1,4 +1,5 @@
 pub mod Concept
+pub mod Free
 pub mod Interpretation
 pub mod Meaning
 pub mod Reading

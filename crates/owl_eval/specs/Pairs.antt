@@ -1,0 +1,11 @@
+-- Pairs of elements.
+use Rattle.std.specs.Prelude.{ℕ}
+use Rattle.std.specs.declared.cmp.Ordering.{Ordering}
+use Rattle.std.specs.Ordering.{nat_cmp, ordering_then}
+
+-- by the first element, then by the second
+abbrev pub pair_cmp : ℕ × ℕ → ℕ × ℕ → Ordering
+pair_cmp p q = ordering_then (nat_cmp p.0 q.0) (nat_cmp p.1 q.1)
+
+abbrev pub swapped : ℕ × ℕ → ℕ × ℕ
+swapped p = (p.1, p.0)

@@ -26,7 +26,7 @@ both_not true b = refl
 both_not false b = refl
 
 -- each passes where none fails
-list_all-not : {X : Type 0} (test : X → Bool) (xs : List X) → list_all test xs ≡ not (list_any (λ x. not (test x)) xs)
+pub list_all-not : {X : Type 0} (test : X → Bool) (xs : List X) → list_all test xs ≡ not (list_any (λ x. not (test x)) xs)
 list_all-not test [] = refl
 list_all-not test (x ∷ xs) = ap (λ o. test x && o) (list_all-not test xs) ∙ both_not (test x) (list_any (λ y. not (test y)) xs)
 

@@ -1,3 +1,6 @@
-pub mod Halving
+pub mod Arranged
 pub mod Filters
+pub mod Halving
+pub mod Lookups
 pub mod Runs
+pub mod Successors

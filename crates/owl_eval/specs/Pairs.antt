@@ -1,7 +1,11 @@
 -- Pairs of elements.
-use Rattle.std.specs.Prelude.{ℕ}
+use Rattle.std.specs.Prelude.{ℕ, List, [], map, unwrap_or, if◌then◌else◌}
+use Rattle.std.specs.Map.{lookup}
 use Rattle.std.specs.declared.cmp.Ordering.{Ordering}
 use Rattle.std.specs.Ordering.{nat_cmp, ordering_then}
+use Rattle.wiki_base.specs.declared.numbers.WordId.{WordId}
+use Rattle.logic_terms.specs.declared.expressions.Role.{Role}
+use Rattle.logic_terms.specs.Interpretation.{is_word}
 
 -- by the first element, then by the second
 abbrev pub pair_cmp : ℕ × ℕ → ℕ × ℕ → Ordering
@@ -9,3 +13,9 @@ pair_cmp p q = ordering_then (nat_cmp p.0 q.0) (nat_cmp p.1 q.1)
 
 abbrev pub swapped : ℕ × ℕ → ℕ × ℕ
 swapped p = (p.1, p.0)
+
+-- the pairs of a role
+abbrev pub pairs_along : Role → List (WordId × List (ℕ × ℕ)) → List (ℕ × ℕ)
+pairs_along role relations =
+    let pairs = unwrap_or (lookup (is_word role.id) relations) [] in
+    if role.inverted then map swapped pairs else pairs

@@ -2,5 +2,8 @@
 #![tactic(auto)]
 
 mod extent;
+mod interp;
 mod relation;
 mod sorted;
+
+pub use interp::Interp;

@@ -65,14 +65,14 @@ impl Relation {
     }
 
     // The pairs that begin with an element.
-    pub(crate) fn from(&self, from: u64) -> &[(u64, u64)]
+    pub(crate) fn starting_at(&self, from: u64) -> &[(u64, u64)]
         ensures { result.now ≡ filter (λ p. p.0 == from) self.now.1 }
     {
         run_of(self.pairs.as_slice(), from)
     }
 
     // The pairs that end with an element, that element first.
-    pub(crate) fn into(&self, to: u64) -> &[(u64, u64)]
+    pub(crate) fn ending_at(&self, to: u64) -> &[(u64, u64)]
         ensures some { (test : ℕ × ℕ → Bool) → list_any test result.now ≡ list_any (λ p. (p.0 == to) && test p) (map swapped self.now.1) }
         ensures each { (test : ℕ × ℕ → Bool) → list_all test result.now ≡ list_all (λ p. implies (p.0 == to) (test p)) (map swapped self.now.1) }
     {

@@ -4,7 +4,7 @@ use Rattle.std.specs.List.{list_any, list_all}
 use Rattle.logic_terms.specs.Meaning.{implies}
 use Rattle.owl_eval.specs.Pairs.{swapped}
 use Rattle.owl_eval.proofs.Filters.{list_any-filter, list_all-filter, list_all-IsPermutation}
-use Rattle.owl_eval.proofs.relation.Relation.into.Goals as goal
+use Rattle.owl_eval.proofs.relation.Relation.ending_at.Goals as goal
 
 pub returns-clause-some : goal.returns-clause-some
 returns-clause-some c test =

@@ -1,4 +1,5 @@
 pub mod Arranged
+pub mod Assignments
 pub mod Filters
 pub mod Halving
 pub mod Lookups

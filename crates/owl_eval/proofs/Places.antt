@@ -1,10 +1,10 @@
 -- What a loop knows of a test at the places that it has passed.
 use Rattle.std.proofs.Common.{◌≡◌, ℕ, zero, suc, ◌+◌, ◌<◌, ◌≤◌, ◌&&◌, ◌||◌, Bool, true, false, List, length, get_or, take, Some, slice_get, refl, sym, ap, ◌∙◌, subst, inl, inr, arith}
 use Rattle.std.specs.List.{list_any, list_all}
-use Rattle.std.proofs.lemmas.Bool.{and_from, or_from, and_left, and_right, cases_eq}
+use Rattle.std.proofs.lemmas.Bool.{and_from, or_from, and_left, and_right, or_left, or_right, cases_eq}
 use Rattle.std.proofs.lemmas.Option.{slice_get_within, get_or_from_slice_get}
 use Rattle.std.proofs.lemmas.List.Folds.{list_all_more, list_any_more, list_all_at, list_any_at}
-use Rattle.logic_terms.specs.Meaning.{each_below}
+use Rattle.logic_terms.specs.Meaning.{some_below, each_below}
 
 module _ {X : Type 0} (test : X → Bool) (xs : List X) (k : ℕ) (x : X) (at : slice_get xs k ≡ Some x) where
   pub each_more : list_all test (take k xs) ≡ true → test x ≡ true → list_all test (take (k + 1) xs) ≡ true
@@ -38,4 +38,16 @@ module _ (test : ℕ → Bool) (k : ℕ) where
   each_below_fails (suc n) lt here = elim (cases_eq k n) [
     inl same ↦ and_left (test n) (each_below n test) (ap test (sym same) ∙ here) |
     inr ne ↦ and_right (test n) (each_below n test) (each_below_fails n (omega arith) here)
+  ]
+
+module _ (test : ℕ → Bool) (k : ℕ) where
+  pub some_below_more : some_below k test ≡ false → test k ≡ false → some_below (k + 1) test ≡ false
+  some_below_more passed here =
+      ap (λ n. some_below n test) (sym (one_more k)) ∙ or_from (test k) (some_below k test) here passed
+
+  pub some_below_passes : (n : ℕ) → k < n → test k ≡ true → some_below n test ≡ true
+  some_below_passes zero lt here = absurd (omega arith)
+  some_below_passes (suc n) lt here = elim (cases_eq k n) [
+    inl same ↦ or_left (test n) (some_below n test) (ap test (sym same) ∙ here) |
+    inr ne ↦ or_right (test n) (some_below n test) (some_below_passes n (omega arith) here)
   ]

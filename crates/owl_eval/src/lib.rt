@@ -2,12 +2,16 @@
 #![tactic(auto)]
 
 mod axioms;
+mod checked;
 mod extent;
 mod interp;
 mod membership;
 mod relation;
 mod sorted;
+mod truth;
 
 pub use axioms::{axiom_true, is_model};
+pub use checked::CheckedModel;
 pub use interp::Interp;
 pub use membership::in_class;
+pub use truth::drs_true;

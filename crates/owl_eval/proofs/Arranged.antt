@@ -59,3 +59,16 @@ is_interpretation-arranged n names es fs ps qs classes relations = λ j.
     && list_all (λ e. nat_lt e.1 n) names
     && list_all-arranged nat_cmp (λ x. nat_lt x n) es fs classes j
     && list_all-arranged pair_cmp (λ p. nat_lt p.0 n && nat_lt p.1 n) ps qs relations j
+
+-- the words of lists in `Vec`s
+words_above-lists_in : {X : Type 0} (w : WordId) (es : List (WordId × Vec X Global)) → words_above w (lists_in es) ≡ words_above w es
+words_above-lists_in w [] = refl
+words_above-lists_in w (e ∷ es) = ap (λ b. nat_lt w.0 e.0.0 && b) (words_above-lists_in e.0 es)
+
+pub words_rise-lists_in : {X : Type 0} (es : List (WordId × Vec X Global)) → words_rise (lists_in es) ≡ words_rise es
+words_rise-lists_in [] = refl
+words_rise-lists_in (e ∷ es) = words_above-lists_in e.0 es
+
+pub list_all-lists_in : {X : Type 0} (test : List X → Bool) (es : List (WordId × Vec X Global)) → list_all (λ e. test e.1) (lists_in es) ≡ list_all (λ e. test e.1.items) es
+list_all-lists_in test [] = refl
+list_all-lists_in test (e ∷ es) = ap (λ b. test e.1.items && b) (list_all-lists_in test es)

@@ -1,11 +1,12 @@
 // The elements of a class word.
-ghost use Rattle.std.specs.Prelude.{◌≡◌, ◌==◌, IsSorted, IsPermutation};
+ghost use Rattle.std.specs.Prelude.{◌≡◌, ◌==◌, IsSorted, IsPermutation, IfOk};
 ghost use Rattle.std.specs.Ordering.{nat_cmp};
 ghost use Rattle.std.specs.List.{list_any};
 
 use crate::sorted::has_item;
+use std::alloc::Global;
 use std::marker::Model;
-use wiki_base::WordId;
+use wiki_base::{Memory, WordId};
 
 /// A class word and its elements, in rising order.
 #[derive(Drop)]
@@ -53,5 +54,15 @@ impl Extent {
         ensures { result ≡ list_any (λ x. x == element) self.now.1 }
     {
         has_item(self.elements.as_slice(), &element)
+    }
+
+    pub(crate) fn copy(&self, alloc: Global) -> Result<Self, Memory>
+        ensures { IfOk result (λ copied. copied ≡ self.now) }
+    {
+        let elements = Vec::from_slice(alloc, self.elements.as_slice())?;
+        Ok(Extent {
+            word: self.word,
+            elements,
+        })
     }
 }

@@ -1,5 +1,5 @@
 // Interpretations.
-ghost use Rattle.std.specs.Prelude.{◌≡◌, ◌==◌, ℕ, Bool, ◌<◌, ◌&&◌, length, IsTrue, IfOk, Some, slice_get, unwrap_or};
+ghost use Rattle.std.specs.Prelude.{◌≡◌, ◌==◌, ℕ, Bool, ◌<◌, ◌&&◌, length, IsTrue, IfOk, Some, slice_get, unwrap_or, nat_lt};
 ghost use Rattle.std.specs.Option.{option_map};
 ghost use Rattle.std.specs.Map.{lookup};
 ghost use Rattle.std.specs.Ordering.{nat_cmp};
@@ -59,6 +59,40 @@ impl Interp {
         let relations = indexed(alloc, relations)?;
         Ok(Interp {
             size,
+            names,
+            classes,
+            relations,
+        })
+    }
+
+    /// Whether these lists make an interpretation, which is what `new` asks of them.
+    pub fn fits(
+        size: u64,
+        names: &[(WordId, u64)],
+        classes: &[(WordId, Vec<u64>)],
+        relations: &[(WordId, Vec<(u64, u64)>)],
+    ) -> bool
+        ensures { result ≡ is_interpretation (given size names.now classes.now relations.now) }
+    {
+        size > 0
+            && words_rise(names)
+            && lists_rise(classes)
+            && lists_rise(relations)
+            && names_fit(size, names)
+            && classes_fit(size, classes)
+            && relations_fit(size, relations)
+    }
+
+    /// An equal interpretation in memory of its own.
+    pub fn copy(&self) -> Result<Interp, Memory>
+        ensures { IfOk result (λ copied. copied ≡ self.now) }
+    {
+        let alloc = *self.names.allocator();
+        let names = Vec::from_slice(alloc, self.names.as_slice())?;
+        let classes = copied_extents(alloc, self.classes.as_slice())?;
+        let relations = copied_relations(alloc, self.relations.as_slice())?;
+        Ok(Interp {
+            size: self.size,
             names,
             classes,
             relations,
@@ -228,4 +262,93 @@ fn indexed(
         made.push(Relation::new(alloc, word, pairs)?)?;
     }
     Ok(made)
+}
+
+// Whether the words rise.
+fn words_rise<T>(entries: &[(WordId, T)]) -> bool
+    ensures { result ≡ words_rise entries.now }
+{
+    let Some((first, rest)) = entries.split_first() else {
+        return true;
+    };
+    let mut word = first.0;
+    for entry in rest {
+        if entry.0.0 <= word.0 {
+            return false;
+        }
+        word = entry.0;
+    }
+    true
+}
+
+// Whether the words of lists rise.
+fn lists_rise<T>(entries: &[(WordId, Vec<T>)]) -> bool
+    ensures { result ≡ words_rise (lists_in entries.now) }
+{
+    words_rise(entries)
+}
+
+// Whether each name has an element.
+fn names_fit(size: u64, names: &[(WordId, u64)]) -> bool
+    ensures { result ≡ list_all (λ e. nat_lt e.1 size) names.now }
+{
+    names.iter().all(|entry| entry.1 < size)
+}
+
+// Whether each class word has elements alone.
+fn classes_fit(size: u64, classes: &[(WordId, Vec<u64>)]) -> bool
+    ensures { result ≡ list_all (λ e. list_all (λ x. nat_lt x size) e.1) (lists_in classes.now) }
+{
+    for entry in classes {
+        if !are_below(size, &entry.1) {
+            return false;
+        }
+    }
+    true
+}
+
+// Whether each relation word has pairs of elements alone.
+fn relations_fit(size: u64, relations: &[(WordId, Vec<(u64, u64)>)]) -> bool
+    ensures { result ≡ list_all (λ e. list_all (λ p. nat_lt p.0 size && nat_lt p.1 size) e.1) (lists_in relations.now) }
+{
+    for entry in relations {
+        if !pairs_are_below(size, &entry.1) {
+            return false;
+        }
+    }
+    true
+}
+
+// Whether these are elements.
+fn are_below(size: u64, elements: &[u64]) -> bool
+    ensures { result ≡ list_all (λ x. nat_lt x size) elements.now }
+{
+    elements.iter().all(|element| *element < size)
+}
+
+// Whether these are pairs of elements.
+fn pairs_are_below(size: u64, pairs: &[(u64, u64)]) -> bool
+    ensures { result ≡ list_all (λ p. nat_lt p.0 size && nat_lt p.1 size) pairs.now }
+{
+    pairs.iter().all(|pair| pair.0 < size && pair.1 < size)
+}
+
+fn copied_extents(alloc: Global, extents: &[Extent]) -> Result<Vec<Extent>, Memory>
+    ensures { IfOk result (λ copied. copied.items ≡ extents.now) }
+{
+    let mut copied = Vec::new(alloc);
+    for extent in extents {
+        copied.push(extent.copy(alloc)?)?;
+    }
+    Ok(copied)
+}
+
+fn copied_relations(alloc: Global, relations: &[Relation]) -> Result<Vec<Relation>, Memory>
+    ensures { IfOk result (λ copied. copied.items ≡ relations.now) }
+{
+    let mut copied = Vec::new(alloc);
+    for relation in relations {
+        copied.push(relation.copy(alloc)?)?;
+    }
+    Ok(copied)
 }

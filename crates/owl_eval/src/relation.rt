@@ -78,6 +78,18 @@ impl Relation {
     {
         run_of(self.inverse.as_slice(), to)
     }
+
+    pub(crate) fn copy(&self, alloc: Global) -> Result<Self, Memory>
+        ensures { IfOk result (λ copied. copied ≡ self.now) }
+    {
+        let pairs = Vec::from_slice(alloc, self.pairs.as_slice())?;
+        let inverse = Vec::from_slice(alloc, self.inverse.as_slice())?;
+        Ok(Relation {
+            word: self.word,
+            pairs,
+            inverse,
+        })
+    }
 }
 
 // Each pair the other way round.

@@ -4,6 +4,8 @@
 mod expressions;
 mod statements;
 mod structures;
+#[cfg(test)]
+mod tests;
 
 pub use expressions::{Class, Classes, Role};
 pub use statements::{Axiom, Axioms};

@@ -19,7 +19,7 @@ found {K} {R} total E same xs x up (Ok i) bound at =
 found {K} {R} total E same xs x up (Err i) bound at =
     let parted = at (searchable_from_sorted total (λ y. y) xs x up) in
     sym (list_any_none (λ y. E y x) xs (All-from_get_or (λ y. E y x ≡ false) xs x (λ k lt.
-      elim (cases_lt k i) [
-        inl below ↦ same (get_or xs k x) x ∙ ap is_eq (parted.0 k x (omega arith) below) |
-        inr above ↦ same (get_or xs k x) x ∙ ap is_eq (parted.1 k x above lt)
-      ])))
+    elim (cases_lt k i) [
+      | inl below ↦ same (get_or xs k x) x ∙ ap is_eq (parted.0 k x (omega arith) below)
+      | inr above ↦ same (get_or xs k x) x ∙ ap is_eq (parted.1 k x above lt)
+    ])))

@@ -54,15 +54,18 @@ module _ {V : Type 0} where
       let sorted = searchable_from_sorted nat_cmp_total (λ (e : WordId × V). e.0.0) es word.0 (λ j d low lt. strictly (get_or es j d).0.0 (get_or es (j + 1) d).0.0 (subst (λ n. (get_or es j d).0.0 < (get_or es n d).0.0) (one j) (adjacent es rise j d (omega arith)))) in
       let parted = at sorted in
       no_place es word (λ j d lt same. elim (cases_lt j k) [
-        inl below ↦ different_less (get_or es j d).0.0 word.0 (parted.0 j d (omega arith) below) same |
-        inr past ↦ different_greater (get_or es j d).0.0 word.0 (parted.1 j d past lt) same
+        | inl below ↦ different_less (get_or es j d).0.0 word.0 (parted.0 j d (omega arith) below) same
+        | inr past ↦ different_greater (get_or es j d).0.0 word.0 (parted.1 j d past lt) same
       ])
     where
       one : (j : ℕ) → suc j ≡ j + 1
       one j = omega arith
+
       strictly : (a b : ℕ) → a < b → is_lt (nat_cmp b a) ≡ false
       strictly a b h = grind (arith, nat_tests)
+
       different_less : (a b : ℕ) → nat_cmp a b ≡ Less → a ≡ b → ⊥
       different_less a b h e = omega (arith, ranked a b Less (sym h))
+
       different_greater : (a b : ℕ) → nat_cmp a b ≡ Greater → a ≡ b → ⊥
       different_greater a b h e = omega (arith, ranked a b Greater (sym h))

@@ -36,8 +36,8 @@ module _ (test : ℕ → Bool) (k : ℕ) where
   pub each_below_fails : (n : ℕ) → k < n → test k ≡ false → each_below n test ≡ false
   each_below_fails zero lt here = absurd (omega arith)
   each_below_fails (suc n) lt here = elim (cases_eq k n) [
-    inl same ↦ and_left (test n) (each_below n test) (ap test (sym same) ∙ here) |
-    inr ne ↦ and_right (test n) (each_below n test) (each_below_fails n (omega arith) here)
+    | inl same ↦ and_left (test n) (each_below n test) (ap test (sym same) ∙ here)
+    | inr ne ↦ and_right (test n) (each_below n test) (each_below_fails n (omega arith) here)
   ]
 
 module _ (test : ℕ → Bool) (k : ℕ) where
@@ -48,6 +48,6 @@ module _ (test : ℕ → Bool) (k : ℕ) where
   pub some_below_passes : (n : ℕ) → k < n → test k ≡ true → some_below n test ≡ true
   some_below_passes zero lt here = absurd (omega arith)
   some_below_passes (suc n) lt here = elim (cases_eq k n) [
-    inl same ↦ or_left (test n) (some_below n test) (ap test (sym same) ∙ here) |
-    inr ne ↦ or_right (test n) (some_below n test) (some_below_passes n (omega arith) here)
+    | inl same ↦ or_left (test n) (some_below n test) (ap test (sym same) ∙ here)
+    | inr ne ↦ or_right (test n) (some_below n test) (some_below_passes n (omega arith) here)
   ]

@@ -44,11 +44,11 @@ or_none false = refl
 pub some_below-one : (n k : ℕ) (test : ℕ → Bool) → k < n → some_below n (λ y. (k == y) && test y) ≡ test k
 some_below-one zero k test lt = absurd (omega arith)
 some_below-one (suc n) k test lt = elim (cases_eq k n) [
-  inl same ↦
-    ap (λ b. (b && test n) || some_below n (λ y. (k == y) && test y)) (eq-eqb k n same)
-    ∙ (ap (λ b. test n || b) (past_one n k test (omega arith)) ∙ (or_none (test n) ∙ ap test (sym same))) |
-  inr ne ↦
-    ap (λ b. (b && test n) || some_below n (λ y. (k == y) && test y)) (ne_eqb k n ne) ∙ some_below-one n k test (omega arith)
+  | inl same ↦
+      ap (λ b. (b && test n) || some_below n (λ y. (k == y) && test y)) (eq-eqb k n same)
+      ∙ (ap (λ b. test n || b) (past_one n k test (omega arith)) ∙ (or_none (test n) ∙ ap test (sym same)))
+  | inr ne ↦
+      ap (λ b. (b && test n) || some_below n (λ y. (k == y) && test y)) (ne_eqb k n ne) ∙ some_below-one n k test (omega arith)
 ]
 
 not_or : (a b : Bool) → (not (not a) && not b) ≡ not (not a || b)
@@ -94,8 +94,8 @@ any_successor n (p ∷ ps) fit x test =
     let f : ℕ → Bool = λ y. (p.1 == y) && test y in
     let g : ℕ → Bool = λ y. paired ps x y && test y in
     let split : some_below n (λ y. paired (p ∷ ps) x y && test y) ≡ ((a && some_below n f) || some_below n g) =
-      ap (some_below n) (λ j y. spread a (p.1 == y) (paired ps x y) (test y) j)
-      ∙ (some_below-or n (λ y. a && f y) g ∙ ap (λ b. b || some_below n g) (some_below-and n a f)) in
+    ap (some_below n) (λ j y. spread a (p.1 == y) (paired ps x y) (test y) j)
+    ∙ (some_below-or n (λ y. a && f y) g ∙ ap (λ b. b || some_below n g) (some_below-and n a f)) in
     ap (λ b. (a && test p.1) || b) (any_successor n ps parts.1 x test)
     ∙ (ap (λ b. (a && b) || some_below n g) (sym (some_below-one n p.1 test below)) ∙ sym split)
 

@@ -8,6 +8,8 @@ mod interp;
 mod membership;
 mod relation;
 mod sorted;
+#[cfg(test)]
+mod tests;
 mod truth;
 
 pub use axioms::{axiom_true, is_model};

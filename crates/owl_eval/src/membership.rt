@@ -27,8 +27,16 @@ fn is_member(interp: &Interp, class: &Class, element: u64) -> bool
         Class::Not(inner) => !is_member(interp, inner, element),
         Class::And(members) => is_member_of_each(interp, members, element),
         Class::Or(members) => is_member_of_some(interp, members, element),
-        Class::Some(role, inner) => some_end_is_member(interp, inner, interp.successors(*role, element)),
-        Class::All(role, inner) => each_end_is_member(interp, inner, interp.successors(*role, element)),
+        Class::Some(role, inner) => some_end_is_member(
+            interp,
+            inner,
+            interp.successors(*role, element),
+        ),
+        Class::All(role, inner) => each_end_is_member(
+            interp,
+            inner,
+            interp.successors(*role, element),
+        ),
         Class::Value(role, name) => interp.relates(*role, element, interp.element(*name)),
     }
 }

@@ -13,4 +13,4 @@ returns-then-not-in_class c =
     let x = c.loop-element.element in
     let lt : x < i.size = omega (arith, c.loop-element-test.true, c.size-element-end.ensures.size) in
     sym (each_below_fails (λ y. implies (is_in i (concept_of c.args.below.now) y) (is_in i (concept_of c.args.above.now) y)) x i.size lt
-      (no_implication _ _ (sym c.in_class.ensures.exact ∙ c.if-in_class.true) (sym c.in_class-then-in_class.ensures.exact ∙ c.if-not-in_class.true)))
+    (no_implication _ _ (sym c.in_class.ensures.exact ∙ c.if-in_class.true) (sym c.in_class-then-in_class.ensures.exact ∙ c.if-not-in_class.true)))

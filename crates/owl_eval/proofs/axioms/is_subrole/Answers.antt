@@ -15,11 +15,11 @@ returns-then-not-each_end_relates c =
     let x = c.loop-element.element in
     let lt : x < i.size = omega (arith, c.loop-element-test.true, c.size-element-end.ensures.size) in
     sym (each_below_fails (λ z. each_below i.size (λ y. implies (relates i c.args.below z y) (relates i c.args.above z y))) x i.size lt
-      (sym (at_element (goal.at.returns-then-not-each_end_relates c).After-each_end_relates) ∙ c.if-not-each_end_relates.true))
+    (sym (at_element (goal.at.returns-then-not-each_end_relates c).After-each_end_relates) ∙ c.if-not-each_end_relates.true))
 
 pub loop-element-preserved : goal.loop-element-preserved
 loop-element-preserved c =
     let i = c.args.interp.now in
     let x = c.loop-element.element in
     each_below_more (λ z. each_below i.size (λ y. implies (relates i c.args.below z y) (relates i c.args.above z y))) x c.loop-element.invariant
-      (sym (at_element (goal.at.loop-element-preserved c).After-each_end_relates) ∙ c.if-not-each_end_relates.false)
+    (sym (at_element (goal.at.loop-element-preserved c).After-each_end_relates) ∙ c.if-not-each_end_relates.false)

@@ -12,6 +12,6 @@ loop-entry-preserved c =
     let before = assigned (take k c.args.given.now) in
     let more = assigned_more c.args.given.now k c.args.referent c.loop-entry-test.true in
     elim c.if-entry-referent.branch [
-      then-entry-referent w ↦ w.element-is ∙ sym (more ∙ same_at before e.0 e.1 c.args.referent w.if-entry-referent.true) |
-      else-entry-referent w ↦ w.element-is ∙ (c.loop-entry.invariant ∙ sym (more ∙ other_at before e.0 e.1 c.args.referent w.if-entry-referent.false))
+      | then-entry-referent w ↦ w.element-is ∙ sym (more ∙ same_at before e.0 e.1 c.args.referent w.if-entry-referent.true)
+      | else-entry-referent w ↦ w.element-is ∙ (c.loop-entry.invariant ∙ sym (more ∙ other_at before e.0 e.1 c.args.referent w.if-entry-referent.false))
     ]

@@ -1,1 +1,4 @@
+pub mod KnownLemmas
 pub mod LineLemmas
+pub mod PartLemmas
+pub mod StepLemmas

@@ -1,5 +1,5 @@
 // The lines of an input, one call for each.
-ghost use Rattle.std.specs.Prelude.{◌≡◌, ◌≢◌, ◌<◌, ◌≤◌, ◌+◌, ◌-◌, ◌++◌, ◌↔◌, ◌⊎◌, ℕ, [], IfOk, IfSome, IfNone, IsTrue, true, false, length, take, slice_get, slice_range, vec_len, Some};
+ghost use Rattle.std.specs.Prelude.{◌≡◌, ◌≢◌, ◌<◌, ◌≤◌, ◌+◌, ◌-◌, ◌++◌, ◌↔◌, ◌⊎◌, ℕ, [], IfOk, IfSome, IfNone, IsTrue, true, false, length, take, drop, slice_get, slice_range, vec_len, Some};
 ghost use Rattle.std.specs.Bool.{OnTrue, OnFalse};
 ghost use Rattle.std.specs.Io.KnownBytes.{prepend_known, IsAtEnd};
 ghost use Rattle.wiki_io.specs.Faults.{Rose};
@@ -156,12 +156,14 @@ impl LineReader {
         if !self.skip() {
             return None;
         }
-        let window = self.end.min(self.start + MAX_LINE);
-        match newline_at(&self.buffer[self.start + self.searched..window]) {
-            Some(at) => Some(self.text(self.searched + at)),
-            None if window - self.start == MAX_LINE => Some(self.too_long()),
+        let start = self.start;
+        let searched = self.searched;
+        let window = self.end.min(start + MAX_LINE);
+        match newline_at(&self.buffer[start + searched..window]) {
+            Some(at) => Some(self.text(searched + at)),
+            None if window - start == MAX_LINE => Some(self.too_long()),
             None => {
-                self.searched = window - self.start;
+                self.searched = window - start;
                 None
             }
         }
@@ -241,13 +243,11 @@ impl LineReader {
         ensures failed { result ≡ Got.Failed → Rose (S.faults source.old) (S.faults source.new) }
         ensures faults { S.faults source.old ≤ S.faults source.new }
     {
+        to_front(&mut self.buffer, self.start, self.end);
         self.line_length = 0;
-        if self.start > 0 {
-            to_front(&mut self.buffer, self.start, self.end);
-            self.end -= self.start;
-            self.start = 0;
-        }
-        let got = source.read(&mut self.buffer[self.end..]);
+        self.end -= self.start;
+        self.start = 0;
+        let got = read_behind(source, &mut self.buffer, self.end);
         if let Got::Bytes(size) = got {
             self.end += size;
             self.count += size as u64;
@@ -284,7 +284,23 @@ fn to_front(buffer: &mut Vec<u8>, start: usize, end: usize)
     ensures moved { slice_range buffer.new.items 0 (end - start) ≡ slice_range buffer.old.items start end }
     ensures length { vec_len buffer.new ≡ vec_len buffer.old }
 {
-    buffer.copy_within(start..end, 0);
+    if start > 0 {
+        buffer.copy_within(start..end, 0);
+    }
+}
+
+// Reads into the buffer from a place on.
+fn read_behind<S: Source>(source: &mut S, buffer: &mut Vec<u8>, from: usize) -> Got
+    requires { from < vec_len buffer.old }
+    ensures fits { GotFits result (vec_len buffer.old - from) }
+    ensures bytes { S.left source.old ≡ prepend_known (bytes_got result (drop from buffer.new.items)) (S.left source.new) }
+    ensures front { take from buffer.new.items ≡ take from buffer.old.items }
+    ensures length { vec_len buffer.new ≡ vec_len buffer.old }
+    ensures end { result ≡ Got.End → IsAtEnd (S.left source.new) }
+    ensures failed { result ≡ Got.Failed → Rose (S.faults source.old) (S.faults source.new) }
+    ensures faults { S.faults source.old ≤ S.faults source.new }
+{
+    source.read(&mut buffer[from..])
 }
 
 // The place of the first newline byte.

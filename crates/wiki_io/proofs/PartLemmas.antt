@@ -98,22 +98,22 @@ slice_get-part : (buffer : List ℕ) (start end k : ℕ) → start + k < end →
 slice_get-part buffer start end k lt = slice_get-take (drop start buffer) (end - start) k (omega arith) ∙ slice_get-drop buffer start k
 
 -- from a place on, the first n bytes
-take-part-is : (buffer : List ℕ) (start end n : ℕ) → start + n ≤ end → take n (slice_range buffer start end) ≡ slice_range buffer start (start + n)
+pub take-part-is : (buffer : List ℕ) (start end n : ℕ) → start + n ≤ end → take n (slice_range buffer start end) ≡ slice_range buffer start (start + n)
 take-part-is buffer start end n le =
     let size : n ≡ (start + n) - start = omega arith in
     take-part buffer start end n le ∙ ap (λ (k : ℕ). take k (drop start buffer)) size
 
+-- the first newline byte of a part of a buffer, before the end of the window that was searched
+pub record Found (buffer : List ℕ) (start window end n : ℕ) : Type 0 where
+  pub within : start + n < window
+  pub no_newline : HasNoNewline (take n (slice_range buffer start end))
+  pub newline : slice_get (slice_range buffer start end) n ≡ Some NEWLINE
+
 -- Of a buffer's bytes from `start` to `end`, those up to `mid` have no newline. The others are searched up to `window`.
 module _ (buffer : List ℕ) (start mid window end : ℕ) (low : start ≤ mid) (in_window : mid ≤ window) (high : window ≤ end) (room : end ≤ length buffer)
     (before : HasNoNewline (slice_range buffer start mid)) where
-  -- a newline byte was found
-  pub record Found (n : ℕ) : Type 0 where
-    pub within : start + n < window
-    pub no_newline : HasNoNewline (take n (slice_range buffer start end))
-    pub newline : slice_get (slice_range buffer start end) n ≡ Some NEWLINE
-
   pub found : (at : ℕ) → HasNoNewline (take at (slice_range buffer mid window)) → slice_get (slice_range buffer mid window) at ≡ Some NEWLINE
-      → Found ((mid - start) + at)
+      → Found buffer start window end ((mid - start) + at)
   found at none is =
       let inside = slice_get_within (slice_range buffer mid window) at NEWLINE is in
       let size = length-part buffer mid window (omega arith) in

@@ -1,13 +1,17 @@
 -- The steps of a reader: what each leaves of the lines to come.
-use Rattle.std.proofs.Common.{◌≡◌, ◌≢◌, ℕ, ◌+◌, ◌<◌, ◌≤◌, Bool, true, false, IsTrue, cond, List, [], ◌∷◌, ◌++◌, length, take, drop, Some, refl, sym, ◌∙◌, ap, arith, subst, inl, inr}
+use Rattle.std.proofs.Common.{◌≡◌, ◌≢◌, ℕ, ◌+◌, ◌<◌, ◌≤◌, Bool, true, false, IsTrue, cond, List, [], ◌∷◌, ◌++◌, length, take, drop, Some, refl, sym, ◌∙◌, ap, arith, Option, map}
 use Rattle.std.specs.List.{slice_get}
-use Rattle.std.proofs.lemmas.List.{append_assoc}
+use Rattle.std.specs.Io.KnownBytes.{prepend_known}
+use Rattle.std.proofs.lemmas.List.{append_assoc, append-nil, length-append}
 use Rattle.std.proofs.lemmas.Bool.{false≢true}
-use Rattle.wiki_io.specs.Lines.{after_newline, HasNoNewline, InputLine, text, too_long, input_lines, whole_lines}
-use Rattle.wiki_io.specs.Reading.{Reading, bytes_to_come, lines_to_come, GivesLine, KeepsBytes, HasNoLine, answered}
+use Rattle.wiki_io.specs.Lines.{after_newline, HasNoNewline, InputLine, text, too_long, line_of, input_lines, whole_lines}
+use Rattle.wiki_io.specs.Reading.{Reading, bytes_to_come, lines_to_come, GivesLine, KeepsBytes, HasNoLine, ReadsLine, Fills, answered}
 use Rattle.wiki_io.specs.declared.limits.TheConstants.{NEWLINE, MAX_LINE}
+use Rattle.wiki_io.specs.declared.reader.Line.{Line}
 use Rattle.wiki_io.specs.declared.reader.Line.TheVariants.{Text, TooLong, End}
-use Rattle.wiki_io.proofs.LineLemmas.{after_newline-part}
+use Rattle.wiki_io.specs.declared.sources.Got.{Got}
+use Rattle.wiki_io.proofs.KnownLemmas.{prepend_known-append, prepend_known-nil}
+use Rattle.wiki_io.proofs.LineLemmas.{after_newline-part, cut_whole_lines-none}
 use Rattle.wiki_io.proofs.PartLemmas.{input_lines-line, input_lines-too_long, input_lines-last, after_newline-line}
 
 pub bytes_to_come-given : (r : Reading) (rest : List ℕ) → r.skips ≡ false → bytes_to_come r rest ≡ r.pending ++ rest
@@ -65,3 +69,110 @@ lines_to_come-none old pending =
     nothing : (b : Bool) → input_lines (cond b [] []) ≡ []
     nothing true = refl
     nothing false = refl
+
+-- bytes that were read behind those that were pending
+bytes_to_come-append : (now new : Reading) (more rest : List ℕ) → new.skips ≡ now.skips → new.pending ≡ now.pending ++ more
+    → bytes_to_come now (more ++ rest) ≡ bytes_to_come new rest
+bytes_to_come-append now new more rest skips pending =
+    let bytes : now.pending ++ (more ++ rest) ≡ new.pending ++ rest = sym (append_assoc now.pending more rest) ∙ ap (λ (l : List ℕ). l ++ rest) (sym pending) in
+    ap (λ (l : List ℕ). cond now.skips (after_newline l) l) bytes
+    ∙ ap (λ (b : Bool). cond b (after_newline (new.pending ++ rest)) (new.pending ++ rest)) (sym skips)
+
+-- In the midst of a call: it began at `first` and `old`, and since then it has read some bytes and given no line.
+pub record HasRead (first : Option (List ℕ)) (old now : Reading) (left : Option (List ℕ)) : Type 0 where
+  pub got : List ℕ
+  pub source : first ≡ prepend_known got left
+  pub count : now.count ≡ old.count + length got
+  pub bytes : (rest : List ℕ) → bytes_to_come old (got ++ rest) ≡ bytes_to_come now rest
+  pub goes_on : now.ended ≡ false
+
+pub HasRead-none : (left : Option (List ℕ)) (old : Reading) → old.ended ≡ false → HasRead left old old left
+HasRead-none left old goes_on = record { got = []; source = sym (prepend_known-nil left); count = omega arith; bytes = λ rest. refl; goes_on = goes_on }
+
+pub HasRead-kept : (first : Option (List ℕ)) (old now new : Reading) (left : Option (List ℕ)) → HasRead first old now left
+    → KeepsBytes now new → new.count ≡ now.count → new.ended ≡ false → HasRead first old new left
+HasRead-kept first old now new left read kept count goes_on = record {
+  got = read.got;
+  source = read.source;
+  count = count ∙ read.count;
+  bytes = λ rest. read.bytes rest ∙ kept rest;
+  goes_on = goes_on;
+}
+
+pub HasRead-more : (first : Option (List ℕ)) (old now new : Reading) (before left : Option (List ℕ)) (answer : Got) → HasRead first old now before
+    → Fills before now answer new left → HasRead first old new left
+HasRead-more first old now new before left answer read fills = record {
+  got = read.got ++ fills.got;
+  source = read.source ∙ ap (λ (o : Option (List ℕ)). prepend_known read.got o) fills.source ∙ prepend_known-append left read.got fills.got;
+  count = omega (arith, fills.count, read.count, length-append read.got fills.got);
+  bytes = λ rest. ap (λ (l : List ℕ). bytes_to_come old l) (append_assoc read.got fills.got rest) ∙ read.bytes (fills.got ++ rest)
+    ∙ bytes_to_come-append now new fills.got rest fills.skips fills.pending;
+  goes_on = fills.ended ∙ read.goes_on;
+}
+
+-- The call ends with a line of what was read,
+pub ReadsLine-line : (first : Option (List ℕ)) (old now new : Reading) (left : Option (List ℕ)) (answer : Line) → old.ended ≡ false → HasRead first old now left
+    → GivesLine now answer new → new.count ≡ now.count → ReadsLine first old answer new left
+ReadsLine-line first old now new left answer goes_on read gives count = record {
+  got = read.got;
+  source = read.source;
+  count = count ∙ read.count;
+  at_end = λ ended. absurd (false≢true (sym goes_on ∙ ended));
+  lines = λ rest follows. ap input_lines (read.bytes rest) ∙ gives rest;
+}
+
+-- with none, since a read failed or there is too much,
+pub ReadsLine-none : (first : Option (List ℕ)) (old now : Reading) (left : Option (List ℕ)) (answer : Line) → old.ended ≡ false → HasRead first old now left
+    → answered answer now.line ≡ [] → ReadsLine first old answer now left
+ReadsLine-none first old now left answer goes_on read none = record {
+  got = read.got;
+  source = read.source;
+  count = read.count;
+  at_end = λ ended. absurd (false≢true (sym goes_on ∙ ended));
+  lines = λ rest follows. ap input_lines (read.bytes rest) ∙ ap (λ (l : List InputLine). l ++ lines_to_come now rest) (sym none);
+}
+
+-- or at the source's end with the last line, if there is one.
+pub ReadsLine-last : (first : Option (List ℕ)) (old now new : Reading) (left : Option (List ℕ)) (answer : Line) → old.ended ≡ false → HasRead first old now left
+    → lines_to_come now [] ≡ answered answer new.line → new.ended ≡ true → new.pending ≡ [] → new.count ≡ now.count → ReadsLine first old answer new left
+ReadsLine-last first old now new left answer goes_on read last ended pending count = record {
+  got = read.got;
+  source = read.source;
+  count = count ∙ read.count;
+  at_end = λ was. absurd (false≢true (sym goes_on ∙ was));
+  lines = λ rest follows.
+    let none : rest ≡ [] = follows ended in
+    ap (λ (l : List ℕ). lines_to_come old (read.got ++ l)) none ∙ ap input_lines (read.bytes []) ∙ last
+    ∙ sym (append-nil (answered answer new.line)) ∙ ap (λ (l : List InputLine). answered answer new.line ++ l) (sym (lines_to_come-none new pending))
+    ∙ ap (λ (l : List ℕ). answered answer new.line ++ lines_to_come new l) (sym none);
+}
+
+-- A call after the end.
+pub ReadsLine-ended : (left : Option (List ℕ)) (old new : Reading) → old.pending ≡ [] → new.pending ≡ [] → new.ended ≡ old.ended → old.ended ≡ true → new.count ≡ old.count
+    → ReadsLine left old End new left
+ReadsLine-ended left old new was is same ended count = record {
+  got = [];
+  source = sym (prepend_known-nil left);
+  count = omega (arith, count);
+  at_end = λ _. refl;
+  lines = λ rest follows.
+    let none : rest ≡ [] = follows (same ∙ ended) in
+    ap (λ (l : List ℕ). lines_to_come old l) none ∙ lines_to_come-none old was ∙ sym (lines_to_come-none new is) ∙ ap (λ (l : List ℕ). lines_to_come new l) (sym none);
+}
+
+-- what was read has no line
+pub whole_lines-none : (r : Reading) → HasNoLine r → whole_lines (bytes_to_come r []) ≡ []
+whole_lines-none r no_line = elim r.skips as (λ b. r.skips ≡ b → whole_lines (bytes_to_come r []) ≡ []) [
+  | true ↦ λ skips. ap whole_lines (bytes_to_come-skipped r [] skips ∙ ap (λ (l : List ℕ). after_newline (l ++ [])) (no_line.skipped skips))
+  | false ↦ λ skips. ap whole_lines (bytes_to_come-given r [] skips ∙ append-nil r.pending) ∙ ap (map line_of) (cut_whole_lines-none r.pending no_line.no_newline)
+] refl
+
+-- a step of the call: no line was cut, and a read came
+pub HasRead-step : (first : Option (List ℕ)) (old now cut new : Reading) (before left : Option (List ℕ)) (answer : Got) → HasRead first old now before
+    → HasNoLine cut × KeepsBytes now cut → cut.count ≡ now.count → Fills before cut answer new left → HasRead first old new left
+HasRead-step first old now cut new before left answer read none count fills =
+    HasRead-more first old cut new before left answer (HasRead-kept first old now cut before read none.1 count none.0.goes_on) fills
+
+-- where a line was there from the beginning, it is cut before a read
+pub none_there : (old now cut : Reading) → KeepsBytes old now → HasNoLine cut × KeepsBytes now cut → whole_lines (bytes_to_come old []) ≡ []
+none_there old now cut kept none = ap whole_lines (kept [] ∙ none.1 []) ∙ whole_lines-none cut none.0

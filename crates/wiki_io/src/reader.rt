@@ -133,6 +133,7 @@ impl LineReader {
     fn nothing(&mut self) -> Line
         ensures end { result ≡ Line.End }
         ensures new { self.new ≡ record self.old { line = [] } }
+        ensures pending { IsTrue self.old.ended → self.old.pending ≡ [] }
     {
         self.line_length = 0;
         Line::End

@@ -1,7 +1,7 @@
 -- How bytes are cut into lines.
-use Rattle.std.proofs.Common.{◌≡◌, ◌≢◌, ℕ, ◌+◌, ◌<◌, ◌≤◌, Bool, true, false, cond, eqb, ltb, List, [], ◌∷◌, ◌++◌, length, map, All, refl, sym, ◌∙◌, ap, inl, inr, arith, replicate}
+use Rattle.std.proofs.Common.{◌≡◌, ◌≢◌, ℕ, ◌+◌, ◌<◌, ◌≤◌, Bool, true, false, cond, eqb, ltb, List, [], ◌∷◌, ◌++◌, length, map, All, refl, sym, ◌∙◌, ap, inl, inr, ◌⊎◌, arith, replicate}
 use Rattle.std.specs.List.{onto_first}
-use Rattle.std.proofs.lemmas.Bool.{ne_eqb, le-ltb, lt-ltb}
+use Rattle.std.proofs.lemmas.Bool.{cases_eq, eq-eqb, ne_eqb, le-ltb, lt-ltb}
 use Rattle.std.proofs.lemmas.List.{append-nil, append_assoc, length-append, length-replicate, map-append}
 use Rattle.std.proofs.lemmas.List.Elements.{All-head, All-tail, All-replicate}
 use Rattle.wiki_io.specs.Lines.{cut_lines, into_first, cut_whole_lines, after_newline, HasNoNewline, InputLine, text, too_long, line_of, input_lines, whole_lines}
@@ -55,3 +55,54 @@ line_of-short line short = rw (lt-ltb (length line) MAX_LINE short) refl
 
 pub line_of-long : (line : List ℕ) → MAX_LINE ≤ length line → line_of line ≡ too_long
 line_of-long line long = rw (le-ltb (length line) MAX_LINE long) refl
+
+-- Putting its newline back behind each line gives the bytes, or the bytes and the newline that the last line lacked.
+abbrev pub joined : List (List ℕ) → List ℕ
+joined [] = []
+joined (line ∷ lines) = line ++ NEWLINE ∷ joined lines
+
+joined-onto_first : (b : ℕ) (bytes : List ℕ) (lines : List (List ℕ)) → (joined lines ≡ bytes) ⊎ (joined lines ≡ bytes ++ NEWLINE ∷ [])
+    → (joined (onto_first b lines) ≡ b ∷ bytes) ⊎ (joined (onto_first b lines) ≡ b ∷ (bytes ++ NEWLINE ∷ []))
+joined-onto_first b [] [] is = inr refl
+joined-onto_first b (c ∷ bytes) [] (inl is) = absurd (cc is)
+joined-onto_first b (c ∷ bytes) [] (inr is) = absurd (cc is)
+joined-onto_first b bytes (line ∷ lines) (inl is) = inl (ap (λ (l : List ℕ). b ∷ l) is)
+joined-onto_first b bytes (line ∷ lines) (inr is) = inr (ap (λ (l : List ℕ). b ∷ l) is)
+
+pub joined-cut_lines : (bytes : List ℕ) → (joined (cut_lines bytes) ≡ bytes) ⊎ (joined (cut_lines bytes) ≡ bytes ++ NEWLINE ∷ [])
+joined-cut_lines [] = inl refl
+joined-cut_lines (b ∷ bytes) = elim (cases_eq b NEWLINE) [
+  | inl is ↦ rw (eq-eqb b NEWLINE is, is) (elim (joined-cut_lines bytes) [ inl whole ↦ inl (ap (λ (l : List ℕ). NEWLINE ∷ l) whole) | inr part ↦ inr (ap (λ (l : List ℕ). NEWLINE ∷ l) part) ])
+  | inr ne ↦ rw (ne_eqb b NEWLINE ne) (joined-onto_first b bytes (cut_lines bytes) (joined-cut_lines bytes))
+]
+
+-- the bytes after the last newline byte
+abbrev pub onto_part : ℕ → List (List ℕ) → List ℕ → List ℕ
+onto_part b [] part = b ∷ part
+onto_part b (line ∷ lines) part = part
+
+abbrev pub last_part : List ℕ → List ℕ
+last_part [] = []
+last_part (b ∷ bytes) = cond (eqb b NEWLINE) (last_part bytes) (onto_part b (cut_whole_lines bytes) (last_part bytes))
+
+onto_first-append : (b : ℕ) (lines : List (List ℕ)) (part more : List ℕ)
+    → onto_first b (lines ++ (part ++ more) ∷ []) ≡ into_first b lines ++ (onto_part b lines part ++ more) ∷ []
+onto_first-append b [] part more = refl
+onto_first-append b (line ∷ lines) part more = refl
+
+-- a newline behind all makes one line more of the last part
+pub cut_lines-ended : (bytes more : List ℕ) → HasNoNewline more → cut_lines (bytes ++ more ++ NEWLINE ∷ []) ≡ cut_whole_lines bytes ++ (last_part bytes ++ more) ∷ []
+cut_lines-ended bytes more none = ap cut_lines (append_assoc bytes more (NEWLINE ∷ [])) ∙ ended bytes
+  where
+    ended : (bytes : List ℕ) → cut_lines (bytes ++ (more ++ NEWLINE ∷ [])) ≡ cut_whole_lines bytes ++ (last_part bytes ++ more) ∷ []
+    ended [] = cut_lines-line more [] none
+    ended (b ∷ bytes) = elim (eqb b NEWLINE) as (λ t. cond t ([] ∷ cut_lines (bytes ++ (more ++ NEWLINE ∷ []))) (onto_first b (cut_lines (bytes ++ (more ++ NEWLINE ∷ []))))
+        ≡ cond t ([] ∷ cut_whole_lines bytes) (into_first b (cut_whole_lines bytes)) ++ (cond t (last_part bytes) (onto_part b (cut_whole_lines bytes) (last_part bytes)) ++ more) ∷ []) [
+      | true ↦ ap (λ (l : List (List ℕ)). [] ∷ l) (ended bytes)
+      | false ↦ ap (λ (l : List (List ℕ)). onto_first b l) (ended bytes) ∙ onto_first-append b (cut_whole_lines bytes) (last_part bytes) more
+    ]
+
+-- the same of lines
+pub input_lines-ended : (bytes more : List ℕ) → HasNoNewline more → input_lines (bytes ++ more ++ NEWLINE ∷ []) ≡ whole_lines bytes ++ line_of (last_part bytes ++ more) ∷ []
+input_lines-ended bytes more none =
+    ap (map line_of) (cut_lines-ended bytes more none) ∙ map-append line_of (cut_whole_lines bytes) ((last_part bytes ++ more) ∷ [])

@@ -154,7 +154,7 @@ ReadsLine-ended left old new was is same ended count = record {
   got = [];
   source = sym (prepend_known-nil left);
   count = omega (arith, count);
-  at_end = λ _. refl;
+  at_end = λ was. (refl, same ∙ was);
   lines = λ rest follows.
     let none : rest ≡ [] = follows (same ∙ ended) in
     ap (λ (l : List ℕ). lines_to_come old l) none ∙ lines_to_come-none old was ∙ sym (lines_to_come-none new is) ∙ ap (λ (l : List ℕ). lines_to_come new l) (sym none);
@@ -173,6 +173,16 @@ pub HasRead-step : (first : Option (List ℕ)) (old now cut new : Reading) (befo
 HasRead-step first old now cut new before left answer read none count fills =
     HasRead-more first old cut new before left answer (HasRead-kept first old now cut before read none.1 count none.0.goes_on) fills
 
--- where a line was there from the beginning, it is cut before a read
+-- and it is not too long yet
+bytes_to_come-short : (r : Reading) → HasNoLine r → length (bytes_to_come r []) < MAX_LINE
+bytes_to_come-short r no_line = elim r.skips as (λ b. r.skips ≡ b → length (bytes_to_come r []) < MAX_LINE) [
+  | true ↦ λ skips. let none : bytes_to_come r [] ≡ [] = bytes_to_come-skipped r [] skips ∙ ap (λ (l : List ℕ). after_newline (l ++ [])) (no_line.skipped skips) in omega (arith, ap length none)
+  | false ↦ λ skips. omega (arith, no_line.short, ap length (bytes_to_come-given r [] skips), length-append r.pending [])
+] refl
+
+-- Before a read there was no line from the beginning of the call on.
 pub none_there : (old now cut : Reading) → KeepsBytes old now → HasNoLine cut × KeepsBytes now cut → whole_lines (bytes_to_come old []) ≡ []
 none_there old now cut kept none = ap whole_lines (kept [] ∙ none.1 []) ∙ whole_lines-none cut none.0
+
+pub short_there : (old now cut : Reading) → KeepsBytes old now → HasNoLine cut × KeepsBytes now cut → length (bytes_to_come old []) < MAX_LINE
+short_there old now cut kept none = omega (arith, ap length (kept [] ∙ none.1 []), bytes_to_come-short cut none.0)

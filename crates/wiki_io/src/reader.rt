@@ -104,6 +104,7 @@ impl LineReader {
 
         // Whoever waits for the reply to a line has it before more is read.
         ensures at_once { whole_lines (bytes_to_come self.old []) ≢ [] → source.new ≡ source.old }
+        ensures at_once_too_long { MAX_LINE ≤ length (bytes_to_come self.old []) → source.new ≡ source.old }
 
         // Where a read failed, each whole line that was read has been given.
         ensures read_fault { result ≡ Line.ReadFault → Rose (S.faults source.old) (S.faults source.new) }

@@ -100,6 +100,10 @@ impl LineReader {
         ensures last_line { IsTrue self.new.ended → (result ≡ Line.End) ⊎ (result ≡ Line.Text) }
         ensures ended { IsTrue self.old.ended → (result ≡ Line.End) × (source.new ≡ source.old) }
 
+        // A line takes bytes, so whoever goes on comes to an end.
+        ensures takes { (result ≡ Line.Text) ⊎ (result ≡ Line.TooLong)
+            → length self.new.pending + self.old.count < length self.old.pending + self.new.count }
+
         ensures too_much { (result ≡ Line.TooMuch) ↔ (MAX_INPUT < self.new.count) }
 
         // Whoever waits for the reply to a line has it before more is read.
@@ -152,6 +156,8 @@ impl LineReader {
         ensures some { IfSome result (λ answer. GivesLine self.old answer self.new) }
         ensures answer { IfSome result (λ answer. (answer ≡ Line.Text) ⊎ ((answer ≡ Line.TooLong) × (self.new.line ≡ []))) }
         ensures none { IfNone result (HasNoLine self.new × KeepsBytes self.old self.new) }
+        ensures takes { IfSome result (λ _. length self.new.pending < length self.old.pending) }
+        ensures keeps { length self.new.pending ≤ length self.old.pending }
         ensures ended { self.new.ended ≡ false }
         ensures count { self.new.count ≡ self.old.count }
     {
@@ -177,6 +183,7 @@ impl LineReader {
         ensures kept { KeepsBytes self.old self.new }
         ensures done { OnTrue result (self.new.skips ≡ false) }
         ensures more { OnFalse result (HasNoLine self.new) }
+        ensures keeps { length self.new.pending ≤ length self.old.pending }
         ensures ended { self.new.ended ≡ false }
         ensures count { self.new.count ≡ self.old.count }
         ensures line { self.new.line ≡ [] }
@@ -200,20 +207,21 @@ impl LineReader {
     }
 
     // Gives the first bytes that were read, of this number, up to a newline byte.
-    fn text(&mut self, length: usize) -> Line
+    fn text(&mut self, size: usize) -> Line
         requires skips { self.old.skips ≡ false }
         requires ended { self.old.ended ≡ false }
-        requires short { length < MAX_LINE }
-        requires no_newline { HasNoNewline (take length self.old.pending) }
-        requires newline { slice_get self.old.pending length ≡ Some NEWLINE }
+        requires short { size < MAX_LINE }
+        requires no_newline { HasNoNewline (take size self.old.pending) }
+        requires newline { slice_get self.old.pending size ≡ Some NEWLINE }
         ensures line { GivesLine self.old result self.new }
         ensures text { result ≡ Line.Text }
+        ensures takes { length self.new.pending < length self.old.pending }
         ensures ended { self.new.ended ≡ false }
         ensures count { self.new.count ≡ self.old.count }
     {
         self.line_start = self.start;
-        self.line_length = length;
-        self.start += length + 1;
+        self.line_length = size;
+        self.start += size + 1;
         self.searched = 0;
         Line::Text
     }
@@ -226,6 +234,7 @@ impl LineReader {
         requires no_newline { HasNoNewline (take MAX_LINE self.old.pending) }
         ensures line { GivesLine self.old result self.new }
         ensures too_long { (result ≡ Line.TooLong) × (self.new.line ≡ []) }
+        ensures takes { length self.new.pending < length self.old.pending }
         ensures ended { self.new.ended ≡ false }
         ensures count { self.new.count ≡ self.old.count }
     {
@@ -261,7 +270,7 @@ impl LineReader {
     fn finish(&mut self) -> Line
         requires { HasNoLine self.old }
         ensures lines { lines_to_come self.old [] ≡ answered result self.new.line }
-        ensures answer { ((result ≡ Line.End) × (self.new.line ≡ [])) ⊎ (result ≡ Line.Text) }
+        ensures answer { ((result ≡ Line.End) × (self.new.line ≡ [])) ⊎ ((result ≡ Line.Text) × (0 < length self.old.pending)) }
         ensures ended { IsTrue self.new.ended }
         ensures pending { self.new.pending ≡ [] }
         ensures count { self.new.count ≡ self.old.count }

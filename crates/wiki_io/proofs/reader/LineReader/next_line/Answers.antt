@@ -1,5 +1,6 @@
-use Rattle.std.proofs.Common.{arith, ap, ◌∙◌, sym, refl, inl, inr}
+use Rattle.std.proofs.Common.{arith, length, ap, ◌∙◌, sym, refl, inl, inr}
 use Rattle.std.proofs.lemmas.Bool.{cases_lt, false≢true}
+use Rattle.std.proofs.lemmas.List.{length-append}
 use Rattle.wiki_io.specs.Reading.{Reading}
 use Rattle.wiki_io.specs.declared.reader.Line.TheVariants.{TooMuch}
 use Rattle.wiki_io.proofs.StepLemmas.{HasRead-step, ReadsLine-none, none_there, short_there}
@@ -20,6 +21,7 @@ loop-line-preserved g c = record {
   read = HasRead-step _ _ c.loop-line.self c.cut.new.self c.fill.new.self _ _ _ c.loop-line.invariant.read c.in_default.ensures.none c.cut.ensures.count c.in-Bytes.ensures.bytes;
   small = elim (cases_lt 4294967296 c.fill.new.self.count) [ inl over ↦ absurd (false≢true (c.if-is_over.ensures.1 over)) | inr fits ↦ fits ];
   faults = omega (arith, c.loop-line.invariant.faults, c.fill.ensures.faults);
+  keeps = omega (arith, c.loop-line.invariant.keeps, c.cut.ensures.keeps, c.cut.ensures.count, ap length c.in-Bytes.ensures.bytes.pending, length-append c.cut.new.self.pending c.in-Bytes.ensures.bytes.got, c.in-Bytes.ensures.bytes.count);
   at_once_too_long = λ long.
     let short = short_there c.args.self.now c.loop-line.self c.cut.new.self (c.loop-line.invariant.at_once_too_long long).1 c.in_default.ensures.none in
     absurd (omega arith);

@@ -10,6 +10,7 @@ invariant-loop-line g l = record {
   read : HasRead (g.S.Source.left l.initial.source) l.initial.self l.self (g.S.Source.left l.source);
   small : l.self.count ≤ MAX_INPUT;
   faults : g.S.Source.faults l.initial.source ≤ g.S.Source.faults l.source;
+  keeps : length l.self.pending + l.initial.self.count ≤ length l.initial.self.pending + l.self.count;
   at_once_too_long : MAX_LINE ≤ length (bytes_to_come l.initial.self []) → (l.source ≡ l.initial.source) × KeepsBytes l.initial.self l.self;
   at_once : whole_lines (bytes_to_come l.initial.self []) ≢ [] → (l.source ≡ l.initial.source) × KeepsBytes l.initial.self l.self;
 }

@@ -10,7 +10,7 @@ pub returns-clause-line : goal.returns-clause-line
 returns-clause-line c =
     let r = c.args.self.now in
     let f = c.self.inside in
-    let n = c.args.length in
+    let n = c.args.size in
     let pending = ap (λ (r : Reading). r.pending) c.self.view_is in
     let within = slice_get_within r.pending n _ c.requires.newline in
     let size = length-part f.buffer.items f.start f.end (omega (arith, f.buffer.ok.0)) in

@@ -1,5 +1,5 @@
 -- The lines of an input, as a list of bytes is cut into them.
-use Rattle.std.specs.Prelude.{◌≡◌, ◌≢◌, ◌≤◌, ◌⊎◌, ℕ, List, [], ◌∷◌, ◌++◌, length, map, All, ◌==◌, nat_lt, if◌then◌else◌}
+use Rattle.std.specs.Prelude.{◌≡◌, ◌≢◌, ◌⊎◌, ℕ, List, [], ◌∷◌, ◌++◌, length, map, All, ◌==◌, nat_lt, if◌then◌else◌}
 use Rattle.std.specs.List.{onto_first}
 use Rattle.wiki_io.specs.declared.limits.TheConstants.{NEWLINE, MAX_LINE}
 

@@ -184,7 +184,9 @@ impl Sink for MemorySink {
     {
         self.calls = self.calls.saturating_add(1);
         let size = bytes.len().min(self.largest);
-        if self.fails.contains(&self.calls) || self.bytes.extend_from_slice(&bytes[..size]).is_err() {
+        if self.fails.contains(&self.calls)
+            || self.bytes.extend_from_slice(&bytes[..size]).is_err()
+        {
             self.faults = self.faults.saturating_add(1);
             return Took::Failed;
         }

@@ -64,7 +64,11 @@ fn a_line_of_70000_bytes_is_too_long_and_the_next_is_given(rt: HostRuntime) -> R
     let bytes = long_then(alloc, 70_000, b"\nab\n")?;
     for largest in [1, 1_000, 65_536, 1_000_000] {
         let log = answers_of(alloc, &bytes, largest)?;
-        assert_eq!(rt; log.as_slice(), b"too long|ab|end".as_slice(), "in pieces of {largest}");
+        assert_eq!(rt;
+            log.as_slice(),
+            b"too long|ab|end".as_slice(),
+            "in pieces of {largest}"
+        );
     }
     Ok(())
 }

@@ -8,7 +8,7 @@ pub returns-clause-to_fail : goal.returns-clause-to_fail
 returns-clause-to_fail c = λ is.
     let number = c.saturating_add-self-inside.result in
     let not_listed : is_to_fail c.args.self.now ≡ false =
-        ap (λ (held : Held). is_to_fail held) (sym c.self.view_is)
-        ∙ ap (λ (n : ℕ). list_any (λ k. eqb k n) c.self.inside.fails.items) (sym c.saturating_add-self-inside.ensures)
-        ∙ ap (λ (numbers : List ℕ). list_any (λ k. eqb k number) numbers) (sym c.deref.ensures.value) ∙ sym c.if-contains.ensures.value in
+    ap (λ (held : Held). is_to_fail held) (sym c.self.view_is)
+    ∙ ap (λ (n : ℕ). list_any (λ k. eqb k n) c.self.inside.fails.items) (sym c.saturating_add-self-inside.ensures)
+    ∙ ap (λ (numbers : List ℕ). list_any (λ k. eqb k number) numbers) (sym c.deref.ensures.value) ∙ sym c.if-contains.ensures.value in
     absurd (false≢true (sym not_listed ∙ is))

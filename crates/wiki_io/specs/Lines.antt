@@ -40,6 +40,7 @@ abbrev pub after_newline : List ℕ → List ℕ
 after_newline [] = []
 after_newline (b ∷ bytes) = if b == NEWLINE then bytes else after_newline bytes
 
+-- no byte is a newline byte
 abbrev pub HasNoNewline : List ℕ → Type 0
 HasNoNewline bytes = All (λ b. b ≢ NEWLINE) bytes
 

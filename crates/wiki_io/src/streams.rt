@@ -4,6 +4,7 @@ ghost use Rattle.std.specs.Prelude.{◌≡◌, None};
 use crate::sinks::{Sink, Took};
 use crate::sources::{Got, Source};
 use std::io::{Read, Write};
+use std::marker::Model;
 
 /// A reader, such as standard input, as a source. Each error counts.
 #[derive(Drop)]
@@ -12,8 +13,20 @@ pub struct ReadSource<R> {
     faults: u64,
 }
 
+// Seen as the count of its failures.
+impl<R> Model for ReadSource<R> {
+    ghost use Rattle.std.specs.Prelude.{ℕ};
+
+    ghost Value = { ℕ };
+
+    ghost view = { λ s. s.faults };
+}
+
 impl<R: Read> ReadSource<R> {
-    pub fn new(reader: R) -> Self {
+    /// No read has failed yet.
+    pub fn new(reader: R) -> Self
+        ensures { result ≡ 0 }
+    {
         ReadSource { reader, faults: 0 }
     }
 }
@@ -21,7 +34,7 @@ impl<R: Read> ReadSource<R> {
 impl<R: Read> Source for ReadSource<R> {
     ghost left = { λ _. None };
 
-    ghost faults = { λ s. s.faults };
+    ghost faults = { λ count. count };
 
     fn read(&mut self, buf: &mut [u8]) -> Got {
         match self.reader.read(buf) {
@@ -42,8 +55,20 @@ pub struct WriteSink<W> {
     faults: u64,
 }
 
+// Seen as the count of its failures.
+impl<W> Model for WriteSink<W> {
+    ghost use Rattle.std.specs.Prelude.{ℕ};
+
+    ghost Value = { ℕ };
+
+    ghost view = { λ s. s.faults };
+}
+
 impl<W: Write> WriteSink<W> {
-    pub fn new(writer: W) -> Self {
+    /// No write has failed yet.
+    pub fn new(writer: W) -> Self
+        ensures { result ≡ 0 }
+    {
         WriteSink { writer, faults: 0 }
     }
 }
@@ -51,7 +76,7 @@ impl<W: Write> WriteSink<W> {
 impl<W: Write> Sink for WriteSink<W> {
     ghost taken = { λ _. None };
 
-    ghost faults = { λ s. s.faults };
+    ghost faults = { λ count. count };
 
     fn write(&mut self, bytes: &[u8]) -> Took {
         match self.writer.write(bytes) {

@@ -107,6 +107,12 @@ impl Classes {
         &self.items[place]
     }
 
+    pub fn as_slice(&self) -> &[Class]
+        ensures { map concept_of result.now ≡ concepts_of self.now }
+    {
+        self.items.as_slice()
+    }
+
     /// Adds a class at the end. Where memory is refused the list stays, and the class is dropped.
     pub fn push(&mut self, class: Class) -> Result<(), Memory>
         ensures ok { OnOk result (concepts_of self.new ≡ concepts_of self.old ++ concept_of class ∷ []) }

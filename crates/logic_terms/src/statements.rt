@@ -93,6 +93,12 @@ impl Axioms {
         &self.items[place]
     }
 
+    pub fn as_slice(&self) -> &[Axiom]
+        ensures { map claim_of result.now ≡ claims_of self.now }
+    {
+        self.items.as_slice()
+    }
+
     /// Adds an axiom at the end. Where memory is refused the list stays, and the axiom is dropped.
     pub fn push(&mut self, added: Axiom) -> Result<(), Memory>
         ensures ok { OnOk result (claims_of self.new ≡ claims_of self.old ++ claim_of added ∷ []) }

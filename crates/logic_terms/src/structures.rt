@@ -54,6 +54,26 @@ impl Referents {
         items
     }
 
+    pub fn len(&self) -> usize
+        ensures { result ≡ length self.now }
+    {
+        self.items.len()
+    }
+
+    pub fn is_empty(&self) -> bool
+        ensures { result ≡ (length self.now == 0) }
+    {
+        self.items.is_empty()
+    }
+
+    /// The referent at a place below the length.
+    pub fn get(&self, place: usize) -> u16
+        requires { place < length self.now }
+        ensures { slice_get self.now place ≡ Some result }
+    {
+        self.items[place]
+    }
+
     pub fn as_slice(&self) -> &[u16]
         ensures { result.now ≡ self.now }
     {
@@ -169,6 +189,12 @@ impl Conds {
         ensures smaller { size-Cond result.now < size-Conds self.now }
     {
         &self.items[place]
+    }
+
+    pub fn as_slice(&self) -> &[Cond]
+        ensures { map condition_of result.now ≡ conditions_of self.now }
+    {
+        self.items.as_slice()
     }
 
     /// Adds a condition at the end. Where memory is refused the list stays, and the condition is dropped.

@@ -45,6 +45,7 @@ fn classes_go_into_a_vec_and_back(rt: HostRuntime) -> Result<(), Fail> {
     let none = Classes::new(alloc);
     assert!(rt; none.is_empty());
     let listed = Classes::from_vec(vec![in alloc; Class::Thing, Class::Named(WordId(4))]?);
+    assert_eq!(rt; listed.as_slice().len(), 2);
     assert_eq!(rt; listed.copy()?.len(), 2);
     assert_eq!(rt; listed.into_vec().len(), 2);
     Ok(())
@@ -60,6 +61,7 @@ fn axioms_are_listed_lent_and_copied(rt: HostRuntime) -> Result<(), Fail> {
     listed.push(Axiom::Member(class_of_every_kind(alloc)?, WordId(3)))?;
     let copied = listed.copy()?;
     assert_eq!(rt; copied.len(), 3);
+    assert_eq!(rt; copied.as_slice().len(), 3);
     assert!(rt; matches!(copied.get(0), Axiom::Equal(WordId(1), WordId(2))));
     assert!(rt; matches!(copied.get(2).copy(alloc)?, Axiom::Member(Class::And(_), WordId(3))));
     assert_eq!(rt; Axioms::from_vec(copied.into_vec()).len(), 3);
@@ -70,7 +72,10 @@ fn axioms_are_listed_lent_and_copied(rt: HostRuntime) -> Result<(), Fail> {
 fn structures_lend_their_referents_and_conditions(rt: HostRuntime) -> Result<(), Fail> {
     let alloc = rt.alloc();
     let mut referents = Referents::new(alloc);
+    assert!(rt; referents.is_empty());
     referents.push(4)?;
+    assert_eq!(rt; referents.len(), 1);
+    assert_eq!(rt; referents.get(0), 4);
     let mut conditions = Conds::new(alloc);
     assert!(rt; conditions.is_empty());
     conditions.push(Cond::Same(Thing::Ref(4), Thing::Name(WordId(1))))?;
@@ -78,6 +83,7 @@ fn structures_lend_their_referents_and_conditions(rt: HostRuntime) -> Result<(),
     let drs = Drs::new(Referents::from_vec(referents.into_vec()), conditions);
     assert_eq!(rt; drs.referents().as_slice(), [4].as_slice());
     assert_eq!(rt; drs.conditions().len(), 1);
+    assert_eq!(rt; drs.conditions().as_slice().len(), 1);
     assert!(rt; matches!(drs.conditions().get(0), Cond::Same(Thing::Ref(4), _)));
     Ok(())
 }

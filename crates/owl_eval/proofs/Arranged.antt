@@ -14,10 +14,10 @@ use Rattle.owl_eval.proofs.Filters.{list_all-IsPermutation}
 
 module _ {X : Type 0} (cmp : X → X → Ordering) where
   arranged_push : (es fs : List (WordId × List X)) (e f : WordId × List X) → AreArranged cmp es fs → e.0 ≡ f.0 → IsPermutation e.1 f.1 → IsSorted cmp f.1 → AreArranged cmp (es ++ e ∷ []) (fs ++ f ∷ [])
-  arranged_push [] [] e f all word same sorted = (word, same, sorted, tt)
+  arranged_push [] [] e f all word same sorted = (record { word = word; same = same; rising = sorted }, tt)
   arranged_push [] (g ∷ fs) e f all word same sorted = absurd all
   arranged_push (g ∷ es) [] e f all word same sorted = absurd all
-  arranged_push (g ∷ es) (h ∷ fs) e f all word same sorted = (all.0, all.1, all.2, arranged_push es fs e f all.3 word same sorted)
+  arranged_push (g ∷ es) (h ∷ fs) e f all word same sorted = (all.0, arranged_push es fs e f all.1 word same sorted)
 
   lists_in-push : (vs : List (WordId × Vec X Global)) (v : WordId × Vec X Global) → lists_in (vs ++ v ∷ []) ≡ lists_in vs ++ (v.0, v.1.items) ∷ []
   lists_in-push [] v = refl
@@ -33,21 +33,21 @@ module _ {X : Type 0} (cmp : X → X → Ordering) where
   words_above-arranged w [] (f ∷ fs) all = absurd all
   words_above-arranged w (e ∷ es) [] all = absurd all
   words_above-arranged w (e ∷ es) (f ∷ fs) all =
-      ap (λ v. nat_lt w.0 v.0 && words_above v es) all.0 ∙ ap (λ b. nat_lt w.0 f.0.0 && b) (words_above-arranged f.0 es fs all.3)
+      ap (λ v. nat_lt w.0 v.0 && words_above v es) all.0.word ∙ ap (λ b. nat_lt w.0 f.0.0 && b) (words_above-arranged f.0 es fs all.1)
 
   words_rise-arranged : (es fs : List (WordId × List X)) → AreArranged cmp es fs → words_rise es ≡ words_rise fs
   words_rise-arranged [] [] all = refl
   words_rise-arranged [] (f ∷ fs) all = absurd all
   words_rise-arranged (e ∷ es) [] all = absurd all
-  words_rise-arranged (e ∷ es) (f ∷ fs) all = ap (λ v. words_above v es) all.0 ∙ words_above-arranged f.0 es fs all.3
+  words_rise-arranged (e ∷ es) (f ∷ fs) all = ap (λ v. words_above v es) all.0.word ∙ words_above-arranged f.0 es fs all.1
 
   list_all-arranged : (test : X → Bool) (es fs : List (WordId × List X)) → AreArranged cmp es fs → list_all (λ e. list_all test e.1) es ≡ list_all (λ f. list_all test f.1) fs
   list_all-arranged test [] [] all = refl
   list_all-arranged test [] (f ∷ fs) all = absurd all
   list_all-arranged test (e ∷ es) [] all = absurd all
   list_all-arranged test (e ∷ es) (f ∷ fs) all =
-      ap (λ b. b && list_all (λ g. list_all test g.1) es) (list_all-IsPermutation test e.1 f.1 all.1)
-      ∙ ap (λ b. list_all test f.1 && b) (list_all-arranged test es fs all.3)
+      ap (λ b. b && list_all (λ g. list_all test g.1) es) (list_all-IsPermutation test e.1 f.1 all.0.same)
+      ∙ ap (λ b. list_all test f.1 && b) (list_all-arranged test es fs all.1)
 
 -- lists in order make an interpretation exactly where the given ones do
 pub is_interpretation-arranged : (n : ℕ) (names : List (WordId × ℕ)) (es fs : List (WordId × List ℕ)) (ps qs : List (WordId × List (ℕ × ℕ))) → AreArranged nat_cmp es fs → AreArranged pair_cmp ps qs → is_interpretation (record { size = n; names = names; classes = es; relations = ps }) ≡ is_interpretation (record { size = n; names = names; classes = fs; relations = qs })

@@ -18,9 +18,15 @@ given size names classes relations = record {
   relations = lists_in relations;
 }
 
--- the same words with the same lists, each put in rising order
+-- the same word with the same list, put in rising order
+pub record IsArranged {X : Type 0} (cmp : X → X → Ordering) (e f : WordId × List X) : Type 0 where
+  pub word : e.0 ≡ f.0
+  pub same : IsPermutation e.1 f.1
+  pub rising : IsSorted cmp f.1
+
+-- the same for each entry, in the same order
 abbrev pub AreArranged : {X : Type 0} → (X → X → Ordering) → List (WordId × List X) → List (WordId × List X) → Type 0
 AreArranged cmp [] [] = Unit {0}
 AreArranged cmp [] (f ∷ fs) = ⊥
 AreArranged cmp (e ∷ es) [] = ⊥
-AreArranged cmp (e ∷ es) (f ∷ fs) = (e.0 ≡ f.0) × IsPermutation e.1 f.1 × IsSorted cmp f.1 × AreArranged cmp es fs
+AreArranged cmp (e ∷ es) (f ∷ fs) = IsArranged cmp e f × AreArranged cmp es fs

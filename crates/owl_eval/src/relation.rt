@@ -18,15 +18,15 @@ pub(crate) struct Relation {
 }
 
 impl Model for Relation {
-    ghost use Rattle.std.specs.Prelude.{List, ℕ, map, IsSorted, IsPermutation};
-    ghost use Rattle.owl_eval.specs.Pairs.{pair_cmp, swapped};
+    ghost use Rattle.std.specs.Prelude.{List, ℕ};
+    ghost use Rattle.owl_eval.specs.Pairs.{AreIndexed};
     ghost use Rattle.wiki_base.specs.declared.numbers.WordId.{WordId};
 
     ghost Value = { WordId × List (ℕ × ℕ) };
 
     ghost view = { λ r. (r.word, r.pairs.items) };
 
-    ghost invariant = { λ r. IsSorted pair_cmp r.pairs.items × IsSorted pair_cmp r.inverse.items × IsPermutation (map swapped r.pairs.items) r.inverse.items };
+    ghost invariant = { λ r. AreIndexed r.pairs.items r.inverse.items };
 }
 
 impl Relation {

@@ -47,25 +47,29 @@ fn interp_of(
     Ok(Interp::new(alloc, size, names, classes, relations)?)
 }
 
+fn listed<T: Copy>(alloc: Global, items: &[T]) -> Result<Vec<T>, Fail> {
+    Ok(Vec::from_slice(alloc, items)?)
+}
+
 // Mary, a person, is in Bern, a city, and owns Rex, a dog, who is in Bern too.
 fn three_elements(rt: &impl Abort, alloc: Global) -> Result<Interp, Fail> {
-    let names = vec![in alloc; (MARY, 0), (BERN, 1), (REX, 2)]?;
-    let dogs = vec![in alloc; 2]?;
-    let persons = vec![in alloc; 0]?;
-    let cities = vec![in alloc; 1]?;
+    let names = listed(alloc, &[(MARY, 0), (BERN, 1), (REX, 2)])?;
+    let dogs = listed(alloc, &[2])?;
+    let persons = listed(alloc, &[0])?;
+    let cities = listed(alloc, &[1])?;
     let classes = vec![in alloc; (DOG, dogs), (PERSON, persons), (CITY, cities)]?;
-    let owned = vec![in alloc; (0, 2)]?;
-    let inside = vec![in alloc; (2, 1), (0, 1)]?;
+    let owned = listed(alloc, &[(0, 2)])?;
+    let inside = listed(alloc, &[(2, 1), (0, 1)])?;
     let relations = vec![in alloc; (OWN, owned), (IN, inside)]?;
     interp_of(rt, alloc, 3, names, classes, relations)
 }
 
 // Mary and Rex are one element; the two elements own each other, and the other one is a dog.
 fn two_elements(rt: &impl Abort, alloc: Global) -> Result<Interp, Fail> {
-    let names = vec![in alloc; (MARY, 1), (REX, 1)]?;
-    let dogs = vec![in alloc; 0]?;
+    let names = listed(alloc, &[(MARY, 1), (REX, 1)])?;
+    let dogs = listed(alloc, &[0])?;
     let classes = vec![in alloc; (DOG, dogs)]?;
-    let owned = vec![in alloc; (1, 0), (0, 1)]?;
+    let owned = listed(alloc, &[(1, 0), (0, 1)])?;
     let relations = vec![in alloc; (OWN, owned)]?;
     interp_of(rt, alloc, 2, names, classes, relations)
 }
@@ -84,8 +88,8 @@ fn one_element(rt: &impl Abort, alloc: Global) -> Result<Interp, Fail> {
 
 // One element, a dog that owns itself.
 fn self_owner(rt: &impl Abort, alloc: Global) -> Result<Interp, Fail> {
-    let dogs = vec![in alloc; 0]?;
-    let owned = vec![in alloc; (0, 0)]?;
+    let dogs = listed(alloc, &[0])?;
+    let owned = listed(alloc, &[(0, 0)])?;
     let classes = vec![in alloc; (DOG, dogs)]?;
     let relations = vec![in alloc; (OWN, owned)]?;
     interp_of(rt, alloc, 1, Vec::new(alloc), classes, relations)
@@ -190,22 +194,26 @@ fn values_and_unknown_words_have_these_members(rt: HostRuntime) -> Result<(), Fa
     Ok(())
 }
 
+fn holds(interp: &Interp, stated: Axiom) -> bool {
+    axiom_true(interp, &stated)
+}
+
 #[test]
 fn axioms_on_classes_and_roles_are_true_or_not(rt: HostRuntime) -> Result<(), Fail> {
     let alloc = rt.alloc();
     let world = three_elements(&rt, alloc)?;
     let in_a_city = some(alloc, role(IN), Class::Named(CITY))?;
-    assert!(rt; axiom_true(&world, &Axiom::SubClass(Class::Named(DOG), in_a_city)));
+    assert!(rt; holds(&world, Axiom::SubClass(Class::Named(DOG), in_a_city)));
     let persons_are_dogs = Axiom::SubClass(Class::Named(PERSON), Class::Named(DOG));
-    assert!(rt; !axiom_true(&world, &persons_are_dogs));
-    assert!(rt; !axiom_true(&world, &Axiom::SubRole(role(OWN), role(IN))));
-    assert!(rt; axiom_true(&world, &Axiom::SubRole(inverse(OWN), inverse(OWN))));
-    assert!(rt; axiom_true(&world, &Axiom::SubRole(role(UNKNOWN), role(IN))));
-    assert!(rt; !axiom_true(&world, &Axiom::SubRole(role(OWN), inverse(OWN))));
+    assert!(rt; !holds(&world, persons_are_dogs));
+    assert!(rt; !holds(&world, Axiom::SubRole(role(OWN), role(IN))));
+    assert!(rt; holds(&world, Axiom::SubRole(inverse(OWN), inverse(OWN))));
+    assert!(rt; holds(&world, Axiom::SubRole(role(UNKNOWN), role(IN))));
+    assert!(rt; !holds(&world, Axiom::SubRole(role(OWN), inverse(OWN))));
     let pair = two_elements(&rt, alloc)?;
-    assert!(rt; axiom_true(&pair, &Axiom::SubRole(role(OWN), inverse(OWN))));
-    assert!(rt; axiom_true(&world, &Axiom::Member(Class::Named(PERSON), MARY)));
-    assert!(rt; !axiom_true(&world, &Axiom::Member(Class::Named(DOG), MARY)));
+    assert!(rt; holds(&pair, Axiom::SubRole(role(OWN), inverse(OWN))));
+    assert!(rt; holds(&world, Axiom::Member(Class::Named(PERSON), MARY)));
+    assert!(rt; !holds(&world, Axiom::Member(Class::Named(DOG), MARY)));
     Ok(())
 }
 
@@ -214,17 +222,21 @@ fn axioms_on_names_are_true_or_not(rt: HostRuntime) -> Result<(), Fail> {
     let alloc = rt.alloc();
     let world = three_elements(&rt, alloc)?;
     let pair = two_elements(&rt, alloc)?;
-    assert!(rt; axiom_true(&world, &Axiom::Related(role(OWN), MARY, REX)));
-    assert!(rt; !axiom_true(&world, &Axiom::Related(role(OWN), REX, MARY)));
-    assert!(rt; axiom_true(&world, &Axiom::Related(inverse(OWN), REX, MARY)));
-    assert!(rt; axiom_true(&world, &Axiom::NotRelated(role(OWN), REX, MARY)));
-    assert!(rt; !axiom_true(&world, &Axiom::NotRelated(role(OWN), MARY, REX)));
-    assert!(rt; axiom_true(&pair, &Axiom::Equal(MARY, REX)));
-    assert!(rt; !axiom_true(&world, &Axiom::Equal(MARY, REX)));
-    assert!(rt; axiom_true(&world, &Axiom::Equal(MARY, UNKNOWN)));
-    assert!(rt; axiom_true(&world, &Axiom::Differ(MARY, REX)));
-    assert!(rt; !axiom_true(&pair, &Axiom::Differ(MARY, REX)));
+    assert!(rt; holds(&world, Axiom::Related(role(OWN), MARY, REX)));
+    assert!(rt; !holds(&world, Axiom::Related(role(OWN), REX, MARY)));
+    assert!(rt; holds(&world, Axiom::Related(inverse(OWN), REX, MARY)));
+    assert!(rt; holds(&world, Axiom::NotRelated(role(OWN), REX, MARY)));
+    assert!(rt; !holds(&world, Axiom::NotRelated(role(OWN), MARY, REX)));
+    assert!(rt; holds(&pair, Axiom::Equal(MARY, REX)));
+    assert!(rt; !holds(&world, Axiom::Equal(MARY, REX)));
+    assert!(rt; holds(&world, Axiom::Equal(MARY, UNKNOWN)));
+    assert!(rt; holds(&world, Axiom::Differ(MARY, REX)));
+    assert!(rt; !holds(&pair, Axiom::Differ(MARY, REX)));
     Ok(())
+}
+
+fn is_true(alloc: Global, interp: &Interp, drs: &Drs) -> Result<bool, Fail> {
+    Ok(drs_true(alloc, interp, drs)?)
 }
 
 fn conditions(alloc: Global, one: Cond) -> Result<Conds, Fail> {
@@ -254,8 +266,8 @@ fn mary_owns_a_dog_where_one_element_is_its_own_dog(rt: HostRuntime) -> Result<(
     let dog = conditions(alloc, Cond::Class(DOG, Thing::Ref(4)))?;
     let owned = with(dog, Cond::Rel(OWN, Thing::Name(MARY), Thing::Ref(4)))?;
     let drs = introducing(alloc, 4, owned)?;
-    assert!(rt; !drs_true(alloc, &one_element(&rt, alloc)?, &drs)?);
-    assert!(rt; drs_true(alloc, &self_owner(&rt, alloc)?, &drs)?);
+    assert!(rt; !is_true(alloc, &one_element(&rt, alloc)?, &drs)?);
+    assert!(rt; is_true(alloc, &self_owner(&rt, alloc)?, &drs)?);
     Ok(())
 }
 
@@ -270,11 +282,11 @@ fn a_referent_of_the_left_side_is_used_on_the_right(rt: HostRuntime) -> Result<(
     )?;
     let in_bern = plain(alloc, Cond::Rel(IN, Thing::Ref(1), Thing::Name(BERN)))?;
     let each_dog = plain(alloc, Cond::Implies(dog, in_bern))?;
-    assert!(rt; drs_true(alloc, &world, &each_dog)?);
+    assert!(rt; is_true(alloc, &world, &each_dog)?);
     let thing = introducing(alloc, 1, Conds::new(alloc))?;
     let in_bern = plain(alloc, Cond::Rel(IN, Thing::Ref(1), Thing::Name(BERN)))?;
     let each_thing = plain(alloc, Cond::Implies(thing, in_bern))?;
-    assert!(rt; !drs_true(alloc, &world, &each_thing)?);
+    assert!(rt; !is_true(alloc, &world, &each_thing)?);
     Ok(())
 }
 
@@ -296,12 +308,12 @@ fn not_implies_and_or_stand_in_one_another(rt: HostRuntime) -> Result<(), Fail> 
         Cond::Or(mary, plain(alloc, Cond::Not(owner_of_cities))?),
     )?;
     let drs = Drs::new(Referents::new(alloc), neither);
-    assert!(rt; drs_true(alloc, &world, &drs)?);
+    assert!(rt; is_true(alloc, &world, &drs)?);
     let rex = conditions(alloc, Cond::Same(Thing::Ref(1), Thing::Name(REX)))?;
     let same = introducing(alloc, 1, rex)?;
-    assert!(rt; drs_true(alloc, &world, &same)?);
+    assert!(rt; is_true(alloc, &world, &same)?);
     let denied = plain(alloc, Cond::Not(same))?;
-    assert!(rt; !drs_true(alloc, &world, &denied)?);
+    assert!(rt; !is_true(alloc, &world, &denied)?);
     Ok(())
 }
 

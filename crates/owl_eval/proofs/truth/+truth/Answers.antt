@@ -32,23 +32,23 @@ conditions_true-returns-then-not-branch-clause-truth t c =
     let start = c.args.given.now.items in
     let truth : c.in_ok-holds.field-0 ≡ condition_true i (condition_of c.get.result.now) (assigned c.loop-place.given.items) = c.in_ok-holds.ensures.truth in
     sym (each_fails (λ k. condition_true i k (assigned start)) (conditions_of c.args.conditions.now) c.loop-place.place (condition_of c.get.result.now) c.get.ensures.item
-    (ap (λ es. condition_true i (condition_of c.get.result.now) (assigned es)) (sym c.loop-place.invariant.0) ∙ (sym truth ∙ c.if-not-branch.true)))
+    (ap (λ es. condition_true i (condition_of c.get.result.now) (assigned es)) (sym c.loop-place.invariant.kept) ∙ (sym truth ∙ c.if-not-branch.true)))
 
 pub conditions_true-loop-place-preserved : goal.conditions_true-loop-place-preserved
 conditions_true-loop-place-preserved t c =
     let i = c.args.interp.now in
     let start = c.args.given.now.items in
-    let truth : c.in_ok-holds.field-0 ≡ condition_true i (condition_of c.get.result.now) (assigned c.loop-place.given.items) = c.in_ok-holds.ensures.truth in (
-      c.in_ok-holds.ensures.kept ∙ c.loop-place.invariant.0,
-      each_more (λ k. condition_true i k (assigned start)) (conditions_of c.args.conditions.now) c.loop-place.place (condition_of c.get.result.now) c.get.ensures.item c.loop-place.invariant.1
-          (ap (λ es. condition_true i (condition_of c.get.result.now) (assigned es)) (sym c.loop-place.invariant.0) ∙ (sym truth ∙ c.if-not-branch.false)),
-    )
+    let truth : c.in_ok-holds.field-0 ≡ condition_true i (condition_of c.get.result.now) (assigned c.loop-place.given.items) = c.in_ok-holds.ensures.truth in record {
+      kept = c.in_ok-holds.ensures.kept ∙ c.loop-place.invariant.kept;
+      so_far = each_more (λ k. condition_true i k (assigned start)) (conditions_of c.args.conditions.now) c.loop-place.place (condition_of c.get.result.now) c.get.ensures.item c.loop-place.invariant.so_far
+          (ap (λ es. condition_true i (condition_of c.get.result.now) (assigned es)) (sym c.loop-place.invariant.kept) ∙ (sym truth ∙ c.if-not-branch.false));
+    }
 
 -- what the call tells of the referent's element
 at_found : (t : ℕ) (c : some_extension_true-After-pop t) → c.in_ok-found.found ≡ some_extension c.args.interp.now.size c.in-Some.rest.now (each_condition c.args.interp.now (conditions_of c.args.conditions.now)) (giving (assigned c.args.given.now.items) c.in-Some.first.now c.loop-element.element)
 at_found t c =
     c.in_ok-found.ensures.truth
-    ∙ after_push (λ f. some_extension c.args.interp.now.size c.in-Some.rest.now (each_condition c.args.interp.now (conditions_of c.args.conditions.now)) f) c.args.given.now.items c.loop-element.given.items c.push.new.self.items c.in-Some.first.now c.loop-element.element c.in_ok-push.ensures.items c.loop-element.invariant.0
+    ∙ after_push (λ f. some_extension c.args.interp.now.size c.in-Some.rest.now (each_condition c.args.interp.now (conditions_of c.args.conditions.now)) f) c.args.given.now.items c.loop-element.given.items c.push.new.self.items c.in-Some.first.now c.loop-element.element c.in_ok-push.ensures.items c.loop-element.invariant.kept
 
 pub some_extension_true-returns-then-found-clause-truth : goal.some_extension_true-returns-then-found-clause-truth
 some_extension_true-returns-then-found-clause-truth t c =
@@ -63,16 +63,16 @@ pub some_extension_true-loop-element-preserved : goal.some_extension_true-loop-e
 some_extension_true-loop-element-preserved t c =
     let n = c.args.interp.now.size in
     let start = assigned c.args.given.now.items in
-    let at : ℕ → Bool = λ x. some_extension n c.in-Some.rest.now (each_condition c.args.interp.now (conditions_of c.args.conditions.now)) (giving start c.in-Some.first.now x) in (
-      popped c.loop-element.given.items c.some_extension_true.new.given.items c.pop.new.self.items (c.in-Some.first.now, c.loop-element.element) _ (c.in_ok-found.ensures.kept ∙ c.in_ok-push.ensures.items) c.some_extension_true.new.given.ok.0 c.pop.ensures.rest ∙ c.loop-element.invariant.0,
-      some_below_more at c.loop-element.element c.loop-element.invariant.1 (sym (at_found t (goal.at.some_extension_true-loop-element-preserved t c).After-pop) ∙ c.if-found.false),
-    )
+    let at : ℕ → Bool = λ x. some_extension n c.in-Some.rest.now (each_condition c.args.interp.now (conditions_of c.args.conditions.now)) (giving start c.in-Some.first.now x) in record {
+      kept = popped c.loop-element.given.items c.some_extension_true.new.given.items c.pop.new.self.items (c.in-Some.first.now, c.loop-element.element) _ (c.in_ok-found.ensures.kept ∙ c.in_ok-push.ensures.items) c.some_extension_true.new.given.ok.0 c.pop.ensures.rest ∙ c.loop-element.invariant.kept;
+      so_far = some_below_more at c.loop-element.element c.loop-element.invariant.so_far (sym (at_found t (goal.at.some_extension_true-loop-element-preserved t c).After-pop) ∙ c.if-found.false);
+    }
 
 -- what the call tells of the referent's element
 at_kept : (t : ℕ) (c : each_extension_true-After-pop t) → c.in_ok-kept.kept ≡ each_extension c.args.interp.now.size c.in-Some.rest.now (carries_over c.args.interp.now (conditions_of c.args.conditions.now) (structure_of c.args.right.now)) (giving (assigned c.args.given.now.items) c.in-Some.first.now c.loop-element.element)
 at_kept t c =
     c.in_ok-kept.ensures.truth
-    ∙ after_push (λ f. each_extension c.args.interp.now.size c.in-Some.rest.now (carries_over c.args.interp.now (conditions_of c.args.conditions.now) (structure_of c.args.right.now)) f) c.args.given.now.items c.loop-element.given.items c.push.new.self.items c.in-Some.first.now c.loop-element.element c.in_ok-push.ensures.items c.loop-element.invariant.0
+    ∙ after_push (λ f. each_extension c.args.interp.now.size c.in-Some.rest.now (carries_over c.args.interp.now (conditions_of c.args.conditions.now) (structure_of c.args.right.now)) f) c.args.given.now.items c.loop-element.given.items c.push.new.self.items c.in-Some.first.now c.loop-element.element c.in_ok-push.ensures.items c.loop-element.invariant.kept
 
 pub each_extension_true-returns-then-not-kept-clause-truth : goal.each_extension_true-returns-then-not-kept-clause-truth
 each_extension_true-returns-then-not-kept-clause-truth t c =
@@ -87,7 +87,7 @@ pub each_extension_true-loop-element-preserved : goal.each_extension_true-loop-e
 each_extension_true-loop-element-preserved t c =
     let n = c.args.interp.now.size in
     let start = assigned c.args.given.now.items in
-    let at : ℕ → Bool = λ x. each_extension n c.in-Some.rest.now (carries_over c.args.interp.now (conditions_of c.args.conditions.now) (structure_of c.args.right.now)) (giving start c.in-Some.first.now x) in (
-      popped c.loop-element.given.items c.each_extension_true.new.given.items c.pop.new.self.items (c.in-Some.first.now, c.loop-element.element) _ (c.in_ok-kept.ensures.kept ∙ c.in_ok-push.ensures.items) c.each_extension_true.new.given.ok.0 c.pop.ensures.rest ∙ c.loop-element.invariant.0,
-      each_below_more at c.loop-element.element c.loop-element.invariant.1 (sym (at_kept t (goal.at.each_extension_true-loop-element-preserved t c).After-pop) ∙ c.if-not-kept.false),
-    )
+    let at : ℕ → Bool = λ x. each_extension n c.in-Some.rest.now (carries_over c.args.interp.now (conditions_of c.args.conditions.now) (structure_of c.args.right.now)) (giving start c.in-Some.first.now x) in record {
+      kept = popped c.loop-element.given.items c.each_extension_true.new.given.items c.pop.new.self.items (c.in-Some.first.now, c.loop-element.element) _ (c.in_ok-kept.ensures.kept ∙ c.in_ok-push.ensures.items) c.each_extension_true.new.given.ok.0 c.pop.ensures.rest ∙ c.loop-element.invariant.kept;
+      so_far = each_below_more at c.loop-element.element c.loop-element.invariant.so_far (sym (at_kept t (goal.at.each_extension_true-loop-element-preserved t c).After-pop) ∙ c.if-not-kept.false);
+    }

@@ -11,7 +11,7 @@ returns-clause-some c test =
     let run : c.run_of.result.now ≡ filter (λ p. p.0 == c.args.to) c.as_slice.result.now = c.run_of.ensures in
     ap (list_any test) (run ∙ ap (filter (λ p. p.0 == c.args.to)) c.as_slice.ensures.value)
     ∙ (list_any-filter test (λ p. p.0 == c.args.to) c.self.inside.inverse.items
-    ∙ (sym (list_any-IsPermutation (λ p. (p.0 == c.args.to) && test p) _ _ c.self.invariant.2)
+    ∙ (sym (list_any-IsPermutation (λ p. (p.0 == c.args.to) && test p) _ _ c.self.invariant.same)
     ∙ ap (λ v. list_any (λ p. (p.0 == c.args.to) && test p) (map swapped v.1)) c.self.view_is))
 
 pub returns-clause-each : goal.returns-clause-each
@@ -19,5 +19,5 @@ returns-clause-each c test =
     let run : c.run_of.result.now ≡ filter (λ p. p.0 == c.args.to) c.as_slice.result.now = c.run_of.ensures in
     ap (list_all test) (run ∙ ap (filter (λ p. p.0 == c.args.to)) c.as_slice.ensures.value)
     ∙ (list_all-filter test (λ p. p.0 == c.args.to) c.self.inside.inverse.items
-    ∙ (sym (list_all-IsPermutation (λ p. implies (p.0 == c.args.to) (test p)) _ _ c.self.invariant.2)
+    ∙ (sym (list_all-IsPermutation (λ p. implies (p.0 == c.args.to) (test p)) _ _ c.self.invariant.same)
     ∙ ap (λ v. list_all (λ p. implies (p.0 == c.args.to) (test p)) (map swapped v.1)) c.self.view_is))

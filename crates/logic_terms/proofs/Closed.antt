@@ -1,14 +1,13 @@
 -- The truth of a structure rests on its free referents alone.
-use Rattle.std.proofs.Common.{◌≡◌, ℕ, ◌==◌, ◌&&◌, ◌||◌, Bool, true, false, List, [], ◌∷◌, ◌++◌, Option, Some, None, refl, sym, ap, ◌∙◌, subst, inl, inr, arith}
-use Rattle.std.specs.Prelude.{not, ◌⊎◌, if◌then◌else◌}
-use Rattle.std.specs.List.{list_any}
+use Rattle.std.proofs.Common.{◌≡◌, ℕ, ◌==◌, ◌&&◌, ◌||◌, Bool, true, false, List, [], ◌∷◌, ◌++◌, Option, Some, None, refl, sym, ap, ◌∙◌, inl, inr}
+use Rattle.std.specs.Prelude.{not, if◌then◌else◌}
 use Rattle.std.specs.Option.{option_or}
-use Rattle.std.proofs.lemmas.Bool.{cases_Bool, cases_eq, ne_eqb, or_cases, or_left, or_right}
+use Rattle.std.proofs.lemmas.Bool.{cases_eq, ne_eqb, or_right}
 use Rattle.std.proofs.lemmas.List.Folds.{list_any-append}
 use Rattle.logic_terms.specs.declared.structures.Thing.{Thing}
 use Rattle.logic_terms.specs.declared.structures.Thing.TheVariants.{Ref, Name}
 use Rattle.logic_terms.specs.Structure.{Condition, Conditions, Structure, IsA, AreRelated, AreSame, Negation, Implication, Disjunction, no_condition, also_condition, structure, referents_in}
-use Rattle.logic_terms.specs.Interpretation.{Interpretation, has_element, has_pair, element_of}
+use Rattle.logic_terms.specs.Interpretation.{Interpretation, has_element, has_pair}
 use Rattle.logic_terms.specs.Meaning.{some_below, each_below, implies}
 use Rattle.logic_terms.specs.Truth.{giving, some_extension, each_extension, thing_in, is_true, implies_test, all_true, condition_true}
 use Rattle.logic_terms.specs.Free.{is_bound, free_thing, free_in, free_in_all, free_in_condition, IsClosed}
@@ -20,8 +19,8 @@ Agree bound f g = (r : ℕ) → is_bound bound r ≡ true → f r ≡ g r
 
 agree_more : (bound : List ℕ) (f g : ℕ → ℕ) (r x : ℕ) → Agree bound f g → Agree (r ∷ bound) (giving f r x) (giving g r x)
 agree_more bound f g r x agree q h = elim (cases_eq r q) [
-  inl same ↦ same_at f r x q same ∙ sym (same_at g r x q same) |
-  inr ne ↦ other_at f r x q ne ∙ agree q (sym (ap (λ b. b || is_bound bound q) (ne_eqb r q ne)) ∙ h) ∙ sym (other_at g r x q ne)
+  | inl same ↦ same_at f r x q same ∙ sym (same_at g r x q same)
+  | inr ne ↦ other_at f r x q ne ∙ agree q (sym (ap (λ b. b || is_bound bound q) (ne_eqb r q ne)) ∙ h) ∙ sym (other_at g r x q ne)
 ]
 
 moved_in : (a b c : Bool) → (a || (b || c)) ≡ true → (b || (a || c)) ≡ true

@@ -1,14 +1,13 @@
 -- The tests of `Truth` decide the facts of `Reading`.
 use Rattle.std.proofs.Common.{◌≡◌, ℕ, ◌<◌, ◌==◌, ◌&&◌, ◌||◌, Bool, true, false, List, [], ◌∷◌, ◌++◌, length, Contains, refl, sym, ap, ◌∙◌, subst, inl, inr, arith, Decides}
-use Rattle.std.specs.Prelude.{not, ◌⊎◌, if◌then◌else◌}
+use Rattle.std.specs.Prelude.{◌⊎◌}
 use Rattle.std.specs.List.{list_any}
 use Rattle.std.proofs.lemmas.Bool.{cases_Bool, cases_eq, cond-true, cond-false, eq-eqb, ne_eqb}
 use Rattle.std.proofs.lemmas.Bool.Decides.{Decides-eqb, Decides-like, Decides-not, Decides-and, Decides-or, not_from_Decides}
-use Rattle.std.proofs.lemmas.List.Elements.{Contains-append_left, Contains-append_right, Contains-append_cases}
-use Rattle.logic_terms.specs.declared.structures.Thing.{Thing}
+use Rattle.std.proofs.lemmas.List.Elements.{Contains-append_right, Contains-append_cases}
 use Rattle.logic_terms.specs.Structure.{Condition, Conditions, Structure, IsA, AreRelated, AreSame, Negation, Implication, Disjunction, no_condition, also_condition, structure}
-use Rattle.logic_terms.specs.Interpretation.{Interpretation, elements_of, pairs_of, has_element, has_pair}
-use Rattle.logic_terms.specs.Meaning.{some_below, each_below, implies}
+use Rattle.logic_terms.specs.Interpretation.{Interpretation, elements_of, pairs_of}
+use Rattle.logic_terms.specs.Meaning.{implies}
 use Rattle.logic_terms.specs.Truth.{giving, some_extension, each_extension, thing_in, is_true, implies_test, all_true, condition_true}
 use Rattle.logic_terms.specs.Reading.{Extends, IsTrueUnder, ImpliesOf, AllTrueUnder, ConditionTrueUnder}
 use Rattle.logic_terms.proofs.MeaningLemmas.{list_any-Contains, list_any-Contains_pair, some_below-Decides, each_below-Decides, implies-Decides}
@@ -39,11 +38,12 @@ other_at f r x q ne = cond-false (q == r) x (f q) (ne_eqb q r (λ e. ne (sym e))
 one_more : (n r : ℕ) (rs : List ℕ) (f g : ℕ → ℕ) (x : ℕ) → x < n → Extends n rs (giving f r x) g → Extends n (r ∷ rs) f g
 one_more n r rs f g x lt e = record {
   introduced = λ q h. elim (cases_Bool (list_any (λ y. y == q) rs)) [
-    inl t ↦ e.introduced q ((list_any-Contains rs q).0 t) |
-    inr t ↦ (let out : ¬ Contains rs q = not_from_Decides (list_any (λ y. y == q) rs) (list_any-Contains rs q) t in
-      elim (in_cases r rs q h) [
-        inl same ↦ subst (λ z. z < n) (sym (e.others q out ∙ same_at f r x q same)) lt |
-        inr inside ↦ absurd (out inside) ])
+    | inl t ↦ e.introduced q ((list_any-Contains rs q).0 t)
+    | inr t ↦ (let out : ¬ Contains rs q = not_from_Decides (list_any (λ y. y == q) rs) (list_any-Contains rs q) t in
+        elim (in_cases r rs q h) [
+          | inl same ↦ subst (λ z. z < n) (sym (e.others q out ∙ same_at f r x q same)) lt
+          | inr inside ↦ absurd (out inside)
+        ])
   ];
   others = λ q h. e.others q (λ inside. h (in_rest r rs q inside)) ∙ other_at f r x q (λ same. h (subst (λ z. Contains (r ∷ rs) z) same (in_front r rs)));
 }
@@ -52,8 +52,8 @@ one_less : (n r : ℕ) (rs : List ℕ) (f g : ℕ → ℕ) → Extends n (r ∷ 
 one_less n r rs f g e = record {
   introduced = λ q h. e.introduced q (in_rest r rs q h);
   others = λ q h. elim (cases_eq r q) [
-    inl same ↦ sym (ap g same) ∙ sym (same_at f r (g r) q same) |
-    inr ne ↦ e.others q (λ m. elim (in_cases r rs q m) [ inl same ↦ ne same | inr inside ↦ h inside ]) ∙ sym (other_at f r (g r) q ne)
+    | inl same ↦ sym (ap g same) ∙ sym (same_at f r (g r) q same)
+    | inr ne ↦ e.others q (λ m. elim (in_cases r rs q m) [ inl same ↦ ne same | inr inside ↦ h inside ]) ∙ sym (other_at f r (g r) q ne)
   ];
 }
 

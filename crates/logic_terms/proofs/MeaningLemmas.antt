@@ -1,13 +1,12 @@
 -- The tests of `Meaning` decide the facts of `Reading`.
-use Rattle.std.proofs.Common.{◌≡◌, ℕ, zero, suc, ◌+◌, ◌<◌, ◌==◌, ◌&&◌, ◌||◌, Bool, true, false, List, [], ◌∷◌, length, Contains, MatchBool, refl, sym, ap, ◌∙◌, subst, inl, inr, arith, rules, Decides}
-use Rattle.std.specs.Prelude.{not, ◌⊎◌, if◌then◌else◌}
-use Rattle.std.specs.List.{list_any, list_all, All, HoldsAt}
+use Rattle.std.proofs.Common.{◌≡◌, ℕ, ◌<◌, ◌==◌, ◌&&◌, Bool, true, false, List, Contains, MatchBool, refl, ap, Decides}
+use Rattle.std.specs.Prelude.{if◌then◌else◌}
+use Rattle.std.specs.List.{list_any}
 use Rattle.std.proofs.lemmas.Bool.Decides.{Decides-eqb, Decides-like, Decides-not, Decides-and, Decides-or, Decides-by_and, Decides-by_or, Decides-below_and, Decides-below_or}
 use Rattle.std.proofs.lemmas.List.Elements.{Decides-contains}
-use Rattle.wiki_base.specs.declared.numbers.WordId.{WordId}
 use Rattle.logic_terms.specs.declared.expressions.Role.{Role}
 use Rattle.logic_terms.specs.Concept.{Concept, Concepts, Everything, Atomic, ComplementOf, IntersectionOf, UnionOf, SomeValuesFrom, AllValuesFrom, HasValue, no_concept, also_concept, Claim, SubClassOf, SubPropertyOf, ClassAssertion, PropertyAssertion, NegativePropertyAssertion, SameIndividual, DifferentIndividuals}
-use Rattle.logic_terms.specs.Interpretation.{Interpretation, element_of, elements_of, pairs_of, has_element, has_pair, relates, Relates}
+use Rattle.logic_terms.specs.Interpretation.{Interpretation, element_of, elements_of, pairs_of, relates, Relates}
 use Rattle.logic_terms.specs.Meaning.{some_below, each_below, implies, is_in, is_in_each, is_in_some, holds, all_hold}
 use Rattle.logic_terms.specs.Reading.{IsIn, IsInEach, IsInSome, Holds, IsModel}
 

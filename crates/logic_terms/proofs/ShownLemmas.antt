@@ -35,7 +35,6 @@ conditions_in_is d =
 fold_members : (m : Classes) → Rattle.logic_terms.specs.declared.expressions.Class.TheFolds.fold-Classes Concept Concepts concept_layer members_layer m ≡ concepts_from (concepts_of m)
 fold_members m = fold_out-Classes Concept Concepts concept_layer members_layer m
 
-
 pub concept_of-Thing : concept_of class.Thing ≡ Everything
 concept_of-Thing =
     ap concept_of (sym class.rolls-Thing)

@@ -1,7 +1,7 @@
 -- Finite interpretations, and what they give to a name, a class word, a relation word and a role.
 -- After OWL 2, Direct Semantics, section 2.2, with finitely many elements. A word that an interpretation lacks
 -- stands for element 0, no elements, or no pairs.
-use Rattle.std.specs.Prelude.{ℕ, ◌≡◌, ◌==◌, ◌&&◌, Bool, true, List, [], ◌∷◌, nat_lt, if◌then◌else◌, unwrap_or, Contains, MatchBool}
+use Rattle.std.specs.Prelude.{ℕ, ◌==◌, ◌&&◌, Bool, true, List, [], ◌∷◌, nat_lt, if◌then◌else◌, unwrap_or, Contains, MatchBool}
 use Rattle.std.specs.List.{list_any, list_all}
 use Rattle.std.specs.Map.{lookup}
 use Rattle.wiki_base.specs.declared.numbers.WordId.{WordId}

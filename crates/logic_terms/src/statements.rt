@@ -31,7 +31,10 @@ impl Axiom {
         ensures { IfOk result (λ copied. claim_of copied ≡ claim_of self.now) }
     {
         match self {
-            Axiom::SubClass(below, above) => Ok(Axiom::SubClass(below.copy(alloc)?, above.copy(alloc)?)),
+            Axiom::SubClass(below, above) => Ok(Axiom::SubClass(
+                below.copy(alloc)?,
+                above.copy(alloc)?,
+            )),
             Axiom::SubRole(below, above) => Ok(Axiom::SubRole(*below, *above)),
             Axiom::Member(class, name) => Ok(Axiom::Member(class.copy(alloc)?, *name)),
             Axiom::Related(role, from, to) => Ok(Axiom::Related(*role, *from, *to)),

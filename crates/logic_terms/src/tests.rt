@@ -63,7 +63,12 @@ fn axioms_are_listed_lent_and_copied(rt: HostRuntime) -> Result<(), Fail> {
     assert_eq!(rt; copied.len(), 3);
     assert_eq!(rt; copied.as_slice().len(), 3);
     assert!(rt; matches!(copied.get(0), Axiom::Equal(WordId(1), WordId(2))));
-    assert!(rt; matches!(copied.get(2).copy(alloc)?, Axiom::Member(Class::And(_), WordId(3))));
+    assert!(rt;
+        matches!(
+            copied.get(2).copy(alloc)?,
+            Axiom::Member(Class::And(_), WordId(3))
+        )
+    );
     assert_eq!(rt; Axioms::from_vec(copied.into_vec()).len(), 3);
     Ok(())
 }

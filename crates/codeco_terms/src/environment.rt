@@ -1,5 +1,5 @@
 // What the variables of a rule stand for.
-ghost use Rattle.std.specs.Prelude.{◌≡◌, ◌<◌, ℕ, List, None, Some, replicate, slice_set, slice_index_or};
+ghost use Rattle.std.specs.Prelude.{◌≡◌, ◌<◌, None, Some, length, replicate, slice_set};
 
 use crate::Value;
 use std::marker::Model;
@@ -24,6 +24,8 @@ impl Model for Env {
 }
 
 impl Env {
+    ghost use Rattle.codeco_terms.specs.Unification.{value_of};
+
     /// The map in which no variable has a value.
     pub fn new() -> Self
         ensures { result ≡ replicate 16 None }
@@ -36,7 +38,8 @@ impl Env {
     /// What the variable has.
     pub fn get(&self, variable: u8) -> Option<Value>
         requires { variable < 16 }
-        ensures { result ≡ slice_index_or self.now variable None }
+        ensures value { result ≡ value_of self.now variable }
+        ensures room { length self.now ≡ 16 }
     {
         self.places[variable as usize]
     }
@@ -47,5 +50,14 @@ impl Env {
         ensures { self.new ≡ slice_set self.old variable (Some value) }
     {
         self.places[variable as usize] = Some(value);
+    }
+
+    /// An equal map.
+    pub fn copy(&self) -> Self
+        ensures { result ≡ self.now }
+    {
+        Env {
+            places: self.places,
+        }
     }
 }

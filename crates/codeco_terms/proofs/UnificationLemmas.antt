@@ -21,7 +21,7 @@ pub least_same : (P Q : Bindings → Type 0) (old new : Bindings) → ((m : Bind
 least_same P Q old new to from e = record {
   extends = e.extends;
   holds = to new e.holds;
-  least = λ m h q. e.least m h (from m q)
+  least = λ m h q. e.least m h (from m q);
 }
 
 -- first one fact, and then another over what it gave
@@ -29,7 +29,7 @@ pub least_more : (P Q R : Bindings → Type 0) (old mid new : Bindings) → IsKe
 least_more P Q R old mid new kept first then join split = record {
   extends = λ x v h. then.extends x v (first.extends x v h);
   holds = join new (kept.keeps mid new then.extends first.holds) then.holds;
-  least = λ m h r. then.least m (first.least m h (split m r).0) (split m r).1
+  least = λ m h r. then.least m (first.least m h (split m r).0) (split m r).1;
 }
 
 -- what no extension of the later map has, no extension of the first one has with the earlier fact
@@ -39,7 +39,7 @@ none_more P Q R old mid first none split m h r =
 
 pub All-kept : {X : Type 0} (P : X → Bindings → Type 0) (xs : List X) → ((x : X) → IsKept (P x)) → IsKept (λ m. All (λ x. P x m) xs)
 All-kept P xs each = record {
-  keeps = λ old new h a k d lt. (each (get_or xs k d)).keeps old new h (a k d lt)
+  keeps = λ old new h a k d lt. (each (get_or xs k d)).keeps old new h (a k d lt);
 }
 
 All-one_less : {X : Type 0} (P : X → Type 0) (xs : List X) (i : ℕ) (d : X) → i < length xs → All P (take (i + 1) xs) → All P (take i xs) × P (get_or xs i d)
@@ -47,12 +47,12 @@ All-one_less {X} P xs i d lt a =
     let long : length (take (i + 1) xs) ≡ i + 1 = length-take-le (i + 1) xs (omega arith) in
     let short : length (take i xs) ≡ i = length-take-le i xs (omega arith) in
     let at : (k : ℕ) (e : X) → k < i + 1 → P (get_or xs k e) =
-        λ k e h. subst P (get_or-take (i + 1) xs k e h) (a k e (omega arith)) in
-    ( λ k e h.
-        let below : k < i = omega arith in
-        let wide : k < i + 1 = omega arith in
-        subst P (sym (get_or-take i xs k e below)) (at k e wide)
-    , at i d (omega arith)
+    λ k e h. subst P (get_or-take (i + 1) xs k e h) (a k e (omega arith)) in (
+      λ k e h.
+          let below : k < i = omega arith in
+          let wide : k < i + 1 = omega arith in
+          subst P (sym (get_or-take i xs k e below)) (at k e wide),
+      at i d (omega arith),
     )
 
 -- the facts of one more element
@@ -83,6 +83,6 @@ CanEquate-from_least cat ground feats vals old start new names f v s e =
       extends = subst (λ m. Extends m new) s e.extends;
       equates = record {
         same_name = names;
-        agree = subst (λ xs. AgreeOnShared new xs ground.vals) f (subst (λ ys. AgreeOnShared new feats ys) v e.holds)
-      }
+        agree = subst (λ xs. AgreeOnShared new xs ground.vals) f (subst (λ ys. AgreeOnShared new feats ys) v e.holds);
+      };
     }

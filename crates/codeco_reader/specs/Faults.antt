@@ -1,5 +1,5 @@
 -- The faults of a grammar that a text spells, each with the rule at which it holds.
-use Rattle.std.specs.Prelude.{◌≡◌, ℕ, zero, suc, ◌+◌, ◌-◌, ◌<◌, ◌==◌, nat_lt, nat_le, if◌then◌else◌, Bool, true, false, not, ◌&&◌, ◌||◌, List, [], ◌∷◌, ◌++◌, length, map, filter, flat_map, slice_get, slice_index_or, IsTrue, Contains, Option, Some, None, option_map, unwrap_or, is_some}
+use Rattle.std.specs.Prelude.{◌≡◌, ℕ, ◌+◌, ◌-◌, ◌==◌, nat_lt, if◌then◌else◌, Bool, true, false, not, ◌&&◌, ◌||◌, List, [], ◌∷◌, length, map, filter, flat_map, slice_get, slice_index_or, Contains, Option, Some, None}
 use Rattle.std.specs.List.{list_all, list_any, range_with_len}
 use Rattle.std.specs.Option.{option_map_or}
 use Rattle.codeco_terms.specs.declared.values.Value.{Value}
@@ -15,7 +15,7 @@ use Rattle.codeco_terms.specs.declared.declarations.Declared.TheVariants as decl
 use Rattle.codeco_terms.specs.declared.rules.Rule.{Rule}
 use Rattle.codeco_terms.specs.GrammarParts.{GrammarParts}
 use Rattle.codeco_text.specs.Names.{is_among}
-use Rattle.codeco_reader.specs.Occurrences.{rule_mentions, rule_features, rule_variables, rule_terminals, term_variables, category_variables, positions, patterns, mentions}
+use Rattle.codeco_reader.specs.Occurrences.{rule_mentions, rule_features, rule_variables, rule_terminals, term_variables, category_variables, positions, patterns}
 use Rattle.codeco_reader.specs.Numbering.{has, count_different, differ, declared_atoms, grammar_atoms, is_declared}
 
 -- the test at the rule of this number, from 1

@@ -1,9 +1,8 @@
 // Grammars in which no fault holds.
 ghost use Rattle.std.specs.Prelude.{◌≡◌, ◌↔◌, IsTrue, IfOk};
 
-use std::marker::Model;
-
 use codeco_terms::Grammar;
+use std::marker::Model;
 use wiki_base::Memory;
 
 /// A grammar of the notation, with the numbers that the notation gives, in which no fault holds.

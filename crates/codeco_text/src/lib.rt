@@ -1,6 +1,7 @@
 //! The grammar notation: its symbols, and what a text of it spells.
 #![tactic(auto)]
 
+mod builder;
 mod bytes;
 mod stand;
 mod symbols;

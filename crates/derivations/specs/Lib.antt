@@ -1,0 +1,4 @@
+pub mod Trees
+pub mod Settings
+pub mod Instances
+pub mod Derives

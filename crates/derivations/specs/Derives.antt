@@ -89,7 +89,7 @@ pass_introduction g values category strong stand = record {
   at = record { place = stand.at.place; list = stand.at.list ++ introduced (referent g values category stand.own) stand.at.place strong ∷ [] };
   found = stand.found;
   own = own_rest category.feats (features_of g category.name) stand.own;
-  children = stand.children
+  children = stand.children;
 }
 
 -- the marked variables of a pattern have the values of the referent

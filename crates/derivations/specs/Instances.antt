@@ -49,9 +49,19 @@ tests_under values patterns = map (λ p. under values p.cat) patterns
 
 -- Features that a category leaves out
 
+-- a number put among numbers that stand in order, where it isn't there yet
+abbrev pub put : ℕ → List ℕ → List ℕ
+put x [] = x ∷ []
+put x (y ∷ ys) = if nat_lt y x then y ∷ put x ys else (if x == y then y ∷ ys else x ∷ y ∷ ys)
+
+-- numbers put among others, one after another
+abbrev pub put_all : List ℕ → List ℕ → List ℕ
+put_all sorted [] = sorted
+put_all sorted (x ∷ xs) = put_all (put x sorted) xs
+
 -- the features of a category, which are those written with its name anywhere in the grammar, in order of number
 abbrev pub features_of : GrammarParts → ℕ → List ℕ
-features_of g name = filter (has (features_written g name)) (range_with_len 0 (length g.features))
+features_of g name = put_all [] (features_written g name)
 
 -- the features that a category leaves out
 abbrev pub left_out : GrammarParts → Category → List ℕ

@@ -2,3 +2,4 @@ pub mod Trees
 pub mod Settings
 pub mod Instances
 pub mod Derives
+pub mod Stands

@@ -3,6 +3,11 @@
 //! this project's own).
 #![tactic(auto)]
 
+mod features;
+mod instances;
+mod readings;
+mod setting;
+mod stand;
 mod trees;
 
 pub use trees::{Binds, Places, Tree, Trees};

@@ -1,10 +1,9 @@
 // Derivation trees.
 ghost use Rattle.std.specs.Prelude.{◌≡◌, ◌<◌, ◌↔◌, ◌==◌, [], ◌∷◌, ◌++◌, length, slice_get, Some, IsTrue, OnOk, OnErr};
 
+use codeco_terms::Value;
 use std::alloc::Global;
 use std::marker::Model;
-
-use codeco_terms::Value;
 use wiki_base::Memory;
 
 /// An instance of a rule: each variable with its value, in order of number.

@@ -8,4 +8,4 @@ mod tests;
 
 pub use access::{Access, Found};
 pub use entries::Entry;
-pub use tests::{Test, TestList, TestValues, Tests};
+pub use tests::{Test, TestList, TestValues, Tests, agrees, has_value};

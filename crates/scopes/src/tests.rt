@@ -178,8 +178,8 @@ impl TestList {
     }
 }
 
-// Whether the values have this one at this feature.
-fn has_value(vals: &[(u16, Value)], wanted: (u16, Value)) -> bool
+/// Whether the values have this one at this feature.
+pub fn has_value(vals: &[(u16, Value)], wanted: (u16, Value)) -> bool
     ensures { result ≡ resolution.has_value vals.now wanted }
 {
     vals.iter().any(|p| p.0 == wanted.0 && p.1.is(wanted.1))
@@ -192,8 +192,8 @@ fn has_values(vals: &[(u16, Value)], wanted: &[(u16, Value)]) -> bool
     wanted.iter().all(|one| has_value(vals, *one))
 }
 
-// Whether the referent agrees with the test.
-fn agrees(ground: &Ground, test: &Test) -> bool
+/// Whether the referent agrees with the test: the names are equal, and the referent has each value of the test.
+pub fn agrees(ground: &Ground, test: &Test) -> bool
     ensures { result ≡ resolution.agrees ground.now test.now }
 {
     ground.name == test.name && has_values(ground.vals.as_slice(), test.values.as_slice())

@@ -59,6 +59,10 @@ abbrev pub put_all : List ℕ → List ℕ → List ℕ
 put_all sorted [] = sorted
 put_all sorted (x ∷ xs) = put_all (put x sorted) xs
 
+-- the features that a written category has, where its name is this
+abbrev pub features_in : ℕ → Category → List ℕ
+features_in name category = if category.name == name then map (λ f. f.0) category.feats else []
+
 -- the features of a category, which are those written with its name anywhere in the grammar, in order of number
 abbrev pub features_of : GrammarParts → ℕ → List ℕ
 features_of g name = put_all [] (features_written g name)

@@ -4,10 +4,12 @@
 #![tactic(auto)]
 
 mod features;
+mod fitting;
 mod instances;
 mod readings;
 mod setting;
 mod stand;
 mod trees;
+mod variables;
 
 pub use trees::{Binds, Places, Tree, Trees};

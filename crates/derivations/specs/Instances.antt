@@ -89,8 +89,8 @@ rule_own_features g rule = flat_map (own_features g) rule.body
 
 -- Variables of a rule
 
--- the variables that are written in a rule
-abbrev pub written_variables : Rule → List ℕ
+-- the variables that are written in a rule: they have numbers below sixteen
+unfoldable pub written_variables : Rule → List ℕ
 written_variables rule = filter (has (rule_variables rule)) (range_with_len 0 16)
 
 -- The variables of a rule: the written ones, and one of its own for each feature that a `>` or `>>` leaves out, numbered
@@ -120,6 +120,6 @@ abbrev pub own_values : Rule → List (ℕ × Value) → List (ℕ × Value)
 own_values rule values = drop (length (written_variables rule)) values
 
 -- An instance of a rule gives each of its variables one value of its feature, and a variable of `#` a position.
-abbrev pub is_instance : Setting → Rule → List (ℕ × Value) → Bool
+unfoldable pub is_instance : Setting → Rule → List (ℕ × Value) → Bool
 is_instance s rule values =
     same_numbers (map (λ p. p.0) values) (variables_of s.grammar rule) && list_all (term_fits s values) (rule_features rule) && list_all (λ x. is_value s declared.Positions (value_under values x)) (flat_map positions rule.body) && own_fit s (rule_own_features s.grammar rule) (own_values rule values)

@@ -123,12 +123,13 @@ pub(crate) fn own_fit(setting: &Setting<'_>, features: &[u16], values: &[(u8, Va
     ensures { result ≡ instances.own_fit setting.now features.now values.now }
 {
     for (place, feature) in features.iter().enumerate() {
-        let fits = match values.get(place) {
-            None => false,
-            Some(p) => setting.fits_feature(*feature, p.1),
-        };
-        if !fits {
-            return false;
+        match values.get(place) {
+            None => return false,
+            Some(p) => {
+                if !setting.fits_feature(*feature, p.1) {
+                    return false;
+                }
+            }
         }
     }
     true

@@ -46,3 +46,16 @@ enter_last keys key m n id updates q =
     let at = hash_map_updates_text (string_bytes key) m n (Some id) updates q in
     let split = ap (λ texts. is_among texts q) (map-append string_bytes keys (key ∷ [])) ∙ list_any-append (bytes_eq q) (map string_bytes keys) (string_bytes key ∷ []) in
     grind (arith, cond-or (is_among (map string_bytes keys) q) (bytes_eq q (string_bytes key)) (Some id) (get_by_text m q), bytes_eq-comm q (string_bytes key))
+
+-- a choice of none by either of two tests
+none-or : {X : Type 0} (b c : Bool) (y : Option X) → cond b None (cond c None y) ≡ cond (c || b) None y
+none-or true true y = refl
+none-or true false y = refl
+none-or false true y = refl
+none-or false false y = refl
+
+-- the first text is taken out: what is left to take out decides what is found
+pub forget_first : (first : List ℕ) (texts : List (List ℕ)) (m n : Index) → UpdatesBy string_eq (λ k. bytes_eq first (string_bytes k)) m n None → (q : List ℕ) → cond (is_among texts q) None (get_by_text n q) ≡ cond (is_among (first ∷ texts) q) None (get_by_text m q)
+forget_first first texts m n updates q =
+    let at = hash_map_updates_text first m n None updates q in
+    grind (arith, none-or (is_among texts q) (bytes_eq q first) (get_by_text m q), bytes_eq-comm q first)

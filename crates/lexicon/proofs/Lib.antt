@@ -1,4 +1,6 @@
 mod Adding
+mod Changing
 mod Keys
+mod Others
 pub mod Owners
 mod Places

@@ -4,6 +4,7 @@
 mod index;
 mod kinds;
 mod suggest;
+mod terminals;
 mod words;
 
 pub use kinds::{Forms, Kind, Texts};

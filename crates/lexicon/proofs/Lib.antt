@@ -4,3 +4,4 @@ mod Keys
 mod Others
 pub mod Owners
 mod Places
+mod Reading

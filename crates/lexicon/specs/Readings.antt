@@ -1,5 +1,5 @@
 -- What a form of a word is to a grammar: the preterminal of its kind, with values of its features.
-use Rattle.std.specs.Prelude.{◌≡◌, ℕ, zero, suc, ◌+◌, ◌==◌, Bool, false, ◌&&◌, ◌||◌, if◌then◌else◌, List, [], ◌∷◌, ◌++◌, codes}
+use Rattle.std.specs.Prelude.{◌≡◌, ℕ, ◌+◌, ◌==◌, Bool, false, ◌&&◌, ◌||◌, if◌then◌else◌, List, [], ◌∷◌, ◌++◌, codes}
 use Rattle.std.specs.List.{flat_map, list_any, list_all}
 use Rattle.std.specs.Str.{bytes_eq}
 use Rattle.wiki_base.specs.declared.numbers.WordId.{WordId}
@@ -15,7 +15,7 @@ use Rattle.lexicon.specs.declared.words.Word.{Word}
 
 -- the byte is one of the letters a, e, i, o, u, A, E, I, O, U
 abbrev pub is_vowel : ℕ → Bool
-is_vowel b = list_any (λ vowel. b == vowel) (codes "aeiouAEIOU")
+is_vowel b = list_any (λ vowel. vowel == b) (codes "aeiouAEIOU")
 
 -- the form begins with one of these letters
 abbrev pub begins_with_vowel : List ℕ → Bool
@@ -26,15 +26,20 @@ begins_with_vowel (b ∷ bs) = is_vowel b
 abbrev pub vow_of : List ℕ → Value
 vow_of form = if begins_with_vowel form then Atom 2 else Atom 3
 
+-- the atom of a noun's form at a place: `sg` of the singular, `pl` of the plural
+abbrev pub number_at : ℕ → Value
+number_at place = if place == 0 then Atom 0 else Atom 1
+
+-- the atom of a verb's form at a place: `third`, `inf` or `part`
+abbrev pub form_at : ℕ → Value
+form_at place = if place == 0 then Atom 4 else (if place == 1 then Atom 5 else Atom 6)
+
 -- what the form at a place of a word of the kind is to a grammar
 abbrev pub reading : Kind → WordId → ℕ → List ℕ → Ground
 reading Name id place form = record { name = 0; vals = (3, TheWord id) ∷ [] }
-reading Noun id zero form = record { name = 1; vals = (0, Atom 0) ∷ (1, vow_of form) ∷ (3, TheWord id) ∷ [] }
-reading Noun id (suc place) form = record { name = 1; vals = (0, Atom 1) ∷ (1, vow_of form) ∷ (3, TheWord id) ∷ [] }
+reading Noun id place form = record { name = 1; vals = (0, number_at place) ∷ (1, vow_of form) ∷ (3, TheWord id) ∷ [] }
 reading Of id place form = record { name = 2; vals = (1, vow_of form) ∷ (3, TheWord id) ∷ [] }
-reading Verb id zero form = record { name = 3; vals = (2, Atom 4) ∷ (3, TheWord id) ∷ [] }
-reading Verb id (suc zero) form = record { name = 3; vals = (2, Atom 5) ∷ (3, TheWord id) ∷ [] }
-reading Verb id (suc (suc place)) form = record { name = 3; vals = (2, Atom 6) ∷ (3, TheWord id) ∷ [] }
+reading Verb id place form = record { name = 3; vals = (2, form_at place) ∷ (3, TheWord id) ∷ [] }
 reading Adjective id place form = record { name = 4; vals = (3, TheWord id) ∷ [] }
 
 -- the readings of the token at these forms of a word, of which the first has the place

@@ -3,10 +3,12 @@
 
 mod index;
 mod kinds;
+mod readings;
 mod suggest;
 mod terminals;
 mod words;
 
 pub use kinds::{Forms, Kind, Texts};
+pub use readings::{MOST_READINGS, Readings};
 pub use suggest::{FormFault, forms};
 pub use words::{LexFault, Lexicon, MOST_WORDS, Word};

@@ -4,6 +4,7 @@ ghost use Rattle.lexicon.specs.declared.words.LexFault.TheVariants.{Memory as ou
 
 use crate::index::{Index, enter, forget, keys_of, make_room};
 use crate::kinds::{Forms, Texts};
+use crate::readings::{Readings, readings_of_word};
 use crate::terminals::is_reserved;
 use codeco_terms::{Grammar, Symbols};
 use std::alloc::{AllocError, AllocFailed, Global};
@@ -76,6 +77,7 @@ impl Model for Lexicon {
 impl Lexicon {
     ghost use Rattle.lexicon.specs.Words.{IsLexicon, IsPlaceOf, owner, others, forms_of, with_word, with_forms, without_word, first_taken, first_reserved, fullness, forms_refusal, add_refusal, reword_refusal, IsRefusal};
     ghost use Rattle.lexicon.specs.declared.kinds.Forms.{Forms};
+    ghost use Rattle.lexicon.specs.Readings.{readings_of};
     ghost use Rattle.lexicon.specs.Kinds.{IsComplete};
 
     /// A lexicon with no words, beside the terminals of the grammar.
@@ -150,6 +152,32 @@ impl Lexicon {
         ensures lexicon { IsLexicon self.now }
     {
         self.index.get(form).copied()
+    }
+
+    /// What the token is to a grammar: for each form of a live word that it is, the preterminal of the word's kind with
+    /// the values of its features. There are at most three.
+    pub fn readings(&self, form: &str) -> Readings
+        ensures { result ≡ readings_of self.now.live form.now }
+    {
+        let Some(id) = self.find(form) else {
+            return Readings::none();
+        };
+        match self.place_of(id) {
+            Some(place) => readings_of_word(&self.words[place], form),
+            None => Readings::none(),
+        }
+    }
+
+    /// An equal lexicon.
+    pub fn copy(&self) -> Result<Self, Memory>
+        ensures { IfOk result (λ lexicon. lexicon ≡ self.now) }
+    {
+        Ok(Lexicon {
+            words: copied(*self.words.allocator(), &self.words)?,
+            terminals: self.terminals.copy()?,
+            last: self.last,
+            index: self.index.clone()?,
+        })
     }
 
     /// Adds a word under the next number. Refused are, in this order, a form of another live word, a form that the
@@ -284,4 +312,16 @@ impl Lexicon {
         }
         Ok(())
     }
+}
+
+// Equal words.
+fn copied(alloc: Global, words: &[Word]) -> Result<Vec<Word>, Memory>
+    ensures { IfOk result (λ copies. copies.items ≡ words.now) }
+{
+    let mut copies = Vec::with_capacity(alloc, words.len())?;
+    for word in words {
+        let forms = word.forms.copy()?;
+        copies.push(Word { id: word.id, forms })?;
+    }
+    Ok(copies)
 }

@@ -32,6 +32,7 @@ pairs_set {X} R xs place y here pairs before after i j d lt in_range =
   where
     bound : j < length xs
     bound = omega (arith, length-set xs place y)
+
     by_cases : (i < place) ⊎ (place ≤ i) → (place < i) ⊎ (i ≤ place) → (j < place) ⊎ (place ≤ j) → (place < j) ⊎ (j ≤ place) → R (get_or (set xs place y) i d) (get_or (set xs place y) j d)
     by_cases (inl i_below) q (inl j_below) r = let ni : i ≢ place = omega arith in let nj : j ≢ place = omega arith in rw (get_or-set_other xs place i y d ni, get_or-set_other xs place j y d nj) (pairs i j d lt bound)
     by_cases (inl i_below) q (inr j_from) (inl j_above) = let ni : i ≢ place = omega arith in let nj : j ≢ place = omega arith in rw (get_or-set_other xs place i y d ni, get_or-set_other xs place j y d nj) (pairs i j d lt bound)
@@ -56,6 +57,7 @@ with_forms-set (first ∷ live) in_order id zero is forms word at = by_test (has
         let same : first.id.0 ≡ id.0 = is.numbered first in
         let no : eqb (get_or live k d).id.0 id.0 ≡ false = grind (arith, nat_tests) in
         rw no refl
+
     by_test : (b : Bool) → b ≡ true → map (λ w. cond (has_number id w) (record w { forms = forms }) w) live ≡ live → cond b (record first { forms = forms }) first ∷ map (λ w. cond (has_number id w) (record w { forms = forms }) w) live ≡ record { id = word.id; forms = forms } ∷ live
     by_test true here rest = rw rest (subst (λ (w : Word). record { id = first.id; forms = forms } ∷ live ≡ record { id = w.id; forms = forms } ∷ live) (sym at) refl)
     by_test false here rest = absurd (false≢true here)
@@ -67,6 +69,7 @@ with_forms-set (first ∷ live) in_order id (suc place) is forms word at =
         let below : first.id.0 < (get_or live place first).id.0 = pairs_head (λ (w v : Word). w.id.0 < v.id.0) first live in_order place first (omega (arith, is.in_range)) in
         let same : (get_or live place first).id.0 ≡ id.0 = is.numbered first in
         grind (arith, nat_tests)
+
     by_test : (b : Bool) → b ≡ false → map (λ w. cond (has_number id w) (record w { forms = forms }) w) live ≡ set live place (record { id = word.id; forms = forms }) → cond b (record first { forms = forms }) first ∷ map (λ w. cond (has_number id w) (record w { forms = forms }) w) live ≡ first ∷ set live place (record { id = word.id; forms = forms })
     by_test true failed rest = absurd (false≢true (sym failed))
     by_test false failed rest = ap (λ ws. first ∷ ws) rest
@@ -112,12 +115,12 @@ module _ (listed : Listed) (lexicon : IsLexicon listed) (id : WordId) (place : �
     other_lacks : (k : ℕ) (d : Word) → k < length listed.live → (k < place) ⊎ (place < k) → (text : List ℕ) → is_among forms.texts text ≡ true → has_form text (get_or listed.live k d) ≡ false
     other_lacks k d in_range (inl before) text has =
         subst (λ (w : Word). has_form text w ≡ false) (get_or-remove_below listed.live place d k before is.in_range)
-          (no_word_has (remove listed.live place) text (new_forms text has) k d (omega (arith, length-remove listed.live place is.in_range, is.in_range)))
+        (no_word_has (remove listed.live place) text (new_forms text has) k d (omega (arith, length-remove listed.live place is.in_range, is.in_range)))
     other_lacks k d in_range (inr after) text has =
         let back : k - 1 + 1 ≡ k = omega arith in
         let there = get_or-remove_above listed.live place d (k - 1) (omega arith) is.in_range in
         subst (λ (w : Word). has_form text w ≡ false) (there ∙ ap (λ n. get_or listed.live n d) back)
-          (no_word_has (remove listed.live place) text (new_forms text has) (k - 1) d (omega (arith, length-remove listed.live place is.in_range)))
+        (no_word_has (remove listed.live place) text (new_forms text has) (k - 1) d (omega (arith, length-remove listed.live place is.in_range)))
 
     -- a test that fails where another one holds fails there too
     apart_from : (b : Bool) (P : Type 0) → P → (b ≡ true → P → ⊥) → b ≡ false

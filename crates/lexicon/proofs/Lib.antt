@@ -1,6 +1,7 @@
 mod Adding
 mod Changing
 mod Keys
+mod Letters
 mod Others
 pub mod Owners
 mod Places

@@ -33,6 +33,7 @@ find_none_kept p q (x ∷ xs) fails = by_tests (q x) (p x) (fails zero x (omega 
     after : (c : Bool) → c ≡ false → find p (filter q xs) ≡ None → cond c (Some x) (find p (filter q xs)) ≡ None
     after true failed rest = absurd (false≢true (sym failed))
     after false failed rest = rest
+
     by_tests : (b c : Bool) → p x ≡ false → find p (filter q xs) ≡ None → find p (cond b (x ∷ filter q xs) (filter q xs)) ≡ None
     by_tests true c failed rest = after (p x) failed rest
     by_tests false c failed rest = rest
@@ -61,9 +62,11 @@ owner-others (word ∷ live) apart id text =
     kept true false rest failed is = rw is refl
     kept false true rest failed is = rest
     kept false false rest failed is = rest
+
     dropped : (f : Bool) → has_number id word ≡ true → owner (others live id) text ≡ other_than id (owner live text) → (f ≡ true → owner (others live id) text ≡ None) → owner (others live id) text ≡ other_than id (option_map (λ (w : Word). w.id) (cond f (Some word) (find (has_form text) live)))
     dropped true is rest none = rw is (none refl)
     dropped false is rest none = rest
+
     by_tests : (n : Bool) → has_number id word ≡ n → (f : Bool) → has_form text word ≡ f → owner (others live id) text ≡ other_than id (owner live text) → (has_form text word ≡ true → (k : ℕ) (d : Word) → k < length live → has_form text (get_or live k d) ≡ false) → option_map (λ (w : Word). w.id) (find (has_form text) (cond (not n) (word ∷ others live id) (others live id))) ≡ other_than id (option_map (λ (w : Word). w.id) (cond (has_form text word) (Some word) (find (has_form text) live)))
     by_tests true is f has rest none = dropped (has_form text word) is rest (λ has. no_owner (others live id) text (find_none_kept (has_form text) (λ w. not (has_number id w)) live (none has)))
     by_tests false is f has rest none = kept (has_form text word) false rest refl is
@@ -86,6 +89,7 @@ others-remove (word ∷ live) in_order id zero is = by_test (has_number id word)
         let same : word.id.0 ≡ id.0 = is.numbered word in
         let no : eqb (get_or live k d).id.0 id.0 ≡ false = grind (arith, nat_tests) in
         rw no refl
+
     by_test : (b : Bool) → b ≡ true → others live id ≡ live → cond (not b) (word ∷ others live id) (others live id) ≡ live
     by_test true here rest = rest
     by_test false here rest = absurd (false≢true here)
@@ -97,6 +101,7 @@ others-remove (word ∷ live) in_order id (suc place) is =
         let below : word.id.0 < (get_or live place d).id.0 = pairs_head (λ (w v : Word). w.id.0 < v.id.0) word live in_order place d (omega (arith, is.in_range)) in
         let same : (get_or live place d).id.0 ≡ id.0 = is.numbered d in
         grind (arith, nat_tests)
+
     by_test : (b : Bool) → b ≡ false → others live id ≡ remove live place → cond (not b) (word ∷ others live id) (others live id) ≡ word ∷ remove live place
     by_test true earlier rest = absurd (false≢true (sym earlier))
     by_test false earlier rest = ap (λ ws. word ∷ ws) rest

@@ -67,6 +67,7 @@ owner_has_form (word ∷ live) in_order token id zero d owned is = by_test (has_
   where
     absent : forms_of live id ≡ None
     absent = ap (option_map (λ (w : Word). w.forms)) (find_none (has_number id) live (λ k e bound. let above : word.id.0 < (get_or live k e).id.0 = pairs_head (λ (w v : Word). w.id.0 < v.id.0) word live in_order k e bound in let same : word.id.0 ≡ id.0 = is.numbered word in grind (arith, nat_tests)))
+
     by_test : (b : Bool) → option_map (λ (w : Word). w.id) (cond b (Some word) (find (has_form token) live)) ≡ Some id → b ≡ true
     by_test true owned = refl
     by_test false owned = absurd (false≢true (ap is_some (sym absent) ∙ owner_lives live token id owned))
@@ -78,6 +79,7 @@ owner_has_form (word ∷ live) in_order token id (suc place) d owned is =
         let before : word.id.0 < (get_or live place word).id.0 = pairs_head (λ (w v : Word). w.id.0 < v.id.0) word live in_order place word (omega (arith, is.in_range)) in
         let same : (get_or live place word).id.0 ≡ id.0 = is.numbered word in
         omega arith
+
     by_test : (b : Bool) → option_map (λ (w : Word). w.id) (cond b (Some word) (find (has_form token) live)) ≡ Some id → owner live token ≡ Some id
     by_test true owned = absurd (let same : word.id ≡ id = cc in omega (arith, below, ap (λ (i : WordId). i.0) same))
     by_test false owned = owned

@@ -1,6 +1,7 @@
 //! The words of a wiki: their kinds and forms, and the lexicon that lists the live ones.
 #![tactic(auto)]
 
+mod endings;
 mod index;
 mod kinds;
 mod readings;

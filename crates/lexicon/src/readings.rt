@@ -5,19 +5,27 @@ ghost use Rattle.lexicon.specs.Readings.{is_vowel, begins_with_vowel, vow_of, nu
 
 use crate::kinds::Kind;
 use crate::words::Word;
-use codeco_terms::{Ground, Value, Vals};
+use codeco_terms::{Ground, Vals, Value};
 use std::marker::Model;
 use wiki_base::WordId;
 
 // The features and the categories that every grammar has, by number.
 const NUM: u16 = 0;
+
 const VOW: u16 = 1;
+
 const FORM: u16 = 2;
+
 const W: u16 = 3;
+
 const NAME: u16 = 0;
+
 const NOUN: u16 = 1;
+
 const OF: u16 = 2;
+
 const VERB: u16 = 3;
+
 const ADJECTIVE: u16 = 4;
 
 /// The most readings that a form has: one for each form of a verb.
@@ -113,7 +121,10 @@ fn reading(kind: Kind, id: WordId, place: usize, form: &str) -> Ground
     let word = Value::Word(id);
     match kind {
         Kind::Name => ground(NAME, &[(W, word)]),
-        Kind::Noun => ground(NOUN, &[(NUM, number_at(place)), (VOW, vow_of(form)), (W, word)]),
+        Kind::Noun => ground(
+            NOUN,
+            &[(NUM, number_at(place)), (VOW, vow_of(form)), (W, word)],
+        ),
         Kind::Of => ground(OF, &[(VOW, vow_of(form)), (W, word)]),
         Kind::Verb => ground(VERB, &[(FORM, form_at(place)), (W, word)]),
         Kind::Adjective => ground(ADJECTIVE, &[(W, word)]),

@@ -325,3 +325,154 @@ fn copied(alloc: Global, words: &[Word]) -> Result<Vec<Word>, Memory>
     }
     Ok(copies)
 }
+
+#[cfg(test)]
+mod tests {
+    use super::*;
+    use crate::kinds::Kind;
+    use crate::suggest::forms;
+    use codeco_terms::{Features, Rules, Symbol, Value};
+    use std::test::Fail;
+
+    // A lexicon beside a grammar with the terminal `every`.
+    fn beside_every(alloc: Global) -> Result<Lexicon, Fail> {
+        let mut terminals = Symbols::new(alloc);
+        terminals.push(Symbol::read(alloc, b"every")?)?;
+        let grammar = Grammar::new(
+            Features::new(alloc),
+            Symbols::new(alloc),
+            terminals,
+            Symbols::new(alloc),
+            Rules::new(alloc),
+        );
+        Ok(Lexicon::new(alloc, &grammar)?)
+    }
+
+    fn added(alloc: Global, lexicon: &mut Lexicon, kind: Kind, text: &str) -> Result<WordId, Fail> {
+        let given = [Text::read(alloc, text)?];
+        let forms = forms(alloc, kind, &given)?;
+        Ok(lexicon.add(&forms).map_err(|_| "refused")?)
+    }
+
+    fn refused(
+        alloc: Global,
+        lexicon: &mut Lexicon,
+        kind: Kind,
+        text: &str,
+    ) -> Result<LexFault, Fail> {
+        let given = [Text::read(alloc, text)?];
+        let forms = forms(alloc, kind, &given)?;
+        match lexicon.add(&forms) {
+            Ok(_) => Err(Fail::from("added")),
+            Err(fault) => Ok(fault),
+        }
+    }
+
+    // Adds names of three letters, as many as are asked for.
+    fn add_many(alloc: Global, lexicon: &mut Lexicon, count: u32) -> Result<(), Fail> {
+        for n in 0..count {
+            let mut text = String::new(alloc);
+            for place in [n / 676, n / 26, n] {
+                text.push(char::from(b'a' + (place % 26) as u8))?;
+            }
+            added(alloc, lexicon, Kind::Name, text.as_str())?;
+        }
+        Ok(())
+    }
+
+    #[test]
+    fn a_word_is_found_by_each_form(rt: HostRuntime) -> Result<(), Fail> {
+        let mut lexicon = beside_every(rt.alloc())?;
+        assert!(rt; lexicon.is_empty());
+        assert_eq!(rt; lexicon.terminals().len(), 1);
+        added(rt.alloc(), &mut lexicon, Kind::Name, "Bern")?;
+        let id = added(rt.alloc(), &mut lexicon, Kind::Noun, "country")?;
+        assert_eq!(rt; id, WordId(2));
+        assert_eq!(rt; lexicon.find("countries"), Some(WordId(2)));
+        assert_eq!(rt; lexicon.find("Bonn"), None);
+        let forms = lexicon.word(id).ok_or("no word")?;
+        assert_eq!(rt; forms.canonical().as_str(), "country");
+        assert!(rt; lexicon.word(WordId(3)).is_none());
+        assert_eq!(rt; lexicon.len(), 2);
+        assert_eq!(rt; lexicon.get(0).id, WordId(1));
+        Ok(())
+    }
+
+    #[test]
+    fn forms_that_others_have_are_refused(rt: HostRuntime) -> Result<(), Fail> {
+        let mut lexicon = beside_every(rt.alloc())?;
+        added(rt.alloc(), &mut lexicon, Kind::Noun, "country")?;
+        for name in ["every", "Every"] {
+            match refused(rt.alloc(), &mut lexicon, Kind::Name, name)? {
+                LexFault::Reserved { text } => assert_eq!(rt; text.as_str(), name),
+                _ => return Err(Fail::from("not reserved")),
+            }
+        }
+        match refused(rt.alloc(), &mut lexicon, Kind::Name, "countries")? {
+            LexFault::Taken { text, owner } => {
+                assert_eq!(rt; text.as_str(), "countries");
+                assert_eq!(rt; owner, WordId(1));
+            }
+            _ => return Err(Fail::from("not taken")),
+        }
+        Ok(())
+    }
+
+    #[test]
+    fn the_word_after_5000_is_refused(rt: HostRuntime) -> Result<(), Fail> {
+        let mut lexicon = beside_every(rt.alloc())?;
+        add_many(rt.alloc(), &mut lexicon, 5000)?;
+        match refused(rt.alloc(), &mut lexicon, Kind::Name, "zzz")? {
+            LexFault::Full { limit } => assert_eq!(rt; limit, 5000),
+            _ => return Err(Fail::from("not full")),
+        }
+        assert_eq!(rt; lexicon.find("zzz"), None);
+        assert_eq!(rt; lexicon.find("haa"), Some(WordId(4733)));
+        Ok(())
+    }
+
+    #[test]
+    fn a_word_gets_other_forms_and_is_taken_out(rt: HostRuntime) -> Result<(), Fail> {
+        let alloc = rt.alloc();
+        let mut lexicon = beside_every(alloc)?;
+        let cat = added(alloc, &mut lexicon, Kind::Noun, "cat")?;
+        let kitten = [Text::read(alloc, "kitten")?];
+        let forms = forms(alloc, Kind::Noun, &kitten)?;
+        let copied = lexicon.copy()?;
+        match lexicon.word(cat) {
+            Some(old) if old.kind == Kind::Noun => {}
+            _ => return Err(Fail::from("no noun")),
+        }
+        assert!(rt; lexicon.reword(cat, &forms).is_ok());
+        assert_eq!(rt; lexicon.find("cats"), None);
+        assert_eq!(rt; lexicon.find("kittens"), Some(cat));
+        assert_eq!(rt; copied.find("cats"), Some(cat));
+        assert!(rt; lexicon.remove(cat).is_ok());
+        assert_eq!(rt; lexicon.find("kittens"), None);
+        assert!(rt; matches!(lexicon.remove(cat), Err(LexFault::NoWord(WordId(1)))));
+        Ok(())
+    }
+
+    #[test]
+    fn a_form_has_the_values_of_its_word(rt: HostRuntime) -> Result<(), Fail> {
+        let alloc = rt.alloc();
+        let mut lexicon = beside_every(alloc)?;
+        let sheep = [Text::read(alloc, "sheep")?, Text::read(alloc, "sheep")?];
+        let forms = forms(alloc, Kind::Noun, &sheep)?;
+        assert!(rt; lexicon.add(&forms).is_ok());
+        let both = lexicon.readings("sheep");
+        assert_eq!(rt; both.len(), 2);
+        let vals = &both.get(1).vals;
+        assert_eq!(rt;
+            vals.as_slice(),
+            [
+                (0, Value::Atom(1)),
+                (1, Value::Atom(3)),
+                (3, Value::Word(WordId(1))),
+            ]
+            .as_slice()
+        );
+        assert!(rt; lexicon.readings("goat").is_empty());
+        Ok(())
+    }
+}

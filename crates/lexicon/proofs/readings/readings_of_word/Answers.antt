@@ -22,14 +22,14 @@ loop-place-preserved c =
     let test : c.eq.result ≡ bytes_eq token c.form-item.result = c.eq.ensures ∙ ap (bytes_eq token) c.as_str.ensures.value in
     elim c.if-eq.branch [
       | then-eq w ↦
-        let here : readings_from word.forms.kind word.id token i (drop i items) ≡ reading word.forms.kind word.id i c.form-item.result ∷ rest = step ∙ ap (λ b. cond b (reading word.forms.kind word.id i c.form-item.result ∷ rest) rest) (sym test ∙ w.if-eq.true) in
-        let taken : w.reading.result ≡ reading word.forms.kind word.id i c.form-item.result = w.reading.ensures ∙ ap (reading word.forms.kind word.id i) w.as_str-then-eq.ensures.value in
-        let now : c.if-eq.readings ≡ c.loop-place.readings ++ reading word.forms.kind word.id i c.form-item.result ∷ [] = w.readings-is ∙ w.push.ensures ∙ ap (λ r. c.loop-place.readings ++ r ∷ []) taken in
-        rw now (
-          omega (arith, c.loop-place.invariant.0, length-append c.loop-place.readings (reading word.forms.kind word.id i c.form-item.result ∷ [])),
-          reading_taken c.loop-place.readings rest (readings_from word.forms.kind word.id token i (drop i items)) (readings_of_word token word) (reading word.forms.kind word.id i c.form-item.result) here c.loop-place.invariant.1
-        )
+          let here : readings_from word.forms.kind word.id token i (drop i items) ≡ reading word.forms.kind word.id i c.form-item.result ∷ rest = step ∙ ap (λ b. cond b (reading word.forms.kind word.id i c.form-item.result ∷ rest) rest) (sym test ∙ w.if-eq.true) in
+          let taken : w.reading.result ≡ reading word.forms.kind word.id i c.form-item.result = w.reading.ensures ∙ ap (reading word.forms.kind word.id i) w.as_str-then-eq.ensures.value in
+          let now : c.if-eq.readings ≡ c.loop-place.readings ++ reading word.forms.kind word.id i c.form-item.result ∷ [] = w.readings-is ∙ w.push.ensures ∙ ap (λ r. c.loop-place.readings ++ r ∷ []) taken in
+          rw now (
+            omega (arith, c.loop-place.invariant.0, length-append c.loop-place.readings (reading word.forms.kind word.id i c.form-item.result ∷ [])),
+            reading_taken c.loop-place.readings rest (readings_from word.forms.kind word.id token i (drop i items)) (readings_of_word token word) (reading word.forms.kind word.id i c.form-item.result) here c.loop-place.invariant.1,
+          )
       | else-eq w ↦
-        let here : readings_from word.forms.kind word.id token i (drop i items) ≡ rest = step ∙ ap (λ b. cond b (reading word.forms.kind word.id i c.form-item.result ∷ rest) rest) (sym test ∙ w.if-eq.false) in
-        rw w.readings-is (omega (arith, c.loop-place.invariant.0), ap (λ gs. c.loop-place.readings ++ gs) (sym here) ∙ c.loop-place.invariant.1)
+          let here : readings_from word.forms.kind word.id token i (drop i items) ≡ rest = step ∙ ap (λ b. cond b (reading word.forms.kind word.id i c.form-item.result ∷ rest) rest) (sym test ∙ w.if-eq.false) in
+          rw w.readings-is (omega (arith, c.loop-place.invariant.0), ap (λ gs. c.loop-place.readings ++ gs) (sym here) ∙ c.loop-place.invariant.1)
     ]

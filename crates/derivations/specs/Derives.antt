@@ -97,12 +97,16 @@ abbrev pub takes : List (ℕ × Value) → Ground → Option Pattern → Bool
 takes values ground None = false
 takes values ground (Some pattern) = list_all (λ t. has_value ground.vals (t.0, value_under values t.1)) pattern.taken
 
--- a reference finds the referent at the position that is to come, and the first pattern that agrees takes its values
+-- the referent that is found is at the position, and the first pattern that agrees takes its values
+abbrev pub is_found : List (ℕ × Value) → List Pattern → ℕ → Option Finding → Bool
+is_found values positive pos None = false
+is_found values positive pos (Some finding) = (finding.pos == pos) && takes values finding.ground (slice_get positive finding.pattern)
+
+-- a reference finds the referent at the position that is to come
 abbrev pub pass_finding : List (ℕ × Value) → List Pattern → Option Finding → List ℕ → Stand → Option Stand
-pass_finding values positive None found stand = None
-pass_finding values positive (Some finding) [] stand = None
-pass_finding values positive (Some finding) (pos ∷ rest) stand =
-    if (finding.pos == pos) && takes values finding.ground (slice_get positive finding.pattern) then Some (record { at = stand.at; found = rest; own = stand.own; children = stand.children }) else None
+pass_finding values positive finding [] stand = None
+pass_finding values positive finding (pos ∷ rest) stand =
+    if is_found values positive pos finding then Some (record { at = stand.at; found = rest; own = stand.own; children = stand.children }) else None
 
 -- the tests of a reference
 abbrev pub reference_tests : List (ℕ × Value) → List Pattern → List Pattern → Tests
@@ -141,10 +145,13 @@ abbrev pub ended : Rule → List Entry → Stand → Option At
 ended rule begun stand =
     if is_none_left stand.found && is_none_left stand.children then Some (record { place = stand.at.place; list = list_after rule.closing begun stand.at.list }) else None
 
+-- where the features are one, the values are the same
+abbrev pub same_where_both : (ℕ × Value) → (ℕ × Value) → Bool
+same_where_both p q = not (p.0 == q.0) || same_value p.1 q.1
+
 -- the names are equal, and each feature written in both has the same value
 abbrev pub fits : Test → Test → Bool
-fits head asked =
-    (head.name == asked.name) && list_all (λ p. list_all (λ q. not (p.0 == q.0) || same_value p.1 q.1) asked.values) head.values
+fits head asked = (head.name == asked.name) && list_all (λ p. list_all (same_where_both p) asked.values) head.values
 
 -- what a node does whose rule, instance, found positions and children are these
 abbrev pub phrase : Setting → Rule → List (ℕ × Value) → List ℕ → List Phrase → Phrase

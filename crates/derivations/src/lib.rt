@@ -3,10 +3,10 @@
 //! this project's own).
 #![tactic(auto)]
 
+mod derive;
 mod features;
 mod fitting;
 mod instances;
-mod readings;
 mod setting;
 mod stand;
 mod trees;

@@ -7,7 +7,7 @@ ghost use Rattle.scopes.specs.Resolution as resolution;
 ghost use Rattle.codeco_reader.specs.Numbering.{has};
 ghost use Rattle.derivations.specs.Settings as settings;
 
-use crate::readings::Grounds;
+use lexicon::Readings;
 use codeco_terms::{Declared, Grammar, Ground, Value};
 use scopes::{Test, agrees, has_value};
 use std::marker::Model;
@@ -17,10 +17,11 @@ use wiki_base::Token;
 const WORD_FEATURE: u16 = 3;
 
 // What a derivation is of: a grammar, tokens, and the readings of each token by a lexicon.
+#[derive(Drop)]
 pub(crate) struct Setting<'a> {
     pub(crate) grammar: &'a Grammar,
     pub(crate) tokens: &'a [Token],
-    pub(crate) readings: &'a [Grounds],
+    pub(crate) readings: &'a [Readings],
 }
 
 impl<'a> Model for Setting<'a> {
@@ -141,7 +142,7 @@ fn some_agrees(readings: &[Ground], asked: &Test) -> bool
     readings.iter().any(|reading| agrees(reading, asked))
 }
 
-fn some_have_word(readings: &[Grounds], word: Value) -> bool
+fn some_have_word(readings: &[Readings], word: Value) -> bool
     ensures { result
         ≡ list_any (λ one. list_any (λ reading. resolution.has_value reading.vals (3, word)) one) readings.now }
 {

@@ -67,6 +67,7 @@ impl Model for Access {
 
 /// What a reference finds: a referent with its position, and the place of the first positive test, from 0, that it
 /// agrees with.
+#[derive(Clone, Copy)]
 pub struct Found<'a> {
     pub pos: u16,
     pub ground: &'a Ground,
@@ -119,8 +120,8 @@ impl Access {
         })
     }
 
-    // The same list.
-    fn share(&self) -> Result<Access, Memory>
+    /// The same list, in the same memory.
+    pub fn share(&self) -> Result<Access, Memory>
         ensures { IfOk result (λ access. access ≡ self.now) }
     {
         Ok(Access {

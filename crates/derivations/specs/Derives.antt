@@ -153,10 +153,15 @@ same_where_both p q = not (p.0 == q.0) || same_value p.1 q.1
 abbrev pub fits : Test → Test → Bool
 fits head asked = (head.name == asked.name) && list_all (λ p. list_all (same_where_both p) asked.values) head.values
 
+-- where a node begins, at a place with a list: its rule's head fits the category, and its values are an instance
+abbrev pub begun : Setting → Rule → List (ℕ × Value) → List ℕ → List Phrase → Test → At → Option Stand
+begun s rule values found children asked at =
+    if fits (under values rule.head) asked && is_instance s rule values then Some (record { at = at; found = found; own = own_values rule values; children = children }) else None
+
 -- what a node does whose rule, instance, found positions and children are these
 abbrev pub phrase : Setting → Rule → List (ℕ × Value) → List ℕ → List Phrase → Phrase
 phrase s rule values found children asked at =
-    if fits (under values rule.head) asked && is_instance s rule values then option_and_then (ended rule at.list) (run s values rule.body (record { at = at; found = found; own = own_values rule values; children = children })) else None
+    option_and_then (λ stand. option_and_then (ended rule at.list) (run s values rule.body stand)) (begun s rule values found children asked at)
 
 -- the rule with the number, from 1
 abbrev pub rule_with : GrammarParts → ℕ → Option Rule

@@ -1,5 +1,6 @@
 -- Where a node stands, as the program holds it.
 use Rattle.std.specs.Prelude.{◌≡◌, ℕ, ◌≤◌, Bool, true, false, List, ◌++◌, length, map, drop, All, Option, Some, option_map}
+use Rattle.codeco_terms.specs.declared.values.Value.{Value}
 use Rattle.codeco_terms.specs.declared.elements.Element.{Element}
 use Rattle.codeco_terms.specs.declared.elements.Element.TheVariants.{Terminal, Preterminal, Sub, Position, Opener, Forward, Strong, Back, NoBack}
 use Rattle.codeco_terms.specs.GrammarParts.{GrammarParts}
@@ -53,6 +54,13 @@ IsStand given held = (children : List Phrase) → option_map (stand_of children)
 pub record Begins (before after : List Entry) : Type 0 where
   pub added : List Entry
   pub is : after ≡ before ++ added
+
+-- the parts of a tree
+abbrev pub values_in : Tree → List (ℕ × Value)
+values_in tree = (out-Tree tree).values
+
+abbrev pub found_in : Tree → List ℕ
+found_in tree = (out-Tree tree).found
 
 -- what the children of a tree do, in order
 abbrev pub children_of : Setting → Tree → List Phrase

@@ -1,10 +1,10 @@
 // Where trees lead.
-ghost use Rattle.std.specs.Prelude.{◌≡◌, ◌≤◌, List, All, [], drop, length, IfOk, IfSome, option_map};
+ghost use Rattle.std.specs.Prelude.{◌≡◌, List, All, drop, false, IfOk, IfSome, option_map};
 ghost use Rattle.std.specs.Option.{option_copied};
 ghost use Rattle.std.specs.List.{list_all};
 ghost use Rattle.derivations.specs.Trees.{node_of, nodes_of};
 ghost use Rattle.derivations.specs.Derives as derives;
-ghost use Rattle.derivations.specs.Stands.{Begins, IsLimited, IsWithin, at_of, children_of, stand_of, standing};
+ghost use Rattle.derivations.specs.Stands.{Begins, IsLimited, IsStand, IsWithin, at_of, children_of, found_in, is_sub, stand_of, standing, values_in};
 
 use std::alloc::Global;
 
@@ -75,7 +75,7 @@ pub(crate) fn leads(
     };
     match run(alloc, setting, rule.body.as_slice(), tree, stand)? {
         None => Ok(None),
-        Some((stand, used)) => end(rule, list, stand, used == tree.children.len()),
+        Some((stand, used)) => end(rule, list, stand, used >= tree.children.len()),
     }
 }
 
@@ -89,6 +89,9 @@ fn begin<'a>(
     place: u16,
     list: &Access,
 ) -> Result<Option<Progress<'a>>, Memory>
+    ensures is { IfOk result (IsStand (λ children.
+        derives.begun setting.now rule.now (values_in tree.now) (found_in tree.now) children asked.now (at_of (place, list.now)))) }
+    ensures same { IfOk result (λ begun. IfSome begun (λ stand. stand.list ≡ list.now)) }
 {
     let values = tree.values.as_slice();
     let head = under(alloc, values, &rule.head)?;
@@ -120,7 +123,7 @@ fn run<'a>(
     requires within { All (IsWithin setting.now.grammar) body.now }
 
     ensures is { IfOk result (λ led. option_map (standing (children_of setting.now tree.now)) led
-        ≡ derives.run setting.now tree.now.values body.now (stand_of (children_of setting.now tree.now) start.entry)) }
+        ≡ derives.run setting.now (values_in tree.now) body.now (stand_of (children_of setting.now tree.now) start.entry)) }
     ensures grows { IfOk result (λ led. IfSome led (λ r. Begins start.entry.list r.0.list)) }
 {
     let mut stand = start;
@@ -151,7 +154,7 @@ fn step<'a>(
     requires within { IsWithin setting.now.grammar element.now }
 
     ensures is { IfOk result (λ led. option_map (standing (children_of setting.now tree.now)) led
-        ≡ derives.pass setting.now tree.now.values element.now (stand_of (drop used (children_of setting.now tree.now)) stand.entry)) }
+        ≡ derives.pass setting.now (values_in tree.now) element.now (stand_of (drop used (children_of setting.now tree.now)) stand.entry)) }
     ensures grows { IfOk result (λ led. IfSome led (λ r. Begins stand.entry.list r.0.list)) }
 {
     match element {
@@ -174,10 +177,29 @@ fn step<'a>(
                 ))),
             }
         }
-        _ => match pass(alloc, setting, tree.values.as_slice(), element, stand)? {
-            None => Ok(None),
-            Some(next) => Ok(Some((next, used))),
-        },
+        _ => plain_step(alloc, setting, element, tree, used, stand),
+    }
+}
+
+// Where an element leads that is no category.
+fn plain_step<'a>(
+    alloc: Global,
+    setting: &Setting<'_>,
+    element: &Element,
+    tree: &Tree,
+    used: usize,
+    stand: Progress<'a>,
+) -> Result<Option<(Progress<'a>, usize)>, Memory>
+    requires within { IsWithin setting.now.grammar element.now }
+    requires plain { is_sub element.now ≡ false }
+
+    ensures is { IfOk result (λ led. option_map (standing (children_of setting.now tree.now)) led
+        ≡ derives.pass setting.now (values_in tree.now) element.now (stand_of (drop used (children_of setting.now tree.now)) stand.entry)) }
+    ensures grows { IfOk result (λ led. IfSome led (λ r. Begins stand.entry.list r.0.list)) }
+{
+    match pass(alloc, setting, tree.values.as_slice(), element, stand)? {
+        None => Ok(None),
+        Some(next) => Ok(Some((next, used))),
     }
 }
 
@@ -188,15 +210,33 @@ fn end(
     stand: Progress<'_>,
     all_used: bool,
 ) -> Result<Option<(u16, Access)>, Memory>
-    requires { Begins begun.now stand.entry.list }
+    requires { Begins begun.now stand.list }
+    ensures is { IfOk result (λ ended. (children : List derives.Phrase) → derives.is_none_left children ≡ all_used
+        → option_map at_of ended ≡ derives.ended rule.now begun.now (stand_of children stand.entry)) }
+    ensures grows { IfOk result (λ ended. IfSome ended (λ r. Begins begun.now r.1)) }
 {
-    if !stand.found.is_empty() || !all_used {
+    let Progress {
+        place,
+        list,
+        found,
+        own: _,
+    } = stand;
+    if !found.is_empty() || !all_used {
         return Ok(None);
     }
-    let list = if rule.closing {
-        stand.list.close(begun)?
+    let list = closed(rule, begun, list)?;
+    Ok(Some((place, list)))
+}
+
+// The list after a phrase: closed where the rule is scope-closing.
+fn closed(rule: &Rule, begun: &Access, list: Access) -> Result<Access, Memory>
+    requires { Begins begun.now list }
+    ensures is { IfOk result (λ after. after ≡ derives.list_after rule.now.closing begun.now list) }
+    ensures grows { IfOk result (λ after. Begins begun.now after) }
+{
+    if rule.closing {
+        list.close(begun)
     } else {
-        stand.list
-    };
-    Ok(Some((stand.place, list)))
+        Ok(list)
+    }
 }

@@ -1,8 +1,8 @@
 -- Where elements and trees lead.
-use Rattle.std.proofs.Common.{◌≡◌, ℕ, ◌+◌, ◌<◌, ◌≤◌, List, [], ◌∷◌, ◌++◌, Bool, true, false, ◌&&◌, map, length, take, drop, get_or, Option, Some, None, refl, sym, ap, ◌∙◌, subst, arith, append_assoc, nat_le, suc, zero}
+use Rattle.std.proofs.Common.{◌≡◌, ℕ, ◌+◌, ◌<◌, ◌≤◌, List, [], ◌∷◌, ◌++◌, Bool, true, false, ◌&&◌, map, length, take, drop, get_or, Option, Some, None, refl, sym, ap, ◌∙◌, subst, arith, append_assoc, nat_le, suc, zero, add-one, nat_eq, eq-eqb, eqb-eq, IsTrue, ◌↔◌}
 use Rattle.std.proofs.lemmas.Bool.Decides.{nat_tests}
-use Rattle.std.specs.Prelude.{if◌then◌else◌, option_and_then, option_map}
-use Rattle.std.proofs.lemmas.List.{append-nil, take_at, drop_more}
+use Rattle.std.specs.Prelude.{if◌then◌else◌, option_and_then, option_map, slice_get, unwrap_or}
+use Rattle.std.proofs.lemmas.List.{append-nil, take_at, drop_more, drop_all}
 use Rattle.std.specs.List.{list_any}
 use Rattle.codeco_terms.specs.declared.values.Value.{Value}
 use Rattle.codeco_terms.specs.declared.values.Value.TheVariants.{Pos}
@@ -10,6 +10,7 @@ use Rattle.codeco_terms.specs.declared.categories.Category.{Category}
 use Rattle.codeco_terms.specs.declared.categories.Pattern.{Pattern}
 use Rattle.codeco_terms.specs.declared.elements.Element.{Element}
 use Rattle.codeco_terms.specs.declared.elements.Element.TheVariants.{Terminal, Preterminal, Sub, Position, Opener, Forward, Strong, Back, NoBack}
+use Rattle.codeco_terms.specs.declared.rules.Rule.{Rule}
 use Rattle.codeco_terms.specs.Values.{same_value}
 use Rattle.scopes.specs.declared.entries.Entry.{Entry}
 use Rattle.scopes.specs.declared.tests.Test.{Test}
@@ -20,7 +21,7 @@ use Rattle.derivations.specs.declared.trees.Tree.TheFolds.{fold_out-Tree, fold_o
 use Rattle.derivations.specs.Trees.{Node, Nodes, node, none, more, nodes_from, node_of, nodes_of, tree_layer, trees_layer}
 use Rattle.derivations.specs.Settings.{Setting, matches_terminal, matches_preterminal}
 use Rattle.derivations.specs.Instances.{value_under, under, tests_under}
-use Rattle.derivations.specs.Derives.{At, Stand, Phrase, pass, run, phrase, phrase_of, phrases_of, rule_with, is_none_left, is_found, reference_tests}
+use Rattle.derivations.specs.Derives.{At, Stand, Phrase, pass, run, IsDerivation, text_category, pass_child, begun, ended, phrase, phrase_of, phrases_of, rule_with, is_none_left, is_found, reference_tests}
 use Rattle.derivations.specs.Stands.{Begins, children_of, values_in, found_in, is_sub}
 
 pub Begins-refl : (xs : List Entry) → Begins xs xs
@@ -112,3 +113,63 @@ none_left_at [] zero = le_all 0
 none_left_at [] (suc n) = le_all (suc n)
 none_left_at (x ∷ xs) zero = le_none (length xs)
 none_left_at (x ∷ xs) (suc n) = none_left_at xs n ∙ le_both (length xs) n
+
+-- a tree fails where the elements of its rule do
+pub led_none : (s : Setting) (t : Tree) (asked : Test) (at : At) (rule : Rule) (start : Stand) → Some rule ≡ rule_with s.grammar (out-Tree t).rule → Some start ≡ begun s rule (values_in t) (found_in t) (children_of s t) asked at → None ≡ run s (values_in t) rule.body start → None ≡ phrase_of s (node_of t) asked at
+led_none s t asked at rule start has begins fails =
+    ap (option_and_then (ended rule at.list)) fails ∙ ap (option_and_then (λ stand. option_and_then (ended rule at.list) (run s (values_in t) rule.body stand))) begins ∙ ap (option_and_then (λ r. phrase s r (values_in t) (found_in t) (children_of s t) asked at)) has ∙ sym (phrase_of_is s t asked at)
+
+-- a tree leads to where it ends after the elements of its rule
+pub led_some : (s : Setting) (t : Tree) (asked : Test) (at : At) (rule : Rule) (start after : Stand) → Some rule ≡ rule_with s.grammar (out-Tree t).rule → Some start ≡ begun s rule (values_in t) (found_in t) (children_of s t) asked at → Some after ≡ run s (values_in t) rule.body start → ended rule at.list after ≡ phrase_of s (node_of t) asked at
+led_some s t asked at rule start after has begins ran =
+    ap (option_and_then (ended rule at.list)) ran ∙ ap (option_and_then (λ stand. option_and_then (ended rule at.list) (run s (values_in t) rule.body stand))) begins ∙ ap (option_and_then (λ r. phrase s r (values_in t) (found_in t) (children_of s t) asked at)) has ∙ sym (phrase_of_is s t asked at)
+
+next_child : (s : Setting) (ns : List Node) (n : Node) (used : ℕ) → slice_get ns used ≡ Some n → drop used (map (phrase_of s) ns) ≡ phrase_of s n ∷ drop (suc used) (map (phrase_of s) ns)
+next_child s [] n used h = cc
+next_child s (m ∷ ms) n zero h = ap (λ o. phrase_of s (unwrap_or o m) ∷ map (phrase_of s) ms) h
+next_child s (m ∷ ms) n (suc used) h = next_child s ms n used h
+
+-- the next child fails as a phrase for the category
+pub step_none : (s : Setting) (values : List (ℕ × Value)) (e : Element) (c : Category) (ns : List Node) (n : Node) (used : ℕ) (at : At) (found : List ℕ) (own : List (ℕ × Value)) (asked : Test) → e ≡ Sub c → asked ≡ under values c → slice_get ns used ≡ Some n → None ≡ phrase_of s n asked at → None ≡ pass s values e (record { at = at; found = found; own = own; children = drop used (map (phrase_of s) ns) })
+step_none s values e c ns n used at found own asked is name child fails =
+    ap (option_and_then (λ a. Some (record { at = a; found = found; own = own; children = drop (suc used) (map (phrase_of s) ns) }))) fails ∙ ap (λ a. pass_child a (phrase_of s n ∷ drop (suc used) (map (phrase_of s) ns)) (record { at = at; found = found; own = own; children = drop used (map (phrase_of s) ns) })) name ∙ ap (λ ps. pass_child (under values c) ps (record { at = at; found = found; own = own; children = drop used (map (phrase_of s) ns) })) (sym (next_child s ns n used child)) ∙ ap (λ x. pass s values x (record { at = at; found = found; own = own; children = drop used (map (phrase_of s) ns) })) (sym is)
+
+-- the next child leads on as a phrase for the category
+pub step_some : (s : Setting) (values : List (ℕ × Value)) (e : Element) (c : Category) (ns : List Node) (n : Node) (used : ℕ) (at after : At) (found : List ℕ) (own : List (ℕ × Value)) (asked : Test) → e ≡ Sub c → asked ≡ under values c → slice_get ns used ≡ Some n → Some after ≡ phrase_of s n asked at → Some (record { at = after; found = found; own = own; children = drop (used + 1) (map (phrase_of s) ns) }) ≡ pass s values e (record { at = at; found = found; own = own; children = drop used (map (phrase_of s) ns) })
+step_some s values e c ns n used at after found own asked is name child leads =
+    ap (λ k. Some (record { at = after; found = found; own = own; children = drop k (map (phrase_of s) ns) })) (add-one used) ∙ ap (option_and_then (λ a. Some (record { at = a; found = found; own = own; children = drop (suc used) (map (phrase_of s) ns) }))) leads ∙ ap (λ a. pass_child a (phrase_of s n ∷ drop (suc used) (map (phrase_of s) ns)) (record { at = at; found = found; own = own; children = drop used (map (phrase_of s) ns) })) name ∙ ap (λ ps. pass_child (under values c) ps (record { at = at; found = found; own = own; children = drop used (map (phrase_of s) ns) })) (sym (next_child s ns n used child)) ∙ ap (λ x. pass s values x (record { at = at; found = found; own = own; children = drop used (map (phrase_of s) ns) })) (sym is)
+
+body_at : (body : List Element) (i : ℕ) (e : Element) → i < length body → e ≡ get_or body i e → drop i body ≡ e ∷ drop (i + 1) body
+body_at body i e lt is = drop_more body i e lt ∙ ap (λ x. x ∷ drop (i + 1) body) (sym is)
+
+-- one element of a run
+pub run_more : (s : Setting) (values : List (ℕ × Value)) (body : List Element) (i : ℕ) (e : Element) (stand after : Stand) (r : Option Stand) → i < length body → e ≡ get_or body i e → Some after ≡ pass s values e stand → run s values (drop i body) stand ≡ r → run s values (drop (i + 1) body) after ≡ r
+run_more s values body i e stand after r lt is step rest =
+    ap (option_and_then (run s values (drop (i + 1) body))) step ∙ ap (λ es. run s values es stand) (sym (body_at body i e lt is)) ∙ rest
+
+pub run_none : (s : Setting) (values : List (ℕ × Value)) (body : List Element) (i : ℕ) (e : Element) (stand : Stand) (r : Option Stand) → i < length body → e ≡ get_or body i e → None ≡ pass s values e stand → run s values (drop i body) stand ≡ r → None ≡ r
+run_none s values body i e stand r lt is step rest =
+    ap (option_and_then (run s values (drop (i + 1) body))) step ∙ ap (λ es. run s values es stand) (sym (body_at body i e lt is)) ∙ rest
+
+pub run_end : (s : Setting) (values : List (ℕ × Value)) (body : List Element) (i : ℕ) (stand : Stand) (r : Option Stand) → length body ≤ i → run s values (drop i body) stand ≡ r → Some stand ≡ r
+run_end s values body i stand r le rest = ap (λ es. run s values es stand) (sym (drop_all i body le)) ∙ rest
+
+-- a tree that leads nowhere is no derivation
+pub derived_none : (s : Setting) (t : Node) → None ≡ phrase_of s t text_category (record { place = 0; list = [] }) → IsTrue false ↔ IsDerivation s t
+derived_none s t fails = (λ h. cc, λ d. let e = fails ∙ d.1 in cc)
+
+-- a tree is a derivation where it leads to the end of the tokens
+pub derived_at : (s : Setting) (t : Node) (place : ℕ) (list : List Entry) → Some (record { place = place; list = list }) ≡ phrase_of s t text_category (record { place = 0; list = [] }) → IsTrue (nat_eq place (length s.tokens)) ↔ IsDerivation s t
+derived_at s t place list leads =
+    ( λ h.
+        let same : place ≡ length s.tokens = eqb-eq place (length s.tokens) h in
+        (list, sym leads ∙ ap (λ n. Some (record { place = n; list = list })) same)
+    , λ d.
+        let e : Some (record { place = place; list = list }) ≡ Some (record { place = length s.tokens; list = d.0 }) = leads ∙ d.1 in
+        let same : place ≡ length s.tokens = ap place_or e in
+        eq-eqb place (length s.tokens) same
+    )
+  where
+    place_or : Option At → ℕ
+    place_or None = 0
+    place_or (Some at) = at.place

@@ -3,3 +3,4 @@ pub mod Settings
 pub mod Instances
 pub mod Derives
 pub mod Stands
+pub mod Sentences

@@ -3,6 +3,7 @@
 //! this project's own).
 #![tactic(auto)]
 
+mod check;
 mod derive;
 mod features;
 mod fitting;
@@ -12,4 +13,5 @@ mod stand;
 mod trees;
 mod variables;
 
+pub use check::check_tree;
 pub use trees::{Binds, Places, Tree, Trees};

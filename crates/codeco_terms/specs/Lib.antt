@@ -1,0 +1,3 @@
+pub mod GrammarParts
+pub mod Unification
+pub mod Values

@@ -1,0 +1,4 @@
+pub mod PutLemmas
+pub mod OccurrenceLemmas
+pub mod InstanceLemmas
+pub mod StandLemmas

@@ -1,0 +1,6 @@
+pub mod Trees
+pub mod Settings
+pub mod Instances
+pub mod Derives
+pub mod Stands
+pub mod Sentences

@@ -1,0 +1,2 @@
+pub mod ClosestLemmas
+pub mod ClosingLemmas

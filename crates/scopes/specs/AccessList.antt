@@ -1,0 +1,38 @@
+-- Access lists: the referents that a reference may find, with the openers of scopes between them.
+use Rattle.std.specs.Prelude.{ℕ, List, [], ◌∷◌, ◌++◌, Bool, true, false, if◌then◌else◌}
+use Rattle.std.specs.List.{list_any}
+use Rattle.codeco_terms.specs.declared.categories.Ground.{Ground}
+use Rattle.scopes.specs.declared.entries.Entry.{Entry}
+use Rattle.scopes.specs.declared.entries.Entry.TheVariants.{Opener, Weak, Strong}
+
+-- the strong referents among the entries
+abbrev pub strong_referents : List Entry → List Entry
+strong_referents [] = []
+strong_referents (Opener ∷ rest) = strong_referents rest
+strong_referents (Weak ground pos ∷ rest) = strong_referents rest
+strong_referents (Strong ground pos ∷ rest) = Strong ground pos ∷ strong_referents rest
+
+-- What closing leaves of the entries that a phrase has added: all of them where there is no opener, else what stands
+-- before the first opener, and then the strong referents after it.
+abbrev pub closed : List Entry → List Entry
+closed [] = []
+closed (Opener ∷ rest) = strong_referents rest
+closed (Weak ground pos ∷ rest) = Weak ground pos ∷ closed rest
+closed (Strong ground pos ∷ rest) = Strong ground pos ∷ closed rest
+
+-- the entry of a referent that is introduced at the position
+abbrev pub introduced : Ground → ℕ → Bool → Entry
+introduced ground pos strong = if strong then Strong ground pos else Weak ground pos
+
+abbrev pub is_opener : Entry → Bool
+is_opener Opener = true
+is_opener (Weak ground pos) = false
+is_opener (Strong ground pos) = false
+
+-- there is an opener among the entries
+abbrev pub any_opener : List Entry → Bool
+any_opener entries = list_any is_opener entries
+
+-- what closing leaves of an entry after others, which had an opener or not
+abbrev pub left_of : Bool → Entry → List Entry
+left_of opened entry = if opened then strong_referents (entry ∷ []) else closed (entry ∷ [])

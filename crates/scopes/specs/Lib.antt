@@ -1,0 +1,4 @@
+pub mod AccessList
+pub mod Links
+pub mod Resolution
+pub mod Findings

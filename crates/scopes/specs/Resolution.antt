@@ -1,0 +1,49 @@
+-- Which referents agree with a test, and which one a reference finds.
+use Rattle.std.specs.Prelude.{ℕ, List, [], ◌∷◌, Bool, true, false, not, ◌==◌, ◌&&◌, if◌then◌else◌, Option, Some, None, option_map, position, unwrap_or}
+use Rattle.std.specs.List.{list_any, list_all, filter_map}
+use Rattle.codeco_terms.specs.declared.values.Value.{Value}
+use Rattle.codeco_terms.specs.declared.categories.Ground.{Ground}
+use Rattle.codeco_terms.specs.Values.{same_value}
+use Rattle.scopes.specs.declared.entries.Entry.{Entry}
+use Rattle.scopes.specs.declared.entries.Entry.TheVariants.{Opener, Weak, Strong}
+use Rattle.scopes.specs.declared.tests.Test.{Test}
+use Rattle.scopes.specs.declared.tests.Tests.{Tests}
+
+-- the values have this one at this feature
+abbrev pub has_value : List (ℕ × Value) → (ℕ × Value) → Bool
+has_value vals wanted = list_any (λ p. (p.0 == wanted.0) && same_value p.1 wanted.1) vals
+
+-- a referent agrees with a test where the names are equal and the referent has each value of the test
+abbrev pub agrees : Ground → Test → Bool
+agrees ground test = (ground.name == test.name) && list_all (has_value ground.vals) test.values
+
+-- the entry is a referent that agrees with one of the tests
+abbrev pub is_agreeing : List Test → Entry → Bool
+is_agreeing tests Opener = false
+is_agreeing tests (Weak ground pos) = list_any (agrees ground) tests
+is_agreeing tests (Strong ground pos) = list_any (agrees ground) tests
+
+-- what a reference finds: a referent with its position, and the place of the first positive test that it agrees with
+pub record Finding : Type 0 where
+  pub pos : ℕ
+  pub ground : Ground
+  pub pattern : ℕ
+
+-- what a reference finds at a referent: it agrees with a positive test and with no negative one
+abbrev pub finding_at : Tests → Ground → ℕ → Option Finding
+finding_at tests ground pos =
+    if list_any (agrees ground) tests.negative then None else option_map (λ k. record { pos = pos; ground = ground; pattern = k }) (position (agrees ground) tests.positive)
+
+abbrev pub finding : Tests → Entry → Option Finding
+finding tests Opener = None
+finding tests (Weak ground pos) = finding_at tests ground pos
+finding tests (Strong ground pos) = finding_at tests ground pos
+
+-- the last of a list
+abbrev pub last_of : {X : Type 0} → List X → Option X
+last_of [] = None
+last_of (x ∷ xs) = Some (unwrap_or (last_of xs) x)
+
+-- what a reference finds in an access list: the last referent that agrees with a positive test and with no negative one
+abbrev pub closest_finding : Tests → List Entry → Option Finding
+closest_finding tests entries = last_of (filter_map (finding tests) entries)

@@ -1,0 +1,11 @@
+//! Which referents a reference may find: access lists with their scopes, and the closest referent that agrees
+//! (after T. Kuhn, Controlled English for Knowledge Representation, 2010).
+#![tactic(auto)]
+
+mod access;
+mod entries;
+mod tests;
+
+pub use access::{Access, Found};
+pub use entries::Entry;
+pub use tests::{Test, TestList, TestValues, Tests, agrees, has_value};

@@ -6,6 +6,8 @@ mod categories;
 mod declarations;
 mod elements;
 mod environment;
+#[cfg(test)]
+mod examples;
 mod feature_lists;
 mod grammar;
 mod rules;

@@ -4,6 +4,8 @@
 
 mod access;
 mod entries;
+#[cfg(test)]
+mod examples;
 mod tests;
 
 pub use access::{Access, Found};

@@ -33,7 +33,7 @@ Begins-same xs ys h = record { added = []; is = h ∙ sym (append-nil xs) }
 pub Begins-trans : (xs ys zs : List Entry) → Begins xs ys → Begins ys zs → Begins xs zs
 Begins-trans xs ys zs a b = record {
   added = a.added ++ b.added;
-  is = b.is ∙ ap (λ ws. ws ++ b.added) a.is ∙ append_assoc xs a.added b.added
+  is = b.is ∙ ap (λ ws. ws ++ b.added) a.is ∙ append_assoc xs a.added b.added;
 }
 
 pub Begins-take : (xs ys : List Entry) → Begins xs ys → take (length xs) ys ≡ xs

@@ -2,3 +2,4 @@ pub mod PutLemmas
 pub mod OccurrenceLemmas
 pub mod InstanceLemmas
 pub mod StandLemmas
+pub mod LimitLemmas

@@ -1,5 +1,5 @@
 -- Where elements and trees lead.
-use Rattle.std.proofs.Common.{◌≡◌, ℕ, ◌+◌, ◌<◌, ◌≤◌, List, [], ◌∷◌, ◌++◌, Bool, true, false, ◌&&◌, map, length, take, drop, get_or, Option, Some, None, refl, sym, ap, ◌∙◌, subst, arith, append_assoc, nat_le, suc, zero, add-one, nat_eq, eq-eqb, eqb-eq, IsTrue, ◌↔◌}
+use Rattle.std.proofs.Common.{◌≡◌, ℕ, ◌+◌, ◌<◌, ◌≤◌, List, [], ◌∷◌, ◌++◌, Bool, true, false, ◌&&◌, map, length, take, drop, get_or, Option, Some, None, refl, sym, ap, ◌∙◌, subst, arith, append_assoc, nat_le, suc, zero, add-one}
 use Rattle.std.proofs.lemmas.Bool.Decides.{nat_tests}
 use Rattle.std.specs.Prelude.{if◌then◌else◌, option_and_then, option_map, slice_get, unwrap_or}
 use Rattle.std.proofs.lemmas.List.{append-nil, take_at, drop_more, drop_all}
@@ -21,7 +21,7 @@ use Rattle.derivations.specs.declared.trees.Tree.TheFolds.{fold_out-Tree, fold_o
 use Rattle.derivations.specs.Trees.{Node, Nodes, node, none, more, nodes_from, node_of, nodes_of, tree_layer, trees_layer}
 use Rattle.derivations.specs.Settings.{Setting, matches_terminal, matches_preterminal}
 use Rattle.derivations.specs.Instances.{value_under, under, tests_under}
-use Rattle.derivations.specs.Derives.{At, Stand, Phrase, pass, run, IsDerivation, text_category, pass_child, begun, ended, phrase, phrase_of, phrases_of, rule_with, is_none_left, is_found, reference_tests}
+use Rattle.derivations.specs.Derives.{At, Stand, Phrase, pass, run, pass_child, begun, ended, phrase, phrase_of, phrases_of, rule_with, is_none_left, is_found, reference_tests}
 use Rattle.derivations.specs.Stands.{Begins, children_of, values_in, found_in, is_sub}
 
 pub Begins-refl : (xs : List Entry) → Begins xs xs
@@ -33,7 +33,7 @@ Begins-same xs ys h = record { added = []; is = h ∙ sym (append-nil xs) }
 pub Begins-trans : (xs ys zs : List Entry) → Begins xs ys → Begins ys zs → Begins xs zs
 Begins-trans xs ys zs a b = record {
   added = a.added ++ b.added;
-  is = b.is ∙ ap (λ ws. ws ++ b.added) a.is ∙ append_assoc xs a.added b.added
+  is = b.is ∙ ap (λ ws. ws ++ b.added) a.is ∙ append_assoc xs a.added b.added;
 }
 
 pub Begins-take : (xs ys : List Entry) → Begins xs ys → take (length xs) ys ≡ xs
@@ -153,23 +153,3 @@ run_none s values body i e stand r lt is step rest =
 
 pub run_end : (s : Setting) (values : List (ℕ × Value)) (body : List Element) (i : ℕ) (stand : Stand) (r : Option Stand) → length body ≤ i → run s values (drop i body) stand ≡ r → Some stand ≡ r
 run_end s values body i stand r le rest = ap (λ es. run s values es stand) (sym (drop_all i body le)) ∙ rest
-
--- a tree that leads nowhere is no derivation
-pub derived_none : (s : Setting) (t : Node) → None ≡ phrase_of s t text_category (record { place = 0; list = [] }) → IsTrue false ↔ IsDerivation s t
-derived_none s t fails = (λ h. cc, λ d. let e = fails ∙ d.1 in cc)
-
--- a tree is a derivation where it leads to the end of the tokens
-pub derived_at : (s : Setting) (t : Node) (place : ℕ) (list : List Entry) → Some (record { place = place; list = list }) ≡ phrase_of s t text_category (record { place = 0; list = [] }) → IsTrue (nat_eq place (length s.tokens)) ↔ IsDerivation s t
-derived_at s t place list leads =
-    ( λ h.
-        let same : place ≡ length s.tokens = eqb-eq place (length s.tokens) h in
-        (list, sym leads ∙ ap (λ n. Some (record { place = n; list = list })) same)
-    , λ d.
-        let e : Some (record { place = place; list = list }) ≡ Some (record { place = length s.tokens; list = d.0 }) = leads ∙ d.1 in
-        let same : place ≡ length s.tokens = ap place_or e in
-        eq-eqb place (length s.tokens) same
-    )
-  where
-    place_or : Option At → ℕ
-    place_or None = 0
-    place_or (Some at) = at.place

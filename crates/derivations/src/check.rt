@@ -6,16 +6,14 @@ ghost use Rattle.derivations.specs.Derives.{IsDerivation};
 ghost use Rattle.derivations.specs.Sentences.{setting_of};
 ghost use Rattle.derivations.specs.Stands.{IsLimited};
 
-use std::alloc::Global;
-
-use codeco_reader::CheckedGrammar;
-use lexicon::{Lexicon, Readings};
-use scopes::{Access, Test, TestValues};
-use wiki_base::{Memory, Token, Tokens};
-
 use crate::derive::leads;
 use crate::setting::Setting;
 use crate::trees::Tree;
+use codeco_reader::CheckedGrammar;
+use lexicon::{Lexicon, Readings};
+use scopes::{Access, Test, TestValues};
+use std::alloc::Global;
+use wiki_base::{Memory, Token, Tokens};
 
 /// The number of the category `text`.
 const TEXT: u16 = 5;

@@ -6,17 +6,15 @@ ghost use Rattle.derivations.specs.Trees.{node_of, nodes_of};
 ghost use Rattle.derivations.specs.Derives as derives;
 ghost use Rattle.derivations.specs.Stands.{Begins, IsLimited, IsStand, IsWithin, at_of, children_of, found_in, is_sub, stand_of, standing, values_in};
 
-use std::alloc::Global;
-
-use codeco_terms::{Element, Grammar, Rule, Value};
-use scopes::{Access, Test};
-use wiki_base::Memory;
-
 use crate::instances::under;
 use crate::setting::Setting;
 use crate::stand::{Progress, pass};
 use crate::trees::Tree;
 use crate::variables::{is_instance, own_values};
+use codeco_terms::{Element, Grammar, Rule, Value};
+use scopes::{Access, Test};
+use std::alloc::Global;
+use wiki_base::Memory;
 
 // The rule with the number, from 1.
 fn rule_with(grammar: &Grammar, number: u16) -> Option<&Rule>

@@ -4,9 +4,8 @@ ghost use Rattle.std.specs.List.{flat_map};
 ghost use Rattle.codeco_reader.specs.Occurrences.{mentions, whole};
 ghost use Rattle.derivations.specs.Instances as instances;
 
-use std::alloc::Global;
-
 use codeco_terms::{Category, Element, Grammar, Pattern, Term};
+use std::alloc::Global;
 use wiki_base::Memory;
 
 // Puts the number among the others, which stand in order, where it isn't there yet.
@@ -38,11 +37,7 @@ fn place_for(numbers: &[u16], number: u16) -> Option<usize>
 
 // The features of a category, in order of number.
 #[tactic(auto, using(crate::proofs::PutLemmas::put_all_append))]
-pub(crate) fn features_of(
-    alloc: Global,
-    grammar: &Grammar,
-    name: u16,
-) -> Result<Vec<u16>, Memory>
+pub(crate) fn features_of(alloc: Global, grammar: &Grammar, name: u16) -> Result<Vec<u16>, Memory>
     ensures { IfOk result (λ features. features.items ≡ instances.features_of grammar.now name) }
 {
     let mut features = Vec::new(alloc);

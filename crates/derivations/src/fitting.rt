@@ -7,10 +7,9 @@ ghost use Rattle.codeco_reader.specs.Occurrences as occurrences;
 ghost use Rattle.derivations.specs.Settings as settings;
 ghost use Rattle.derivations.specs.Instances as instances;
 
-use codeco_terms::{Declared, Element, Pattern, Rule, Term, Value};
-
 use crate::instances::value_under;
 use crate::setting::Setting;
+use codeco_terms::{Declared, Element, Pattern, Rule, Term, Value};
 
 // Whether each variable of the rule has a value of each feature at which it is written.
 #[tactic(auto, using(crate::proofs::OccurrenceLemmas::all_append))]
@@ -79,9 +78,7 @@ fn pattern_fits(setting: &Setting<'_>, values: &[(u8, Value)], pattern: &Pattern
 fn feats_fit(setting: &Setting<'_>, values: &[(u8, Value)], feats: &[(u16, Term)]) -> bool
     ensures { result ≡ list_all (instances.term_fits setting.now values.now) feats.now }
 {
-    feats
-        .iter()
-        .all(|p| term_fits(setting, values, p.0, p.1))
+    feats.iter().all(|p| term_fits(setting, values, p.0, p.1))
 }
 
 fn term_fits(setting: &Setting<'_>, values: &[(u8, Value)], feature: u16, term: Term) -> bool

@@ -7,8 +7,8 @@ ghost use Rattle.scopes.specs.Resolution as resolution;
 ghost use Rattle.codeco_reader.specs.Numbering.{has};
 ghost use Rattle.derivations.specs.Settings as settings;
 
-use lexicon::Readings;
 use codeco_terms::{Declared, Grammar, Ground, Value};
+use lexicon::Readings;
 use scopes::{Test, agrees, has_value};
 use std::marker::Model;
 use wiki_base::Token;

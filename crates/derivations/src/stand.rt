@@ -10,14 +10,13 @@ ghost use Rattle.derivations.specs.Derives as derives;
 ghost use Rattle.derivations.specs.Derives.{is_found, filled, filled_value, own_after, own_rest};
 ghost use Rattle.derivations.specs.Stands.{IsStand, IsWithin, is_sub, stand_of};
 
+use crate::features::features_of;
+use crate::instances::{term_value, tests_under, under, value_under};
+use crate::setting::Setting;
 use codeco_terms::{Category, Element, Ground, Pattern, Patterns, Term, Vals, Value};
 use scopes::{Access, TestList, Tests, has_value};
 use std::alloc::Global;
 use wiki_base::Memory;
-
-use crate::features::features_of;
-use crate::instances::{term_value, tests_under, under, value_under};
-use crate::setting::Setting;
 
 // Where a node stands after some of its elements: the place and the list there, and the found positions and the own
 // variables that are still to come.
@@ -128,7 +127,12 @@ fn introduce<'a>(
         ≡ derives.pass_introduction setting.now.grammar values.now category.now strong (stand_of children stand.entry)) }
 {
     let features = features_of(alloc, setting.grammar, category.name)?;
-    let (vals, own) = fill_all(values, category.feats.as_slice(), features.as_slice(), stand.own);
+    let (vals, own) = fill_all(
+        values,
+        category.feats.as_slice(),
+        features.as_slice(),
+        stand.own,
+    );
     let ground = Ground {
         name: category.name,
         vals,
@@ -191,7 +195,11 @@ fn finds(
         None => false,
         Some(found) => {
             found.pos == pos
-                && takes(values, found.ground, positive.as_slice().get(found.pattern as usize))
+                && takes(
+                    values,
+                    found.ground,
+                    positive.as_slice().get(found.pattern as usize),
+                )
         }
     }
 }

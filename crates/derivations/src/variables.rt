@@ -7,14 +7,12 @@ ghost use Rattle.codeco_reader.specs.Occurrences as occurrences;
 ghost use Rattle.derivations.specs.Settings as settings;
 ghost use Rattle.derivations.specs.Instances as instances;
 
-use std::alloc::Global;
-
-use codeco_terms::{Category, Element, Grammar, Pattern, Rule, Term, Value};
-use wiki_base::Memory;
-
 use crate::features::features_of;
 use crate::fitting::{own_fit, positions_fit, terms_fit};
 use crate::setting::Setting;
+use codeco_terms::{Category, Element, Grammar, Pattern, Rule, Term, Value};
+use std::alloc::Global;
+use wiki_base::Memory;
 
 // Whether the values are an instance of the rule at the setting.
 pub(crate) fn is_instance(
@@ -28,7 +26,14 @@ pub(crate) fn is_instance(
     let own = rule_own_features(alloc, setting.grammar, rule.body.as_slice())?;
     let numbers = variables_of(alloc, rule, own.len())?;
     let mine = own_values(alloc, rule, values)?;
-    Ok(all_hold(setting, rule, values, own.as_slice(), numbers.as_slice(), mine))
+    Ok(all_hold(
+        setting,
+        rule,
+        values,
+        own.as_slice(),
+        numbers.as_slice(),
+        mine,
+    ))
 }
 
 // Whether the values have these numbers, and fit the features that are written and those that the rule leaves out.
@@ -135,11 +140,7 @@ fn have_numbers(values: &[(u8, Value)], numbers: &[usize]) -> bool
 }
 
 // The features of the rule's own variables.
-fn rule_own_features(
-    alloc: Global,
-    grammar: &Grammar,
-    body: &[Element],
-) -> Result<Vec<u16>, Memory>
+fn rule_own_features(alloc: Global, grammar: &Grammar, body: &[Element]) -> Result<Vec<u16>, Memory>
     ensures { IfOk result
         (λ own. own.items ≡ flat_map (instances.own_features grammar.now) body.now) }
 {
@@ -259,7 +260,8 @@ fn patterns_have(patterns: &[Pattern], variable: u8) -> bool
 fn pattern_has(pattern: &Pattern, variable: u8) -> bool
     ensures { result ≡ has (occurrences.category_variables (occurrences.whole pattern.now)) variable }
 {
-    feats_have(pattern.cat.feats.as_slice(), variable) || taken_has(pattern.taken.as_slice(), variable)
+    feats_have(pattern.cat.feats.as_slice(), variable)
+        || taken_has(pattern.taken.as_slice(), variable)
 }
 
 fn feats_have(feats: &[(u16, Term)], variable: u8) -> bool

@@ -1,10 +1,9 @@
-use Rattle.std.proofs.Common.{◌≡◌, List, cond, Some, None, is_some, get_or, set, sym, subst, ap, ◌∙◌}
-use Rattle.std.specs.HashMap.{get_by_text}
+use Rattle.std.proofs.Common.{◌≡◌, cond, Some, None, set, sym, subst, ap, ◌∙◌}
 use Rattle.std.proofs.lemmas.Result.{err_from_is_err_and}
 use Rattle.wiki_base.specs.declared.numbers.WordId.{WordId}
 use Rattle.lexicon.specs.declared.kinds.Forms.{Forms}
 use Rattle.lexicon.specs.declared.words.Word.{Word}
-use Rattle.lexicon.specs.Words.{Listed, IsLexicon, IsPlaceOf, is_among, has_form, owner, others, forms_of, forms_refusal, with_forms, IsRefusal}
+use Rattle.lexicon.specs.Words.{Listed, IsLexicon, IsPlaceOf, is_among, has_form, owner, others, forms_refusal, with_forms}
 use Rattle.lexicon.specs.Index.{Indexes}
 use Rattle.lexicon.proofs.Changing.{lexicon_with_forms, with_forms_at_place, owner-with_forms, reword_refusal-lives}
 use Rattle.lexicon.proofs.words.Lexicon.reword.Goals as goal

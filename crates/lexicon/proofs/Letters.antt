@@ -1,19 +1,18 @@
 -- A text of letters with an English ending is a text, if it isn't too long.
-use Rattle.std.proofs.Common.{◌≡◌, ℕ, zero, suc, ◌+◌, ◌-◌, ◌<◌, ◌≤◌, Bool, true, false, cond, ◌&&◌, ◌||◌, eqb, nat_eq, ltb, List, [], ◌∷◌, ◌++◌, length, get_or, take, drop, option_map, Option, Some, None, refl, sym, ap, subst, ◌∙◌, arith, length-append, append-nil}
+use Rattle.std.proofs.Common.{◌≡◌, ℕ, ◌+◌, ◌<◌, ◌≤◌, Bool, true, false, ◌&&◌, ◌||◌, eqb, ltb, List, [], ◌∷◌, ◌++◌, length, take, option_map, Option, Some, None, refl, sym, ap, subst, ◌∙◌, arith, length-append, append-nil}
 use Rattle.std.specs.Prelude.{encode_utf8, if◌then◌else◌}
-use Rattle.std.specs.Str.{chars, IsUtf8, IsAscii, IsCharBoundary}
+use Rattle.std.specs.Str.{chars, IsUtf8, IsCharBoundary}
 use Rattle.std.proofs.Math.Seq.{take-append_seam}
 use Rattle.std.proofs.lemmas.Bool.{false≢true}
 use Rattle.std.proofs.lemmas.Bool.Decides.{nat_tests, Decides-eqb}
 use Rattle.std.proofs.lemmas.Slice.Eq.{ends_is}
-use Rattle.std.proofs.lemmas.Str.{IsCharBoundary-at_seam, IsUtf8-take, chars-append, chars-IsAscii, IsUtf8-from_ascii}
+use Rattle.std.proofs.lemmas.Str.{IsCharBoundary-at_seam, IsUtf8-take, chars-append}
 use Rattle.ucd_derived.specs.Binary.{is_alphabetic}
 use Rattle.ucd_derived.specs.AlphabeticRanges.{alphabetic_ranges}
 use Rattle.ucd_table.specs.Rows.{in_ranges}
-use Rattle.wiki_base.specs.declared.text.BadText.{BadText}
 use Rattle.wiki_base.specs.declared.text.BadText.TheVariants.{TooLong, Letter}
 use Rattle.lexicon.specs.Suggest.{ends_in, ends_in_consonant, stem, changes_y}
-use Rattle.wiki_base.specs.Text.{is_letter, begins_with_letter, is_in_place, misplaced, fault_of, IsText}
+use Rattle.wiki_base.specs.Text.{is_letter, begins_with_letter, is_in_place, misplaced, IsText}
 
 -- these characters begin with a letter, and each of them is one
 pub record AreLetters (cs : List ℕ) : Type 0 where

@@ -6,7 +6,6 @@ use Rattle.std.proofs.lemmas.Bool.Decides.{nat_tests}
 use Rattle.wiki_base.specs.declared.numbers.WordId.{WordId}
 use Rattle.lexicon.specs.declared.kinds.Forms.{Forms}
 use Rattle.lexicon.specs.declared.words.Word.{Word}
-use Rattle.lexicon.specs.declared.words.LexFault.{LexFault}
 use Rattle.lexicon.specs.declared.words.LexFault.TheVariants.{Taken, Reserved, Full}
 use Rattle.lexicon.specs.Words.{Listed, has_form, owner, forms_of, first_taken, first_reserved, fullness, forms_refusal, add_refusal}
 use Rattle.lexicon.specs.Terminals.{is_reserved}

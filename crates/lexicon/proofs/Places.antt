@@ -9,7 +9,7 @@ use Rattle.std.proofs.lemmas.Bool.Decides.{nat_tests}
 use Rattle.std.proofs.lemmas.List.Recursion.{found_at, found_nowhere}
 use Rattle.wiki_base.specs.declared.numbers.WordId.{WordId}
 use Rattle.lexicon.specs.declared.words.Word.{Word}
-use Rattle.lexicon.specs.Words.{has_number, forms_of, IsPlaceOf}
+use Rattle.lexicon.specs.Words.{forms_of, IsPlaceOf}
 
 -- a test that no element passes finds none
 pub find_none : {X : Type 0} (p : X → Bool) (xs : List X) → ((k : ℕ) (d : X) → k < length xs → p (get_or xs k d) ≡ false) → find p xs ≡ None

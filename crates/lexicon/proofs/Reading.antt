@@ -1,6 +1,5 @@
 -- The readings of a token: those of the one word that has it as a form.
-use Rattle.std.proofs.Common.{◌≡◌, ℕ, zero, suc, ◌+◌, ◌<◌, ◌≤◌, eqb, Bool, true, false, cond, ◌||◌, List, [], ◌∷◌, ◌++◌, length, get_or, take, drop, Option, Some, None, AllPairs, IsSome, find, option_map, is_some, refl, sym, ap, subst, ◌∙◌, arith, drop-cons, add-one, append_assoc, append-nil}
-use Rattle.std.specs.List.{list_any, flat_map}
+use Rattle.std.proofs.Common.{◌≡◌, ℕ, zero, suc, ◌+◌, ◌<◌, ◌≤◌, Bool, true, false, cond, ◌||◌, List, [], ◌∷◌, ◌++◌, length, get_or, drop, Some, None, AllPairs, find, option_map, is_some, refl, sym, ap, ◌∙◌, arith, drop-cons, add-one, append_assoc, append-nil}
 use Rattle.std.specs.Str.{bytes_eq}
 use Rattle.std.proofs.lemmas.Bool.{false≢true}
 use Rattle.std.proofs.lemmas.Bool.Decides.{nat_tests}
@@ -12,7 +11,6 @@ use Rattle.lexicon.specs.declared.words.Word.{Word}
 use Rattle.lexicon.specs.Kinds.{form_count}
 use Rattle.lexicon.specs.Words.{is_among, has_form, has_number, owner, forms_of, SharesNoForm, IsPlaceOf}
 use Rattle.lexicon.specs.Readings.{reading, readings_from, readings_of_word, readings_of}
-use Rattle.lexicon.proofs.Adding.{no_word_has}
 use Rattle.lexicon.proofs.Others.{pairs_tail, pairs_head}
 use Rattle.lexicon.proofs.Owners.{owner_lives}
 use Rattle.lexicon.proofs.Places.{find_none}

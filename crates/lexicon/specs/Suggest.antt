@@ -3,7 +3,7 @@ use Rattle.std.specs.Prelude.{◌≡◌, ℕ, ◌-◌, ◌==◌, nat_eq, nat_lt,
 use Rattle.std.specs.Option.{option_or, option_map_or}
 use Rattle.std.specs.List.{ends_with, list_any}
 use Rattle.lexicon.specs.declared.kinds.Kind.{Kind}
-use Rattle.lexicon.specs.declared.kinds.Kind.TheVariants.{Name, Noun, Of, Verb, Adjective}
+use Rattle.lexicon.specs.declared.kinds.Kind.TheVariants.{Noun, Verb}
 use Rattle.lexicon.specs.declared.suggest.FormFault.{FormFault}
 use Rattle.lexicon.specs.declared.suggest.FormFault.TheVariants.{Count, TooLong, Memory}
 use Rattle.lexicon.specs.Kinds.{form_count}

@@ -1,4 +1,4 @@
-use Rattle.std.proofs.Common.{◌≡◌, [], ◌∷◌, sym, subst}
+use Rattle.std.proofs.Common.{[], ◌∷◌, sym, subst}
 use Rattle.wiki_base.specs.Text.{IsText}
 use Rattle.lexicon.proofs.Letters.{letters-d, letters-ied, letters-ed, text-with_letters, text-past_y}
 use Rattle.lexicon.proofs.endings.with_d.Goals as goal

@@ -1,4 +1,4 @@
-use Rattle.std.proofs.Common.{◌≡◌, [], ◌∷◌, sym, subst}
+use Rattle.std.proofs.Common.{[], ◌∷◌, sym, subst}
 use Rattle.wiki_base.specs.Text.{IsText}
 use Rattle.lexicon.proofs.Letters.{letters-es, letters-ies, letters-s, text-with_letters, text-past_y}
 use Rattle.lexicon.proofs.endings.with_s.Goals as goal

@@ -1,4 +1,4 @@
-use Rattle.std.proofs.Common.{◌≡◌, ℕ, suc, ◌+◌, ◌<◌, List, ◌∷◌, length, cond, None, drop, get_or, sym, ap, subst, ◌∙◌, arith, drop-cons, add-one}
+use Rattle.std.proofs.Common.{◌≡◌, suc, ◌+◌, ◌<◌, ◌∷◌, length, cond, None, drop, get_or, sym, ap, subst, ◌∙◌, arith, drop-cons, add-one}
 use Rattle.std.specs.HashMap.{get_by_text}
 use Rattle.lexicon.specs.Words.{is_among}
 use Rattle.lexicon.proofs.Keys.{forget_first}

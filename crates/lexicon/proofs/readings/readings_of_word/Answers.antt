@@ -1,6 +1,5 @@
-use Rattle.std.proofs.Common.{◌≡◌, ℕ, ◌+◌, [], ◌∷◌, ◌++◌, List, cond, length, drop, sym, ap, ◌∙◌, arith, length-append, true, false}
+use Rattle.std.proofs.Common.{◌≡◌, ℕ, ◌+◌, [], ◌∷◌, ◌++◌, List, cond, length, drop, sym, ap, ◌∙◌, arith, length-append}
 use Rattle.std.specs.Str.{bytes_eq}
-use Rattle.codeco_terms.specs.declared.categories.Ground.{Ground}
 use Rattle.lexicon.specs.Readings.{reading, readings_from, readings_of_word}
 use Rattle.lexicon.proofs.Reading.{form_count_le, readings_from-drop, reading_taken}
 use Rattle.lexicon.proofs.readings.readings_of_word.Goals as goal

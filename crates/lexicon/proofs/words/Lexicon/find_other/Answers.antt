@@ -1,5 +1,4 @@
-use Rattle.std.proofs.Common.{◌≡◌, Some, None, sym, ap, ◌∙◌, true, false, cond, arith}
-use Rattle.lexicon.specs.Words.{owner}
+use Rattle.std.proofs.Common.{Some, None, sym, ap, ◌∙◌, cond}
 use Rattle.lexicon.proofs.Others.{owner-others, other_than}
 use Rattle.lexicon.proofs.words.Lexicon.find_other.Goals as goal
 

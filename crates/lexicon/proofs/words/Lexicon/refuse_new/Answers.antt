@@ -1,4 +1,4 @@
-use Rattle.std.proofs.Common.{◌≡◌, List, None, OnOk, IfErr, sym, subst}
+use Rattle.std.proofs.Common.{◌≡◌, List, None, OnOk, IfErr, subst}
 use Rattle.lexicon.specs.declared.words.Word.{Word}
 use Rattle.lexicon.specs.Words.{Listed, others, forms_refusal, IsRefusal}
 use Rattle.lexicon.proofs.Others.{others_than_none}

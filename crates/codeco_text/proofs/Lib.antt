@@ -1,1 +1,3 @@
 pub mod Growth
+pub mod Trees
+pub mod Fronts

@@ -1,5 +1,5 @@
 // What a reading has of the declarations and rules, symbol by symbol.
-ghost use Rattle.std.specs.Prelude.{◌≡◌, OnOk};
+ghost use Rattle.std.specs.Prelude.{◌≡◌, [], OnOk};
 ghost use Rattle.codeco_text.specs.Building.{
     with_identifier, with_variable, with_keyword, with_label, with_kind, with_terminal, with_sign,
     settled_builder, closed_builder, ready, grow, Takes,
@@ -56,4 +56,32 @@ pub struct Builder {
     pub declaration: OpenDeclaration,
     pub category: OpenCategory,
     pub rule: OpenRule,
+}
+
+impl OpenCategory {
+    ghost use Rattle.codeco_text.specs.Building.{named_category, with_feat};
+
+    /// Begins with a name.
+    fn start(&mut self, alloc: Global, name: Symbol)
+        ensures { self.new ≡ named_category self.old name }
+    {
+        self.name = name;
+        self.feats = WrittenFeats::new(alloc);
+    }
+
+    /// Adds the feature that was read.
+    fn add_feat(&mut self, alloc: Global) -> Result<(), Memory>
+        ensures { OnOk result (self.new ≡ with_feat self.old) }
+    {
+        let name = mem::replace(&mut self.feature, empty(alloc));
+        let term = mem::replace(&mut self.term, WrittenTerm::Atom(empty(alloc)));
+        self.feats.push(WrittenFeat { name, term })
+    }
+}
+
+/// A name of no bytes.
+fn empty(alloc: Global) -> Symbol
+    ensures { result ≡ [] }
+{
+    Symbol::from_vec(Vec::new(alloc))
 }

@@ -3,8 +3,10 @@
 
 mod builder;
 mod bytes;
+mod moves;
 mod stand;
 mod symbols;
+mod words;
 mod written;
 
 pub use bytes::{is_lower, is_space, is_terminal_byte, is_upper, is_word_byte};

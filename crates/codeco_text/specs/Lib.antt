@@ -3,3 +3,4 @@ pub mod Notation
 pub mod Reading
 pub mod Building
 pub mod Scanning
+pub mod Scanner

@@ -1,3 +1,6 @@
 pub mod Growth
 pub mod Trees
 pub mod Fronts
+pub mod Slices
+pub mod Steps
+pub mod Gaps

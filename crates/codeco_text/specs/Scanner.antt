@@ -35,6 +35,19 @@ StartsWithin at mode.Tildes = Unit {0}
 StartsWithin at mode.Slash = Unit {0}
 StartsWithin at mode.Greater = Unit {0}
 
+-- in a sign of several bytes other than >>
+abbrev pub IsSignMode : Mode → Type 0
+IsSignMode mode.Between = ⊥
+IsSignMode mode.Comment = ⊥
+IsSignMode (mode.Word start) = ⊥
+IsSignMode (mode.Terminal start) = ⊥
+IsSignMode mode.Dash = Unit {0}
+IsSignMode mode.Dashes = Unit {0}
+IsSignMode mode.Tilde = Unit {0}
+IsSignMode mode.Tildes = Unit {0}
+IsSignMode mode.Slash = Unit {0}
+IsSignMode mode.Greater = ⊥
+
 -- whether a call went on as a step does, unless memory ran out
 abbrev pub Steps : Option (Builder × scanning.Mode) → List ℕ → ℕ → Result (Option Mode) Memory → Builder → Type 0
 Steps o text next (Ok (Some m)) new = (o ≡ Some (new, seen text next m)) × StartsWithin next m

@@ -102,12 +102,16 @@ finish b tildes = None
 finish b slash = None
 finish b greater = grow b (lexeme.Sign sign.Weak)
 
+-- behind a terminal of these bytes
+abbrev pub if_terminal : Builder → List ℕ → Option (Builder × Mode)
+if_terminal b t = if is_terminal t then behind (grow b (lexeme.Terminal t)) else None
+
 -- one byte
 abbrev pub step : Builder → Mode → ℕ → Option (Builder × Mode)
 step b between x = begin b x
 step b comment x = Some (b, if x == 10 then between else comment)
 step b (word w) x = if is_word_byte x then guard (may_go_on (wants b.stand) (push w x)) (b, word (push w x)) else (finish b (word w) >>= λ c. begin c x)
-step b (terminal t) x = if x == 93 then (if is_terminal t then behind (grow b (lexeme.Terminal t)) else None) else guard (is_terminal_byte x) (b, terminal (push t x))
+step b (terminal t) x = if x == 93 then if_terminal b t else guard (is_terminal_byte x) (b, terminal (push t x))
 step b dash x = guard (x == 45) (b, dashes)
 step b dashes x = if x == 62 then behind (grow b (lexeme.Sign sign.Normal)) else None
 step b tilde x = guard (x == 126) (b, tildes)

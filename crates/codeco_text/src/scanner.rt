@@ -6,9 +6,9 @@ ghost use Rattle.codeco_text.specs.Notation.{labels, kinds};
 ghost use Rattle.codeco_text.specs.Reading.{as_word, identifier};
 ghost use Rattle.codeco_text.specs.Building.{Takes, grow};
 ghost use Rattle.codeco_text.specs.Scanning.{
-    single, begin, begin_sign, begin_dash, begin_single, behind, finish, step, reading, fresh, between, word, guard,
+    single, begin, begin_sign, begin_dash, begin_single, behind, finish, step, reading, fresh, is_between_items, ended, ok_or_place, between, word, terminal, greater, guard,
 };
-ghost use Rattle.codeco_text.specs.Scanner.{seen, StartsWithin, Steps, Reads};
+ghost use Rattle.codeco_text.specs.Scanner.{seen, StartsWithin, IsSignMode, Steps, Reads};
 
 use std::alloc::{AllocError, Global};
 
@@ -155,5 +155,260 @@ fn single(byte: u8) -> Option<Sign>
         b'+' => Some(Sign::Plus),
         b'?' => Some(Sign::Question),
         _ => None,
+    }
+}
+
+/// A `-` outside symbols: the sign before a negative pattern, or the first byte of an arrow.
+fn begin_dash(builder: &mut Builder, alloc: Global) -> Result<Option<Mode>, Memory>
+    ensures { (text : List ℕ) (next : ℕ) → Steps (begin_dash builder.old) text next result builder.new }
+{
+    if takes_sign(builder.stand, Sign::Minus) {
+        take_whole(builder, alloc, Lexeme::Sign(Sign::Minus))
+    } else {
+        Ok(if_it(takes_sign(builder.stand, Sign::Normal), Mode::Dash))
+    }
+}
+
+/// A byte of no other kind outside symbols: a sign by itself.
+fn begin_single(builder: &mut Builder, alloc: Global, byte: u8) -> Result<Option<Mode>, Memory>
+    ensures { (text : List ℕ) (next : ℕ) → Steps (begin_single builder.old byte) text next result builder.new }
+{
+    match single(byte) {
+        None => Ok(None),
+        Some(sign) => take_whole(builder, alloc, Lexeme::Sign(sign)),
+    }
+}
+
+/// The first byte of a sign or a terminal, which stands before the place `next`.
+fn begin_sign(
+    builder: &mut Builder,
+    alloc: Global,
+    byte: u8,
+    next: usize,
+) -> Result<Option<Mode>, Memory>
+    ensures { (text : List ℕ) → Steps (begin_sign builder.old byte) text next result builder.new }
+{
+    match byte {
+        b'[' => Ok(if_it(takes_terminal(builder.stand), Mode::Terminal(next))),
+        b'-' => begin_dash(builder, alloc),
+        b'~' => Ok(if_it(takes_sign(builder.stand, Sign::Closing), Mode::Tilde)),
+        b'/' => Ok(if_it(takes_sign(builder.stand, Sign::Scope), Mode::Slash)),
+        b'>' => Ok(if_it(takes_sign(builder.stand, Sign::Weak), Mode::Greater)),
+        _ => begin_single(builder, alloc, byte),
+    }
+}
+
+/// A byte outside symbols.
+#[tactic(auto, using(crate::proofs::Slices::slice_one))]
+fn begin(
+    builder: &mut Builder,
+    alloc: Global,
+    text: &[u8],
+    at: usize,
+) -> Result<Option<Mode>, Memory>
+    requires { at < length text.now }
+    ensures { Steps (begin builder.old (slice_index text.now at)) text.now (at + 1) result builder.new }
+{
+    let byte = text[at];
+    if is_space(byte) {
+        return Ok(Some(Mode::Between));
+    }
+    if byte == b'%' {
+        return Ok(Some(Mode::Comment));
+    }
+    if may_begin(wants(builder.stand), byte) {
+        return Ok(Some(Mode::Word(at)));
+    }
+    begin_sign(builder, alloc, byte, at + 1)
+}
+
+/// Takes a word that is whole, where it may stand.
+fn finish_word(builder: &mut Builder, alloc: Global, bytes: &[u8]) -> Result<bool, Memory>
+    ensures { Takes (finish builder.old (word bytes.now)) result builder.new }
+{
+    match as_word(alloc, wants(builder.stand), bytes)? {
+        None => Ok(false),
+        Some(lexeme) => builder.take(alloc, lexeme),
+    }
+}
+
+/// The next byte of a word, or the byte behind it.
+#[tactic(auto, using(crate::proofs::Slices::slice_more))]
+fn step_word(
+    builder: &mut Builder,
+    alloc: Global,
+    text: &[u8],
+    start: usize,
+    at: usize,
+) -> Result<Option<Mode>, Memory>
+    requires within { at < length text.now }
+    requires started { start ≤ at }
+    ensures { Steps (step builder.old (word (slice_range text.now start at)) (slice_index text.now at)) text.now (at + 1) result builder.new }
+{
+    if is_word_byte(text[at]) {
+        let goes_on = may_go_on(wants(builder.stand), &text[start..at + 1]);
+        return Ok(if_it(goes_on, Mode::Word(start)));
+    }
+    if finish_word(builder, alloc, &text[start..at])? {
+        begin(builder, alloc, text, at)
+    } else {
+        Ok(None)
+    }
+}
+
+/// Takes a terminal of these bytes, where it is one and may stand.
+fn end_terminal(
+    builder: &mut Builder,
+    alloc: Global,
+    bytes: &[u8],
+) -> Result<Option<Mode>, Memory>
+    ensures { (text : List ℕ) (next : ℕ) → Steps (step builder.old (terminal bytes.now) 93) text next result builder.new }
+{
+    if is_terminal(bytes) {
+        take_whole(builder, alloc, Lexeme::Terminal(Symbol::read(alloc, bytes)?))
+    } else {
+        Ok(None)
+    }
+}
+
+/// The next byte of a terminal, or its closing bracket.
+#[tactic(auto, using(crate::proofs::Slices::slice_more))]
+fn step_terminal(
+    builder: &mut Builder,
+    alloc: Global,
+    text: &[u8],
+    start: usize,
+    at: usize,
+) -> Result<Option<Mode>, Memory>
+    requires within { at < length text.now }
+    requires started { start ≤ at }
+    ensures { Steps (step builder.old (terminal (slice_range text.now start at)) (slice_index text.now at)) text.now (at + 1) result builder.new }
+{
+    if text[at] == b']' {
+        return end_terminal(builder, alloc, &text[start..at]);
+    }
+    let goes_on = is_terminal_byte(text[at]);
+    Ok(if_it(goes_on, Mode::Terminal(start)))
+}
+
+/// The byte behind `>`.
+fn step_greater(
+    builder: &mut Builder,
+    alloc: Global,
+    text: &[u8],
+    at: usize,
+) -> Result<Option<Mode>, Memory>
+    requires { at < length text.now }
+    ensures { Steps (step builder.old greater (slice_index text.now at)) text.now (at + 1) result builder.new }
+{
+    if text[at] == b'>' {
+        return take_whole(builder, alloc, Lexeme::Sign(Sign::Strong));
+    }
+    if builder.take(alloc, Lexeme::Sign(Sign::Weak))? {
+        begin(builder, alloc, text, at)
+    } else {
+        Ok(None)
+    }
+}
+
+/// The byte behind the first of an arrow or of a sign with `/`.
+fn step_sign(
+    builder: &mut Builder,
+    alloc: Global,
+    mode: Mode,
+    byte: u8,
+) -> Result<Option<Mode>, Memory>
+    ensures { (text : List ℕ) (at next : ℕ) → IsSignMode mode → Steps (step builder.old (seen text at mode) byte) text next result builder.new }
+{
+    match mode {
+        Mode::Dash => Ok(if_it(byte == b'-', Mode::Dashes)),
+        Mode::Dashes => {
+            if byte == b'>' {
+                take_whole(builder, alloc, Lexeme::Sign(Sign::Normal))
+            } else {
+                Ok(None)
+            }
+        }
+        Mode::Tilde => Ok(if_it(byte == b'~', Mode::Tildes)),
+        Mode::Tildes => {
+            if byte == b'>' {
+                take_whole(builder, alloc, Lexeme::Sign(Sign::Closing))
+            } else {
+                Ok(None)
+            }
+        }
+        Mode::Slash => match byte {
+            b'/' => take_whole(builder, alloc, Lexeme::Sign(Sign::Scope)),
+            b'<' => take_whole(builder, alloc, Lexeme::Sign(Sign::NoBack)),
+            _ => Ok(None),
+        },
+        _ => Ok(None),
+    }
+}
+
+/// The byte at a place of the text.
+fn step(
+    builder: &mut Builder,
+    alloc: Global,
+    mode: Mode,
+    text: &[u8],
+    at: usize,
+) -> Result<Option<Mode>, Memory>
+    requires within { at < length text.now }
+    requires started { StartsWithin at mode }
+    ensures { Steps (step builder.old (seen text.now at mode) (slice_index text.now at)) text.now (at + 1) result builder.new }
+{
+    match mode {
+        Mode::Between => begin(builder, alloc, text, at),
+        Mode::Comment => {
+            let ends = text[at] == b'\n';
+            Ok(Some(if ends { Mode::Between } else { Mode::Comment }))
+        }
+        Mode::Word(start) => step_word(builder, alloc, text, start, at),
+        Mode::Terminal(start) => step_terminal(builder, alloc, text, start, at),
+        Mode::Greater => step_greater(builder, alloc, text, at),
+        _ => step_sign(builder, alloc, mode, text[at]),
+    }
+}
+
+/// Takes the word or the `>` that the text ends with.
+fn finish(
+    builder: &mut Builder,
+    alloc: Global,
+    mode: Mode,
+    text: &[u8],
+) -> Result<bool, Memory>
+    requires { StartsWithin (length text.now) mode }
+    ensures { Takes (finish builder.old (seen text.now (length text.now) mode)) result builder.new }
+{
+    match mode {
+        Mode::Between => Ok(true),
+        Mode::Comment => Ok(true),
+        Mode::Word(start) => finish_word(builder, alloc, &text[start..]),
+        Mode::Greater => builder.take(alloc, Lexeme::Sign(Sign::Weak)),
+        _ => Ok(false),
+    }
+}
+
+fn is_between_items(stand: Stand) -> bool
+    ensures { result ≡ is_between_items stand }
+{
+    matches!(stand, Stand::Items)
+}
+
+/// The items at the end of a text.
+fn ended(
+    mut builder: Builder,
+    alloc: Global,
+    mode: Mode,
+    text: &[u8],
+) -> Result<WrittenItems, SyntaxFault>
+    requires { StartsWithin (length text.now) mode }
+    ensures { Reads result (ok_or_place (ended builder (seen text.now (length text.now) mode)) (length text.now)) }
+{
+    if finish(&mut builder, alloc, mode, text)? && is_between_items(builder.stand) {
+        Ok(builder.items)
+    } else {
+        Err(SyntaxFault::At(text.len()))
     }
 }

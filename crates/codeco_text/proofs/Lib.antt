@@ -4,3 +4,4 @@ pub mod Fronts
 pub mod Slices
 pub mod Steps
 pub mod Gaps
+pub mod Soundness

@@ -412,3 +412,18 @@ fn ended(
         Err(SyntaxFault::At(text.len()))
     }
 }
+
+/// The items that the text spells.
+fn scan(alloc: Global, text: &[u8]) -> Result<WrittenItems, SyntaxFault>
+    ensures { Reads result (reading fresh between text.now 0) }
+{
+    let mut builder = Builder::new(alloc);
+    let mut mode = Mode::Between;
+    for at in 0..text.len() {
+        match step(&mut builder, alloc, mode, text, at)? {
+            None => return Err(SyntaxFault::At(at)),
+            Some(next) => mode = next,
+        }
+    }
+    ended(builder, alloc, mode, text)
+}

@@ -5,3 +5,4 @@ pub mod Slices
 pub mod Steps
 pub mod Gaps
 pub mod Soundness
+pub mod Spelled

@@ -2,7 +2,7 @@
 use Rattle.std.proofs.Common.{◌≡◌, ℕ, Bool, true, false, cond, not, eqb, ◌&&◌, ◌||◌, ◌⊎◌, List, [], ◌∷◌, ◌++◌, Option, Some, None, refl, sym, ap, subst, ◌∙◌, append_assoc, arith, inl, inr}
 use Rattle.std.specs.Prelude.{is_some, codes}
 use Rattle.std.proofs.lemmas.List.{append-nil}
-use Rattle.std.proofs.lemmas.Bool.{eqb-true, cases_Bool, both_ways, and_parts}
+use Rattle.std.proofs.lemmas.Bool.{eqb-true, eq-eqb, cases_Bool, both_ways, and_parts}
 use Rattle.codeco_text.specs.declared.symbols.Sign.{Sign}
 use Rattle.codeco_text.specs.declared.symbols.Sign.TheVariants as sign
 use Rattle.codeco_text.specs.declared.symbols.Lexeme.{Lexeme}
@@ -238,3 +238,117 @@ begin_spelled d c b rest s e h = elim (chosen (is_space b) (Some (d, between)) _
   | inr q ↦ elim (chosen (may_begin (wants d.stand) b) (Some (d, word (b ∷ []))) (begin_sign d b) (Some s) q.1) [
     inl r ↦ begins_by d c (word (b ∷ [])) b rest (λ xs f. f) (spelled_at s (d, word (b ∷ [])) rest c (some_is (d, word (b ∷ [])) s r.1) h).spelled
   | inr r ↦ sign_spelled d c b rest s r.1 h ] ] ]
+
+-- one byte in a symbol
+
+comment_from : (t : Bool) (rest : List ℕ) (xs : List Lexeme) → From (cond t between comment) rest xs → SpellsFrom (not t) rest xs
+comment_from true rest xs h = h
+comment_from false rest xs h = h
+
+word_spelled : (b c : Builder) (w : List ℕ) (x : ℕ) (rest : List ℕ) (s : Builder × Mode) → step b (word w) x ≡ Some s → Behind s rest c → Spelled b (word w) (x ∷ rest) c
+word_spelled b c w x rest s e h = elim (chosen (is_word_byte x) (guard (may_go_on (wants b.stand) (push w x)) (b, word (push w x))) (finish b (word w) >>= λ d. begin d x) (Some s) e) [
+    inl p ↦
+      let g = guard_some (may_go_on (wants b.stand) (push w x)) (b, word (push w x)) s p.1 in
+      same_builder b c (word w) (word (push w x)) (x ∷ rest) rest (λ xs f. continues_more w x rest xs f) (spelled_at s (b, word (push w x)) rest c g.1 h).spelled
+  | inr p ↦
+      let f = bind_some (finish b (word w)) (λ d. begin d x) s p.1 in
+      let y = bind_some (as_word (wants b.stand) w) (λ y. grow b y) f.0 f.1 in
+      let is = word_some (wants b.stand) w y.0 y.1 in
+      new_symbol b f.0 c y.0 (word w) between (x ∷ rest) (x ∷ rest) y.2
+        (λ xs k. continues_before w (x ∷ rest) y.0 xs is.0 is.1 (word_stops y.0 x rest (word_is (wants b.stand) w y.0 y.1) p.0) k)
+        (begin_spelled f.0 c x rest s f.2 h) ]
+
+terminal_spelled : (b c : Builder) (t : List ℕ) (x : ℕ) (rest : List ℕ) (s : Builder × Mode) → step b (terminal t) x ≡ Some s → Behind s rest c → Spelled b (terminal t) (x ∷ rest) c
+terminal_spelled b c t x rest s e h = elim (chosen (eqb x 93) (if_terminal b t) (guard (is_terminal_byte x) (b, terminal (push t x))) (Some s) e) [
+    inl p ↦ elim (chosen (is_terminal t) (behind (grow b (lexeme.Terminal t))) None (Some s) p.1) [
+      inl q ↦
+        let g = behind_some (grow b (lexeme.Terminal t)) s q.1 in
+        subst (λ (n : ℕ). Spelled b (terminal t) (n ∷ rest) c) (sym (eqb-true x 93 p.0))
+          (new_symbol b g.0 c (lexeme.Terminal t) (terminal t) between (93 ∷ rest) rest g.1 (λ xs k. continues_whole (91 ∷ t) 93 rest (lexeme.Terminal t) xs refl q.0 refl k) (spelled_at s (g.0, between) rest c g.2 h).spelled)
+    | inr q ↦ absurd (let f = q.1 in cc) ]
+  | inr p ↦
+      let g = guard_some (is_terminal_byte x) (b, terminal (push t x)) s p.1 in
+      same_builder b c (terminal t) (terminal (push t x)) (x ∷ rest) rest (λ xs f. continues_more (91 ∷ t) x rest xs f) (spelled_at s (b, terminal (push t x)) rest c g.1 h).spelled ]
+
+-- a further byte of a sign
+further : (b c : Builder) (m k : Mode) (n x : ℕ) (rest : List ℕ) (s : Builder × Mode) → ((xs : List Lexeme) → From k rest xs → From m (n ∷ rest) xs) → guard (eqb x n) (b, k) ≡ Some s → Behind s rest c → Spelled b m (x ∷ rest) c
+further b c m k n x rest s f e h =
+    let g = guard_some (eqb x n) (b, k) s e in
+    subst (λ (v : ℕ). Spelled b m (v ∷ rest) c) (sym (eqb-true x n g.0)) (same_builder b c m k (n ∷ rest) rest f (spelled_at s (b, k) rest c g.1 h).spelled)
+
+-- the last byte of a sign
+last : (b c : Builder) (m : Mode) (y : Sign) (n x : ℕ) (rest : List ℕ) (s : Builder × Mode) → eqb x n ≡ true → ((xs : List Lexeme) → SpellsFrom false rest xs → From m (n ∷ rest) (lexeme.Sign y ∷ xs)) → behind (grow b (lexeme.Sign y)) ≡ Some s → Behind s rest c → Spelled b m (x ∷ rest) c
+last b c m y n x rest s t f e h =
+    let g = behind_some (grow b (lexeme.Sign y)) s e in
+    subst (λ (v : ℕ). Spelled b m (v ∷ rest) c) (sym (eqb-true x n t)) (new_symbol b g.0 c (lexeme.Sign y) m between (n ∷ rest) rest g.1 f (spelled_at s (g.0, between) rest c g.2 h).spelled)
+
+last_only : (b c : Builder) (m : Mode) (y : Sign) (n x : ℕ) (rest : List ℕ) (s : Builder × Mode) → ((xs : List Lexeme) → SpellsFrom false rest xs → From m (n ∷ rest) (lexeme.Sign y ∷ xs)) → cond (eqb x n) (behind (grow b (lexeme.Sign y))) None ≡ Some s → Behind s rest c → Spelled b m (x ∷ rest) c
+last_only b c m y n x rest s f e h = elim (chosen (eqb x n) (behind (grow b (lexeme.Sign y))) None (Some s) e) [
+    inl p ↦ last b c m y n x rest s p.0 f p.1 h
+  | inr p ↦ absurd (let q = p.1 in cc) ]
+
+slash_spelled : (b c : Builder) (x : ℕ) (rest : List ℕ) (s : Builder × Mode) → step b slash x ≡ Some s → Behind s rest c → Spelled b slash (x ∷ rest) c
+slash_spelled b c x rest s e h = elim (chosen (eqb x 47) (behind (grow b (lexeme.Sign sign.Scope))) (cond (eqb x 60) (behind (grow b (lexeme.Sign sign.NoBack))) None) (Some s) e) [
+    inl p ↦ last b c slash sign.Scope 47 x rest s p.0 (λ xs k. continues_whole (47 ∷ []) 47 rest (lexeme.Sign sign.Scope) xs refl refl refl k) p.1 h
+  | inr p ↦ last_only b c slash sign.NoBack 60 x rest s (λ xs k. continues_whole (47 ∷ []) 60 rest (lexeme.Sign sign.NoBack) xs refl refl refl k) p.1 h ]
+
+other_way : (a b : ℕ) → eqb a b ≡ false → eqb b a ≡ false
+other_way a b h = elim (cases_Bool (eqb b a)) [
+    inl e ↦ absurd (both_ways (eqb a b) h (subst (λ (n : ℕ). eqb a n ≡ true) (sym (eqb-true b a e)) (same_number a)))
+  | inr e ↦ e ] where
+  same_number : (n : ℕ) → eqb n n ≡ true
+  same_number n = eq-eqb n n refl
+
+greater_spelled : (b c : Builder) (x : ℕ) (rest : List ℕ) (s : Builder × Mode) → step b greater x ≡ Some s → Behind s rest c → Spelled b greater (x ∷ rest) c
+greater_spelled b c x rest s e h = elim (chosen (eqb x 62) (behind (grow b (lexeme.Sign sign.Strong))) (finish b greater >>= λ d. begin d x) (Some s) e) [
+    inl p ↦ last b c greater sign.Strong 62 x rest s p.0 (λ xs k. continues_whole (62 ∷ []) 62 rest (lexeme.Sign sign.Strong) xs refl refl refl k) p.1 h
+  | inr p ↦
+      let f = bind_some (finish b greater) (λ d. begin d x) s p.1 in
+      let apart : has_front (codes ">") (x ∷ rest) ≡ false = rw (other_way x 62 p.0) refl in
+      new_symbol b f.0 c (lexeme.Sign sign.Weak) greater between (x ∷ rest) (x ∷ rest) f.1
+        (λ xs k. continues_before (62 ∷ []) (x ∷ rest) (lexeme.Sign sign.Weak) xs refl refl apart k)
+        (begin_spelled f.0 c x rest s f.2 h) ]
+
+step_spelled : (b c : Builder) (m : Mode) (x : ℕ) (rest : List ℕ) (s : Builder × Mode) → step b m x ≡ Some s → Behind s rest c → Spelled b m (x ∷ rest) c
+step_spelled b c between x rest s e h = begin_spelled b c x rest s e h
+step_spelled b c comment x rest s e h =
+    same_builder b c comment (cond (eqb x 10) between comment) (x ∷ rest) rest (λ xs f. spells_in_comment x rest xs (comment_from (eqb x 10) rest xs f))
+      (spelled_at s (b, cond (eqb x 10) between comment) rest c (some_is (b, cond (eqb x 10) between comment) s e) h).spelled
+step_spelled b c (word w) x rest s e h = word_spelled b c w x rest s e h
+step_spelled b c (terminal t) x rest s e h = terminal_spelled b c t x rest s e h
+step_spelled b c dash x rest s e h = further b c dash dashes 45 x rest s (λ xs f. continues_more (45 ∷ []) 45 rest xs f) e h
+step_spelled b c dashes x rest s e h = last_only b c dashes sign.Normal 62 x rest s (λ xs k. continues_whole (45 ∷ 45 ∷ []) 62 rest (lexeme.Sign sign.Normal) xs refl refl refl k) e h
+step_spelled b c tilde x rest s e h = further b c tilde tildes 126 x rest s (λ xs f. continues_more (126 ∷ []) 126 rest xs f) e h
+step_spelled b c tildes x rest s e h = last_only b c tildes sign.Closing 62 x rest s (λ xs k. continues_whole (126 ∷ 126 ∷ []) 62 rest (lexeme.Sign sign.Closing) xs refl refl refl k) e h
+step_spelled b c slash x rest s e h = slash_spelled b c x rest s e h
+step_spelled b c greater x rest s e h = greater_spelled b c x rest s e h
+
+-- at the end of the text
+
+nothing_left : (b c : Builder) (m : Mode) → From m [] [] → b ≡ c → Spelled b m [] c
+nothing_left b c m f e = subst (λ (t : Builder). Spelled b m [] t) e (record { symbols = []; spells = f; grows = sym (append-nil (so_far b)); leads = refl })
+
+word_ends : (b c : Builder) (w : List ℕ) → finish b (word w) ≡ Some c → Spelled b (word w) [] c
+word_ends b c w e =
+    let y = bind_some (as_word (wants b.stand) w) (λ y. grow b y) c e in
+    let is = word_some (wants b.stand) w y.0 y.1 in
+    new_symbol b c c y.0 (word w) between [] [] y.2 (λ xs k. continues_before w [] y.0 xs is.0 is.1 (ends_all y.0) k) (nothing_left c c between refl refl)
+
+ends_spelled : (b c : Builder) (m : Mode) → finish b m ≡ Some c → Spelled b m [] c
+ends_spelled b c between e = nothing_left b c between refl (some_is b c e)
+ends_spelled b c comment e = nothing_left b c comment refl (some_is b c e)
+ends_spelled b c (word w) e = word_ends b c w e
+ends_spelled b c (terminal t) e = absurd cc
+ends_spelled b c dash e = absurd cc
+ends_spelled b c dashes e = absurd cc
+ends_spelled b c tilde e = absurd cc
+ends_spelled b c tildes e = absurd cc
+ends_spelled b c slash e = absurd cc
+ends_spelled b c greater e = new_symbol b c c (lexeme.Sign sign.Weak) greater between [] [] e (λ xs k. continues_before (62 ∷ []) [] (lexeme.Sign sign.Weak) xs refl refl refl k) (nothing_left c c between refl refl)
+
+-- what a reading takes up to the end is spelled by the text
+pub final_spelled : (text : List ℕ) (b c : Builder) (m : Mode) → final b m text ≡ Some c → Spelled b m text c
+final_spelled [] b c m e = ends_spelled b c m e
+final_spelled (x ∷ xs) b c m e =
+    let s = bind_some (step b m x) (λ s. final s.0 s.1 xs) c e in
+    step_spelled b c m x xs s.0 s.1 (record { ends = s.2; spelled = final_spelled xs s.0.0 c s.0.1 s.2 })

@@ -6,3 +6,4 @@ pub mod Steps
 pub mod Gaps
 pub mod Soundness
 pub mod Spelled
+pub mod Standing

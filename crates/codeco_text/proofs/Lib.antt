@@ -7,3 +7,5 @@ pub mod Gaps
 pub mod Soundness
 pub mod Spelled
 pub mod Standing
+pub mod Spelling
+pub mod Complete

@@ -9,3 +9,4 @@ pub mod Spelled
 pub mod Standing
 pub mod Spelling
 pub mod Complete
+pub mod Continuing

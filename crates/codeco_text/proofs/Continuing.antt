@@ -403,3 +403,186 @@ begin_fits b x s e = elim (chosen (is_space x) (Some (b, between)) _ (Some s) e)
   | inr y ↦
       let one = bind_some (single x) (λ z. behind (grow b (lexeme.Sign z))) s y.1 in
       behind_fits (grow b (lexeme.Sign one.0)) s one.2 ] ] ] ] ] ] ] ]
+
+word_goes_on : (b : Builder) (w : List ℕ) (x : ℕ) (s : Builder × Mode) → WordFits b w → is_word_byte x ≡ true → step b (word w) x ≡ Some s → guard (may_go_on (wants b.stand) (push w x)) (b, word (push w x)) ≡ Some s → FitsAt s
+word_goes_on b w x s fits letter e g =
+    let h = guard_some (may_go_on (wants b.stand) (push w x)) (b, word (push w x)) s g in
+    let next : WordFits b (push w x) = record {
+      reached = reach_push w x b b between (word w) fits.reached ∙ e ∙ ap Some (sym h.1);
+      first = fits.first; others = push fits.others x;
+      parts = ap (λ (v : List ℕ). push v x) fits.parts;
+      begins = fits.begins;
+      letters = list_all-append is_word_byte fits.others (x ∷ []) ∙ and_from (list_all is_word_byte fits.others) (is_word_byte x && true) fits.letters (and_from (is_word_byte x) true letter refl);
+      going = h.0 } in
+    subst FitsAt h.1 next
+
+terminal_goes_on : (b : Builder) (t : List ℕ) (x : ℕ) (s : Builder × Mode) → TerminalFits b t → step b (terminal t) x ≡ Some s → guard (is_terminal_byte x) (b, terminal (push t x)) ≡ Some s → FitsAt s
+terminal_goes_on b t x s fits e g =
+    let h = guard_some (is_terminal_byte x) (b, terminal (push t x)) s g in
+    let next : TerminalFits b (push t x) = record {
+      reached = reach_push (91 ∷ t) x b b between (terminal t) fits.reached ∙ e ∙ ap Some (sym h.1);
+      takes = fits.takes;
+      bytes = list_all-append is_terminal_byte t (x ∷ []) ∙ and_from (list_all is_terminal_byte t) (is_terminal_byte x && true) fits.bytes (and_from (is_terminal_byte x) true h.0 refl) } in
+    subst FitsAt h.1 next
+
+sign_goes_on_to : (b : Builder) (m k : Mode) (y : Sign) (n x : ℕ) (s : Builder × Mode) → SignFits b m y → front k ≡ push (front m) n → step b m x ≡ Some s → guard (eqb x n) (b, k) ≡ Some s → (SignFits b k y → Fits b k) → FitsAt s
+sign_goes_on_to b m k y n x s fits f e g to =
+    let h = guard_some (eqb x n) (b, k) s g in
+    let byte = eqb-true x n h.0 in
+    let reached : reach b between (front k) ≡ Some (b, k) = ap (reach b between) (f ∙ ap (push (front m)) (sym byte)) ∙ reach_push (front m) x b b between m fits.reached ∙ e ∙ ap Some (sym h.1) in
+    subst FitsAt h.1 (to (record { reached = reached; takes = fits.takes }))
+
+either_behind : (t : Bool) (o : Option Builder) (s : Builder × Mode) → cond t (behind o) None ≡ Some s → FitsAt s
+either_behind true o s e = behind_fits o s e
+either_behind false o s e = absurd cc
+
+comment_fits : (t : Bool) (b : Builder) → Fits b (cond t between comment)
+comment_fits true b = tt
+comment_fits false b = tt
+
+pub step_fits : (b : Builder) (m : Mode) (x : ℕ) (s : Builder × Mode) → Fits b m → step b m x ≡ Some s → FitsAt s
+step_fits b between x s fits e = begin_fits b x s e
+step_fits b comment x s fits e = subst FitsAt (some_same (b, cond (eqb x 10) between comment) s e) (comment_fits (eqb x 10) b)
+step_fits b (word w) x s fits e = elim (chosen (is_word_byte x) (guard (may_go_on (wants b.stand) (push w x)) (b, word (push w x))) (finish b (word w) >>= λ d. begin d x) (Some s) e) [
+    inl p ↦ word_goes_on b w x s fits p.0 e p.1
+  | inr p ↦ let f = bind_some (finish b (word w)) (λ d. begin d x) s p.1 in begin_fits f.0 x s f.2 ]
+step_fits b (terminal t) x s fits e = elim (chosen (eqb x 93) (if_terminal b t) (guard (is_terminal_byte x) (b, terminal (push t x))) (Some s) e) [
+    inl p ↦ either_behind (is_terminal t) (grow b (lexeme.Terminal t)) s p.1
+  | inr p ↦ terminal_goes_on b t x s fits e p.1 ]
+step_fits b dash x s fits e = sign_goes_on_to b dash dashes sign.Normal 45 x s fits refl e e (λ f. f)
+step_fits b dashes x s fits e = either_behind (eqb x 62) (grow b (lexeme.Sign sign.Normal)) s e
+step_fits b tilde x s fits e = sign_goes_on_to b tilde tildes sign.Closing 126 x s fits refl e e (λ f. f)
+step_fits b tildes x s fits e = either_behind (eqb x 62) (grow b (lexeme.Sign sign.Closing)) s e
+step_fits b slash x s fits e = elim (chosen (eqb x 47) (behind (grow b (lexeme.Sign sign.Scope))) (cond (eqb x 60) (behind (grow b (lexeme.Sign sign.NoBack))) None) (Some s) e) [
+    inl p ↦ behind_fits (grow b (lexeme.Sign sign.Scope)) s p.1
+  | inr p ↦ either_behind (eqb x 60) (grow b (lexeme.Sign sign.NoBack)) s p.1 ]
+step_fits b greater x s fits e = elim (chosen (eqb x 62) (behind (grow b (lexeme.Sign sign.Strong))) (finish b greater >>= λ d. begin d x) (Some s) e) [
+    inl p ↦ behind_fits (grow b (lexeme.Sign sign.Strong)) s p.1
+  | inr p ↦ let f = bind_some (finish b greater) (λ d. begin d x) s p.1 in begin_fits f.0 x s f.2 ]
+
+pub reach_fits : (text : List ℕ) (b : Builder) (m : Mode) (s : Builder × Mode) → Fits b m → reach b m text ≡ Some s → FitsAt s
+reach_fits [] b m s fits e = subst FitsAt (some_same (b, m) s e) fits
+reach_fits (x ∷ xs) b m s fits e =
+    let t = bind_some (step b m x) (λ t. reach t.0 t.1 xs) s e in
+    reach_fits xs t.0.0 t.0.1 s (step_fits b m x t.0 fits t.1) t.2
+
+-- The symbol that a reading is in can become whole.
+
+last_or : List ℕ → ℕ → ℕ
+last_or [] d = d
+last_or (x ∷ xs) d = last_or xs x
+
+last_push : (w : List ℕ) (x d : ℕ) → last_or (push w x) d ≡ x
+unfolding last_or
+last_push [] x d = refl
+last_push (y ∷ w) x d = last_push w x y
+
+no_digit_end : (w t : List ℕ) → (eqb 48 (last_or t 0) ≡ false) → same_bytes (push w 48) t ≡ false
+no_digit_end w t apart = elim (cases_Bool (same_bytes (push w 48) t)) [
+    inl e ↦
+      let last : last_or t 0 ≡ 48 = ap (λ (v : List ℕ). last_or v 0) (sym (same_is (push w 48) t e)) ∙ last_push w 48 0 in
+      absurd (both_ways (eqb 48 (last_or t 0)) apart (ap (eqb 48) last))
+  | inr e ↦ e ]
+
+no_keyword : (w : List ℕ) → is_among keywords (push w 48) ≡ false
+unfolding last_or
+no_keyword w = or_from (same_bytes (push w 48) (codes "feature")) _ (no_digit_end w (codes "feature") refl)
+    (or_from (same_bytes (push w 48) (codes "word")) _ (no_digit_end w (codes "word") refl)
+    (or_from (same_bytes (push w 48) (codes "position")) false (no_digit_end w (codes "position") refl) refl))
+
+-- how the symbol becomes whole
+pub record Completes (b : Builder) (front : List ℕ) : Type 0 where
+  pub symbol : Lexeme
+  pub more : List ℕ
+  pub next : Stand
+  pub bytes : lexeme_bytes symbol ≡ front ++ more
+  pub whole : is_symbol symbol ≡ true
+  pub stands : next_stand b.stand symbol ≡ Some next
+
+completes_by : (b : Builder) (front : List ℕ) (x : Lexeme) (more : List ℕ) → lexeme_bytes x ≡ front ++ more → is_symbol x ≡ true → is_some (next_stand b.stand x) ≡ true → Completes b front
+completes_by b front x more bytes whole stands =
+    let next = there (next_stand b.stand x) stands in
+    record { symbol = x; more = more; next = next.0; bytes = bytes; whole = whole; stands = next.1 } where
+  there : (o : Option Stand) → is_some o ≡ true → (t : Stand) × (o ≡ Some t)
+  there None h = absurd cc
+  there (Some t) h = (t, refl)
+
+name_ends : (w : List ℕ) → is_lower_word w ≡ true → is_identifier (push w 48) ≡ true
+name_ends [] h = absurd cc
+name_ends (x ∷ xs) h =
+    let parts = and_parts (is_lower x) (list_all is_word_byte xs) h in
+    let letters : list_all is_word_byte (push xs 48) ≡ true = list_all-append is_word_byte xs (48 ∷ []) ∙ and_from (list_all is_word_byte xs) true parts.1 refl in
+    and_from (is_lower x && list_all is_word_byte (push xs 48)) _ (and_from (is_lower x) _ parts.0 letters) (not_from_false (is_among keywords (push (x ∷ xs) 48)) (no_keyword (x ∷ xs)))
+
+name_completes : (b : Builder) (w : List ℕ) (fits : WordFits b w) → wants_names (wants b.stand) ≡ true → is_lower fits.first ≡ true → Completes b w
+name_completes b w fits wanted lower =
+    let low : is_lower_word w ≡ true = ap is_lower_word fits.parts ∙ and_from (is_lower fits.first) _ lower fits.letters in
+    completes_by b w (lexeme.Identifier (push w 48)) (48 ∷ []) refl (name_ends w low) (name_next b.stand (push w 48) wanted)
+
+variable_completes : (b : Builder) (w : List ℕ) (fits : WordFits b w) → wants_variables (wants b.stand) ≡ true → is_upper fits.first ≡ true → Completes b w
+variable_completes b w fits wanted upper =
+    let whole : is_variable w ≡ true = ap is_variable fits.parts ∙ and_from (is_upper fits.first) _ upper fits.letters in
+    completes_by b w (lexeme.Variable w) [] (sym (append-nil w)) whole (variable_next b.stand w wanted)
+
+word_completes : (k : Wanted) (b : Builder) (w : List ℕ) → wants b.stand ≡ k → WordFits b w → Completes b w
+word_completes wanted.Nothing b w e fits = absurd (both_ways (may_begin wanted.Nothing fits.first) refl (ap (λ (k : Wanted). may_begin k fits.first) (sym e) ∙ fits.begins))
+word_completes wanted.Item b w e fits = name_completes b w fits (ap wants_names e) (ap (λ (k : Wanted). may_begin k fits.first) (sym e) ∙ fits.begins)
+word_completes wanted.Identifier b w e fits = name_completes b w fits (ap wants_names e) (ap (λ (k : Wanted). may_begin k fits.first) (sym e) ∙ fits.begins)
+word_completes wanted.Value b w e fits = name_completes b w fits (ap wants_names e) (ap (λ (k : Wanted). may_begin k fits.first) (sym e) ∙ fits.begins)
+word_completes wanted.Label b w e fits =
+    let rest = front_among labels w (ap (λ (k : Wanted). may_go_on k w) (sym e) ∙ fits.going) in
+    completes_by b w (lexeme.Label (w ++ rest.0)) rest.0 refl rest.1 (label_next b.stand (w ++ rest.0) e)
+word_completes wanted.Kind b w e fits =
+    let rest = front_among kinds w (ap (λ (k : Wanted). may_go_on k w) (sym e) ∙ fits.going) in
+    completes_by b w (lexeme.Kind (w ++ rest.0)) rest.0 refl rest.1 (kind_next b.stand (w ++ rest.0) e)
+word_completes wanted.Variable b w e fits = variable_completes b w fits (ap wants_variables e) (ap (λ (k : Wanted). may_begin k fits.first) (sym e) ∙ fits.begins)
+word_completes wanted.Term b w e fits = elim (or_cases (is_upper fits.first) (is_lower fits.first) (ap (λ (k : Wanted). may_begin k fits.first) (sym e) ∙ fits.begins)) [
+    inl u ↦ variable_completes b w fits (ap wants_variables e) u
+  | inr l ↦ name_completes b w fits (ap wants_names e) l ]
+
+ends_by_letter : (t : List ℕ) → list_all is_terminal_byte t ≡ true → is_terminal (push t 120) ≡ true
+ends_by_letter [] h = refl
+ends_by_letter (x ∷ []) h = let parts = and_parts (is_terminal_byte x) true h in rw parts.0 refl
+ends_by_letter (x ∷ y ∷ t) h =
+    let bytes : list_all is_terminal_byte (push (x ∷ y ∷ t) 120) ≡ true = list_all-append is_terminal_byte (x ∷ y ∷ t) (120 ∷ []) ∙ and_from (list_all is_terminal_byte (x ∷ y ∷ t)) true h refl in
+    and_from (list_all is_terminal_byte (push (x ∷ y ∷ t) 120)) (ends_well (push (y ∷ t) 120)) bytes (well (y ∷ t)) where
+  well : (t : List ℕ) → ends_well (push t 120) ≡ true
+  well [] = refl
+  well (x ∷ []) = refl
+  well (x ∷ y ∷ t) = well (y ∷ t)
+
+terminal_completes : (b : Builder) (t : List ℕ) → TerminalFits b t → Completes b (91 ∷ t)
+terminal_completes b t fits = completes_by b (91 ∷ t) (lexeme.Terminal (push t 120)) (120 ∷ 93 ∷ []) (ap (λ (v : List ℕ). 91 ∷ v) (append_assoc t (120 ∷ []) (93 ∷ []))) (ends_by_letter t fits.bytes) fits.takes
+
+-- a reading that is in a symbol goes on by what completes it
+behind_symbol : (b : Builder) (m : Mode) → reach b between (front m) ≡ Some (b, m) → Completes b (front m) → (more : List ℕ) × (d : Builder) × (final b m more ≡ Some d) × (d.stand ≡ stand.Items)
+behind_symbol b m reached c =
+    let rest = spaced (ending c.next) in
+    let begins : Begins false (front m ++ (c.more ++ rest)) c.symbol rest = record {
+      gap = []; between = refl; symbol = c.whole; longest = spaced_stops c.symbol (ending c.next);
+      parts = sym (append_assoc (front m) c.more rest) ∙ ap (λ (v : List ℕ). v ++ rest) (sym c.bytes) } in
+    let spells : SpellsFrom false (front m ++ (c.more ++ rest)) (c.symbol ∷ ending c.next) = (rest, begins, spaced_spells (ending c.next) (ending_symbols c.next)) in
+    let leads : runs b.stand (c.symbol ∷ ending c.next) ≡ Some stand.Items = ap (λ (o : Option Stand). o >>= λ t. runs t (ending c.next)) c.stands ∙ ending_leads c.next in
+    let end = spelled_final (c.symbol ∷ ending c.next) (front m ++ (c.more ++ rest)) false b stand.Items spells leads in
+    let here : final b between (front m ++ (c.more ++ rest)) ≡ final b m (c.more ++ rest) = reach_final (front m) (c.more ++ rest) b between ∙ ap (λ (o : Option (Builder × Mode)). o >>= λ s. final s.0 s.1 (c.more ++ rest)) reached in
+    (c.more ++ rest, end.0, sym here ∙ end.1, end.2)
+
+sign_behind : (b : Builder) (m : Mode) (y : Sign) (more : List ℕ) → lexeme_bytes (lexeme.Sign y) ≡ front m ++ more → SignFits b m y → (more : List ℕ) × (d : Builder) × (final b m more ≡ Some d) × (d.stand ≡ stand.Items)
+sign_behind b m y more bytes fits = behind_symbol b m fits.reached (completes_by b (front m) (lexeme.Sign y) more bytes refl fits.takes)
+
+-- every reading goes on to between items
+pub continuation : (b : Builder) (m : Mode) → Fits b m → (more : List ℕ) × (d : Builder) × (final b m more ≡ Some d) × (d.stand ≡ stand.Items)
+continuation b between fits =
+    let end = spelled_final (ending b.stand) (spaced (ending b.stand)) false b stand.Items (spaced_spells (ending b.stand) (ending_symbols b.stand)) (ending_leads b.stand) in
+    (spaced (ending b.stand), end.0, end.1, end.2)
+continuation b comment fits =
+    let end = spelled_final (ending b.stand) (spaced (ending b.stand)) false b stand.Items (spaced_spells (ending b.stand) (ending_symbols b.stand)) (ending_leads b.stand) in
+    (10 ∷ spaced (ending b.stand), end.0, end.1, end.2)
+continuation b (word w) fits = behind_symbol b (word w) fits.reached (word_completes (wants b.stand) b w refl fits)
+continuation b (terminal t) fits = behind_symbol b (terminal t) fits.reached (terminal_completes b t fits)
+continuation b dash fits = sign_behind b dash sign.Normal (45 ∷ 62 ∷ []) refl fits
+continuation b dashes fits = sign_behind b dashes sign.Normal (62 ∷ []) refl fits
+continuation b tilde fits = sign_behind b tilde sign.Closing (126 ∷ 62 ∷ []) refl fits
+continuation b tildes fits = sign_behind b tildes sign.Closing (62 ∷ []) refl fits
+continuation b slash fits = sign_behind b slash sign.Scope (47 ∷ []) refl fits
+continuation b greater fits = sign_behind b greater sign.Weak [] refl fits

@@ -10,3 +10,4 @@ pub mod Standing
 pub mod Spelling
 pub mod Complete
 pub mod Continuing
+pub mod Exactness

@@ -1,8 +1,8 @@
 // Reading a text of the notation byte by byte.
-ghost use Rattle.std.specs.Prelude.{◌≡◌, ◌<◌, ◌≤◌, ◌+◌, List, length, slice_index, slice_range, Some, IfOk, OnOk, OnErr, Result, Ok, None, IsTrue, ℕ, if◌then◌else◌};
+ghost use Rattle.std.specs.Prelude.{◌≡◌, ◌<◌, ◌≤◌, ◌+◌, List, length, slice_index, slice_range, Some, IfOk, IfErr, OnOk, OnErr, Result, Ok, None, IsTrue, ℕ, if◌then◌else◌};
 ghost use Rattle.codeco_text.specs.declared.written.WrittenItem.{WrittenItem};
 ghost use Rattle.codeco_text.specs.Names.{is_among, is_variable};
-ghost use Rattle.codeco_text.specs.Notation.{labels, kinds};
+ghost use Rattle.codeco_text.specs.Notation.{labels, kinds, IsSpelling, TellsFault};
 ghost use Rattle.codeco_text.specs.Reading.{as_word, identifier};
 ghost use Rattle.codeco_text.specs.Building.{Takes, grow};
 ghost use Rattle.codeco_text.specs.Scanning.{
@@ -426,4 +426,13 @@ fn scan(alloc: Global, text: &[u8]) -> Result<WrittenItems, SyntaxFault>
         }
     }
     ended(builder, alloc, mode, text)
+}
+
+/// The declarations and rules that the text spells. A text that spells none is refused at the first byte with which no
+/// sentence of the notation begins as the text does, or at its length where the whole of it goes on to a sentence.
+pub fn read_items(alloc: Global, text: &[u8]) -> Result<WrittenItems, SyntaxFault>
+    ensures spelled { IfOk result (λ items. IsSpelling text.now items) }
+    ensures fault { IfErr result (TellsFault text.now) }
+{
+    scan(alloc, text)
 }

@@ -11,3 +11,4 @@ pub mod Spelling
 pub mod Complete
 pub mod Continuing
 pub mod Exactness
+pub mod OneSpelling

@@ -18,7 +18,8 @@ use Rattle.codeco_text.specs.declared.stand.Role.TheVariants as role
 use Rattle.codeco_text.specs.declared.stand.Part.TheVariants as part
 use Rattle.codeco_text.specs.Notation.{labels, kinds, lexeme_bytes, is_symbol, goes_on, has_front, is_gap, sign_bytes, SpellsFrom, begins_by}
 use Rattle.codeco_text.specs.Reading.{◌>>=◌, wants, as_word, may_begin, may_go_on, is_front_among, next_stand, identifier}
-use Rattle.codeco_text.specs.Building.{push, grow}
+use Rattle.codeco_text.specs.Building.{push, grow, so_far}
+use Rattle.codeco_text.proofs.Growth.{grow_adds}
 use Rattle.codeco_text.specs.Scanning.{Mode, between, comment, word, terminal, dash, dashes, tilde, tildes, slash, greater, takes_sign, takes_terminal, guard, behind, begin, begin_sign, begin_dash, begin_single, finish, step, if_terminal}
 use Rattle.codeco_text.proofs.Trees.{runs}
 use Rattle.codeco_text.proofs.Soundness.{bind_some, stand_grow, grow_stand, is_word}
@@ -338,8 +339,8 @@ symbol_final b d (lexeme.Terminal t) rest g s h = terminal_final b d t rest g s
 symbol_final b d (lexeme.Sign x) rest g s h = sign_final b d x rest g h
 
 -- a text that spells symbols which may stand here is taken to its end
-pub spelled_final : (xs : List Lexeme) (text : List ℕ) (cm : Bool) (b : Builder) (t : Stand) → SpellsFrom cm text xs → runs b.stand xs ≡ Some t → (d : Builder) × (final b (gap_mode cm) text ≡ Some d) × (d.stand ≡ t)
-spelled_final [] text cm b t spells e = (b, gap_ends text cm b spells, some_stand b.stand t e) where
+pub spelled_final : (xs : List Lexeme) (text : List ℕ) (cm : Bool) (b : Builder) (t : Stand) → SpellsFrom cm text xs → runs b.stand xs ≡ Some t → (d : Builder) × (final b (gap_mode cm) text ≡ Some d) × (d.stand ≡ t) × (so_far d ≡ so_far b ++ xs)
+spelled_final [] text cm b t spells e = (b, gap_ends text cm b spells, some_stand b.stand t e, sym (append-nil (so_far b))) where
   some_stand : (s t : Stand) → Some s ≡ Some t → s ≡ t
   some_stand s t e = cc
 spelled_final (x ∷ xs) text cm b t spells e =
@@ -352,4 +353,5 @@ spelled_final (x ∷ xs) text cm b t spells e =
       ∙ gap_final begins.gap cm (lexeme_bytes x ++ spells.0) b begins.between
       ∙ symbol_final b grown.0 x spells.0 grown.1 begins.symbol begins.longest
       ∙ others.1,
-      others.2)
+      others.2,
+      others.3 ∙ ap (λ (v : List Lexeme). v ++ xs) (grow_adds b x grown.0 grown.1) ∙ append_assoc (so_far b) (x ∷ []) xs)

@@ -11,7 +11,7 @@ use Rattle.codeco_text.specs.declared.written.WrittenItem.{WrittenItem}
 use Rattle.codeco_text.specs.declared.builder.Builder.{Builder}
 use Rattle.codeco_text.specs.declared.syntax_fault.SyntaxFault.{SyntaxFault}
 use Rattle.codeco_text.specs.declared.syntax_fault.SyntaxFault.TheVariants as fault
-use Rattle.codeco_text.specs.Notation.{lexemes, item_fits, Spells, SpellsFrom, IsSpelling, IsSentence, HasContinuation, IsSyntaxFault, TellsFault}
+use Rattle.codeco_text.specs.Notation.{lexemes, item_fits, Spells, SpellsFrom, IsSpelling, IsSentence, HasContinuation, IsSyntaxFault, TellsFault, Finds}
 use Rattle.codeco_text.specs.Reading.{◌>>=◌}
 use Rattle.codeco_text.specs.Building.{so_far, so_far_at}
 use Rattle.codeco_text.specs.Scanning.{Mode, between, fresh, guard, finish, step, is_between_items, ended, ok_or_place, carry, reading}
@@ -20,6 +20,7 @@ use Rattle.codeco_text.proofs.Trees.{runs, only_if, items_run}
 use Rattle.codeco_text.proofs.Soundness.{bind_some, guard_some}
 use Rattle.codeco_text.proofs.Spelled.{Spelled, final, final_spelled, none_some}
 use Rattle.codeco_text.proofs.Complete.{spelled_final}
+use Rattle.codeco_text.proofs.OneSpelling.{lexemes_same}
 use Rattle.codeco_text.proofs.Continuing.{Fits, reach, reach_final, reach_fits, continuation}
 
 items_stand : (s : Stand) → is_between_items s ≡ true → s ≡ stand.Items
@@ -68,7 +69,7 @@ ends_spelling text items e =
   fits_from false h = absurd cc
 
 -- what is spelled is taken
-pub spelling_ends : (text : List ℕ) (items : List WrittenItem) → IsSpelling text items → (d : Builder) × (final fresh between text ≡ Some d) × (d.stand ≡ stand.Items)
+pub spelling_ends : (text : List ℕ) (items : List WrittenItem) → IsSpelling text items → (d : Builder) × (final fresh between text ≡ Some d) × (d.stand ≡ stand.Items) × (so_far d ≡ lexemes items)
 spelling_ends text items s =
     let leads : runs stand.Items (lexemes items) ≡ Some stand.Items = items_run items ∙ ap (λ (t : Bool). only_if t (Some stand.Items)) s.fits in
     spelled_final (lexemes items) text false fresh stand.Items s.spells leads
@@ -176,3 +177,26 @@ pub is_fault : (text : List ℕ) (r : Result (List WrittenItem) SyntaxFault) →
 is_fault text (Ok items) h = tt
 is_fault text (Err (fault.At place)) h = stops_fault text place (reading_err text fresh between 0 place h)
 is_fault text (Err fault.Memory) h = tt
+
+place_some : (b : Builder) (m : Mode) (d : Builder) (n : ℕ) → finish b m ≡ Some d → d.stand ≡ stand.Items → ok_or_place (ended b m) n ≡ Ok d.items
+place_some b m d n e f =
+    ap (λ (o : Option Builder). ok_or_place (o >>= λ c. guard (is_between_items c.stand) c.items) n) e
+    ∙ ap (λ (s : Stand). ok_or_place (guard (is_between_items s) d.items) n) f
+
+reading_from : (text : List ℕ) (b : Builder) (m : Mode) (n : ℕ) (d : Builder) → final b m text ≡ Some d → d.stand ≡ stand.Items → reading b m text n ≡ Ok d.items
+reading_from [] b m n d e f = place_some b m d n e f
+reading_from (x ∷ xs) b m n d e f =
+    let s = bind_some (step b m x) (λ s. final s.0 s.1 xs) d e in
+    ap (λ (o : Option (Builder × Mode)). carry o n (λ s. reading s.0 s.1 xs (n + 1))) s.1 ∙ reading_from xs s.0.0 s.0.1 (n + 1) d s.2 f
+
+-- what is spelled is what the reading has
+spelling_read : (text : List ℕ) (items : List WrittenItem) → IsSpelling text items → reading fresh between text 0 ≡ Ok items
+spelling_read text items s =
+    let d = spelling_ends text items s in
+    let same : d.0.items ≡ items = lexemes_same d.0.items items (sym (ap (λ (t : Stand). so_far_at t d.0) d.2) ∙ d.3) in
+    reading_from text fresh between 0 d.0 d.1 d.2 ∙ ap (λ (x : List WrittenItem). Ok x) same
+
+pub is_only : (text : List ℕ) (r : Result (List WrittenItem) SyntaxFault) → Reads r (reading fresh between text 0) → (items : List WrittenItem) → IsSpelling text items → Finds items r
+is_only text (Ok found) h items s = let clash = sym h ∙ spelling_read text items s in cc
+is_only text (Err (fault.At place)) h items s = absurd (let clash = sym h ∙ spelling_read text items s in cc)
+is_only text (Err fault.Memory) h items s = tt

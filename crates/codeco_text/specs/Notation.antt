@@ -1,5 +1,5 @@
 -- The notation: what a text spells.
-use Rattle.std.specs.Prelude.{◌≡◌, ℕ, Bool, true, false, not, ◌&&◌, ◌||◌, ◌==◌, List, [], ◌∷◌, ◌++◌, map, flat_map, codes, IsTrue, Option, Some, None, if◌then◌else◌, length, take, ◌<◌, ◌≤◌, ◌+◌}
+use Rattle.std.specs.Prelude.{◌≡◌, ℕ, Bool, true, false, not, ◌&&◌, ◌||◌, ◌==◌, List, [], ◌∷◌, ◌++◌, map, flat_map, codes, IsTrue, Option, Some, None, Result, Ok, Err, if◌then◌else◌, length, take, ◌<◌, ◌≤◌, ◌+◌}
 use Rattle.std.specs.List.{list_all}
 use Rattle.codeco_text.specs.declared.symbols.Sign.{Sign}
 use Rattle.codeco_text.specs.declared.symbols.Sign.TheVariants as sign
@@ -240,3 +240,9 @@ pub record IsSyntaxFault (text : List ℕ) (place : ℕ) : Type 0 where
 abbrev pub TellsFault : List ℕ → SyntaxFault → Type 0
 TellsFault text (fault.At place) = IsSyntaxFault text place
 TellsFault text fault.Memory = Unit {0}
+
+-- the call found these declarations and rules, unless memory ran out
+abbrev pub Finds : List WrittenItem → Result (List WrittenItem) SyntaxFault → Type 0
+Finds items (Ok found) = found ≡ items
+Finds items (Err (fault.At place)) = ⊥
+Finds items (Err fault.Memory) = Unit {0}

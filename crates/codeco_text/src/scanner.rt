@@ -2,7 +2,7 @@
 ghost use Rattle.std.specs.Prelude.{◌≡◌, ◌<◌, ◌≤◌, ◌+◌, List, length, slice_index, slice_range, Some, IfOk, IfErr, OnOk, OnErr, Result, Ok, None, IsTrue, ℕ, if◌then◌else◌};
 ghost use Rattle.codeco_text.specs.declared.written.WrittenItem.{WrittenItem};
 ghost use Rattle.codeco_text.specs.Names.{is_among, is_variable};
-ghost use Rattle.codeco_text.specs.Notation.{labels, kinds, IsSpelling, TellsFault};
+ghost use Rattle.codeco_text.specs.Notation.{labels, kinds, IsSpelling, Finds, TellsFault};
 ghost use Rattle.codeco_text.specs.Reading.{as_word, identifier};
 ghost use Rattle.codeco_text.specs.Building.{Takes, grow};
 ghost use Rattle.codeco_text.specs.Scanning.{
@@ -432,6 +432,7 @@ fn scan(alloc: Global, text: &[u8]) -> Result<WrittenItems, SyntaxFault>
 /// sentence of the notation begins as the text does, or at its length where the whole of it goes on to a sentence.
 pub fn read_items(alloc: Global, text: &[u8]) -> Result<WrittenItems, SyntaxFault>
     ensures spelled { IfOk result (λ items. IsSpelling text.now items) }
+    ensures only { (items : List WrittenItem) → IsSpelling text.now items → Finds items result }
     ensures fault { IfErr result (TellsFault text.now) }
 {
     scan(alloc, text)

@@ -49,10 +49,11 @@ final_step b m x rest s e = ap (λ (o : Option (Builder × Mode)). o >>= λ s. f
 gap_byte : (b : Builder) (cm : Bool) (last : Bool) (x : ℕ) (gap rest : List ℕ) → is_gap last cm (x ∷ gap) ≡ true → (next : Bool) × (is_gap last next gap ≡ true) × (final b (gap_mode cm) (x ∷ rest) ≡ final b (gap_mode next) rest)
 gap_byte b true last x gap rest h = (not (eqb x 10), h, ap (λ (m : Mode). final b m rest) (line_mode (eqb x 10)))
 gap_byte b false last x gap rest h = elim (cases_Bool (eqb x 37)) [
-    inl e ↦ (true, sym (cond-true (eqb x 37) (is_gap last true gap) (is_space x && is_gap last false gap) e) ∙ h, final_step b between x rest (b, comment) (begin_comment b x e))
+  | inl e ↦ (true, sym (cond-true (eqb x 37) (is_gap last true gap) (is_space x && is_gap last false gap) e) ∙ h, final_step b between x rest (b, comment) (begin_comment b x e))
   | inr e ↦
       let both = and_parts (is_space x) (is_gap last false gap) (sym (cond-false (eqb x 37) (is_gap last true gap) (is_space x && is_gap last false gap) e) ∙ h) in
-      (false, both.1, final_step b between x rest (b, between) (begin_space b x both.0)) ]
+      (false, both.1, final_step b between x rest (b, between) (begin_space b x both.0))
+]
 
 gap_final : (gap : List ℕ) (cm : Bool) (rest : List ℕ) (b : Builder) → is_gap false cm gap ≡ true → final b (gap_mode cm) (gap ++ rest) ≡ final b between rest
 gap_final [] true rest b h = absurd cc
@@ -228,9 +229,9 @@ normal_final : (b d : Builder) (rest : List ℕ) → grow b (lexeme.Sign sign.No
 normal_final b d rest g =
     let stands = grow_stand b (lexeme.Sign sign.Normal) d g in
     let first : begin b 45 ≡ Some (b, dash) =
-      sign_begins b 45 refl refl refl refl refl refl
-      ∙ cond-false (takes_sign b sign.Minus) (behind (grow b (lexeme.Sign sign.Minus))) _ (normal_not_minus b.stand d.stand stands)
-      ∙ cond-true (takes_sign b sign.Normal) (Some (b, dash)) None (takes_it b d (lexeme.Sign sign.Normal) g) in
+    sign_begins b 45 refl refl refl refl refl refl
+    ∙ cond-false (takes_sign b sign.Minus) (behind (grow b (lexeme.Sign sign.Minus))) _ (normal_not_minus b.stand d.stand stands)
+    ∙ cond-true (takes_sign b sign.Normal) (Some (b, dash)) None (takes_it b d (lexeme.Sign sign.Normal) g) in
     final_step b between 45 (45 ∷ 62 ∷ rest) (b, dash) first ∙ final_step b dashes 62 rest (d, between) (ap behind g)
 
 closing_final : (b d : Builder) (rest : List ℕ) → grow b (lexeme.Sign sign.Closing) ≡ Some d → final b between (126 ∷ 126 ∷ 62 ∷ rest) ≡ final d between rest
@@ -257,8 +258,9 @@ weak_whole : (b d : Builder) (rest : List ℕ) → grow b (lexeme.Sign sign.Weak
 weak_whole b d [] g h = g
 weak_whole b d (x ∷ rest) g h =
     let apart : eqb x 62 ≡ false = elim (cases_Bool (eqb x 62)) [
-        inl e ↦ absurd (both_ways (has_front (codes ">") (x ∷ rest)) h (subst (λ (n : ℕ). has_front (codes ">") (n ∷ rest) ≡ true) (sym (eqb-true x 62 e)) refl))
-      | inr e ↦ e ] in
+      | inl e ↦ absurd (both_ways (has_front (codes ">") (x ∷ rest)) h (subst (λ (n : ℕ). has_front (codes ">") (n ∷ rest) ≡ true) (sym (eqb-true x 62 e)) refl))
+      | inr e ↦ e
+    ] in
     let step_is : step b greater x ≡ begin d x = cond-false (eqb x 62) _ _ apart ∙ ap (λ (o : Option Builder). o >>= λ c. begin c x) g in
     ap (λ (o : Option (Builder × Mode)). o >>= λ s. final s.0 s.1 rest) step_is
 
@@ -347,11 +349,12 @@ spelled_final (x ∷ xs) text cm b t spells e =
     let begins = spells.1 in
     let next = bind_some (next_stand b.stand x) (λ s. runs s xs) t e in
     let grown = stand_grow b x next.0 next.1 in
-    let others = spelled_final xs spells.0 false grown.0 t spells.2 (ap (λ (s : Stand). runs s xs) grown.2 ∙ next.2) in
-    (others.0,
+    let others = spelled_final xs spells.0 false grown.0 t spells.2 (ap (λ (s : Stand). runs s xs) grown.2 ∙ next.2) in (
+      others.0,
       ap (λ (v : List ℕ). final b (gap_mode cm) v) begins.parts
-      ∙ gap_final begins.gap cm (lexeme_bytes x ++ spells.0) b begins.between
-      ∙ symbol_final b grown.0 x spells.0 grown.1 begins.symbol begins.longest
-      ∙ others.1,
+          ∙ gap_final begins.gap cm (lexeme_bytes x ++ spells.0) b begins.between
+          ∙ symbol_final b grown.0 x spells.0 grown.1 begins.symbol begins.longest
+          ∙ others.1,
       others.2,
-      others.3 ∙ ap (λ (v : List Lexeme). v ++ xs) (grow_adds b x grown.0 grown.1) ∙ append_assoc (so_far b) (x ∷ []) xs)
+      others.3 ∙ ap (λ (v : List Lexeme). v ++ xs) (grow_adds b x grown.0 grown.1) ∙ append_assoc (so_far b) (x ∷ []) xs,
+    )

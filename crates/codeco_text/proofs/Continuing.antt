@@ -376,44 +376,55 @@ sign_fits b m y x s e f g fits =
 
 begin_fits : (b : Builder) (x : ℕ) (s : Builder × Mode) → begin b x ≡ Some s → FitsAt s
 begin_fits b x s e = elim (chosen (is_space x) (Some (b, between)) _ (Some s) e) [
-    inl p ↦ subst FitsAt (some_same (b, between) s p.1) tt
+  | inl p ↦ subst FitsAt (some_same (b, between) s p.1) tt
   | inr p ↦ elim (chosen (eqb x 37) (Some (b, comment)) _ (Some s) p.1) [
-    inl q ↦ subst FitsAt (some_same (b, comment) s q.1) tt
-  | inr q ↦ elim (chosen (may_begin (wants b.stand) x) (Some (b, word (x ∷ []))) (begin_sign b x) (Some s) q.1) [
-    inl r ↦
-      let is = some_same (b, word (x ∷ [])) s r.1 in
-      let fits : WordFits b (x ∷ []) = record { reached = reach_one b between x ∙ e ∙ ap Some (sym is); first = x; others = []; parts = refl; begins = r.0; letters = refl; going = begin_goes (wants b.stand) x r.0 } in
-      subst FitsAt is fits
-  | inr r ↦ elim (chosen (eqb x 91) (guard (takes_terminal b) (b, terminal [])) _ (Some s) r.1) [
-    inl t ↦
-      let h = guard_some (takes_terminal b) (b, terminal []) s t.1 in
-      let byte = eqb-true x 91 t.0 in
-      let fits : TerminalFits b [] = record { reached = ap (λ (n : ℕ). reach b between (n ∷ [])) (sym byte) ∙ reach_one b between x ∙ e ∙ ap Some (sym h.1); takes = h.0; bytes = refl } in
-      subst FitsAt h.1 fits
-  | inr t ↦ elim (chosen (eqb x 45) (begin_dash b) _ (Some s) t.1) [
-    inl u ↦ elim (chosen (takes_sign b sign.Minus) (behind (grow b (lexeme.Sign sign.Minus))) (guard (takes_sign b sign.Normal) (b, dash)) (Some s) u.1) [
-      inl v ↦ behind_fits (grow b (lexeme.Sign sign.Minus)) s v.1
-    | inr v ↦ sign_fits b dash sign.Normal x s e (ap (λ (n : ℕ). n ∷ []) (sym (eqb-true x 45 u.0))) v.1 (λ f. f) ]
-  | inr u ↦ elim (chosen (eqb x 126) (guard (takes_sign b sign.Closing) (b, tilde)) _ (Some s) u.1) [
-    inl v ↦ sign_fits b tilde sign.Closing x s e (ap (λ (n : ℕ). n ∷ []) (sym (eqb-true x 126 v.0))) v.1 (λ f. f)
-  | inr v ↦ elim (chosen (eqb x 47) (guard (takes_sign b sign.Scope) (b, slash)) _ (Some s) v.1) [
-    inl w ↦ sign_fits b slash sign.Scope x s e (ap (λ (n : ℕ). n ∷ []) (sym (eqb-true x 47 w.0))) w.1 (λ f. f)
-  | inr w ↦ elim (chosen (eqb x 62) (guard (takes_sign b sign.Weak) (b, greater)) (begin_single b x) (Some s) w.1) [
-    inl y ↦ sign_fits b greater sign.Weak x s e (ap (λ (n : ℕ). n ∷ []) (sym (eqb-true x 62 y.0))) y.1 (λ f. f)
-  | inr y ↦
-      let one = bind_some (single x) (λ z. behind (grow b (lexeme.Sign z))) s y.1 in
-      behind_fits (grow b (lexeme.Sign one.0)) s one.2 ] ] ] ] ] ] ] ]
+    | inl q ↦ subst FitsAt (some_same (b, comment) s q.1) tt
+    | inr q ↦ elim (chosen (may_begin (wants b.stand) x) (Some (b, word (x ∷ []))) (begin_sign b x) (Some s) q.1) [
+      | inl r ↦
+          let is = some_same (b, word (x ∷ [])) s r.1 in
+          let fits : WordFits b (x ∷ []) = record { reached = reach_one b between x ∙ e ∙ ap Some (sym is); first = x; others = []; parts = refl; begins = r.0; letters = refl; going = begin_goes (wants b.stand) x r.0 } in
+          subst FitsAt is fits
+      | inr r ↦ elim (chosen (eqb x 91) (guard (takes_terminal b) (b, terminal [])) _ (Some s) r.1) [
+        | inl t ↦
+            let h = guard_some (takes_terminal b) (b, terminal []) s t.1 in
+            let byte = eqb-true x 91 t.0 in
+            let fits : TerminalFits b [] = record { reached = ap (λ (n : ℕ). reach b between (n ∷ [])) (sym byte) ∙ reach_one b between x ∙ e ∙ ap Some (sym h.1); takes = h.0; bytes = refl } in
+            subst FitsAt h.1 fits
+        | inr t ↦ elim (chosen (eqb x 45) (begin_dash b) _ (Some s) t.1) [
+          | inl u ↦ elim (chosen (takes_sign b sign.Minus) (behind (grow b (lexeme.Sign sign.Minus))) (guard (takes_sign b sign.Normal) (b, dash)) (Some s) u.1) [
+            | inl v ↦ behind_fits (grow b (lexeme.Sign sign.Minus)) s v.1
+            | inr v ↦ sign_fits b dash sign.Normal x s e (ap (λ (n : ℕ). n ∷ []) (sym (eqb-true x 45 u.0))) v.1 (λ f. f)
+          ]
+          | inr u ↦ elim (chosen (eqb x 126) (guard (takes_sign b sign.Closing) (b, tilde)) _ (Some s) u.1) [
+            | inl v ↦ sign_fits b tilde sign.Closing x s e (ap (λ (n : ℕ). n ∷ []) (sym (eqb-true x 126 v.0))) v.1 (λ f. f)
+            | inr v ↦ elim (chosen (eqb x 47) (guard (takes_sign b sign.Scope) (b, slash)) _ (Some s) v.1) [
+              | inl w ↦ sign_fits b slash sign.Scope x s e (ap (λ (n : ℕ). n ∷ []) (sym (eqb-true x 47 w.0))) w.1 (λ f. f)
+              | inr w ↦ elim (chosen (eqb x 62) (guard (takes_sign b sign.Weak) (b, greater)) (begin_single b x) (Some s) w.1) [
+                | inl y ↦ sign_fits b greater sign.Weak x s e (ap (λ (n : ℕ). n ∷ []) (sym (eqb-true x 62 y.0))) y.1 (λ f. f)
+                | inr y ↦
+                    let one = bind_some (single x) (λ z. behind (grow b (lexeme.Sign z))) s y.1 in
+                    behind_fits (grow b (lexeme.Sign one.0)) s one.2
+              ]
+            ]
+          ]
+        ]
+      ]
+    ]
+  ]
+]
 
 word_goes_on : (b : Builder) (w : List ℕ) (x : ℕ) (s : Builder × Mode) → WordFits b w → is_word_byte x ≡ true → step b (word w) x ≡ Some s → guard (may_go_on (wants b.stand) (push w x)) (b, word (push w x)) ≡ Some s → FitsAt s
 word_goes_on b w x s fits letter e g =
     let h = guard_some (may_go_on (wants b.stand) (push w x)) (b, word (push w x)) s g in
     let next : WordFits b (push w x) = record {
       reached = reach_push w x b b between (word w) fits.reached ∙ e ∙ ap Some (sym h.1);
-      first = fits.first; others = push fits.others x;
+      first = fits.first;
+      others = push fits.others x;
       parts = ap (λ (v : List ℕ). push v x) fits.parts;
       begins = fits.begins;
       letters = list_all-append is_word_byte fits.others (x ∷ []) ∙ and_from (list_all is_word_byte fits.others) (is_word_byte x && true) fits.letters (and_from (is_word_byte x) true letter refl);
-      going = h.0 } in
+      going = h.0;
+    } in
     subst FitsAt h.1 next
 
 terminal_goes_on : (b : Builder) (t : List ℕ) (x : ℕ) (s : Builder × Mode) → TerminalFits b t → step b (terminal t) x ≡ Some s → guard (is_terminal_byte x) (b, terminal (push t x)) ≡ Some s → FitsAt s
@@ -422,7 +433,8 @@ terminal_goes_on b t x s fits e g =
     let next : TerminalFits b (push t x) = record {
       reached = reach_push (91 ∷ t) x b b between (terminal t) fits.reached ∙ e ∙ ap Some (sym h.1);
       takes = fits.takes;
-      bytes = list_all-append is_terminal_byte t (x ∷ []) ∙ and_from (list_all is_terminal_byte t) (is_terminal_byte x && true) fits.bytes (and_from (is_terminal_byte x) true h.0 refl) } in
+      bytes = list_all-append is_terminal_byte t (x ∷ []) ∙ and_from (list_all is_terminal_byte t) (is_terminal_byte x && true) fits.bytes (and_from (is_terminal_byte x) true h.0 refl);
+    } in
     subst FitsAt h.1 next
 
 sign_goes_on_to : (b : Builder) (m k : Mode) (y : Sign) (n x : ℕ) (s : Builder × Mode) → SignFits b m y → front k ≡ push (front m) n → step b m x ≡ Some s → guard (eqb x n) (b, k) ≡ Some s → (SignFits b k y → Fits b k) → FitsAt s
@@ -444,21 +456,25 @@ pub step_fits : (b : Builder) (m : Mode) (x : ℕ) (s : Builder × Mode) → Fit
 step_fits b between x s fits e = begin_fits b x s e
 step_fits b comment x s fits e = subst FitsAt (some_same (b, cond (eqb x 10) between comment) s e) (comment_fits (eqb x 10) b)
 step_fits b (word w) x s fits e = elim (chosen (is_word_byte x) (guard (may_go_on (wants b.stand) (push w x)) (b, word (push w x))) (finish b (word w) >>= λ d. begin d x) (Some s) e) [
-    inl p ↦ word_goes_on b w x s fits p.0 e p.1
-  | inr p ↦ let f = bind_some (finish b (word w)) (λ d. begin d x) s p.1 in begin_fits f.0 x s f.2 ]
+  | inl p ↦ word_goes_on b w x s fits p.0 e p.1
+  | inr p ↦ let f = bind_some (finish b (word w)) (λ d. begin d x) s p.1 in begin_fits f.0 x s f.2
+]
 step_fits b (terminal t) x s fits e = elim (chosen (eqb x 93) (if_terminal b t) (guard (is_terminal_byte x) (b, terminal (push t x))) (Some s) e) [
-    inl p ↦ either_behind (is_terminal t) (grow b (lexeme.Terminal t)) s p.1
-  | inr p ↦ terminal_goes_on b t x s fits e p.1 ]
+  | inl p ↦ either_behind (is_terminal t) (grow b (lexeme.Terminal t)) s p.1
+  | inr p ↦ terminal_goes_on b t x s fits e p.1
+]
 step_fits b dash x s fits e = sign_goes_on_to b dash dashes sign.Normal 45 x s fits refl e e (λ f. f)
 step_fits b dashes x s fits e = either_behind (eqb x 62) (grow b (lexeme.Sign sign.Normal)) s e
 step_fits b tilde x s fits e = sign_goes_on_to b tilde tildes sign.Closing 126 x s fits refl e e (λ f. f)
 step_fits b tildes x s fits e = either_behind (eqb x 62) (grow b (lexeme.Sign sign.Closing)) s e
 step_fits b slash x s fits e = elim (chosen (eqb x 47) (behind (grow b (lexeme.Sign sign.Scope))) (cond (eqb x 60) (behind (grow b (lexeme.Sign sign.NoBack))) None) (Some s) e) [
-    inl p ↦ behind_fits (grow b (lexeme.Sign sign.Scope)) s p.1
-  | inr p ↦ either_behind (eqb x 60) (grow b (lexeme.Sign sign.NoBack)) s p.1 ]
+  | inl p ↦ behind_fits (grow b (lexeme.Sign sign.Scope)) s p.1
+  | inr p ↦ either_behind (eqb x 60) (grow b (lexeme.Sign sign.NoBack)) s p.1
+]
 step_fits b greater x s fits e = elim (chosen (eqb x 62) (behind (grow b (lexeme.Sign sign.Strong))) (finish b greater >>= λ d. begin d x) (Some s) e) [
-    inl p ↦ behind_fits (grow b (lexeme.Sign sign.Strong)) s p.1
-  | inr p ↦ let f = bind_some (finish b greater) (λ d. begin d x) s p.1 in begin_fits f.0 x s f.2 ]
+  | inl p ↦ behind_fits (grow b (lexeme.Sign sign.Strong)) s p.1
+  | inr p ↦ let f = bind_some (finish b greater) (λ d. begin d x) s p.1 in begin_fits f.0 x s f.2
+]
 
 pub reach_fits : (text : List ℕ) (b : Builder) (m : Mode) (s : Builder × Mode) → Fits b m → reach b m text ≡ Some s → FitsAt s
 reach_fits [] b m s fits e = subst FitsAt (some_same (b, m) s e) fits
@@ -479,10 +495,11 @@ last_push (y ∷ w) x d = last_push w x y
 
 no_digit_end : (w t : List ℕ) → (eqb 48 (last_or t 0) ≡ false) → same_bytes (push w 48) t ≡ false
 no_digit_end w t apart = elim (cases_Bool (same_bytes (push w 48) t)) [
-    inl e ↦
+  | inl e ↦
       let last : last_or t 0 ≡ 48 = ap (λ (v : List ℕ). last_or v 0) (sym (same_is (push w 48) t e)) ∙ last_push w 48 0 in
       absurd (both_ways (eqb 48 (last_or t 0)) apart (ap (eqb 48) last))
-  | inr e ↦ e ]
+  | inr e ↦ e
+]
 
 no_keyword : (w : List ℕ) → is_among keywords (push w 48) ≡ false
 unfolding last_or
@@ -503,9 +520,9 @@ completes_by : (b : Builder) (front : List ℕ) (x : Lexeme) (more : List ℕ) �
 completes_by b front x more bytes whole stands =
     let next = there (next_stand b.stand x) stands in
     record { symbol = x; more = more; next = next.0; bytes = bytes; whole = whole; stands = next.1 } where
-  there : (o : Option Stand) → is_some o ≡ true → (t : Stand) × (o ≡ Some t)
-  there None h = absurd cc
-  there (Some t) h = (t, refl)
+      there : (o : Option Stand) → is_some o ≡ true → (t : Stand) × (o ≡ Some t)
+      there None h = absurd cc
+      there (Some t) h = (t, refl)
 
 name_ends : (w : List ℕ) → is_lower_word w ≡ true → is_identifier (push w 48) ≡ true
 name_ends [] h = absurd cc
@@ -537,8 +554,9 @@ word_completes wanted.Kind b w e fits =
     completes_by b w (lexeme.Kind (w ++ rest.0)) rest.0 refl rest.1 (kind_next b.stand (w ++ rest.0) e)
 word_completes wanted.Variable b w e fits = variable_completes b w fits (ap wants_variables e) (ap (λ (k : Wanted). may_begin k fits.first) (sym e) ∙ fits.begins)
 word_completes wanted.Term b w e fits = elim (or_cases (is_upper fits.first) (is_lower fits.first) (ap (λ (k : Wanted). may_begin k fits.first) (sym e) ∙ fits.begins)) [
-    inl u ↦ variable_completes b w fits (ap wants_variables e) u
-  | inr l ↦ name_completes b w fits (ap wants_names e) l ]
+  | inl u ↦ variable_completes b w fits (ap wants_variables e) u
+  | inr l ↦ name_completes b w fits (ap wants_names e) l
+]
 
 ends_by_letter : (t : List ℕ) → list_all is_terminal_byte t ≡ true → is_terminal (push t 120) ≡ true
 ends_by_letter [] h = refl
@@ -546,10 +564,10 @@ ends_by_letter (x ∷ []) h = let parts = and_parts (is_terminal_byte x) true h 
 ends_by_letter (x ∷ y ∷ t) h =
     let bytes : list_all is_terminal_byte (push (x ∷ y ∷ t) 120) ≡ true = list_all-append is_terminal_byte (x ∷ y ∷ t) (120 ∷ []) ∙ and_from (list_all is_terminal_byte (x ∷ y ∷ t)) true h refl in
     and_from (list_all is_terminal_byte (push (x ∷ y ∷ t) 120)) (ends_well (push (y ∷ t) 120)) bytes (well (y ∷ t)) where
-  well : (t : List ℕ) → ends_well (push t 120) ≡ true
-  well [] = refl
-  well (x ∷ []) = refl
-  well (x ∷ y ∷ t) = well (y ∷ t)
+      well : (t : List ℕ) → ends_well (push t 120) ≡ true
+      well [] = refl
+      well (x ∷ []) = refl
+      well (x ∷ y ∷ t) = well (y ∷ t)
 
 terminal_completes : (b : Builder) (t : List ℕ) → TerminalFits b t → Completes b (91 ∷ t)
 terminal_completes b t fits = completes_by b (91 ∷ t) (lexeme.Terminal (push t 120)) (120 ∷ 93 ∷ []) (ap (λ (v : List ℕ). 91 ∷ v) (append_assoc t (120 ∷ []) (93 ∷ []))) (ends_by_letter t fits.bytes) fits.takes
@@ -559,8 +577,12 @@ behind_symbol : (b : Builder) (m : Mode) → reach b between (front m) ≡ Some 
 behind_symbol b m reached c =
     let rest = spaced (ending c.next) in
     let begins : Begins false (front m ++ (c.more ++ rest)) c.symbol rest = record {
-      gap = []; between = refl; symbol = c.whole; longest = spaced_stops c.symbol (ending c.next);
-      parts = sym (append_assoc (front m) c.more rest) ∙ ap (λ (v : List ℕ). v ++ rest) (sym c.bytes) } in
+      gap = [];
+      between = refl;
+      symbol = c.whole;
+      longest = spaced_stops c.symbol (ending c.next);
+      parts = sym (append_assoc (front m) c.more rest) ∙ ap (λ (v : List ℕ). v ++ rest) (sym c.bytes);
+    } in
     let spells : SpellsFrom false (front m ++ (c.more ++ rest)) (c.symbol ∷ ending c.next) = (rest, begins, spaced_spells (ending c.next) (ending_symbols c.next)) in
     let leads : runs b.stand (c.symbol ∷ ending c.next) ≡ Some stand.Items = ap (λ (o : Option Stand). o >>= λ t. runs t (ending c.next)) c.stands ∙ ending_leads c.next in
     let end = spelled_final (c.symbol ∷ ending c.next) (front m ++ (c.more ++ rest)) false b stand.Items spells leads in

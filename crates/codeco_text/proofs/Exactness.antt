@@ -63,10 +63,11 @@ ends_spelling text items e =
     let leads : runs stand.Items (lexemes items) ≡ Some stand.Items = ap (runs stand.Items) symbols ∙ s.leads ∙ ap (λ (t : Stand). Some t) e.stands in
     record {
       fits = fits_from (list_all item_fits items) (sym (items_run items) ∙ leads);
-      spells = subst (λ (xs : List Lexeme). SpellsFrom false text xs) (sym symbols) s.spells } where
-  fits_from : (t : Bool) → only_if t (Some stand.Items) ≡ Some stand.Items → t ≡ true
-  fits_from true h = refl
-  fits_from false h = absurd cc
+      spells = subst (λ (xs : List Lexeme). SpellsFrom false text xs) (sym symbols) s.spells;
+    } where
+      fits_from : (t : Bool) → only_if t (Some stand.Items) ≡ Some stand.Items → t ≡ true
+      fits_from true h = refl
+      fits_from false h = absurd cc
 
 -- what is spelled is taken
 pub spelling_ends : (text : List ℕ) (items : List WrittenItem) → IsSpelling text items → (d : Builder) × (final fresh between text ≡ Some d) × (d.stand ≡ stand.Items) × (so_far d ≡ lexemes items)
@@ -98,22 +99,31 @@ reading_err [] b m n place e =
     let h = place_err (ended b m) n place e in
     record { front = []; back = []; parts = refl; at = omega (arith, h.1); builder = b; mode = m; reached = refl; bad = inl (refl, h.0) }
 reading_err (x ∷ xs) b m n place e = elim (carry_err (step b m x) n place (λ s. reading s.0 s.1 xs (n + 1)) e) [
-    inl h ↦ record { front = []; back = x ∷ xs; parts = refl; at = omega (arith, h.1); builder = b; mode = m; reached = refl; bad = inr (x, xs, refl, h.0) }
+  | inl h ↦ record { front = []; back = x ∷ xs; parts = refl; at = omega (arith, h.1); builder = b; mode = m; reached = refl; bad = inr (x, xs, refl, h.0) }
   | inr h ↦
       let rest = reading_err xs h.0.0 h.0.1 (n + 1) place h.2 in
       let count : place ≡ n + length (x ∷ rest.front) = omega (arith, rest.at) in
-      record { front = x ∷ rest.front; back = rest.back; parts = ap (λ (v : List ℕ). x ∷ v) rest.parts; at = count; builder = rest.builder; mode = rest.mode;
-        reached = ap (λ (o : Option (Builder × Mode)). o >>= λ t. reach t.0 t.1 rest.front) h.1 ∙ rest.reached; bad = rest.bad } ]
+      record {
+        front = x ∷ rest.front;
+        back = rest.back;
+        parts = ap (λ (v : List ℕ). x ∷ v) rest.parts;
+        at = count;
+        builder = rest.builder;
+        mode = rest.mode;
+        reached = ap (λ (o : Option (Builder × Mode)). o >>= λ t. reach t.0 t.1 rest.front) h.1 ∙ rest.reached;
+        bad = rest.bad;
+      }
+]
 
 -- no sentence goes on from where a step fails
 dead_end : (front : List ℕ) (x : ℕ) (more : List ℕ) (c : Builder) (k : Mode) → reach fresh between front ≡ Some (c, k) → step c k x ≡ None → IsSentence ((front ++ x ∷ []) ++ more) → ⊥
 dead_end front x more c k reached stops sentence =
     let d = spelling_ends ((front ++ x ∷ []) ++ more) sentence.0 sentence.1 in
     let here : final fresh between ((front ++ x ∷ []) ++ more) ≡ None =
-      ap (final fresh between) (append_assoc front (x ∷ []) more)
-      ∙ reach_final front (x ∷ more) fresh between
-      ∙ ap (λ (o : Option (Builder × Mode)). o >>= λ s. final s.0 s.1 (x ∷ more)) reached
-      ∙ ap (λ (o : Option (Builder × Mode)). o >>= λ s. final s.0 s.1 more) stops in
+    ap (final fresh between) (append_assoc front (x ∷ []) more)
+    ∙ reach_final front (x ∷ more) fresh between
+    ∙ ap (λ (o : Option (Builder × Mode)). o >>= λ s. final s.0 s.1 (x ∷ more)) reached
+    ∙ ap (λ (o : Option (Builder × Mode)). o >>= λ s. final s.0 s.1 more) stops in
     none_some (final fresh between ((front ++ x ∷ []) ++ more)) d.0 here d.1
 
 -- nor is one there where a reading that isn't between items ends
@@ -121,24 +131,24 @@ open_end : (front : List ℕ) (c : Builder) (k : Mode) → reach fresh between f
 open_end front c k reached stops sentence =
     let d = spelling_ends front sentence.0 sentence.1 in
     let here : final fresh between front ≡ finish c k =
-      sym (ap (final fresh between) (append-nil front))
-      ∙ reach_final front [] fresh between
-      ∙ ap (λ (o : Option (Builder × Mode)). o >>= λ s. final s.0 s.1 []) reached in
+    sym (ap (final fresh between) (append-nil front))
+    ∙ reach_final front [] fresh between
+    ∙ ap (λ (o : Option (Builder × Mode)). o >>= λ s. final s.0 s.1 []) reached in
     let whole : ended c k ≡ Some d.0.items =
-      ap (λ (o : Option Builder). o >>= λ c. guard (is_between_items c.stand) c.items) (sym here ∙ d.1)
-      ∙ ap (λ (s : Stand). guard (is_between_items s) d.0.items) d.2 in
+    ap (λ (o : Option Builder). o >>= λ c. guard (is_between_items c.stand) c.items) (sym here ∙ d.1)
+    ∙ ap (λ (s : Stand). guard (is_between_items s) d.0.items) d.2 in
     clash (ended c k) d.0.items stops whole where
-  clash : (o : Option (List WrittenItem)) (items : List WrittenItem) → o ≡ None → o ≡ Some items → ⊥
-  clash o items p q = cc
+      clash : (o : Option (List WrittenItem)) (items : List WrittenItem) → o ≡ None → o ≡ Some items → ⊥
+      clash o items p q = cc
 
 -- the bytes before go on to a sentence
 goes_on_from : (front : List ℕ) (c : Builder) (k : Mode) → reach fresh between front ≡ Some (c, k) → HasContinuation front
 goes_on_from front c k reached =
     let end = continuation c k (reach_fits front fresh between (c, k) tt reached) in
     let taken : final fresh between (front ++ end.0) ≡ Some end.1 =
-      reach_final front end.0 fresh between
-      ∙ ap (λ (o : Option (Builder × Mode)). o >>= λ s. final s.0 s.1 end.0) reached
-      ∙ end.2 in
+    reach_final front end.0 fresh between
+    ∙ ap (λ (o : Option (Builder × Mode)). o >>= λ s. final s.0 s.1 end.0) reached
+    ∙ end.2 in
     (end.0, (end.1.items, ends_spelling (front ++ end.0) end.1.items (record { last = end.1; taken = taken; stands = end.3; has = refl })))
 
 pub stops_fault : (text : List ℕ) (place : ℕ) → Stops fresh between text 0 place → IsSyntaxFault text place
@@ -149,23 +159,26 @@ stops_fault text place s =
     record {
       within = omega (arith, count, at);
       none = λ sentence. elim s.bad [
-        inl h ↦
-          let whole : text ≡ s.front = s.parts ∙ ap (λ (v : List ℕ). s.front ++ v) h.0 ∙ append-nil s.front in
-          open_end s.front s.builder s.mode s.reached h.1 (subst IsSentence whole sentence)
-      | inr h ↦
-          let whole : text ≡ (s.front ++ h.0 ∷ []) ++ h.1 = s.parts ∙ ap (λ (v : List ℕ). s.front ++ v) h.2 ∙ sym (append_assoc s.front (h.0 ∷ []) h.1) in
-          dead_end s.front h.0 h.1 s.builder s.mode s.reached h.3 (subst IsSentence whole sentence) ];
+        | inl h ↦
+            let whole : text ≡ s.front = s.parts ∙ ap (λ (v : List ℕ). s.front ++ v) h.0 ∙ append-nil s.front in
+            open_end s.front s.builder s.mode s.reached h.1 (subst IsSentence whole sentence)
+        | inr h ↦
+            let whole : text ≡ (s.front ++ h.0 ∷ []) ++ h.1 = s.parts ∙ ap (λ (v : List ℕ). s.front ++ v) h.2 ∙ sym (append_assoc s.front (h.0 ∷ []) h.1) in
+            dead_end s.front h.0 h.1 s.builder s.mode s.reached h.3 (subst IsSentence whole sentence)
+      ];
       before = subst HasContinuation (sym before) (goes_on_from s.front s.builder s.mode s.reached);
       at = λ lt goes. elim s.bad [
-        inl h ↦
-          let none : length s.back ≡ 0 = ap length h.0 in
-          omega (arith, lt, count, at, none)
-      | inr h ↦
-          let whole : text ≡ (s.front ++ h.0 ∷ []) ++ h.1 = s.parts ∙ ap (λ (v : List ℕ). s.front ++ v) h.2 ∙ sym (append_assoc s.front (h.0 ∷ []) h.1) in
-          let long : length (s.front ++ h.0 ∷ []) ≡ place + 1 = length-append s.front (h.0 ∷ []) ∙ omega (arith, at) in
-          let upto : take (place + 1) text ≡ s.front ++ h.0 ∷ [] = ap (take (place + 1)) whole ∙ take_at (s.front ++ h.0 ∷ []) h.1 (place + 1) long in
-          let there : HasContinuation (s.front ++ h.0 ∷ []) = subst HasContinuation upto goes in
-          dead_end s.front h.0 there.0 s.builder s.mode s.reached h.3 there.1 ] }
+        | inl h ↦
+            let none : length s.back ≡ 0 = ap length h.0 in
+            omega (arith, lt, count, at, none)
+        | inr h ↦
+            let whole : text ≡ (s.front ++ h.0 ∷ []) ++ h.1 = s.parts ∙ ap (λ (v : List ℕ). s.front ++ v) h.2 ∙ sym (append_assoc s.front (h.0 ∷ []) h.1) in
+            let long : length (s.front ++ h.0 ∷ []) ≡ place + 1 = length-append s.front (h.0 ∷ []) ∙ omega (arith, at) in
+            let upto : take (place + 1) text ≡ s.front ++ h.0 ∷ [] = ap (take (place + 1)) whole ∙ take_at (s.front ++ h.0 ∷ []) h.1 (place + 1) long in
+            let there : HasContinuation (s.front ++ h.0 ∷ []) = subst HasContinuation upto goes in
+            dead_end s.front h.0 there.0 s.builder s.mode s.reached h.3 there.1
+      ];
+    }
 
 -- What a reading of the whole text answers
 

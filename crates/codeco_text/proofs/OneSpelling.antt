@@ -66,7 +66,7 @@ listed_split f (h ∷ hs) g [] r s e =
     absurd (let clash = one.1 in cc)
 listed_split f (h ∷ hs) g (k ∷ ks) r s e =
     let one = feat_split f g (lexeme.Sign sign.Comma ∷ (listed (map feat_lexemes (h ∷ hs)) ++ lexeme.Sign sign.CloseParen ∷ r)) (lexeme.Sign sign.Comma ∷ (listed (map feat_lexemes (k ∷ ks)) ++ lexeme.Sign sign.CloseParen ∷ s))
-      (sym (append_assoc (feat_lexemes f) (lexeme.Sign sign.Comma ∷ listed (map feat_lexemes (h ∷ hs))) (lexeme.Sign sign.CloseParen ∷ r)) ∙ e ∙ append_assoc (feat_lexemes g) (lexeme.Sign sign.Comma ∷ listed (map feat_lexemes (k ∷ ks))) (lexeme.Sign sign.CloseParen ∷ s)) in
+    (sym (append_assoc (feat_lexemes f) (lexeme.Sign sign.Comma ∷ listed (map feat_lexemes (h ∷ hs))) (lexeme.Sign sign.CloseParen ∷ r)) ∙ e ∙ append_assoc (feat_lexemes g) (lexeme.Sign sign.Comma ∷ listed (map feat_lexemes (k ∷ ks))) (lexeme.Sign sign.CloseParen ∷ s)) in
     let others = listed_split h hs k ks r s (tail_is one.1) in
     (ap (λ (x : WrittenFeat). x ∷ h ∷ hs) one.0 ∙ ap (λ (xs : List WrittenFeat). g ∷ xs) others.0, others.1)
 
@@ -83,7 +83,7 @@ named_split : (how : List ℕ → Lexeme) (c d : WrittenCategory) (r s : List Le
     → category_lexemes (how c.name) c.feats ++ r ≡ category_lexemes (how d.name) d.feats ++ s → (c ≡ d) × (r ≡ s)
 named_split how c d r s h k inj e =
     let shaped : how c.name ∷ (features c.feats ++ r) ≡ how d.name ∷ (features d.feats ++ s) =
-      sym (ap (λ (xs : List Lexeme). xs ++ r) (category_features (how c.name) c.feats)) ∙ e ∙ ap (λ (xs : List Lexeme). xs ++ s) (category_features (how d.name) d.feats) in
+    sym (ap (λ (xs : List Lexeme). xs ++ r) (category_features (how c.name) c.feats)) ∙ e ∙ ap (λ (xs : List Lexeme). xs ++ s) (category_features (how d.name) d.feats) in
     let name = inj c.name d.name (head_is (how c.name) (how d.name) (features c.feats ++ r) (features d.feats ++ s) shaped) in
     let rest = features_split c.feats d.feats r s h k (tail_is shaped) in
     (category_eq c d name rest.0, rest.1)
@@ -118,7 +118,7 @@ signed_own y [] (d ∷ ds) r s o own h k e = absurd (without_clash y r ((named d
 signed_own y (c ∷ cs) [] r s o own h k e = absurd (without_clash y s ((named c ++ signed y cs) ++ r) own k (sym e))
 signed_own y (c ∷ cs) (d ∷ ds) r s o own h k e =
     let one = named_split (λ w. lexeme.Identifier w) c d (signed y cs ++ r) (signed y ds ++ s) (signed_plain y cs r o h) (signed_plain y ds s o k) (λ w v g. cc)
-      (sym (append_assoc (named c) (signed y cs) r) ∙ tail_is e ∙ append_assoc (named d) (signed y ds) s) in
+    (sym (append_assoc (named c) (signed y cs) r) ∙ tail_is e ∙ append_assoc (named d) (signed y ds) s) in
     let others = signed_own y cs ds r s o own h k one.1 in
     (ap (λ (x : WrittenCategory). x ∷ cs) one.0 ∙ ap (λ (xs : List WrittenCategory). d ∷ xs) others.0, others.1)
 
@@ -146,7 +146,7 @@ minus_without_plus (n ∷ ns) r h = refl
 back_split : (ps ns qs ms : List WrittenCategory) (r s : List Lexeme) → starts_body r ≡ true → starts_body s ≡ true → (signed sign.Plus ps ++ signed sign.Minus ns) ++ r ≡ (signed sign.Plus qs ++ signed sign.Minus ms) ++ s → (element.Back ps ns ≡ element.Back qs ms) × (r ≡ s)
 back_split ps ns qs ms r s h k e =
     let one = signed_own sign.Plus ps qs (signed sign.Minus ns ++ r) (signed sign.Minus ms ++ s) refl refl (minus_without_plus ns r h) (minus_without_plus ms s k)
-      (sym (append_assoc (signed sign.Plus ps) (signed sign.Minus ns) r) ∙ e ∙ append_assoc (signed sign.Plus qs) (signed sign.Minus ms) s) in
+    (sym (append_assoc (signed sign.Plus ps) (signed sign.Minus ns) r) ∙ e ∙ append_assoc (signed sign.Plus qs) (signed sign.Minus ms) s) in
     let others = signed_own sign.Minus ns ms r s refl refl (body_without_minus r h) (body_without_minus s k) one.1 in
     (ap (λ (x : List WrittenCategory). element.Back x ns) one.0 ∙ ap (λ (x : List WrittenCategory). element.Back qs x) others.0, others.1)
 
@@ -303,7 +303,7 @@ body_split [] (f ∷ fs) r s e = absurd (stop_clash f fs r s e)
 body_split (g ∷ es) [] r s e = absurd (stop_clash g es s r (sym e))
 body_split (g ∷ es) (f ∷ fs) r s e =
     let one = element_split g f (body_lexemes es ++ lexeme.Sign sign.Stop ∷ r) (body_lexemes fs ++ lexeme.Sign sign.Stop ∷ s) (body_starts es r) (body_starts fs s)
-      (sym (append_assoc (element_lexemes g) (body_lexemes es) (lexeme.Sign sign.Stop ∷ r)) ∙ e ∙ append_assoc (element_lexemes f) (body_lexemes fs) (lexeme.Sign sign.Stop ∷ s)) in
+    (sym (append_assoc (element_lexemes g) (body_lexemes es) (lexeme.Sign sign.Stop ∷ r)) ∙ e ∙ append_assoc (element_lexemes f) (body_lexemes fs) (lexeme.Sign sign.Stop ∷ s)) in
     let others = body_split es fs r s one.1 in
     (ap (λ (x : WrittenElement). x ∷ es) one.0 ∙ ap (λ (xs : List WrittenElement). f ∷ xs) others.0, others.1)
 

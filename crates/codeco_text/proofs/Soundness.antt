@@ -141,10 +141,12 @@ feature_among w h = rw h refl
 
 value_among : (w : List ℕ) → (same_bytes w (codes "word") || same_bytes w (codes "position")) ≡ true → is_among keywords w ≡ true
 value_among w h = elim (cases_Bool (same_bytes w (codes "feature"))) [
-    inl e ↦ rw e refl
+  | inl e ↦ rw e refl
   | inr e ↦ rw e (elim (cases_Bool (same_bytes w (codes "word"))) [
-      inl f ↦ rw f refl
-    | inr f ↦ let last : same_bytes w (codes "position") ≡ true = rw f at h in rw (f, last) refl ]) ]
+    | inl f ↦ rw f refl
+    | inr f ↦ let last : same_bytes w (codes "position") ≡ true = rw f at h in rw (f, last) refl
+  ])
+]
 
 keyword_some : (t : Bool) (w : List ℕ) (x : Lexeme) → (t ≡ true → is_among keywords w ≡ true) → cond t (Some (lexeme.Keyword w)) (identifier w) ≡ Some x → (lexeme_bytes x ≡ w) × (is_symbol x ≡ true)
 keyword_some true w x h e =

@@ -72,7 +72,8 @@ new_symbol b d c x m k text rest grown h s = record {
   symbols = x ∷ s.symbols;
   spells = h s.symbols s.spells;
   grows = s.grows ∙ ap (λ (t : List Lexeme). t ++ s.symbols) (grow_adds b x d grown) ∙ append_assoc (so_far b) (x ∷ []) s.symbols;
-  leads = ap (λ (o : Option Stand). o >>= λ t. runs t s.symbols) (grow_stand b x d grown) ∙ s.leads }
+  leads = ap (λ (o : Option Stand). o >>= λ t. runs t s.symbols) (grow_stand b x d grown) ∙ s.leads;
+}
 
 -- only a reference's patterns have a - before them
 minus_stand : (s t : Stand) → next_stand s (lexeme.Sign sign.Minus) ≡ Some t → t ≡ stand.Category part.Name role.Negative
@@ -131,11 +132,12 @@ none_some o c p q = cc
 minus_longest : (d c : Builder) (rest : List ℕ) → d.stand ≡ stand.Category part.Name role.Negative → final d between rest ≡ Some c → has_front (codes "->") rest ≡ false
 minus_longest d c [] e f = refl
 minus_longest d c (b ∷ rest) e f = elim (cases_Bool (has_front (codes "->") (b ∷ rest))) [
-    inl h ↦
+  | inl h ↦
       let is : begin d b ≡ None = ap (begin d) (front_dash b rest h) ∙ no_dash d e in
       let none : final d between (b ∷ rest) ≡ None = ap (λ (o : Option (Builder × Mode)). o >>= λ s. final s.0 s.1 rest) is in
       absurd (none_some (final d between (b ∷ rest)) c none f)
-  | inr h ↦ h ]
+  | inr h ↦ h
+]
 
 -- a byte outside symbols
 
@@ -145,11 +147,12 @@ IsSingle b x = (sign_bytes x ≡ b ∷ []) × ((rest : List ℕ) → goes_on (le
 single_at : (n b : ℕ) (one x : Sign) (o : Option Sign) → ((sign_bytes one ≡ n ∷ []) × ((rest : List ℕ) → goes_on (lexeme.Sign one) rest ≡ false)) → (o ≡ Some x → (sign_bytes x ≡ b ∷ []) × ((rest : List ℕ) → goes_on (lexeme.Sign x) rest ≡ false))
     → cond (eqb b n) (Some one) o ≡ Some x → (sign_bytes x ≡ b ∷ []) × ((rest : List ℕ) → goes_on (lexeme.Sign x) rest ≡ false)
 single_at n b one x o good others e = elim (chosen (eqb b n) (Some one) o (Some x) e) [
-    inl h ↦
+  | inl h ↦
       let is : one ≡ x = let p = h.1 in cc in
       let byte : n ≡ b = sym (eqb-true b n h.0) in
       subst (λ (k : ℕ). (sign_bytes x ≡ k ∷ []) × ((rest : List ℕ) → goes_on (lexeme.Sign x) rest ≡ false)) byte (subst (λ (t : Sign). (sign_bytes t ≡ n ∷ []) × ((rest : List ℕ) → goes_on (lexeme.Sign t) rest ≡ false)) is good)
-  | inr h ↦ others h.1 ]
+  | inr h ↦ others h.1
+]
 
 none_sign : {A : Type 0} (x : Sign) → None ≡ Some x → A
 none_sign x e = absurd cc
@@ -191,13 +194,14 @@ spelled_at s t rest c e h = subst (λ (u : Builder × Mode). Behind u rest c) (s
 
 dash_spelled : (d c : Builder) (rest : List ℕ) (s : Builder × Mode) → begin_dash d ≡ Some s → Behind s rest c → Spelled d between (45 ∷ rest) c
 dash_spelled d c rest s e h = elim (chosen (takes_sign d sign.Minus) (behind (grow d (lexeme.Sign sign.Minus))) (guard (takes_sign d sign.Normal) (d, dash)) (Some s) e) [
-    inl p ↦
+  | inl p ↦
       let g = behind_some (grow d (lexeme.Sign sign.Minus)) s p.1 in
       let after = spelled_at s (g.0, between) rest c g.2 h in
       one_byte d g.0 c (lexeme.Sign sign.Minus) 45 rest g.1 refl refl (minus_longest g.0 c rest (minus_stand d.stand g.0.stand (grow_stand d (lexeme.Sign sign.Minus) g.0 g.1)) after.ends) after.spelled
   | inr p ↦
       let g = guard_some (takes_sign d sign.Normal) (d, dash) s p.1 in
-      begins_by d c dash 45 rest (λ xs f. f) (spelled_at s (d, dash) rest c g.1 h).spelled ]
+      begins_by d c dash 45 rest (λ xs f. f) (spelled_at s (d, dash) rest c g.1 h).spelled
+]
 
 single_spelled : (d c : Builder) (b : ℕ) (rest : List ℕ) (s : Builder × Mode) → begin_single d b ≡ Some s → Behind s rest c → Spelled d between (b ∷ rest) c
 single_spelled d c b rest s e h =
@@ -208,36 +212,44 @@ single_spelled d c b rest s e h =
 
 sign_spelled : (d c : Builder) (b : ℕ) (rest : List ℕ) (s : Builder × Mode) → begin_sign d b ≡ Some s → Behind s rest c → Spelled d between (b ∷ rest) c
 sign_spelled d c b rest s e h = elim (chosen (eqb b 91) (guard (takes_terminal d) (d, terminal [])) _ (Some s) e) [
-    inl p ↦
+  | inl p ↦
       let g = guard_some (takes_terminal d) (d, terminal []) s p.1 in
       subst (Goal d c rest) (sym (eqb-true b 91 p.0)) (begins_by d c (terminal []) 91 rest (λ xs f. f) (spelled_at s (d, terminal []) rest c g.1 h).spelled)
   | inr p ↦ elim (chosen (eqb b 45) (begin_dash d) _ (Some s) p.1) [
-    inl q ↦ subst (Goal d c rest) (sym (eqb-true b 45 q.0)) (dash_spelled d c rest s q.1 h)
-  | inr q ↦ elim (chosen (eqb b 126) (guard (takes_sign d sign.Closing) (d, tilde)) _ (Some s) q.1) [
-    inl r ↦
-      let g = guard_some (takes_sign d sign.Closing) (d, tilde) s r.1 in
-      subst (Goal d c rest) (sym (eqb-true b 126 r.0)) (begins_by d c tilde 126 rest (λ xs f. f) (spelled_at s (d, tilde) rest c g.1 h).spelled)
-  | inr r ↦ elim (chosen (eqb b 47) (guard (takes_sign d sign.Scope) (d, slash)) _ (Some s) r.1) [
-    inl t ↦
-      let g = guard_some (takes_sign d sign.Scope) (d, slash) s t.1 in
-      subst (Goal d c rest) (sym (eqb-true b 47 t.0)) (begins_by d c slash 47 rest (λ xs f. f) (spelled_at s (d, slash) rest c g.1 h).spelled)
-  | inr t ↦ elim (chosen (eqb b 62) (guard (takes_sign d sign.Weak) (d, greater)) (begin_single d b) (Some s) t.1) [
-    inl u ↦
-      let g = guard_some (takes_sign d sign.Weak) (d, greater) s u.1 in
-      subst (Goal d c rest) (sym (eqb-true b 62 u.0)) (begins_by d c greater 62 rest (λ xs f. f) (spelled_at s (d, greater) rest c g.1 h).spelled)
-  | inr u ↦ single_spelled d c b rest s u.1 h ] ] ] ] ]
+    | inl q ↦ subst (Goal d c rest) (sym (eqb-true b 45 q.0)) (dash_spelled d c rest s q.1 h)
+    | inr q ↦ elim (chosen (eqb b 126) (guard (takes_sign d sign.Closing) (d, tilde)) _ (Some s) q.1) [
+      | inl r ↦
+          let g = guard_some (takes_sign d sign.Closing) (d, tilde) s r.1 in
+          subst (Goal d c rest) (sym (eqb-true b 126 r.0)) (begins_by d c tilde 126 rest (λ xs f. f) (spelled_at s (d, tilde) rest c g.1 h).spelled)
+      | inr r ↦ elim (chosen (eqb b 47) (guard (takes_sign d sign.Scope) (d, slash)) _ (Some s) r.1) [
+        | inl t ↦
+            let g = guard_some (takes_sign d sign.Scope) (d, slash) s t.1 in
+            subst (Goal d c rest) (sym (eqb-true b 47 t.0)) (begins_by d c slash 47 rest (λ xs f. f) (spelled_at s (d, slash) rest c g.1 h).spelled)
+        | inr t ↦ elim (chosen (eqb b 62) (guard (takes_sign d sign.Weak) (d, greater)) (begin_single d b) (Some s) t.1) [
+          | inl u ↦
+              let g = guard_some (takes_sign d sign.Weak) (d, greater) s u.1 in
+              subst (Goal d c rest) (sym (eqb-true b 62 u.0)) (begins_by d c greater 62 rest (λ xs f. f) (spelled_at s (d, greater) rest c g.1 h).spelled)
+          | inr u ↦ single_spelled d c b rest s u.1 h
+        ]
+      ]
+    ]
+  ]
+]
 
 some_is : {A : Type 0} (x y : A) → Some x ≡ Some y → x ≡ y
 some_is x y e = cc
 
 begin_spelled : (d c : Builder) (b : ℕ) (rest : List ℕ) (s : Builder × Mode) → begin d b ≡ Some s → Behind s rest c → Spelled d between (b ∷ rest) c
 begin_spelled d c b rest s e h = elim (chosen (is_space b) (Some (d, between)) _ (Some s) e) [
-    inl p ↦ same_builder d c between between (b ∷ rest) rest (λ xs. spells_space b rest xs p.0) (spelled_at s (d, between) rest c (some_is (d, between) s p.1) h).spelled
+  | inl p ↦ same_builder d c between between (b ∷ rest) rest (λ xs. spells_space b rest xs p.0) (spelled_at s (d, between) rest c (some_is (d, between) s p.1) h).spelled
   | inr p ↦ elim (chosen (eqb b 37) (Some (d, comment)) _ (Some s) p.1) [
-    inl q ↦ same_builder d c between comment (b ∷ rest) rest (λ xs. spells_comment b rest xs (eqb-true b 37 q.0)) (spelled_at s (d, comment) rest c (some_is (d, comment) s q.1) h).spelled
-  | inr q ↦ elim (chosen (may_begin (wants d.stand) b) (Some (d, word (b ∷ []))) (begin_sign d b) (Some s) q.1) [
-    inl r ↦ begins_by d c (word (b ∷ [])) b rest (λ xs f. f) (spelled_at s (d, word (b ∷ [])) rest c (some_is (d, word (b ∷ [])) s r.1) h).spelled
-  | inr r ↦ sign_spelled d c b rest s r.1 h ] ] ]
+    | inl q ↦ same_builder d c between comment (b ∷ rest) rest (λ xs. spells_comment b rest xs (eqb-true b 37 q.0)) (spelled_at s (d, comment) rest c (some_is (d, comment) s q.1) h).spelled
+    | inr q ↦ elim (chosen (may_begin (wants d.stand) b) (Some (d, word (b ∷ []))) (begin_sign d b) (Some s) q.1) [
+      | inl r ↦ begins_by d c (word (b ∷ [])) b rest (λ xs f. f) (spelled_at s (d, word (b ∷ [])) rest c (some_is (d, word (b ∷ [])) s r.1) h).spelled
+      | inr r ↦ sign_spelled d c b rest s r.1 h
+    ]
+  ]
+]
 
 -- one byte in a symbol
 
@@ -247,7 +259,7 @@ comment_from false rest xs h = h
 
 word_spelled : (b c : Builder) (w : List ℕ) (x : ℕ) (rest : List ℕ) (s : Builder × Mode) → step b (word w) x ≡ Some s → Behind s rest c → Spelled b (word w) (x ∷ rest) c
 word_spelled b c w x rest s e h = elim (chosen (is_word_byte x) (guard (may_go_on (wants b.stand) (push w x)) (b, word (push w x))) (finish b (word w) >>= λ d. begin d x) (Some s) e) [
-    inl p ↦
+  | inl p ↦
       let g = guard_some (may_go_on (wants b.stand) (push w x)) (b, word (push w x)) s p.1 in
       same_builder b c (word w) (word (push w x)) (x ∷ rest) rest (λ xs f. continues_more w x rest xs f) (spelled_at s (b, word (push w x)) rest c g.1 h).spelled
   | inr p ↦
@@ -255,20 +267,23 @@ word_spelled b c w x rest s e h = elim (chosen (is_word_byte x) (guard (may_go_o
       let y = bind_some (as_word (wants b.stand) w) (λ y. grow b y) f.0 f.1 in
       let is = word_some (wants b.stand) w y.0 y.1 in
       new_symbol b f.0 c y.0 (word w) between (x ∷ rest) (x ∷ rest) y.2
-        (λ xs k. continues_before w (x ∷ rest) y.0 xs is.0 is.1 (word_stops y.0 x rest (word_is (wants b.stand) w y.0 y.1) p.0) k)
-        (begin_spelled f.0 c x rest s f.2 h) ]
+      (λ xs k. continues_before w (x ∷ rest) y.0 xs is.0 is.1 (word_stops y.0 x rest (word_is (wants b.stand) w y.0 y.1) p.0) k)
+      (begin_spelled f.0 c x rest s f.2 h)
+]
 
 terminal_spelled : (b c : Builder) (t : List ℕ) (x : ℕ) (rest : List ℕ) (s : Builder × Mode) → step b (terminal t) x ≡ Some s → Behind s rest c → Spelled b (terminal t) (x ∷ rest) c
 terminal_spelled b c t x rest s e h = elim (chosen (eqb x 93) (if_terminal b t) (guard (is_terminal_byte x) (b, terminal (push t x))) (Some s) e) [
-    inl p ↦ elim (chosen (is_terminal t) (behind (grow b (lexeme.Terminal t))) None (Some s) p.1) [
-      inl q ↦
+  | inl p ↦ elim (chosen (is_terminal t) (behind (grow b (lexeme.Terminal t))) None (Some s) p.1) [
+    | inl q ↦
         let g = behind_some (grow b (lexeme.Terminal t)) s q.1 in
         subst (λ (n : ℕ). Spelled b (terminal t) (n ∷ rest) c) (sym (eqb-true x 93 p.0))
-          (new_symbol b g.0 c (lexeme.Terminal t) (terminal t) between (93 ∷ rest) rest g.1 (λ xs k. continues_whole (91 ∷ t) 93 rest (lexeme.Terminal t) xs refl q.0 refl k) (spelled_at s (g.0, between) rest c g.2 h).spelled)
-    | inr q ↦ absurd (let f = q.1 in cc) ]
+        (new_symbol b g.0 c (lexeme.Terminal t) (terminal t) between (93 ∷ rest) rest g.1 (λ xs k. continues_whole (91 ∷ t) 93 rest (lexeme.Terminal t) xs refl q.0 refl k) (spelled_at s (g.0, between) rest c g.2 h).spelled)
+    | inr q ↦ absurd (let f = q.1 in cc)
+  ]
   | inr p ↦
       let g = guard_some (is_terminal_byte x) (b, terminal (push t x)) s p.1 in
-      same_builder b c (terminal t) (terminal (push t x)) (x ∷ rest) rest (λ xs f. continues_more (91 ∷ t) x rest xs f) (spelled_at s (b, terminal (push t x)) rest c g.1 h).spelled ]
+      same_builder b c (terminal t) (terminal (push t x)) (x ∷ rest) rest (λ xs f. continues_more (91 ∷ t) x rest xs f) (spelled_at s (b, terminal (push t x)) rest c g.1 h).spelled
+]
 
 -- a further byte of a sign
 further : (b c : Builder) (m k : Mode) (n x : ℕ) (rest : List ℕ) (s : Builder × Mode) → ((xs : List Lexeme) → From k rest xs → From m (n ∷ rest) xs) → guard (eqb x n) (b, k) ≡ Some s → Behind s rest c → Spelled b m (x ∷ rest) c
@@ -284,36 +299,40 @@ last b c m y n x rest s t f e h =
 
 last_only : (b c : Builder) (m : Mode) (y : Sign) (n x : ℕ) (rest : List ℕ) (s : Builder × Mode) → ((xs : List Lexeme) → SpellsFrom false rest xs → From m (n ∷ rest) (lexeme.Sign y ∷ xs)) → cond (eqb x n) (behind (grow b (lexeme.Sign y))) None ≡ Some s → Behind s rest c → Spelled b m (x ∷ rest) c
 last_only b c m y n x rest s f e h = elim (chosen (eqb x n) (behind (grow b (lexeme.Sign y))) None (Some s) e) [
-    inl p ↦ last b c m y n x rest s p.0 f p.1 h
-  | inr p ↦ absurd (let q = p.1 in cc) ]
+  | inl p ↦ last b c m y n x rest s p.0 f p.1 h
+  | inr p ↦ absurd (let q = p.1 in cc)
+]
 
 slash_spelled : (b c : Builder) (x : ℕ) (rest : List ℕ) (s : Builder × Mode) → step b slash x ≡ Some s → Behind s rest c → Spelled b slash (x ∷ rest) c
 slash_spelled b c x rest s e h = elim (chosen (eqb x 47) (behind (grow b (lexeme.Sign sign.Scope))) (cond (eqb x 60) (behind (grow b (lexeme.Sign sign.NoBack))) None) (Some s) e) [
-    inl p ↦ last b c slash sign.Scope 47 x rest s p.0 (λ xs k. continues_whole (47 ∷ []) 47 rest (lexeme.Sign sign.Scope) xs refl refl refl k) p.1 h
-  | inr p ↦ last_only b c slash sign.NoBack 60 x rest s (λ xs k. continues_whole (47 ∷ []) 60 rest (lexeme.Sign sign.NoBack) xs refl refl refl k) p.1 h ]
+  | inl p ↦ last b c slash sign.Scope 47 x rest s p.0 (λ xs k. continues_whole (47 ∷ []) 47 rest (lexeme.Sign sign.Scope) xs refl refl refl k) p.1 h
+  | inr p ↦ last_only b c slash sign.NoBack 60 x rest s (λ xs k. continues_whole (47 ∷ []) 60 rest (lexeme.Sign sign.NoBack) xs refl refl refl k) p.1 h
+]
 
 other_way : (a b : ℕ) → eqb a b ≡ false → eqb b a ≡ false
 other_way a b h = elim (cases_Bool (eqb b a)) [
-    inl e ↦ absurd (both_ways (eqb a b) h (subst (λ (n : ℕ). eqb a n ≡ true) (sym (eqb-true b a e)) (same_number a)))
-  | inr e ↦ e ] where
+  | inl e ↦ absurd (both_ways (eqb a b) h (subst (λ (n : ℕ). eqb a n ≡ true) (sym (eqb-true b a e)) (same_number a)))
+  | inr e ↦ e
+] where
   same_number : (n : ℕ) → eqb n n ≡ true
   same_number n = eq-eqb n n refl
 
 greater_spelled : (b c : Builder) (x : ℕ) (rest : List ℕ) (s : Builder × Mode) → step b greater x ≡ Some s → Behind s rest c → Spelled b greater (x ∷ rest) c
 greater_spelled b c x rest s e h = elim (chosen (eqb x 62) (behind (grow b (lexeme.Sign sign.Strong))) (finish b greater >>= λ d. begin d x) (Some s) e) [
-    inl p ↦ last b c greater sign.Strong 62 x rest s p.0 (λ xs k. continues_whole (62 ∷ []) 62 rest (lexeme.Sign sign.Strong) xs refl refl refl k) p.1 h
+  | inl p ↦ last b c greater sign.Strong 62 x rest s p.0 (λ xs k. continues_whole (62 ∷ []) 62 rest (lexeme.Sign sign.Strong) xs refl refl refl k) p.1 h
   | inr p ↦
       let f = bind_some (finish b greater) (λ d. begin d x) s p.1 in
       let apart : has_front (codes ">") (x ∷ rest) ≡ false = rw (other_way x 62 p.0) refl in
       new_symbol b f.0 c (lexeme.Sign sign.Weak) greater between (x ∷ rest) (x ∷ rest) f.1
-        (λ xs k. continues_before (62 ∷ []) (x ∷ rest) (lexeme.Sign sign.Weak) xs refl refl apart k)
-        (begin_spelled f.0 c x rest s f.2 h) ]
+      (λ xs k. continues_before (62 ∷ []) (x ∷ rest) (lexeme.Sign sign.Weak) xs refl refl apart k)
+      (begin_spelled f.0 c x rest s f.2 h)
+]
 
 step_spelled : (b c : Builder) (m : Mode) (x : ℕ) (rest : List ℕ) (s : Builder × Mode) → step b m x ≡ Some s → Behind s rest c → Spelled b m (x ∷ rest) c
 step_spelled b c between x rest s e h = begin_spelled b c x rest s e h
 step_spelled b c comment x rest s e h =
     same_builder b c comment (cond (eqb x 10) between comment) (x ∷ rest) rest (λ xs f. spells_in_comment x rest xs (comment_from (eqb x 10) rest xs f))
-      (spelled_at s (b, cond (eqb x 10) between comment) rest c (some_is (b, cond (eqb x 10) between comment) s e) h).spelled
+    (spelled_at s (b, cond (eqb x 10) between comment) rest c (some_is (b, cond (eqb x 10) between comment) s e) h).spelled
 step_spelled b c (word w) x rest s e h = word_spelled b c w x rest s e h
 step_spelled b c (terminal t) x rest s e h = terminal_spelled b c t x rest s e h
 step_spelled b c dash x rest s e h = further b c dash dashes 45 x rest s (λ xs f. continues_more (45 ∷ []) 45 rest xs f) e h

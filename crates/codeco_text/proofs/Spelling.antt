@@ -20,25 +20,30 @@ use Rattle.codeco_text.proofs.Standing.{wants_names, wants_variables}
 
 space_cases : (b : ℕ) (P : Bool) → is_space b ≡ true → (is_word_byte 32 ≡ is_word_byte b → ⊥) → (is_word_byte 9 ≡ is_word_byte b → ⊥) → (is_word_byte 13 ≡ is_word_byte b → ⊥) → (is_word_byte 10 ≡ is_word_byte b → ⊥) → ⊥
 space_cases b P h p q r s = elim (or_cases ((eqb b 32) || (eqb b 9) || (eqb b 13)) (eqb b 10) h) [
-    inr e ↦ s (ap is_word_byte (sym (eqb-true b 10 e)))
+  | inr e ↦ s (ap is_word_byte (sym (eqb-true b 10 e)))
   | inl f ↦ elim (or_cases ((eqb b 32) || (eqb b 9)) (eqb b 13) f) [
-    inr e ↦ r (ap is_word_byte (sym (eqb-true b 13 e)))
-  | inl g ↦ elim (or_cases (eqb b 32) (eqb b 9) g) [
-    inl e ↦ p (ap is_word_byte (sym (eqb-true b 32 e)))
-  | inr e ↦ q (ap is_word_byte (sym (eqb-true b 9 e))) ] ] ]
+    | inr e ↦ r (ap is_word_byte (sym (eqb-true b 13 e)))
+    | inl g ↦ elim (or_cases (eqb b 32) (eqb b 9) g) [
+      | inl e ↦ p (ap is_word_byte (sym (eqb-true b 32 e)))
+      | inr e ↦ q (ap is_word_byte (sym (eqb-true b 9 e)))
+    ]
+  ]
+]
 
 no_word_byte : (n b : ℕ) → is_word_byte n ≡ false → is_word_byte b ≡ true → is_word_byte n ≡ is_word_byte b → ⊥
 no_word_byte n b p q e = both_ways (is_word_byte n) p (e ∙ q)
 
 pub letter_no_space : (b : ℕ) → is_word_byte b ≡ true → is_space b ≡ false
 letter_no_space b h = elim (cases_Bool (is_space b)) [
-    inl e ↦ absurd (space_cases b true e (no_word_byte 32 b refl h) (no_word_byte 9 b refl h) (no_word_byte 13 b refl h) (no_word_byte 10 b refl h))
-  | inr e ↦ e ]
+  | inl e ↦ absurd (space_cases b true e (no_word_byte 32 b refl h) (no_word_byte 9 b refl h) (no_word_byte 13 b refl h) (no_word_byte 10 b refl h))
+  | inr e ↦ e
+]
 
 pub letter_no_comment : (b : ℕ) → is_word_byte b ≡ true → eqb b 37 ≡ false
 letter_no_comment b h = elim (cases_Bool (eqb b 37)) [
-    inl e ↦ absurd (no_word_byte 37 b refl h (ap is_word_byte (sym (eqb-true b 37 e))))
-  | inr e ↦ e ]
+  | inl e ↦ absurd (no_word_byte 37 b refl h (ap is_word_byte (sym (eqb-true b 37 e))))
+  | inr e ↦ e
+]
 
 pub lower_letter : (b : ℕ) → is_lower b ≡ true → is_word_byte b ≡ true
 lower_letter b h = rw h refl
@@ -57,8 +62,9 @@ lower_not_upper b h =
 among_front : (names : List (List ℕ)) (p q : List ℕ) → is_among names (p ++ q) ≡ true → is_front_among names p ≡ true
 among_front [] p q h = absurd cc
 among_front (t ∷ names) p q h = elim (or_cases (same_bytes (p ++ q) t) (is_among names (p ++ q)) h) [
-    inl e ↦ or_left (has_front p t) (is_front_among names p) (same_front p q t e)
-  | inr e ↦ or_right (has_front p t) (is_front_among names p) (among_front names p q e) ] where
+  | inl e ↦ or_left (has_front p t) (is_front_among names p) (same_front p q t e)
+  | inr e ↦ or_right (has_front p t) (is_front_among names p) (among_front names p q e)
+] where
   same_front : (p q t : List ℕ) → same_bytes (p ++ q) t ≡ true → has_front p t ≡ true
   same_front [] q t e = refl
   same_front (x ∷ p) q [] e = absurd cc
@@ -83,20 +89,22 @@ front_rest (x ∷ p) (y ∷ t) h =
 pub front_among : (names : List (List ℕ)) (p : List ℕ) → is_front_among names p ≡ true → (q : List ℕ) × (is_among names (p ++ q) ≡ true)
 front_among [] p h = absurd cc
 front_among (t ∷ names) p h = elim (or_cases (has_front p t) (is_front_among names p) h) [
-    inl e ↦
+  | inl e ↦
       let rest = front_rest p t e in
       (rest.0, or_left (same_bytes (p ++ rest.0) t) (is_among names (p ++ rest.0)) (ap (λ (u : List ℕ). same_bytes (p ++ rest.0) u) rest.1 ∙ same_self (p ++ rest.0)))
   | inr e ↦
       let rest = front_among names p e in
-      (rest.0, or_right (same_bytes (p ++ rest.0) t) (is_among names (p ++ rest.0)) rest.1) ]
+      (rest.0, or_right (same_bytes (p ++ rest.0) t) (is_among names (p ++ rest.0)) rest.1)
+]
 
 among_lower : (names : List (List ℕ)) (w : List ℕ) → list_all is_lower_word names ≡ true → is_among names w ≡ true → is_lower_word w ≡ true
 among_lower [] w all h = absurd cc
 among_lower (t ∷ names) w all h =
     let parts = and_parts (is_lower_word t) (list_all is_lower_word names) all in
     elim (or_cases (same_bytes w t) (is_among names w) h) [
-      inl e ↦ ap is_lower_word (same_is w t e) ∙ parts.0
-    | inr e ↦ among_lower names w parts.1 e ]
+      | inl e ↦ ap is_lower_word (same_is w t e) ∙ parts.0
+      | inr e ↦ among_lower names w parts.1 e
+    ]
 
 pub identifier_lower : (w : List ℕ) → is_identifier w ≡ true → is_lower_word w ≡ true
 identifier_lower w h = (and_parts (is_lower_word w) (not (is_among keywords w)) h).0

@@ -958,4 +958,3 @@ normal_not_minus (stand.Category part.Whole role.Strong) t e = absurd cc
 normal_not_minus (stand.Category part.Whole role.Positive) t e = absurd cc
 normal_not_minus (stand.Category part.Whole role.Negative) t e = absurd cc
 normal_not_minus (stand.Category part.Whole role.Absent) t e = absurd cc
-

@@ -23,9 +23,9 @@ pub terminal_steps : (b : Builder) (text w : List ℕ) (byte start next : ℕ) (
 terminal_steps b text w byte start next t r other test answer more within =
     let closed : Option (Builder × scanning.Mode) = scanning.if_terminal b w in
     let step : scanning.step b (scanning.terminal w) byte ≡ scanning.guard (is_terminal_byte byte) (b, scanning.terminal (push w byte)) =
-      cond-false (eqb byte 93) closed (scanning.guard (is_terminal_byte byte) (b, scanning.terminal (push w byte))) other in
+    cond-false (eqb byte 93) closed (scanning.guard (is_terminal_byte byte) (b, scanning.terminal (push w byte))) other in
     let shown : r ≡ scanning.guard (is_terminal_byte byte) (mode.Terminal start) = answer ∙ ap (λ (v : Bool). scanning.guard v (mode.Terminal start)) test in
     let whole : Result (Option Mode) Memory = Ok r in
     subst (λ (o : Option (Builder × scanning.Mode)). Steps o text next (Ok r) b) (sym step)
-      (subst (λ (v : Option Mode). Steps (scanning.guard (is_terminal_byte byte) (b, scanning.terminal (push w byte))) text next (Ok v) b) (sym shown)
-        (guard_steps (is_terminal_byte byte) b text next (mode.Terminal start) (scanning.terminal (push w byte)) more within))
+    (subst (λ (v : Option Mode). Steps (scanning.guard (is_terminal_byte byte) (b, scanning.terminal (push w byte))) text next (Ok v) b) (sym shown)
+    (guard_steps (is_terminal_byte byte) b text next (mode.Terminal start) (scanning.terminal (push w byte)) more within))

@@ -100,7 +100,8 @@ nothing = record { name = []; feats = [] }
 abbrev pub with_rule : Builder → Builder
 with_rule b = record b {
   items = push b.items (item.Rule (record { label = b.rule.label; head = b.rule.head; closing = b.rule.closing; body = b.rule.body }));
-  rule = record b.rule { label = None; head = nothing; body = [] } }
+  rule = record b.rule { label = None; head = nothing; body = [] };
+}
 
 abbrev pub with_patterns : OpenRule → OpenRule
 with_patterns r = record r { positives = []; negatives = [] }
@@ -154,7 +155,8 @@ abbrev pub settle_into : Builder → Role → List WrittenFeat → Builder
 settle_into b r feats = record b {
   stand = after_category r;
   category = named_category b.category [];
-  rule = settled_rule r b.rule (record { name = b.category.name; feats = feats }) }
+  rule = settled_rule r b.rule (record { name = b.category.name; feats = feats });
+}
 
 abbrev pub settle_at : Stand → Builder → Builder
 settle_at (stand.Category part.Named r) b = settle_into b r []
@@ -187,8 +189,8 @@ opens_features s x = is_named s && is_sign sign.OpenParen x
 -- what takes the symbol
 abbrev pub ready : Builder → Lexeme → Builder
 ready b x =
-  let whole = if opens_features b.stand x then b else settled_builder b in
-  if begins_pattern x then whole else closed_builder whole
+    let whole = if opens_features b.stand x then b else settled_builder b in
+    if begins_pattern x then whole else closed_builder whole
 
 -- The symbol taken
 

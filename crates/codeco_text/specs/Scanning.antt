@@ -34,7 +34,8 @@ fresh = record {
   items = [];
   declaration = record { name = []; atom = []; atoms = []; positions = false };
   category = record { name = []; feats = []; feature = []; term = term.Atom [] };
-  rule = record { pending = []; label = None; head = nothing; closing = false; body = []; positives = []; negatives = [] } }
+  rule = record { pending = []; label = None; head = nothing; closing = false; body = []; positives = []; negatives = [] };
+}
 
 abbrev pub takes_sign : Builder → Sign → Bool
 takes_sign b s = is_some (next_stand b.stand (lexeme.Sign s))
@@ -52,19 +53,19 @@ behind o = option_map (λ b. (b, between)) o
 -- the sign that the byte is by itself
 abbrev pub single : ℕ → Option Sign
 single x =
-  if x == 58 then Some sign.Colon
-  else (if x == 44 then Some sign.Comma
-  else (if x == 46 then Some sign.Stop
-  else (if x == 123 then Some sign.OpenBrace
-  else (if x == 125 then Some sign.CloseBrace
-  else (if x == 40 then Some sign.OpenParen
-  else (if x == 41 then Some sign.CloseParen
-  else (if x == 36 then Some sign.Dollar
-  else (if x == 35 then Some sign.Hash
-  else (if x == 60 then Some sign.Back
-  else (if x == 43 then Some sign.Plus
-  else (if x == 63 then Some sign.Question
-  else None)))))))))))
+    if x == 58 then Some sign.Colon
+    else (if x == 44 then Some sign.Comma
+    else (if x == 46 then Some sign.Stop
+    else (if x == 123 then Some sign.OpenBrace
+    else (if x == 125 then Some sign.CloseBrace
+    else (if x == 40 then Some sign.OpenParen
+    else (if x == 41 then Some sign.CloseParen
+    else (if x == 36 then Some sign.Dollar
+    else (if x == 35 then Some sign.Hash
+    else (if x == 60 then Some sign.Back
+    else (if x == 43 then Some sign.Plus
+    else (if x == 63 then Some sign.Question
+    else None)))))))))))
 
 abbrev pub begin_dash : Builder → Option (Builder × Mode)
 begin_dash b = if takes_sign b sign.Minus then behind (grow b (lexeme.Sign sign.Minus)) else guard (takes_sign b sign.Normal) (b, dash)
@@ -74,20 +75,20 @@ begin_single b x = single x >>= λ s. behind (grow b (lexeme.Sign s))
 
 abbrev pub begin_sign : Builder → ℕ → Option (Builder × Mode)
 begin_sign b x =
-  if x == 91 then guard (takes_terminal b) (b, terminal [])
-  else (if x == 45 then begin_dash b
-  else (if x == 126 then guard (takes_sign b sign.Closing) (b, tilde)
-  else (if x == 47 then guard (takes_sign b sign.Scope) (b, slash)
-  else (if x == 62 then guard (takes_sign b sign.Weak) (b, greater)
-  else begin_single b x))))
+    if x == 91 then guard (takes_terminal b) (b, terminal [])
+    else (if x == 45 then begin_dash b
+    else (if x == 126 then guard (takes_sign b sign.Closing) (b, tilde)
+    else (if x == 47 then guard (takes_sign b sign.Scope) (b, slash)
+    else (if x == 62 then guard (takes_sign b sign.Weak) (b, greater)
+    else begin_single b x))))
 
 -- a byte outside symbols
 abbrev pub begin : Builder → ℕ → Option (Builder × Mode)
 begin b x =
-  if is_space x then Some (b, between)
-  else (if x == 37 then Some (b, comment)
-  else (if may_begin (wants b.stand) x then Some (b, word (x ∷ []))
-  else begin_sign b x))
+    if is_space x then Some (b, between)
+    else (if x == 37 then Some (b, comment)
+    else (if may_begin (wants b.stand) x then Some (b, word (x ∷ []))
+    else begin_sign b x))
 
 -- where the symbol that is being read is whole
 abbrev pub finish : Builder → Mode → Option Builder

@@ -2,12 +2,6 @@
 ghost use Rattle.std.specs.Prelude.{◌≡◌, [], OnOk};
 ghost use Rattle.codeco_text.specs.Building.{nothing, closes, values_domain, is_named};
 
-use std::alloc::Global;
-use std::mem;
-
-use codeco_terms::{Symbol, Symbols};
-use wiki_base::Memory;
-
 use crate::moves::{advance, after_category, begins_pattern, opens_features};
 use crate::stand::{Part, Role, Stand};
 use crate::symbols::{Lexeme, Sign};
@@ -16,6 +10,10 @@ use crate::written::{
     Domain, WrittenCategories, WrittenCategory, WrittenElement, WrittenElements, WrittenFeat,
     WrittenFeats, WrittenItem, WrittenItems, WrittenRule, WrittenTerm,
 };
+use codeco_terms::{Symbol, Symbols};
+use std::alloc::Global;
+use std::mem;
+use wiki_base::Memory;
 
 /// A declaration that is being read.
 #[derive(Drop)]
@@ -135,9 +133,27 @@ impl OpenRule {
 impl Builder {
     ghost use Rattle.std.specs.Prelude.{◌++◌, ◌∷◌};
     ghost use Rattle.codeco_text.specs.Building.{
-        with_identifier, with_variable, with_keyword, with_label, with_kind, with_terminal, with_sign,
-        with_declaration, end_atom, with_rule, body_sign_at, settle_into, settled_builder, close_into,
-        closed_builder, ready, with_lexeme, take_ready, grow, Takes, moved,
+      with_identifier,
+      with_variable,
+      with_keyword,
+      with_label,
+      with_kind,
+      with_terminal,
+      with_sign,
+      with_declaration,
+      end_atom,
+      with_rule,
+      body_sign_at,
+      settle_into,
+      settled_builder,
+      close_into,
+      closed_builder,
+      ready,
+      with_lexeme,
+      take_ready,
+      grow,
+      Takes,
+      moved,
     };
     ghost use Rattle.codeco_text.specs.Scanning.{fresh};
 
@@ -375,18 +391,30 @@ impl Builder {
     {
         match self.stand {
             Stand::Positives => {
-                let positives = mem::replace(&mut self.rule.positives, WrittenCategories::new(alloc));
+                let positives = mem::replace(
+                    &mut self.rule.positives,
+                    WrittenCategories::new(alloc),
+                );
                 self.rule.negatives = WrittenCategories::new(alloc);
                 let negatives = WrittenCategories::new(alloc);
                 self.close_into(WrittenElement::Back(positives, negatives))
             }
             Stand::Negatives => {
-                let positives = mem::replace(&mut self.rule.positives, WrittenCategories::new(alloc));
-                let negatives = mem::replace(&mut self.rule.negatives, WrittenCategories::new(alloc));
+                let positives = mem::replace(
+                    &mut self.rule.positives,
+                    WrittenCategories::new(alloc),
+                );
+                let negatives = mem::replace(
+                    &mut self.rule.negatives,
+                    WrittenCategories::new(alloc),
+                );
                 self.close_into(WrittenElement::Back(positives, negatives))
             }
             Stand::Absents => {
-                let positives = mem::replace(&mut self.rule.positives, WrittenCategories::new(alloc));
+                let positives = mem::replace(
+                    &mut self.rule.positives,
+                    WrittenCategories::new(alloc),
+                );
                 self.rule.negatives = WrittenCategories::new(alloc);
                 self.close_into(WrittenElement::NoBack(positives))
             }

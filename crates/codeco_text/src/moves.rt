@@ -1,10 +1,33 @@
 // Where a reading stands behind each symbol.
 ghost use Rattle.std.specs.Prelude.{◌≡◌, [], is_some};
 ghost use Rattle.codeco_text.specs.Reading.{
-    wants, after_category, after_identifier, after_variable, after_keyword, after_label, after_kind,
-    after_terminal, question_after, part_sign, body_sign, after_sign, item_sign, plus_after, advance, settled, closed, ready_stand,
-    next_stand, is_sign, begins_pattern, part_wants, name_wanted, follower_wanted, after_part_identifier,
-    after_part_variable, after_part_kind,
+  wants,
+  after_category,
+  after_identifier,
+  after_variable,
+  after_keyword,
+  after_label,
+  after_kind,
+  after_terminal,
+  question_after,
+  part_sign,
+  body_sign,
+  after_sign,
+  item_sign,
+  plus_after,
+  advance,
+  settled,
+  closed,
+  ready_stand,
+  next_stand,
+  is_sign,
+  begins_pattern,
+  part_wants,
+  name_wanted,
+  follower_wanted,
+  after_part_identifier,
+  after_part_variable,
+  after_part_kind,
 };
 
 use crate::stand::{Part, Role, Stand, Wanted};
@@ -352,13 +375,7 @@ fn settled(stand: Stand, opens: bool) -> Stand
 {
     match stand {
         Stand::Category(part, role) => match part {
-            Part::Named => {
-                if opens {
-                    stand
-                } else {
-                    after_category(role)
-                }
-            }
+            Part::Named => { if opens { stand } else { after_category(role) } }
             Part::Whole => after_category(role),
             _ => stand,
         },
@@ -370,27 +387,9 @@ fn closed(stand: Stand, pattern: bool) -> Stand
     ensures { result ≡ closed stand pattern }
 {
     match stand {
-        Stand::Positives => {
-            if pattern {
-                stand
-            } else {
-                Stand::Body
-            }
-        }
-        Stand::Negatives => {
-            if pattern {
-                stand
-            } else {
-                Stand::Body
-            }
-        }
-        Stand::Absents => {
-            if pattern {
-                stand
-            } else {
-                Stand::Body
-            }
-        }
+        Stand::Positives => { if pattern { stand } else { Stand::Body } }
+        Stand::Negatives => { if pattern { stand } else { Stand::Body } }
+        Stand::Absents => { if pattern { stand } else { Stand::Body } }
         _ => stand,
     }
 }

@@ -6,14 +6,26 @@ ghost use Rattle.codeco_text.specs.Notation.{labels, kinds, IsSpelling, Finds, T
 ghost use Rattle.codeco_text.specs.Reading.{as_word, identifier};
 ghost use Rattle.codeco_text.specs.Building.{Takes, grow};
 ghost use Rattle.codeco_text.specs.Scanning.{
-    single, begin, begin_sign, begin_dash, begin_single, behind, finish, step, reading, fresh, is_between_items, ended, ok_or_place, between, word, terminal, greater, guard,
+  single,
+  begin,
+  begin_sign,
+  begin_dash,
+  begin_single,
+  behind,
+  finish,
+  step,
+  reading,
+  fresh,
+  is_between_items,
+  ended,
+  ok_or_place,
+  between,
+  word,
+  terminal,
+  greater,
+  guard,
 };
 ghost use Rattle.codeco_text.specs.Scanner.{seen, StartsWithin, IsSignMode, Steps, Reads};
-
-use std::alloc::{AllocError, Global};
-
-use codeco_terms::Symbol;
-use wiki_base::Memory;
 
 use crate::builder::Builder;
 use crate::bytes::{is_space, is_terminal_byte, is_word_byte};
@@ -26,6 +38,9 @@ use crate::words::{
     is_identifier, is_kind, is_label, is_terminal, is_variable, may_begin, may_go_on, same_bytes,
 };
 use crate::written::WrittenItems;
+use codeco_terms::Symbol;
+use std::alloc::{AllocError, Global};
+use wiki_base::Memory;
 
 /// The name that the word is, where it is one.
 fn identifier(alloc: Global, word: &[u8]) -> Result<Option<Lexeme>, Memory>
@@ -39,11 +54,7 @@ fn identifier(alloc: Global, word: &[u8]) -> Result<Option<Lexeme>, Memory>
 }
 
 /// The keyword that the word is, or else the name.
-fn keyword_or_name(
-    alloc: Global,
-    is_keyword: bool,
-    word: &[u8],
-) -> Result<Option<Lexeme>, Memory>
+fn keyword_or_name(alloc: Global, is_keyword: bool, word: &[u8]) -> Result<Option<Lexeme>, Memory>
     ensures { IfOk result (λ found. found ≡ (if is_keyword then Some (Lexeme.Keyword word.now) else identifier word.now)) }
 {
     if is_keyword {
@@ -117,11 +128,7 @@ fn as_word(alloc: Global, wanted: Wanted, word: &[u8]) -> Result<Option<Lexeme>,
 }
 
 /// Takes a symbol that ends with the last byte.
-fn take_whole(
-    builder: &mut Builder,
-    alloc: Global,
-    lexeme: Lexeme,
-) -> Result<Option<Mode>, Memory>
+fn take_whole(builder: &mut Builder, alloc: Global, lexeme: Lexeme) -> Result<Option<Mode>, Memory>
     ensures { (text : List ℕ) (next : ℕ) → Steps (behind (grow builder.old lexeme)) text next result builder.new }
 {
     if builder.take(alloc, lexeme)? {
@@ -257,15 +264,15 @@ fn step_word(
 }
 
 /// Takes a terminal of these bytes, where it is one and may stand.
-fn end_terminal(
-    builder: &mut Builder,
-    alloc: Global,
-    bytes: &[u8],
-) -> Result<Option<Mode>, Memory>
+fn end_terminal(builder: &mut Builder, alloc: Global, bytes: &[u8]) -> Result<Option<Mode>, Memory>
     ensures { (text : List ℕ) (next : ℕ) → Steps (step builder.old (terminal bytes.now) 93) text next result builder.new }
 {
     if is_terminal(bytes) {
-        take_whole(builder, alloc, Lexeme::Terminal(Symbol::read(alloc, bytes)?))
+        take_whole(
+            builder,
+            alloc,
+            Lexeme::Terminal(Symbol::read(alloc, bytes)?),
+        )
     } else {
         Ok(None)
     }
@@ -372,12 +379,7 @@ fn step(
 }
 
 /// Takes the word or the `>` that the text ends with.
-fn finish(
-    builder: &mut Builder,
-    alloc: Global,
-    mode: Mode,
-    text: &[u8],
-) -> Result<bool, Memory>
+fn finish(builder: &mut Builder, alloc: Global, mode: Mode, text: &[u8]) -> Result<bool, Memory>
     requires { StartsWithin (length text.now) mode }
     ensures { Takes (finish builder.old (seen text.now (length text.now) mode)) result builder.new }
 {

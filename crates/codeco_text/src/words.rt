@@ -2,7 +2,14 @@
 ghost use Rattle.std.specs.Prelude.{◌≡◌, ◌==◌, ◌||◌};
 ghost use Rattle.std.specs.List.{list_all, list_any};
 ghost use Rattle.codeco_text.specs.Names.{
-    same_bytes, is_among, is_identifier, is_variable, is_terminal, is_word_byte, is_terminal_byte, ends_well,
+  same_bytes,
+  is_among,
+  is_identifier,
+  is_variable,
+  is_terminal,
+  is_word_byte,
+  is_terminal_byte,
+  ends_well,
 };
 ghost use Rattle.codeco_text.specs.Notation.{labels, kinds, has_front};
 ghost use Rattle.codeco_text.specs.Reading.{is_front_among, may_begin, may_go_on};

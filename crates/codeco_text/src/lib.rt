@@ -14,6 +14,7 @@ mod written;
 
 pub use bytes::is_word_byte;
 pub use scanner::read_items;
+pub use symbols::{Lexeme, Sign};
 pub use syntax_fault::SyntaxFault;
 pub use words::{is_identifier, is_kind, is_label, is_terminal, is_variable};
 pub use written::{

@@ -7,7 +7,9 @@ use Rattle.codeco_text.specs.declared.symbols.Lexeme.TheVariants as lexeme
 use Rattle.codeco_print.specs.declared.class.Class.{Class}
 use Rattle.codeco_print.specs.declared.class.Class.TheVariants as class
 use Rattle.codeco_text.specs.Names.{is_word_byte}
-use Rattle.codeco_text.specs.Notation.{lexeme_bytes, goes_on, begins_by, has_front}
+use Rattle.std.specs.List.{list_all}
+use Rattle.codeco_text.specs.declared.written.WrittenItem.{WrittenItem}
+use Rattle.codeco_text.specs.Notation.{lexeme_bytes, goes_on, begins_by, has_front, is_symbol, item_fits, lexemes}
 
 -- one space where the first would go on into the second, and else nothing
 abbrev pub gap : Lexeme → Lexeme → List ℕ
@@ -46,3 +48,8 @@ last_class (x ∷ y ∷ ys) = last_class (y ∷ ys)
 -- the space before the bytes of the next symbol
 abbrev pub spaces : Class → List ℕ → List ℕ
 spaces c bytes = if class_goes_on c bytes then 32 ∷ [] else []
+
+-- the references have their patterns, only positive ones have marked variables, and each name is one of the notation
+pub record IsPrintable (items : List WrittenItem) : Type 0 where
+  pub fits : list_all item_fits items ≡ true
+  pub symbols : list_all is_symbol (lexemes items) ≡ true

@@ -6,3 +6,6 @@ mod joining;
 mod symbols_of;
 
 
+
+pub use joining::print_items;
+pub use symbols_of::lexemes;

@@ -76,7 +76,7 @@ new_symbol b d c x m k text rest grown h s = record {
 }
 
 -- only a reference's patterns have a - before them
-minus_stand : (s t : Stand) → next_stand s (lexeme.Sign sign.Minus) ≡ Some t → t ≡ stand.Category part.Name role.Negative
+pub minus_stand : (s t : Stand) → next_stand s (lexeme.Sign sign.Minus) ≡ Some t → t ≡ stand.Category part.Name role.Negative
 minus_stand stand.Items t e = absurd cc
 minus_stand stand.LabelName t e = absurd cc
 minus_stand stand.LabelEnd t e = absurd cc

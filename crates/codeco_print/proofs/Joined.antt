@@ -123,8 +123,9 @@ name_only (lexeme.Identifier []) t e h rest = absurd cc
 name_only (lexeme.Identifier (b ∷ bs)) t e h rest = no_dash b (bs ++ rest) (and_parts (is_lower b) _ (identifier_lower (b ∷ bs) h)).0 where
   no_dash : (b : ℕ) (rest : List ℕ) → is_lower b ≡ true → has_front (codes "->") (b ∷ rest) ≡ false
   no_dash b rest low = elim (cases_Bool (eqb 45 b)) [
-      inl e ↦ absurd (both_ways (is_lower 45) refl (ap is_lower (eqb-true 45 b e) ∙ low))
-    | inr e ↦ rw e refl ]
+    | inl e ↦ absurd (both_ways (is_lower 45) refl (ap is_lower (eqb-true 45 b e) ∙ low))
+    | inr e ↦ rw e refl
+  ]
 name_only (lexeme.Variable w) t e h rest = absurd cc
 name_only (lexeme.Keyword w) t e h rest = absurd cc
 name_only (lexeme.Label w) t e h rest = absurd cc
@@ -158,8 +159,9 @@ stops_before (lexeme.Sign _) y s t u rest e f h g = refl
 
 choose_stops : (x y : Lexeme) (s t u : Stand) (more : List ℕ) → next_stand s x ≡ Some t → next_stand t y ≡ Some u → is_symbol y ≡ true → goes_on x (gap x y ++ (lexeme_bytes y ++ more)) ≡ false
 choose_stops x y s t u more e f h = elim (cases_Bool (goes_on x (lexeme_bytes y))) [
-    inl g ↦ ap (λ (b : Bool). goes_on x (cond b (32 ∷ []) [] ++ (lexeme_bytes y ++ more))) g ∙ space_stops x (lexeme_bytes y ++ more)
-  | inr g ↦ ap (λ (b : Bool). goes_on x (cond b (32 ∷ []) [] ++ (lexeme_bytes y ++ more))) g ∙ stops_before x y s t u more e f h g ]
+  | inl g ↦ ap (λ (b : Bool). goes_on x (cond b (32 ∷ []) [] ++ (lexeme_bytes y ++ more))) g ∙ space_stops x (lexeme_bytes y ++ more)
+  | inr g ↦ ap (λ (b : Bool). goes_on x (cond b (32 ∷ []) [] ++ (lexeme_bytes y ++ more))) g ∙ stops_before x y s t u more e f h g
+]
 
 gap_is : (x y : Lexeme) → is_gap false false (gap x y) ≡ true
 gap_is x y = either (goes_on x (lexeme_bytes y)) where
@@ -180,11 +182,12 @@ joined_spells [] s t g k e h = ends g k where
     last_too cm [] k = refl
     last_too true (b ∷ bs) k = last_too (not (eqb b 10)) bs k
     last_too false (b ∷ bs) k = elim (cases_Bool (eqb b 37)) [
-        inl e ↦ cond-true (eqb b 37) (is_gap true true bs) _ e ∙ last_too true bs (sym (cond-true (eqb b 37) (is_gap false true bs) _ e) ∙ k)
+      | inl e ↦ cond-true (eqb b 37) (is_gap true true bs) _ e ∙ last_too true bs (sym (cond-true (eqb b 37) (is_gap false true bs) _ e) ∙ k)
       | inr e ↦
           let rest = sym (cond-false (eqb b 37) (is_gap false true bs) _ e) ∙ k in
           let parts = and_parts _ (is_gap false false bs) rest in
-          cond-false (eqb b 37) (is_gap true true bs) _ e ∙ rw parts.0 (last_too false bs parts.1) ]
+          cond-false (eqb b 37) (is_gap true true bs) _ e ∙ rw parts.0 (last_too false bs parts.1)
+    ]
 joined_spells (x ∷ []) s t g k e h =
     let parts = and_parts (is_symbol x) true h in
     let begins : Begins false (g ++ joined (x ∷ [])) x [] = record { gap = g; between = k; symbol = parts.0; longest = empty_stops x; parts = ap (λ (v : List ℕ). g ++ v) (sym (append-nil (lexeme_bytes x))) } in
@@ -212,5 +215,5 @@ pub join_step : (xs : List Lexeme) (i : ℕ) (x : Lexeme) (out new : List ℕ) (
 join_step xs i x out new last next lt is made class before had =
     let more : take (i + 1) xs ≡ take i xs ++ x ∷ [] = take_more xs i x lt ∙ ap (λ (y : Lexeme). take i xs ++ y ∷ []) (sym is) in
     let text : new ≡ joined (take i xs) ++ (spaces (last_class (take i xs)) (lexeme_bytes x) ++ lexeme_bytes x) =
-      made ∙ ap (λ (o : List ℕ). o ++ (spaces last (lexeme_bytes x) ++ lexeme_bytes x)) before ∙ ap (λ (c : Class). joined (take i xs) ++ (spaces c (lexeme_bytes x) ++ lexeme_bytes x)) had in
+    made ∙ ap (λ (o : List ℕ). o ++ (spaces last (lexeme_bytes x) ++ lexeme_bytes x)) before ∙ ap (λ (c : Class). joined (take i xs) ++ (spaces c (lexeme_bytes x) ++ lexeme_bytes x)) had in
     (text ∙ sym (joined_push (take i xs) x) ∙ ap joined (sym more), class ∙ sym (last_push (take i xs) x) ∙ ap last_class (sym more))

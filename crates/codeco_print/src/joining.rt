@@ -4,13 +4,11 @@ ghost use Rattle.codeco_text.specs.Notation.{lexeme_bytes, sign_bytes, lexemes, 
 ghost use Rattle.codeco_text.specs.Names.{is_word_byte};
 ghost use Rattle.codeco_print.specs.Printing.{joined, class_of, class_goes_on, spaces, IsPrintable};
 
-use std::alloc::Global;
-
-use codeco_text::{Lexeme, Sign, WrittenItems, is_word_byte};
-use wiki_base::Memory;
-
 use crate::class::Class;
 use crate::symbols_of::lexemes;
+use codeco_text::{Lexeme, Sign, WrittenItems, is_word_byte};
+use std::alloc::Global;
+use wiki_base::Memory;
 
 /// What the symbol goes on with.
 fn class_of(lexeme: &Lexeme) -> Class

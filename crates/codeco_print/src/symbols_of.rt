@@ -1,17 +1,27 @@
 // The symbols of declarations and rules.
 ghost use Rattle.std.specs.Prelude.{◌≡◌, [], ◌∷◌, ◌++◌, OnOk, IfOk, Some, None, flat_map, map};
 ghost use Rattle.codeco_text.specs.Notation.{
-    term_lexemes, feat_lexemes, listed, category_lexemes, named, signed, element_lexemes, body_lexemes, label_lexemes, arrow,
-    domain_lexemes, item_lexemes, lexemes,
+  term_lexemes,
+  feat_lexemes,
+  listed,
+  category_lexemes,
+  named,
+  signed,
+  element_lexemes,
+  body_lexemes,
+  label_lexemes,
+  arrow,
+  domain_lexemes,
+  item_lexemes,
+  lexemes,
 };
-
-use std::alloc::Global;
 
 use codeco_terms::{Symbol, Symbols};
 use codeco_text::{
     Domain, Lexeme, Sign, WrittenCategories, WrittenCategory, WrittenElement, WrittenElements,
     WrittenFeat, WrittenFeats, WrittenItem, WrittenItems, WrittenRule, WrittenTerm,
 };
+use std::alloc::Global;
 use wiki_base::Memory;
 
 fn push(out: &mut Vec<Lexeme>, lexeme: Lexeme) -> Result<(), Memory>
@@ -72,11 +82,7 @@ fn push_other_feats(out: &mut Vec<Lexeme>, feats: &[WrittenFeat]) -> Result<(), 
 }
 
 /// Adds a category of this name.
-fn push_category(
-    out: &mut Vec<Lexeme>,
-    name: Lexeme,
-    feats: &[WrittenFeat],
-) -> Result<(), Memory>
+fn push_category(out: &mut Vec<Lexeme>, name: Lexeme, feats: &[WrittenFeat]) -> Result<(), Memory>
     ensures { OnOk result (out.new.items ≡ out.old.items ++ category_lexemes name feats.now) }
 {
     push(out, name)?;

@@ -10,6 +10,8 @@ mod questions;
 mod relative_clauses;
 mod rows;
 mod statements;
+#[cfg(test)]
+mod tests;
 mod verb_phrases;
 mod whole;
 

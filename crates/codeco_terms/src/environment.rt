@@ -1,0 +1,51 @@
+// What the variables of a rule stand for.
+ghost use Rattle.std.specs.Prelude.{◌≡◌, ◌<◌, ℕ, List, None, Some, replicate, slice_set, slice_index_or};
+
+use crate::Value;
+use std::marker::Model;
+
+/// How many variables an environment has room for.
+pub const MOST_VARIABLES: usize = 16;
+
+/// A finite map from variables, by their numbers below sixteen, to values. It is seen as the list of its sixteen
+/// places: the variable x has a value where place x does. It holds them in itself, so that no call takes memory.
+#[derive(Drop)]
+pub struct Env {
+    places: [Option<Value>; MOST_VARIABLES],
+}
+
+impl Model for Env {
+    ghost use Rattle.std.specs.Prelude.{List, Option};
+    ghost use Rattle.codeco_terms.specs.declared.values.Value.{Value as OneValue};
+
+    ghost Value = { List (Option OneValue) };
+
+    ghost view = { λ a. a.places };
+}
+
+impl Env {
+    /// The map in which no variable has a value.
+    pub fn new() -> Self
+        ensures { result ≡ replicate 16 None }
+    {
+        Env {
+            places: [None; MOST_VARIABLES],
+        }
+    }
+
+    /// What the variable has.
+    pub fn get(&self, variable: u8) -> Option<Value>
+        requires { variable < 16 }
+        ensures { result ≡ slice_index_or self.now variable None }
+    {
+        self.places[variable as usize]
+    }
+
+    /// Gives the variable this value.
+    pub fn set(&mut self, variable: u8, value: Value)
+        requires { variable < 16 }
+        ensures { self.new ≡ slice_set self.old variable (Some value) }
+    {
+        self.places[variable as usize] = Some(value);
+    }
+}

@@ -1,0 +1,4 @@
+pub mod Names
+pub mod Notation
+pub mod Reading
+pub mod Building

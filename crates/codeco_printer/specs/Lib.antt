@@ -1,0 +1,3 @@
+pub mod Printing
+pub mod Unnumbered
+pub mod Writing

@@ -1,0 +1,4 @@
+//! The grammar notation: the text of a grammar.
+#![tactic(auto)]
+
+mod print_symbols;

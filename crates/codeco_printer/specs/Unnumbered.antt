@@ -30,12 +30,15 @@ use Rattle.codeco_text.specs.declared.written.WrittenItem.TheVariants as item
 abbrev pub name_at : List (List ℕ) → ℕ → List ℕ
 name_at names n = slice_index_or names n []
 
-abbrev pub feature_name : GrammarParts → ℕ → List ℕ
-feature_name g f = name_at (map (λ x. x.name) g.features) f
+abbrev pub feature_name : List Feature → ℕ → List ℕ
+feature_name features f = name_at (map (λ x. x.name) features) f
 
 -- variable 0 is A, variable 1 is B, and so on up to Z
+abbrev pub letter_byte : ℕ → ℕ
+letter_byte x = 65 + min x 25
+
 abbrev pub letter : ℕ → List ℕ
-letter x = (65 + min x 25) ∷ []
+letter x = letter_byte x ∷ []
 
 -- an atom's name; other values have none
 abbrev pub value_name : GrammarParts → Value → List ℕ
@@ -69,7 +72,7 @@ merged [] ts = ts
 merged (f ∷ fs) ts = below f.0 ts ++ f ∷ merged fs (from f.0 ts)
 
 abbrev pub with_names : GrammarParts → List (ℕ × WrittenTerm) → List WrittenFeat
-with_names g feats = map (λ f. record { name = feature_name g f.0; term = f.1 }) feats
+with_names g feats = map (λ f. record { name = feature_name g.features f.0; term = f.1 }) feats
 
 abbrev pub written_category : GrammarParts → Category → WrittenCategory
 written_category g c = record { name = name_at g.categories c.name; feats = with_names g (plain_terms g c.feats) }

@@ -2,3 +2,5 @@
 #![tactic(auto)]
 
 mod print_symbols;
+mod printing;
+mod unnumbered;

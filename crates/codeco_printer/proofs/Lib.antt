@@ -1,2 +1,9 @@
+pub mod GrammarPrinted
+pub mod Led
+pub mod Lists
 pub mod PrintLaws
+pub mod Spelled
+pub mod Streamed
+pub mod SoundNames
 pub mod WriteLaws
+pub mod WrittenSound

@@ -4,3 +4,5 @@
 mod print_symbols;
 mod printing;
 mod unnumbered;
+
+pub use printing::print_grammar;

@@ -5,22 +5,26 @@ ghost use Rattle.codeco_text.specs.declared.symbols.Sign.TheVariants as sign;
 ghost use Rattle.codeco_text.specs.declared.written.Domain.TheVariants as domain;
 ghost use Rattle.codeco_text.specs.declared.written.WrittenItem.TheVariants as item;
 ghost use Rattle.codeco_text.specs.Notation.{
-    term_lexemes, named, signed, element_lexemes, label_lexemes, arrow, body_lexemes, domain_lexemes, item_lexemes, lexemes,
+    term_lexemes, named, signed, element_lexemes, label_lexemes, arrow, body_lexemes, domain_lexemes, item_lexemes, lexemes, IsSpelling,
 };
+ghost use Rattle.codeco_printer.specs.Printing.{printed};
 ghost use Rattle.codeco_printer.specs.Unnumbered.{
     name_at, feature_name, written_term, plain_terms, taken_terms, below, from, merged, with_names,
-    written_category, written_pattern, written_element, label_name, written_rule, written_feature,
+    written_category, written_pattern, written_element, label_name, written_rule, written_feature, written_of,
 };
 ghost use Rattle.codeco_printer.specs.Writing.{
     put, write, separator, opened_feats, closed_feats, other_atoms, values_lexemes,
 };
 
+use std::alloc::Global;
+
+use codeco_reader::CheckedGrammar;
 use codeco_terms::{
     Category, Declared, Element, Elements, Feature, Grammar, Label, Pattern, Patterns, Rule, Term,
     Value,
 };
 use codeco_text::Sign;
-use wiki_base::Memory;
+use wiki_base::{Memory, Text8};
 
 use crate::print_symbols::Printer;
 use crate::unnumbered::{feature_name, label_name, letter, name_at};
@@ -322,4 +326,18 @@ fn print_declarations(out: &mut Printer, grammar: &Grammar) -> Result<(), Memory
         print_declaration(out, grammar, feature)?;
     }
     Ok(())
+}
+
+/// The text of a grammar in its notation: the declarations in order of number, and then the rules. Features stand in
+/// order of number; variable 0 is written as `A`, variable 1 as `B` and so on. One space stands exactly between two
+/// symbols that would be read otherwise without it, and there is no other white space.
+pub fn print_grammar(alloc: Global, grammar: &CheckedGrammar) -> Result<Text8, Memory>
+    ensures text { IfOk result (λ text. text ≡ printed (lexemes (written_of grammar.now))) }
+    ensures spelling { IfOk result (λ text. IsSpelling text (written_of grammar.now)) }
+{
+    let parts = grammar.grammar();
+    let mut out = Printer::new(alloc);
+    print_declarations(&mut out, parts)?;
+    print_rules(&mut out, parts)?;
+    Ok(out.into_text())
 }

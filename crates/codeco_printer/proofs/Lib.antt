@@ -5,5 +5,7 @@ pub mod PrintLaws
 pub mod Spelled
 pub mod Streamed
 pub mod SoundNames
+pub mod Ordered
+pub mod Tables
 pub mod WriteLaws
 pub mod WrittenSound

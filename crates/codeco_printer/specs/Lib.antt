@@ -1,3 +1,4 @@
+pub mod Numbered
 pub mod Printing
 pub mod Unnumbered
 pub mod Writing

@@ -6,6 +6,8 @@ pub mod Spelled
 pub mod Streamed
 pub mod SoundNames
 pub mod Ordered
+pub mod RuleBack
+pub mod SoundNumbers
 pub mod Tables
 pub mod WriteLaws
 pub mod WrittenSound

@@ -129,7 +129,7 @@ has_all p (x ∷ xs) a all h =
     elim (or_cases (eqb a x) (has xs a) h) [ inl e ↦ ap p (eqb-true a x e) ∙ parts.0 | inr e ↦ has_all p xs a parts.1 e ]
 
 -- the atoms of a feature's values
-values_at : (p : ℕ → Bool) (features : List Feature) (f a : ℕ) → list_all (λ x. list_all p (declared_atoms x.declared)) features ≡ true → has (declared_atoms (option_map_or (λ x. x.declared) (slice_get features f) declared.Undeclared)) a ≡ true → p a ≡ true
+pub values_at : (p : ℕ → Bool) (features : List Feature) (f a : ℕ) → list_all (λ x. list_all p (declared_atoms x.declared)) features ≡ true → has (declared_atoms (option_map_or (λ x. x.declared) (slice_get features f) declared.Undeclared)) a ≡ true → p a ≡ true
 values_at p [] f a all h = absurd cc
 values_at p (x ∷ xs) zero a all h = has_all p (declared_atoms x.declared) a (and_parts (list_all p (declared_atoms x.declared)) (list_all (λ y. list_all p (declared_atoms y.declared)) xs) all).0 h
 values_at p (x ∷ xs) (suc f) a all h = values_at p xs f a (and_parts (list_all p (declared_atoms x.declared)) (list_all (λ y. list_all p (declared_atoms y.declared)) xs) all).1 h
@@ -157,13 +157,13 @@ term_fits_named g f (Val (Word w)) s h = absurd cc
 term_fits_named g f (Val (Pos p)) s h = absurd cc
 term_fits_named g f (Var x) s h = refl
 
-no_undeclared : (g : GrammarParts) → IsSound g → list_any (is_undeclared_rule g) g.rules ≡ false
+pub no_undeclared : (g : GrammarParts) → IsSound g → list_any (is_undeclared_rule g) g.rules ≡ false
 no_undeclared g s = at_no_rule (is_undeclared_rule g) g.rules (λ n h. s.faultless (fault.Undeclared n) h)
 
-no_bad : (g : GrammarParts) → IsSound g → list_any (is_bad_rule g) g.rules ≡ false
+pub no_bad : (g : GrammarParts) → IsSound g → list_any (is_bad_rule g) g.rules ≡ false
 no_bad g s = at_no_rule (is_bad_rule g) g.rules (λ n h. s.faultless (fault.BadValue n) (or_right (eqb n 0 && has_double_declaration g) (at_rule (is_bad_rule g) g.rules n) h))
 
-not_wrong : (g : GrammarParts) (r : Rule) → is_bad_rule g r ≡ false → list_all (λ f. term_fits (values_of g f.0) f.1) (rule_features r) ≡ true
+pub not_wrong : (g : GrammarParts) (r : Rule) → is_bad_rule g r ≡ false → list_all (λ f. term_fits (values_of g f.0) f.1) (rule_features r) ≡ true
 not_wrong g r h =
     let a = or_parts (has_wrong_atom g r || has_mixed_variable g r || has_wrong_position g r || has_double_feature r) (has_wrong_preterminal g r) h in
     let b = or_parts (has_wrong_atom g r || has_mixed_variable g r || has_wrong_position g r) (has_double_feature r) a.0 in

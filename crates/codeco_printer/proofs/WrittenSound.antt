@@ -45,14 +45,14 @@ put_all p x (y ∷ ys) h =
         let rest = put_all p x ys parts.1 in
         (rest.0, and_from (p y) (list_all p ys) parts.0 rest.1) ]
 
-with_taken_all : (p : ℕ × Term → Bool) (feats : List (ℕ × Term)) (ts : List (ℕ × ℕ)) → list_all p (with_taken feats ts) ≡ true → (list_all p feats ≡ true) × (list_all (λ t. p (t.0, Var t.1)) ts ≡ true)
+pub with_taken_all : (p : ℕ × Term → Bool) (feats : List (ℕ × Term)) (ts : List (ℕ × ℕ)) → list_all p (with_taken feats ts) ≡ true → (list_all p feats ≡ true) × (list_all (λ t. p (t.0, Var t.1)) ts ≡ true)
 with_taken_all p feats [] h = (h, refl)
 with_taken_all p feats (t ∷ ts) h =
     let rest = with_taken_all p (put_feature (t.0, Var t.1) feats) ts h in
     let here = put_all p (t.0, Var t.1) feats rest.0 in
     (here.1, and_from (p (t.0, Var t.1)) (list_all (λ u. p (u.0, Var u.1)) ts) here.0 rest.1)
 
-below_all : (p : ℕ × WrittenTerm → Bool) (n : ℕ) (ts : List (ℕ × WrittenTerm)) → list_all p ts ≡ true → list_all p (below n ts) ≡ true
+pub below_all : (p : ℕ × WrittenTerm → Bool) (n : ℕ) (ts : List (ℕ × WrittenTerm)) → list_all p ts ≡ true → list_all p (below n ts) ≡ true
 below_all p n [] h = refl
 below_all p n (t ∷ ts) h =
     let parts = and_parts (p t) (list_all p ts) h in
@@ -60,14 +60,14 @@ below_all p n (t ∷ ts) h =
       inl low ↦ ap (list_all p) (cond-true (ltb t.0 n) (t ∷ below n ts) [] low) ∙ and_from (p t) (list_all p (below n ts)) parts.0 (below_all p n ts parts.1)
     | inr high ↦ ap (list_all p) (cond-false (ltb t.0 n) (t ∷ below n ts) [] high) ]
 
-from_all : (p : ℕ × WrittenTerm → Bool) (n : ℕ) (ts : List (ℕ × WrittenTerm)) → list_all p ts ≡ true → list_all p (from n ts) ≡ true
+pub from_all : (p : ℕ × WrittenTerm → Bool) (n : ℕ) (ts : List (ℕ × WrittenTerm)) → list_all p ts ≡ true → list_all p (from n ts) ≡ true
 from_all p n [] h = refl
 from_all p n (t ∷ ts) h =
     elim (cases_Bool (ltb t.0 n)) [
       inl low ↦ ap (list_all p) (cond-true (ltb t.0 n) (from n ts) (t ∷ ts) low) ∙ from_all p n ts (and_parts (p t) (list_all p ts) h).1
     | inr high ↦ ap (list_all p) (cond-false (ltb t.0 n) (from n ts) (t ∷ ts) high) ∙ h ]
 
-merged_all : (p : ℕ × WrittenTerm → Bool) (fs ts : List (ℕ × WrittenTerm)) → list_all p fs ≡ true → list_all p ts ≡ true → list_all p (merged fs ts) ≡ true
+pub merged_all : (p : ℕ × WrittenTerm → Bool) (fs ts : List (ℕ × WrittenTerm)) → list_all p fs ≡ true → list_all p ts ≡ true → list_all p (merged fs ts) ≡ true
 merged_all p [] ts h k = k
 merged_all p (f ∷ fs) ts h k =
     let parts = and_parts (p f) (list_all p fs) h in

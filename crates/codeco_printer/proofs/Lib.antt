@@ -6,6 +6,7 @@ pub mod Spelled
 pub mod Streamed
 pub mod SoundNames
 pub mod Ordered
+pub mod ReadBack
 pub mod RuleBack
 pub mod SoundNumbers
 pub mod Tables

@@ -17,6 +17,9 @@ pub record Output : Type 0 where
   pub bytes : List ℕ
   pub after_word : Bool
 
+abbrev pub nothing : Output
+nothing = record { bytes = []; after_word = false }
+
 -- with the word behind what was printed, after a space where that ends with a word
 abbrev pub put_word : Output → List ℕ → Output
 put_word o w = record { bytes = (if o.after_word then o.bytes ++ 32 ∷ [] else o.bytes) ++ w; after_word = true }

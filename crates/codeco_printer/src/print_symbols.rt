@@ -1,5 +1,5 @@
 // Symbols, printed one behind the other.
-ghost use Rattle.std.specs.Prelude.{◌≡◌, [], false, OnOk};
+ghost use Rattle.std.specs.Prelude.{◌≡◌, OnOk};
 ghost use Rattle.codeco_text.specs.Notation.{sign_bytes};
 
 use std::alloc::Global;
@@ -51,13 +51,12 @@ impl Model for Printer {
 }
 
 impl Printer {
-    ghost use Rattle.codeco_printer.specs.Writing.{Output, put, put_word};
+    ghost use Rattle.codeco_printer.specs.Writing.{Output, nothing, put, put_word};
     ghost use Rattle.codeco_text.specs.declared.symbols.Lexeme.TheVariants as lexeme;
 
     /// No symbols, which takes no memory.
     pub fn new(alloc: Global) -> Self
-        ensures bytes { result.bytes ≡ [] }
-        ensures word { result.after_word ≡ false }
+        ensures { result ≡ nothing }
     {
         Printer {
             bytes: Vec::new(alloc),

@@ -7,13 +7,14 @@ ghost use Rattle.codeco_text.specs.declared.written.WrittenItem.TheVariants as i
 ghost use Rattle.codeco_text.specs.Notation.{
     term_lexemes, named, signed, element_lexemes, label_lexemes, arrow, body_lexemes, domain_lexemes, item_lexemes, lexemes, IsSpelling,
 };
-ghost use Rattle.codeco_printer.specs.Printing.{printed};
+ghost use Rattle.codeco_printer.specs.Numbered.{numbered_of};
+ghost use Rattle.codeco_printer.specs.Printing.{printed, NeedsSpaces};
 ghost use Rattle.codeco_printer.specs.Unnumbered.{
     name_at, feature_name, written_term, plain_terms, taken_terms, below, from, merged, with_names,
     written_category, written_pattern, written_element, label_name, written_rule, written_feature, written_of,
 };
 ghost use Rattle.codeco_printer.specs.Writing.{
-    put, write, separator, opened_feats, closed_feats, other_atoms, values_lexemes,
+    nothing, put, write, separator, opened_feats, closed_feats, other_atoms, values_lexemes,
 };
 
 use std::alloc::Global;
@@ -328,16 +329,27 @@ fn print_declarations(out: &mut Printer, grammar: &Grammar) -> Result<(), Memory
     Ok(())
 }
 
+// The declarations in order of number, and then the rules.
+fn print_parts(alloc: Global, grammar: &Grammar) -> Result<Printer, Memory>
+    ensures { IfOk result (λ out. out ≡ write nothing (lexemes (written_of grammar.now))) }
+{
+    let mut out = Printer::new(alloc);
+    print_declarations(&mut out, grammar)?;
+    print_rules(&mut out, grammar)?;
+    Ok(out)
+}
+
 /// The text of a grammar in its notation: the declarations in order of number, and then the rules. Features stand in
 /// order of number; variable 0 is written as `A`, variable 1 as `B` and so on. One space stands exactly between two
 /// symbols that would be read otherwise without it, and there is no other white space.
 pub fn print_grammar(alloc: Global, grammar: &CheckedGrammar) -> Result<Text8, Memory>
     ensures text { IfOk result (λ text. text ≡ printed (lexemes (written_of grammar.now))) }
     ensures spelling { IfOk result (λ text. IsSpelling text (written_of grammar.now)) }
+
+    // The text is read back as an equal grammar, and without one of its spaces it would be read otherwise.
+    ensures read_back { OnOk result (numbered_of (written_of grammar.now) ≡ grammar.now) }
+    ensures spaces { OnOk result (NeedsSpaces (lexemes (written_of grammar.now))) }
 {
-    let parts = grammar.grammar();
-    let mut out = Printer::new(alloc);
-    print_declarations(&mut out, parts)?;
-    print_rules(&mut out, parts)?;
-    Ok(out.into_text())
+    Ok(print_parts(alloc, grammar.grammar())?.into_text())
 }
+

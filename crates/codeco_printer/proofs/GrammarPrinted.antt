@@ -1,11 +1,10 @@
 -- The text of a sound grammar.
-use Rattle.std.proofs.Common.{◌≡◌, false, List, [], ◌∷◌, ◌++◌, map, refl, sym, ap, subst, ◌∙◌}
+use Rattle.std.proofs.Common.{◌≡◌, false, List, [], ◌∷◌, ◌++◌, map, sym, ap, subst, ◌∙◌}
 use Rattle.std.specs.List.{list_all, flat_map}
 use Rattle.std.proofs.Common.{ℕ, true}
 use Rattle.std.proofs.lemmas.Bool.{and_parts}
 use Rattle.std.proofs.lemmas.List.Concat.{flat_map-append}
 use Rattle.codeco_terms.specs.GrammarParts.{GrammarParts}
-use Rattle.codeco_text.specs.declared.symbols.Lexeme.{Lexeme}
 use Rattle.codeco_text.specs.declared.written.WrittenItem.TheVariants as item
 use Rattle.codeco_text.specs.Notation.{is_symbol, item_lexemes, lexemes, IsSpelling, Spells}
 use Rattle.codeco_reader.specs.Sound.{IsSound}
@@ -30,7 +29,8 @@ grammar_printed g s = write_is [] false (lexemes (written_of g)) (led_items (wri
 pub printed_spells : (g : GrammarParts) → IsSound g → (text : List ℕ) → text ≡ printed (lexemes (written_of g)) → IsSpelling text (written_of g)
 printed_spells g s text is = record {
   fits = written_fits g s;
-  spells = subst (λ t. Spells t (lexemes (written_of g))) (sym is) (spells-printed (lexemes (written_of g)) (symbols_of g s)) }
+  spells = subst (λ t. Spells t (lexemes (written_of g))) (sym is) (spells-printed (lexemes (written_of g)) (symbols_of g s));
+}
 
 -- each of its spaces is needed
 pub spaces_needed : (g : GrammarParts) → IsSound g → NeedsSpaces (lexemes (written_of g))

@@ -1,9 +1,5 @@
 -- In the symbols of declarations and rules a word stands behind each > and each -, so that spaces stand between words alone.
-use Rattle.std.proofs.Common.{◌≡◌, ℕ, Bool, true, false, not, ◌&&◌, ◌||◌, cond, eqb, leb, List, [], ◌∷◌, ◌++◌, map, refl, sym, ap, subst, ◌∙◌, append_assoc, arith, ◌≤◌}
-use Rattle.std.specs.List.{list_all, flat_map}
-use Rattle.std.specs.Prelude.{codes}
-use Rattle.std.proofs.lemmas.List.{append-nil}
-use Rattle.std.proofs.lemmas.Bool.{and_parts, or_left, or_right, eqb-true, ne_eqb, leb-true, and_left, both_ways, false_from_ne_true, or_cases}
+use Rattle.std.proofs.Common.{◌≡◌, ℕ, Bool, true, false, not, ◌&&◌, ◌||◌, List, [], ◌∷◌, ◌++◌, map, refl, ap, ◌∙◌, append_assoc}
 use Rattle.codeco_text.specs.declared.symbols.Sign.{Sign}
 use Rattle.codeco_text.specs.declared.symbols.Sign.TheVariants as sign
 use Rattle.codeco_text.specs.declared.symbols.Lexeme.{Lexeme}
@@ -18,8 +14,8 @@ use Rattle.codeco_text.specs.declared.written.Domain.{Domain}
 use Rattle.codeco_text.specs.declared.written.Domain.TheVariants as domain
 use Rattle.codeco_text.specs.declared.written.WrittenItem.{WrittenItem}
 use Rattle.codeco_text.specs.declared.written.WrittenItem.TheVariants as item
-use Rattle.codeco_text.specs.Notation.{listed, term_lexemes, feat_lexemes, category_lexemes, named, signed, element_lexemes, label_lexemes, arrow, body_lexemes, domain_lexemes, item_lexemes, lexemes}
-use Rattle.codeco_printer.specs.Writing.{separator, closed_feats}
+use Rattle.codeco_text.specs.Notation.{listed, term_lexemes, category_lexemes, named, signed, element_lexemes, label_lexemes, arrow, body_lexemes, domain_lexemes, item_lexemes, lexemes}
+use Rattle.codeco_printer.specs.Writing.{closed_feats}
 use Rattle.codeco_printer.proofs.WriteLaws.{category_closed}
 use Rattle.std.proofs.Common.{Option, Some, None}
 

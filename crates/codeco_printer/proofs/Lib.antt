@@ -1,9 +1,11 @@
+pub mod Examples
 pub mod GrammarPrinted
 pub mod Led
 pub mod Lists
 pub mod PrintLaws
 pub mod Spelled
 pub mod Streamed
+pub mod SmallestSound
 pub mod SoundNames
 pub mod Ordered
 pub mod ReadBack

@@ -1,8 +1,7 @@
 -- Features in order of number, and marked features among the others.
-use Rattle.std.proofs.Common.{◌≡◌, ℕ, zero, suc, ◌+◌, ◌<◌, ◌≤◌, Bool, true, false, not, ◌&&◌, cond, ltb, leb, List, [], ◌∷◌, ◌++◌, map, refl, sym, ap, subst, ◌∙◌, arith, inl, inr, append_assoc}
-use Rattle.std.specs.List.{list_all, flat_map}
-use Rattle.std.proofs.lemmas.List.{append-nil, map-append}
-use Rattle.std.proofs.lemmas.List.Concat.{flat_map-append}
+use Rattle.std.proofs.Common.{◌≡◌, ℕ, ◌<◌, ◌≤◌, Bool, true, ◌&&◌, ltb, leb, List, [], ◌∷◌, ◌++◌, map, refl, sym, ap, ◌∙◌, arith, inl, inr}
+use Rattle.std.specs.List.{flat_map}
+use Rattle.std.proofs.lemmas.List.{map-append}
 use Rattle.std.proofs.lemmas.Bool.{and_parts, and_from, cases_Bool, ltb-true, ltb-false, leb-true, lt-ltb, le-ltb, le-leb, cond-true, cond-false}
 use Rattle.codeco_terms.specs.declared.values.Term.{Term}
 use Rattle.codeco_terms.specs.declared.values.Term.TheVariants.{Val, Var}
@@ -28,29 +27,31 @@ in_order_rises n (x ∷ xs) h =
     put_first : (y : ℕ × WrittenTerm) (ys : List (ℕ × WrittenTerm)) → rises y.0 ys ≡ true → put_in_order y ys ≡ y ∷ ys
     put_first y [] e = refl
     put_first y (z ∷ zs) e =
-      let here = leb-true y.0 z.0 (and_parts (leb y.0 z.0) (rises z.0 zs) e).0 in
-      cond-false (ltb z.0 y.0) (z ∷ put_in_order y zs) (y ∷ z ∷ zs) (le-ltb z.0 y.0 here)
+        let here = leb-true y.0 z.0 (and_parts (leb y.0 z.0) (rises z.0 zs) e).0 in
+        cond-false (ltb z.0 y.0) (z ∷ put_in_order y zs) (y ∷ z ∷ zs) (le-ltb z.0 y.0 here)
 
 rises_below : (n f : ℕ) (x : ℕ × WrittenTerm) (ts rest : List (ℕ × WrittenTerm)) → f ≡ x.0 → n ≤ f → rises n ts ≡ true → rises x.0 rest ≡ true → rises n (below f ts ++ x ∷ rest) ≡ true
 rises_below n f x [] rest is le h k = and_from (leb n x.0) (rises x.0 rest) (le-leb n x.0 (omega arith)) k
 rises_below n f x (t ∷ ts) rest is le h k =
     let parts = and_parts (leb n t.0) (rises t.0 ts) h in
     elim (cases_Bool (ltb t.0 f)) [
-      inl low ↦
-        let lt = ltb-true t.0 f low in
-        ap (λ (ys : List (ℕ × WrittenTerm)). rises n (ys ++ x ∷ rest)) (cond-true (ltb t.0 f) (t ∷ below f ts) [] low)
-        ∙ and_from (leb n t.0) (rises t.0 (below f ts ++ x ∷ rest)) parts.0 (rises_below t.0 f x ts rest is (omega arith) parts.1 k)
-    | inr high ↦
-        ap (λ (ys : List (ℕ × WrittenTerm)). rises n (ys ++ x ∷ rest)) (cond-false (ltb t.0 f) (t ∷ below f ts) [] high)
-        ∙ and_from (leb n x.0) (rises x.0 rest) (le-leb n x.0 (omega arith)) k ]
+      | inl low ↦
+          let lt = ltb-true t.0 f low in
+          ap (λ (ys : List (ℕ × WrittenTerm)). rises n (ys ++ x ∷ rest)) (cond-true (ltb t.0 f) (t ∷ below f ts) [] low)
+          ∙ and_from (leb n t.0) (rises t.0 (below f ts ++ x ∷ rest)) parts.0 (rises_below t.0 f x ts rest is (omega arith) parts.1 k)
+      | inr high ↦
+          ap (λ (ys : List (ℕ × WrittenTerm)). rises n (ys ++ x ∷ rest)) (cond-false (ltb t.0 f) (t ∷ below f ts) [] high)
+          ∙ and_from (leb n x.0) (rises x.0 rest) (le-leb n x.0 (omega arith)) k
+    ]
 
 rises_from : (n f : ℕ) (ts : List (ℕ × WrittenTerm)) → rises n ts ≡ true → rises f (from f ts) ≡ true
 rises_from n f [] h = refl
 rises_from n f (t ∷ ts) h =
     let parts = and_parts (leb n t.0) (rises t.0 ts) h in
     elim (cases_Bool (ltb t.0 f)) [
-      inl low ↦ ap (rises f) (cond-true (ltb t.0 f) (from f ts) (t ∷ ts) low) ∙ rises_from t.0 f ts parts.1
-    | inr high ↦ ap (rises f) (cond-false (ltb t.0 f) (from f ts) (t ∷ ts) high) ∙ and_from (leb f t.0) (rises t.0 ts) (le-leb f t.0 (ltb-false t.0 f high)) parts.1 ]
+      | inl low ↦ ap (rises f) (cond-true (ltb t.0 f) (from f ts) (t ∷ ts) low) ∙ rises_from t.0 f ts parts.1
+      | inr high ↦ ap (rises f) (cond-false (ltb t.0 f) (from f ts) (t ∷ ts) high) ∙ and_from (leb f t.0) (rises t.0 ts) (le-leb f t.0 (ltb-false t.0 f high)) parts.1
+    ]
 
 pub rises_merged : (n : ℕ) (fs ts : List (ℕ × WrittenTerm)) → rises n fs ≡ true → rises n ts ≡ true → rises n (merged fs ts) ≡ true
 rises_merged n [] ts h k = k
@@ -131,17 +132,18 @@ put_letters g t (f ∷ fs) ts h =
     let rest = plain_terms g fs in
     let marks = taken_terms ts in
     elim (cases_Bool (ltb t.0 f.0)) [
-      inl low ↦
-        ap names_of (merged_marked mt pf rest marks (ltb-true t.0 f.0 low))
-        ∙ ap names_of (sym (merged_first pt (pf ∷ rest) marks t.0 h (omega arith)))
-        ∙ ap (λ (x : List (ℕ × Term)). names_of (merged (plain_terms g x) marks)) (sym (cond-true (ltb t.0 f.0) ((t.0, Var t.1) ∷ f ∷ fs) (f ∷ put_feature (t.0, Var t.1) fs) low))
-    | inr high ↦
-        let le = ltb-false t.0 f.0 high in
-        let marked : rises t.0 (mt ∷ marks) ≡ true = and_from (leb t.0 t.0) (rises t.0 marks) (le-leb t.0 t.0 (omega arith)) h in
-        ap names_of (merged_first pf rest (mt ∷ marks) t.0 marked le)
-        ∙ ap (λ (x : List (List ℕ)). term_names (written_term g f.1) ++ x) (put_letters g t fs ts h)
-        ∙ ap names_of (sym (merged_first pf (plain_terms g (put_feature (t.0, Var t.1) fs)) marks t.0 h le))
-        ∙ ap (λ (x : List (ℕ × Term)). names_of (merged (plain_terms g x) marks)) (sym (cond-false (ltb t.0 f.0) ((t.0, Var t.1) ∷ f ∷ fs) (f ∷ put_feature (t.0, Var t.1) fs) high)) ]
+      | inl low ↦
+          ap names_of (merged_marked mt pf rest marks (ltb-true t.0 f.0 low))
+          ∙ ap names_of (sym (merged_first pt (pf ∷ rest) marks t.0 h (omega arith)))
+          ∙ ap (λ (x : List (ℕ × Term)). names_of (merged (plain_terms g x) marks)) (sym (cond-true (ltb t.0 f.0) ((t.0, Var t.1) ∷ f ∷ fs) (f ∷ put_feature (t.0, Var t.1) fs) low))
+      | inr high ↦
+          let le = ltb-false t.0 f.0 high in
+          let marked : rises t.0 (mt ∷ marks) ≡ true = and_from (leb t.0 t.0) (rises t.0 marks) (le-leb t.0 t.0 (omega arith)) h in
+          ap names_of (merged_first pf rest (mt ∷ marks) t.0 marked le)
+          ∙ ap (λ (x : List (List ℕ)). term_names (written_term g f.1) ++ x) (put_letters g t fs ts h)
+          ∙ ap names_of (sym (merged_first pf (plain_terms g (put_feature (t.0, Var t.1) fs)) marks t.0 h le))
+          ∙ ap (λ (x : List (ℕ × Term)). names_of (merged (plain_terms g x) marks)) (sym (cond-false (ltb t.0 f.0) ((t.0, Var t.1) ∷ f ∷ fs) (f ∷ put_feature (t.0, Var t.1) fs) high))
+    ]
 
 rises_tail : (t : ℕ × ℕ) (ts : List (ℕ × ℕ)) → ascends (map (λ x. x.0) (t ∷ ts)) ≡ true → rises t.0 (taken_terms ts) ≡ true
 rises_tail t ts h = taken_rises_from t.0 ts h
@@ -163,5 +165,6 @@ pub below_from : (n : ℕ) (ts : List (ℕ × WrittenTerm)) → below n ts ++ fr
 below_from n [] = refl
 below_from n (t ∷ ts) =
     elim (cases_Bool (ltb t.0 n)) [
-      inl low ↦ ap (λ (x : List (ℕ × WrittenTerm)). x ++ from n (t ∷ ts)) (cond-true (ltb t.0 n) (t ∷ below n ts) [] low) ∙ ap (λ (x : List (ℕ × WrittenTerm)). (t ∷ below n ts) ++ x) (cond-true (ltb t.0 n) (from n ts) (t ∷ ts) low) ∙ ap (λ (x : List (ℕ × WrittenTerm)). t ∷ x) (below_from n ts)
-    | inr high ↦ ap (λ (x : List (ℕ × WrittenTerm)). x ++ from n (t ∷ ts)) (cond-false (ltb t.0 n) (t ∷ below n ts) [] high) ∙ cond-false (ltb t.0 n) (from n ts) (t ∷ ts) high ]
+      | inl low ↦ ap (λ (x : List (ℕ × WrittenTerm)). x ++ from n (t ∷ ts)) (cond-true (ltb t.0 n) (t ∷ below n ts) [] low) ∙ ap (λ (x : List (ℕ × WrittenTerm)). (t ∷ below n ts) ++ x) (cond-true (ltb t.0 n) (from n ts) (t ∷ ts) low) ∙ ap (λ (x : List (ℕ × WrittenTerm)). t ∷ x) (below_from n ts)
+      | inr high ↦ ap (λ (x : List (ℕ × WrittenTerm)). x ++ from n (t ∷ ts)) (cond-false (ltb t.0 n) (t ∷ below n ts) [] high) ∙ cond-false (ltb t.0 n) (from n ts) (t ∷ ts) high
+    ]

@@ -7,8 +7,8 @@ use Rattle.codeco_text.specs.declared.symbols.Sign.{Sign}
 use Rattle.codeco_text.specs.declared.symbols.Sign.TheVariants as sign
 use Rattle.codeco_text.specs.declared.symbols.Lexeme.{Lexeme}
 use Rattle.codeco_text.specs.declared.symbols.Lexeme.TheVariants as lexeme
-use Rattle.codeco_text.specs.Names.{same_bytes, is_among, is_space, is_lower, is_upper, is_word_byte, is_identifier, is_variable, keywords}
-use Rattle.codeco_text.specs.Notation.{labels, kinds, sign_bytes, lexeme_bytes, is_symbol, goes_on, sign_goes_on, is_gap, Begins, SpellsFrom, Spells}
+use Rattle.codeco_text.specs.Names.{same_bytes, is_among, is_space, is_lower, is_upper, is_word_byte, is_identifier, keywords}
+use Rattle.codeco_text.specs.Notation.{labels, kinds, sign_bytes, lexeme_bytes, is_symbol, goes_on, sign_goes_on, is_gap, Spells}
 use Rattle.codeco_printer.specs.Printing.{spaced, printed}
 
 sign_ends_at_space : (s : Sign) (rest : List ℕ) → sign_goes_on s (32 ∷ rest) ≡ false

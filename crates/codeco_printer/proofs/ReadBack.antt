@@ -1,9 +1,9 @@
 -- The declarations and rules of a sound grammar make that grammar.
-use Rattle.std.proofs.Common.{◌≡◌, ℕ, zero, suc, ◌<◌, Bool, true, false, not, ◌&&◌, ◌||◌, eqb, ltb, List, [], ◌∷◌, ◌++◌, map, length, drop, Option, Some, None, refl, sym, ap, subst, ◌∙◌, arith, append_assoc}
+use Rattle.std.proofs.Common.{◌≡◌, ℕ, zero, suc, Bool, true, false, not, ◌&&◌, eqb, ltb, List, [], ◌∷◌, ◌++◌, map, length, drop, Option, Some, None, refl, sym, ap, ◌∙◌, append_assoc}
 use Rattle.std.specs.List.{list_all, flat_map}
 use Rattle.std.proofs.lemmas.List.{append-nil, map-append}
 use Rattle.std.proofs.lemmas.List.Concat.{flat_map-append}
-use Rattle.std.proofs.lemmas.Bool.{and_parts, and_from, and_left, or_parts, or_left, or_right, not-true, not-false, not_from_false, cond-true, cond-false, false_from_ne_true, ltb-true}
+use Rattle.std.proofs.lemmas.Bool.{and_parts, and_from, and_left, or_parts, or_left, not-true, not-false, not_from_false, cond-true, cond-false, false_from_ne_true, ltb-true}
 use Rattle.codeco_terms.specs.declared.categories.Category.{Category}
 use Rattle.codeco_terms.specs.declared.categories.Pattern.{Pattern}
 use Rattle.codeco_terms.specs.declared.elements.Element.{Element}
@@ -24,11 +24,11 @@ use Rattle.codeco_text.proofs.Growth.{same_is}
 use Rattle.codeco_reader.specs.declared.fault.GrammarFault.TheVariants as fault
 use Rattle.codeco_reader.specs.Occurrences.{whole, mentions, rule_mentions, element_terminals, rule_terminals}
 use Rattle.codeco_reader.specs.Numbering.{differ, begins_with, first_features, first_atoms, first_categories, declared_atoms, grammar_atoms, grammar_names, grammar_terminals, is_declared}
-use Rattle.codeco_reader.specs.Faults.{is_double, has_double_declaration, is_bad_value, is_bad_rule, at_rule}
+use Rattle.codeco_reader.specs.Faults.{is_double, has_double_declaration, is_bad_rule, at_rule}
 use Rattle.codeco_reader.specs.Sound.{IsSound}
 use Rattle.std.specs.List.{list_any}
-use Rattle.codeco_printer.specs.Unnumbered.{name_at, written_category, written_pattern, written_element, written_rule, declaration, written_feature, written_of}
-use Rattle.codeco_printer.specs.Numbered.{gathered, number_of, NamedFeature, undeclared, is_open, with_declaration, with_item, with_items, features_of, domain_atoms, feature_atoms, atoms_of, numbered_domain, numbered_feature, item_rules, rules_of, element_categories, rule_names, written_terminals, variables_of, numbered_rule, numbered_of}
+use Rattle.codeco_printer.specs.Unnumbered.{name_at, written_pattern, written_element, written_rule, declaration, written_feature, written_of}
+use Rattle.codeco_printer.specs.Numbered.{gathered, number_of, NamedFeature, undeclared, is_open, with_declaration, with_item, with_items, features_of, feature_atoms, atoms_of, numbered_domain, numbered_feature, item_rules, rules_of, element_categories, rule_names, written_terminals, variables_of, numbered_rule, numbered_of}
 use Rattle.codeco_printer.proofs.Lists.{all_append, all_flat, all_weaken, all_both}
 use Rattle.codeco_printer.proofs.SoundNames.{counted}
 use Rattle.codeco_printer.proofs.SoundNumbers.{is_fine, all_fine}
@@ -91,16 +91,16 @@ fresh_names x [] h = refl
 fresh_names x (f ∷ fs) h =
     let parts = or_parts (same_bytes x.name f.name) (is_among (map (λ y. y.name) fs) x.name) h in
     and_from (not (takes f.name x)) (list_all (λ y. not (takes y.name x)) fs)
-      (not_from_false (takes f.name x) (and_left (same_bytes f.name x.name) (is_open x.domain) (differs_comm x.name f.name parts.0)))
-      (fresh_names x fs parts.1)
+    (not_from_false (takes f.name x) (and_left (same_bytes f.name x.name) (is_open x.domain) (differs_comm x.name f.name parts.0)))
+    (fresh_names x fs parts.1)
 
 clear_more : (done : List NamedFeature) (x : NamedFeature) (fs : List Feature) → list_all (λ f. clear done f.name) fs ≡ true → is_among (map (λ f. f.name) fs) x.name ≡ false → list_all (λ f. clear (done ++ x ∷ []) f.name) fs ≡ true
 clear_more done x fs h k =
     all_weaken (λ f. clear done f.name && not (takes f.name x)) (λ f. clear (done ++ x ∷ []) f.name)
-      (λ f q.
-        let parts = and_parts (clear done f.name) (not (takes f.name x)) q in
-        all_append (λ y. not (takes f.name y)) done (x ∷ []) parts.0 (and_from (not (takes f.name x)) true parts.1 refl))
-      fs (all_both (λ f. clear done f.name) (λ f. not (takes f.name x)) fs h (fresh_names x fs k))
+    (λ f q.
+    let parts = and_parts (clear done f.name) (not (takes f.name x)) q in
+    all_append (λ y. not (takes f.name y)) done (x ∷ []) parts.0 (and_from (not (takes f.name x)) true parts.1 refl))
+    fs (all_both (λ f. clear done f.name) (λ f. not (takes f.name x)) fs h (fresh_names x fs k))
 
 items_named : (g : GrammarParts) (n : ℕ) (done : List NamedFeature) (rest : List Feature) → differ (map (λ f. f.name) rest) ≡ true → list_all (λ f. is_declared f.declared) (drop n rest) ≡ true → list_all (λ f. clear done f.name) rest ≡ true → with_items (done ++ opens n rest) (flat_map (written_feature g) rest) ≡ done ++ map (named_feature g) rest
 items_named g zero done [] d h c = refl
@@ -315,7 +315,8 @@ build features names atoms terminals categories rules = record {
   atoms = atoms;
   terminals = terminals;
   categories = categories;
-  rules = map (λ r. numbered_rule (record { features = names; atoms = atoms; terminals = terminals; categories = categories; variables = variables_of names r }) r) rules }
+  rules = map (λ r. numbered_rule (record { features = names; atoms = atoms; terminals = terminals; categories = categories; variables = variables_of names r }) r) rules;
+}
 
 abbrev build_of : List NamedFeature → List WrittenRule → GrammarParts
 build_of features rules = build features (map (λ f. f.name) features) (atoms_of features) (gathered [] (flat_map (λ r. flat_map written_terminals r.body) rules)) (gathered first_categories (flat_map rule_names rules)) rules
@@ -329,12 +330,12 @@ numbered_of-written_of g s =
     let categories = gathered first_categories (flat_map rule_names written) in
     let terminals_are : terminals ≡ g.terminals = ap (gathered []) (rules_terminals g g.rules) ∙ gathered_counts g.terminals 0 (grammar_terminals g) s.numbered.different_terminals s.numbered.terminals in
     let categories_are : categories ≡ g.categories =
-      ap (gathered first_categories) (rules_names g g.rules)
-      ∙ ap (λ (x : List (List ℕ)). gathered x (map (name_at g.categories) (grammar_names g))) (sym (begins_take first_categories g.categories s.numbered.first_categories))
-      ∙ gathered_counts g.categories 6 (grammar_names g) s.numbered.different_categories s.numbered.categories in
+    ap (gathered first_categories) (rules_names g g.rules)
+    ∙ ap (λ (x : List (List ℕ)). gathered x (map (name_at g.categories) (grammar_names g))) (sym (begins_take first_categories g.categories s.numbered.first_categories))
+    ∙ gathered_counts g.categories 6 (grammar_names g) s.numbered.different_categories s.numbered.categories in
     let differs : Differs g = record { features = features_differ g s; atoms = s.numbered.different_atoms; terminals = s.numbered.different_terminals; categories = s.numbered.different_categories } in
     let atoms_below : list_all (λ f. list_all (λ n. ltb n (length g.atoms)) (declared_atoms f.declared)) g.features ≡ true =
-      all_flat (λ n. ltb n (length g.atoms)) (λ f. declared_atoms f.declared) g.features (counted 7 (length g.atoms) (grammar_atoms g) s.numbered.atoms).1 in
+    all_flat (λ n. ltb n (length g.atoms)) (λ f. declared_atoms f.declared) g.features (counted 7 (length g.atoms) (grammar_atoms g) s.numbered.atoms).1 in
     let made : List Feature → List Rule → GrammarParts = λ fs rs. record { features = fs; atoms = g.atoms; terminals = g.terminals; categories = g.categories; rules = rs } in
     let features = features_back g g.features s.numbered.different_atoms atoms_below in
     let rules = rules_back g g.rules differs (all_fine g s) in

@@ -1,5 +1,5 @@
 -- A rule that is written with names has its numbers again when its names are numbered.
-use Rattle.std.proofs.Common.{◌≡◌, ℕ, zero, suc, ◌+◌, ◌<◌, ◌≤◌, Bool, true, false, not, ◌&&◌, ◌||◌, ltb, leb, List, [], ◌∷◌, ◌++◌, map, length, take, Option, Some, None, refl, sym, ap, subst, ◌∙◌, arith}
+use Rattle.std.proofs.Common.{◌≡◌, ℕ, ◌≤◌, Bool, true, not, ◌&&◌, ltb, leb, List, [], ◌∷◌, ◌++◌, map, length, take, Option, Some, None, refl, sym, ap, ◌∙◌, arith}
 use Rattle.std.specs.Option.{option_map}
 use Rattle.std.specs.List.{list_all, flat_map}
 use Rattle.std.proofs.lemmas.List.{append-nil, map-append, length-map}
@@ -18,10 +18,9 @@ use Rattle.codeco_terms.specs.declared.rules.Rule.{Rule}
 use Rattle.codeco_terms.specs.GrammarParts.{GrammarParts}
 use Rattle.codeco_text.specs.declared.written.WrittenTerm.{WrittenTerm}
 use Rattle.codeco_text.specs.declared.written.WrittenTerm.TheVariants as term
-use Rattle.codeco_text.specs.declared.written.WrittenCategory.{WrittenCategory}
 use Rattle.codeco_text.specs.Notation.{is_marked}
-use Rattle.codeco_reader.specs.Occurrences.{with_taken, whole, mentions, rule_mentions, category_variables, positions, element_variables, rule_variables, element_terminals, rule_terminals}
-use Rattle.codeco_reader.specs.Numbering.{counts_up, count_different, differ, variables_count_up}
+use Rattle.codeco_reader.specs.Occurrences.{with_taken, whole, mentions, category_variables, positions, element_variables, rule_variables, element_terminals}
+use Rattle.codeco_reader.specs.Numbering.{count_different, differ, variables_count_up}
 use Rattle.codeco_reader.specs.Sound.{ascends, is_empty, is_written, is_written_name, is_written_pattern, is_plain_pattern, is_written_element, is_written_rule, is_written_term}
 use Rattle.codeco_printer.specs.Unnumbered.{name_at, feature_name, letter, written_term, plain_terms, taken_terms, below, from, merged, with_names, written_category, written_pattern, written_element, label_name, written_rule}
 use Rattle.codeco_printer.specs.Numbered.{number_of, in_order, ordered, category_names, Tables, numbered_term, plain_feats, taken_feats, numbered_category, numbered_pattern, numbered_element, element_names, gathered, variables_of, numbered_label, numbered_rule}
@@ -359,9 +358,9 @@ rule_back g r d h =
     let ws = and_parts (is_written_name r.head) (list_all is_written_element r.body) front.0 in
     let ts = all_flat (λ t. ltb t (length g.terminals)) element_terminals r.body more.1 in
     let names : category_names (feature_names g) (written_category g r.head) ++ flat_map (element_names (feature_names g)) (map (written_element g) r.body) ≡ map letter (rule_variables r) =
-      ap (λ (x : List (List ℕ)). x ++ flat_map (element_names (feature_names g)) (map (written_element g) r.body)) (category_letters g k r.head d fines.0 (name_ascends r.head ws.0))
-      ∙ ap (λ (x : List (List ℕ)). map letter (category_variables r.head) ++ x) (body_letters g k r.body d ws.1 ms)
-      ∙ sym (map-append letter (category_variables r.head) (flat_map element_variables r.body)) in
+    ap (λ (x : List (List ℕ)). x ++ flat_map (element_names (feature_names g)) (map (written_element g) r.body)) (category_letters g k r.head d fines.0 (name_ascends r.head ws.0))
+    ∙ ap (λ (x : List (List ℕ)). map letter (category_variables r.head) ++ x) (body_letters g k r.body d ws.1 ms)
+    ∙ sym (map-append letter (category_variables r.head) (flat_map element_variables r.body)) in
     let variables : variables_of (feature_names g) (written_rule g r) ≡ take k sixteen = ap (gathered []) names ∙ gathered_letters k (rule_variables r) most counts.1 in
     let made : Option Label → Category → List Element → Rule = λ l c es. record { label = l; head = c; closing = r.closing; body = es } in
     let label = option_label_back r.label in

@@ -1,18 +1,13 @@
 -- The names, variables and terminals that are written for a sound grammar are those of the notation.
-use Rattle.std.proofs.Common.{◌≡◌, ℕ, zero, suc, ◌+◌, ◌-◌, ◌<◌, ◌≤◌, min, Bool, true, false, not, ◌&&◌, ◌||◌, cond, eqb, ltb, leb, List, [], ◌∷◌, ◌++◌, map, length, get_or, Option, Some, None, refl, sym, ap, subst, ◌∙◌, arith, inl, inr}
-use Rattle.std.specs.Prelude.{slice_get, codes}
-use Rattle.std.specs.Option.{option_map_or, option_map}
-use Rattle.std.specs.List.{list_all, list_any, flat_map}
-use Rattle.std.proofs.lemmas.Bool.{and_parts, and_from, or_parts, cases_Bool, ltb-true, lt-ltb, le-leb, eqb-true, both_ways, cond-true, cond-false, false_from_ne_true, not-true, or_cases, or_right}
-use Rattle.codeco_terms.specs.declared.values.Value.{Value}
+use Rattle.std.proofs.Common.{◌≡◌, ℕ, zero, suc, ◌+◌, ◌-◌, ◌<◌, ◌≤◌, Bool, true, false, ◌&&◌, ◌||◌, eqb, ltb, leb, List, [], ◌∷◌, map, length, refl, sym, ap, subst, ◌∙◌, arith, inl, inr}
+use Rattle.std.specs.Prelude.{slice_get}
+use Rattle.std.specs.Option.{option_map_or}
+use Rattle.std.specs.List.{list_all, list_any}
+use Rattle.std.proofs.lemmas.Bool.{and_parts, and_from, or_parts, cases_Bool, ltb-true, lt-ltb, le-leb, eqb-true, cond-true, cond-false, false_from_ne_true, or_cases, or_right}
 use Rattle.codeco_terms.specs.declared.values.Value.TheVariants.{Atom, Word, Pos}
 use Rattle.codeco_terms.specs.declared.values.Term.{Term}
 use Rattle.codeco_terms.specs.declared.values.Term.TheVariants.{Val, Var}
 use Rattle.codeco_terms.specs.declared.categories.Category.{Category}
-use Rattle.codeco_terms.specs.declared.categories.Pattern.{Pattern}
-use Rattle.codeco_terms.specs.declared.elements.Element.{Element}
-use Rattle.codeco_terms.specs.declared.elements.Element.TheVariants.{Terminal, Preterminal, Sub, Position, Opener, Forward, Strong, Back, NoBack}
-use Rattle.codeco_terms.specs.declared.declarations.Declared.{Declared}
 use Rattle.codeco_terms.specs.declared.declarations.Declared.TheVariants as declared
 use Rattle.codeco_terms.specs.declared.declarations.Feature.{Feature}
 use Rattle.codeco_terms.specs.declared.rules.Label.{Label}
@@ -23,27 +18,28 @@ use Rattle.codeco_text.specs.Names.{same_bytes, is_identifier, is_variable, is_t
 use Rattle.codeco_text.specs.Notation.{labels, kinds}
 use Rattle.codeco_text.proofs.Growth.{same_is}
 use Rattle.codeco_reader.specs.declared.fault.GrammarFault.TheVariants as fault
-use Rattle.codeco_reader.specs.Occurrences.{rule_mentions, rule_features, rule_terminals, whole, mentions}
+use Rattle.codeco_reader.specs.Occurrences.{rule_mentions, rule_features, rule_terminals}
 use Rattle.codeco_reader.specs.Numbering.{has, counts_up, begins_with, first_categories, declared_atoms, grammar_atoms, grammar_names, grammar_terminals, is_declared}
-use Rattle.codeco_reader.specs.Faults.{at_rule, values_of, term_fits, value_fits, is_undeclared_rule, is_bad_rule, is_bad_value, has_wrong_atom, has_mixed_variable, has_wrong_position, has_double_feature, has_wrong_preterminal, has_double_declaration}
+use Rattle.codeco_reader.specs.Faults.{at_rule, values_of, term_fits, is_undeclared_rule, is_bad_rule, has_wrong_atom, has_mixed_variable, has_wrong_position, has_double_feature, has_wrong_preterminal, has_double_declaration}
 use Rattle.codeco_reader.specs.Sound.{IsSound}
 use Rattle.codeco_printer.specs.Unnumbered.{name_at, feature_name, letter, letter_byte, value_name, label_name}
-use Rattle.codeco_printer.proofs.Lists.{all_split, all_flat, all-map, all_weaken, all_both, all_from_none, none_each, all_at}
+use Rattle.codeco_printer.proofs.Lists.{all_flat, all-map, all_weaken, all_both, all_from_none, none_each, all_at}
 
 -- numbers that are given by first occurrence are below their total
 pub counted : (next total : ℕ) (xs : List ℕ) → counts_up next total xs ≡ true → (next ≤ total) × (list_all (λ x. ltb x total) xs ≡ true)
 counted next total [] h = let e = eqb-true next total h in (omega arith, refl)
 counted next total (x ∷ xs) h =
     elim (cases_Bool (ltb x next)) [
-      inl low ↦
-        let rest = counted next total xs (sym (cond-true (ltb x next) (counts_up next total xs) (eqb x next && counts_up (next + 1) total xs) low) ∙ h) in
-        let lt = ltb-true x next low in
-        (rest.0, and_from (ltb x total) (list_all (λ y. ltb y total) xs) (lt-ltb x total (omega (arith, rest.0))) rest.1)
-    | inr high ↦
-        let parts = and_parts (eqb x next) (counts_up (next + 1) total xs) (sym (cond-false (ltb x next) (counts_up next total xs) (eqb x next && counts_up (next + 1) total xs) high) ∙ h) in
-        let rest = counted (next + 1) total xs parts.1 in
-        let same = eqb-true x next parts.0 in
-        (omega (arith, rest.0), and_from (ltb x total) (list_all (λ y. ltb y total) xs) (lt-ltb x total (omega (arith, rest.0))) rest.1) ]
+      | inl low ↦
+          let rest = counted next total xs (sym (cond-true (ltb x next) (counts_up next total xs) (eqb x next && counts_up (next + 1) total xs) low) ∙ h) in
+          let lt = ltb-true x next low in
+          (rest.0, and_from (ltb x total) (list_all (λ y. ltb y total) xs) (lt-ltb x total (omega (arith, rest.0))) rest.1)
+      | inr high ↦
+          let parts = and_parts (eqb x next) (counts_up (next + 1) total xs) (sym (cond-false (ltb x next) (counts_up next total xs) (eqb x next && counts_up (next + 1) total xs) high) ∙ h) in
+          let rest = counted (next + 1) total xs parts.1 in
+          let same = eqb-true x next parts.0 in
+          (omega (arith, rest.0), and_from (ltb x total) (list_all (λ y. ltb y total) xs) (lt-ltb x total (omega (arith, rest.0))) rest.1)
+    ]
 
 -- a test that holds at no rule
 holds_nowhere : (test : Rule → Bool) (rs : List Rule) → ((k : ℕ) → option_map_or test (slice_get rs k) false ≡ true → ⊥) → list_any test rs ≡ false
@@ -56,13 +52,13 @@ holds_nowhere test (r ∷ rs) h =
 pub at_no_rule : (test : Rule → Bool) (rs : List Rule) → ((n : ℕ) → at_rule test rs n ≡ true → ⊥) → list_any test rs ≡ false
 at_no_rule test rs h =
     holds_nowhere test rs (λ k e.
-      let e' : option_map_or test (slice_get rs (suc k - 1)) false ≡ true = subst (λ n. option_map_or test (slice_get rs n) false ≡ true) (omega arith) e in
-      h (suc k) (and_from (ltb 0 (suc k)) (option_map_or test (slice_get rs (suc k - 1)) false) (lt-ltb 0 (suc k) (omega arith)) e'))
+    let e' : option_map_or test (slice_get rs (suc k - 1)) false ≡ true = subst (λ n. option_map_or test (slice_get rs n) false ≡ true) (omega arith) e in
+    h (suc k) (and_from (ltb 0 (suc k)) (option_map_or test (slice_get rs (suc k - 1)) false) (lt-ltb 0 (suc k) (omega arith)) e'))
 
 pub letter_variable : (x : ℕ) → is_variable (letter x) ≡ true
 letter_variable x =
     and_from (leb 65 (letter_byte x) && leb (letter_byte x) 90) true
-      (and_from (leb 65 (letter_byte x)) (leb (letter_byte x) 90) (le-leb 65 (letter_byte x) (omega arith)) (le-leb (letter_byte x) 90 (omega arith))) refl
+    (and_from (leb 65 (letter_byte x)) (leb (letter_byte x) 90) (le-leb 65 (letter_byte x) (omega arith)) (le-leb (letter_byte x) 90 (omega arith))) refl
 
 pub label_named : (l : Label) → is_among labels (label_name l) ≡ true
 label_named label.Statement = refl
@@ -149,7 +145,7 @@ category_named g c = is_identifier (name_at g.categories c.name) && list_all (fe
 pub atoms_named : (g : GrammarParts) → IsSound g → list_all (λ x. list_all (λ a. is_identifier (name_at g.atoms a)) (declared_atoms x.declared)) g.features ≡ true
 atoms_named g s =
     all_flat (λ a. is_identifier (name_at g.atoms a)) (λ x. declared_atoms x.declared) g.features
-      (all_weaken (λ x. ltb x (length g.atoms)) (λ a. is_identifier (name_at g.atoms a)) (λ a lt. all_at is_identifier g.atoms a [] s.written.atoms (ltb-true a (length g.atoms) lt)) (grammar_atoms g) (counted 7 (length g.atoms) (grammar_atoms g) s.numbered.atoms).1)
+    (all_weaken (λ x. ltb x (length g.atoms)) (λ a. is_identifier (name_at g.atoms a)) (λ a lt. all_at is_identifier g.atoms a [] s.written.atoms (ltb-true a (length g.atoms) lt)) (grammar_atoms g) (counted 7 (length g.atoms) (grammar_atoms g) s.numbered.atoms).1)
 
 term_fits_named : (g : GrammarParts) (f : ℕ) (t : Term) → IsSound g → term_fits (values_of g f) t ≡ true → term_named g t ≡ true
 term_fits_named g f (Val (Atom a)) s h = values_at (λ x. is_identifier (name_at g.atoms x)) g.features f a (atoms_named g s) h
@@ -179,14 +175,14 @@ features_named g s =
     let P : Rule → Bool = λ r. list_all (λ f. is_declared (values_of g f.0)) (rule_features r) in
     let Q : Rule → Bool = λ r. list_all (λ f. term_fits (values_of g f.0) f.1) (rule_features r) in
     all_weaken (λ r. P r && Q r) (λ r. list_all (feat_named g) (rule_features r))
-      (λ r h.
-        let parts = and_parts (P r) (Q r) h in
-        all_weaken (λ f. is_declared (values_of g f.0) && term_fits (values_of g f.0) f.1) (feat_named g)
-          (λ f k.
-            let both = and_parts (is_declared (values_of g f.0)) (term_fits (values_of g f.0) f.1) k in
-            and_from (is_identifier (feature_name g.features f.0)) (term_named g f.1) (declared_named g.features f.0 s.written.features both.0) (term_fits_named g f.0 f.1 s both.1))
-          (rule_features r) (all_both (λ f. is_declared (values_of g f.0)) (λ f. term_fits (values_of g f.0) f.1) (rule_features r) parts.0 parts.1))
-      g.rules (all_both P Q g.rules named fits)
+    (λ r h.
+    let parts = and_parts (P r) (Q r) h in
+    all_weaken (λ f. is_declared (values_of g f.0) && term_fits (values_of g f.0) f.1) (feat_named g)
+    (λ f k.
+    let both = and_parts (is_declared (values_of g f.0)) (term_fits (values_of g f.0) f.1) k in
+    and_from (is_identifier (feature_name g.features f.0)) (term_named g f.1) (declared_named g.features f.0 s.written.features both.0) (term_fits_named g f.0 f.1 s both.1))
+    (rule_features r) (all_both (λ f. is_declared (values_of g f.0)) (λ f. term_fits (values_of g f.0) f.1) (rule_features r) parts.0 parts.1))
+    g.rules (all_both P Q g.rules named fits)
 
 names_named : (g : GrammarParts) → IsSound g → list_all (λ r. list_all (λ c. is_identifier (name_at g.categories c.name)) (rule_mentions r)) g.rules ≡ true
 names_named g s =
@@ -201,13 +197,13 @@ mentions_named g s =
     let P : Rule → Bool = λ r. list_all (λ c. is_identifier (name_at g.categories c.name)) (rule_mentions r) in
     let Q : Rule → Bool = λ r. list_all (feat_named g) (rule_features r) in
     all_weaken (λ r. P r && Q r) (λ r. list_all (category_named g) (rule_mentions r))
-      (λ r h.
-        let parts = and_parts (P r) (Q r) h in
-        all_both (λ c. is_identifier (name_at g.categories c.name)) (λ c. list_all (feat_named g) c.feats) (rule_mentions r) parts.0 (all_flat (feat_named g) (λ c. c.feats) (rule_mentions r) parts.1))
-      g.rules (all_both P Q g.rules (names_named g s) (features_named g s))
+    (λ r h.
+    let parts = and_parts (P r) (Q r) h in
+    all_both (λ c. is_identifier (name_at g.categories c.name)) (λ c. list_all (feat_named g) c.feats) (rule_mentions r) parts.0 (all_flat (feat_named g) (λ c. c.feats) (rule_mentions r) parts.1))
+    g.rules (all_both P Q g.rules (names_named g s) (features_named g s))
 
 pub terminals_named : (g : GrammarParts) → IsSound g → list_all (λ r. list_all (λ t. is_terminal (name_at g.terminals t)) (rule_terminals r)) g.rules ≡ true
 terminals_named g s =
     let q : ℕ → Bool = λ n. is_terminal (name_at g.terminals n) in
     all_flat q rule_terminals g.rules
-      (all_weaken (λ x. ltb x (length g.terminals)) q (λ n lt. all_at is_terminal g.terminals n [] s.written.terminals (ltb-true n (length g.terminals) lt)) (grammar_terminals g) (counted 0 (length g.terminals) (grammar_terminals g) s.numbered.terminals).1)
+    (all_weaken (λ x. ltb x (length g.terminals)) q (λ n lt. all_at is_terminal g.terminals n [] s.written.terminals (ltb-true n (length g.terminals) lt)) (grammar_terminals g) (counted 0 (length g.terminals) (grammar_terminals g) s.numbered.terminals).1)

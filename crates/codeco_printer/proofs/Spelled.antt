@@ -1,7 +1,6 @@
 -- Declarations and rules whose names, variables and terminals are those of the notation have such symbols.
-use Rattle.std.proofs.Common.{◌≡◌, ℕ, Bool, true, false, ◌&&◌, List, [], ◌∷◌, ◌++◌, map, Option, Some, None, refl, sym, ap, subst, ◌∙◌}
-use Rattle.std.specs.List.{list_all, flat_map}
-use Rattle.std.specs.Prelude.{codes}
+use Rattle.std.proofs.Common.{◌≡◌, ℕ, Bool, true, false, ◌&&◌, List, [], ◌∷◌, ◌++◌, map, Option, Some, None, refl, ap, ◌∙◌}
+use Rattle.std.specs.List.{list_all}
 use Rattle.std.proofs.lemmas.Bool.{and_parts, and_from}
 use Rattle.codeco_text.specs.declared.symbols.Sign.{Sign}
 use Rattle.codeco_text.specs.declared.symbols.Sign.TheVariants as sign
@@ -13,13 +12,12 @@ use Rattle.codeco_text.specs.declared.written.WrittenFeat.{WrittenFeat}
 use Rattle.codeco_text.specs.declared.written.WrittenCategory.{WrittenCategory}
 use Rattle.codeco_text.specs.declared.written.WrittenElement.{WrittenElement}
 use Rattle.codeco_text.specs.declared.written.WrittenElement.TheVariants as element
-use Rattle.codeco_text.specs.declared.written.WrittenRule.{WrittenRule}
 use Rattle.codeco_text.specs.declared.written.Domain.{Domain}
 use Rattle.codeco_text.specs.declared.written.Domain.TheVariants as domain
 use Rattle.codeco_text.specs.declared.written.WrittenItem.{WrittenItem}
 use Rattle.codeco_text.specs.declared.written.WrittenItem.TheVariants as item
-use Rattle.codeco_text.specs.Names.{is_identifier, is_variable, is_terminal, is_among, keywords}
-use Rattle.codeco_text.specs.Notation.{labels, kinds, is_symbol, listed, term_lexemes, feat_lexemes, category_lexemes, named, signed, element_lexemes, label_lexemes, arrow, body_lexemes, domain_lexemes, item_lexemes, lexemes}
+use Rattle.codeco_text.specs.Names.{is_identifier, is_variable, is_terminal, is_among}
+use Rattle.codeco_text.specs.Notation.{labels, kinds, is_symbol, listed, term_lexemes, category_lexemes, named, signed, element_lexemes, label_lexemes, arrow, body_lexemes, domain_lexemes, item_lexemes, lexemes}
 use Rattle.codeco_printer.specs.Writing.{closed_feats}
 use Rattle.codeco_printer.proofs.WriteLaws.{category_closed}
 use Rattle.codeco_printer.proofs.Lists.{all_append}
@@ -148,7 +146,7 @@ item_symbols (item.Rule r) h =
     let stop : List Lexeme = lexeme.Sign sign.Stop ∷ [] in
     let body = all_append is_symbol (body_lexemes r.body) stop (body_symbols r.body inner.1) refl in
     all_append is_symbol (label_lexemes r.label) (named r.head ++ (arrow r.closing ∷ (body_lexemes r.body ++ stop))) (label_symbols r.label parts.0)
-      (all_append is_symbol (named r.head) (arrow r.closing ∷ (body_lexemes r.body ++ stop)) (named_symbols r.head inner.0) (and_from (is_symbol (arrow r.closing)) (list_all is_symbol (body_lexemes r.body ++ stop)) (arrow_symbol r.closing) body))
+    (all_append is_symbol (named r.head) (arrow r.closing ∷ (body_lexemes r.body ++ stop)) (named_symbols r.head inner.0) (and_from (is_symbol (arrow r.closing)) (list_all is_symbol (body_lexemes r.body ++ stop)) (arrow_symbol r.closing) body))
 
 pub items_symbols : (items : List WrittenItem) → list_all item_spelled items ≡ true → list_all is_symbol (lexemes items) ≡ true
 items_symbols [] h = refl

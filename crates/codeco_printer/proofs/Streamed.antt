@@ -1,5 +1,5 @@
 -- What is written from left to right is what is printed.
-use Rattle.std.proofs.Common.{◌≡◌, ℕ, ◌≤◌, Bool, true, false, not, ◌&&◌, ◌||◌, cond, eqb, List, [], ◌∷◌, ◌++◌, refl, sym, ap, subst, ◌∙◌, append_assoc, arith}
+use Rattle.std.proofs.Common.{◌≡◌, ℕ, Bool, true, false, not, ◌&&◌, ◌||◌, cond, eqb, List, [], ◌∷◌, ◌++◌, refl, sym, ap, subst, ◌∙◌, append_assoc}
 use Rattle.std.specs.List.{list_all}
 use Rattle.std.proofs.lemmas.List.{append-nil}
 use Rattle.std.proofs.lemmas.Bool.{and_parts, or_left, or_right, ne_eqb, and_left, both_ways}
@@ -13,7 +13,6 @@ use Rattle.codeco_printer.specs.Printing.{spaced, printed}
 use Rattle.codeco_printer.specs.Writing.{Output, put, write}
 use Rattle.codeco_printer.proofs.PrintLaws.{begins_lower, identifier_begins, among_begins}
 use Rattle.codeco_printer.proofs.Led.{is_word, leads, leads_sign, begins_word, led}
-
 
 lower_word : (w rest : List ℕ) → begins_lower w ≡ true → begins_by is_word_byte (w ++ rest) ≡ true
 lower_word [] rest h = absurd cc

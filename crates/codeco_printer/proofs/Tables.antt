@@ -1,15 +1,14 @@
 -- Tables of names, and what their numbers are.
-use Rattle.std.proofs.Common.{◌≡◌, ℕ, zero, suc, ◌+◌, ◌-◌, ◌<◌, ◌≤◌, Bool, true, false, not, ◌&&◌, ◌||◌, cond, eqb, ltb, List, [], ◌∷◌, ◌++◌, map, length, get_or, take, drop, refl, sym, ap, subst, ◌∙◌, arith, inl, inr, append_assoc}
-use Rattle.std.specs.List.{list_all, list_any, range_with_len}
-use Rattle.std.proofs.lemmas.List.{take_all, take_more, get_or-take, length-take-le, append-nil}
-use Rattle.std.proofs.lemmas.Bool.{and_parts, and_from, or_parts, or_right, cases_Bool, ltb-true, lt-ltb, eqb-true, eq-eqb, both_ways, cond-true, cond-false, not-true, not-false, not_from_false, false_from_ne_true, agree_below, agree_below_at}
+use Rattle.std.proofs.Common.{◌≡◌, ℕ, zero, suc, ◌+◌, ◌<◌, ◌≤◌, true, false, not, ◌&&◌, ◌||◌, eqb, ltb, List, [], ◌∷◌, ◌++◌, map, length, take, refl, sym, ap, subst, ◌∙◌, arith, inl, inr}
+use Rattle.std.specs.List.{list_all, range_with_len}
+use Rattle.std.proofs.lemmas.List.{take_all, take_more, get_or-take, length-take-le}
+use Rattle.std.proofs.lemmas.Bool.{and_parts, and_from, or_parts, or_right, cases_Bool, ltb-true, eqb-true, eq-eqb, both_ways, cond-true, cond-false, not-true, not_from_false, false_from_ne_true, agree_below_at}
 use Rattle.codeco_text.specs.Names.{same_bytes, is_among}
 use Rattle.codeco_text.proofs.Growth.{same_is}
 use Rattle.codeco_reader.specs.Numbering.{counts_up, differ, begins_with}
 use Rattle.codeco_printer.specs.Unnumbered.{name_at, letter}
 use Rattle.codeco_printer.specs.Numbered.{gathered, number_of}
 use Rattle.codeco_printer.proofs.SoundNames.{counted}
-use Rattle.codeco_printer.proofs.Lists.{all_at}
 
 pub same_bytes_refl : (w : List ℕ) → same_bytes w w ≡ true
 same_bytes_refl [] = refl
@@ -59,18 +58,19 @@ gathered_counts names next [] d h = let e = eqb-true next (length names) h in ta
 gathered_counts names next (n ∷ ns) d h =
     let most = (counted next (length names) (n ∷ ns) h).0 in
     elim (cases_Bool (ltb n next)) [
-      inl low ↦
-        let rest : counts_up next (length names) ns ≡ true = sym (cond-true (ltb n next) (counts_up next (length names) ns) (eqb n next && counts_up (next + 1) (length names) ns) low) ∙ h in
-        let old = old_at names next n most (ltb-true n next low) in
-        ap (λ (x : List (List ℕ)). gathered x (map (name_at names) ns)) (cond-true (is_among (take next names) (name_at names n)) (take next names) (take next names ++ name_at names n ∷ []) old) ∙ gathered_counts names next ns d rest
-    | inr high ↦
-        let parts = and_parts (eqb n next) (counts_up (next + 1) (length names) ns) (sym (cond-false (ltb n next) (counts_up next (length names) ns) (eqb n next && counts_up (next + 1) (length names) ns) high) ∙ h) in
-        let same : n ≡ next = eqb-true n next parts.0 in
-        let more = (counted (next + 1) (length names) ns parts.1).0 in
-        let lt : next < length names = omega arith in
-        let fresh : is_among (take next names) (name_at names n) ≡ false = subst (λ k. is_among (take next names) (name_at names k) ≡ false) (sym same) (fresh_at names next d lt) in
-        let grown : take next names ++ name_at names n ∷ [] ≡ take (next + 1) names = ap (λ k. take next names ++ name_at names k ∷ []) same ∙ sym (take_more names next [] lt) in
-        ap (λ (x : List (List ℕ)). gathered x (map (name_at names) ns)) (cond-false (is_among (take next names) (name_at names n)) (take next names) (take next names ++ name_at names n ∷ []) fresh ∙ grown) ∙ gathered_counts names (next + 1) ns d parts.1 ]
+      | inl low ↦
+          let rest : counts_up next (length names) ns ≡ true = sym (cond-true (ltb n next) (counts_up next (length names) ns) (eqb n next && counts_up (next + 1) (length names) ns) low) ∙ h in
+          let old = old_at names next n most (ltb-true n next low) in
+          ap (λ (x : List (List ℕ)). gathered x (map (name_at names) ns)) (cond-true (is_among (take next names) (name_at names n)) (take next names) (take next names ++ name_at names n ∷ []) old) ∙ gathered_counts names next ns d rest
+      | inr high ↦
+          let parts = and_parts (eqb n next) (counts_up (next + 1) (length names) ns) (sym (cond-false (ltb n next) (counts_up next (length names) ns) (eqb n next && counts_up (next + 1) (length names) ns) high) ∙ h) in
+          let same : n ≡ next = eqb-true n next parts.0 in
+          let more = (counted (next + 1) (length names) ns parts.1).0 in
+          let lt : next < length names = omega arith in
+          let fresh : is_among (take next names) (name_at names n) ≡ false = subst (λ k. is_among (take next names) (name_at names k) ≡ false) (sym same) (fresh_at names next d lt) in
+          let grown : take next names ++ name_at names n ∷ [] ≡ take (next + 1) names = ap (λ k. take next names ++ name_at names k ∷ []) same ∙ sym (take_more names next [] lt) in
+          ap (λ (x : List (List ℕ)). gathered x (map (name_at names) ns)) (cond-false (is_among (take next names) (name_at names n)) (take next names) (take next names ++ name_at names n ∷ []) fresh ∙ grown) ∙ gathered_counts names (next + 1) ns d parts.1
+    ]
 
 pub begins_take : (xs names : List (List ℕ)) → begins_with xs names ≡ true → take (length xs) names ≡ xs
 begins_take [] names h = refl
@@ -98,8 +98,8 @@ differ_take (x ∷ xs) (suc n) h =
     not_among_take ys w zero e = refl
     not_among_take [] w (suc k) e = refl
     not_among_take (y ∷ ys) w (suc k) e =
-      let here = or_parts (same_bytes w y) (is_among ys w) e in
-      ap (λ b. b || is_among (take k ys) w) here.0 ∙ not_among_take ys w k here.1
+        let here = or_parts (same_bytes w y) (is_among ys w) e in
+        ap (λ b. b || is_among (take k ys) w) here.0 ∙ not_among_take ys w k here.1
 
 letters_differ : (k : ℕ) → differ (take k sixteen) ≡ true
 letters_differ k = differ_take sixteen k refl

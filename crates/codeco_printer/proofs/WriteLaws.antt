@@ -1,5 +1,5 @@
 -- Symbols that are written one behind the other.
-use Rattle.std.proofs.Common.{◌≡◌, ℕ, suc, ◌<◌, ◌≤◌, ◌+◌, ◌-◌, Bool, true, false, ltb, ◌||◌, Option, List, [], ◌∷◌, ◌++◌, length, map, get_or, take, drop, refl, sym, ap, ◌∙◌, append_assoc, arith}
+use Rattle.std.proofs.Common.{◌≡◌, ℕ, suc, ◌<◌, ◌≤◌, ◌+◌, ◌-◌, Bool, true, false, ltb, ◌||◌, List, [], ◌∷◌, ◌++◌, length, map, get_or, take, drop, refl, sym, ap, ◌∙◌, append_assoc, arith}
 use Rattle.std.specs.Prelude.{codes, option_map}
 use Rattle.std.proofs.lemmas.List.{append-nil, map-append, length-map, length-take-le, at_drop_more, drop-drop, take_rest}
 use Rattle.std.proofs.lemmas.Bool.{lt-ltb}
@@ -95,7 +95,7 @@ feature_written g opened more o marked front f is_marked is_more =
     let same : length (with_names g front) ≡ length front = length-map front named in
     let more_is : (opened || ltb 0 (length (with_names g front))) ≡ more = ap (λ n. opened || ltb 0 n) same ∙ sym is_more in
     let lists : opened_feats opened (with_names g (front ++ f ∷ [])) ≡ opened_feats opened (with_names g front) ++ (separator more ∷ feat_lexemes (named f) ++ []) =
-        ap (opened_feats opened) split ∙ opened_append opened (with_names g front) (named f ∷ []) ∙ ap (λ b. opened_feats opened (with_names g front) ++ opened_feats b (named f ∷ [])) more_is ∙ opened_one (opened_feats opened (with_names g front)) more (named f) in
+    ap (opened_feats opened) split ∙ opened_append opened (with_names g front) (named f ∷ []) ∙ ap (λ b. opened_feats opened (with_names g front) ++ opened_feats b (named f ∷ [])) more_is ∙ opened_one (opened_feats opened (with_names g front)) more (named f) in
     sym (ap (write o) lists ∙ write_append o (opened_feats opened (with_names g front)) (separator more ∷ feat_lexemes (named f) ++ []) ∙ ap (λ (x : List Lexeme). write (write o (opened_feats opened (with_names g front))) (separator more ∷ x)) (append-nil (feat_lexemes (named f))) ∙ ap (λ m. write m (separator more ∷ feat_lexemes (named f))) (sym is_marked))
 
 closed_end : (opened : Bool) (fs : List WrittenFeat) → closed_feats opened fs ≡ opened_feats opened fs ++ closed_feats (opened || ltb 0 (length fs)) []
@@ -138,9 +138,9 @@ feature_turn g o now next whole opened feats i d taken part done count lt is_par
     let split = at_drop_more (λ fs. write now (closed_feats opened (with_names g (merged (plain_terms g fs) (taken_terms (drop done taken)))))) feats i d lt in
     let rest : drop (done + count) taken ≡ drop count part = sym (drop-drop count done taken) ∙ ap (drop count) (sym is_part) in
     features_more g o now next whole opened (f.0, written_term g f.1) (plain_terms g (drop (i + 1) feats)) (taken_terms part) (taken_terms (drop (done + count) taken))
-      (ap (λ (x : List (ℕ × ℕ)). write now (closed_feats opened (with_names g (merged ((f.0, written_term g f.1) ∷ plain_terms g (drop (i + 1) feats)) (taken_terms x))))) is_part ∙ sym split ∙ before)
-      step
-      (ap taken_terms rest ∙ is_from)
+    (ap (λ (x : List (ℕ × ℕ)). write now (closed_feats opened (with_names g (merged ((f.0, written_term g f.1) ∷ plain_terms g (drop (i + 1) feats)) (taken_terms x))))) is_part ∙ sym split ∙ before)
+    step
+    (ap taken_terms rest ∙ is_from)
 
 pub category_written : (g : GrammarParts) (o next : Output) (c : Category) → next ≡ write (put_word o (name_at g.categories c.name)) (closed_feats false (with_names g (merged (plain_terms g c.feats) []))) → next ≡ write o (named (written_category g c))
 category_written g o next c h =

@@ -1,6 +1,5 @@
 -- What is written for a sound grammar is spelled as the notation wants.
-use Rattle.std.proofs.Common.{◌≡◌, ℕ, Bool, true, false, not, ◌&&◌, ◌||◌, cond, ltb, List, [], ◌∷◌, ◌++◌, map, Option, Some, None, refl, sym, ap, subst, ◌∙◌, inl, inr}
-use Rattle.std.specs.Prelude.{codes}
+use Rattle.std.proofs.Common.{◌≡◌, ℕ, Bool, true, not, ◌&&◌, ltb, List, [], ◌∷◌, map, Option, Some, None, refl, sym, ap, ◌∙◌, inl, inr}
 use Rattle.std.specs.Option.{option_map}
 use Rattle.std.specs.List.{list_all, flat_map}
 use Rattle.std.proofs.lemmas.Bool.{and_parts, and_from, cases_Bool, cond-true, cond-false}
@@ -17,21 +16,19 @@ use Rattle.codeco_terms.specs.declared.rules.Label.{Label}
 use Rattle.codeco_terms.specs.declared.rules.Rule.{Rule}
 use Rattle.codeco_terms.specs.GrammarParts.{GrammarParts}
 use Rattle.codeco_text.specs.declared.written.WrittenTerm.{WrittenTerm}
-use Rattle.codeco_text.specs.declared.written.WrittenTerm.TheVariants as term
 use Rattle.codeco_text.specs.declared.written.WrittenFeat.{WrittenFeat}
-use Rattle.codeco_text.specs.declared.written.WrittenItem.{WrittenItem}
 use Rattle.codeco_text.specs.declared.written.WrittenItem.TheVariants as item
 use Rattle.codeco_text.specs.Names.{is_identifier, is_variable, is_terminal, is_among}
 use Rattle.codeco_text.specs.Notation.{kinds, is_marked, is_plain, element_fits, item_fits}
 use Rattle.codeco_text.specs.Notation as notation
 use Rattle.codeco_reader.specs.Occurrences.{put_feature, with_taken, whole, mentions, rule_mentions, element_terminals, rule_terminals}
-use Rattle.codeco_reader.specs.Numbering.{begins_with, first_categories, declared_atoms}
+use Rattle.codeco_reader.specs.Numbering.{declared_atoms}
 use Rattle.codeco_reader.specs.Sound.{IsSound, is_empty, is_written, is_written_name, is_written_pattern, is_plain_pattern, is_written_element, is_written_rule, has_values}
 use Rattle.codeco_printer.specs.Unnumbered.{name_at, feature_name, letter, written_term, plain_terms, taken_terms, below, from, merged, with_names, written_category, written_pattern, written_element, label_name, written_rule, declaration, written_feature, written_of}
 use Rattle.codeco_printer.proofs.Lists.{all_append, all_split, all_flat, flat_all, all-map, all_weaken, all_both}
 use Rattle.codeco_printer.proofs.WriteLaws.{merged_none}
 use Rattle.codeco_printer.proofs.SoundNames.{letter_variable, label_named, kind_named, term_named, feat_named, category_named, atoms_named, mentions_named, terminals_named}
-use Rattle.codeco_printer.proofs.Spelled.{term_spelled, feat_spelled, category_spelled, kind_spelled, element_spelled, label_spelled, domain_spelled, item_spelled}
+use Rattle.codeco_printer.proofs.Spelled.{term_spelled, feat_spelled, category_spelled, element_spelled, label_spelled, item_spelled}
 
 -- Marked features among the others
 
@@ -39,11 +36,12 @@ put_all : (p : ℕ × Term → Bool) (x : ℕ × Term) (ys : List (ℕ × Term))
 put_all p x [] h = ((and_parts (p x) true h).0, refl)
 put_all p x (y ∷ ys) h =
     elim (cases_Bool (ltb x.0 y.0)) [
-      inl low ↦ and_parts (p x) (list_all p (y ∷ ys)) (ap (list_all p) (sym (cond-true (ltb x.0 y.0) (x ∷ y ∷ ys) (y ∷ put_feature x ys) low)) ∙ h)
-    | inr high ↦
-        let parts = and_parts (p y) (list_all p (put_feature x ys)) (ap (list_all p) (sym (cond-false (ltb x.0 y.0) (x ∷ y ∷ ys) (y ∷ put_feature x ys) high)) ∙ h) in
-        let rest = put_all p x ys parts.1 in
-        (rest.0, and_from (p y) (list_all p ys) parts.0 rest.1) ]
+      | inl low ↦ and_parts (p x) (list_all p (y ∷ ys)) (ap (list_all p) (sym (cond-true (ltb x.0 y.0) (x ∷ y ∷ ys) (y ∷ put_feature x ys) low)) ∙ h)
+      | inr high ↦
+          let parts = and_parts (p y) (list_all p (put_feature x ys)) (ap (list_all p) (sym (cond-false (ltb x.0 y.0) (x ∷ y ∷ ys) (y ∷ put_feature x ys) high)) ∙ h) in
+          let rest = put_all p x ys parts.1 in
+          (rest.0, and_from (p y) (list_all p ys) parts.0 rest.1)
+    ]
 
 pub with_taken_all : (p : ℕ × Term → Bool) (feats : List (ℕ × Term)) (ts : List (ℕ × ℕ)) → list_all p (with_taken feats ts) ≡ true → (list_all p feats ≡ true) × (list_all (λ t. p (t.0, Var t.1)) ts ≡ true)
 with_taken_all p feats [] h = (h, refl)
@@ -57,22 +55,24 @@ below_all p n [] h = refl
 below_all p n (t ∷ ts) h =
     let parts = and_parts (p t) (list_all p ts) h in
     elim (cases_Bool (ltb t.0 n)) [
-      inl low ↦ ap (list_all p) (cond-true (ltb t.0 n) (t ∷ below n ts) [] low) ∙ and_from (p t) (list_all p (below n ts)) parts.0 (below_all p n ts parts.1)
-    | inr high ↦ ap (list_all p) (cond-false (ltb t.0 n) (t ∷ below n ts) [] high) ]
+      | inl low ↦ ap (list_all p) (cond-true (ltb t.0 n) (t ∷ below n ts) [] low) ∙ and_from (p t) (list_all p (below n ts)) parts.0 (below_all p n ts parts.1)
+      | inr high ↦ ap (list_all p) (cond-false (ltb t.0 n) (t ∷ below n ts) [] high)
+    ]
 
 pub from_all : (p : ℕ × WrittenTerm → Bool) (n : ℕ) (ts : List (ℕ × WrittenTerm)) → list_all p ts ≡ true → list_all p (from n ts) ≡ true
 from_all p n [] h = refl
 from_all p n (t ∷ ts) h =
     elim (cases_Bool (ltb t.0 n)) [
-      inl low ↦ ap (list_all p) (cond-true (ltb t.0 n) (from n ts) (t ∷ ts) low) ∙ from_all p n ts (and_parts (p t) (list_all p ts) h).1
-    | inr high ↦ ap (list_all p) (cond-false (ltb t.0 n) (from n ts) (t ∷ ts) high) ∙ h ]
+      | inl low ↦ ap (list_all p) (cond-true (ltb t.0 n) (from n ts) (t ∷ ts) low) ∙ from_all p n ts (and_parts (p t) (list_all p ts) h).1
+      | inr high ↦ ap (list_all p) (cond-false (ltb t.0 n) (from n ts) (t ∷ ts) high) ∙ h
+    ]
 
 pub merged_all : (p : ℕ × WrittenTerm → Bool) (fs ts : List (ℕ × WrittenTerm)) → list_all p fs ≡ true → list_all p ts ≡ true → list_all p (merged fs ts) ≡ true
 merged_all p [] ts h k = k
 merged_all p (f ∷ fs) ts h k =
     let parts = and_parts (p f) (list_all p fs) h in
     all_append p (below f.0 ts) (f ∷ merged fs (from f.0 ts)) (below_all p f.0 ts k)
-      (and_from (p f) (list_all p (merged fs (from f.0 ts))) parts.0 (merged_all p fs (from f.0 ts) parts.1 (from_all p f.0 ts k)))
+    (and_from (p f) (list_all p (merged fs (from f.0 ts))) parts.0 (merged_all p fs (from f.0 ts) parts.1 (from_all p f.0 ts k)))
 
 -- Categories
 
@@ -89,7 +89,7 @@ plain_written g (f ∷ fs) h =
     let parts = and_parts (feat_named g f) (list_all (feat_named g) fs) h in
     let here = and_parts (is_identifier (feature_name g.features f.0)) (term_named g f.1) parts.0 in
     and_from (is_identifier (feature_name g.features f.0) && term_spelled (written_term g f.1)) (list_all (pair_spelled g) (plain_terms g fs))
-      (and_from (is_identifier (feature_name g.features f.0)) (term_spelled (written_term g f.1)) here.0 (term_written g f.1 here.1)) (plain_written g fs parts.1)
+    (and_from (is_identifier (feature_name g.features f.0)) (term_spelled (written_term g f.1)) here.0 (term_written g f.1 here.1)) (plain_written g fs parts.1)
 
 taken_written : (g : GrammarParts) (taken : List (ℕ × ℕ)) → list_all (λ t. feat_named g (t.0, Var t.1)) taken ≡ true → list_all (pair_spelled g) (taken_terms taken) ≡ true
 taken_written g [] h = refl
@@ -97,7 +97,7 @@ taken_written g (t ∷ ts) h =
     let parts = and_parts (feat_named g (t.0, Var t.1)) (list_all (λ u. feat_named g (u.0, Var u.1)) ts) h in
     let here = and_parts (is_identifier (feature_name g.features t.0)) true parts.0 in
     and_from (is_identifier (feature_name g.features t.0) && is_variable (letter t.1)) (list_all (pair_spelled g) (taken_terms ts))
-      (and_from (is_identifier (feature_name g.features t.0)) (is_variable (letter t.1)) here.0 (letter_variable t.1)) (taken_written g ts parts.1)
+    (and_from (is_identifier (feature_name g.features t.0)) (is_variable (letter t.1)) here.0 (letter_variable t.1)) (taken_written g ts parts.1)
 
 named_spelled : (g : GrammarParts) (fs : List (ℕ × WrittenTerm)) → list_all (pair_spelled g) fs ≡ true → list_all feat_spelled (with_names g fs) ≡ true
 named_spelled g fs h = all-map feat_spelled (λ f. record { name = feature_name g.features f.0; term = f.1 }) fs ∙ h
@@ -113,7 +113,7 @@ pattern_written g p h =
     let feats = with_taken_all (feat_named g) p.cat.feats p.taken parts.1 in
     let all = merged (plain_terms g p.cat.feats) (taken_terms p.taken) in
     and_from (is_identifier (name_at g.categories p.cat.name)) (list_all feat_spelled (with_names g all)) parts.0
-      (named_spelled g all (merged_all (pair_spelled g) (plain_terms g p.cat.feats) (taken_terms p.taken) (plain_written g p.cat.feats feats.0) (taken_written g p.taken feats.1)))
+    (named_spelled g all (merged_all (pair_spelled g) (plain_terms g p.cat.feats) (taken_terms p.taken) (plain_written g p.cat.feats feats.0) (taken_written g p.taken feats.1)))
 
 patterns_written : (g : GrammarParts) (ps : List Pattern) → list_all (category_named g) (map whole ps) ≡ true → list_all category_spelled (map (written_pattern g) ps) ≡ true
 patterns_written g [] h = refl
@@ -160,8 +160,8 @@ rule_written g r s w m t =
     let ws = and_parts (is_written_name r.head) (list_all is_written_element r.body) w in
     let ms = and_parts (category_named g r.head) (list_all (category_named g) (flat_map mentions r.body)) m in
     and_from (label_spelled (option_map label_name r.label)) (category_spelled (written_category g r.head) && list_all element_spelled (map (written_element g) r.body)) (label_written r.label)
-      (and_from (category_spelled (written_category g r.head)) (list_all element_spelled (map (written_element g) r.body)) (category_written g r.head ms.0)
-        (body_written g r.body s ws.1 (all_flat (category_named g) mentions r.body ms.1) (all_flat (terminal_named g) element_terminals r.body t)))
+    (and_from (category_spelled (written_category g r.head)) (list_all element_spelled (map (written_element g) r.body)) (category_written g r.head ms.0)
+    (body_written g r.body s ws.1 (all_flat (category_named g) mentions r.body ms.1) (all_flat (terminal_named g) element_terminals r.body t)))
 
 -- Declarations
 
@@ -181,17 +181,17 @@ written_spelled g s =
     let B : Rule → Bool = λ r. list_all (category_named g) (rule_mentions r) in
     let C : Rule → Bool = λ r. list_all (terminal_named g) (rule_terminals r) in
     let rules : list_all (λ r. item_spelled (item.Rule (written_rule g r))) g.rules ≡ true =
-      all_weaken (λ r. (A r && B r) && C r) (λ r. item_spelled (item.Rule (written_rule g r)))
-        (λ r h. let parts = and_parts (A r && B r) (C r) h in let front = and_parts (A r) (B r) parts.0 in rule_written g r s front.0 front.1 parts.1)
-        g.rules (all_both (λ r. A r && B r) C g.rules (all_both A B g.rules s.written.rules (mentions_named g s)) (terminals_named g s)) in
+    all_weaken (λ r. (A r && B r) && C r) (λ r. item_spelled (item.Rule (written_rule g r)))
+    (λ r h. let parts = and_parts (A r && B r) (C r) h in let front = and_parts (A r) (B r) parts.0 in rule_written g r s front.0 front.1 parts.1)
+    g.rules (all_both (λ r. A r && B r) C g.rules (all_both A B g.rules s.written.rules (mentions_named g s)) (terminals_named g s)) in
     let P : Feature → Bool = λ f. is_identifier f.name in
     let Q : Feature → Bool = λ f. list_all (λ a. is_identifier (name_at g.atoms a)) (declared_atoms f.declared) in
     let declarations : list_all (λ f. list_all item_spelled (written_feature g f)) g.features ≡ true =
-      all_weaken (λ f. P f && Q f) (λ f. list_all item_spelled (written_feature g f)) (λ f h. let parts = and_parts (P f) (Q f) h in declaration_written g f.name f.declared parts.0 parts.1)
-        g.features (all_both P Q g.features s.written.features (atoms_named g s)) in
+    all_weaken (λ f. P f && Q f) (λ f. list_all item_spelled (written_feature g f)) (λ f h. let parts = and_parts (P f) (Q f) h in declaration_written g f.name f.declared parts.0 parts.1)
+    g.features (all_both P Q g.features s.written.features (atoms_named g s)) in
     all_append item_spelled (flat_map (written_feature g) g.features) (map (λ r. item.Rule (written_rule g r)) g.rules)
-      (flat_all item_spelled (written_feature g) g.features declarations)
-      (all-map item_spelled (λ r. item.Rule (written_rule g r)) g.rules ∙ rules)
+    (flat_all item_spelled (written_feature g) g.features declarations)
+    (all-map item_spelled (λ r. item.Rule (written_rule g r)) g.rules ∙ rules)
 
 -- Marks, and patterns that references must have
 
@@ -259,5 +259,5 @@ declaration_fits g name (declared.Atoms atoms) h = and_from (not (notation.is_em
 pub written_fits : (g : GrammarParts) → IsSound g → list_all item_fits (written_of g) ≡ true
 written_fits g s =
     all_append item_fits (flat_map (written_feature g) g.features) (map (λ r. item.Rule (written_rule g r)) g.rules)
-      (flat_all item_fits (written_feature g) g.features (all_weaken (λ f. has_values f.declared) (λ f. list_all item_fits (written_feature g f)) (λ f h. declaration_fits g f.name f.declared h) g.features s.written.values))
-      (all-map item_fits (λ r. item.Rule (written_rule g r)) g.rules ∙ all_weaken is_written_rule (λ r. item_fits (item.Rule (written_rule g r))) (rule_fits g) g.rules s.written.rules)
+    (flat_all item_fits (written_feature g) g.features (all_weaken (λ f. has_values f.declared) (λ f. list_all item_fits (written_feature g f)) (λ f h. declaration_fits g f.name f.declared h) g.features s.written.values))
+    (all-map item_fits (λ r. item.Rule (written_rule g r)) g.rules ∙ all_weaken is_written_rule (λ r. item_fits (item.Rule (written_rule g r))) (rule_fits g) g.rules s.written.rules)

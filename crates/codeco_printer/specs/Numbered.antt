@@ -1,5 +1,5 @@
 -- The grammar that declarations and rules make: numbers in place of names, given by first occurrence.
-use Rattle.std.specs.Prelude.{ℕ, ◌+◌, ◌&&◌, nat_lt, if◌then◌else◌, Bool, true, false, not, List, [], ◌∷◌, ◌++◌, map, flat_map, filter, codes, slice_index_or, Option, Some, None, option_and_then}
+use Rattle.std.specs.Prelude.{ℕ, ◌+◌, ◌&&◌, nat_lt, if◌then◌else◌, Bool, true, false, List, [], ◌∷◌, ◌++◌, map, flat_map, Option, Some, None}
 use Rattle.codeco_terms.specs.declared.values.Value.TheVariants.{Atom}
 use Rattle.codeco_terms.specs.declared.values.Term.{Term}
 use Rattle.codeco_terms.specs.declared.values.Term.TheVariants.{Val, Var}
@@ -16,7 +16,6 @@ use Rattle.codeco_terms.specs.declared.rules.Rule.{Rule}
 use Rattle.codeco_terms.specs.GrammarParts.{GrammarParts}
 use Rattle.codeco_text.specs.declared.written.WrittenTerm.{WrittenTerm}
 use Rattle.codeco_text.specs.declared.written.WrittenTerm.TheVariants as term
-use Rattle.codeco_text.specs.declared.written.WrittenFeat.{WrittenFeat}
 use Rattle.codeco_text.specs.declared.written.WrittenCategory.{WrittenCategory}
 use Rattle.codeco_text.specs.declared.written.WrittenElement.{WrittenElement}
 use Rattle.codeco_text.specs.declared.written.WrittenElement.TheVariants as element
@@ -197,7 +196,8 @@ numbered_rule t r = record {
   label = numbered_label r.label;
   head = numbered_category t r.head;
   closing = r.closing;
-  body = map (numbered_element t) r.body }
+  body = map (numbered_element t) r.body;
+}
 
 abbrev pub item_rules : WrittenItem → List WrittenRule
 item_rules (item.Feature name d) = []
@@ -235,15 +235,16 @@ written_terminals (element.NoBack ps) = []
 -- the grammar that declarations and rules make
 abbrev pub numbered_of : List WrittenItem → GrammarParts
 numbered_of items =
-  let features = features_of items in
-  let rules = rules_of items in
-  let names = map (λ f. f.name) features in
-  let atoms = atoms_of features in
-  let terminals = gathered [] (flat_map (λ r. flat_map written_terminals r.body) rules) in
-  let categories = gathered first_categories (flat_map rule_names rules) in
-  record {
-    features = map (numbered_feature atoms) features;
-    atoms = atoms;
-    terminals = terminals;
-    categories = categories;
-    rules = map (λ r. numbered_rule (record { features = names; atoms = atoms; terminals = terminals; categories = categories; variables = variables_of names r }) r) rules }
+    let features = features_of items in
+    let rules = rules_of items in
+    let names = map (λ f. f.name) features in
+    let atoms = atoms_of features in
+    let terminals = gathered [] (flat_map (λ r. flat_map written_terminals r.body) rules) in
+    let categories = gathered first_categories (flat_map rule_names rules) in
+    record {
+      features = map (numbered_feature atoms) features;
+      atoms = atoms;
+      terminals = terminals;
+      categories = categories;
+      rules = map (λ r. numbered_rule (record { features = names; atoms = atoms; terminals = terminals; categories = categories; variables = variables_of names r }) r) rules;
+    }

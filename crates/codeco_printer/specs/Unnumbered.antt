@@ -129,7 +129,8 @@ written_rule g r = record {
   label = option_map label_name r.label;
   head = written_category g r.head;
   closing = r.closing;
-  body = map (written_element g) r.body }
+  body = map (written_element g) r.body;
+}
 
 -- a feature's declaration, where it has one
 abbrev pub declaration : GrammarParts → List ℕ → Declared → List WrittenItem

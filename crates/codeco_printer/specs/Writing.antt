@@ -1,6 +1,5 @@
 -- Printing from left to right, symbol by symbol. Only calls inside the crate speak of it.
-use Rattle.std.specs.Prelude.{map, flat_map, ℕ, Bool, true, false, ◌&&◌, List, [], ◌∷◌, ◌++◌, if◌then◌else◌}
-use Rattle.codeco_text.specs.declared.symbols.Sign.{Sign}
+use Rattle.std.specs.Prelude.{map, flat_map, ℕ, Bool, true, false, List, [], ◌∷◌, ◌++◌, if◌then◌else◌}
 use Rattle.codeco_text.specs.declared.symbols.Lexeme.{Lexeme}
 use Rattle.codeco_text.specs.declared.symbols.Lexeme.TheVariants as lexeme
 use Rattle.codeco_text.specs.declared.symbols.Sign.TheVariants as sign

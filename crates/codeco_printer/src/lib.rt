@@ -3,6 +3,8 @@
 
 mod print_symbols;
 mod printing;
+#[cfg(test)]
+mod tests;
 mod unnumbered;
 
 pub use printing::print_grammar;

@@ -2,10 +2,9 @@
 ghost use Rattle.std.specs.Prelude.{◌≡◌, OnOk};
 ghost use Rattle.codeco_text.specs.Notation.{sign_bytes};
 
+use codeco_text::Sign;
 use std::alloc::Global;
 use std::marker::Model;
-
-use codeco_text::Sign;
 use wiki_base::{Memory, Text8};
 
 /// The bytes of a sign.

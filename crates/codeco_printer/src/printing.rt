@@ -5,30 +5,59 @@ ghost use Rattle.codeco_text.specs.declared.symbols.Sign.TheVariants as sign;
 ghost use Rattle.codeco_text.specs.declared.written.Domain.TheVariants as domain;
 ghost use Rattle.codeco_text.specs.declared.written.WrittenItem.TheVariants as item;
 ghost use Rattle.codeco_text.specs.Notation.{
-    term_lexemes, named, signed, element_lexemes, label_lexemes, arrow, body_lexemes, domain_lexemes, item_lexemes, lexemes, IsSpelling,
+  term_lexemes,
+  named,
+  signed,
+  element_lexemes,
+  label_lexemes,
+  arrow,
+  body_lexemes,
+  domain_lexemes,
+  item_lexemes,
+  lexemes,
+  IsSpelling,
 };
 ghost use Rattle.codeco_printer.specs.Numbered.{numbered_of};
 ghost use Rattle.codeco_printer.specs.Printing.{printed, NeedsSpaces};
 ghost use Rattle.codeco_printer.specs.Unnumbered.{
-    name_at, feature_name, written_term, plain_terms, taken_terms, below, from, merged, with_names,
-    written_category, written_pattern, written_element, label_name, written_rule, written_feature, written_of,
+  name_at,
+  feature_name,
+  written_term,
+  plain_terms,
+  taken_terms,
+  below,
+  from,
+  merged,
+  with_names,
+  written_category,
+  written_pattern,
+  written_element,
+  label_name,
+  written_rule,
+  written_feature,
+  written_of,
 };
 ghost use Rattle.codeco_printer.specs.Writing.{
-    nothing, put, write, separator, opened_feats, closed_feats, other_atoms, values_lexemes,
+  nothing,
+  put,
+  write,
+  separator,
+  opened_feats,
+  closed_feats,
+  other_atoms,
+  values_lexemes,
 };
 
-use std::alloc::Global;
-
+use crate::print_symbols::Printer;
+use crate::unnumbered::{feature_name, label_name, letter, name_at};
 use codeco_reader::CheckedGrammar;
 use codeco_terms::{
     Category, Declared, Element, Elements, Feature, Grammar, Label, Pattern, Patterns, Rule, Term,
     Value,
 };
 use codeco_text::Sign;
+use std::alloc::Global;
 use wiki_base::{Memory, Text8};
-
-use crate::print_symbols::Printer;
-use crate::unnumbered::{feature_name, label_name, letter, name_at};
 
 fn print_term(out: &mut Printer, grammar: &Grammar, term: Term) -> Result<(), Memory>
     ensures { OnOk result (out.new ≡ write out.old (term_lexemes (written_term grammar.now term))) }
@@ -164,7 +193,12 @@ fn print_pattern(out: &mut Printer, grammar: &Grammar, pattern: &Pattern) -> Res
     ensures { OnOk result (out.new ≡ write out.old (named (written_pattern grammar.now pattern.now))) }
 {
     out.word(name_at(grammar.categories(), pattern.cat.name))?;
-    print_features(out, grammar, pattern.cat.feats.as_slice(), pattern.taken.as_slice())?;
+    print_features(
+        out,
+        grammar,
+        pattern.cat.feats.as_slice(),
+        pattern.taken.as_slice(),
+    )?;
     Ok(())
 }
 
@@ -244,11 +278,7 @@ fn print_body(out: &mut Printer, grammar: &Grammar, body: &Elements) -> Result<(
 fn arrow(closing: bool) -> Sign
     ensures { lexeme.Sign result ≡ arrow closing }
 {
-    if closing {
-        Sign::Closing
-    } else {
-        Sign::Normal
-    }
+    if closing { Sign::Closing } else { Sign::Normal }
 }
 
 fn print_rule(out: &mut Printer, grammar: &Grammar, rule: &Rule) -> Result<(), Memory>
@@ -352,4 +382,3 @@ pub fn print_grammar(alloc: Global, grammar: &CheckedGrammar) -> Result<Text8, M
 {
     Ok(print_parts(alloc, grammar.grammar())?.into_text())
 }
-

@@ -1,4 +1,4 @@
-use Rattle.std.proofs.Common.{List, map, refl, ◌∷◌, ◌++◌, ◌≡◌}
+use Rattle.std.proofs.Common.{List}
 use Rattle.std.specs.Prelude.{flat_map}
 use Rattle.std.proofs.lemmas.List.Concat.{flat_map-append}
 use Rattle.codeco_terms.specs.declared.declarations.Feature.{Feature}

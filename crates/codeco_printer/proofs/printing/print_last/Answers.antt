@@ -1,6 +1,6 @@
-use Rattle.std.proofs.Common.{sym, ◌∙◌, length, ap}
+use Rattle.std.proofs.Common.{sym, ◌∙◌, length}
 use Rattle.codeco_printer.specs.Unnumbered.{taken_terms, with_names}
-use Rattle.codeco_printer.proofs.WriteLaws.{last_closed, last_open, length_taken}
+use Rattle.codeco_printer.proofs.WriteLaws.{last_closed, length_taken}
 use Rattle.codeco_printer.proofs.printing.print_last.Goals as goal
 
 pub returns-in_ok-sign : goal.returns-in_ok-sign

@@ -1,8 +1,7 @@
 use Rattle.std.proofs.Common.{◌≡◌, drop, map}
-use Rattle.std.specs.Prelude.{flat_map}
 use Rattle.codeco_text.specs.declared.written.WrittenItem.TheVariants as item
-use Rattle.codeco_text.specs.Notation.{body_lexemes, lexemes}
-use Rattle.codeco_printer.specs.Unnumbered.{written_element, written_rule, written_feature}
+use Rattle.codeco_text.specs.Notation.{lexemes}
+use Rattle.codeco_printer.specs.Unnumbered.{written_rule}
 use Rattle.codeco_printer.specs.Writing.{write}
 use Rattle.codeco_printer.proofs.printing.print_rules.Given as goal
 

@@ -1,0 +1,16 @@
+pub mod Examples
+pub mod GrammarPrinted
+pub mod Led
+pub mod Lists
+pub mod PrintLaws
+pub mod Spelled
+pub mod Streamed
+pub mod SmallestSound
+pub mod SoundNames
+pub mod Ordered
+pub mod ReadBack
+pub mod RuleBack
+pub mod SoundNumbers
+pub mod Tables
+pub mod WriteLaws
+pub mod WrittenSound

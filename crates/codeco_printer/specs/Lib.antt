@@ -1,0 +1,5 @@
+pub mod Numbered
+pub mod Printing
+pub mod Smallest
+pub mod Unnumbered
+pub mod Writing

@@ -1,0 +1,10 @@
+//! The grammar notation: the text of a grammar.
+#![tactic(auto)]
+
+mod print_symbols;
+mod printing;
+#[cfg(test)]
+mod tests;
+mod unnumbered;
+
+pub use printing::print_grammar;

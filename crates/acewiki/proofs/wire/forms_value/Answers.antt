@@ -1,0 +1,7 @@
+use Rattle.std.proofs.Common.{subst, sym, IsUtf8, arith}
+use Rattle.std.proofs.lemmas.Grind.{common_steps}
+use Rattle.std.proofs.lemmas.List.{map_push}
+use Rattle.acewiki.proofs.wire.forms_value.Goals as goal
+
+pub utf8_of-requires : goal.utf8_of-requires
+utf8_of-requires c = subst IsUtf8 (sym c.text-item.is) (c.requires c.loop-text.text-index c.text-item.result c.loop-text-test.true)

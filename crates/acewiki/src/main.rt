@@ -1,0 +1,8 @@
+//! AceWiki: a controlled-English wiki. `acewiki replay` answers one reply line to each request line of its input.
+#![tactic(auto)]
+
+mod placeholder;
+mod talk;
+mod wire;
+
+fn main(_rt: HostRuntime) {}

@@ -1,6 +1,6 @@
 -- The texts that words have: letters, and hyphens between letters.
-use Rattle.std.specs.Prelude.{◌≡◌, ℕ, ◌+◌, Bool, true, false, ◌&&◌, ◌||◌, ◌==◌, nat_lt, if◌then◌else◌, List, [], ◌∷◌, length, option_map, Option, Some, None, encode_utf8}
-use Rattle.std.specs.Str.{chars}
+use Rattle.std.specs.Prelude.{◌≡◌, ℕ, ◌+◌, Bool, true, false, ◌&&◌, ◌||◌, ◌==◌, nat_lt, if◌then◌else◌, ◌<◌, List, [], ◌∷◌, ◌++◌, length, option_map, Option, Some, None, encode_utf8}
+use Rattle.std.specs.Str.{chars, encode_utf8_all}
 use Rattle.unicode.specs.Binary.{is_alphabetic}
 use Rattle.wiki_base.specs.declared.text.BadText.{BadText}
 use Rattle.wiki_base.specs.declared.text.BadText.TheVariants.{Empty, TooLong, Letter}
@@ -38,3 +38,27 @@ fault_of (b ∷ bs) =
 -- the bytes are a text
 abbrev pub IsText : List ℕ → Type 0
 IsText bytes = fault_of bytes ≡ None
+
+-- the last of these characters is a letter
+abbrev pub ends_with_letter : List ℕ → Bool
+ends_with_letter [] = false
+ends_with_letter (c ∷ []) = is_letter c
+ends_with_letter (c ∷ d ∷ cs) = ends_with_letter (d ∷ cs)
+
+-- the character c between these characters before it and after it is a letter, or a hyphen between two letters
+abbrev pub IsInPlace : List ℕ → ℕ → List ℕ → Type 0
+IsInPlace before c after = is_in_place (ends_with_letter before) c after ≡ true
+
+-- each of these characters is in place
+abbrev pub AllInPlace : List ℕ → Type 0
+AllInPlace cs = (before : List ℕ) (c : ℕ) (after : List ℕ) → cs ≡ before ++ c ∷ after → IsInPlace before c after
+
+-- the first of these characters that is out of place begins after this number of bytes
+pub record IsFirstMisplaced (cs : List ℕ) (place : ℕ) : Type 0 where
+  pub before : List ℕ
+  pub c : ℕ
+  pub after : List ℕ
+  pub split : cs ≡ before ++ c ∷ after
+  pub at : place ≡ length (encode_utf8_all before)
+  pub here : ¬ IsInPlace before c after
+  pub first : (front : List ℕ) (d : ℕ) (back : List ℕ) → cs ≡ front ++ d ∷ back → length front < length before → IsInPlace front d back

@@ -105,3 +105,24 @@ impl Arg {
         self.bytes.as_slice()
     }
 }
+
+#[cfg(test)]
+mod tests {
+    use super::*;
+    use std::test::Fail;
+
+    #[test]
+    fn bytes_are_added_and_copied(rt: HostRuntime) -> Result<(), Fail> {
+        let mut text = Text8::new(rt.alloc());
+        text.extend(b"ab")?;
+        text.extend(b"c")?;
+        assert_eq!(rt; text.copy()?.as_bytes(), b"abc".as_slice());
+        assert_eq!(rt;
+            Text8::from_slice(rt.alloc(), b"x")?.as_bytes(),
+            b"x".as_slice()
+        );
+        let word = Arg::from_vec(text.into_vec());
+        assert_eq!(rt; word.as_bytes(), b"abc".as_slice());
+        Ok(())
+    }
+}

@@ -1,7 +1,7 @@
 // Texts of words: letters, and hyphens between letters.
-ghost use Rattle.std.specs.Prelude.{◌≡◌, ◌⊎◌, ◌+◌, ◌<◌, ◌≤◌, false, Some, IfOk, MatchResult, option_map, length};
+ghost use Rattle.std.specs.Prelude.{◌≡◌, ◌≢◌, ◌⊎◌, ◌<◌, ◌≤◌, ℕ, [], false, Some, IfOk, OnOk, IsErrOf, MatchResult, length};
 ghost use Rattle.std.specs.Str.{chars};
-ghost use Rattle.wiki_base.specs.Text.{fault_of, misplaced, begins_with_letter, is_in_place, IsText};
+ghost use Rattle.wiki_base.specs.Text.{fault_of, misplaced, begins_with_letter, is_in_place, IsText, AllInPlace, IsFirstMisplaced};
 ghost use Rattle.wiki_base.specs.declared.text.BadText.TheVariants.{Memory};
 
 use crate::memory::Memory;
@@ -56,6 +56,12 @@ impl Text {
     pub fn read(alloc: Global, s: &str) -> Result<Text, BadText>
         ensures ok { IfOk result (λ text. text ≡ s.now) }
         ensures cause { MatchResult result (λ _. IsText s.now) (λ fault. (fault ≡ BadText.Memory) ⊎ (fault_of s.now ≡ Some fault)) }
+
+        // What the fault says, in other words.
+        ensures accepted { OnOk result ((s.now ≢ []) × (length s.now ≤ 64) × AllInPlace (chars s.now)) }
+        ensures empty { IsErrOf result BadText.Empty → s.now ≡ [] }
+        ensures too_long { IsErrOf result BadText.TooLong → 64 < length s.now }
+        ensures letter { (place : ℕ) → IsErrOf result (BadText.Letter place) → IsFirstMisplaced (chars s.now) place }
     {
         if s.is_empty() {
             return Err(BadText::Empty);
@@ -116,4 +122,49 @@ fn first_misplaced(s: &str) -> Option<u32>
         place += c.len_utf8() as u32;
     }
     None
+}
+
+#[cfg(test)]
+mod tests {
+    use super::*;
+    use std::test::Fail;
+
+    #[test]
+    fn the_first_misplaced_character_is_told(rt: HostRuntime) {
+        for (text, fault) in [
+            ("", BadText::Empty),
+            ("a-", BadText::Letter(1)),
+            ("-a", BadText::Letter(0)),
+            ("a--b", BadText::Letter(1)),
+            ("New York", BadText::Letter(3)),
+            ("Zürich1", BadText::Letter(7)),
+            ("a1b2", BadText::Letter(1)),
+        ] {
+            assert_eq!(rt; Text::read(rt.alloc(), text).err(), Some(fault), "{text}");
+        }
+    }
+
+    #[test]
+    fn sixty_four_bytes_are_the_most(rt: HostRuntime) -> Result<(), Fail> {
+        let longest = "aaaaaaaaaaaaaaaaaaaaaaaaaaaaaaaaaaaaaaaaaaaaaaaaaaaaaaaaaaaaaaaa";
+        assert_eq!(rt; longest.len(), 64);
+        assert_eq!(rt; Text::read(rt.alloc(), longest)?.as_str(), longest);
+        let mut longer = String::from_str(rt.alloc(), longest)?;
+        longer.push('1')?;
+        assert_eq!(rt;
+            Text::read(rt.alloc(), longer.as_str()).err(),
+            Some(BadText::TooLong)
+        );
+        Ok(())
+    }
+
+    #[test]
+    fn letters_of_any_script_and_inner_hyphens_are_read(rt: HostRuntime) -> Result<(), Fail> {
+        for text in ["Bern", "located-in", "Zürich", "東京", "a-b-c"] {
+            let read = Text::read(rt.alloc(), text)?;
+            assert_eq!(rt; read.as_str(), text);
+            assert_eq!(rt; read.copy()?.as_str(), text);
+        }
+        Ok(())
+    }
 }

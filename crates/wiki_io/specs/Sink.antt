@@ -1,0 +1,14 @@
+-- What one `write` to a sink takes.
+use Rattle.std.specs.Prelude.{ℕ, ◌<◌, ◌≤◌, List, [], take, ⊤}
+use Rattle.wiki_io.specs.declared.sinks.Took.{Took}
+use Rattle.wiki_io.specs.declared.sinks.Took.TheVariants.{Bytes, Failed}
+
+-- of the piece that was handed in, the bytes that were taken
+abbrev pub bytes_taken : Took → List ℕ → List ℕ
+bytes_taken (Bytes n) piece = take n piece
+bytes_taken Failed piece = []
+
+-- where bytes were taken, there is one at least, and no more than a piece of this length has
+abbrev pub TookFits : Took → ℕ → Type 0
+TookFits (Bytes n) len = (0 < n) × (n ≤ len)
+TookFits Failed len = ⊤

@@ -1,0 +1,165 @@
+// A source and a sink in memory, whose calls fail where that is asked for.
+ghost use Rattle.std.specs.Prelude.{◌≡◌, ◌<◌, [], Some};
+
+use crate::sinks::{Sink, Took};
+use crate::sources::{Got, Source};
+use std::alloc::Global;
+use std::marker::Model;
+
+/// A source of bytes in memory.
+#[derive(Drop)]
+pub struct MemorySource {
+    bytes: Vec<u8>,
+    // how many bytes were read
+    at: usize,
+    largest: usize,
+    fails: Vec<u64>,
+    calls: u64,
+    faults: u64,
+}
+
+impl Model for MemorySource {
+    ghost use Rattle.std.specs.Prelude.{◌<◌, ◌≤◌, drop, vec_len};
+    ghost use Rattle.wiki_io.specs.Memory.{Held};
+
+    ghost Value = { Held };
+
+    ghost view = { λ s. record { bytes = drop s.at s.bytes.items; faults = s.faults } };
+
+    ghost invariant = { λ s. (s.at ≤ vec_len s.bytes) × (0 < s.largest) };
+}
+
+impl MemorySource {
+    /// A source of these bytes, whose reads of these numbers fail. Reads are numbered from 1.
+    pub fn new(bytes: Vec<u8>, fails: Vec<u64>) -> Self
+        ensures { result ≡ record { bytes = bytes.items; faults = 0 } }
+    {
+        MemorySource::in_pieces(bytes, fails, usize::MAX)
+    }
+
+    /// The same, where no read gives more than `largest` bytes.
+    pub fn in_pieces(bytes: Vec<u8>, fails: Vec<u64>, largest: usize) -> Self
+        requires { 0 < largest }
+        ensures { result ≡ record { bytes = bytes.items; faults = 0 } }
+    {
+        MemorySource {
+            bytes,
+            at: 0,
+            largest,
+            fails,
+            calls: 0,
+            faults: 0,
+        }
+    }
+
+    /// The bytes that are left to read.
+    pub fn unread(&self) -> &[u8]
+        ensures { result.now ≡ self.now.bytes }
+    {
+        &self.bytes[self.at..]
+    }
+
+    /// How often a read has failed.
+    pub fn faults(&self) -> u64
+        ensures { result ≡ self.now.faults }
+    {
+        self.faults
+    }
+}
+
+impl Source for MemorySource {
+    ghost left = { λ s. Some s.bytes };
+
+    ghost faults = { λ s. s.faults };
+
+    fn read(&mut self, buf: &mut [u8]) -> Got {
+        self.calls = self.calls.saturating_add(1);
+        if self.fails.contains(&self.calls) {
+            self.faults = self.faults.saturating_add(1);
+            return Got::Failed;
+        }
+        let size = (self.bytes.len() - self.at)
+            .min(buf.len())
+            .min(self.largest);
+        if size == 0 {
+            return Got::End;
+        }
+        buf[..size].copy_from_slice(&self.bytes[self.at..self.at + size]);
+        self.at += size;
+        Got::Bytes(size)
+    }
+}
+
+/// A sink in memory. Where it finds no memory for more bytes, the write fails.
+#[derive(Drop)]
+pub struct MemorySink {
+    bytes: Vec<u8>,
+    largest: usize,
+    fails: Vec<u64>,
+    calls: u64,
+    faults: u64,
+}
+
+impl Model for MemorySink {
+    ghost use Rattle.std.specs.Prelude.{◌<◌};
+    ghost use Rattle.wiki_io.specs.Memory.{Held};
+
+    ghost Value = { Held };
+
+    ghost view = { λ s. record { bytes = s.bytes.items; faults = s.faults } };
+
+    ghost invariant = { λ s. 0 < s.largest };
+}
+
+impl MemorySink {
+    /// An empty sink, whose writes of these numbers fail. Writes are numbered from 1.
+    pub fn new(alloc: Global, fails: Vec<u64>) -> Self
+        ensures { result ≡ record { bytes = []; faults = 0 } }
+    {
+        MemorySink::in_pieces(alloc, fails, usize::MAX)
+    }
+
+    /// The same, where no write takes more than `largest` bytes.
+    pub fn in_pieces(alloc: Global, fails: Vec<u64>, largest: usize) -> Self
+        requires { 0 < largest }
+        ensures { result ≡ record { bytes = []; faults = 0 } }
+    {
+        MemorySink {
+            bytes: Vec::new(alloc),
+            largest,
+            fails,
+            calls: 0,
+            faults: 0,
+        }
+    }
+
+    /// The bytes that were taken.
+    pub fn bytes(&self) -> &[u8]
+        ensures { result.now ≡ self.now.bytes }
+    {
+        &self.bytes
+    }
+
+    /// How often a write has failed.
+    pub fn faults(&self) -> u64
+        ensures { result ≡ self.now.faults }
+    {
+        self.faults
+    }
+}
+
+impl Sink for MemorySink {
+    ghost taken = { λ s. Some s.bytes };
+
+    ghost faults = { λ s. s.faults };
+
+    fn write(&mut self, bytes: &[u8]) -> Took {
+        self.calls = self.calls.saturating_add(1);
+        let size = bytes.len().min(self.largest);
+        if self.fails.contains(&self.calls) || self.bytes.extend_from_slice(&bytes[..size]).is_err() {
+            self.faults = self.faults.saturating_add(1);
+            return Took::Failed;
+        }
+        Took::Bytes(size)
+    }
+}

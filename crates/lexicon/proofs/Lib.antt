@@ -1,0 +1,4 @@
+mod Adding
+mod Keys
+pub mod Owners
+mod Places

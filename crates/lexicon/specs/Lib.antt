@@ -1,0 +1,4 @@
+pub mod Index
+pub mod Kinds
+pub mod Suggest
+pub mod Words

@@ -1,0 +1,150 @@
+// The kinds of words, and the forms of one word.
+ghost use Rattle.std.specs.Prelude.{◌≡◌, ◌<◌, ◌↔◌, [], length, IfOk, IsTrue, slice_get, Some};
+
+use std::alloc::Global;
+use std::marker::Model;
+use wiki_base::{Memory, Text};
+
+/// The five kinds of words, after Kuhn, Controlled English for Knowledge Representation, 2010.
+#[derive(Clone, Copy, Debug, PartialEq, Eq)]
+pub enum Kind {
+    /// A proper name, as `Bern`.
+    Name,
+    /// A countable noun, as `country`.
+    Noun,
+    /// A noun that stands before `of`, as `part`.
+    Of,
+    /// A transitive verb, as `border`.
+    Verb,
+    /// A transitive adjective, as `located-in`.
+    Adjective,
+}
+
+impl Kind {
+    ghost use Rattle.lexicon.specs.Kinds.{form_count, canonical_place};
+
+    /// How many forms a word of the kind has: 1 to 3.
+    pub fn form_count(self) -> usize
+        ensures { result ≡ form_count self }
+    {
+        match self {
+            Kind::Name | Kind::Of | Kind::Adjective => 1,
+            Kind::Noun => 2,
+            Kind::Verb => 3,
+        }
+    }
+
+    // The place of the form that names the word.
+    fn canonical_place(self) -> usize
+        ensures { result ≡ canonical_place self }
+    {
+        match self {
+            Kind::Verb => 1,
+            Kind::Name | Kind::Noun | Kind::Of | Kind::Adjective => 0,
+        }
+    }
+}
+
+/// A list of texts, seen as the list of their bytes.
+#[derive(Drop)]
+pub struct Texts {
+    items: Vec<Text>,
+}
+
+impl Model for Texts {
+    ghost use Rattle.std.specs.Prelude.{List, ℕ};
+
+    ghost Value = { List (List ℕ) };
+
+    ghost view = { λ t. t.items.items };
+}
+
+impl Texts {
+    /// These texts.
+    pub fn from_vec(items: Vec<Text>) -> Self
+        ensures { result ≡ items.items }
+    {
+        Texts { items }
+    }
+
+    /// The texts, without copying them.
+    pub fn into_vec(self) -> Vec<Text>
+        ensures { result.items ≡ self }
+    {
+        self.items
+    }
+
+    pub fn len(&self) -> usize
+        ensures { result ≡ length self.now }
+    {
+        self.items.len()
+    }
+
+    pub fn is_empty(&self) -> bool
+        ensures { IsTrue result ↔ (self.now ≡ []) }
+    {
+        self.items.is_empty()
+    }
+
+    /// The text at a place, from 0.
+    pub fn get(&self, place: usize) -> &Text
+        requires { place < length self.now }
+        ensures { slice_get self.now place ≡ Some result.now }
+    {
+        &self.items[place]
+    }
+
+    pub fn as_slice(&self) -> &[Text]
+        ensures { result.now ≡ self.now }
+    {
+        self.items.as_slice()
+    }
+
+    /// A list of equal texts.
+    pub fn copied(alloc: Global, texts: &[Text]) -> Result<Texts, Memory>
+        ensures { IfOk result (λ copies. copies ≡ texts.now) }
+    {
+        let mut items = Vec::with_capacity(alloc, texts.len())?;
+        for text in texts {
+            items.push(text.copy()?)?;
+        }
+        Ok(Texts { items })
+    }
+
+    /// An equal list.
+    pub fn copy(&self) -> Result<Texts, Memory>
+        ensures { IfOk result (λ texts. texts ≡ self.now) }
+    {
+        Texts::copied(*self.items.allocator(), self.as_slice())
+    }
+}
+
+/// The forms of one word, in this order: of a name, an of-construct or an adjective its text; of a noun its singular
+/// and plural; of a verb its third person, infinitive and past participle.
+#[derive(Drop)]
+pub struct Forms {
+    pub kind: Kind,
+    pub texts: Texts,
+}
+
+impl Forms {
+    ghost use Rattle.lexicon.specs.Kinds.{canonical_place, IsComplete};
+
+    /// The form that names the word: the text, the singular or the infinitive.
+    pub fn canonical(&self) -> &Text
+        requires { IsComplete self.now }
+        ensures { slice_get self.now.texts (canonical_place self.now.kind) ≡ Some result.now }
+    {
+        self.texts.get(self.kind.canonical_place())
+    }
+
+    /// Equal forms.
+    pub fn copy(&self) -> Result<Forms, Memory>
+        ensures { IfOk result (λ forms. forms ≡ self.now) }
+    {
+        Ok(Forms {
+            kind: self.kind,
+            texts: self.texts.copy()?,
+        })
+    }
+}

@@ -1,2 +1,4 @@
+pub mod AddLemmas
+pub mod CauseLemmas
 pub mod LineLemmas
 pub mod ReplyLemmas

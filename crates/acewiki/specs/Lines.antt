@@ -6,10 +6,10 @@ use Rattle.serde_json.specs.Read.{read}
 use Rattle.serde_json.specs.Find.{get, as_str, as_array}
 use Rattle.serde_json.specs.View.{items_of}
 use Rattle.serde_json.specs.Written.{compact_text}
-use Rattle.acewiki.specs.declared.placeholder.Kind.{Kind}
-use Rattle.acewiki.specs.declared.placeholder.Kind.TheVariants.{Name}
+use Rattle.lexicon.specs.declared.kinds.Kind.{Kind}
+use Rattle.lexicon.specs.declared.kinds.Kind.TheVariants.{Name, Noun, Of, Verb, Adjective}
 use Rattle.acewiki.specs.declared.talk.Limit.{Limit}
-use Rattle.acewiki.specs.declared.talk.Limit.TheVariants.{Words}
+use Rattle.acewiki.specs.declared.talk.Limit.TheVariants.{Words, Numbers}
 use Rattle.acewiki.specs.declared.talk.Request.{Request}
 use Rattle.acewiki.specs.declared.talk.Request.TheVariants as requests
 use Rattle.acewiki.specs.declared.talk.WordView.{WordView}
@@ -33,7 +33,7 @@ texts_in (item value rest) = option_and_then (λ text. option_map (λ texts. tex
 abbrev pub texts_at : List ℕ → Data → Option (List (List ℕ))
 texts_at key value = option_and_then texts_in (option_and_then as_array (get key value))
 
--- the kind of words that has this name
+-- the kind of words that has this name; names are the only words so far
 abbrev pub kind_named : List ℕ → Option Kind
 kind_named name = if bytes_eq name (codes "name") then Some Name else None
 
@@ -69,9 +69,14 @@ request_of line = if nat_lt (length line) 65536 then option_and_then request_in 
 
 abbrev pub kind_name : Kind → List ℕ
 kind_name Name = codes "name"
+kind_name Noun = codes "noun"
+kind_name Of = codes "of"
+kind_name Verb = codes "verb"
+kind_name Adjective = codes "adjective"
 
 abbrev pub limit_name : Limit → List ℕ
 limit_name Words = codes "words"
+limit_name Numbers = codes "numbers"
 
 -- a list of texts
 abbrev pub items_from : List (List ℕ) → Items

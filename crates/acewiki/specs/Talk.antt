@@ -1,5 +1,6 @@
 -- Requests and replies whose texts are UTF-8.
-use Rattle.std.specs.Prelude.{List, All, IsUtf8}
+use Rattle.std.specs.Prelude.{◌≡◌, List, All, IsUtf8}
+use Rattle.lexicon.specs.declared.kinds.Kind.TheVariants.{Name}
 use Rattle.acewiki.specs.declared.talk.Request.{Request}
 use Rattle.acewiki.specs.declared.talk.Request.TheVariants as requests
 use Rattle.acewiki.specs.declared.talk.Reply.{Reply}
@@ -7,10 +8,10 @@ use Rattle.acewiki.specs.declared.talk.Reply.TheVariants as replies
 use Rattle.acewiki.specs.declared.talk.Refusal.{Refusal}
 use Rattle.acewiki.specs.declared.talk.Refusal.TheVariants.{NoWord, BadForm, Taken, Full}
 
--- each text of the request is UTF-8
-abbrev pub AsksInUtf8 : Request → Type 0
-AsksInUtf8 (requests.Word kind forms) = All IsUtf8 forms
-AsksInUtf8 (requests.Find word) = IsUtf8 word
+-- each text of the request is UTF-8, and a new word is a name, the only kind so far
+abbrev pub CanBeAsked : Request → Type 0
+CanBeAsked (requests.Word kind forms) = (kind ≡ Name) × All IsUtf8 forms
+CanBeAsked (requests.Find word) = IsUtf8 word
 
 -- each text of the refusal is UTF-8
 abbrev pub RefusesInUtf8 : Refusal → Type 0

@@ -1,8 +1,9 @@
 //! AceWiki: a controlled-English wiki. `acewiki replay` answers one reply line to each request line of its input.
 #![tactic(auto)]
 
-mod placeholder;
+mod command;
 mod talk;
+mod wiki;
 mod wire;
 
 fn main(_rt: HostRuntime) {}

@@ -1,9 +1,20 @@
 // What is asked of the wiki, and what it answers. Every text is UTF-8.
-ghost use Rattle.std.specs.Prelude.{◌≡◌, List, ℕ, length, slice_get};
+ghost use Rattle.std.specs.Prelude.{◌≡◌, IsUtf8};
 
-use crate::placeholder::Kind;
+use lexicon::Kind;
 use std::marker::Model;
 use wiki_base::Text8;
+
+/// The text of UTF-8 bytes.
+pub fn utf8_of(text: &Text8) -> &str
+    requires { IsUtf8 text.now }
+    ensures { result.now ≡ text.now }
+{
+    match str::from_utf8(text.as_bytes()) {
+        Ok(text) => text,
+        Err(_) => unreachable!(),
+    }
+}
 
 /// A list of texts.
 #[derive(Drop)]
@@ -54,7 +65,10 @@ pub struct WordView {
 /// What a limit bounds.
 #[derive(Clone, Copy, Debug, PartialEq, Eq)]
 pub enum Limit {
+    /// The live words: 5,000.
     Words,
+    /// The numbers that are given: 4,294,967,295.
+    Numbers,
 }
 
 /// Why a request was refused.

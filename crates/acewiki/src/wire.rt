@@ -6,10 +6,11 @@ ghost use Rattle.serde_json.specs.Written.{has_float};
 ghost use Rattle.acewiki.specs.Talk.{RepliesInUtf8, RefusesInUtf8};
 ghost use Rattle.acewiki.specs.Lines.{text_at, texts_at, texts_in, kind_named, word_request, word_in, find_in, request_named, request_in, request_of, kind_name, limit_name, items_from, word_value, refusal_value, reply_value, bad_request_value, line_text, reply_line, bad_request_line};
 
-use crate::placeholder::Kind;
-use crate::talk::{Limit, Refusal, Reply, Request, Text8s, WordView};
+
+use crate::talk::{Limit, Refusal, Reply, Request, Text8s, WordView, utf8_of};
+use lexicon::Kind;
 use serde_json::{Value, json};
-use std::alloc::{AllocError, Global};
+use std::alloc::Global;
 use wiki_base::{Memory, Text8};
 
 /// The bytes of a line that is too long: 65,536, its newline not counted.
@@ -97,7 +98,7 @@ fn texts_from(alloc: Global, items: &[Value]) -> Result<Option<Vec<Text8>>, Memo
 fn kind_of(name: &str) -> Option<Kind>
     ensures { result ≡ kind_named name.now }
 {
-    if name == "name" { Some(Kind::Name) } else { None }
+    (name == "name").then_some(Kind::Name)
 }
 
 /// The line of a reply, with its newline.
@@ -155,17 +156,6 @@ fn forms_value(alloc: Global, texts: &[Text8]) -> Result<Value, Memory>
     Ok(Value::Array(items))
 }
 
-// The text of UTF-8 bytes.
-fn utf8_of(text: &Text8) -> &str
-    requires { IsUtf8 text.now }
-    ensures { result.now ≡ text.now }
-{
-    match str::from_utf8(text.as_bytes()) {
-        Ok(text) => text,
-        Err(_) => unreachable!(),
-    }
-}
-
 fn refusal_value(alloc: Global, refusal: &Refusal) -> Result<Value, Memory>
     requires { RefusesInUtf8 refusal.now }
     ensures { IfOk result (λ value. view value ≡ refusal_value refusal.now) }
@@ -214,6 +204,10 @@ fn kind_name(kind: Kind) -> &'static str
 {
     match kind {
         Kind::Name => "name",
+        Kind::Noun => "noun",
+        Kind::Of => "of",
+        Kind::Verb => "verb",
+        Kind::Adjective => "adjective",
     }
 }
 
@@ -222,6 +216,7 @@ fn limit_name(limit: Limit) -> &'static str
 {
     match limit {
         Limit::Words => "words",
+        Limit::Numbers => "numbers",
     }
 }
 

@@ -50,7 +50,7 @@ pub record ReadsLine (left : Option (List ℕ)) (old : Reading) (answer : Line) 
   pub got : List ℕ
   pub source : left ≡ prepend_known got left_after
   pub count : new.count ≡ old.count + length got
-  pub at_end : IsTrue old.ended → got ≡ []
+  pub at_end : IsTrue old.ended → (got ≡ []) × IsTrue new.ended
   pub lines : (rest : List ℕ) → CanFollow new rest
     → lines_to_come old (got ++ rest) ≡ answered answer new.line ++ lines_to_come new rest
 
@@ -86,8 +86,15 @@ pub record HasNoLine (reader : Reading) : Type 0 where
   pub skipped : IsTrue reader.skips → reader.pending ≡ []
   pub goes_on : reader.ended ≡ false
 
--- Since a fresh reader, `bytes` were read and `given` are the lines that were given: whatever follows, those are the first
+-- Since a fresh reader, `bytes` were read, and `given` are the lines that were given. Whatever follows, those are the first
 -- lines of the input, and those to come are the others.
 abbrev pub HasGiven : List ℕ → List InputLine → Reading → Type 0
 HasGiven bytes given reader = (rest : List ℕ) → CanFollow reader rest
     → input_lines (bytes ++ rest) ≡ given ++ lines_to_come reader rest
+
+-- The same, where the source had `first` left when the reader was fresh, and has `left` left now.
+pub record HasGivenFrom (first : Option (List ℕ)) (given : List InputLine) (reader : Reading) (left : Option (List ℕ)) : Type 0 where
+  pub bytes : List ℕ
+  pub source : first ≡ prepend_known bytes left
+  pub count : reader.count ≡ length bytes
+  pub lines : HasGiven bytes given reader

@@ -1,5 +1,5 @@
 // The lines of an input, one call for each.
-ghost use Rattle.std.specs.Prelude.{◌≡◌, ◌≢◌, ◌<◌, ◌≤◌, ◌+◌, ◌-◌, ◌++◌, ◌↔◌, ◌⊎◌, ℕ, [], IfOk, IfSome, IfNone, IsTrue, true, false, length, take, slice_get, slice_range, vec_len, Some};
+ghost use Rattle.std.specs.Prelude.{◌≡◌, ◌≢◌, ◌<◌, ◌≤◌, ◌+◌, ◌-◌, ◌++◌, ◌↔◌, ◌⊎◌, ℕ, [], IfOk, IfSome, IfNone, IsTrue, true, false, length, take, drop, slice_get, slice_range, vec_len, Some};
 ghost use Rattle.std.specs.Bool.{OnTrue, OnFalse};
 ghost use Rattle.std.specs.Io.KnownBytes.{prepend_known, IsAtEnd};
 ghost use Rattle.wiki_io.specs.Faults.{Rose};
@@ -100,10 +100,15 @@ impl LineReader {
         ensures last_line { IsTrue self.new.ended → (result ≡ Line.End) ⊎ (result ≡ Line.Text) }
         ensures ended { IsTrue self.old.ended → (result ≡ Line.End) × (source.new ≡ source.old) }
 
+        // A line takes bytes, so whoever goes on comes to an end.
+        ensures takes { (result ≡ Line.Text) ⊎ (result ≡ Line.TooLong)
+            → length self.new.pending + self.old.count < length self.old.pending + self.new.count }
+
         ensures too_much { (result ≡ Line.TooMuch) ↔ (MAX_INPUT < self.new.count) }
 
         // Whoever waits for the reply to a line has it before more is read.
         ensures at_once { whole_lines (bytes_to_come self.old []) ≢ [] → source.new ≡ source.old }
+        ensures at_once_too_long { MAX_LINE ≤ length (bytes_to_come self.old []) → source.new ≡ source.old }
 
         // Where a read failed, each whole line that was read has been given.
         ensures read_fault { result ≡ Line.ReadFault → Rose (S.faults source.old) (S.faults source.new) }
@@ -133,6 +138,7 @@ impl LineReader {
     fn nothing(&mut self) -> Line
         ensures end { result ≡ Line.End }
         ensures new { self.new ≡ record self.old { line = [] } }
+        ensures pending { IsTrue self.old.ended → self.old.pending ≡ [] }
     {
         self.line_length = 0;
         Line::End
@@ -150,18 +156,22 @@ impl LineReader {
         ensures some { IfSome result (λ answer. GivesLine self.old answer self.new) }
         ensures answer { IfSome result (λ answer. (answer ≡ Line.Text) ⊎ ((answer ≡ Line.TooLong) × (self.new.line ≡ []))) }
         ensures none { IfNone result (HasNoLine self.new × KeepsBytes self.old self.new) }
+        ensures takes { IfSome result (λ _. length self.new.pending < length self.old.pending) }
+        ensures keeps { length self.new.pending ≤ length self.old.pending }
         ensures ended { self.new.ended ≡ false }
         ensures count { self.new.count ≡ self.old.count }
     {
         if !self.skip() {
             return None;
         }
-        let window = self.end.min(self.start + MAX_LINE);
-        match newline_at(&self.buffer[self.start + self.searched..window]) {
-            Some(at) => Some(self.text(self.searched + at)),
-            None if window - self.start == MAX_LINE => Some(self.too_long()),
+        let start = self.start;
+        let searched = self.searched;
+        let window = self.end.min(start + MAX_LINE);
+        match newline_at(&self.buffer[start + searched..window]) {
+            Some(at) => Some(self.text(searched + at)),
+            None if window - start == MAX_LINE => Some(self.too_long()),
             None => {
-                self.searched = window - self.start;
+                self.searched = window - start;
                 None
             }
         }
@@ -173,6 +183,7 @@ impl LineReader {
         ensures kept { KeepsBytes self.old self.new }
         ensures done { OnTrue result (self.new.skips ≡ false) }
         ensures more { OnFalse result (HasNoLine self.new) }
+        ensures keeps { length self.new.pending ≤ length self.old.pending }
         ensures ended { self.new.ended ≡ false }
         ensures count { self.new.count ≡ self.old.count }
         ensures line { self.new.line ≡ [] }
@@ -196,20 +207,21 @@ impl LineReader {
     }
 
     // Gives the first bytes that were read, of this number, up to a newline byte.
-    fn text(&mut self, length: usize) -> Line
+    fn text(&mut self, size: usize) -> Line
         requires skips { self.old.skips ≡ false }
         requires ended { self.old.ended ≡ false }
-        requires short { length < MAX_LINE }
-        requires no_newline { HasNoNewline (take length self.old.pending) }
-        requires newline { slice_get self.old.pending length ≡ Some NEWLINE }
+        requires short { size < MAX_LINE }
+        requires no_newline { HasNoNewline (take size self.old.pending) }
+        requires newline { slice_get self.old.pending size ≡ Some NEWLINE }
         ensures line { GivesLine self.old result self.new }
         ensures text { result ≡ Line.Text }
+        ensures takes { length self.new.pending < length self.old.pending }
         ensures ended { self.new.ended ≡ false }
         ensures count { self.new.count ≡ self.old.count }
     {
         self.line_start = self.start;
-        self.line_length = length;
-        self.start += length + 1;
+        self.line_length = size;
+        self.start += size + 1;
         self.searched = 0;
         Line::Text
     }
@@ -222,6 +234,7 @@ impl LineReader {
         requires no_newline { HasNoNewline (take MAX_LINE self.old.pending) }
         ensures line { GivesLine self.old result self.new }
         ensures too_long { (result ≡ Line.TooLong) × (self.new.line ≡ []) }
+        ensures takes { length self.new.pending < length self.old.pending }
         ensures ended { self.new.ended ≡ false }
         ensures count { self.new.count ≡ self.old.count }
     {
@@ -241,13 +254,11 @@ impl LineReader {
         ensures failed { result ≡ Got.Failed → Rose (S.faults source.old) (S.faults source.new) }
         ensures faults { S.faults source.old ≤ S.faults source.new }
     {
+        to_front(&mut self.buffer, self.start, self.end);
         self.line_length = 0;
-        if self.start > 0 {
-            to_front(&mut self.buffer, self.start, self.end);
-            self.end -= self.start;
-            self.start = 0;
-        }
-        let got = source.read(&mut self.buffer[self.end..]);
+        self.end -= self.start;
+        self.start = 0;
+        let got = read_behind(source, &mut self.buffer, self.end);
         if let Got::Bytes(size) = got {
             self.end += size;
             self.count += size as u64;
@@ -259,7 +270,7 @@ impl LineReader {
     fn finish(&mut self) -> Line
         requires { HasNoLine self.old }
         ensures lines { lines_to_come self.old [] ≡ answered result self.new.line }
-        ensures answer { ((result ≡ Line.End) × (self.new.line ≡ [])) ⊎ (result ≡ Line.Text) }
+        ensures answer { ((result ≡ Line.End) × (self.new.line ≡ [])) ⊎ ((result ≡ Line.Text) × (0 < length self.old.pending)) }
         ensures ended { IsTrue self.new.ended }
         ensures pending { self.new.pending ≡ [] }
         ensures count { self.new.count ≡ self.old.count }
@@ -284,7 +295,23 @@ fn to_front(buffer: &mut Vec<u8>, start: usize, end: usize)
     ensures moved { slice_range buffer.new.items 0 (end - start) ≡ slice_range buffer.old.items start end }
     ensures length { vec_len buffer.new ≡ vec_len buffer.old }
 {
-    buffer.copy_within(start..end, 0);
+    if start > 0 {
+        buffer.copy_within(start..end, 0);
+    }
+}
+
+// Reads into the buffer from a place on.
+fn read_behind<S: Source>(source: &mut S, buffer: &mut Vec<u8>, from: usize) -> Got
+    requires { from < vec_len buffer.old }
+    ensures fits { GotFits result (vec_len buffer.old - from) }
+    ensures bytes { S.left source.old ≡ prepend_known (bytes_got result (drop from buffer.new.items)) (S.left source.new) }
+    ensures front { take from buffer.new.items ≡ take from buffer.old.items }
+    ensures length { vec_len buffer.new ≡ vec_len buffer.old }
+    ensures end { result ≡ Got.End → IsAtEnd (S.left source.new) }
+    ensures failed { result ≡ Got.Failed → Rose (S.faults source.old) (S.faults source.new) }
+    ensures faults { S.faults source.old ≤ S.faults source.new }
+{
+    source.read(&mut buffer[from..])
 }
 
 // The place of the first newline byte.

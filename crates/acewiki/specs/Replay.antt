@@ -1,15 +1,19 @@
 -- A run of the plain wiki over the lines of an input, and what `replay` reads and writes.
 use Rattle.std.specs.Prelude.{◌≡◌, ℕ, ◌<◌, ◌≤◌, ◌⊎◌, List, [], ◌∷◌, ◌++◌, length, take, Option, Some, None}
+use Rattle.std.specs.Borrow.{Bor}
 use Rattle.std.specs.Io.KnownBytes.{prepend_known, append_known, IsAtEnd}
 use Rattle.wiki_io.specs.declared.limits.TheConstants.{MAX_INPUT}
 use Rattle.wiki_io.specs.Lines.{InputLine, text, too_long, input_lines, AreReadLines}
 use Rattle.wiki_io.specs.Faults.{Rose}
 use Rattle.lexicon.specs.Words.{Listed}
 use Rattle.acewiki.specs.declared.talk.Request.{Request}
-use Rattle.acewiki.specs.declared.command.Outcome.{Outcome}
-use Rattle.acewiki.specs.declared.command.Outcome.TheVariants as ends
 use Rattle.acewiki.specs.Lines.{request_of, reply_line, bad_request_line}
 use Rattle.acewiki.specs.Wiki.{no_words, reply_to, words_after}
+
+-- a line as it is handed on: none is one that is too long
+abbrev pub line_handed : Option (Bor (List ℕ)) → InputLine
+line_handed (Some line) = text line.now
+line_handed None = too_long
 
 -- the request of a line
 abbrev pub asked : InputLine → Option Request
@@ -50,9 +54,9 @@ replies lines = answers no_words lines
 abbrev pub Begins : List ℕ → List ℕ → Type 0
 Begins front whole = (more : List ℕ) × (whole ≡ front ++ more)
 
--- What `replay` has read and written when it ends so. `left` is what the input has left and `taken` what the output has
--- taken, where they tell it.
-pub record Replays (left taken : Option (List ℕ)) (end : Outcome) (left_after taken_after : Option (List ℕ)) : Type 0 where
+-- What `replay` has read and written when it ends with this status. `left` is what the input has left, and `taken` what
+-- the output has taken, where they tell it.
+pub record Replays (left taken : Option (List ℕ)) (status : ℕ) (left_after taken_after : Option (List ℕ)) : Type 0 where
   -- what was read, and what was written
   pub read : List ℕ
   pub written : List ℕ
@@ -60,12 +64,12 @@ pub record Replays (left taken : Option (List ℕ)) (end : Outcome) (left_after 
   pub sink : taken_after ≡ append_known taken written
   -- What was written is the front of the reply lines to the lines that were read.
   pub front : Begins written (replies (input_lines read))
-  -- Done is it where all was read and each reply was written whole.
-  pub done : end ≡ ends.Done → IsAtEnd left_after × (written ≡ replies (input_lines read))
-  -- Where a read failed, each whole line that was read has its reply, and a last line may have that is too long already.
-  pub read_fault : end ≡ ends.ReadFault → (lines : List InputLine) × AreReadLines read lines × (written ≡ replies lines)
-  -- Too much was the input only where more than `MAX_INPUT` bytes of it were read.
-  pub too_much : end ≡ ends.TooMuch → MAX_INPUT < length read
+  -- With status 0 all was read, and all reply lines were written.
+  pub done : status ≡ 0 → IsAtEnd left_after × (written ≡ replies (input_lines read))
+  -- Where a read failed, each whole line that was read has its reply. A last line may have one that is too long already.
+  pub read_fault : status ≡ 3 → (lines : List InputLine) × AreReadLines read lines × (written ≡ replies lines)
+  -- The input was too large only where more than `MAX_INPUT` bytes of it were read.
+  pub too_large : status ≡ 6 → MAX_INPUT < length read
 
 -- the source told no more than `MAX_INPUT` bytes
 abbrev pub IsWithin : Option (List ℕ) → Type 0

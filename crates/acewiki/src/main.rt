@@ -2,6 +2,7 @@
 #![tactic(auto)]
 
 mod command;
+mod replay;
 mod talk;
 mod wiki;
 mod wire;

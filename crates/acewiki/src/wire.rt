@@ -1,9 +1,9 @@
 // Requests and replies as lines of JSON.
-ghost use Rattle.std.specs.Prelude.{◌≡◌, ◌<◌, ◌++◌, ◌∷◌, [], length, IfOk, codes, option_map, All, IsUtf8, false};
+ghost use Rattle.std.specs.Prelude.{◌≡◌, ◌<◌, ◌++◌, ◌∷◌, [], length, IfOk, IfSome, codes, option_map, All, IsUtf8, false};
 ghost use Rattle.serde_json.specs.View.{view, items_view};
 ghost use Rattle.serde_json.specs.Data.{Data, string, array};
 ghost use Rattle.serde_json.specs.Written.{has_float};
-ghost use Rattle.acewiki.specs.Talk.{RepliesInUtf8, RefusesInUtf8};
+ghost use Rattle.acewiki.specs.Talk.{CanBeAsked, RepliesInUtf8, RefusesInUtf8};
 ghost use Rattle.acewiki.specs.Lines.{text_at, texts_at, texts_in, kind_named, word_request, word_in, find_in, request_named, request_in, request_of, kind_name, limit_name, items_from, word_value, refusal_value, reply_value, bad_request_value, line_text, reply_line, bad_request_line};
 
 
@@ -19,7 +19,8 @@ const TOO_LONG: usize = 65_536;
 /// The request of a line without its newline. `None` exactly where the line is too long or is no request.
 #[tactic(auto, unfolding(crate::specs::Lines::request_of))]
 pub fn read_request(alloc: Global, line: &[u8]) -> Result<Option<Request>, Memory>
-    ensures { IfOk result (λ request. request ≡ request_of line.now) }
+    ensures request { IfOk result (λ request. request ≡ request_of line.now) }
+    ensures can_be_asked { IfOk result (λ request. IfSome request CanBeAsked) }
 {
     if line.len() >= TOO_LONG {
         return Ok(None);
@@ -33,7 +34,8 @@ pub fn read_request(alloc: Global, line: &[u8]) -> Result<Option<Request>, Memor
 
 #[tactic(auto, unfolding(crate::specs::Lines::request_named))]
 fn request_from(alloc: Global, value: &Value) -> Result<Option<Request>, Memory>
-    ensures { IfOk result (λ request. request ≡ request_in (view value.now)) }
+    ensures request { IfOk result (λ request. request ≡ request_in (view value.now)) }
+    ensures can_be_asked { IfOk result (λ request. IfSome request CanBeAsked) }
 {
     match text_of(value, "do") {
         Some("word") => word_from(alloc, value),
@@ -44,7 +46,8 @@ fn request_from(alloc: Global, value: &Value) -> Result<Option<Request>, Memory>
 
 #[tactic(auto, unfolding(crate::specs::Lines::word_in))]
 fn word_from(alloc: Global, value: &Value) -> Result<Option<Request>, Memory>
-    ensures { IfOk result (λ request. request ≡ word_in (view value.now)) }
+    ensures request { IfOk result (λ request. request ≡ word_in (view value.now)) }
+    ensures can_be_asked { IfOk result (λ request. IfSome request CanBeAsked) }
 {
     let Some(kind) = text_of(value, "kind").and_then(kind_of) else {
         return Ok(None);
@@ -57,7 +60,8 @@ fn word_from(alloc: Global, value: &Value) -> Result<Option<Request>, Memory>
 
 #[tactic(auto, unfolding(crate::specs::Lines::find_in))]
 fn find_from(alloc: Global, value: &Value) -> Result<Option<Request>, Memory>
-    ensures { IfOk result (λ request. request ≡ find_in (view value.now)) }
+    ensures request { IfOk result (λ request. request ≡ find_in (view value.now)) }
+    ensures can_be_asked { IfOk result (λ request. IfSome request CanBeAsked) }
 {
     match text_of(value, "word") {
         Some(word) => Ok(Some(Request::Find { word: Text8::from_slice(alloc, word.as_bytes())? })),
@@ -74,7 +78,8 @@ fn text_of<'a>(value: &'a Value, key: &str) -> Option<&'a str>
 
 // The texts of the list at a key, if it is a list of texts.
 fn texts_of(alloc: Global, value: &Value, key: &str) -> Result<Option<Vec<Text8>>, Memory>
-    ensures { IfOk result (λ texts. option_map (λ v. v.items) texts ≡ texts_at key.now (view value.now)) }
+    ensures texts { IfOk result (λ texts. option_map (λ v. v.items) texts ≡ texts_at key.now (view value.now)) }
+    ensures utf8 { IfOk result (λ texts. IfSome texts (λ v. All IsUtf8 v.items)) }
 {
     let Some(items) = value.get(key).and_then(Value::as_array) else {
         return Ok(None);
@@ -83,7 +88,8 @@ fn texts_of(alloc: Global, value: &Value, key: &str) -> Result<Option<Vec<Text8>
 }
 
 fn texts_from(alloc: Global, items: &[Value]) -> Result<Option<Vec<Text8>>, Memory>
-    ensures { IfOk result (λ texts. option_map (λ v. v.items) texts ≡ texts_in (items_view items.now)) }
+    ensures texts { IfOk result (λ texts. option_map (λ v. v.items) texts ≡ texts_in (items_view items.now)) }
+    ensures utf8 { IfOk result (λ texts. IfSome texts (λ v. All IsUtf8 v.items)) }
 {
     let mut texts = Vec::new(alloc);
     for item in items {
@@ -96,7 +102,8 @@ fn texts_from(alloc: Global, items: &[Value]) -> Result<Option<Vec<Text8>>, Memo
 }
 
 fn kind_of(name: &str) -> Option<Kind>
-    ensures { result ≡ kind_named name.now }
+    ensures kind { result ≡ kind_named name.now }
+    ensures name { IfSome result (λ kind. kind ≡ Kind.Name) }
 {
     (name == "name").then_some(Kind::Name)
 }

@@ -5,7 +5,11 @@ use Rattle.acewiki.proofs.replay.replay.Given as goal
 
 -- the lines given so far were answered, and nothing else was written
 abbrev pub invariant-lines : goal.invariant-lines
-invariant-lines g l = Running (g.S.Source.left l.fn.input) (g.K.Sink.taken l.fn.output) (g.S.Source.left l.input) l.reader l.wiki (g.K.Sink.taken l.output)
+invariant-lines g l =
+    let source = g.S.Source in
+    let sink = g.K.Sink in
+    Running (source.left l.fn.input) (sink.taken l.fn.output) (source.left l.input) l.reader l.wiki (sink.taken l.output)
+    (source.faults l.fn.input) (source.faults l.input) (sink.faults l.fn.output) (sink.faults l.output)
 
 -- what may still be read, and what was read and not given
 abbrev pub decreases-lines : goal.decreases-lines

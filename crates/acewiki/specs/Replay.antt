@@ -7,6 +7,8 @@ use Rattle.wiki_io.specs.Lines.{InputLine, text, too_long, input_lines, AreReadL
 use Rattle.wiki_io.specs.Faults.{Rose}
 use Rattle.lexicon.specs.Words.{Listed}
 use Rattle.acewiki.specs.declared.talk.Request.{Request}
+use Rattle.acewiki.specs.declared.command.Outcome.{Outcome}
+use Rattle.acewiki.specs.Command.{status_of, words_of}
 use Rattle.acewiki.specs.Lines.{request_of, reply_line, bad_request_line}
 use Rattle.acewiki.specs.Wiki.{no_words, reply_to, words_after}
 
@@ -80,3 +82,7 @@ abbrev pub Tells : List ℕ → Option (List ℕ) → ℕ → Option (List ℕ) 
 Tells message taken faults taken_after faults_after =
     (taken_after ≡ append_known taken message)
     ⊎ ((n : ℕ) × (n ≤ length message) × (taken_after ≡ append_known taken (take n message)) × Rose faults faults_after)
+
+-- The status is that of an outcome, whose words were written to standard error.
+abbrev pub EndsWith : ℕ → Option (List ℕ) → ℕ → Option (List ℕ) → ℕ → Type 0
+EndsWith status taken faults taken_after faults_after = (outcome : Outcome) × (status ≡ status_of outcome) × Tells (words_of outcome) taken faults taken_after faults_after

@@ -5,6 +5,8 @@ mod command;
 mod replay;
 mod run;
 mod talk;
+#[cfg(test)]
+mod tests;
 mod wiki;
 mod wire;
 

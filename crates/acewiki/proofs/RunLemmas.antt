@@ -58,7 +58,6 @@ Running-first first taken reader words input output fresh none = subst (λ r. Ru
 module _ (first taken_first left : Option (List ℕ)) (old : Reading) (words : Listed) (taken : Option (List ℕ)) (input_first input output_first output : ℕ)
     (run : Running first taken_first left old words taken input_first input output_first output)
     (said : Line) (new : Reading) (left_after : Option (List ℕ)) (call : ReadsLine left old said new left_after) where
-
   called : HasGivenFrom first (run.given ++ answered said new.line) new left_after
   called = HasGivenFrom-call first run.given old new left left_after said run.lines call
 
@@ -141,10 +140,10 @@ module _ (first taken_first left : Option (List ℕ)) (old : Reading) (words : L
         let rest = lines_to_come new [] in
         let later = answers (after_all no_words (run.given ++ line ∷ [])) rest in
         let whole : replies (input_lines called.bytes) ≡ (replies run.given ++ reply) ++ later =
-          ap replies (all_given ∙ ap (λ (given : List InputLine). given ++ rest) more_given) ∙ answers-append no_words (run.given ++ line ∷ []) rest
-          ∙ ap (λ (told : List ℕ). told ++ later) replies_more in
+        ap replies (all_given ∙ ap (λ (given : List InputLine). given ++ rest) more_given) ∙ answers-append no_words (run.given ++ line ∷ []) rest
+        ∙ ap (λ (told : List ℕ). told ++ later) replies_more in
         let parts : (replies run.given ++ reply) ++ later ≡ (replies run.given ++ take n reply) ++ (drop n reply ++ later) =
-          ap (λ (r : List ℕ). (replies run.given ++ r) ++ later) (sym (take-append-drop n reply)) ∙ simp append_assoc in
+        ap (λ (r : List ℕ). (replies run.given ++ r) ++ later) (sym (take-append-drop n reply)) ∙ simp append_assoc in
         record {
           read = called.bytes;
           written = replies run.given ++ take n reply;

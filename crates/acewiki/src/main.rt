@@ -10,9 +10,8 @@ mod tests;
 mod wiki;
 mod wire;
 
-pub use run::run;
-
 use command::Outcome;
+pub use run::run;
 use std::env::{Env, FillError};
 use std::process::ExitCode;
 use wiki_base::{Arg, Memory};

@@ -56,11 +56,26 @@ fn an_empty_input_has_no_reply(rt: HostRuntime) -> Result<(), Fail> {
 #[test]
 fn names_are_added_and_found(rt: HostRuntime) -> Result<(), Fail> {
     let exchange = [
-        (r#"{"do":"word","kind":"name","forms":["Bern"]}"#, r#"{"done":"word"}"#),
-        (r#"{"do":"find","word":"Bern"}"#, r#"{"done":"find","word":{"forms":["Bern"],"kind":"name"}}"#),
-        (r#"{"do":"find","word":"Bonn"}"#, r#"{"name":"NoWord","refused":1,"text":"Bonn"}"#),
-        (r#"{"do":"word","kind":"name","forms":["Bern"]}"#, r#"{"name":"Taken","refused":3,"text":"Bern","word":"Bern"}"#),
-        (r#"{"do":"word","kind":"name","forms":["a-"]}"#, r#"{"name":"BadForm","refused":2,"which":0}"#),
+        (
+            r#"{"do":"word","kind":"name","forms":["Bern"]}"#,
+            r#"{"done":"word"}"#,
+        ),
+        (
+            r#"{"do":"find","word":"Bern"}"#,
+            r#"{"done":"find","word":{"forms":["Bern"],"kind":"name"}}"#,
+        ),
+        (
+            r#"{"do":"find","word":"Bonn"}"#,
+            r#"{"name":"NoWord","refused":1,"text":"Bonn"}"#,
+        ),
+        (
+            r#"{"do":"word","kind":"name","forms":["Bern"]}"#,
+            r#"{"name":"Taken","refused":3,"text":"Bern","word":"Bern"}"#,
+        ),
+        (
+            r#"{"do":"word","kind":"name","forms":["a-"]}"#,
+            r#"{"name":"BadForm","refused":2,"which":0}"#,
+        ),
         (r#"{"do":"fly"}"#, r#"{"name":"BadRequest","refused":0}"#),
     ];
     let mut input = String::new(rt.alloc());
@@ -110,7 +125,8 @@ fn lines_end_as_they_may(rt: HostRuntime) -> Result<(), Fail> {
         b"\n {\"a\":[1.5],\"word\":\"x\",\"word\":\"Ur\\u0062\",\"do\":\"find\"} \r\n{\"do\":\"find\",\"word\":\"Bonn\"}",
     )?;
     assert_eq!(rt; ran.status, 0);
-    let replies = "{\"name\":\"BadRequest\",\"refused\":0}\n{\"name\":\"NoWord\",\"refused\":1,\"text\":\"Urb\"}\n{\"name\":\"NoWord\",\"refused\":1,\"text\":\"Bonn\"}\n";
+    let replies =
+        "{\"name\":\"BadRequest\",\"refused\":0}\n{\"name\":\"NoWord\",\"refused\":1,\"text\":\"Urb\"}\n{\"name\":\"NoWord\",\"refused\":1,\"text\":\"Bonn\"}\n";
     assert_eq!(rt; ran.output.bytes(), replies.as_bytes());
     Ok(())
 }
@@ -127,7 +143,9 @@ fn padded(alloc: Global, length: usize) -> Result<Vec<u8>, Fail> {
 fn a_line_of_65536_bytes_is_too_long(rt: HostRuntime) -> Result<(), Fail> {
     let next = "{\"name\":\"NoWord\",\"refused\":1,\"text\":\"b\"}\n";
     let ran = replayed(rt.alloc(), &padded(rt.alloc(), 65_535)?)?;
-    let found = format!(in rt.alloc(); "{{\"name\":\"NoWord\",\"refused\":1,\"text\":\"a\"}}\n{next}")?;
+    let found = format!(in rt.alloc();
+        "{{\"name\":\"NoWord\",\"refused\":1,\"text\":\"a\"}}\n{next}"
+    )?;
     assert_eq!(rt; ran.output.bytes(), found.as_bytes());
     let refused = format!(in rt.alloc(); "{BAD_REQUEST}{next}")?;
     for length in [65_536, 70_000, 200_000] {
@@ -192,7 +210,10 @@ fn other_words_are_refused(rt: HostRuntime) -> Result<(), Fail> {
         assert!(rt; output.bytes().is_empty());
         let mut errors = MemorySink::new(alloc, Vec::new(alloc));
         assert_eq!(rt; run(alloc, &args, &mut input, &mut output, &mut errors), 2);
-        assert_eq!(rt; errors.bytes(), b"usage: acewiki replay|serve|make|help\n".as_slice());
+        assert_eq!(rt;
+            errors.bytes(),
+            b"usage: acewiki replay|serve|make|help\n".as_slice()
+        );
     }
     Ok(())
 }

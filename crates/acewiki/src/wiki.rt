@@ -96,9 +96,7 @@ fn find_word(alloc: Global, lexicon: &Lexicon, word: &Text8) -> Result<Reply, Me
                 forms: told_texts(alloc, &found.texts)?,
             },
         }),
-        None => Ok(Reply::Refused(Refusal::NoWord {
-            text: word.copy()?,
-        })),
+        None => Ok(Reply::Refused(Refusal::NoWord { text: word.copy()? })),
     }
 }
 
@@ -121,12 +119,7 @@ fn told_text(alloc: Global, text: &Text) -> Result<Text8, Memory>
     Text8::from_slice(alloc, text.as_str().as_bytes())
 }
 
-fn add_word(
-    alloc: Global,
-    lexicon: &mut Lexicon,
-    kind: Kind,
-    given: &[Text8],
-) -> Result<(), Fault>
+fn add_word(alloc: Global, lexicon: &mut Lexicon, kind: Kind, given: &[Text8]) -> Result<(), Fault>
     requires kind { kind ≡ Kind.Name }
     requires utf8 { All IsUtf8 given.now }
     ensures added { OnOk result (lexicon.new ≡ with_word lexicon.old (record { kind = kind; texts = form_texts kind given.now })) }

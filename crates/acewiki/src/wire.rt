@@ -6,7 +6,6 @@ ghost use Rattle.serde_json.specs.Written.{has_float};
 ghost use Rattle.acewiki.specs.Talk.{CanBeAsked, RepliesInUtf8, RefusesInUtf8};
 ghost use Rattle.acewiki.specs.Lines.{text_at, texts_at, texts_in, kind_named, word_request, word_in, find_in, request_named, request_in, request_of, kind_name, limit_name, items_from, word_value, refusal_value, reply_value, bad_request_value, line_text, reply_line, bad_request_line};
 
-
 use crate::talk::{Limit, Refusal, Reply, Request, Text8s, WordView, utf8_of};
 use lexicon::Kind;
 use serde_json::{Value, json};
@@ -53,7 +52,10 @@ fn word_from(alloc: Global, value: &Value) -> Result<Option<Request>, Memory>
         return Ok(None);
     };
     match texts_of(alloc, value, "forms")? {
-        Some(forms) if forms.len() == 1 => Ok(Some(Request::Word { kind, forms: Text8s::new(forms) })),
+        Some(forms) if forms.len() == 1 => Ok(Some(Request::Word {
+            kind,
+            forms: Text8s::new(forms),
+        })),
         _ => Ok(None),
     }
 }
@@ -64,7 +66,9 @@ fn find_from(alloc: Global, value: &Value) -> Result<Option<Request>, Memory>
     ensures can_be_asked { IfOk result (λ request. IfSome request CanBeAsked) }
 {
     match text_of(value, "word") {
-        Some(word) => Ok(Some(Request::Find { word: Text8::from_slice(alloc, word.as_bytes())? })),
+        Some(word) => Ok(Some(Request::Find {
+            word: Text8::from_slice(alloc, word.as_bytes())?,
+        })),
         None => Ok(None),
     }
 }

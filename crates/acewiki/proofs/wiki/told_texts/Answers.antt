@@ -11,9 +11,10 @@ told_more texts told longer i text new pushed so_far same at within =
 
 pub loop-text-preserved : goal.loop-text-preserved
 loop-text-preserved c =
-    let is_text = subst IsUtf8 (sym c.in_ok-told_text.ensures.text) c.in_ok-told_text.ensures.utf8 in
-    (told_more c.as_slice-text-items.result.now _ _ c.loop-text.text-index _ _ c.in_ok-push.ensures.items c.loop-text.invariant.0 c.in_ok-told_text.ensures.text c.text-item.is c.loop-text-test.true,
-     rw c.in_ok-push.ensures.items (All-push IsUtf8 _ _ c.loop-text.invariant.1 is_text))
+    let is_text = subst IsUtf8 (sym c.in_ok-told_text.ensures.text) c.in_ok-told_text.ensures.utf8 in (
+      told_more c.as_slice-text-items.result.now _ _ c.loop-text.text-index _ _ c.in_ok-push.ensures.items c.loop-text.invariant.0 c.in_ok-told_text.ensures.text c.text-item.is c.loop-text-test.true,
+      rw c.in_ok-push.ensures.items (All-push IsUtf8 _ _ c.loop-text.invariant.1 is_text),
+    )
 
 pub returns-clause-utf8 : goal.returns-clause-utf8
 returns-clause-utf8 c = rw c.new.ensures c.loop-text.invariant.1

@@ -1,5 +1,5 @@
 -- Bytes that a source or a sink may tell, over several calls.
-use Rattle.std.proofs.Common.{◌≡◌, ℕ, ◌+◌, ◌-◌, ◌≤◌, List, [], ◌∷◌, ◌++◌, length, take, drop, Option, Some, None, refl, sym, ◌∙◌, ap, arith}
+use Rattle.std.proofs.Common.{◌≡◌, ℕ, ◌+◌, ◌-◌, ◌≤◌, List, [], ◌++◌, length, take, drop, Option, Some, None, refl, sym, ◌∙◌, ap, arith}
 use Rattle.std.specs.Io.KnownBytes.{prepend_known, append_known}
 use Rattle.std.proofs.lemmas.List.{append_assoc, append-nil, drop-drop, take_at, take-append-drop, length-take, length-drop, length-append, take_rest, nil_from_length}
 
@@ -34,7 +34,7 @@ pub HasWritten-more : (bytes rest : List ℕ) (first before now : Option (List �
 HasWritten-more bytes rest first before now n written fits is = record {
   front = written.front ++ take n rest;
   all = written.all ∙ ap (λ (l : List ℕ). written.front ++ l) (sym (take-append-drop n rest) ∙ ap (λ (l : List ℕ). take n rest ++ l) (sym (take_rest rest n)))
-    ∙ sym (append_assoc written.front (take n rest) (take (length rest - n) (drop n rest)));
+      ∙ sym (append_assoc written.front (take n rest) (take (length rest - n) (drop n rest)));
   taken = is ∙ ap (λ (o : Option (List ℕ)). append_known o (take n rest)) written.taken ∙ append_known-append first written.front (take n rest);
 }
 

@@ -1,10 +1,10 @@
 -- How bytes are cut into lines.
-use Rattle.std.proofs.Common.{◌≡◌, ◌≢◌, ℕ, ◌+◌, ◌<◌, ◌≤◌, Bool, true, false, cond, eqb, ltb, List, [], ◌∷◌, ◌++◌, length, map, All, refl, sym, ◌∙◌, ap, inl, inr, ◌⊎◌, arith, replicate}
+use Rattle.std.proofs.Common.{◌≡◌, ◌≢◌, ℕ, ◌<◌, ◌≤◌, true, false, cond, eqb, List, [], ◌∷◌, ◌++◌, length, map, refl, ◌∙◌, ap, inl, inr, ◌⊎◌}
 use Rattle.std.specs.List.{onto_first}
 use Rattle.std.proofs.lemmas.Bool.{cases_eq, eq-eqb, ne_eqb, le-ltb, lt-ltb}
-use Rattle.std.proofs.lemmas.List.{append-nil, append_assoc, length-append, length-replicate, map-append}
-use Rattle.std.proofs.lemmas.List.Elements.{All-head, All-tail, All-replicate}
-use Rattle.wiki_io.specs.Lines.{cut_lines, into_first, cut_whole_lines, after_newline, HasNoNewline, InputLine, text, too_long, line_of, input_lines, whole_lines}
+use Rattle.std.proofs.lemmas.List.{append_assoc, map-append}
+use Rattle.std.proofs.lemmas.List.Elements.{All-head, All-tail}
+use Rattle.wiki_io.specs.Lines.{cut_lines, into_first, cut_whole_lines, after_newline, HasNoNewline, text, too_long, line_of, input_lines, whole_lines}
 use Rattle.wiki_io.specs.declared.limits.TheConstants.{NEWLINE, MAX_LINE}
 
 -- the first byte of bytes without a newline fails the test
@@ -98,9 +98,9 @@ cut_lines-ended bytes more none = ap cut_lines (append_assoc bytes more (NEWLINE
     ended [] = cut_lines-line more [] none
     ended (b ∷ bytes) = elim (eqb b NEWLINE) as (λ t. cond t ([] ∷ cut_lines (bytes ++ (more ++ NEWLINE ∷ []))) (onto_first b (cut_lines (bytes ++ (more ++ NEWLINE ∷ []))))
         ≡ cond t ([] ∷ cut_whole_lines bytes) (into_first b (cut_whole_lines bytes)) ++ (cond t (last_part bytes) (onto_part b (cut_whole_lines bytes) (last_part bytes)) ++ more) ∷ []) [
-      | true ↦ ap (λ (l : List (List ℕ)). [] ∷ l) (ended bytes)
-      | false ↦ ap (λ (l : List (List ℕ)). onto_first b l) (ended bytes) ∙ onto_first-append b (cut_whole_lines bytes) (last_part bytes) more
-    ]
+          | true ↦ ap (λ (l : List (List ℕ)). [] ∷ l) (ended bytes)
+          | false ↦ ap (λ (l : List (List ℕ)). onto_first b l) (ended bytes) ∙ onto_first-append b (cut_whole_lines bytes) (last_part bytes) more
+        ]
 
 -- the same of lines
 pub input_lines-ended : (bytes more : List ℕ) → HasNoNewline more → input_lines (bytes ++ more ++ NEWLINE ∷ []) ≡ whole_lines bytes ++ line_of (last_part bytes ++ more) ∷ []

@@ -1,12 +1,12 @@
 -- What is given of the bytes that were read, and what stays.
-use Rattle.std.proofs.Common.{◌≡◌, ◌≢◌, ℕ, zero, suc, ◌+◌, ◌-◌, ◌<◌, ◌≤◌, List, [], ◌∷◌, ◌++◌, length, take, drop, Some, refl, subst, sym, ◌∙◌, ap, arith, get_or, map}
+use Rattle.std.proofs.Common.{◌≡◌, ◌≢◌, ℕ, zero, suc, ◌+◌, ◌-◌, ◌<◌, ◌≤◌, List, [], ◌∷◌, ◌++◌, length, take, drop, Some, refl, subst, sym, ◌∙◌, ap, arith, map}
 use Rattle.std.specs.List.{slice_get, slice_range}
 use Rattle.std.proofs.Math.Seq.{take-add}
-use Rattle.std.proofs.lemmas.List.{append_assoc, take-append-drop, drop_more, length-take, length-drop, length-append, append-nil, take-take, drop-take, drop-drop}
+use Rattle.std.proofs.lemmas.List.{append_assoc, take-append-drop, drop_more, length-take, length-append, append-nil, take-take, drop-take, drop-drop}
 use Rattle.std.proofs.lemmas.List.Edits.{length-between}
 use Rattle.std.proofs.lemmas.List.Elements.{All-same, All-append}
 use Rattle.std.proofs.lemmas.Option.{slice_get_within, slice_get_past, get_or_from_slice_get}
-use Rattle.wiki_io.specs.Lines.{cut_lines, after_newline, HasNoNewline, InputLine, text, too_long, line_of, input_lines, whole_lines}
+use Rattle.wiki_io.specs.Lines.{cut_lines, after_newline, HasNoNewline, InputLine, text, too_long, line_of, input_lines}
 use Rattle.wiki_io.specs.declared.limits.TheConstants.{NEWLINE, MAX_LINE}
 use Rattle.wiki_io.proofs.LineLemmas.{before_newline, cut_lines-line, cut_lines-last, cut_lines-begun, after_newline-part, line_of-short, line_of-long}
 
@@ -78,10 +78,10 @@ no_newline-part buffer start mid end low high room first second =
     let size : end - start ≡ (mid - start) + (end - mid) = omega arith in
     let back : start + (mid - start) ≡ mid = omega arith in
     let joined : slice_range buffer start end ≡ slice_range buffer start mid ++ slice_range buffer mid end =
-        ap (λ (k : ℕ). take k (drop start buffer)) size ∙ take-add (mid - start) (end - mid) (drop start buffer)
-        ∙ ap (λ (l : List ℕ). slice_range buffer start mid ++ take (end - mid) l) (drop-drop (mid - start) start buffer ∙ ap (λ (k : ℕ). drop k buffer) back) in
+    ap (λ (k : ℕ). take k (drop start buffer)) size ∙ take-add (mid - start) (end - mid) (drop start buffer)
+    ∙ ap (λ (l : List ℕ). slice_range buffer start mid ++ take (end - mid) l) (drop-drop (mid - start) start buffer ∙ ap (λ (k : ℕ). drop k buffer) back) in
     All-same (λ b. b ≢ NEWLINE) (slice_range buffer start end) (slice_range buffer start mid ++ slice_range buffer mid end) joined
-        (All-append (λ b. b ≢ NEWLINE) (slice_range buffer start mid) (slice_range buffer mid end) first second)
+    (All-append (λ b. b ≢ NEWLINE) (slice_range buffer start mid) (slice_range buffer mid end) first second)
 
 slice_get-take : (bytes : List ℕ) (n k : ℕ) → k < n → slice_get (take n bytes) k ≡ slice_get bytes k
 slice_get-take bytes zero k lt = absurd (omega arith)
@@ -122,12 +122,12 @@ module _ (buffer : List ℕ) (start mid window end : ℕ) (low : start ≤ mid) 
       let first : HasNoNewline (slice_range buffer mid (mid + at)) = subst HasNoNewline (take-part-is buffer mid window at (omega arith)) none in
       let whole : HasNoNewline (slice_range buffer start (mid + at)) = no_newline-part buffer start mid (mid + at) low (omega arith) (omega arith) before first in
       let part_is : take ((mid - start) + at) (slice_range buffer start end) ≡ slice_range buffer start (mid + at) =
-          take-part-is buffer start end ((mid - start) + at) (omega arith) ∙ ap (λ (k : ℕ). slice_range buffer start k) place in
+      take-part-is buffer start end ((mid - start) + at) (omega arith) ∙ ap (λ (k : ℕ). slice_range buffer start k) place in
       record {
         within = omega arith;
         no_newline = subst HasNoNewline (sym part_is) whole;
         newline = slice_get-part buffer start end ((mid - start) + at) (omega arith) ∙ ap (λ (k : ℕ). slice_get buffer k) place
-          ∙ sym (slice_get-part buffer mid window at within) ∙ is;
+            ∙ sym (slice_get-part buffer mid window at within) ∙ is;
       }
 
   -- none was found

@@ -1,11 +1,11 @@
 -- For whoever reads all lines of a source: what was given since the reader was fresh.
-use Rattle.std.proofs.Common.{◌≡◌, ◌≢◌, ◌≤◌, ◌<◌, ◌+◌, ◌⊎◌, ℕ, Bool, true, false, IsTrue, List, [], ◌∷◌, ◌++◌, length, map, Option, Some, None, refl, sym, ◌∙◌, ap, inl, inr, arith, replicate, subst}
+use Rattle.std.proofs.Common.{◌≡◌, ◌≢◌, ◌≤◌, ℕ, true, false, IsTrue, List, [], ◌∷◌, ◌++◌, length, map, Option, Some, None, refl, sym, ◌∙◌, ap, inl, inr, arith, replicate, subst}
 use Rattle.std.specs.Io.KnownBytes.{prepend_known, IsAtEnd}
 use Rattle.std.proofs.lemmas.Bool.{false≢true}
 use Rattle.std.proofs.lemmas.List.{append_assoc, append-nil, length-append, length-replicate, same_from_push}
 use Rattle.std.proofs.lemmas.List.Elements.{All-replicate}
 use Rattle.wiki_io.specs.Lines.{after_newline, HasNoNewline, InputLine, text, too_long, line_of, input_lines, whole_lines, AreReadLines}
-use Rattle.wiki_io.specs.Reading.{Reading, unread, bytes_to_come, lines_to_come, CanFollow, ReadsLine, HasNoLine, HasGiven, HasGivenFrom, answered}
+use Rattle.wiki_io.specs.Reading.{Reading, unread, lines_to_come, CanFollow, ReadsLine, HasNoLine, HasGiven, HasGivenFrom, answered}
 use Rattle.wiki_io.specs.declared.limits.TheConstants.{NEWLINE, MAX_LINE}
 use Rattle.wiki_io.specs.declared.reader.Line.{Line}
 use Rattle.wiki_io.proofs.KnownLemmas.{prepend_known-append, prepend_known-nil}
@@ -21,7 +21,7 @@ pub HasGiven-call : (bytes : List ℕ) (given : List InputLine) (old new : Readi
     → (call : ReadsLine left old answer new after) → HasGiven (bytes ++ call.got) (given ++ answered answer new.line) new
 HasGiven-call bytes given old new left after answer had call = λ rest follows.
     let can : CanFollow old (call.got ++ rest) = λ ended.
-      ap (λ (l : List ℕ). l ++ rest) (call.at_end ended).0 ∙ follows (call.at_end ended).1 in
+    ap (λ (l : List ℕ). l ++ rest) (call.at_end ended).0 ∙ follows (call.at_end ended).1 in
     ap input_lines (append_assoc bytes call.got rest) ∙ had (call.got ++ rest) can ∙ ap (λ (l : List InputLine). given ++ l) (call.lines rest follows)
     ∙ sym (append_assoc given (answered answer new.line) (lines_to_come new rest))
 
@@ -71,11 +71,11 @@ module _ (bytes : List ℕ) (given : List InputLine) (reader : Reading) (had : H
   given_whole : reader.skips ≡ false → given ≡ whole_lines bytes
   given_whole skips =
       let last : lines_to_come reader (NEWLINE ∷ []) ≡ text reader.pending ∷ [] =
-          ap input_lines (bytes_to_come-given reader (NEWLINE ∷ []) skips) ∙ ap (map line_of) (cut_lines-line reader.pending [] no_line.no_newline)
-          ∙ ap (λ (l : InputLine). l ∷ []) (line_of-short reader.pending no_line.short) in
+      ap input_lines (bytes_to_come-given reader (NEWLINE ∷ []) skips) ∙ ap (map line_of) (cut_lines-line reader.pending [] no_line.no_newline)
+      ∙ ap (λ (l : InputLine). l ∷ []) (line_of-short reader.pending no_line.short) in
       let ended = input_lines-ended bytes [] (λ k d lt. absurd (omega arith)) in
       let same : given ++ text reader.pending ∷ [] ≡ whole_lines bytes ++ line_of (last_part bytes ++ []) ∷ [] =
-          ap (λ (l : List InputLine). given ++ l) (sym last) ∙ sym (had (NEWLINE ∷ []) (can (NEWLINE ∷ []))) ∙ ap (λ (l : List ℕ). input_lines (l ++ NEWLINE ∷ [])) (sym (append-nil bytes)) ∙ ended in
+      ap (λ (l : List InputLine). given ++ l) (sym last) ∙ sym (had (NEWLINE ∷ []) (can (NEWLINE ∷ []))) ∙ ap (λ (l : List ℕ). input_lines (l ++ NEWLINE ∷ [])) (sym (append-nil bytes)) ∙ ended in
       (same_from_push given (whole_lines bytes) (text reader.pending) (line_of (last_part bytes ++ [])) same).0
 
   given_too_long : (n : ℕ) → MAX_LINE ≤ n → reader.skips ≡ true → given ≡ whole_lines bytes ++ too_long ∷ []
@@ -84,8 +84,8 @@ module _ (bytes : List ℕ) (given : List InputLine) (reader : Reading) (had : H
       let none : HasNoNewline more = All-replicate (λ b. b ≢ NEWLINE) n 0 (λ is. absurd (omega arith)) in
       let size : MAX_LINE ≤ length (last_part bytes ++ more) = omega (arith, length-append (last_part bytes) more, length-replicate {A = ℕ} n 0) in
       let skipped : lines_to_come reader (more ++ NEWLINE ∷ []) ≡ [] =
-          ap input_lines (bytes_to_come-skipped reader (more ++ NEWLINE ∷ []) skips
-            ∙ ap (λ (l : List ℕ). after_newline (l ++ (more ++ NEWLINE ∷ []))) (no_line.skipped skips) ∙ after_newline-part more (NEWLINE ∷ []) none) in
+      ap input_lines (bytes_to_come-skipped reader (more ++ NEWLINE ∷ []) skips
+      ∙ ap (λ (l : List ℕ). after_newline (l ++ (more ++ NEWLINE ∷ []))) (no_line.skipped skips) ∙ after_newline-part more (NEWLINE ∷ []) none) in
       sym (append-nil given) ∙ ap (λ (l : List InputLine). given ++ l) (sym skipped) ∙ sym (had (more ++ NEWLINE ∷ []) (can (more ++ NEWLINE ∷ [])))
       ∙ ap input_lines (sym (append_assoc bytes more (NEWLINE ∷ []))) ∙ input_lines-ended bytes more none
       ∙ ap (λ (l : InputLine). whole_lines bytes ++ l ∷ []) (line_of-long (last_part bytes ++ more) size)

@@ -1,5 +1,5 @@
 -- The steps of a reader: what each leaves of the lines to come.
-use Rattle.std.proofs.Common.{◌≡◌, ◌≢◌, ℕ, ◌+◌, ◌<◌, ◌≤◌, Bool, true, false, IsTrue, cond, List, [], ◌∷◌, ◌++◌, length, take, drop, Some, refl, sym, ◌∙◌, ap, arith, Option, map}
+use Rattle.std.proofs.Common.{◌≡◌, ℕ, ◌+◌, ◌<◌, ◌≤◌, Bool, true, false, cond, List, [], ◌∷◌, ◌++◌, length, take, drop, Some, refl, sym, ◌∙◌, ap, arith, Option, map}
 use Rattle.std.specs.List.{slice_get}
 use Rattle.std.specs.Io.KnownBytes.{prepend_known}
 use Rattle.std.proofs.lemmas.List.{append_assoc, append-nil, length-append}
@@ -106,7 +106,7 @@ HasRead-more first old now new before left answer read fills = record {
   source = read.source ∙ ap (λ (o : Option (List ℕ)). prepend_known read.got o) fills.source ∙ prepend_known-append left read.got fills.got;
   count = omega (arith, fills.count, read.count, length-append read.got fills.got);
   bytes = λ rest. ap (λ (l : List ℕ). bytes_to_come old l) (append_assoc read.got fills.got rest) ∙ read.bytes (fills.got ++ rest)
-    ∙ bytes_to_come-append now new fills.got rest fills.skips fills.pending;
+      ∙ bytes_to_come-append now new fills.got rest fills.skips fills.pending;
   goes_on = fills.ended ∙ read.goes_on;
 }
 
@@ -141,10 +141,10 @@ ReadsLine-last first old now new left answer goes_on read last ended pending cou
   count = count ∙ read.count;
   at_end = λ was. absurd (false≢true (sym goes_on ∙ was));
   lines = λ rest follows.
-    let none : rest ≡ [] = follows ended in
-    ap (λ (l : List ℕ). lines_to_come old (read.got ++ l)) none ∙ ap input_lines (read.bytes []) ∙ last
-    ∙ sym (append-nil (answered answer new.line)) ∙ ap (λ (l : List InputLine). answered answer new.line ++ l) (sym (lines_to_come-none new pending))
-    ∙ ap (λ (l : List ℕ). answered answer new.line ++ lines_to_come new l) (sym none);
+      let none : rest ≡ [] = follows ended in
+      ap (λ (l : List ℕ). lines_to_come old (read.got ++ l)) none ∙ ap input_lines (read.bytes []) ∙ last
+      ∙ sym (append-nil (answered answer new.line)) ∙ ap (λ (l : List InputLine). answered answer new.line ++ l) (sym (lines_to_come-none new pending))
+      ∙ ap (λ (l : List ℕ). answered answer new.line ++ lines_to_come new l) (sym none);
 }
 
 -- A call after the end.
@@ -156,8 +156,8 @@ ReadsLine-ended left old new was is same ended count = record {
   count = omega (arith, count);
   at_end = λ was. (refl, same ∙ was);
   lines = λ rest follows.
-    let none : rest ≡ [] = follows (same ∙ ended) in
-    ap (λ (l : List ℕ). lines_to_come old l) none ∙ lines_to_come-none old was ∙ sym (lines_to_come-none new is) ∙ ap (λ (l : List ℕ). lines_to_come new l) (sym none);
+      let none : rest ≡ [] = follows (same ∙ ended) in
+      ap (λ (l : List ℕ). lines_to_come old l) none ∙ lines_to_come-none old was ∙ sym (lines_to_come-none new is) ∙ ap (λ (l : List ℕ). lines_to_come new l) (sym none);
 }
 
 -- what was read has no line

@@ -1,5 +1,5 @@
 -- The lines of an input, as a list of bytes is cut into them.
-use Rattle.std.specs.Prelude.{◌≡◌, ◌≢◌, ◌≤◌, ◌⊎◌, ℕ, List, [], ◌∷◌, ◌++◌, length, map, All, ◌==◌, nat_lt, if◌then◌else◌}
+use Rattle.std.specs.Prelude.{◌≡◌, ◌≢◌, ◌⊎◌, ℕ, List, [], ◌∷◌, ◌++◌, length, map, All, ◌==◌, nat_lt, if◌then◌else◌}
 use Rattle.std.specs.List.{onto_first}
 use Rattle.wiki_io.specs.declared.limits.TheConstants.{NEWLINE, MAX_LINE}
 
@@ -40,6 +40,7 @@ abbrev pub after_newline : List ℕ → List ℕ
 after_newline [] = []
 after_newline (b ∷ bytes) = if b == NEWLINE then bytes else after_newline bytes
 
+-- no byte is a newline byte
 abbrev pub HasNoNewline : List ℕ → Type 0
 HasNoNewline bytes = All (λ b. b ≢ NEWLINE) bytes
 

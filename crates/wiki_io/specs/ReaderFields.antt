@@ -1,5 +1,5 @@
 -- What the fields of a reader stand for.
-use Rattle.std.specs.Prelude.{◌≡◌, ◌+◌, ◌-◌, ◌≤◌, IsTrue, take, drop, vec_len}
+use Rattle.std.specs.Prelude.{◌≡◌, ◌+◌, ◌≤◌, IsTrue, take, drop, vec_len}
 use Rattle.std.specs.List.{slice_range}
 use Rattle.wiki_io.specs.Lines.{HasNoNewline}
 use Rattle.wiki_io.specs.Reading.{Reading}

@@ -1,5 +1,5 @@
 -- A reader in the midst of an input, and what one of its calls does.
-use Rattle.std.specs.Prelude.{◌≡◌, ◌≢◌, ◌<◌, ◌+◌, ℕ, Bool, true, false, IsTrue, List, [], ◌∷◌, ◌++◌, length, Option, if◌then◌else◌}
+use Rattle.std.specs.Prelude.{◌≡◌, ◌<◌, ◌+◌, ℕ, Bool, false, IsTrue, List, [], ◌∷◌, ◌++◌, length, Option, if◌then◌else◌}
 use Rattle.std.specs.Io.KnownBytes.{prepend_known}
 use Rattle.wiki_io.specs.Lines.{InputLine, text, too_long, input_lines, after_newline, HasNoNewline}
 use Rattle.wiki_io.specs.declared.limits.TheConstants.{MAX_LINE}
@@ -52,7 +52,7 @@ pub record ReadsLine (left : Option (List ℕ)) (old : Reading) (answer : Line) 
   pub count : new.count ≡ old.count + length got
   pub at_end : IsTrue old.ended → (got ≡ []) × IsTrue new.ended
   pub lines : (rest : List ℕ) → CanFollow new rest
-    → lines_to_come old (got ++ rest) ≡ answered answer new.line ++ lines_to_come new rest
+      → lines_to_come old (got ++ rest) ≡ answered answer new.line ++ lines_to_come new rest
 
 -- the same for a call that only gives a line of what was read
 abbrev pub GivesLine : Reading → Line → Reading → Type 0

@@ -12,3 +12,8 @@ bytes_taken Failed piece = []
 abbrev pub TookFits : Took → ℕ → Type 0
 TookFits (Bytes n) len = (0 < n) × (n ≤ len)
 TookFits Failed len = ⊤
+
+-- a fact of the number of bytes that were taken
+abbrev pub IfTook : Took → (ℕ → Type 0) → Type 0
+IfTook (Bytes n) P = P n
+IfTook Failed P = ⊤

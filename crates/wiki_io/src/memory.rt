@@ -1,5 +1,10 @@
 // A source and a sink in memory, whose calls fail where that is asked for.
-ghost use Rattle.std.specs.Prelude.{◌≡◌, ◌<◌, [], Some};
+ghost use Rattle.std.specs.Prelude.{◌≡◌, ◌<◌, ◌≤◌, [], Some, length, min, true, ◌-◌, ◌^◌};
+ghost use Rattle.std.specs.Io.KnownBytes.{prepend_known, append_known, IsAtEnd};
+ghost use Rattle.wiki_io.specs.Faults.{Rose};
+ghost use Rattle.wiki_io.specs.Memory.{is_to_fail, next_got, one_more};
+ghost use Rattle.wiki_io.specs.Sink.{bytes_taken, TookFits, IfTook};
+ghost use Rattle.wiki_io.specs.Source.{bytes_got, GotFits};
 
 use crate::sinks::{Sink, Took};
 use crate::sources::{Got, Source};
@@ -24,7 +29,7 @@ impl Model for MemorySource {
 
     ghost Value = { Held };
 
-    ghost view = { λ s. record { bytes = drop s.at s.bytes.items; faults = s.faults } };
+    ghost view = { λ s. record { bytes = drop s.at s.bytes.items; largest = s.largest; fails = s.fails.items; calls = s.calls; faults = s.faults } };
 
     ghost invariant = { λ s. (s.at ≤ vec_len s.bytes) × (0 < s.largest) };
 }
@@ -32,7 +37,7 @@ impl Model for MemorySource {
 impl MemorySource {
     /// A source of these bytes, whose reads of these numbers fail. Reads are numbered from 1.
     pub fn new(bytes: Vec<u8>, fails: Vec<u64>) -> Self
-        ensures { result ≡ record { bytes = bytes.items; faults = 0 } }
+        ensures { result ≡ record { bytes = bytes.items; largest = 2 ^ 64 - 1; fails = fails.items; calls = 0; faults = 0 } }
     {
         MemorySource::in_pieces(bytes, fails, usize::MAX)
     }
@@ -40,7 +45,7 @@ impl MemorySource {
     /// The same, where no read gives more than `largest` bytes.
     pub fn in_pieces(bytes: Vec<u8>, fails: Vec<u64>, largest: usize) -> Self
         requires { 0 < largest }
-        ensures { result ≡ record { bytes = bytes.items; faults = 0 } }
+        ensures { result ≡ record { bytes = bytes.items; largest = largest; fails = fails.items; calls = 0; faults = 0 } }
     {
         MemorySource {
             bytes,
@@ -72,7 +77,18 @@ impl Source for MemorySource {
 
     ghost faults = { λ s. s.faults };
 
-    fn read(&mut self, buf: &mut [u8]) -> Got {
+    fn read(&mut self, buf: &mut [u8]) -> Got
+        requires { 0 < length buf.old }
+        ensures fits { GotFits result (length buf.old) }
+        ensures bytes { Some self.old.bytes ≡ prepend_known (bytes_got result buf.new) (Some self.new.bytes) }
+        ensures end { result ≡ Got.End → IsAtEnd (Some self.new.bytes) }
+        ensures failed { result ≡ Got.Failed → Rose self.old.faults self.new.faults }
+        ensures faults { self.old.faults ≤ self.new.faults }
+
+        ensures answer { result ≡ next_got self.old (length buf.old) }
+        ensures calls { self.new.calls ≡ one_more self.old.calls }
+        ensures same { (self.new.fails ≡ self.old.fails) × (self.new.largest ≡ self.old.largest) }
+    {
         self.calls = self.calls.saturating_add(1);
         if self.fails.contains(&self.calls) {
             self.faults = self.faults.saturating_add(1);
@@ -106,7 +122,7 @@ impl Model for MemorySink {
 
     ghost Value = { Held };
 
-    ghost view = { λ s. record { bytes = s.bytes.items; faults = s.faults } };
+    ghost view = { λ s. record { bytes = s.bytes.items; largest = s.largest; fails = s.fails.items; calls = s.calls; faults = s.faults } };
 
     ghost invariant = { λ s. 0 < s.largest };
 }
@@ -114,7 +130,7 @@ impl Model for MemorySink {
 impl MemorySink {
     /// An empty sink, whose writes of these numbers fail. Writes are numbered from 1.
     pub fn new(alloc: Global, fails: Vec<u64>) -> Self
-        ensures { result ≡ record { bytes = []; faults = 0 } }
+        ensures { result ≡ record { bytes = []; largest = 2 ^ 64 - 1; fails = fails.items; calls = 0; faults = 0 } }
     {
         MemorySink::in_pieces(alloc, fails, usize::MAX)
     }
@@ -122,7 +138,7 @@ impl MemorySink {
     /// The same, where no write takes more than `largest` bytes.
     pub fn in_pieces(alloc: Global, fails: Vec<u64>, largest: usize) -> Self
         requires { 0 < largest }
-        ensures { result ≡ record { bytes = []; faults = 0 } }
+        ensures { result ≡ record { bytes = []; largest = largest; fails = fails.items; calls = 0; faults = 0 } }
     {
         MemorySink {
             bytes: Vec::new(alloc),
@@ -153,10 +169,24 @@ impl Sink for MemorySink {
 
     ghost faults = { λ s. s.faults };
 
-    fn write(&mut self, bytes: &[u8]) -> Took {
+    fn write(&mut self, bytes: &[u8]) -> Took
+        requires { 0 < length bytes.now }
+        ensures fits { TookFits result (length bytes.now) }
+        ensures bytes { Some self.new.bytes ≡ append_known (Some self.old.bytes) (bytes_taken result bytes.now) }
+        ensures failed { result ≡ Took.Failed → Rose self.old.faults self.new.faults }
+        ensures faults { self.old.faults ≤ self.new.faults }
+
+        // It fails where it is to fail, and for want of memory.
+        ensures to_fail { is_to_fail self.old ≡ true → result ≡ Took.Failed }
+        ensures size { IfTook result (λ size. size ≡ min (length bytes.now) self.old.largest) }
+        ensures calls { self.new.calls ≡ one_more self.old.calls }
+        ensures same { (self.new.fails ≡ self.old.fails) × (self.new.largest ≡ self.old.largest) }
+    {
         self.calls = self.calls.saturating_add(1);
         let size = bytes.len().min(self.largest);
-        if self.fails.contains(&self.calls) || self.bytes.extend_from_slice(&bytes[..size]).is_err() {
+        if self.fails.contains(&self.calls)
+            || self.bytes.extend_from_slice(&bytes[..size]).is_err()
+        {
             self.faults = self.faults.saturating_add(1);
             return Took::Failed;
         }

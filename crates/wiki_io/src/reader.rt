@@ -105,6 +105,7 @@ impl LineReader {
             → length self.new.pending + self.old.count < length self.old.pending + self.new.count }
 
         ensures too_much { (result ≡ Line.TooMuch) ↔ (MAX_INPUT < self.new.count) }
+        ensures room { result ≢ Line.TooMuch → self.new.count ≤ MAX_INPUT }
 
         // Whoever waits for the reply to a line has it before more is read.
         ensures at_once { whole_lines (bytes_to_come self.old []) ≢ [] → source.new ≡ source.old }

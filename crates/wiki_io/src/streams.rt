@@ -4,6 +4,7 @@ ghost use Rattle.std.specs.Prelude.{◌≡◌, None};
 use crate::sinks::{Sink, Took};
 use crate::sources::{Got, Source};
 use std::io::{Read, Write};
+use std::marker::Model;
 
 /// A reader, such as standard input, as a source. Each error counts.
 #[derive(Drop)]
@@ -12,8 +13,20 @@ pub struct ReadSource<R> {
     faults: u64,
 }
 
+// Seen as the count of its failures.
+impl<R> Model for ReadSource<R> {
+    ghost use Rattle.std.specs.Prelude.{ℕ};
+
+    ghost Value = { ℕ };
+
+    ghost view = { λ s. s.faults };
+}
+
 impl<R: Read> ReadSource<R> {
-    pub fn new(reader: R) -> Self {
+    /// No read has failed yet.
+    pub fn new(reader: R) -> Self
+        ensures { result ≡ 0 }
+    {
         ReadSource { reader, faults: 0 }
     }
 }
@@ -21,7 +34,7 @@ impl<R: Read> ReadSource<R> {
 impl<R: Read> Source for ReadSource<R> {
     ghost left = { λ _. None };
 
-    ghost faults = { λ s. s.faults };
+    ghost faults = { λ count. count };
 
     fn read(&mut self, buf: &mut [u8]) -> Got {
         match self.reader.read(buf) {
@@ -42,8 +55,20 @@ pub struct WriteSink<W> {
     faults: u64,
 }
 
+// Seen as the count of its failures.
+impl<W> Model for WriteSink<W> {
+    ghost use Rattle.std.specs.Prelude.{ℕ};
+
+    ghost Value = { ℕ };
+
+    ghost view = { λ s. s.faults };
+}
+
 impl<W: Write> WriteSink<W> {
-    pub fn new(writer: W) -> Self {
+    /// No write has failed yet.
+    pub fn new(writer: W) -> Self
+        ensures { result ≡ 0 }
+    {
         WriteSink { writer, faults: 0 }
     }
 }
@@ -51,7 +76,7 @@ impl<W: Write> WriteSink<W> {
 impl<W: Write> Sink for WriteSink<W> {
     ghost taken = { λ _. None };
 
-    ghost faults = { λ s. s.faults };
+    ghost faults = { λ count. count };
 
     fn write(&mut self, bytes: &[u8]) -> Took {
         match self.writer.write(bytes) {
@@ -61,5 +86,55 @@ impl<W: Write> Sink for WriteSink<W> {
                 Took::Failed
             }
         }
+    }
+}
+
+#[cfg(test)]
+mod tests {
+    use super::*;
+    use crate::sinks::put;
+    use std::io;
+    use std::test::Fail;
+
+    #[derive(Drop)]
+    struct Broken;
+
+    impl Read for Broken {
+        fn read(&mut self, _buf: &mut [u8]) -> io::Result<usize> {
+            Err(io::Error::other("broken"))
+        }
+    }
+
+    #[test]
+    fn a_reader_is_a_source(rt: HostRuntime) {
+        let mut buffer = [0; 2];
+        let mut source = ReadSource::new(b"abc".as_slice());
+        assert_eq!(rt; source.read(&mut buffer), Got::Bytes(2));
+        assert_eq!(rt; buffer, *b"ab");
+        assert_eq!(rt; source.read(&mut buffer), Got::Bytes(1));
+        assert_eq!(rt; source.read(&mut buffer), Got::End);
+        assert_eq!(rt; source.faults, 0);
+        let mut broken = ReadSource::new(Broken);
+        assert_eq!(rt; broken.read(&mut buffer), Got::Failed);
+        assert_eq!(rt; broken.faults, 1);
+    }
+
+    #[test]
+    fn a_writer_is_a_sink(rt: HostRuntime) {
+        let mut room = [0; 4];
+        let mut sink = WriteSink::new(room.as_mut_slice());
+        assert!(rt; put(&mut sink, b"abc"));
+        // A write of one byte is taken, and the next takes nothing.
+        assert!(rt; !put(&mut sink, b"de"));
+        assert_eq!(rt; sink.faults, 1);
+        assert_eq!(rt; room, *b"abcd");
+    }
+
+    #[test]
+    fn standard_output_is_written_at_once(rt: HostRuntime) {
+        let mut sink = WriteSink::new(rt.stdout());
+        assert!(rt; put(&mut sink, b"a line\n"));
+        let mut sink = WriteSink::new(rt.stderr());
+        assert!(rt; put(&mut sink, b"a line\n"));
     }
 }

@@ -1,5 +1,5 @@
 use Rattle.std.proofs.Common.{arith, ◌∙◌}
-use Rattle.wiki_io.proofs.KnownLemmas.{append_known-nil, HasWritten-none, HasWritten-more, HasWritten-all, HasWritten-prefix}
+use Rattle.wiki_io.proofs.KnownLemmas.{append_known-nil, HasWritten-none, HasWritten-more, HasWritten-prefix}
 use Rattle.wiki_io.proofs.sinks.put.Goals as goal
 
 pub loop-rest-init : goal.loop-rest-init

@@ -1,4 +1,4 @@
-use Rattle.std.proofs.Common.{arith, ◌≡◌, ◌≢◌, ◌≤◌, ◌<◌, ◌+◌, ◌-◌, List, ℕ, [], Some, true, false, take, drop, sym, ap, ◌∙◌, length, subst, refl}
+use Rattle.std.proofs.Common.{arith, ◌≡◌, ◌+◌, ◌-◌, List, ℕ, Some, false, take, sym, ap, ◌∙◌, subst}
 use Rattle.std.specs.List.{slice_range, slice_get}
 use Rattle.std.proofs.lemmas.Bool.{false≢true}
 use Rattle.wiki_io.specs.Lines.{HasNoNewline}
@@ -19,7 +19,7 @@ found_in c =
     let none = subst (λ (b : List ℕ). HasNoNewline (take at (slice_range b mid w))) c.deref.ensures.value c.in-Some.ensures.some.0 in
     let newline = subst (λ (b : List ℕ). slice_get (slice_range b mid w) at ≡ Some NEWLINE) c.deref.ensures.value c.in-Some.ensures.some.1 in
     subst (λ (k : ℕ). Found f.buffer.items f.start w f.end k) place
-        (found f.buffer.items f.start mid w f.end (omega arith) (omega arith) (omega arith) (omega (arith, f.buffer.ok.0)) c.self.invariant.no_newline at none newline)
+    (found f.buffer.items f.start mid w f.end (omega arith) (omega arith) (omega arith) (omega (arith, f.buffer.ok.0)) c.self.invariant.no_newline at none newline)
 
 pub text-requires-clause-no_newline : goal.text-requires-clause-no_newline
 text-requires-clause-no_newline c =
@@ -40,7 +40,7 @@ too_long-requires-clause-no_newline c =
     let all = not_found f.buffer.items f.start (f.start + f.searched) w f.end (omega arith) (omega arith) (omega arith) (omega (arith, f.buffer.ok.0)) c.self.invariant.no_newline none in
     let size : f.start + 65536 ≡ w = omega arith in
     subst (λ (l : List ℕ). HasNoNewline (take 65536 l)) pending
-        (subst HasNoNewline (sym (take-part-is f.buffer.items f.start f.end 65536 (omega arith) ∙ ap (λ (k : ℕ). slice_range f.buffer.items f.start k) size)) all)
+    (subst HasNoNewline (sym (take-part-is f.buffer.items f.start f.end 65536 (omega arith) ∙ ap (λ (k : ℕ). slice_range f.buffer.items f.start k) size)) all)
 
 pub invariant_of-self : goal.invariant_of-self
 invariant_of-self c =
@@ -67,10 +67,12 @@ returns-in-None-2-clause-none c =
     let none = subst (λ (b : List ℕ). HasNoNewline (slice_range b (f.start + f.searched) w)) c.deref.ensures.value c.in-None.ensures.none in
     let all = not_found f.buffer.items f.start (f.start + f.searched) w f.end (omega arith) (omega arith) (omega arith) (omega (arith, f.buffer.ok.0)) c.self.invariant.no_newline none in
     let size : w ≡ f.end = omega arith in
-    let skips : f.skips ≡ false = ap (λ (r : Reading). r.skips) c.self.view_is ∙ c.if-not-skip.ensures.done in
-    (record {
-      no_newline = subst (λ (k : ℕ). HasNoNewline (slice_range f.buffer.items f.start k)) size all;
-      short = omega (arith, length-part f.buffer.items f.start f.end (omega (arith, f.buffer.ok.0)));
-      skipped = λ is. absurd (false≢true (sym skips ∙ is));
-      goes_on = ap (λ (r : Reading). r.ended) c.self.view_is ∙ c.skip.ensures.ended;
-    }, λ rest. c.skip.ensures.kept rest ∙ ap (λ (r : Reading). bytes_to_come r rest) (sym c.self.view_is))
+    let skips : f.skips ≡ false = ap (λ (r : Reading). r.skips) c.self.view_is ∙ c.if-not-skip.ensures.done in (
+      record {
+        no_newline = subst (λ (k : ℕ). HasNoNewline (slice_range f.buffer.items f.start k)) size all;
+        short = omega (arith, length-part f.buffer.items f.start f.end (omega (arith, f.buffer.ok.0)));
+        skipped = λ is. absurd (false≢true (sym skips ∙ is));
+        goes_on = ap (λ (r : Reading). r.ended) c.self.view_is ∙ c.skip.ensures.ended;
+      },
+      λ rest. c.skip.ensures.kept rest ∙ ap (λ (r : Reading). bytes_to_come r rest) (sym c.self.view_is),
+    )

@@ -1,4 +1,4 @@
-use Rattle.std.proofs.Common.{arith, ◌≡◌, ◌≤◌, ◌<◌, ◌+◌, ◌∷◌, List, ℕ, [], sym, ap, ◌∙◌, length}
+use Rattle.std.proofs.Common.{arith, ◌≡◌, ◌<◌, ◌∷◌, List, ℕ, [], sym, ap, ◌∙◌, length}
 use Rattle.std.specs.List.{slice_range}
 use Rattle.std.proofs.lemmas.List.{nil_from_length}
 use Rattle.wiki_io.specs.Lines.{text}

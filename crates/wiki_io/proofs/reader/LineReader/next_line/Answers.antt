@@ -23,10 +23,10 @@ loop-line-preserved g c = record {
   faults = omega (arith, c.loop-line.invariant.faults, c.fill.ensures.faults);
   keeps = omega (arith, c.loop-line.invariant.keeps, c.cut.ensures.keeps, c.cut.ensures.count, ap length c.in-Bytes.ensures.bytes.pending, length-append c.cut.new.self.pending c.in-Bytes.ensures.bytes.got, c.in-Bytes.ensures.bytes.count);
   at_once_too_long = λ long.
-    let short = short_there c.args.self.now c.loop-line.self c.cut.new.self (c.loop-line.invariant.at_once_too_long long).1 c.in_default.ensures.none in
-    absurd (omega arith);
+      let short = short_there c.args.self.now c.loop-line.self c.cut.new.self (c.loop-line.invariant.at_once_too_long long).1 c.in_default.ensures.none in
+      absurd (omega arith);
   at_once = λ some.
-    absurd (some (none_there c.args.self.now c.loop-line.self c.cut.new.self (c.loop-line.invariant.at_once some).1 c.in_default.ensures.none));
+      absurd (some (none_there c.args.self.now c.loop-line.self c.cut.new.self (c.loop-line.invariant.at_once some).1 c.in_default.ensures.none));
 }
 
 pub returns-in-End-clause-at_once : goal.returns-in-End-clause-at_once

@@ -1,4 +1,4 @@
-use Rattle.std.proofs.Common.{arith, ◌≡◌, ◌≤◌, ◌<◌, ◌+◌, List, ℕ, [], Some, false, take, drop, sym, ap, ◌∙◌, length, subst, refl}
+use Rattle.std.proofs.Common.{arith, ◌≡◌, ◌≤◌, ◌+◌, List, ℕ, [], Some, false, take, drop, sym, ap, ◌∙◌, length, subst, refl}
 use Rattle.std.specs.List.{slice_range, slice_get}
 use Rattle.std.proofs.lemmas.List.Edits.{between_none}
 use Rattle.std.proofs.lemmas.Option.{slice_get_within}
@@ -22,15 +22,15 @@ returns-in-Some-clause-kept c =
     let fits : f.start + (at + 1) ≤ f.end = omega (arith, ap length pending) in
     let new : Reading = record { pending = slice_range f.buffer.items (f.start + (at + 1)) f.end; skips = false; ended = f.ended; count = f.count; line = [] } in
     KeepsBytes-newline r new at (sym (ap (λ (r : Reading). r.skips) c.self.view_is) ∙ c.if-not-self.false)
-        (subst (λ (l : List ℕ). HasNoNewline (take at l)) searched c.in-Some.ensures.some.0) newline refl
-        (sym (drop-part f.buffer.items f.start f.end (at + 1) fits) ∙ ap (λ (l : List ℕ). drop (at + 1) l) pending)
+    (subst (λ (l : List ℕ). HasNoNewline (take at l)) searched c.in-Some.ensures.some.0) newline refl
+    (sym (drop-part f.buffer.items f.start f.end (at + 1) fits) ∙ ap (λ (l : List ℕ). drop (at + 1) l) pending)
 
 pub returns-in-None-clause-kept : goal.returns-in-None-clause-kept
 returns-in-None-clause-kept c =
     let r = c.args.self.now in
     let f = c.self.inside in
     let searched : slice_range c.deref.result.now f.start f.end ≡ r.pending =
-        ap (λ (b : List ℕ). slice_range b f.start f.end) c.deref.ensures.value ∙ ap (λ (r : Reading). r.pending) c.self.view_is in
+    ap (λ (b : List ℕ). slice_range b f.start f.end) c.deref.ensures.value ∙ ap (λ (r : Reading). r.pending) c.self.view_is in
     let new : Reading = record { pending = slice_range f.buffer.items f.end f.end; skips = f.skips; ended = f.ended; count = f.count; line = [] } in
     KeepsBytes-skipped r new (sym (ap (λ (r : Reading). r.skips) c.self.view_is) ∙ c.if-not-self.false)
-        (subst HasNoNewline searched c.in-None.ensures.none) c.if-not-self.false (between_none f.buffer.items f.end)
+    (subst HasNoNewline searched c.in-None.ensures.none) c.if-not-self.false (between_none f.buffer.items f.end)

@@ -1,4 +1,4 @@
-use Rattle.std.proofs.Common.{arith, ◌≡◌, ◌≤◌, ◌+◌, ◌++◌, ◌∷◌, List, ℕ, take, drop, sym, ap, ◌∙◌, length}
+use Rattle.std.proofs.Common.{arith, ◌≤◌, ◌+◌, List, ℕ, take, drop, sym, ap, ◌∙◌, length}
 use Rattle.std.specs.List.{slice_range}
 use Rattle.std.proofs.lemmas.Option.{slice_get_within}
 use Rattle.wiki_io.specs.Reading.{Reading}
@@ -23,6 +23,6 @@ returns-clause-line c =
       line = take n (drop f.start f.buffer.items);
     } in
     GivesLine-text r new n c.requires.skips c.requires.short c.requires.no_newline c.requires.newline
-        (ap (λ (r : Reading). r.skips) c.self.view_is ∙ c.requires.skips)
-        (sym (drop-part f.buffer.items f.start f.end (n + 1) fits) ∙ ap (λ (l : List ℕ). drop (n + 1) l) pending)
-        (sym (take-part f.buffer.items f.start f.end n (omega arith)) ∙ ap (λ (l : List ℕ). take n l) pending)
+    (ap (λ (r : Reading). r.skips) c.self.view_is ∙ c.requires.skips)
+    (sym (drop-part f.buffer.items f.start f.end (n + 1) fits) ∙ ap (λ (l : List ℕ). drop (n + 1) l) pending)
+    (sym (take-part f.buffer.items f.start f.end n (omega arith)) ∙ ap (λ (l : List ℕ). take n l) pending)

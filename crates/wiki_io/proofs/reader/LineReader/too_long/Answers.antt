@@ -1,4 +1,4 @@
-use Rattle.std.proofs.Common.{arith, ◌≡◌, ◌≤◌, ◌+◌, List, ℕ, [], true, take, drop, sym, ap, ◌∙◌, length, refl}
+use Rattle.std.proofs.Common.{arith, ◌≤◌, ◌+◌, List, ℕ, [], true, drop, sym, ap, ◌∙◌, length, refl}
 use Rattle.std.specs.List.{slice_range}
 use Rattle.wiki_io.specs.Reading.{Reading}
 use Rattle.wiki_io.proofs.PartLemmas.{drop-part, length-part}
@@ -20,4 +20,4 @@ returns-clause-line c =
       line = [];
     } in
     GivesLine-too_long r new 65536 c.requires.skips (omega arith) (omega arith) c.requires.long c.requires.no_newline refl
-        (sym (drop-part f.buffer.items f.start f.end 65536 fits) ∙ ap (λ (l : List ℕ). drop 65536 l) pending)
+    (sym (drop-part f.buffer.items f.start f.end 65536 fits) ∙ ap (λ (l : List ℕ). drop 65536 l) pending)

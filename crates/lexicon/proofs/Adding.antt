@@ -10,9 +10,10 @@ use Rattle.std.proofs.lemmas.Slice.Eq.{bytes_eq-Decides}
 use Rattle.wiki_base.specs.declared.numbers.WordId.{WordId}
 use Rattle.lexicon.specs.declared.kinds.Forms.{Forms}
 use Rattle.lexicon.specs.declared.words.Word.{Word}
-use Rattle.lexicon.specs.declared.words.LexFault.TheVariants.{Taken}
+use Rattle.lexicon.specs.declared.words.LexFault.TheVariants.{Taken, Reserved}
 use Rattle.lexicon.specs.Kinds.{IsComplete}
-use Rattle.lexicon.specs.Words.{Listed, is_among, has_form, owner, SharesNoForm, IsLexicon, next_word, with_word, first_taken, fullness}
+use Rattle.lexicon.specs.Words.{Listed, is_among, has_form, owner, SharesNoForm, HasNoTerminal, IsLexicon, next_word, with_word, first_taken, first_reserved, fullness, forms_refusal}
+use Rattle.lexicon.specs.Terminals.{is_reserved}
 
 -- where neither of two is there, no choice of them is
 pub none_of_both : {X : Type 0} (a b : Option X) → option_or a b ≡ None → (a ≡ None) × (b ≡ None)
@@ -75,10 +76,25 @@ owner-push live word new text = ap (option_map (λ (w : Word). w.id)) (find-appe
     by_test false None free = refl
     by_test false (Some w) free = refl
 
-module _ (listed : Listed) (forms : Forms) (lexicon : IsLexicon listed) (complete : IsComplete forms) (free : first_taken listed.live forms.texts ≡ None) (room : fullness listed ≡ None) where
+-- where no text is reserved, none of them is
+pub unreserved_texts : (terminals texts : List (List ℕ)) → first_reserved terminals texts ≡ None → (text : List ℕ) → is_among texts text ≡ true → is_reserved terminals text ≡ false
+unreserved_texts terminals [] free text among = absurd (false≢true among)
+unreserved_texts terminals (first ∷ texts) free text among =
+    by_test (bytes_eq text first) (is_reserved terminals first) refl (bytes_eq-Decides text first).0 among free (unreserved_texts terminals texts)
+  where
+    by_test : (b r : Bool) → is_reserved terminals first ≡ r → (b ≡ true → text ≡ first) → (b || is_among texts text) ≡ true → cond r (Some (Reserved first)) (first_reserved terminals texts) ≡ None → (first_reserved terminals texts ≡ None → (t : List ℕ) → is_among texts t ≡ true → is_reserved terminals t ≡ false) → is_reserved terminals text ≡ false
+    by_test b true is same among free rest = cc
+    by_test true false is same among free rest = subst (λ t. is_reserved terminals t ≡ false) (sym (same refl)) is
+    by_test false false is same among free rest = rest free text among
+
+module _ (listed : Listed) (forms : Forms) (lexicon : IsLexicon listed) (complete : IsComplete forms) (free : forms_refusal listed.live listed.terminals forms ≡ None) (room : fullness listed ≡ None) where
+  -- no form is taken, and none is reserved
+  free_and_unreserved : (first_taken listed.live forms.texts ≡ None) × (first_reserved listed.terminals forms.texts ≡ None)
+  free_and_unreserved = none_of_both (first_taken listed.live forms.texts) (first_reserved listed.terminals forms.texts) free
+
   -- the forms of the new word are no other word's
   pub new_forms : (text : List ℕ) → is_among forms.texts text ≡ true → owner listed.live text ≡ None
-  new_forms = free_texts listed.live forms.texts free
+  new_forms = free_texts listed.live forms.texts free_and_unreserved.0
 
   -- the new word shares no form with another
   new_is_apart : (k : ℕ) (d : Word) → k < length listed.live → SharesNoForm (get_or listed.live k d) (next_word listed forms)
@@ -99,6 +115,7 @@ module _ (listed : Listed) (forms : Forms) (lexicon : IsLexicon listed) (complet
     given = All-push (λ (word : Word). (0 < word.id.0) × (word.id.0 ≤ listed.last + 1)) listed.live (next_word listed forms) (λ k d in_range. let was = lexicon.given k d in_range in (was.0, omega (arith, was.1))) (omega arith, omega arith);
     complete = All-push (λ (word : Word). IsComplete word.forms) listed.live (next_word listed forms) lexicon.complete complete;
     apart = all_pairs_push SharesNoForm listed.live (next_word listed forms) lexicon.apart new_is_apart;
+    unreserved = All-push (HasNoTerminal listed.terminals) listed.live (next_word listed forms) lexicon.unreserved (unreserved_texts listed.terminals forms.texts free_and_unreserved.1);
     few = omega (arith, length-append listed.live (next_word listed forms ∷ []), room_left.0);
     last_fits = room_left.1;
   }

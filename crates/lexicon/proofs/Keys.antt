@@ -1,5 +1,6 @@
 -- What a table finds at the bytes of a key, after changes at other keys.
-use Rattle.std.proofs.Common.{◌≡◌, ℕ, Bool, true, false, cond, ◌||◌, List, [], ◌∷◌, ◌++◌, map, Option, Some, None, string_bytes, String, refl, sym, ◌∙◌, ap, subst, arith}
+use Rattle.std.proofs.Common.{◌≡◌, ℕ, Bool, true, false, cond, ◌||◌, List, [], ◌∷◌, ◌++◌, map, Option, Some, None, MatchOption, IsSomeAnd, string_bytes, String, refl, sym, ◌∙◌, ap, subst, arith}
+use Rattle.std.specs.List.{AllZip}
 use Rattle.std.specs.Map.{lookup}
 use Rattle.std.specs.Str.{bytes_eq}
 use Rattle.std.specs.String.{string_eq}
@@ -8,7 +9,7 @@ use Rattle.std.specs.declared.alloc.Global.{Global}
 use Rattle.wiki_base.specs.declared.numbers.WordId.{WordId}
 use Rattle.std.proofs.lemmas.List.{map-append}
 use Rattle.std.proofs.lemmas.List.Folds.{list_any-append}
-use Rattle.std.proofs.lemmas.Map.Entries.{place_from_lookup}
+use Rattle.std.proofs.lemmas.Map.Entries.{place_from_lookup, lookup_clone}
 use Rattle.std.proofs.lemmas.Map.Text.{is_text, hash_map_updates_text}
 use Rattle.std.proofs.lemmas.Slice.Eq.{bytes_eq-Decides}
 use Rattle.lexicon.specs.Words.{is_among}
@@ -46,3 +47,25 @@ enter_last keys key m n id updates q =
     let at = hash_map_updates_text (string_bytes key) m n (Some id) updates q in
     let split = ap (λ texts. is_among texts q) (map-append string_bytes keys (key ∷ [])) ∙ list_any-append (bytes_eq q) (map string_bytes keys) (string_bytes key ∷ []) in
     grind (arith, cond-or (is_among (map string_bytes keys) q) (bytes_eq q (string_bytes key)) (Some id) (get_by_text m q), bytes_eq-comm q (string_bytes key))
+
+-- a choice of none by either of two tests
+none-or : {X : Type 0} (b c : Bool) (y : Option X) → cond b None (cond c None y) ≡ cond (c || b) None y
+none-or true true y = refl
+none-or true false y = refl
+none-or false true y = refl
+none-or false false y = refl
+
+-- the first text is taken out: what is left to take out decides what is found
+pub forget_first : (first : List ℕ) (texts : List (List ℕ)) (m n : Index) → UpdatesBy string_eq (λ k. bytes_eq first (string_bytes k)) m n None → (q : List ℕ) → cond (is_among texts q) None (get_by_text n q) ≡ cond (is_among (first ∷ texts) q) None (get_by_text m q)
+forget_first first texts m n updates q =
+    let at = hash_map_updates_text first m n None updates q in
+    grind (arith, none-or (is_among texts q) (bytes_eq q first) (get_by_text m q), bytes_eq-comm q first)
+
+-- a table whose keys have the bytes of another's and whose numbers are the other's finds the same
+pub cloned_texts : {X : Type 0} (es fs : List (String Global × X)) → AllZip (λ p q. (string_bytes q.0 ≡ string_bytes p.0) × (q.1 ≡ p.1)) es fs → (q : List ℕ) → lookup (is_text q) fs ≡ lookup (is_text q) es
+cloned_texts {X} es fs clones q = by_first (lookup (is_text q) es) (lookup (is_text q) fs) (lookup_clone (λ (x y : String Global). string_bytes y ≡ string_bytes x) (λ (v w : X). w ≡ v) (is_text q) (λ x y same. ap (bytes_eq q) same) es fs clones)
+  where
+    by_first : (a b : Option X) → MatchOption a (b ≡ None) (λ v. IsSomeAnd b (λ w. w ≡ v)) → b ≡ a
+    by_first None b none = none
+    by_first (Some v) (Some w) same = ap Some same
+    by_first (Some v) None same = absurd same

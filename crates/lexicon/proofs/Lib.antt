@@ -1,4 +1,8 @@
 mod Adding
+mod Changing
 mod Keys
+mod Letters
+mod Others
 pub mod Owners
 mod Places
+mod Reading

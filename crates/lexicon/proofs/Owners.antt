@@ -6,9 +6,9 @@ use Rattle.std.proofs.lemmas.Bool.Decides.{nat_tests}
 use Rattle.wiki_base.specs.declared.numbers.WordId.{WordId}
 use Rattle.lexicon.specs.declared.kinds.Forms.{Forms}
 use Rattle.lexicon.specs.declared.words.Word.{Word}
-use Rattle.lexicon.specs.declared.words.LexFault.{LexFault}
-use Rattle.lexicon.specs.declared.words.LexFault.TheVariants.{Taken, Full}
-use Rattle.lexicon.specs.Words.{Listed, has_form, owner, forms_of, first_taken, fullness, add_refusal}
+use Rattle.lexicon.specs.declared.words.LexFault.TheVariants.{Taken, Reserved, Full}
+use Rattle.lexicon.specs.Words.{Listed, has_form, owner, forms_of, first_taken, first_reserved, fullness, forms_refusal, add_refusal}
+use Rattle.lexicon.specs.Terminals.{is_reserved}
 
 -- a word that has the form lives
 pub owner_lives : (live : List Word) (text : List ℕ) (id : WordId) → owner live text ≡ Some id → IsSome (forms_of live id)
@@ -39,15 +39,34 @@ owner-taken live (first ∷ texts) text id is = by_owner (owner live first) refl
         subst (λ t. owner live t ≡ Some id) same_text (found ∙ ap Some same_word)
     by_owner None found is rest = rest is
 
+-- a cause that is a reserved text, a number or a limit names no owner
+reserved_not_taken : (terminals texts : List (List ℕ)) (text : List ℕ) (id : WordId) → first_reserved terminals texts ≡ Some (Taken text id) → ⊥
+reserved_not_taken terminals [] text id is = cc
+reserved_not_taken terminals (first ∷ texts) text id is = by_test (is_reserved terminals first) is (reserved_not_taken terminals texts text id)
+  where
+    by_test : (b : Bool) → cond b (Some (Reserved first)) (first_reserved terminals texts) ≡ Some (Taken text id) → (first_reserved terminals texts ≡ Some (Taken text id) → ⊥) → ⊥
+    by_test true is rest = cc
+    by_test false is rest = rest is
+
+full_not_taken : (listed : Listed) (text : List ℕ) (id : WordId) → fullness listed ≡ Some (Taken text id) → ⊥
+full_not_taken listed text id is = by_tests (eqb (length listed.live) 5000) (eqb listed.last 4294967295) is
+  where
+    by_tests : (b c : Bool) → cond b (Some (Full 5000)) (cond c (Some (Full 4294967295)) None) ≡ Some (Taken text id) → ⊥
+    by_tests true c is = cc
+    by_tests false true is = cc
+    by_tests false false is = cc
+
+-- of two causes the second names no owner, so the first does
+first_names : {X : Type 0} (a b : Option X) (x : X) → (b ≡ Some x → ⊥) → option_or a b ≡ Some x → a ≡ Some x
+first_names (Some y) b x not is = is
+first_names None b x not is = absurd (not is)
+
+-- so it is where forms are refused for it
+pub owner-forms_refusal : (live : List Word) (terminals : List (List ℕ)) (forms : Forms) (text : List ℕ) (id : WordId) → forms_refusal live terminals forms ≡ Some (Taken text id) → owner live text ≡ Some id
+owner-forms_refusal live terminals forms text id is =
+    owner-taken live forms.texts text id (first_names (first_taken live forms.texts) (first_reserved terminals forms.texts) (Taken text id) (reserved_not_taken terminals forms.texts text id) is)
+
 -- so it is where an added word is refused for it
 pub owner-add_refusal : (listed : Listed) (forms : Forms) (text : List ℕ) (id : WordId) → add_refusal listed forms ≡ Some (Taken text id) → owner listed.live text ≡ Some id
-owner-add_refusal listed forms text id is = by_taken (first_taken listed.live forms.texts) refl is
-  where
-    by_taken : (o : Option LexFault) → first_taken listed.live forms.texts ≡ o → option_or o (fullness listed) ≡ Some (Taken text id) → owner listed.live text ≡ Some id
-    by_taken (Some fault) found is = owner-taken listed.live forms.texts text id (found ∙ is)
-    by_taken None found is = absurd (not_full (eqb (length listed.live) 5000) (eqb listed.last 4294967295) is)
-      where
-        not_full : (b c : Bool) → cond b (Some (Full 5000)) (cond c (Some (Full 4294967295)) None) ≡ Some (Taken text id) → ⊥
-        not_full true c is = cc
-        not_full false true is = cc
-        not_full false false is = cc
+owner-add_refusal listed forms text id is =
+    owner-forms_refusal listed.live listed.terminals forms text id (first_names (forms_refusal listed.live listed.terminals forms) (fullness listed) (Taken text id) (full_not_taken listed text id) is)

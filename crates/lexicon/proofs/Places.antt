@@ -1,5 +1,5 @@
 -- What a search among words that stand in order of number finds.
-use Rattle.std.proofs.Common.{◌≡◌, ℕ, ◌<◌, ◌≤◌, eqb, List, [], ◌∷◌, length, get_or, Some, None, Result, Ok, Err, MatchOption, Bool, true, false, find, AllPairs, ◌⊎◌, inl, inr, refl, sym, ap, arith}
+use Rattle.std.proofs.Common.{◌≡◌, ℕ, ◌<◌, ◌≤◌, eqb, List, [], ◌∷◌, length, get_or, Option, Some, None, Result, Ok, Err, MatchOption, is_some, Bool, true, false, find, AllPairs, ◌⊎◌, inl, inr, refl, sym, ap, arith}
 use Rattle.std.specs.List.Sorted.{IsSearchInRange, IsBinarySearchResult, IsNonDecreasingBy}
 use Rattle.std.specs.Ordering.{nat_cmp, ordering_index}
 use Rattle.std.specs.Result.{result_ok}
@@ -30,12 +30,12 @@ module _ (live : List Word) (in_order : AllPairs (λ word later. word.id.0 < lat
   -- the word at the place of the number is the one that has it
   pub forms_at_place : (place : ℕ) (d : Word) → IsPlaceOf live id place → forms_of live id ≡ Some (get_or live place d).forms
   forms_at_place place d is_place =
-      let first = find_first (λ word. eqb word.id.0 id.0) live place d is_place.in_range (λ k before. grind (arith, nat_tests, in_order k place d before is_place.in_range, is_place.has_number d)) (grind (arith, nat_tests, is_place.has_number d)) in
+      let first = find_first (λ word. eqb word.id.0 id.0) live place d is_place.in_range (λ k before. grind (arith, nat_tests, in_order k place d before is_place.in_range, is_place.numbered d)) (grind (arith, nat_tests, is_place.numbered d)) in
       rw first refl
 
   -- a binary search by number ends at the word that has it, or no word has it
   pub searched : (r : Result ℕ ℕ) → IsSearchInRange r (length live) → IsBinarySearchResult (λ word. nat_cmp word.id.0 id.0) live r → MatchOption (result_ok r) (forms_of live id ≡ None) (IsPlaceOf live id)
-  searched (Ok place) in_range equal = record { in_range = in_range; has_number = λ d. ranked _ id.0 _ (sym (equal d)) }
+  searched (Ok place) in_range equal = record { in_range = in_range; numbered = λ d. ranked _ id.0 _ (sym (equal d)) }
   searched (Err gap) in_range parted =
       let absent = find_none (λ word. eqb word.id.0 id.0) live (λ k d bound. unequal k d bound (cases_lt k gap)) in
       rw absent refl
@@ -48,3 +48,12 @@ module _ (live : List Word) (in_order : AllPairs (λ word later. word.id.0 < lat
       unequal k d bound (inr after) =
           let greater : id.0 < (get_or live k d).id.0 = ranked _ id.0 _ (sym ((parted numbers_rise).1 k d after bound)) in
           grind (arith, nat_tests)
+
+  -- a place is found where the word lives
+  pub found_lives : (found : Option ℕ) → MatchOption found (forms_of live id ≡ None) (IsPlaceOf live id) → is_some found ≡ is_some (forms_of live id)
+  found_lives None absent = rw absent refl
+  found_lives (Some place) is_place = there live refl
+    where
+      there : (words : List Word) → words ≡ live → true ≡ is_some (forms_of live id)
+      there [] is = absurd (omega (arith, is_place.in_range, ap (length {A = Word}) is))
+      there (word ∷ words) is = rw (forms_at_place place word is_place) refl

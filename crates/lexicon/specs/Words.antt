@@ -1,18 +1,20 @@
 -- A lexicon as the list of its live words.
-use Rattle.std.specs.Prelude.{◌≡◌, ℕ, ◌+◌, ◌<◌, ◌≤◌, ◌^◌, ◌==◌, Bool, true, false, if◌then◌else◌, List, [], ◌∷◌, ◌++◌, length, All, AllPairs, find, option_map, Option, Some, None, ⊤}
-use Rattle.std.specs.Option.{option_or}
+use Rattle.std.specs.Prelude.{◌≡◌, ℕ, ◌+◌, ◌<◌, ◌≤◌, ◌^◌, ◌==◌, Bool, true, false, not, if◌then◌else◌, List, [], ◌∷◌, ◌++◌, length, map, All, AllPairs, filter, find, option_map, Option, Some, None, ⊤}
+use Rattle.std.specs.Option.{option_or, option_map_or}
 use Rattle.std.specs.List.{list_any, HoldsAt}
 use Rattle.std.specs.Str.{bytes_eq}
 use Rattle.wiki_base.specs.declared.numbers.WordId.{WordId}
 use Rattle.lexicon.specs.declared.kinds.Forms.{Forms}
 use Rattle.lexicon.specs.declared.words.Word.{Word}
 use Rattle.lexicon.specs.declared.words.LexFault.{LexFault}
-use Rattle.lexicon.specs.declared.words.LexFault.TheVariants.{Taken, NoWord, Full, Memory}
+use Rattle.lexicon.specs.declared.words.LexFault.TheVariants.{Taken, Reserved, NoWord, Full, Memory}
 use Rattle.lexicon.specs.Kinds.{IsComplete}
+use Rattle.lexicon.specs.Terminals.{is_reserved}
 
--- the live words, and the last number that was given to a word
+-- the live words, the terminals of the grammar, and the last number that was given to a word
 pub record Listed : Type 0 where
   pub live : List Word
+  pub terminals : List (List ℕ)
   pub last : ℕ
 
 -- the text is one of these
@@ -23,25 +25,39 @@ is_among texts text = list_any (bytes_eq text) texts
 abbrev pub has_form : List ℕ → Word → Bool
 has_form text word = is_among word.forms.texts text
 
+-- the word has the number
+abbrev pub has_number : WordId → Word → Bool
+has_number id word = word.id.0 == id.0
+
 -- the word that has the text as a form
 abbrev pub owner : List Word → List ℕ → Option WordId
 owner live text = option_map (λ word. word.id) (find (has_form text) live)
 
 -- the forms of the word with the number
 abbrev pub forms_of : List Word → WordId → Option Forms
-forms_of live id = option_map (λ word. word.forms) (find (λ word. word.id.0 == id.0) live)
+forms_of live id = option_map (λ word. word.forms) (find (has_number id) live)
+
+-- the words but for the one with the number
+abbrev pub others : List Word → WordId → List Word
+others live id = filter (λ word. not (has_number id word)) live
 
 -- no form of the one word is a form of the other
 abbrev pub SharesNoForm : Word → Word → Type 0
 SharesNoForm word other = (text : List ℕ) → has_form text word ≡ true → has_form text other ≡ false
 
+-- no form of the word is one of the terminals, or one of them with its first letter raised
+abbrev pub HasNoTerminal : List (List ℕ) → Word → Type 0
+HasNoTerminal terminals word = (text : List ℕ) → has_form text word ≡ true → is_reserved terminals text ≡ false
+
 -- The words stand in order of number, each number is above 0 and at most the last one given, each word has the forms
--- of its kind, and no form of a word is a form of another word. After Kuhn's lexicon of five kinds of words.
+-- of its kind, and no form of a word is a form of another word, a terminal, or a terminal with its first letter
+-- raised. After Kuhn's lexicon of five kinds of words; the rule on forms is this wiki's own.
 pub record IsLexicon (listed : Listed) : Type 0 where
   pub in_order : AllPairs (λ word later. word.id.0 < later.id.0) listed.live
   pub given : All (λ word. (0 < word.id.0) × (word.id.0 ≤ listed.last)) listed.live
   pub complete : All (λ word. IsComplete word.forms) listed.live
   pub apart : AllPairs SharesNoForm listed.live
+  pub unreserved : All (HasNoTerminal listed.terminals) listed.live
   pub few : length listed.live ≤ 5000
   pub last_fits : listed.last < 2 ^ 32
 
@@ -51,25 +67,50 @@ next_word listed forms = record { id = record { 0 = listed.last + 1 }; forms = f
 
 -- the list with a word of these forms added at its end, under the next number
 abbrev pub with_word : Listed → Forms → Listed
-with_word listed forms = record { live = listed.live ++ next_word listed forms ∷ []; last = listed.last + 1 }
+with_word listed forms = record listed { live = listed.live ++ next_word listed forms ∷ []; last = listed.last + 1 }
 
--- the first of the texts that is a form of a live word
+-- the list with these forms for the word with the number
+abbrev pub with_forms : Listed → WordId → Forms → Listed
+with_forms listed id forms =
+    record listed { live = map (λ word. if has_number id word then record word { forms = forms } else word) listed.live }
+
+-- the list without the word with the number
+abbrev pub without_word : Listed → WordId → Listed
+without_word listed id = record listed { live = others listed.live id }
+
+-- the first of the texts that is a form of one of the words
 abbrev pub first_taken : List Word → List (List ℕ) → Option LexFault
 first_taken live [] = None
 first_taken live (text ∷ texts) = option_or (option_map (Taken text) (owner live text)) (first_taken live texts)
+
+-- the first of the texts that is a terminal, or a terminal with its first letter raised
+abbrev pub first_reserved : List (List ℕ) → List (List ℕ) → Option LexFault
+first_reserved terminals [] = None
+first_reserved terminals (text ∷ texts) =
+    if is_reserved terminals text then Some (Reserved text) else first_reserved terminals texts
 
 -- no word can be added: there are 5,000, or all numbers are given
 abbrev pub fullness : Listed → Option LexFault
 fullness listed =
     if length listed.live == 5000 then Some (Full 5000) else (if listed.last == 4294967295 then Some (Full 4294967295) else None)
 
+-- the first cause that stands against forms beside these words
+abbrev pub forms_refusal : List Word → List (List ℕ) → Forms → Option LexFault
+forms_refusal live terminals forms = option_or (first_taken live forms.texts) (first_reserved terminals forms.texts)
+
 -- the first cause that stands against adding a word with these forms
 abbrev pub add_refusal : Listed → Forms → Option LexFault
-add_refusal listed forms = option_or (first_taken listed.live forms.texts) (fullness listed)
+add_refusal listed forms = option_or (forms_refusal listed.live listed.terminals forms) (fullness listed)
+
+-- the first cause that stands against giving the word with the number these forms
+abbrev pub reword_refusal : Listed → WordId → Forms → Option LexFault
+reword_refusal listed id forms =
+    option_map_or (λ _. forms_refusal (others listed.live id) listed.terminals forms) (forms_of listed.live id) (Some (NoWord id))
 
 -- the fault is the cause, or want of memory
 abbrev pub IsRefusal : Option LexFault → LexFault → Type 0
 IsRefusal cause (Taken text word) = cause ≡ Some (Taken text word)
+IsRefusal cause (Reserved text) = cause ≡ Some (Reserved text)
 IsRefusal cause (NoWord id) = cause ≡ Some (NoWord id)
 IsRefusal cause (Full limit) = cause ≡ Some (Full limit)
 IsRefusal cause Memory = ⊤
@@ -77,4 +118,4 @@ IsRefusal cause Memory = ⊤
 -- the word with the number stands at the place
 pub record IsPlaceOf (live : List Word) (id : WordId) (place : ℕ) : Type 0 where
   pub in_range : place < length live
-  pub has_number : HoldsAt (λ word. word.id.0 ≡ id.0) live place
+  pub numbered : HoldsAt (λ word. word.id.0 ≡ id.0) live place

@@ -1,5 +1,5 @@
 // The table by which a lexicon finds the word that has a form.
-ghost use Rattle.std.specs.Prelude.{◌≡◌, ℕ, ◌≤◌, List, length, map, IfOk, OnOk, Some, if◌then◌else◌, string_bytes};
+ghost use Rattle.std.specs.Prelude.{◌≡◌, ℕ, ◌≤◌, List, length, map, IfOk, OnOk, None, Some, if◌then◌else◌, string_bytes};
 ghost use Rattle.std.specs.HashMap.{get_by_text, spare};
 ghost use Rattle.lexicon.specs.Words.{is_among};
 
@@ -39,5 +39,16 @@ pub(crate) fn enter(index: &mut Index, mut keys: Vec<String>, id: WordId)
     while let Some(key) = keys.pop() {
         let entered: Result<_, _> = index.insert(key, id);
         entered.unwrap();
+    }
+}
+
+// Takes the texts out.
+pub(crate) fn forget(index: &mut Index, texts: &Texts)
+    ensures found { (text : List ℕ) → get_by_text index.new text
+        ≡ (if is_among texts.now text then None else get_by_text index.old text) }
+    ensures room { spare index.old ≤ spare index.new }
+{
+    for text in texts.as_slice() {
+        index.remove(text.as_str());
     }
 }

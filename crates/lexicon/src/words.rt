@@ -1,12 +1,16 @@
 // The live words of a wiki.
-ghost use Rattle.std.specs.Prelude.{◌≡◌, ◌+◌, ◌<◌, ◌≤◌, ◌↔◌, [], length, IfOk, IfErr, IfSome, OnOk, OnErr, IsSome, IsTrue, MatchOption, slice_get, Some, None, option_copied};
+ghost use Rattle.std.specs.Prelude.{◌≡◌, ◌+◌, ◌<◌, ◌≤◌, ◌↔◌, [], length, IfOk, IfErr, IfSome, OnOk, OnErr, IsSome, is_some, IsTrue, MatchOption, slice_get, Some, None, option_copied};
 ghost use Rattle.lexicon.specs.declared.words.LexFault.TheVariants.{Memory as out_of_memory};
 
-use crate::index::{Index, enter, keys_of, make_room};
+use crate::index::{Index, enter, forget, keys_of, make_room};
 use crate::kinds::{Forms, Texts};
+use crate::readings::{Readings, readings_of_word};
+use crate::terminals::is_reserved;
+use codeco_terms::{Grammar, Symbols};
 use std::alloc::{AllocError, AllocFailed, Global};
 use std::collections::HashMap;
 use std::marker::Model;
+use std::mem;
 use wiki_base::{Memory, Text, WordId};
 
 /// The greatest number of live words.
@@ -24,6 +28,8 @@ pub struct Word {
 pub enum LexFault {
     /// The text is a form of another live word.
     Taken { text: Text, owner: WordId },
+    /// The text is a terminal of the grammar, or one with its first letter raised to upper case.
+    Reserved { text: Text },
     /// No live word has the number.
     NoWord(WordId),
     /// There are 5,000 live words, or the last number, 4,294,967,295, was given.
@@ -47,11 +53,12 @@ impl From<AllocError> for LexFault {
     }
 }
 
-/// The live words of a wiki in order of number, and the last number that was given. It is seen as that list; inside,
-/// a table finds the word of a form.
+/// The live words of a wiki in order of number, the terminals of its grammar, and the last number that was given. It is
+/// seen as these; inside, a table finds the word of a form.
 #[derive(Drop)]
 pub struct Lexicon {
     words: Vec<Word>,
+    terminals: Symbols,
     last: u32,
     index: Index,
 }
@@ -62,25 +69,29 @@ impl Model for Lexicon {
 
     ghost Value = { Listed };
 
-    ghost view = { λ l. record { live = l.words.items; last = l.last } };
+    ghost view = { λ l. record { live = l.words.items; terminals = l.terminals; last = l.last } };
 
-    ghost invariant = { λ l. IsLexicon (record { live = l.words.items; last = l.last }) × Indexes l.words.items l.index };
+    ghost invariant = { λ l. IsLexicon (record { live = l.words.items; terminals = l.terminals; last = l.last }) × Indexes l.words.items l.index };
 }
 
 impl Lexicon {
-    ghost use Rattle.lexicon.specs.Words.{IsLexicon, IsPlaceOf, owner, forms_of, with_word, first_taken, fullness, add_refusal, IsRefusal};
+    ghost use Rattle.lexicon.specs.Words.{IsLexicon, IsPlaceOf, owner, others, forms_of, with_word, with_forms, without_word, first_taken, first_reserved, fullness, forms_refusal, add_refusal, reword_refusal, IsRefusal};
+    ghost use Rattle.lexicon.specs.declared.kinds.Forms.{Forms};
+    ghost use Rattle.lexicon.specs.Readings.{readings_of};
     ghost use Rattle.lexicon.specs.Kinds.{IsComplete};
 
-    /// A lexicon with no words.
-    pub fn new(alloc: Global) -> Self
-        ensures words { result.live ≡ [] }
-        ensures last { result.last ≡ 0 }
+    /// A lexicon with no words, beside the terminals of the grammar.
+    pub fn new(alloc: Global, grammar: &Grammar) -> Result<Self, Memory>
+        ensures words { IfOk result (λ lexicon. lexicon.live ≡ []) }
+        ensures terminals { IfOk result (λ lexicon. lexicon.terminals ≡ grammar.now.terminals) }
+        ensures last { IfOk result (λ lexicon. lexicon.last ≡ 0) }
     {
-        Lexicon {
+        Ok(Lexicon {
             words: Vec::new(alloc),
+            terminals: grammar.terminals().copy()?,
             last: 0,
             index: HashMap::new(alloc),
-        }
+        })
     }
 
     /// How many words live.
@@ -106,6 +117,13 @@ impl Lexicon {
         &self.words[place]
     }
 
+    /// The terminals of the grammar, in order of number.
+    pub fn terminals(&self) -> &Symbols
+        ensures { result.now ≡ self.now.terminals }
+    {
+        &self.terminals
+    }
+
     /// The forms of the live word with the number.
     pub fn word(&self, id: WordId) -> Option<&Forms>
         ensures forms { option_copied result ≡ forms_of self.now.live id }
@@ -119,7 +137,8 @@ impl Lexicon {
 
     // Where the live word with the number stands.
     fn place_of(&self, id: WordId) -> Option<usize>
-        ensures { MatchOption result (forms_of self.now.live id ≡ None) (IsPlaceOf self.now.live id) }
+        ensures place { MatchOption result (forms_of self.now.live id ≡ None) (IsPlaceOf self.now.live id) }
+        ensures lives { is_some result ≡ is_some (forms_of self.now.live id) }
     {
         self.words
             .binary_search_by_key(&id.0, |word| word.id.0)
@@ -130,12 +149,39 @@ impl Lexicon {
     pub fn find(&self, form: &str) -> Option<WordId>
         ensures owner { result ≡ owner self.now.live form.now }
         ensures lives { IfSome result (λ id. IsSome (forms_of self.now.live id)) }
+        ensures lexicon { IsLexicon self.now }
     {
         self.index.get(form).copied()
     }
 
-    /// Adds a word under the next number. Refused are, in this order, a form of another live word, and the limits.
-    /// The forms are copied.
+    /// What the token is to a grammar: for each form of a live word that it is, the preterminal of the word's kind with
+    /// the values of its features. There are at most three.
+    pub fn readings(&self, form: &str) -> Readings
+        ensures { result ≡ readings_of self.now.live form.now }
+    {
+        let Some(id) = self.find(form) else {
+            return Readings::none();
+        };
+        match self.place_of(id) {
+            Some(place) => readings_of_word(&self.words[place], form),
+            None => Readings::none(),
+        }
+    }
+
+    /// An equal lexicon.
+    pub fn copy(&self) -> Result<Self, Memory>
+        ensures { IfOk result (λ lexicon. lexicon ≡ self.now) }
+    {
+        Ok(Lexicon {
+            words: copied(*self.words.allocator(), &self.words)?,
+            terminals: self.terminals.copy()?,
+            last: self.last,
+            index: self.index.clone()?,
+        })
+    }
+
+    /// Adds a word under the next number. Refused are, in this order, a form of another live word, a form that the
+    /// grammar has, and the limits. The forms are copied.
     pub fn add(&mut self, forms: &Forms) -> Result<WordId, LexFault>
         requires { IsComplete forms.now }
         ensures number { IfOk result (λ id. id.0 ≡ self.old.last + 1) }
@@ -144,7 +190,7 @@ impl Lexicon {
         ensures refused { IfErr result (IsRefusal (add_refusal self.old forms.now)) }
         ensures unchanged { OnErr result (self.new ≡ self.old) }
     {
-        self.refuse_taken(&forms.texts)?;
+        self.refuse_new(forms)?;
         self.refuse_full()?;
         let id = WordId(self.last + 1);
         let keys = keys_of(*self.words.allocator(), &forms.texts)?;
@@ -157,17 +203,95 @@ impl Lexicon {
         Ok(id)
     }
 
-    // Refuses texts of which one is a form of a live word.
-    fn refuse_taken(&self, texts: &Texts) -> Result<(), LexFault>
-        ensures free { OnOk result (first_taken self.now.live texts.now ≡ None) }
-        ensures taken { IfErr result (IsRefusal (first_taken self.now.live texts.now)) }
+    /// Gives a word other forms of its kind. Refused are, in this order, a number that no live word has, a form of
+    /// another live word, and a form that the grammar has. The forms are copied.
+    pub fn reword(&mut self, id: WordId, forms: &Forms) -> Result<(), LexFault>
+        requires complete { IsComplete forms.now }
+        requires kind { (old : Forms) → forms_of self.old.live id ≡ Some old → forms.now.kind ≡ old.kind }
+        ensures reworded { OnOk result (self.new ≡ with_forms self.old id forms.now) }
+        ensures free { OnOk result (reword_refusal self.old id forms.now ≡ None) }
+        ensures refused { IfErr result (IsRefusal (reword_refusal self.old id forms.now)) }
+        ensures unchanged { OnErr result (self.new ≡ self.old) }
+    {
+        let Some(place) = self.place_of(id) else {
+            return Err(LexFault::NoWord(id));
+        };
+        self.refuse(id, forms)?;
+        let keys = keys_of(*self.words.allocator(), &forms.texts)?;
+        let forms = forms.copy()?;
+        make_room(&mut self.index, keys.len())?;
+        let word = &mut self.words[place];
+        let old = mem::replace(&mut word.forms, forms);
+        forget(&mut self.index, &old.texts);
+        enter(&mut self.index, keys, id);
+        Ok(())
+    }
+
+    /// Takes a word out. Refused is a number that no live word has.
+    pub fn remove(&mut self, id: WordId) -> Result<(), LexFault>
+        ensures removed { OnOk result (self.new ≡ without_word self.old id) }
+        ensures lived { OnOk result (IsSome (forms_of self.old.live id)) }
+        ensures refused { IfErr result (λ fault. (fault ≡ LexFault.NoWord id) × (forms_of self.old.live id ≡ None)) }
+        ensures unchanged { OnErr result (self.new ≡ self.old) }
+    {
+        let Some(place) = self.place_of(id) else {
+            return Err(LexFault::NoWord(id));
+        };
+        let word = self.words.remove(place);
+        forget(&mut self.index, &word.forms.texts);
+        Ok(())
+    }
+
+    // Refuses forms for a new word, of which one is a form of a live word, or is reserved.
+    fn refuse_new(&self, forms: &Forms) -> Result<(), LexFault>
+        ensures free { OnOk result (forms_refusal self.now.live self.now.terminals forms.now ≡ None) }
+        ensures refused { IfErr result (IsRefusal (forms_refusal self.now.live self.now.terminals forms.now)) }
+    {
+        let _ = &self.words;
+        self.refuse(WordId(0), forms)
+    }
+
+    // Refuses forms of which one is a form of a live word other than the one with the number, or is reserved.
+    fn refuse(&self, id: WordId, forms: &Forms) -> Result<(), LexFault>
+        ensures free { OnOk result (forms_refusal (others self.now.live id) self.now.terminals forms.now ≡ None) }
+        ensures refused { IfErr result (IsRefusal (forms_refusal (others self.now.live id) self.now.terminals forms.now)) }
+    {
+        self.refuse_taken(id, &forms.texts)?;
+        self.refuse_reserved(&forms.texts)
+    }
+
+    // Refuses texts of which one is a form of a live word other than the one with the number.
+    fn refuse_taken(&self, id: WordId, texts: &Texts) -> Result<(), LexFault>
+        ensures free { OnOk result (first_taken (others self.now.live id) texts.now ≡ None) }
+        ensures taken { IfErr result (IsRefusal (first_taken (others self.now.live id) texts.now)) }
     {
         for text in texts.as_slice() {
-            if let Some(owner) = self.find(text.as_str()) {
+            if let Some(owner) = self.find_other(id, text.as_str()) {
                 return Err(LexFault::Taken {
                     text: text.copy()?,
                     owner,
                 });
+            }
+        }
+        Ok(())
+    }
+
+    // The word that has the text as a form, but for the one with the number.
+    fn find_other(&self, id: WordId, form: &str) -> Option<WordId>
+        ensures { result ≡ owner (others self.now.live id) form.now }
+    {
+        let owner = self.find(form)?;
+        if owner == id { None } else { Some(owner) }
+    }
+
+    // Refuses texts of which one is reserved.
+    fn refuse_reserved(&self, texts: &Texts) -> Result<(), LexFault>
+        ensures free { OnOk result (first_reserved self.now.terminals texts.now ≡ None) }
+        ensures reserved { IfErr result (IsRefusal (first_reserved self.now.terminals texts.now)) }
+    {
+        for text in texts.as_slice() {
+            if is_reserved(&self.terminals, text.as_str().as_bytes()) {
+                return Err(LexFault::Reserved { text: text.copy()? });
             }
         }
         Ok(())
@@ -190,22 +314,54 @@ impl Lexicon {
     }
 }
 
+// Equal words.
+fn copied(alloc: Global, words: &[Word]) -> Result<Vec<Word>, Memory>
+    ensures { IfOk result (λ copies. copies.items ≡ words.now) }
+{
+    let mut copies = Vec::with_capacity(alloc, words.len())?;
+    for word in words {
+        let forms = word.forms.copy()?;
+        copies.push(Word { id: word.id, forms })?;
+    }
+    Ok(copies)
+}
+
 #[cfg(test)]
 mod tests {
     use super::*;
     use crate::kinds::Kind;
-    use crate::suggest::{FormFault, forms};
+    use crate::suggest::forms;
+    use codeco_terms::{Features, Rules, Symbol, Value};
     use std::test::Fail;
 
-    fn added(alloc: Global, lexicon: &mut Lexicon, name: &str) -> Result<WordId, Fail> {
-        let texts = [Text::read(alloc, name)?];
-        let forms = forms(alloc, Kind::Name, &texts)?;
+    // A lexicon beside a grammar with the terminal `every`.
+    fn beside_every(alloc: Global) -> Result<Lexicon, Fail> {
+        let mut terminals = Symbols::new(alloc);
+        terminals.push(Symbol::read(alloc, b"every")?)?;
+        let grammar = Grammar::new(
+            Features::new(alloc),
+            Symbols::new(alloc),
+            terminals,
+            Symbols::new(alloc),
+            Rules::new(alloc),
+        );
+        Ok(Lexicon::new(alloc, &grammar)?)
+    }
+
+    fn added(alloc: Global, lexicon: &mut Lexicon, kind: Kind, text: &str) -> Result<WordId, Fail> {
+        let given = [Text::read(alloc, text)?];
+        let forms = forms(alloc, kind, &given)?;
         Ok(lexicon.add(&forms).map_err(|_| "refused")?)
     }
 
-    fn refused(alloc: Global, lexicon: &mut Lexicon, name: &str) -> Result<LexFault, Fail> {
-        let texts = [Text::read(alloc, name)?];
-        let forms = forms(alloc, Kind::Name, &texts)?;
+    fn refused(
+        alloc: Global,
+        lexicon: &mut Lexicon,
+        kind: Kind,
+        text: &str,
+    ) -> Result<LexFault, Fail> {
+        let given = [Text::read(alloc, text)?];
+        let forms = forms(alloc, kind, &given)?;
         match lexicon.add(&forms) {
             Ok(_) => Err(Fail::from("added")),
             Err(fault) => Ok(fault),
@@ -219,36 +375,43 @@ mod tests {
             for place in [n / 676, n / 26, n] {
                 text.push(char::from(b'a' + (place % 26) as u8))?;
             }
-            added(alloc, lexicon, text.as_str())?;
+            added(alloc, lexicon, Kind::Name, text.as_str())?;
         }
         Ok(())
     }
 
     #[test]
-    fn a_name_is_added_and_found(rt: HostRuntime) -> Result<(), Fail> {
-        let mut lexicon = Lexicon::new(rt.alloc());
+    fn a_word_is_found_by_each_form(rt: HostRuntime) -> Result<(), Fail> {
+        let mut lexicon = beside_every(rt.alloc())?;
         assert!(rt; lexicon.is_empty());
-        let id = added(rt.alloc(), &mut lexicon, "Bern")?;
-        assert_eq!(rt; id, WordId(1));
-        assert_eq!(rt; lexicon.find("Bern"), Some(WordId(1)));
+        assert_eq!(rt; lexicon.terminals().len(), 1);
+        added(rt.alloc(), &mut lexicon, Kind::Name, "Bern")?;
+        let id = added(rt.alloc(), &mut lexicon, Kind::Noun, "country")?;
+        assert_eq!(rt; id, WordId(2));
+        assert_eq!(rt; lexicon.find("countries"), Some(WordId(2)));
         assert_eq!(rt; lexicon.find("Bonn"), None);
         let forms = lexicon.word(id).ok_or("no word")?;
-        assert_eq!(rt; forms.canonical().as_str(), "Bern");
-        assert!(rt; lexicon.word(WordId(2)).is_none());
-        assert_eq!(rt; lexicon.len(), 1);
+        assert_eq!(rt; forms.canonical().as_str(), "country");
+        assert!(rt; lexicon.word(WordId(3)).is_none());
+        assert_eq!(rt; lexicon.len(), 2);
         assert_eq!(rt; lexicon.get(0).id, WordId(1));
         Ok(())
     }
 
     #[test]
-    fn a_taken_name_is_told_with_its_owner(rt: HostRuntime) -> Result<(), Fail> {
-        let mut lexicon = Lexicon::new(rt.alloc());
-        added(rt.alloc(), &mut lexicon, "Bern")?;
-        added(rt.alloc(), &mut lexicon, "Thun")?;
-        match refused(rt.alloc(), &mut lexicon, "Thun")? {
+    fn forms_that_others_have_are_refused(rt: HostRuntime) -> Result<(), Fail> {
+        let mut lexicon = beside_every(rt.alloc())?;
+        added(rt.alloc(), &mut lexicon, Kind::Noun, "country")?;
+        for name in ["every", "Every"] {
+            match refused(rt.alloc(), &mut lexicon, Kind::Name, name)? {
+                LexFault::Reserved { text } => assert_eq!(rt; text.as_str(), name),
+                _ => return Err(Fail::from("not reserved")),
+            }
+        }
+        match refused(rt.alloc(), &mut lexicon, Kind::Name, "countries")? {
             LexFault::Taken { text, owner } => {
-                assert_eq!(rt; text.as_str(), "Thun");
-                assert_eq!(rt; owner, WordId(2));
+                assert_eq!(rt; text.as_str(), "countries");
+                assert_eq!(rt; owner, WordId(1));
             }
             _ => return Err(Fail::from("not taken")),
         }
@@ -257,9 +420,9 @@ mod tests {
 
     #[test]
     fn the_word_after_5000_is_refused(rt: HostRuntime) -> Result<(), Fail> {
-        let mut lexicon = Lexicon::new(rt.alloc());
+        let mut lexicon = beside_every(rt.alloc())?;
         add_many(rt.alloc(), &mut lexicon, 5000)?;
-        match refused(rt.alloc(), &mut lexicon, "zzz")? {
+        match refused(rt.alloc(), &mut lexicon, Kind::Name, "zzz")? {
             LexFault::Full { limit } => assert_eq!(rt; limit, 5000),
             _ => return Err(Fail::from("not full")),
         }
@@ -268,14 +431,59 @@ mod tests {
         Ok(())
     }
 
-    #[test]
-    fn a_name_has_one_text(rt: HostRuntime) -> Result<(), Fail> {
-        let alloc = rt.alloc();
-        let texts = [Text::read(alloc, "a")?, Text::read(alloc, "b")?];
-        match forms(alloc, Kind::Name, &texts) {
-            Err(fault) => assert_eq!(rt; fault, FormFault::Count(2)),
-            Ok(_) => return Err(Fail::from("accepted")),
+    // Gives the noun with the number the forms of another.
+    fn reword(alloc: Global, lexicon: &mut Lexicon, id: WordId, text: &str) -> Result<(), Fail> {
+        let given = [Text::read(alloc, text)?];
+        let forms = forms(alloc, Kind::Noun, &given)?;
+        match lexicon.word(id) {
+            Some(old) if old.kind == Kind::Noun => {}
+            _ => return Err(Fail::from("no noun")),
         }
+        Ok(lexicon.reword(id, &forms).map_err(|_| "refused")?)
+    }
+
+    #[test]
+    fn a_word_gets_other_forms(rt: HostRuntime) -> Result<(), Fail> {
+        let mut lexicon = beside_every(rt.alloc())?;
+        let cat = added(rt.alloc(), &mut lexicon, Kind::Noun, "cat")?;
+        let copied = lexicon.copy()?;
+        reword(rt.alloc(), &mut lexicon, cat, "kitten")?;
+        assert_eq!(rt; lexicon.find("cats"), None);
+        assert_eq!(rt; lexicon.find("kittens"), Some(cat));
+        assert_eq!(rt; copied.find("cats"), Some(cat));
+        Ok(())
+    }
+
+    #[test]
+    fn a_word_is_taken_out(rt: HostRuntime) -> Result<(), Fail> {
+        let mut lexicon = beside_every(rt.alloc())?;
+        let cat = added(rt.alloc(), &mut lexicon, Kind::Noun, "cat")?;
+        assert!(rt; lexicon.remove(cat).is_ok());
+        assert_eq!(rt; lexicon.find("cats"), None);
+        assert!(rt; lexicon.remove(cat).is_err());
+        Ok(())
+    }
+
+    #[test]
+    fn a_form_has_the_values_of_its_word(rt: HostRuntime) -> Result<(), Fail> {
+        let alloc = rt.alloc();
+        let mut lexicon = beside_every(alloc)?;
+        let sheep = [Text::read(alloc, "sheep")?, Text::read(alloc, "sheep")?];
+        let forms = forms(alloc, Kind::Noun, &sheep)?;
+        assert!(rt; lexicon.add(&forms).is_ok());
+        let both = lexicon.readings("sheep");
+        assert_eq!(rt; both.len(), 2);
+        let vals = &both.get(1).vals;
+        assert_eq!(rt;
+            vals.as_slice(),
+            [
+                (0, Value::Atom(1)),
+                (1, Value::Atom(3)),
+                (3, Value::Word(WordId(1))),
+            ]
+            .as_slice()
+        );
+        assert!(rt; lexicon.readings("goat").is_empty());
         Ok(())
     }
 }

@@ -1,0 +1,2 @@
+pub mod GrammarParts
+pub mod Unification

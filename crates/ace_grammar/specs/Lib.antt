@@ -1,0 +1,12 @@
+pub mod Rows
+pub mod Names
+pub mod Notation
+pub mod Words
+pub mod Statements
+pub mod VerbPhrases
+pub mod Predicates
+pub mod RelativeClauses
+pub mod NounPhrases
+pub mod Quantifiers
+pub mod Questions
+pub mod Grammar

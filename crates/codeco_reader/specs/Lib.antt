@@ -1,0 +1,4 @@
+pub mod Occurrences
+pub mod Numbering
+pub mod Faults
+pub mod Sound

@@ -7,7 +7,7 @@ use Rattle.acewiki.specs.declared.talk.WordView.{WordView}
 use Rattle.acewiki.specs.declared.talk.Reply.{Reply}
 use Rattle.acewiki.specs.declared.talk.Reply.TheVariants as replies
 use Rattle.acewiki.specs.declared.talk.Refusal.{Refusal}
-use Rattle.acewiki.specs.declared.talk.Refusal.TheVariants.{NoWord, BadForm, Taken, Full}
+use Rattle.acewiki.specs.declared.talk.Refusal.TheVariants.{NoWord, BadForm, Taken, Reserved, Full}
 use Rattle.acewiki.specs.Lines.{word_value, reply_value, refusal_value}
 
 has_float-texts : (texts : List (List ℕ)) → items_have_float (items_of (map string texts)) ≡ false
@@ -21,6 +21,7 @@ has_float-refusal : (refusal : Refusal) → has_float (refusal_value refusal) �
 has_float-refusal (NoWord text) = refl
 has_float-refusal (BadForm which) = refl
 has_float-refusal (Taken text word) = refl
+has_float-refusal (Reserved text) = refl
 has_float-refusal (Full which limit) = refl
 
 pub has_float-reply : (reply : Reply) → has_float (reply_value reply) ≡ false

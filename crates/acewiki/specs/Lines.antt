@@ -1,5 +1,5 @@
 -- Requests and replies as lines of JSON.
-use Rattle.std.specs.Prelude.{ℕ, List, [], ◌∷◌, ◌++◌, length, codes, if◌then◌else◌, ◌&&◌, ◌==◌, nat_lt, Option, Some, None, map, option_map, option_and_then}
+use Rattle.std.specs.Prelude.{ℕ, List, [], ◌∷◌, ◌++◌, length, codes, if◌then◌else◌, nat_lt, Option, Some, None, map, option_map, option_and_then}
 use Rattle.std.specs.Str.{is_utf8, bytes_eq}
 use Rattle.serde_json.specs.Data.{Data, string, number, unsigned, array, object, Items, no_items, item, Members, no_members, member}
 use Rattle.serde_json.specs.Read.{read}
@@ -16,7 +16,7 @@ use Rattle.acewiki.specs.declared.talk.WordView.{WordView}
 use Rattle.acewiki.specs.declared.talk.Reply.{Reply}
 use Rattle.acewiki.specs.declared.talk.Reply.TheVariants as replies
 use Rattle.acewiki.specs.declared.talk.Refusal.{Refusal}
-use Rattle.acewiki.specs.declared.talk.Refusal.TheVariants.{NoWord, BadForm, Taken, Full}
+use Rattle.acewiki.specs.declared.talk.Refusal.TheVariants.{NoWord, BadForm, Taken, Reserved, Full}
 
 -- ---- the request of a line
 
@@ -33,17 +33,18 @@ texts_in (item value rest) = option_and_then (λ text. option_map (λ texts. tex
 abbrev pub texts_at : List ℕ → Data → Option (List (List ℕ))
 texts_at key value = option_and_then texts_in (option_and_then as_array (get key value))
 
--- the kind of words that has this name; names are the only words so far
+-- the kind of words that has this name
 abbrev pub kind_named : List ℕ → Option Kind
-kind_named name = if bytes_eq name (codes "name") then Some Name else None
-
--- a request for a new word, which has exactly one form
-abbrev pub word_request : Kind → List (List ℕ) → Option Request
-word_request kind forms = if length forms == 1 then Some (requests.Word kind forms) else None
+kind_named name =
+    if bytes_eq name (codes "name") then Some Name else
+    (if bytes_eq name (codes "noun") then Some Noun else
+    (if bytes_eq name (codes "of") then Some Of else
+    (if bytes_eq name (codes "verb") then Some Verb else
+    (if bytes_eq name (codes "adjective") then Some Adjective else None))))
 
 -- the request to add a word that an object describes by `kind` and `forms`
 unfoldable pub word_in : Data → Option Request
-word_in value = option_and_then (λ kind. option_and_then (word_request kind) (texts_at (codes "forms") value)) (option_and_then kind_named (text_at (codes "kind") value))
+word_in value = option_and_then (λ kind. option_map (requests.Word kind) (texts_at (codes "forms") value)) (option_and_then kind_named (text_at (codes "kind") value))
 
 -- the request to find a word that an object describes by `word`
 unfoldable pub find_in : Data → Option Request
@@ -103,6 +104,10 @@ refusal_value (Taken text word) = object
     (member (codes "refused") (number (unsigned 3))
     (member (codes "text") (string text)
     (member (codes "word") (string word) no_members))))
+refusal_value (Reserved text) = object
+    (member (codes "name") (string (codes "Reserved"))
+    (member (codes "refused") (number (unsigned 4))
+    (member (codes "text") (string text) no_members)))
 refusal_value (Full which limit) = object
     (member (codes "limit") (number (unsigned limit))
     (member (codes "name") (string (codes "Full"))

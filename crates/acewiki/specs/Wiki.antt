@@ -9,19 +9,21 @@ use Rattle.lexicon.specs.declared.suggest.FormFault.{FormFault}
 use Rattle.lexicon.specs.declared.suggest.FormFault.TheVariants as form_faults
 use Rattle.lexicon.specs.Kinds.{canonical_place}
 use Rattle.lexicon.specs.Suggest.{form_texts, form_fault, told}
+use Rattle.lexicon.specs.Terminals.{is_reserved}
 use Rattle.lexicon.specs.Words.{Listed, owner, forms_of, with_word}
+use Rattle.ace_grammar.specs.Grammar.{ace_grammar}
 use Rattle.acewiki.specs.declared.talk.Limit.{Limit}
 use Rattle.acewiki.specs.declared.talk.Limit.TheVariants.{Words, Numbers}
 use Rattle.acewiki.specs.declared.talk.Refusal.{Refusal}
-use Rattle.acewiki.specs.declared.talk.Refusal.TheVariants.{NoWord, BadForm, Taken, Full}
+use Rattle.acewiki.specs.declared.talk.Refusal.TheVariants.{NoWord, BadForm, Taken, Reserved, Full}
 use Rattle.acewiki.specs.declared.talk.Reply.{Reply}
 use Rattle.acewiki.specs.declared.talk.Reply.TheVariants as replies
 use Rattle.acewiki.specs.declared.talk.Request.{Request}
 use Rattle.acewiki.specs.declared.talk.Request.TheVariants as requests
 
--- no word lives, and no number was given
+-- no word lives beside the terminals of the built-in grammar, and no number was given
 abbrev pub no_words : Listed
-no_words = record { live = []; last = 0 }
+no_words = record { live = []; terminals = ace_grammar.terminals; last = 0 }
 
 -- the forms of the live word that has the text as a form
 abbrev pub word_with : Listed → List ℕ → Option Forms
@@ -56,6 +58,11 @@ abbrev pub taken : Listed → List (List ℕ) → Option Refusal
 taken words [] = None
 taken words (text ∷ texts) = option_or (taken_cause words text) (taken words texts)
 
+-- the first of the texts that is a terminal, or a terminal with its first letter raised
+abbrev pub reserved : List (List ℕ) → List (List ℕ) → Option Refusal
+reserved terminals [] = None
+reserved terminals (text ∷ texts) = if is_reserved terminals text then Some (Reserved text) else reserved terminals texts
+
 -- which limit this number is
 abbrev pub limit_told : ℕ → Limit
 limit_told limit = if limit == 5000 then Words else Numbers
@@ -66,7 +73,7 @@ full words = if length words.live == 5000 then Some (Full Words 5000) else (if w
 
 -- what stands against adding a word with these forms
 unfoldable pub add_cause : Listed → List (List ℕ) → Option Refusal
-add_cause words forms = option_or (taken words forms) (full words)
+add_cause words forms = option_or (taken words forms) (option_or (reserved words.terminals forms) (full words))
 
 -- what stands against a new word, the first of the causes in this order
 unfoldable pub word_refusal : Listed → Kind → List (List ℕ) → Option Refusal

@@ -22,7 +22,9 @@ pub fn replay<S: Source, K: Sink>(alloc: Global, input: &mut S, output: &mut K) 
     let Ok(mut reader) = LineReader::new(alloc) else {
         return Outcome::Memory;
     };
-    let mut wiki = Wiki::new(alloc);
+    let Ok(mut wiki) = Wiki::new(alloc) else {
+        return Outcome::Memory;
+    };
     'lines: loop {
         let line = match reader.next_line(input) {
             Line::Text => Some(reader.line()),

@@ -49,7 +49,7 @@ impl Text8s {
 /// One request to the wiki.
 #[derive(Drop)]
 pub enum Request {
-    /// A new word of this kind with these forms.
+    /// A new word of this kind with these forms; of a noun or a verb the first text may stand alone.
     Word { kind: Kind, forms: Text8s },
     /// The live word that has this form.
     Find { word: Text8 },
@@ -80,6 +80,8 @@ pub enum Refusal {
     BadForm { which: u32 },
     /// Another live word, named by its canonical form, has the form.
     Taken { text: Text8, word: Text8 },
+    /// The grammar has the text as a word of its own, or has it with a small first letter.
+    Reserved { text: Text8 },
     /// The limit is reached.
     Full { which: Limit, limit: u32 },
 }

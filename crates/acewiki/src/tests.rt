@@ -55,7 +55,7 @@ fn an_empty_input_has_no_reply(rt: HostRuntime) -> Result<(), Fail> {
 
 #[test]
 fn names_are_added_and_found(rt: HostRuntime) -> Result<(), Fail> {
-    let exchange = [
+    let exchange: [(&str, &str); 6] = [
         (
             r#"{"do":"word","kind":"name","forms":["Bern"]}"#,
             r#"{"done":"word"}"#,
@@ -78,6 +78,11 @@ fn names_are_added_and_found(rt: HostRuntime) -> Result<(), Fail> {
         ),
         (r#"{"do":"fly"}"#, r#"{"name":"BadRequest","refused":0}"#),
     ];
+    assert_replies(&rt, &exchange)
+}
+
+// Asserts that these lines, sent one after another, have these replies.
+fn assert_replies(rt: &HostRuntime, exchange: &[(&str, &str)]) -> Result<(), Fail> {
     let mut input = String::new(rt.alloc());
     let mut replies = String::new(rt.alloc());
     for (line, reply) in exchange {
@@ -93,6 +98,130 @@ fn names_are_added_and_found(rt: HostRuntime) -> Result<(), Fail> {
 }
 
 #[test]
+fn other_forms_are_suggested(rt: HostRuntime) -> Result<(), Fail> {
+    let done = r#"{"done":"word"}"#;
+    assert_replies(
+        &rt,
+        &[
+            (r#"{"do":"word","kind":"noun","forms":["city"]}"#, done),
+            (
+                r#"{"do":"find","word":"cities"}"#,
+                r#"{"done":"find","word":{"forms":["city","cities"],"kind":"noun"}}"#,
+            ),
+            (r#"{"do":"word","kind":"noun","forms":["bus"]}"#, done),
+            (
+                r#"{"do":"find","word":"bus"}"#,
+                r#"{"done":"find","word":{"forms":["bus","buses"],"kind":"noun"}}"#,
+            ),
+            (r#"{"do":"word","kind":"verb","forms":["try"]}"#, done),
+            (
+                r#"{"do":"find","word":"tried"}"#,
+                r#"{"done":"find","word":{"forms":["tries","try","tried"],"kind":"verb"}}"#,
+            ),
+            (r#"{"do":"word","kind":"verb","forms":["play"]}"#, done),
+            (
+                r#"{"do":"find","word":"plays"}"#,
+                r#"{"done":"find","word":{"forms":["plays","play","played"],"kind":"verb"}}"#,
+            ),
+        ],
+    )
+}
+
+#[test]
+fn words_of_every_kind_are_told_with_their_forms(rt: HostRuntime) -> Result<(), Fail> {
+    let done = r#"{"done":"word"}"#;
+    assert_replies(
+        &rt,
+        &[
+            (r#"{"do":"word","kind":"of","forms":["part"]}"#, done),
+            (
+                r#"{"do":"find","word":"part"}"#,
+                r#"{"done":"find","word":{"forms":["part"],"kind":"of"}}"#,
+            ),
+            (r#"{"do":"word","kind":"adjective","forms":["located-in"]}"#, done),
+            (
+                r#"{"do":"find","word":"located-in"}"#,
+                r#"{"done":"find","word":{"forms":["located-in"],"kind":"adjective"}}"#,
+            ),
+            (r#"{"do":"word","kind":"noun","forms":["man","men"]}"#, done),
+            (
+                r#"{"do":"find","word":"men"}"#,
+                r#"{"done":"find","word":{"forms":["man","men"],"kind":"noun"}}"#,
+            ),
+            (
+                r#"{"do":"word","kind":"verb","forms":["has","have","had"]}"#,
+                done,
+            ),
+            (
+                r#"{"do":"find","word":"had"}"#,
+                r#"{"done":"find","word":{"forms":["has","have","had"],"kind":"verb"}}"#,
+            ),
+            (
+                r#"{"do":"word","kind":"name","forms":["had"]}"#,
+                r#"{"name":"Taken","refused":3,"text":"had","word":"have"}"#,
+            ),
+        ],
+    )
+}
+
+#[test]
+fn refused_words_have_their_cause(rt: HostRuntime) -> Result<(), Fail> {
+    let done = r#"{"done":"word"}"#;
+    assert_replies(
+        &rt,
+        &[
+            (r#"{"do":"word","kind":"name","forms":["Germany"]}"#, done),
+            (r#"{"do":"word","kind":"noun","forms":["country"]}"#, done),
+            (r#"{"do":"word","kind":"verb","forms":["border"]}"#, done),
+            (
+                r#"{"do":"find","word":"countries"}"#,
+                r#"{"done":"find","word":{"forms":["country","countries"],"kind":"noun"}}"#,
+            ),
+            (
+                r#"{"do":"find","word":"bordered"}"#,
+                r#"{"done":"find","word":{"forms":["borders","border","bordered"],"kind":"verb"}}"#,
+            ),
+            (
+                r#"{"do":"word","kind":"noun","forms":["every","everys"]}"#,
+                r#"{"name":"Reserved","refused":4,"text":"every"}"#,
+            ),
+            (
+                r#"{"do":"word","kind":"name","forms":["Every"]}"#,
+                r#"{"name":"Reserved","refused":4,"text":"Every"}"#,
+            ),
+            (
+                r#"{"do":"word","kind":"noun","forms":["every","countries"]}"#,
+                r#"{"name":"Taken","refused":3,"text":"countries","word":"country"}"#,
+            ),
+            (
+                r#"{"do":"word","kind":"name","forms":["countries"]}"#,
+                r#"{"name":"Taken","refused":3,"text":"countries","word":"country"}"#,
+            ),
+            (
+                r#"{"do":"word","kind":"name","forms":["New York"]}"#,
+                r#"{"name":"BadForm","refused":2,"which":0}"#,
+            ),
+            (
+                r#"{"do":"word","kind":"name","forms":["a","b"]}"#,
+                r#"{"name":"BadForm","refused":2,"which":2}"#,
+            ),
+            (
+                r#"{"do":"word","kind":"verb","forms":["countries","New York","a-"]}"#,
+                r#"{"name":"BadForm","refused":2,"which":1}"#,
+            ),
+            (
+                r#"{"do":"word","kind":"noun","forms":[]}"#,
+                r#"{"name":"BadForm","refused":2,"which":0}"#,
+            ),
+            (
+                r#"{"do":"find","word":"Bonn"}"#,
+                r#"{"name":"NoWord","refused":1,"text":"Bonn"}"#,
+            ),
+        ],
+    )
+}
+
+#[test]
 fn what_is_no_request_is_a_bad_request(rt: HostRuntime) -> Result<(), Fail> {
     let lines: [&[u8]; 12] = [
         b"",
@@ -104,8 +233,8 @@ fn what_is_no_request_is_a_bad_request(rt: HostRuntime) -> Result<(), Fail> {
         b"{\"do\":\"find\",\"word\":\"a\"} {}",
         b"{\"do\":\"find\",\"word\":\"\\ud800\"}",
         b"{\"do\":\"find\",\"word\":\"\xff\"}",
-        b"{\"do\":\"word\",\"kind\":\"noun\",\"forms\":[\"cat\"]}",
-        b"{\"do\":\"word\",\"kind\":\"name\",\"forms\":[\"a\",\"b\"]}",
+        b"{\"do\":\"word\",\"kind\":\"pronoun\",\"forms\":[\"cat\"]}",
+        b"{\"do\":\"word\",\"kind\":\"name\",\"forms\":[\"a\",7]}",
         b"{\"do\":\"find\",\"word\":\"a\",\"do\":\"fly\"}",
     ];
     for line in lines {
@@ -222,7 +351,7 @@ fn other_words_are_refused(rt: HostRuntime) -> Result<(), Fail> {
 fn the_word_after_5000_is_refused(rt: HostRuntime) -> Result<(), Fail> {
     let mut input = String::new(rt.alloc());
     for n in 0..5001u32 {
-        input.push_str("{\"do\":\"word\",\"kind\":\"name\",\"forms\":[\"")?;
+        input.push_str("{\"do\":\"word\",\"kind\":\"name\",\"forms\":[\"N")?;
         for place in [n / 676, n / 26, n] {
             input.push(char::from(b'a' + (place % 26) as u8))?;
         }

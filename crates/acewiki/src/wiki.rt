@@ -9,6 +9,7 @@ ghost use Rattle.acewiki.specs.Talk.{CanBeAsked, RepliesInUtf8, RefusesInUtf8};
 ghost use Rattle.acewiki.specs.Wiki.{no_words, word_with, bad_text, bad_count, taken_cause, add_cause, limit_told, word_refusal, find_reply, reply_to, words_after};
 
 use crate::talk::{Limit, Refusal, Reply, Request, Text8s, WordView, utf8_of};
+use ace_grammar::built_in;
 use lexicon::{FormFault, Forms, Kind, LexFault, Lexicon, MOST_WORDS, Texts, forms};
 use std::alloc::{AllocError, AllocFailed, Global};
 use std::marker::Model;
@@ -37,7 +38,8 @@ impl<T: Drop> From<AllocFailed<T>> for Fault {
     }
 }
 
-/// A wiki of words alone. It is seen as its live words in order of number, and the last number that was given.
+/// A wiki of words alone. It is seen as its live words in order of number, the terminals of the built-in grammar, and
+/// the last number that was given.
 #[derive(Drop)]
 pub struct Wiki {
     alloc: Global,
@@ -53,14 +55,15 @@ impl Model for Wiki {
 }
 
 impl Wiki {
-    /// A wiki without words.
-    pub fn new(alloc: Global) -> Self
-        ensures { result ≡ no_words }
+    /// A wiki without words, beside the built-in grammar.
+    pub fn new(alloc: Global) -> Result<Self, Memory>
+        ensures { IfOk result (λ wiki. wiki ≡ no_words) }
     {
-        Wiki {
+        let built_in = built_in(alloc)?;
+        Ok(Wiki {
             alloc,
-            lexicon: Lexicon::new(alloc),
-        }
+            lexicon: Lexicon::new(alloc, built_in.grammar())?,
+        })
     }
 
     /// Does one request. A refused request changes nothing.
@@ -120,8 +123,7 @@ fn told_text(alloc: Global, text: &Text) -> Result<Text8, Memory>
 }
 
 fn add_word(alloc: Global, lexicon: &mut Lexicon, kind: Kind, given: &[Text8]) -> Result<(), Fault>
-    requires kind { kind ≡ Kind.Name }
-    requires utf8 { All IsUtf8 given.now }
+    requires { All IsUtf8 given.now }
     ensures added { OnOk result (lexicon.new ≡ with_word lexicon.old (record { kind = kind; texts = form_texts kind given.now })) }
     ensures accepted { OnOk result (word_refusal lexicon.old kind given.now ≡ None) }
     ensures refused { IfErr result (IsCause (word_refusal lexicon.old kind given.now)) }
@@ -162,7 +164,6 @@ fn bad_form(place: usize) -> Fault
 
 // The forms of a word for which these texts are given.
 fn forms_given(alloc: Global, kind: Kind, texts: &[Text]) -> Result<Forms, Fault>
-    requires { kind ≡ Kind.Name }
     ensures forms { IfOk result (λ forms. forms ≡ record { kind = kind; texts = form_texts kind texts.now }) }
     ensures complete { IfOk result IsComplete }
     ensures accepted { OnOk result (bad_count kind texts.now ≡ None) }
@@ -192,6 +193,7 @@ fn enter(alloc: Global, lexicon: &mut Lexicon, forms: &Forms) -> Result<(), Faul
         Err(LexFault::Taken { text, owner }) => {
             Err(Fault::Refused(taken_refusal(alloc, lexicon, &text, owner)?))
         }
+        Err(LexFault::Reserved { text }) => Err(Fault::Refused(reserved_refusal(alloc, &text)?)),
         Err(LexFault::Full { limit }) => Err(Fault::Refused(full_refusal(limit))),
         Err(LexFault::NoWord(_)) => unreachable!(),
         Err(LexFault::Memory) => Err(Fault::Memory),
@@ -216,6 +218,16 @@ fn taken_refusal(
         }),
         None => unreachable!(),
     }
+}
+
+// The grammar has the text.
+fn reserved_refusal(alloc: Global, text: &Text) -> Result<Refusal, Memory>
+    ensures refusal { IfOk result (λ refusal. refusal ≡ Refusal.Reserved text.now) }
+    ensures utf8 { IfOk result RefusesInUtf8 }
+{
+    Ok(Refusal::Reserved {
+        text: told_text(alloc, text)?,
+    })
 }
 
 fn full_refusal(limit: u32) -> Refusal

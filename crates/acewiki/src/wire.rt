@@ -4,7 +4,7 @@ ghost use Rattle.serde_json.specs.View.{view, items_view};
 ghost use Rattle.serde_json.specs.Data.{Data, string, array};
 ghost use Rattle.serde_json.specs.Written.{has_float};
 ghost use Rattle.acewiki.specs.Talk.{CanBeAsked, RepliesInUtf8, RefusesInUtf8};
-ghost use Rattle.acewiki.specs.Lines.{text_at, texts_at, texts_in, kind_named, word_request, word_in, find_in, request_named, request_in, request_of, kind_name, limit_name, items_from, word_value, refusal_value, reply_value, bad_request_value, line_text, reply_line, bad_request_line};
+ghost use Rattle.acewiki.specs.Lines.{text_at, texts_at, texts_in, kind_named, word_in, find_in, request_named, request_in, request_of, kind_name, limit_name, items_from, word_value, refusal_value, reply_value, bad_request_value, line_text, reply_line, bad_request_line};
 
 use crate::talk::{Limit, Refusal, Reply, Request, Text8s, WordView, utf8_of};
 use lexicon::Kind;
@@ -52,11 +52,11 @@ fn word_from(alloc: Global, value: &Value) -> Result<Option<Request>, Memory>
         return Ok(None);
     };
     match texts_of(alloc, value, "forms")? {
-        Some(forms) if forms.len() == 1 => Ok(Some(Request::Word {
+        Some(forms) => Ok(Some(Request::Word {
             kind,
             forms: Text8s::new(forms),
         })),
-        _ => Ok(None),
+        None => Ok(None),
     }
 }
 
@@ -106,10 +106,16 @@ fn texts_from(alloc: Global, items: &[Value]) -> Result<Option<Vec<Text8>>, Memo
 }
 
 fn kind_of(name: &str) -> Option<Kind>
-    ensures kind { result ≡ kind_named name.now }
-    ensures name { IfSome result (λ kind. kind ≡ Kind.Name) }
+    ensures { result ≡ kind_named name.now }
 {
-    (name == "name").then_some(Kind::Name)
+    match name {
+        "name" => Some(Kind::Name),
+        "noun" => Some(Kind::Noun),
+        "of" => Some(Kind::Of),
+        "verb" => Some(Kind::Verb),
+        "adjective" => Some(Kind::Adjective),
+        _ => None,
+    }
 }
 
 /// The line of a reply, with its newline.
@@ -175,6 +181,7 @@ fn refusal_value(alloc: Global, refusal: &Refusal) -> Result<Value, Memory>
         Refusal::NoWord { text } => no_word_value(alloc, text),
         Refusal::BadForm { which } => bad_form_value(alloc, *which),
         Refusal::Taken { text, word } => taken_value(alloc, text, word),
+        Refusal::Reserved { text } => reserved_value(alloc, text),
         Refusal::Full { which, limit } => full_value(alloc, *which, *limit),
     }
 }
@@ -201,6 +208,14 @@ fn taken_value(alloc: Global, text: &Text8, word: &Text8) -> Result<Value, Memor
     let text = utf8_of(text);
     let word = utf8_of(word);
     Ok(json!(in alloc; {"name": "Taken", "refused": 3u32, "text": text, "word": word})?)
+}
+
+fn reserved_value(alloc: Global, text: &Text8) -> Result<Value, Memory>
+    requires { IsUtf8 text.now }
+    ensures { IfOk result (λ value. view value ≡ refusal_value (Refusal.Reserved text.now)) }
+{
+    let text = utf8_of(text);
+    Ok(json!(in alloc; {"name": "Reserved", "refused": 4u32, "text": text})?)
 }
 
 fn full_value(alloc: Global, which: Limit, limit: u32) -> Result<Value, Memory>

@@ -10,8 +10,11 @@ use Rattle.acewiki.proofs.replay.replay.Goals.{in-Text, in-TooLong}
 pub returns-in_default-clause-replays : goal.returns-in_default-clause-replays
 returns-in_default-clause-replays g c = Replays-none _ _
 
+pub returns-in_default-new-clause-replays : goal.returns-in_default-new-clause-replays
+returns-in_default-new-clause-replays g c = Replays-none _ _
+
 pub lines-init : goal.lines-init
-lines-init g c = Running-first _ _ _ _ _ _ c.in-Ok.ensures c.new-wiki.ensures
+lines-init g c = Running-first _ _ _ _ _ _ c.in-Ok.ensures c.in-Ok-new.ensures
 
 pub returns-in-End-clause-replays : goal.returns-in-End-clause-replays
 returns-in-End-clause-replays g c =

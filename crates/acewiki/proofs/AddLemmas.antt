@@ -3,7 +3,6 @@ use Rattle.std.proofs.Common.{◌≡◌, ℕ, eqb, Bool, true, false, cond, List
 use Rattle.std.specs.Option.{option_or}
 use Rattle.wiki_base.specs.declared.numbers.WordId.{WordId}
 use Rattle.lexicon.specs.declared.kinds.Forms.{Forms}
-use Rattle.lexicon.specs.declared.words.Word.{Word}
 use Rattle.lexicon.specs.declared.words.LexFault.{LexFault}
 use Rattle.lexicon.specs.declared.words.LexFault.TheVariants as faults
 use Rattle.lexicon.specs.Terminals.{is_reserved}
@@ -11,7 +10,7 @@ use Rattle.lexicon.specs.Words.{Listed, owner, forms_of, first_taken, first_rese
 use Rattle.lexicon.proofs.Owners.{owner_lives, owner-add_refusal}
 use Rattle.acewiki.specs.declared.talk.Refusal.{Refusal}
 use Rattle.acewiki.specs.declared.talk.Refusal.TheVariants.{Taken, Reserved, Full}
-use Rattle.acewiki.specs.Wiki.{canonical, word_with, taken_cause, taken, reserved, full, limit_told, add_cause}
+use Rattle.acewiki.specs.Wiki.{canonical, taken_cause, taken, reserved, full, limit_told, add_cause}
 
 -- what a lexicon's fault is to the wiki
 abbrev told_fault : Listed → LexFault → Option Refusal

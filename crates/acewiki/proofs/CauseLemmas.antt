@@ -1,5 +1,5 @@
 -- The first of two causes.
-use Rattle.std.proofs.Common.{◌≡◌, Option, Some, None}
+use Rattle.std.proofs.Common.{◌≡◌, Option, None}
 use Rattle.std.specs.Option.{option_or}
 use Rattle.acewiki.specs.declared.talk.Refusal.{Refusal}
 use Rattle.acewiki.specs.declared.wiki.Fault.{Fault}

@@ -1,5 +1,5 @@
 -- What a line writes, from what `serde_json` says of its bytes.
-use Rattle.std.proofs.Common.{◌≡◌, ◌<◌, lt-ltb, ℕ, nat_lt, length, List, Bool, true, false, cond, Option, Some, None, refl, ap, rules}
+use Rattle.std.proofs.Common.{◌≡◌, ◌<◌, lt-ltb, ℕ, nat_lt, length, List, Bool, true, false, cond, Some, None, refl}
 use Rattle.std.specs.Str.{IsUtf8, is_utf8}
 use Rattle.std.proofs.lemmas.Str.{IsUtf8-from_is_utf8, is_utf8-from_IsUtf8}
 use Rattle.serde_json.specs.Data.{Data}

@@ -1,13 +1,13 @@
 -- Runs that go on by one line, and runs that end.
-use Rattle.std.proofs.Common.{◌≡◌, ◌≢◌, ℕ, ◌+◌, ◌<◌, ◌≤◌, List, [], ◌∷◌, ◌++◌, length, take, drop, Option, Some, None, IsTrue, refl, sym, ap, subst, ◌∙◌, append_assoc, append-nil, arith, take-append-drop, ◌⊎◌, inl, inr, ◌↔◌}
+use Rattle.std.proofs.Common.{◌≡◌, ℕ, ◌<◌, ◌≤◌, List, [], ◌∷◌, ◌++◌, take, drop, Option, IsTrue, refl, sym, ap, subst, ◌∙◌, append_assoc, append-nil, arith, take-append-drop, ◌⊎◌, inl, inr, ◌↔◌}
 use Rattle.std.proofs.lemmas.Bool.{false≢true, cases_lt}
-use Rattle.std.specs.Io.KnownBytes.{prepend_known, append_known, IsAtEnd}
+use Rattle.std.specs.Io.KnownBytes.{append_known, IsAtEnd}
 use Rattle.wiki_io.specs.declared.limits.TheConstants.{MAX_INPUT}
 use Rattle.wiki_io.specs.declared.reader.Line.{Line}
 use Rattle.wiki_io.specs.declared.reader.Line.TheVariants as said_by
 use Rattle.wiki_io.specs.Faults.{Rose}
-use Rattle.wiki_io.specs.Lines.{InputLine, text, too_long, input_lines, AreReadLines}
-use Rattle.wiki_io.specs.Reading.{Reading, unread, lines_to_come, answered, ReadsLine, HasNoLine, HasGiven, HasGivenFrom}
+use Rattle.wiki_io.specs.Lines.{InputLine, input_lines, AreReadLines}
+use Rattle.wiki_io.specs.Reading.{Reading, unread, lines_to_come, answered, ReadsLine, HasNoLine, HasGivenFrom}
 use Rattle.wiki_io.proofs.KnownLemmas.{append_known-append, append_known-nil, prepend_known-nil}
 use Rattle.wiki_io.proofs.ReadingLemmas.{HasGivenFrom-unread, HasGivenFrom-call, HasGiven-end, HasGiven-fault}
 use Rattle.lexicon.specs.Words.{Listed}

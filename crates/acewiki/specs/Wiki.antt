@@ -1,5 +1,5 @@
 -- The plain wiki: what is answered to each request, and the words that live after it. After Kuhn's lexicon.
-use Rattle.std.specs.Prelude.{◌≡◌, ℕ, ◌==◌, if◌then◌else◌, List, [], ◌∷◌, length, is_some, option_map, option_and_then, Option, Some, None, unwrap_or, slice_get}
+use Rattle.std.specs.Prelude.{ℕ, ◌==◌, if◌then◌else◌, List, [], ◌∷◌, length, is_some, option_map, option_and_then, Option, Some, None, unwrap_or, slice_get}
 use Rattle.std.specs.Option.{option_or}
 use Rattle.std.specs.List.{position_from}
 use Rattle.wiki_base.specs.Text.{fault_of}

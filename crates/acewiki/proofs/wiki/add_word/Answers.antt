@@ -1,8 +1,8 @@
-use Rattle.std.proofs.Common.{◌≡◌, ap, ◌∙◌, None}
+use Rattle.std.proofs.Common.{ap, ◌∙◌}
 use Rattle.std.proofs.lemmas.Result.{err_from_is_err_and, IfErr-weaker, on_ok_weaker}
 use Rattle.lexicon.specs.declared.kinds.Forms.{Forms}
 use Rattle.lexicon.specs.Suggest.{form_texts}
-use Rattle.acewiki.specs.Wiki.{bad_text, bad_count, add_cause, word_refusal}
+use Rattle.acewiki.specs.Wiki.{word_refusal}
 use Rattle.acewiki.proofs.CauseLemmas.{IsCause-first, IsCause-next}
 use Rattle.acewiki.proofs.wiki.add_word.Goals as goal
 

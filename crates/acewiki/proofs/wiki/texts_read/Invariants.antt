@@ -1,4 +1,4 @@
-use Rattle.std.proofs.Common.{◌≡◌, ◌++◌, take, drop, is_some}
+use Rattle.std.proofs.Common.{◌≡◌, take, drop, is_some}
 use Rattle.std.specs.List.{position_from}
 use Rattle.wiki_base.specs.Text.{fault_of}
 use Rattle.acewiki.proofs.wiki.texts_read.Given as goal

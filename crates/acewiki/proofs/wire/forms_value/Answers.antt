@@ -1,6 +1,4 @@
-use Rattle.std.proofs.Common.{subst, sym, IsUtf8, arith}
-use Rattle.std.proofs.lemmas.Grind.{common_steps}
-use Rattle.std.proofs.lemmas.List.{map_push}
+use Rattle.std.proofs.Common.{subst, sym, IsUtf8}
 use Rattle.acewiki.proofs.wire.forms_value.Goals as goal
 
 pub utf8_of-requires : goal.utf8_of-requires

@@ -1,6 +1,7 @@
 // Whole runs over bytes in memory.
 use crate::run;
 use std::alloc::Global;
+use std::process::Abort;
 use std::test::Fail;
 use wiki_base::Arg;
 use wiki_io::{MemorySink, MemorySource};
@@ -78,20 +79,24 @@ fn names_are_added_and_found(rt: HostRuntime) -> Result<(), Fail> {
         ),
         (r#"{"do":"fly"}"#, r#"{"name":"BadRequest","refused":0}"#),
     ];
-    assert_replies(&rt, &exchange)
+    assert_replies(&rt, rt.alloc(), &exchange)
 }
 
 // Asserts that these lines, sent one after another, have these replies.
-fn assert_replies(rt: &HostRuntime, exchange: &[(&str, &str)]) -> Result<(), Fail> {
-    let mut input = String::new(rt.alloc());
-    let mut replies = String::new(rt.alloc());
+fn assert_replies(
+    rt: &impl Abort,
+    alloc: Global,
+    exchange: &[(&str, &str)],
+) -> Result<(), Fail> {
+    let mut input = String::new(alloc);
+    let mut replies = String::new(alloc);
     for (line, reply) in exchange {
         input.push_str(line)?;
         input.push('\n')?;
         replies.push_str(reply)?;
         replies.push('\n')?;
     }
-    let ran = replayed(rt.alloc(), input.as_bytes())?;
+    let ran = replayed(alloc, input.as_bytes())?;
     assert_eq!(rt; ran.status, 0);
     assert_eq!(rt; ran.output.bytes(), replies.as_bytes());
     Ok(())
@@ -102,6 +107,7 @@ fn other_forms_are_suggested(rt: HostRuntime) -> Result<(), Fail> {
     let done = r#"{"done":"word"}"#;
     assert_replies(
         &rt,
+        rt.alloc(),
         &[
             (r#"{"do":"word","kind":"noun","forms":["city"]}"#, done),
             (
@@ -132,6 +138,7 @@ fn words_of_every_kind_are_told_with_their_forms(rt: HostRuntime) -> Result<(), 
     let done = r#"{"done":"word"}"#;
     assert_replies(
         &rt,
+        rt.alloc(),
         &[
             (r#"{"do":"word","kind":"of","forms":["part"]}"#, done),
             (
@@ -169,6 +176,7 @@ fn refused_words_have_their_cause(rt: HostRuntime) -> Result<(), Fail> {
     let done = r#"{"done":"word"}"#;
     assert_replies(
         &rt,
+        rt.alloc(),
         &[
             (r#"{"do":"word","kind":"name","forms":["Germany"]}"#, done),
             (r#"{"do":"word","kind":"noun","forms":["country"]}"#, done),

@@ -1,0 +1,5 @@
+pub mod AddLemmas
+pub mod CauseLemmas
+pub mod LineLemmas
+pub mod ReplyLemmas
+pub mod RunLemmas

@@ -1,0 +1,60 @@
+// The top call: the words, the streams, and the status of the process.
+ghost use Rattle.std.specs.Prelude.{◌≡◌, ◌≢◌, ◌↔◌, ◌⊎◌, ℕ, List, None, Some};
+ghost use Rattle.std.specs.Io.KnownBytes.{append_known};
+ghost use Rattle.wiki_io.specs.Faults.{Rose};
+ghost use Rattle.wiki_io.specs.Lines.{input_lines};
+ghost use Rattle.acewiki.specs.Command.{command_of, status_of, words_of};
+ghost use Rattle.acewiki.specs.Replay.{replies, Replays, IsWithin, Tells, EndsWith};
+
+use crate::command::{Command, Outcome};
+use crate::replay::replay;
+use std::alloc::Global;
+use wiki_base::Arg;
+use wiki_io::{Sink, Source, put};
+
+/// Runs the command that the words are, and tells the status of the process: 0 where it was done, 2 where the words are
+/// no command, 3 where the input could not be read, 4 where the output could not be written, 6 where the input has more
+/// than 4,294,967,296 bytes, 9 where there was no memory. Where the status is not 0, a line on `errors` says why.
+pub fn run<S: Source, K: Sink, E: Sink>(
+    alloc: Global,
+    words: &[Arg],
+    input: &mut S,
+    output: &mut K,
+    errors: &mut E,
+) -> u8
+    // The words are no command, and then nothing is read or written.
+    ensures usage { (result ≡ 2) ↔ (command_of words.now ≡ None) }
+    ensures idle { result ≡ 2 → (input.new ≡ input.old) × (output.new ≡ output.old) }
+
+    // With status 0 the reply lines to all lines of the input were written, and nothing else.
+    ensures done { result ≡ 0 → (bytes : List ℕ) → S.left input.old ≡ Some bytes
+        → K.taken output.new ≡ append_known (K.taken output.old) (replies (input_lines bytes)) }
+
+    // With any status, what was written belongs to what was read.
+    ensures replays { result ≢ 2 → Replays (S.left input.old) (K.taken output.old) result (S.left input.new) (K.taken output.new) }
+
+    ensures read_fault { result ≡ 3 → Rose (S.faults input.old) (S.faults input.new) }
+    ensures write_fault { result ≡ 4 → Rose (K.faults output.old) (K.faults output.new) }
+
+    // It does not give up by itself, unless for memory.
+    ensures complete { (command_of words.now ≢ None) → ¬ Rose (S.faults input.old) (S.faults input.new)
+        → ¬ Rose (K.faults output.old) (K.faults output.new) → IsWithin (S.left input.old) → (result ≡ 0) ⊎ (result ≡ 9) }
+
+    // The status is one of those, and its words were written. A write that fails there changes no status.
+    ensures words { EndsWith result (E.taken errors.old) (E.faults errors.old) (E.taken errors.new) (E.faults errors.new) }
+{
+    let outcome = match Command::from_words(words) {
+        Some(Command::Replay) => replay(alloc, input, output),
+        None => Outcome::Usage,
+    };
+    end(outcome, errors)
+}
+
+/// Tells the words of an outcome on `errors`, and its status. A write that fails changes no status.
+pub fn end<E: Sink>(outcome: Outcome, errors: &mut E) -> u8
+    ensures status { result ≡ status_of outcome }
+    ensures words { Tells (words_of outcome) (E.taken errors.old) (E.faults errors.old) (E.taken errors.new) (E.faults errors.new) }
+{
+    let _written = put(errors, outcome.words().as_bytes());
+    outcome.status()
+}

@@ -1,5 +1,5 @@
 -- Lists that are put in order stay what they were.
-use Rattle.std.proofs.Common.{◌≡◌, ℕ, ◌&&◌, Bool, List, [], ◌∷◌, ◌++◌, IsPermutation, IsSorted, refl, sym, ap, ◌∙◌, subst, arith}
+use Rattle.std.proofs.Common.{◌≡◌, ℕ, ◌&&◌, Bool, List, [], ◌∷◌, ◌++◌, IsPermutation, IsSorted, refl, sym, ap, ◌∙◌, subst}
 use Rattle.std.specs.declared.alloc.Global.{Global}
 use Rattle.std.specs.declared.vec.Vec.{Vec}
 use Rattle.std.specs.declared.cmp.Ordering.{Ordering}
@@ -7,7 +7,7 @@ use Rattle.wiki_base.specs.declared.numbers.WordId.{WordId}
 use Rattle.std.specs.Prelude.{nat_lt}
 use Rattle.std.specs.Ordering.{nat_cmp}
 use Rattle.std.specs.List.{list_all}
-use Rattle.logic_terms.specs.Interpretation.{Interpretation, is_interpretation, words_above, words_rise}
+use Rattle.logic_terms.specs.Interpretation.{is_interpretation, words_above, words_rise}
 use Rattle.owl_eval.specs.Given.{lists_in, AreArranged}
 use Rattle.owl_eval.specs.Pairs.{pair_cmp}
 use Rattle.owl_eval.proofs.Filters.{list_all-IsPermutation}

@@ -1,7 +1,6 @@
 -- The pairs of a list in order that begin with one element stand together.
-use Rattle.std.proofs.Common.{◌≡◌, ℕ, zero, suc, ◌+◌, ◌-◌, ◌<◌, ◌≤◌, ◌==◌, ltb, leb, Bool, true, false, List, [], ◌∷◌, length, get_or, take, drop, filter, IsSorted, cond, subst, refl, sym, ap, ◌∙◌, inl, inr, arith}
-use Rattle.std.specs.declared.cmp.Ordering.{Ordering}
-use Rattle.std.specs.Ordering.{nat_cmp, ordering_then, is_lt}
+use Rattle.std.proofs.Common.{◌≡◌, ℕ, zero, suc, ◌+◌, ◌-◌, ◌≤◌, ◌==◌, ltb, leb, Bool, true, false, List, [], ◌∷◌, length, get_or, take, drop, filter, IsSorted, cond, subst, refl, sym, ap, ◌∙◌, arith}
+use Rattle.std.specs.Ordering.{is_lt}
 use Rattle.std.specs.List.Sorted.{IsNonDecreasingBy, IsPartitionPoint}
 use Rattle.std.proofs.lemmas.Bool.{ltb-true, ltb-false, leb-true, leb-false, ne_eqb, eq-eqb}
 use Rattle.std.proofs.lemmas.Bool.Decides.{nat_tests}

@@ -1,12 +1,12 @@
 -- Successors by a run of pairs, and by their definition.
-use Rattle.std.proofs.Common.{◌≡◌, ℕ, zero, suc, ◌<◌, ◌≤◌, ◌==◌, ◌&&◌, ◌||◌, ltb, Bool, true, false, List, [], ◌∷◌, map, Option, Some, None, unwrap_or, cond, refl, sym, ap, ◌∙◌, subst, inl, inr, arith}
+use Rattle.std.proofs.Common.{◌≡◌, ℕ, zero, suc, ◌<◌, ◌≤◌, ◌==◌, ◌&&◌, ◌||◌, Bool, true, false, List, [], ◌∷◌, map, Option, Some, unwrap_or, cond, refl, sym, ap, ◌∙◌, inl, inr, arith}
 use Rattle.std.specs.Prelude.{nat_lt, not, if◌then◌else◌}
 use Rattle.std.specs.List.{list_any, list_all}
 use Rattle.std.specs.Map.{lookup}
 use Rattle.std.proofs.lemmas.Bool.{ltb-true, and_parts, eq-eqb, ne_eqb, cases_eq}
 use Rattle.wiki_base.specs.declared.numbers.WordId.{WordId}
 use Rattle.logic_terms.specs.declared.expressions.Role.{Role}
-use Rattle.logic_terms.specs.Interpretation.{Interpretation, is_interpretation, is_word, words_rise, pairs_of, has_pair, relates}
+use Rattle.logic_terms.specs.Interpretation.{Interpretation, is_interpretation, is_word, words_rise, pairs_of, relates}
 use Rattle.logic_terms.specs.Meaning.{implies, some_below, each_below}
 use Rattle.owl_eval.specs.Pairs.{swapped, pairs_along}
 use Rattle.owl_eval.proofs.Filters.{list_all-not}

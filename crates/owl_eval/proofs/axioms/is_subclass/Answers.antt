@@ -1,4 +1,4 @@
-use Rattle.std.proofs.Common.{◌≡◌, ◌<◌, Bool, true, false, refl, sym, ap, ◌∙◌, arith}
+use Rattle.std.proofs.Common.{◌≡◌, ◌<◌, Bool, true, false, sym, ap, ◌∙◌, arith}
 use Rattle.logic_terms.specs.Shown.{concept_of}
 use Rattle.logic_terms.specs.Meaning.{implies, is_in}
 use Rattle.owl_eval.proofs.Places.{each_below_fails}

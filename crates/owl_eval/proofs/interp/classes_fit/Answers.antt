@@ -1,4 +1,4 @@
-use Rattle.std.proofs.Common.{◌≡◌, ◌&&◌, ltb, true, false, sym, ◌∙◌, arith}
+use Rattle.std.proofs.Common.{◌≡◌, ltb, true, false, sym, ◌∙◌, arith}
 use Rattle.std.specs.List.{list_all}
 use Rattle.std.proofs.lemmas.Grind.{common_steps}
 use Rattle.owl_eval.proofs.Arranged.{list_all-lists_in}

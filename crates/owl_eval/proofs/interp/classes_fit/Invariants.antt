@@ -1,4 +1,4 @@
-use Rattle.std.proofs.Common.{◌≡◌, ◌&&◌, ltb, true, take}
+use Rattle.std.proofs.Common.{◌≡◌, ltb, true, take}
 use Rattle.std.specs.List.{list_all}
 use Rattle.owl_eval.proofs.interp.classes_fit.Given as goal
 

@@ -1,4 +1,4 @@
-use Rattle.std.proofs.Common.{Some, Ok, Err, unwrap_or, rules, ap, sym, ◌∙◌}
+use Rattle.std.proofs.Common.{Ok, Err, unwrap_or, rules, ap, sym}
 use Rattle.std.proofs.lemmas.List.Sorted.{answers_always}
 use Rattle.owl_eval.proofs.Lookups.{searched}
 use Rattle.owl_eval.proofs.interp.element_in.Goals as goal

@@ -1,4 +1,4 @@
-use Rattle.std.proofs.Common.{◌≡◌, ℕ, ◌≤◌, ltb, leb, List, rules, arith}
+use Rattle.std.proofs.Common.{◌≤◌, ltb, leb, rules}
 use Rattle.std.proofs.lemmas.List.Sorted.{IsPartitionPoint-from_clause, IsPartitionedBy-ltb, IsPartitionedBy-leb}
 use Rattle.owl_eval.proofs.Runs.{StartsAt, EndsAt, firsts_rise, starts_first, run_is_filter}
 use Rattle.owl_eval.proofs.relation.run_of.Goals as goal

@@ -1,7 +1,6 @@
-use Rattle.std.proofs.Common.{◌≡◌, ℕ, ◌<◌, Bool, true, false, length, IfOk, sym, ap, ◌∙◌, subst, arith, rules}
+use Rattle.std.proofs.Common.{◌≡◌, ℕ, ◌<◌, Bool, IfOk, sym, ap, ◌∙◌, subst, arith}
 use Rattle.logic_terms.specs.Shown.{structure_of, condition_of, conditions_of}
 use Rattle.logic_terms.specs.Truth.{giving, some_extension, each_extension, condition_true}
-use Rattle.logic_terms.specs.Structure.{Implication}
 use Rattle.logic_terms.proofs.ShownLemmas.{condition_of-Implies}
 use Rattle.owl_eval.specs.Assigned.{assigned, each_condition, carries_over}
 use Rattle.owl_eval.proofs.Assignments.{after_push, of_structure, of_implication, popped}

@@ -1,4 +1,4 @@
-use Rattle.std.proofs.Common.{◌≡◌, ℕ, ◌+◌, ◌*◌, ◌^◌, max, true, false, take, length}
+use Rattle.std.proofs.Common.{◌≡◌, ◌+◌, ◌*◌, ◌^◌, max, true, false, take, length}
 use Rattle.logic_terms.specs.declared.structures.Cond.TheViews.{size-Cond, size-Conds, size-Drs}
 use Rattle.logic_terms.specs.Shown.{structure_of, conditions_of}
 use Rattle.logic_terms.specs.Truth.{giving, some_extension, each_extension}

@@ -1,5 +1,5 @@
 // Access lists, shared by their tails.
-ghost use Rattle.std.specs.Prelude.{◌≡◌, ◌+◌, ◌-◌, ◌≤◌, ◌||◌, [], ◌∷◌, ◌++◌, IfOk, option_map, length, take, drop, not};
+ghost use Rattle.std.specs.Prelude.{◌≡◌, ◌==◌, ◌+◌, ◌-◌, ◌<◌, ◌≤◌, ◌||◌, [], ◌∷◌, ◌++◌, IfOk, Some, option_map, length, slice_get, take, drop, not};
 ghost use Rattle.scopes.specs.declared.entries.Entry.{Entry};
 ghost use Rattle.scopes.specs.declared.entries.Entry.TheVariants.{Opener};
 ghost use Rattle.std.specs.List.{list_any};
@@ -102,6 +102,28 @@ impl Access {
         } else {
             self.push(Entry::Weak(ground, pos))
         }
+    }
+
+    /// How many entries there are.
+    pub fn len(&self) -> usize
+        ensures { result ≡ length self.now }
+    {
+        self.len
+    }
+
+    /// Whether there is none.
+    pub fn is_empty(&self) -> bool
+        ensures { result ≡ (length self.now == 0) }
+    {
+        self.len() == 0
+    }
+
+    /// The entry at a place below the length, from the oldest at 0. Takes no memory.
+    pub fn get(&self, place: usize) -> &Entry
+        requires { place < length self.now }
+        ensures { slice_get self.now place ≡ Some result.now }
+    {
+        entry_back(&self.newest, self.len - 1 - place)
     }
 
     // The list with the entry at its end.
@@ -268,5 +290,22 @@ fn kept_with(older: Access, opened: bool, entry: &Entry) -> Result<(Access, bool
         Entry::Opener => Ok((older, true)),
         Entry::Weak(..) if opened => Ok((older, opened)),
         Entry::Weak(..) | Entry::Strong(..) => Ok((older.push(entry.copy())?, opened)),
+    }
+}
+
+// The entry with so many newer ones.
+fn entry_back(links: &Link, newer: usize) -> &Entry
+    requires { newer < length (entries links.now) }
+    ensures { slice_get (entries links.now) (length (entries links.now) - 1 - newer) ≡ Some result.now }
+{
+    match links {
+        Link::Cons(node) => {
+            if newer == 0 {
+                &node.entry
+            } else {
+                entry_back(&node.older, newer - 1)
+            }
+        }
+        Link::Nil => unreachable!(),
     }
 }

@@ -94,13 +94,13 @@ pass_introduction g values category strong stand = record {
 
 -- the marked variables of a pattern have the values of the referent
 abbrev pub takes : List (ℕ × Value) → Ground → Option Pattern → Bool
-takes values ground None = false
-takes values ground (Some pattern) = list_all (λ t. has_value ground.vals (t.0, value_under values t.1)) pattern.taken
+takes values referent None = false
+takes values referent (Some pattern) = list_all (λ t. has_value referent.vals (t.0, value_under values t.1)) pattern.taken
 
 -- the referent that is found is at the position, and the first pattern that agrees takes its values
 abbrev pub is_found : List (ℕ × Value) → List Pattern → ℕ → Option Finding → Bool
 is_found values positive pos None = false
-is_found values positive pos (Some finding) = (finding.pos == pos) && takes values finding.ground (slice_get positive finding.pattern)
+is_found values positive pos (Some finding) = (finding.pos == pos) && takes values finding.referent (slice_get positive finding.pattern)
 
 -- a reference finds the referent at the position that is to come
 abbrev pub pass_finding : List (ℕ × Value) → List Pattern → Option Finding → List ℕ → Stand → Option Stand

@@ -9,25 +9,25 @@ use Rattle.scopes.specs.declared.entries.Entry.TheVariants.{Opener, Weak, Strong
 abbrev pub strong_referents : List Entry → List Entry
 strong_referents [] = []
 strong_referents (Opener ∷ rest) = strong_referents rest
-strong_referents (Weak ground pos ∷ rest) = strong_referents rest
-strong_referents (Strong ground pos ∷ rest) = Strong ground pos ∷ strong_referents rest
+strong_referents (Weak referent pos ∷ rest) = strong_referents rest
+strong_referents (Strong referent pos ∷ rest) = Strong referent pos ∷ strong_referents rest
 
 -- What closing leaves of the entries that a phrase has added: all of them where there is no opener, else what stands
 -- before the first opener, and then the strong referents after it.
 abbrev pub closed : List Entry → List Entry
 closed [] = []
 closed (Opener ∷ rest) = strong_referents rest
-closed (Weak ground pos ∷ rest) = Weak ground pos ∷ closed rest
-closed (Strong ground pos ∷ rest) = Strong ground pos ∷ closed rest
+closed (Weak referent pos ∷ rest) = Weak referent pos ∷ closed rest
+closed (Strong referent pos ∷ rest) = Strong referent pos ∷ closed rest
 
 -- the entry of a referent that is introduced at the position
 abbrev pub introduced : Ground → ℕ → Bool → Entry
-introduced ground pos strong = if strong then Strong ground pos else Weak ground pos
+introduced referent pos strong = if strong then Strong referent pos else Weak referent pos
 
 abbrev pub is_opener : Entry → Bool
 is_opener Opener = true
-is_opener (Weak ground pos) = false
-is_opener (Strong ground pos) = false
+is_opener (Weak referent pos) = false
+is_opener (Strong referent pos) = false
 
 -- there is an opener among the entries
 abbrev pub any_opener : List Entry → Bool

@@ -4,4 +4,4 @@ use Rattle.scopes.specs.Resolution.{Finding}
 
 -- the finding that the program holds
 abbrev pub shown : Found → Finding
-shown found = record { pos = found.pos; ground = found.ground.now; pattern = found.pattern }
+shown found = record { pos = found.pos; referent = found.ground.now; pattern = found.pattern }

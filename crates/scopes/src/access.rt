@@ -94,13 +94,13 @@ impl Access {
     }
 
     /// The list with a referent at its end, which is introduced at the position.
-    pub fn refer(&self, ground: Ground, pos: u16, strong: bool) -> Result<Access, Memory>
-        ensures { IfOk result (λ access. access ≡ self.now ++ introduced ground pos strong ∷ []) }
+    pub fn refer(&self, referent: Ground, pos: u16, strong: bool) -> Result<Access, Memory>
+        ensures { IfOk result (λ access. access ≡ self.now ++ introduced referent pos strong ∷ []) }
     {
         if strong {
-            self.push(Entry::Strong(ground, pos))
+            self.push(Entry::Strong(referent, pos))
         } else {
-            self.push(Entry::Weak(ground, pos))
+            self.push(Entry::Weak(referent, pos))
         }
     }
 
@@ -208,24 +208,24 @@ fn find<'a>(entry: &'a Entry, tests: &Tests) -> Option<Found<'a>>
 {
     match entry {
         Entry::Opener => None,
-        Entry::Weak(ground, pos) => find_at(ground, *pos, tests),
-        Entry::Strong(ground, pos) => find_at(ground, *pos, tests),
+        Entry::Weak(referent, pos) => find_at(referent, *pos, tests),
+        Entry::Strong(referent, pos) => find_at(referent, *pos, tests),
     }
 }
 
 // What a reference finds at a referent.
-fn find_at<'a>(ground: &'a Ground, pos: u16, tests: &Tests) -> Option<Found<'a>>
+fn find_at<'a>(referent: &'a Ground, pos: u16, tests: &Tests) -> Option<Found<'a>>
     requires { length tests.now.positive ≤ 16 }
-    ensures { option_map shown result ≡ finding_at tests.now ground.now pos }
+    ensures { option_map shown result ≡ finding_at tests.now referent.now pos }
 {
-    if agrees_with_any(ground, tests.negative.as_slice()) {
+    if agrees_with_any(referent, tests.negative.as_slice()) {
         return None;
     }
-    match first_agreeing(ground, tests.positive.as_slice()) {
+    match first_agreeing(referent, tests.positive.as_slice()) {
         None => None,
         Some(pattern) => Some(Found {
             pos,
-            ground,
+            ground: referent,
             pattern: pattern as u8,
         }),
     }
@@ -237,8 +237,8 @@ fn is_agreeing_entry(entry: &Entry, tests: &Tests) -> bool
 {
     match entry {
         Entry::Opener => false,
-        Entry::Weak(ground, _) => agrees_with_any(ground, tests.positive.as_slice()),
-        Entry::Strong(ground, _) => agrees_with_any(ground, tests.positive.as_slice()),
+        Entry::Weak(referent, _) => agrees_with_any(referent, tests.positive.as_slice()),
+        Entry::Strong(referent, _) => agrees_with_any(referent, tests.positive.as_slice()),
     }
 }
 

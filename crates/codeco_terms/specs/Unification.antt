@@ -1,4 +1,4 @@
--- Maps from variables to values, and how a category is made equal to a ground one.
+-- Maps from variables to values, and how a category is made equal to a other one.
 use Rattle.std.specs.Prelude.{◌≡◌, ℕ, ◌<◌, List, Option, Some, None, All, slice_index_or}
 use Rattle.codeco_terms.specs.declared.values.Value.{Value}
 use Rattle.codeco_terms.specs.declared.values.Term.{Term}
@@ -32,9 +32,9 @@ abbrev pub AgreeOnShared : Bindings → List (ℕ × Term) → List (ℕ × Valu
 AgreeOnShared m feats vals = All (λ p. All (Meets m p.0 p.1) vals) feats
 
 -- under the map the category equals the ground one: in the name, and on each feature that both have
-pub record Equates (cat : Category) (ground : Ground) (m : Bindings) : Type 0 where
-  pub same_name : cat.name ≡ ground.name
-  pub agree : AgreeOnShared m cat.feats ground.vals
+pub record Equates (cat : Category) (other : Ground) (m : Bindings) : Type 0 where
+  pub same_name : cat.name ≡ other.name
+  pub agree : AgreeOnShared m cat.feats other.vals
 
 -- the new map is the least one that extends the old and has the property: it adds just what the property needs
 pub record IsLeastExtension (P : Bindings → Type 0) (old new : Bindings) : Type 0 where
@@ -43,10 +43,10 @@ pub record IsLeastExtension (P : Bindings → Type 0) (old new : Bindings) : Typ
   pub least : (m : Bindings) → Extends old m → P m → Extends new m
 
 -- some extension of the map makes the category equal to the ground one
-pub record CanEquate (cat : Category) (ground : Ground) (old : Bindings) : Type 0 where
+pub record CanEquate (cat : Category) (other : Ground) (old : Bindings) : Type 0 where
   pub map : Bindings
   pub extends : Extends old map
-  pub equates : Equates cat ground map
+  pub equates : Equates cat other map
 
 -- a term that is a variable has a number below sixteen
 abbrev pub HasRoom : Term → Type 0

@@ -8,18 +8,18 @@ use crate::{Category, Env, Ground, Term, Value};
 /// Makes the category equal to the ground one on each feature that both have, by giving variables values. True
 /// exactly where the names are equal and some extension of the map does so; then just the variables needed are added.
 /// On false the map is as before.
-pub fn unify(cat: &Category, ground: &Ground, env: &mut Env) -> bool
+pub fn unify(cat: &Category, other: &Ground, env: &mut Env) -> bool
     requires { All (λ p. HasRoom p.1) cat.now.feats }
 
-    ensures exact { IsTrue result ↔ CanEquate cat.now ground.now env.old }
-    ensures added { OnTrue result (IsLeastExtension (Equates cat.now ground.now) env.old env.new) }
+    ensures exact { IsTrue result ↔ CanEquate cat.now other.now env.old }
+    ensures added { OnTrue result (IsLeastExtension (Equates cat.now other.now) env.old env.new) }
     ensures unchanged { OnFalse result (env.new ≡ env.old) }
 {
-    if cat.name != ground.name {
+    if cat.name != other.name {
         return false;
     }
     let mut tried = env.copy();
-    if !meet_feats(&mut tried, cat.feats.as_slice(), ground.vals.as_slice()) {
+    if !meet_feats(&mut tried, cat.feats.as_slice(), other.vals.as_slice()) {
         return false;
     }
     *env = tried;

@@ -100,7 +100,7 @@ takes values referent (Some pattern) = list_all (λ t. has_value referent.vals (
 -- the referent that is found is at the position, and the first pattern that agrees takes its values
 abbrev pub is_found : List (ℕ × Value) → List Pattern → ℕ → Option Finding → Bool
 is_found values positive pos None = false
-is_found values positive pos (Some finding) = (finding.pos == pos) && takes values finding.ground (slice_get positive finding.pattern)
+is_found values positive pos (Some finding) = (finding.pos == pos) && takes values finding.referent (slice_get positive finding.pattern)
 
 -- a reference finds the referent at the position that is to come
 abbrev pub pass_finding : List (ℕ × Value) → List Pattern → Option Finding → List ℕ → Stand → Option Stand

@@ -133,11 +133,11 @@ fn introduce<'a>(
         features.as_slice(),
         stand.own,
     );
-    let ground = Ground {
+    let referent = Ground {
         name: category.name,
         vals,
     };
-    let list = stand.list.refer(ground, stand.place, strong)?;
+    let list = stand.list.refer(referent, stand.place, strong)?;
     Ok(Progress {
         place: stand.place,
         list,
@@ -281,12 +281,12 @@ fn fill_all<'a>(
 }
 
 // Whether the marked variables of the pattern have the values of the referent.
-fn takes(values: &[(u8, Value)], ground: &Ground, pattern: Option<&Pattern>) -> bool
-    ensures { result ≡ derives.takes values.now ground.now (option_map (λ p. p.now) pattern.entry) }
+fn takes(values: &[(u8, Value)], referent: &Ground, pattern: Option<&Pattern>) -> bool
+    ensures { result ≡ derives.takes values.now referent.now (option_map (λ p. p.now) pattern.entry) }
 {
     match pattern {
         None => false,
-        Some(pattern) => takes_all(values, ground.vals.as_slice(), pattern.taken.as_slice()),
+        Some(pattern) => takes_all(values, referent.vals.as_slice(), pattern.taken.as_slice()),
     }
 }
 

@@ -15,29 +15,29 @@ has_value vals wanted = list_any (λ p. (p.0 == wanted.0) && same_value p.1 want
 
 -- a referent agrees with a test where the names are equal and the referent has each value of the test
 abbrev pub agrees : Ground → Test → Bool
-agrees ground test = (ground.name == test.name) && list_all (has_value ground.vals) test.values
+agrees referent test = (referent.name == test.name) && list_all (has_value referent.vals) test.values
 
 -- the entry is a referent that agrees with one of the tests
 abbrev pub is_agreeing : List Test → Entry → Bool
 is_agreeing tests Opener = false
-is_agreeing tests (Weak ground pos) = list_any (agrees ground) tests
-is_agreeing tests (Strong ground pos) = list_any (agrees ground) tests
+is_agreeing tests (Weak referent pos) = list_any (agrees referent) tests
+is_agreeing tests (Strong referent pos) = list_any (agrees referent) tests
 
 -- what a reference finds: a referent with its position, and the place of the first positive test that it agrees with
 pub record Finding : Type 0 where
   pub pos : ℕ
-  pub ground : Ground
+  pub referent : Ground
   pub pattern : ℕ
 
 -- what a reference finds at a referent: it agrees with a positive test and with no negative one
 abbrev pub finding_at : Tests → Ground → ℕ → Option Finding
-finding_at tests ground pos =
-    if list_any (agrees ground) tests.negative then None else option_map (λ k. record { pos = pos; ground = ground; pattern = k }) (position (agrees ground) tests.positive)
+finding_at tests referent pos =
+    if list_any (agrees referent) tests.negative then None else option_map (λ k. record { pos = pos; referent = referent; pattern = k }) (position (agrees referent) tests.positive)
 
 abbrev pub finding : Tests → Entry → Option Finding
 finding tests Opener = None
-finding tests (Weak ground pos) = finding_at tests ground pos
-finding tests (Strong ground pos) = finding_at tests ground pos
+finding tests (Weak referent pos) = finding_at tests referent pos
+finding tests (Strong referent pos) = finding_at tests referent pos
 
 -- the last of a list
 abbrev pub last_of : {X : Type 0} → List X → Option X

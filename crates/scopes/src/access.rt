@@ -1,5 +1,5 @@
 // Access lists, shared by their tails.
-ghost use Rattle.std.specs.Prelude.{◌≡◌, ◌+◌, ◌-◌, ◌≤◌, ◌||◌, [], ◌∷◌, ◌++◌, IfOk, option_map, length, take, drop, not};
+ghost use Rattle.std.specs.Prelude.{◌≡◌, ◌==◌, ◌+◌, ◌-◌, ◌<◌, ◌≤◌, ◌||◌, [], ◌∷◌, ◌++◌, IfOk, Some, option_map, length, slice_get, take, drop, not};
 ghost use Rattle.scopes.specs.declared.entries.Entry.{Entry};
 ghost use Rattle.scopes.specs.declared.entries.Entry.TheVariants.{Opener};
 ghost use Rattle.std.specs.List.{list_any};
@@ -94,14 +94,36 @@ impl Access {
     }
 
     /// The list with a referent at its end, which is introduced at the position.
-    pub fn refer(&self, ground: Ground, pos: u16, strong: bool) -> Result<Access, Memory>
-        ensures { IfOk result (λ access. access ≡ self.now ++ introduced ground pos strong ∷ []) }
+    pub fn refer(&self, referent: Ground, pos: u16, strong: bool) -> Result<Access, Memory>
+        ensures { IfOk result (λ access. access ≡ self.now ++ introduced referent pos strong ∷ []) }
     {
         if strong {
-            self.push(Entry::Strong(ground, pos))
+            self.push(Entry::Strong(referent, pos))
         } else {
-            self.push(Entry::Weak(ground, pos))
+            self.push(Entry::Weak(referent, pos))
         }
+    }
+
+    /// How many entries there are.
+    pub fn len(&self) -> usize
+        ensures { result ≡ length self.now }
+    {
+        self.len
+    }
+
+    /// Whether there is none.
+    pub fn is_empty(&self) -> bool
+        ensures { result ≡ (length self.now == 0) }
+    {
+        self.len() == 0
+    }
+
+    /// The entry at a place below the length, from the oldest at 0. Takes no memory.
+    pub fn get(&self, place: usize) -> &Entry
+        requires { place < length self.now }
+        ensures { slice_get self.now place ≡ Some result.now }
+    {
+        entry_back(&self.newest, self.len - 1 - place)
     }
 
     // The list with the entry at its end.
@@ -186,24 +208,24 @@ fn find<'a>(entry: &'a Entry, tests: &Tests) -> Option<Found<'a>>
 {
     match entry {
         Entry::Opener => None,
-        Entry::Weak(ground, pos) => find_at(ground, *pos, tests),
-        Entry::Strong(ground, pos) => find_at(ground, *pos, tests),
+        Entry::Weak(referent, pos) => find_at(referent, *pos, tests),
+        Entry::Strong(referent, pos) => find_at(referent, *pos, tests),
     }
 }
 
 // What a reference finds at a referent.
-fn find_at<'a>(ground: &'a Ground, pos: u16, tests: &Tests) -> Option<Found<'a>>
+fn find_at<'a>(referent: &'a Ground, pos: u16, tests: &Tests) -> Option<Found<'a>>
     requires { length tests.now.positive ≤ 16 }
-    ensures { option_map shown result ≡ finding_at tests.now ground.now pos }
+    ensures { option_map shown result ≡ finding_at tests.now referent.now pos }
 {
-    if agrees_with_any(ground, tests.negative.as_slice()) {
+    if agrees_with_any(referent, tests.negative.as_slice()) {
         return None;
     }
-    match first_agreeing(ground, tests.positive.as_slice()) {
+    match first_agreeing(referent, tests.positive.as_slice()) {
         None => None,
         Some(pattern) => Some(Found {
             pos,
-            ground,
+            ground: referent,
             pattern: pattern as u8,
         }),
     }
@@ -215,8 +237,8 @@ fn is_agreeing_entry(entry: &Entry, tests: &Tests) -> bool
 {
     match entry {
         Entry::Opener => false,
-        Entry::Weak(ground, _) => agrees_with_any(ground, tests.positive.as_slice()),
-        Entry::Strong(ground, _) => agrees_with_any(ground, tests.positive.as_slice()),
+        Entry::Weak(referent, _) => agrees_with_any(referent, tests.positive.as_slice()),
+        Entry::Strong(referent, _) => agrees_with_any(referent, tests.positive.as_slice()),
     }
 }
 
@@ -268,5 +290,22 @@ fn kept_with(older: Access, opened: bool, entry: &Entry) -> Result<(Access, bool
         Entry::Opener => Ok((older, true)),
         Entry::Weak(..) if opened => Ok((older, opened)),
         Entry::Weak(..) | Entry::Strong(..) => Ok((older.push(entry.copy())?, opened)),
+    }
+}
+
+// The entry with so many newer ones.
+fn entry_back(links: &Link, newer: usize) -> &Entry
+    requires { newer < length (entries links.now) }
+    ensures { slice_get (entries links.now) (length (entries links.now) - 1 - newer) ≡ Some result.now }
+{
+    match links {
+        Link::Cons(node) => {
+            if newer == 0 {
+                &node.entry
+            } else {
+                entry_back(&node.older, newer - 1)
+            }
+        }
+        Link::Nil => unreachable!(),
     }
 }

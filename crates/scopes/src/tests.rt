@@ -193,22 +193,22 @@ fn has_values(vals: &[(u16, Value)], wanted: &[(u16, Value)]) -> bool
 }
 
 /// Whether the referent agrees with the test: the names are equal, and the referent has each value of the test.
-pub fn agrees(ground: &Ground, test: &Test) -> bool
-    ensures { result ≡ resolution.agrees ground.now test.now }
+pub fn agrees(referent: &Ground, test: &Test) -> bool
+    ensures { result ≡ resolution.agrees referent.now test.now }
 {
-    ground.name == test.name && has_values(ground.vals.as_slice(), test.values.as_slice())
+    referent.name == test.name && has_values(referent.vals.as_slice(), test.values.as_slice())
 }
 
 // Whether the referent agrees with one of the tests.
-pub(crate) fn agrees_with_any(ground: &Ground, tests: &[Test]) -> bool
-    ensures { result ≡ list_any (resolution.agrees ground.now) tests.now }
+pub(crate) fn agrees_with_any(referent: &Ground, tests: &[Test]) -> bool
+    ensures { result ≡ list_any (resolution.agrees referent.now) tests.now }
 {
-    tests.iter().any(|test| agrees(ground, test))
+    tests.iter().any(|test| agrees(referent, test))
 }
 
 // The place of the first test that the referent agrees with.
-pub(crate) fn first_agreeing(ground: &Ground, tests: &[Test]) -> Option<usize>
-    ensures { result ≡ position (resolution.agrees ground.now) tests.now }
+pub(crate) fn first_agreeing(referent: &Ground, tests: &[Test]) -> Option<usize>
+    ensures { result ≡ position (resolution.agrees referent.now) tests.now }
 {
-    tests.iter().position(|test| agrees(ground, test))
+    tests.iter().position(|test| agrees(referent, test))
 }

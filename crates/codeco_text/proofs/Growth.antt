@@ -119,8 +119,9 @@ if_some_guard false v P h = tt
 
 keyword_is : (w : List ℕ) → (same_bytes w (codes "word") || same_bytes w (codes "position")) ≡ true → values_word (same_bytes w (codes "position")) ≡ w
 keyword_is w h = elim (or_cases (same_bytes w (codes "word")) (same_bytes w (codes "position")) h) [
-    inl e ↦ subst (λ (v : List ℕ). values_word (same_bytes v (codes "position")) ≡ v) (sym (same_is w (codes "word") e)) refl
-  | inr e ↦ ap values_word e ∙ sym (same_is w (codes "position") e) ]
+  | inl e ↦ subst (λ (v : List ℕ). values_word (same_bytes v (codes "position")) ≡ v) (sym (same_is w (codes "word") e)) refl
+  | inr e ↦ ap values_word e ∙ sym (same_is w (codes "position") e)
+]
 
 adds_keyword : (s : Stand) (b : Builder) (w : List ℕ) → IfSome (after_keyword s w) (λ v. so_far_at v (with_keyword b w) ≡ push (so_far_at s b) (lexeme.Keyword w))
 adds_keyword stand.Items b w = if_some_guard (same_bytes w (codes "feature")) stand.FeatureName (λ v. so_far_at v (with_keyword b w) ≡ push (so_far_at stand.Items b) (lexeme.Keyword w)) (λ e. ap (λ (v : List ℕ). push (lexemes b.items) (lexeme.Keyword v)) (sym (same_is w (codes "feature") e)))

@@ -1,1 +1,14 @@
 pub mod Growth
+pub mod Trees
+pub mod Fronts
+pub mod Slices
+pub mod Steps
+pub mod Gaps
+pub mod Soundness
+pub mod Spelled
+pub mod Standing
+pub mod Spelling
+pub mod Complete
+pub mod Continuing
+pub mod Exactness
+pub mod OneSpelling

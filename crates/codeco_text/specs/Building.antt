@@ -1,5 +1,5 @@
 -- What a reading has of the declarations and rules, symbol by symbol. Only calls inside the crate speak of it.
-use Rattle.std.specs.Prelude.{◌≡◌, ℕ, Bool, true, false, List, [], ◌∷◌, ◌++◌, flat_map, codes, Option, Some, None, option_map, if◌then◌else◌, Result, Ok, Err}
+use Rattle.std.specs.Prelude.{◌≡◌, ℕ, Bool, true, false, ◌&&◌, List, [], ◌∷◌, ◌++◌, flat_map, codes, Option, Some, None, option_map, if◌then◌else◌, Result, Ok, Err}
 use Rattle.codeco_text.specs.declared.symbols.Sign.{Sign}
 use Rattle.codeco_text.specs.declared.symbols.Sign.TheVariants as sign
 use Rattle.codeco_text.specs.declared.symbols.Lexeme.{Lexeme}
@@ -100,7 +100,8 @@ nothing = record { name = []; feats = [] }
 abbrev pub with_rule : Builder → Builder
 with_rule b = record b {
   items = push b.items (item.Rule (record { label = b.rule.label; head = b.rule.head; closing = b.rule.closing; body = b.rule.body }));
-  rule = record b.rule { label = None; head = nothing; body = [] } }
+  rule = record b.rule { label = None; head = nothing; body = [] };
+}
 
 abbrev pub with_patterns : OpenRule → OpenRule
 with_patterns r = record r { positives = []; negatives = [] }
@@ -117,10 +118,13 @@ closes _ = false
 abbrev pub arrow_at : Builder → Sign → Builder
 arrow_at b s = record b { rule = record b.rule { closing = closes s; body = [] } }
 
+abbrev pub end_atom : Builder → Sign → Builder
+end_atom b sign.Stop = with_declaration b (domain.Atoms (push b.declaration.atoms b.declaration.atom))
+end_atom b _ = record b { declaration = record b.declaration { atoms = push b.declaration.atoms b.declaration.atom; atom = [] } }
+
 abbrev pub sign_at : Stand → Builder → Sign → Builder
 sign_at stand.LabelEnd b s = record b { rule = record b.rule { label = Some b.rule.pending; pending = [] } }
-sign_at stand.AtomNext b sign.Stop = with_declaration b (domain.Atoms (push b.declaration.atoms b.declaration.atom))
-sign_at stand.AtomNext b _ = record b { declaration = record b.declaration { atoms = push b.declaration.atoms b.declaration.atom; atom = [] } }
+sign_at stand.AtomNext b s = end_atom b s
 sign_at stand.FeatureEnd b s = with_declaration b (values_domain b.declaration.positions)
 sign_at (stand.Category part.Named r) b s = record b { category = record b.category { feats = [] } }
 sign_at (stand.Category part.Next r) b s = record b { category = with_feat b.category }
@@ -151,7 +155,8 @@ abbrev pub settle_into : Builder → Role → List WrittenFeat → Builder
 settle_into b r feats = record b {
   stand = after_category r;
   category = named_category b.category [];
-  rule = settled_rule r b.rule (record { name = b.category.name; feats = feats }) }
+  rule = settled_rule r b.rule (record { name = b.category.name; feats = feats });
+}
 
 abbrev pub settle_at : Stand → Builder → Builder
 settle_at (stand.Category part.Named r) b = settle_into b r []
@@ -174,15 +179,18 @@ close_at _ b = b
 abbrev pub closed_builder : Builder → Builder
 closed_builder b = close_at b.stand b
 
+abbrev pub is_named : Stand → Bool
+is_named (stand.Category part.Named r) = true
+is_named _ = false
+
 abbrev pub opens_features : Stand → Lexeme → Bool
-opens_features (stand.Category part.Named r) x = is_sign sign.OpenParen x
-opens_features _ x = false
+opens_features s x = is_named s && is_sign sign.OpenParen x
 
 -- what takes the symbol
 abbrev pub ready : Builder → Lexeme → Builder
 ready b x =
-  let whole = if opens_features b.stand x then b else settled_builder b in
-  if begins_pattern x then whole else closed_builder whole
+    let whole = if opens_features b.stand x then b else settled_builder b in
+    if begins_pattern x then whole else closed_builder whole
 
 -- The symbol taken
 

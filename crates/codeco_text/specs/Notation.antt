@@ -1,5 +1,5 @@
 -- The notation: what a text spells.
-use Rattle.std.specs.Prelude.{◌≡◌, ℕ, Bool, true, false, not, ◌&&◌, ◌||◌, ◌==◌, List, [], ◌∷◌, ◌++◌, map, flat_map, codes, IsTrue, Option, Some, None, if◌then◌else◌, length, take, ◌<◌, ◌≤◌, ◌+◌}
+use Rattle.std.specs.Prelude.{◌≡◌, ℕ, Bool, true, false, not, ◌&&◌, ◌||◌, ◌==◌, List, [], ◌∷◌, ◌++◌, map, flat_map, codes, IsTrue, Option, Some, None, Result, Ok, Err, if◌then◌else◌, length, take, ◌<◌, ◌≤◌, ◌+◌}
 use Rattle.std.specs.List.{list_all}
 use Rattle.codeco_text.specs.declared.symbols.Sign.{Sign}
 use Rattle.codeco_text.specs.declared.symbols.Sign.TheVariants as sign
@@ -16,6 +16,8 @@ use Rattle.codeco_text.specs.declared.written.Domain.{Domain}
 use Rattle.codeco_text.specs.declared.written.Domain.TheVariants as domain
 use Rattle.codeco_text.specs.declared.written.WrittenItem.{WrittenItem}
 use Rattle.codeco_text.specs.declared.written.WrittenItem.TheVariants as item
+use Rattle.codeco_text.specs.declared.syntax_fault.SyntaxFault.{SyntaxFault}
+use Rattle.codeco_text.specs.declared.syntax_fault.SyntaxFault.TheVariants as fault
 use Rattle.codeco_text.specs.Names.{is_space, is_word_byte, is_identifier, is_variable, is_terminal, is_among, keywords}
 
 -- the thirty labels
@@ -233,3 +235,14 @@ pub record IsSyntaxFault (text : List ℕ) (place : ℕ) : Type 0 where
   pub none : IsSentence text → ⊥
   pub before : HasContinuation (take place text)
   pub at : place < length text → HasContinuation (take (place + 1) text) → ⊥
+
+-- what is said by the fault that a reading answers, unless memory ran out
+abbrev pub TellsFault : List ℕ → SyntaxFault → Type 0
+TellsFault text (fault.At place) = IsSyntaxFault text place
+TellsFault text fault.Memory = Unit {0}
+
+-- the call found these declarations and rules, unless memory ran out
+abbrev pub Finds : List WrittenItem → Result (List WrittenItem) SyntaxFault → Type 0
+Finds items (Ok found) = found ≡ items
+Finds items (Err (fault.At place)) = ⊥
+Finds items (Err fault.Memory) = Unit {0}

@@ -192,35 +192,39 @@ body_sign sign.Back = Some stand.BackPattern
 body_sign sign.NoBack = Some stand.AbsentPattern
 body_sign _ = None
 
+abbrev pub plus_after : Sign → Role → Option Stand
+plus_after sign.Plus r = Some (stand.Category part.Name r)
+plus_after _ r = None
+
+abbrev pub item_sign : Stand → Sign → Option Stand
+item_sign stand.Items sign.OpenBrace = Some stand.LabelName
+item_sign stand.Items _ = None
+item_sign stand.LabelEnd sign.CloseBrace = Some stand.RuleHead
+item_sign stand.LabelEnd _ = None
+item_sign stand.FeatureColon sign.Colon = Some stand.FeatureValue
+item_sign stand.FeatureColon _ = None
+item_sign stand.AtomNext sign.Comma = Some stand.AtomName
+item_sign stand.AtomNext sign.Stop = Some stand.Items
+item_sign stand.AtomNext _ = None
+item_sign stand.FeatureEnd sign.Stop = Some stand.Items
+item_sign stand.FeatureEnd _ = None
+item_sign _ s = None
+
 abbrev pub after_sign : Stand → Sign → Option Stand
-after_sign stand.Items sign.OpenBrace = Some stand.LabelName
-after_sign stand.Items _ = None
-after_sign stand.LabelEnd sign.CloseBrace = Some stand.RuleHead
-after_sign stand.LabelEnd _ = None
-after_sign stand.FeatureColon sign.Colon = Some stand.FeatureValue
-after_sign stand.FeatureColon _ = None
-after_sign stand.AtomNext sign.Comma = Some stand.AtomName
-after_sign stand.AtomNext sign.Stop = Some stand.Items
-after_sign stand.AtomNext _ = None
-after_sign stand.FeatureEnd sign.Stop = Some stand.Items
-after_sign stand.FeatureEnd _ = None
 after_sign (stand.Category p r) s = part_sign p r s
 after_sign stand.Arrow sign.Normal = Some stand.Body
 after_sign stand.Arrow sign.Closing = Some stand.Body
 after_sign stand.Arrow _ = None
 after_sign stand.Body s = body_sign s
-after_sign stand.BackPattern sign.Plus = Some (stand.Category part.Name role.Positive)
-after_sign stand.BackPattern _ = None
+after_sign stand.BackPattern s = plus_after s role.Positive
 after_sign stand.Positives sign.Plus = Some (stand.Category part.Name role.Positive)
 after_sign stand.Positives sign.Minus = Some (stand.Category part.Name role.Negative)
 after_sign stand.Positives _ = None
 after_sign stand.Negatives sign.Minus = Some (stand.Category part.Name role.Negative)
 after_sign stand.Negatives _ = None
-after_sign stand.AbsentPattern sign.Plus = Some (stand.Category part.Name role.Absent)
-after_sign stand.AbsentPattern _ = None
-after_sign stand.Absents sign.Plus = Some (stand.Category part.Name role.Absent)
-after_sign stand.Absents _ = None
-after_sign _ s = None
+after_sign stand.AbsentPattern s = plus_after s role.Absent
+after_sign stand.Absents s = plus_after s role.Absent
+after_sign s x = item_sign s x
 
 -- where a reading stands behind the symbol
 abbrev pub advance : Stand → Lexeme → Option Stand

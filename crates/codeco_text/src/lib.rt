@@ -3,14 +3,24 @@
 
 mod builder;
 mod bytes;
+mod mode;
+mod moves;
+mod scanner;
 mod stand;
 mod symbols;
+mod syntax_fault;
+mod words;
 mod written;
 
-pub use bytes::{is_lower, is_space, is_terminal_byte, is_upper, is_word_byte};
-pub use stand::{Part, Role, Stand, Wanted};
+pub use bytes::is_word_byte;
+pub use scanner::read_items;
 pub use symbols::{Lexeme, Sign};
+pub use syntax_fault::SyntaxFault;
+pub use words::{is_identifier, is_kind, is_label, is_terminal, is_variable};
 pub use written::{
     Domain, WrittenCategories, WrittenCategory, WrittenElement, WrittenElements, WrittenFeat,
     WrittenFeats, WrittenItem, WrittenItems, WrittenRule, WrittenTerm,
 };
+
+#[cfg(test)]
+mod tests;

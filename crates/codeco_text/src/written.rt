@@ -1,10 +1,9 @@
 // What a text of the notation spells, with its names as bytes.
 ghost use Rattle.std.specs.Prelude.{◌≡◌, ◌<◌, List, [], ◌∷◌, ◌++◌, length, slice_get, Some, OnOk, OnErr};
 
+use codeco_terms::{Symbol, Symbols};
 use std::alloc::Global;
 use std::marker::Model;
-
-use codeco_terms::{Symbol, Symbols};
 use wiki_base::Memory;
 
 /// What is written for a feature: an atom, a variable, or a variable that is marked by `?`.

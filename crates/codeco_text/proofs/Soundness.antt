@@ -1,0 +1,226 @@
+-- What a reading takes is spelled by the text.
+use Rattle.std.proofs.Common.{◌≡◌, ℕ, Bool, true, false, cond, not, eqb, ◌&&◌, ◌||◌, ◌⊎◌, List, [], ◌∷◌, ◌++◌, Option, Some, None, refl, sym, ap, subst, ◌∙◌, append_assoc, arith, inl, inr}
+use Rattle.std.specs.Prelude.{is_some, codes}
+use Rattle.std.specs.Option.{option_map}
+use Rattle.std.proofs.lemmas.List.{append-nil}
+use Rattle.std.proofs.lemmas.Bool.{eqb-true, cases_Bool, both_ways}
+use Rattle.codeco_text.specs.declared.symbols.Sign.{Sign}
+use Rattle.codeco_text.specs.declared.symbols.Sign.TheVariants as sign
+use Rattle.codeco_text.specs.declared.symbols.Lexeme.{Lexeme}
+use Rattle.codeco_text.specs.declared.symbols.Lexeme.TheVariants as lexeme
+use Rattle.codeco_text.specs.declared.stand.Role.{Role}
+use Rattle.codeco_text.specs.declared.stand.Role.TheVariants as role
+use Rattle.codeco_text.specs.declared.stand.Part.{Part}
+use Rattle.codeco_text.specs.declared.stand.Part.TheVariants as part
+use Rattle.codeco_text.specs.declared.stand.Stand.{Stand}
+use Rattle.codeco_text.specs.declared.stand.Stand.TheVariants as stand
+use Rattle.codeco_text.specs.declared.stand.Wanted.{Wanted}
+use Rattle.codeco_text.specs.declared.stand.Wanted.TheVariants as wanted
+use Rattle.codeco_text.specs.declared.builder.Builder.{Builder}
+use Rattle.codeco_text.specs.Names.{same_bytes, is_among, is_space, is_word_byte, is_identifier, is_variable, is_terminal, is_terminal_byte, keywords}
+use Rattle.codeco_text.specs.Notation.{labels, kinds, lexeme_bytes, is_symbol, goes_on, has_front, SpellsFrom}
+use Rattle.codeco_text.specs.Reading.{◌>>=◌, wants, as_word, identifier, may_begin, may_go_on, advance, is_sign, begins_pattern, settled, closed, ready_stand, next_stand}
+use Rattle.codeco_text.specs.Building.{push, so_far, settle_at, settled_builder, close_at, closed_builder, is_named, ready, moved, with_lexeme, take_ready, grow}
+use Rattle.codeco_text.specs.Scanning.{Mode, between, comment, word, terminal, dash, dashes, tilde, tildes, slash, greater, takes_sign, takes_terminal, guard, behind, single, begin, begin_sign, begin_dash, begin_single, finish, step, if_terminal}
+use Rattle.codeco_text.proofs.Growth.{grow_adds}
+use Rattle.codeco_text.proofs.Trees.{runs}
+use Rattle.codeco_text.proofs.Gaps.{Continues, spells_space, spells_comment, spells_in_comment, continues_more, continues_whole, continues_before, begins_here}
+
+pub bind_some : {A B : Type 0} (o : Option A) (f : A → Option B) (y : B) → (o >>= f) ≡ Some y → (x : A) × (o ≡ Some x) × (f x ≡ Some y)
+bind_some None f y e = absurd cc
+bind_some (Some x) f y e = (x, refl, e)
+
+pub guard_some : {A : Type 0} (t : Bool) (x y : A) → guard t x ≡ Some y → (t ≡ true) × (x ≡ y)
+guard_some true x y e = (refl, cc)
+guard_some false x y e = absurd cc
+
+pub behind_some : (o : Option Builder) (s : Builder × Mode) → behind o ≡ Some s → (d : Builder) × (o ≡ Some d) × ((d, between) ≡ s)
+behind_some None s e = absurd cc
+behind_some (Some d) s e = (d, refl, cc)
+
+pub chosen : {A : Type 0} (t : Bool) (x y z : A) → cond t x y ≡ z → ((t ≡ true) × (x ≡ z)) ⊎ ((t ≡ false) × (y ≡ z))
+chosen true x y z e = inl (refl, e)
+chosen false x y z e = inr (refl, e)
+
+-- The stand of what takes a symbol
+
+settled_is : (s : Stand) (b : Builder) (o : Bool) → b.stand ≡ s → (cond (is_named s && o) b (settle_at s b)).stand ≡ settled s o
+settled_is (stand.Category part.Named r) b true e = e
+settled_is (stand.Category part.Named r) b false e = refl
+settled_is (stand.Category part.Whole r) b o e = refl
+settled_is (stand.Category part.Name r) b o e = e
+settled_is (stand.Category part.Feature r) b o e = e
+settled_is (stand.Category part.Colon r) b o e = e
+settled_is (stand.Category part.Term r) b o e = e
+settled_is (stand.Category part.Taken r) b o e = e
+settled_is (stand.Category part.Next r) b o e = e
+settled_is stand.Items b o e = e
+settled_is stand.LabelName b o e = e
+settled_is stand.LabelEnd b o e = e
+settled_is stand.RuleHead b o e = e
+settled_is stand.FeatureName b o e = e
+settled_is stand.FeatureColon b o e = e
+settled_is stand.FeatureValue b o e = e
+settled_is stand.AtomNext b o e = e
+settled_is stand.AtomName b o e = e
+settled_is stand.FeatureEnd b o e = e
+settled_is stand.Arrow b o e = e
+settled_is stand.Body b o e = e
+settled_is stand.PositionName b o e = e
+settled_is stand.BackPattern b o e = e
+settled_is stand.Positives b o e = e
+settled_is stand.Negatives b o e = e
+settled_is stand.AbsentPattern b o e = e
+settled_is stand.Absents b o e = e
+
+same_either : (p : Bool) (b : Builder) (s : Stand) → b.stand ≡ s → (cond p b b).stand ≡ s
+same_either true b s e = e
+same_either false b s e = e
+
+closed_is : (s : Stand) (b : Builder) (p : Bool) → b.stand ≡ s → (cond p b (close_at s b)).stand ≡ closed s p
+closed_is stand.Positives b true e = e
+closed_is stand.Positives b false e = refl
+closed_is stand.Negatives b true e = e
+closed_is stand.Negatives b false e = refl
+closed_is stand.Absents b true e = e
+closed_is stand.Absents b false e = refl
+closed_is (stand.Category p r) b o e = same_either o b (stand.Category p r) e
+closed_is stand.Items b o e = same_either o b stand.Items e
+closed_is stand.LabelName b o e = same_either o b stand.LabelName e
+closed_is stand.LabelEnd b o e = same_either o b stand.LabelEnd e
+closed_is stand.RuleHead b o e = same_either o b stand.RuleHead e
+closed_is stand.FeatureName b o e = same_either o b stand.FeatureName e
+closed_is stand.FeatureColon b o e = same_either o b stand.FeatureColon e
+closed_is stand.FeatureValue b o e = same_either o b stand.FeatureValue e
+closed_is stand.AtomNext b o e = same_either o b stand.AtomNext e
+closed_is stand.AtomName b o e = same_either o b stand.AtomName e
+closed_is stand.FeatureEnd b o e = same_either o b stand.FeatureEnd e
+closed_is stand.Arrow b o e = same_either o b stand.Arrow e
+closed_is stand.Body b o e = same_either o b stand.Body e
+closed_is stand.PositionName b o e = same_either o b stand.PositionName e
+closed_is stand.BackPattern b o e = same_either o b stand.BackPattern e
+closed_is stand.AbsentPattern b o e = same_either o b stand.AbsentPattern e
+
+pub ready_is : (b : Builder) (x : Lexeme) → (ready b x).stand ≡ ready_stand b.stand x
+ready_is b x =
+    let whole = cond (is_named b.stand && is_sign sign.OpenParen x) b (settled_builder b) in
+    let first : whole.stand ≡ settled b.stand (is_sign sign.OpenParen x) = settled_is b.stand b (is_sign sign.OpenParen x) refl in
+    closed_is whole.stand whole (begins_pattern x) refl ∙ ap (λ (s : Stand). closed s (begins_pattern x)) first
+
+moved_stand : (o : Option Stand) (b d : Builder) → option_map (moved b) o ≡ Some d → o ≡ Some d.stand
+moved_stand None b d e = absurd cc
+moved_stand (Some v) b d e =
+    let is : moved b v ≡ d = cc in
+    ap (λ (t : Builder). Some t.stand) is
+
+-- a symbol that is taken leads to the next stand
+pub grow_stand : (b : Builder) (x : Lexeme) (d : Builder) → grow b x ≡ Some d → next_stand b.stand x ≡ Some d.stand
+grow_stand b x d e =
+    let c = ready b x in
+    ap (λ (s : Stand). advance s x) (sym (ready_is b x)) ∙ moved_stand (advance c.stand x) (with_lexeme c x) d e
+
+option_grows : (o : Option Stand) (b : Builder) (t : Stand) → o ≡ Some t → (d : Builder) × (option_map (moved b) o ≡ Some d) × (d.stand ≡ t)
+option_grows None b t e = absurd cc
+option_grows (Some v) b t e = (moved b v, refl, cc)
+
+-- and one that may stand here is taken
+pub stand_grow : (b : Builder) (x : Lexeme) (t : Stand) → next_stand b.stand x ≡ Some t → (d : Builder) × (grow b x ≡ Some d) × (d.stand ≡ t)
+stand_grow b x t e =
+    let c = ready b x in
+    option_grows (advance c.stand x) (with_lexeme c x) t (ap (λ (s : Stand). advance s x) (ready_is b x) ∙ e)
+
+-- Words
+
+identifier_some : (w : List ℕ) (x : Lexeme) → identifier w ≡ Some x → (lexeme_bytes x ≡ w) × (is_symbol x ≡ true)
+identifier_some w x e =
+    let g = guard_some (is_identifier w) (lexeme.Identifier w) x e in
+    (ap lexeme_bytes (sym g.1), ap is_symbol (sym g.1) ∙ g.0)
+
+feature_among : (w : List ℕ) → same_bytes w (codes "feature") ≡ true → is_among keywords w ≡ true
+feature_among w h = rw h refl
+
+value_among : (w : List ℕ) → (same_bytes w (codes "word") || same_bytes w (codes "position")) ≡ true → is_among keywords w ≡ true
+value_among w h = elim (cases_Bool (same_bytes w (codes "feature"))) [
+  | inl e ↦ rw e refl
+  | inr e ↦ rw e (elim (cases_Bool (same_bytes w (codes "word"))) [
+    | inl f ↦ rw f refl
+    | inr f ↦ let last : same_bytes w (codes "position") ≡ true = rw f at h in rw (f, last) refl
+  ])
+]
+
+keyword_some : (t : Bool) (w : List ℕ) (x : Lexeme) → (t ≡ true → is_among keywords w ≡ true) → cond t (Some (lexeme.Keyword w)) (identifier w) ≡ Some x → (lexeme_bytes x ≡ w) × (is_symbol x ≡ true)
+keyword_some true w x h e =
+    let is : lexeme.Keyword w ≡ x = cc in
+    (ap lexeme_bytes (sym is), ap is_symbol (sym is) ∙ h refl)
+keyword_some false w x h e = identifier_some w x e
+
+variable_some : (t : Bool) (w : List ℕ) (x : Lexeme) → (t ≡ true → is_variable w ≡ true) → cond t (Some (lexeme.Variable w)) (identifier w) ≡ Some x → (lexeme_bytes x ≡ w) × (is_symbol x ≡ true)
+variable_some true w x h e =
+    let is : lexeme.Variable w ≡ x = cc in
+    (ap lexeme_bytes (sym is), ap is_symbol (sym is) ∙ h refl)
+variable_some false w x h e = identifier_some w x e
+
+guarded_some : (t : Bool) (w : List ℕ) (y x : Lexeme) → lexeme_bytes y ≡ w → is_symbol y ≡ t → guard t y ≡ Some x → (lexeme_bytes x ≡ w) × (is_symbol x ≡ true)
+guarded_some t w y x bytes symbol e =
+    let g = guard_some t y x e in
+    (ap lexeme_bytes (sym g.1) ∙ bytes, ap is_symbol (sym g.1) ∙ symbol ∙ g.0)
+
+-- a word that is found has its bytes, and is a symbol
+pub word_some : (k : Wanted) (w : List ℕ) (x : Lexeme) → as_word k w ≡ Some x → (lexeme_bytes x ≡ w) × (is_symbol x ≡ true)
+word_some wanted.Nothing w x e = absurd cc
+word_some wanted.Item w x e = keyword_some (same_bytes w (codes "feature")) w x (feature_among w) e
+word_some wanted.Identifier w x e = identifier_some w x e
+word_some wanted.Value w x e = keyword_some (same_bytes w (codes "word") || same_bytes w (codes "position")) w x (value_among w) e
+word_some wanted.Label w x e = guarded_some (is_among labels w) w (lexeme.Label w) x refl refl e
+word_some wanted.Kind w x e = guarded_some (is_among kinds w) w (lexeme.Kind w) x refl refl e
+word_some wanted.Variable w x e = guarded_some (is_variable w) w (lexeme.Variable w) x refl refl e
+word_some wanted.Term w x e = variable_some (is_variable w) w x (λ h. h) e
+
+-- a word, which goes on with bytes of words alone
+abbrev pub is_word : Lexeme → Bool
+is_word (lexeme.Identifier w) = true
+is_word (lexeme.Variable w) = true
+is_word (lexeme.Keyword w) = true
+is_word (lexeme.Label w) = true
+is_word (lexeme.Kind w) = true
+is_word (lexeme.Terminal t) = false
+is_word (lexeme.Sign s) = false
+
+identifier_word : (w : List ℕ) (x : Lexeme) → identifier w ≡ Some x → is_word x ≡ true
+identifier_word w x e = ap is_word (sym (guard_some (is_identifier w) (lexeme.Identifier w) x e).1)
+
+either_word : (t : Bool) (w : List ℕ) (y x : Lexeme) → is_word y ≡ true → cond t (Some y) (identifier w) ≡ Some x → is_word x ≡ true
+either_word true w y x h e =
+    let is : y ≡ x = cc in
+    ap is_word (sym is) ∙ h
+either_word false w y x h e = identifier_word w x e
+
+pub word_is : (k : Wanted) (w : List ℕ) (x : Lexeme) → as_word k w ≡ Some x → is_word x ≡ true
+word_is wanted.Nothing w x e = absurd cc
+word_is wanted.Item w x e = either_word (same_bytes w (codes "feature")) w (lexeme.Keyword w) x refl e
+word_is wanted.Identifier w x e = identifier_word w x e
+word_is wanted.Value w x e = either_word (same_bytes w (codes "word") || same_bytes w (codes "position")) w (lexeme.Keyword w) x refl e
+word_is wanted.Label w x e = ap is_word (sym (guard_some (is_among labels w) (lexeme.Label w) x e).1)
+word_is wanted.Kind w x e = ap is_word (sym (guard_some (is_among kinds w) (lexeme.Kind w) x e).1)
+word_is wanted.Variable w x e = ap is_word (sym (guard_some (is_variable w) (lexeme.Variable w) x e).1)
+word_is wanted.Term w x e = either_word (is_variable w) w (lexeme.Variable w) x refl e
+
+pub word_stops : (x : Lexeme) (b : ℕ) (bs : List ℕ) → is_word x ≡ true → is_word_byte b ≡ false → goes_on x (b ∷ bs) ≡ false
+word_stops (lexeme.Identifier w) b bs h n = n
+word_stops (lexeme.Variable w) b bs h n = n
+word_stops (lexeme.Keyword w) b bs h n = n
+word_stops (lexeme.Label w) b bs h n = n
+word_stops (lexeme.Kind w) b bs h n = n
+word_stops (lexeme.Terminal t) b bs h n = absurd cc
+word_stops (lexeme.Sign s) b bs h n = absurd cc
+
+pub ends_all : (x : Lexeme) → goes_on x [] ≡ false
+ends_all (lexeme.Identifier w) = refl
+ends_all (lexeme.Variable w) = refl
+ends_all (lexeme.Keyword w) = refl
+ends_all (lexeme.Label w) = refl
+ends_all (lexeme.Kind w) = refl
+ends_all (lexeme.Terminal t) = refl
+ends_all (lexeme.Sign sign.Weak) = refl
+ends_all (lexeme.Sign sign.Minus) = refl
+ends_all (lexeme.Sign _) = refl

@@ -7,6 +7,7 @@ pub mod Spelled
 pub mod Streamed
 pub mod SmallestSound
 pub mod SoundNames
+pub mod OneReading
 pub mod Ordered
 pub mod ReadBack
 pub mod RuleBack

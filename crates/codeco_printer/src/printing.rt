@@ -1,8 +1,9 @@
 // Grammars, printed in their notation.
-ghost use Rattle.std.specs.Prelude.{◌≡◌, ◌≤◌, ◌||◌, nat_lt, OnOk, IfOk, false, [], ◌∷◌, ◌++◌, map, flat_map, length, take, drop, option_map};
+ghost use Rattle.std.specs.Prelude.{◌≡◌, ◌≤◌, ◌||◌, nat_lt, OnOk, IfOk, false, [], ◌∷◌, ◌++◌, map, flat_map, length, take, drop, option_map, List};
 ghost use Rattle.codeco_text.specs.declared.symbols.Lexeme.TheVariants as lexeme;
 ghost use Rattle.codeco_text.specs.declared.symbols.Sign.TheVariants as sign;
 ghost use Rattle.codeco_text.specs.declared.written.Domain.TheVariants as domain;
+ghost use Rattle.codeco_text.specs.declared.written.WrittenItem.{WrittenItem};
 ghost use Rattle.codeco_text.specs.declared.written.WrittenItem.TheVariants as item;
 ghost use Rattle.codeco_text.specs.Notation.{
   term_lexemes,
@@ -377,7 +378,7 @@ pub fn print_grammar(alloc: Global, grammar: &CheckedGrammar) -> Result<Text8, M
     ensures spelling { IfOk result (λ text. IsSpelling text (written_of grammar.now)) }
 
     // The text is read back as an equal grammar, and without one of its spaces it would be read otherwise.
-    ensures read_back { OnOk result (numbered_of (written_of grammar.now) ≡ grammar.now) }
+    ensures read_back { IfOk result (λ text. (items : List WrittenItem) → IsSpelling text items → numbered_of items ≡ grammar.now) }
     ensures spaces { OnOk result (NeedsSpaces (lexemes (written_of grammar.now))) }
 {
     Ok(print_parts(alloc, grammar.grammar())?.into_text())

@@ -3,3 +3,4 @@ pub mod OccurrenceLemmas
 pub mod InstanceLemmas
 pub mod StandLemmas
 pub mod LimitLemmas
+pub mod PieceLemmas

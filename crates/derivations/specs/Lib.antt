@@ -4,3 +4,4 @@ pub mod Instances
 pub mod Derives
 pub mod Stands
 pub mod Sentences
+pub mod Cutting

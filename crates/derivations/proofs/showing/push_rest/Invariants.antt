@@ -1,0 +1,6 @@
+use Rattle.std.proofs.Common.{◌≡◌, ◌++◌, drop}
+use Rattle.derivations.specs.Cutting.{continued}
+use Rattle.derivations.proofs.showing.push_rest.Given as goal
+
+abbrev pub invariant-loop-place : goal.invariant-loop-place
+invariant-loop-place l = l.text ++ continued (drop l.place l.tokens) ≡ l.initial.text ++ continued l.tokens

@@ -1,0 +1,88 @@
+// How tokens are shown as a text.
+ghost use Rattle.std.specs.Prelude.{◌≡◌, ◌++◌, ◌∷◌, [], ◌&&◌, if◌then◌else◌, IfOk, OnOk};
+ghost use Rattle.lexicon.specs.Terminals.{raised};
+ghost use Rattle.derivations.specs.Cutting.{cut_of, shown, shown_first, continued, gap, is_mark_token, IsShowable};
+
+use crate::cutting::is_terminal;
+use crate::pieces::is_mark;
+use codeco_terms::{Grammar, Symbols};
+use std::alloc::Global;
+use wiki_base::{Memory, Text8, Token, Tokens};
+
+/// The text of a list of tokens: they stand joined by single spaces, with no space before a last token `.` or `?`, and
+/// a first token that is a terminal has its first letter (a to z) raised to upper case.
+pub fn show(alloc: Global, grammar: &Grammar, tokens: &Tokens) -> Result<Text8, Memory>
+    ensures exact { IfOk result (λ text. text ≡ shown grammar.now.terminals tokens.now) }
+    ensures again { IfOk result (λ text.
+        IsShowable grammar.now.terminals tokens.now → cut_of grammar.now.terminals text ≡ tokens.now) }
+{
+    let mut text = Text8::new(alloc);
+    push_tokens(grammar.terminals(), tokens.as_slice(), &mut text)?;
+    Ok(text)
+}
+
+// Adds what shows the tokens.
+fn push_tokens(terminals: &Symbols, tokens: &[Token], text: &mut Text8) -> Result<(), Memory>
+    ensures { OnOk result (text.new ≡ text.old ++ shown terminals.now tokens.now) }
+{
+    if let [first, rest @ ..] = tokens {
+        push_first(terminals, first.as_str().as_bytes(), text)?;
+        push_rest(rest, text)?;
+    }
+    Ok(())
+}
+
+// Adds the first token, raised where it is a terminal.
+fn push_first(terminals: &Symbols, token: &[u8], text: &mut Text8) -> Result<(), Memory>
+    ensures { OnOk result (text.new ≡ text.old ++ shown_first terminals.now token.now) }
+{
+    if is_terminal(terminals, token) {
+        push_raised(token, text)
+    } else {
+        text.extend(token)
+    }
+}
+
+// Adds the token with its first letter in upper case.
+fn push_raised(token: &[u8], text: &mut Text8) -> Result<(), Memory>
+    ensures { OnOk result (text.new ≡ text.old ++ raised token.now) }
+{
+    if let [letter, rest @ ..] = token {
+        text.extend(&[letter.to_ascii_uppercase()])?;
+        text.extend(rest)?;
+    }
+    Ok(())
+}
+
+// Adds the tokens after the first, each behind its gap.
+fn push_rest(tokens: &[Token], text: &mut Text8) -> Result<(), Memory>
+    ensures { OnOk result (text.new ≡ text.old ++ continued tokens.now) }
+{
+    for (place, token) in tokens.iter().enumerate() {
+        let bytes = token.as_str().as_bytes();
+        push_gap(bytes, place + 1 == tokens.len(), text)?;
+        text.extend(bytes)?;
+    }
+    Ok(())
+}
+
+// Adds what stands before a token that isn't the first: a space, but nothing before a last mark.
+fn push_gap(token: &[u8], is_last: bool, text: &mut Text8) -> Result<(), Memory>
+    ensures { OnOk result
+        (text.new ≡ text.old ++ (if is_last && is_mark_token token.now then [] else 32 ∷ [])) }
+{
+    if is_last && is_mark_token(token) {
+        Ok(())
+    } else {
+        text.extend(b" ")
+    }
+}
+
+fn is_mark_token(token: &[u8]) -> bool
+    ensures { result ≡ is_mark_token token.now }
+{
+    match token {
+        [byte] => is_mark(*byte),
+        _ => false,
+    }
+}

@@ -4,3 +4,4 @@ pub mod InstanceLemmas
 pub mod StandLemmas
 pub mod LimitLemmas
 pub mod PieceLemmas
+pub mod WordLemmas

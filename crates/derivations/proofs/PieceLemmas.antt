@@ -16,15 +16,15 @@ use Rattle.derivations.specs.Cutting.{is_kept, pieces, is_mark, ends_with_mark, 
 
 -- Texts without a space
 
-and_both : (a b : Bool) → (a && b) ≡ true → (a ≡ true) × (b ≡ true)
+pub and_both : (a b : Bool) → (a && b) ≡ true → (a ≡ true) × (b ≡ true)
 and_both true b h = (refl, h)
 and_both false b h = cc
 
-not_true : (a : Bool) → not a ≡ true → a ≡ false
+pub not_true : (a : Bool) → not a ≡ true → a ≡ false
 not_true true h = cc
 not_true false h = refl
 
-true_and : (a b : Bool) → a ≡ true → b ≡ true → (a && b) ≡ true
+pub true_and : (a b : Bool) → a ≡ true → b ≡ true → (a && b) ≡ true
 true_and a b h k = ap (λ x. x && b) h ∙ k
 
 pub no_space_take : (n : ℕ) (bs : List ℕ) → has_no_space bs ≡ true → has_no_space (take n bs) ≡ true
@@ -112,7 +112,7 @@ parted_unmarked t h = ap (λ b. if b then take (length t - 1) t ∷ drop (length
 above : (n : ℕ) (m : ℕ) → nat_lt 0 n ≡ true → m ≡ n + 1 → nat_lt 1 m ≡ true
 above n m h e = grind (arith, nat_tests)
 
-above_zero : (n : ℕ) (m : ℕ) → m ≡ n + 1 → nat_lt 0 m ≡ true
+pub above_zero : (n : ℕ) (m : ℕ) → m ≡ n + 1 → nat_lt 0 m ≡ true
 above_zero n m e = grind (arith, nat_tests)
 
 parted_mark : (t : List ℕ) (m : ℕ) → is_kept t ≡ true → is_mark m ≡ true → parted (t ++ m ∷ []) ≡ t ∷ (m ∷ []) ∷ []
@@ -124,10 +124,10 @@ parted_mark t m k h =
 
 -- What is shown is cut into the same tokens
 
-record Whole (t : List ℕ) : Type 0 where
-  kept : is_kept t ≡ true
-  spaceless : has_no_space t ≡ true
-  unmarked : ends_with_mark t ≡ false
+pub record Whole (t : List ℕ) : Type 0 where
+  pub kept : is_kept t ≡ true
+  pub spaceless : has_no_space t ≡ true
+  pub unmarked : ends_with_mark t ≡ false
 
 whole_parts : (t : List ℕ) → is_whole t ≡ true → Whole t
 whole_parts t h =
@@ -135,7 +135,7 @@ whole_parts t h =
     let inner = and_both (is_kept t) (has_no_space t) outer.0 in
     record { kept = inner.0; spaceless = inner.1; unmarked = not_true (ends_with_mark t) outer.1 }
 
-whole_from_parts : (t : List ℕ) → Whole t → is_whole t ≡ true
+pub whole_from_parts : (t : List ℕ) → Whole t → is_whole t ≡ true
 whole_from_parts t w =
     true_and (is_kept t && has_no_space t) (not (ends_with_mark t)) (true_and (is_kept t) (has_no_space t) w.kept w.spaceless) (ap not w.unmarked)
 

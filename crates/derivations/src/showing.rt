@@ -1,7 +1,8 @@
 // How tokens are shown as a text.
 ghost use Rattle.std.specs.Prelude.{◌≡◌, ◌++◌, ◌∷◌, [], ◌&&◌, if◌then◌else◌, IfOk, OnOk};
+ghost use Rattle.codeco_reader.specs.Sound.{IsSound};
 ghost use Rattle.lexicon.specs.Terminals.{raised};
-ghost use Rattle.derivations.specs.Cutting.{cut_of, shown, shown_first, continued, gap, is_mark_token, IsShowable};
+ghost use Rattle.derivations.specs.Cutting.{cut_of, shown, shown_first, continued, gap, is_mark_token, IsShowable, AreWords};
 
 use crate::cutting::is_terminal;
 use crate::pieces::is_mark;
@@ -15,6 +16,8 @@ pub fn show(alloc: Global, grammar: &Grammar, tokens: &Tokens) -> Result<Text8, 
     ensures exact { IfOk result (λ text. text ≡ shown grammar.now.terminals tokens.now) }
     ensures again { IfOk result (λ text.
         IsShowable grammar.now.terminals tokens.now → cut_of grammar.now.terminals text ≡ tokens.now) }
+    ensures words { IfOk result (λ text.
+        IsSound grammar.now → AreWords grammar.now.terminals tokens.now → cut_of grammar.now.terminals text ≡ tokens.now) }
 {
     let mut text = Text8::new(alloc);
     push_tokens(grammar.terminals(), tokens.as_slice(), &mut text)?;

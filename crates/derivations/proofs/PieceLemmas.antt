@@ -1,7 +1,7 @@
 -- The pieces of a text, and the mark at the end of the last.
-use Rattle.std.proofs.Common.{◌≡◌, ℕ, suc, zero, ◌+◌, ◌-◌, ◌<◌, ◌≤◌, List, [], ◌∷◌, ◌++◌, Bool, true, false, not, ◌&&◌, ◌||◌, map, filter, length, take, drop, get_or, refl, sym, ap, ◌∙◌, subst, arith, nat_eq, nat_lt, cond, append-nil, append_assoc, inl, inr, ◌⊎◌, ◌≢◌, Option, None, Some, MatchOption, Bor, length-append}
+use Rattle.std.proofs.Common.{◌≡◌, ℕ, suc, zero, ◌+◌, ◌-◌, ◌<◌, ◌≤◌, List, [], ◌∷◌, ◌++◌, Bool, true, false, not, ◌&&◌, filter, length, take, drop, get_or, refl, sym, ap, ◌∙◌, arith, nat_lt, append-nil, append_assoc, inl, inr, ◌⊎◌, ◌≢◌, Option, None, Some, MatchOption, Bor, length-append}
 use Rattle.std.specs.Prelude.{if◌then◌else◌, ◌==◌, slice_index}
-use Rattle.std.specs.List.{list_all, list_any, slice_split, onto_first}
+use Rattle.std.specs.List.{list_all, slice_split, onto_first}
 use Rattle.std.specs.Char.{to_ascii_lowercase, to_ascii_uppercase}
 use Rattle.std.proofs.lemmas.Bool.{cases_lt}
 use Rattle.std.proofs.lemmas.Bool.Decides.{nat_tests}

@@ -1,7 +1,7 @@
 -- Terminals and the forms of words are whole tokens.
-use Rattle.std.proofs.Common.{◌≡◌, ℕ, suc, zero, ◌+◌, ◌-◌, ◌<◌, ◌≤◌, List, [], ◌∷◌, ◌++◌, Bool, true, false, not, ◌&&◌, ◌||◌, length, get_or, Option, None, Some, option_map, refl, sym, ap, ◌∙◌, subst, arith, nat_eq, nat_lt, inl, inr, ◌⊎◌, IsTrue, All}
+use Rattle.std.proofs.Common.{◌≡◌, ℕ, suc, ◌+◌, ◌-◌, ◌<◌, List, [], ◌∷◌, Bool, true, false, not, ◌&&◌, ◌||◌, length, get_or, Option, None, Some, option_map, refl, sym, ap, ◌∙◌, arith, nat_lt, inl, inr, All}
 use Rattle.std.specs.Prelude.{if◌then◌else◌, ◌==◌, slice_index, encode_utf8}
-use Rattle.std.specs.List.{list_all, list_any}
+use Rattle.std.specs.List.{list_all}
 use Rattle.std.specs.Str.{chars, IsUtf8, NonePass, NoCharPasses, bytes_eq}
 use Rattle.std.proofs.lemmas.Bool.Decides.{nat_tests}
 use Rattle.std.proofs.lemmas.Slice.Eq.{bytes_eq-Decides}
@@ -9,11 +9,9 @@ use Rattle.std.proofs.lemmas.Str.{encodes-chars, NoCharPasses-byte}
 use Rattle.ucd_derived.specs.Binary.{is_alphabetic}
 use Rattle.ucd_derived.specs.AlphabeticRanges.{alphabetic_ranges}
 use Rattle.ucd_table.specs.Rows.{in_ranges}
-use Rattle.wiki_base.specs.declared.text.BadText.{BadText}
 use Rattle.wiki_base.specs.declared.text.BadText.TheVariants.{TooLong, Letter}
-use Rattle.wiki_base.specs.Text.{is_letter, begins_with_letter, is_in_place, misplaced, fault_of, IsText}
+use Rattle.wiki_base.specs.Text.{is_letter, begins_with_letter, is_in_place, misplaced, IsText}
 use Rattle.wiki_base.specs.Token.{has_no_space}
-use Rattle.lexicon.specs.Terminals.{matches_terminal}
 use Rattle.codeco_text.specs.Names.{is_terminal_byte, ends_well, is_terminal}
 use Rattle.codeco_terms.specs.GrammarParts.{GrammarParts}
 use Rattle.codeco_reader.specs.Sound.{IsSound}

@@ -1,12 +1,21 @@
-use Rattle.std.proofs.Common.{◌≡◌, ◌++◌, ap, ◌∙◌}
+use Rattle.std.proofs.Common.{◌≡◌, ◌++◌, ap, sym, subst, ◌∙◌}
+use Rattle.std.specs.String.{string_bytes}
+use Rattle.std.specs.Str.{IsUtf8}
+use Rattle.std.proofs.lemmas.Str.{IsUtf8-string_bytes}
 use Rattle.derivations.specs.Cutting.{cut_of, shown}
 use Rattle.derivations.proofs.PieceLemmas.{cut_shown}
 use Rattle.derivations.proofs.WordLemmas.{cut_shown_words}
 use Rattle.derivations.proofs.showing.show.Goals as goal
 
-exact : (c : goal.In_ok-push_tokens) → c.push_tokens.new.text ≡ shown c.args.grammar.now.terminals c.args.tokens.now
+bytes : (c : goal.After-from_vec) → c.from_vec.result ≡ string_bytes c.push_tokens.new.text
+bytes c = c.from_vec.ensures ∙ ap (λ v. v.items) c.into_bytes.ensures.value
+
+exact : (c : goal.After-from_vec) → c.from_vec.result ≡ shown c.args.grammar.now.terminals c.args.tokens.now
 exact c =
-    c.in_ok-push_tokens.ensures ∙ ap (λ x. x ++ shown c.terminals.result.now c.as_slice.result.now) c.new-text.ensures ∙ ap (λ x. shown x c.as_slice.result.now) c.terminals.ensures ∙ ap (shown c.args.grammar.now.terminals) c.as_slice.ensures
+    bytes c ∙ c.in_ok-push_tokens.ensures ∙ ap (λ x. x ++ shown c.terminals.result.now c.as_slice.result.now) c.new-text.ensures.bytes ∙ ap (λ x. shown x c.as_slice.result.now) c.terminals.ensures ∙ ap (shown c.args.grammar.now.terminals) c.as_slice.ensures
+
+pub returns-clause-utf8 : goal.returns-clause-utf8
+returns-clause-utf8 c = subst IsUtf8 (sym (bytes c)) (IsUtf8-string_bytes c.push_tokens.new.text)
 
 pub returns-clause-again : goal.returns-clause-again
 returns-clause-again c h =

@@ -160,7 +160,7 @@ back_last t [] w v = back_more t [] [] w refl (back_one [] v)
 back_last t (m ∷ []) w v = back_last_at t m (is_mark m) refl w v
 back_last t (m ∷ n ∷ ns) w v = back_more t (m ∷ n ∷ ns) [] w refl (back_one (m ∷ n ∷ ns) v)
 
-more_left : (u : List ℕ) (v : List ℕ) (vs : List (List ℕ)) → gap u (v ∷ vs) ≡ 32 ∷ []
+pub more_left : (u : List ℕ) (v : List ℕ) (vs : List (List ℕ)) → gap u (v ∷ vs) ≡ 32 ∷ []
 more_left u v vs =
     let some : (length (v ∷ vs) == 0) ≡ false = grind (arith, nat_tests) in
     ap (λ b. if b && is_mark_token u then [] else 32 ∷ []) some

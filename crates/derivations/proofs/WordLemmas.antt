@@ -1,11 +1,13 @@
 -- Terminals and the forms of words are whole tokens.
-use Rattle.std.proofs.Common.{◌≡◌, ℕ, suc, ◌+◌, ◌-◌, ◌<◌, List, [], ◌∷◌, Bool, true, false, not, ◌&&◌, ◌||◌, length, get_or, Option, None, Some, option_map, refl, sym, ap, ◌∙◌, arith, nat_lt, inl, inr, All}
+use Rattle.std.proofs.Common.{◌≡◌, ℕ, suc, ◌+◌, ◌-◌, ◌<◌, List, [], ◌∷◌, Bool, true, false, not, ◌&&◌, ◌||◌, length, get_or, Option, None, Some, option_map, refl, sym, ap, ◌∙◌, arith, nat_lt, inl, inr, All, ◌++◌, subst, drop, length-append, append-nil, append_assoc, lit<, zero}
 use Rattle.std.specs.Prelude.{if◌then◌else◌, ◌==◌, slice_index, encode_utf8}
 use Rattle.std.specs.List.{list_all}
-use Rattle.std.specs.Str.{chars, IsUtf8, NonePass, NoCharPasses, bytes_eq}
+use Rattle.std.specs.Str.{chars, IsUtf8, NonePass, NoCharPasses, bytes_eq, IsAscii}
 use Rattle.std.proofs.lemmas.Bool.Decides.{nat_tests}
 use Rattle.std.proofs.lemmas.Slice.Eq.{bytes_eq-Decides}
-use Rattle.std.proofs.lemmas.Str.{encodes-chars, NoCharPasses-byte}
+use Rattle.std.proofs.lemmas.Str.{encodes-chars, NoCharPasses-byte, IsUtf8-take, IsUtf8-drop, IsUtf8-from_ascii, IsCharBoundary-before_ascii, IsCharBoundary-after_ascii}
+use Rattle.std.proofs.lemmas.List.{take_at, drop_at, length_push, get_or_at}
+use Rattle.lexicon.specs.Terminals.{raised}
 use Rattle.ucd_derived.specs.Binary.{is_alphabetic}
 use Rattle.ucd_derived.specs.AlphabeticRanges.{alphabetic_ranges}
 use Rattle.ucd_table.specs.Rows.{in_ranges}
@@ -16,8 +18,8 @@ use Rattle.codeco_text.specs.Names.{is_terminal_byte, ends_well, is_terminal}
 use Rattle.codeco_terms.specs.GrammarParts.{GrammarParts}
 use Rattle.codeco_reader.specs.Sound.{IsSound}
 use Rattle.derivations.specs.Cutting as cutting
-use Rattle.derivations.specs.Cutting.{is_kept, is_mark, ends_with_mark, is_whole, shown, cut_of, FirstIsNotRaised, IsWord, AreWords}
-use Rattle.derivations.proofs.PieceLemmas.{and_both, not_true, true_and, above_zero, Whole, whole_from_parts, no_space_from_bytes, cut_shown}
+use Rattle.derivations.specs.Cutting.{is_kept, is_mark, ends_with_mark, is_whole, shown, cut_of, FirstIsNotRaised, IsWord, AreWords, gap, continued, shown_first}
+use Rattle.derivations.proofs.PieceLemmas.{and_both, not_true, true_and, above_zero, Whole, whole_from_parts, no_space_from_bytes, cut_shown, more_left}
 
 -- Terminals
 
@@ -167,18 +169,73 @@ whole_text (b ∷ bs) utf8 h =
       unmarked = unmarked_from_last b bs (mark_fails (get_or (b ∷ bs) (length bs) 0) (is_mark (get_or (b ∷ bs) (length bs) 0)) refl (λ low. NoCharPasses-byte is_other (b ∷ bs) (length bs) none (omega arith) low));
     }
 
+-- Each token of a text in UTF-8 is in UTF-8
+
+abbrev AllUtf8 : List (List ℕ) → Type 0
+AllUtf8 [] = Unit {0}
+AllUtf8 (t ∷ ts) = IsUtf8 t × AllUtf8 ts
+
+split_utf8 : (xs ys : List ℕ) (b : ℕ) → b < 128 → IsUtf8 (xs ++ b ∷ ys) → IsUtf8 xs × IsUtf8 ys
+split_utf8 xs ys b low utf8 =
+    let there : length xs < length (xs ++ b ∷ ys) = omega (arith, length-append xs (b ∷ ys)) in
+    let small : get_or (xs ++ b ∷ ys) (length xs) 0 < 128 = omega (arith, get_or_at xs b ys 0 (length xs) refl) in
+    let rest : drop (length xs + 1) (xs ++ b ∷ ys) ≡ ys = ap (drop (length xs + 1)) (sym (append_assoc xs (b ∷ []) ys)) ∙ drop_at (xs ++ b ∷ []) ys (length xs + 1) (length_push xs b) in
+    (subst IsUtf8 (take_at xs (b ∷ ys) (length xs) refl) (IsUtf8-take (xs ++ b ∷ ys) (length xs) utf8 (IsCharBoundary-before_ascii (xs ++ b ∷ ys) (length xs) there small)), subst IsUtf8 rest (IsUtf8-drop (xs ++ b ∷ ys) (length xs + 1) utf8 (IsCharBoundary-after_ascii (xs ++ b ∷ ys) (length xs) utf8 there small)))
+
+utf8_space : (t u : List ℕ) (us : List (List ℕ)) → gap u us ≡ 32 ∷ [] → IsUtf8 (t ++ continued (u ∷ us)) → IsUtf8 t × IsUtf8 (u ++ continued us)
+utf8_space t u us g h =
+    split_utf8 t (u ++ continued us) 32 (lit< tt) (subst IsUtf8 (ap (λ x. t ++ (x ++ u ++ continued us)) g) h)
+
+ascii_one : (m : ℕ) → m < 128 → IsAscii (m ∷ [])
+ascii_one m low zero = low
+ascii_one m low (suc i) = lit< tt
+
+utf8_mark : (t : List ℕ) (m : ℕ) (b : Bool) → is_mark m ≡ b → IsUtf8 (t ++ continued ((m ∷ []) ∷ [])) → IsUtf8 t × AllUtf8 ((m ∷ []) ∷ [])
+utf8_mark t m true is h =
+    let whole : IsUtf8 (t ++ m ∷ []) = subst IsUtf8 (ap (λ b. t ++ ((if b then [] else 32 ∷ []) ++ (m ∷ []) ++ [])) is) h in
+    ((split_utf8 t [] m (low_mark m is) whole).0, (IsUtf8-from_ascii (m ∷ []) (ascii_one m (low_mark m is)), tt))
+utf8_mark t m false is h =
+    let parts = utf8_space t (m ∷ []) [] (ap (λ b. if b then [] else 32 ∷ []) is) h in
+    (parts.0, (parts.1, tt))
+
+utf8_last : (t u : List ℕ) → IsUtf8 (t ++ continued (u ∷ [])) → IsUtf8 t × AllUtf8 (u ∷ [])
+utf8_last t [] h = let parts = utf8_space t [] [] refl h in (parts.0, (parts.1, tt))
+utf8_last t (m ∷ []) h = utf8_mark t m (is_mark m) refl h
+utf8_last t (m ∷ n ∷ ns) h =
+    let parts = utf8_space t (m ∷ n ∷ ns) [] refl h in
+    (parts.0, (subst IsUtf8 (append-nil (m ∷ n ∷ ns)) parts.1, tt))
+
+utf8_tokens : (t : List ℕ) (ts : List (List ℕ)) → IsUtf8 (t ++ continued ts) → IsUtf8 t × AllUtf8 ts
+utf8_tokens t [] h = (subst IsUtf8 (append-nil t) h, tt)
+utf8_tokens t (u ∷ []) h = utf8_last t u h
+utf8_tokens t (u ∷ v ∷ vs) h =
+    let parts = utf8_space t u (v ∷ vs) (more_left u v vs) h in
+    (parts.0, utf8_tokens u (v ∷ vs) parts.1)
+
 -- Terminals and forms
 
-whole_word : (terminals : List (List ℕ)) (t : List ℕ) → list_all is_terminal terminals ≡ true → IsWord terminals t → Whole t
-whole_word terminals t written (inl among) = whole_terminal t (spelled terminals t written among)
-whole_word terminals t written (inr text) = whole_text t text.0 text.1
+whole_word : (terminals : List (List ℕ)) (t : List ℕ) → list_all is_terminal terminals ≡ true → IsUtf8 t → IsWord terminals t → Whole t
+whole_word terminals t written utf8 (inl among) = whole_terminal t (spelled terminals t written among)
+whole_word terminals t written utf8 (inr text) = whole_text t utf8 text
 
-whole_words : (terminals tokens : List (List ℕ)) → list_all is_terminal terminals ≡ true → All (IsWord terminals) tokens → list_all is_whole tokens ≡ true
-whole_words terminals [] written words = refl
-whole_words terminals (t ∷ ts) written words =
-    true_and (is_whole t) (list_all is_whole ts) (whole_from_parts t (whole_word terminals t written (words 0 t (omega arith)))) (whole_words terminals ts written (λ k d lt. words (suc k) d (omega arith)))
+whole_words : (terminals tokens : List (List ℕ)) → list_all is_terminal terminals ≡ true → AllUtf8 tokens → All (IsWord terminals) tokens → list_all is_whole tokens ≡ true
+whole_words terminals [] written utf8 words = refl
+whole_words terminals (t ∷ ts) written utf8 words =
+    true_and (is_whole t) (list_all is_whole ts) (whole_from_parts t (whole_word terminals t written utf8.0 (words 0 t (omega arith)))) (whole_words terminals ts written utf8.1 (λ k d lt. words (suc k) d (omega arith)))
+
+-- the first token, where the token as shown is in UTF-8
+whole_first : (terminals : List (List ℕ)) (t : List ℕ) (b : Bool) → cutting.is_terminal terminals t ≡ b → list_all is_terminal terminals ≡ true → IsUtf8 (shown_first terminals t) → IsWord terminals t → Whole t
+whole_first terminals t true is written utf8 word = whole_terminal t (spelled terminals t written is)
+whole_first terminals t false is written utf8 word =
+    whole_word terminals t written (subst IsUtf8 (ap (λ b. if b then raised t else t) is) utf8) word
+
+all_whole : (terminals tokens : List (List ℕ)) → list_all is_terminal terminals ≡ true → IsUtf8 (shown terminals tokens) → All (IsWord terminals) tokens → list_all is_whole tokens ≡ true
+all_whole terminals [] written utf8 words = refl
+all_whole terminals (t ∷ ts) written utf8 words =
+    let each = utf8_tokens (shown_first terminals t) ts utf8 in
+    true_and (is_whole t) (list_all is_whole ts) (whole_from_parts t (whole_first terminals t (cutting.is_terminal terminals t) refl written each.0 (words 0 t (omega arith)))) (whole_words terminals ts written each.1 (λ k d lt. words (suc k) d (omega arith)))
 
 -- terminals of a checked grammar and forms that are shown and cut are the same tokens
-pub cut_shown_words : (g : GrammarParts) (tokens : List (List ℕ)) → IsSound g → AreWords g.terminals tokens → cut_of g.terminals (shown g.terminals tokens) ≡ tokens
-cut_shown_words g tokens sound words =
-    cut_shown g.terminals tokens (whole_words g.terminals tokens sound.written.terminals words.1) words.2
+pub cut_shown_words : (g : GrammarParts) (tokens : List (List ℕ)) → IsSound g → IsUtf8 (shown g.terminals tokens) → AreWords g.terminals tokens → cut_of g.terminals (shown g.terminals tokens) ≡ tokens
+cut_shown_words g tokens sound utf8 words =
+    cut_shown g.terminals tokens (all_whole g.terminals tokens sound.written.terminals utf8 words.1) words.2

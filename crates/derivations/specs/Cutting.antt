@@ -2,7 +2,6 @@
 use Rattle.std.specs.Prelude.{◌≡◌, ℕ, ◌-◌, ◌<◌, ◌≤◌, Bool, true, false, ◌&&◌, ◌||◌, not, IsTrue, ◌==◌, nat_lt, if◌then◌else◌, List, [], ◌∷◌, ◌++◌, length, take, drop, filter, slice_index, ◌⊎◌, All}
 use Rattle.std.specs.Char.{to_ascii_lowercase}
 use Rattle.std.specs.List.{list_any, list_all, slice_split}
-use Rattle.std.specs.Str.{IsUtf8}
 use Rattle.wiki_base.specs.Text.{IsText}
 use Rattle.wiki_base.specs.Token.{has_no_space}
 use Rattle.lexicon.specs.Terminals.{raised, matches_terminal}
@@ -99,9 +98,9 @@ FirstIsNotRaised terminals (token ∷ tokens) = IsNotRaised terminals token
 abbrev pub IsShowable : List (List ℕ) → List (List ℕ) → Type 0
 IsShowable terminals tokens = (length tokens ≤ 40) × IsTrue (list_all is_whole tokens) × FirstIsNotRaised terminals tokens
 
--- the token is a terminal, or a text in UTF-8 as each form of a word is
+-- the token is a terminal, or a text, as each form of a word is
 abbrev pub IsWord : List (List ℕ) → List ℕ → Type 0
-IsWord terminals token = IsTrue (is_terminal terminals token) ⊎ (IsUtf8 token × IsText token)
+IsWord terminals token = IsTrue (is_terminal terminals token) ⊎ IsText token
 
 -- the tokens are at most 40, each is a terminal or text as forms are, and the first isn't another terminal with its first
 -- letter raised

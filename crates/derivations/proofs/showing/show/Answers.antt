@@ -14,8 +14,11 @@ exact : (c : goal.After-from_vec) → c.from_vec.result ≡ shown c.args.grammar
 exact c =
     bytes c ∙ c.in_ok-push_tokens.ensures ∙ ap (λ x. x ++ shown c.terminals.result.now c.as_slice.result.now) c.new-text.ensures.bytes ∙ ap (λ x. shown x c.as_slice.result.now) c.terminals.ensures ∙ ap (shown c.args.grammar.now.terminals) c.as_slice.ensures
 
+utf8 : (c : goal.After-from_vec) → IsUtf8 c.from_vec.result
+utf8 c = subst IsUtf8 (sym (bytes c)) (IsUtf8-string_bytes c.push_tokens.new.text)
+
 pub returns-clause-utf8 : goal.returns-clause-utf8
-returns-clause-utf8 c = subst IsUtf8 (sym (bytes c)) (IsUtf8-string_bytes c.push_tokens.new.text)
+returns-clause-utf8 c = utf8 c
 
 pub returns-clause-again : goal.returns-clause-again
 returns-clause-again c h =
@@ -23,4 +26,4 @@ returns-clause-again c h =
 
 pub returns-clause-words : goal.returns-clause-words
 returns-clause-words c sound words =
-    ap (cut_of c.args.grammar.now.terminals) (exact c) ∙ cut_shown_words c.args.grammar.now c.args.tokens.now sound words
+    ap (cut_of c.args.grammar.now.terminals) (exact c) ∙ cut_shown_words c.args.grammar.now c.args.tokens.now sound (subst IsUtf8 (exact c) (utf8 c)) words

@@ -83,11 +83,7 @@ fn names_are_added_and_found(rt: HostRuntime) -> Result<(), Fail> {
 }
 
 // Asserts that these lines, sent one after another, have these replies.
-fn assert_replies(
-    rt: &impl Abort,
-    alloc: Global,
-    exchange: &[(&str, &str)],
-) -> Result<(), Fail> {
+fn assert_replies(rt: &impl Abort, alloc: Global, exchange: &[(&str, &str)]) -> Result<(), Fail> {
     let mut input = String::new(alloc);
     let mut replies = String::new(alloc);
     for (line, reply) in exchange {
@@ -145,7 +141,10 @@ fn words_of_every_kind_are_told_with_their_forms(rt: HostRuntime) -> Result<(), 
                 r#"{"do":"find","word":"part"}"#,
                 r#"{"done":"find","word":{"forms":["part"],"kind":"of"}}"#,
             ),
-            (r#"{"do":"word","kind":"adjective","forms":["located-in"]}"#, done),
+            (
+                r#"{"do":"word","kind":"adjective","forms":["located-in"]}"#,
+                done,
+            ),
             (
                 r#"{"do":"find","word":"located-in"}"#,
                 r#"{"done":"find","word":{"forms":["located-in"],"kind":"adjective"}}"#,

@@ -1,5 +1,5 @@
 -- A word of new forms at the end of a lexicon.
-use Rattle.std.proofs.Common.{◌≡◌, ℕ, zero, suc, ◌+◌, ◌<◌, ◌≤◌, ◌^◌, Bool, true, false, cond, ◌||◌, List, [], ◌∷◌, ◌++◌, length, get_or, Option, Some, None, find, option_map, refl, sym, ap, subst, ◌∙◌, arith, length-append}
+use Rattle.std.proofs.Common.{◌≡◌, ℕ, zero, suc, ◌+◌, ◌<◌, ◌≤◌, ◌^◌, Bool, true, false, cond, ◌||◌, List, [], ◌∷◌, ◌++◌, length, get_or, Option, Some, None, find, option_map, refl, sym, ap, subst, ◌∙◌, arith, length-append, All}
 use Rattle.std.specs.Option.{option_or}
 use Rattle.std.specs.Str.{bytes_eq}
 use Rattle.std.proofs.lemmas.Bool.{false≢true}
@@ -8,6 +8,7 @@ use Rattle.std.proofs.lemmas.List.Elements.{All-push}
 use Rattle.std.proofs.lemmas.List.Quantifiers.{all_pairs_push}
 use Rattle.std.proofs.lemmas.Slice.Eq.{bytes_eq-Decides}
 use Rattle.wiki_base.specs.declared.numbers.WordId.{WordId}
+use Rattle.wiki_base.specs.Text.{IsText}
 use Rattle.lexicon.specs.declared.kinds.Forms.{Forms}
 use Rattle.lexicon.specs.declared.words.Word.{Word}
 use Rattle.lexicon.specs.declared.words.LexFault.TheVariants.{Taken, Reserved}
@@ -87,7 +88,7 @@ unreserved_texts terminals (first ∷ texts) free text among =
     by_test true false is same among free rest = subst (λ t. is_reserved terminals t ≡ false) (sym (same refl)) is
     by_test false false is same among free rest = rest free text among
 
-module _ (listed : Listed) (forms : Forms) (lexicon : IsLexicon listed) (complete : IsComplete forms) (free : forms_refusal listed.live listed.terminals forms ≡ None) (room : fullness listed ≡ None) where
+module _ (listed : Listed) (forms : Forms) (lexicon : IsLexicon listed) (complete : IsComplete forms) (texts : All IsText forms.texts) (free : forms_refusal listed.live listed.terminals forms ≡ None) (room : fullness listed ≡ None) where
   -- no form is taken, and none is reserved
   free_and_unreserved : (first_taken listed.live forms.texts ≡ None) × (first_reserved listed.terminals forms.texts ≡ None)
   free_and_unreserved = none_of_both (first_taken listed.live forms.texts) (first_reserved listed.terminals forms.texts) free
@@ -114,6 +115,7 @@ module _ (listed : Listed) (forms : Forms) (lexicon : IsLexicon listed) (complet
     in_order = all_pairs_push (λ (word later : Word). word.id.0 < later.id.0) listed.live (next_word listed forms) lexicon.in_order (λ k d in_range. omega (arith, (lexicon.given k d in_range).1));
     given = All-push (λ (word : Word). (0 < word.id.0) × (word.id.0 ≤ listed.last + 1)) listed.live (next_word listed forms) (λ k d in_range. let was = lexicon.given k d in_range in (was.0, omega (arith, was.1))) (omega arith, omega arith);
     complete = All-push (λ (word : Word). IsComplete word.forms) listed.live (next_word listed forms) lexicon.complete complete;
+    spelled = All-push (λ (word : Word). All IsText word.forms.texts) listed.live (next_word listed forms) lexicon.spelled texts;
     apart = all_pairs_push SharesNoForm listed.live (next_word listed forms) lexicon.apart new_is_apart;
     unreserved = All-push (HasNoTerminal listed.terminals) listed.live (next_word listed forms) lexicon.unreserved (unreserved_texts listed.terminals forms.texts free_and_unreserved.1);
     few = omega (arith, length-append listed.live (next_word listed forms ∷ []), room_left.0);

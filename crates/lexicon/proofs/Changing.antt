@@ -8,6 +8,7 @@ use Rattle.std.proofs.lemmas.List.Edits.{length-remove, get_or-remove_below, get
 use Rattle.std.proofs.lemmas.List.Elements.{All-filter, All-set}
 use Rattle.std.proofs.lemmas.List.Quantifiers.{all_pairs_remove}
 use Rattle.wiki_base.specs.declared.numbers.WordId.{WordId}
+use Rattle.wiki_base.specs.Text.{IsText}
 use Rattle.lexicon.specs.declared.kinds.Forms.{Forms}
 use Rattle.lexicon.specs.declared.words.Word.{Word}
 use Rattle.lexicon.specs.Kinds.{IsComplete}
@@ -89,13 +90,14 @@ module _ (listed : Listed) (lexicon : IsLexicon listed) (id : WordId) (place : �
     in_order = all_pairs_remove (λ (word later : Word). word.id.0 < later.id.0) listed.live place is.in_range lexicon.in_order;
     given = subst (λ (live : List Word). All (λ word. (0 < word.id.0) × (word.id.0 ≤ listed.last)) live) others_are (All-filter (λ w. not (has_number id w)) (λ (word : Word). (0 < word.id.0) × (word.id.0 ≤ listed.last)) listed.live lexicon.given);
     complete = subst (λ (live : List Word). All (λ word. IsComplete word.forms) live) others_are (All-filter (λ w. not (has_number id w)) (λ (word : Word). IsComplete word.forms) listed.live lexicon.complete);
+    spelled = subst (λ (live : List Word). All (λ word. All IsText word.forms.texts) live) others_are (All-filter (λ w. not (has_number id w)) (λ (word : Word). All IsText word.forms.texts) listed.live lexicon.spelled);
     apart = all_pairs_remove SharesNoForm listed.live place is.in_range lexicon.apart;
     unreserved = subst (λ (live : List Word). All (HasNoTerminal listed.terminals) live) others_are (All-filter (λ w. not (has_number id w)) (HasNoTerminal listed.terminals) listed.live lexicon.unreserved);
     few = omega (arith, length-remove listed.live place is.in_range, lexicon.few);
     last_fits = lexicon.last_fits;
   }
 
-  module _ (forms : Forms) (word : Word) (at : word ≡ get_or listed.live place word) (complete : IsComplete forms) (free : forms_refusal (others listed.live id) listed.terminals forms ≡ None) where
+  module _ (forms : Forms) (word : Word) (at : word ≡ get_or listed.live place word) (complete : IsComplete forms) (texts : All IsText forms.texts) (free : forms_refusal (others listed.live id) listed.terminals forms ≡ None) where
     -- the word with its new forms
     abbrev reworded : Word
     reworded = record { id = word.id; forms = forms }
@@ -146,6 +148,7 @@ module _ (listed : Listed) (lexicon : IsLexicon listed) (id : WordId) (place : �
       in_order = pairs_set (λ (w later : Word). w.id.0 < later.id.0) listed.live place reworded is.in_range lexicon.in_order (λ k d before. omega (arith, numbered d, lexicon.in_order k place d before is.in_range)) (λ k d after in_range. omega (arith, numbered d, lexicon.in_order place k d after in_range));
       given = All-set (λ (w : Word). (0 < w.id.0) × (w.id.0 ≤ listed.last)) listed.live place reworded (let was = lexicon.given place word is.in_range in (omega (arith, numbered word, was.0), omega (arith, numbered word, was.1))) lexicon.given;
       complete = All-set (λ (w : Word). IsComplete w.forms) listed.live place reworded complete lexicon.complete;
+      spelled = All-set (λ (w : Word). All IsText w.forms.texts) listed.live place reworded texts lexicon.spelled;
       apart = apart_with_forms;
       unreserved = All-set (HasNoTerminal listed.terminals) listed.live place reworded (unreserved_texts listed.terminals forms.texts free_and_unreserved.1) lexicon.unreserved;
       few = omega (arith, length-set listed.live place reworded, lexicon.few);

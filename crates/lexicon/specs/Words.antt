@@ -4,6 +4,7 @@ use Rattle.std.specs.Option.{option_or, option_map_or}
 use Rattle.std.specs.List.{list_any, HoldsAt}
 use Rattle.std.specs.Str.{bytes_eq}
 use Rattle.wiki_base.specs.declared.numbers.WordId.{WordId}
+use Rattle.wiki_base.specs.Text.{IsText}
 use Rattle.lexicon.specs.declared.kinds.Forms.{Forms}
 use Rattle.lexicon.specs.declared.words.Word.{Word}
 use Rattle.lexicon.specs.declared.words.LexFault.{LexFault}
@@ -50,12 +51,13 @@ abbrev pub HasNoTerminal : List (List ℕ) → Word → Type 0
 HasNoTerminal terminals word = (text : List ℕ) → has_form text word ≡ true → is_reserved terminals text ≡ false
 
 -- The words stand in order of number, each number is above 0 and at most the last one given, each word has the forms
--- of its kind, and no form of a word is a form of another word, a terminal, or a terminal with its first letter
--- raised. After Kuhn's lexicon of five kinds of words; the rule on forms is this wiki's own.
+-- of its kind, each form is a text, and no form of a word is a form of another word, a terminal, or a terminal with
+-- its first letter raised. After Kuhn's lexicon of five kinds of words; the rule on forms is this wiki's own.
 pub record IsLexicon (listed : Listed) : Type 0 where
   pub in_order : AllPairs (λ word later. word.id.0 < later.id.0) listed.live
   pub given : All (λ word. (0 < word.id.0) × (word.id.0 ≤ listed.last)) listed.live
   pub complete : All (λ word. IsComplete word.forms) listed.live
+  pub spelled : All (λ word. All IsText word.forms.texts) listed.live
   pub apart : AllPairs SharesNoForm listed.live
   pub unreserved : All (HasNoTerminal listed.terminals) listed.live
   pub few : length listed.live ≤ 5000

@@ -1,6 +1,7 @@
 // The table by which a lexicon finds the word that has a form.
-ghost use Rattle.std.specs.Prelude.{◌≡◌, ℕ, ◌≤◌, List, length, map, IfOk, OnOk, None, Some, if◌then◌else◌, string_bytes};
+ghost use Rattle.std.specs.Prelude.{◌≡◌, ℕ, ◌≤◌, List, length, map, All, IfOk, OnOk, None, Some, if◌then◌else◌, string_bytes};
 ghost use Rattle.std.specs.HashMap.{get_by_text, spare};
+ghost use Rattle.wiki_base.specs.Text.{IsText};
 ghost use Rattle.lexicon.specs.Words.{is_among};
 
 use crate::kinds::Texts;
@@ -13,7 +14,8 @@ pub(crate) type Index = HashMap<String, WordId>;
 
 // The texts as keys.
 pub(crate) fn keys_of(alloc: Global, texts: &Texts) -> Result<Vec<String>, AllocError>
-    ensures { IfOk result (λ keys. map string_bytes keys.items ≡ texts.now) }
+    ensures keys { IfOk result (λ keys. map string_bytes keys.items ≡ texts.now) }
+    ensures texts { OnOk result (All IsText texts.now) }
 {
     let mut keys = Vec::with_capacity(alloc, texts.len())?;
     for text in texts.as_slice() {

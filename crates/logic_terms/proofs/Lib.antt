@@ -1,0 +1,4 @@
+pub mod Closed
+pub mod Extensions
+pub mod MeaningLemmas
+pub mod ShownLemmas

@@ -1,0 +1,12 @@
+//! Structures, classes and axioms, and what each of them says of an interpretation.
+#![tactic(auto)]
+
+mod expressions;
+mod statements;
+mod structures;
+#[cfg(test)]
+mod tests;
+
+pub use expressions::{Class, Classes, Role};
+pub use statements::{Axiom, Axioms};
+pub use structures::{Cond, Conds, Drs, Referents, Thing};

@@ -1,0 +1,19 @@
+//! Finite interpretations, and which classes, axioms and structures are true in them.
+#![tactic(auto)]
+
+mod axioms;
+mod checked;
+mod extent;
+mod interp;
+mod membership;
+mod relation;
+mod sorted;
+#[cfg(test)]
+mod tests;
+mod truth;
+
+pub use axioms::{axiom_true, is_model};
+pub use checked::CheckedModel;
+pub use interp::Interp;
+pub use membership::in_class;
+pub use truth::drs_true;

@@ -8,10 +8,10 @@ program="$root/crates/acewiki/out/acewiki"
 work="$(mktemp -d)"
 trap 'rm -rf "$work"' EXIT
 
-# Names of three letters, and then requests for them in an order that jumps about.
+# Names of four letters, none of which is a word of the grammar, and then requests for them in an order that jumps about.
 requests() { # NAMES FINDS
     awk -v names="$1" -v finds="$2" 'function name(n) {
-            return substr(abc, int(n / 676) % 26 + 1, 1) substr(abc, int(n / 26) % 26 + 1, 1) substr(abc, n % 26 + 1, 1)
+            return "N" substr(abc, int(n / 676) % 26 + 1, 1) substr(abc, int(n / 26) % 26 + 1, 1) substr(abc, n % 26 + 1, 1)
         }
         BEGIN {
             abc = "abcdefghijklmnopqrstuvwxyz"

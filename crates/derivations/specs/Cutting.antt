@@ -63,7 +63,7 @@ is_mark_token [] = false
 is_mark_token (b ∷ []) = is_mark b
 is_mark_token (b ∷ c ∷ bs) = false
 
--- what stands before a token that others follow: a space, but nothing before a last . or ?
+-- what stands before a token that is not the first, with those that follow it: a space, but nothing before a last . or ?
 abbrev pub gap : List ℕ → List (List ℕ) → List ℕ
 gap token following = if length following == 0 && is_mark_token token then [] else 32 ∷ []
 

@@ -1,16 +1,20 @@
-// What unification does, and lists with their copies.
+// What unification does, and a grammar with its copy.
+ghost use Rattle.std.specs.Prelude.{IfOk, All};
+ghost use Rattle.codeco_terms.specs.Unification.{HasRoom};
+
 use crate::*;
 use std::alloc::Global;
 use std::test::Fail;
 use wiki_base::{Memory, WordId};
 
-// A category of this name whose features are numbered from 0.
-fn category(alloc: Global, name: u16, terms: &[Term]) -> Result<Category, Memory> {
+// A category whose features 0 and 1 are the variable 1.
+fn twice(alloc: Global) -> Result<Category, Memory>
+    ensures { IfOk result (λ cat. All (λ p. HasRoom p.1) cat.feats) }
+{
     let mut feats = Feats::new(alloc);
-    for (feature, term) in (0..u16::MAX).zip(terms.iter()) {
-        feats.push((feature, *term))?;
-    }
-    Ok(Category { name, feats })
+    feats.push((0, Term::Var(1)))?;
+    feats.push((1, Term::Var(1)))?;
+    Ok(Category { name: 7, feats })
 }
 
 fn ground(name: u16, one: Value, other: Value) -> Ground {
@@ -21,89 +25,39 @@ fn ground(name: u16, one: Value, other: Value) -> Ground {
 }
 
 #[test]
-fn variables_take_the_values_that_they_need(rt: HostRuntime) -> Result<(), Fail> {
-    let cat = category(
-        rt.alloc(),
-        7,
-        &[Term::Var(2), Term::Val(Value::Atom(4)), Term::Var(3)],
-    )?;
+fn a_variable_takes_the_value_that_it_needs(rt: HostRuntime) -> Result<(), Fail> {
+    let cat = twice(rt.alloc())?;
+    let word = Value::Word(WordId(9));
     let mut env = Env::new();
-    assert!(rt;
-        unify(
-            &cat,
-            &ground(7, Value::Word(WordId(9)), Value::Atom(4)),
-            &mut env
-        )
-    );
-    assert_eq!(rt; env.get(2), Some(Value::Word(WordId(9))));
-    assert_eq!(rt;
-        env.get(3),
-        None,
-        "a feature that one side lacks asks nothing"
-    );
+    assert!(rt; unify(&cat, &ground(7, word, word), &mut env));
+    assert_eq!(rt; env.get(1), Some(word));
+    assert_eq!(rt; env.get(2), None);
     Ok(())
 }
 
 #[test]
 fn names_and_values_that_differ_leave_the_map_as_it_was(rt: HostRuntime) -> Result<(), Fail> {
-    let twice = category(rt.alloc(), 7, &[Term::Var(1), Term::Var(1)])?;
+    let cat = twice(rt.alloc())?;
     let mut env = Env::new();
-    assert!(rt; !unify(&twice, &ground(7, Value::Pos(1), Value::Pos(2)), &mut env));
-    assert!(rt; !unify(&twice, &ground(8, Value::Pos(1), Value::Pos(1)), &mut env));
-    assert_eq!(rt; env.get(1), None);
-    env.set(1, Value::Pos(5));
-    assert!(rt; !unify(&twice, &ground(7, Value::Pos(1), Value::Pos(1)), &mut env));
-    assert_eq!(rt; env.copy().get(1), Some(Value::Pos(5)));
-    assert!(rt; unify(&twice, &ground(7, Value::Pos(5), Value::Pos(5)), &mut env));
+    assert!(rt; !unify(&cat, &ground(7, Value::Pos(1), Value::Pos(2)), &mut env));
+    assert!(rt; !unify(&cat, &ground(8, Value::Pos(1), Value::Pos(1)), &mut env));
+    assert_eq!(rt; env.copy().get(1), None);
     Ok(())
 }
 
 #[test]
-fn a_grammar_is_copied_with_its_lists(rt: HostRuntime) -> Result<(), Fail> {
+fn a_grammar_is_copied_with_its_names(rt: HostRuntime) -> Result<(), Fail> {
     let alloc = rt.alloc();
-    let mut taken = Takes::new(alloc);
-    taken.push((5, 2))?;
-    let pattern = Pattern {
-        cat: category(alloc, 6, &[])?,
-        taken,
-    };
-    let mut patterns = Patterns::new(alloc);
-    patterns.push(pattern.copy()?)?;
-    let mut body = Elements::new(alloc);
-    body.push(Element::Back(patterns.copy()?, Patterns::new(alloc)))?;
-    body.push(Element::Terminal(0))?;
-    let rule = Rule {
-        label: Some(Label::Refer),
-        head: category(alloc, 5, &[])?,
-        closing: true,
-        body,
-    };
-    let mut rules = Rules::new(alloc);
-    rules.push(rule.copy()?)?;
     let mut names = Symbols::new(alloc);
     names.push(Symbol::read(alloc, b"text")?)?;
-    let mut atoms = AtomNumbers::new(alloc);
-    atoms.push(7)?;
-    let mut features = Features::new(alloc);
-    features.push(Feature {
-        name: Symbol::read(alloc, b"k")?,
-        declared: Declared::Atoms(atoms),
-    })?;
-    let grammar = Grammar::new(features, names.copy()?, names.copy()?, names, rules).copy()?;
-    assert_eq!(rt; grammar.rules().len(), 1);
-    assert_eq!(rt; grammar.features().len(), 1);
-    assert_eq!(rt; grammar.atoms().len() + grammar.terminals().len(), 2);
-    let last = grammar.rules().as_slice().last().ok_or("a rule")?;
-    assert!(rt; last.closing && last.label == Some(Label::Refer));
-    assert_eq!(rt; last.body.len(), 2);
-    assert_eq!(rt;
-        grammar
-            .categories()
-            .as_slice()
-            .first()
-            .ok_or("a name")?
-            .as_bytes(),
-        b"text".as_slice()
+    let none = Symbols::new(alloc);
+    let grammar = Grammar::new(
+        Features::new(alloc),
+        none.copy()?,
+        none,
+        names,
+        Rules::new(alloc),
     );
+    assert_eq!(rt; grammar.copy()?.categories().len(), 1);
     Ok(())
 }

@@ -1,10 +1,10 @@
 -- The grammar is one of the notation, with the numbers that it gives, and has no fault.
 use Rattle.std.proofs.Common.{◌≡◌, ℕ, true, false, ltb, List, [], ◌∷◌, length, get_or, refl}
 use Rattle.std.specs.List.{list_all, list_any}
-use Rattle.codeco_reader.specs.Numbering.{IsNumbered}
-use Rattle.codeco_reader.specs.Faults.{has_large_declarations, has_broad_category, is_large_rule, is_undeclared_rule, has_double_declaration, is_bad_rule, is_empty_rule, is_taking_rule, has_start}
-use Rattle.codeco_reader.specs.Sound.{IsWritten, IsSound, is_labelled}
-use Rattle.codeco_reader.proofs.FaultTests.{falls, PassesTests, faultless}
+use Rattle.codeco_checked.specs.Numbering.{IsNumbered}
+use Rattle.codeco_checked.specs.Faults.{has_large_declarations, has_broad_category, is_large_rule, is_undeclared_rule, has_double_declaration, is_bad_rule, is_empty_rule, is_taking_rule, has_start}
+use Rattle.codeco_checked.specs.Sound.{IsWritten, IsSound, is_labelled}
+use Rattle.codeco_checked.proofs.FaultTests.{falls, PassesTests, faultless}
 use Rattle.ace_grammar.specs.Statements.{statements}
 use Rattle.ace_grammar.specs.VerbPhrases.{verb_phrases}
 use Rattle.ace_grammar.specs.Predicates.{predicates}

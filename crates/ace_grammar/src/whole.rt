@@ -1,6 +1,6 @@
 // The whole grammar.
 ghost use Rattle.std.specs.Prelude.{◌≡◌, IfOk, IsTrue};
-ghost use Rattle.codeco_reader.specs.Sound.{is_labelled};
+ghost use Rattle.codeco_checked.specs.Sound.{is_labelled};
 ghost use Rattle.ace_grammar.specs.Grammar.{all_rules, ace_grammar};
 
 use crate::declarations::{declared_features, symbols};
@@ -12,7 +12,7 @@ use crate::questions::add_questions;
 use crate::relative_clauses::add_relative_clauses;
 use crate::statements::add_statements;
 use crate::verb_phrases::add_verb_phrases;
-use codeco_reader::CheckedGrammar;
+use codeco_checked::CheckedGrammar;
 use codeco_terms::{Grammar, Rules};
 use std::alloc::Global;
 use wiki_base::Memory;

@@ -17,8 +17,8 @@ use Rattle.codeco_terms.specs.GrammarParts.{GrammarParts}
 use Rattle.codeco_text.specs.declared.symbols.Sign.TheVariants as sign
 use Rattle.codeco_text.specs.declared.symbols.Lexeme.TheVariants as lexeme
 use Rattle.codeco_text.specs.Notation.{lexemes}
-use Rattle.codeco_reader.specs.Numbering.{first_atoms, first_categories}
-use Rattle.codeco_printer.specs.Numbered.{numbered_of}
+use Rattle.codeco_checked.specs.Numbering.{first_atoms, first_categories}
+use Rattle.codeco_numbering.specs.Numbered.{numbered_of}
 use Rattle.codeco_printer.specs.Printing.{printed}
 use Rattle.codeco_printer.specs.Unnumbered.{written_of}
 

@@ -7,7 +7,7 @@ use Rattle.std.proofs.lemmas.List.Concat.{flat_map-append}
 use Rattle.codeco_terms.specs.GrammarParts.{GrammarParts}
 use Rattle.codeco_text.specs.declared.written.WrittenItem.TheVariants as item
 use Rattle.codeco_text.specs.Notation.{is_symbol, item_lexemes, lexemes, IsSpelling, Spells}
-use Rattle.codeco_reader.specs.Sound.{IsSound}
+use Rattle.codeco_checked.specs.Sound.{IsSound}
 use Rattle.codeco_printer.specs.Printing.{printed, NeedsSpaces}
 use Rattle.codeco_printer.specs.Unnumbered.{written_rule, written_feature, written_of}
 use Rattle.codeco_printer.specs.Writing.{Output, nothing, write}

@@ -7,8 +7,8 @@ use Rattle.codeco_text.specs.Building.{so_far}
 use Rattle.codeco_text.proofs.Exactness.{spelling_ends}
 use Rattle.codeco_text.proofs.OneSpelling.{lexemes_same}
 use Rattle.codeco_terms.specs.GrammarParts.{GrammarParts}
-use Rattle.codeco_reader.specs.Sound.{IsSound}
-use Rattle.codeco_printer.specs.Numbered.{numbered_of}
+use Rattle.codeco_checked.specs.Sound.{IsSound}
+use Rattle.codeco_numbering.specs.Numbered.{numbered_of}
 use Rattle.codeco_printer.specs.Unnumbered.{written_of}
 use Rattle.codeco_printer.proofs.ReadBack.{numbered_of-written_of}
 

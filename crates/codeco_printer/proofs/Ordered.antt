@@ -8,10 +8,10 @@ use Rattle.codeco_terms.specs.declared.values.Term.TheVariants.{Val, Var}
 use Rattle.codeco_terms.specs.GrammarParts.{GrammarParts}
 use Rattle.codeco_text.specs.declared.written.WrittenTerm.{WrittenTerm}
 use Rattle.codeco_text.specs.declared.written.WrittenTerm.TheVariants as term
-use Rattle.codeco_reader.specs.Occurrences.{put_feature, with_taken, term_variables}
-use Rattle.codeco_reader.specs.Sound.{ascends}
+use Rattle.codeco_checked.specs.Occurrences.{put_feature, with_taken, term_variables}
+use Rattle.codeco_checked.specs.Sound.{ascends}
 use Rattle.codeco_printer.specs.Unnumbered.{letter, written_term, plain_terms, taken_terms, below, from, merged}
-use Rattle.codeco_printer.specs.Numbered.{put_in_order, in_order, term_names}
+use Rattle.codeco_numbering.specs.Numbered.{put_in_order, in_order, term_names}
 
 -- each number is at least the one before it, the first at least n
 abbrev pub rises : ℕ → List (ℕ × WrittenTerm) → Bool

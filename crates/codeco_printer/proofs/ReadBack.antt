@@ -21,14 +21,14 @@ use Rattle.codeco_text.specs.declared.written.WrittenItem.{WrittenItem}
 use Rattle.codeco_text.specs.declared.written.WrittenItem.TheVariants as item
 use Rattle.codeco_text.specs.Names.{same_bytes, is_among}
 use Rattle.codeco_text.proofs.Growth.{same_is}
-use Rattle.codeco_reader.specs.declared.fault.GrammarFault.TheVariants as fault
-use Rattle.codeco_reader.specs.Occurrences.{whole, mentions, rule_mentions, element_terminals, rule_terminals}
-use Rattle.codeco_reader.specs.Numbering.{differ, begins_with, first_features, first_atoms, first_categories, declared_atoms, grammar_atoms, grammar_names, grammar_terminals, is_declared}
-use Rattle.codeco_reader.specs.Faults.{is_double, has_double_declaration, is_bad_rule, at_rule}
-use Rattle.codeco_reader.specs.Sound.{IsSound}
+use Rattle.codeco_checked.specs.declared.fault.GrammarFault.TheVariants as fault
+use Rattle.codeco_checked.specs.Occurrences.{whole, mentions, rule_mentions, element_terminals, rule_terminals}
+use Rattle.codeco_checked.specs.Numbering.{differ, begins_with, first_features, first_atoms, first_categories, declared_atoms, grammar_atoms, grammar_names, grammar_terminals, is_declared}
+use Rattle.codeco_checked.specs.Faults.{is_double, has_double_declaration, is_bad_rule, at_rule}
+use Rattle.codeco_checked.specs.Sound.{IsSound}
 use Rattle.std.specs.List.{list_any}
 use Rattle.codeco_printer.specs.Unnumbered.{name_at, written_pattern, written_element, written_rule, declaration, written_feature, written_of}
-use Rattle.codeco_printer.specs.Numbered.{gathered, number_of, NamedFeature, undeclared, is_open, with_declaration, with_item, with_items, features_of, feature_atoms, atoms_of, numbered_domain, numbered_feature, item_rules, rules_of, element_categories, rule_names, written_terminals, variables_of, numbered_rule, numbered_of}
+use Rattle.codeco_numbering.specs.Numbered.{gathered, number_of, NamedFeature, undeclared, is_open, with_declaration, with_item, with_items, features_of, feature_atoms, atoms_of, numbered_domain, numbered_feature, item_rules, rules_of, element_categories, rule_names, written_terminals, variables_of, numbered_rule, numbered_of}
 use Rattle.codeco_printer.proofs.Lists.{all_append, all_flat, all_weaken, all_both}
 use Rattle.codeco_printer.proofs.SoundNames.{counted}
 use Rattle.codeco_printer.proofs.SoundNumbers.{is_fine, all_fine}

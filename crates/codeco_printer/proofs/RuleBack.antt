@@ -19,11 +19,12 @@ use Rattle.codeco_terms.specs.GrammarParts.{GrammarParts}
 use Rattle.codeco_text.specs.declared.written.WrittenTerm.{WrittenTerm}
 use Rattle.codeco_text.specs.declared.written.WrittenTerm.TheVariants as term
 use Rattle.codeco_text.specs.Notation.{is_marked}
-use Rattle.codeco_reader.specs.Occurrences.{with_taken, whole, mentions, category_variables, positions, element_variables, rule_variables, element_terminals}
-use Rattle.codeco_reader.specs.Numbering.{count_different, differ, variables_count_up}
-use Rattle.codeco_reader.specs.Sound.{ascends, is_empty, is_written, is_written_name, is_written_pattern, is_plain_pattern, is_written_element, is_written_rule, is_written_term}
-use Rattle.codeco_printer.specs.Unnumbered.{name_at, feature_name, letter, written_term, plain_terms, taken_terms, below, from, merged, with_names, written_category, written_pattern, written_element, label_name, written_rule}
-use Rattle.codeco_printer.specs.Numbered.{number_of, in_order, ordered, category_names, Tables, numbered_term, plain_feats, taken_feats, numbered_category, numbered_pattern, numbered_element, element_names, gathered, variables_of, numbered_label, numbered_rule}
+use Rattle.codeco_checked.specs.Occurrences.{with_taken, whole, mentions, category_variables, positions, element_variables, rule_variables, element_terminals}
+use Rattle.codeco_checked.specs.Numbering.{count_different, differ, variables_count_up}
+use Rattle.codeco_checked.specs.Sound.{ascends, is_empty, is_written, is_written_name, is_written_pattern, is_plain_pattern, is_written_element, is_written_rule, is_written_term}
+use Rattle.codeco_printer.specs.Unnumbered.{name_at, feature_name, letter, written_term, plain_terms, taken_terms, below, from, merged, with_names, written_category, written_pattern, written_element, written_rule}
+use Rattle.codeco_numbering.specs.Labels.{label_name}
+use Rattle.codeco_numbering.specs.Numbered.{number_of, in_order, ordered, category_names, Tables, numbered_term, plain_feats, taken_feats, numbered_category, numbered_pattern, numbered_element, element_names, gathered, variables_of, numbered_label, numbered_rule}
 use Rattle.codeco_printer.proofs.Lists.{all_split, all_flat, all-map, all_weaken}
 use Rattle.codeco_printer.proofs.WrittenSound.{with_taken_all, below_all, from_all, merged_all}
 use Rattle.codeco_printer.proofs.SoundNumbers.{term_fine, feat_fine, category_fine, names_below, feats_below, terminals_below, few_variables, is_fine, positions_fine, mentions_fine}

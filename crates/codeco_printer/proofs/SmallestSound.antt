@@ -1,8 +1,8 @@
 -- The grammar of the text `text --> [a].` has no fault.
 use Rattle.std.proofs.Common.{refl}
-use Rattle.codeco_reader.specs.Numbering.{IsNumbered}
-use Rattle.codeco_reader.specs.Sound.{IsWritten, IsSound}
-use Rattle.codeco_reader.proofs.FaultTests.{PassesTests, faultless}
+use Rattle.codeco_checked.specs.Numbering.{IsNumbered}
+use Rattle.codeco_checked.specs.Sound.{IsWritten, IsSound}
+use Rattle.codeco_checked.proofs.FaultTests.{PassesTests, faultless}
 use Rattle.codeco_printer.specs.Smallest.{smallest_grammar}
 
 passes : PassesTests smallest_grammar (λ _. 0)

@@ -17,12 +17,13 @@ use Rattle.codeco_terms.specs.GrammarParts.{GrammarParts}
 use Rattle.codeco_text.specs.Names.{same_bytes, is_identifier, is_variable, is_terminal, is_among}
 use Rattle.codeco_text.specs.Notation.{labels, kinds}
 use Rattle.codeco_text.proofs.Growth.{same_is}
-use Rattle.codeco_reader.specs.declared.fault.GrammarFault.TheVariants as fault
-use Rattle.codeco_reader.specs.Occurrences.{rule_mentions, rule_features, rule_terminals}
-use Rattle.codeco_reader.specs.Numbering.{has, counts_up, begins_with, first_categories, declared_atoms, grammar_atoms, grammar_names, grammar_terminals, is_declared}
-use Rattle.codeco_reader.specs.Faults.{at_rule, values_of, term_fits, is_undeclared_rule, is_bad_rule, has_wrong_atom, has_mixed_variable, has_wrong_position, has_double_feature, has_wrong_preterminal, has_double_declaration}
-use Rattle.codeco_reader.specs.Sound.{IsSound}
-use Rattle.codeco_printer.specs.Unnumbered.{name_at, feature_name, letter, letter_byte, value_name, label_name}
+use Rattle.codeco_checked.specs.declared.fault.GrammarFault.TheVariants as fault
+use Rattle.codeco_checked.specs.Occurrences.{rule_mentions, rule_features, rule_terminals}
+use Rattle.codeco_checked.specs.Numbering.{has, counts_up, begins_with, first_categories, declared_atoms, grammar_atoms, grammar_names, grammar_terminals, is_declared}
+use Rattle.codeco_checked.specs.Faults.{at_rule, values_of, term_fits, is_undeclared_rule, is_bad_rule, has_wrong_atom, has_mixed_variable, has_wrong_position, has_double_feature, has_wrong_preterminal, has_double_declaration}
+use Rattle.codeco_checked.specs.Sound.{IsSound}
+use Rattle.codeco_printer.specs.Unnumbered.{name_at, feature_name, letter, letter_byte, value_name}
+use Rattle.codeco_numbering.specs.Labels.{label_name}
 use Rattle.codeco_printer.proofs.Lists.{all_flat, all-map, all_weaken, all_both, all_from_none, none_each, all_at}
 
 -- numbers that are given by first occurrence are below their total

@@ -13,11 +13,11 @@ use Rattle.codeco_terms.specs.declared.declarations.Declared.TheVariants as decl
 use Rattle.codeco_terms.specs.declared.declarations.Feature.{Feature}
 use Rattle.codeco_terms.specs.declared.rules.Rule.{Rule}
 use Rattle.codeco_terms.specs.GrammarParts.{GrammarParts}
-use Rattle.codeco_reader.specs.declared.fault.GrammarFault.TheVariants as fault
-use Rattle.codeco_reader.specs.Occurrences.{mentions, rule_mentions, rule_features, term_variables, category_variables, positions, element_variables, rule_variables, rule_terminals}
-use Rattle.codeco_reader.specs.Numbering.{count_different, declared_atoms, grammar_atoms, grammar_names, grammar_terminals, is_declared, variables_count_up}
-use Rattle.codeco_reader.specs.Faults.{at_rule, values_of, term_fits, is_undeclared_rule, is_bad_rule, is_large_rule, has_large_declarations, has_broad_category}
-use Rattle.codeco_reader.specs.Sound.{IsSound, is_written_rule}
+use Rattle.codeco_checked.specs.declared.fault.GrammarFault.TheVariants as fault
+use Rattle.codeco_checked.specs.Occurrences.{mentions, rule_mentions, rule_features, term_variables, category_variables, positions, element_variables, rule_variables, rule_terminals}
+use Rattle.codeco_checked.specs.Numbering.{count_different, declared_atoms, grammar_atoms, grammar_names, grammar_terminals, is_declared, variables_count_up}
+use Rattle.codeco_checked.specs.Faults.{at_rule, values_of, term_fits, is_undeclared_rule, is_bad_rule, is_large_rule, has_large_declarations, has_broad_category}
+use Rattle.codeco_checked.specs.Sound.{IsSound, is_written_rule}
 use Rattle.codeco_printer.proofs.Lists.{all_split, all_flat, flat_all, all-map, all_weaken, all_both, all_from_none, none_each}
 use Rattle.codeco_printer.proofs.SoundNames.{counted, at_no_rule, no_undeclared, no_bad, not_wrong, values_at}
 

@@ -5,9 +5,9 @@ use Rattle.std.proofs.lemmas.List.{take_all, take_more, get_or-take, length-take
 use Rattle.std.proofs.lemmas.Bool.{and_parts, and_from, or_parts, or_right, cases_Bool, ltb-true, eqb-true, eq-eqb, both_ways, cond-true, cond-false, not-true, not_from_false, false_from_ne_true, agree_below_at}
 use Rattle.codeco_text.specs.Names.{same_bytes, is_among}
 use Rattle.codeco_text.proofs.Growth.{same_is}
-use Rattle.codeco_reader.specs.Numbering.{counts_up, differ, begins_with}
+use Rattle.codeco_checked.specs.Numbering.{counts_up, differ, begins_with}
 use Rattle.codeco_printer.specs.Unnumbered.{name_at, letter}
-use Rattle.codeco_printer.specs.Numbered.{gathered, number_of}
+use Rattle.codeco_numbering.specs.Numbered.{gathered, number_of}
 use Rattle.codeco_printer.proofs.SoundNames.{counted}
 
 pub same_bytes_refl : (w : List ℕ) → same_bytes w w ≡ true

@@ -20,8 +20,9 @@ use Rattle.codeco_text.specs.declared.written.WrittenFeat.{WrittenFeat}
 use Rattle.codeco_text.specs.declared.written.Domain.TheVariants as domain
 use Rattle.codeco_text.specs.declared.written.WrittenItem.TheVariants as item
 use Rattle.codeco_text.specs.Notation.{listed, feat_lexemes, category_lexemes, named, label_lexemes, arrow, body_lexemes, domain_lexemes, item_lexemes, lexemes}
-use Rattle.codeco_reader.specs.Numbering.{is_declared}
-use Rattle.codeco_printer.specs.Unnumbered.{name_at, feature_name, letter, written_term, plain_terms, taken_terms, below, from, merged, with_names, written_category, written_pattern, written_element, label_name, written_rule, declaration, written_feature}
+use Rattle.codeco_checked.specs.Numbering.{is_declared}
+use Rattle.codeco_printer.specs.Unnumbered.{name_at, feature_name, letter, written_term, plain_terms, taken_terms, below, from, merged, with_names, written_category, written_pattern, written_element, written_rule, declaration, written_feature}
+use Rattle.codeco_numbering.specs.Labels.{label_name}
 use Rattle.codeco_printer.specs.Writing.{Output, put_word, put, write, separator, opened_feats, closed_feats, other_atoms, values_lexemes}
 
 pub write_append : (o : Output) (xs ys : List Lexeme) → write o (xs ++ ys) ≡ write (write o xs) ys

@@ -1,4 +1,3 @@
-pub mod Numbered
 pub mod Printing
 pub mod Smallest
 pub mod Unnumbered

@@ -5,7 +5,7 @@ use Rattle.codeco_terms.specs.declared.declarations.Declared.TheVariants.{Undecl
 use Rattle.codeco_terms.specs.declared.declarations.Feature.{Feature}
 use Rattle.codeco_terms.specs.declared.rules.Rule.{Rule}
 use Rattle.codeco_terms.specs.GrammarParts.{GrammarParts}
-use Rattle.codeco_reader.specs.Numbering.{first_features, first_atoms, first_categories}
+use Rattle.codeco_checked.specs.Numbering.{first_features, first_atoms, first_categories}
 
 abbrev pub undeclared_feature : List ℕ → Feature
 undeclared_feature name = record { name = name; declared = Undeclared }

@@ -11,8 +11,6 @@ use Rattle.codeco_terms.specs.declared.elements.Element.TheVariants.{Terminal, P
 use Rattle.codeco_terms.specs.declared.declarations.Declared.{Declared}
 use Rattle.codeco_terms.specs.declared.declarations.Declared.TheVariants as declared
 use Rattle.codeco_terms.specs.declared.declarations.Feature.{Feature}
-use Rattle.codeco_terms.specs.declared.rules.Label.{Label}
-use Rattle.codeco_terms.specs.declared.rules.Label.TheVariants as label
 use Rattle.codeco_terms.specs.declared.rules.Rule.{Rule}
 use Rattle.codeco_terms.specs.GrammarParts.{GrammarParts}
 use Rattle.codeco_text.specs.declared.written.WrittenTerm.{WrittenTerm}
@@ -25,6 +23,7 @@ use Rattle.codeco_text.specs.declared.written.WrittenRule.{WrittenRule}
 use Rattle.codeco_text.specs.declared.written.Domain.TheVariants as domain
 use Rattle.codeco_text.specs.declared.written.WrittenItem.{WrittenItem}
 use Rattle.codeco_text.specs.declared.written.WrittenItem.TheVariants as item
+use Rattle.codeco_numbering.specs.Labels.{label_name}
 
 -- the name, or the terminal, with this number
 abbrev pub name_at : List (List ℕ) → ℕ → List ℕ
@@ -91,38 +90,6 @@ written_element g (Forward c) = element.Forward (written_category g c)
 written_element g (Strong c) = element.Strong (written_category g c)
 written_element g (Back ps ns) = element.Back (map (written_pattern g) ps) (map (written_pattern g) ns)
 written_element g (NoBack ps) = element.NoBack (map (written_pattern g) ps)
-
-abbrev pub label_name : Label → List ℕ
-label_name label.Statement = codes "statement"
-label_name label.Ask = codes "ask"
-label_name label.If = codes "if"
-label_name label.Say = codes "say"
-label_name label.And = codes "and"
-label_name label.Or = codes "or"
-label_name label.Pass = codes "pass"
-label_name label.Not = codes "not"
-label_name label.Does = codes "does"
-label_name label.Done = codes "done"
-label_name label.Class = codes "class"
-label_name label.Top = codes "top"
-label_name label.Same = codes "same"
-label_name label.Only = codes "only"
-label_name label.Gap = codes "gap"
-label_name label.Name = codes "name"
-label_name label.Refer = codes "refer"
-label_name label.Var = codes "var"
-label_name label.Noun = codes "noun"
-label_name label.Part = codes "part"
-label_name label.Some = codes "some"
-label_name label.Every = codes "every"
-label_name label.No = codes "no"
-label_name label.Something = codes "something"
-label_name label.Everything = codes "everything"
-label_name label.Nothing = codes "nothing"
-label_name label.What = codes "what"
-label_name label.Which = codes "which"
-label_name label.Whichobj = codes "whichobj"
-label_name label.Mark = codes "mark"
 
 abbrev pub written_rule : GrammarParts → Rule → WrittenRule
 written_rule g r = record {

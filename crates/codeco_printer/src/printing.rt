@@ -18,7 +18,7 @@ ghost use Rattle.codeco_text.specs.Notation.{
   lexemes,
   IsSpelling,
 };
-ghost use Rattle.codeco_printer.specs.Numbered.{numbered_of};
+ghost use Rattle.codeco_numbering.specs.Numbered.{numbered_of};
 ghost use Rattle.codeco_printer.specs.Printing.{printed, NeedsSpaces};
 ghost use Rattle.codeco_printer.specs.Unnumbered.{
   name_at,
@@ -33,11 +33,11 @@ ghost use Rattle.codeco_printer.specs.Unnumbered.{
   written_category,
   written_pattern,
   written_element,
-  label_name,
   written_rule,
   written_feature,
   written_of,
 };
+ghost use Rattle.codeco_numbering.specs.Labels.{label_name};
 ghost use Rattle.codeco_printer.specs.Writing.{
   nothing,
   put,
@@ -51,7 +51,7 @@ ghost use Rattle.codeco_printer.specs.Writing.{
 
 use crate::print_symbols::Printer;
 use crate::unnumbered::{feature_name, label_name, letter, name_at};
-use codeco_reader::CheckedGrammar;
+use codeco_checked::CheckedGrammar;
 use codeco_terms::{
     Category, Declared, Element, Elements, Feature, Grammar, Label, Pattern, Patterns, Rule, Term,
     Value,

@@ -3,7 +3,7 @@ ghost use Rattle.std.specs.Prelude.{◌≡◌, IfOk, map};
 ghost use Rattle.codeco_printer.specs.Smallest.{undeclared_feature, only_rules, smallest_grammar};
 
 use crate::print_grammar;
-use codeco_reader::CheckedGrammar;
+use codeco_checked::CheckedGrammar;
 use codeco_terms::{
     Category, Declared, Element, Elements, Feats, Feature, Features, Grammar, Rule, Rules, Symbol,
     Symbols,

@@ -1,6 +1,7 @@
 // Names and letters in place of numbers.
 ghost use Rattle.std.specs.Prelude.{◌≡◌};
-ghost use Rattle.codeco_printer.specs.Unnumbered.{name_at, feature_name, label_name, letter_byte};
+ghost use Rattle.codeco_printer.specs.Unnumbered.{name_at, feature_name, letter_byte};
+ghost use Rattle.codeco_numbering.specs.Labels.{label_name};
 
 use codeco_terms::{Features, Label, Symbols};
 

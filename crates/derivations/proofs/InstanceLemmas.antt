@@ -8,7 +8,7 @@ use Rattle.codeco_terms.specs.declared.values.Value.{Value}
 use Rattle.codeco_terms.specs.declared.values.Value.TheVariants.{Atom}
 use Rattle.codeco_terms.specs.declared.rules.Rule.{Rule}
 use Rattle.codeco_terms.specs.declared.declarations.Declared.TheVariants as declared
-use Rattle.codeco_reader.specs.Occurrences.{rule_features, positions}
+use Rattle.codeco_checked.specs.Occurrences.{rule_features, positions}
 use Rattle.derivations.specs.Settings.{Setting, is_value}
 use Rattle.derivations.specs.Instances.{same_numbers, own_fit, is_instance, written_variables, variables_of, rule_own_features, own_values, term_fits, value_under}
 

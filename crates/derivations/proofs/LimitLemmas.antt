@@ -11,11 +11,11 @@ use Rattle.codeco_terms.specs.declared.elements.Element.{Element}
 use Rattle.codeco_terms.specs.declared.elements.Element.TheVariants.{Terminal, Preterminal, Sub, Position, Opener, Forward, Strong, Back, NoBack}
 use Rattle.codeco_terms.specs.declared.rules.Rule.{Rule}
 use Rattle.codeco_terms.specs.GrammarParts.{GrammarParts}
-use Rattle.codeco_reader.specs.declared.fault.GrammarFault.TheVariants.{TooLarge}
-use Rattle.codeco_reader.specs.Numbering.{has, counts_up, count_different, grammar_names}
-use Rattle.codeco_reader.specs.Occurrences.{mentions, rule_mentions, patterns}
-use Rattle.codeco_reader.specs.Faults.{features_written, has_broad_category, is_large_rule, is_too_large, at_rule}
-use Rattle.codeco_reader.specs.Sound.{IsSound}
+use Rattle.codeco_checked.specs.declared.fault.GrammarFault.TheVariants.{TooLarge}
+use Rattle.codeco_checked.specs.Numbering.{has, counts_up, count_different, grammar_names}
+use Rattle.codeco_checked.specs.Occurrences.{mentions, rule_mentions, patterns}
+use Rattle.codeco_checked.specs.Faults.{features_written, has_broad_category, is_large_rule, is_too_large, at_rule}
+use Rattle.codeco_checked.specs.Sound.{IsSound}
 use Rattle.derivations.specs.Instances.{put, put_all, features_of}
 use Rattle.derivations.specs.Derives.{rule_with}
 use Rattle.derivations.specs.Stands.{IsWithin, IsLimited}

@@ -6,8 +6,8 @@ use Rattle.std.proofs.lemmas.Grind.{flat_map-append, common_steps}
 use Rattle.std.proofs.lemmas.List.Folds.{list_any-append}
 use Rattle.codeco_terms.specs.declared.values.Term.{Term}
 use Rattle.codeco_terms.specs.declared.values.Term.TheVariants.{Val, Var}
-use Rattle.codeco_reader.specs.Numbering.{has}
-use Rattle.codeco_reader.specs.Occurrences.{put_feature, with_taken, term_variables}
+use Rattle.codeco_checked.specs.Numbering.{has}
+use Rattle.codeco_checked.specs.Occurrences.{put_feature, with_taken, term_variables}
 
 pub has_append : (xs ys : List ℕ) (x : ℕ) → has (xs ++ ys) x ≡ (has xs x || has ys x)
 has_append xs ys x = list_any-append _ xs ys

@@ -8,7 +8,7 @@ use Rattle.std.proofs.lemmas.Grind.{flat_map-append}
 use Rattle.codeco_terms.specs.declared.values.Term.{Term}
 use Rattle.codeco_terms.specs.declared.values.Term.TheVariants.{Var}
 use Rattle.codeco_terms.specs.declared.categories.Category.{Category}
-use Rattle.codeco_reader.specs.Occurrences.{put_feature, with_taken}
+use Rattle.codeco_checked.specs.Occurrences.{put_feature, with_taken}
 use Rattle.derivations.specs.Instances.{put, put_all, features_in}
 
 put_comm_step : (x y z : ℕ) (zs : List ℕ) → put x (put y zs) ≡ put y (put x zs) → put x (put y (z ∷ zs)) ≡ put y (put x (z ∷ zs))

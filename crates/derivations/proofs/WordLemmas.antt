@@ -16,7 +16,7 @@ use Rattle.wiki_base.specs.Text.{is_letter, begins_with_letter, is_in_place, mis
 use Rattle.wiki_base.specs.Token.{has_no_space}
 use Rattle.codeco_text.specs.Names.{is_terminal_byte, ends_well, is_terminal}
 use Rattle.codeco_terms.specs.GrammarParts.{GrammarParts}
-use Rattle.codeco_reader.specs.Sound.{IsSound}
+use Rattle.codeco_checked.specs.Sound.{IsSound}
 use Rattle.derivations.specs.Cutting as cutting
 use Rattle.derivations.specs.Cutting.{is_kept, is_mark, ends_with_mark, is_whole, shown, cut_of, FirstIsNotRaised, IsWord, AreWords, gap, continued, shown_first}
 use Rattle.derivations.proofs.PieceLemmas.{and_both, not_true, true_and, above_zero, Whole, whole_from_parts, no_space_from_bytes, cut_shown, more_left}

@@ -14,9 +14,9 @@ use Rattle.codeco_terms.specs.declared.elements.Element.TheVariants.{Terminal, P
 use Rattle.codeco_terms.specs.declared.rules.Rule.{Rule}
 use Rattle.codeco_terms.specs.GrammarParts.{GrammarParts}
 use Rattle.scopes.specs.declared.tests.Test.{Test}
-use Rattle.codeco_reader.specs.Occurrences.{rule_features, rule_variables, positions}
-use Rattle.codeco_reader.specs.Numbering.{has}
-use Rattle.codeco_reader.specs.Faults.{features_written}
+use Rattle.codeco_checked.specs.Occurrences.{rule_features, rule_variables, positions}
+use Rattle.codeco_checked.specs.Numbering.{has}
+use Rattle.codeco_checked.specs.Faults.{features_written}
 use Rattle.derivations.specs.Settings.{Setting, is_value, fits_feature}
 
 -- Under an instance

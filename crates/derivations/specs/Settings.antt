@@ -11,8 +11,8 @@ use Rattle.codeco_terms.specs.declared.declarations.Declared.TheVariants as decl
 use Rattle.codeco_terms.specs.GrammarParts.{GrammarParts}
 use Rattle.scopes.specs.declared.tests.Test.{Test}
 use Rattle.scopes.specs.Resolution.{has_value, agrees}
-use Rattle.codeco_reader.specs.Numbering.{has}
-use Rattle.codeco_reader.specs.Faults.{values_of}
+use Rattle.codeco_checked.specs.Numbering.{has}
+use Rattle.codeco_checked.specs.Faults.{values_of}
 
 -- a grammar, the bytes of the tokens, and for each token its readings: the ground preterminals that it stands for
 pub record Setting : Type 0 where

@@ -9,7 +9,7 @@ ghost use Rattle.derivations.specs.Stands.{IsLimited};
 use crate::derive::leads;
 use crate::setting::Setting;
 use crate::trees::Tree;
-use codeco_reader::CheckedGrammar;
+use codeco_checked::CheckedGrammar;
 use lexicon::{Lexicon, Readings};
 use scopes::{Access, Test, TestValues};
 use std::alloc::Global;

@@ -1,7 +1,7 @@
 // The features of categories.
 ghost use Rattle.std.specs.Prelude.{◌≡◌, ◌≤◌, length, insert, map, MatchOption, IfOk, OnOk};
 ghost use Rattle.std.specs.List.{flat_map};
-ghost use Rattle.codeco_reader.specs.Occurrences.{mentions, whole};
+ghost use Rattle.codeco_checked.specs.Occurrences.{mentions, whole};
 ghost use Rattle.derivations.specs.Instances as instances;
 
 use codeco_terms::{Category, Element, Grammar, Pattern, Term};

@@ -3,7 +3,7 @@ ghost use Rattle.std.specs.Prelude.{◌≡◌, map};
 ghost use Rattle.std.specs.List.{list_all, flat_map};
 ghost use Rattle.codeco_terms.specs.declared.values.Term.TheVariants.{Var};
 ghost use Rattle.codeco_terms.specs.declared.declarations.Declared.TheVariants as declared;
-ghost use Rattle.codeco_reader.specs.Occurrences as occurrences;
+ghost use Rattle.codeco_checked.specs.Occurrences as occurrences;
 ghost use Rattle.derivations.specs.Settings as settings;
 ghost use Rattle.derivations.specs.Instances as instances;
 

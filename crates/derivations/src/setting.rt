@@ -4,7 +4,7 @@ ghost use Rattle.std.specs.List.{list_any};
 ghost use Rattle.std.specs.Str.{bytes_eq};
 ghost use Rattle.codeco_terms.specs.declared.categories.Ground.{Ground};
 ghost use Rattle.scopes.specs.Resolution as resolution;
-ghost use Rattle.codeco_reader.specs.Numbering.{has};
+ghost use Rattle.codeco_checked.specs.Numbering.{has};
 ghost use Rattle.derivations.specs.Settings as settings;
 
 use codeco_terms::{Declared, Grammar, Ground, Value};

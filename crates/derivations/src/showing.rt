@@ -1,6 +1,6 @@
 // How tokens are shown as a text.
 ghost use Rattle.std.specs.Prelude.{◌≡◌, ◌++◌, ◌∷◌, [], ◌&&◌, ◌<◌, ◌≤◌, if◌then◌else◌, IfOk, OnOk, length, slice_index};
-ghost use Rattle.codeco_reader.specs.Sound.{IsSound};
+ghost use Rattle.codeco_checked.specs.Sound.{IsSound};
 ghost use Rattle.std.specs.Bool.{MatchBool};
 ghost use Rattle.std.specs.Str.{IsUtf8};
 ghost use Rattle.std.specs.String.{string_bytes};

@@ -2,8 +2,8 @@
 ghost use Rattle.std.specs.Prelude.{◌≡◌, ◌+◌, ◌&&◌, [], ◌∷◌, ◌++◌, filter, map, drop, not, IfOk, OnOk};
 ghost use Rattle.std.specs.List.{flat_map, list_all, range_with_len};
 ghost use Rattle.codeco_terms.specs.declared.declarations.Declared.TheVariants as declared;
-ghost use Rattle.codeco_reader.specs.Numbering.{has};
-ghost use Rattle.codeco_reader.specs.Occurrences as occurrences;
+ghost use Rattle.codeco_checked.specs.Numbering.{has};
+ghost use Rattle.codeco_checked.specs.Occurrences as occurrences;
 ghost use Rattle.derivations.specs.Settings as settings;
 ghost use Rattle.derivations.specs.Instances as instances;
 

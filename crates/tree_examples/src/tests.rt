@@ -1,7 +1,7 @@
 // The words are Mary, cat and see, with the numbers 1, 2 and 3.
 use crate::rows::{EVERY_CAT_SEES_THE_CAT, IF_X_SEES_Y, MARY_SEES_A_CAT, Row, tree_of};
 use ace_grammar::built_in;
-use codeco_reader::CheckedGrammar;
+use codeco_checked::CheckedGrammar;
 use codeco_terms::Value;
 use derivations::{Cut, Tree, check_tree, cut, show};
 use lexicon::{Kind, Lexicon, forms};

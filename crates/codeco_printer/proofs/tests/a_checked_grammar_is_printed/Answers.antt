@@ -1,5 +1,5 @@
 use Rattle.std.proofs.Common.{subst, sym}
-use Rattle.codeco_reader.specs.Sound.{IsSound}
+use Rattle.codeco_checked.specs.Sound.{IsSound}
 use Rattle.codeco_printer.proofs.SmallestSound.{smallest_sound}
 use Rattle.codeco_printer.proofs.tests.a_checked_grammar_is_printed.Goals as goal
 

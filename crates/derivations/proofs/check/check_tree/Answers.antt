@@ -5,7 +5,7 @@ use Rattle.derivations.specs.Trees.{node_of}
 use Rattle.derivations.specs.Settings.{Setting}
 use Rattle.derivations.specs.Derives.{IsDerivation}
 use Rattle.derivations.specs.Sentences.{setting_of}
-use Rattle.codeco_reader.specs.Sound.{IsSound}
+use Rattle.codeco_checked.specs.Sound.{IsSound}
 use Rattle.derivations.proofs.LimitLemmas.{IsLimited-from_sound}
 use Rattle.derivations.proofs.check.check_tree.Goals as goal
 

@@ -1,7 +1,7 @@
 use Rattle.std.proofs.Common.{◌≡◌, [], ◌∷◌, ◌++◌, List, map, refl, ap, ◌∙◌, sym, arith}
 use Rattle.std.specs.List.{flat_map}
 use Rattle.std.proofs.lemmas.Grind.{flat_map-append}
-use Rattle.codeco_reader.specs.Occurrences.{mentions, rule_mentions, whole}
+use Rattle.codeco_checked.specs.Occurrences.{mentions, rule_mentions, whole}
 use Rattle.derivations.specs.Instances.{put_all, features_in}
 use Rattle.derivations.proofs.PutLemmas.{put_step, put_all_append}
 use Rattle.derivations.proofs.features.features_of.Goals as goal

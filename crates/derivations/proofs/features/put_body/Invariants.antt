@@ -1,6 +1,6 @@
 use Rattle.std.proofs.Common.{◌≡◌, drop, map, []}
 use Rattle.std.specs.List.{flat_map}
-use Rattle.codeco_reader.specs.Occurrences.{mentions, rule_mentions, whole}
+use Rattle.codeco_checked.specs.Occurrences.{mentions, rule_mentions, whole}
 use Rattle.derivations.specs.Instances.{put_all, features_in}
 use Rattle.derivations.proofs.features.put_body.Given as goal
 

@@ -1,7 +1,7 @@
 use Rattle.std.proofs.Common.{◌≡◌, drop, map, []}
 use Rattle.std.specs.List.{flat_map, list_all}
 use Rattle.codeco_terms.specs.declared.declarations.Declared.TheVariants as declared
-use Rattle.codeco_reader.specs.Occurrences.{mentions, whole, positions}
+use Rattle.codeco_checked.specs.Occurrences.{mentions, whole, positions}
 use Rattle.derivations.specs.Settings.{is_value}
 use Rattle.derivations.specs.Instances.{term_fits, value_under, own_fit}
 use Rattle.derivations.proofs.fitting.positions_fit.Given as goal

@@ -1,6 +1,6 @@
 use Rattle.std.proofs.Common.{◌≡◌, ◌++◌, map, length, refl, ap, ◌∙◌, sym, rules}
 use Rattle.std.specs.List.{flat_map, list_all, range_with_len}
-use Rattle.codeco_reader.specs.Occurrences.{rule_features, positions}
+use Rattle.codeco_checked.specs.Occurrences.{rule_features, positions}
 use Rattle.derivations.specs.Instances.{own_features, rule_own_features, written_variables, own_values}
 use Rattle.derivations.proofs.InstanceLemmas.{is_instance_at}
 use Rattle.derivations.proofs.variables.is_instance.Goals as goal

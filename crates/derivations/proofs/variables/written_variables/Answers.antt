@@ -1,7 +1,7 @@
 use Rattle.std.proofs.Common.{◌≡◌, ◌++◌, ◌∷◌, [], ap, ◌∙◌, sym, filter, arith}
 use Rattle.std.specs.List.{range_with_len}
-use Rattle.codeco_reader.specs.Numbering.{has}
-use Rattle.codeco_reader.specs.Occurrences.{rule_variables}
+use Rattle.codeco_checked.specs.Numbering.{has}
+use Rattle.codeco_checked.specs.Occurrences.{rule_variables}
 use Rattle.derivations.specs.Instances.{written_variables}
 use Rattle.derivations.proofs.InstanceLemmas.{range_push}
 use Rattle.derivations.proofs.variables.written_variables.Goals as goal

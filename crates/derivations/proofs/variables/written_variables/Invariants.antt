@@ -1,7 +1,7 @@
 use Rattle.std.proofs.Common.{◌≡◌, ◌≤◌, ◌+◌, ◌-◌, ◌++◌, drop, take, map, filter, length, not, []}
 use Rattle.std.specs.List.{flat_map, list_all, range_with_len}
-use Rattle.codeco_reader.specs.Numbering.{has}
-use Rattle.codeco_reader.specs.Occurrences.{rule_variables}
+use Rattle.codeco_checked.specs.Numbering.{has}
+use Rattle.codeco_checked.specs.Occurrences.{rule_variables}
 use Rattle.derivations.specs.Instances.{own_features, same_numbers, written_variables}
 use Rattle.derivations.proofs.variables.written_variables.Given as goal
 

@@ -11,7 +11,6 @@ use Rattle.codeco_terms.specs.declared.declarations.Declared.{Declared}
 use Rattle.codeco_terms.specs.declared.declarations.Declared.TheVariants as declared
 use Rattle.codeco_terms.specs.declared.declarations.Feature.{Feature}
 use Rattle.codeco_terms.specs.declared.rules.Label.{Label}
-use Rattle.codeco_terms.specs.declared.rules.Label.TheVariants as label
 use Rattle.codeco_terms.specs.declared.rules.Rule.{Rule}
 use Rattle.codeco_terms.specs.GrammarParts.{GrammarParts}
 use Rattle.codeco_text.specs.declared.written.WrittenTerm.{WrittenTerm}
@@ -25,8 +24,8 @@ use Rattle.codeco_text.specs.declared.written.Domain.TheVariants as domain
 use Rattle.codeco_text.specs.declared.written.WrittenItem.{WrittenItem}
 use Rattle.codeco_text.specs.declared.written.WrittenItem.TheVariants as item
 use Rattle.codeco_text.specs.Names.{same_bytes, is_among}
-use Rattle.codeco_reader.specs.Numbering.{first_features, first_atoms, first_categories}
-use Rattle.codeco_printer.specs.Unnumbered.{label_name}
+use Rattle.codeco_checked.specs.Numbering.{first_features, first_atoms, first_categories}
+use Rattle.codeco_numbering.specs.Labels.{label_name, all_labels}
 
 -- Tables of names
 
@@ -67,8 +66,39 @@ abbrev pub with_items : List NamedFeature → List WrittenItem → List NamedFea
 with_items fs [] = fs
 with_items fs (i ∷ is) = with_items (with_item fs i) is
 
+abbrev pub element_categories : WrittenElement → List WrittenCategory
+element_categories (element.Terminal w) = []
+element_categories (element.Preterminal c) = c ∷ []
+element_categories (element.Sub c) = c ∷ []
+element_categories (element.Position w) = []
+element_categories element.Opener = []
+element_categories (element.Forward c) = c ∷ []
+element_categories (element.Strong c) = c ∷ []
+element_categories (element.Back ps ns) = ps ++ ns
+element_categories (element.NoBack ps) = ps
+
+abbrev pub item_rules : WrittenItem → List WrittenRule
+item_rules (item.Feature name d) = []
+item_rules (item.Rule r) = r ∷ []
+
+abbrev pub rules_of : List WrittenItem → List WrittenRule
+rules_of items = flat_map item_rules items
+
+-- with the features of these names that aren't among the others, each once, in the order of their first occurrence
+abbrev pub with_undeclared : List NamedFeature → List (List ℕ) → List NamedFeature
+with_undeclared fs [] = fs
+with_undeclared fs (w ∷ ws) = with_undeclared (if is_among (map (λ f. f.name) fs) w then fs else fs ++ undeclared w ∷ []) ws
+
+abbrev pub category_features : WrittenCategory → List (List ℕ)
+category_features c = map (λ f. f.name) c.feats
+
+-- the names of the features that a rule writes, the head's first
+abbrev pub written_features : WrittenRule → List (List ℕ)
+written_features r = flat_map category_features (r.head ∷ flat_map element_categories r.body)
+
+-- the features: the four first ones, the others that are declared, and those that rules write without a declaration
 abbrev pub features_of : List WrittenItem → List NamedFeature
-features_of items = with_items (map undeclared first_features) items
+features_of items = with_undeclared (with_items (map undeclared first_features) items) (flat_map written_features (rules_of items))
 
 abbrev pub domain_atoms : Domain → List (List ℕ)
 domain_atoms domain.Words = []
@@ -176,12 +206,6 @@ element_names features (element.NoBack ps) = flat_map (category_names features) 
 abbrev pub variables_of : List (List ℕ) → WrittenRule → List (List ℕ)
 variables_of features r = gathered [] (category_names features r.head ++ flat_map (element_names features) r.body)
 
-abbrev pub all_labels : List Label
-all_labels = label.Statement ∷ label.Ask ∷ label.If ∷ label.Say ∷ label.And ∷ label.Or ∷ label.Pass ∷ label.Not ∷ label.Does ∷ label.Done
-    ∷ label.Class ∷ label.Top ∷ label.Same ∷ label.Only ∷ label.Gap ∷ label.Name ∷ label.Refer ∷ label.Var ∷ label.Noun ∷ label.Part
-    ∷ label.Some ∷ label.Every ∷ label.No ∷ label.Something ∷ label.Everything ∷ label.Nothing ∷ label.What ∷ label.Which ∷ label.Whichobj
-    ∷ label.Mark ∷ []
-
 -- the label of this name among these
 abbrev pub label_among : List Label → List ℕ → Option Label
 label_among [] w = None
@@ -198,24 +222,6 @@ numbered_rule t r = record {
   closing = r.closing;
   body = map (numbered_element t) r.body;
 }
-
-abbrev pub item_rules : WrittenItem → List WrittenRule
-item_rules (item.Feature name d) = []
-item_rules (item.Rule r) = r ∷ []
-
-abbrev pub rules_of : List WrittenItem → List WrittenRule
-rules_of items = flat_map item_rules items
-
-abbrev pub element_categories : WrittenElement → List WrittenCategory
-element_categories (element.Terminal w) = []
-element_categories (element.Preterminal c) = c ∷ []
-element_categories (element.Sub c) = c ∷ []
-element_categories (element.Position w) = []
-element_categories element.Opener = []
-element_categories (element.Forward c) = c ∷ []
-element_categories (element.Strong c) = c ∷ []
-element_categories (element.Back ps ns) = ps ++ ns
-element_categories (element.NoBack ps) = ps
 
 -- the names of the categories that a rule writes, the head first
 abbrev pub rule_names : WrittenRule → List (List ℕ)

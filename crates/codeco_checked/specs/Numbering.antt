@@ -6,7 +6,7 @@ use Rattle.codeco_terms.specs.declared.declarations.Declared.TheVariants.{Undecl
 use Rattle.codeco_terms.specs.declared.rules.Rule.{Rule}
 use Rattle.codeco_terms.specs.GrammarParts.{GrammarParts}
 use Rattle.codeco_text.specs.Names.{same_bytes, is_among}
-use Rattle.codeco_reader.specs.Occurrences.{rule_mentions, rule_variables, rule_terminals}
+use Rattle.codeco_checked.specs.Occurrences.{rule_mentions, rule_variables, rule_terminals}
 
 -- a number in a list
 abbrev pub has : List ℕ → ℕ → Bool

@@ -15,8 +15,8 @@ use Rattle.codeco_terms.specs.declared.declarations.Declared.TheVariants as decl
 use Rattle.codeco_terms.specs.declared.rules.Rule.{Rule}
 use Rattle.codeco_terms.specs.GrammarParts.{GrammarParts}
 use Rattle.codeco_text.specs.Names.{is_among}
-use Rattle.codeco_reader.specs.Occurrences.{rule_mentions, rule_features, rule_variables, rule_terminals, term_variables, category_variables, positions, patterns}
-use Rattle.codeco_reader.specs.Numbering.{has, count_different, differ, declared_atoms, grammar_atoms, is_declared}
+use Rattle.codeco_checked.specs.Occurrences.{rule_mentions, rule_features, rule_variables, rule_terminals, term_variables, category_variables, positions, patterns}
+use Rattle.codeco_checked.specs.Numbering.{has, count_different, differ, declared_atoms, grammar_atoms, is_declared}
 
 -- the test at the rule of this number, from 1
 abbrev pub at_rule : (Rule → Bool) → List Rule → ℕ → Bool

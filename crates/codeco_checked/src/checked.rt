@@ -13,7 +13,7 @@ pub struct CheckedGrammar {
 
 impl Model for CheckedGrammar {
     ghost use Rattle.codeco_terms.specs.GrammarParts.{GrammarParts};
-    ghost use Rattle.codeco_reader.specs.Sound.{IsSound};
+    ghost use Rattle.codeco_checked.specs.Sound.{IsSound};
 
     ghost Value = { GrammarParts };
 
@@ -23,7 +23,7 @@ impl Model for CheckedGrammar {
 }
 
 impl CheckedGrammar {
-    ghost use Rattle.codeco_reader.specs.Sound.{IsSound, is_labelled};
+    ghost use Rattle.codeco_checked.specs.Sound.{IsSound, is_labelled};
 
     /// Admits a grammar of which it is known that it may be used. Takes no memory.
     pub fn admit(grammar: Grammar) -> CheckedGrammar

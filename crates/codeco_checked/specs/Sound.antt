@@ -14,10 +14,10 @@ use Rattle.codeco_terms.specs.declared.declarations.Declared.TheVariants as decl
 use Rattle.codeco_terms.specs.declared.rules.Rule.{Rule}
 use Rattle.codeco_terms.specs.GrammarParts.{GrammarParts}
 use Rattle.codeco_text.specs.Names.{is_identifier, is_terminal}
-use Rattle.codeco_reader.specs.declared.fault.GrammarFault.{GrammarFault}
-use Rattle.codeco_reader.specs.declared.fault.GrammarFault.TheVariants.{Syntax, TooLarge, Undeclared, BadValue, EmptyRule, LeftRecursion, TakenVariable, LabelKind, NoStart, Memory}
-use Rattle.codeco_reader.specs.Numbering.{IsNumbered}
-use Rattle.codeco_reader.specs.Faults.{at_rule, is_too_large, is_undeclared_rule, is_bad_value, is_empty_rule, IsRecursive, is_taking_rule, has_start}
+use Rattle.codeco_checked.specs.declared.fault.GrammarFault.{GrammarFault}
+use Rattle.codeco_checked.specs.declared.fault.GrammarFault.TheVariants.{Syntax, TooLarge, Undeclared, BadValue, EmptyRule, LeftRecursion, TakenVariable, LabelKind, NoStart, Memory}
+use Rattle.codeco_checked.specs.Numbering.{IsNumbered}
+use Rattle.codeco_checked.specs.Faults.{at_rule, is_too_large, is_undeclared_rule, is_bad_value, is_empty_rule, IsRecursive, is_taking_rule, has_start}
 
 -- the fault holds of the grammar, at the place that it names
 abbrev pub Holds : GrammarParts → GrammarFault → Type 0

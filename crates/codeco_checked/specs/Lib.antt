@@ -2,3 +2,4 @@ pub mod Occurrences
 pub mod Numbering
 pub mod Faults
 pub mod Sound
+pub mod FirstFault

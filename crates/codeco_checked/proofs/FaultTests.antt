@@ -6,10 +6,10 @@ use Rattle.std.specs.Option.{option_map_or}
 use Rattle.std.proofs.lemmas.Bool.{both_ways, or_parts, and_parts, or_from, and_right, ltb-true, not_from_true}
 use Rattle.codeco_terms.specs.declared.rules.Rule.{Rule}
 use Rattle.codeco_terms.specs.GrammarParts.{GrammarParts}
-use Rattle.codeco_reader.specs.declared.fault.GrammarFault.{GrammarFault}
-use Rattle.codeco_reader.specs.declared.fault.GrammarFault.TheVariants.{Syntax, TooLarge, Undeclared, BadValue, EmptyRule, LeftRecursion, TakenVariable, LabelKind, NoStart, Memory}
-use Rattle.codeco_reader.specs.Faults.{at_rule, has_broad_category, is_large_rule, has_large_declarations, is_too_large, is_undeclared_rule, is_bad_rule, has_double_declaration, is_bad_value, is_empty_rule, first_category, StepsTo, Leads, IsRecursive, is_taking_rule, has_start}
-use Rattle.codeco_reader.specs.Sound.{Holds}
+use Rattle.codeco_checked.specs.declared.fault.GrammarFault.{GrammarFault}
+use Rattle.codeco_checked.specs.declared.fault.GrammarFault.TheVariants.{Syntax, TooLarge, Undeclared, BadValue, EmptyRule, LeftRecursion, TakenVariable, LabelKind, NoStart, Memory}
+use Rattle.codeco_checked.specs.Faults.{at_rule, has_broad_category, is_large_rule, has_large_declarations, is_too_large, is_undeclared_rule, is_bad_rule, has_double_declaration, is_bad_value, is_empty_rule, first_category, StepsTo, Leads, IsRecursive, is_taking_rule, has_start}
+use Rattle.codeco_checked.specs.Sound.{Holds}
 
 -- what stands first in the rule has a lower rank than its head
 abbrev pub falls : (ℕ → ℕ) → Rule → Bool

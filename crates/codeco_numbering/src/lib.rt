@@ -1,0 +1,2 @@
+//! The grammar notation: numbers in place of names.
+#![tactic(auto)]

@@ -70,7 +70,8 @@ begins_with (x ∷ xs) (y ∷ ys) = same_bytes x y && begins_with xs ys
 abbrev pub variables_count_up : Rule → Bool
 variables_count_up r = counts_up 0 (count_different (rule_variables r)) (rule_variables r)
 
--- Categories, features, atoms, terminals and variables have the numbers that the notation gives.
+-- Categories, features, atoms, terminals and variables have the numbers that the notation gives. A category that is no
+-- preterminal may have a preterminal's name, since the preterminals are written with a sign.
 pub record IsNumbered (g : GrammarParts) : Type 0 where
   pub first_features : IsTrue (begins_with first_features (map (λ f. f.name) g.features))
   pub first_atoms : IsTrue (begins_with first_atoms g.atoms)
@@ -81,5 +82,5 @@ pub record IsNumbered (g : GrammarParts) : Type 0 where
   pub terminals : IsTrue (counts_up 0 (length g.terminals) (grammar_terminals g))
   pub variables : IsTrue (list_all variables_count_up g.rules)
   pub different_atoms : IsTrue (differ g.atoms)
-  pub different_categories : IsTrue (differ g.categories)
+  pub different_categories : IsTrue (differ (drop 5 g.categories))
   pub different_terminals : IsTrue (differ g.terminals)

@@ -1,5 +1,5 @@
 -- The grammar that declarations and rules make: numbers in place of names, given by first occurrence.
-use Rattle.std.specs.Prelude.{ℕ, ◌+◌, ◌&&◌, nat_lt, if◌then◌else◌, Bool, true, false, List, [], ◌∷◌, ◌++◌, map, flat_map, Option, Some, None}
+use Rattle.std.specs.Prelude.{ℕ, ◌+◌, ◌&&◌, nat_lt, if◌then◌else◌, Bool, true, false, List, [], ◌∷◌, ◌++◌, map, flat_map, Option, Some, None, codes}
 use Rattle.codeco_terms.specs.declared.values.Value.TheVariants.{Atom}
 use Rattle.codeco_terms.specs.declared.values.Term.{Term}
 use Rattle.codeco_terms.specs.declared.values.Term.TheVariants.{Val, Var}
@@ -24,7 +24,8 @@ use Rattle.codeco_text.specs.declared.written.Domain.TheVariants as domain
 use Rattle.codeco_text.specs.declared.written.WrittenItem.{WrittenItem}
 use Rattle.codeco_text.specs.declared.written.WrittenItem.TheVariants as item
 use Rattle.codeco_text.specs.Names.{same_bytes, is_among}
-use Rattle.codeco_checked.specs.Numbering.{first_features, first_atoms, first_categories}
+use Rattle.codeco_text.specs.Notation.{kinds}
+use Rattle.codeco_checked.specs.Numbering.{first_features, first_atoms}
 use Rattle.codeco_numbering.specs.Labels.{label_name, all_labels}
 
 -- Tables of names
@@ -145,7 +146,7 @@ term_names (term.Taken w) = w ∷ []
 abbrev pub category_names : List (List ℕ) → WrittenCategory → List (List ℕ)
 category_names features c = flat_map (λ f. term_names f.1) (ordered features c)
 
--- the tables by which a rule is numbered
+-- The tables by which a rule is numbered. The categories are those that are no preterminals, from number 5 on.
 pub record Tables : Type 0 where
   pub features : List (List ℕ)
   pub atoms : List (List ℕ)
@@ -172,7 +173,11 @@ taken_feats t ((n, term.Variable w) ∷ fs) = taken_feats t fs
 taken_feats t ((n, term.Taken w) ∷ fs) = (n, number_of t.variables w) ∷ taken_feats t fs
 
 abbrev pub numbered_category : Tables → WrittenCategory → Category
-numbered_category t c = record { name = number_of t.categories c.name; feats = plain_feats t (ordered t.features c) }
+numbered_category t c = record { name = 5 + number_of t.categories c.name; feats = plain_feats t (ordered t.features c) }
+
+-- a preterminal, whose number is the place of its name among the five
+abbrev pub numbered_preterminal : Tables → WrittenCategory → Category
+numbered_preterminal t c = record { name = number_of kinds c.name; feats = plain_feats t (ordered t.features c) }
 
 abbrev pub numbered_pattern : Tables → WrittenCategory → Pattern
 numbered_pattern t c = record { cat = numbered_category t c; taken = taken_feats t (ordered t.features c) }
@@ -181,7 +186,7 @@ numbered_pattern t c = record { cat = numbered_category t c; taken = taken_feats
 
 abbrev pub numbered_element : Tables → WrittenElement → Element
 numbered_element t (element.Terminal w) = Terminal (number_of t.terminals w)
-numbered_element t (element.Preterminal c) = Preterminal (numbered_category t c)
+numbered_element t (element.Preterminal c) = Preterminal (numbered_preterminal t c)
 numbered_element t (element.Sub c) = Sub (numbered_category t c)
 numbered_element t (element.Position w) = Position (number_of t.variables w)
 numbered_element t element.Opener = Opener
@@ -223,9 +228,21 @@ numbered_rule t r = record {
   body = map (numbered_element t) r.body;
 }
 
--- the names of the categories that a rule writes, the head first
+-- the categories of an element that are no preterminals
+abbrev pub plain_categories : WrittenElement → List WrittenCategory
+plain_categories (element.Terminal w) = []
+plain_categories (element.Preterminal c) = []
+plain_categories (element.Sub c) = c ∷ []
+plain_categories (element.Position w) = []
+plain_categories element.Opener = []
+plain_categories (element.Forward c) = c ∷ []
+plain_categories (element.Strong c) = c ∷ []
+plain_categories (element.Back ps ns) = ps ++ ns
+plain_categories (element.NoBack ps) = ps
+
+-- the names of the categories that a rule writes and that are no preterminals, the head first
 abbrev pub rule_names : WrittenRule → List (List ℕ)
-rule_names r = map (λ c. c.name) (r.head ∷ flat_map element_categories r.body)
+rule_names r = map (λ c. c.name) (r.head ∷ flat_map plain_categories r.body)
 
 abbrev pub written_terminals : WrittenElement → List (List ℕ)
 written_terminals (element.Terminal w) = w ∷ []
@@ -246,11 +263,11 @@ numbered_of items =
     let names = map (λ f. f.name) features in
     let atoms = atoms_of features in
     let terminals = gathered [] (flat_map (λ r. flat_map written_terminals r.body) rules) in
-    let categories = gathered first_categories (flat_map rule_names rules) in
+    let categories = gathered (codes "text" ∷ []) (flat_map rule_names rules) in
     record {
       features = map (numbered_feature atoms) features;
       atoms = atoms;
       terminals = terminals;
-      categories = categories;
+      categories = kinds ++ categories;
       rules = map (λ r. numbered_rule (record { features = names; atoms = atoms; terminals = terminals; categories = categories; variables = variables_of names r }) r) rules;
     }

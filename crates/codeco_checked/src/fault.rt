@@ -1,7 +1,8 @@
 // Why a grammar is refused.
 ghost use Rattle.std.specs.Prelude.{◌≡◌};
+ghost use Rattle.codeco_checked.specs.declared.fault.GrammarFault.TheVariants as fault;
 
-use std::alloc::{AllocError, AllocFailed};
+use wiki_base::Memory;
 
 /// What is wrong with the text of a grammar: the fault of least number that holds, at its first place.
 /// The number of a rule counts from 1 in the order of the text.
@@ -30,4 +31,12 @@ pub enum GrammarFault {
     NoStart,
     /// An allocation was refused.
     Memory,
+}
+
+impl From<Memory> for GrammarFault {
+    ghost from_gives = { λ _ e. e ≡ fault.Memory };
+
+    fn from(_: Memory) -> Self {
+        GrammarFault::Memory
+    }
 }

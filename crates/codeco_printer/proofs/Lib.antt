@@ -1,3 +1,5 @@
+pub mod CategoriesBack
+pub mod DeclaredFeatures
 pub mod Examples
 pub mod GrammarPrinted
 pub mod Led

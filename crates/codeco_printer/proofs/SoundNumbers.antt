@@ -58,7 +58,7 @@ term_below g f (Val (Word w)) s h = absurd cc
 term_below g f (Val (Pos p)) s h = absurd cc
 term_below g f (Var x) s h = refl
 
-all_feats_below : (g : GrammarParts) → IsSound g → list_all (feats_below g) g.rules ≡ true
+pub all_feats_below : (g : GrammarParts) → IsSound g → list_all (feats_below g) g.rules ≡ true
 all_feats_below g s =
     let P : Rule → Bool = λ r. list_all (λ f. is_declared (values_of g f.0)) (rule_features r) in
     let Q : Rule → Bool = λ r. list_all (λ f. term_fits (values_of g f.0) f.1) (rule_features r) in

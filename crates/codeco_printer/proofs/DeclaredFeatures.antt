@@ -19,7 +19,7 @@ use Rattle.codeco_checked.specs.Occurrences.{whole, mentions, rule_mentions, rul
 use Rattle.codeco_checked.specs.Sound.{IsSound}
 use Rattle.codeco_printer.specs.Unnumbered.{feature_name, letter, written_term, plain_terms, taken_terms, merged, with_names, written_category, written_pattern, written_element, written_rule}
 use Rattle.codeco_numbering.specs.Numbered.{NamedFeature, undeclared, with_undeclared, element_categories, category_features, written_features}
-use Rattle.codeco_printer.proofs.Lists.{all_append, all_split, all_flat, flat_all, all-map, all_weaken}
+use Rattle.codeco_numbering.proofs.SoundLists.{all_append, all_split, all_flat, flat_all, all-map, all_weaken}
 use Rattle.codeco_printer.proofs.WrittenSound.{with_taken_all, merged_all}
 use Rattle.codeco_printer.proofs.SoundNumbers.{feat_below, atom_below, feats_below, all_feats_below}
 use Rattle.codeco_printer.proofs.Tables.{among_at}

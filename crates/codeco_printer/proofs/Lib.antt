@@ -3,7 +3,6 @@ pub mod DeclaredFeatures
 pub mod Examples
 pub mod GrammarPrinted
 pub mod Led
-pub mod Lists
 pub mod PrintLaws
 pub mod Spelled
 pub mod Streamed

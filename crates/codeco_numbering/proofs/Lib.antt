@@ -1,0 +1,3 @@
+pub mod SoundCounts
+pub mod SoundLists
+pub mod SoundTables

@@ -27,12 +27,12 @@ variable_numbers t ws = map (number_of t.variables) ws
 abbrev pub is_single : Category → Bool
 is_single c = not (is_double (map (λ f. f.0) c.feats))
 
-category_numbered : (t : Tables) (c : WrittenCategory) → is_plain c ≡ true → category_variables (numbered_category t c) ≡ variable_numbers t (category_names t.features c)
+pub category_numbered : (t : Tables) (c : WrittenCategory) → is_plain c ≡ true → category_variables (numbered_category t c) ≡ variable_numbers t (category_names t.features c)
 category_numbered t c h =
     let fs = ordered t.features c in
     ap (λ xs. flat_map (λ f. term_variables f.1) xs) (plain_every t fs (ordered_plain t.features c h)) ∙ every_variables t fs
 
-one_numbered : (t : Tables) (c : WrittenCategory) → is_plain c ≡ true → category_variables (numbered_category t c) ++ [] ≡ variable_numbers t (category_names t.features c)
+pub one_numbered : (t : Tables) (c : WrittenCategory) → is_plain c ≡ true → category_variables (numbered_category t c) ++ [] ≡ variable_numbers t (category_names t.features c)
 one_numbered t c h = append-nil (category_variables (numbered_category t c)) ∙ category_numbered t c h
 
 -- the features of a pattern are those that it writes, in order

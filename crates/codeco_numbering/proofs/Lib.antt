@@ -1,8 +1,11 @@
 pub mod SoundCounts
 pub mod SoundDoubles
+pub mod SoundFeatures
 pub mod SoundLists
+pub mod SoundMentions
 pub mod SoundOrder
 pub mod SoundSets
+pub mod SoundSpelled
 pub mod SoundTables
 pub mod SoundVariableSets
 pub mod SoundVariables

@@ -29,7 +29,7 @@ use Rattle.codeco_numbering.specs.Labels.{label_name}
 use Rattle.codeco_numbering.proofs.SoundLists.{all_append, all_split, all_flat, flat_all, all-map, all_weaken, all_both}
 use Rattle.codeco_printer.proofs.WriteLaws.{merged_none}
 use Rattle.codeco_printer.proofs.SoundNames.{letter_variable, label_named, kind_named, term_named, feat_named, category_named, atoms_named, mentions_named, terminals_named}
-use Rattle.codeco_printer.proofs.Spelled.{term_spelled, feat_spelled, category_spelled, element_spelled, label_spelled, item_spelled}
+use Rattle.codeco_numbering.proofs.SoundSpelled.{term_spelled, feat_spelled, category_spelled, element_spelled, label_spelled, item_spelled}
 
 -- Marked features among the others
 

@@ -1,7 +1,11 @@
+pub mod SoundContents
 pub mod SoundCounts
+pub mod SoundDeclared
 pub mod SoundDoubles
+pub mod SoundFaults
 pub mod SoundFeatures
 pub mod SoundLists
+pub mod SoundLowered
 pub mod SoundMentions
 pub mod SoundOrder
 pub mod SoundSets

@@ -17,53 +17,10 @@ use Rattle.codeco_checked.specs.Numbering.{counts_up, first_categories, grammar_
 use Rattle.codeco_checked.specs.Sound.{IsSound, ascends, is_empty, is_written, is_written_name, is_written_pattern, is_plain_pattern, is_written_element, is_written_rule}
 use Rattle.codeco_printer.specs.Unnumbered.{name_at, written_pattern, written_element, written_rule}
 use Rattle.codeco_numbering.specs.Numbered.{gathered, plain_categories, rule_names}
+use Rattle.codeco_numbering.proofs.SoundLowered.{lowered, lowered_append, lowered_counts}
 use Rattle.codeco_numbering.proofs.SoundLists.{all_weaken}
 use Rattle.codeco_numbering.proofs.SoundCounts.{counted}
 use Rattle.codeco_printer.proofs.Tables.{gathered_counts, begins_take}
-
--- the numbers from 5 on, less 5
-abbrev pub lowered : List ℕ → List ℕ
-lowered [] = []
-lowered (x ∷ xs) = cond (ltb x 5) (lowered xs) ((x - 5) ∷ lowered xs)
-
-lowered_append : (xs ys : List ℕ) → lowered (xs ++ ys) ≡ lowered xs ++ lowered ys
-lowered_append [] ys = refl
-lowered_append (x ∷ xs) ys =
-    elim (cases_Bool (ltb x 5)) [
-      | inl low ↦ cond-true (ltb x 5) (lowered (xs ++ ys)) ((x - 5) ∷ lowered (xs ++ ys)) low ∙ lowered_append xs ys ∙ ap (λ (z : List ℕ). z ++ lowered ys) (sym (cond-true (ltb x 5) (lowered xs) ((x - 5) ∷ lowered xs) low))
-      | inr high ↦
-          cond-false (ltb x 5) (lowered (xs ++ ys)) ((x - 5) ∷ lowered (xs ++ ys)) high
-          ∙ ap (λ (z : List ℕ). (x - 5) ∷ z) (lowered_append xs ys)
-          ∙ ap (λ (z : List ℕ). z ++ lowered ys) (sym (cond-false (ltb x 5) (lowered xs) ((x - 5) ∷ lowered xs) high))
-    ]
-
-lowered_counts : (next total : ℕ) (xs : List ℕ) → counts_up (next + 5) (total + 5) xs ≡ true → counts_up next total (lowered xs) ≡ true
-lowered_counts next total [] h = let e = eqb-true (next + 5) (total + 5) h in eq-eqb next total (omega arith)
-lowered_counts next total (x ∷ xs) h =
-    let rest = lowered xs in
-    let old = counts_up (next + 5) (total + 5) xs in
-    let new = eqb x (next + 5) && counts_up (next + 5 + 1) (total + 5) xs in
-    elim (cases_Bool (ltb x 5)) [
-      | inl low ↦
-          let lt = ltb-true x 5 low in
-          ap (counts_up next total) (cond-true (ltb x 5) rest ((x - 5) ∷ rest) low)
-          ∙ lowered_counts next total xs (sym (cond-true (ltb x (next + 5)) old new (lt-ltb x (next + 5) (omega arith))) ∙ h)
-      | inr high ↦
-          let le = ltb-false x 5 high in
-          ap (counts_up next total) (cond-false (ltb x 5) rest ((x - 5) ∷ rest) high)
-          ∙ elim (cases_Bool (ltb x (next + 5))) [
-            | inl known ↦
-                let lt = ltb-true x (next + 5) known in
-                cond-true (ltb (x - 5) next) (counts_up next total rest) (eqb (x - 5) next && counts_up (next + 1) total rest) (lt-ltb (x - 5) next (omega arith))
-                ∙ lowered_counts next total xs (sym (cond-true (ltb x (next + 5)) old new known) ∙ h)
-            | inr fresh ↦
-                let parts = and_parts (eqb x (next + 5)) (counts_up (next + 5 + 1) (total + 5) xs) (sym (cond-false (ltb x (next + 5)) old new fresh) ∙ h) in
-                let same = eqb-true x (next + 5) parts.0 in
-                let more : counts_up (next + 1 + 5) (total + 5) xs ≡ true = subst (λ (n : ℕ). counts_up n (total + 5) xs ≡ true) (omega arith) parts.1 in
-                cond-false (ltb (x - 5) next) (counts_up next total rest) (eqb (x - 5) next && counts_up (next + 1) total rest) (le-ltb (x - 5) next (omega arith))
-                ∙ and_from (eqb (x - 5) next) (counts_up (next + 1) total rest) (eq-eqb (x - 5) next (omega arith)) (lowered_counts (next + 1) total xs more)
-          ]
-    ]
 
 -- Names
 

@@ -20,17 +20,11 @@ use Rattle.codeco_checked.specs.Sound.{IsSound}
 use Rattle.codeco_printer.specs.Unnumbered.{feature_name, letter, written_term, plain_terms, taken_terms, merged, with_names, written_category, written_pattern, written_element, written_rule}
 use Rattle.codeco_numbering.specs.Numbered.{NamedFeature, undeclared, with_undeclared, element_categories, category_features, written_features}
 use Rattle.codeco_numbering.proofs.SoundLists.{all_append, all_split, all_flat, flat_all, all-map, all_weaken}
-use Rattle.codeco_printer.proofs.WrittenSound.{with_taken_all, merged_all}
+use Rattle.codeco_numbering.proofs.SoundMentions.{with_taken_all}
+use Rattle.codeco_printer.proofs.WrittenSound.{merged_all}
 use Rattle.codeco_printer.proofs.SoundNumbers.{feat_below, atom_below, feats_below, all_feats_below}
 use Rattle.codeco_printer.proofs.Tables.{among_at}
 use Rattle.codeco_printer.proofs.RuleBack.{feature_names}
-
--- names that are there add nothing
-pub none_undeclared : (fs : List NamedFeature) (ws : List (List ℕ)) → list_all (λ w. is_among (map (λ f. f.name) fs) w) ws ≡ true → with_undeclared fs ws ≡ fs
-none_undeclared fs [] h = refl
-none_undeclared fs (w ∷ ws) h =
-    let parts = and_parts (is_among (map (λ f. f.name) fs) w) (list_all (λ x. is_among (map (λ f. f.name) fs) x) ws) h in
-    ap (λ (x : List NamedFeature). with_undeclared x ws) (cond-true (is_among (map (λ f. f.name) fs) w) fs (fs ++ undeclared w ∷ []) parts.0) ∙ none_undeclared fs ws parts.1
 
 abbrev pub is_feature : GrammarParts → List ℕ → Bool
 is_feature g w = is_among (feature_names g) w

@@ -26,7 +26,8 @@ use Rattle.codeco_printer.specs.Unnumbered.{name_at, feature_name, letter, writt
 use Rattle.codeco_numbering.specs.Labels.{label_name}
 use Rattle.codeco_numbering.specs.Numbered.{number_of, in_order, ordered, category_names, Tables, numbered_term, plain_feats, taken_feats, numbered_category, numbered_preterminal, numbered_pattern, numbered_element, element_names, gathered, variables_of, numbered_label, numbered_rule}
 use Rattle.codeco_numbering.proofs.SoundLists.{all_split, all_flat, all-map, all_weaken}
-use Rattle.codeco_printer.proofs.WrittenSound.{with_taken_all, below_all, from_all, merged_all}
+use Rattle.codeco_numbering.proofs.SoundMentions.{with_taken_all}
+use Rattle.codeco_printer.proofs.WrittenSound.{below_all, from_all, merged_all}
 use Rattle.codeco_printer.proofs.SoundNumbers.{term_fine, feat_fine, category_fine, names_below, feats_below, terminals_below, few_variables, is_fine, positions_fine, mentions_fine}
 use Rattle.codeco_printer.proofs.Tables.{number_at, sixteen, variable_number, gathered_letters}
 use Rattle.codeco_printer.proofs.Ordered.{in_order_rises, rises_merged, plain_rises, taken_rises, names_of, plain_letters, pattern_letters, below_from}

@@ -25,21 +25,8 @@ use Rattle.codeco_checked.specs.Sound.{IsSound}
 use Rattle.codeco_printer.specs.Unnumbered.{name_at, feature_name, letter, letter_byte, value_name}
 use Rattle.codeco_numbering.specs.Labels.{label_name}
 use Rattle.codeco_numbering.proofs.SoundCounts.{counted}
+use Rattle.codeco_numbering.proofs.SoundFaults.{at_no_rule}
 use Rattle.codeco_numbering.proofs.SoundLists.{all_flat, all-map, all_weaken, all_both, all_from_none, none_each, all_at}
-
--- a test that holds at no rule
-holds_nowhere : (test : Rule → Bool) (rs : List Rule) → ((k : ℕ) → option_map_or test (slice_get rs k) false ≡ true → ⊥) → list_any test rs ≡ false
-holds_nowhere test [] h = refl
-holds_nowhere test (r ∷ rs) h =
-    let here : test r ≡ false = false_from_ne_true (test r) (h 0) in
-    let rest : list_any test rs ≡ false = holds_nowhere test rs (λ k e. h (suc k) e) in
-    ap (λ b. b || list_any test rs) here ∙ rest
-
-pub at_no_rule : (test : Rule → Bool) (rs : List Rule) → ((n : ℕ) → at_rule test rs n ≡ true → ⊥) → list_any test rs ≡ false
-at_no_rule test rs h =
-    holds_nowhere test rs (λ k e.
-    let e' : option_map_or test (slice_get rs (suc k - 1)) false ≡ true = subst (λ n. option_map_or test (slice_get rs n) false ≡ true) (omega arith) e in
-    h (suc k) (and_from (ltb 0 (suc k)) (option_map_or test (slice_get rs (suc k - 1)) false) (lt-ltb 0 (suc k) (omega arith)) e'))
 
 pub letter_variable : (x : ℕ) → is_variable (letter x) ≡ true
 letter_variable x =

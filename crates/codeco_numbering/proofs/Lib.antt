@@ -7,7 +7,10 @@ pub mod SoundFeatures
 pub mod SoundLists
 pub mod SoundLowered
 pub mod SoundMentions
+pub mod SoundNames
+pub mod SoundNumbered
 pub mod SoundOrder
+pub mod SoundRules
 pub mod SoundSets
 pub mod SoundSpelled
 pub mod SoundTables

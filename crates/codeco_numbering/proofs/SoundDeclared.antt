@@ -60,11 +60,11 @@ written_declared items fits none =
     let Q : WrittenRule → Bool = λ r. list_all (λ f. q f.0) (rule_features (numbered_in items r)) in
     flat_all (λ w. is_among (feature_names fs) w) written_features (rules_of items)
     (all_weaken (λ r. P r && Q r) (λ r. list_all (λ w. is_among (feature_names fs) w) (written_features r))
-      (λ r h.
-        let parts = and_parts (P r) (Q r) h in
-        all_weaken (λ w. q (number_of names w)) (λ w. is_among (feature_names fs) w) (λ w k. declared_among (atoms_of (features_of items)) fs ws w k) (written_features r) (rule_passes q (tables_of items r) r parts.0 parts.1))
-      (rules_of items)
-      (all_both P Q (rules_of items) (rules_pass item_fits P (λ r h. h) items fits) (rules_declared items none)))
+    (λ r h.
+    let parts = and_parts (P r) (Q r) h in
+    all_weaken (λ w. q (number_of names w)) (λ w. is_among (feature_names fs) w) (λ w k. declared_among (atoms_of (features_of items)) fs ws w k) (written_features r) (rule_passes q (tables_of items r) r parts.0 parts.1))
+    (rules_of items)
+    (all_both P Q (rules_of items) (rules_pass item_fits P (λ r h. h) items fits) (rules_declared items none)))
 
 -- the features are those of the declarations
 pub features_declared : (items : List WrittenItem) → list_all item_fits items ≡ true → NoneUndeclared items → features_of items ≡ declared_of items

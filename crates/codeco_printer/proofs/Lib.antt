@@ -1,7 +1,8 @@
+pub mod CategoriesBack
+pub mod DeclaredFeatures
 pub mod Examples
 pub mod GrammarPrinted
 pub mod Led
-pub mod Lists
 pub mod PrintLaws
 pub mod Spelled
 pub mod Streamed

@@ -1,8 +1,7 @@
 -- A text spells at most one list of declarations and rules.
-use Rattle.std.proofs.Common.{◌≡◌, ℕ, List, refl, sym, ap, ◌∙◌}
+use Rattle.std.proofs.Common.{◌≡◌, ℕ, List, sym, ap, ◌∙◌}
 use Rattle.codeco_text.specs.declared.written.WrittenItem.{WrittenItem}
-use Rattle.codeco_text.specs.declared.builder.Builder.{Builder}
-use Rattle.codeco_text.specs.Notation.{lexemes, IsSpelling}
+use Rattle.codeco_text.specs.Notation.{IsSpelling}
 use Rattle.codeco_text.specs.Building.{so_far}
 use Rattle.codeco_text.proofs.Exactness.{spelling_ends}
 use Rattle.codeco_text.proofs.OneSpelling.{lexemes_same}

@@ -1,11 +1,10 @@
 -- The declarations and rules of a sound grammar make that grammar.
-use Rattle.std.proofs.Common.{◌≡◌, ℕ, zero, suc, Bool, true, false, not, ◌&&◌, eqb, ltb, List, [], ◌∷◌, ◌++◌, map, length, drop, Option, Some, None, refl, sym, ap, ◌∙◌, append_assoc}
+use Rattle.std.proofs.Common.{subst, ◌≡◌, ℕ, zero, suc, Bool, true, false, not, ◌&&◌, eqb, ltb, List, [], ◌∷◌, ◌++◌, map, length, drop, Option, Some, None, refl, sym, ap, ◌∙◌, append_assoc}
+use Rattle.std.specs.Prelude.{codes}
 use Rattle.std.specs.List.{list_all, flat_map}
 use Rattle.std.proofs.lemmas.List.{append-nil, map-append}
 use Rattle.std.proofs.lemmas.List.Concat.{flat_map-append}
 use Rattle.std.proofs.lemmas.Bool.{and_parts, and_from, and_left, or_parts, or_left, not-true, not-false, not_from_false, cond-true, cond-false, false_from_ne_true, ltb-true}
-use Rattle.codeco_terms.specs.declared.categories.Category.{Category}
-use Rattle.codeco_terms.specs.declared.categories.Pattern.{Pattern}
 use Rattle.codeco_terms.specs.declared.elements.Element.{Element}
 use Rattle.codeco_terms.specs.declared.elements.Element.TheVariants.{Terminal, Preterminal, Sub, Position, Opener, Forward, Strong, Back, NoBack}
 use Rattle.codeco_terms.specs.declared.declarations.Declared.{Declared}
@@ -13,26 +12,30 @@ use Rattle.codeco_terms.specs.declared.declarations.Declared.TheVariants as decl
 use Rattle.codeco_terms.specs.declared.declarations.Feature.{Feature}
 use Rattle.codeco_terms.specs.declared.rules.Rule.{Rule}
 use Rattle.codeco_terms.specs.GrammarParts.{GrammarParts}
-use Rattle.codeco_text.specs.declared.written.WrittenCategory.{WrittenCategory}
 use Rattle.codeco_text.specs.declared.written.WrittenRule.{WrittenRule}
 use Rattle.codeco_text.specs.declared.written.Domain.{Domain}
 use Rattle.codeco_text.specs.declared.written.Domain.TheVariants as domain
 use Rattle.codeco_text.specs.declared.written.WrittenItem.{WrittenItem}
 use Rattle.codeco_text.specs.declared.written.WrittenItem.TheVariants as item
 use Rattle.codeco_text.specs.Names.{same_bytes, is_among}
+use Rattle.codeco_text.specs.Notation.{kinds}
 use Rattle.codeco_text.proofs.Growth.{same_is}
 use Rattle.codeco_checked.specs.declared.fault.GrammarFault.TheVariants as fault
-use Rattle.codeco_checked.specs.Occurrences.{whole, mentions, rule_mentions, element_terminals, rule_terminals}
-use Rattle.codeco_checked.specs.Numbering.{differ, begins_with, first_features, first_atoms, first_categories, declared_atoms, grammar_atoms, grammar_names, grammar_terminals, is_declared}
+use Rattle.codeco_checked.specs.Occurrences.{element_terminals, rule_terminals}
+use Rattle.codeco_checked.specs.Numbering.{differ, begins_with, first_features, first_atoms, declared_atoms, grammar_atoms, grammar_terminals, is_declared}
 use Rattle.codeco_checked.specs.Faults.{is_double, has_double_declaration, is_bad_rule, at_rule}
 use Rattle.codeco_checked.specs.Sound.{IsSound}
 use Rattle.std.specs.List.{list_any}
-use Rattle.codeco_printer.specs.Unnumbered.{name_at, written_pattern, written_element, written_rule, declaration, written_feature, written_of}
-use Rattle.codeco_numbering.specs.Numbered.{gathered, number_of, NamedFeature, undeclared, is_open, with_declaration, with_item, with_items, features_of, feature_atoms, atoms_of, numbered_domain, numbered_feature, item_rules, rules_of, element_categories, rule_names, written_terminals, variables_of, numbered_rule, numbered_of}
-use Rattle.codeco_printer.proofs.Lists.{all_append, all_flat, all_weaken, all_both}
-use Rattle.codeco_printer.proofs.SoundNames.{counted}
+use Rattle.codeco_printer.specs.Unnumbered.{name_at, written_element, written_rule, declaration, written_feature, written_of}
+use Rattle.codeco_numbering.specs.Numbered.{gathered, number_of, NamedFeature, undeclared, is_open, with_declaration, with_item, with_items, with_undeclared, written_features, features_of, feature_atoms, atoms_of, numbered_domain, numbered_feature, item_rules, rules_of, rule_names, written_terminals, variables_of, numbered_rule, numbered_of}
+use Rattle.codeco_numbering.proofs.SoundFeatures.{none_undeclared}
+use Rattle.codeco_numbering.proofs.SoundLists.{all_append, all_flat, all_weaken, all_both}
+use Rattle.codeco_numbering.proofs.SoundCounts.{counted}
 use Rattle.codeco_printer.proofs.SoundNumbers.{is_fine, all_fine}
-use Rattle.codeco_printer.proofs.Tables.{same_bytes_refl, differs_comm, number_at, gathered_counts, begins_take}
+use Rattle.codeco_numbering.proofs.SoundTables.{same_bytes_refl, differs_comm}
+use Rattle.codeco_printer.proofs.Tables.{number_at, gathered_counts, begins_take}
+use Rattle.codeco_printer.proofs.CategoriesBack.{first_kinds, kinds_first, categories_back}
+use Rattle.codeco_printer.proofs.DeclaredFeatures.{features_are_declared}
 use Rattle.codeco_printer.proofs.RuleBack.{feature_names, Differs, rule_tables, rule_back}
 
 -- Features
@@ -149,15 +152,6 @@ features_differ g s =
     let none : has_double_declaration g ≡ false = false_from_ne_true (has_double_declaration g) (λ e. s.faultless (fault.BadValue 0) (or_left (eqb 0 0 && has_double_declaration g) (at_rule (is_bad_rule g) g.rules 0) e)) in
     not-false (differ (feature_names g)) (or_parts (not (differ (feature_names g))) (list_any (λ f. is_double (declared_atoms f.declared)) g.features) none).0
 
-features_named : (g : GrammarParts) → IsSound g → features_of (written_of g) ≡ map (named_feature g) g.features
-features_named g s =
-    let declarations = flat_map (written_feature g) g.features in
-    let first = map undeclared first_features in
-    with_items_append first declarations (map (λ r. item.Rule (written_rule g r)) g.rules)
-    ∙ rules_add_none g (with_items first declarations) g.rules
-    ∙ ap (λ (x : List NamedFeature). with_items x declarations) (sym (opens_first first_features g.features s.numbered.first_features))
-    ∙ items_named g 4 [] g.features (features_differ g s) s.numbered.features (all_clear g.features)
-
 -- Atoms
 
 domain_names : (g : GrammarParts) (d : Declared) → feature_atoms (domain_of g d) ≡ map (name_at g.atoms) (declared_atoms d)
@@ -198,10 +192,6 @@ features_back g (f ∷ fs) d h =
     let made : Declared → Feature = λ v. record { name = f.name; declared = v } in
     ap (λ (v : Declared). made v ∷ map (numbered_feature g.atoms) (map (named_feature g) fs)) (domain_back g f.declared d parts.0) ∙ ap (λ (x : List Feature). f ∷ x) (features_back g fs d parts.1)
 
-names_back : (g : GrammarParts) (fs : List Feature) → map (λ f. f.name) (map (named_feature g) fs) ≡ map (λ f. f.name) fs
-names_back g [] = refl
-names_back g (f ∷ fs) = ap (λ (x : List (List ℕ)). f.name ∷ x) (names_back g fs)
-
 -- Rules
 
 declaration_rules : (g : GrammarParts) (name : List ℕ) (d : Declared) → flat_map item_rules (declaration g name d) ≡ []
@@ -226,6 +216,29 @@ rules_written g =
     flat_map-append item_rules (flat_map (written_feature g) g.features) (map (λ r. item.Rule (written_rule g r)) g.rules)
     ∙ ap (λ (x : List WrittenRule). x ++ flat_map item_rules (map (λ r. item.Rule (written_rule g r)) g.rules)) (declarations_rules g g.features)
     ∙ only_rules g g.rules
+
+declared_named : (g : GrammarParts) → IsSound g → with_items (map undeclared first_features) (written_of g) ≡ map (named_feature g) g.features
+declared_named g s =
+    let declarations = flat_map (written_feature g) g.features in
+    let first = map undeclared first_features in
+    with_items_append first declarations (map (λ r. item.Rule (written_rule g r)) g.rules)
+    ∙ rules_add_none g (with_items first declarations) g.rules
+    ∙ ap (λ (x : List NamedFeature). with_items x declarations) (sym (opens_first first_features g.features s.numbered.first_features))
+    ∙ items_named g 4 [] g.features (features_differ g s) s.numbered.features (all_clear g.features)
+
+names_back : (g : GrammarParts) (fs : List Feature) → map (λ f. f.name) (map (named_feature g) fs) ≡ map (λ f. f.name) fs
+names_back g [] = refl
+names_back g (f ∷ fs) = ap (λ (x : List (List ℕ)). f.name ∷ x) (names_back g fs)
+
+-- no rule writes a feature without a declaration
+features_named : (g : GrammarParts) → IsSound g → features_of (written_of g) ≡ map (named_feature g) g.features
+features_named g s =
+    let named = map (named_feature g) g.features in
+    let written = flat_map written_features (map (written_rule g) g.rules) in
+    let among : list_all (λ w. is_among (map (λ f. f.name) named) w) written ≡ true = subst (λ (ns : List (List ℕ)). list_all (λ w. is_among ns w) written ≡ true) (sym (names_back g g.features)) (features_are_declared g s) in
+    ap (λ (rs : List WrittenRule). with_undeclared (with_items (map undeclared first_features) (written_of g)) (flat_map written_features rs)) (rules_written g)
+    ∙ ap (λ (fs : List NamedFeature). with_undeclared fs written) (declared_named g s)
+    ∙ none_undeclared named written among
 
 rules_back : (g : GrammarParts) (rs : List Rule) → Differs g → list_all (is_fine g) rs ≡ true → map (λ r. numbered_rule (rule_tables g (variables_of (feature_names g) r)) r) (map (written_rule g) rs) ≡ rs
 rules_back g [] d h = refl
@@ -261,52 +274,6 @@ rules_terminals g (r ∷ rs) =
     ∙ ap (λ (x : List (List ℕ)). map (name_at g.terminals) (rule_terminals r) ++ x) (rules_terminals g rs)
     ∙ sym (map-append (name_at g.terminals) (rule_terminals r) (flat_map rule_terminals rs))
 
--- Category names
-
-abbrev written_names : List WrittenCategory → List (List ℕ)
-written_names cs = map (λ c. c.name) cs
-
-abbrev numbered_names : List Category → List ℕ
-numbered_names cs = map (λ c. c.name) cs
-
-patterns_names : (g : GrammarParts) (ps : List Pattern) → written_names (map (written_pattern g) ps) ≡ map (name_at g.categories) (numbered_names (map whole ps))
-patterns_names g [] = refl
-patterns_names g (p ∷ ps) = ap (λ (x : List (List ℕ)). name_at g.categories p.cat.name ∷ x) (patterns_names g ps)
-
-element_category_names : (g : GrammarParts) (e : Element) → written_names (element_categories (written_element g e)) ≡ map (name_at g.categories) (numbered_names (mentions e))
-element_category_names g (Terminal t) = refl
-element_category_names g (Preterminal c) = refl
-element_category_names g (Sub c) = refl
-element_category_names g (Position x) = refl
-element_category_names g Opener = refl
-element_category_names g (Forward c) = refl
-element_category_names g (Strong c) = refl
-element_category_names g (Back ps ns) =
-    map-append (λ c. c.name) (map (written_pattern g) ps) (map (written_pattern g) ns)
-    ∙ ap (λ (x : List (List ℕ)). x ++ written_names (map (written_pattern g) ns)) (patterns_names g ps)
-    ∙ ap (λ (x : List (List ℕ)). map (name_at g.categories) (numbered_names (map whole ps)) ++ x) (patterns_names g ns)
-    ∙ sym (map-append (name_at g.categories) (numbered_names (map whole ps)) (numbered_names (map whole ns)))
-    ∙ ap (map (name_at g.categories)) (sym (map-append (λ c. c.name) (map whole ps) (map whole ns)))
-element_category_names g (NoBack ps) = patterns_names g ps
-
-body_category_names : (g : GrammarParts) (es : List Element) → written_names (flat_map element_categories (map (written_element g) es)) ≡ map (name_at g.categories) (numbered_names (flat_map mentions es))
-body_category_names g [] = refl
-body_category_names g (e ∷ es) =
-    let here = element_categories (written_element g e) in
-    let rest = flat_map element_categories (map (written_element g) es) in
-    map-append (λ c. c.name) here rest
-    ∙ ap (λ (x : List (List ℕ)). x ++ written_names rest) (element_category_names g e)
-    ∙ ap (λ (x : List (List ℕ)). map (name_at g.categories) (numbered_names (mentions e)) ++ x) (body_category_names g es)
-    ∙ sym (map-append (name_at g.categories) (numbered_names (mentions e)) (numbered_names (flat_map mentions es)))
-    ∙ ap (map (name_at g.categories)) (sym (map-append (λ c. c.name) (mentions e) (flat_map mentions es)))
-
-rules_names : (g : GrammarParts) (rs : List Rule) → flat_map rule_names (map (written_rule g) rs) ≡ map (name_at g.categories) (flat_map (λ r. map (λ c. c.name) (rule_mentions r)) rs)
-rules_names g [] = refl
-rules_names g (r ∷ rs) =
-    ap (λ (x : List (List ℕ)). (name_at g.categories r.head.name ∷ x) ++ flat_map rule_names (map (written_rule g) rs)) (body_category_names g r.body)
-    ∙ ap (λ (x : List (List ℕ)). map (name_at g.categories) (numbered_names (rule_mentions r)) ++ x) (rules_names g rs)
-    ∙ sym (map-append (name_at g.categories) (numbered_names (rule_mentions r)) (flat_map (λ y. map (λ c. c.name) (rule_mentions y)) rs))
-
 -- The whole
 
 abbrev build : List NamedFeature → List (List ℕ) → List (List ℕ) → List (List ℕ) → List (List ℕ) → List WrittenRule → GrammarParts
@@ -314,12 +281,12 @@ build features names atoms terminals categories rules = record {
   features = map (numbered_feature atoms) features;
   atoms = atoms;
   terminals = terminals;
-  categories = categories;
+  categories = kinds ++ categories;
   rules = map (λ r. numbered_rule (record { features = names; atoms = atoms; terminals = terminals; categories = categories; variables = variables_of names r }) r) rules;
 }
 
 abbrev build_of : List NamedFeature → List WrittenRule → GrammarParts
-build_of features rules = build features (map (λ f. f.name) features) (atoms_of features) (gathered [] (flat_map (λ r. flat_map written_terminals r.body) rules)) (gathered first_categories (flat_map rule_names rules)) rules
+build_of features rules = build features (map (λ f. f.name) features) (atoms_of features) (gathered [] (flat_map (λ r. flat_map written_terminals r.body) rules)) (gathered (codes "text" ∷ []) (flat_map rule_names rules)) rules
 
 -- what is written for a sound grammar makes that grammar
 pub numbered_of-written_of : (g : GrammarParts) → IsSound g → numbered_of (written_of g) ≡ g
@@ -327,16 +294,13 @@ numbered_of-written_of g s =
     let named = map (named_feature g) g.features in
     let written = map (written_rule g) g.rules in
     let terminals = gathered [] (flat_map (λ r. flat_map written_terminals r.body) written) in
-    let categories = gathered first_categories (flat_map rule_names written) in
+    let categories = gathered (codes "text" ∷ []) (flat_map rule_names written) in
     let terminals_are : terminals ≡ g.terminals = ap (gathered []) (rules_terminals g g.rules) ∙ gathered_counts g.terminals 0 (grammar_terminals g) s.numbered.different_terminals s.numbered.terminals in
-    let categories_are : categories ≡ g.categories =
-    ap (gathered first_categories) (rules_names g g.rules)
-    ∙ ap (λ (x : List (List ℕ)). gathered x (map (name_at g.categories) (grammar_names g))) (sym (begins_take first_categories g.categories s.numbered.first_categories))
-    ∙ gathered_counts g.categories 6 (grammar_names g) s.numbered.different_categories s.numbered.categories in
-    let differs : Differs g = record { features = features_differ g s; atoms = s.numbered.different_atoms; terminals = s.numbered.different_terminals; categories = s.numbered.different_categories } in
+    let differs : Differs g = record { features = features_differ g s; atoms = s.numbered.different_atoms; terminals = s.numbered.different_terminals; preterminals = first_kinds g s; categories = s.numbered.different_categories } in
     let atoms_below : list_all (λ f. list_all (λ n. ltb n (length g.atoms)) (declared_atoms f.declared)) g.features ≡ true =
     all_flat (λ n. ltb n (length g.atoms)) (λ f. declared_atoms f.declared) g.features (counted 7 (length g.atoms) (grammar_atoms g) s.numbered.atoms).1 in
-    let made : List Feature → List Rule → GrammarParts = λ fs rs. record { features = fs; atoms = g.atoms; terminals = g.terminals; categories = g.categories; rules = rs } in
+    let others = drop 5 g.categories in
+    let made : List (List ℕ) → List Feature → List Rule → GrammarParts = λ cs fs rs. record { features = fs; atoms = g.atoms; terminals = g.terminals; categories = cs; rules = rs } in
     let features = features_back g g.features s.numbered.different_atoms atoms_below in
     let rules = rules_back g g.rules differs (all_fine g s) in
     ap (λ (fs : List NamedFeature). build_of fs (rules_of (written_of g))) (features_named g s)
@@ -344,6 +308,7 @@ numbered_of-written_of g s =
     ∙ ap (λ (ns : List (List ℕ)). build named ns (atoms_of named) terminals categories written) (names_back g g.features)
     ∙ ap (λ (xs : List (List ℕ)). build named (feature_names g) xs terminals categories written) (atoms_back g s)
     ∙ ap (λ (xs : List (List ℕ)). build named (feature_names g) g.atoms xs categories written) terminals_are
-    ∙ ap (λ (xs : List (List ℕ)). build named (feature_names g) g.atoms g.terminals xs written) categories_are
-    ∙ ap (λ (fs : List Feature). made fs (map (λ r. numbered_rule (rule_tables g (variables_of (feature_names g) r)) r) written)) features
-    ∙ ap (made g.features) rules
+    ∙ ap (λ (xs : List (List ℕ)). build named (feature_names g) g.atoms g.terminals xs written) (categories_back g s)
+    ∙ ap (λ (fs : List Feature). made (kinds ++ others) fs (map (λ r. numbered_rule (rule_tables g (variables_of (feature_names g) r)) r) written)) features
+    ∙ ap (made (kinds ++ others) g.features) rules
+    ∙ ap (λ (cs : List (List ℕ)). made cs g.features g.rules) (kinds_first g s)

@@ -1,8 +1,8 @@
 -- A rule that is written with names has its numbers again when its names are numbered.
-use Rattle.std.proofs.Common.{◌≡◌, ℕ, ◌≤◌, Bool, true, not, ◌&&◌, ltb, leb, List, [], ◌∷◌, ◌++◌, map, length, take, Option, Some, None, refl, sym, ap, ◌∙◌, arith}
+use Rattle.std.proofs.Common.{◌≡◌, ℕ, ◌+◌, ◌-◌, ◌<◌, ◌≤◌, Bool, true, not, ◌&&◌, ltb, leb, List, [], ◌∷◌, ◌++◌, map, length, take, drop, Option, Some, None, refl, sym, ap, ◌∙◌, arith}
 use Rattle.std.specs.Option.{option_map}
 use Rattle.std.specs.List.{list_all, flat_map}
-use Rattle.std.proofs.lemmas.List.{append-nil, map-append, length-map}
+use Rattle.std.proofs.lemmas.List.{append-nil, map-append, length-map, length-drop, get_or-drop, get_or-take}
 use Rattle.std.proofs.lemmas.List.Concat.{flat_map-append}
 use Rattle.std.proofs.lemmas.Bool.{and_parts, and_from, ltb-true, leb-true}
 use Rattle.codeco_terms.specs.declared.values.Value.TheVariants.{Atom, Word, Pos}
@@ -18,15 +18,16 @@ use Rattle.codeco_terms.specs.declared.rules.Rule.{Rule}
 use Rattle.codeco_terms.specs.GrammarParts.{GrammarParts}
 use Rattle.codeco_text.specs.declared.written.WrittenTerm.{WrittenTerm}
 use Rattle.codeco_text.specs.declared.written.WrittenTerm.TheVariants as term
-use Rattle.codeco_text.specs.Notation.{is_marked}
+use Rattle.codeco_text.specs.Notation.{kinds, is_marked}
 use Rattle.codeco_checked.specs.Occurrences.{with_taken, whole, mentions, category_variables, positions, element_variables, rule_variables, element_terminals}
 use Rattle.codeco_checked.specs.Numbering.{count_different, differ, variables_count_up}
 use Rattle.codeco_checked.specs.Sound.{ascends, is_empty, is_written, is_written_name, is_written_pattern, is_plain_pattern, is_written_element, is_written_rule, is_written_term}
 use Rattle.codeco_printer.specs.Unnumbered.{name_at, feature_name, letter, written_term, plain_terms, taken_terms, below, from, merged, with_names, written_category, written_pattern, written_element, written_rule}
 use Rattle.codeco_numbering.specs.Labels.{label_name}
-use Rattle.codeco_numbering.specs.Numbered.{number_of, in_order, ordered, category_names, Tables, numbered_term, plain_feats, taken_feats, numbered_category, numbered_pattern, numbered_element, element_names, gathered, variables_of, numbered_label, numbered_rule}
-use Rattle.codeco_printer.proofs.Lists.{all_split, all_flat, all-map, all_weaken}
-use Rattle.codeco_printer.proofs.WrittenSound.{with_taken_all, below_all, from_all, merged_all}
+use Rattle.codeco_numbering.specs.Numbered.{number_of, in_order, ordered, category_names, Tables, numbered_term, plain_feats, taken_feats, numbered_category, numbered_preterminal, numbered_pattern, numbered_element, element_names, gathered, variables_of, numbered_label, numbered_rule}
+use Rattle.codeco_numbering.proofs.SoundLists.{all_split, all_flat, all-map, all_weaken}
+use Rattle.codeco_numbering.proofs.SoundMentions.{with_taken_all}
+use Rattle.codeco_printer.proofs.WrittenSound.{below_all, from_all, merged_all}
 use Rattle.codeco_printer.proofs.SoundNumbers.{term_fine, feat_fine, category_fine, names_below, feats_below, terminals_below, few_variables, is_fine, positions_fine, mentions_fine}
 use Rattle.codeco_printer.proofs.Tables.{number_at, sixteen, variable_number, gathered_letters}
 use Rattle.codeco_printer.proofs.Ordered.{in_order_rises, rises_merged, plain_rises, taken_rises, names_of, plain_letters, pattern_letters, below_from}
@@ -34,16 +35,17 @@ use Rattle.codeco_printer.proofs.Ordered.{in_order_rises, rises_merged, plain_ri
 abbrev pub feature_names : GrammarParts → List (List ℕ)
 feature_names g = map (λ f. f.name) g.features
 
--- no name stands twice in a table
+-- no name stands twice in a table, and the preterminals have the first numbers
 pub record Differs (g : GrammarParts) : Type 0 where
   pub features : differ (feature_names g) ≡ true
   pub atoms : differ g.atoms ≡ true
   pub terminals : differ g.terminals ≡ true
-  pub categories : differ g.categories ≡ true
+  pub preterminals : take 5 g.categories ≡ kinds
+  pub categories : differ (drop 5 g.categories) ≡ true
 
 -- the tables of a rule with k variables
 abbrev pub tables : GrammarParts → ℕ → Tables
-tables g k = record { features = feature_names g; atoms = g.atoms; terminals = g.terminals; categories = g.categories; variables = take k sixteen }
+tables g k = record { features = feature_names g; atoms = g.atoms; terminals = g.terminals; categories = drop 5 g.categories; variables = take k sixteen }
 
 abbrev numbers_below : GrammarParts → List (ℕ × WrittenTerm) → Bool
 numbers_below g fs = list_all (λ f. ltb f.0 (length g.features)) fs
@@ -165,19 +167,48 @@ taken_back g k (t ∷ ts) most h =
 
 -- Categories
 
-category_back : (g : GrammarParts) (k : ℕ) (c : Category) → Differs g → k ≤ 16 → category_fine g k c ≡ true → ascends (map (λ f. f.0) c.feats) ≡ true → numbered_category (tables g k) (written_category g c) ≡ c
-category_back g k c d most h a =
-    let parts = and_parts (ltb c.name (length g.categories)) (list_all (feat_fine g k) c.feats) h in
-    let name : number_of g.categories (name_at g.categories c.name) ≡ c.name = number_at g.categories c.name d.categories (ltb-true c.name (length g.categories) parts.0) in
-    let feats : plain_feats (tables g k) (ordered (feature_names g) (written_category g c)) ≡ c.feats = ap (plain_feats (tables g k)) (category_ordered g k c d parts.1 a) ∙ plain_back g k c.feats d most parts.1 in
-    let made : ℕ → List (ℕ × Term) → Category = λ n fs. record { name = n; feats = fs } in
-    ap (λ (n : ℕ). made n (plain_feats (tables g k) (ordered (feature_names g) (written_category g c)))) name ∙ ap (made c.name) feats
+-- a category that is no preterminal has its number among the others
+name_back : (g : GrammarParts) (n : ℕ) → Differs g → 5 ≤ n → n < length g.categories → 5 + number_of (drop 5 g.categories) (name_at g.categories n) ≡ n
+name_back g n d low lt =
+    let others = drop 5 g.categories in
+    let len : length others ≡ length g.categories - 5 = length-drop 5 g.categories in
+    let same : 5 + (n - 5) ≡ n = omega arith in
+    let there : name_at others (n - 5) ≡ name_at g.categories n = get_or-drop 5 g.categories (n - 5) [] ∙ ap (name_at g.categories) same in
+    let number : number_of others (name_at others (n - 5)) ≡ n - 5 = number_at others (n - 5) d.categories (omega arith) in
+    ap (λ (w : List ℕ). 5 + number_of others w) (sym there) ∙ (ap (λ (m : ℕ). 5 + m) number ∙ same)
 
-pattern_feats : (g : GrammarParts) (k : ℕ) (p : Pattern) → category_fine g k (whole p) ≡ true → (list_all (feat_fine g k) p.cat.feats ≡ true) × (list_all (λ t. feat_fine g k (t.0, Var t.1)) p.taken ≡ true)
-pattern_feats g k p h = with_taken_all (feat_fine g k) p.cat.feats p.taken (and_parts (ltb p.cat.name (length g.categories)) (list_all (feat_fine g k) (with_taken p.cat.feats p.taken)) h).1
+kind_back : (g : GrammarParts) (n : ℕ) → Differs g → ltb n 5 ≡ true → number_of kinds (name_at g.categories n) ≡ n
+kind_back g n d low =
+    let lt = ltb-true n 5 low in
+    let there : name_at kinds n ≡ name_at g.categories n = ap (λ (ws : List (List ℕ)). name_at ws n) (sym d.preterminals) ∙ get_or-take 5 g.categories n [] lt in
+    ap (number_of kinds) (sym there) ∙ number_at kinds n refl lt
 
 name_ascends : (c : Category) → is_written_name c ≡ true → ascends (map (λ f. f.0) c.feats) ≡ true
 name_ascends c h = (and_parts (ascends (map (λ f. f.0) c.feats)) (list_all (λ f. is_written_term f.1) c.feats) (and_parts (leb 5 c.name) (is_written c) h).1).0
+
+name_plain : (c : Category) → is_written_name c ≡ true → 5 ≤ c.name
+name_plain c h = leb-true 5 c.name (and_parts (leb 5 c.name) (is_written c) h).0
+
+feats_back : (g : GrammarParts) (k : ℕ) (c : Category) → Differs g → k ≤ 16 → list_all (feat_fine g k) c.feats ≡ true → ascends (map (λ f. f.0) c.feats) ≡ true → plain_feats (tables g k) (ordered (feature_names g) (written_category g c)) ≡ c.feats
+feats_back g k c d most h a = ap (plain_feats (tables g k)) (category_ordered g k c d h a) ∙ plain_back g k c.feats d most h
+
+category_back : (g : GrammarParts) (k : ℕ) (c : Category) → Differs g → k ≤ 16 → category_fine g k c ≡ true → is_written_name c ≡ true → numbered_category (tables g k) (written_category g c) ≡ c
+category_back g k c d most h w =
+    let parts = and_parts (ltb c.name (length g.categories)) (list_all (feat_fine g k) c.feats) h in
+    let name = name_back g c.name d (name_plain c w) (ltb-true c.name (length g.categories) parts.0) in
+    let made : ℕ → List (ℕ × Term) → Category = λ n fs. record { name = n; feats = fs } in
+    ap (λ (n : ℕ). made n (plain_feats (tables g k) (ordered (feature_names g) (written_category g c)))) name ∙ ap (made c.name) (feats_back g k c d most parts.1 (name_ascends c w))
+
+preterminal_back : (g : GrammarParts) (k : ℕ) (c : Category) → Differs g → k ≤ 16 → category_fine g k c ≡ true → is_written_element (Preterminal c) ≡ true → numbered_preterminal (tables g k) (written_category g c) ≡ c
+preterminal_back g k c d most h w =
+    let parts = and_parts (ltb c.name (length g.categories)) (list_all (feat_fine g k) c.feats) h in
+    let ws = and_parts (ltb c.name 5) (is_written c) w in
+    let a = (and_parts (ascends (map (λ f. f.0) c.feats)) (list_all (λ f. is_written_term f.1) c.feats) ws.1).0 in
+    let made : ℕ → List (ℕ × Term) → Category = λ n fs. record { name = n; feats = fs } in
+    ap (λ (n : ℕ). made n (plain_feats (tables g k) (ordered (feature_names g) (written_category g c)))) (kind_back g c.name d ws.0) ∙ ap (made c.name) (feats_back g k c d most parts.1 a)
+
+pattern_feats : (g : GrammarParts) (k : ℕ) (p : Pattern) → category_fine g k (whole p) ≡ true → (list_all (feat_fine g k) p.cat.feats ≡ true) × (list_all (λ t. feat_fine g k (t.0, Var t.1)) p.taken ≡ true)
+pattern_feats g k p h = with_taken_all (feat_fine g k) p.cat.feats p.taken (and_parts (ltb p.cat.name (length g.categories)) (list_all (feat_fine g k) (with_taken p.cat.feats p.taken)) h).1
 
 pattern_back : (g : GrammarParts) (k : ℕ) (p : Pattern) → Differs g → k ≤ 16 → category_fine g k (whole p) ≡ true → is_written_pattern p ≡ true → numbered_pattern (tables g k) (written_pattern g p) ≡ p
 pattern_back g k p d most h w =
@@ -186,7 +217,7 @@ pattern_back g k p d most h w =
     let ws = and_parts (is_written_name p.cat) (ascends (map (λ t. t.0) p.taken)) w in
     let order = pattern_ordered g k p d fine.0 fine.1 (name_ascends p.cat ws.0) ws.1 in
     let all = merged (plain_terms g p.cat.feats) (taken_terms p.taken) in
-    let name : number_of g.categories (name_at g.categories p.cat.name) ≡ p.cat.name = number_at g.categories p.cat.name d.categories (ltb-true p.cat.name (length g.categories) parts.0) in
+    let name = name_back g p.cat.name d (name_plain p.cat ws.0) (ltb-true p.cat.name (length g.categories) parts.0) in
     let feats : plain_feats (tables g k) (ordered (feature_names g) (written_pattern g p)) ≡ p.cat.feats = ap (plain_feats (tables g k)) order ∙ plain_merged (tables g k) (plain_terms g p.cat.feats) (taken_terms p.taken) (taken_marked p.taken) ∙ plain_back g k p.cat.feats d most fine.0 in
     let taken : taken_feats (tables g k) (ordered (feature_names g) (written_pattern g p)) ≡ p.taken = ap (taken_feats (tables g k)) order ∙ none_taken (tables g k) (plain_terms g p.cat.feats) (taken_terms p.taken) (plain_unmarked g p.cat.feats) ∙ taken_back g k p.taken most fine.1 in
     let made : ℕ → List (ℕ × Term) → List (ℕ × ℕ) → Pattern = λ n fs ts. record { cat = record { name = n; feats = fs }; taken = ts } in
@@ -219,15 +250,12 @@ element_fine g k e = (is_written_element e && list_all (category_fine g k) (ment
 
 element_back : (g : GrammarParts) (k : ℕ) (e : Element) → Differs g → k ≤ 16 → is_written_element e ≡ true → list_all (category_fine g k) (mentions e) ≡ true → list_all (λ x. ltb x k) (positions e) ≡ true → list_all (λ t. ltb t (length g.terminals)) (element_terminals e) ≡ true → numbered_element (tables g k) (written_element g e) ≡ e
 element_back g k (Terminal t) d most w m p t' = ap Terminal (number_at g.terminals t d.terminals (ltb-true t (length g.terminals) (and_parts (ltb t (length g.terminals)) true t').0))
-element_back g k (Preterminal c) d most w m p t =
-    let ws = and_parts (ltb c.name 5) (is_written c) w in
-    let a = (and_parts (ascends (map (λ f. f.0) c.feats)) (list_all (λ f. is_written_term f.1) c.feats) ws.1).0 in
-    ap Preterminal (category_back g k c d most (and_parts (category_fine g k c) true m).0 a)
-element_back g k (Sub c) d most w m p t = ap Sub (category_back g k c d most (and_parts (category_fine g k c) true m).0 (name_ascends c w))
+element_back g k (Preterminal c) d most w m p t = ap Preterminal (preterminal_back g k c d most (and_parts (category_fine g k c) true m).0 w)
+element_back g k (Sub c) d most w m p t = ap Sub (category_back g k c d most (and_parts (category_fine g k c) true m).0 w)
 element_back g k (Position x) d most w m p t = ap Position (variable_number k x most (ltb-true x k (and_parts (ltb x k) true p).0))
 element_back g k Opener d most w m p t = refl
-element_back g k (Forward c) d most w m p t = ap Forward (category_back g k c d most (and_parts (category_fine g k c) true m).0 (name_ascends c w))
-element_back g k (Strong c) d most w m p t = ap Strong (category_back g k c d most (and_parts (category_fine g k c) true m).0 (name_ascends c w))
+element_back g k (Forward c) d most w m p t = ap Forward (category_back g k c d most (and_parts (category_fine g k c) true m).0 w)
+element_back g k (Strong c) d most w m p t = ap Strong (category_back g k c d most (and_parts (category_fine g k c) true m).0 w)
 element_back g k (Back ps ns) d most w m p t =
     let parts = all_split (category_fine g k) (map whole ps) (map whole ns) m in
     let ws = and_parts (not (is_empty ps) && list_all is_written_pattern ps) (list_all is_plain_pattern ns) w in
@@ -342,7 +370,7 @@ option_label_back (Some l) = label_back l
 -- Rules
 
 abbrev pub rule_tables : GrammarParts → List (List ℕ) → Tables
-rule_tables g variables = record { features = feature_names g; atoms = g.atoms; terminals = g.terminals; categories = g.categories; variables = variables }
+rule_tables g variables = record { features = feature_names g; atoms = g.atoms; terminals = g.terminals; categories = drop 5 g.categories; variables = variables }
 
 pub rule_back : (g : GrammarParts) (r : Rule) → Differs g → is_fine g r ≡ true → numbered_rule (rule_tables g (variables_of (feature_names g) (written_rule g r))) (written_rule g r) ≡ r
 rule_back g r d h =
@@ -365,7 +393,7 @@ rule_back g r d h =
     let variables : variables_of (feature_names g) (written_rule g r) ≡ take k sixteen = ap (gathered []) names ∙ gathered_letters k (rule_variables r) most counts.1 in
     let made : Option Label → Category → List Element → Rule = λ l c es. record { label = l; head = c; closing = r.closing; body = es } in
     let label = option_label_back r.label in
-    let head = category_back g k r.head d most fines.0 (name_ascends r.head ws.0) in
+    let head = category_back g k r.head d most fines.0 ws.0 in
     let body = body_back g k r.body d most ws.1 ms (positions_fine r counts.1) ts in
     let c' = numbered_category (tables g k) (written_category g r.head) in
     let b' = map (numbered_element (tables g k)) (map (written_element g) r.body) in

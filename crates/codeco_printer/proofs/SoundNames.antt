@@ -24,37 +24,9 @@ use Rattle.codeco_checked.specs.Faults.{at_rule, values_of, term_fits, is_undecl
 use Rattle.codeco_checked.specs.Sound.{IsSound}
 use Rattle.codeco_printer.specs.Unnumbered.{name_at, feature_name, letter, letter_byte, value_name}
 use Rattle.codeco_numbering.specs.Labels.{label_name}
-use Rattle.codeco_printer.proofs.Lists.{all_flat, all-map, all_weaken, all_both, all_from_none, none_each, all_at}
-
--- numbers that are given by first occurrence are below their total
-pub counted : (next total : ℕ) (xs : List ℕ) → counts_up next total xs ≡ true → (next ≤ total) × (list_all (λ x. ltb x total) xs ≡ true)
-counted next total [] h = let e = eqb-true next total h in (omega arith, refl)
-counted next total (x ∷ xs) h =
-    elim (cases_Bool (ltb x next)) [
-      | inl low ↦
-          let rest = counted next total xs (sym (cond-true (ltb x next) (counts_up next total xs) (eqb x next && counts_up (next + 1) total xs) low) ∙ h) in
-          let lt = ltb-true x next low in
-          (rest.0, and_from (ltb x total) (list_all (λ y. ltb y total) xs) (lt-ltb x total (omega (arith, rest.0))) rest.1)
-      | inr high ↦
-          let parts = and_parts (eqb x next) (counts_up (next + 1) total xs) (sym (cond-false (ltb x next) (counts_up next total xs) (eqb x next && counts_up (next + 1) total xs) high) ∙ h) in
-          let rest = counted (next + 1) total xs parts.1 in
-          let same = eqb-true x next parts.0 in
-          (omega (arith, rest.0), and_from (ltb x total) (list_all (λ y. ltb y total) xs) (lt-ltb x total (omega (arith, rest.0))) rest.1)
-    ]
-
--- a test that holds at no rule
-holds_nowhere : (test : Rule → Bool) (rs : List Rule) → ((k : ℕ) → option_map_or test (slice_get rs k) false ≡ true → ⊥) → list_any test rs ≡ false
-holds_nowhere test [] h = refl
-holds_nowhere test (r ∷ rs) h =
-    let here : test r ≡ false = false_from_ne_true (test r) (h 0) in
-    let rest : list_any test rs ≡ false = holds_nowhere test rs (λ k e. h (suc k) e) in
-    ap (λ b. b || list_any test rs) here ∙ rest
-
-pub at_no_rule : (test : Rule → Bool) (rs : List Rule) → ((n : ℕ) → at_rule test rs n ≡ true → ⊥) → list_any test rs ≡ false
-at_no_rule test rs h =
-    holds_nowhere test rs (λ k e.
-    let e' : option_map_or test (slice_get rs (suc k - 1)) false ≡ true = subst (λ n. option_map_or test (slice_get rs n) false ≡ true) (omega arith) e in
-    h (suc k) (and_from (ltb 0 (suc k)) (option_map_or test (slice_get rs (suc k - 1)) false) (lt-ltb 0 (suc k) (omega arith)) e'))
+use Rattle.codeco_numbering.proofs.SoundCounts.{counted}
+use Rattle.codeco_numbering.proofs.SoundFaults.{at_no_rule}
+use Rattle.codeco_numbering.proofs.SoundLists.{all_flat, all-map, all_weaken, all_both, all_from_none, none_each, all_at}
 
 pub letter_variable : (x : ℕ) → is_variable (letter x) ≡ true
 letter_variable x =

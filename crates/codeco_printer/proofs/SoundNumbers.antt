@@ -18,8 +18,10 @@ use Rattle.codeco_checked.specs.Occurrences.{mentions, rule_mentions, rule_featu
 use Rattle.codeco_checked.specs.Numbering.{count_different, declared_atoms, grammar_atoms, grammar_names, grammar_terminals, is_declared, variables_count_up}
 use Rattle.codeco_checked.specs.Faults.{at_rule, values_of, term_fits, is_undeclared_rule, is_bad_rule, is_large_rule, has_large_declarations, has_broad_category}
 use Rattle.codeco_checked.specs.Sound.{IsSound, is_written_rule}
-use Rattle.codeco_printer.proofs.Lists.{all_split, all_flat, flat_all, all-map, all_weaken, all_both, all_from_none, none_each}
-use Rattle.codeco_printer.proofs.SoundNames.{counted, at_no_rule, no_undeclared, no_bad, not_wrong, values_at}
+use Rattle.codeco_numbering.proofs.SoundFaults.{at_no_rule}
+use Rattle.codeco_numbering.proofs.SoundLists.{all_split, all_flat, flat_all, all-map, all_weaken, all_both, all_from_none, none_each}
+use Rattle.codeco_numbering.proofs.SoundCounts.{counted}
+use Rattle.codeco_printer.proofs.SoundNames.{no_undeclared, no_bad, not_wrong, values_at}
 
 abbrev pub atom_below : GrammarParts → Term → Bool
 atom_below g (Val (Atom a)) = ltb a (length g.atoms)
@@ -58,7 +60,7 @@ term_below g f (Val (Word w)) s h = absurd cc
 term_below g f (Val (Pos p)) s h = absurd cc
 term_below g f (Var x) s h = refl
 
-all_feats_below : (g : GrammarParts) → IsSound g → list_all (feats_below g) g.rules ≡ true
+pub all_feats_below : (g : GrammarParts) → IsSound g → list_all (feats_below g) g.rules ≡ true
 all_feats_below g s =
     let P : Rule → Bool = λ r. list_all (λ f. is_declared (values_of g f.0)) (rule_features r) in
     let Q : Rule → Bool = λ r. list_all (λ f. term_fits (values_of g f.0) f.1) (rule_features r) in

@@ -20,45 +20,8 @@ use Rattle.codeco_text.specs.Names.{is_identifier, is_variable, is_terminal, is_
 use Rattle.codeco_text.specs.Notation.{labels, kinds, is_symbol, listed, term_lexemes, category_lexemes, named, signed, element_lexemes, label_lexemes, arrow, body_lexemes, domain_lexemes, item_lexemes, lexemes}
 use Rattle.codeco_printer.specs.Writing.{closed_feats}
 use Rattle.codeco_printer.proofs.WriteLaws.{category_closed}
-use Rattle.codeco_printer.proofs.Lists.{all_append}
-
-abbrev pub term_spelled : WrittenTerm → Bool
-term_spelled (term.Atom w) = is_identifier w
-term_spelled (term.Variable w) = is_variable w
-term_spelled (term.Taken w) = is_variable w
-
-abbrev pub feat_spelled : WrittenFeat → Bool
-feat_spelled f = is_identifier f.name && term_spelled f.term
-
-abbrev pub category_spelled : WrittenCategory → Bool
-category_spelled c = is_identifier c.name && list_all feat_spelled c.feats
-
-abbrev pub kind_spelled : WrittenCategory → Bool
-kind_spelled c = is_among kinds c.name && list_all feat_spelled c.feats
-
-abbrev pub element_spelled : WrittenElement → Bool
-element_spelled (element.Terminal t) = is_terminal t
-element_spelled (element.Preterminal c) = kind_spelled c
-element_spelled (element.Sub c) = category_spelled c
-element_spelled (element.Position x) = is_variable x
-element_spelled element.Opener = true
-element_spelled (element.Forward c) = category_spelled c
-element_spelled (element.Strong c) = category_spelled c
-element_spelled (element.Back ps ns) = list_all category_spelled ps && list_all category_spelled ns
-element_spelled (element.NoBack ps) = list_all category_spelled ps
-
-abbrev pub label_spelled : Option (List ℕ) → Bool
-label_spelled None = true
-label_spelled (Some w) = is_among labels w
-
-abbrev pub domain_spelled : Domain → Bool
-domain_spelled domain.Words = true
-domain_spelled domain.Positions = true
-domain_spelled (domain.Atoms atoms) = list_all is_identifier atoms
-
-abbrev pub item_spelled : WrittenItem → Bool
-item_spelled (item.Feature name d) = is_identifier name && domain_spelled d
-item_spelled (item.Rule r) = label_spelled r.label && (category_spelled r.head && list_all element_spelled r.body)
+use Rattle.codeco_numbering.proofs.SoundSpelled.{term_spelled, feat_spelled, category_spelled, element_spelled, label_spelled, domain_spelled, item_spelled}
+use Rattle.codeco_numbering.proofs.SoundLists.{all_append}
 
 abbrev AreSymbols : List Lexeme → Type 0
 AreSymbols xs = list_all is_symbol xs ≡ true

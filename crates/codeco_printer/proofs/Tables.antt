@@ -8,14 +8,8 @@ use Rattle.codeco_text.proofs.Growth.{same_is}
 use Rattle.codeco_checked.specs.Numbering.{counts_up, differ, begins_with}
 use Rattle.codeco_printer.specs.Unnumbered.{name_at, letter}
 use Rattle.codeco_numbering.specs.Numbered.{gathered, number_of}
-use Rattle.codeco_printer.proofs.SoundNames.{counted}
-
-pub same_bytes_refl : (w : List ℕ) → same_bytes w w ≡ true
-same_bytes_refl [] = refl
-same_bytes_refl (b ∷ bs) = and_from (eqb b b) (same_bytes bs bs) (eq-eqb b b refl) (same_bytes_refl bs)
-
-pub differs_comm : (v w : List ℕ) → same_bytes v w ≡ false → same_bytes w v ≡ false
-differs_comm v w h = false_from_ne_true (same_bytes w v) (λ e. both_ways (same_bytes v w) h (subst (λ x. same_bytes v x ≡ true) (sym (same_is w v e)) (same_bytes_refl v)))
+use Rattle.codeco_numbering.proofs.SoundTables.{same_bytes_refl, differs_comm}
+use Rattle.codeco_numbering.proofs.SoundCounts.{counted}
 
 -- a name that stands at a place is among the names
 pub among_at : (names : List (List ℕ)) (n : ℕ) → n < length names → is_among names (name_at names n) ≡ true

@@ -26,30 +26,13 @@ use Rattle.codeco_checked.specs.Numbering.{declared_atoms}
 use Rattle.codeco_checked.specs.Sound.{IsSound, is_empty, is_written, is_written_name, is_written_pattern, is_plain_pattern, is_written_element, is_written_rule, has_values}
 use Rattle.codeco_printer.specs.Unnumbered.{name_at, feature_name, letter, written_term, plain_terms, taken_terms, below, from, merged, with_names, written_category, written_pattern, written_element, written_rule, declaration, written_feature, written_of}
 use Rattle.codeco_numbering.specs.Labels.{label_name}
-use Rattle.codeco_printer.proofs.Lists.{all_append, all_split, all_flat, flat_all, all-map, all_weaken, all_both}
+use Rattle.codeco_numbering.proofs.SoundMentions.{with_taken_all}
+use Rattle.codeco_numbering.proofs.SoundLists.{all_append, all_split, all_flat, flat_all, all-map, all_weaken, all_both}
 use Rattle.codeco_printer.proofs.WriteLaws.{merged_none}
 use Rattle.codeco_printer.proofs.SoundNames.{letter_variable, label_named, kind_named, term_named, feat_named, category_named, atoms_named, mentions_named, terminals_named}
-use Rattle.codeco_printer.proofs.Spelled.{term_spelled, feat_spelled, category_spelled, element_spelled, label_spelled, item_spelled}
+use Rattle.codeco_numbering.proofs.SoundSpelled.{term_spelled, feat_spelled, category_spelled, element_spelled, label_spelled, item_spelled}
 
 -- Marked features among the others
-
-put_all : (p : ℕ × Term → Bool) (x : ℕ × Term) (ys : List (ℕ × Term)) → list_all p (put_feature x ys) ≡ true → (p x ≡ true) × (list_all p ys ≡ true)
-put_all p x [] h = ((and_parts (p x) true h).0, refl)
-put_all p x (y ∷ ys) h =
-    elim (cases_Bool (ltb x.0 y.0)) [
-      | inl low ↦ and_parts (p x) (list_all p (y ∷ ys)) (ap (list_all p) (sym (cond-true (ltb x.0 y.0) (x ∷ y ∷ ys) (y ∷ put_feature x ys) low)) ∙ h)
-      | inr high ↦
-          let parts = and_parts (p y) (list_all p (put_feature x ys)) (ap (list_all p) (sym (cond-false (ltb x.0 y.0) (x ∷ y ∷ ys) (y ∷ put_feature x ys) high)) ∙ h) in
-          let rest = put_all p x ys parts.1 in
-          (rest.0, and_from (p y) (list_all p ys) parts.0 rest.1)
-    ]
-
-pub with_taken_all : (p : ℕ × Term → Bool) (feats : List (ℕ × Term)) (ts : List (ℕ × ℕ)) → list_all p (with_taken feats ts) ≡ true → (list_all p feats ≡ true) × (list_all (λ t. p (t.0, Var t.1)) ts ≡ true)
-with_taken_all p feats [] h = (h, refl)
-with_taken_all p feats (t ∷ ts) h =
-    let rest = with_taken_all p (put_feature (t.0, Var t.1) feats) ts h in
-    let here = put_all p (t.0, Var t.1) feats rest.0 in
-    (here.1, and_from (p (t.0, Var t.1)) (list_all (λ u. p (u.0, Var u.1)) ts) here.0 rest.1)
 
 pub below_all : (p : ℕ × WrittenTerm → Bool) (n : ℕ) (ts : List (ℕ × WrittenTerm)) → list_all p ts ≡ true → list_all p (below n ts) ≡ true
 below_all p n [] h = refl

@@ -1,12 +1,10 @@
 -- The atoms, terminals and categories of the grammar that declarations and rules make.
-use Rattle.std.proofs.Common.{◌≡◌, ℕ, ◌+◌, ◌-◌, ◌≤◌, ◌<◌, Bool, true, ◌&&◌, ltb, List, [], ◌∷◌, ◌++◌, map, length, Option, Some, None, refl, sym, ap, subst, ◌∙◌, arith}
+use Rattle.std.proofs.Common.{◌≡◌, ℕ, ◌+◌, ◌-◌, ◌<◌, Bool, true, ltb, List, [], ◌∷◌, ◌++◌, map, length, Option, Some, None, refl, sym, ap, subst, ◌∙◌, arith}
 use Rattle.std.specs.Prelude.{codes}
 use Rattle.std.specs.List.{list_all, flat_map}
 use Rattle.std.proofs.lemmas.List.{map-append, length-append}
 use Rattle.std.proofs.lemmas.Bool.{and_parts, lt-ltb, le-ltb, cond-true, cond-false}
 use Rattle.codeco_terms.specs.declared.categories.Category.{Category}
-use Rattle.codeco_terms.specs.declared.categories.Pattern.{Pattern}
-use Rattle.codeco_terms.specs.declared.elements.Element.{Element}
 use Rattle.codeco_terms.specs.declared.rules.Rule.{Rule}
 use Rattle.codeco_text.specs.declared.written.WrittenCategory.{WrittenCategory}
 use Rattle.codeco_text.specs.declared.written.WrittenElement.{WrittenElement}
@@ -23,7 +21,7 @@ use Rattle.codeco_numbering.specs.Numbered.{gathered, number_of, NamedFeature, f
 use Rattle.codeco_numbering.proofs.SoundTables.{number_below, gathered_counts_up}
 use Rattle.codeco_numbering.proofs.SoundLowered.{lowered, lowered_append, raised_counts}
 use Rattle.codeco_numbering.proofs.SoundFeatures.{feature_names}
-use Rattle.codeco_numbering.proofs.SoundSpelled.{feat_spelled, category_spelled, element_spelled, kind_spelled}
+use Rattle.codeco_numbering.proofs.SoundSpelled.{feat_spelled, element_spelled}
 
 -- the tables by which a rule of these declarations and rules is numbered
 abbrev pub terminals_of : List WrittenItem → List (List ℕ)

@@ -1,23 +1,22 @@
 -- Where no rule writes an undeclared feature, all features behind the first ones are declared.
-use Rattle.std.proofs.Common.{◌≡◌, ℕ, ◌≤◌, Bool, true, false, not, ◌&&◌, List, [], ◌∷◌, ◌++◌, map, length, drop, Option, Some, None, refl, sym, ap, subst, ◌∙◌, arith}
+use Rattle.std.proofs.Common.{◌≡◌, ℕ, Bool, true, false, not, ◌&&◌, List, [], ◌∷◌, map, drop, Option, Some, None, refl, sym, ap, ◌∙◌, arith}
 use Rattle.std.specs.List.{list_all, list_any, flat_map}
 use Rattle.std.proofs.lemmas.List.{drop-map}
 use Rattle.std.proofs.lemmas.Bool.{and_parts, and_from}
 use Rattle.codeco_terms.specs.declared.rules.Rule.{Rule}
-use Rattle.codeco_terms.specs.declared.declarations.Declared.TheVariants as declared
 use Rattle.codeco_text.specs.declared.written.WrittenRule.{WrittenRule}
 use Rattle.codeco_text.specs.declared.written.Domain.{Domain}
 use Rattle.codeco_text.specs.declared.written.Domain.TheVariants as domain
 use Rattle.codeco_text.specs.declared.written.WrittenItem.{WrittenItem}
 use Rattle.codeco_text.specs.declared.written.WrittenItem.TheVariants as item
 use Rattle.codeco_text.specs.Names.{is_among}
-use Rattle.codeco_text.specs.Notation.{domain_fits, item_fits}
+use Rattle.codeco_text.specs.Notation.{item_fits}
 use Rattle.codeco_checked.specs.declared.fault.GrammarFault.TheVariants as fault
 use Rattle.codeco_checked.specs.Occurrences.{rule_features}
 use Rattle.codeco_checked.specs.Numbering.{begins_with, first_features, is_declared}
 use Rattle.codeco_checked.specs.Faults.{values_of, is_undeclared_rule}
 use Rattle.codeco_checked.specs.Sound.{Holds}
-use Rattle.codeco_numbering.specs.Numbered.{number_of, NamedFeature, undeclared, is_open, with_items, with_undeclared, features_of, atoms_of, numbered_domain, numbered_feature, item_rules, rules_of, written_features, numbered_of}
+use Rattle.codeco_numbering.specs.Numbered.{number_of, NamedFeature, undeclared, is_open, with_items, features_of, atoms_of, numbered_domain, numbered_feature, rules_of, written_features, numbered_of}
 use Rattle.codeco_numbering.proofs.SoundLists.{flat_all, all-map, all_weaken, all_both, all_from_none, none_each}
 use Rattle.codeco_numbering.proofs.SoundFaults.{at_no_rule}
 use Rattle.codeco_numbering.proofs.SoundFeatures.{feature_names, items_names, undeclared_names, none_undeclared, has_domain, items_behind, declared_among}

@@ -1,7 +1,7 @@
 -- Where no feature stands twice in a pattern, no marked feature stands before an unmarked one of its number.
-use Rattle.std.proofs.Common.{◌≡◌, ℕ, ◌+◌, ◌<◌, ◌≤◌, Bool, true, false, not, ◌&&◌, ◌||◌, cond, eqb, ltb, leb, List, [], ◌∷◌, map, length, refl, sym, ap, ◌∙◌, arith, inl, inr}
+use Rattle.std.proofs.Common.{◌≡◌, ℕ, ◌≤◌, Bool, true, false, not, ◌&&◌, ◌||◌, eqb, ltb, leb, List, [], ◌∷◌, map, length, refl, sym, ap, ◌∙◌, arith, inl, inr}
 use Rattle.std.specs.List.{list_all}
-use Rattle.std.proofs.lemmas.Bool.{and_parts, and_from, or_parts, or_from, or_left, or_right, cases_Bool, ltb-false, leb-true, lt-ltb, le-ltb, or_cases, eqb-true, eqb-false, eq-eqb, ne_eqb, both_ways, not-true, not_from_false, false_from_ne_true, cond-true, cond-false}
+use Rattle.std.proofs.lemmas.Bool.{and_parts, and_from, or_parts, or_from, or_left, or_right, cases_Bool, ltb-false, leb-true, lt-ltb, le-ltb, or_cases, eqb-true, eqb-false, eq-eqb, both_ways, not-true, not_from_false, false_from_ne_true, cond-true, cond-false}
 use Rattle.codeco_terms.specs.declared.values.Term.{Term}
 use Rattle.codeco_terms.specs.declared.values.Term.TheVariants.{Var}
 use Rattle.codeco_text.specs.declared.written.WrittenTerm.{WrittenTerm}

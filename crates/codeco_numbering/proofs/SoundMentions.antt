@@ -1,5 +1,5 @@
 -- What holds of the numbers of a rule's features holds of the features that it writes.
-use Rattle.std.proofs.Common.{◌≡◌, ℕ, Bool, true, not, ◌&&◌, ltb, List, [], ◌∷◌, ◌++◌, map, refl, sym, ap, ◌∙◌, inl, inr}
+use Rattle.std.proofs.Common.{◌≡◌, ℕ, Bool, true, ltb, List, [], ◌∷◌, map, refl, sym, ap, ◌∙◌, inl, inr}
 use Rattle.std.specs.List.{list_all, flat_map}
 use Rattle.std.proofs.lemmas.Bool.{and_parts, and_from, cases_Bool, cond-true, cond-false}
 use Rattle.codeco_terms.specs.declared.values.Term.{Term}
@@ -12,7 +12,7 @@ use Rattle.codeco_text.specs.declared.written.WrittenElement.{WrittenElement}
 use Rattle.codeco_text.specs.declared.written.WrittenElement.TheVariants as element
 use Rattle.codeco_text.specs.declared.written.WrittenRule.{WrittenRule}
 use Rattle.codeco_text.specs.declared.written.WrittenItem.TheVariants as item
-use Rattle.codeco_text.specs.Notation.{is_marked, is_plain, element_fits, item_fits}
+use Rattle.codeco_text.specs.Notation.{is_plain, element_fits, item_fits}
 use Rattle.codeco_checked.specs.Occurrences.{put_feature, with_taken, whole, mentions, rule_mentions, rule_features}
 use Rattle.codeco_numbering.specs.Numbered.{number_of, put_in_order, in_order, ordered, Tables, numbered_term, plain_feats, taken_feats, numbered_category, numbered_pattern, numbered_element, numbered_rule, element_categories, category_features, written_features}
 use Rattle.codeco_numbering.proofs.SoundLists.{all_append, all_split, all_flat, flat_all, all-map}

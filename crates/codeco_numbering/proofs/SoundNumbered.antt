@@ -1,5 +1,5 @@
 -- The grammar that a text's declarations and rules make is one of the notation, with the numbers that it gives.
-use Rattle.std.proofs.Common.{◌≡◌, ℕ, Bool, true, false, not, ◌&&◌, ◌||◌, eqb, List, [], ◌∷◌, ◌++◌, map, length, drop, refl, sym, ap, subst, ◌∙◌, inl, inr}
+use Rattle.std.proofs.Common.{◌≡◌, ℕ, Bool, true, false, not, ◌&&◌, ◌||◌, eqb, List, [], ◌∷◌, ◌++◌, map, refl, sym, ap, subst, ◌∙◌, inl, inr}
 use Rattle.std.specs.Prelude.{codes, IsTrue}
 use Rattle.std.specs.List.{list_all, list_any, flat_map}
 use Rattle.std.proofs.lemmas.Bool.{and_parts, or_parts, or_from, or_right, cases_Bool, cond-true, cond-false}
@@ -9,15 +9,14 @@ use Rattle.codeco_text.specs.declared.written.WrittenRule.{WrittenRule}
 use Rattle.codeco_text.specs.declared.written.WrittenItem.{WrittenItem}
 use Rattle.codeco_text.specs.declared.written.WrittenItem.TheVariants as item
 use Rattle.codeco_text.specs.Names.{is_identifier, is_among}
-use Rattle.codeco_text.specs.Notation.{kinds, item_fits, IsSpelling}
+use Rattle.codeco_text.specs.Notation.{item_fits, IsSpelling}
 use Rattle.codeco_checked.specs.declared.fault.GrammarFault.{GrammarFault}
 use Rattle.codeco_checked.specs.declared.fault.GrammarFault.TheVariants as fault
-use Rattle.codeco_checked.specs.Occurrences.{rule_variables}
-use Rattle.codeco_checked.specs.Numbering.{counts_up, count_different, differ, begins_with, first_features, first_atoms, first_categories, variables_count_up, IsNumbered}
+use Rattle.codeco_checked.specs.Numbering.{counts_up, count_different, begins_with, first_features, first_atoms, variables_count_up, IsNumbered}
 use Rattle.codeco_checked.specs.Faults.{at_rule, has_wrong_atom, has_mixed_variable, has_wrong_position, has_double_feature, has_wrong_preterminal, is_bad_rule, has_double_declaration}
 use Rattle.codeco_checked.specs.FirstFault.{is_before}
 use Rattle.codeco_checked.specs.Sound.{Holds, IsWritten, is_written_rule}
-use Rattle.codeco_numbering.specs.Numbered.{gathered, number_of, features_of, feature_atoms, atoms_of, numbered_feature, rules_of, category_names, element_names, Tables, variables_of, numbered_rule, rule_names, written_terminals, numbered_of}
+use Rattle.codeco_numbering.specs.Numbered.{gathered, number_of, features_of, feature_atoms, atoms_of, numbered_feature, rules_of, category_names, element_names, rule_names, written_terminals, numbered_of}
 use Rattle.codeco_numbering.proofs.SoundLists.{all-map, all_weaken, all_both, none_each}
 use Rattle.codeco_numbering.proofs.SoundTables.{differ_gathered, gathered_counts_up}
 use Rattle.codeco_numbering.proofs.SoundCounts.{count_gathered}
@@ -25,7 +24,7 @@ use Rattle.codeco_numbering.proofs.SoundFaults.{at_no_rule}
 use Rattle.codeco_numbering.proofs.SoundSpelled.{element_spelled, items_spelled}
 use Rattle.codeco_numbering.proofs.SoundFeatures.{feature_names, begins_append}
 use Rattle.codeco_numbering.proofs.SoundVariables.{variables_numbered}
-use Rattle.codeco_numbering.proofs.SoundContents.{tables_of, numbered_in, terminals_of, categories_of, atoms_count_up, terminals_count_up, categories_count_up}
+use Rattle.codeco_numbering.proofs.SoundContents.{tables_of, numbered_in, atoms_count_up, terminals_count_up, categories_count_up}
 use Rattle.codeco_numbering.proofs.SoundDeclared.{NoneUndeclared, rules_pass, behind_declared, numbered_names, begins_features}
 use Rattle.codeco_numbering.proofs.SoundRules.{rule_written}
 use Rattle.codeco_numbering.proofs.SoundNames.{bodies_spelled, features_named, features_valued, atoms_named, categories_named, terminals_named}

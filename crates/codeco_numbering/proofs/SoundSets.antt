@@ -1,6 +1,6 @@
 -- How many different numbers there are is decided by which there are.
-use Rattle.std.proofs.Common.{◌≡◌, ℕ, ◌+◌, ◌≤◌, Bool, true, false, ◌||◌, cond, eqb, List, [], ◌∷◌, ◌++◌, refl, sym, ap, subst, ◌∙◌, arith, inl, inr}
-use Rattle.std.proofs.lemmas.Bool.{or_parts, or_cases, or_left, or_right, cases_Bool, eqb-true, eqb-false, eq-eqb, ne_eqb, both_ways, cond-true, cond-false, false_from_ne_true}
+use Rattle.std.proofs.Common.{◌≡◌, ℕ, ◌+◌, ◌≤◌, Bool, true, false, ◌||◌, cond, eqb, List, [], ◌∷◌, ◌++◌, refl, sym, ap, ◌∙◌, arith, inl, inr}
+use Rattle.std.proofs.lemmas.Bool.{or_parts, or_left, or_right, cases_Bool, eqb-true, eqb-false, eq-eqb, ne_eqb, both_ways, cond-true, cond-false, false_from_ne_true}
 use Rattle.codeco_checked.specs.Numbering.{has, count_different}
 
 pub has_append : (xs ys : List ℕ) (n : ℕ) → has (xs ++ ys) n ≡ (has xs n || has ys n)

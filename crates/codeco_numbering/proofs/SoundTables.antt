@@ -1,12 +1,11 @@
 -- Tables of names that are gathered, and the numbers that they give.
-use Rattle.std.proofs.Common.{◌≡◌, ℕ, zero, suc, ◌+◌, ◌<◌, ◌≤◌, Bool, true, false, not, ◌&&◌, ◌||◌, cond, eqb, ltb, List, [], ◌∷◌, ◌++◌, map, length, Option, Some, None, refl, sym, ap, subst, ◌∙◌, arith, inl, inr}
+use Rattle.std.proofs.Common.{◌≡◌, ℕ, suc, ◌+◌, ◌<◌, Bool, true, false, not, ◌&&◌, ◌||◌, cond, eqb, ltb, List, [], ◌∷◌, ◌++◌, map, length, Some, refl, sym, ap, subst, ◌∙◌, arith, inl, inr}
 use Rattle.std.specs.Prelude.{slice_get}
-use Rattle.std.specs.List.{list_all}
 use Rattle.std.proofs.lemmas.List.{length-append}
-use Rattle.std.proofs.lemmas.Bool.{and_parts, and_from, or_parts, or_cases, or_left, or_right, or_from, cases_Bool, ltb-true, lt-ltb, le-ltb, eqb-true, eq-eqb, both_ways, cond-true, cond-false, not-true, not_from_false, false_from_ne_true}
+use Rattle.std.proofs.lemmas.Bool.{and_parts, and_from, or_parts, or_cases, or_left, or_right, or_from, cases_Bool, lt-ltb, le-ltb, eq-eqb, both_ways, cond-true, cond-false, not-true, not_from_false, false_from_ne_true}
 use Rattle.codeco_text.specs.Names.{same_bytes, is_among}
 use Rattle.codeco_text.proofs.Growth.{same_is}
-use Rattle.codeco_checked.specs.Numbering.{counts_up, differ, begins_with}
+use Rattle.codeco_checked.specs.Numbering.{counts_up, differ}
 use Rattle.codeco_numbering.specs.Numbered.{gathered, number_of}
 
 pub same_bytes_refl : (w : List ℕ) → same_bytes w w ≡ true

@@ -1,11 +1,10 @@
 -- The variables of a rule in numbers are those that it writes, in order.
-use Rattle.std.proofs.Common.{◌≡◌, ℕ, Bool, true, false, not, ◌&&◌, ◌||◌, List, [], ◌∷◌, ◌++◌, map, refl, sym, ap, ◌∙◌}
+use Rattle.std.proofs.Common.{◌≡◌, ℕ, Bool, true, false, not, List, [], ◌∷◌, ◌++◌, map, refl, sym, ap, ◌∙◌}
 use Rattle.std.specs.List.{list_all, list_any, flat_map}
 use Rattle.std.proofs.lemmas.List.{append-nil, map-append}
 use Rattle.std.proofs.lemmas.List.Concat.{flat_map-append}
-use Rattle.std.proofs.lemmas.Bool.{and_parts, or_parts, not_from_false}
+use Rattle.std.proofs.lemmas.Bool.{and_parts, not_from_false}
 use Rattle.codeco_terms.specs.declared.categories.Category.{Category}
-use Rattle.codeco_terms.specs.declared.elements.Element.{Element}
 use Rattle.codeco_text.specs.declared.written.WrittenCategory.{WrittenCategory}
 use Rattle.codeco_text.specs.declared.written.WrittenElement.{WrittenElement}
 use Rattle.codeco_text.specs.declared.written.WrittenElement.TheVariants as element
@@ -14,9 +13,9 @@ use Rattle.codeco_text.specs.declared.written.WrittenItem.TheVariants as item
 use Rattle.codeco_text.specs.Notation.{is_plain, element_fits, item_fits}
 use Rattle.codeco_checked.specs.Occurrences.{with_taken, whole, mentions, rule_mentions, term_variables, category_variables, element_variables, rule_variables}
 use Rattle.codeco_checked.specs.Faults.{is_double, has_double_feature}
-use Rattle.codeco_numbering.specs.Numbered.{number_of, in_order, ordered, term_names, category_names, Tables, plain_feats, taken_feats, numbered_category, numbered_preterminal, numbered_pattern, numbered_element, element_names, numbered_rule}
+use Rattle.codeco_numbering.specs.Numbered.{number_of, ordered, category_names, Tables, plain_feats, taken_feats, numbered_category, numbered_pattern, numbered_element, element_names, numbered_rule}
 use Rattle.codeco_numbering.proofs.SoundLists.{all_split, none_each}
-use Rattle.codeco_numbering.proofs.SoundOrder.{order_rises, ordered_plain, every_feat, plain_every, stands, whole_every, every_variables}
+use Rattle.codeco_numbering.proofs.SoundOrder.{order_rises, ordered_plain, every_feat, plain_every, whole_every, every_variables}
 use Rattle.codeco_numbering.proofs.SoundDoubles.{stands_apart}
 
 -- the numbers of variables

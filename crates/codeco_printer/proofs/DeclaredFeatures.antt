@@ -1,8 +1,8 @@
 -- The rules that are written for a sound grammar write features of the grammar alone.
-use Rattle.std.proofs.Common.{◌≡◌, ℕ, Bool, true, ltb, List, [], ◌∷◌, ◌++◌, map, length, refl, ap, ◌∙◌, arith}
+use Rattle.std.proofs.Common.{◌≡◌, ℕ, Bool, true, ltb, List, [], ◌∷◌, map, length, refl, ◌∙◌, arith}
 use Rattle.std.specs.List.{list_all, flat_map}
 use Rattle.std.proofs.lemmas.List.{length-map}
-use Rattle.std.proofs.lemmas.Bool.{and_parts, and_from, ltb-true, cond-true}
+use Rattle.std.proofs.lemmas.Bool.{and_parts, and_from, ltb-true}
 use Rattle.codeco_terms.specs.declared.values.Term.{Term}
 use Rattle.codeco_terms.specs.declared.values.Term.TheVariants.{Var}
 use Rattle.codeco_terms.specs.declared.categories.Category.{Category}
@@ -18,7 +18,7 @@ use Rattle.codeco_text.specs.Names.{is_among}
 use Rattle.codeco_checked.specs.Occurrences.{whole, mentions, rule_mentions, rule_features}
 use Rattle.codeco_checked.specs.Sound.{IsSound}
 use Rattle.codeco_printer.specs.Unnumbered.{feature_name, letter, written_term, plain_terms, taken_terms, merged, with_names, written_category, written_pattern, written_element, written_rule}
-use Rattle.codeco_numbering.specs.Numbered.{NamedFeature, undeclared, with_undeclared, element_categories, category_features, written_features}
+use Rattle.codeco_numbering.specs.Numbered.{element_categories, category_features, written_features}
 use Rattle.codeco_numbering.proofs.SoundLists.{all_append, all_split, all_flat, flat_all, all-map, all_weaken}
 use Rattle.codeco_numbering.proofs.SoundMentions.{with_taken_all}
 use Rattle.codeco_printer.proofs.WrittenSound.{merged_all}

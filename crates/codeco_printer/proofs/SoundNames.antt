@@ -1,9 +1,9 @@
 -- The names, variables and terminals that are written for a sound grammar are those of the notation.
-use Rattle.std.proofs.Common.{◌≡◌, ℕ, zero, suc, ◌+◌, ◌-◌, ◌<◌, ◌≤◌, Bool, true, false, ◌&&◌, ◌||◌, eqb, ltb, leb, List, [], ◌∷◌, map, length, refl, sym, ap, subst, ◌∙◌, arith, inl, inr}
+use Rattle.std.proofs.Common.{◌≡◌, ℕ, zero, suc, ◌<◌, Bool, true, false, ◌&&◌, ◌||◌, eqb, ltb, leb, List, [], ◌∷◌, map, length, refl, sym, ap, ◌∙◌, arith, inl, inr}
 use Rattle.std.specs.Prelude.{slice_get}
 use Rattle.std.specs.Option.{option_map_or}
 use Rattle.std.specs.List.{list_all, list_any}
-use Rattle.std.proofs.lemmas.Bool.{and_parts, and_from, or_parts, cases_Bool, ltb-true, lt-ltb, le-leb, eqb-true, cond-true, cond-false, false_from_ne_true, or_cases, or_right}
+use Rattle.std.proofs.lemmas.Bool.{and_parts, and_from, or_parts, ltb-true, le-leb, eqb-true, or_cases, or_right}
 use Rattle.codeco_terms.specs.declared.values.Value.TheVariants.{Atom, Word, Pos}
 use Rattle.codeco_terms.specs.declared.values.Term.{Term}
 use Rattle.codeco_terms.specs.declared.values.Term.TheVariants.{Val, Var}
@@ -19,7 +19,7 @@ use Rattle.codeco_text.specs.Notation.{labels, kinds}
 use Rattle.codeco_text.proofs.Growth.{same_is}
 use Rattle.codeco_checked.specs.declared.fault.GrammarFault.TheVariants as fault
 use Rattle.codeco_checked.specs.Occurrences.{rule_mentions, rule_features, rule_terminals}
-use Rattle.codeco_checked.specs.Numbering.{has, counts_up, begins_with, first_categories, declared_atoms, grammar_atoms, grammar_names, grammar_terminals, is_declared}
+use Rattle.codeco_checked.specs.Numbering.{has, begins_with, first_categories, declared_atoms, grammar_atoms, grammar_names, grammar_terminals, is_declared}
 use Rattle.codeco_checked.specs.Faults.{at_rule, values_of, term_fits, is_undeclared_rule, is_bad_rule, has_wrong_atom, has_mixed_variable, has_wrong_position, has_double_feature, has_wrong_preterminal, has_double_declaration}
 use Rattle.codeco_checked.specs.Sound.{IsSound}
 use Rattle.codeco_printer.specs.Unnumbered.{name_at, feature_name, letter, letter_byte, value_name}

@@ -2,7 +2,7 @@
 use Rattle.std.proofs.Common.{◌≡◌, ℕ, zero, suc, ◌+◌, ◌<◌, ◌≤◌, true, false, not, ◌&&◌, ◌||◌, eqb, ltb, List, [], ◌∷◌, ◌++◌, map, length, take, refl, sym, ap, subst, ◌∙◌, arith, inl, inr}
 use Rattle.std.specs.List.{list_all, range_with_len}
 use Rattle.std.proofs.lemmas.List.{take_all, take_more, get_or-take, length-take-le}
-use Rattle.std.proofs.lemmas.Bool.{and_parts, and_from, or_parts, or_right, cases_Bool, ltb-true, eqb-true, eq-eqb, both_ways, cond-true, cond-false, not-true, not_from_false, false_from_ne_true, agree_below_at}
+use Rattle.std.proofs.lemmas.Bool.{and_parts, and_from, or_parts, or_right, cases_Bool, ltb-true, eqb-true, cond-true, cond-false, not-true, not_from_false, agree_below_at}
 use Rattle.codeco_text.specs.Names.{same_bytes, is_among}
 use Rattle.codeco_text.proofs.Growth.{same_is}
 use Rattle.codeco_checked.specs.Numbering.{counts_up, differ, begins_with}

@@ -1,5 +1,5 @@
 -- What is written for a sound grammar is spelled as the notation wants.
-use Rattle.std.proofs.Common.{◌≡◌, ℕ, Bool, true, not, ◌&&◌, ltb, List, [], ◌∷◌, map, Option, Some, None, refl, sym, ap, ◌∙◌, inl, inr}
+use Rattle.std.proofs.Common.{◌≡◌, ℕ, Bool, true, not, ◌&&◌, ltb, List, [], ◌∷◌, map, Option, Some, None, refl, ap, ◌∙◌, inl, inr}
 use Rattle.std.specs.Option.{option_map}
 use Rattle.std.specs.List.{list_all, flat_map}
 use Rattle.std.proofs.lemmas.Bool.{and_parts, and_from, cases_Bool, cond-true, cond-false}
@@ -21,7 +21,7 @@ use Rattle.codeco_text.specs.declared.written.WrittenItem.TheVariants as item
 use Rattle.codeco_text.specs.Names.{is_identifier, is_variable, is_terminal, is_among}
 use Rattle.codeco_text.specs.Notation.{kinds, is_marked, is_plain, element_fits, item_fits}
 use Rattle.codeco_text.specs.Notation as notation
-use Rattle.codeco_checked.specs.Occurrences.{put_feature, with_taken, whole, mentions, rule_mentions, element_terminals, rule_terminals}
+use Rattle.codeco_checked.specs.Occurrences.{with_taken, whole, mentions, rule_mentions, element_terminals, rule_terminals}
 use Rattle.codeco_checked.specs.Numbering.{declared_atoms}
 use Rattle.codeco_checked.specs.Sound.{IsSound, is_empty, is_written, is_written_name, is_written_pattern, is_plain_pattern, is_written_element, is_written_rule, has_values}
 use Rattle.codeco_printer.specs.Unnumbered.{name_at, feature_name, letter, written_term, plain_terms, taken_terms, below, from, merged, with_names, written_category, written_pattern, written_element, written_rule, declaration, written_feature, written_of}

@@ -1,3 +1,11 @@
+pub mod Bounds
+pub mod Declaring
+pub mod Gathers
+pub mod Joined
+pub mod NameTables
+pub mod Orders
+pub mod Sizes
+pub mod Small
 pub mod SoundContents
 pub mod SoundCounts
 pub mod SoundDeclared
@@ -16,3 +24,5 @@ pub mod SoundSpelled
 pub mod SoundTables
 pub mod SoundVariableSets
 pub mod SoundVariables
+pub mod Splits
+pub mod Turns

@@ -50,7 +50,7 @@ domain_numbers atoms (Some domain.Words) = refl
 domain_numbers atoms (Some domain.Positions) = refl
 domain_numbers atoms (Some (domain.Atoms names)) = refl
 
-atoms_numbered : (atoms : List (List ℕ)) (fs : List NamedFeature) → flat_map (λ f. declared_atoms f.declared) (map (numbered_feature atoms) fs) ≡ map (number_of atoms) (flat_map (λ f. feature_atoms f.domain) fs)
+pub atoms_numbered : (atoms : List (List ℕ)) (fs : List NamedFeature) → flat_map (λ f. declared_atoms f.declared) (map (numbered_feature atoms) fs) ≡ map (number_of atoms) (flat_map (λ f. feature_atoms f.domain) fs)
 atoms_numbered atoms [] = refl
 atoms_numbered atoms (f ∷ fs) =
     ap (λ (x : List ℕ). x ++ flat_map (λ y. declared_atoms y.declared) (map (numbered_feature atoms) fs)) (domain_numbers atoms f.domain)

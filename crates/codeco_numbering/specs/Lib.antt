@@ -1,2 +1,4 @@
+pub mod Early
+pub mod Fitting
 pub mod Labels
 pub mod Numbered

@@ -1,0 +1,17 @@
+-- What has to fit the number types.
+use Rattle.std.specs.Prelude.{◌<◌, length}
+use Rattle.codeco_text.specs.declared.written.WrittenRule.{WrittenRule}
+use Rattle.codeco_numbering.specs.declared.tables.GrammarTables.{GrammarTables}
+use Rattle.codeco_numbering.specs.Numbered.{Tables, variables_of}
+
+-- each number that the tables give, and the number that follows, fits its type
+pub record HasRoom (t : Tables) : Type 0 where
+  pub features : length t.features < 65536
+  pub atoms : length t.atoms < 65536
+  pub terminals : length t.terminals < 65536
+  pub categories : length t.categories < 65531
+  pub variables : length t.variables < 256
+
+-- the tables of a grammar, with the variables of a rule
+abbrev pub rule_tables : GrammarTables → WrittenRule → Tables
+rule_tables g r = record { features = g.features; atoms = g.atoms; terminals = g.terminals; categories = g.categories; variables = variables_of g.features r }

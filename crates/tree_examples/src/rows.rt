@@ -293,6 +293,95 @@ pub static EVERY_CAT_SEES_THE_CAT: [Row; 11] = [
     },
 ];
 
+const K_IS_P: Value = Value::Atom(7);
+
+const K_IS_Q: Value = Value::Atom(8);
+
+/// A grammar in which `r` refers back to what `m` or `n` introduces.
+pub static SMALL_GRAMMAR: &str = "feature k: p, q.
+feature id: position.
+text --> m n r [e].
+m --> [m] #P > x(k: p, id: P).
+n --> [n] #P > x(k: q, id: P).
+r --> < +x(k: K, id: ?I) [r].";
+
+/// m n r e, by the small grammar.
+pub static M_N_R_E: [Row; 4] = [
+    Row {
+        rule: 2,
+        values: &[(0, Value::Pos(1))],
+        found: &[],
+        children: 0,
+    },
+    Row {
+        rule: 3,
+        values: &[(0, Value::Pos(2))],
+        found: &[],
+        children: 0,
+    },
+    Row {
+        rule: 4,
+        values: &[(0, K_IS_P), (1, Value::Pos(1))],
+        found: &[1],
+        children: 0,
+    },
+    Row {
+        rule: 1,
+        values: &[],
+        found: &[],
+        children: 3,
+    },
+];
+
+/// What may stand for its reference, each with whether the tree then derives the tokens.
+pub static REFERENCES: [(Row, bool); 5] = [
+    (
+        Row {
+            rule: 4,
+            values: &[(0, K_IS_P), (1, Value::Pos(1))],
+            found: &[1],
+            children: 0,
+        },
+        true,
+    ),
+    (
+        Row {
+            rule: 4,
+            values: &[(0, K_IS_Q), (1, Value::Pos(2))],
+            found: &[2],
+            children: 0,
+        },
+        true,
+    ),
+    (
+        Row {
+            rule: 4,
+            values: &[(0, K_IS_Q), (1, Value::Pos(1))],
+            found: &[1],
+            children: 0,
+        },
+        false,
+    ),
+    (
+        Row {
+            rule: 4,
+            values: &[(0, K_IS_P), (1, Value::Pos(2))],
+            found: &[2],
+            children: 0,
+        },
+        false,
+    ),
+    (
+        Row {
+            rule: 4,
+            values: &[(0, K_IS_P), (1, Value::Pos(2))],
+            found: &[1],
+            children: 0,
+        },
+        false,
+    ),
+];
+
 /// The tree of the last of these rows, where the row at the place is another one.
 pub fn tree_of(alloc: Global, rows: &[Row], place: usize, other: Row) -> Result<Tree, Fail> {
     let mut trees = Vec::new(alloc);

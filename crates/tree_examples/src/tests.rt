@@ -1,7 +1,11 @@
 // The words are Mary, cat and see, with the numbers 1, 2 and 3.
-use crate::rows::{EVERY_CAT_SEES_THE_CAT, IF_X_SEES_Y, MARY_SEES_A_CAT, Row, tree_of};
+use crate::rows::{
+    EVERY_CAT_SEES_THE_CAT, IF_X_SEES_Y, M_N_R_E, MARY_SEES_A_CAT, REFERENCES, Row, SMALL_GRAMMAR,
+    tree_of,
+};
 use ace_grammar::built_in;
 use codeco_checked::CheckedGrammar;
+use codeco_reader::read_grammar;
 use codeco_terms::Value;
 use derivations::{Cut, Tree, check_tree, cut, show};
 use lexicon::{Kind, Lexicon, forms};
@@ -165,6 +169,22 @@ fn a_reference_finds_the_referent_of_its_position(rt: HostRuntime) -> Result<(),
         ..rows[3]
     };
     assert!(rt; !says(&rt, rt.alloc(), "Every cat sees the cat.", rows, (3, other))?);
+    Ok(())
+}
+
+#[test]
+fn a_reference_takes_its_values_from_the_referent_found(rt: HostRuntime) -> Result<(), Fail> {
+    let alloc = rt.alloc();
+    let grammar = read_grammar(alloc, SMALL_GRAMMAR).ok().ok_or("a grammar")?;
+    let lexicon = Lexicon::new(alloc, grammar.grammar())?;
+    let Cut::Tokens(tokens) = cut(alloc, grammar.grammar(), "m n r e")? else {
+        return Err(Fail::new("four tokens"));
+    };
+    assert!(rt; tokens.len() <= 40);
+    for (reference, answer) in REFERENCES {
+        let tree = tree_of(alloc, M_N_R_E.as_slice(), 2, reference)?;
+        assert_eq!(rt; check_tree(alloc, &grammar, &lexicon, &tokens, &tree)?, answer);
+    }
     Ok(())
 }
 

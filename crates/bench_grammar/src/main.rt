@@ -1,0 +1,84 @@
+//! Reads a grammar from standard input, prints it, and reads what was printed. With the word `time` it also tells how
+//! much processor time the first reading took.
+#![tactic(auto)]
+
+use ace_grammar::built_in;
+use codeco_reader::{CheckedGrammar, GrammarFault, print_grammar, read_grammar};
+use std::alloc::Global;
+use std::str::Utf8Error;
+use std::time::CpuClock;
+use std::{env, io, str};
+use wiki_base::{Memory, Text8};
+
+#[derive(Debug, Drop)]
+enum Fault {
+    Grammar(GrammarFault),
+    Memory,
+    Io(io::Error),
+    Text,
+}
+
+impl From<GrammarFault> for Fault {
+    fn from(fault: GrammarFault) -> Self {
+        Fault::Grammar(fault)
+    }
+}
+
+impl From<Memory> for Fault {
+    fn from(_: Memory) -> Self {
+        Fault::Memory
+    }
+}
+
+impl From<io::Error> for Fault {
+    fn from(error: io::Error) -> Self {
+        Fault::Io(error)
+    }
+}
+
+impl From<Utf8Error> for Fault {
+    fn from(_: Utf8Error) -> Self {
+        Fault::Text
+    }
+}
+
+// Whether the printed text makes a grammar that is printed in the same way.
+fn is_read_back(alloc: Global, printed: &Text8) -> Result<bool, Fault> {
+    let again = read_grammar(alloc, str::from_utf8(printed.as_bytes())?)?;
+    Ok(print_grammar(alloc, &again)?.as_bytes() == printed.as_bytes())
+}
+
+fn is_built_in(alloc: Global, printed: &Text8) -> Result<bool, Fault> {
+    let built_in = built_in(alloc)?;
+    Ok(print_grammar(alloc, &built_in)?.as_bytes() == printed.as_bytes())
+}
+
+fn report(rt: &HostRuntime, grammar: &CheckedGrammar) -> Result<(), Fault> {
+    let alloc = rt.alloc();
+    let printed = print_grammar(alloc, grammar)?;
+    let rules = grammar.grammar().rules().len();
+    println!(rt; "{rules} rules")?;
+    let read_back = is_read_back(alloc, &printed)?;
+    println!(rt; "read back as an equal grammar: {read_back}")?;
+    let same = is_built_in(alloc, &printed)?;
+    println!(rt; "the built-in grammar: {same}")?;
+    Ok(())
+}
+
+fn main(rt: HostRuntime) -> Result<(), Fault> {
+    let alloc = rt.alloc();
+    let timed = env::args(&rt)?.count() > 1;
+    let text = io::read_to_string(alloc, rt.stdin())?;
+    let start = rt.thread_cpu_time()?;
+    let read = read_grammar(alloc, &text);
+    let took = rt.thread_cpu_time()?.saturating_sub(start);
+    match read {
+        Ok(grammar) => report(&rt, &grammar)?,
+        Err(fault) => println!(rt; "{fault:?}")?,
+    }
+    if timed {
+        let micros = took.as_micros();
+        println!(rt; "{micros} microseconds")?;
+    }
+    Ok(())
+}

@@ -1,0 +1,14 @@
+pub mod MarkLemmas
+pub mod SearchLemmas
+pub mod FirstFaults
+pub mod StepLemmas
+pub mod PlaceLemmas
+pub mod FaultSteps
+pub mod TableLemmas
+pub mod DoubleLemmas
+pub mod PutLemmas
+pub mod ShareLemmas
+pub mod OrderLemmas
+pub mod ClassLemmas
+pub mod MixedLemmas
+pub mod BadLemmas

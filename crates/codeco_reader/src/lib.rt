@@ -1,0 +1,12 @@
+//! The grammar notation: the grammar that a text makes, and the text of a grammar.
+#![tactic(auto)]
+
+mod reading;
+#[cfg(test)]
+mod tests;
+#[cfg(test)]
+mod texts;
+
+pub use codeco_checked::{CheckedGrammar, GrammarFault};
+pub use codeco_printer::print_grammar;
+pub use reading::read_grammar;

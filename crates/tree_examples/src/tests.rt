@@ -183,7 +183,10 @@ fn a_reference_takes_its_values_from_the_referent_found(rt: HostRuntime) -> Resu
     assert!(rt; tokens.len() <= 40);
     for (reference, answer) in REFERENCES {
         let tree = tree_of(alloc, M_N_R_E.as_slice(), 2, reference)?;
-        assert_eq!(rt; check_tree(alloc, &grammar, &lexicon, &tokens, &tree)?, answer);
+        assert_eq!(rt;
+            check_tree(alloc, &grammar, &lexicon, &tokens, &tree)?,
+            answer
+        );
     }
     Ok(())
 }

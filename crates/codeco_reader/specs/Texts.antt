@@ -1,5 +1,5 @@
 -- What is answered for the text of a grammar.
-use Rattle.std.specs.Prelude.{◌≡◌, ℕ, List, length, nat_le, IsTrue, Result, Ok, Err, Bool}
+use Rattle.std.specs.Prelude.{◌≡◌, ℕ, List, length, nat_le, Result, Ok, Err, Bool}
 use Rattle.codeco_terms.specs.GrammarParts.{GrammarParts}
 use Rattle.codeco_text.specs.declared.written.WrittenItem.{WrittenItem}
 use Rattle.codeco_text.specs.Notation.{IsSpelling, IsSyntaxFault}

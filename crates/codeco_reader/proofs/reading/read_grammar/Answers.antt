@@ -1,9 +1,9 @@
-use Rattle.std.proofs.Common.{rules, ◌≡◌, ◌≤◌, List, ℕ, IsTrue, sym, subst}
+use Rattle.std.proofs.Common.{sym, subst}
 use Rattle.codeco_terms.specs.GrammarParts.{GrammarParts}
 use Rattle.codeco_text.specs.Notation.{IsSpelling}
 use Rattle.codeco_printer.specs.Unnumbered.{written_of}
 use Rattle.codeco_printer.proofs.GrammarPrinted.{printed_spells}
-use Rattle.codeco_reader.specs.Texts.{is_in_size, Makes, IsFaultless, SaysOf, Gives}
+use Rattle.codeco_reader.specs.Texts.{Makes, IsFaultless, Gives}
 use Rattle.codeco_reader.proofs.Answered.{IsOnly, grammar_given, printed_makes, memory_given}
 use Rattle.codeco_reader.proofs.reading.read_grammar.Goals as goal
 

@@ -2,6 +2,8 @@
 //! word `time` it also tells how much processor time a check took.
 #![tactic(auto)]
 
+ghost use Rattle.std.specs.Prelude.{◌≤◌, length};
+
 use ace_grammar::built_in;
 use codeco_checked::CheckedGrammar;
 use codeco_terms::Value;
@@ -140,6 +142,24 @@ fn sentence(alloc: Global, clauses: u16) -> Result<Tree, Fault> {
     node(alloc, 1, &[], one(alloc, statement)?)
 }
 
+// Whether each of many checks says that the tree derives the tokens.
+fn checks(
+    alloc: Global,
+    grammar: &CheckedGrammar,
+    lexicon: &Lexicon,
+    tokens: &Tokens,
+    tree: &Tree,
+) -> Result<bool, Memory>
+    requires { length tokens.now ≤ 40 }
+{
+    for _ in 0..CHECKS {
+        if !check_tree(alloc, grammar, lexicon, tokens, tree)? {
+            return Ok(false);
+        }
+    }
+    Ok(true)
+}
+
 fn run(rt: &HostRuntime, clauses: u16, timed: bool) -> Result<(), Fault> {
     let alloc = rt.alloc();
     let grammar = built_in(alloc)?;
@@ -147,14 +167,14 @@ fn run(rt: &HostRuntime, clauses: u16, timed: bool) -> Result<(), Fault> {
     let tokens = tokens(alloc, &grammar, clauses)?;
     let tree = sentence(alloc, clauses)?;
     let count = tokens.len();
-    let answer = check_tree(alloc, &grammar, &lexicon, &tokens, &tree)?;
+    if count > 40 {
+        return Err(Fault::Words);
+    }
+    let start = rt.thread_cpu_time()?;
+    let answer = checks(alloc, &grammar, &lexicon, &tokens, &tree)?;
+    let took = rt.thread_cpu_time()?.saturating_sub(start);
     println!(rt; "{count} tokens: {answer}")?;
     if timed {
-        let start = rt.thread_cpu_time()?;
-        for _ in 1..CHECKS {
-            check_tree(alloc, &grammar, &lexicon, &tokens, &tree)?;
-        }
-        let took = rt.thread_cpu_time()?.saturating_sub(start);
         let micros = took.as_micros() / u128::from(CHECKS);
         println!(rt; "{micros} microseconds a check")?;
     }

@@ -1,0 +1,2 @@
+//! The wiki's step.
+#![tactic(auto)]

@@ -4,7 +4,7 @@ use Rattle.std.specs.Io.KnownBytes.{Consumes, IsAtEnd}
 use Rattle.std.proofs.lemmas.Bool.{false≢true}
 use Rattle.std.proofs.lemmas.List.{append_assoc, append-nil, length-append, length-replicate, same_from_push}
 use Rattle.std.proofs.lemmas.List.Elements.{All-replicate}
-use Rattle.wiki_io.specs.Lines.{after_newline, HasNoNewline, InputLine, text, too_long, line_of, input_lines, whole_lines, AreReadLines}
+use Rattle.wiki_io.specs.Lines.{after_newline, HasNoNewline, InputLine, text, too_long, line_of, input_lines, whole_lines, Begins, AreKnown, AreReadLines}
 use Rattle.wiki_io.specs.Reading.{Reading, unread, lines_to_come, CanFollow, ReadsLine, HasNoLine, HasGiven, HasGivenFrom, answered}
 use Rattle.wiki_io.specs.declared.limits.TheConstants.{NEWLINE, MAX_LINE}
 use Rattle.wiki_io.specs.declared.reader.Line.{Line}
@@ -61,6 +61,21 @@ HasGivenFrom-front first given reader left all had end told =
     let known = told_left had.bytes all left (subst (λ (o : Option (List ℕ)). Consumes o left had.bytes) told had.source) in
     let can : CanFollow reader known.0 = λ ended. subst IsAtEnd known.1 (end ended) in
     (lines_to_come reader known.0, ap input_lines known.2 ∙ had.lines known.0 can)
+
+-- the lines given are known from what was read
+pub HasGiven-known : (bytes : List ℕ) (given : List InputLine) (reader : Reading) (left : Option (List ℕ)) → HasGiven bytes given reader → (IsTrue reader.ended → IsAtEnd left) → AreKnown bytes left given
+HasGiven-known bytes given reader left had end = elim reader.ended as (λ b. reader.ended ≡ b → AreKnown bytes left given) [
+  | true ↦ λ ended. inr (end ended, (lines_to_come reader [], ap input_lines (sym (append-nil bytes)) ∙ had [] (λ _. refl)))
+  | false ↦ λ goes_on. inl (λ rest. (lines_to_come reader rest, had rest (λ ended. absurd (false≢true (sym goes_on ∙ ended)))))
+] refl
+
+Begins-front : {X : Type 0} (front more whole : List X) → Begins (front ++ more) whole → Begins front whole
+Begins-front front more whole begins = (more ++ begins.0, begins.1 ∙ append_assoc front more begins.0)
+
+-- and so are the first of them
+pub AreKnown-front : (bytes : List ℕ) (left : Option (List ℕ)) (front more : List InputLine) → AreKnown bytes left (front ++ more) → AreKnown bytes left front
+AreKnown-front bytes left front more (inl known) = inl (λ rest. Begins-front front more (input_lines (bytes ++ rest)) (known rest))
+AreKnown-front bytes left front more (inr known) = inr (known.0, Begins-front front more (input_lines bytes) known.1)
 
 -- where a read failed: the whole lines
 module _ (bytes : List ℕ) (given : List InputLine) (reader : Reading) (had : HasGiven bytes given reader) (no_line : HasNoLine reader) where

@@ -25,7 +25,7 @@ pub fn show(alloc: Global, grammar: &Grammar, tokens: &Tokens) -> Result<Text8, 
 {
     let mut text = String::new(alloc);
     push_tokens(grammar.terminals(), tokens.as_slice(), &mut text)?;
-    Ok(Text8::from_vec(text.into_bytes()))
+    Ok(Text8::from_string(text))
 }
 
 // Adds what shows the tokens.

@@ -2,11 +2,13 @@
 #![tactic(auto)]
 
 mod expressions;
+mod knowledge;
 mod statements;
 mod structures;
 #[cfg(test)]
 mod tests;
 
 pub use expressions::{Class, Classes, Role};
+pub use knowledge::Knowledge;
 pub use statements::{Axiom, Axioms};
 pub use structures::{Cond, Conds, Drs, Referents, Thing};

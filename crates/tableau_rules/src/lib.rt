@@ -1,13 +1,8 @@
-// A library with one function.
+//! Branches of knowledge, their clashes, and the rules by which a search makes them grow.
 #![tactic(auto)]
 
-ghost use Rattle.std.specs.Prelude.{◌≡◌};
-ghost use Rattle.tableau_rules.specs.Echo.{echo_of};
+mod branch;
+mod step;
 
-// The `ensures` clause is the contract: what `echo` returns is `echo_of` of its argument, a definition
-// in `specs/Echo.antt`, which a caller's clause can cite too.
-pub fn echo(x: usize) -> usize
-    ensures { result ≡ echo_of x }
-{
-    x
-}
+pub use branch::{Branch, Edge, Node};
+pub use step::{Clash, Closed, Rule, Step};

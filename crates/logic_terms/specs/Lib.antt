@@ -2,6 +2,7 @@ pub mod Complement
 pub mod Concept
 pub mod Free
 pub mod Interpretation
+pub mod Introduced
 pub mod Known
 pub mod Meaning
 pub mod Parts

@@ -1,6 +1,8 @@
 //! Structures, classes and axioms, and what each of them says of an interpretation.
 #![tactic(auto)]
 
+mod cause;
+mod complement;
 mod expressions;
 mod knowledge;
 mod statements;
@@ -8,6 +10,8 @@ mod structures;
 #[cfg(test)]
 mod tests;
 
+pub use cause::Cause;
+pub use complement::negated;
 pub use expressions::{Class, Classes, Role};
 pub use knowledge::Knowledge;
 pub use statements::{Axiom, Axioms};

@@ -2,9 +2,12 @@
 #![tactic(auto)]
 
 mod cause;
+mod comparing;
 mod complement;
 mod expressions;
 mod knowledge;
+mod opposing;
+mod parts;
 mod statements;
 mod structures;
 #[cfg(test)]

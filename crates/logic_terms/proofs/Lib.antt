@@ -2,5 +2,8 @@ pub mod Closed
 pub mod ComplementLemmas
 pub mod Extensions
 pub mod MeaningLemmas
+pub mod Places
+pub mod SameLemmas
 pub mod ShownLemmas
 pub mod Taken
+pub mod Walks

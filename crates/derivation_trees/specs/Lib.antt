@@ -7,4 +7,5 @@ pub mod Sentences
 pub mod Cutting
 pub mod Partial
 pub mod Menus
+pub mod Codes
 pub mod Skeletons

@@ -1,4 +1,4 @@
--- Codes and skeletons of derivations, and the least skeleton.
+-- The skeletons of derivations, and the least one.
 use Rattle.std.specs.Prelude.{◌≡◌, ◌≢◌, ℕ, List, [], ◌∷◌, ◌++◌, length, slice_get, Option, Some, None}
 use Rattle.std.specs.Option.{option_map_or}
 use Rattle.std.specs.declared.cmp.Ordering.{Ordering}
@@ -16,25 +16,12 @@ use Rattle.codeco_terms.specs.GrammarParts.{GrammarParts}
 use Rattle.lexicon.specs.Words.{Listed}
 use Rattle.derivation_trees.specs.declared.skeletons.Skeleton.{Skeleton}
 use Rattle.derivation_trees.specs.declared.skeletons.Skeleton.TheViews.{roll-Skeleton}
+use Rattle.derivation_trees.specs.Codes.{skeleton_code}
 use Rattle.derivation_trees.specs.Trees.{Node, Nodes, node, none, more}
 use Rattle.derivation_trees.specs.Settings.{Setting}
 use Rattle.derivation_trees.specs.Instances.{looked_up, own_values}
 use Rattle.derivation_trees.specs.Derives.{At, Phrase, Stand, pass, run, rule_with, phrases_of, IsDerivation}
 use Rattle.derivation_trees.specs.Sentences.{setting_of}
-
--- Codes
-
-abbrev mutual
-  -- the code of a tree: the number of its rule, the positions that its own references have found from left to right, and
-  -- then the codes of its children from left to right
-  pub code_of : Node → List ℕ
-  code_of (node rule values found children) = rule ∷ found ++ codes_of children
-
-  pub codes_of : Nodes → List ℕ
-  codes_of none = []
-  codes_of (more n ns) = code_of n ++ codes_of ns
-
--- Skeletons
 
 -- the word that a value is
 abbrev pub word_of_value : Value → WordId
@@ -46,7 +33,7 @@ word_of_value (Pos p) = record { 0 = 0 }
 -- have the same one, since no two words share a form.
 abbrev pub word_in : List Ground → WordId
 word_in [] = record { 0 = 0 }
-word_in (reading ∷ more) = option_map_or word_of_value (looked_up reading.vals 3) (record { 0 = 0 })
+word_in (reading ∷ others) = option_map_or word_of_value (looked_up reading.vals 3) (record { 0 = 0 })
 
 -- the word of which the token at the place is a form
 abbrev pub word_at : Setting → ℕ → WordId
@@ -116,16 +103,16 @@ abbrev mutual
 abbrev pub skeleton_of : Setting → Node → Skeleton
 skeleton_of s tree = skeleton_at s tree (record { place = 0; list = [] })
 
--- the code is below the other, in lexicographic order
-abbrev pub IsBelow : List ℕ → List ℕ → Type 0
-IsBelow code other = slice_cmp nat_cmp code other ≡ Less
+-- the code of the one is below that of the other, in lexicographic order
+abbrev pub IsBelow : Skeleton → Skeleton → Type 0
+IsBelow one other = slice_cmp nat_cmp (skeleton_code one) (skeleton_code other) ≡ Less
 
--- the skeleton is that of a derivation whose code none is below
+-- the skeleton is that of a derivation, and no derivation has one whose code is below
 pub record IsLeast (s : Setting) (least : Skeleton) : Type 0 where
   pub tree : Node
   pub derives : IsDerivation s tree
-  pub least_code : (other : Node) → IsDerivation s other → IsBelow (code_of other) (code_of tree) → ⊥
   pub is : least ≡ skeleton_of s tree
+  pub none_below : (other : Node) → IsDerivation s other → IsBelow (skeleton_of s other) least → ⊥
 
 -- the least skeleton of tokens by a grammar and a lexicon
 abbrev pub IsLeastSkeleton : GrammarParts → Listed → List (List ℕ) → Skeleton → Type 0

@@ -2,5 +2,6 @@ pub mod Closed
 pub mod ComplementLemmas
 pub mod Extensions
 pub mod MeaningLemmas
+pub mod NamesLemmas
 pub mod ShownLemmas
 pub mod Taken

@@ -4,6 +4,7 @@ pub mod Free
 pub mod Interpretation
 pub mod Introduced
 pub mod Meaning
+pub mod Names
 pub mod Reading
 pub mod Shown
 pub mod Structure

@@ -4,6 +4,7 @@
 mod cause;
 mod complement;
 mod expressions;
+mod names;
 mod statements;
 mod structures;
 #[cfg(test)]
@@ -12,5 +13,6 @@ mod tests;
 pub use cause::Cause;
 pub use complement::negated;
 pub use expressions::{Class, Classes, Role};
+pub use names::Names;
 pub use statements::{Axiom, Axioms};
 pub use structures::{Cond, Conds, Drs, Referents, Thing};

@@ -6,6 +6,7 @@ pub mod Introduced
 pub mod Known
 pub mod Meaning
 pub mod Parts
+pub mod Names
 pub mod Reading
 pub mod Same
 pub mod Shown

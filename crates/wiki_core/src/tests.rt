@@ -4,8 +4,8 @@ use ace_grammar::built_in;
 use lexicon::Kind;
 use std::alloc::Global;
 use std::test::Fail;
-use wiki_base::Memory;
-use wiki_talk::{Reply, Request, Text8, Text8s};
+use wiki_base::{Memory, Text8, Text8s};
+use wiki_talk::{Reply, Request};
 
 fn noun(alloc: Global, text: &str) -> Result<Request, Memory> {
     let mut forms = Text8s::new(alloc);

@@ -4,8 +4,8 @@ ghost use Rattle.wiki_core.specs.Words.{told_word, told_words};
 
 use lexicon::{Forms, Lexicon, Texts};
 use std::alloc::Global;
-use wiki_base::{Memory, Text};
-use wiki_talk::{Text8, Text8s, WordView, WordViews};
+use wiki_base::{Memory, Text, Text8, Text8s};
+use wiki_talk::{WordView, WordViews};
 
 pub(crate) fn told_text(alloc: Global, text: &Text) -> Result<Text8, Memory>
     ensures { IfOk result (λ told. told ≡ text.now) }

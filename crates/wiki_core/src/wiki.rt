@@ -6,10 +6,11 @@ use crate::told::{told_word, told_words};
 use crate::words::add_word;
 use codeco_checked::CheckedGrammar;
 use lexicon::{Forms, Kind, Lexicon};
+use lists::Copied;
 use std::alloc::Global;
 use std::marker::Model;
-use wiki_base::Memory;
-use wiki_talk::{Refusal, Reply, Request, Text8};
+use wiki_base::{Memory, Text8};
+use wiki_talk::{Refusal, Reply, Request};
 
 /// A wiki. It is seen as its state: the grammar, the budget of a search, and the live words.
 #[derive(Drop)]

@@ -10,8 +10,8 @@ use crate::faults::Fault;
 use crate::told::told_text;
 use lexicon::{FormFault, Forms, Kind, LexFault, LexLimit, Lexicon, forms};
 use std::alloc::Global;
-use wiki_base::{BadText, Memory, Text, WordId};
-use wiki_talk::{Limit, Refusal, Text8};
+use wiki_base::{BadText, Memory, Text, Text8, WordId};
+use wiki_talk::{Limit, Refusal};
 
 // Adds a word of which these texts are given.
 pub(crate) fn add_word(

@@ -8,11 +8,9 @@ mod replies;
 mod requests;
 #[cfg(test)]
 mod tests;
-mod text8;
 
 pub use kinds::{kind_name, kind_named};
 pub use limits::Limit;
 pub use refusals::{BAD_REQUEST, Refusal, Title};
 pub use replies::{Reply, WordView, WordViews};
-pub use requests::{Request, Text8s};
-pub use text8::Text8;
+pub use requests::Request;

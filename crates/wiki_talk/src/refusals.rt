@@ -2,7 +2,7 @@
 ghost use Rattle.std.specs.Prelude.{◌≡◌};
 
 use crate::limits::Limit;
-use crate::text8::Text8;
+use wiki_base::Text8;
 
 /// Why a request was refused.
 #[derive(Drop)]

@@ -1,8 +1,8 @@
 // What is answered.
 use crate::refusals::Refusal;
-use crate::requests::Text8s;
 use lexicon::Kind;
 use lists::List;
+use wiki_base::Text8s;
 
 /// A word as it is told: its kind and its forms.
 #[derive(Drop)]

@@ -1,10 +1,6 @@
 // What is asked.
-use crate::text8::Text8;
 use lexicon::Kind;
-use lists::List;
-
-/// A list of texts.
-pub type Text8s = List<Text8>;
+use wiki_base::{Text8, Text8s};
 
 /// One request to the wiki.
 #[derive(Drop)]

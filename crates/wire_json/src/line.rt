@@ -6,8 +6,8 @@ ghost use Rattle.wire_json.specs.Values.{line_text};
 
 use serde_json::Value;
 use std::alloc::Global;
-use wiki_base::Memory;
-use wiki_talk::Text8;
+use wiki_base::{Memory, Text8};
+
 
 // The value as compact JSON, and a newline.
 #[tactic(auto, unfolding(crate::specs::Values::line_text))]

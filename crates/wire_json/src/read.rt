@@ -5,8 +5,8 @@ ghost use Rattle.wire_json.specs.Requests.{text_at, texts_at, texts_in, word_in,
 
 use serde_json::Value;
 use std::alloc::Global;
-use wiki_base::Memory;
-use wiki_talk::{Request, Text8, Text8s, kind_named};
+use wiki_base::{Memory, Text8, Text8s};
+use wiki_talk::{Request, kind_named};
 
 /// A line of so many bytes and more, its newline not counted, is too long to be a request.
 pub const TOO_LONG: usize = 65_536;

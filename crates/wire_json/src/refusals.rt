@@ -7,8 +7,8 @@ ghost use Rattle.wiki_talk.specs.Limits.{name_of};
 
 use serde_json::{Value, json};
 use std::alloc::Global;
-use wiki_base::Memory;
-use wiki_talk::{Limit, Refusal, Text8, Title};
+use wiki_base::{Memory, Text8};
+use wiki_talk::{Limit, Refusal, Title};
 
 pub(crate) fn refusal_value(alloc: Global, refusal: &Refusal) -> Result<Value, Memory>
     ensures { IfOk result (λ value. view value ≡ refusal_value refusal.now) }

@@ -3,8 +3,8 @@ use super::*;
 use lexicon::Kind;
 use std::alloc::Global;
 use std::test::Fail;
-use wiki_base::Memory;
-use wiki_talk::{Request, Text8, Text8s};
+use wiki_base::{Memory, Text8, Text8s};
+use wiki_talk::Request;
 
 fn word(alloc: Global) -> Result<Request, Memory> {
     let mut forms = Text8s::new(alloc);

@@ -6,8 +6,8 @@ ghost use Rattle.wire_json.specs.Values.{texts_items, word_value, words_items};
 
 use serde_json::{Value, json};
 use std::alloc::Global;
-use wiki_base::Memory;
-use wiki_talk::{Text8, WordView, kind_name};
+use wiki_base::{Memory, Text8};
+use wiki_talk::{WordView, kind_name};
 
 // A list of texts.
 pub(crate) fn texts_value(alloc: Global, texts: &[Text8]) -> Result<Value, Memory>

@@ -10,8 +10,8 @@ use crate::values::{texts_value, word_value, words_value};
 use lexicon::Kind;
 use serde_json::{Value, json};
 use std::alloc::Global;
-use wiki_base::Memory;
-use wiki_talk::{BAD_REQUEST, Reply, Request, Text8, WordView, kind_name};
+use wiki_base::{Memory, Text8};
+use wiki_talk::{BAD_REQUEST, Reply, Request, WordView, kind_name};
 
 /// The line of a reply, with its newline.
 pub fn reply_line(alloc: Global, reply: &Reply) -> Result<Text8, Memory>

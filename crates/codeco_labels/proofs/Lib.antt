@@ -1,0 +1,3 @@
+pub mod AllowedLemmas
+pub mod TableLemmas
+pub mod BoundLemmas

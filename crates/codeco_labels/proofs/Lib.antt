@@ -1,3 +1,5 @@
 pub mod AllowedLemmas
 pub mod TableLemmas
 pub mod BoundLemmas
+pub mod ShapeLemmas
+pub mod RowLemmas

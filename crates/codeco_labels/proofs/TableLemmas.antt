@@ -4,12 +4,15 @@ use Rattle.std.specs.Prelude.{◌⊎◌, slice_index, slice_set}
 use Rattle.std.proofs.lemmas.List.{get_or_read, get_or-set_same, get_or-set_other, length-set}
 use Rattle.std.proofs.lemmas.Bool.{cases_eq, eq-eqb, ne_eqb, cond-true, cond-false, and_parts, and_from, not_from_false, not-true}
 use Rattle.codeco_checked.specs.declared.labels.Kind.{Kind}
-use Rattle.codeco_checked.specs.Labels.{same_kind}
+use Rattle.codeco_checked.specs.declared.labels.LabelRow.{LabelRow}
+use Rattle.codeco_checked.specs.Labels.{same_kind, head_fits}
 use Rattle.codeco_labels.specs.declared.allowed.Allowed.{Allowed}
 use Rattle.codeco_labels.specs.declared.allowed.Allowed.TheVariants.{Nothing}
-use Rattle.codeco_labels.specs.Kinds.{allows, is_nothing, meet}
+use Rattle.codeco_labels.specs.declared.shapes.Shape.{Shape}
+use Rattle.codeco_labels.specs.Kinds.{allows, of_heads, is_nothing, meet}
+use Rattle.codeco_labels.specs.Shapes.{has_shape, children_have, row_holds}
 use Rattle.codeco_labels.specs.Tables.{KindRows, allowed_at, IsWhole, Meets, IsAlive, Narrows, moved}
-use Rattle.codeco_labels.proofs.AllowedLemmas.{meet_allows, something_allowed, same_kind_is, same_kind_from}
+use Rattle.codeco_labels.proofs.AllowedLemmas.{meet_allows, of_heads_allows, something_allowed, same_kind_is, same_kind_from}
 
 both_allow : (a b : Allowed) (k : Kind) → allows a k ≡ true → allows b k ≡ true → allows (meet a b) k ≡ true
 both_allow a b k p q = meet_allows a b k ∙ and_from (allows a k) (allows b k) p q
@@ -286,3 +289,21 @@ then_narrows t mid new p q first answer e n m = record {
     let earlier = n.all e kinds later.0 in
     (earlier.0, and_from (p kinds) (q kinds) earlier.1 later.1);
 }
+
+-- Rows: what a body has, then the head, then the children
+
+row_test : (row : LabelRow) (head : ℕ) (s : Shape) (a : Allowed) → has_shape row s ≡ true → a ≡ of_heads row.heads → (kinds : ℕ → Kind) → (allows a (kinds head) && children_have row.children head kinds s.children) ≡ row_holds row head s kinds
+row_test row head s a has is kinds =
+    ap (λ b. allows b (kinds head) && children_have row.children head kinds s.children) is
+    ∙ ap (λ b. b && children_have row.children head kinds s.children) (of_heads_allows row.heads (kinds head))
+    ∙ ap (λ b. b && (head_fits row.heads (kinds head) && children_have row.children head kinds s.children)) (sym has)
+
+pub fit_refused : (t new : KindRows) (row : LabelRow) (head : ℕ) (s : Shape) (a : Allowed) (first : Bool) → has_shape row s ≡ true → a ≡ of_heads row.heads → first ≡ false → Narrows t new first (λ kinds. allows a (kinds head)) → Narrows t new false (row_holds row head s)
+fit_refused t new row head s a first has is refused n =
+    same_narrows t new false (λ kinds. allows a (kinds head) && children_have row.children head kinds s.children) (row_holds row head s) (row_test row head s a has is)
+    (refused_narrows t new (λ kinds. allows a (kinds head)) (λ kinds. children_have row.children head kinds s.children) first refused n)
+
+pub fit_then : (t mid new : KindRows) (row : LabelRow) (head : ℕ) (s : Shape) (a : Allowed) (first answer : Bool) → has_shape row s ≡ true → a ≡ of_heads row.heads → first ≡ true → Narrows t mid first (λ kinds. allows a (kinds head)) → Narrows mid new answer (λ kinds. children_have row.children head kinds s.children) → Narrows t new answer (row_holds row head s)
+fit_then t mid new row head s a first answer has is accepted n m =
+    same_narrows t new answer (λ kinds. allows a (kinds head) && children_have row.children head kinds s.children) (row_holds row head s) (row_test row head s a has is)
+    (then_narrows t mid new (λ kinds. allows a (kinds head)) (λ kinds. children_have row.children head kinds s.children) first answer accepted n m)

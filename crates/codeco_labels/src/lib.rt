@@ -4,4 +4,7 @@
 mod allowed;
 mod found;
 mod kind_table;
+mod misfits;
 mod shapes;
+
+pub use misfits::first_misfit;

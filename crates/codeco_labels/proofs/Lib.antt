@@ -3,3 +3,4 @@ pub mod TableLemmas
 pub mod BoundLemmas
 pub mod ShapeLemmas
 pub mod RowLemmas
+pub mod MisfitLemmas

@@ -80,10 +80,6 @@ children_same (child.Two k l) head kinds xs = two_kinds kinds xs k l
 children_same child.Alike head kinds xs = one_kind kinds xs (kinds head)
 children_same child.TwoAlike head kinds xs = two_kinds kinds xs (kinds head) (kinds head)
 
-
-
-
-
 meant_kinds : (marks : List Bool) (kinds : ℕ → Kind) → FitMarks marks kinds → (xs : List ℕ) → filter (λ k. not (is_mark k)) (map kinds xs) ≡ map kinds (filter (has_meaning marks) xs)
 meant_kinds marks kinds fit [] = refl
 meant_kinds marks kinds fit (x ∷ xs) =
@@ -106,12 +102,16 @@ words_same words marks kinds fit body = by words
   where
     found : and_all No (word_names body) ≡ (shape_of marks body).words
     found = sym (words_run marks empty_shape body)
+
     no : same_bytes (word_names body) [] ≡ is_no (shape_of marks body).words
     no = no_words (word_names body) ∙ ap is_no found
+
     one : (k : ℕ) → same_bytes (word_names body) (k ∷ []) ≡ is_one (shape_of marks body).words k
     one k = one_word (word_names body) k ∙ ap (λ f. is_one f k) found
+
     late : same_kinds (child_kinds kinds (behind_word body)) [] ≡ not (shape_of marks body).child_behind_word
     late = ap (λ ks. same_kinds ks []) (child_kinds_are marks kinds fit (behind_word body)) ∙ none_some kinds (meant marks (behind_word body)) ∙ ap not (sym (late_is marks empty_shape body refl refl))
+
     by : (words : Words) → words_fit words kinds body ≡ has_words words (shape_of marks body)
     by word.No = no
     by word.Name = one 0
@@ -133,7 +133,7 @@ turned h c w i r b = at (h && c)
 pub row_same : (marks : List Bool) (kinds : ℕ → Kind) → FitMarks marks kinds → (row : LabelRow) (r : Rule) → fits_row kinds row r ≡ row_holds row r.head.name (shape_of marks r.body) kinds
 row_same marks kinds fit row r =
     let children : children_fit row.children (kinds r.head.name) (child_kinds kinds r.body) ≡ children_have row.children r.head.name kinds (shape_of marks r.body).children =
-      ap (children_fit row.children (kinds r.head.name)) (child_kinds_are marks kinds fit r.body) ∙ children_same row.children r.head.name kinds (meant marks r.body) ∙ ap (children_have row.children r.head.name kinds) (sym (children_run marks empty_shape r.body)) in
+    ap (children_fit row.children (kinds r.head.name)) (child_kinds_are marks kinds fit r.body) ∙ children_same row.children r.head.name kinds (meant marks r.body) ∙ ap (children_have row.children r.head.name kinds) (sym (children_run marks empty_shape r.body)) in
     let words = words_same row.words marks kinds fit r.body in
     let introduced : eqb (count_by is_introduction r.body) (one_if row.introduces) ≡ is_times row.introduces (shape_of marks r.body).introduced = sym (introduced_is marks empty_shape r.body row.introduces refl) in
     let referred : eqb (count_by is_reference r.body) (one_if row.refers) ≡ is_times row.refers (shape_of marks r.body).referred = sym (referred_is marks empty_shape r.body row.refers refl) in

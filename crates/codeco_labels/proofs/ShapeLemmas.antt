@@ -123,13 +123,14 @@ is_times_of wanted n =
     at_zero : (b : Bool) → not b ≡ eqb 0 (one_if b)
     at_zero true = refl
     at_zero false = refl
+
     at_one : (b : Bool) → b ≡ eqb 1 (one_if b)
     at_one true = refl
     at_one false = refl
+
     other : (b : Bool) → (n ≡ 0 → ⊥) → (n ≡ 1 → ⊥) → n ≡ one_if b → ⊥
     other true f g e = g e
     other false f g e = f e
-
 
 -- how many elements pass the test
 abbrev tally : (Element → Bool) → List Element → ℕ
@@ -219,6 +220,7 @@ late_run marks s (Sub c ∷ es) = late_run marks (with_element marks s (Sub c)) 
     late true false y z = refl
     late false true y z = refl
     late false false y z = refl
+
     one : (mark : Bool) → ((with_child mark s c.name).child_behind_word || cond (is_no (with_child mark s c.name).words) (some (meant marks (behind_word es))) (some (meant marks es)))
         ≡ (s.child_behind_word || cond (is_no s.words) (some (meant marks (behind_word es))) (some (cond (not mark) (c.name ∷ meant marks es) (meant marks es))))
     one true = refl

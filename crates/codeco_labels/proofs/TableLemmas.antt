@@ -68,12 +68,12 @@ module _ (t new : KindRows) (one other : ℕ) (m : Allowed)
   still_whole w = record {
     sized = sizes ∙ w.sized ∙ sym size;
     inside = λ c lt.
-      let below : c < length t.groups = subst (λ n. c < n) size lt in
-      subst (λ n. slice_index new.groups c < n) (sym size) (elim (place c below) [
-        | was_kept e f ↦ subst (λ g. g < length t.groups) (sym f) (w.inside one one_in)
-        | was_gone e f ↦ subst (λ g. g < length t.groups) (sym f) (w.inside one one_in)
-        | stays a b f ↦ subst (λ g. g < length t.groups) (sym f) (w.inside c below)
-      ]);
+        let below : c < length t.groups = subst (λ n. c < n) size lt in
+        subst (λ n. slice_index new.groups c < n) (sym size) (elim (place c below) [
+          | was_kept e f ↦ subst (λ g. g < length t.groups) (sym f) (w.inside one one_in)
+          | was_gone e f ↦ subst (λ g. g < length t.groups) (sym f) (w.inside one one_in)
+          | stays a b f ↦ subst (λ g. g < length t.groups) (sym f) (w.inside c below)
+        ]);
   }
 
   pub still_alive : is_nothing m ≡ false → IsAlive t → IsAlive new
@@ -112,12 +112,12 @@ module _ (t new : KindRows) (one other : ℕ) (m : Allowed)
     pub meets_new : Meets new kinds
     meets_new = record {
       allowed = λ c lt.
-        let below : c < length t.groups = subst (λ n. c < n) size lt in
-        elim (place c below) [
-          | was_kept e f ↦ ap (λ a. allows a (kinds c)) (at_new c kept f ∙ here) ∙ ap (allows m) (in_kept c below f) ∙ allowed
-          | was_gone e f ↦ ap (λ a. allows a (kinds c)) (at_new c kept f ∙ here) ∙ ap (allows m) (in_kept c below f) ∙ allowed
-          | stays a b f ↦ ap (λ x. allows x (kinds c)) (at_new c (slice_index t.groups c) f ∙ there (slice_index t.groups c) a) ∙ old.allowed c below
-        ];
+          let below : c < length t.groups = subst (λ n. c < n) size lt in
+          elim (place c below) [
+            | was_kept e f ↦ ap (λ a. allows a (kinds c)) (at_new c kept f ∙ here) ∙ ap (allows m) (in_kept c below f) ∙ allowed
+            | was_gone e f ↦ ap (λ a. allows a (kinds c)) (at_new c kept f ∙ here) ∙ ap (allows m) (in_kept c below f) ∙ allowed
+            | stays a b f ↦ ap (λ x. allows x (kinds c)) (at_new c (slice_index t.groups c) f ∙ there (slice_index t.groups c) a) ∙ old.allowed c below
+          ];
       alike = λ c d lt less e. same_kinds c d (subst (λ n. c < n) size lt) (subst (λ n. d < n) size less) e;
     }
 
@@ -168,13 +168,13 @@ joined_narrows t new one other one_in other_in sizes size groups here there =
       whole = still_whole t new one other (meet a b) one_in other_in sizes size groups here there;
       alive = λ some. still_alive t new one other (meet a b) one_in other_in sizes size groups here there (not-true (is_nothing (meet a b)) some);
       only = λ kinds old test.
-        let alike = same_kind_is (kinds other) (kinds one) test in
-        let allowed = both_allow a b (kinds one) (old.allowed one one_in) (ap (allows b) (sym alike) ∙ old.allowed other other_in) in
-        (not_from_false (is_nothing (meet a b)) (something_allowed (meet a b) (kinds one) allowed), meets_new t new one other (meet a b) one_in other_in sizes size groups here there kinds old alike allowed);
+          let alike = same_kind_is (kinds other) (kinds one) test in
+          let allowed = both_allow a b (kinds one) (old.allowed one one_in) (ap (allows b) (sym alike) ∙ old.allowed other other_in) in
+          (not_from_false (is_nothing (meet a b)) (something_allowed (meet a b) (kinds one) allowed), meets_new t new one other (meet a b) one_in other_in sizes size groups here there kinds old alike allowed);
       all = λ some kinds met.
-        let of_kept : (k : Kind) → allows (meet a b) k ≡ true → allows a k ≡ true = λ k h. (each_allows a b k h).0 in
-        let of_gone : (k : Kind) → allows (meet a b) k ≡ true → allows b k ≡ true = λ k h. (each_allows a b k h).1 in
-        (meets_old t new one other (meet a b) one_in other_in sizes size groups here there kinds met of_kept of_gone, same_kind_from (kinds other) (kinds one) (now_alike t new one other (meet a b) one_in other_in sizes size groups here there kinds met of_kept of_gone));
+          let of_kept : (k : Kind) → allows (meet a b) k ≡ true → allows a k ≡ true = λ k h. (each_allows a b k h).0 in
+          let of_gone : (k : Kind) → allows (meet a b) k ≡ true → allows b k ≡ true = λ k h. (each_allows a b k h).1 in
+          (meets_old t new one other (meet a b) one_in other_in sizes size groups here there kinds met of_kept of_gone, same_kind_from (kinds other) (kinds one) (now_alike t new one other (meet a b) one_in other_in sizes size groups here there kinds met of_kept of_gone));
     }
 
 moved_self : (g h : ℕ) → g ≡ moved h h g
@@ -190,17 +190,17 @@ restricted_narrows t new one to one_in sizes same here there =
     let a : Allowed = allowed_at t one in
     let size : length new.groups ≡ length t.groups = ap length same in
     let groups : (c : ℕ) → c < length t.groups → slice_index new.groups c ≡ moved (slice_index t.groups one) (slice_index t.groups one) (slice_index t.groups c) =
-      λ c lt. ap (λ gs. slice_index gs c) same ∙ moved_self (slice_index t.groups c) (slice_index t.groups one) in
+    λ c lt. ap (λ gs. slice_index gs c) same ∙ moved_self (slice_index t.groups c) (slice_index t.groups one) in
     record {
       size = size;
       whole = still_whole t new one one (meet a to) one_in one_in sizes size groups here there;
       alive = λ some. still_alive t new one one (meet a to) one_in one_in sizes size groups here there (not-true (is_nothing (meet a to)) some);
       only = λ kinds old test.
-        let allowed = both_allow a to (kinds one) (old.allowed one one_in) test in
-        (not_from_false (is_nothing (meet a to)) (something_allowed (meet a to) (kinds one) allowed), meets_new t new one one (meet a to) one_in one_in sizes size groups here there kinds old refl allowed);
+          let allowed = both_allow a to (kinds one) (old.allowed one one_in) test in
+          (not_from_false (is_nothing (meet a to)) (something_allowed (meet a to) (kinds one) allowed), meets_new t new one one (meet a to) one_in one_in sizes size groups here there kinds old refl allowed);
       all = λ some kinds met.
-        let of_kept : (k : Kind) → allows (meet a to) k ≡ true → allows a k ≡ true = λ k h. (each_allows a to k h).0 in
-        (meets_old t new one one (meet a to) one_in one_in sizes size groups here there kinds met of_kept of_kept, (each_allows a to (kinds one) (now_allowed t new one one (meet a to) one_in one_in sizes size groups here there kinds met of_kept of_kept)).1);
+          let of_kept : (k : Kind) → allows (meet a to) k ≡ true → allows a k ≡ true = λ k h. (each_allows a to k h).0 in
+          (meets_old t new one one (meet a to) one_in one_in sizes size groups here there kinds met of_kept of_kept, (each_allows a to (kinds one) (now_allowed t new one one (meet a to) one_in one_in sizes size groups here there kinds met of_kept of_kept)).1);
     }
 
 -- The same, as the code reads and writes.
@@ -216,9 +216,9 @@ restricted_written t new one g to a m nothing whole one_in group read met none s
     let answer : not (is_nothing (meet (allowed_at t one) to)) ≡ not nothing = ap (λ x. not (is_nothing x)) (sym is_m) ∙ ap not (sym none) in
     subst (λ b. Narrows t new b (λ kinds. allows to (kinds one))) answer
     (restricted_narrows t new one to one_in
-      (ap length written ∙ length-set t.allowed g m) same
-      (ap (λ al. slice_index_or al (slice_index t.groups one) Nothing) written ∙ ap (λ h. slice_index_or (slice_set t.allowed g m) h Nothing) (sym at_g) ∙ get_or-set_same t.allowed g m Nothing g_in ∙ is_m)
-      (λ h ne. ap (λ al. slice_index_or al h Nothing) written ∙ get_or-set_other t.allowed g h m Nothing (λ e. ne (e ∙ at_g))))
+    (ap length written ∙ length-set t.allowed g m) same
+    (ap (λ al. slice_index_or al (slice_index t.groups one) Nothing) written ∙ ap (λ h. slice_index_or (slice_set t.allowed g m) h Nothing) (sym at_g) ∙ get_or-set_same t.allowed g m Nothing g_in ∙ is_m)
+    (λ h ne. ap (λ al. slice_index_or al h Nothing) written ∙ get_or-set_other t.allowed g h m Nothing (λ e. ne (e ∙ at_g))))
 
 pub joined_written : (t new : KindRows) (one other g h : ℕ) (a b m : Allowed) (nothing : Bool) → IsWhole t → one < length t.groups → other < length t.groups
     → g ≡ get_or t.groups one g → h ≡ get_or t.groups other h → a ≡ get_or t.allowed g a → b ≡ get_or t.allowed h b → m ≡ meet a b → nothing ≡ is_nothing m
@@ -235,10 +235,10 @@ joined_written t new one other g h a b m nothing whole one_in other_in group gon
     let answer : not (is_nothing (meet (allowed_at t one) (allowed_at t other))) ≡ not nothing = ap (λ x. not (is_nothing x)) (sym is_m) ∙ ap not (sym none) in
     subst (λ x. Narrows t new x (λ kinds. same_kind (kinds other) (kinds one))) answer
     (joined_narrows t new one other one_in other_in
-      (ap length written ∙ length-set t.allowed g m) size
-      (λ c lt. moves c lt ∙ ap (λ x. moved x g (slice_index t.groups c)) at_h ∙ ap (λ x. moved (slice_index t.groups other) x (slice_index t.groups c)) at_g)
-      (ap (λ al. slice_index_or al (slice_index t.groups one) Nothing) written ∙ ap (λ x. slice_index_or (slice_set t.allowed g m) x Nothing) (sym at_g) ∙ get_or-set_same t.allowed g m Nothing g_in ∙ is_m)
-      (λ x ne. ap (λ al. slice_index_or al x Nothing) written ∙ get_or-set_other t.allowed g x m Nothing (λ e. ne (e ∙ at_g))))
+    (ap length written ∙ length-set t.allowed g m) size
+    (λ c lt. moves c lt ∙ ap (λ x. moved x g (slice_index t.groups c)) at_h ∙ ap (λ x. moved (slice_index t.groups other) x (slice_index t.groups c)) at_g)
+    (ap (λ al. slice_index_or al (slice_index t.groups one) Nothing) written ∙ ap (λ x. slice_index_or (slice_set t.allowed g m) x Nothing) (sym at_g) ∙ get_or-set_same t.allowed g m Nothing g_in ∙ is_m)
+    (λ x ne. ap (λ al. slice_index_or al x Nothing) written ∙ get_or-set_other t.allowed g x m Nothing (λ e. ne (e ∙ at_g))))
 
 -- Steps one behind the other
 
@@ -269,9 +269,9 @@ refused_narrows t new p q first e n = record {
   whole = n.whole;
   alive = λ yes. absurd cc;
   only = λ kinds old h.
-    let parts = and_parts (p kinds) (q kinds) h in
-    let none = (n.only kinds old parts.0).0 in
-    absurd cc;
+      let parts = and_parts (p kinds) (q kinds) h in
+      let none = (n.only kinds old parts.0).0 in
+      absurd cc;
   all = λ yes. absurd cc;
 }
 
@@ -282,12 +282,12 @@ then_narrows t mid new p q first answer e n m = record {
   whole = λ w. m.whole (n.whole w);
   alive = λ yes alive. m.alive yes (n.alive e alive);
   only = λ kinds old h.
-    let parts = and_parts (p kinds) (q kinds) h in
-    m.only kinds (n.only kinds old parts.0).1 parts.1;
+      let parts = and_parts (p kinds) (q kinds) h in
+      m.only kinds (n.only kinds old parts.0).1 parts.1;
   all = λ yes kinds met.
-    let later = m.all yes kinds met in
-    let earlier = n.all e kinds later.0 in
-    (earlier.0, and_from (p kinds) (q kinds) earlier.1 later.1);
+      let later = m.all yes kinds met in
+      let earlier = n.all e kinds later.0 in
+      (earlier.0, and_from (p kinds) (q kinds) earlier.1 later.1);
 }
 
 -- Rows: what a body has, then the head, then the children

@@ -28,7 +28,7 @@ rule_holds marks r kinds = option_map_or (λ l. row_holds (label_row l) r.head.n
 pub record Knows (rules : List Rule) (marks : List Bool) (t : KindRows) : Type 0 where
   pub size : length marks ≡ length t.groups
   pub text : 5 < length t.groups
-  pub marks : AreMarks rules marks
+  pub right : AreMarks rules marks
   pub only : (kinds : ℕ → Kind) → FitMarks marks kinds → kinds 5 ≡ Text → Meets t kinds
   pub all : (kinds : ℕ → Kind) → Meets t kinds → ((c : ℕ) → c < length marks → is_mark (kinds c) ≡ slice_index_or marks c false) × (kinds 5 ≡ Text)
 

@@ -93,7 +93,10 @@ fn first_unfit(table: &mut KindTable, marks: &[bool], rules: &[Rule]) -> Option<
     ensures { misfits.FirstMisfit rules.now result }
 {
     for (place, rule) in rules.iter().enumerate() {
-        if differs(rules, rule) || !fit_rule(table, marks, rule) {
+        if differs(rules, rule) {
+            return Some(place);
+        }
+        if !fit_rule(table, marks, rule) {
             return Some(place);
         }
     }

@@ -11,5 +11,5 @@ returns c =
     let is = c.self.view_is in
     subst (λ r. Narrows r new (not c.is_nothing.result) (λ kinds. allows c.args.to (kinds c.args.category))) is
     (restricted_written t new c.args.category c.index.result.now c.args.to c.index-2.result.now c.meet-allowed.result c.is_nothing.result
-      (subst IsWhole (sym is) c.requires.whole) (subst (λ (r : KindRows). c.args.category < length r.groups) (sym is) c.requires.inside)
-      c.index.ensures c.index-2.ensures c.meet-allowed.ensures c.is_nothing.ensures refl refl)
+    (subst IsWhole (sym is) c.requires.whole) (subst (λ (r : KindRows). c.args.category < length r.groups) (sym is) c.requires.inside)
+    c.index.ensures c.index-2.ensures c.meet-allowed.ensures c.is_nothing.ensures refl refl)

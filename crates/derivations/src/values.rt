@@ -76,7 +76,7 @@ fn word_values(alloc: Global, setting: &Setting<'_>) -> Result<List<Value>, Memo
     Ok(values)
 }
 
-fn position_values(alloc: Global, setting: &Setting<'_>) -> Result<List<Value>, Memory>
+pub(crate) fn position_values(alloc: Global, setting: &Setting<'_>) -> Result<List<Value>, Memory>
     ensures { IfOk result (λ values. values ≡ enumeration.position_values setting.now) }
 {
     let mut values = List::new(alloc);

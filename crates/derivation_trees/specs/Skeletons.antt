@@ -29,11 +29,15 @@ word_of_value (Atom a) = record { 0 = 0 }
 word_of_value (Word w) = w
 word_of_value (Pos p) = record { 0 = 0 }
 
+-- the word of a reading: the value of its feature 3
+abbrev pub word_among : List (ℕ × Value) → WordId
+word_among vals = option_map_or word_of_value (looked_up vals 3) (record { 0 = 0 })
+
 -- The word of which a token is a form, by its readings: the feature 3 of a reading is its word, and all readings of a token
 -- have the same one, since no two words share a form.
 abbrev pub word_in : List Ground → WordId
 word_in [] = record { 0 = 0 }
-word_in (reading ∷ others) = option_map_or word_of_value (looked_up reading.vals 3) (record { 0 = 0 })
+word_in (reading ∷ others) = word_among reading.vals
 
 -- the word of which the token at the place is a form
 abbrev pub word_at : Setting → ℕ → WordId

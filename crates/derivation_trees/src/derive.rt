@@ -17,7 +17,7 @@ use std::alloc::Global;
 use wiki_base::Memory;
 
 // The rule with the number, from 1.
-fn rule_with(grammar: &Grammar, number: u16) -> Option<&Rule>
+pub(crate) fn rule_with(grammar: &Grammar, number: u16) -> Option<&Rule>
     ensures { option_copied result ≡ derives.rule_with grammar.now number }
 {
     if number == 0 {
@@ -27,8 +27,8 @@ fn rule_with(grammar: &Grammar, number: u16) -> Option<&Rule>
     }
 }
 
-// Whether the names are equal, and each feature that both have has the same value.
-fn fits(head: &Test, asked: &Test) -> bool
+/// Whether the names are equal, and each feature that both have has the same value.
+pub fn fits(head: &Test, asked: &Test) -> bool
     ensures { result ≡ derives.fits head.now asked.now }
 {
     head.name == asked.name && all_fit(head.values.as_slice(), asked.values.as_slice())
@@ -226,8 +226,8 @@ fn end(
     Ok(Some((place, list)))
 }
 
-// The list after a phrase: closed where the rule is scope-closing.
-fn closed(rule: &Rule, begun: &Access, list: Access) -> Result<Access, Memory>
+/// The list after a phrase that began with a list: closed where the rule is scope-closing.
+pub fn closed(rule: &Rule, begun: &Access, list: Access) -> Result<Access, Memory>
     requires { Begins begun.now list }
     ensures is { IfOk result (λ after. after ≡ derives.list_after rule.now.closing begun.now list) }
     ensures grows { IfOk result (λ after. Begins begun.now after) }

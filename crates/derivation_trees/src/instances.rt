@@ -7,8 +7,8 @@ use scopes::{Test, TestList, TestValues};
 use std::alloc::Global;
 use wiki_base::Memory;
 
-// What the variable stands for.
-pub(crate) fn value_under(values: &[(u8, Value)], variable: u8) -> Value
+/// What the variable stands for.
+pub fn value_under(values: &[(u8, Value)], variable: u8) -> Value
     ensures { result ≡ instances.value_under values.now variable }
 {
     for (other, value) in values {
@@ -29,8 +29,8 @@ pub(crate) fn term_value(values: &[(u8, Value)], term: Term) -> Value
     }
 }
 
-// The category under the instance.
-pub(crate) fn under(
+/// The category under the instance.
+pub fn under(
     alloc: Global,
     values: &[(u8, Value)],
     category: &Category,
@@ -58,8 +58,8 @@ fn feats_under(
     Ok(found)
 }
 
-// The tests of the patterns under the instance.
-pub(crate) fn tests_under(
+/// The tests of the patterns under the instance.
+pub fn tests_under(
     alloc: Global,
     values: &[(u8, Value)],
     patterns: &[Pattern],

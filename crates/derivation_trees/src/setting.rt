@@ -16,12 +16,12 @@ use wiki_base::Token;
 /// The feature of preterminals that holds the word.
 const WORD_FEATURE: u16 = 3;
 
-// What a derivation is of: a grammar, tokens, and the readings of each token by a lexicon.
+/// What a derivation is of: a grammar, at most 40 tokens, and the readings of each token by a lexicon.
 #[derive(Drop)]
-pub(crate) struct Setting<'a> {
-    pub(crate) grammar: &'a Grammar,
-    pub(crate) tokens: &'a [Token],
-    pub(crate) readings: &'a [Readings],
+pub struct Setting<'a> {
+    pub grammar: &'a Grammar,
+    pub tokens: &'a [Token],
+    pub readings: &'a [Readings],
 }
 
 impl<'a> Model for Setting<'a> {

@@ -18,18 +18,18 @@ use scopes::{Access, TestList, Tests, has_value};
 use std::alloc::Global;
 use wiki_base::Memory;
 
-// Where a node stands after some of its elements: the place and the list there, and the found positions and the own
-// variables that are still to come.
+/// Where a node stands after some of its elements: the place and the list there, and the found positions and the own
+/// variables that are still to come.
 #[derive(Drop)]
-pub(crate) struct Progress<'a> {
-    pub(crate) place: u16,
-    pub(crate) list: Access,
-    pub(crate) found: &'a [u16],
-    pub(crate) own: &'a [(u8, Value)],
+pub struct Progress<'a> {
+    pub place: u16,
+    pub list: Access,
+    pub found: &'a [u16],
+    pub own: &'a [(u8, Value)],
 }
 
-// What an element that is no category does.
-pub(crate) fn pass<'a>(
+/// What an element that is no category does.
+pub fn pass<'a>(
     alloc: Global,
     setting: &Setting<'_>,
     values: &[(u8, Value)],

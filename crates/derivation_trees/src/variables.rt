@@ -57,8 +57,8 @@ fn all_hold(
         && own_fit(setting, own, mine)
 }
 
-// The rule's own variables with their values.
-pub(crate) fn own_values<'a>(
+/// The rule's own variables with their values.
+pub fn own_values<'a>(
     alloc: Global,
     rule: &Rule,
     values: &'a [(u8, Value)],
@@ -93,7 +93,8 @@ fn variables_of(alloc: Global, rule: &Rule, own: usize) -> Result<Vec<usize>, Me
     Ok(numbers)
 }
 
-fn written_variables(alloc: Global, rule: &Rule) -> Result<Vec<usize>, Memory>
+/// The variables that are written in the rule, in order of number.
+pub fn written_variables(alloc: Global, rule: &Rule) -> Result<Vec<usize>, Memory>
     ensures { IfOk result (λ numbers. numbers.items ≡ instances.written_variables rule.now) }
 {
     let mut numbers = Vec::new(alloc);
@@ -151,7 +152,8 @@ fn rule_own_features(alloc: Global, grammar: &Grammar, body: &[Element]) -> Resu
     Ok(own)
 }
 
-fn push_own_features(
+/// Adds the features that an introduction leaves out.
+pub fn push_own_features(
     alloc: Global,
     grammar: &Grammar,
     element: &Element,

@@ -1,0 +1,3 @@
+pub mod Enumeration
+pub mod Choices
+pub mod Paths

@@ -4,6 +4,7 @@
 mod cause;
 mod complement;
 mod expressions;
+mod knowledge;
 mod names;
 mod statements;
 mod structures;
@@ -13,6 +14,7 @@ mod tests;
 pub use cause::Cause;
 pub use complement::negated;
 pub use expressions::{Class, Classes, Role};
+pub use knowledge::Knowledge;
 pub use names::Names;
 pub use statements::{Axiom, Axioms};
 pub use structures::{Cond, Conds, Drs, Referents, Thing};

@@ -1,0 +1,4 @@
+pub mod ClosureLemmas
+pub mod HierarchyLemmas
+pub mod PieceLemmas
+pub mod RepresentativeLemmas

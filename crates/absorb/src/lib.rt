@@ -1,0 +1,8 @@
+//! Absorption: axioms as knowledge that a search can use.
+#![tactic(auto)]
+
+mod hierarchy;
+mod inclusions;
+mod pieces;
+mod representatives;
+mod sorting;

@@ -3,5 +3,8 @@ pub mod ComplementLemmas
 pub mod Extensions
 pub mod MeaningLemmas
 pub mod NamesLemmas
+pub mod Places
+pub mod SameLemmas
 pub mod ShownLemmas
 pub mod Taken
+pub mod Walks

@@ -1,5 +1,5 @@
 -- Which roles and classes are written alike, and which is the normal form of which.
-use Rattle.std.specs.Prelude.{◌==◌, ◌&&◌, ◌||◌, Bool, true, false, not, List, [], ◌∷◌}
+use Rattle.std.specs.Prelude.{ℕ, ◌==◌, ◌&&◌, Bool, true, false, not, List, [], ◌∷◌}
 use Rattle.std.specs.List.{list_any}
 use Rattle.wiki_base.specs.declared.numbers.WordId.{WordId}
 use Rattle.logic_terms.specs.declared.expressions.Role.{Role}
@@ -38,3 +38,8 @@ abbrev mutual
 -- whether a list has a class
 abbrev pub has_concept : List Concept → Concept → Bool
 has_concept cs c = list_any (λ d. same_concept d c) cs
+
+-- whether a class is that of a word
+abbrev pub is_word_of : ℕ → Concept → Bool
+is_word_of number (Atomic w) = number == w.0
+is_word_of number _ = false

@@ -1,7 +1,10 @@
 // Absorbed knowledge.
-ghost use Rattle.std.specs.Prelude.{◌≡◌, List, map, IfOk};
+ghost use Rattle.std.specs.Prelude.{◌≡◌, ◌&&◌, List, map, IfOk};
+ghost use Rattle.std.specs.List.{list_any};
 ghost use Rattle.logic_terms.specs.Shown.{concept_of, concepts_of};
 ghost use Rattle.logic_terms.specs.Known.{theory_of, stated};
+ghost use Rattle.logic_terms.specs.Same.{same_role};
+ghost use Rattle.logic_terms.specs.Theory.{representative, is_below};
 
 use crate::expressions::{Class, Classes, Role};
 use std::alloc::Global;
@@ -96,6 +99,33 @@ impl Knowledge {
         ensures { concepts_of result.now ≡ (theory_of self.now).general }
     {
         &self.general
+    }
+
+    /// The representative of a given name, and none of any other name. It takes no memory.
+    pub fn representative(&self, name: WordId) -> Option<WordId>
+        ensures { result ≡ representative (theory_of self.now) name }
+    {
+        for entry in &self.names {
+            if name.0 == entry.0.0 {
+                return Some(entry.1);
+            }
+        }
+        None
+    }
+
+    /// Whether a role is below another: it is the same, or the hierarchy has the pair. It takes no memory.
+    pub fn is_below(&self, below: Role, above: Role) -> bool
+        ensures { result ≡ is_below (theory_of self.now) below above }
+    {
+        below.is_same(above) || self.has_pair(below, above)
+    }
+
+    fn has_pair(&self, below: Role, above: Role) -> bool
+        ensures { result ≡ list_any (λ p. same_role p.0 below && same_role p.1 above) (theory_of self.now).hierarchy }
+    {
+        self.hierarchy
+            .iter()
+            .any(|pair| pair.0.is_same(below) && pair.1.is_same(above))
     }
 
     /// Equal knowledge in memory of its own.

@@ -2,10 +2,13 @@
 #![tactic(auto)]
 
 mod cause;
+mod comparing;
 mod complement;
 mod expressions;
 mod knowledge;
 mod names;
+mod opposing;
+mod parts;
 mod statements;
 mod structures;
 #[cfg(test)]

@@ -16,6 +16,13 @@ use Rattle.absorb.specs.Hierarchy.{IsAtOrBelow, AreDistinct}
 use Rattle.absorb.specs.Absorbed.{IsPutBelow}
 use Rattle.absorb.proofs.ClosureLemmas as closure
 
+-- what an element of a slice is shown as
+abbrev pub no_role : Role
+no_role = record { id = record { 0 = 0 }; inverted = false }
+
+abbrev pub no_pair : Role × Role
+no_pair = (no_role, no_role)
+
 pub is_word-Decides : (v w : WordId) → Decides (is_word v w) (v ≡ w)
 is_word-Decides v w = Decides-like (is_word v w) (λ e j. record { 0 = e j }) (λ e. ap (λ x. x.0) e) (Decides-eqb v.0 w.0)
 
@@ -129,7 +136,7 @@ put_more before hs below role passed all r s = (
     ]
   )
   where
-    split : IsAtOrBelow (hs ++ (below, role) ∷ []) r s → IsAtOrBelow hs r s ⊎ ((below, role) ≡ (r, s))
+    split : IsAtOrBelow (hs ++ (below, role) ∷ []) r s → IsAtOrBelow hs r s ⊎ (◌≡◌ {A = Role × Role} (below, role) (r, s))
     split h = elim h [
       | inl same ↦ inl (inl same)
       | inr pair ↦ elim (Contains-push_cases hs (below, role) (r, s) pair) [ inl old ↦ inl (inr old) | inr new ↦ inr new ]
@@ -239,8 +246,8 @@ halfway_put ps p r s h = elim h [
 ]
 
 -- what two puttings make of a closure is the closure with one more inclusion
-pub closed_more : (ps hs hs' hs'' : List (Role × Role)) (p : Role × Role) → ((r s : Role) → IsAtOrBelow hs r s ↔ Reaches (IsPutBelow ps) r s) → ((r s : Role) → IsAtOrBelow hs' r s ↔ (IsAtOrBelow hs r s ⊎ (IsAtOrBelow hs r p.0 × IsAtOrBelow hs p.1 s))) → ((r s : Role) → IsAtOrBelow hs'' r s ↔ (IsAtOrBelow hs' r s ⊎ (IsAtOrBelow hs' r (inverse p.0) × IsAtOrBelow hs' (inverse p.1) s))) → (r s : Role) → IsAtOrBelow hs'' r s ↔ Reaches (IsPutBelow (ps ++ p ∷ [])) r s
-closed_more ps hs hs' hs'' p closed first second r s = (
+closed_turned : (ps hs hs' hs'' : List (Role × Role)) (p : Role × Role) → ((r s : Role) → IsAtOrBelow hs r s ↔ Reaches (IsPutBelow ps) r s) → ((r s : Role) → IsAtOrBelow hs' r s ↔ (IsAtOrBelow hs r s ⊎ (IsAtOrBelow hs r p.0 × IsAtOrBelow hs p.1 s))) → ((r s : Role) → IsAtOrBelow hs'' r s ↔ (IsAtOrBelow hs' r s ⊎ (IsAtOrBelow hs' r (inverse p.0) × IsAtOrBelow hs' (inverse p.1) s))) → (r s : Role) → IsAtOrBelow hs'' r s ↔ Reaches (IsPutBelow (ps ++ p ∷ [])) r s
+closed_turned ps hs hs' hs'' p closed first second r s = (
     λ h. elim ((second r s).0 h) [
       | inl one ↦ there r s one
       | inr two ↦ closure.join step r (inverse p.1) s (closure.onward step r (inverse p.0) (inverse p.1) (there r (inverse p.0) two.0) (put_turned ps p)) (there (inverse p.1) s two.1)
@@ -268,6 +275,12 @@ closed_more ps hs hs' hs'' p closed first second r s = (
       | inl one ↦ (first r s).1 (inl ((closed r s).1 one))
       | inr two ↦ (first r s).1 (inr ((closed r p.0).1 two.0, (closed p.1 s).1 two.1))
     ]
+
+pub closed_more : (ps hs hs' hs'' : List (Role × Role)) (p : Role × Role) (a b : Role) → a ≡ inverse p.0 → b ≡ inverse p.1 → ((r s : Role) → IsAtOrBelow hs r s ↔ Reaches (IsPutBelow ps) r s) → ((r s : Role) → IsAtOrBelow hs' r s ↔ (IsAtOrBelow hs r s ⊎ (IsAtOrBelow hs r p.0 × IsAtOrBelow hs p.1 s))) → ((r s : Role) → IsAtOrBelow hs'' r s ↔ (IsAtOrBelow hs' r s ⊎ (IsAtOrBelow hs' r a × IsAtOrBelow hs' b s))) → (r s : Role) → IsAtOrBelow hs'' r s ↔ Reaches (IsPutBelow (ps ++ p ∷ [])) r s
+closed_more ps hs hs' hs'' p a b e f closed first second =
+    closed_turned ps hs hs' hs'' p closed first
+    (subst (λ x. (r s : Role) → IsAtOrBelow hs'' r s ↔ (IsAtOrBelow hs' r s ⊎ (IsAtOrBelow hs' r x × IsAtOrBelow hs' (inverse p.1) s))) e
+    (subst (λ y. (r s : Role) → IsAtOrBelow hs'' r s ↔ (IsAtOrBelow hs' r s ⊎ (IsAtOrBelow hs' r a × IsAtOrBelow hs' y s))) f second))
 
 nothing_put : (r s : Role) → IsPutBelow [] r s → ⊥
 nothing_put r s h = elim h [ inl plain ↦ nothing_in (r, s) plain | inr turned ↦ nothing_in (inverse r, inverse s) turned ]

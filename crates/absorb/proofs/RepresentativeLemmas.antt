@@ -15,6 +15,10 @@ use Rattle.absorb.specs.Renamed.{renamed, merged, joined}
 use Rattle.absorb.proofs.ClosureLemmas as closure
 use Rattle.absorb.proofs.HierarchyLemmas.{is_word-Decides}
 
+-- what an element of a slice is shown as
+abbrev pub no_pair : WordId × WordId
+no_pair = (record { 0 = 0 }, record { 0 = 0 })
+
 same_word : (a b : WordId) → a.0 ≡ b.0 → a ≡ b
 same_word a b e = λ j. record { 0 = e j }
 
@@ -137,23 +141,23 @@ swap_sides : (ps : List (WordId × WordId)) (a b x y : WordId) → Splits ps a b
 swap_sides ps a b x y h = elim h [ inl plain ↦ inl plain | inr two ↦ elim two [ inl via_a ↦ inr (inr via_a) | inr via_b ↦ inr (inl via_b) ] ]
 
 -- the look-up of a name among entries
-pub lookup_given : (es : List (WordId × WordId)) (name : WordId) → is_among (map (λ e. e.0) es) name ≡ true → (r : WordId) × (lookup (is_word name) es ≡ Some r) × Contains es (name, r)
+pub lookup_given : (es : List (WordId × WordId)) (name : WordId) → is_among (map (λ (e : WordId × WordId). e.0) es) name ≡ true → (r : WordId) × (lookup (is_word name) es ≡ Some r) × Contains es (name, r)
 lookup_given [] name h = cc
 lookup_given (e ∷ es) name h = elim (cases_Bool (is_word name e.0)) [
   | inl here ↦ (e.1, cond-true (is_word name e.0) (Some e.1) (lookup (is_word name) es) here, (0, omega arith, λ j. (sym ((is_word-Decides name e.0).0 here) j, e.1)))
-  | inr past ↦ (let later : is_among (map (λ f. f.0) es) name ≡ true = sym (ap (λ b. b || is_among (map (λ f. f.0) es) name) past) ∙ h in
+  | inr past ↦ (let later : is_among (map (λ (f : WordId × WordId). f.0) es) name ≡ true = sym (ap (λ b. b || is_among (map (λ (f : WordId × WordId). f.0) es) name) past) ∙ h in
       let found = lookup_given es name later in
       (found.0, cond-false (is_word name e.0) (Some e.1) (lookup (is_word name) es) past ∙ found.1, Rattle.std.proofs.lemmas.List.Elements.Contains-append_right (e ∷ []) es (name, found.0) found.2))
 ]
 
 -- the entries of the same names have the representatives by one more equality
-abbrev AreEntries : List WordId → List (WordId × WordId) → List (WordId × WordId) → Type 0
-AreEntries names ps es = (map (λ e. e.0) es ≡ names) × All (λ e. Represents ps e.0 e.1) es
+abbrev pub AreEntries : List WordId → List (WordId × WordId) → List (WordId × WordId) → Type 0
+AreEntries names ps es = (map (λ (e : WordId × WordId). e.0) es ≡ names) × All (λ e. Represents ps e.0 e.1) es
 
-names_renamed : (gone stays : WordId) (es : List (WordId × WordId)) → map (λ e. e.0) (map (renamed gone stays) es) ≡ map (λ e. e.0) es
+names_renamed : (gone stays : WordId) (es : List (WordId × WordId)) → map (λ (e : WordId × WordId). e.0) (map (renamed gone stays) es) ≡ map (λ (e : WordId × WordId). e.0) es
 names_renamed gone stays [] = refl
 names_renamed gone stays (e ∷ es) =
-    ap (λ n. n ∷ map (λ f. f.0) (map (renamed gone stays) es)) (first (is_word gone e.1)) ∙ ap (λ ns. e.0 ∷ ns) (names_renamed gone stays es)
+    ap (λ n. n ∷ map (λ (f : WordId × WordId). f.0) (map (renamed gone stays) es)) (first (is_word gone e.1)) ∙ ap (λ ns. e.0 ∷ ns) (names_renamed gone stays es)
   where
     first : (b : Bool) → (if b then (e.0, stays) else e).0 ≡ e.0
     first true = refl
@@ -184,7 +188,7 @@ merged_entries ps p es a b of_a of_b names given false h =
     smaller lt = omega arith
 
 -- joining two given names keeps the entries right
-pub joined_entries : (ps : List (WordId × WordId)) (p : WordId × WordId) (es : List (WordId × WordId)) (names : List WordId) → (is_among names p.0 && is_among names p.1) ≡ true → map (λ e. e.0) es ≡ names → All (λ e. Represents ps e.0 e.1) es → AreEntries names (ps ++ p ∷ []) (joined es p.0 p.1)
+pub joined_entries : (ps : List (WordId × WordId)) (p : WordId × WordId) (es : List (WordId × WordId)) (names : List WordId) → (is_among names p.0 && is_among names p.1) ≡ true → map (λ (e : WordId × WordId). e.0) es ≡ names → All (λ e. Represents ps e.0 e.1) es → AreEntries names (ps ++ p ∷ []) (joined es p.0 p.1)
 joined_entries ps p es names there given all =
     let parts = and_parts (is_among names p.0) (is_among names p.1) there in
     let one = lookup_given es p.0 (ap (λ ns. is_among ns p.0) given ∙ parts.0) in
@@ -205,12 +209,12 @@ nothing_equated x y h = elim h [ inl one ↦ absurd (none (x, y) one) | inr othe
 alone : (x y : WordId) → Reaches (AreEquated []) x y → x ≡ y
 alone x y h = closure.kept (AreEquated []) (λ u v. u ≡ v) (λ u. refl) (λ u v w e step. absurd (nothing_equated v w step)) x y h
 
-pub itself_represents : (names : List WordId) → AreEntries names [] (map (λ n. (n, n)) names)
+pub itself_represents : (names : List WordId) → AreEntries names [] (map (λ (n : WordId). (n, n)) names)
 itself_represents names =
     (again names,
-     All-map (λ e. Represents [] e.0 e.1) (λ n. (n, n)) names (λ k d lt. mine (get_or names k d)))
+     All-map (λ e. Represents [] e.0 e.1) (λ (n : WordId). (n, n)) names (λ k d lt. mine (get_or names k d)))
   where
-    again : (ns : List WordId) → map (λ e. e.0) (map (λ n. (n, n)) ns) ≡ ns
+    again : (ns : List WordId) → map (λ (e : WordId × WordId). e.0) (map (λ (n : WordId). (n, n)) ns) ≡ ns
     again [] = refl
     again (n ∷ ns) = ap (λ ms. n ∷ ms) (again ns)
 

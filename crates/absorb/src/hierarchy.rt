@@ -1,7 +1,6 @@
 // The hierarchy of roles.
 ghost use Rattle.std.specs.Prelude.{◌≡◌, ◌⊎◌, Contains, IfOk, OnOk, IsTrue, ◌↔◌};
 ghost use Rattle.logic_terms.specs.declared.expressions.Role.{Role};
-ghost use Rattle.logic_terms.specs.Same.{inverse as turned};
 ghost use Rattle.absorb.specs.Hierarchy.{IsAtOrBelow, AreDistinct};
 ghost use Rattle.absorb.specs.Absorbed.{IsPutBelow};
 ghost use Rattle.absorb.specs.Closure.{Reaches};
@@ -22,18 +21,9 @@ pub(crate) fn hierarchy(
     let mut made = Vec::new(alloc);
     for inclusion in inclusions {
         put_below(alloc, &mut made, inclusion.0, inclusion.1)?;
-        put_below(alloc, &mut made, inverse(inclusion.0), inverse(inclusion.1))?;
+        put_below(alloc, &mut made, inclusion.0.inverse(), inclusion.1.inverse())?;
     }
     Ok(made)
-}
-
-fn inverse(role: Role) -> Role
-    ensures { result ≡ turned role }
-{
-    Role {
-        id: role.id,
-        inverted: !role.inverted,
-    }
 }
 
 // Puts each role that is not above the one below each that is not below the other.

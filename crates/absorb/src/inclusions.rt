@@ -4,8 +4,7 @@ ghost use Rattle.logic_terms.specs.Shown.{concept_of, concepts_of};
 ghost use Rattle.logic_terms.specs.Concept.{concepts_from, IntersectionOf, AllValuesFrom};
 ghost use Rattle.logic_terms.specs.Complement.{complement};
 ghost use Rattle.logic_terms.specs.Same.{inverse};
-ghost use Rattle.absorb.specs.Pieces.{inclusion, inclusions, either, first_word, together};
-ghost use Rattle.absorb.specs.Pieces;
+ghost use Rattle.absorb.specs.Pieces.{inclusion, inclusions, either, general, word_of, first_word, together};
 ghost use Rattle.absorb.specs.Sorted.{with_piece, with_pieces};
 ghost use Rattle.absorb.specs.FirstWord.{IsFirstWord};
 ghost use Rattle.absorb.specs.Found.{found};
@@ -63,7 +62,7 @@ fn cover_all(
     below: &Class,
     above: &Class,
 ) -> Result<(), Memory>
-    ensures { OnOk result (found pieces.new ≡ with_piece (found pieces.old) (Pieces.general (concept_of below.now) (concept_of above.now))) }
+    ensures { OnOk result (found pieces.new ≡ with_piece (found pieces.old) (general (concept_of below.now) (concept_of above.now))) }
 {
     pieces.cover(outside_or_in(alloc, below, above)?)
 }
@@ -103,11 +102,7 @@ fn all_behind(alloc: Global, role: Role, above: &Class) -> Result<Class, Memory>
     ensures { IfOk result (λ made. concept_of made ≡ AllValuesFrom (inverse role) (concept_of above.now)) }
 {
     let inner = Box::new(alloc, above.copy(alloc)?)?;
-    let behind = Role {
-        id: role.id,
-        inverted: !role.inverted,
-    };
-    Ok(Class::All(behind, inner))
+    Ok(Class::All(role.inverse(), inner))
 }
 
 // The first class word among these, with its place.
@@ -115,8 +110,9 @@ fn first_named(members: &Classes) -> Option<(usize, WordId)>
     ensures { MatchOption result (first_word (concepts_from (concepts_of members.now)) ≡ None) (λ found. IsFirstWord (concepts_of members.now) found.0 found.1) }
 {
     for place in 0..members.len() {
-        if let Some(word) = word_of(members.get(place)) {
-            return Some((place, word));
+        match word_of(members.get(place)) {
+            Some(word) => return Some((place, word)),
+            None => {}
         }
     }
     None
@@ -124,7 +120,7 @@ fn first_named(members: &Classes) -> Option<(usize, WordId)>
 
 // The class word that a class is.
 fn word_of(class: &Class) -> Option<WordId>
-    ensures { result ≡ Pieces.word_of (concept_of class.now) }
+    ensures { result ≡ word_of (concept_of class.now) }
 {
     match class {
         Class::Named(word) => Some(*word),

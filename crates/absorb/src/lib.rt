@@ -3,6 +3,9 @@
 
 mod hierarchy;
 mod inclusions;
+mod knowledge;
 mod pieces;
 mod representatives;
 mod sorting;
+
+pub use knowledge::absorb;

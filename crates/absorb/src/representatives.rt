@@ -1,8 +1,9 @@
 // The representatives of names.
-ghost use Rattle.std.specs.Prelude.{◌≡◌, ◌&&◌, map, All, IfOk, IsTrue};
+ghost use Rattle.std.specs.Prelude.{◌≡◌, ◌&&◌, map, All, IfOk, OnOk, IsTrue};
 ghost use Rattle.std.specs.List.{list_all};
 ghost use Rattle.std.specs.Map.{lookup};
 ghost use Rattle.logic_terms.specs.Interpretation.{is_word};
+ghost use Rattle.logic_terms.specs.Names.{names_rise};
 ghost use Rattle.absorb.specs.Absorbed.{Represents};
 ghost use Rattle.absorb.specs.Mentioned.{is_among};
 ghost use Rattle.absorb.specs.Renamed.{renamed, joined};
@@ -20,6 +21,7 @@ pub(crate) fn representatives(
     requires { IsTrue (list_all (λ e. is_among names.now e.0 && is_among names.now e.1) equalities.now) }
     ensures given { IfOk result (λ made. map (λ e. e.0) made.items ≡ names.now) }
     ensures least { IfOk result (λ made. All (λ e. Represents equalities.now e.0 e.1) made.items) }
+    ensures rising { OnOk result (IsTrue (names_rise names.now)) }
 {
     let mut made = themselves(alloc, names)?;
     for equality in equalities {
@@ -30,7 +32,8 @@ pub(crate) fn representatives(
 
 // The names, each with itself.
 fn themselves(alloc: Global, names: &Names) -> Result<Vec<(WordId, WordId)>, Memory>
-    ensures { IfOk result (λ made. made.items ≡ map (λ n. (n, n)) names.now) }
+    ensures entries { IfOk result (λ made. made.items ≡ map (λ n. (n, n)) names.now) }
+    ensures rising { IsTrue (names_rise names.now) }
 {
     let mut made = Vec::new(alloc);
     for name in names.as_slice() {

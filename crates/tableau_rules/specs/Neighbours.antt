@@ -1,7 +1,7 @@
 -- The nodes of names, and which nodes are neighbours.
-use Rattle.std.specs.Prelude.{ℕ, ◌==◌, ◌&&◌, ◌||◌, Bool, List, map, filter, length, position, Option}
+use Rattle.std.specs.Prelude.{ℕ, suc, ◌==◌, ◌&&◌, ◌||◌, Bool, List, [], ◌∷◌, map, filter, Option, Some, None, if◌then◌else◌}
 use Rattle.std.specs.List.{list_any}
-use Rattle.std.specs.Option.{option_and_then}
+use Rattle.std.specs.Option.{option_and_then, option_map}
 use Rattle.wiki_base.specs.declared.numbers.WordId.{WordId}
 use Rattle.logic_terms.specs.declared.expressions.Role.{Role}
 use Rattle.logic_terms.specs.Interpretation.{is_word}
@@ -11,12 +11,20 @@ use Rattle.tableau_rules.specs.declared.branch.Edge.{Edge}
 use Rattle.tableau_rules.specs.Graph.{Graph}
 
 -- the names that represent themselves, in order
+abbrev pub roots_in : List (WordId × WordId) → List WordId
+roots_in names = map (λ e. e.0) (filter (λ e. is_word e.0 e.1) names)
+
 abbrev pub roots : Theory → List WordId
-roots k = map (λ e. e.0) (filter (λ e. is_word e.0 e.1) k.names)
+roots k = roots_in k.names
+
+-- the first place of a word in a list
+abbrev pub place_in : List WordId → WordId → Option ℕ
+place_in [] word = None
+place_in (w ∷ ws) word = if is_word word w then Some 0 else option_map suc (place_in ws word)
 
 -- the node of a name: the place of its representative among the roots
 abbrev pub node_of : Theory → WordId → Option ℕ
-node_of k name = option_and_then (λ r. position (is_word r) (roots k)) (representative k name)
+node_of k name = option_and_then (place_in (roots k)) (representative k name)
 
 -- whether an edge makes one node a neighbour of another by a role: it leads there by a role below, or back by a role
 -- whose inverse is below

@@ -1,10 +1,10 @@
 // Branches.
-ghost use Rattle.std.specs.Prelude.{◌≡◌, ◌<◌, [], ◌∷◌, ◌++◌, List, map, length, slice_get, Some, OnOk, OnErr, IfOk};
-ghost use Rattle.logic_terms.specs.Shown.{concepts_of};
-ghost use Rattle.tableau_rules.specs.Graph.{Graph, Vertex};
+ghost use Rattle.std.specs.Prelude.{◌≡◌, ◌<◌, [], ◌∷◌, ◌++◌, List, map, length, None, Some, MatchOption, IfOk};
+ghost use Rattle.logic_terms.specs.Shown.{concept_of, concepts_of};
+ghost use Rattle.tableau_rules.specs.Graph.{Graph, Vertex, label_at, class_at, parent_of};
 ghost use Rattle.tableau_rules.specs.Shown.{graph_of, vertex_of};
 
-use logic_terms::{Classes, Role};
+use logic_terms::{Class, Classes, Role};
 use std::alloc::Global;
 use wiki_base::Memory;
 
@@ -80,6 +80,40 @@ impl Branch {
         ensures { result.now ≡ (graph_of self.now).edges }
     {
         self.edges.as_slice()
+    }
+
+    /// The label of a node, and no classes for any other number. It takes no memory.
+    pub fn label(&self, node: u64) -> &[Class]
+        ensures { map concept_of result.now ≡ label_at (graph_of self.now) node }
+    {
+        match self.nodes.get(node as usize) {
+            Some(found) => found.label.as_slice(),
+            None => &[],
+        }
+    }
+
+    /// The class at a place of a node's label, if there is one. It takes no memory.
+    pub fn class(&self, node: u64, place: u64) -> Option<&Class>
+        ensures { MatchOption result (class_at (graph_of self.now) node place ≡ None) (λ c. class_at (graph_of self.now) node place ≡ Some (concept_of c.now)) }
+    {
+        self.label(node).get(place as usize)
+    }
+
+    /// How many nodes there are.
+    pub fn len(&self) -> u64
+        ensures { result ≡ length (graph_of self.now).nodes }
+    {
+        self.nodes.len() as u64
+    }
+
+    /// The node that made a node. It takes no memory.
+    pub fn parent(&self, node: u64) -> Option<u64>
+        ensures { result ≡ parent_of (graph_of self.now) node }
+    {
+        match self.nodes.get(node as usize) {
+            Some(found) => found.parent,
+            None => None,
+        }
     }
 
     /// An equal branch in memory of its own.

@@ -32,6 +32,7 @@ pub record Pictures (k : Theory) (g : Graph) (i : Interpretation) (place : ℕ �
   pub relates : (role : Role) (x y : ℕ) → is_indirectly_blocked k g x ≡ false → is_indirectly_blocked k g y ≡ false → is_neighbour k g role x y ≡ true → Relates i role (place x) (place y)
   pub labelled : (word : WordId) (x : ℕ) → x < length g.nodes → is_indirectly_blocked k g x ≡ false → has_concept (label_at g x) (Atomic word) ≡ true → Contains (elements_of i word) (place x)
   pub names : (name : WordId) (y : ℕ) → node_of k name ≡ Some y → element_of i name ≡ place y
+  pub reached : (e : ℕ) → e < i.size → (z : ℕ) × (z < length g.nodes) × (is_blocked k g z ≡ false) × (place z ≡ e)
 
 module _ (k : Theory) (g : Graph) (i : Interpretation) (place : ℕ → ℕ) (pictures : Pictures k g i place) (done : first_step k g ≡ None) (calm : has_clash k g ≡ false) (named : (name : WordId) → is_given k name ≡ true → (y : ℕ) × (node_of k name ≡ Some y) × (y < length g.nodes) × (is_blocked k g y ≡ false)) where
   Has : ℕ → Concept → Type 0

@@ -6,7 +6,7 @@ ghost use Rattle.wiki_io.specs.Link.{is_among, without, can_all_come, connection
 ghost use Rattle.wiki_io.specs.Sink.{TookFits};
 
 use crate::sinks::Took;
-use wiki_base::Text8 as Bytes;
+use wiki_base::Bytes;
 
 /// What happens on connections. A connection is named by a number, which a later one may have again.
 #[derive(Drop)]

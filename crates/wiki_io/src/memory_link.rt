@@ -12,7 +12,7 @@ use crate::sinks::Took;
 use std::alloc::Global;
 use std::collections::VecDeque;
 use std::marker::Model;
-use wiki_base::{Memory, Text8 as Bytes};
+use wiki_base::{Bytes, Memory};
 
 /// A link in memory. Its events are those of a script, without those that can't come when it is their turn: an opening
 /// of a connection that is open, a piece or an end of one that isn't.
@@ -154,8 +154,8 @@ impl MemoryLink {
         ensures script { OnOk result (self.new.script ≡ after_next (Event.Piece connection bytes ∷ self.old.script) (length buf.old)) }
         ensures err { OnErr result (HandsIn self.old [] self.new) }
     {
-        let size = bytes.as_bytes().len().min(buf.len());
-        let (front, rest) = bytes.as_bytes().split_at(size);
+        let size = bytes.as_slice().len().min(buf.len());
+        let (front, rest) = bytes.as_slice().split_at(size);
         if !rest.is_empty() {
             let rest = Bytes::from_slice(self.alloc, rest)?;
             self.script.push_front(Event::Piece(connection, rest))?;
@@ -305,5 +305,37 @@ impl Link for MemoryLink {
         ensures send_faults { self.new.send_faults ≡ self.old.send_faults }
     {
         shut(&mut self.connections, connection);
+    }
+}
+
+#[cfg(test)]
+mod tests {
+    use super::*;
+    use std::test::Fail;
+
+    #[test]
+    fn what_cant_come_is_left_out_and_calls_fail_by_their_numbers(
+        rt: HostRuntime,
+    ) -> Result<(), Fail> {
+        let alloc = rt.alloc();
+        let mut script = VecDeque::new(alloc);
+        script.push_back(Event::Opened(1))?;
+        script.push_back(Event::Opened(1))?;
+        script.push_back(Event::Piece(1, Bytes::from_slice(alloc, b"abc")?))?;
+        script.push_back(Event::Ended(1))?;
+        script.push_back(Event::Piece(1, Bytes::from_slice(alloc, b"d")?))?;
+        let mut fails = Fails::none(alloc);
+        fails.next.push(2)?;
+        fails.send.push(1)?;
+        let mut link = MemoryLink::in_pieces(alloc, script, fails, 2);
+        let mut buffer = [0; 8];
+        assert_eq!(rt; link.listen("anywhere"), Listen::Ready);
+        assert_eq!(rt; link.next(&mut buffer), Next::Opened(1));
+        assert_eq!(rt; link.next(&mut buffer), Next::Failed);
+        assert_eq!(rt; link.next(&mut buffer), Next::Bytes(1, 3));
+        assert_eq!(rt; &buffer[..3], b"abc".as_slice());
+        assert_eq!(rt; link.next(&mut buffer), Next::Ended(1));
+        assert_eq!(rt; link.next(&mut buffer), Next::Over);
+        Ok(())
     }
 }

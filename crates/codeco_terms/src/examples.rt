@@ -5,7 +5,7 @@ ghost use Rattle.codeco_terms.specs.Unification.{HasRoom};
 use crate::*;
 use std::alloc::Global;
 use std::test::Fail;
-use wiki_base::{Memory, WordId};
+use wiki_base::{Copied, Memory, WordId};
 
 // A category whose features 0 and 1 are the variable 1.
 fn twice(alloc: Global) -> Result<Category, Memory>

@@ -6,6 +6,9 @@ use Rattle.std.proofs.lemmas.Bool.Decides.{nat_tests}
 use Rattle.wiki_base.specs.declared.numbers.WordId.{WordId}
 use Rattle.lexicon.specs.declared.kinds.Forms.{Forms}
 use Rattle.lexicon.specs.declared.words.Word.{Word}
+use Rattle.wiki_base.specs.declared.numbers.TheConstants.{GREATEST_NUMBER}
+use Rattle.lexicon.specs.declared.words.TheConstants.{MOST_WORDS}
+use Rattle.lexicon.specs.declared.words.LexLimit.TheVariants as limit
 use Rattle.lexicon.specs.declared.words.LexFault.TheVariants.{Taken, Reserved, Full}
 use Rattle.lexicon.specs.Words.{Listed, has_form, owner, forms_of, first_taken, first_reserved, fullness, forms_refusal, add_refusal}
 use Rattle.lexicon.specs.Terminals.{is_reserved}
@@ -49,9 +52,9 @@ reserved_not_taken terminals (first ∷ texts) text id is = by_test (is_reserved
     by_test false is rest = rest is
 
 full_not_taken : (listed : Listed) (text : List ℕ) (id : WordId) → fullness listed ≡ Some (Taken text id) → ⊥
-full_not_taken listed text id is = by_tests (eqb (length listed.live) 5000) (eqb listed.last 4294967295) is
+full_not_taken listed text id is = by_tests (eqb (length listed.live) MOST_WORDS) (eqb listed.last GREATEST_NUMBER) is
   where
-    by_tests : (b c : Bool) → cond b (Some (Full 5000)) (cond c (Some (Full 4294967295)) None) ≡ Some (Taken text id) → ⊥
+    by_tests : (b c : Bool) → cond b (Some (Full limit.Words)) (cond c (Some (Full limit.Numbers)) None) ≡ Some (Taken text id) → ⊥
     by_tests true c is = cc
     by_tests false true is = cc
     by_tests false false is = cc

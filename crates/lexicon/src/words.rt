@@ -11,7 +11,7 @@ use std::alloc::{AllocError, AllocFailed, Global};
 use std::collections::HashMap;
 use std::marker::Model;
 use std::mem;
-use wiki_base::{Memory, Text, WordId};
+use wiki_base::{Copied, GREATEST_NUMBER, List, Memory, Spelled, Text, WordId};
 
 /// The greatest number of live words.
 pub const MOST_WORDS: usize = 5000;
@@ -23,6 +23,38 @@ pub struct Word {
     pub forms: Forms,
 }
 
+impl Copied for Word {
+    fn copy(&self) -> Result<Self, Memory> {
+        Ok(Word {
+            id: self.id,
+            forms: self.forms.copy()?,
+        })
+    }
+}
+
+/// A limit of a lexicon.
+#[derive(Clone, Copy, Debug, PartialEq, Eq)]
+pub enum LexLimit {
+    /// There are 5,000 live words.
+    Words,
+    /// The last number, 4,294,967,295, was given.
+    Numbers,
+}
+
+impl LexLimit {
+    ghost use Rattle.lexicon.specs.Words.{limit_number};
+
+    /// The limit as a number: how many words may live, or the greatest number of a word.
+    pub fn number(self) -> u32
+        ensures { result ≡ limit_number self }
+    {
+        match self {
+            LexLimit::Words => MOST_WORDS as u32,
+            LexLimit::Numbers => GREATEST_NUMBER,
+        }
+    }
+}
+
 /// Why a change of a lexicon is refused.
 #[derive(Drop)]
 pub enum LexFault {
@@ -32,8 +64,8 @@ pub enum LexFault {
     Reserved { text: Text },
     /// No live word has the number.
     NoWord(WordId),
-    /// There are 5,000 live words, or the last number, 4,294,967,295, was given.
-    Full { limit: u32 },
+    /// This limit is met.
+    Full { limit: LexLimit },
     Memory,
 }
 
@@ -168,18 +200,6 @@ impl Lexicon {
         }
     }
 
-    /// An equal lexicon.
-    pub fn copy(&self) -> Result<Self, Memory>
-        ensures { IfOk result (λ lexicon. lexicon ≡ self.now) }
-    {
-        Ok(Lexicon {
-            words: copied(*self.words.allocator(), &self.words)?,
-            terminals: self.terminals.copy()?,
-            last: self.last,
-            index: self.index.clone()?,
-        })
-    }
-
     /// Adds a word under the next number. Refused are, in this order, a form of another live word, a form that the
     /// grammar has, and the limits. The forms are copied.
     pub fn add(&mut self, forms: &Forms) -> Result<WordId, LexFault>
@@ -303,27 +323,39 @@ impl Lexicon {
         ensures full { IfErr result (λ fault. fullness self.now ≡ Some fault) }
     {
         if self.words.len() == MOST_WORDS {
-            return Err(LexFault::Full {
-                limit: MOST_WORDS as u32,
-            });
+            let limit = LexLimit::Words;
+            return Err(LexFault::Full { limit });
         }
-        if self.last == u32::MAX {
-            return Err(LexFault::Full { limit: u32::MAX });
+        if self.last == GREATEST_NUMBER {
+            let limit = LexLimit::Numbers;
+            return Err(LexFault::Full { limit });
         }
         Ok(())
     }
 }
 
-// Equal words.
-fn copied(alloc: Global, words: &[Word]) -> Result<Vec<Word>, Memory>
-    ensures { IfOk result (λ copies. copies.items ≡ words.now) }
-{
-    let mut copies = Vec::with_capacity(alloc, words.len())?;
-    for word in words {
-        let forms = word.forms.copy()?;
-        copies.push(Word { id: word.id, forms })?;
+impl Copied for Lexicon {
+    fn copy(&self) -> Result<Self, Memory> {
+        Ok(Lexicon {
+            words: List::copied(*self.words.allocator(), &self.words)?.into_vec(),
+            terminals: self.terminals.copy()?,
+            last: self.last,
+            index: self.index.clone()?,
+        })
     }
-    Ok(copies)
+}
+
+impl Spelled for Lexicon {
+    ghost use Rattle.lexicon.specs.Words.{canonical_form_of};
+
+    ghost canonical_form = { λ lexicon id. canonical_form_of lexicon.live id };
+
+    fn spelled(&self, id: WordId) -> Option<&str> {
+        match self.word(id) {
+            Some(forms) => Some(forms.canonical().as_str()),
+            None => None,
+        }
+    }
 }
 
 #[cfg(test)]
@@ -423,7 +455,7 @@ mod tests {
         let mut lexicon = beside_every(rt.alloc())?;
         add_many(rt.alloc(), &mut lexicon, 5000)?;
         match refused(rt.alloc(), &mut lexicon, Kind::Name, "zzz")? {
-            LexFault::Full { limit } => assert_eq!(rt; limit, 5000),
+            LexFault::Full { limit } => assert_eq!(rt; limit.number(), 5000),
             _ => return Err(Fail::from("not full")),
         }
         assert_eq!(rt; lexicon.find("zzz"), None);

@@ -369,7 +369,7 @@ mod tests {
     // A lexicon beside a grammar with the terminal `every`.
     fn beside_every(alloc: Global) -> Result<Lexicon, Fail> {
         let mut terminals = Symbols::new(alloc);
-        terminals.push(Symbol::read(alloc, b"every")?)?;
+        terminals.push(Symbol::from_slice(alloc, b"every")?)?;
         let grammar = Grammar::new(
             Features::new(alloc),
             Symbols::new(alloc),

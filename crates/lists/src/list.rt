@@ -174,6 +174,15 @@ impl<T: Copy> List<T> {
     }
 }
 
+impl List<u8> {
+    /// The bytes.
+    pub fn as_bytes(&self) -> &[u8]
+        ensures { result.now ≡ self.now }
+    {
+        self.items.as_slice()
+    }
+}
+
 impl<T: Copied + Drop> List<T> {
     /// A list of equal items.
     pub fn copied(alloc: Global, items: &[T]) -> Result<List<T>, Memory>

@@ -7,11 +7,9 @@ use Rattle.wiki_base.specs.declared.numbers.WordId.{WordId}
 use Rattle.wiki_base.specs.Text.{IsText}
 use Rattle.lexicon.specs.declared.kinds.Forms.{Forms}
 use Rattle.lexicon.specs.declared.words.Word.{Word}
-use Rattle.wiki_base.specs.declared.numbers.TheConstants.{GREATEST_NUMBER}
-use Rattle.lexicon.specs.declared.words.TheConstants.{MOST_WORDS}
-use Rattle.lexicon.specs.declared.words.LexLimit.{LexLimit}
-use Rattle.lexicon.specs.declared.words.LexLimit.TheVariants as limit
 use Rattle.lexicon.specs.declared.words.LexFault.{LexFault}
+use Rattle.lexicon.specs.declared.words.LexLimit.TheVariants.{Words, Numbers}
+use Rattle.lexicon.specs.declared.words.TheConstants.{MOST_WORDS, LAST_NUMBER}
 use Rattle.lexicon.specs.declared.words.LexFault.TheVariants.{Taken, Reserved, NoWord, Full, Memory}
 use Rattle.lexicon.specs.Kinds.{canonical_place, IsComplete}
 use Rattle.lexicon.specs.Terminals.{is_reserved}
@@ -99,16 +97,10 @@ first_reserved terminals [] = None
 first_reserved terminals (text ∷ texts) =
     if is_reserved terminals text then Some (Reserved text) else first_reserved terminals texts
 
--- a limit as a number
-abbrev pub limit_number : LexLimit → ℕ
-limit_number limit.Words = MOST_WORDS
-limit_number limit.Numbers = GREATEST_NUMBER
-
--- no word can be added: there are as many as may be, or all numbers are given
+-- no word can be added: there are `MOST_WORDS`, or all numbers are given
 abbrev pub fullness : Listed → Option LexFault
 fullness listed =
-    if length listed.live == MOST_WORDS then Some (Full limit.Words)
-    else (if listed.last == GREATEST_NUMBER then Some (Full limit.Numbers) else None)
+    if length listed.live == MOST_WORDS then Some (Full Words) else (if listed.last == LAST_NUMBER then Some (Full Numbers) else None)
 
 -- the first cause that stands against forms beside these words
 abbrev pub forms_refusal : List Word → List (List ℕ) → Forms → Option LexFault
@@ -128,7 +120,7 @@ abbrev pub IsRefusal : Option LexFault → LexFault → Type 0
 IsRefusal cause (Taken text word) = cause ≡ Some (Taken text word)
 IsRefusal cause (Reserved text) = cause ≡ Some (Reserved text)
 IsRefusal cause (NoWord id) = cause ≡ Some (NoWord id)
-IsRefusal cause (Full which) = cause ≡ Some (Full which)
+IsRefusal cause (Full limit) = cause ≡ Some (Full limit)
 IsRefusal cause Memory = ⊤
 
 -- the word with the number stands at the place

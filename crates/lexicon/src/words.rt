@@ -11,17 +11,13 @@ use std::alloc::{AllocError, AllocFailed, Global};
 use std::collections::HashMap;
 use std::marker::Model;
 use std::mem;
-use wiki_base::{Copied, GREATEST_NUMBER, List, Memory, Spelled, Text, WordId};
+use wiki_base::{Copied, List, Memory, Spelled, Text, WordId};
 
 /// The greatest number of live words.
 pub const MOST_WORDS: usize = 5000;
 
-/// One live word.
-#[derive(Drop)]
-pub struct Word {
-    pub id: WordId,
-    pub forms: Forms,
-}
+/// The last number that a word can be given.
+pub const LAST_NUMBER: u32 = 4_294_967_295;
 
 impl Copied for Word {
     fn copy(&self) -> Result<Self, Memory> {
@@ -32,27 +28,20 @@ impl Copied for Word {
     }
 }
 
-/// A limit of a lexicon.
+/// What bounds a lexicon.
 #[derive(Clone, Copy, Debug, PartialEq, Eq)]
 pub enum LexLimit {
-    /// There are 5,000 live words.
+    /// The live words: `MOST_WORDS`.
     Words,
-    /// The last number, 4,294,967,295, was given.
+    /// The numbers that are given: up to `LAST_NUMBER`.
     Numbers,
 }
 
-impl LexLimit {
-    ghost use Rattle.lexicon.specs.Words.{limit_number};
-
-    /// The limit as a number: how many words may live, or the greatest number of a word.
-    pub fn number(self) -> u32
-        ensures { result ≡ limit_number self }
-    {
-        match self {
-            LexLimit::Words => MOST_WORDS as u32,
-            LexLimit::Numbers => GREATEST_NUMBER,
-        }
-    }
+/// One live word.
+#[derive(Drop)]
+pub struct Word {
+    pub id: WordId,
+    pub forms: Forms,
 }
 
 /// Why a change of a lexicon is refused.
@@ -64,8 +53,8 @@ pub enum LexFault {
     Reserved { text: Text },
     /// No live word has the number.
     NoWord(WordId),
-    /// This limit is met.
-    Full { limit: LexLimit },
+    /// The limit is reached: there are `MOST_WORDS` live words, or `LAST_NUMBER` was given.
+    Full(LexLimit),
     Memory,
 }
 
@@ -323,12 +312,10 @@ impl Lexicon {
         ensures full { IfErr result (λ fault. fullness self.now ≡ Some fault) }
     {
         if self.words.len() == MOST_WORDS {
-            let limit = LexLimit::Words;
-            return Err(LexFault::Full { limit });
+            return Err(LexFault::Full(LexLimit::Words));
         }
-        if self.last == GREATEST_NUMBER {
-            let limit = LexLimit::Numbers;
-            return Err(LexFault::Full { limit });
+        if self.last == LAST_NUMBER {
+            return Err(LexFault::Full(LexLimit::Numbers));
         }
         Ok(())
     }
@@ -455,7 +442,7 @@ mod tests {
         let mut lexicon = beside_every(rt.alloc())?;
         add_many(rt.alloc(), &mut lexicon, 5000)?;
         match refused(rt.alloc(), &mut lexicon, Kind::Name, "zzz")? {
-            LexFault::Full { limit } => assert_eq!(rt; limit.number(), 5000),
+            LexFault::Full(limit) => assert_eq!(rt; limit, LexLimit::Words),
             _ => return Err(Fail::from("not full")),
         }
         assert_eq!(rt; lexicon.find("zzz"), None);

@@ -9,7 +9,7 @@ mod tokens;
 
 pub use bytes::{Arg, Bytes, Text8, Text8s};
 pub use lists::{Boxed, Copied, List, Memory};
-pub use numbers::{GREATEST_NUMBER, Place, Rev, SessionId, WordId};
+pub use numbers::{Place, Rev, SessionId, WordId};
 pub use spelled::Spelled;
 pub use text::{BadText, LONGEST_TEXT, Text};
 pub use tokens::{MOST_TOKENS, Token, Tokens};

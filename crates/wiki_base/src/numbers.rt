@@ -1,9 +1,6 @@
 // The numbers that name things of the wiki.
 use lists::{Copied, Memory};
 
-/// The greatest number of a word, a session or a revision, and the greatest that is told.
-pub const GREATEST_NUMBER: u32 = 4_294_967_295;
-
 /// The number of a word, from 1 up. 0 stands for "no word".
 #[derive(Clone, Copy, Debug, PartialEq, Eq, PartialOrd, Ord, Hash)]
 pub struct WordId(pub u32);

@@ -1,5 +1,5 @@
 // Discourse representation structures.
-ghost use Rattle.std.specs.Prelude.{◌≡◌, ◌<◌, ◌==◌, [], ◌∷◌, ◌++◌, map, length, slice_get, Some, OnOk, OnErr, IfOk};
+ghost use Rattle.std.specs.Prelude.{◌≡◌, ◌<◌, ◌==◌, [], ◌∷◌, ◌++◌, map, length, slice_get, Some, OnOk, OnErr};
 ghost use Rattle.logic_terms.specs.Shown.{condition_of, conditions_of, structure_of};
 ghost use Rattle.logic_terms.specs.Structure.{structure, conditions_from, conditions_in, referents_in};
 ghost use Rattle.logic_terms.specs.declared.structures.Cond.TheViews.{size-Cond, size-Conds, size-Drs};

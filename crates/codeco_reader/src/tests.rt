@@ -4,6 +4,7 @@ use crate::{GrammarFault, print_grammar, read_grammar};
 use std::alloc::Global;
 use std::process::Abort;
 use std::test::Fail;
+use wiki_base::Copied;
 
 fn refusal(alloc: Global, text: &str) -> Option<GrammarFault> {
     read_grammar(alloc, text).err()

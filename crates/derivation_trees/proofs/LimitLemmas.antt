@@ -6,6 +6,7 @@ use Rattle.std.specs.List.{flat_map, list_any, range_with_len}
 use Rattle.std.proofs.lemmas.Bool.Decides.{nat_tests}
 use Rattle.std.proofs.lemmas.List.{map-append}
 use Rattle.std.proofs.lemmas.List.FromFn.{length-range_with_len, get_or-range_with_len}
+use Rattle.wiki_base.proofs.ListLaws.{any_at}
 use Rattle.codeco_terms.specs.declared.categories.Category.{Category}
 use Rattle.codeco_terms.specs.declared.elements.Element.{Element}
 use Rattle.codeco_terms.specs.declared.elements.Element.TheVariants.{Terminal, Preterminal, Sub, Position, Opener, Forward, Strong, Back, NoBack}
@@ -140,11 +141,6 @@ false_from false h = refl
 
 not_large : (g : GrammarParts) → IsSound g → (n : ℕ) → is_too_large g n ≡ false
 not_large g sound n = false_from (is_too_large g n) (sound.faultless (TooLarge n))
-
-any_at : {X : Type 0} (p : X → Bool) (xs : List X) (k : ℕ) (d : X) → list_any p xs ≡ false → k < length xs → p (get_or xs k d) ≡ false
-any_at p [] k d h lt = absurd (omega arith)
-any_at p (x ∷ xs) zero d h lt = (or_both (p x) (list_any p xs) h).0
-any_at p (x ∷ xs) (suc k) d h lt = any_at p xs k d (or_both (p x) (list_any p xs) h).1 (omega arith)
 
 not_broad : (g : GrammarParts) → IsSound g → has_broad_category g ≡ false
 not_broad g sound =

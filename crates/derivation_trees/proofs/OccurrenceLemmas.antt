@@ -3,7 +3,9 @@ use Rattle.std.proofs.Common.{◌≡◌, ℕ, ◌+◌, ◌<◌, List, [], ◌∷
 use Rattle.std.specs.Prelude.{if◌then◌else◌, ◌==◌}
 use Rattle.std.specs.List.{flat_map, list_any, list_all}
 use Rattle.std.proofs.lemmas.Grind.{flat_map-append, common_steps}
-use Rattle.std.proofs.lemmas.List.Folds.{list_any-append}
+use Rattle.std.proofs.lemmas.List.Folds.{list_any-append, list_all-append as all_append}
+use Rattle.std.proofs.Math.Bool.{or-false as or_false}
+use Rattle.wiki_base.proofs.BoolLaws.{and-swap as and_swap, or-swap as or_swap}
 use Rattle.codeco_terms.specs.declared.values.Term.{Term}
 use Rattle.codeco_terms.specs.declared.values.Term.TheVariants.{Val, Var}
 use Rattle.codeco_checked.specs.Numbering.{has}
@@ -22,16 +24,6 @@ has_flat_map_append F xs ys x = ap (λ zs. has zs x) (flat_map-append F xs ys) �
 feats_variables : List (ℕ × Term) → List ℕ
 feats_variables feats = flat_map (λ f. term_variables f.1) feats
 
-or_swap : (a b c : Bool) → (a || (b || c)) ≡ (b || (a || c))
-or_swap true true c = refl
-or_swap true false c = refl
-or_swap false true c = refl
-or_swap false false c = refl
-
-or_false : (a : Bool) → (a || false) ≡ a
-or_false true = refl
-or_false false = refl
-
 or_turn : (a b c : Bool) → (((a || false) || b) || c) ≡ (b || (a || c))
 or_turn true true c = refl
 or_turn true false c = refl
@@ -45,12 +37,6 @@ and_true false = refl
 and_assoc : (a b c : Bool) → (a && (b && c)) ≡ ((a && b) && c)
 and_assoc true b c = refl
 and_assoc false b c = refl
-
-and_swap : (a b c : Bool) → (a && (b && c)) ≡ (b && (a && c))
-and_swap true true c = refl
-and_swap true false c = refl
-and_swap false true c = refl
-and_swap false false c = refl
 
 and_turn : (a b c : Bool) → ((a && b) && c) ≡ (b && (a && c))
 and_turn true true c = refl
@@ -74,10 +60,6 @@ with_taken_has feats (t ∷ ts) x =
     with_taken_has (put_feature (t.0, Var t.1) feats) ts x ∙ ap (λ b. b || has (map (λ u. u.1) ts) x) (put_feature_has (t.0, Var t.1) feats x) ∙ or_turn (x == t.1) (has (flat_map (λ f. term_variables f.1) feats) x) (has (map (λ u. u.1) ts) x)
 
 -- a test of each feature
-
-pub all_append : {X : Type 0} (p : X → Bool) (xs ys : List X) → list_all p (xs ++ ys) ≡ (list_all p xs && list_all p ys)
-all_append p [] ys = refl
-all_append p (x ∷ xs) ys = ap (λ b. p x && b) (all_append p xs ys) ∙ and_assoc (p x) (list_all p xs) (list_all p ys)
 
 pub all_flat_map_append : {X Y : Type 0} (p : Y → Bool) (F : X → List Y) (xs ys : List X) → list_all p (flat_map F (xs ++ ys)) ≡ (list_all p (flat_map F xs) && list_all p (flat_map F ys))
 all_flat_map_append p F xs ys = ap (list_all p) (flat_map-append F xs ys) ∙ all_append p (flat_map F xs) (flat_map F ys)

@@ -7,6 +7,7 @@ use Rattle.std.proofs.lemmas.Bool.Decides.{nat_tests}
 use Rattle.std.proofs.lemmas.Slice.Eq.{bytes_eq-Decides}
 use Rattle.std.proofs.lemmas.Str.{encodes-chars, NoCharPasses-byte, IsUtf8-take, IsUtf8-drop, IsUtf8-from_ascii, IsCharBoundary-before_ascii, IsCharBoundary-after_ascii}
 use Rattle.std.proofs.lemmas.List.{take_at, drop_at, length_push, get_or_at}
+use Rattle.wiki_base.proofs.OptionLaws.{option_map-none as none_inside}
 use Rattle.lexicon.specs.Terminals.{raised}
 use Rattle.ucd_derived.specs.Binary.{is_alphabetic}
 use Rattle.ucd_derived.specs.AlphabeticRanges.{alphabetic_ranges}
@@ -118,10 +119,6 @@ or_false a b h k = ap (λ x. x || b) h ∙ k
 letter_fails : (after : Bool) (c : ℕ) (rest : List ℕ) → is_in_place after c rest ≡ true → is_other c ≡ false
 letter_fails after c rest h =
     or_false (c == 32) (is_mark c) (excluded 32 after c rest (c == 32) refl letter-space refl h) (or_false (c == 46) (c == 63) (excluded 46 after c rest (c == 46) refl letter-stop refl h) (excluded 63 after c rest (c == 63) refl letter-question refl h))
-
-none_inside : (f : ℕ → ℕ) (o : Option ℕ) → option_map f o ≡ None → o ≡ None
-none_inside f None h = refl
-none_inside f (Some n) h = cc
 
 placed_step : (after : Bool) (d : ℕ) (ds : List ℕ) (b : Bool) → is_in_place after d ds ≡ b → misplaced after (d ∷ ds) ≡ None → (is_in_place after d ds ≡ true) × (misplaced (is_letter d) ds ≡ None)
 placed_step after d ds true is h =

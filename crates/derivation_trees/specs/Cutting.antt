@@ -2,6 +2,7 @@
 use Rattle.std.specs.Prelude.{◌≡◌, ℕ, ◌-◌, ◌<◌, ◌≤◌, Bool, true, false, ◌&&◌, ◌||◌, not, IsTrue, ◌==◌, nat_lt, if◌then◌else◌, List, [], ◌∷◌, ◌++◌, length, take, drop, filter, slice_index, ◌⊎◌, All}
 use Rattle.std.specs.Char.{to_ascii_lowercase}
 use Rattle.std.specs.List.{list_any, list_all, slice_split}
+use Rattle.wiki_base.specs.declared.tokens.TheConstants.{MOST_TOKENS}
 use Rattle.wiki_base.specs.Text.{IsText}
 use Rattle.wiki_base.specs.Token.{has_no_space}
 use Rattle.lexicon.specs.Terminals.{raised, matches_terminal}
@@ -96,7 +97,7 @@ FirstIsNotRaised terminals (token ∷ tokens) = IsNotRaised terminals token
 
 -- the tokens are at most 40, each is whole, and the first isn't another terminal with its first letter raised
 abbrev pub IsShowable : List (List ℕ) → List (List ℕ) → Type 0
-IsShowable terminals tokens = (length tokens ≤ 40) × IsTrue (list_all is_whole tokens) × FirstIsNotRaised terminals tokens
+IsShowable terminals tokens = (length tokens ≤ MOST_TOKENS) × IsTrue (list_all is_whole tokens) × FirstIsNotRaised terminals tokens
 
 -- the token is a terminal, or a text, as each form of a word is
 abbrev pub IsWord : List (List ℕ) → List ℕ → Type 0
@@ -105,9 +106,9 @@ IsWord terminals token = IsTrue (is_terminal terminals token) ⊎ IsText token
 -- the tokens are at most 40, each is a terminal or text as forms are, and the first isn't another terminal with its first
 -- letter raised
 abbrev pub AreWords : List (List ℕ) → List (List ℕ) → Type 0
-AreWords terminals tokens = (length tokens ≤ 40) × All (IsWord terminals) tokens × FirstIsNotRaised terminals tokens
+AreWords terminals tokens = (length tokens ≤ MOST_TOKENS) × All (IsWord terminals) tokens × FirstIsNotRaised terminals tokens
 
 -- the answer for a text with these tokens
 abbrev pub IsCut : List (List ℕ) → Cut → Type 0
-IsCut tokens (Tokens given) = (given ≡ tokens) × (length tokens ≤ 40)
-IsCut tokens TooMany = 40 < length tokens
+IsCut tokens (Tokens given) = (given ≡ tokens) × (length tokens ≤ MOST_TOKENS)
+IsCut tokens TooMany = MOST_TOKENS < length tokens

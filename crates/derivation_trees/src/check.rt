@@ -13,7 +13,7 @@ use codeco_checked::CheckedGrammar;
 use lexicon::{Lexicon, Readings};
 use scopes::{Access, Test, TestValues};
 use std::alloc::Global;
-use wiki_base::{Memory, Token, Tokens};
+use wiki_base::{MOST_TOKENS, Memory, Token, Tokens};
 
 /// The number of the category `text`.
 const TEXT: u16 = 5;
@@ -28,7 +28,7 @@ pub fn check_tree(
     tokens: &Tokens,
     tree: &Tree,
 ) -> Result<bool, Memory>
-    requires { length tokens.now ≤ 40 }
+    requires { length tokens.now ≤ MOST_TOKENS }
     ensures { IfOk result
         (λ yes. IsTrue yes ↔ IsDerivation (setting_of grammar.now lexicon.now tokens.now) (node_of tree.now)) }
 {

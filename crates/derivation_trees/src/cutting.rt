@@ -6,7 +6,7 @@ use crate::cuts::Cut;
 use crate::pieces::{part_last, pieces};
 use codeco_terms::{Grammar, Symbols};
 use std::alloc::Global;
-use wiki_base::{Memory, Token, Tokens};
+use wiki_base::{Copied, MOST_TOKENS, Memory, Token, Tokens};
 
 /// The tokens of a text. They are its pieces between spaces. Where the last piece has more than one byte and ends
 /// with `.` or `?`, this last byte is a token of its own. Where the first token is a terminal with its first letter (a
@@ -17,7 +17,7 @@ pub fn cut(alloc: Global, grammar: &Grammar, text: &str) -> Result<Cut, Memory>
     let pieces = pieces(alloc, text)?;
     let parted = part_last(alloc, pieces)?;
     let tokens = lower_first(alloc, grammar.terminals(), parted)?;
-    if tokens.len() > 40 {
+    if tokens.len() > MOST_TOKENS {
         Ok(Cut::TooMany)
     } else {
         Ok(Cut::Tokens(tokens))

@@ -25,6 +25,7 @@ pub struct Setting<'a> {
 }
 
 impl<'a> Model for Setting<'a> {
+    ghost use Rattle.wiki_base.specs.declared.tokens.TheConstants.{MOST_TOKENS};
     ghost use Rattle.derivation_trees.specs.Settings as settings;
 
     ghost Value = { settings.Setting };
@@ -33,7 +34,7 @@ impl<'a> Model for Setting<'a> {
 
     ghost use Rattle.std.specs.Prelude.{◌≡◌, ◌≤◌, length};
 
-    ghost invariant = { λ a. (length a.tokens.now ≤ 40) × (length a.readings.now ≡ length a.tokens.now) };
+    ghost invariant = { λ a. (length a.tokens.now ≤ MOST_TOKENS) × (length a.readings.now ≡ length a.tokens.now) };
 }
 
 impl Setting<'_> {

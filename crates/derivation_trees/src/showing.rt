@@ -118,9 +118,9 @@ mod tests {
     // A grammar with the terminals `every`, `a` and `.`.
     fn small_grammar(alloc: Global) -> Result<Grammar, Memory> {
         let mut terminals = Symbols::new(alloc);
-        terminals.push(Symbol::read(alloc, b"every")?)?;
-        terminals.push(Symbol::read(alloc, b"a")?)?;
-        terminals.push(Symbol::read(alloc, b".")?)?;
+        terminals.push(Symbol::from_slice(alloc, b"every")?)?;
+        terminals.push(Symbol::from_slice(alloc, b"a")?)?;
+        terminals.push(Symbol::from_slice(alloc, b".")?)?;
         Ok(Grammar::new(
             Features::new(alloc),
             Symbols::new(alloc),

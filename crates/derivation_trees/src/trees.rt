@@ -1,188 +1,16 @@
 // Derivation trees.
-ghost use Rattle.std.specs.Prelude.{◌≡◌, ◌<◌, ◌↔◌, ◌==◌, [], ◌∷◌, ◌++◌, length, slice_get, Some, IsTrue, IfOk, OnOk, OnErr};
+ghost use Rattle.std.specs.Prelude.{◌≡◌, ◌<◌, ◌==◌, [], ◌∷◌, ◌++◌, length, slice_get, Some, IfOk, OnOk, OnErr};
 ghost use Rattle.derivation_trees.specs.Trees.{node_of, nodes_of};
 
 use codeco_terms::Value;
 use std::alloc::Global;
-use std::marker::Model;
-use wiki_base::Memory;
+use wiki_base::{Copied, List, Memory};
 
 /// An instance of a rule: each variable with its value, in order of number.
-#[derive(Drop)]
-pub struct Binds {
-    items: Vec<(u8, Value)>,
-}
-
-impl Model for Binds {
-    ghost use Rattle.std.specs.Prelude.{List, ℕ};
-    ghost use Rattle.codeco_terms.specs.declared.values.Value.{Value as OneValue};
-
-    ghost Value = { List (ℕ × OneValue) };
-
-    ghost view = { λ a. a.items.items };
-}
-
-impl Binds {
-    /// The empty list, which takes no memory.
-    pub fn new(alloc: Global) -> Self
-        ensures { result ≡ [] }
-    {
-        Binds {
-            items: Vec::new(alloc),
-        }
-    }
-
-    /// The list of what the vector holds, which takes no memory.
-    pub fn from_vec(items: Vec<(u8, Value)>) -> Self
-        ensures { result ≡ items.items }
-    {
-        Binds { items }
-    }
-
-    /// Gives the vector back, which takes no memory.
-    pub fn into_vec(self) -> Vec<(u8, Value)>
-        ensures { result.items ≡ self }
-    {
-        self.items
-    }
-
-    /// How many variables there are.
-    pub fn len(&self) -> usize
-        ensures { result ≡ length self.now }
-    {
-        self.items.len()
-    }
-
-    /// Whether there is none.
-    pub fn is_empty(&self) -> bool
-        ensures { IsTrue result ↔ (self.now ≡ []) }
-    {
-        self.items.is_empty()
-    }
-
-    /// The one at a place below the length.
-    pub fn get(&self, place: usize) -> &(u8, Value)
-        requires { place < length self.now }
-        ensures { slice_get self.now place ≡ Some result.now }
-    {
-        &self.items[place]
-    }
-
-    /// An equal list.
-    pub fn copy(&self, alloc: Global) -> Result<Self, Memory>
-        ensures { IfOk result (λ copied. copied ≡ self.now) }
-    {
-        let mut items = Vec::new(alloc);
-        for item in &self.items {
-            items.push(*item)?;
-        }
-        Ok(Binds { items })
-    }
-
-    /// All of them, in order.
-    pub fn as_slice(&self) -> &[(u8, Value)]
-        ensures { result.now ≡ self.now }
-    {
-        self.items.as_slice()
-    }
-
-    /// Adds one at the end.
-    pub fn push(&mut self, item: (u8, Value)) -> Result<(), Memory>
-        ensures ok { OnOk result (self.new ≡ self.old ++ item ∷ []) }
-        ensures err { OnErr result (self.new ≡ self.old) }
-    {
-        self.items.push(item)?;
-        Ok(())
-    }
-}
+pub type Binds = List<(u8, Value)>;
 
 /// Positions in the tokens, each the number of tokens before it.
-#[derive(Drop)]
-pub struct Places {
-    items: Vec<u16>,
-}
-
-impl Model for Places {
-    ghost use Rattle.std.specs.Prelude.{List, ℕ};
-
-    ghost Value = { List ℕ };
-
-    ghost view = { λ a. a.items.items };
-}
-
-impl Places {
-    /// The empty list, which takes no memory.
-    pub fn new(alloc: Global) -> Self
-        ensures { result ≡ [] }
-    {
-        Places {
-            items: Vec::new(alloc),
-        }
-    }
-
-    /// The list of what the vector holds, which takes no memory.
-    pub fn from_vec(items: Vec<u16>) -> Self
-        ensures { result ≡ items.items }
-    {
-        Places { items }
-    }
-
-    /// Gives the vector back, which takes no memory.
-    pub fn into_vec(self) -> Vec<u16>
-        ensures { result.items ≡ self }
-    {
-        self.items
-    }
-
-    /// How many positions there are.
-    pub fn len(&self) -> usize
-        ensures { result ≡ length self.now }
-    {
-        self.items.len()
-    }
-
-    /// Whether there is none.
-    pub fn is_empty(&self) -> bool
-        ensures { IsTrue result ↔ (self.now ≡ []) }
-    {
-        self.items.is_empty()
-    }
-
-    /// The one at a place below the length.
-    pub fn get(&self, place: usize) -> &u16
-        requires { place < length self.now }
-        ensures { slice_get self.now place ≡ Some result.now }
-    {
-        &self.items[place]
-    }
-
-    /// An equal list.
-    pub fn copy(&self, alloc: Global) -> Result<Self, Memory>
-        ensures { IfOk result (λ copied. copied ≡ self.now) }
-    {
-        let mut items = Vec::new(alloc);
-        for item in &self.items {
-            items.push(*item)?;
-        }
-        Ok(Places { items })
-    }
-
-    /// All of them, in order.
-    pub fn as_slice(&self) -> &[u16]
-        ensures { result.now ≡ self.now }
-    {
-        self.items.as_slice()
-    }
-
-    /// Adds one at the end.
-    pub fn push(&mut self, item: u16) -> Result<(), Memory>
-        ensures ok { OnOk result (self.new ≡ self.old ++ item ∷ []) }
-        ensures err { OnErr result (self.new ≡ self.old) }
-    {
-        self.items.push(item)?;
-        Ok(())
-    }
-}
+pub type Places = List<u16>;
 
 /// A node of a derivation: the number of its rule, from 1, an instance of the rule, the position of the referent that
 /// each `<` of the rule has found, and a child for each category in the body.
@@ -271,8 +99,8 @@ impl Tree {
     {
         Ok(Tree {
             rule: self.rule,
-            values: self.values.copy(alloc)?,
-            found: self.found.copy(alloc)?,
+            values: self.values.copy()?,
+            found: self.found.copy()?,
             children: self.children.copy(alloc)?,
         })
     }

@@ -2,7 +2,7 @@
 use super::*;
 use std::alloc::Global;
 use std::test::Fail;
-use wiki_base::WordId;
+use wiki_base::{Copied, WordId};
 
 const OWN: Role = Role {
     id: WordId(2),
@@ -80,7 +80,7 @@ fn structures_lend_their_referents_and_conditions(rt: HostRuntime) -> Result<(),
     assert!(rt; referents.is_empty());
     referents.push(4)?;
     assert_eq!(rt; referents.len(), 1);
-    assert_eq!(rt; referents.get(0), 4);
+    assert_eq!(rt; *referents.get(0), 4);
     let mut conditions = Conds::new(alloc);
     assert!(rt; conditions.is_empty());
     conditions.push(Cond::Same(Thing::Ref(4), Thing::Name(WordId(1))))?;

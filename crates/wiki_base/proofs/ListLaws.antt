@@ -1,4 +1,4 @@
--- Tests of each member of a list.
+-- Laws on tests of each member of a list, which std has not.
 use Rattle.std.proofs.Common.{◌≡◌, ℕ, zero, suc, ◌<◌, Bool, true, false, not, ◌&&◌, List, [], ◌∷◌, ◌++◌, map, length, get_or, refl, ap, arith}
 use Rattle.std.specs.List.{list_all, list_any, flat_map}
 use Rattle.std.proofs.lemmas.Bool.{and_parts, and_from, or_parts, not-false}
@@ -27,10 +27,6 @@ flat_all p f [] h = refl
 flat_all p f (x ∷ xs) h =
     let parts = and_parts (list_all p (f x)) (list_all (λ y. list_all p (f y)) xs) h in
     all_append p (f x) (flat_map f xs) parts.0 (flat_all p f xs parts.1)
-
-pub all-map : {X Y : Type 0} (p : Y → Bool) (f : X → Y) (xs : List X) → list_all p (map f xs) ≡ list_all (λ x. p (f x)) xs
-all-map p f [] = refl
-all-map p f (x ∷ xs) = ap (λ b. p (f x) && b) (all-map p f xs)
 
 pub all_weaken : {X : Type 0} (p q : X → Bool) → ((x : X) → p x ≡ true → q x ≡ true) → (xs : List X) → list_all p xs ≡ true → list_all q xs ≡ true
 all_weaken p q step [] h = refl
@@ -62,3 +58,9 @@ pub all_at : {X : Type 0} (p : X → Bool) (xs : List X) (k : ℕ) (d : X) → l
 all_at p [] k d h lt = absurd (omega arith)
 all_at p (x ∷ xs) zero d h lt = (and_parts (p x) (list_all p xs) h).0
 all_at p (x ∷ xs) (suc k) d h lt = all_at p xs k d (and_parts (p x) (list_all p xs) h).1 (omega arith)
+
+-- none passes, so neither does the one at a place
+pub any_at : {X : Type 0} (p : X → Bool) (xs : List X) (k : ℕ) (d : X) → list_any p xs ≡ false → k < length xs → p (get_or xs k d) ≡ false
+any_at p [] k d h lt = absurd (omega arith)
+any_at p (x ∷ xs) zero d h lt = (or_parts (p x) (list_any p xs) h).0
+any_at p (x ∷ xs) (suc k) d h lt = any_at p xs k d (or_parts (p x) (list_any p xs) h).1 (omega arith)

@@ -1,6 +1,6 @@
 // What labels grow by, as lists of their own: a branch changes only once the memory for a change is there.
 ghost use Rattle.std.specs.Prelude.{◌≡◌, ◌&&◌, ◌++◌, ◌∷◌, [], map, filter, not, None, Some, MatchOption, IfOk, slice_get};
-ghost use Rattle.std.specs.Option.{option_to_list};
+ghost use Rattle.std.specs.Option.{option_map, option_to_list};
 ghost use Rattle.logic_terms.specs.Interpretation.{is_word};
 ghost use Rattle.logic_terms.specs.Known.{theory_of};
 ghost use Rattle.logic_terms.specs.Same.{has_concept};

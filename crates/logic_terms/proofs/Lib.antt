@@ -4,6 +4,7 @@ pub mod Extensions
 pub mod MeaningLemmas
 pub mod Places
 pub mod SameLemmas
+pub mod NamesLemmas
 pub mod ShownLemmas
 pub mod Taken
 pub mod Walks

@@ -6,6 +6,8 @@ pub mod Introduced
 pub mod Known
 pub mod Meaning
 pub mod Parts
+pub mod Names
+pub mod Plain
 pub mod Reading
 pub mod Same
 pub mod Shown

@@ -1,0 +1,5 @@
+pub mod Climbing
+pub mod Firsts
+pub mod Lists
+pub mod MapWalks
+pub mod NameLaws

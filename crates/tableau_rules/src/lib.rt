@@ -1,0 +1,18 @@
+//! Branches of knowledge, their clashes, and the rules by which a search makes them grow.
+#![tactic(auto)]
+
+mod blocking;
+mod branch;
+mod finder;
+mod label;
+mod names;
+mod neighbour;
+mod rows;
+mod step;
+
+pub use blocking::{is_blocked, is_directly_blocked, is_indirectly_blocked};
+pub use branch::{Branch, Edge, Node};
+pub use finder::{applicable, applies};
+pub use names::{node_of, root_count};
+pub use neighbour::{is_neighbour, makes_neighbour};
+pub use step::{Clash, Closed, Rule, Step};

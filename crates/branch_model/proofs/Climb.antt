@@ -6,11 +6,8 @@ use Rattle.std.specs.Option.{option_map_or}
 use Rattle.std.proofs.lemmas.Bool.{and_parts, or_cases, or_parts, or_left, or_right, not-true}
 use Rattle.logic_terms.specs.Theory.{Theory}
 use Rattle.tableau_rules.specs.Graph.{Graph, label_at, parent_of}
+use Rattle.branch_model.specs.Elements.{ParentsBelow, IsTwin}
 use Rattle.tableau_rules.specs.Blocking.{climb, ancestors, is_anonymous, same_classes, has_twin, blocks, is_directly_blocked, is_indirectly_blocked, is_blocked}
-
--- each node's parent has a smaller number
-abbrev pub ParentsBelow : Graph → Type 0
-ParentsBelow g = (x p : ℕ) → parent_of g x ≡ Some p → p < x
 
 pub climb-none : (n : ℕ) (g : Graph) (x : ℕ) → parent_of g x ≡ None → climb n g x ≡ []
 climb-none zero g x up = refl
@@ -59,13 +56,6 @@ indirectly-none k g x up = ap (blocks k g) (ancestors-none g x up)
 
 pub indirectly-some : (k : Theory) (g : Graph) → ParentsBelow g → (x p : ℕ) → parent_of g x ≡ Some p → is_indirectly_blocked k g x ≡ is_blocked k g p
 indirectly-some k g down x p up = ap (blocks k g) (ancestors-some g down x p up)
-
--- a twin of a node: an unblocked anonymous node before it with the same classes
-pub record IsTwin (k : Theory) (g : Graph) (x z : ℕ) : Type 0 where
-  pub before : z < x
-  pub anonymous : is_anonymous k z ≡ true
-  pub same : same_classes (label_at g x) (label_at g z) ≡ true
-  pub unblocked : is_blocked k g z ≡ false
 
 -- one step up in search of a twin: the parent is one, or one is above it
 pub twin_step : (k : Theory) (g : Graph) → ParentsBelow g → (x y p : ℕ) → parent_of g y ≡ Some p → has_twin k g x (ancestors g y) ≡ true → is_indirectly_blocked k g y ≡ false → (is_anonymous k p && same_classes (label_at g x) (label_at g p)) ≡ false → (has_twin k g x (ancestors g p) ≡ true) × (is_indirectly_blocked k g p ≡ false)

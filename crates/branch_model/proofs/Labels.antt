@@ -55,7 +55,7 @@ only_one label c d h = elim (cases_Bool (has_concept label c)) [
   | inl t ↦ inl (sym (ap (λ l. has_concept l d) (cond-true (has_concept label c) label (label ++ c ∷ []) t)) ∙ h)
   | inr f ↦ elim (or_cases (has_concept label d) (has_concept (c ∷ []) d) (sym (ap (λ l. has_concept l d) (cond-false (has_concept label c) label (label ++ c ∷ []) f) ∙ has-append label (c ∷ []) d) ∙ h)) [
     | inl old ↦ inl old
-    | inr new ↦ elim (or_cases (same_concept c d) false new) [ inl same ↦ inr (concept_true c d same) | inr no ↦ absurd (both no) ]
+    | inr new ↦ elim (or_cases (same_concept c d) false new) [ inl same ↦ inr (concept_true c d same) | inr never ↦ absurd (both never) ]
   ]
 ]
   where

@@ -87,12 +87,12 @@ module _ (k : Theory) (lawful : IsLawful k) (plain : is_plain_theory k ≡ true)
             (indirectly-none k g y (sound.rooted y low))
 
     true_at : (c : Concept) → fits k c ≡ true → (x : ℕ) → x < length g.nodes → is_blocked k g x ≡ false → has_concept (label_at g x) c ≡ true → IsIn i c (place x)
-    true_at c fit x lt open has =
+    true_at c fit x lt clear has =
         let two = and_parts (is_normal c) (names_given k c) fit in
-        truth k g i place pictures ended.1 ended.0 named c two.0 two.1 x lt open has
+        truth k g i place pictures ended.1 ended.0 named c two.0 two.1 x lt clear has
 
     free_of : (x : ℕ) → is_blocked k g x ≡ false → is_indirectly_blocked k g x ≡ false
-    free_of x open = (or_parts (is_directly_blocked k g x) (is_indirectly_blocked k g x) open).1
+    free_of x clear = (or_parts (is_directly_blocked k g x) (is_indirectly_blocked k g x) clear).1
 
     -- a neighbour by a role is one by a role above it
     neighbour_up : (r s : Role) (x y : ℕ) → is_below k r s ≡ true → is_neighbour k g r x y ≡ true → is_neighbour k g s x y ≡ true
@@ -176,8 +176,8 @@ module _ (k : Theory) (lawful : IsLawful k) (plain : is_plain_theory k ≡ true)
             let yes : are_joined k (get_or k.differences j d).0 (get_or k.differences j d).1 ≡ true =
               ap (λ o. passes o (λ r. passes (representative k (get_or k.differences j d).1) (is_word r))) root.1
               ∙ ap (λ o. passes o (is_word root.0)) root'.1 ∙ ap (is_word root.0) (sym rep) ∙ Rattle.std.proofs.lemmas.Bool.eq-eqb root.0.0 root.0.0 refl in
-            let no : are_joined k (get_or k.differences j d).0 (get_or k.differences j d).1 ≡ false = differ k g ended.0 (get_or k.differences j d) (Contains-get_or k.differences j d lt) in
-            both yes no
+            let differ' : are_joined k (get_or k.differences j d).0 (get_or k.differences j d).1 ≡ false = differ k g ended.0 (get_or k.differences j d) (Contains-get_or k.differences j d lt) in
+            both yes differ'
 
         both : {b : Bool} → b ≡ true → b ≡ false → ⊥
         both t f = cc

@@ -113,12 +113,12 @@ module _ (k : Theory) (g : Graph) (done : first_step k g ≡ None) where
         one_there (label_at g x) (members_in cs) (where_none (lacks_all (label_at g x) (members_in cs)) 0 (no_row rule.Or x (UnionOf cs) lt free has))
 
     pub all_done : (role : Role) (c : Concept) → has_concept (label_at g x) (AllValuesFrom role c) ≡ true → (y : ℕ) → y < length g.nodes → is_neighbour k g role x y ≡ true → is_indirectly_blocked k g y ≡ false → has_concept (label_at g y) c ≡ true
-    all_done role c has y below near open =
+    all_done role c has y below near clear =
         let none = where_none (needs k g role c x y) y (first_none (length g.nodes) (λ y. where_true (needs k g role c x y) y) (no_row rule.All x (AllValuesFrom role c) lt free has) y below) in
         elim (and_cases (is_neighbour k g role x y) (not (is_indirectly_blocked k g y) && not (has_concept (label_at g y) c)) none) [
           | inl far ↦ absurd (both near far)
           | inr rest ↦ elim (and_cases (not (is_indirectly_blocked k g y)) (not (has_concept (label_at g y) c)) rest) [
-            | inl blocked ↦ absurd (both (not-false (is_indirectly_blocked k g y) blocked) open)
+            | inl blocked ↦ absurd (both (not-false (is_indirectly_blocked k g y) blocked) clear)
             | inr there ↦ not-false (has_concept (label_at g y) c) there
           ]
         ]
@@ -127,11 +127,11 @@ module _ (k : Theory) (g : Graph) (done : first_step k g ≡ None) where
         both t f = cc
 
     pub value_done : (role : Role) (name : WordId) (y : ℕ) → has_concept (label_at g x) (HasValue role name) ≡ true → is_blocked k g x ≡ false → node_of k name ≡ Some y → is_neighbour k g role x y ≡ true
-    value_done role name y has open node =
+    value_done role name y has clear node =
         let none = where_none (not (is_blocked k g x) && not (is_neighbour k g role x y)) 0
           (sym (ap (λ o. option_and_then (λ y. where_true (not (is_blocked k g x) && not (is_neighbour k g role x y)) 0) o) node) ∙ no_row rule.Value x (HasValue role name) lt free has) in
         elim (and_cases (not (is_blocked k g x)) (not (is_neighbour k g role x y)) none) [
-          | inl blocked ↦ (let t : is_blocked k g x ≡ true = not-false (is_blocked k g x) blocked in absurd (both t open))
+          | inl blocked ↦ (let t : is_blocked k g x ≡ true = not-false (is_blocked k g x) blocked in absurd (both t clear))
           | inr near ↦ not-false (is_neighbour k g role x y) near
         ]
       where
@@ -139,10 +139,10 @@ module _ (k : Theory) (g : Graph) (done : first_step k g ≡ None) where
         both t f = cc
 
     pub some_done : (role : Role) (c : Concept) → has_concept (label_at g x) (SomeValuesFrom role c) ≡ true → is_blocked k g x ≡ false → (y : ℕ) × (y < length g.nodes) × (is_neighbour k g role x y ≡ true) × (is_indirectly_blocked k g y ≡ false) × (has_concept (label_at g y) c ≡ true)
-    some_done role c has open =
+    some_done role c has clear =
         let none = where_none (not (is_blocked k g x) && not (some_below (length g.nodes) (serves k g role c x))) 0 (no_row rule.Some x (SomeValuesFrom role c) lt free has) in
         elim (and_cases (not (is_blocked k g x)) (not (some_below (length g.nodes) (serves k g role c x))) none) [
-          | inl blocked ↦ (let t : is_blocked k g x ≡ true = not-false (is_blocked k g x) blocked in absurd (both t open))
+          | inl blocked ↦ (let t : is_blocked k g x ≡ true = not-false (is_blocked k g x) blocked in absurd (both t clear))
           | inr there ↦ (let found = some_found (length g.nodes) (serves k g role c x) (not-false (some_below (length g.nodes) (serves k g role c x)) there) in
               let one = and_parts (is_neighbour k g role x found.0) (not (is_indirectly_blocked k g found.0) && has_concept (label_at g found.0) c) found.2 in
               let two = and_parts (not (is_indirectly_blocked k g found.0)) (has_concept (label_at g found.0) c) one.1 in

@@ -24,7 +24,7 @@ use Rattle.tableau_rules.specs.Neighbours.{roots, node_of, makes_neighbour, is_n
 use Rattle.tableau_rules.specs.Rules.{unfoldings_of, open_members, unit_member, with_classes, adding, with_edge, with_node, effect, after}
 use Rattle.branch_model.proofs.Same.{place_of, each_has, has_here}
 use Rattle.branch_model.proofs.Labels.{get_set_same, get_set_other, get_push_old, get_push_new, kept_classes, new_classes, only_classes}
-use Rattle.branch_model.proofs.Climb.{ParentsBelow}
+use Rattle.branch_model.specs.Elements.{ParentsBelow}
 
 -- whether a class is in normal form, over given names
 abbrev pub fits : Theory → Concept → Bool

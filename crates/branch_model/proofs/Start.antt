@@ -287,7 +287,7 @@ start_sound k fit_assertions fit_general = record {
 }
   where
     none : (x p : ℕ) → parent_of (start k) x ≡ Some p → ⊥
-    none x p up = let no : parent_of (start k) x ≡ None = start_parent k x in cc
+    none x p up = let never : parent_of (start k) x ≡ None = start_parent k x in cc
 
     empty : (c : Concept) → has_concept [] c ≡ true → ⊥
     empty c e = cc

@@ -39,39 +39,39 @@ module _ (k : Theory) (g : Graph) (i : Interpretation) (place : ℕ → ℕ) (pi
   Has x c = has_concept (label_at g x) c ≡ true
 
   free_of : (x : ℕ) → is_blocked k g x ≡ false → is_indirectly_blocked k g x ≡ false
-  free_of x open = (or_parts (is_directly_blocked k g x) (is_indirectly_blocked k g x) open).1
+  free_of x clear = (or_parts (is_directly_blocked k g x) (is_indirectly_blocked k g x) clear).1
 
   mutual
     pub truth : (c : Concept) → is_normal c ≡ true → names_given k c ≡ true → (x : ℕ) → x < length g.nodes → is_blocked k g x ≡ false → has_concept (label_at g x) c ≡ true → IsIn i c (place x)
-    truth Everything plain given x lt open has = tt
-    truth (Atomic word) plain given x lt open has = pictures.labelled word x lt (free_of x open) has
-    truth (ComplementOf c) plain given x lt open has = untruth c plain given x lt open has
-    truth (IntersectionOf cs) plain given x lt open has = truth_each cs plain given x lt open (and_done k g done x lt (free_of x open) cs has)
-    truth (UnionOf cs) plain given x lt open has = truth_some cs plain given x lt open (or_done k g done x lt (free_of x open) cs has)
-    truth (SomeValuesFrom role c) plain given x lt open has =
-        let found = some_done k g done x lt (free_of x open) role c has open in
+    truth Everything plain given x lt clear has = tt
+    truth (Atomic word) plain given x lt clear has = pictures.labelled word x lt (free_of x clear) has
+    truth (ComplementOf c) plain given x lt clear has = untruth c plain given x lt clear has
+    truth (IntersectionOf cs) plain given x lt clear has = truth_each cs plain given x lt clear (and_done k g done x lt (free_of x clear) cs has)
+    truth (UnionOf cs) plain given x lt clear has = truth_some cs plain given x lt clear (or_done k g done x lt (free_of x clear) cs has)
+    truth (SomeValuesFrom role c) plain given x lt clear has =
+        let found = some_done k g done x lt (free_of x clear) role c has clear in
         let own = pictures.owner found.0 found.1 found.3 in
         let inside : IsIn i c (place own.0) = truth c plain given own.0 own.1 own.2 (sym (own.4 c) ∙ found.4) in
-        (place found.0, pictures.within found.0 found.1 found.3, pictures.relates role x found.0 (free_of x open) found.3 found.2, subst (IsIn i c) own.3 inside)
-    truth (AllValuesFrom role c) plain given x lt open has = λ e below related.
+        (place found.0, pictures.within found.0 found.1 found.3, pictures.relates role x found.0 (free_of x clear) found.3 found.2, subst (IsIn i c) own.3 inside)
+    truth (AllValuesFrom role c) plain given x lt clear has = λ e below related.
         let far = pictures.related role (place x) e related in
-        let at_x = pictures.same x far.0 lt far.2 (free_of x open) far.4 (sym far.6) (AllValuesFrom role c) in
+        let at_x = pictures.same x far.0 lt far.2 (free_of x clear) far.4 (sym far.6) (AllValuesFrom role c) in
         let has_y : has_concept (label_at g far.1) c ≡ true = all_done k g done far.0 far.2 far.4 role c (sym at_x ∙ has) far.1 far.3 far.8 far.5 in
         let own = pictures.owner far.1 far.3 far.5 in
         subst (IsIn i c) (own.3 ∙ far.7) (truth c plain given own.0 own.1 own.2 (sym (own.4 c) ∙ has_y))
-    truth (HasValue role name) plain given x lt open has =
+    truth (HasValue role name) plain given x lt clear has =
         let node = named name given in
         subst (Relates i role (place x)) (sym (pictures.names name node.0 node.1))
-        (pictures.relates role x node.0 (free_of x open) (free_of node.0 node.3) (value_done k g done x lt (free_of x open) role name node.0 has open node.1))
+        (pictures.relates role x node.0 (free_of x clear) (free_of node.0 node.3) (value_done k g done x lt (free_of x clear) role name node.0 has clear node.1))
 
     -- a class whose complement is in the label
     untruth : (c : Concept) → is_simple c ≡ true → names_given k c ≡ true → (x : ℕ) → x < length g.nodes → is_blocked k g x ≡ false → has_concept (label_at g x) (ComplementOf c) ≡ true → ¬ IsIn i c (place x)
-    untruth Everything plain given x lt open has = λ inside. no_nothing k g calm x lt has
-    untruth (Atomic word) plain given x lt open has = λ inside. no_pair k g calm x lt word (pictures.classes word x lt (free_of x open) inside) has
-    untruth (HasValue role name) plain given x lt open has = λ inside.
+    untruth Everything plain given x lt clear has = λ inside. no_nothing k g calm x lt has
+    untruth (Atomic word) plain given x lt clear has = λ inside. no_pair k g calm x lt word (pictures.classes word x lt (free_of x clear) inside) has
+    untruth (HasValue role name) plain given x lt clear has = λ inside.
         let node = named name given in
         let far = pictures.related role (place x) (place node.0) (subst (Relates i role (place x)) (pictures.names name node.0 node.1) inside) in
-        let at_x = pictures.same x far.0 lt far.2 (free_of x open) far.4 (sym far.6) (ComplementOf (HasValue role name)) in
+        let at_x = pictures.same x far.0 lt far.2 (free_of x clear) far.4 (sym far.6) (ComplementOf (HasValue role name)) in
         let is_node : far.1 ≡ node.0 = pictures.alone far.1 node.0 name far.3 far.5 node.1 far.7 in
         let none : is_neighbour k g role far.0 node.0 ≡ false = no_value k g calm far.0 far.2 role name node.0 (sym at_x ∙ has) node.1 in
         let near : is_neighbour k g role far.0 node.0 ≡ true = ap (is_neighbour k g role far.0) (sym is_node) ∙ far.8 in
@@ -79,26 +79,26 @@ module _ (k : Theory) (g : Graph) (i : Interpretation) (place : ℕ → ℕ) (pi
       where
         both : {b : Bool} → b ≡ true → b ≡ false → ⊥
         both t f = cc
-    untruth (ComplementOf c) plain given x lt open has = cc
-    untruth (IntersectionOf cs) plain given x lt open has = cc
-    untruth (UnionOf cs) plain given x lt open has = cc
-    untruth (SomeValuesFrom role c) plain given x lt open has = cc
-    untruth (AllValuesFrom role c) plain given x lt open has = cc
+    untruth (ComplementOf c) plain given x lt clear has = cc
+    untruth (IntersectionOf cs) plain given x lt clear has = cc
+    untruth (UnionOf cs) plain given x lt clear has = cc
+    untruth (SomeValuesFrom role c) plain given x lt clear has = cc
+    untruth (AllValuesFrom role c) plain given x lt clear has = cc
 
     truth_each : (cs : Concepts) → each_normal cs ≡ true → each_names_given k cs ≡ true → (x : ℕ) → x < length g.nodes → is_blocked k g x ≡ false → list_all (has_concept (label_at g x)) (members_in cs) ≡ true → IsInEach i cs (place x)
-    truth_each no_concept plain given x lt open has = tt
-    truth_each (also_concept c cs) plain given x lt open has =
+    truth_each no_concept plain given x lt clear has = tt
+    truth_each (also_concept c cs) plain given x lt clear has =
         let n = and_parts (is_normal c) (each_normal cs) plain in
         let q = and_parts (names_given k c) (each_names_given k cs) given in
         let h = and_parts (has_concept (label_at g x) c) (list_all (has_concept (label_at g x)) (members_in cs)) has in
-        (truth c n.0 q.0 x lt open h.0, truth_each cs n.1 q.1 x lt open h.1)
+        (truth c n.0 q.0 x lt clear h.0, truth_each cs n.1 q.1 x lt clear h.1)
 
     truth_some : (cs : Concepts) → each_normal cs ≡ true → each_names_given k cs ≡ true → (x : ℕ) → x < length g.nodes → is_blocked k g x ≡ false → list_any (has_concept (label_at g x)) (members_in cs) ≡ true → IsInSome i cs (place x)
-    truth_some no_concept plain given x lt open has = cc
-    truth_some (also_concept c cs) plain given x lt open has =
+    truth_some no_concept plain given x lt clear has = cc
+    truth_some (also_concept c cs) plain given x lt clear has =
         let n = and_parts (is_normal c) (each_normal cs) plain in
         let q = and_parts (names_given k c) (each_names_given k cs) given in
         elim (or_cases (has_concept (label_at g x) c) (list_any (has_concept (label_at g x)) (members_in cs)) has) [
-          | inl here ↦ inl (truth c n.0 q.0 x lt open here)
-          | inr later ↦ inr (truth_some cs n.1 q.1 x lt open later)
+          | inl here ↦ inl (truth c n.0 q.0 x lt clear here)
+          | inr later ↦ inr (truth_some cs n.1 q.1 x lt clear later)
         ]

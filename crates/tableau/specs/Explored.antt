@@ -1,10 +1,11 @@
 -- What came of a branch, with these open choices waiting behind it.
-use Rattle.std.specs.Prelude.{ℕ, zero, suc, ◌≡◌, ◌-◌, Option, Some, is_some, IsTrue, List}
+use Rattle.std.specs.Prelude.{ℕ, zero, suc, ◌≡◌, ◌-◌, true, Option, Some, is_some, IsTrue, List}
 use Rattle.std.specs.Option.{option_and_then}
 use Rattle.logic_terms.specs.Theory.{Theory}
 use Rattle.tableau_rules.specs.Graph.{Graph}
 use Rattle.tableau_rules.specs.Shown.{graph_of}
 use Rattle.tableau_rules.specs.Searching.{OpenChoice, Searching, open_choices, next_search}
+use Rattle.tableau_rules.specs.Trees.{tree_of, closes}
 use Rattle.tableau.specs.declared.searching.Explored.{Explored}
 use Rattle.tableau.specs.declared.searching.Explored.TheVariants.{Finished, Closed, Spent}
 use Rattle.tableau.specs.Ends.{IsEnd}
@@ -24,5 +25,7 @@ GoesPast k used s g = (t : Searching) × (onward k used s ≡ Some t) × (t.grap
 
 abbrev pub IsExplored : Theory → Graph → List OpenChoice → ℕ → ℕ → Explored → Type 0
 IsExplored k g waiting before after (Finished b) = IsEnd k (graph_of b)
-IsExplored k g waiting before after (Closed tree last) = ComesTo k (before - after) (record { graph = g; waiting = waiting }) (graph_of last) waiting
+IsExplored k g waiting before after (Closed tree last) =
+    (closes k g (tree_of tree) ≡ true)
+    × ComesTo k (before - after) (record { graph = g; waiting = waiting }) (graph_of last) waiting
 IsExplored k g waiting before after (Spent b) = GoesPast k before (record { graph = g; waiting = waiting }) (graph_of b)

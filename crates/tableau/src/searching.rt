@@ -2,12 +2,12 @@
 // of `or` is tried on a copy of the branch.
 ghost use Rattle.std.specs.Prelude.{◌≡◌, ◌-◌, ◌≤◌, ◌<◌, ℕ, List, false, Some, IfOk, IsTrue};
 ghost use Rattle.logic_terms.specs.Known.{theory_of};
-ghost use Rattle.logic_terms.specs.Theory.{IsLawful};
 ghost use Rattle.tableau_rules.specs.Shown.{graph_of};
 ghost use Rattle.tableau_rules.specs.Branches.{IsBranch};
 ghost use Rattle.tableau_rules.specs.Clashes.{has_clash};
 ghost use Rattle.tableau_rules.specs.Rules.{first_step, choices};
 ghost use Rattle.tableau_rules.specs.Searching.{OpenChoice};
+ghost use Rattle.tableau_rules.specs.Trees.{tree_of, is_closed};
 ghost use Rattle.tableau.specs.Ends.{IfFinished, IfClosed, IfSpent, IsEnd, IsCutAt};
 ghost use Rattle.tableau.specs.Explored.{IsExplored};
 
@@ -15,15 +15,15 @@ use crate::outcome::Outcome;
 use lists::List;
 use logic_terms::Knowledge;
 use std::alloc::Global;
-use tableau_rules::{Branch, Closed, Rule, Step, applicable, apply, choice_count, clash, start};
+use tableau_rules::{Branch, Closed, Step, applicable, apply, choices, clash, start};
 use wiki_base::Memory;
 
 /// Searches for a model of the knowledge, with at most `budget` rule applications: the first applicable step is applied
 /// again and again, choices of `or` are tried from the first on, and a clash goes back to the last open choice.
 /// docs/REASONING.md has the rules and their order.
 pub fn search(alloc: Global, k: &Knowledge, budget: u64) -> Result<Outcome, Memory>
-    requires { IsLawful (theory_of k.now) }
     ensures finished { IfOk result (λ o. IfFinished o (λ b. IsEnd (theory_of k.now) (graph_of b))) }
+    ensures closed { IfOk result (λ o. IfClosed o (λ tree. IsTrue (is_closed (theory_of k.now) (tree_of tree)))) }
     ensures spent { IfOk result (λ o. IfSpent o (λ b. IsCutAt (theory_of k.now) budget (graph_of b))) }
 {
     let mut left = budget;
@@ -46,8 +46,7 @@ pub(crate) enum Explored {
 // Searches on from a branch.
 #[cycle(exploring)]
 fn explore(alloc: Global, k: &Knowledge, b: Branch, left: &mut u64) -> Result<Explored, Memory>
-    requires lawful { IsLawful (theory_of k.now) }
-    requires branch { IsBranch (theory_of k.now) (graph_of b) }
+    requires { IsBranch (theory_of k.now) (graph_of b) }
     ensures left { left.new ≤ left.old }
     ensures explored { IfOk result (λ e. (waiting : List OpenChoice) → IsExplored (theory_of k.now) (graph_of b) waiting left.old left.new e) }
 {
@@ -56,13 +55,8 @@ fn explore(alloc: Global, k: &Knowledge, b: Branch, left: &mut u64) -> Result<Ex
     }
     match applicable(k, &b) {
         None => Ok(Explored::Finished(b)),
-        Some(step) => {
-            if choice_count(&b, &step) == 1 {
-                follow(alloc, k, b, step, left)
-            } else {
-                try_each(alloc, k, b, step, left)
-            }
-        }
+        Some(step) if choices(&b, &step) == 1 => follow(alloc, k, b, step, left),
+        Some(step) => try_each(alloc, k, b, step, left),
     }
 }
 
@@ -75,7 +69,6 @@ fn follow(
     step: Step,
     left: &mut u64,
 ) -> Result<Explored, Memory>
-    requires lawful { IsLawful (theory_of k.now) }
     requires branch { IsBranch (theory_of k.now) (graph_of b) }
     requires calm { has_clash (theory_of k.now) (graph_of b) ≡ false }
     requires first { first_step (theory_of k.now) (graph_of b) ≡ Some step }
@@ -87,7 +80,7 @@ fn follow(
         return Ok(Explored::Spent(b));
     }
     *left -= 1;
-    apply(alloc, k, &mut b, &step, 0)?;
+    apply(k, &mut b, &step, 0)?;
     match explore(alloc, k, b, left)? {
         Explored::Closed(tree, last) => {
             let mut trees = List::new(alloc);
@@ -107,7 +100,6 @@ fn try_each(
     step: Step,
     left: &mut u64,
 ) -> Result<Explored, Memory>
-    requires lawful { IsLawful (theory_of k.now) }
     requires branch { IsBranch (theory_of k.now) (graph_of b) }
     requires calm { has_clash (theory_of k.now) (graph_of b) ≡ false }
     requires first { first_step (theory_of k.now) (graph_of b) ≡ Some step }
@@ -116,13 +108,13 @@ fn try_each(
 {
     let mut trees = List::new(alloc);
     let mut last = b.copy()?;
-    for choice in 0..choice_count(&b, &step) {
+    for choice in 0..choices(&b, &step) {
         if *left == 0 {
             return Ok(Explored::Spent(last));
         }
         *left -= 1;
         let mut next = b.copy()?;
-        apply(alloc, k, &mut next, &step, choice)?;
+        apply(k, &mut next, &step, choice)?;
         match explore(alloc, k, next, left)? {
             Explored::Closed(tree, closed) => {
                 trees.push(tree)?;

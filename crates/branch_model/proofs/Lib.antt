@@ -1,4 +1,5 @@
 pub mod Climb
+pub mod EntriesLemmas
 pub mod Labels
 pub mod ModelOf
 pub mod Rest

@@ -1,6 +1,0 @@
-//! Answers to questions: the names that are in a class in every model.
-#![tactic(auto)]
-
-mod asking;
-
-pub use asking::{Answers, ask};

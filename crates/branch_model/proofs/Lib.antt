@@ -1,9 +1,0 @@
-pub mod Climb
-pub mod EntriesLemmas
-pub mod Labels
-pub mod ModelOf
-pub mod Rest
-pub mod Same
-pub mod Sound
-pub mod Start
-pub mod Truth

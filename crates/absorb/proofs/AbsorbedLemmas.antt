@@ -301,7 +301,7 @@ absorbed_from claims names k ns equalities hs inclusions same_e same_i same_n sa
       (subst (λ qs. All (λ e. Represents qs e.0 e.1) ns) same_e least);
   hierarchy = λ r s. (
     λ h. subst (λ qs. Reaches (IsPutBelow qs) r s) same_i ((closed r s).0 (subst (λ ps. IsAtOrBelow ps r s) same_h ((is_below-Decides k r s).0 h))),
-    λ h. (is_below-Decides k r s).1 (subst (λ ps. IsAtOrBelow ps r s) (sym same_h) ((closed r s).1 (subst (λ qs. Reaches (IsPutBelow qs) r s) (sym same_i) h)))
+    λ h. (is_below-Decides k r s).1 (subst (λ ps. IsAtOrBelow ps r s) (sym same_h) ((closed r s).1 (subst (λ qs. Reaches (IsPutBelow qs) r s) (sym same_i) h))),
   );
   different = subst (λ ps. All (λ p. same_role p.0 p.1 ≡ false) ps) (sym same_h) distinct.different;
   once = subst (λ ps. AllPairs (λ p q. (same_role p.0 q.0 && same_role p.1 q.1) ≡ false) ps) (sym same_h) distinct.once;

@@ -55,86 +55,86 @@ nothing_in x (k, h, e) = absurd (omega arith)
 -- what is below a role by pairs of which one more is there
 pub lower_more : (hs : List (Role × Role)) (made : List Role) (p : Role × Role) (role : Role) → p.1 ≡ role → ((r : Role) → Contains made r ↔ IsAtOrBelow hs r role) → (r : Role) → Contains (made ++ p.0 ∷ []) r ↔ IsAtOrBelow (hs ++ p ∷ []) r role
 lower_more hs made p role e all r = (
-    λ h. elim (Contains-push_cases made p.0 r h) [
-      | inl old ↦ elim ((all r).0 old) [ inl same ↦ inl same | inr pair ↦ inr (Contains-append_left hs (p ∷ []) (r, role) pair) ]
-      | inr new ↦ inr (subst (λ q. Contains (hs ++ p ∷ []) q) (λ j. (new j, e j)) (Contains-push hs p))
-    ],
-    λ h. elim h [
-      | inl same ↦ Contains-append_left made (p.0 ∷ []) r ((all r).1 (inl same))
-      | inr pair ↦ elim (Contains-push_cases hs p (r, role) pair) [
-        | inl old ↦ Contains-append_left made (p.0 ∷ []) r ((all r).1 (inr old))
-        | inr new ↦ subst (λ q. Contains (made ++ p.0 ∷ []) q) (ap (λ q. q.0) new) (Contains-push made p.0)
-      ]
+  λ h. elim (Contains-push_cases made p.0 r h) [
+    | inl old ↦ elim ((all r).0 old) [ inl same ↦ inl same | inr pair ↦ inr (Contains-append_left hs (p ∷ []) (r, role) pair) ]
+    | inr new ↦ inr (subst (λ q. Contains (hs ++ p ∷ []) q) (λ j. (new j, e j)) (Contains-push hs p))
+  ],
+  λ h. elim h [
+    | inl same ↦ Contains-append_left made (p.0 ∷ []) r ((all r).1 (inl same))
+    | inr pair ↦ elim (Contains-push_cases hs p (r, role) pair) [
+      | inl old ↦ Contains-append_left made (p.0 ∷ []) r ((all r).1 (inr old))
+      | inr new ↦ subst (λ q. Contains (made ++ p.0 ∷ []) q) (ap (λ q. q.0) new) (Contains-push made p.0)
     ]
-  )
+  ],
+)
 
 pub lower_skip : (hs : List (Role × Role)) (made : List Role) (p : Role × Role) (role : Role) → (p.1 ≡ role → ⊥) → ((r : Role) → Contains made r ↔ IsAtOrBelow hs r role) → (r : Role) → Contains made r ↔ IsAtOrBelow (hs ++ p ∷ []) r role
 lower_skip hs made p role ne all r = (
-    λ h. elim ((all r).0 h) [ inl same ↦ inl same | inr pair ↦ inr (Contains-append_left hs (p ∷ []) (r, role) pair) ],
-    λ h. elim h [
-      | inl same ↦ (all r).1 (inl same)
-      | inr pair ↦ elim (Contains-push_cases hs p (r, role) pair) [
-        | inl old ↦ (all r).1 (inr old)
-        | inr new ↦ absurd (ne (ap (λ q. q.1) new))
-      ]
+  λ h. elim ((all r).0 h) [ inl same ↦ inl same | inr pair ↦ inr (Contains-append_left hs (p ∷ []) (r, role) pair) ],
+  λ h. elim h [
+    | inl same ↦ (all r).1 (inl same)
+    | inr pair ↦ elim (Contains-push_cases hs p (r, role) pair) [
+      | inl old ↦ (all r).1 (inr old)
+      | inr new ↦ absurd (ne (ap (λ q. q.1) new))
     ]
-  )
+  ],
+)
 
 pub upper_more : (hs : List (Role × Role)) (made : List Role) (p : Role × Role) (role : Role) → p.0 ≡ role → ((r : Role) → Contains made r ↔ IsAtOrBelow hs role r) → (r : Role) → Contains (made ++ p.1 ∷ []) r ↔ IsAtOrBelow (hs ++ p ∷ []) role r
 upper_more hs made p role e all r = (
-    λ h. elim (Contains-push_cases made p.1 r h) [
-      | inl old ↦ elim ((all r).0 old) [ inl same ↦ inl same | inr pair ↦ inr (Contains-append_left hs (p ∷ []) (role, r) pair) ]
-      | inr new ↦ inr (subst (λ q. Contains (hs ++ p ∷ []) q) (λ j. (e j, new j)) (Contains-push hs p))
-    ],
-    λ h. elim h [
-      | inl same ↦ Contains-append_left made (p.1 ∷ []) r ((all r).1 (inl same))
-      | inr pair ↦ elim (Contains-push_cases hs p (role, r) pair) [
-        | inl old ↦ Contains-append_left made (p.1 ∷ []) r ((all r).1 (inr old))
-        | inr new ↦ subst (λ q. Contains (made ++ p.1 ∷ []) q) (ap (λ q. q.1) new) (Contains-push made p.1)
-      ]
+  λ h. elim (Contains-push_cases made p.1 r h) [
+    | inl old ↦ elim ((all r).0 old) [ inl same ↦ inl same | inr pair ↦ inr (Contains-append_left hs (p ∷ []) (role, r) pair) ]
+    | inr new ↦ inr (subst (λ q. Contains (hs ++ p ∷ []) q) (λ j. (e j, new j)) (Contains-push hs p))
+  ],
+  λ h. elim h [
+    | inl same ↦ Contains-append_left made (p.1 ∷ []) r ((all r).1 (inl same))
+    | inr pair ↦ elim (Contains-push_cases hs p (role, r) pair) [
+      | inl old ↦ Contains-append_left made (p.1 ∷ []) r ((all r).1 (inr old))
+      | inr new ↦ subst (λ q. Contains (made ++ p.1 ∷ []) q) (ap (λ q. q.1) new) (Contains-push made p.1)
     ]
-  )
+  ],
+)
 
 pub upper_skip : (hs : List (Role × Role)) (made : List Role) (p : Role × Role) (role : Role) → (p.0 ≡ role → ⊥) → ((r : Role) → Contains made r ↔ IsAtOrBelow hs role r) → (r : Role) → Contains made r ↔ IsAtOrBelow (hs ++ p ∷ []) role r
 upper_skip hs made p role ne all r = (
-    λ h. elim ((all r).0 h) [ inl same ↦ inl same | inr pair ↦ inr (Contains-append_left hs (p ∷ []) (role, r) pair) ],
-    λ h. elim h [
-      | inl same ↦ (all r).1 (inl same)
-      | inr pair ↦ elim (Contains-push_cases hs p (role, r) pair) [
-        | inl old ↦ (all r).1 (inr old)
-        | inr new ↦ absurd (ne (ap (λ q. q.0) new))
-      ]
+  λ h. elim ((all r).0 h) [ inl same ↦ inl same | inr pair ↦ inr (Contains-append_left hs (p ∷ []) (role, r) pair) ],
+  λ h. elim h [
+    | inl same ↦ (all r).1 (inl same)
+    | inr pair ↦ elim (Contains-push_cases hs p (role, r) pair) [
+      | inl old ↦ (all r).1 (inr old)
+      | inr new ↦ absurd (ne (ap (λ q. q.0) new))
     ]
-  )
+  ],
+)
 
 -- the role itself alone, before any pair
 pub itself_lower : (role r : Role) → Contains ([] ++ role ∷ []) r ↔ IsAtOrBelow [] r role
 itself_lower role r = (
-    λ h. elim (Contains-push_cases [] role r h) [ inl none ↦ absurd (nothing_in r none) | inr same ↦ inl (sym same) ],
-    λ h. elim h [ inl same ↦ subst (λ q. Contains ([] ++ role ∷ []) q) (sym same) (Contains-push [] role) | inr pair ↦ absurd (nothing_in (r, role) pair) ]
-  )
+  λ h. elim (Contains-push_cases [] role r h) [ inl none ↦ absurd (nothing_in r none) | inr same ↦ inl (sym same) ],
+  λ h. elim h [ inl same ↦ subst (λ q. Contains ([] ++ role ∷ []) q) (sym same) (Contains-push [] role) | inr pair ↦ absurd (nothing_in (r, role) pair) ],
+)
 
 pub itself_upper : (role r : Role) → Contains ([] ++ role ∷ []) r ↔ IsAtOrBelow [] role r
 itself_upper role r = (
-    λ h. elim (Contains-push_cases [] role r h) [ inl none ↦ absurd (nothing_in r none) | inr same ↦ inl same ],
-    λ h. elim h [ inl same ↦ subst (λ q. Contains ([] ++ role ∷ []) q) same (Contains-push [] role) | inr pair ↦ absurd (nothing_in (role, r) pair) ]
-  )
+  λ h. elim (Contains-push_cases [] role r h) [ inl none ↦ absurd (nothing_in r none) | inr same ↦ inl same ],
+  λ h. elim h [ inl same ↦ subst (λ q. Contains ([] ++ role ∷ []) q) same (Contains-push [] role) | inr pair ↦ absurd (nothing_in (role, r) pair) ],
+)
 
 -- a role put below one more: the pair is new
 pub put_more : (before hs : List (Role × Role)) (below role : Role) (passed : List Role) → ((r s : Role) → IsAtOrBelow hs r s ↔ (IsAtOrBelow before r s ⊎ ((below ≡ r) × Contains passed s))) → (r s : Role) → IsAtOrBelow (hs ++ (below, role) ∷ []) r s ↔ (IsAtOrBelow before r s ⊎ ((below ≡ r) × Contains (passed ++ role ∷ []) s))
 put_more before hs below role passed all r s = (
-    λ h. elim (split h) [
-      | inl old ↦ widen ((all r s).0 old)
-      | inr new ↦ inr (ap (λ q. q.0) new, subst (λ q. Contains (passed ++ role ∷ []) q) (ap (λ q. q.1) new) (Contains-push passed role))
-    ],
-    λ h. elim h [
-      | inl old ↦ grow ((all r s).1 (inl old))
-      | inr both ↦ elim (Contains-push_cases passed role s both.1) [
-        | inl old ↦ grow ((all r s).1 (inr (both.0, old)))
-        | inr new ↦ inr (subst (λ q. Contains (hs ++ (below, role) ∷ []) q) (λ j. (both.0 j, new j)) (Contains-push hs (below, role)))
-      ]
+  λ h. elim (split h) [
+    | inl old ↦ widen ((all r s).0 old)
+    | inr new ↦ inr (ap (λ q. q.0) new, subst (λ q. Contains (passed ++ role ∷ []) q) (ap (λ q. q.1) new) (Contains-push passed role))
+  ],
+  λ h. elim h [
+    | inl old ↦ grow ((all r s).1 (inl old))
+    | inr both ↦ elim (Contains-push_cases passed role s both.1) [
+      | inl old ↦ grow ((all r s).1 (inr (both.0, old)))
+      | inr new ↦ inr (subst (λ q. Contains (hs ++ (below, role) ∷ []) q) (λ j. (both.0 j, new j)) (Contains-push hs (below, role)))
     ]
-  )
+  ],
+)
   where
     split : IsAtOrBelow (hs ++ (below, role) ∷ []) r s → IsAtOrBelow hs r s ⊎ (◌≡◌ {A = Role × Role} (below, role) (r, s))
     split h = elim h [
@@ -151,15 +151,15 @@ put_more before hs below role passed all r s = (
 -- a role that is below one more already
 pub put_skip : (before hs : List (Role × Role)) (below role : Role) (passed : List Role) → IsAtOrBelow hs below role → ((r s : Role) → IsAtOrBelow hs r s ↔ (IsAtOrBelow before r s ⊎ ((below ≡ r) × Contains passed s))) → (r s : Role) → IsAtOrBelow hs r s ↔ (IsAtOrBelow before r s ⊎ ((below ≡ r) × Contains (passed ++ role ∷ []) s))
 put_skip before hs below role passed there all r s = (
-    λ h. elim ((all r s).0 h) [ inl old ↦ inl old | inr both ↦ inr (both.0, Contains-append_left passed (role ∷ []) s both.1) ],
-    λ h. elim h [
-      | inl old ↦ (all r s).1 (inl old)
-      | inr both ↦ elim (Contains-push_cases passed role s both.1) [
-        | inl old ↦ (all r s).1 (inr (both.0, old))
-        | inr new ↦ subst (λ q. IsAtOrBelow hs r q) new (subst (λ q. IsAtOrBelow hs q role) both.0 there)
-      ]
+  λ h. elim ((all r s).0 h) [ inl old ↦ inl old | inr both ↦ inr (both.0, Contains-append_left passed (role ∷ []) s both.1) ],
+  λ h. elim h [
+    | inl old ↦ (all r s).1 (inl old)
+    | inr both ↦ elim (Contains-push_cases passed role s both.1) [
+      | inl old ↦ (all r s).1 (inr (both.0, old))
+      | inr new ↦ subst (λ q. IsAtOrBelow hs r q) new (subst (λ q. IsAtOrBelow hs q role) both.0 there)
     ]
-  )
+  ],
+)
 
 pub put_none : (hs : List (Role × Role)) (below r s : Role) → IsAtOrBelow hs r s ↔ (IsAtOrBelow hs r s ⊎ ((below ≡ r) × Contains [] s))
 put_none hs below r s = (λ h. inl h, λ h. elim h [ inl old ↦ old | inr both ↦ absurd (nothing_in s both.1) ])
@@ -168,9 +168,9 @@ put_none hs below r s = (λ h. inl h, λ h. elim h [ inl old ↦ old | inr both 
 pub distinct_push : (hs : List (Role × Role)) (below role : Role) → AreDistinct hs → ¬ IsAtOrBelow hs below role → AreDistinct (hs ++ (below, role) ∷ [])
 distinct_push hs below role d out = record {
   different = All-push (λ p. same_role p.0 p.1 ≡ false) hs (below, role) d.different
-    (is_false (same_role below role) (λ t. out (inl ((same_role-Decides below role).0 t))));
+      (is_false (same_role below role) (λ t. out (inl ((same_role-Decides below role).0 t))));
   once = all_pairs_push (λ p q. (same_role p.0 q.0 && same_role p.1 q.1) ≡ false) hs (below, role) d.once
-    (λ k e lt. is_false (same_role (get_or hs k e).0 below && same_role (get_or hs k e).1 role)
+      (λ k e lt. is_false (same_role (get_or hs k e).0 below && same_role (get_or hs k e).1 role)
       (λ t. out (inr (subst (λ q. Contains hs q) ((pair_is (get_or hs k e) below role).0 t) (Rattle.std.proofs.lemmas.List.Elements.Contains-get_or hs k e lt)))));
 }
   where
@@ -181,27 +181,27 @@ distinct_push hs below role d out = record {
 -- pairs of each of some roles with each of others
 pub product_more : (before hs hs' : List (Role × Role)) (first : Role) (passed upper : List Role) → ((r s : Role) → IsAtOrBelow hs r s ↔ (IsAtOrBelow before r s ⊎ (Contains passed r × Contains upper s))) → ((r s : Role) → IsAtOrBelow hs' r s ↔ (IsAtOrBelow hs r s ⊎ ((first ≡ r) × Contains upper s))) → (r s : Role) → IsAtOrBelow hs' r s ↔ (IsAtOrBelow before r s ⊎ (Contains (passed ++ first ∷ []) r × Contains upper s))
 product_more before hs hs' first passed upper all step r s = (
-    λ h. elim ((step r s).0 h) [
-      | inl old ↦ elim ((all r s).0 old) [ inl before' ↦ inl before' | inr both ↦ inr (Contains-append_left passed (first ∷ []) r both.0, both.1) ]
-      | inr new ↦ inr (subst (λ q. Contains (passed ++ first ∷ []) q) new.0 (Contains-push passed first), new.1)
-    ],
-    λ h. elim h [
-      | inl old ↦ (step r s).1 (inl ((all r s).1 (inl old)))
-      | inr both ↦ elim (Contains-push_cases passed first r both.0) [
-        | inl old ↦ (step r s).1 (inl ((all r s).1 (inr (old, both.1))))
-        | inr new ↦ (step r s).1 (inr (new, both.1))
-      ]
+  λ h. elim ((step r s).0 h) [
+    | inl old ↦ elim ((all r s).0 old) [ inl before' ↦ inl before' | inr both ↦ inr (Contains-append_left passed (first ∷ []) r both.0, both.1) ]
+    | inr new ↦ inr (subst (λ q. Contains (passed ++ first ∷ []) q) new.0 (Contains-push passed first), new.1)
+  ],
+  λ h. elim h [
+    | inl old ↦ (step r s).1 (inl ((all r s).1 (inl old)))
+    | inr both ↦ elim (Contains-push_cases passed first r both.0) [
+      | inl old ↦ (step r s).1 (inl ((all r s).1 (inr (old, both.1))))
+      | inr new ↦ (step r s).1 (inr (new, both.1))
     ]
-  )
+  ],
+)
 
 pub product_none : (hs : List (Role × Role)) (upper : List Role) (r s : Role) → IsAtOrBelow hs r s ↔ (IsAtOrBelow hs r s ⊎ (Contains [] r × Contains upper s))
 product_none hs upper r s = (λ h. inl h, λ h. elim h [ inl old ↦ old | inr both ↦ absurd (nothing_in r both.0) ])
 
 pub product_all : (before hs : List (Role × Role)) (lower upper : List Role) (below above : Role) → ((r : Role) → Contains lower r ↔ IsAtOrBelow before r below) → ((r : Role) → Contains upper r ↔ IsAtOrBelow before above r) → ((r s : Role) → IsAtOrBelow hs r s ↔ (IsAtOrBelow before r s ⊎ (Contains lower r × Contains upper s))) → (r s : Role) → IsAtOrBelow hs r s ↔ (IsAtOrBelow before r s ⊎ (IsAtOrBelow before r below × IsAtOrBelow before above s))
 product_all before hs lower upper below above low up all r s = (
-    λ h. elim ((all r s).0 h) [ inl old ↦ inl old | inr both ↦ inr ((low r).0 both.0, (up s).0 both.1) ],
-    λ h. elim h [ inl old ↦ (all r s).1 (inl old) | inr both ↦ (all r s).1 (inr ((low r).1 both.0, (up s).1 both.1)) ]
-  )
+  λ h. elim ((all r s).0 h) [ inl old ↦ inl old | inr both ↦ inr ((low r).0 both.0, (up s).0 both.1) ],
+  λ h. elim h [ inl old ↦ (all r s).1 (inl old) | inr both ↦ (all r s).1 (inr ((low r).1 both.0, (up s).1 both.1)) ],
+)
 
 turned_twice : (b : Bool) → not (not b) ≡ b
 turned_twice true = refl
@@ -248,15 +248,15 @@ halfway_put ps p r s h = elim h [
 -- what two puttings make of a closure is the closure with one more inclusion
 closed_turned : (ps hs hs' hs'' : List (Role × Role)) (p : Role × Role) → ((r s : Role) → IsAtOrBelow hs r s ↔ Reaches (IsPutBelow ps) r s) → ((r s : Role) → IsAtOrBelow hs' r s ↔ (IsAtOrBelow hs r s ⊎ (IsAtOrBelow hs r p.0 × IsAtOrBelow hs p.1 s))) → ((r s : Role) → IsAtOrBelow hs'' r s ↔ (IsAtOrBelow hs' r s ⊎ (IsAtOrBelow hs' r (inverse p.0) × IsAtOrBelow hs' (inverse p.1) s))) → (r s : Role) → IsAtOrBelow hs'' r s ↔ Reaches (IsPutBelow (ps ++ p ∷ [])) r s
 closed_turned ps hs hs' hs'' p closed first second r s = (
-    λ h. elim ((second r s).0 h) [
-      | inl one ↦ there r s one
-      | inr two ↦ closure.join step r (inverse p.1) s (closure.onward step r (inverse p.0) (inverse p.1) (there r (inverse p.0) two.0) (put_turned ps p)) (there (inverse p.1) s two.1)
-    ],
-    λ h. elim (closure.one_more (Halfway ps p) step (inverse p.0) (inverse p.1) (put_cases ps p) r s h) [
-      | inl one ↦ (second r s).1 (inl (half r s one))
-      | inr two ↦ (second r s).1 (inr (half r (inverse p.0) two.0, half (inverse p.1) s two.1))
-    ]
-  )
+  λ h. elim ((second r s).0 h) [
+    | inl one ↦ there r s one
+    | inr two ↦ closure.join step r (inverse p.1) s (closure.onward step r (inverse p.0) (inverse p.1) (there r (inverse p.0) two.0) (put_turned ps p)) (there (inverse p.1) s two.1)
+  ],
+  λ h. elim (closure.one_more (Halfway ps p) step (inverse p.0) (inverse p.1) (put_cases ps p) r s h) [
+    | inl one ↦ (second r s).1 (inl (half r s one))
+    | inr two ↦ (second r s).1 (inr (half r (inverse p.0) two.0, half (inverse p.1) s two.1))
+  ],
+)
   where
     step : Role → Role → Type 0
     step = IsPutBelow (ps ++ p ∷ [])
@@ -287,6 +287,6 @@ nothing_put r s h = elim h [ inl plain ↦ nothing_in (r, s) plain | inr turned 
 
 pub closed_none : (r s : Role) → IsAtOrBelow [] r s ↔ Reaches (IsPutBelow []) r s
 closed_none r s = (
-    λ h. elim h [ inl same ↦ (0, same) | inr pair ↦ absurd (nothing_in (r, s) pair) ],
-    λ h. closure.kept (IsPutBelow []) (λ x y. IsAtOrBelow [] x y) (λ x. inl refl) (λ x y z old step. absurd (nothing_put y z step)) r s h
-  )
+  λ h. elim h [ inl same ↦ (0, same) | inr pair ↦ absurd (nothing_in (r, s) pair) ],
+  λ h. closure.kept (IsPutBelow []) (λ x y. IsAtOrBelow [] x y) (λ x. inl refl) (λ x y z old step. absurd (nothing_put y z step)) r s h,
+)

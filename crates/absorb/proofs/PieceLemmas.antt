@@ -135,9 +135,9 @@ holds-guarded i cs d word h =
     (λ x. implies (is_in i (Atomic word) x) (is_in i (either (complement (together (without_first_word cs))) d) x))
     (λ x. implies (is_in_each i cs x) (is_in i d x))
     (λ x. ap (implies (is_in i (Atomic word) x))
-      (is_in-general i (together (without_first_word cs)) d x ∙ ap (λ b. implies b (is_in i d x)) (is_in-together i (without_first_word cs) x))
-      ∙ implies_twice (is_in i (Atomic word) x) (is_in_each i (without_first_word cs) x) (is_in i d x)
-      ∙ ap (λ b. implies b (is_in i d x)) (sym (is_in_each-first i cs word x h)))
+    (is_in-general i (together (without_first_word cs)) d x ∙ ap (λ b. implies b (is_in i d x)) (is_in-together i (without_first_word cs) x))
+    ∙ implies_twice (is_in i (Atomic word) x) (is_in_each i (without_first_word cs) x) (is_in i d x)
+    ∙ ap (λ b. implies b (is_in i d x)) (sym (is_in_each-first i cs word x h)))
 
 holds_by_word : (i : Interpretation) (cs : Concepts) (d : Concept) (o : Option WordId) → first_word cs ≡ o → list_all (piece_holds i) (option_map_or (guarded cs d) o (general (IntersectionOf cs) d) ∷ []) ≡ holds i (SubClassOf (IntersectionOf cs) d)
 holds_by_word i cs d None h = and_true (piece_holds i (general (IntersectionOf cs) d)) ∙ holds-general i (IntersectionOf cs) d
@@ -146,9 +146,10 @@ holds_by_word i cs d (Some word) h = and_true (piece_holds i (guarded cs d word)
 -- an inclusion of the elements with a successor in c is one of c in those whose predecessors are all in d
 holds-turned : (i : Interpretation) (role : Role) (c d : Concept) → holds i (SubClassOf c (AllValuesFrom (inverse role) d)) ≡ holds i (SubClassOf (SomeValuesFrom role c) d)
 holds-turned i role c d =
-    same_from_decides {P = Holds i (SubClassOf (SomeValuesFrom role c) d)} (holds i (SubClassOf c (AllValuesFrom (inverse role) d))) (holds i (SubClassOf (SomeValuesFrom role c) d))
-    (λ t x lt w. (holds-Decides i (SubClassOf c (AllValuesFrom (inverse role) d))).0 t w.0 w.1 w.3 x lt (Relates-inverse i role x w.0 w.2),
-     λ all. (holds-Decides i (SubClassOf c (AllValuesFrom (inverse role) d))).1 (λ x lt inside y below related. all y below (x, lt, Relates-turned i role y x related, inside)))
+    same_from_decides {P = Holds i (SubClassOf (SomeValuesFrom role c) d)} (holds i (SubClassOf c (AllValuesFrom (inverse role) d))) (holds i (SubClassOf (SomeValuesFrom role c) d)) (
+      λ t x lt w. (holds-Decides i (SubClassOf c (AllValuesFrom (inverse role) d))).0 t w.0 w.1 w.3 x lt (Relates-inverse i role x w.0 w.2),
+      λ all. (holds-Decides i (SubClassOf c (AllValuesFrom (inverse role) d))).1 (λ x lt inside y below related. all y below (x, lt, Relates-turned i role y x related, inside)),
+    )
     (holds-Decides i (SubClassOf (SomeValuesFrom role c) d))
 
 holds-value : (i : Interpretation) (role : Role) (name : WordId) (d : Concept) → holds i (ClassAssertion (AllValuesFrom (inverse role) d) name) ≡ holds i (SubClassOf (HasValue role name) d)
@@ -175,7 +176,7 @@ mutual
       ∙ ap (λ b. b && list_all (piece_holds i) (inclusions cs d)) (holds-inclusion i c d)
       ∙ ap (λ b. holds i (SubClassOf c d) && b) (holds-inclusions i cs d)
       ∙ sym (each_below-same i.size (λ x. implies (is_in i c x || is_in_some i cs x) (is_in i d x)) (λ x. implies (is_in i c x) (is_in i d x) && implies (is_in_some i cs x) (is_in i d x)) (λ x. implies_or (is_in i c x) (is_in_some i cs x) (is_in i d x))
-        ∙ each_below-and i.size (λ x. implies (is_in i c x) (is_in i d x)) (λ x. implies (is_in_some i cs x) (is_in i d x)))
+      ∙ each_below-and i.size (λ x. implies (is_in i c x) (is_in i d x)) (λ x. implies (is_in_some i cs x) (is_in i d x)))
 
 holds-pieces_of : (i : Interpretation) (claim : Claim) → list_all (piece_holds i) (pieces_of claim) ≡ holds i claim
 holds-pieces_of i (SubClassOf c d) = holds-inclusion i c d

@@ -75,14 +75,16 @@ first_found cs k c word at is before = record {
         nothing j e = cc
     go (x ∷ xs) zero at' none =
         let same : x ≡ c = cc in
-        let here : word_of x ≡ Some word = ap word_of same ∙ is in
-        (ap (λ o. option_map_or (λ w. Some w) o (first_word (concepts_from xs))) here,
-         ap (λ o. option_map_or (λ w. concepts_from xs) o (also_concept x (without_first_word (concepts_from xs)))) here)
+        let here : word_of x ≡ Some word = ap word_of same ∙ is in (
+          ap (λ o. option_map_or (λ w. Some w) o (first_word (concepts_from xs))) here,
+          ap (λ o. option_map_or (λ w. concepts_from xs) o (also_concept x (without_first_word (concepts_from xs)))) here,
+        )
     go (x ∷ xs) (suc j) at' none =
         let parts = none_before x (concepts_from (take j xs)) (word_of x) none in
-        let rest = go xs j at' parts.1 in
-        (ap (λ o. option_map_or (λ w. Some w) o (first_word (concepts_from xs))) parts.0 ∙ rest.0,
-         ap (λ o. option_map_or (λ w. concepts_from xs) o (also_concept x (without_first_word (concepts_from xs)))) parts.0 ∙ ap (also_concept x) rest.1)
+        let rest = go xs j at' parts.1 in (
+          ap (λ o. option_map_or (λ w. Some w) o (first_word (concepts_from xs))) parts.0 ∙ rest.0,
+          ap (λ o. option_map_or (λ w. concepts_from xs) o (also_concept x (without_first_word (concepts_from xs)))) parts.0 ∙ ap (also_concept x) rest.1,
+        )
 
 pub map-remove : {X Y : Type 0} (f : X → Y) (xs : List X) (k : ℕ) → map f (remove xs k) ≡ remove (map f xs) k
 map-remove f xs k = go xs k

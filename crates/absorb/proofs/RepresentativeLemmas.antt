@@ -171,18 +171,20 @@ same_firsts gone stays e ps h = subst (λ n. Represents ps n (renamed gone stays
     first false = refl
 
 merged_entries : (ps : List (WordId × WordId)) (p : WordId × WordId) (es : List (WordId × WordId)) (a b : WordId) → Represents ps p.0 a → Represents ps p.1 b → (names : List WordId) → AreEntries names ps es → (low : Bool) → nat_le a.0 b.0 ≡ low → AreEntries names (ps ++ p ∷ []) (if low then map (renamed b a) es else map (renamed a b) es)
-merged_entries ps p es a b of_a of_b names given true h =
-    (names_renamed b a es ∙ given.0,
-     All-map (λ e. Represents (ps ++ p ∷ []) e.0 e.1) (renamed b a) es
-       (All-weaker (λ e. Represents ps e.0 e.1) (λ e. Represents (ps ++ p ∷ []) (renamed b a e).0 (renamed b a e).1)
-         (λ e r. same_firsts b a e (ps ++ p ∷ []) (merged_entry ps p p.0 p.1 a b of_a of_b (leb-true a.0 b.0 h) (1, (p.1, refl, inr (Contains-push ps p))) (joined_split ps p) e r))
-         es given.1))
-merged_entries ps p es a b of_a of_b names given false h =
-    (names_renamed a b es ∙ given.0,
-     All-map (λ e. Represents (ps ++ p ∷ []) e.0 e.1) (renamed a b) es
-       (All-weaker (λ e. Represents ps e.0 e.1) (λ e. Represents (ps ++ p ∷ []) (renamed a b e).0 (renamed a b e).1)
-         (λ e r. same_firsts a b e (ps ++ p ∷ []) (merged_entry ps p p.1 p.0 b a of_b of_a (smaller (leb-false a.0 b.0 h)) (1, (p.0, refl, inl (Contains-push ps p))) (λ x y s. swap_sides ps p.0 p.1 x y (joined_split ps p x y s)) e r))
-         es given.1))
+merged_entries ps p es a b of_a of_b names given true h = (
+  names_renamed b a es ∙ given.0,
+  All-map (λ e. Represents (ps ++ p ∷ []) e.0 e.1) (renamed b a) es
+      (All-weaker (λ e. Represents ps e.0 e.1) (λ e. Represents (ps ++ p ∷ []) (renamed b a e).0 (renamed b a e).1)
+      (λ e r. same_firsts b a e (ps ++ p ∷ []) (merged_entry ps p p.0 p.1 a b of_a of_b (leb-true a.0 b.0 h) (1, (p.1, refl, inr (Contains-push ps p))) (joined_split ps p) e r))
+      es given.1),
+)
+merged_entries ps p es a b of_a of_b names given false h = (
+  names_renamed a b es ∙ given.0,
+  All-map (λ e. Represents (ps ++ p ∷ []) e.0 e.1) (renamed a b) es
+      (All-weaker (λ e. Represents ps e.0 e.1) (λ e. Represents (ps ++ p ∷ []) (renamed a b e).0 (renamed a b e).1)
+      (λ e r. same_firsts a b e (ps ++ p ∷ []) (merged_entry ps p p.1 p.0 b a of_b of_a (smaller (leb-false a.0 b.0 h)) (1, (p.0, refl, inl (Contains-push ps p))) (λ x y s. swap_sides ps p.0 p.1 x y (joined_split ps p x y s)) e r))
+      es given.1),
+)
   where
     smaller : b.0 < a.0 → b.0 ≤ a.0
     smaller lt = omega arith
@@ -210,9 +212,10 @@ alone : (x y : WordId) → Reaches (AreEquated []) x y → x ≡ y
 alone x y h = closure.kept (AreEquated []) (λ u v. u ≡ v) (λ u. refl) (λ u v w e step. absurd (nothing_equated v w step)) x y h
 
 pub itself_represents : (names : List WordId) → AreEntries names [] (map (λ (n : WordId). (n, n)) names)
-itself_represents names =
-    (again names,
-     All-map (λ e. Represents [] e.0 e.1) (λ (n : WordId). (n, n)) names (λ k d lt. mine (get_or names k d)))
+itself_represents names = (
+  again names,
+  All-map (λ e. Represents [] e.0 e.1) (λ (n : WordId). (n, n)) names (λ k d lt. mine (get_or names k d)),
+)
   where
     again : (ns : List WordId) → map (λ (e : WordId × WordId). e.0) (map (λ (n : WordId). (n, n)) ns) ≡ ns
     again [] = refl

@@ -21,7 +21,12 @@ pub(crate) fn hierarchy(
     let mut made = Vec::new(alloc);
     for inclusion in inclusions {
         put_below(alloc, &mut made, inclusion.0, inclusion.1)?;
-        put_below(alloc, &mut made, inclusion.0.inverse(), inclusion.1.inverse())?;
+        put_below(
+            alloc,
+            &mut made,
+            inclusion.0.inverse(),
+            inclusion.1.inverse(),
+        )?;
     }
     Ok(made)
 }
@@ -46,11 +51,7 @@ fn put_below(
 }
 
 // Puts one role below each of several.
-fn put_each(
-    hierarchy: &mut Vec<(Role, Role)>,
-    below: Role,
-    above: &[Role],
-) -> Result<(), Memory>
+fn put_each(hierarchy: &mut Vec<(Role, Role)>, below: Role, above: &[Role]) -> Result<(), Memory>
     requires { AreDistinct hierarchy.old.items }
     ensures closed { OnOk result ((r s : Role) → IsAtOrBelow hierarchy.new.items r s ↔ (IsAtOrBelow hierarchy.old.items r s ⊎ ((below ≡ r) × Contains above.now s))) }
     ensures distinct { OnOk result (AreDistinct hierarchy.new.items) }
@@ -85,11 +86,7 @@ fn is_same(one: Role, other: Role) -> bool
 }
 
 // A role and those that pairs put below it.
-fn lower(
-    alloc: Global,
-    hierarchy: &[(Role, Role)],
-    role: Role,
-) -> Result<Vec<Role>, Memory>
+fn lower(alloc: Global, hierarchy: &[(Role, Role)], role: Role) -> Result<Vec<Role>, Memory>
     ensures { IfOk result (λ made. (r : Role) → Contains made.items r ↔ IsAtOrBelow hierarchy.now r role) }
 {
     let mut made = Vec::new(alloc);
@@ -103,11 +100,7 @@ fn lower(
 }
 
 // A role and those that pairs put above it.
-fn upper(
-    alloc: Global,
-    hierarchy: &[(Role, Role)],
-    role: Role,
-) -> Result<Vec<Role>, Memory>
+fn upper(alloc: Global, hierarchy: &[(Role, Role)], role: Role) -> Result<Vec<Role>, Memory>
     ensures { IfOk result (λ made. (r : Role) → Contains made.items r ↔ IsAtOrBelow hierarchy.now role r) }
 {
     let mut made = Vec::new(alloc);

@@ -56,12 +56,7 @@ fn include_each(
 }
 
 // Adds that each element is outside the one class or in the other.
-fn cover_all(
-    alloc: Global,
-    pieces: &mut Pieces,
-    below: &Class,
-    above: &Class,
-) -> Result<(), Memory>
+fn cover_all(alloc: Global, pieces: &mut Pieces, below: &Class, above: &Class) -> Result<(), Memory>
     ensures { OnOk result (found pieces.new ≡ with_piece (found pieces.old) (general (concept_of below.now) (concept_of above.now))) }
 {
     pieces.cover(outside_or_in(alloc, below, above)?)

@@ -7,5 +7,7 @@ mod knowledge;
 mod pieces;
 mod representatives;
 mod sorting;
+#[cfg(test)]
+mod tests;
 
 pub use knowledge::absorb;

@@ -51,7 +51,10 @@ fn join(
 ) -> Result<Vec<(WordId, WordId)>, Memory>
     ensures { IfOk result (λ made. made.items ≡ joined entries.now one other) }
 {
-    match (representative_in(entries, one), representative_in(entries, other)) {
+    match (
+        representative_in(entries, one),
+        representative_in(entries, other),
+    ) {
         (Some(first), Some(second)) if first.0 <= second.0 => {
             rename(alloc, entries, second, first)
         }

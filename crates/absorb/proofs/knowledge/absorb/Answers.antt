@@ -34,6 +34,6 @@ returns-clause-plain c h = plain_theory (claims_of c.args.axioms.now) c.args.nam
 
 pub returns-clause-models : goal.returns-clause-models
 returns-clause-models c i = (
-    λ m. model_from (claims_of c.args.axioms.now) c.args.names.now (theory_of c.new.result) (returns-clause-exact c) c.requires i m,
-    λ m. model_of (claims_of c.args.axioms.now) c.args.names.now (theory_of c.new.result) (returns-clause-exact c) c.requires i m
-  )
+  λ m. model_from (claims_of c.args.axioms.now) c.args.names.now (theory_of c.new.result) (returns-clause-exact c) c.requires i m,
+  λ m. model_of (claims_of c.args.axioms.now) c.args.names.now (theory_of c.new.result) (returns-clause-exact c) c.requires i m,
+)

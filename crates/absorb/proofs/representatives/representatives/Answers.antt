@@ -23,7 +23,7 @@ loop-equality-preserved c =
     let there : (is_among names p.0 && is_among names p.1) ≡ true = each_passes (λ (e : WordId × WordId). is_among names e.0 && is_among names e.1) ps c.requires k no_pair lt in
     let made : c.in_ok-made-2.made.items ≡ joined c.loop-equality.made.items p.0 p.1 = c.in_ok-made-2.ensures ∙ ap (λ es. joined es p.0 p.1) c.as_slice.ensures.value in
     let both : AreEntries names (take k ps ++ p ∷ []) c.in_ok-made-2.made.items =
-      subst (AreEntries names (take k ps ++ p ∷ [])) (sym made) (joined_entries (take k ps) p c.loop-equality.made.items names there c.loop-equality.invariant.given c.loop-equality.invariant.least) in
+    subst (AreEntries names (take k ps ++ p ∷ [])) (sym made) (joined_entries (take k ps) p c.loop-equality.made.items names there c.loop-equality.invariant.given c.loop-equality.invariant.least) in
     record {
       given = both.0;
       least = subst (λ qs. All (λ (e : WordId × WordId). Represents qs e.0 e.1) c.in_ok-made-2.made.items) (sym (take_more ps k no_pair lt)) both.1;

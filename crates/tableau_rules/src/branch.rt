@@ -5,7 +5,8 @@ ghost use Rattle.tableau_rules.specs.Graph.{Graph, Vertex, label_at, class_at, p
 ghost use Rattle.tableau_rules.specs.Shown.{graph_of, vertex_of};
 
 use logic_terms::{Class, Classes, Role};
-use wiki_base::{Copied, Memory};
+use std::alloc::Global;
+use wiki_base::Memory;
 
 /// An edge from a node to a node. The role is as it was written, which may be inverted.
 #[derive(Clone, Copy, Debug, PartialEq, Eq)]

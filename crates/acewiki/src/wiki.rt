@@ -13,7 +13,7 @@ use ace_grammar::built_in;
 use lexicon::{FormFault, Forms, Kind, LexFault, Lexicon, MOST_WORDS, Texts, forms};
 use std::alloc::{AllocError, AllocFailed, Global};
 use std::marker::Model;
-use wiki_base::{BadText, Copied, Memory, Text, Text8, WordId};
+use wiki_base::{BadText, Memory, Text, Text8, WordId};
 
 // Why a request changes nothing.
 #[derive(Drop)]

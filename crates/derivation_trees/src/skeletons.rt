@@ -4,7 +4,7 @@ ghost use Rattle.derivation_trees.specs.Codes.{skeleton_code};
 
 use lists::{Copied, List};
 use std::alloc::Global;
-use wiki_base::{Copied, List, Memory, WordId};
+use wiki_base::{Memory, WordId};
 
 /// Words, one for each preterminal of a rule, in the order of its body.
 pub type Words = List<WordId>;

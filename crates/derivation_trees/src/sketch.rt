@@ -15,7 +15,7 @@ use crate::trees::Tree;
 use codeco_terms::{Element, Ground, Value};
 use lists::List;
 use std::alloc::Global;
-use wiki_base::{List, Memory, WordId};
+use wiki_base::{Memory, WordId};
 
 /// The feature of preterminals that holds the word.
 const WORD_FEATURE: u16 = 3;

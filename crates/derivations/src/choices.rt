@@ -10,7 +10,7 @@ use derivation_trees::{Setting, push_own_features, written_variables};
 use lists::List;
 use scopes::Test;
 use std::alloc::Global;
-use wiki_base::{List, Memory};
+use wiki_base::Memory;
 
 // A feature with what is written for it.
 type Feat = (u16, Term);

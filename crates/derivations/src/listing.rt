@@ -12,7 +12,7 @@ use derivation_trees::{Binds, Places, Setting, Tree, Trees, closed, fits, own_va
 use lists::List;
 use scopes::{Access, Test};
 use std::alloc::Global;
-use wiki_base::{List, Memory};
+use wiki_base::Memory;
 
 // Adds the paths after each of the children.
 fn push_children(

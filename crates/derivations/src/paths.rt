@@ -9,7 +9,7 @@ use derivation_trees::{Progress, Setting, Tree, Trees, pass, tests_under};
 use lists::List;
 use scopes::{Access, Tests};
 use std::alloc::Global;
-use wiki_base::{List, Memory};
+use wiki_base::Memory;
 
 // A node of which some elements are passed: the positions that its references have found, its own variables to come, its
 // children, and the place and the list where it stands.

@@ -8,7 +8,7 @@ use codeco_terms::{Declared, Ground, Value};
 use derivation_trees::Setting;
 use lists::List;
 use std::alloc::Global;
-use wiki_base::{List, Memory, WordId};
+use wiki_base::{Memory, WordId};
 
 /// The feature of preterminals that holds the word.
 const WORD_FEATURE: u16 = 3;

@@ -4,7 +4,7 @@ ghost use Rattle.logic_terms.specs.Shown.{concept_of, concepts_of};
 ghost use Rattle.logic_terms.specs.declared.expressions.Class.TheViews.{size-Class, size-Classes};
 
 use std::alloc::Global;
-use wiki_base::{Copied, Memory, WordId};
+use wiki_base::{Memory, WordId};
 
 /// A relation word, read from its first place to its second, or the other way where `inverted`.
 #[derive(Clone, Copy, Debug, PartialEq, Eq)]

@@ -8,7 +8,7 @@ ghost use Rattle.logic_terms.specs.Theory.{representative, is_below};
 
 use crate::expressions::{Class, Classes, Role};
 use std::alloc::Global;
-use wiki_base::{Copied, Memory, WordId};
+use wiki_base::{Memory, WordId};
 
 /// What is known, sorted for a search.
 #[derive(Drop)]

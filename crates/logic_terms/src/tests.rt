@@ -2,7 +2,7 @@
 use super::*;
 use std::alloc::Global;
 use std::test::Fail;
-use wiki_base::{Copied, WordId};
+use wiki_base::WordId;
 
 const OWN: Role = Role {
     id: WordId(2),

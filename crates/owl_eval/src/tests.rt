@@ -4,7 +4,7 @@ use logic_terms::{Axiom, Axioms, Class, Classes, Cond, Conds, Drs, Referents, Ro
 use std::alloc::Global;
 use std::process::Abort;
 use std::test::Fail;
-use wiki_base::{Copied, WordId};
+use wiki_base::WordId;
 
 const DOG: WordId = WordId(1);
 

@@ -6,7 +6,8 @@ ghost use Rattle.tableau_rules.specs.Rules.{grown, with_edge, with_node};
 ghost use Rattle.tableau_rules.specs.Shown.{graph_of, vertex_of};
 
 use logic_terms::{Class, Classes, Role};
-use wiki_base::{Copied, Memory};
+use std::alloc::Global;
+use wiki_base::Memory;
 
 /// An edge from a node to a node. The role is as it was written, which may be inverted.
 #[derive(Clone, Copy, Debug, PartialEq, Eq)]

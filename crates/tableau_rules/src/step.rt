@@ -1,6 +1,6 @@
 // Steps, clashes, and trees of them.
 use lists::List;
-use wiki_base::{List, WordId};
+use wiki_base::WordId;
 
 /// The rules, in the order in which they are looked for. docs/REASONING.md has the table.
 #[derive(Clone, Copy, Debug, PartialEq, Eq)]

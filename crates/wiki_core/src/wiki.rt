@@ -9,7 +9,7 @@ use lexicon::{Forms, Kind, Lexicon};
 use lists::Copied;
 use std::alloc::Global;
 use std::marker::Model;
-use wiki_base::{Copied, Memory, Text8};
+use wiki_base::{Memory, Text8};
 use wiki_talk::{Refusal, Reply, Request};
 
 /// A wiki. It is seen as its state: the grammar, the budget of a search, and the live words.

@@ -2,7 +2,7 @@
 use crate::refusals::Refusal;
 use lexicon::Kind;
 use lists::List;
-use wiki_base::{List, Text8s};
+use wiki_base::Text8s;
 
 /// A word as it is told: its kind and its forms.
 #[derive(Drop)]

@@ -1,4 +1,6 @@
+pub mod Answers
 pub mod Mapping
+pub mod Moves
 pub mod Outcomes
 pub mod Parts
 pub mod Rolling

@@ -1,7 +1,7 @@
 -- The axioms of a statement and the class of a question. In the manner of Kaljurand, Attempto Controlled English as a
 -- Semantic Web Language, 2007.
-use Rattle.std.specs.Prelude.{ℕ, ◌==◌, ◌++◌, ◌&&◌, ◌||◌, Bool, not, List, [], ◌∷◌, Option, Some, None, Result, Ok, Err, if◌then◌else◌}
-use Rattle.std.specs.List.{list_any, list_all, filter}
+use Rattle.std.specs.Prelude.{ℕ, ◌==◌, ◌++◌, map, ◌&&◌, ◌||◌, Bool, not, List, [], ◌∷◌, Option, Some, None, Result, Ok, Err, if◌then◌else◌}
+use Rattle.std.specs.List.{list_any, list_all, filter, cons_option}
 use Rattle.wiki_base.specs.declared.numbers.WordId.{WordId}
 use Rattle.logic_terms.specs.declared.structures.Thing.{Thing}
 use Rattle.logic_terms.specs.declared.structures.Thing.TheVariants.{Ref, Name}
@@ -104,36 +104,44 @@ claim_alone c = elim (plain_claim c) [ Some claim ↦ Ok claim | None ↦ compou
 abbrev pub own_terms : List ℕ → Condition → List ℕ
 own_terms rs c = referents_among rs (terms_in_condition [] c)
 
--- whether conditions join two referents of a structure, each condition all that are open in it: without the first
--- condition, or by way of it
-abbrev pub joined : List ℕ → List Condition → ℕ → ℕ → Bool
-joined rs [] q p = q == p
-joined rs (c ∷ cs) q p =
-    joined rs cs q p || (list_any (joined rs cs q) (own_terms rs c) && list_any (λ r. joined rs cs r p) (own_terms rs c))
+-- whether groups of referents join two referents: without the first group, or by way of it
+abbrev pub joined : List (List ℕ) → ℕ → ℕ → Bool
+joined [] q p = q == p
+joined (g ∷ gs) q p = joined gs q p || (list_any (λ r. joined gs q r) g && list_any (λ r. joined gs r p) g)
 
--- whether two of all conditions belong together
-abbrev pub together : List ℕ → List Condition → Condition → Condition → Bool
-together rs all c d = list_any (λ q. list_any (joined rs all q) (own_terms rs d)) (own_terms rs c)
+-- whether the groups join a referent of one group and one of another
+abbrev pub together : List (List ℕ) → List ℕ → List ℕ → Bool
+together gs own other = list_any (λ q. list_any (λ p. joined gs q p) other) own
 
--- the conditions that belong together with one, and their referents
-abbrev pub component : List ℕ → List Condition → Condition → Structure
-component rs all c =
-    structure (filter (λ q. list_any (λ r. joined rs all r q) (own_terms rs c)) rs) (conditions_from (filter (together rs all c) all))
+-- those of the referents, and those of the conditions, that belong together with a group
+abbrev pub referents_with : List (List ℕ) → List ℕ → List ℕ → List ℕ
+referents_with gs own rs = filter (λ q. list_any (λ r. joined gs r q) own) rs
 
--- the axiom of such conditions, at the first name in them
-abbrev pub claim_together : Structure → Result Claim Cause
-claim_together k = elim (first_name (terms_in [] k)) [ Some name ↦ member_claim name k | None ↦ Err NoRoot ]
+abbrev pub conditions_with : List ℕ → List (List ℕ) → List ℕ → List Condition → List Condition
+conditions_with rs gs own cs = filter (λ d. together gs own (own_terms rs d)) cs
 
--- the axioms of conditions in order, where these came before: a condition with no referent of the structure open stands
--- alone, and others go with the first of their component
-abbrev pub claims_after : List ℕ → List Condition → List Condition → List Condition → Result (List Claim) Cause
+-- the axiom of conditions that belong together, at the first name in them
+abbrev pub claim_together : List ℕ → List Condition → Result Claim Cause
+claim_together rs cs =
+    elim (first_name (terms_in_all [] (conditions_from cs))) [
+      | Some name ↦ member_claim name (structure rs (conditions_from cs))
+      | None ↦ Err NoRoot
+    ]
+
+-- the axiom of a condition with this group, where those groups came before: without a group it stands alone, and others
+-- go with the first of their component
+abbrev pub claim_at : List ℕ → List Condition → List (List ℕ) → List ℕ → Condition → Result (Option Claim) Cause
+claim_at rs all before [] c = next (claim_alone c) (λ claim. Ok (Some claim))
+claim_at rs all before (q ∷ qs) c =
+    let gs : List (List ℕ) = map (own_terms rs) all in
+    if list_any (together gs (q ∷ qs)) before then Ok None
+    else next (claim_together (referents_with gs (q ∷ qs) rs) (conditions_with rs gs (q ∷ qs) all)) (λ claim. Ok (Some claim))
+
+-- the axioms of conditions in order, where those groups came before
+abbrev pub claims_after : List ℕ → List Condition → List (List ℕ) → List Condition → Result (List Claim) Cause
 claims_after rs all before [] = Ok []
 claims_after rs all before (c ∷ cs) =
-    let rest : Result (List Claim) Cause = claims_after rs all (before ++ c ∷ []) cs in
-    elim (own_terms rs c) [
-      | [] ↦ next (claim_alone c) (λ claim. next rest (λ claims. Ok (claim ∷ claims)))
-      | q ∷ qs ↦ if list_any (together rs all c) before then rest else next (claim_together (component rs all c)) (λ claim. next rest (λ claims. Ok (claim ∷ claims)))
-    ]
+    next (claim_at rs all before (own_terms rs c) c) (λ claim. next (claims_after rs all (before ++ own_terms rs c ∷ []) cs) (λ claims. Ok (cons_option claim claims)))
 
 -- the axioms of a statement, or the first cause why there are none
 abbrev pub axioms_stated : Structure → Result (List Claim) Cause

@@ -1,7 +1,7 @@
 -- What the conditions of a structure say of its members, as a graph, and the class that a tree of members rolls up to.
 -- The members are the root, which is number 0, and the structure's referents; that of referent q has number q + 1.
-use Rattle.std.specs.Prelude.{ℕ, zero, suc, ◌==◌, ◌+◌, ◌++◌, ◌&&◌, ◌||◌, Bool, true, false, not, List, [], ◌∷◌, length, Result, Ok, Err, if◌then◌else◌}
-use Rattle.std.specs.List.{list_any, list_all, flat_map}
+use Rattle.std.specs.Prelude.{ℕ, zero, suc, ◌==◌, ◌+◌, ◌++◌, ◌&&◌, ◌||◌, Bool, true, false, not, List, [], ◌∷◌, length, Option, Some, None, Result, Ok, Err, if◌then◌else◌}
+use Rattle.std.specs.List.{list_any, list_all, filter_map}
 use Rattle.wiki_base.specs.declared.numbers.WordId.{WordId}
 use Rattle.logic_terms.specs.declared.expressions.Role.{Role}
 use Rattle.logic_terms.specs.declared.cause.Cause.{Cause}
@@ -42,22 +42,30 @@ intersection [] = Everything
 intersection (c ∷ []) = c
 intersection (c ∷ d ∷ cs) = IntersectionOf (concepts_from (c ∷ d ∷ cs))
 
--- what a part gives at a member: its class, and for an edge to a child some value in the child's class. A child is a
--- member at the other end that is not on the way from the root.
-abbrev pub part_at : (ℕ → Concept) → List ℕ → ℕ → Part → List Concept
-part_at class_of above n (At k c) = if k == n then c ∷ [] else []
-part_at class_of above n (Edge word a b) =
-    if (a == n) && not (list_any (λ k. k == b) above) then SomeValuesFrom (straight word) (class_of b) ∷ []
-    else if (b == n) && not (list_any (λ k. k == a) above) then SomeValuesFrom (inverse word) (class_of a) ∷ [] else []
+-- whether an edge from one end to the other leads from a member to a child: the other end is not on the way from the
+-- root to this member
+abbrev pub leads : List ℕ → ℕ → ℕ → ℕ → Bool
+leads way n from to = (from == n) && not (list_any (λ k. k == to) way)
+
+-- what a part gives at a member: its class, and for an edge to a child some value in the child's class
+abbrev pub part_at : (ℕ → Concept) → List ℕ → ℕ → Part → Option Concept
+part_at class_of way n (At k c) = if k == n then Some c else None
+part_at class_of way n (Edge word a b) =
+    if leads way n a b then Some (SomeValuesFrom (straight word) (class_of b))
+    else if leads way n b a then Some (SomeValuesFrom (inverse word) (class_of a)) else None
 
 -- the class at a member, with those on the way from the root above it: the intersection, in the order of the parts, of
 -- what each gives there. No way is longer than there are parts.
 abbrev pub class_at : ℕ → List Part → List ℕ → ℕ → Concept
 class_at zero ps above n = Everything
-class_at (suc depth) ps above n = intersection (flat_map (part_at (class_at depth ps (n ∷ above)) above n) ps)
+class_at (suc depth) ps above n =
+    let way : List ℕ = above ++ n ∷ [] in
+    intersection (filter_map (part_at (class_at depth ps way) way n) ps)
 
--- the class at the root, where the edges have no cycle and each referent is reached
+-- why parts make no tree of the root and these referents: first a cycle, then a referent that is not reached
+abbrev pub tree_fault : List ℕ → List Part → Option Cause
+tree_fault rs ps = if has_cycle ps then Some Cycle else if each_reached rs ps then None else Some NoRoot
+
+-- the class at the root of the tree that the parts make
 abbrev pub class_of_tree : List ℕ → List Part → Result Concept Cause
-class_of_tree rs ps =
-    if has_cycle ps then Err Cycle
-    else if each_reached rs ps then Ok (class_at (length ps) ps [] 0) else Err NoRoot
+class_of_tree rs ps = elim (tree_fault rs ps) [ Some cause ↦ Err cause | None ↦ Ok (class_at (length ps) ps [] 0) ]

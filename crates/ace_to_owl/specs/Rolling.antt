@@ -1,6 +1,6 @@
 -- Rolling up: the class of those elements for which a structure is true with the element for its root.
 -- In the manner of Horrocks and Tessaris, A Conjunctive Query Language for Description Logic ABoxes, 2000.
-use Rattle.std.specs.Prelude.{ℕ, ◌==◌, ◌+◌, ◌++◌, ◌||◌, Bool, List, [], ◌∷◌, Option, Some, None, Result, Ok, Err, if◌then◌else◌}
+use Rattle.std.specs.Prelude.{ℕ, ◌==◌, ◌+◌, ◌++◌, ◌||◌, Bool, false, List, [], ◌∷◌, Option, Some, None, Result, Ok, Err, if◌then◌else◌}
 use Rattle.std.specs.List.{list_any, list_all}
 use Rattle.std.specs.Option.{is_none}
 use Rattle.wiki_base.specs.declared.numbers.WordId.{WordId}
@@ -17,15 +17,18 @@ use Rattle.ace_to_owl.specs.Outcomes.{next}
 use Rattle.ace_to_owl.specs.Terms.{same_thing, is_root, open_terms}
 use Rattle.ace_to_owl.specs.Parts.{Part, At, Edge, straight, inverse, class_of_tree}
 
+abbrev pub own_member : List ℕ → Thing → Option ℕ
+own_member rs (Ref q) = if is_bound rs q then Some (q + 1) else None
+own_member rs (Name name) = None
+
 -- the member that a thing is, if it is the root or one of these referents
 abbrev pub member : Option Thing → List ℕ → Thing → Option ℕ
-member root rs (Ref q) = if is_root root (Ref q) then Some 0 else if is_bound rs q then Some (q + 1) else None
-member root rs (Name name) = if is_root root (Name name) then Some 0 else None
+member root rs t = if is_root root t then Some 0 else own_member rs t
 
 -- a referent that is no member
 abbrev pub is_foreign : Option Thing → List ℕ → Thing → Bool
 is_foreign root rs (Ref q) = is_none (member root rs (Ref q))
-is_foreign root rs (Name name) = Rattle.std.specs.Prelude.false
+is_foreign root rs (Name name) = false
 
 abbrev pub noun_part : Option Thing → List ℕ → WordId → Thing → Result Part Cause
 noun_part root rs noun t =
@@ -37,25 +40,30 @@ abbrev pub value_part : ℕ → Role → Thing → Result Part Cause
 value_part n role (Name name) = Ok (At n (HasValue role name))
 value_part n role (Ref q) = Err Shared
 
+-- an edge between two members; one alone is a cycle
+abbrev pub edge_part : WordId → ℕ → ℕ → Result Part Cause
+edge_part word n m = if n == m then Err Cycle else Ok (Edge word n m)
+
 abbrev pub relation_part : Option Thing → List ℕ → WordId → Thing → Thing → Result Part Cause
 relation_part root rs word t u =
     if is_foreign root rs t || is_foreign root rs u then Err Shared
     else elim (member root rs t) [
-      | Some n ↦ elim (member root rs u) [ Some m ↦ if n == m then Err Cycle else Ok (Edge word n m) | None ↦ value_part n (straight word) u ]
+      | Some n ↦ elim (member root rs u) [ Some m ↦ edge_part word n m | None ↦ value_part n (straight word) u ]
       | None ↦ elim (member root rs u) [ Some m ↦ value_part m (inverse word) t | None ↦ Err NoRoot ]
     ]
 
 abbrev pub same_part : Option Thing → List ℕ → Thing → Thing → Result Part Cause
 same_part root rs t u = if is_foreign root rs t || is_foreign root rs u then Err Shared else Err Equality
 
+-- a term with the member that it is
+abbrev pub held_at : Option Thing → List ℕ → Thing → Result (Option Thing × ℕ) Cause
+held_at root rs t = elim (member root rs t) [ Some n ↦ Ok (Some t, n) | None ↦ Err Shared ]
+
 -- the term at which a condition with structures in it gives its class, and the member that it is: its one open term,
 -- or the root where it has none
 abbrev pub holder : Option Thing → List ℕ → List Thing → Result (Option Thing × ℕ) Cause
 holder root rs [] = Ok (root, 0)
-holder root rs (t ∷ ts) =
-    if list_all (same_thing t) ts
-    then elim (member root rs t) [ Some n ↦ Ok (Some t, n) | None ↦ Err Shared ]
-    else Err Shared
+holder root rs (t ∷ ts) = if list_all (same_thing t) ts then held_at root rs t else Err Shared
 
 -- the class that is made there with that term as the root
 abbrev pub held : Option Thing → List ℕ → Condition → (Option Thing → Result Concept Cause) → Result Part Cause

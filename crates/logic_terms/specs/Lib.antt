@@ -7,6 +7,7 @@ pub mod Known
 pub mod Meaning
 pub mod Parts
 pub mod Names
+pub mod Plain
 pub mod Reading
 pub mod Same
 pub mod Shown

@@ -7,14 +7,14 @@ use Rattle.derivation_trees.proofs.PieceLemmas.{cut_shown}
 use Rattle.derivation_trees.proofs.WordLemmas.{cut_shown_words}
 use Rattle.derivation_trees.proofs.showing.show.Goals as goal
 
-bytes : (c : goal.After-from_vec) → c.from_vec.result ≡ string_bytes c.push_tokens.new.text
-bytes c = c.from_vec.ensures ∙ ap (λ v. v.items) c.into_bytes.ensures.value
+bytes : (c : goal.After-from_string) → c.from_string.result ≡ string_bytes c.push_tokens.new.text
+bytes c = c.from_string.ensures
 
-exact : (c : goal.After-from_vec) → c.from_vec.result ≡ shown c.args.grammar.now.terminals c.args.tokens.now
+exact : (c : goal.After-from_string) → c.from_string.result ≡ shown c.args.grammar.now.terminals c.args.tokens.now
 exact c =
     bytes c ∙ c.in_ok-push_tokens.ensures ∙ ap (λ x. x ++ shown c.terminals.result.now c.as_slice.result.now) c.new-text.ensures.bytes ∙ ap (λ x. shown x c.as_slice.result.now) c.terminals.ensures ∙ ap (shown c.args.grammar.now.terminals) c.as_slice.ensures
 
-utf8 : (c : goal.After-from_vec) → IsUtf8 c.from_vec.result
+utf8 : (c : goal.After-from_string) → IsUtf8 c.from_string.result
 utf8 c = subst IsUtf8 (sym (bytes c)) (IsUtf8-string_bytes c.push_tokens.new.text)
 
 pub returns-clause-utf8 : goal.returns-clause-utf8

@@ -123,7 +123,13 @@ fn role_claim(referents: &[u16], below: &Cond, above: &Cond) -> Option<Axiom>
         (
             Cond::Rel(below, Thing::Ref(first), Thing::Ref(second)),
             Cond::Rel(above, Thing::Ref(third), Thing::Ref(fourth)),
-        ) => two_referents_claim(referents, *below, (*first, *second), *above, (*third, *fourth)),
+        ) => two_referents_claim(
+            referents,
+            *below,
+            (*first, *second),
+            *above,
+            (*third, *fourth),
+        ),
         _ => None,
     }
 }

@@ -150,18 +150,22 @@ module _ (i : Interpretation) (k : Theory) (obeys : Obeys i k) (g : Graph) (f : 
   or_fits : (o : Option (List Concept)) → union_part c ≡ o → (choice : ℕ) × (choice < option_map_or length o 1) × Fits i k (option_map_or (λ cs. adding g x (option_to_list (slice_get cs choice))) o g) f
   or_fits None e = (0, omega arith, fits)
   or_fits (Some cs) e =
-      let w = any_at (λ d. is_in i d (f x)) cs (union_in i c cs (f x) e inside) in
-      (w.0, w.1, subst (λ q. Fits i k (adding g x (option_to_list q)) f) (sym w.2.1)
-      (adding_fits i k g f fits x (w.2.0 ∷ []) (both (is_in i w.2.0 (f x)) true w.2.2 refl)))
+      let w = any_at (λ d. is_in i d (f x)) cs (union_in i c cs (f x) e inside) in (
+        w.0,
+        w.1,
+        subst (λ q. Fits i k (adding g x (option_to_list q)) f) (sym w.2.1)
+            (adding_fits i k g f fits x (w.2.0 ∷ []) (both (is_in i w.2.0 (f x)) true w.2.2 refl)),
+      )
 
   some_fits : x < length g.nodes → (o : Option (Role × Concept)) → some_part c ≡ o → (h : ℕ → ℕ) × Fits i k (option_map_or (λ p. with_node g (record { parent = Some x; label = with_classes [] (p.1 ∷ k.general) }) (record { from = x; role = p.0; to = length g.nodes })) o g) h
   some_fits lt None e = (f, fits)
   some_fits lt (Some p) e =
-      let w = some_values_in i c p (f x) e inside in
-      (and_at (length g.nodes) w.0 f,
-      with_node_fits i k g f fits (record { parent = Some x; label = with_classes [] (p.1 ∷ k.general) }) (record { from = x; role = p.0; to = length g.nodes }) w.0 w.1
-      (with_classes_all (λ d. is_in i d w.0) [] (p.1 ∷ k.general) refl (both (is_in i p.1 w.0) (list_all (λ d. is_in i d w.0) k.general) w.3 (general_in i w.0 w.1 k.general obeys.general)))
-      w.2 lt refl)
+      let w = some_values_in i c p (f x) e inside in (
+        and_at (length g.nodes) w.0 f,
+        with_node_fits i k g f fits (record { parent = Some x; label = with_classes [] (p.1 ∷ k.general) }) (record { from = x; role = p.0; to = length g.nodes }) w.0 w.1
+            (with_classes_all (λ d. is_in i d w.0) [] (p.1 ∷ k.general) refl (both (is_in i p.1 w.0) (list_all (λ d. is_in i d w.0) k.general) w.3 (general_in i w.0 w.1 k.general obeys.general)))
+            w.2 lt refl,
+      )
 
   -- some choice of the rule gives a branch that the interpretation fits
   rule_fits : x < length g.nodes → (r : Rule) (y : ℕ) → row k g r x c ≡ Some y → (choice : ℕ) × (choice < choices_for r c) × ((h : ℕ → ℕ) × Fits i k (effect k g r x c y choice) h)
@@ -198,6 +202,8 @@ step_fits i k obeys g f fits s h =
     let row_at = applied_row k g s h in
     let c : Concept = row_at.0 in
     let at : class_at g s.node s.class ≡ Some c = row_at.1 in
-    let w = rule_fits i k obeys g f fits s.node c (class_fits i k g f fits s.node s.class c at) (class_within g s.node s.class c at) s.rule s.other row_at.2 in
-    (w.0, subst (λ o. w.0 < option_map_or (choices_for s.rule) o 1) (sym at) w.1,
-    (w.2.0, subst (λ o. Fits i k (option_map_or (λ d. effect k g s.rule s.node d s.other w.0) o g) w.2.0) (sym at) w.2.1))
+    let w = rule_fits i k obeys g f fits s.node c (class_fits i k g f fits s.node s.class c at) (class_within g s.node s.class c at) s.rule s.other row_at.2 in (
+      w.0,
+      subst (λ o. w.0 < option_map_or (choices_for s.rule) o 1) (sym at) w.1,
+      (w.2.0, subst (λ o. Fits i k (option_map_or (λ d. effect k g s.rule s.node d s.other w.0) o g) w.2.0) (sym at) w.2.1),
+    )

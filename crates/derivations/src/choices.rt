@@ -165,7 +165,11 @@ fn tried(
 fn variable_number(number: usize) -> Result<u8, Memory>
     ensures { IfOk result (λ variable. variable ≡ number) }
 {
-    if number < 256 { Ok(number as u8) } else { Err(Memory) }
+    if number < 256 {
+        Ok(number as u8)
+    } else {
+        Err(Memory)
+    }
 }
 
 // Adds the written variables with the values to be tried.
@@ -270,7 +274,13 @@ fn lengthened(alloc: Global, choice: &Choice, done: &[Bound]) -> Result<List<Bou
 {
     let mut out = List::new(alloc);
     for bound in done {
-        push_longer(alloc, choice.variable, choice.values.as_slice(), bound.as_slice(), &mut out)?;
+        push_longer(
+            alloc,
+            choice.variable,
+            choice.values.as_slice(),
+            bound.as_slice(),
+            &mut out,
+        )?;
     }
     Ok(out)
 }

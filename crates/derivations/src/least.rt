@@ -47,7 +47,12 @@ fn lesser(alloc: Global, least: Option<Skeleton>, other: Skeleton) -> Result<Ske
     match least {
         None => Ok(other),
         Some(least) => {
-            if other.code(alloc)?.as_slice().cmp(least.code(alloc)?.as_slice()) == Ordering::Less {
+            if other
+                .code(alloc)?
+                .as_slice()
+                .cmp(least.code(alloc)?.as_slice())
+                == Ordering::Less
+            {
                 Ok(other)
             } else {
                 Ok(least)

@@ -246,7 +246,18 @@ fn push_rule_trees(
         return Ok(());
     }
     let made = instances(alloc, setting, rule, wanted)?;
-    push_all_instances(alloc, setting, depth, wanted, place, list, number, rule, made.as_slice(), out)
+    push_all_instances(
+        alloc,
+        setting,
+        depth,
+        wanted,
+        place,
+        list,
+        number,
+        rule,
+        made.as_slice(),
+        out,
+    )
 }
 
 // Adds the trees with the rule and each of the instances.
@@ -270,7 +281,18 @@ fn push_all_instances(
         ++ flat_map (enumeration.instance_trees setting.now (enumeration.trees_of setting.now depth) wanted.now (at_of (place, list.now)) number rule.now) made.now) }
 {
     for values in made {
-        push_instance_trees(alloc, setting, depth, wanted, place, list, number, rule, values.as_slice(), out)?;
+        push_instance_trees(
+            alloc,
+            setting,
+            depth,
+            wanted,
+            place,
+            list,
+            number,
+            rule,
+            values.as_slice(),
+            out,
+        )?;
     }
     Ok(())
 }
@@ -303,7 +325,17 @@ pub(crate) fn trees_of(
     }
     let mut number: u16 = 1;
     for rule in setting.grammar.rules().as_slice() {
-        push_rule_trees(alloc, setting, depth - 1, wanted, place, list, number, rule, &mut out)?;
+        push_rule_trees(
+            alloc,
+            setting,
+            depth - 1,
+            wanted,
+            place,
+            list,
+            number,
+            rule,
+            &mut out,
+        )?;
         number = next_number(number)?;
     }
     Ok(out)

@@ -6,8 +6,8 @@ ghost use Rattle.logic_terms.specs.Structure.{conditions_from};
 ghost use Rattle.logic_terms.specs.Structure as structures;
 ghost use Rattle.logic_terms.specs.Free as free;
 
-use logic_terms::{Cond, Conds, Drs, Thing};
 use lists::List;
+use logic_terms::{Cond, Conds, Drs, Thing};
 use std::alloc::Global;
 use wiki_base::Memory;
 
@@ -89,7 +89,11 @@ fn free_in_all(alloc: Global, bound: &List<u16>, conditions: &Conds) -> Result<O
 }
 
 #[cycle(free)]
-fn free_in_condition(alloc: Global, bound: &List<u16>, condition: &Cond) -> Result<Option<u16>, Memory>
+fn free_in_condition(
+    alloc: Global,
+    bound: &List<u16>,
+    condition: &Cond,
+) -> Result<Option<u16>, Memory>
     ensures { IfOk result (λ found. found ≡ free.free_in_condition bound.now (condition_of condition.now)) }
 {
     match condition {
@@ -103,7 +107,12 @@ fn free_in_condition(alloc: Global, bound: &List<u16>, condition: &Cond) -> Resu
 }
 
 #[cycle(free)]
-fn free_in_implication(alloc: Global, bound: &List<u16>, left: &Drs, right: &Drs) -> Result<Option<u16>, Memory>
+fn free_in_implication(
+    alloc: Global,
+    bound: &List<u16>,
+    left: &Drs,
+    right: &Drs,
+) -> Result<Option<u16>, Memory>
     ensures { IfOk result (λ found. found ≡ free.free_in_condition bound.now (structures.Implication (structure_of left.now) (structure_of right.now))) }
 {
     if let Some(referent) = free_in(alloc, bound, left)? {
@@ -114,7 +123,12 @@ fn free_in_implication(alloc: Global, bound: &List<u16>, left: &Drs, right: &Drs
 }
 
 #[cycle(free)]
-fn free_in_both(alloc: Global, bound: &List<u16>, one: &Drs, other: &Drs) -> Result<Option<u16>, Memory>
+fn free_in_both(
+    alloc: Global,
+    bound: &List<u16>,
+    one: &Drs,
+    other: &Drs,
+) -> Result<Option<u16>, Memory>
     ensures { IfOk result (λ found. found ≡ free.free_in_condition bound.now (structures.Disjunction (structure_of one.now) (structure_of other.now))) }
 {
     if let Some(referent) = free_in(alloc, bound, one)? {

@@ -34,6 +34,9 @@ fn boxes_and_pairs_are_copied(rt: HostRuntime) -> Result<(), Fail> {
     assert_eq!(rt; boxed.copy()?.into_inner().1, 2);
     let again = List::copied(boxed.allocator(), &[9usize])?;
     assert_eq!(rt; *again.get(0), 9);
-    assert_eq!(rt; List::from_slice(alloc, b"ab")?.as_bytes(), b"ab".as_slice());
+    assert_eq!(rt;
+        List::from_slice(alloc, b"ab")?.as_bytes(),
+        b"ab".as_slice()
+    );
     Ok(())
 }

@@ -83,7 +83,7 @@ found-arranged cmp test word [] (f ∷ fs) all = absurd all
 found-arranged cmp test word (e ∷ es) [] all = absurd all
 found-arranged {X} cmp test word (e ∷ es) (f ∷ fs) all =
     let Finds : Bool → List X → List X → Type 0 = λ b xs ys.
-        list_any test (unwrap_or (if b then Some xs else lookup (is_word word) es) []) ≡ list_any test (unwrap_or (if b then Some ys else lookup (is_word word) fs) []) in
+    list_any test (unwrap_or (if b then Some xs else lookup (is_word word) es) []) ≡ list_any test (unwrap_or (if b then Some ys else lookup (is_word word) fs) []) in
     let cases : (b : Bool) → Finds b e.1 f.1 = λ b. elim b as (λ b. Finds b e.1 f.1) [
       | true ↦ list_any-IsPermutation test e.1 f.1 all.0.same
       | false ↦ found-arranged cmp test word es fs all.1

@@ -14,6 +14,7 @@ use Rattle.lexicon.specs.declared.words.Word.{Word}
 use Rattle.lexicon.specs.declared.words.LexFault.TheVariants.{Taken, Reserved}
 use Rattle.lexicon.specs.declared.words.TheConstants.{MOST_WORDS}
 use Rattle.lexicon.specs.Kinds.{IsComplete}
+use Rattle.lexicon.specs.declared.words.TheConstants.{MOST_WORDS}
 use Rattle.lexicon.specs.Words.{Listed, is_among, has_form, owner, SharesNoForm, HasNoTerminal, IsLexicon, next_word, with_word, first_taken, first_reserved, fullness, forms_refusal}
 use Rattle.lexicon.specs.Terminals.{is_reserved}
 

@@ -8,7 +8,7 @@ use Rattle.lexicon.specs.declared.suggest.FormFault.{FormFault}
 use Rattle.lexicon.specs.declared.suggest.FormFault.TheVariants.{Count, TooLong, Memory}
 use Rattle.lexicon.specs.declared.words.TheConstants.{LAST_NUMBER}
 use Rattle.lexicon.specs.Kinds.{form_count}
-use Rattle.wiki_base.specs.Text.{longest}
+use Rattle.wiki_base.specs.declared.text.TheConstants.{LONGEST_TEXT}
 
 -- the text ends in these bytes
 abbrev pub ends_in : List ℕ → List ℕ → Bool
@@ -52,7 +52,7 @@ form_texts kind given = given
 
 -- a suggested form is longer than a text may be, where one text was given
 abbrev pub too_long : List ℕ → Option FormFault
-too_long text = if nat_lt longest (length text) then Some (TooLong 1) else None
+too_long text = if nat_lt LONGEST_TEXT (length text) then Some (TooLong 1) else None
 
 -- a number as it is told, at most 4,294,967,295
 abbrev pub told : ℕ → ℕ

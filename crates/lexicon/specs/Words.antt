@@ -1,6 +1,6 @@
 -- A lexicon as the list of its live words.
-use Rattle.std.specs.Prelude.{◌≡◌, ℕ, ◌+◌, ◌<◌, ◌≤◌, ◌^◌, ◌==◌, Bool, true, false, not, if◌then◌else◌, List, [], ◌∷◌, ◌++◌, length, map, All, AllPairs, filter, find, option_map, Option, Some, None, ⊤}
-use Rattle.std.specs.Option.{option_or, option_map_or}
+use Rattle.std.specs.Prelude.{◌≡◌, ℕ, ◌+◌, ◌<◌, ◌≤◌, ◌^◌, ◌==◌, Bool, true, false, not, if◌then◌else◌, List, [], ◌∷◌, ◌++◌, length, map, All, AllPairs, filter, find, slice_get, option_map, Option, Some, None, ⊤}
+use Rattle.std.specs.Option.{option_or, option_map_or, option_and_then}
 use Rattle.std.specs.List.{list_any, HoldsAt}
 use Rattle.std.specs.Str.{bytes_eq}
 use Rattle.wiki_base.specs.declared.numbers.WordId.{WordId}
@@ -11,7 +11,7 @@ use Rattle.lexicon.specs.declared.words.LexFault.{LexFault}
 use Rattle.lexicon.specs.declared.words.LexLimit.TheVariants.{Words, Numbers}
 use Rattle.lexicon.specs.declared.words.TheConstants.{MOST_WORDS, LAST_NUMBER}
 use Rattle.lexicon.specs.declared.words.LexFault.TheVariants.{Taken, Reserved, NoWord, Full, Memory}
-use Rattle.lexicon.specs.Kinds.{IsComplete}
+use Rattle.lexicon.specs.Kinds.{canonical_place, IsComplete}
 use Rattle.lexicon.specs.Terminals.{is_reserved}
 
 -- the live words, the terminals of the grammar, and the last number that was given to a word
@@ -39,6 +39,10 @@ owner live text = option_map (λ word. word.id) (find (has_form text) live)
 -- the forms of the word with the number
 abbrev pub forms_of : List Word → WordId → Option Forms
 forms_of live id = option_map (λ word. word.forms) (find (has_number id) live)
+
+-- the canonical form of the word with the number
+abbrev pub canonical_form_of : List Word → WordId → Option (List ℕ)
+canonical_form_of live id = option_and_then (λ forms. slice_get forms.texts (canonical_place forms.kind)) (forms_of live id)
 
 -- the words but for the one with the number
 abbrev pub others : List Word → WordId → List Word

@@ -12,4 +12,4 @@ pub use lists::{Boxed, Copied, List, Memory};
 pub use numbers::{Place, Rev, SessionId, WordId};
 pub use spelled::Spelled;
 pub use text::{BadText, LONGEST_TEXT, Text};
-pub use tokens::{Token, Tokens};
+pub use tokens::{MOST_TOKENS, Token, Tokens};

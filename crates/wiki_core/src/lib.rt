@@ -2,9 +2,9 @@
 #![tactic(auto)]
 
 mod faults;
-mod told;
 #[cfg(test)]
 mod tests;
+mod told;
 mod wiki;
 mod words;
 

@@ -8,7 +8,6 @@ use serde_json::Value;
 use std::alloc::Global;
 use wiki_base::{Memory, Text8};
 
-
 // The value as compact JSON, and a newline.
 #[tactic(auto, unfolding(crate::specs::Values::line_text))]
 pub(crate) fn line_of(alloc: Global, value: &Value) -> Result<Text8, Memory>

@@ -47,5 +47,7 @@ fn full_value(alloc: Global, title: Title, which: Limit, limit: u32) -> Result<V
     ensures { IfOk result (λ value. view value ≡ object (member (codes "limit") (number (unsigned limit)) (told title.number title.name.now (member (codes "which") (string (name_of which)) no_members)))) }
 {
     let which = which.name();
-    Ok(json!(in alloc; {"limit": limit, "name": title.name, "refused": title.number, "which": which})?)
+    Ok(
+        json!(in alloc; {"limit": limit, "name": title.name, "refused": title.number, "which": which})?,
+    )
 }

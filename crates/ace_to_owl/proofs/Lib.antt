@@ -1,0 +1,5 @@
+pub mod Labels
+pub mod Passed
+pub mod RollingLemmas
+pub mod TermsLemmas
+pub mod TreeLemmas

@@ -1,0 +1,7 @@
+pub mod Answers
+pub mod Mapping
+pub mod Moves
+pub mod Outcomes
+pub mod Parts
+pub mod Rolling
+pub mod Terms

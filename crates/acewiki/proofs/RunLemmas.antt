@@ -173,9 +173,11 @@ module _ (start : State) (first taken_first left : Option (List ℕ)) (old : Rea
           };
           written = reply_lines run.exchanges ++ part;
           sink = Appends-trans taken_first taken taken_after (reply_lines run.exchanges) part run.sink begun.written;
-          front = (drop begun.count begun.reply,
-              reply_lines-push run.exchanges exchange ∙ ap (λ (l : List ℕ). reply_lines run.exchanges ++ l) (sym begun.replies.is_told ∙ sym (take-append-drop begun.count begun.reply))
-              ∙ sym (append_assoc (reply_lines run.exchanges) part (drop begun.count begun.reply)));
+          front = (
+            drop begun.count begun.reply,
+            reply_lines-push run.exchanges exchange ∙ ap (λ (l : List ℕ). reply_lines run.exchanges ++ l) (sym begun.replies.is_told ∙ sym (take-append-drop begun.count begun.reply))
+                ∙ sym (append_assoc (reply_lines run.exchanges) part (drop begun.count begun.reply)),
+          );
           whole = (part, ap (λ (es : List (Exchange Request Reply)). reply_lines es ++ part) (sym (but_last-push run.exchanges exchange)));
           all = λ not _. absurd (not refl);
         }

@@ -139,6 +139,10 @@ free_among s terms x = option_map_or (feature_values s) (feature_at x terms) (po
 abbrev pub tried_among : Setting → Rule → List (ℕ × Term) → Test → ℕ → List Value
 tried_among s rule terms wanted x = option_map_or (given wanted.values) (fixed_at wanted.values x rule.head.feats) (free_among s terms x)
 
+-- a variable with the values to be tried
+abbrev pub choice_among : Setting → Rule → List (ℕ × Term) → Test → ℕ → ℕ × List Value
+choice_among s rule terms wanted x = (x, tried_among s rule terms wanted x)
+
 abbrev pub tried : Setting → Rule → Test → ℕ → List Value
 tried s rule wanted x = tried_among s rule (rule_terms rule) wanted x
 
@@ -149,7 +153,7 @@ own_choices s number (f ∷ fs) = (number, feature_values s f) ∷ own_choices s
 
 -- the written variables of a rule with the values to be tried
 abbrev pub written_choices : Setting → Rule → Test → List (ℕ × List Value)
-written_choices s rule wanted = map (λ x. (x, tried s rule wanted x)) (written_variables rule)
+written_choices s rule wanted = map (choice_among s rule (rule_terms rule) wanted) (written_variables rule)
 
 -- the features of a rule's own variables
 abbrev pub own_features_of : Setting → Rule → List ℕ

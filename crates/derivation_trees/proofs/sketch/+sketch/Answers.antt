@@ -7,7 +7,7 @@ use Rattle.derivation_trees.specs.SketchesHeld.{children_held, rule_in}
 use Rattle.derivation_trees.proofs.SketchLemmas.{sketch_of_is, child_sketched}
 use Rattle.derivation_trees.proofs.sketch.+sketch.Goals as goal
 
-pub sketch_of-returns : goal.sketch_of-returns-in_ok-sketch
+pub sketch_of-returns : goal.sketch_of-returns
 sketch_of-returns t c =
     let s = c.args.setting.now in
     let tree = c.args.tree.now in

@@ -77,13 +77,11 @@ ascends_range (suc n) a b le = (le, ascends_range n (b + 1) (b + 1) (omega arith
 
 ascends_filter : (p : ℕ → Bool) (n a b m : ℕ) → a + n ≤ b → Ascends a (filter p (range_with_len a n) ++ range_with_len b m)
 ascends_filter p zero a b m le = ascends_range m a b (omega arith)
-ascends_filter p (suc n) a b m le = by (p a) refl
+ascends_filter p (suc n) a b m le = by (ascends_filter p n (a + 1) b m (omega arith)) (p a) refl
   where
-    more : Ascends (a + 1) (filter p (range_with_len (a + 1) n) ++ range_with_len b m)
-    more = ascends_filter p n (a + 1) b m (omega arith)
-    by : (c : Bool) → p a ≡ c → Ascends a (filter p (range_with_len a (suc n)) ++ range_with_len b m)
-    by true e = subst (λ c. Ascends a ((if c then a ∷ filter p (range_with_len (a + 1) n) else filter p (range_with_len (a + 1) n)) ++ range_with_len b m)) (sym e) (omega arith, more)
-    by false e = subst (λ c. Ascends a ((if c then a ∷ filter p (range_with_len (a + 1) n) else filter p (range_with_len (a + 1) n)) ++ range_with_len b m)) (sym e) (ascends_from a (a + 1) (filter p (range_with_len (a + 1) n) ++ range_with_len b m) (omega arith) more)
+    by : Ascends (a + 1) (filter p (range_with_len (a + 1) n) ++ range_with_len b m) → (c : Bool) → p a ≡ c → Ascends a (filter p (range_with_len a (suc n)) ++ range_with_len b m)
+    by later true e = subst (λ c. Ascends a ((if c then a ∷ filter p (range_with_len (a + 1) n) else filter p (range_with_len (a + 1) n)) ++ range_with_len b m)) (sym e) (omega arith, later)
+    by later false e = subst (λ c. Ascends a ((if c then a ∷ filter p (range_with_len (a + 1) n) else filter p (range_with_len (a + 1) n)) ++ range_with_len b m)) (sym e) (ascends_from a (a + 1) (filter p (range_with_len (a + 1) n) ++ range_with_len b m) (omega arith) later)
 
 differ_where : (a b : ℕ) → a + 1 ≤ b → (a == b) ≡ false
 differ_where a b h = grind (arith, nat_tests)
@@ -98,19 +96,17 @@ looked a [] (q ∷ qs) asc h p k = cc
 looked a (n ∷ ns) (q ∷ qs) asc h p k =
     let same : q.0 ≡ n = same_number q.0 n (first_of_and (q.0 == n) (same_numbers (map (λ r. r.0) qs) ns) h) in
     let rest : same_numbers (map (λ r. r.0) qs) ns ≡ true = second_of_and (q.0 == n) (same_numbers (map (λ r. r.0) qs) ns) h in
-    by same rest k
+    by (looked (n + 1) ns qs asc.1 rest p) same k
   where
-    by : q.0 ≡ n → same_numbers (map (λ r. r.0) qs) ns ≡ true → Among (q ∷ qs) p → Looked (q ∷ qs) a p
-    by same rest (inl e) = record {
+    by : (Among qs p → Looked qs (n + 1) p) → q.0 ≡ n → Among (q ∷ qs) p → Looked (q ∷ qs) a p
+    by later same (inl e) = record {
       found = ap (λ r. looked_up (q ∷ qs) r.0) e ∙ ap (λ b. if b then Some q.1 else looked_up qs q.0) (number_is_same q.0) ∙ ap (λ r. Some r.1) (sym e);
       above = subst (λ m. a ≤ m) (sym same ∙ ap (λ r. r.0) (sym e)) asc.0;
     }
-    by same rest (inr m) =
-        let later : Looked qs (n + 1) p = looked (n + 1) ns qs asc.1 rest p m in
-        record {
-          found = ap (λ b. if b then Some q.1 else looked_up qs p.0) (subst (λ w. (w == p.0) ≡ false) (sym same) (differ_where n p.0 later.above)) ∙ later.found;
-          above = omega (arith, asc.0, later.above);
-        }
+    by later same (inr m) = record {
+      found = ap (λ b. if b then Some q.1 else looked_up qs p.0) (subst (λ w. (w == p.0) ≡ false) (sym same) (differ_where n p.0 (later m).above)) ∙ (later m).found;
+      above = omega (arith, asc.0, (later m).above);
+    }
 
 -- what an instance is
 pub record Instance (s : Setting) (rule : Rule) (values : List (ℕ × Value)) : Type 0 where
@@ -137,7 +133,6 @@ head_value : (values : List (ℕ × Value)) (feats : List (ℕ × Term)) (f x : 
 head_value values feats f x h = among_map (λ p. (p.0, term_value values p.1)) feats (f, Var x) h
 
 free_has : (s : Setting) (rule : Rule) (values : List (ℕ × Value)) (x : ℕ) → Instance s rule values → has (rule_variables rule) x ≡ true → Among (free_among s (rule_terms rule) x) (value_under values x)
-unfolding Stands
 free_has s rule values x i h = by (feature_at x (rule_terms rule)) refl
   where
     by : (o : Option ℕ) → feature_at x (rule_terms rule) ≡ o → Among (option_map_or (feature_values s) o (position_values s)) (value_under values x)
@@ -159,12 +154,12 @@ tried_has s rule wanted values x i fit h = by (fixed_at wanted.values x rule.hea
 
 filter_passes : (p : ℕ → Bool) (xs : List ℕ) (x : ℕ) → Among (filter p xs) x → p x ≡ true
 filter_passes p [] x h = absurd h
-filter_passes p (y ∷ ys) x h = by (p y) refl h
+filter_passes p (y ∷ ys) x h = by (filter_passes p ys x) (p y) refl h
   where
-    by : (b : Bool) → p y ≡ b → Among (if b then y ∷ filter p ys else filter p ys) x → p x ≡ true
-    by true e (inl same) = ap p same ∙ e
-    by true e (inr k) = filter_passes p ys x k
-    by false e k = filter_passes p ys x k
+    by : (Among (filter p ys) x → p x ≡ true) → (b : Bool) → p y ≡ b → Among (if b then y ∷ filter p ys else filter p ys) x → p x ≡ true
+    by later true e (inl same) = ap p same ∙ e
+    by later true e (inr k) = later k
+    by later false e k = later k
 
 written_is : (rule : Rule) (x : ℕ) → Among (written_variables rule) x → has (rule_variables rule) x ≡ true
 unfolding written_variables

@@ -24,7 +24,7 @@ use Rattle.derivation_trees.specs.Settings.{Setting, matches_terminal, matches_p
 use Rattle.derivation_trees.specs.Instances.{value_under, under, tests_under, own_values}
 use Rattle.derivation_trees.specs.Stands.{is_sub}
 use Rattle.derivation_trees.specs.Derives.{At, Stand, Phrase, pass, pass_token, pass_child, pass_finding, run, phrase, phrase_of, phrases_of, rule_with, is_none_left, is_found, reference_tests, fits}
-use Rattle.derivations.proofs.Members.{Among, first_of_and, second_of_and, either_of_or}
+use Rattle.derivations.proofs.Members.{Among, first_of_and, second_of_and, either_of_or, some_same, true_is_false}
 use Rattle.derivations.proofs.ValueLemmas.{same_number}
 use Rattle.derivations.proofs.ListingLemmas.{Within, AllWithin, node_list, phrases_of-list, Parts, phrase_parts}
 use Rattle.derivations.proofs.GrowLemmas.{Each}
@@ -47,23 +47,14 @@ pub record Moves (e : Element) (stand after : Stand) : Type 0 where
   pub rest : Each Consumes after.children
   pub children : is_sub e ≡ false → after.children ≡ stand.children
 
-true_is_false : {X : Type 0} → true ≡ false → X
-true_is_false w = cc
-
 moved_on : (e : Element) (b : Bool) (stand after : Stand) → is_phrase e ≡ true → Each Consumes stand.children → pass_token b stand ≡ Some after → Moves e stand after
 moved_on e false stand after phrasal all h = cc
 moved_on e true stand after phrasal all h =
-    subst (Moves e stand) same (record { on = omega arith; token = λ _. omega arith; same = λ w. true_is_false (sym phrasal ∙ w); rest = all; children = λ _. refl })
-  where
-    same : record { at = record { place = stand.at.place + 1; list = stand.at.list }; found = stand.found; own = stand.own; children = stand.children } ≡ after
-    same = cc
+    subst (Moves e stand) (some_same (record { at = record { place = stand.at.place + 1; list = stand.at.list }; found = stand.found; own = stand.own; children = stand.children }) after h) (record { on = omega arith; token = λ _. omega arith; same = λ w. true_is_false (sym phrasal ∙ w); rest = all; children = λ _. refl })
 
 stays : (e : Element) (stand mid after : Stand) → is_phrase e ≡ false → mid.at.place ≡ stand.at.place → mid.children ≡ stand.children → Each Consumes stand.children → Some mid ≡ Some after → Moves e stand after
 stays e stand mid after special place children all h =
-    subst (Moves e stand) same (record { on = omega (arith, place); token = λ w. true_is_false (sym w ∙ special); same = λ _. place; rest = subst (Each Consumes) (sym children) all; children = λ _. children })
-  where
-    same : mid ≡ after
-    same = cc
+    subst (Moves e stand) (some_same mid after h) (record { on = omega (arith, place); token = λ w. true_is_false (sym w ∙ special); same = λ _. place; rest = subst (Each Consumes) (sym children) all; children = λ _. children })
 
 tested : (e : Element) (b : Bool) (stand mid after : Stand) → is_phrase e ≡ false → mid.at.place ≡ stand.at.place → mid.children ≡ stand.children → Each Consumes stand.children → (if b then Some mid else None) ≡ Some after → Moves e stand after
 tested e true stand mid after special place children all h = stays e stand mid after special place children all h
@@ -86,10 +77,7 @@ child_moves c asked (p ∷ ps) stand after all h = by (p asked stand.at) refl h
     by None w k = cc
     by (Some at) w k =
         let on : stand.at.place + 1 ≤ at.place = all.0 asked stand.at at w in
-        subst (Moves (Sub c) stand) (same k) (record { on = omega (arith, on); token = λ _. on; same = λ v. true_is_false v; rest = all.1; children = λ v. true_is_false v })
-      where
-        same : Some (record { at = at; found = stand.found; own = stand.own; children = ps }) ≡ Some after → record { at = at; found = stand.found; own = stand.own; children = ps } ≡ after
-        same v = cc
+        subst (Moves (Sub c) stand) (some_same (record { at = at; found = stand.found; own = stand.own; children = ps }) after k) (record { on = omega (arith, on); token = λ _. on; same = λ v. true_is_false v; rest = all.1; children = λ v. true_is_false v })
 
 pub pass_moves : (s : Setting) (values : List (ℕ × Value)) (e : Element) (stand after : Stand) → Each Consumes stand.children → pass s values e stand ≡ Some after → Moves e stand after
 pass_moves s values (Terminal t) stand after all h = moved_on (Terminal t) (matches_terminal s t stand.at.place) stand after refl all h
@@ -108,17 +96,14 @@ pub record Ran (es : List Element) (stand after : Stand) : Type 0 where
   pub token : list_any is_phrase es ≡ true → stand.at.place + 1 ≤ after.at.place
 
 pub run_moves : (s : Setting) (values : List (ℕ × Value)) (es : List Element) (stand after : Stand) → Each Consumes stand.children → run s values es stand ≡ Some after → Ran es stand after
-run_moves s values [] stand after all h = subst (Ran [] stand) same (record { on = omega arith; token = λ w. true_is_false (sym w) })
+run_moves s values [] stand after all h = subst (Ran [] stand) (some_same stand after h) (record { on = omega arith; token = λ w. true_is_false (sym w) })
+run_moves s values (e ∷ es) stand after all h = by (λ mid rest k. run_moves s values es mid after rest k) (pass s values e stand) refl h
   where
-    same : stand ≡ after
-    same = cc
-run_moves s values (e ∷ es) stand after all h = by (pass s values e stand) refl h
-  where
-    by : (o : Option Stand) → pass s values e stand ≡ o → option_and_then (run s values es) o ≡ Some after → Ran (e ∷ es) stand after
-    by None w k = cc
-    by (Some mid) w k =
+    by : ((mid : Stand) → Each Consumes mid.children → run s values es mid ≡ Some after → Ran es mid after) → (o : Option Stand) → pass s values e stand ≡ o → option_and_then (run s values es) o ≡ Some after → Ran (e ∷ es) stand after
+    by later None w k = cc
+    by later (Some mid) w k =
         let one : Moves e stand mid = pass_moves s values e stand mid all w in
-        let two : Ran es mid after = run_moves s values es mid after one.rest k in
+        let two : Ran es mid after = later mid one.rest k in
         record {
           on = omega (arith, one.on, two.on);
           token = λ v. elim (either_of_or (is_phrase e) (list_any is_phrase es) v) [ inl x ↦ omega (arith, one.token x, two.on) | inr y ↦ omega (arith, one.on, two.token y) ];
@@ -126,10 +111,7 @@ run_moves s values (e ∷ es) stand after all h = by (pass s values e stand) ref
 
 got_contained : (rules : List Rule) (k : ℕ) (r : Rule) → slice_get rules k ≡ Some r → Contains rules r
 got_contained [] k r h = cc
-got_contained (x ∷ xs) zero r h = (0, omega arith, same)
-  where
-    same : x ≡ r
-    same = cc
+got_contained (x ∷ xs) zero r h = (0, omega arith, some_same x r h)
 got_contained (x ∷ xs) (suc k) r h = (suc (got_contained xs k r h).0, omega (arith, (got_contained xs k r h).1), (got_contained xs k r h).2)
 
 -- the rule with a number is one of the grammar's
@@ -142,13 +124,13 @@ rule_contained g number rule h = by (number == 0) h
 
 mutual
   pub node_consumes : (s : Setting) → Ordered s.grammar → (n : Node) → Consumes (phrase_of s n)
-  node_consumes s ordered (node number values found children) asked at after h = by (rule_with s.grammar number) refl h
+  node_consumes s ordered (node number values found children) asked at after h = by (nodes_consume s ordered children) (rule_with s.grammar number) refl h
     where
-      by : (o : Option Rule) → rule_with s.grammar number ≡ o → option_and_then (λ r. phrase s r values found (phrases_of s children) asked at) o ≡ Some after → at.place + 1 ≤ after.place
-      by None w k = cc
-      by (Some rule) w k =
+      by : Each Consumes (phrases_of s children) → (o : Option Rule) → rule_with s.grammar number ≡ o → option_and_then (λ r. phrase s r values found (phrases_of s children) asked at) o ≡ Some after → at.place + 1 ≤ after.place
+      by all None w k = cc
+      by all (Some rule) w k =
           let parts : Parts s rule values found (phrases_of s children) asked at after = phrase_parts s rule values found (phrases_of s children) asked at after k in
-          let ran : Ran rule.body (record { at = at; found = found; own = own_values rule values; children = phrases_of s children }) parts.stand = run_moves s values rule.body (record { at = at; found = found; own = own_values rule values; children = phrases_of s children }) parts.stand (nodes_consume s ordered children) parts.ran in
+          let ran : Ran rule.body (record { at = at; found = found; own = own_values rule values; children = phrases_of s children }) parts.stand = run_moves s values rule.body (record { at = at; found = found; own = own_values rule values; children = phrases_of s children }) parts.stand all parts.ran in
           subst (λ a. at.place + 1 ≤ a.place) (sym parts.ends) (ran.token (ordered.full rule (rule_contained s.grammar number rule w)))
 
   pub nodes_consume : (s : Setting) → Ordered s.grammar → (ns : Nodes) → Each Consumes (phrases_of s ns)
@@ -175,37 +157,33 @@ without x (y ∷ ys) = if x == y then without x ys else y ∷ without x ys
 
 shorter : (x : ℕ) (ys : List ℕ) → length (without x ys) ≤ length ys
 shorter x [] = omega arith
-shorter x (y ∷ ys) = by (x == y)
+shorter x (y ∷ ys) = by (shorter x ys) (x == y)
   where
-    by : (b : Bool) → length (if b then without x ys else y ∷ without x ys) ≤ length (y ∷ ys)
-    by true = omega (arith, shorter x ys)
-    by false = omega (arith, shorter x ys)
+    by : length (without x ys) ≤ length ys → (b : Bool) → length (if b then without x ys else y ∷ without x ys) ≤ length (y ∷ ys)
+    by later true = omega (arith, later)
+    by later false = omega (arith, later)
+
+number_turns : (a b : ℕ) → a ≡ b → (a == b) ≡ true
+number_turns a b e = grind (arith, nat_tests)
 
 shorter_with : (x : ℕ) (ys : List ℕ) → Among ys x → length (without x ys) + 1 ≤ length ys
 shorter_with x [] h = absurd h
-shorter_with x (y ∷ ys) h = by (x == y) refl h
+shorter_with x (y ∷ ys) h = by (shorter_with x ys) (x == y) refl h
   where
-    turned : (a b : ℕ) → a ≡ b → (a == b) ≡ true
-    turned a b e = grind (arith, nat_tests)
-    both : false ≡ true → ⊥
-    both w = cc
-    by : (b : Bool) → (x == y) ≡ b → Among (y ∷ ys) x → length (if b then without x ys else y ∷ without x ys) + 1 ≤ length (y ∷ ys)
-    by true e k = omega (arith, shorter x ys)
-    by false e (inl same) = absurd (both (sym e ∙ turned x y same))
-    by false e (inr k) = omega (arith, shorter_with x ys k)
+    by : (Among ys x → length (without x ys) + 1 ≤ length ys) → (b : Bool) → (x == y) ≡ b → Among (y ∷ ys) x → length (if b then without x ys else y ∷ without x ys) + 1 ≤ length (y ∷ ys)
+    by later true e k = omega (arith, shorter x ys)
+    by later false e (inl same) = true_is_false (sym (number_turns x y same) ∙ e)
+    by later false e (inr k) = omega (arith, later k)
 
 kept : (x h : ℕ) (ys : List ℕ) → (x == h) ≡ false → Among ys h → Among (without x ys) h
 kept x h [] e k = absurd k
-kept x h (y ∷ ys) e (inl same) = by (x == y) (ap (λ w. x == w) (sym same) ∙ e)
+kept x h (y ∷ ys) e k = by (kept x h ys e) (x == y) refl k
   where
-    by : (b : Bool) → b ≡ false → Among (if b then without x ys else y ∷ without x ys) h
-    by true w = cc
-    by false w = inl same
-kept x h (y ∷ ys) e (inr k) = by (x == y)
-  where
-    by : (b : Bool) → Among (if b then without x ys else y ∷ without x ys) h
-    by true = kept x h ys e k
-    by false = inr (kept x h ys e k)
+    by : (Among ys h → Among (without x ys) h) → (b : Bool) → (x == y) ≡ b → Among (y ∷ ys) h → Among (if b then without x ys else y ∷ without x ys) h
+    by later true w (inl same) = true_is_false (sym (ap (λ z. x == z) same ∙ w) ∙ e)
+    by later true w (inr m) = later m
+    by later false w (inl same) = inl same
+    by later false w (inr m) = inr (later m)
 
 -- the name is that of a rule's head
 abbrev pub IsHead : GrammarParts → ℕ → Type 0
@@ -257,41 +235,32 @@ all_free g asked name head = inl (subst (Among (heads g)) head.2 (contains_among
 walk : (s : Setting) → Ordered s.grammar → (values : List (ℕ × Value)) (depth last begun : ℕ) (step : ℕ → Type 0) → ((n : Node) (c : Category) (at after : At) → phrase_of s n (under values c) at ≡ Some after → after.place ≤ last → ((at.place ≡ begun) × step c.name) ⊎ (begun + 1 ≤ at.place) → Within depth n) → (es : List Element) (nodes : List Node) (stand after : Stand) → stand.children ≡ map (phrase_of s) nodes → Each Consumes stand.children → run s values es stand ≡ Some after → is_none_left after.children ≡ true → after.at.place ≤ last → ((stand.at.place ≡ begun) × ((c : ℕ) → first_category es ≡ Some c → step c)) ⊎ (begun + 1 ≤ stand.at.place) → Each (Within depth) nodes
 walk s ordered values depth last begun step deep [] [] stand after children all h empty le mode = tt
 walk s ordered values depth last begun step deep [] (n ∷ ns) stand after children all h empty le mode =
-    true_is_false (sym empty ∙ ap (λ x. is_none_left x.children) (sym same) ∙ ap is_none_left children)
-  where
-    same : stand ≡ after
-    same = cc
-walk s ordered values depth last begun step deep (Sub c ∷ es) [] stand after children all h empty le mode = by stand.children children h
-  where
-    by : (ps : List Phrase) → ps ≡ [] → option_and_then (run s values es) (pass_child (under values c) ps stand) ≡ Some after → Each (Within depth) []
-    by ps e k = tt
+    true_is_false (sym empty ∙ ap (λ x. is_none_left x.children) (sym (some_same stand after h)) ∙ ap is_none_left children)
+walk s ordered values depth last begun step deep (Sub c ∷ es) [] stand after children all h empty le mode = tt
 walk s ordered values depth last begun step deep (Sub c ∷ es) (n ∷ ns) stand after children all h empty le mode =
-    by (phrase_of s n (under values c) stand.at) refl (sym (ap (λ ps. option_and_then (run s values es) (pass_child (under values c) ps stand)) children) ∙ h)
+    by (λ at rest k mode'. walk s ordered values depth last begun step deep es ns (record { at = at; found = stand.found; own = stand.own; children = map (phrase_of s) ns }) after refl rest k empty le mode') (subst (Each Consumes) children all) (phrase_of s n (under values c) stand.at) refl (sym (ap (λ ps. option_and_then (run s values es) (pass_child (under values c) ps stand)) children) ∙ h)
   where
-    consume : Each Consumes (map (phrase_of s) (n ∷ ns))
-    consume = subst (Each Consumes) children all
-    by : (o : Option At) → phrase_of s n (under values c) stand.at ≡ o → option_and_then (run s values es) (option_and_then (λ at. Some (record { at = at; found = stand.found; own = stand.own; children = map (phrase_of s) ns })) o) ≡ Some after → Each (Within depth) (n ∷ ns)
-    by None w k = cc
-    by (Some at) w k =
-        let mid : Stand = record { at = at; found = stand.found; own = stand.own; children = map (phrase_of s) ns } in
+    by : ((at : At) → Each Consumes (map (phrase_of s) ns) → run s values es (record { at = at; found = stand.found; own = stand.own; children = map (phrase_of s) ns }) ≡ Some after → ((at.place ≡ begun) × ((d : ℕ) → first_category es ≡ Some d → step d)) ⊎ (begun + 1 ≤ at.place) → Each (Within depth) ns) → Each Consumes (map (phrase_of s) (n ∷ ns)) → (o : Option At) → phrase_of s n (under values c) stand.at ≡ o → option_and_then (run s values es) (option_and_then (λ at. Some (record { at = at; found = stand.found; own = stand.own; children = map (phrase_of s) ns })) o) ≡ Some after → Each (Within depth) (n ∷ ns)
+    by later consume None w k = cc
+    by later consume (Some at) w k =
         let on : stand.at.place + 1 ≤ at.place = consume.0 (under values c) stand.at at w in
-        let ran : Ran es mid after = run_moves s values es mid after consume.1 k in
+        let ran : Ran es (record { at = at; found = stand.found; own = stand.own; children = map (phrase_of s) ns }) after = run_moves s values es (record { at = at; found = stand.found; own = stand.own; children = map (phrase_of s) ns }) after consume.1 k in
         let here : ((stand.at.place ≡ begun) × step c.name) ⊎ (begun + 1 ≤ stand.at.place) = elim mode [ inl m ↦ inl (m.0, m.1 c.name refl) | inr m ↦ inr m ] in
         let beyond : begun + 1 ≤ at.place = elim mode [ inl m ↦ omega (arith, on, m.0) | inr m ↦ omega (arith, on, m) ] in
-        (deep n c stand.at at w (omega (arith, ran.on, le)) here, walk s ordered values depth last begun step deep es ns mid after refl consume.1 k empty le (inr beyond))
-walk s ordered values depth last begun step deep (e ∷ es) nodes stand after children all h empty le mode = by (pass s values e stand) refl h
+        (deep n c stand.at at w (omega (arith, ran.on, le)) here, later at consume.1 k (inr beyond))
+walk s ordered values depth last begun step deep (e ∷ es) nodes stand after children all h empty le mode =
+    by (λ mid same rest k mode'. walk s ordered values depth last begun step deep es nodes mid after same rest k empty le mode') (pass s values e stand) refl h
   where
     special : is_phrase e ≡ false → first_category (e ∷ es) ≡ first_category es
     special p = ap (λ b. if b then sub_name e else first_category es) p
-    by : (o : Option Stand) → pass s values e stand ≡ o → option_and_then (run s values es) o ≡ Some after → Each (Within depth) nodes
-    by None w k = cc
-    by (Some mid) w k =
+    next : (mid : Stand) → Moves e stand mid → (b : Bool) → is_phrase e ≡ b → ((mid.at.place ≡ begun) × ((c : ℕ) → first_category es ≡ Some c → step c)) ⊎ (begun + 1 ≤ mid.at.place)
+    next mid one true p = inr (elim mode [ inl m ↦ omega (arith, m.0, one.token p) | inr m ↦ omega (arith, m, one.on) ])
+    next mid one false p = elim mode [ inl m ↦ inl (one.same p ∙ m.0, λ c v. m.1 c (special p ∙ v)) | inr m ↦ inr (omega (arith, m, one.on)) ]
+    by : ((mid : Stand) → mid.children ≡ map (phrase_of s) nodes → Each Consumes mid.children → run s values es mid ≡ Some after → ((mid.at.place ≡ begun) × ((c : ℕ) → first_category es ≡ Some c → step c)) ⊎ (begun + 1 ≤ mid.at.place) → Each (Within depth) nodes) → (o : Option Stand) → pass s values e stand ≡ o → option_and_then (run s values es) o ≡ Some after → Each (Within depth) nodes
+    by later None w k = cc
+    by later (Some mid) w k =
         let one : Moves e stand mid = pass_moves s values e stand mid all w in
-        walk s ordered values depth last begun step deep es nodes mid after (one.children refl ∙ children) one.rest k empty le (next one (is_phrase e) refl)
-      where
-        next : Moves e stand mid → (b : Bool) → is_phrase e ≡ b → ((mid.at.place ≡ begun) × ((c : ℕ) → first_category es ≡ Some c → step c)) ⊎ (begun + 1 ≤ mid.at.place)
-        next one true p = inr (elim mode [ inl m ↦ omega (arith, m.0, one.token p) | inr m ↦ omega (arith, m, one.on) ])
-        next one false p = elim mode [ inl m ↦ inl (one.same p ∙ m.0, λ c v. m.1 c (special p ∙ v)) | inr m ↦ inr (omega (arith, m, one.on)) ]
+        later mid (one.children refl ∙ children) one.rest k (next mid one (is_phrase e) refl)
 
 each_within : (depth : ℕ) (ns : Nodes) → Each (Within depth) (node_list ns) → AllWithin depth ns
 each_within depth none h = tt
@@ -300,26 +269,27 @@ each_within depth (more n ns) h = (h.0, each_within depth ns h.1)
 -- a phrase is no deeper than the tokens and the categories that are left allow
 deep : (s : Setting) → Ordered s.grammar → (last depth : ℕ) (n : Node) (asked : Test) (at after : At) (names : List ℕ) → phrase_of s n asked at ≡ Some after → after.place ≤ last → Free s.grammar names asked.name → weight (last - at.place) (length (heads s.grammar) + 1) + length names + 1 ≤ depth → Within depth n
 deep s ordered last zero (node number values found children) asked at after names h le free low = absurd (omega (arith, low))
-deep s ordered last (suc depth) (node number values found children) asked at after names h le free low = by (rule_with s.grammar number) refl h
+deep s ordered last (suc depth) (node number values found children) asked at after names h le free low =
+    by (λ short m c start end w under_last mode. child (λ c' start' end' names' w' l' free' low'. deep s ordered last depth m (under values c') start' end' names' w' l' free' low') short m c start end w under_last mode) (rule_with s.grammar number) refl h
   where
-    by : (o : Option Rule) → rule_with s.grammar number ≡ o → option_and_then (λ r. phrase s r values found (phrases_of s children) asked at) o ≡ Some after → AllWithin depth children
-    by None w k = cc
-    by (Some rule) w k =
+    child : {n : Node} → ((c : Category) (start end : At) (names' : List ℕ) → phrase_of s n (under values c) start ≡ Some end → end.place ≤ last → Free s.grammar names' c.name → weight (last - start.place) (length (heads s.grammar) + 1) + length names' + 1 ≤ depth → Within depth n) → length (without asked.name names) + 1 ≤ length names → (m : Node) (c : Category) (start end : At) → phrase_of s n (under values c) start ≡ Some end → end.place ≤ last → ((start.place ≡ at.place) × StepsTo s.grammar asked.name c.name) ⊎ (at.place + 1 ≤ start.place) → Within depth n
+    child again short m c start end w under_last (inl e) =
+        let same : weight (last - start.place) (length (heads s.grammar) + 1) ≡ weight (last - at.place) (length (heads s.grammar) + 1) = ap (λ p. weight (last - p) (length (heads s.grammar) + 1)) e.0 in
+        again c start end (without asked.name names) w under_last (free_on s.grammar names asked.name c.name free e.1) (omega (arith, same, short, low))
+    child {n = n} again short m c start end w under_last (inr e) =
+        let consumed : start.place + 1 ≤ end.place = node_consumes s ordered n (under values c) start end w in
+        let left : (last - start.place) + 1 ≤ last - at.place = omega (arith, e, consumed, under_last) in
+        let lighter : weight (last - start.place) (length (heads s.grammar) + 1) + (length (heads s.grammar) + 1) ≤ weight (last - at.place) (length (heads s.grammar) + 1) = weight_more (last - at.place) (last - start.place) (length (heads s.grammar) + 1) left in
+        again c start end (heads s.grammar) w under_last (all_free s.grammar c.name) (omega (arith, lighter, low))
+    by : (length (without asked.name names) + 1 ≤ length names → (n : Node) (c : Category) (start end : At) → phrase_of s n (under values c) start ≡ Some end → end.place ≤ last → ((start.place ≡ at.place) × StepsTo s.grammar asked.name c.name) ⊎ (at.place + 1 ≤ start.place) → Within depth n) → (o : Option Rule) → rule_with s.grammar number ≡ o → option_and_then (λ r. phrase s r values found (phrases_of s children) asked at) o ≡ Some after → AllWithin depth children
+    by each None w k = cc
+    by each (Some rule) w k =
         let parts : Parts s rule values found (phrases_of s children) asked at after = phrase_parts s rule values found (phrases_of s children) asked at after k in
         let contained : Contains s.grammar.rules rule = rule_contained s.grammar number rule w in
         let name : rule.head.name ≡ asked.name = same_number rule.head.name asked.name (first_of_and (rule.head.name == asked.name) _ parts.fit) in
         let head : IsHead s.grammar asked.name = (rule, contained, name) in
         let short : length (without asked.name names) + 1 ≤ length names = shorter_with asked.name names (asked_free s.grammar ordered names asked.name free head) in
-        each_within depth children (walk s ordered values depth last at.place (StepsTo s.grammar asked.name) (child short) rule.body (node_list children) (record { at = at; found = found; own = own_values rule values; children = phrases_of s children }) parts.stand (phrases_of-list s children) (nodes_consume s ordered children) parts.ran parts.no_children (subst (λ a. a.place ≤ last) parts.ends le) (inl (refl, λ c v. (rule, contained, name, v))))
-    child : length (without asked.name names) + 1 ≤ length names → (n : Node) (c : Category) (start end : At) → phrase_of s n (under values c) start ≡ Some end → end.place ≤ last → ((start.place ≡ at.place) × StepsTo s.grammar asked.name c.name) ⊎ (at.place + 1 ≤ start.place) → Within depth n
-    child short n c start end w under_last (inl m) =
-        let same : weight (last - start.place) (length (heads s.grammar) + 1) ≡ weight (last - at.place) (length (heads s.grammar) + 1) = ap (λ p. weight (last - p) (length (heads s.grammar) + 1)) m.0 in
-        deep s ordered last depth n (under values c) start end (without asked.name names) w under_last (free_on s.grammar names asked.name c.name free m.1) (omega (arith, same, short, low))
-    child short n c start end w under_last (inr m) =
-        let consumed : start.place + 1 ≤ end.place = node_consumes s ordered n (under values c) start end w in
-        let left : (last - start.place) + 1 ≤ last - at.place = omega (arith, m, consumed, under_last) in
-        let lighter : weight (last - start.place) (length (heads s.grammar) + 1) + (length (heads s.grammar) + 1) ≤ weight (last - at.place) (length (heads s.grammar) + 1) = weight_more (last - at.place) (last - start.place) (length (heads s.grammar) + 1) left in
-        deep s ordered last depth n (under values c) start end (heads s.grammar) w under_last (all_free s.grammar c.name) (omega (arith, lighter, low))
+        each_within depth children (walk s ordered values depth last at.place (StepsTo s.grammar asked.name) (each short) rule.body (node_list children) (record { at = at; found = found; own = own_values rule values; children = phrases_of s children }) parts.stand (phrases_of-list s children) (nodes_consume s ordered children) parts.ran parts.no_children (subst (λ a. a.place ≤ last) parts.ends le) (inl (refl, λ c v. (rule, contained, name, v))))
 
 pub weight_is : (left k : ℕ) → weight left k ≡ left * k
 unfolding weight

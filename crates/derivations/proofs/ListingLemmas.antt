@@ -12,7 +12,7 @@ use Rattle.derivation_trees.specs.Settings.{Setting}
 use Rattle.derivation_trees.specs.Instances.{under, is_instance, own_values}
 use Rattle.derivation_trees.specs.Derives.{At, Stand, Phrase, run, fits, begun, ended, phrase, phrase_of, phrases_of, rule_with, is_none_left, list_after, same_where_both}
 use Rattle.derivations.specs.Enumeration.{Path, Outcome, opened, ended_path, all_steps, instances, instance_trees, rule_trees, rules_trees, trees_of}
-use Rattle.derivations.proofs.Members.{Among, among_left, among_right, among_map, among_flat_map, first_of_and, second_of_and}
+use Rattle.derivations.proofs.Members.{Among, among_left, among_right, among_map, among_flat_map, first_of_and, second_of_and, some_same}
 use Rattle.derivations.proofs.ChoiceLemmas.{instance_has}
 use Rattle.derivations.proofs.StepLemmas.{stand_of, Goes, Knows, all_goes}
 
@@ -59,30 +59,23 @@ pub record Parts (s : Setting) (rule : Rule) (values : List (ℕ × Value)) (fou
 pub phrase_parts : (s : Setting) (rule : Rule) (values : List (ℕ × Value)) (found : List ℕ) (children : List Phrase) (asked : Test) (at after : At) → phrase s rule values found children asked at ≡ Some after → Parts s rule values found children asked at after
 phrase_parts s rule values found children asked at after h = by (fits (under values rule.head) asked && is_instance s rule values) refl h
   where
-    first : Stand
-    first = record { at = at; found = found; own = own_values rule values; children = children }
+    done : (fits (under values rule.head) asked && is_instance s rule values) ≡ true → (stand : Stand) → run s values rule.body (record { at = at; found = found; own = own_values rule values; children = children }) ≡ Some stand → (b : Bool) → (is_none_left stand.found && is_none_left stand.children) ≡ b → (if b then Some (record { place = stand.at.place; list = list_after rule.closing at.list stand.at.list }) else None) ≡ Some after → Parts s rule values found children asked at after
+    done e stand w false x n = cc
+    done e stand w true x n = record {
+      fit = first_of_and (fits (under values rule.head) asked) (is_instance s rule values) e;
+      instance = second_of_and (fits (under values rule.head) asked) (is_instance s rule values) e;
+      stand = stand;
+      ran = w;
+      no_found = first_of_and (is_none_left stand.found) (is_none_left stand.children) x;
+      no_children = second_of_and (is_none_left stand.found) (is_none_left stand.children) x;
+      ends = sym (some_same (record { place = stand.at.place; list = list_after rule.closing at.list stand.at.list }) after n);
+    }
+    led : (fits (under values rule.head) asked && is_instance s rule values) ≡ true → (o : Option Stand) → run s values rule.body (record { at = at; found = found; own = own_values rule values; children = children }) ≡ o → option_and_then (ended rule at.list) o ≡ Some after → Parts s rule values found children asked at after
+    led e None w m = cc
+    led e (Some stand) w m = done e stand w (is_none_left stand.found && is_none_left stand.children) refl m
     by : (b : Bool) → (fits (under values rule.head) asked && is_instance s rule values) ≡ b → option_and_then (λ stand. option_and_then (ended rule at.list) (run s values rule.body stand)) (if b then Some (record { at = at; found = found; own = own_values rule values; children = children }) else None) ≡ Some after → Parts s rule values found children asked at after
     by false e k = cc
-    by true e k = led (run s values rule.body first) refl k
-      where
-        led : (o : Option Stand) → run s values rule.body (record { at = at; found = found; own = own_values rule values; children = children }) ≡ o → option_and_then (ended rule at.list) o ≡ Some after → Parts s rule values found children asked at after
-        led None w m = cc
-        led (Some stand) w m = done (is_none_left stand.found && is_none_left stand.children) refl m
-          where
-            done : (b : Bool) → (is_none_left stand.found && is_none_left stand.children) ≡ b → (if b then Some (record { place = stand.at.place; list = list_after rule.closing at.list stand.at.list }) else None) ≡ Some after → Parts s rule values found children asked at after
-            done false x n = cc
-            done true x n = record {
-              fit = first_of_and (fits (under values rule.head) asked) (is_instance s rule values) e;
-              instance = second_of_and (fits (under values rule.head) asked) (is_instance s rule values) e;
-              stand = stand;
-              ran = w;
-              no_found = first_of_and (is_none_left stand.found) (is_none_left stand.children) x;
-              no_children = second_of_and (is_none_left stand.found) (is_none_left stand.children) x;
-              ends = sym (same n);
-            }
-              where
-                same : Some (record { place = stand.at.place; list = list_after rule.closing at.list stand.at.list }) ≡ Some after → record { place = stand.at.place; list = list_after rule.closing at.list stand.at.list } ≡ after
-                same v = cc
+    by true e k = led e (run s values rule.body (record { at = at; found = found; own = own_values rule values; children = children })) refl k
 
 none_left_nil : {X : Type 0} (xs : List X) → is_none_left xs ≡ true → xs ≡ []
 none_left_nil [] h = refl
@@ -127,15 +120,13 @@ number_of number h = by number h
 -- every tree up to the depth that is a phrase for the category is listed
 pub tree_has : (s : Setting) (depth : ℕ) (n : Node) (wanted : Test) (at after : At) → Within depth n → phrase_of s n wanted at ≡ Some after → Among (trees_of s depth wanted at) (record { tree = n; at = after })
 tree_has s zero (node number values found children) wanted at after within h = absurd within
-tree_has s (suc depth) (node number values found children) wanted at after within h = by (number == 0) refl h
+tree_has s (suc depth) (node number values found children) wanted at after within h =
+    by (λ n asked start a m e. tree_has s depth n asked start a (within_among depth children n within m) e) (number == 0) refl h
   where
-    knows : Knows s (trees_of s depth) (node_list children)
-    knows n asked start a m e = tree_has s depth n asked start a (within_among depth children n within m) e
-    by : (b : Bool) → (number == 0) ≡ b → option_and_then (λ r. phrase s r values found (phrases_of s children) wanted at) (if b then None else slice_get s.grammar.rules (number - 1)) ≡ Some after → Among (rules_trees s (trees_of s depth) wanted at 1 s.grammar.rules) (record { tree = node number values found children; at = after })
-    by true e k = cc
-    by false e k = of (slice_get s.grammar.rules (number - 1)) refl k
-      where
-        of : (o : Option Rule) → slice_get s.grammar.rules (number - 1) ≡ o → option_and_then (λ r. phrase s r values found (phrases_of s children) wanted at) o ≡ Some after → Among (rules_trees s (trees_of s depth) wanted at 1 s.grammar.rules) (record { tree = node number values found children; at = after })
-        of None w m = cc
-        of (Some rule) w m =
-            rules_has s (trees_of s depth) wanted at 1 s.grammar.rules (number - 1) rule (record { tree = node number values found children; at = after }) w (subst (λ n. Among (rule_trees s (trees_of s depth) wanted at n rule) (record { tree = node number values found children; at = after })) (sym (number_of number e)) (instance_tree_has s (trees_of s depth) wanted at after number rule values found children knows m))
+    of : Knows s (trees_of s depth) (node_list children) → (number == 0) ≡ false → (o : Option Rule) → slice_get s.grammar.rules (number - 1) ≡ o → option_and_then (λ r. phrase s r values found (phrases_of s children) wanted at) o ≡ Some after → Among (rules_trees s (trees_of s depth) wanted at 1 s.grammar.rules) (record { tree = node number values found children; at = after })
+    of knows e None w m = cc
+    of knows e (Some rule) w m =
+        rules_has s (trees_of s depth) wanted at 1 s.grammar.rules (number - 1) rule (record { tree = node number values found children; at = after }) w (subst (λ n. Among (rule_trees s (trees_of s depth) wanted at n rule) (record { tree = node number values found children; at = after })) (sym (number_of number e)) (instance_tree_has s (trees_of s depth) wanted at after number rule values found children knows m))
+    by : Knows s (trees_of s depth) (node_list children) → (b : Bool) → (number == 0) ≡ b → option_and_then (λ r. phrase s r values found (phrases_of s children) wanted at) (if b then None else slice_get s.grammar.rules (number - 1)) ≡ Some after → Among (rules_trees s (trees_of s depth) wanted at 1 s.grammar.rules) (record { tree = node number values found children; at = after })
+    by knows true e k = cc
+    by knows false e k = of knows e (slice_get s.grammar.rules (number - 1)) refl k

@@ -1,5 +1,6 @@
 -- Members of lists.
-use Rattle.std.proofs.Common.{◌≡◌, ℕ, List, [], ◌∷◌, ◌++◌, map, Bool, true, false, ◌&&◌, ◌||◌, ◌⊎◌, inl, inr, refl, sym, ap, subst, ◌∙◌}
+use Rattle.std.proofs.Common.{◌≡◌, ℕ, Option, Some, None, List, [], ◌∷◌, ◌++◌, map, Bool, true, false, ◌&&◌, ◌||◌, ◌⊎◌, inl, inr, refl, sym, ap, subst, ◌∙◌}
+use Rattle.std.specs.Prelude.{unwrap_or}
 use Rattle.std.specs.List.{flat_map, list_all, list_any}
 
 abbrev pub Among : {X : Type 0} → List X → X → Type 0
@@ -46,3 +47,9 @@ all_among p (z ∷ zs) x h (inr k) = all_among p zs x (second_of_and (p z) (list
 pub map_of : {X Y : Type 0} (f : X → Y) (xs ys : List X) → map f (xs ++ ys) ≡ map f xs ++ map f ys
 map_of f [] ys = refl
 map_of f (x ∷ xs) ys = ap (λ zs. f x ∷ zs) (map_of f xs ys)
+
+pub some_same : {X : Type 0} (x y : X) → Some x ≡ Some y → x ≡ y
+some_same x y h = ap (λ o. unwrap_or o x) h
+
+pub true_is_false : {X : Type 0} → true ≡ false → X
+true_is_false w = cc

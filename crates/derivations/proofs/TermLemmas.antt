@@ -15,7 +15,7 @@ use Rattle.codeco_checked.specs.Numbering.{has}
 use Rattle.codeco_checked.specs.Occurrences.{whole, with_taken, mentions, rule_mentions, rule_features, rule_variables, element_variables, category_variables, term_variables, positions}
 use Rattle.derivation_trees.proofs.OccurrenceLemmas.{has_append, all_append, with_taken_has, with_taken_all}
 use Rattle.derivations.specs.Enumeration.{taken_terms, pattern_terms, element_terms, rule_terms, is_variable, feature_at, has_feature, fixed_at}
-use Rattle.derivations.proofs.Members.{Among, among_left, among_right, first_of_and, second_of_and, either_of_or}
+use Rattle.derivations.proofs.Members.{Among, among_left, among_right, first_of_and, second_of_and, either_of_or, some_same, true_is_false}
 use Rattle.derivations.proofs.ValueLemmas.{same_number, number_is_same}
 
 -- tests of all features
@@ -81,23 +81,20 @@ all_terms p rule h =
 
 -- a variable stands at a feature
 
-pub Stands : List (ℕ × Term) → ℕ → Type 0
+abbrev pub Stands : List (ℕ × Term) → ℕ → Type 0
 Stands terms x = (f : ℕ) × Among terms (f, Var x)
 
-stands_left : (as bs : List (ℕ × Term)) (x : ℕ) → Stands as x → Stands (as ++ bs) x
-unfolding Stands
-stands_left as bs x h = (h.0, among_left as bs (h.0, Var x) h.1)
+stands_left : (fs gs : List (ℕ × Term)) (x : ℕ) → Stands fs x → Stands (fs ++ gs) x
+stands_left fs gs x h = (h.0, among_left fs gs (h.0, Var x) h.1)
 
-stands_right : (as bs : List (ℕ × Term)) (x : ℕ) → Stands bs x → Stands (as ++ bs) x
-unfolding Stands
-stands_right as bs x h = (h.0, among_right as bs (h.0, Var x) h.1)
+stands_right : (fs gs : List (ℕ × Term)) (x : ℕ) → Stands gs x → Stands (fs ++ gs) x
+stands_right fs gs x h = (h.0, among_right fs gs (h.0, Var x) h.1)
 
 in_term : (t : Term) (x : ℕ) → has (term_variables t) x ≡ true → t ≡ Var x
 in_term (Val v) x h = cc
 in_term (Var y) x h = elim (either_of_or (x == y) false h) [ inl e ↦ ap (λ n. Var n) (sym (same_number x y e)) | inr k ↦ cc ]
 
 in_feats : (feats : List (ℕ × Term)) (x : ℕ) → has (flat_map (λ f. term_variables f.1) feats) x ≡ true → Stands feats x
-unfolding Stands
 in_feats [] x h = cc
 in_feats (f ∷ fs) x h =
     elim (either_of_or (has (term_variables f.1) x) (has (flat_map (λ g. term_variables g.1) fs) x) (sym (has_append (term_variables f.1) (flat_map (λ g. term_variables g.1) fs) x) ∙ h)) [
@@ -106,7 +103,6 @@ in_feats (f ∷ fs) x h =
     ]
 
 in_taken : (taken : List (ℕ × ℕ)) (x : ℕ) → has (map (λ t. t.1) taken) x ≡ true → Stands (taken_terms taken) x
-unfolding Stands
 in_taken [] x h = cc
 in_taken (t ∷ ts) x h =
     elim (either_of_or (x == t.1) (has (map (λ u. u.1) ts) x) h) [
@@ -184,26 +180,20 @@ is_the_variable x (Var y) h = ap (λ n. Var n) (sym (same_number x y h))
 
 pub feature_some : (x : ℕ) (terms : List (ℕ × Term)) (f : ℕ) → feature_at x terms ≡ Some f → Among terms (f, Var x)
 feature_some x [] f h = cc
-feature_some x (g ∷ gs) f h = by (is_variable x g.1) refl h
+feature_some x (g ∷ gs) f h = by (feature_some x gs f) (is_variable x g.1) refl h
   where
-    by : (b : Bool) → is_variable x g.1 ≡ b → (if b then Some g.0 else feature_at x gs) ≡ Some f → Among (g ∷ gs) (f, Var x)
-    by true e k = inl (ap (λ n. (n, Var x)) (sym (same_of k)) ∙ ap (λ t. (g.0, t)) (sym (is_the_variable x g.1 e)))
-      where
-        same_of : Some g.0 ≡ Some f → g.0 ≡ f
-        same_of w = cc
-    by false e k = inr (feature_some x gs f k)
+    by : (feature_at x gs ≡ Some f → Among gs (f, Var x)) → (b : Bool) → is_variable x g.1 ≡ b → (if b then Some g.0 else feature_at x gs) ≡ Some f → Among (g ∷ gs) (f, Var x)
+    by later true e k = inl (ap (λ n. (n, Var x)) (sym (some_same g.0 f k)) ∙ ap (λ t. (g.0, t)) (sym (is_the_variable x g.1 e)))
+    by later false e k = inr (later k)
 
 pub feature_none : (x : ℕ) (terms : List (ℕ × Term)) (f : ℕ) → feature_at x terms ≡ None → Among terms (f, Var x) → ⊥
 feature_none x [] f h k = k
-feature_none x (g ∷ gs) f h k = by (is_variable x g.1) refl h k
+feature_none x (g ∷ gs) f h k = by (feature_none x gs f) (is_variable x g.1) refl h k
   where
-    by : (b : Bool) → is_variable x g.1 ≡ b → (if b then Some g.0 else feature_at x gs) ≡ None → Among (g ∷ gs) (f, Var x) → ⊥
-    by true e m n = cc
-    by false e m (inl same) = both (sym e ∙ ap (λ p. is_variable x p.1) (sym same) ∙ number_is_same x)
-      where
-        both : false ≡ true → ⊥
-        both w = cc
-    by false e m (inr n) = feature_none x gs f m n
+    by : (feature_at x gs ≡ None → Among gs (f, Var x) → ⊥) → (b : Bool) → is_variable x g.1 ≡ b → (if b then Some g.0 else feature_at x gs) ≡ None → Among (g ∷ gs) (f, Var x) → ⊥
+    by later true e m n = cc
+    by later false e m (inl same) = true_is_false (sym (ap (λ p. is_variable x p.1) (sym same) ∙ number_is_same x) ∙ e)
+    by later false e m (inr n) = later m n
 
 pub record Fixed (pairs : List (ℕ × Value)) (x : ℕ) (feats : List (ℕ × Term)) (f : ℕ) : Type 0 where
   pub written : Among feats (f, Var x)
@@ -211,14 +201,11 @@ pub record Fixed (pairs : List (ℕ × Value)) (x : ℕ) (feats : List (ℕ × T
 
 pub fixed_some : (pairs : List (ℕ × Value)) (x : ℕ) (feats : List (ℕ × Term)) (f : ℕ) → fixed_at pairs x feats ≡ Some f → Fixed pairs x feats f
 fixed_some pairs x [] f h = cc
-fixed_some pairs x (g ∷ gs) f h = by (is_variable x g.1 && has_feature pairs g.0) refl h
+fixed_some pairs x (g ∷ gs) f h = by (fixed_some pairs x gs f) (is_variable x g.1 && has_feature pairs g.0) refl h
   where
-    by : (b : Bool) → (is_variable x g.1 && has_feature pairs g.0) ≡ b → (if b then Some g.0 else fixed_at pairs x gs) ≡ Some f → Fixed pairs x (g ∷ gs) f
-    by true e k = record {
-      written = inl (ap (λ n. (n, Var x)) (sym (same_of k)) ∙ ap (λ t. (g.0, t)) (sym (is_the_variable x g.1 (first_of_and (is_variable x g.1) (has_feature pairs g.0) e))));
-      wanted = subst (λ n. has_feature pairs n ≡ true) (same_of k) (second_of_and (is_variable x g.1) (has_feature pairs g.0) e);
+    by : (fixed_at pairs x gs ≡ Some f → Fixed pairs x gs f) → (b : Bool) → (is_variable x g.1 && has_feature pairs g.0) ≡ b → (if b then Some g.0 else fixed_at pairs x gs) ≡ Some f → Fixed pairs x (g ∷ gs) f
+    by later true e k = record {
+      written = inl (ap (λ n. (n, Var x)) (sym (some_same g.0 f k)) ∙ ap (λ t. (g.0, t)) (sym (is_the_variable x g.1 (first_of_and (is_variable x g.1) (has_feature pairs g.0) e))));
+      wanted = subst (λ n. has_feature pairs n ≡ true) (some_same g.0 f k) (second_of_and (is_variable x g.1) (has_feature pairs g.0) e);
     }
-      where
-        same_of : Some g.0 ≡ Some f → g.0 ≡ f
-        same_of w = cc
-    by false e k = record { written = inr (fixed_some pairs x gs f k).written; wanted = (fixed_some pairs x gs f k).wanted }
+    by later false e k = record { written = inr (later k).written; wanted = (later k).wanted }

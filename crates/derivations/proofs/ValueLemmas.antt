@@ -121,13 +121,13 @@ same_unless_above a x h le = grind (arith, nat_tests)
 
 pub range_has : (n a x : ℕ) → a ≤ x → x < a + n → Among (range_with_len a n) x
 range_has zero a x le lt = absurd (omega arith)
-range_has (suc n) a x le lt = by (nat_lt a x) refl
+range_has (suc n) a x le lt = by (λ above. range_has n (a + 1) x above (omega arith)) (nat_lt a x) refl
   where
-    by : (b : Bool) → nat_lt a x ≡ b → Among (range_with_len a (suc n)) x
-    by true e = inr (range_has n (a + 1) x (above_where a x e) (omega arith))
-    by false e = inl (same_unless_above a x e le)
+    by : (a + 1 ≤ x → Among (range_with_len (a + 1) n) x) → (b : Bool) → nat_lt a x ≡ b → Among (range_with_len a (suc n)) x
+    by later true e = inr (later (above_where a x e))
+    by later false e = inl (same_unless_above a x e le)
 
-number_has : (ns : List ℕ) (n : ℕ) → has ns n ≡ true → Among ns n
+pub number_has : (ns : List ℕ) (n : ℕ) → has ns n ≡ true → Among ns n
 number_has [] n h = cc
 number_has (m ∷ ms) n h = elim (either_of_or (n == m) (has ms n) h) [ inl e ↦ inl (same_number n m e) | inr k ↦ inr (number_has ms n k) ]
 

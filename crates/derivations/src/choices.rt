@@ -293,7 +293,7 @@ fn push_longer(
     bound: &[(u8, Value)],
     out: &mut List<Bound>,
 ) -> Result<(), Memory>
-    ensures { OnOk result (out.new ≡ out.old ++ map (λ v. bound.now ++ (variable, v) ∷ []) values.now) }
+    ensures { OnOk result (out.new ≡ out.old ++ enumeration.lengthened_one (variable, values.now) bound.now) }
 {
     for value in values {
         let mut longer = copy_bound(alloc, bound)?;

@@ -20,3 +20,27 @@ invariant-push_all_instances-loop-values l =
 abbrev pub invariant-push_rules-loop-rule : goal.invariant-push_rules-loop-rule
 invariant-push_rules-loop-rule l =
     map outcome_of l.out ++ enumeration.rules_trees l.setting (enumeration.trees_of l.setting l.depth) l.wanted (at_of (l.place, l.list)) l.number (drop l.rule-index l.rules) ≡ map outcome_of l.initial.out ++ enumeration.rules_trees l.setting (enumeration.trees_of l.setting l.depth) l.wanted (at_of (l.place, l.list)) 1 l.rules
+
+abbrev pub decreases-trees_of : goal.decreases-trees_of
+decreases-trees_of l = 8 * l.depth + 0
+
+abbrev pub decreases-push_steps : goal.decreases-push_steps
+decreases-push_steps l = 8 * l.depth + 1
+
+abbrev pub decreases-step_all : goal.decreases-step_all
+decreases-step_all l = 8 * l.depth + 2
+
+abbrev pub decreases-run_all : goal.decreases-run_all
+decreases-run_all l = 8 * l.depth + 3
+
+abbrev pub decreases-push_instance_trees : goal.decreases-push_instance_trees
+decreases-push_instance_trees l = 8 * l.depth + 4
+
+abbrev pub decreases-push_all_instances : goal.decreases-push_all_instances
+decreases-push_all_instances l = 8 * l.depth + 5
+
+abbrev pub decreases-push_rule_trees : goal.decreases-push_rule_trees
+decreases-push_rule_trees l = 8 * l.depth + 6
+
+abbrev pub decreases-push_rules : goal.decreases-push_rules
+decreases-push_rules l = 8 * l.depth + 7

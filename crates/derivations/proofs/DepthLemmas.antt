@@ -139,7 +139,7 @@ mutual
 
 -- weights
 
-weight : ℕ → ℕ → ℕ
+pub weight : ℕ → ℕ → ℕ
 weight left k = left * k
 
 weight_more : (a b k : ℕ) → b + 1 ≤ a → weight b k + k ≤ weight a k
@@ -270,13 +270,13 @@ each_within depth (more n ns) h = (h.0, each_within depth ns h.1)
 deep : (s : Setting) → Ordered s.grammar → (last depth : ℕ) (n : Node) (asked : Test) (at after : At) (names : List ℕ) → phrase_of s n asked at ≡ Some after → after.place ≤ last → Free s.grammar names asked.name → weight (last - at.place) (length (heads s.grammar) + 1) + length names + 1 ≤ depth → Within depth n
 deep s ordered last zero (node number values found children) asked at after names h le free low = absurd (omega (arith, low))
 deep s ordered last (suc depth) (node number values found children) asked at after names h le free low =
-    by (λ short m c start end w under_last mode. child (λ c' start' end' names' w' l' free' low'. deep s ordered last depth m (under values c') start' end' names' w' l' free' low') short m c start end w under_last mode) (rule_with s.grammar number) refl h
+    by (λ short m c start end w under_last mode. child m (λ c' start' end' names' w' l' free' low'. deep s ordered last depth m (under values c') start' end' names' w' l' free' low') short c start end w under_last mode) (rule_with s.grammar number) refl h
   where
-    child : {n : Node} → ((c : Category) (start end : At) (names' : List ℕ) → phrase_of s n (under values c) start ≡ Some end → end.place ≤ last → Free s.grammar names' c.name → weight (last - start.place) (length (heads s.grammar) + 1) + length names' + 1 ≤ depth → Within depth n) → length (without asked.name names) + 1 ≤ length names → (m : Node) (c : Category) (start end : At) → phrase_of s n (under values c) start ≡ Some end → end.place ≤ last → ((start.place ≡ at.place) × StepsTo s.grammar asked.name c.name) ⊎ (at.place + 1 ≤ start.place) → Within depth n
-    child again short m c start end w under_last (inl e) =
+    child : (n : Node) → ((c : Category) (start end : At) (names' : List ℕ) → phrase_of s n (under values c) start ≡ Some end → end.place ≤ last → Free s.grammar names' c.name → weight (last - start.place) (length (heads s.grammar) + 1) + length names' + 1 ≤ depth → Within depth n) → length (without asked.name names) + 1 ≤ length names → (c : Category) (start end : At) → phrase_of s n (under values c) start ≡ Some end → end.place ≤ last → ((start.place ≡ at.place) × StepsTo s.grammar asked.name c.name) ⊎ (at.place + 1 ≤ start.place) → Within depth n
+    child n again short c start end w under_last (inl e) =
         let same : weight (last - start.place) (length (heads s.grammar) + 1) ≡ weight (last - at.place) (length (heads s.grammar) + 1) = ap (λ p. weight (last - p) (length (heads s.grammar) + 1)) e.0 in
         again c start end (without asked.name names) w under_last (free_on s.grammar names asked.name c.name free e.1) (omega (arith, same, short, low))
-    child {n = n} again short m c start end w under_last (inr e) =
+    child n again short c start end w under_last (inr e) =
         let consumed : start.place + 1 ≤ end.place = node_consumes s ordered n (under values c) start end w in
         let left : (last - start.place) + 1 ≤ last - at.place = omega (arith, e, consumed, under_last) in
         let lighter : weight (last - start.place) (length (heads s.grammar) + 1) + (length (heads s.grammar) + 1) ≤ weight (last - at.place) (length (heads s.grammar) + 1) = weight_more (last - at.place) (last - start.place) (length (heads s.grammar) + 1) left in
@@ -329,8 +329,8 @@ ordered_from_sound g sound = record { full = full; no_circle = no_circle }
         by false e =
             let at : (n : ℕ) × (0 < n) × (slice_get g.rules (n - 1) ≡ Some r) = rule_at g.rules r h in
             let empty : at_rule is_empty_rule g.rules at.0 ≡ true = ap (λ b. b && option_map_or is_empty_rule (slice_get g.rules (at.0 - 1)) false) (positive at.0 at.1) ∙ ap (λ o. option_map_or is_empty_rule o false) at.2 ∙ ap not e in
-            absurd (sound.faultless (EmptyRule at.0) (subst IsTrue (sym empty) tt))
+            absurd (sound.faultless (EmptyRule at.0) (subst IsTrue (sym empty) refl))
     no_circle : (r : Rule) → Contains g.rules r → IsRecursive g r.head.name → ⊥
-    no_circle r h circle =
+    no_circle r h round =
         let at : (n : ℕ) × (0 < n) × (slice_get g.rules (n - 1) ≡ Some r) = rule_at g.rules r h in
-        sound.faultless (LeftRecursion at.0) (r, at.1, at.2, circle)
+        sound.faultless (LeftRecursion at.0) (r, at.1, at.2, round)

@@ -7,3 +7,5 @@ pub mod ListingLemmas
 pub mod GrowLemmas
 pub mod DepthLemmas
 pub mod LoopLemmas
+pub mod SkeletonLemmas
+pub mod LeastLemmas

@@ -2,6 +2,7 @@
 #![tactic(auto)]
 
 mod choices;
+mod least;
 mod listing;
 mod paths;
 mod values;
@@ -9,3 +10,4 @@ mod values;
 pub use derivation_trees::{
     Binds, Cut, Group, Menu, Places, Skeleton, Skeletons, Tree, Trees, Words, check_tree, cut, show,
 };
+pub use least::plain_least;

@@ -66,7 +66,7 @@ fn joined_found(alloc: Global, found: &[u16], more: &[u16]) -> Result<List<u16>,
 
 // The position of what is found.
 fn found_position(alloc: Global, found: Option<Found<'_>>) -> Result<List<u16>, Memory>
-    ensures { IfOk result (λ positions. positions ≡ enumeration.found_position (option_map shown found)) }
+    ensures { IfOk result (λ positions. positions ≡ enumeration.found_position (option_map shown found.entry)) }
 {
     let mut positions = List::new(alloc);
     match found {

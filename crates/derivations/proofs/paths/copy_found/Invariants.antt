@@ -1,7 +1,4 @@
 use Rattle.std.proofs.Common.{◌≡◌, ℕ, ◌+◌, ◌*◌, [], ◌∷◌, ◌++◌, take, drop, map}
-use Rattle.derivations.proofs.GrowLemmas.{trees_grow}
-use Rattle.derivations.proofs.DepthLemmas.{derivation_within}
-use Rattle.derivations.proofs.ListingLemmas.{tree_has}
 use Rattle.derivations.proofs.paths.copy_found.Given as goal
 
 abbrev pub invariant-loop-pos : goal.invariant-loop-pos

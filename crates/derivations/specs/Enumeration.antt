@@ -19,7 +19,7 @@ use Rattle.codeco_terms.specs.declared.rules.Rule.{Rule}
 use Rattle.codeco_terms.specs.Values.{same_value}
 use Rattle.scopes.specs.declared.entries.Entry.{Entry}
 use Rattle.scopes.specs.declared.tests.Test.{Test}
-use Rattle.scopes.specs.Resolution.{closest_finding}
+use Rattle.scopes.specs.Resolution.{Finding, closest_finding}
 use Rattle.codeco_checked.specs.Faults.{values_of}
 use Rattle.codeco_checked.specs.Numbering.{has}
 use Rattle.derivation_trees.specs.Trees.{Node, node, nodes_from}
@@ -139,6 +139,10 @@ free_among s terms x = option_map_or (feature_values s) (feature_at x terms) (po
 abbrev pub tried_among : Setting → Rule → List (ℕ × Term) → Test → ℕ → List Value
 tried_among s rule terms wanted x = option_map_or (given wanted.values) (fixed_at wanted.values x rule.head.feats) (free_among s terms x)
 
+-- a variable with the values to be tried
+abbrev pub choice_among : Setting → Rule → List (ℕ × Term) → Test → ℕ → ℕ × List Value
+choice_among s rule terms wanted x = (x, tried_among s rule terms wanted x)
+
 abbrev pub tried : Setting → Rule → Test → ℕ → List Value
 tried s rule wanted x = tried_among s rule (rule_terms rule) wanted x
 
@@ -149,7 +153,7 @@ own_choices s number (f ∷ fs) = (number, feature_values s f) ∷ own_choices s
 
 -- the written variables of a rule with the values to be tried
 abbrev pub written_choices : Setting → Rule → Test → List (ℕ × List Value)
-written_choices s rule wanted = map (λ x. (x, tried s rule wanted x)) (written_variables rule)
+written_choices s rule wanted = map (choice_among s rule (rule_terms rule) wanted) (written_variables rule)
 
 -- the features of a rule's own variables
 abbrev pub own_features_of : Setting → Rule → List ℕ
@@ -159,9 +163,13 @@ own_features_of s rule = rule_own_features s.grammar rule
 abbrev pub choices : Setting → Rule → Test → List (ℕ × List Value)
 choices s rule wanted = written_choices s rule wanted ++ own_choices s 16 (own_features_of s rule)
 
+-- an instance with one more variable, in each way
+abbrev pub lengthened_one : ℕ × List Value → List (ℕ × Value) → List (List (ℕ × Value))
+lengthened_one choice values = map (λ v. values ++ (choice.0, v) ∷ []) choice.1
+
 -- the instances with one more variable, in each way
 abbrev pub lengthened : ℕ × List Value → List (List (ℕ × Value)) → List (List (ℕ × Value))
-lengthened choice done = flat_map (λ values. map (λ v. values ++ (choice.0, v) ∷ []) choice.1) done
+lengthened choice done = flat_map (lengthened_one choice) done
 
 -- the instances that choices give, after values that are chosen
 abbrev pub chosen : List (ℕ × List Value) → List (List (ℕ × Value)) → List (List (ℕ × Value))
@@ -174,6 +182,10 @@ instances s rule wanted = chosen (choices s rule wanted) ([] ∷ [])
 
 -- Elements
 
+-- the position of what is found
+abbrev pub found_position : Option Finding → List ℕ
+found_position finding = option_map_or (λ f. f.pos ∷ []) finding []
+
 -- what a backward reference finds
 abbrev pub found_at : List (ℕ × Value) → Element → List Entry → List ℕ
 found_at values (Terminal t) list = []
@@ -184,7 +196,7 @@ found_at values Opener list = []
 found_at values (Forward c) list = []
 found_at values (Strong c) list = []
 found_at values (Back positive negative) list =
-    option_map_or (λ finding. finding.pos ∷ []) (closest_finding (reference_tests values positive negative) list) []
+    found_position (closest_finding (reference_tests values positive negative) list)
 found_at values (NoBack patterns) list = []
 
 -- the path after an element that is no category

@@ -1,6 +1,7 @@
 // The instances of a rule whose head may fit a category.
 ghost use Rattle.std.specs.Prelude.{◌≡◌, ◌∷◌, [], ◌++◌, IfOk, OnOk, map, filter};
 ghost use Rattle.std.specs.List.{flat_map, list_any};
+ghost use Rattle.derivation_trees.specs.Instances.{own_features};
 ghost use Rattle.derivations.specs.Enumeration as enumeration;
 ghost use Rattle.derivations.specs.Choices.{choice_of};
 
@@ -77,15 +78,22 @@ fn push_element(element: &Element, out: &mut List<Feat>) -> Result<(), Memory>
     }
 }
 
+fn push_body(body: &[Element], out: &mut List<Feat>) -> Result<(), Memory>
+    ensures { OnOk result (out.new ≡ out.old ++ flat_map enumeration.element_terms body.now) }
+{
+    for element in body {
+        push_element(element, out)?;
+    }
+    Ok(())
+}
+
 // The features that are written in the rule.
 fn rule_terms(alloc: Global, rule: &Rule) -> Result<List<Feat>, Memory>
     ensures { IfOk result (λ terms. terms ≡ enumeration.rule_terms rule.now) }
 {
     let mut terms = List::new(alloc);
     push_feats(rule.head.feats.as_slice(), &mut terms)?;
-    for element in rule.body.as_slice() {
-        push_element(element, &mut terms)?;
-    }
+    push_body(rule.body.as_slice(), &mut terms)?;
     Ok(terms)
 }
 
@@ -172,6 +180,28 @@ fn variable_number(number: usize) -> Result<u8, Memory>
     }
 }
 
+// Adds the variables with the values to be tried.
+#[tactic(auto, using(crate::proofs::LoopLemmas::choices_push))]
+fn push_tried(
+    alloc: Global,
+    setting: &Setting<'_>,
+    rule: &Rule,
+    terms: &[Feat],
+    wanted: &Test,
+    written: &[usize],
+    out: &mut List<Choice>,
+) -> Result<(), Memory>
+    ensures { OnOk result (map choice_of out.new
+        ≡ map choice_of out.old ++ map (enumeration.choice_among setting.now rule.now terms.now wanted.now) written.now) }
+{
+    for number in written {
+        let variable = variable_number(*number)?;
+        let values = tried(alloc, setting, rule, terms, wanted, variable)?;
+        out.push(Choice { variable, values })?;
+    }
+    Ok(())
+}
+
 // Adds the written variables with the values to be tried.
 fn push_written(
     alloc: Global,
@@ -185,26 +215,43 @@ fn push_written(
 {
     let terms = rule_terms(alloc, rule)?;
     let written = written_variables(alloc, rule)?;
-    for number in written.as_slice() {
-        let variable = variable_number(*number)?;
-        let values = tried(alloc, setting, rule, terms.as_slice(), wanted, variable)?;
-        out.push(Choice { variable, values })?;
+    push_tried(
+        alloc,
+        setting,
+        rule,
+        terms.as_slice(),
+        wanted,
+        written.as_slice(),
+        out,
+    )
+}
+
+// Adds the features of the own variables of the elements.
+fn push_all_own(
+    alloc: Global,
+    setting: &Setting<'_>,
+    body: &[Element],
+    out: &mut Vec<u16>,
+) -> Result<(), Memory>
+    ensures { OnOk result (out.new.items ≡ out.old.items ++ flat_map (own_features setting.now.grammar) body.now) }
+{
+    for element in body {
+        push_own_features(alloc, setting.grammar, element, out)?;
     }
     Ok(())
 }
 
 // The features of the rule's own variables.
-fn own_features(alloc: Global, setting: &Setting<'_>, rule: &Rule) -> Result<Vec<u16>, Memory>
+fn own_features_of(alloc: Global, setting: &Setting<'_>, rule: &Rule) -> Result<Vec<u16>, Memory>
     ensures { IfOk result (λ features. features.items ≡ enumeration.own_features_of setting.now rule.now) }
 {
     let mut features = Vec::new(alloc);
-    for element in rule.body.as_slice() {
-        push_own_features(alloc, setting.grammar, element, &mut features)?;
-    }
+    push_all_own(alloc, setting, rule.body.as_slice(), &mut features)?;
     Ok(features)
 }
 
 // Adds the own variables with the values to be tried.
+#[tactic(auto, using(crate::proofs::LoopLemmas::choices_push, crate::proofs::LoopLemmas::own_next))]
 fn push_own(
     alloc: Global,
     setting: &Setting<'_>,
@@ -235,7 +282,7 @@ fn choices(
 {
     let mut out = List::new(alloc);
     push_written(alloc, setting, rule, wanted, &mut out)?;
-    let features = own_features(alloc, setting, rule)?;
+    let features = own_features_of(alloc, setting, rule)?;
     push_own(alloc, setting, features.as_slice(), &mut out)?;
     Ok(out)
 }
@@ -258,7 +305,7 @@ fn push_longer(
     bound: &[(u8, Value)],
     out: &mut List<Bound>,
 ) -> Result<(), Memory>
-    ensures { OnOk result (out.new ≡ out.old ++ map (λ v. bound.now ++ (variable, v) ∷ []) values.now) }
+    ensures { OnOk result (out.new ≡ out.old ++ enumeration.lengthened_one (variable, values.now) bound.now) }
 {
     for value in values {
         let mut longer = copy_bound(alloc, bound)?;
@@ -294,6 +341,17 @@ fn unbound(alloc: Global) -> Result<List<Bound>, Memory>
     Ok(out)
 }
 
+// The instances that the choices give, after values that are chosen.
+fn chosen(alloc: Global, choices: &[Choice], done: List<Bound>) -> Result<List<Bound>, Memory>
+    ensures { IfOk result (λ made. made ≡ enumeration.chosen (map choice_of choices.now) done) }
+{
+    let mut made = done;
+    for choice in choices {
+        made = lengthened(alloc, choice, made.as_slice())?;
+    }
+    Ok(made)
+}
+
 // The instances of the rule whose head may fit the category.
 pub(crate) fn instances(
     alloc: Global,
@@ -304,9 +362,6 @@ pub(crate) fn instances(
     ensures { IfOk result (λ made. made ≡ enumeration.instances setting.now rule.now wanted.now) }
 {
     let choices = choices(alloc, setting, rule, wanted)?;
-    let mut done = unbound(alloc)?;
-    for choice in choices.as_slice() {
-        done = lengthened(alloc, choice, done.as_slice())?;
-    }
-    Ok(done)
+    let none = unbound(alloc)?;
+    chosen(alloc, choices.as_slice(), none)
 }

@@ -15,6 +15,7 @@ use std::alloc::Global;
 use wiki_base::Memory;
 
 // Adds the paths after each of the children.
+#[tactic(auto, using(crate::proofs::LoopLemmas::paths_push))]
 fn push_children(
     alloc: Global,
     path: &Path,
@@ -174,6 +175,7 @@ fn ended_path(
 }
 
 // Adds the trees at the ends of the paths.
+#[tactic(auto, using(crate::proofs::LoopLemmas::outcomes_push))]
 fn push_ends(
     alloc: Global,
     number: u16,
@@ -304,7 +306,34 @@ fn next_number(number: u16) -> Result<u16, Memory>
     number.checked_add(1).ok_or(Memory)
 }
 
+// Adds the trees with any of the rules, the first of which has the number 1.
+#[cycle(listing)]
+fn push_rules(
+    alloc: Global,
+    setting: &Setting<'_>,
+    depth: usize,
+    wanted: &Test,
+    place: u16,
+    list: &Access,
+    rules: &[Rule],
+    out: &mut List<Outcome>,
+) -> Result<(), Memory>
+    requires limited { IsLimited setting.now.grammar }
+    requires within { All (λ rule. All (IsWithin setting.now.grammar) rule.body) rules.now }
+
+    ensures { OnOk result (map outcome_of out.new ≡ map outcome_of out.old
+        ++ enumeration.rules_trees setting.now (enumeration.trees_of setting.now depth) wanted.now (at_of (place, list.now)) 1 rules.now) }
+{
+    let mut number: u16 = 1;
+    for rule in rules {
+        push_rule_trees(alloc, setting, depth, wanted, place, list, number, rule, out)?;
+        number = next_number(number)?;
+    }
+    Ok(())
+}
+
 // The trees for a category at a place and a list, up to a depth.
+#[tactic(auto, using(crate::proofs::LoopLemmas::all_limited))]
 #[cycle(listing)]
 pub(crate) fn trees_of(
     alloc: Global,
@@ -320,6 +349,7 @@ pub(crate) fn trees_of(
         ≡ enumeration.trees_of setting.now depth wanted.now (at_of (place, list.now))) }
 {
     let mut out = List::new(alloc);
+<<<<<<< HEAD
     if depth == 0 {
         return Ok(out);
     }
@@ -337,6 +367,11 @@ pub(crate) fn trees_of(
             &mut out,
         )?;
         number = next_number(number)?;
+=======
+    if depth > 0 {
+        let rules = setting.grammar.rules().as_slice();
+        push_rules(alloc, setting, depth - 1, wanted, place, list, rules, &mut out)?;
+>>>>>>> menus-local
     }
     Ok(out)
 }

@@ -1,13 +1,16 @@
 // Nodes of which some elements are passed, and the trees that they become.
-ghost use Rattle.std.specs.Prelude.{◌≡◌, ◌∷◌, [], ◌++◌, IfOk, OnOk, map, false};
+ghost use Rattle.std.specs.Prelude.{◌≡◌, ◌≤◌, ◌∷◌, [], ◌++◌, IfOk, OnOk, map, length, option_map, false};
+ghost use Rattle.scopes.specs.Findings.{shown};
+ghost use Rattle.scopes.specs.Resolution.{closest_finding};
+ghost use Rattle.derivation_trees.specs.Derives.{reference_tests};
 ghost use Rattle.derivation_trees.specs.Stands.{IsWithin, is_sub};
 ghost use Rattle.derivations.specs.Enumeration as enumeration;
 ghost use Rattle.derivations.specs.Paths.{path_of, outcome_of};
 
-use codeco_terms::{Element, Value};
+use codeco_terms::{Element, Patterns, Value};
 use derivation_trees::{Progress, Setting, Tree, Trees, pass, tests_under};
 use lists::List;
-use scopes::{Access, Tests};
+use scopes::{Access, Found, Tests};
 use std::alloc::Global;
 use wiki_base::Memory;
 
@@ -61,6 +64,39 @@ fn joined_found(alloc: Global, found: &[u16], more: &[u16]) -> Result<List<u16>,
     Ok(joined)
 }
 
+// The position of what is found.
+fn found_position(alloc: Global, found: Option<Found<'_>>) -> Result<List<u16>, Memory>
+    ensures { IfOk result (λ positions. positions ≡ enumeration.found_position (option_map shown found.entry)) }
+{
+    let mut positions = List::new(alloc);
+    match found {
+        None => Ok(positions),
+        Some(found) => {
+            positions.push(found.pos)?;
+            Ok(positions)
+        }
+    }
+}
+
+// What the backward reference finds.
+fn reference_at(
+    alloc: Global,
+    values: &[(u8, Value)],
+    positive: &Patterns,
+    negative: &Patterns,
+    list: &Access,
+) -> Result<List<u16>, Memory>
+    requires { length positive.now ≤ 16 }
+    ensures { IfOk result (λ found. found
+        ≡ enumeration.found_position (closest_finding (reference_tests values.now positive.now negative.now) list.now)) }
+{
+    let tests = Tests {
+        positive: tests_under(alloc, values, positive.as_slice())?,
+        negative: tests_under(alloc, values, negative.as_slice())?,
+    };
+    found_position(alloc, list.closest(&tests))
+}
+
 // What a backward reference finds.
 fn found_at(
     alloc: Global,
@@ -72,17 +108,10 @@ fn found_at(
     requires { IsWithin setting.now.grammar element.now }
     ensures { IfOk result (λ found. found ≡ enumeration.found_at values.now element.now list.now) }
 {
-    let mut found = List::new(alloc);
-    if let Element::Back(positive, negative) = element {
-        let tests = Tests {
-            positive: tests_under(alloc, values, positive.as_slice())?,
-            negative: tests_under(alloc, values, negative.as_slice())?,
-        };
-        if let Some(one) = list.closest(&tests) {
-            found.push(one.pos)?;
-        }
+    match element {
+        Element::Back(positive, negative) => reference_at(alloc, values, positive, negative, list),
+        _ => Ok(List::new(alloc)),
     }
-    Ok(found)
 }
 
 // Adds the path after an element that is no category.

@@ -92,7 +92,15 @@ fn least_of(
 {
     let mut least = None;
     for outcome in outcomes {
-        least = consider(alloc, grammar, lexicon, tokens, setting, &outcome.tree, least)?;
+        least = consider(
+            alloc,
+            grammar,
+            lexicon,
+            tokens,
+            setting,
+            &outcome.tree,
+            least,
+        )?;
     }
     Ok(least)
 }
@@ -138,7 +146,14 @@ fn least_in(
 {
     let depth = depth_for(setting.tokens.len(), setting.grammar.rules().len())?;
     let outcomes = all_trees(alloc, setting, depth)?;
-    least_of(alloc, grammar, lexicon, tokens, setting, outcomes.as_slice())
+    least_of(
+        alloc,
+        grammar,
+        lexicon,
+        tokens,
+        setting,
+        outcomes.as_slice(),
+    )
 }
 
 /// The least skeleton of the tokens, of which there are at most 40, by the grammar with the words of the lexicon: that of
@@ -161,42 +176,5 @@ pub fn plain_least(
         tokens: tokens.as_slice(),
         readings: readings.as_slice(),
     };
-<<<<<<< HEAD
-    let asked = Test {
-        name: TEXT,
-        values: TestValues::new(alloc),
-    };
-    let list = Access::empty(alloc);
-    let depth = (tokens.len() + 1) * (grammar.grammar().rules().len() + 1);
-    let outcomes = trees_of(alloc, &setting, depth, &asked, 0, &list)?;
-    let mut least: Option<Skeleton> = None;
-    for outcome in outcomes.as_slice() {
-        if check_tree(alloc, grammar, lexicon, tokens, &outcome.tree)? {
-            let skeleton = sketch_of(alloc, &setting, &outcome.tree, 0)?;
-            least = Some(lesser(alloc, least, skeleton)?);
-        }
-    }
-    Ok(least)
-}
-
-// The one whose code is lower.
-fn lesser(alloc: Global, least: Option<Skeleton>, other: Skeleton) -> Result<Skeleton, Memory> {
-    match least {
-        None => Ok(other),
-        Some(least) => {
-            if other
-                .code(alloc)?
-                .as_slice()
-                .cmp(least.code(alloc)?.as_slice())
-                == Ordering::Less
-            {
-                Ok(other)
-            } else {
-                Ok(least)
-            }
-        }
-    }
-=======
     least_in(alloc, grammar, lexicon, tokens, &setting)
->>>>>>> menus-local
 }

@@ -326,7 +326,9 @@ fn push_rules(
 {
     let mut number: u16 = 1;
     for rule in rules {
-        push_rule_trees(alloc, setting, depth, wanted, place, list, number, rule, out)?;
+        push_rule_trees(
+            alloc, setting, depth, wanted, place, list, number, rule, out,
+        )?;
         number = next_number(number)?;
     }
     Ok(())
@@ -349,29 +351,18 @@ pub(crate) fn trees_of(
         ≡ enumeration.trees_of setting.now depth wanted.now (at_of (place, list.now))) }
 {
     let mut out = List::new(alloc);
-<<<<<<< HEAD
-    if depth == 0 {
-        return Ok(out);
-    }
-    let mut number: u16 = 1;
-    for rule in setting.grammar.rules().as_slice() {
-        push_rule_trees(
+    if depth > 0 {
+        let rules = setting.grammar.rules().as_slice();
+        push_rules(
             alloc,
             setting,
             depth - 1,
             wanted,
             place,
             list,
-            number,
-            rule,
+            rules,
             &mut out,
         )?;
-        number = next_number(number)?;
-=======
-    if depth > 0 {
-        let rules = setting.grammar.rules().as_slice();
-        push_rules(alloc, setting, depth - 1, wanted, place, list, rules, &mut out)?;
->>>>>>> menus-local
     }
     Ok(out)
 }

@@ -44,7 +44,11 @@ pub(crate) fn missing_one(alloc: Global, label: &[Class], class: &Class) -> Resu
 }
 
 // The same where there may be no class.
-pub(crate) fn missing_of(alloc: Global, label: &[Class], class: Option<&Class>) -> Result<Classes, Memory>
+pub(crate) fn missing_of(
+    alloc: Global,
+    label: &[Class],
+    class: Option<&Class>,
+) -> Result<Classes, Memory>
     ensures { IfOk result (λ more. map concept_of label.now ++ concepts_of more ≡ with_classes (map concept_of label.now) (option_to_list (option_map (λ c. concept_of c.now) class.entry))) }
 {
     match class {

@@ -4,3 +4,4 @@ pub mod Fitting
 pub mod Soundness
 pub mod StartFits
 pub mod StepFits
+pub mod TreeLaws

@@ -5,7 +5,11 @@ use Rattle.std.proofs.lemmas.Bool.{cases_eq, eqb-true}
 use Rattle.logic_terms.specs.Concept.{Concept, Everything, Atomic, SubClassOf, SubPropertyOf, ClassAssertion, PropertyAssertion, SameIndividual, DifferentIndividuals}
 use Rattle.logic_terms.specs.Interpretation.{Interpretation, is_interpretation}
 use Rattle.logic_terms.specs.Meaning.{holds}
-use Rattle.logic_terms.specs.Theory.{Theory, is_model_of}
+use Rattle.logic_terms.specs.Reading.{Holds}
+use Rattle.logic_terms.specs.Theory.{Theory, IsModelOf}
+use Rattle.logic_terms.proofs.MeaningLemmas.{holds-Decides}
+use Rattle.closure_check.specs.NoModel.{HasNoModel}
+use Rattle.std.proofs.lemmas.Bool.Decides.{Decides-by_and}
 use Rattle.tableau_rules.specs.declared.step.Step.{Step}
 use Rattle.tableau_rules.specs.Graph.{Graph}
 use Rattle.tableau_rules.specs.Clashes.{is_clash}
@@ -28,29 +32,16 @@ pub record Parts (i : Interpretation) (k : Theory) : Type 0 where
   pub unfoldings : list_all (λ e. holds i (SubClassOf (Atomic e.0) e.1)) k.unfoldings ≡ true
   pub general : list_all (λ c. holds i (SubClassOf Everything c)) k.general ≡ true
 
-pub parts_of : (i : Interpretation) (k : Theory) → is_model_of i k ≡ true → Parts i k
-parts_of i k h =
-    let names : Bool = list_all (λ e. holds i (SameIndividual e.0 e.1)) k.names in
-    let hierarchy : Bool = list_all (λ p. holds i (SubPropertyOf p.0 p.1)) k.hierarchy in
-    let assertions : Bool = list_all (λ e. holds i (ClassAssertion e.1 e.0)) k.assertions in
-    let edges : Bool = list_all (λ e. holds i (PropertyAssertion e.0 e.1 e.2)) k.edges in
-    let differences : Bool = list_all (λ d. holds i (DifferentIndividuals d.0 d.1)) k.differences in
-    let unfoldings : Bool = list_all (λ e. holds i (SubClassOf (Atomic e.0) e.1)) k.unfoldings in
-    let general : Bool = list_all (λ c. holds i (SubClassOf Everything c)) k.general in
-    let after_names = both_right names (hierarchy && (assertions && (edges && (differences && (unfoldings && general))))) h in
-    let after_hierarchy = both_right hierarchy (assertions && (edges && (differences && (unfoldings && general)))) after_names in
-    let after_assertions = both_right assertions (edges && (differences && (unfoldings && general))) after_hierarchy in
-    let after_edges = both_right edges (differences && (unfoldings && general)) after_assertions in
-    let after_differences = both_right differences (unfoldings && general) after_edges in
-    record {
-      names = both_left names (hierarchy && (assertions && (edges && (differences && (unfoldings && general))))) h;
-      hierarchy = both_left hierarchy (assertions && (edges && (differences && (unfoldings && general)))) after_names;
-      assertions = both_left assertions (edges && (differences && (unfoldings && general))) after_hierarchy;
-      edges = both_left edges (differences && (unfoldings && general)) after_assertions;
-      differences = both_left differences (unfoldings && general) after_edges;
-      unfoldings = both_left unfoldings general after_differences;
-      general = both_right unfoldings general after_differences;
-    }
+pub parts_of : (i : Interpretation) (k : Theory) → IsModelOf i k → Parts i k
+parts_of i k m = record {
+  names = (Decides-by_and (λ e. holds i (SameIndividual e.0 e.1)) (λ e. Holds i (SameIndividual e.0 e.1)) (list_all (λ e. holds i (SameIndividual e.0 e.1))) (λ e. holds-Decides i (SameIndividual e.0 e.1)) refl (λ _ _. refl) k.names).1 m.names;
+  hierarchy = (Decides-by_and (λ p. holds i (SubPropertyOf p.0 p.1)) (λ p. Holds i (SubPropertyOf p.0 p.1)) (list_all (λ p. holds i (SubPropertyOf p.0 p.1))) (λ p. holds-Decides i (SubPropertyOf p.0 p.1)) refl (λ _ _. refl) k.hierarchy).1 m.hierarchy;
+  assertions = (Decides-by_and (λ e. holds i (ClassAssertion e.1 e.0)) (λ e. Holds i (ClassAssertion e.1 e.0)) (list_all (λ e. holds i (ClassAssertion e.1 e.0))) (λ e. holds-Decides i (ClassAssertion e.1 e.0)) refl (λ _ _. refl) k.assertions).1 m.assertions;
+  edges = (Decides-by_and (λ e. holds i (PropertyAssertion e.0 e.1 e.2)) (λ e. Holds i (PropertyAssertion e.0 e.1 e.2)) (list_all (λ e. holds i (PropertyAssertion e.0 e.1 e.2))) (λ e. holds-Decides i (PropertyAssertion e.0 e.1 e.2)) refl (λ _ _. refl) k.edges).1 m.edges;
+  differences = (Decides-by_and (λ d. holds i (DifferentIndividuals d.0 d.1)) (λ d. Holds i (DifferentIndividuals d.0 d.1)) (list_all (λ d. holds i (DifferentIndividuals d.0 d.1))) (λ d. holds-Decides i (DifferentIndividuals d.0 d.1)) refl (λ _ _. refl) k.differences).1 m.differences;
+  unfoldings = (Decides-by_and (λ e. holds i (SubClassOf (Atomic e.0) e.1)) (λ e. Holds i (SubClassOf (Atomic e.0) e.1)) (list_all (λ e. holds i (SubClassOf (Atomic e.0) e.1))) (λ e. holds-Decides i (SubClassOf (Atomic e.0) e.1)) refl (λ _ _. refl) k.unfoldings).1 m.unfoldings;
+  general = (Decides-by_and (λ c. holds i (SubClassOf Everything c)) (λ c. Holds i (SubClassOf Everything c)) (list_all (λ c. holds i (SubClassOf Everything c))) (λ c. holds-Decides i (SubClassOf Everything c)) refl (λ _ _. refl) k.general).1 m.general;
+}
 
 mutual
   -- a tree that closes a branch excludes that a model fits it
@@ -70,8 +61,8 @@ mutual
     | inr ne ↦ from_breaks i k parts ts g s (n + 1) (both_right (closes k (after k g s n) t) (close_from k g s (n + 1) ts) h) choice (omega arith) high f fits
   ]
 
--- the law of closed trees: no interpretation is a model of knowledge with a closed tree
-pub closed_excludes : (k : Theory) (t : Tree) → is_closed k t ≡ true → (i : Interpretation) → is_interpretation i ≡ true → is_model_of i k ≡ true → ⊥
+-- the law of closed trees: knowledge with a closed tree has no finite model
+pub closed_excludes : (k : Theory) (t : Tree) → is_closed k t ≡ true → HasNoModel k
 closed_excludes k t closed i is model =
     let parts : Parts i k = parts_of i k model in
     closes_breaks i k parts t (start k) (first_elements i k) (start_fits i k is parts.names parts.assertions parts.edges parts.general) closed

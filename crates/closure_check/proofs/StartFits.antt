@@ -31,20 +31,20 @@ first_elements i k x = option_map_or (element_of i) (slice_get (roots k) x) 0
 
 place_get : (ws : List WordId) (w : WordId) (x : ℕ) → place_in ws w ≡ Some x → slice_get ws x ≡ Some w
 place_get [] w x h = cc
-place_get (v ∷ vs) w x h = go (is_word w v) refl (place_in vs w) refl h
+place_get (v ∷ vs) w x h = go (λ m. place_get vs w m) (is_word w v) refl (place_in vs w) refl h
   where
-    go : (b : Bool) → is_word w v ≡ b → (o : Option ℕ) → place_in vs w ≡ o → (if b then Some 0 else option_map suc o) ≡ Some x → slice_get (v ∷ vs) x ≡ Some w
-    go true is o e k = let z : 0 ≡ x = cc in subst (λ n. slice_get (v ∷ vs) n ≡ Some w) z (ap Some (sym (word_equal w v is)))
-    go false is None e k = cc
-    go false is (Some m) e k = let z : suc m ≡ x = cc in subst (λ n. slice_get (v ∷ vs) n ≡ Some w) z (place_get vs w m e)
+    go : ((m : ℕ) → place_in vs w ≡ Some m → slice_get vs m ≡ Some w) → (b : Bool) → is_word w v ≡ b → (o : Option ℕ) → place_in vs w ≡ o → (if b then Some 0 else option_map suc o) ≡ Some x → slice_get (v ∷ vs) x ≡ Some w
+    go further true is o e k = (let z : 0 ≡ x = cc in subst (λ n. slice_get (v ∷ vs) n ≡ Some w) z (ap Some (sym (word_equal w v is))))
+    go further false is None e k = cc
+    go further false is (Some m) e k = (let z : suc m ≡ x = cc in subst (λ n. slice_get (v ∷ vs) n ≡ Some w) z (further m e))
 
 small : (n : ℕ) (es : List (WordId × ℕ)) (test : WordId → Bool) → 0 < n → list_all (λ e. nat_lt e.1 n) es ≡ true → unwrap_or (lookup test es) 0 < n
 small n [] test lt h = lt
-small n (e ∷ es) test lt h = go (test e.0)
+small n (e ∷ es) test lt h = go (small n es test lt (both_right (nat_lt e.1 n) (list_all (λ d. nat_lt d.1 n) es) h)) (test e.0)
   where
-    go : (b : Bool) → unwrap_or (cond b (Some e.1) (lookup test es)) 0 < n
-    go true = ltb-true e.1 n (both_left (nat_lt e.1 n) (list_all (λ d. nat_lt d.1 n) es) h)
-    go false = small n es test lt (both_right (nat_lt e.1 n) (list_all (λ d. nat_lt d.1 n) es) h)
+    go : unwrap_or (lookup test es) 0 < n → (b : Bool) → unwrap_or (cond b (Some e.1) (lookup test es)) 0 < n
+    go further true = ltb-true e.1 n (both_left (nat_lt e.1 n) (list_all (λ d. nat_lt d.1 n) es) h)
+    go further false = further
 
 -- each name has an element
 record Sized (i : Interpretation) : Type 0 where
@@ -73,31 +73,27 @@ name_fits i k names name x h = go (representative k name) refl h
 -- what is asserted of a root's names holds of its element
 asserted_in : (i : Interpretation) (k : Theory) → list_all (λ e. holds i (SameIndividual e.0 e.1)) k.names ≡ true → (root : WordId) (es : List (WordId × Concept)) → list_all (λ e. holds i (ClassAssertion e.1 e.0)) es ≡ true → list_all (λ c. is_in i c (element_of i root)) (map (λ e. e.1) (filter (λ e. passes (representative k e.0) (is_word root)) es)) ≡ true
 asserted_in i k names root [] h = refl
-asserted_in i k names root (e ∷ es) h = go (passes (representative k e.0) (is_word root)) refl
+asserted_in i k names root (e ∷ es) h =
+    go (asserted_in i k names root es (both_right (holds i (ClassAssertion e.1 e.0)) (list_all (λ d. holds i (ClassAssertion d.1 d.0)) es) h)) (passes (representative k e.0) (is_word root)) refl
   where
-    rest : list_all (λ c. is_in i c (element_of i root)) (map (λ d. d.1) (filter (λ d. passes (representative k d.0) (is_word root)) es)) ≡ true
-    rest = asserted_in i k names root es (both_right (holds i (ClassAssertion e.1 e.0)) (list_all (λ d. holds i (ClassAssertion d.1 d.0)) es) h)
-
-    go : (b : Bool) → passes (representative k e.0) (is_word root) ≡ b → list_all (λ c. is_in i c (element_of i root)) (map (λ d. d.1) (cond b (e ∷ filter (λ d. passes (representative k d.0) (is_word root)) es) (filter (λ d. passes (representative k d.0) (is_word root)) es))) ≡ true
-    go true is =
+    go : list_all (λ c. is_in i c (element_of i root)) (map (λ d. d.1) (filter (λ d. passes (representative k d.0) (is_word root)) es)) ≡ true → (b : Bool) → passes (representative k e.0) (is_word root) ≡ b → list_all (λ c. is_in i c (element_of i root)) (map (λ d. d.1) (cond b (e ∷ filter (λ d. passes (representative k d.0) (is_word root)) es) (filter (λ d. passes (representative k d.0) (is_word root)) es))) ≡ true
+    go rest true is =
         (let r = passes_some (representative k e.0) (is_word root) is in
         let same : element_of i e.0 ≡ element_of i root = named_alike i k names e.0 r.0 r.1 ∙ ap (element_of i) (sym (word_equal root r.0 r.2)) in
         both (is_in i e.1 (element_of i root)) (list_all (λ c. is_in i c (element_of i root)) (map (λ d. d.1) (filter (λ d. passes (representative k d.0) (is_word root)) es)))
         (subst (λ a. is_in i e.1 a ≡ true) same (both_left (holds i (ClassAssertion e.1 e.0)) (list_all (λ d. holds i (ClassAssertion d.1 d.0)) es) h)) rest)
-    go false is = rest
+    go rest false is = rest
 
 -- the edges of the property assertions are pairs
 edges_in : (i : Interpretation) (k : Theory) → list_all (λ e. holds i (SameIndividual e.0 e.1)) k.names ≡ true → (es : List (Role × WordId × WordId)) → list_all (λ e. holds i (PropertyAssertion e.0 e.1 e.2)) es ≡ true → list_all (pairs_up i (first_elements i k)) (filter_map (first_edge k) es) ≡ true
 edges_in i k names [] h = refl
-edges_in i k names (e ∷ es) h = go (node_of k e.1) refl (node_of k e.2) refl
+edges_in i k names (e ∷ es) h =
+    go (edges_in i k names es (both_right (holds i (PropertyAssertion e.0 e.1 e.2)) (list_all (λ d. holds i (PropertyAssertion d.0 d.1 d.2)) es) h)) (node_of k e.1) refl (node_of k e.2) refl
   where
-    rest : list_all (pairs_up i (first_elements i k)) (filter_map (first_edge k) es) ≡ true
-    rest = edges_in i k names es (both_right (holds i (PropertyAssertion e.0 e.1 e.2)) (list_all (λ d. holds i (PropertyAssertion d.0 d.1 d.2)) es) h)
-
-    go : (o : Option ℕ) → node_of k e.1 ≡ o → (p : Option ℕ) → node_of k e.2 ≡ p → list_all (pairs_up i (first_elements i k)) (cons_option (option_and_then (λ x. option_map (λ y. let d : Edge = record { from = x; role = e.0; to = y } in d) p) o) (filter_map (first_edge k) es)) ≡ true
-    go None a p b = rest
-    go (Some x) a None b = rest
-    go (Some x) a (Some y) b =
+    go : list_all (pairs_up i (first_elements i k)) (filter_map (first_edge k) es) ≡ true → (o : Option ℕ) → node_of k e.1 ≡ o → (p : Option ℕ) → node_of k e.2 ≡ p → list_all (pairs_up i (first_elements i k)) (cons_option (option_and_then (λ x. option_map (λ y. let d : Edge = record { from = x; role = e.0; to = y } in d) p) o) (filter_map (first_edge k) es)) ≡ true
+    go rest None a p b = rest
+    go rest (Some x) a None b = rest
+    go rest (Some x) a (Some y) b =
         both (relates i e.0 (first_elements i k x) (first_elements i k y)) (list_all (pairs_up i (first_elements i k)) (filter_map (first_edge k) es))
         (subst (λ z. relates i e.0 (first_elements i k x) z ≡ true) (sym (name_fits i k names e.2 y b))
         (subst (λ z. relates i e.0 z (element_of i e.2) ≡ true) (sym (name_fits i k names e.1 x a))
@@ -105,15 +101,15 @@ edges_in i k names (e ∷ es) h = go (node_of k e.1) refl (node_of k e.2) refl
 
 ends_in : (k : Theory) (n : ℕ) → length (roots k) ≤ n → (es : List (Role × WordId × WordId)) → list_all (within n) (filter_map (first_edge k) es) ≡ true
 ends_in k n le [] = refl
-ends_in k n le (e ∷ es) = go (node_of k e.1) refl (node_of k e.2) refl
+ends_in k n le (e ∷ es) = go (ends_in k n le es) (node_of k e.1) refl (node_of k e.2) refl
   where
-    go : (o : Option ℕ) → node_of k e.1 ≡ o → (p : Option ℕ) → node_of k e.2 ≡ p → list_all (within n) (cons_option (option_and_then (λ x. option_map (λ y. let d : Edge = record { from = x; role = e.0; to = y } in d) p) o) (filter_map (first_edge k) es)) ≡ true
-    go None a p b = ends_in k n le es
-    go (Some x) a None b = ends_in k n le es
-    go (Some x) a (Some y) b =
+    go : list_all (within n) (filter_map (first_edge k) es) ≡ true → (o : Option ℕ) → node_of k e.1 ≡ o → (p : Option ℕ) → node_of k e.2 ≡ p → list_all (within n) (cons_option (option_and_then (λ x. option_map (λ y. let d : Edge = record { from = x; role = e.0; to = y } in d) p) o) (filter_map (first_edge k) es)) ≡ true
+    go rest None a p b = rest
+    go rest (Some x) a None b = rest
+    go rest (Some x) a (Some y) b =
         both (nat_lt x n && nat_lt y n) (list_all (within n) (filter_map (first_edge k) es))
         (both (nat_lt x n) (nat_lt y n) (lt-ltb x n (omega (arith, node_within k e.1 x a, le))) (lt-ltb y n (omega (arith, node_within k e.2 y b, le))))
-        (ends_in k n le es)
+        rest
 
 module _ (i : Interpretation) (k : Theory) (sized : Sized i) (names : list_all (λ e. holds i (SameIndividual e.0 e.1)) k.names ≡ true) (assertions : list_all (λ e. holds i (ClassAssertion e.1 e.0)) k.assertions ≡ true) (general : list_all (λ c. holds i (SubClassOf Everything c)) k.general ≡ true) where
   node_label : (a : ℕ) → a < i.size → (cs : List Concept) → list_all (λ c. is_in i c a) cs ≡ true → list_all (λ c. is_in i c a) (with_classes [] (cs ++ k.general)) ≡ true

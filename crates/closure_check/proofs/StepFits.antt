@@ -74,19 +74,17 @@ some_values_in i _ p a e h = cc
 -- what an element of a class word unfolds to
 unfolded_in : (i : Interpretation) (word : WordId) (a : ℕ) → a < i.size → has_element i word a ≡ true → (es : List (WordId × Concept)) → list_all (λ e. holds i (SubClassOf (Atomic e.0) e.1)) es ≡ true → list_all (λ d. is_in i d a) (map (λ e. e.1) (filter (λ e. is_word word e.0) es)) ≡ true
 unfolded_in i word a lt is [] h = refl
-unfolded_in i word a lt is (e ∷ es) h = go (is_word word e.0) refl
+unfolded_in i word a lt is (e ∷ es) h =
+    go (unfolded_in i word a lt is es (both_right (holds i (SubClassOf (Atomic e.0) e.1)) (list_all (λ d. holds i (SubClassOf (Atomic d.0) d.1)) es) h)) (is_word word e.0) refl
   where
-    rest : list_all (λ d. is_in i d a) (map (λ d. d.1) (filter (λ d. is_word word d.0) es)) ≡ true
-    rest = unfolded_in i word a lt is es (both_right (holds i (SubClassOf (Atomic e.0) e.1)) (list_all (λ d. holds i (SubClassOf (Atomic d.0) d.1)) es) h)
-
-    go : (b : Bool) → is_word word e.0 ≡ b → list_all (λ d. is_in i d a) (map (λ d. d.1) (cond b (e ∷ filter (λ d. is_word word d.0) es) (filter (λ d. is_word word d.0) es))) ≡ true
-    go true same =
+    go : list_all (λ d. is_in i d a) (map (λ d. d.1) (filter (λ d. is_word word d.0) es)) ≡ true → (b : Bool) → is_word word e.0 ≡ b → list_all (λ d. is_in i d a) (map (λ d. d.1) (cond b (e ∷ filter (λ d. is_word word d.0) es) (filter (λ d. is_word word d.0) es))) ≡ true
+    go rest true same =
         both (is_in i e.1 a) (list_all (λ d. is_in i d a) (map (λ d. d.1) (filter (λ d. is_word word d.0) es)))
         (implied (has_element i e.0 a) (is_in i e.1 a)
         (each_at i.size (λ x. implies (has_element i e.0 x) (is_in i e.1 x)) a (both_left (holds i (SubClassOf (Atomic e.0) e.1)) (list_all (λ d. holds i (SubClassOf (Atomic d.0) d.1)) es) h) lt)
         (subst (λ v. has_element i v a ≡ true) (word_equal word e.0 same) is))
         rest
-    go false other = rest
+    go rest false other = rest
 
 -- each element is in each general class
 pub general_in : (i : Interpretation) (a : ℕ) → a < i.size → (cs : List Concept) → list_all (λ c. holds i (SubClassOf Everything c)) cs ≡ true → list_all (λ c. is_in i c a) cs ≡ true

@@ -91,11 +91,11 @@ abbrev mutual
   pub skeleton_at : Setting → Node → At → Skeleton
   skeleton_at s (node number values found children) at =
       option_map_or
-          (λ rule. skeleton number at.place (end_place s rule values (start rule values found (phrases_of s children) at)) found
-              (met (word_here s) s values rule.body (start rule values found (phrases_of s children) at))
-              (skeletons_at s children (met child_here s values rule.body (start rule values found (phrases_of s children) at))))
-          (rule_with s.grammar number)
-          (skeleton number at.place at.place found [] [])
+      (λ rule. skeleton number at.place (end_place s rule values (start rule values found (phrases_of s children) at)) found
+      (met (word_here s) s values rule.body (start rule values found (phrases_of s children) at))
+      (skeletons_at s children (met child_here s values rule.body (start rule values found (phrases_of s children) at))))
+      (rule_with s.grammar number)
+      (skeleton number at.place at.place found [] [])
 
   -- the skeletons of trees, each from its own place and list
   pub skeletons_at : Setting → Nodes → List At → List Skeleton

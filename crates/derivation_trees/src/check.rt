@@ -58,7 +58,11 @@ fn is_derivation(alloc: Global, setting: &Setting<'_>, tree: &Tree) -> Result<bo
 }
 
 /// The readings of each token.
-pub fn readings_of(alloc: Global, lexicon: &Lexicon, tokens: &[Token]) -> Result<Vec<Readings>, Memory>
+pub fn readings_of(
+    alloc: Global,
+    lexicon: &Lexicon,
+    tokens: &[Token],
+) -> Result<Vec<Readings>, Memory>
     ensures { IfOk result
         (λ readings. readings.items ≡ map (lexical.readings_of lexicon.now.live) tokens.now) }
 {

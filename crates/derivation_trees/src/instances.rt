@@ -30,11 +30,7 @@ pub(crate) fn term_value(values: &[(u8, Value)], term: Term) -> Value
 }
 
 /// The category under the instance.
-pub fn under(
-    alloc: Global,
-    values: &[(u8, Value)],
-    category: &Category,
-) -> Result<Test, Memory>
+pub fn under(alloc: Global, values: &[(u8, Value)], category: &Category) -> Result<Test, Memory>
     ensures { IfOk result (λ test. test ≡ instances.under values.now category.now) }
 {
     Ok(Test {

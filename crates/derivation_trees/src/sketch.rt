@@ -117,7 +117,7 @@ fn sketch_body(
 ) -> Result<Sketch, Memory>
     ensures { IfOk result (λ sketch. sketch_held (children_held setting.now tree.now) sketch
         ≡ sketches.sketch_over setting.now (sketches.body_of setting.now.grammar (rule_in tree.now))
-            (sketches.sketch_from place (children_held setting.now tree.now))) }
+        (sketches.sketch_from place (children_held setting.now tree.now))) }
 {
     let start = Sketch {
         place,

@@ -138,7 +138,7 @@ free_has s rule values x i h = by (feature_at x (rule_terms rule)) refl
     by : (o : Option ℕ) → feature_at x (rule_terms rule) ≡ o → Among (option_map_or (feature_values s) o (position_values s)) (value_under values x)
     by (Some f) e = feature_has s f (value_under values x) (all_among (term_fits s values) (rule_terms rule) (f, Var x) (all_terms (term_fits s values) rule i.terms) (feature_some x (rule_terms rule) f e))
     by None e = elim (in_rule rule x h) [
-      inl p ↦ value_has s declared.Positions (value_under values x) (all_among (λ y. is_value s declared.Positions (value_under values y)) (flat_map positions rule.body) x i.places (number_has (flat_map positions rule.body) x p))
+      | inl p ↦ value_has s declared.Positions (value_under values x) (all_among (λ y. is_value s declared.Positions (value_under values y)) (flat_map positions rule.body) x i.places (number_has (flat_map positions rule.body) x p))
       | inr m ↦ absurd (feature_none x (rule_terms rule) m.0 e m.1)
     ]
 

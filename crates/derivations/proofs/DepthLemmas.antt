@@ -253,9 +253,11 @@ walk s ordered values depth last begun step deep (e ∷ es) nodes stand after ch
   where
     special : is_phrase e ≡ false → first_category (e ∷ es) ≡ first_category es
     special p = ap (λ b. if b then sub_name e else first_category es) p
+
     next : (mid : Stand) → Moves e stand mid → (b : Bool) → is_phrase e ≡ b → ((mid.at.place ≡ begun) × ((c : ℕ) → first_category es ≡ Some c → step c)) ⊎ (begun + 1 ≤ mid.at.place)
     next mid one true p = inr (elim mode [ inl m ↦ omega (arith, m.0, one.token p) | inr m ↦ omega (arith, m, one.on) ])
     next mid one false p = elim mode [ inl m ↦ inl (one.same p ∙ m.0, λ c v. m.1 c (special p ∙ v)) | inr m ↦ inr (omega (arith, m, one.on)) ]
+
     by : ((mid : Stand) → mid.children ≡ map (phrase_of s) nodes → Each Consumes mid.children → run s values es mid ≡ Some after → ((mid.at.place ≡ begun) × ((c : ℕ) → first_category es ≡ Some c → step c)) ⊎ (begun + 1 ≤ mid.at.place) → Each (Within depth) nodes) → (o : Option Stand) → pass s values e stand ≡ o → option_and_then (run s values es) o ≡ Some after → Each (Within depth) nodes
     by later None w k = cc
     by later (Some mid) w k =
@@ -281,6 +283,7 @@ deep s ordered last (suc depth) (node number values found children) asked at aft
         let left : (last - start.place) + 1 ≤ last - at.place = omega (arith, e, consumed, under_last) in
         let lighter : weight (last - start.place) (length (heads s.grammar) + 1) + (length (heads s.grammar) + 1) ≤ weight (last - at.place) (length (heads s.grammar) + 1) = weight_more (last - at.place) (last - start.place) (length (heads s.grammar) + 1) left in
         again c start end (heads s.grammar) w under_last (all_free s.grammar c.name) (omega (arith, lighter, low))
+
     by : (length (without asked.name names) + 1 ≤ length names → (n : Node) (c : Category) (start end : At) → phrase_of s n (under values c) start ≡ Some end → end.place ≤ last → ((start.place ≡ at.place) × StepsTo s.grammar asked.name c.name) ⊎ (at.place + 1 ≤ start.place) → Within depth n) → (o : Option Rule) → rule_with s.grammar number ≡ o → option_and_then (λ r. phrase s r values found (phrases_of s children) asked at) o ≡ Some after → AllWithin depth children
     by each None w k = cc
     by each (Some rule) w k =
@@ -310,6 +313,7 @@ rule_at rules r h = (h.0 + 1, omega arith, ap (slice_get rules) (one_less h.0) �
   where
     one_less : (k : ℕ) → (k + 1) - 1 ≡ k
     one_less k = omega arith
+
     at : (rs : List Rule) (k : ℕ) → k < length rs → slice_index_or rs k r ≡ r → slice_get rs k ≡ Some r
     at [] k lt e = absurd (omega (arith, lt))
     at (x ∷ xs) zero lt e = ap (λ y. Some y) e
@@ -330,6 +334,7 @@ ordered_from_sound g sound = record { full = full; no_circle = no_circle }
             let at : (n : ℕ) × (0 < n) × (slice_get g.rules (n - 1) ≡ Some r) = rule_at g.rules r h in
             let empty : at_rule is_empty_rule g.rules at.0 ≡ true = ap (λ b. b && option_map_or is_empty_rule (slice_get g.rules (at.0 - 1)) false) (positive at.0 at.1) ∙ ap (λ o. option_map_or is_empty_rule o false) at.2 ∙ ap not e in
             absurd (sound.faultless (EmptyRule at.0) (subst IsTrue (sym empty) refl))
+
     no_circle : (r : Rule) → Contains g.rules r → IsRecursive g r.head.name → ⊥
     no_circle r h round =
         let at : (n : ℕ) × (0 < n) × (slice_get g.rules (n - 1) ≡ Some r) = rule_at g.rules r h in

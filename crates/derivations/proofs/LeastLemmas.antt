@@ -1,5 +1,5 @@
 -- The least of the skeletons of listed trees.
-use Rattle.std.proofs.Common.{◌≡◌, ℕ, ◌+◌, ◌*◌, ◌<◌, List, [], ◌∷◌, ◌++◌, map, take, length, get_or, Bool, true, false, ◌⊎◌, inl, inr, Option, Some, None, refl, sym, ap, subst, ◌∙◌}
+use Rattle.std.proofs.Common.{◌≡◌, ℕ, ◌+◌, ◌*◌, ◌<◌, List, [], ◌∷◌, ◌++◌, map, take, length, get_or, Bool, true, false, not, ◌⊎◌, inl, inr, Option, Some, None, refl, sym, ap, subst, ◌∙◌}
 use Rattle.std.specs.Prelude.{IfSome, IfNone}
 use Rattle.std.proofs.lemmas.List.{take_more, length-map}
 use Rattle.std.specs.declared.cmp.Ordering.{Ordering}
@@ -99,16 +99,18 @@ least_of_more s trees t least sk d lesser old = record { is = is; none_below = n
   where
     is : (one : Skeleton) → Some sk ≡ Some one → (tree : Node) × IsDerivation s tree × (one ≡ sketch_of s tree 0)
     is one w = elim lesser.either [
-      inl e ↦ (t, d, sym (some_same sk one w) ∙ e)
+      | inl e ↦ (t, d, sym (some_same sk one w) ∙ e)
       | inr e ↦ old.is one (e ∙ w)
     ]
+
     below : (tree : Node) → IsDerivation s tree → Among trees tree → IsBelow (sketch_of s tree 0) sk → ⊥
     below tree dt m h =
         let one : (o : Skeleton) × (least ≡ Some o) × (IsBelow (sketch_of s tree 0) o → ⊥) = old.none_below tree m dt in
         one.2 (below_on (sketch_of s tree 0) sk one.0 h (lesser.least_not one.0 one.1))
+
     none_below : (tree : Node) → Among (trees ++ t ∷ []) tree → IsDerivation s tree → (o : Skeleton) × (Some sk ≡ Some o) × (IsBelow (sketch_of s tree 0) o → ⊥)
     none_below tree m dt = elim (among_last trees t tree m) [
-      inl k ↦ (sk, refl, below tree dt k)
+      | inl k ↦ (sk, refl, below tree dt k)
       | inr e ↦ (sk, refl, λ h. lesser.other_not (subst (λ x. IsBelow (sketch_of s x 0) sk) e h))
     ]
 
@@ -169,3 +171,15 @@ told s ordered depth outcomes least deep made of =
     by : (o : Option Skeleton) → ((sk : Skeleton) → o ≡ Some sk → IsLeast s sk) → (o ≡ None → (tree : Node) → IsDerivation s tree → ⊥) → Told s o
     by None f g = record { some = tt; none = g refl }
     by (Some sk) f g = record { some = f sk refl; none = tt }
+
+pub not_false : (b : Bool) → not b ≡ true → b ≡ false
+not_false true h = cc
+not_false false h = refl
+
+pub not_true : (b : Bool) → not b ≡ false → b ≡ true
+not_true true h = refl
+not_true false h = cc
+
+pub none_told : (least : Option Skeleton) (s t : Setting) → s ≡ t → IfNone least ((tree : Node) → IsDerivation s tree → ⊥) → IfNone least ((tree : Node) × IsDerivation t tree → ⊥)
+none_told None s t e h = λ found. h found.0 (subst (λ x. IsDerivation x found.0) (sym e) found.1)
+none_told (Some sk) s t e h = tt

@@ -70,9 +70,11 @@ phrase_parts s rule values found children asked at after h = by (fits (under val
       no_children = second_of_and (is_none_left stand.found) (is_none_left stand.children) x;
       ends = sym (some_same (record { place = stand.at.place; list = list_after rule.closing at.list stand.at.list }) after n);
     }
+
     led : (fits (under values rule.head) asked && is_instance s rule values) ≡ true → (o : Option Stand) → run s values rule.body (record { at = at; found = found; own = own_values rule values; children = children }) ≡ o → option_and_then (ended rule at.list) o ≡ Some after → Parts s rule values found children asked at after
     led e None w m = cc
     led e (Some stand) w m = done e stand w (is_none_left stand.found && is_none_left stand.children) refl m
+
     by : (b : Bool) → (fits (under values rule.head) asked && is_instance s rule values) ≡ b → option_and_then (λ stand. option_and_then (ended rule at.list) (run s values rule.body stand)) (if b then Some (record { at = at; found = found; own = own_values rule values; children = children }) else None) ≡ Some after → Parts s rule values found children asked at after
     by false e k = cc
     by true e k = led e (run s values rule.body (record { at = at; found = found; own = own_values rule values; children = children })) refl k
@@ -127,6 +129,7 @@ tree_has s (suc depth) (node number values found children) wanted at after withi
     of knows e None w m = cc
     of knows e (Some rule) w m =
         rules_has s (trees_of s depth) wanted at 1 s.grammar.rules (number - 1) rule (record { tree = node number values found children; at = after }) w (subst (λ n. Among (rule_trees s (trees_of s depth) wanted at n rule) (record { tree = node number values found children; at = after })) (sym (number_of number e)) (instance_tree_has s (trees_of s depth) wanted at after number rule values found children knows m))
+
     by : Knows s (trees_of s depth) (node_list children) → (b : Bool) → (number == 0) ≡ b → option_and_then (λ r. phrase s r values found (phrases_of s children) wanted at) (if b then None else slice_get s.grammar.rules (number - 1)) ≡ Some after → Among (rules_trees s (trees_of s depth) wanted at 1 s.grammar.rules) (record { tree = node number values found children; at = after })
     by knows true e k = cc
     by knows false e k = of knows e (slice_get s.grammar.rules (number - 1)) refl k

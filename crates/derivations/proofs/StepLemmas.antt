@@ -132,6 +132,7 @@ back_goes s values positive negative path (pos ∷ found) nodes after h =
       children_is = refl;
       later = λ n x. x;
     }
+
     by : (o : Option Finding) → closest_finding (reference_tests values positive negative) path.at.list ≡ o → (if is_found values positive pos o then Some (bare path found (map (phrase_of s) nodes)) else None) ≡ Some after → Goes s (passed s values (Back positive negative) path) path (pos ∷ found) nodes after
     by None e k = cc
     by (Some finding) e k = at finding e (is_found values positive pos (Some finding)) refl k
@@ -182,6 +183,7 @@ all_goes s trees values (e ∷ es) paths path found nodes after m knows h =
       children_is = two.children_is ∙ one.children_is;
       later = λ n a. one.later n (two.later n a);
     }
+
     by : ((mid : Stand) (one : Goes s (steps s trees values e path) path found nodes mid) → run s values es mid ≡ Some after → Goes s (all_steps s trees values es (flat_map (steps s trees values e) paths)) one.next one.left one.rest after) → (o : Option Stand) → pass s values e (stand_of s path found nodes) ≡ o → option_and_then (run s values es) o ≡ Some after → Goes s (all_steps s trees values (e ∷ es) paths) path found nodes after
     by rest None w k = cc
     by rest (Some mid) w k =

@@ -98,7 +98,7 @@ in_feats : (feats : List (ℕ × Term)) (x : ℕ) → has (flat_map (λ f. term_
 in_feats [] x h = cc
 in_feats (f ∷ fs) x h =
     elim (either_of_or (has (term_variables f.1) x) (has (flat_map (λ g. term_variables g.1) fs) x) (sym (has_append (term_variables f.1) (flat_map (λ g. term_variables g.1) fs) x) ∙ h)) [
-      inl e ↦ (f.0, inl (ap (λ t. (f.0, t)) (sym (in_term f.1 x e))))
+      | inl e ↦ (f.0, inl (ap (λ t. (f.0, t)) (sym (in_term f.1 x e))))
       | inr k ↦ ((in_feats fs x k).0, inr (in_feats fs x k).1)
     ]
 
@@ -106,14 +106,14 @@ in_taken : (taken : List (ℕ × ℕ)) (x : ℕ) → has (map (λ t. t.1) taken)
 in_taken [] x h = cc
 in_taken (t ∷ ts) x h =
     elim (either_of_or (x == t.1) (has (map (λ u. u.1) ts) x) h) [
-      inl e ↦ (t.0, inl (ap (λ n. (t.0, Var n)) (same_number x t.1 e)))
+      | inl e ↦ (t.0, inl (ap (λ n. (t.0, Var n)) (same_number x t.1 e)))
       | inr k ↦ ((in_taken ts x k).0, inr (in_taken ts x k).1)
     ]
 
 in_pattern : (q : Pattern) (x : ℕ) → has (category_variables (whole q)) x ≡ true → Stands (pattern_terms q) x
 in_pattern q x h =
     elim (either_of_or (has (flat_map (λ f. term_variables f.1) q.cat.feats) x) (has (map (λ t. t.1) q.taken) x) (sym (with_taken_has q.cat.feats q.taken x) ∙ h)) [
-      inl e ↦ stands_left q.cat.feats (taken_terms q.taken) x (in_feats q.cat.feats x e)
+      | inl e ↦ stands_left q.cat.feats (taken_terms q.taken) x (in_feats q.cat.feats x e)
       | inr k ↦ stands_right q.cat.feats (taken_terms q.taken) x (in_taken q.taken x k)
     ]
 
@@ -121,7 +121,7 @@ in_patterns : (qs : List Pattern) (x : ℕ) → has (flat_map category_variables
 in_patterns [] x h = cc
 in_patterns (q ∷ qs) x h =
     elim (either_of_or (has (category_variables (whole q)) x) (has (flat_map category_variables (map whole qs)) x) (sym (has_append (category_variables (whole q)) (flat_map category_variables (map whole qs)) x) ∙ h)) [
-      inl e ↦ stands_left (pattern_terms q) (flat_map pattern_terms qs) x (in_pattern q x e)
+      | inl e ↦ stands_left (pattern_terms q) (flat_map pattern_terms qs) x (in_pattern q x e)
       | inr k ↦ stands_right (pattern_terms q) (flat_map pattern_terms qs) x (in_patterns qs x k)
     ]
 
@@ -138,7 +138,7 @@ in_mentions (Forward c) x h = in_one c x h
 in_mentions (Strong c) x h = in_one c x h
 in_mentions (Back ps ns) x h =
     elim (either_of_or (has (flat_map category_variables (map whole ps)) x) (has (flat_map category_variables (map whole ns)) x) (sym (has_append (flat_map category_variables (map whole ps)) (flat_map category_variables (map whole ns)) x) ∙ ap (λ xs. has xs x) (sym (flat_map-append category_variables (map whole ps) (map whole ns))) ∙ h)) [
-      inl e ↦ stands_left (flat_map pattern_terms ps) (flat_map pattern_terms ns) x (in_patterns ps x e)
+      | inl e ↦ stands_left (flat_map pattern_terms ps) (flat_map pattern_terms ns) x (in_patterns ps x e)
       | inr k ↦ stands_right (flat_map pattern_terms ps) (flat_map pattern_terms ns) x (in_patterns ns x k)
     ]
 in_mentions (NoBack ps) x h = in_patterns ps x h
@@ -147,12 +147,12 @@ in_body : (body : List Element) (x : ℕ) → has (flat_map element_variables bo
 in_body [] x h = cc
 in_body (e ∷ es) x h =
     elim (either_of_or (has (element_variables e) x) (has (flat_map element_variables es) x) (sym (has_append (element_variables e) (flat_map element_variables es) x) ∙ h)) [
-      inl k ↦ elim (either_of_or (has (positions e) x) (has (flat_map category_variables (mentions e)) x) (sym (has_append (positions e) (flat_map category_variables (mentions e)) x) ∙ k)) [
-        inl p ↦ inl (has_append (positions e) (flat_map positions es) x ∙ ap (λ b. b || has (flat_map positions es) x) p)
+      | inl k ↦ elim (either_of_or (has (positions e) x) (has (flat_map category_variables (mentions e)) x) (sym (has_append (positions e) (flat_map category_variables (mentions e)) x) ∙ k)) [
+        | inl p ↦ inl (has_append (positions e) (flat_map positions es) x ∙ ap (λ b. b || has (flat_map positions es) x) p)
         | inr m ↦ inr (stands_left (element_terms e) (flat_map element_terms es) x (in_mentions e x m))
       ]
       | inr k ↦ elim (in_body es x k) [
-        inl p ↦ inl (has_append (positions e) (flat_map positions es) x ∙ or_true (has (positions e) x) (has (flat_map positions es) x) p)
+        | inl p ↦ inl (has_append (positions e) (flat_map positions es) x ∙ or_true (has (positions e) x) (has (flat_map positions es) x) p)
         | inr m ↦ inr (stands_right (element_terms e) (flat_map element_terms es) x m)
       ]
     ]
@@ -165,9 +165,9 @@ in_body (e ∷ es) x h =
 pub in_rule : (rule : Rule) (x : ℕ) → has (rule_variables rule) x ≡ true → (has (flat_map positions rule.body) x ≡ true) ⊎ Stands (rule_terms rule) x
 in_rule rule x h =
     elim (either_of_or (has (category_variables rule.head) x) (has (flat_map element_variables rule.body) x) (sym (has_append (category_variables rule.head) (flat_map element_variables rule.body) x) ∙ h)) [
-      inl e ↦ inr (stands_left rule.head.feats (flat_map element_terms rule.body) x (in_feats rule.head.feats x e))
+      | inl e ↦ inr (stands_left rule.head.feats (flat_map element_terms rule.body) x (in_feats rule.head.feats x e))
       | inr k ↦ elim (in_body rule.body x k) [
-        inl p ↦ inl p
+        | inl p ↦ inl p
         | inr m ↦ inr (stands_right rule.head.feats (flat_map element_terms rule.body) x m)
       ]
     ]

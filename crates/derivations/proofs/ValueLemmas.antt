@@ -72,7 +72,7 @@ given_has : (vs : List Value) (ps : List (ℕ × Value)) (f : ℕ) (v : Value) �
 given_has vs [] f v h = cc
 given_has vs (p ∷ ps) f v h =
     elim (either_of_or ((p.0 == f) && same_value p.1 v) (has_value ps (f, v)) h) [
-      inl e ↦ given_keeps (if p.0 == f then with_value vs p.1 else vs) ps f v (given_here vs p f v (first_of_and (p.0 == f) (same_value p.1 v) e) (same_value_is p.1 v (second_of_and (p.0 == f) (same_value p.1 v) e)))
+      | inl e ↦ given_keeps (if p.0 == f then with_value vs p.1 else vs) ps f v (given_here vs p f v (first_of_and (p.0 == f) (same_value p.1 v) e) (same_value_is p.1 v (second_of_and (p.0 == f) (same_value p.1 v) e)))
       | inr k ↦ given_has (if p.0 == f then with_value vs p.1 else vs) ps f v k
     ]
 
@@ -85,7 +85,7 @@ pub given_fixed : (vs : List Value) (ps : List (ℕ × Value)) (f : ℕ) (v : Va
 given_fixed vs [] f v h all = cc
 given_fixed vs (p ∷ ps) f v h all =
     elim (either_of_or (p.0 == f) (has_feature ps f) h) [
-      inl e ↦ given_keeps (if p.0 == f then with_value vs p.1 else vs) ps f v (given_here vs p f v e (same_where f v p e (first_of_and (same_where_both (f, v) p) (list_all (same_where_both (f, v)) ps) all)))
+      | inl e ↦ given_keeps (if p.0 == f then with_value vs p.1 else vs) ps f v (given_here vs p f v e (same_where f v p e (first_of_and (same_where_both (f, v) p) (list_all (same_where_both (f, v)) ps) all)))
       | inr k ↦ given_fixed (if p.0 == f then with_value vs p.1 else vs) ps f v k (second_of_and (same_where_both (f, v) p) (list_all (same_where_both (f, v)) ps) all)
     ]
 
@@ -97,7 +97,7 @@ words_has : (vs : List Value) (rs : List Ground) (v : Value) → list_any (λ re
 words_has vs [] v h = cc
 words_has vs (r ∷ rs) v h =
     elim (either_of_or (has_value r.vals (3, v)) (list_any (λ reading. has_value reading.vals (3, v)) rs) h) [
-      inl e ↦ words_keep (with_given vs r.vals 3) rs v (given_has vs r.vals 3 v e)
+      | inl e ↦ words_keep (with_given vs r.vals 3) rs v (given_has vs r.vals 3 v e)
       | inr k ↦ words_has (with_given vs r.vals 3) rs v k
     ]
 
@@ -109,7 +109,7 @@ all_words_has : (vs : List Value) (all : List (List Ground)) (v : Value) → lis
 all_words_has vs [] v h = cc
 all_words_has vs (rs ∷ all) v h =
     elim (either_of_or (list_any (λ reading. has_value reading.vals (3, v)) rs) (list_any (λ readings. list_any (λ reading. has_value reading.vals (3, v)) readings) all) h) [
-      inl e ↦ all_words_keep (with_words vs rs) all v (words_has vs rs v e)
+      | inl e ↦ all_words_keep (with_words vs rs) all v (words_has vs rs v e)
       | inr k ↦ all_words_has (with_words vs rs) all v k
     ]
 
@@ -143,7 +143,7 @@ value_has s declared.Undeclared v h = cc
 value_has s declared.Words (Atom a) h = cc
 value_has s declared.Words (Word w) h =
     elim (either_of_or (w.0 == 0) (has_word s (Word w)) h) [
-      inl e ↦ all_words_keep (Word (record { 0 = 0 }) ∷ []) s.readings (Word w) (inl (ap (λ n. Word (record { 0 = n })) (word_zero w.0 e)))
+      | inl e ↦ all_words_keep (Word (record { 0 = 0 }) ∷ []) s.readings (Word w) (inl (ap (λ n. Word (record { 0 = n })) (word_zero w.0 e)))
       | inr k ↦ all_words_has (Word (record { 0 = 0 }) ∷ []) s.readings (Word w) k
     ]
 value_has s declared.Words (Pos p) h = cc

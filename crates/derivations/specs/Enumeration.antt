@@ -203,7 +203,7 @@ found_at values (NoBack patterns) list = []
 abbrev pub passed : Setting → List (ℕ × Value) → Element → Path → List Path
 passed s values e path =
     option_map_or (λ stand. record { found = path.found ++ found_at values e path.at.list; own = stand.own; children = path.children; at = stand.at } ∷ [])
-        (pass s values e (record { at = path.at; found = found_at values e path.at.list; own = path.own; children = [] })) []
+    (pass s values e (record { at = path.at; found = found_at values e path.at.list; own = path.own; children = [] })) []
 
 -- the path after a child
 abbrev pub joined : Path → Outcome → Path
@@ -243,8 +243,8 @@ ended_path number rule values begun path = record {
 abbrev pub instance_trees : Setting → (Test → At → List Outcome) → Test → At → ℕ → Rule → List (ℕ × Value) → List Outcome
 instance_trees s trees wanted at number rule values =
     if fits (under values rule.head) wanted
-        then map (ended_path number rule values at.list) (all_steps s trees values rule.body (opened rule values at ∷ []))
-        else []
+    then map (ended_path number rule values at.list) (all_steps s trees values rule.body (opened rule values at ∷ []))
+    else []
 
 -- the trees with a rule
 abbrev pub rule_trees : Setting → (Test → At → List Outcome) → Test → At → ℕ → Rule → List Outcome

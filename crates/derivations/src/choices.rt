@@ -173,7 +173,11 @@ fn tried(
 fn variable_number(number: usize) -> Result<u8, Memory>
     ensures { IfOk result (λ variable. variable ≡ number) }
 {
-    if number < 256 { Ok(number as u8) } else { Err(Memory) }
+    if number < 256 {
+        Ok(number as u8)
+    } else {
+        Err(Memory)
+    }
 }
 
 // Adds the variables with the values to be tried.
@@ -211,7 +215,15 @@ fn push_written(
 {
     let terms = rule_terms(alloc, rule)?;
     let written = written_variables(alloc, rule)?;
-    push_tried(alloc, setting, rule, terms.as_slice(), wanted, written.as_slice(), out)
+    push_tried(
+        alloc,
+        setting,
+        rule,
+        terms.as_slice(),
+        wanted,
+        written.as_slice(),
+        out,
+    )
 }
 
 // Adds the features of the own variables of the elements.
@@ -309,7 +321,13 @@ fn lengthened(alloc: Global, choice: &Choice, done: &[Bound]) -> Result<List<Bou
 {
     let mut out = List::new(alloc);
     for bound in done {
-        push_longer(alloc, choice.variable, choice.values.as_slice(), bound.as_slice(), &mut out)?;
+        push_longer(
+            alloc,
+            choice.variable,
+            choice.values.as_slice(),
+            bound.as_slice(),
+            &mut out,
+        )?;
     }
     Ok(out)
 }

@@ -92,7 +92,15 @@ fn least_of(
 {
     let mut least = None;
     for outcome in outcomes {
-        least = consider(alloc, grammar, lexicon, tokens, setting, &outcome.tree, least)?;
+        least = consider(
+            alloc,
+            grammar,
+            lexicon,
+            tokens,
+            setting,
+            &outcome.tree,
+            least,
+        )?;
     }
     Ok(least)
 }
@@ -104,6 +112,18 @@ fn depth_for(tokens: usize, rules: usize) -> Result<usize, Memory>
     let places = tokens.checked_add(1).ok_or(Memory)?;
     let names = rules.checked_add(1).ok_or(Memory)?;
     places.checked_mul(names).ok_or(Memory)
+}
+
+fn token_count(setting: &Setting<'_>) -> usize
+    ensures { result ≡ length setting.now.tokens }
+{
+    setting.tokens.len()
+}
+
+fn rule_count(setting: &Setting<'_>) -> usize
+    ensures { result ≡ length setting.now.grammar.rules }
+{
+    setting.grammar.rules().len()
 }
 
 // All trees for `text` from place 0 and the empty list.
@@ -136,9 +156,16 @@ fn least_in(
     ensures least { IfOk result (λ least. IfSome least (IsLeast setting.now)) }
     ensures none { IfOk result (λ least. IfNone least ((tree : Node) → IsDerivation setting.now tree → ⊥)) }
 {
-    let depth = depth_for(setting.tokens.len(), setting.grammar.rules().len())?;
+    let depth = depth_for(token_count(setting), rule_count(setting))?;
     let outcomes = all_trees(alloc, setting, depth)?;
-    least_of(alloc, grammar, lexicon, tokens, setting, outcomes.as_slice())
+    least_of(
+        alloc,
+        grammar,
+        lexicon,
+        tokens,
+        setting,
+        outcomes.as_slice(),
+    )
 }
 
 /// The least skeleton of the tokens, of which there are at most 40, by the grammar with the words of the lexicon: that of

@@ -248,7 +248,18 @@ fn push_rule_trees(
         return Ok(());
     }
     let made = instances(alloc, setting, rule, wanted)?;
-    push_all_instances(alloc, setting, depth, wanted, place, list, number, rule, made.as_slice(), out)
+    push_all_instances(
+        alloc,
+        setting,
+        depth,
+        wanted,
+        place,
+        list,
+        number,
+        rule,
+        made.as_slice(),
+        out,
+    )
 }
 
 // Adds the trees with the rule and each of the instances.
@@ -272,7 +283,18 @@ fn push_all_instances(
         ++ flat_map (enumeration.instance_trees setting.now (enumeration.trees_of setting.now depth) wanted.now (at_of (place, list.now)) number rule.now) made.now) }
 {
     for values in made {
-        push_instance_trees(alloc, setting, depth, wanted, place, list, number, rule, values.as_slice(), out)?;
+        push_instance_trees(
+            alloc,
+            setting,
+            depth,
+            wanted,
+            place,
+            list,
+            number,
+            rule,
+            values.as_slice(),
+            out,
+        )?;
     }
     Ok(())
 }
@@ -304,7 +326,9 @@ fn push_rules(
 {
     let mut number: u16 = 1;
     for rule in rules {
-        push_rule_trees(alloc, setting, depth, wanted, place, list, number, rule, out)?;
+        push_rule_trees(
+            alloc, setting, depth, wanted, place, list, number, rule, out,
+        )?;
         number = next_number(number)?;
     }
     Ok(())
@@ -329,7 +353,16 @@ pub(crate) fn trees_of(
     let mut out = List::new(alloc);
     if depth > 0 {
         let rules = setting.grammar.rules().as_slice();
-        push_rules(alloc, setting, depth - 1, wanted, place, list, rules, &mut out)?;
+        push_rules(
+            alloc,
+            setting,
+            depth - 1,
+            wanted,
+            place,
+            list,
+            rules,
+            &mut out,
+        )?;
     }
     Ok(out)
 }

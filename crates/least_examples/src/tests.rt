@@ -49,7 +49,13 @@ const PEOPLE: [(Kind, &[&str]); 6] = [
     (Kind::Verb, &["owns", "own", "owned"]),
 ];
 
-fn has_code(rt: &impl std::process::Abort, alloc: Global, given: &[(Kind, &[&str])], text: &str, code: &[u16]) -> Result<(), Fail> {
+fn has_code(
+    rt: &impl std::process::Abort,
+    alloc: Global,
+    given: &[(Kind, &[&str])],
+    text: &str,
+    code: &[u16],
+) -> Result<(), Fail> {
     let grammar = built_in(alloc)?;
     match least(alloc, &grammar, given, text)? {
         None => Err(Fail::new("a sentence")),
@@ -79,8 +85,24 @@ fn the_least_of_two_trees_is_given(rt: HostRuntime) -> Result<(), Fail> {
 #[test]
 fn sentences_have_their_codes(rt: HostRuntime) -> Result<(), Fail> {
     let alloc = rt.alloc();
-    has_code(&rt, alloc, &PEOPLE, "Mary sees a cat and sees it.", &[1, 3, 7, 48, 56, 8, 14, 15, 52, 65, 33, 74, 13, 15, 53, 54, 4])?;
-    has_code(&rt, alloc, &PEOPLE, "If Mary sees no dog that Bill owns then it sees Mary.",
-        &[1, 4, 5, 7, 48, 56, 8, 13, 15, 52, 67, 75, 38, 45, 46, 48, 56, 5, 7, 50, 7, 8, 13, 15, 51, 56])?;
+    has_code(
+        &rt,
+        alloc,
+        &PEOPLE,
+        "Mary sees a cat and sees it.",
+        &[
+            1, 3, 7, 48, 56, 8, 14, 15, 52, 65, 33, 74, 13, 15, 53, 54, 4,
+        ],
+    )?;
+    has_code(
+        &rt,
+        alloc,
+        &PEOPLE,
+        "If Mary sees no dog that Bill owns then it sees Mary.",
+        &[
+            1, 4, 5, 7, 48, 56, 8, 13, 15, 52, 67, 75, 38, 45, 46, 48, 56, 5, 7, 50, 7, 8, 13, 15,
+            51, 56,
+        ],
+    )?;
     Ok(())
 }

@@ -1,5 +1,5 @@
 -- The least of the skeletons of listed trees.
-use Rattle.std.proofs.Common.{◌≡◌, ℕ, ◌+◌, ◌*◌, ◌<◌, List, [], ◌∷◌, ◌++◌, map, take, length, get_or, Bool, true, false, ◌⊎◌, inl, inr, Option, Some, None, refl, sym, ap, subst, ◌∙◌}
+use Rattle.std.proofs.Common.{◌≡◌, ℕ, ◌+◌, ◌*◌, ◌<◌, List, [], ◌∷◌, ◌++◌, map, take, length, get_or, Bool, true, false, not, ◌⊎◌, inl, inr, Option, Some, None, refl, sym, ap, subst, ◌∙◌}
 use Rattle.std.specs.Prelude.{IfSome, IfNone}
 use Rattle.std.proofs.lemmas.List.{take_more, length-map}
 use Rattle.std.specs.declared.cmp.Ordering.{Ordering}
@@ -171,3 +171,15 @@ told s ordered depth outcomes least deep made of =
     by : (o : Option Skeleton) → ((sk : Skeleton) → o ≡ Some sk → IsLeast s sk) → (o ≡ None → (tree : Node) → IsDerivation s tree → ⊥) → Told s o
     by None f g = record { some = tt; none = g refl }
     by (Some sk) f g = record { some = f sk refl; none = tt }
+
+pub not_false : (b : Bool) → not b ≡ true → b ≡ false
+not_false true h = cc
+not_false false h = refl
+
+pub not_true : (b : Bool) → not b ≡ false → b ≡ true
+not_true true h = refl
+not_true false h = cc
+
+pub none_told : (least : Option Skeleton) (s t : Setting) → s ≡ t → IfNone least ((tree : Node) → IsDerivation s tree → ⊥) → IfNone least ((tree : Node) × IsDerivation t tree → ⊥)
+none_told None s t e h = λ found. h found.0 (subst (λ x. IsDerivation x found.0) (sym e) found.1)
+none_told (Some sk) s t e h = tt

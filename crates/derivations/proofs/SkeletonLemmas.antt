@@ -14,6 +14,8 @@ use Rattle.codeco_terms.specs.Values.{same_value}
 use Rattle.scopes.specs.declared.tests.Test.{Test}
 use Rattle.scopes.specs.Resolution.{Finding, closest_finding, is_agreeing}
 use Rattle.derivation_trees.specs.declared.skeletons.Skeleton.{Skeleton, out-Skeleton}
+use Rattle.derivation_trees.specs.declared.skeletons.Skeleton.TheOpen.{Skeleton-F}
+use Rattle.derivation_trees.specs.declared.skeletons.Skeleton.TheViews.{out-roll-Skeleton}
 use Rattle.derivation_trees.specs.Trees.{Node, Nodes, node, none, more}
 use Rattle.derivation_trees.specs.Settings.{Setting, matches_terminal, matches_preterminal}
 use Rattle.derivation_trees.specs.Instances.{value_under, under, tests_under, own_values}
@@ -55,14 +57,14 @@ record Sketched (s : Setting) (values : List (ℕ × Value)) (es : List Element)
   pub words : (sketch_over s es k).words ≡ k.words ++ met (word_here s) s values es stand
   pub children : (sketch_over s es k).children ≡ k.children ++ skeletons_at s ns (met child_here s values es stand)
 
-record Same (s : Setting) (n : Node) (at after : At) : Type 0 where
+pub record Same (s : Setting) (n : Node) (at after : At) : Type 0 where
   pub skeletons : skeleton_at s n at ≡ sketch_of s n at.place
   pub end : (out-Skeleton (sketch_of s n at.place)).end ≡ after.place
 
-abbrev SameNode : Setting → Node → Type 0
+abbrev pub SameNode : Setting → Node → Type 0
 SameNode s n = (asked : Test) (at after : At) → phrase_of s n asked at ≡ Some after → Same s n at after
 
-abbrev SameNodes : Setting → Nodes → Type 0
+abbrev pub SameNodes : Setting → Nodes → Type 0
 SameNodes s none = Unit {0}
 SameNodes s (more n ns) = SameNode s n × SameNodes s ns
 
@@ -148,6 +150,9 @@ walk_sketch s values (e ∷ es) ns stand after k same children p left h =
         let parts : Plain s e stand.at k = plain_parts s e stand.at k p refl in
         kept_on s values e es ns stand mid after k w parts.words parts.children parts.here (later mid (plain_kept s values e stand mid k p refl w) m)
 
+abbrev end_in : Skeleton-F Skeleton → ℕ
+end_in layer = layer.end
+
 -- the parts of a node, one after another
 node_same : (s : Setting) (number : ℕ) (values : List (ℕ × Value)) (found : List ℕ) (children : Nodes) (asked : Test) (at after : At) (rule : Rule) → SameNodes s children → rule_with s.grammar number ≡ Some rule → phrase s rule values found (phrases_of s children) asked at ≡ Some after → Same s (node number values found children) at after
 node_same s number values found children asked at after rule same h k =
@@ -159,7 +164,7 @@ node_same s number values found children asked at after rule same h k =
     let ends : end_place s rule values first ≡ parts.stand.at.place = ap (λ o. option_map_or (λ x. x.at.place) o at.place) parts.ran in
     record {
       skeletons = ap (λ o. option_map_or (λ r. skeleton number at.place (end_place s r values (start r values found (phrases_of s children) at)) found (met (word_here s) s values r.body (start r values found (phrases_of s children) at)) (skeletons_at s children (met child_here s values r.body (start r values found (phrases_of s children) at)))) o (skeleton number at.place at.place found [] [])) h ∙ ap (λ e. skeleton number at.place e found (met (word_here s) s values rule.body first) (skeletons_at s children (met child_here s values rule.body first))) (ends ∙ sym walked.place) ∙ ap (λ ws. skeleton number at.place (sketch_over s rule.body from).place found ws (skeletons_at s children (met child_here s values rule.body first))) (sym walked.words) ∙ ap (λ cs. skeleton number at.place (sketch_over s rule.body from).place found (sketch_over s rule.body from).words cs) (sym walked.children) ∙ ap (λ es. sketched number found at.place (sketch_over s es from)) (sym body);
-      end = ap (λ es. (sketch_over s es from).place) body ∙ walked.place ∙ ap (λ a. a.place) (sym parts.ends);
+      end = ap end_in (out-roll-Skeleton (record { rule = number; start = at.place; end = (sketch_over s (body_of s.grammar number) from).place; found = found; words = (sketch_over s (body_of s.grammar number) from).words; children = (sketch_over s (body_of s.grammar number) from).children })) ∙ ap (λ es. (sketch_over s es from).place) body ∙ walked.place ∙ ap (λ a. a.place) (sym parts.ends);
     }
 
 mutual

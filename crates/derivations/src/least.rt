@@ -114,6 +114,18 @@ fn depth_for(tokens: usize, rules: usize) -> Result<usize, Memory>
     places.checked_mul(names).ok_or(Memory)
 }
 
+fn token_count(setting: &Setting<'_>) -> usize
+    ensures { result ≡ length setting.now.tokens }
+{
+    setting.tokens.len()
+}
+
+fn rule_count(setting: &Setting<'_>) -> usize
+    ensures { result ≡ length setting.now.grammar.rules }
+{
+    setting.grammar.rules().len()
+}
+
 // All trees for `text` from place 0 and the empty list.
 fn all_trees(alloc: Global, setting: &Setting<'_>, depth: usize) -> Result<List<Outcome>, Memory>
     requires { IsLimited setting.now.grammar }
@@ -144,7 +156,7 @@ fn least_in(
     ensures least { IfOk result (λ least. IfSome least (IsLeast setting.now)) }
     ensures none { IfOk result (λ least. IfNone least ((tree : Node) → IsDerivation setting.now tree → ⊥)) }
 {
-    let depth = depth_for(setting.tokens.len(), setting.grammar.rules().len())?;
+    let depth = depth_for(token_count(setting), rule_count(setting))?;
     let outcomes = all_trees(alloc, setting, depth)?;
     least_of(
         alloc,

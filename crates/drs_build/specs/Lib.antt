@@ -2,3 +2,4 @@ pub mod Joining
 pub mod Meanings
 pub mod Nodes
 pub mod Made
+pub mod Built

@@ -1,5 +1,5 @@
 -- The structure of a skeleton, by recursion on it.
-use Rattle.std.specs.Prelude.{ℕ, ◌+◌, ◌==◌, Bool, true, false, not, List, [], ◌∷◌, ◌++◌, map, filter, flat_map, slice_index, slice_index_or, Option, Some, None, option_and_then, unwrap_or, if◌then◌else◌}
+use Rattle.std.specs.Prelude.{ℕ, ◌+◌, ◌==◌, Bool, true, false, not, List, [], ◌∷◌, ◌++◌, map, filter, flat_map, slice_index, slice_index_or, slice_get, Option, Some, None, option_and_then, unwrap_or, if◌then◌else◌}
 use Rattle.std.specs.Option.{option_map_or}
 use Rattle.wiki_base.specs.declared.numbers.WordId.{WordId}
 use Rattle.codeco_terms.specs.declared.elements.Element.{Element}
@@ -11,7 +11,7 @@ use Rattle.codeco_checked.specs.Labels.{label_row, is_mark_rule}
 use Rattle.codeco_terms.specs.GrammarParts.{GrammarParts}
 use Rattle.logic_terms.specs.declared.structures.Thing.{Thing}
 use Rattle.logic_terms.specs.declared.structures.Thing.TheVariants as thing
-use Rattle.derivation_trees.specs.declared.skeletons.Skeleton.{Skeleton}
+use Rattle.derivation_trees.specs.declared.skeletons.Skeleton.{Skeleton, out-Skeleton}
 use Rattle.derivation_trees.specs.declared.skeletons.Skeleton.TheOpen.{Skeleton-F}
 use Rattle.derivation_trees.specs.declared.skeletons.Skeleton.TheFolds.{fold-Skeleton}
 use Rattle.derivation_trees.specs.Derives.{rule_with}
@@ -73,7 +73,7 @@ named_layer g layer = record {
   names = own_name g layer.rule layer.start layer.words (map (λ c. c.end) layer.children) ++ flat_map (λ c. c.names) layer.children;
 }
 
-abbrev pub named : GrammarParts → Skeleton → Named
+unfoldable pub named : GrammarParts → Skeleton → Named
 named g = fold-Skeleton Named (named_layer g)
 
 -- the names of a skeleton, each with the position at which it is introduced
@@ -121,11 +121,39 @@ phrase_layer g names layer = record {
 }
 
 -- a skeleton as a phrase of a text with these names
-abbrev pub phrase_in : GrammarParts → List (ℕ × WordId) → Skeleton → Phrase
+unfoldable pub phrase_in : GrammarParts → List (ℕ × WordId) → Skeleton → Phrase
 phrase_in g names = fold-Skeleton Phrase (phrase_layer g names)
 
 abbrev pub meaning_in : GrammarParts → List (ℕ × WordId) → Skeleton → Meaning
 meaning_in g names sk = (phrase_in g names sk).meaning
+
+-- The same by the parts of a skeleton.
+
+-- where the children of a skeleton end
+abbrev pub ends_of : List Skeleton → List ℕ
+ends_of children = map (λ c. (out-Skeleton c).end) children
+
+-- the position of the referent that the skeleton's own rule introduces
+abbrev pub position_in : GrammarParts → Skeleton → ℕ
+position_in g sk = introduced_at (body_of g (out-Skeleton sk).rule) (out-Skeleton sk).start (ends_of (out-Skeleton sk).children)
+
+-- the children that are no marks
+abbrev pub meant_children : GrammarParts → Skeleton → List Skeleton
+meant_children g sk = filter (λ c. is_meant g (out-Skeleton c).rule) (out-Skeleton sk).children
+
+-- the meaning of the child of this number among those that are no marks
+abbrev pub child_meaning : GrammarParts → List (ℕ × WordId) → Skeleton → ℕ → Meaning
+child_meaning g names sk n = option_map_or (meaning_in g names) (slice_get (meant_children g sk) n) nothing
+
+abbrev pub made_in : GrammarParts → List (ℕ × WordId) → Skeleton → Made
+made_in g names sk = record {
+  first = child_meaning g names sk 0;
+  second = child_meaning g names sk 1;
+  word = slice_index_or (out-Skeleton sk).words 0 no_word;
+  other_word = slice_index_or (out-Skeleton sk).words 1 no_word;
+  here = position_in g sk;
+  found = term_at names (slice_index (out-Skeleton sk).found 0);
+}
 
 -- the meaning of a text
 abbrev pub meaning_of : GrammarParts → Skeleton → Meaning

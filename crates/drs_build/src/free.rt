@@ -1,13 +1,12 @@
 // The first free referent of a structure.
-ghost use Rattle.std.specs.Prelude.{◌≡◌, [], ◌++◌, IfOk, OnOk};
+ghost use Rattle.std.specs.Prelude.{◌≡◌, [], ◌++◌, IfOk};
 ghost use Rattle.logic_terms.specs.Shown.{structure_of, condition_of, conditions_of};
 ghost use Rattle.std.specs.Option.{option_or};
 ghost use Rattle.logic_terms.specs.Structure.{conditions_from};
-ghost use Rattle.logic_terms.specs.Structure as structures;
 ghost use Rattle.logic_terms.specs.Free as free;
 
-use lists::List;
 use logic_terms::{Cond, Conds, Drs, Thing};
+use lists::List;
 use std::alloc::Global;
 use wiki_base::Memory;
 
@@ -22,12 +21,7 @@ pub fn first_free(alloc: Global, drs: &Drs) -> Result<Option<u16>, Memory>
 fn is_bound(bound: &[u16], referent: u16) -> bool
     ensures { result ≡ free.is_bound bound.now referent }
 {
-    for other in bound {
-        if *other == referent {
-            return true;
-        }
-    }
-    false
+    bound.iter().any(|other| *other == referent)
 }
 
 fn free_thing(bound: &[u16], thing: Thing) -> Option<u16>
@@ -58,14 +52,9 @@ fn free_pair(bound: &[u16], one: Thing, other: Thing) -> Option<u16>
 fn joined(alloc: Global, more: &[u16], bound: &[u16]) -> Result<List<u16>, Memory>
     ensures { IfOk result (λ all. all ≡ more.now ++ bound.now) }
 {
-    let mut all = List::new(alloc);
-    for referent in more {
-        all.push(*referent)?;
-    }
-    for referent in bound {
-        all.push(*referent)?;
-    }
-    Ok(all)
+    let mut all = Vec::from_slice(alloc, more)?;
+    all.extend_from_slice(bound)?;
+    Ok(List::from_vec(all))
 }
 
 #[cycle(free)]
@@ -89,11 +78,7 @@ fn free_in_all(alloc: Global, bound: &List<u16>, conditions: &Conds) -> Result<O
 }
 
 #[cycle(free)]
-fn free_in_condition(
-    alloc: Global,
-    bound: &List<u16>,
-    condition: &Cond,
-) -> Result<Option<u16>, Memory>
+fn free_in_condition(alloc: Global, bound: &List<u16>, condition: &Cond) -> Result<Option<u16>, Memory>
     ensures { IfOk result (λ found. found ≡ free.free_in_condition bound.now (condition_of condition.now)) }
 {
     match condition {
@@ -101,38 +86,18 @@ fn free_in_condition(
         Cond::Rel(_, from, to) => Ok(free_pair(bound.as_slice(), *from, *to)),
         Cond::Same(one, other) => Ok(free_pair(bound.as_slice(), *one, *other)),
         Cond::Not(inner) => free_in(alloc, bound, inner),
-        Cond::Implies(left, right) => free_in_implication(alloc, bound, left, right),
-        Cond::Or(one, other) => free_in_both(alloc, bound, one, other),
+        Cond::Implies(left, right) => {
+            if let Some(referent) = free_in(alloc, bound, left)? {
+                return Ok(Some(referent));
+            }
+            let all = joined(alloc, left.referents().as_slice(), bound.as_slice())?;
+            free_in(alloc, &all, right)
+        }
+        Cond::Or(one, other) => {
+            if let Some(referent) = free_in(alloc, bound, one)? {
+                return Ok(Some(referent));
+            }
+            free_in(alloc, bound, other)
+        }
     }
-}
-
-#[cycle(free)]
-fn free_in_implication(
-    alloc: Global,
-    bound: &List<u16>,
-    left: &Drs,
-    right: &Drs,
-) -> Result<Option<u16>, Memory>
-    ensures { IfOk result (λ found. found ≡ free.free_in_condition bound.now (structures.Implication (structure_of left.now) (structure_of right.now))) }
-{
-    if let Some(referent) = free_in(alloc, bound, left)? {
-        return Ok(Some(referent));
-    }
-    let all = joined(alloc, left.referents().as_slice(), bound.as_slice())?;
-    free_in(alloc, &all, right)
-}
-
-#[cycle(free)]
-fn free_in_both(
-    alloc: Global,
-    bound: &List<u16>,
-    one: &Drs,
-    other: &Drs,
-) -> Result<Option<u16>, Memory>
-    ensures { IfOk result (λ found. found ≡ free.free_in_condition bound.now (structures.Disjunction (structure_of one.now) (structure_of other.now))) }
-{
-    if let Some(referent) = free_in(alloc, bound, one)? {
-        return Ok(Some(referent));
-    }
-    free_in(alloc, bound, other)
 }

@@ -1,7 +1,9 @@
 // Structures in the making.
-ghost use Rattle.std.specs.Prelude.{◌≡◌, IfOk};
+ghost use Rattle.std.specs.Prelude.{◌≡◌, ◌++◌, map, IfOk};
 ghost use Rattle.logic_terms.specs.Shown.{condition_of, structure_of};
 ghost use Rattle.logic_terms.specs.Structure as structures;
+ghost use Rattle.logic_terms.specs.Structure.{conditions_from};
+ghost use Rattle.drs_build.specs.Joining.{both};
 ghost use Rattle.drs_build.specs.Joining as joining;
 ghost use Rattle.drs_build.specs.Made.{structure_in};
 
@@ -14,6 +16,21 @@ use wiki_base::{Memory, WordId};
 pub(crate) struct Parts {
     referents: Vec<u16>,
     conditions: Vec<Cond>,
+}
+
+fn joined_referents(mut one: Vec<u16>, mut other: Vec<u16>) -> Result<Vec<u16>, Memory>
+    ensures { IfOk result (λ both. both.items ≡ one.items ++ other.items) }
+{
+    one.append(&mut other)?;
+    Ok(one)
+}
+
+#[tactic(auto, using(crate::proofs::JoinLemmas::conditions_joined))]
+fn joined_conditions(mut one: Vec<Cond>, mut other: Vec<Cond>) -> Result<Vec<Cond>, Memory>
+    ensures { IfOk result (λ all. conditions_from (map condition_of all.items) ≡ both (conditions_from (map condition_of one.items)) (conditions_from (map condition_of other.items))) }
+{
+    one.append(&mut other)?;
+    Ok(one)
 }
 
 impl Parts {
@@ -55,18 +72,16 @@ impl Parts {
         ensures { IfOk result (λ parts. structure_in parts ≡ joining.◌⊕◌ (structure_in self) (structure_in other)) }
     {
         let Parts {
-            mut referents,
-            mut conditions,
-        } = self;
-        let Parts {
-            referents: mut more_referents,
-            conditions: mut more_conditions,
-        } = other;
-        referents.append(&mut more_referents)?;
-        conditions.append(&mut more_conditions)?;
-        Ok(Parts {
             referents,
             conditions,
+        } = self;
+        let Parts {
+            referents: more_referents,
+            conditions: more_conditions,
+        } = other;
+        Ok(Parts {
+            referents: joined_referents(referents, more_referents)?,
+            conditions: joined_conditions(conditions, more_conditions)?,
         })
     }
 

@@ -1,5 +1,11 @@
+pub mod ClaimLemmas
+pub mod Forest
+pub mod GroupLemmas
 pub mod Labels
+pub mod MadeLemmas
 pub mod Passed
 pub mod RollingLemmas
 pub mod TermsLemmas
 pub mod TreeLemmas
+pub mod TreeModel
+pub mod TreeTruth

@@ -1,7 +1,3 @@
-pub mod Trees
-pub mod Settings
-pub mod Instances
-pub mod Derives
-pub mod Stands
-pub mod Sentences
-pub mod Cutting
+pub mod Enumeration
+pub mod Choices
+pub mod Paths

@@ -1,0 +1,9 @@
+pub mod Absorbed
+pub mod Closure
+pub mod FirstWord
+pub mod Found
+pub mod Hierarchy
+pub mod Mentioned
+pub mod Pieces
+pub mod Renamed
+pub mod Sorted

@@ -1,0 +1,13 @@
+//! Absorption: axioms as knowledge that a search can use.
+#![tactic(auto)]
+
+mod hierarchy;
+mod inclusions;
+mod knowledge;
+mod pieces;
+mod representatives;
+mod sorting;
+#[cfg(test)]
+mod tests;
+
+pub use knowledge::absorb;

@@ -1,7 +1,0 @@
-pub mod PutLemmas
-pub mod OccurrenceLemmas
-pub mod InstanceLemmas
-pub mod StandLemmas
-pub mod LimitLemmas
-pub mod PieceLemmas
-pub mod WordLemmas

@@ -1,0 +1,4 @@
+pub mod Joining
+pub mod Meanings
+pub mod Nodes
+pub mod Made

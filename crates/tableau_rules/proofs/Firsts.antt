@@ -1,0 +1,26 @@
+-- The first number that gives something, one number further.
+use Rattle.std.proofs.Common.{◌≡◌, ℕ, zero, suc, ◌+◌, ◌<◌, Bool, true, false, Option, Some, None, refl, sym, ap, ◌∙◌, inl, inr, arith}
+use Rattle.std.specs.Option.{option_or}
+use Rattle.std.proofs.lemmas.Bool.{cases_eq}
+use Rattle.tableau_rules.specs.First.{first_below, where_true}
+
+one_more : (n : ℕ) → suc n ≡ n + 1
+one_more n = omega arith
+
+module _ {X : Type 0} (f : ℕ → Option X) (k : ℕ) (passed : first_below k f ≡ None) where
+  pub first_more : f k ≡ None → first_below (k + 1) f ≡ None
+  first_more here =
+      ap (λ n. first_below n f) (sym (one_more k)) ∙ (ap (λ o. option_or o (f k)) passed ∙ here)
+
+  pub first_found : (n : ℕ) (x : X) → k < n → f k ≡ Some x → first_below n f ≡ Some x
+  first_found zero x lt here = absurd (omega arith)
+  first_found (suc n) x lt here = elim (cases_eq k n) [
+    | inl same ↦ ap (λ m. option_or (first_below m f) (f m)) (sym same) ∙ (ap (λ o. option_or o (f k)) passed ∙ here)
+    | inr ne ↦ ap (λ o. option_or o (f n)) (first_found n x (omega arith) here)
+  ]
+
+pub where_is : {X : Type 0} (test : Bool) (x : X) → test ≡ true → where_true test x ≡ Some x
+where_is test x is = ap (λ b. where_true b x) is
+
+pub where_not : {X : Type 0} (test : Bool) (x : X) → test ≡ false → where_true test x ≡ None
+where_not test x is = ap (λ b. where_true b x) is

@@ -1,0 +1,6 @@
+pub mod Climbing
+pub mod Firsts
+pub mod Lists
+pub mod MapWalks
+pub mod NameLaws
+pub mod Passing

@@ -1,0 +1,10 @@
+use Rattle.std.proofs.Common.{◌≡◌, true, false, take, map}
+use Rattle.std.specs.Prelude.{not}
+use Rattle.std.specs.List.{list_any, list_all}
+use Rattle.logic_terms.specs.Complement.{complement}
+use Rattle.logic_terms.specs.Same.{same_concept, has_concept}
+use Rattle.logic_terms.specs.Shown.{concept_of}
+use Rattle.tableau_rules.proofs.label.has_complement.Given as goal
+
+abbrev pub invariant-loop-own : goal.invariant-loop-own
+invariant-loop-own l = list_any (λ d. same_concept d (complement (concept_of l.class))) (take l.own-index (map concept_of l.label)) ≡ false

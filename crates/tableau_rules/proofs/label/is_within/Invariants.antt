@@ -1,0 +1,10 @@
+use Rattle.std.proofs.Common.{◌≡◌, true, false, take, map}
+use Rattle.std.specs.Prelude.{not}
+use Rattle.std.specs.List.{list_any, list_all}
+use Rattle.logic_terms.specs.Complement.{complement}
+use Rattle.logic_terms.specs.Same.{same_concept, has_concept}
+use Rattle.logic_terms.specs.Shown.{concept_of}
+use Rattle.tableau_rules.proofs.label.is_within.Given as goal
+
+abbrev pub invariant-loop-class : goal.invariant-loop-class
+invariant-loop-class l = list_all (λ d. has_concept (map concept_of l.other) d) (take l.class-index (map concept_of l.label)) ≡ true

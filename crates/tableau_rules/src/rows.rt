@@ -1,0 +1,186 @@
+// One row of the table for each rule: whether it applies at a node for a class of its label.
+ghost use Rattle.std.specs.Prelude.{◌≡◌, ℕ, not, map, filter, length, Option, MatchOption, None, Some, ◌&&◌};
+ghost use Rattle.std.specs.List.{list_any};
+ghost use Rattle.std.specs.Option.{option_and_then};
+ghost use Rattle.logic_terms.specs.Interpretation.{is_word};
+ghost use Rattle.logic_terms.specs.Known.{theory_of};
+ghost use Rattle.logic_terms.specs.Meaning.{some_below};
+ghost use Rattle.logic_terms.specs.Same.{has_concept};
+ghost use Rattle.logic_terms.specs.Shown.{concept_of, concepts_of};
+ghost use Rattle.tableau_rules.specs.Shown.{graph_of};
+ghost use Rattle.tableau_rules.specs.First.{first_below, where_true};
+ghost use Rattle.tableau_rules.specs.Graph.{label_at};
+ghost use Rattle.tableau_rules.specs.Rules.{lacks_some, unfoldings_of, needs, serves, row, site};
+ghost use Rattle.tableau_rules.specs.declared.step.Rule.TheVariants as rule;
+
+use crate::blocking::{is_blocked, is_indirectly_blocked};
+use crate::branch::Branch;
+use crate::label::{has, lacks_all_of, lacks_some_of, leaves_at_most_one};
+use crate::names::node_of;
+use crate::neighbour::is_neighbour;
+use crate::step::Rule;
+use logic_terms::{Class, Knowledge, Role};
+use wiki_base::WordId;
+
+// Where a rule applies at a node for a class of its label: the node that it adds to, and 0 for a rule without one.
+pub(crate) fn site(k: &Knowledge, b: &Branch, rule: Rule, node: u64, class: &Class) -> Option<u64>
+    ensures { result ≡ site (theory_of k.now) (graph_of b.now) rule node (concept_of class.now) }
+{
+    if is_indirectly_blocked(k, b, node) {
+        None
+    } else {
+        row(k, b, rule, node, class)
+    }
+}
+
+fn row(k: &Knowledge, b: &Branch, rule: Rule, node: u64, class: &Class) -> Option<u64>
+    ensures { result ≡ row (theory_of k.now) (graph_of b.now) rule node (concept_of class.now) }
+{
+    match rule {
+        Rule::And => by_and(k, b, node, class),
+        Rule::Unfold => by_unfold(k, b, node, class),
+        Rule::All => by_all(k, b, node, class),
+        Rule::Value => by_value(k, b, node, class),
+        Rule::Unit => by_unit(k, b, node, class),
+        Rule::Or => by_or(k, b, node, class),
+        Rule::Some => by_some(k, b, node, class),
+    }
+}
+
+fn by_and(k: &Knowledge, b: &Branch, node: u64, class: &Class) -> Option<u64>
+    ensures { result ≡ row (theory_of k.now) (graph_of b.now) rule.And node (concept_of class.now) }
+{
+    match class.intersection() {
+        Some(members) => zero_where(lacks_some_of(b.label(node), members.as_slice())),
+        None => None,
+    }
+}
+
+fn by_unfold(k: &Knowledge, b: &Branch, node: u64, class: &Class) -> Option<u64>
+    ensures { result ≡ row (theory_of k.now) (graph_of b.now) rule.Unfold node (concept_of class.now) }
+{
+    match class.word() {
+        Some(word) => zero_where(lacks_unfolding(k, b.label(node), word)),
+        None => None,
+    }
+}
+
+// Whether an unfolding of the word is missing.
+fn lacks_unfolding(k: &Knowledge, label: &[Class], word: WordId) -> bool
+    ensures { result ≡ lacks_some (map concept_of label.now) (unfoldings_of (theory_of k.now) word) }
+{
+    for entry in k.unfoldings() {
+        if lacks_entry(label, word, entry) {
+            return true;
+        }
+    }
+    false
+}
+
+// Whether this is an unfolding of the word, and missing.
+fn lacks_entry(label: &[Class], word: WordId, entry: &(WordId, Class)) -> bool
+    ensures { result ≡ (is_word word entry.now.0 && not (has_concept (map concept_of label.now) (concept_of entry.now.1))) }
+{
+    word.0 == entry.0.0 && !has(label, &entry.1)
+}
+
+fn by_all(k: &Knowledge, b: &Branch, node: u64, class: &Class) -> Option<u64>
+    ensures { result ≡ row (theory_of k.now) (graph_of b.now) rule.All node (concept_of class.now) }
+{
+    match class.universal() {
+        Some(parts) => first_in_need(k, b, parts.0, parts.1, node),
+        None => None,
+    }
+}
+
+// The least neighbour that is not indirectly blocked and lacks the class.
+fn first_in_need(k: &Knowledge, b: &Branch, role: Role, class: &Class, node: u64) -> Option<u64>
+    ensures { result ≡ first_below (length (graph_of b.now).nodes) (λ y. where_true (needs (theory_of k.now) (graph_of b.now) role (concept_of class.now) node y) y) }
+{
+    for other in 0..b.len() {
+        if is_in_need(k, b, role, class, node, other) {
+            return Some(other);
+        }
+    }
+    None
+}
+
+fn is_in_need(k: &Knowledge, b: &Branch, role: Role, class: &Class, node: u64, other: u64) -> bool
+    ensures { result ≡ needs (theory_of k.now) (graph_of b.now) role (concept_of class.now) node other }
+{
+    is_neighbour(k, b, role, node, other)
+        && !is_indirectly_blocked(k, b, other)
+        && !has(b.label(other), class)
+}
+
+fn by_value(k: &Knowledge, b: &Branch, node: u64, class: &Class) -> Option<u64>
+    ensures { result ≡ row (theory_of k.now) (graph_of b.now) rule.Value node (concept_of class.now) }
+{
+    match class.value() {
+        Some(parts) => match node_of(k, parts.1) {
+            Some(named) => zero_where(
+                !is_blocked(k, b, node) && !is_neighbour(k, b, parts.0, node, named),
+            ),
+            None => None,
+        },
+        None => None,
+    }
+}
+
+fn by_unit(k: &Knowledge, b: &Branch, node: u64, class: &Class) -> Option<u64>
+    ensures { result ≡ row (theory_of k.now) (graph_of b.now) rule.Unit node (concept_of class.now) }
+{
+    match class.union() {
+        Some(members) => zero_where(
+            lacks_all_of(b.label(node), members.as_slice())
+                && leaves_at_most_one(b.label(node), members.as_slice()),
+        ),
+        None => None,
+    }
+}
+
+fn by_or(k: &Knowledge, b: &Branch, node: u64, class: &Class) -> Option<u64>
+    ensures { result ≡ row (theory_of k.now) (graph_of b.now) rule.Or node (concept_of class.now) }
+{
+    match class.union() {
+        Some(members) => zero_where(lacks_all_of(b.label(node), members.as_slice())),
+        None => None,
+    }
+}
+
+fn by_some(k: &Knowledge, b: &Branch, node: u64, class: &Class) -> Option<u64>
+    ensures { result ≡ row (theory_of k.now) (graph_of b.now) rule.Some node (concept_of class.now) }
+{
+    match class.existential() {
+        Some(parts) => zero_where(
+            !is_blocked(k, b, node) && !is_served(k, b, parts.0, parts.1, node),
+        ),
+        None => None,
+    }
+}
+
+// Whether a neighbour that is not indirectly blocked has the class.
+fn is_served(k: &Knowledge, b: &Branch, role: Role, class: &Class, node: u64) -> bool
+    ensures { result ≡ some_below (length (graph_of b.now).nodes) (serves (theory_of k.now) (graph_of b.now) role (concept_of class.now) node) }
+{
+    for other in 0..b.len() {
+        if is_witness(k, b, role, class, node, other) {
+            return true;
+        }
+    }
+    false
+}
+
+fn is_witness(k: &Knowledge, b: &Branch, role: Role, class: &Class, node: u64, other: u64) -> bool
+    ensures { result ≡ serves (theory_of k.now) (graph_of b.now) role (concept_of class.now) node other }
+{
+    is_neighbour(k, b, role, node, other)
+        && !is_indirectly_blocked(k, b, other)
+        && has(b.label(other), class)
+}
+
+fn zero_where(applies: bool) -> Option<u64>
+    ensures { result ≡ where_true applies 0 }
+{
+    if applies { Some(0) } else { None }
+}

@@ -100,7 +100,7 @@ fn only_condition(drs: &Drs) -> Option<&Cond>
 fn only_fact(drs: &Drs) -> Option<&Cond>
     ensures { option_shown (λ c. condition_of c.now) result ≡ only_fact (structure_of drs.now) }
 {
-    if drs.referents().is_empty() {
+    if drs.referents().as_slice().is_empty() {
         only_condition(drs)
     } else {
         None

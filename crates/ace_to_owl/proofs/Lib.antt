@@ -1,5 +1,4 @@
 pub mod ClaimLemmas
-pub mod Forest
 pub mod GroupLemmas
 pub mod Labels
 pub mod MadeLemmas
@@ -7,5 +6,3 @@ pub mod Passed
 pub mod RollingLemmas
 pub mod TermsLemmas
 pub mod TreeLemmas
-pub mod TreeModel
-pub mod TreeTruth

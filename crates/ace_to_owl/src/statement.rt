@@ -1,5 +1,5 @@
 // The axioms of a statement.
-ghost use Rattle.std.specs.Prelude.{◌≡◌, ◌++◌, [], None, map, IfOk, OnOk, if◌then◌else◌};
+ghost use Rattle.std.specs.Prelude.{◌≡◌, ◌++◌, ◌≤◌, [], None, map, length, take, IfOk, OnOk, if◌then◌else◌};
 ghost use Rattle.logic_terms.specs.Shown.{concept_of, claim_of, claims_of, structure_of, condition_of, conditions_of};
 ghost use Rattle.logic_terms.specs.Structure.{structure, conditions_from};
 ghost use Rattle.ace_to_owl.specs.Answers.{part_shown, option_shown, listed, Agrees};
@@ -61,8 +61,7 @@ fn axioms_by(alloc: Global, whole: &Whole<'_>) -> Result<Axioms, Fault>
     let mut axioms = Axioms::new(alloc);
     for place in 0..whole.groups.len() {
         let own = whole.groups[place].as_slice();
-        let before = &whole.groups[..place];
-        match claim_at(alloc, whole, own, before, whole.conditions.get(place)) {
+        match claim_at(alloc, whole, own, place, whole.conditions.get(place)) {
             Ok(claim) => push_claim(&mut axioms, claim)?,
             Err(fault) => return Err(fault),
         }
@@ -79,21 +78,22 @@ fn push_claim(axioms: &mut Axioms, claim: Option<Axiom>) -> Result<(), Memory>
     }
 }
 
-// The axiom of a condition with this group, where those groups came before.
+// The axiom of a condition with this group at this place.
 fn claim_at(
     alloc: Global,
     whole: &Whole<'_>,
     own: &[u16],
-    before: &[List<u16>],
+    place: usize,
     condition: &Cond,
 ) -> Result<Option<Axiom>, Fault>
-    requires { AreKnown whole.now }
-    ensures { Agrees (option_shown claim_of) result (claim_at whole.now.referents.now whole.now.groups.now (conditions_of whole.now.conditions.now) before.now own.now (condition_of condition.now)) }
+    requires known { AreKnown whole.now }
+    requires place { place ≤ length whole.now.groups.now }
+    ensures { Agrees (option_shown claim_of) result (claim_at whole.now.referents.now whole.now.groups.now (conditions_of whole.now.conditions.now) (take place whole.now.groups.now) own.now (condition_of condition.now)) }
 {
     if own.is_empty() {
         let alone = claim_alone(alloc, condition)?;
         Ok(Some(alone))
-    } else if was_before(whole, own, before) {
+    } else if was_before(whole, own, place) {
         Ok(None)
     } else {
         let first = claim_together(alloc, whole, own)?;
@@ -101,12 +101,13 @@ fn claim_at(
     }
 }
 
-// Whether a group belongs together with one of these.
-fn was_before(whole: &Whole<'_>, own: &[u16], before: &[List<u16>]) -> bool
-    requires { AreKnown whole.now }
-    ensures { result ≡ list_any (together whole.now.groups.now own.now) before.now }
+// Whether a group belongs together with one before a place.
+fn was_before(whole: &Whole<'_>, own: &[u16], place: usize) -> bool
+    requires known { AreKnown whole.now }
+    requires place { place ≤ length whole.now.groups.now }
+    ensures { result ≡ list_any (together whole.now.groups.now own.now) (take place whole.now.groups.now) }
 {
-    is_earlier(whole.moves, own, before)
+    is_earlier(whole.moves, own, &whole.groups[..place])
 }
 
 fn is_with(whole: &Whole<'_>, own: &[u16], group: &[u16]) -> bool
@@ -213,7 +214,7 @@ fn parts_together(
             alloc,
             root,
             inside,
-            whole.moves,
+            whole,
             own,
             group,
             whole.conditions.get(place),

@@ -9,9 +9,6 @@ use Rattle.logic_terms.specs.Concept.{Concept, Concepts, Everything, Atomic, Com
 abbrev pub word_text : (WordId → Option (List ℕ)) → WordId → List ℕ
 word_text form word = codes ":" ++ unwrap_or (form word) []
 
-abbrev pub role_text : (WordId → Option (List ℕ)) → Role → List ℕ
-role_text form role = if role.inverted then codes "ObjectInverseOf(" ++ (word_text form role.id ++ codes ")") else word_text form role.id
-
 -- a name with arguments behind it
 abbrev pub one_argument : List ℕ → List ℕ → List ℕ
 one_argument name a = name ++ (a ++ codes ")")
@@ -21,6 +18,9 @@ two_arguments name a b = name ++ (a ++ (codes " " ++ (b ++ codes ")")))
 
 abbrev pub three_arguments : List ℕ → List ℕ → List ℕ → List ℕ → List ℕ
 three_arguments name a b c = name ++ (a ++ (codes " " ++ (b ++ (codes " " ++ (c ++ codes ")")))))
+
+abbrev pub role_text : (WordId → Option (List ℕ)) → Role → List ℕ
+role_text form role = if role.inverted then one_argument (codes "ObjectInverseOf(") (word_text form role.id) else word_text form role.id
 
 -- a class, and members with one space between two
 abbrev mutual

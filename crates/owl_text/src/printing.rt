@@ -9,11 +9,7 @@ use std::alloc::Global;
 use wiki_base::{Memory, Spelled, Text8, WordId};
 
 /// The text of a class, each word by its canonical form. Of a word that is not live a colon alone is printed.
-pub fn print_class<L: Spelled>(
-    alloc: Global,
-    class: &Class,
-    lexicon: &L,
-) -> Result<Text8, Memory>
+pub fn print_class<L: Spelled>(alloc: Global, class: &Class, lexicon: &L) -> Result<Text8, Memory>
     ensures { IfOk result (λ text. text ≡ class_text (L.canonical_form lexicon.now) (concept_of class.now)) }
 {
     let mut out = Text8::new(alloc);
@@ -22,11 +18,7 @@ pub fn print_class<L: Spelled>(
 }
 
 /// The text of an axiom, each word by its canonical form. Of a word that is not live a colon alone is printed.
-pub fn print_axiom<L: Spelled>(
-    alloc: Global,
-    axiom: &Axiom,
-    lexicon: &L,
-) -> Result<Text8, Memory>
+pub fn print_axiom<L: Spelled>(alloc: Global, axiom: &Axiom, lexicon: &L) -> Result<Text8, Memory>
     ensures { IfOk result (λ text. text ≡ claim_text (L.canonical_form lexicon.now) (claim_of «axiom».now)) }
 {
     let mut out = Text8::new(alloc);
@@ -48,12 +40,23 @@ fn put_role<L: Spelled>(out: &mut Text8, role: Role, lexicon: &L) -> Result<(), 
     ensures { OnOk result (out.new ≡ out.old ++ role_text (L.canonical_form lexicon.now) role) }
 {
     if role.inverted {
-        out.push_str("ObjectInverseOf(")?;
-        put_word(out, role.id, lexicon)?;
-        out.push_str(")")
+        put_inverse(out, "ObjectInverseOf(", role.id, lexicon)
     } else {
         put_word(out, role.id, lexicon)
     }
+}
+
+fn put_inverse<L: Spelled>(
+    out: &mut Text8,
+    name: &str,
+    word: WordId,
+    lexicon: &L,
+) -> Result<(), Memory>
+    ensures { OnOk result (out.new ≡ out.old ++ one_argument name.now (word_text (L.canonical_form lexicon.now) word)) }
+{
+    out.push_str(name)?;
+    put_word(out, word, lexicon)?;
+    out.push_str(")")
 }
 
 #[cycle(printing)]
@@ -63,20 +66,25 @@ fn put_class<L: Spelled>(out: &mut Text8, class: &Class, lexicon: &L) -> Result<
     match class {
         Class::Thing => out.push_str("owl:Thing"),
         Class::Named(word) => put_word(out, *word, lexicon),
-        Class::Not(inner) => put_complement(out, inner, lexicon),
+        Class::Not(inner) => put_complement(out, "ObjectComplementOf(", inner, lexicon),
         Class::And(members) => put_members(out, "ObjectIntersectionOf(", members, lexicon),
         Class::Or(members) => put_members(out, "ObjectUnionOf(", members, lexicon),
         Class::Some(role, inner) => put_filled(out, "ObjectSomeValuesFrom(", *role, inner, lexicon),
         Class::All(role, inner) => put_filled(out, "ObjectAllValuesFrom(", *role, inner, lexicon),
-        Class::Value(role, name) => put_value(out, *role, *name, lexicon),
+        Class::Value(role, name) => put_value(out, "ObjectHasValue(", *role, *name, lexicon),
     }
 }
 
 #[cycle(printing)]
-fn put_complement<L: Spelled>(out: &mut Text8, inner: &Class, lexicon: &L) -> Result<(), Memory>
-    ensures { OnOk result (out.new ≡ out.old ++ one_argument (codes "ObjectComplementOf(") (class_text (L.canonical_form lexicon.now) (concept_of inner.now))) }
+fn put_complement<L: Spelled>(
+    out: &mut Text8,
+    name: &str,
+    inner: &Class,
+    lexicon: &L,
+) -> Result<(), Memory>
+    ensures { OnOk result (out.new ≡ out.old ++ one_argument name.now (class_text (L.canonical_form lexicon.now) (concept_of inner.now))) }
 {
-    out.push_str("ObjectComplementOf(")?;
+    out.push_str(name)?;
     put_class(out, inner, lexicon)?;
     out.push_str(")")
 }
@@ -123,10 +131,16 @@ fn put_filled<L: Spelled>(
     out.push_str(")")
 }
 
-fn put_value<L: Spelled>(out: &mut Text8, role: Role, name: WordId, lexicon: &L) -> Result<(), Memory>
-    ensures { OnOk result (out.new ≡ out.old ++ two_arguments (codes "ObjectHasValue(") (role_text (L.canonical_form lexicon.now) role) (word_text (L.canonical_form lexicon.now) name)) }
+fn put_value<L: Spelled>(
+    out: &mut Text8,
+    kind: &str,
+    role: Role,
+    name: WordId,
+    lexicon: &L,
+) -> Result<(), Memory>
+    ensures { OnOk result (out.new ≡ out.old ++ two_arguments kind.now (role_text (L.canonical_form lexicon.now) role) (word_text (L.canonical_form lexicon.now) name)) }
 {
-    out.push_str("ObjectHasValue(")?;
+    out.push_str(kind)?;
     put_role(out, role, lexicon)?;
     out.push_str(" ")?;
     put_word(out, name, lexicon)?;
@@ -143,40 +157,78 @@ fn put_axiom<L: Spelled>(out: &mut Text8, stated: &Axiom, lexicon: &L) -> Result
     ensures { OnOk result (out.new ≡ out.old ++ claim_text (L.canonical_form lexicon.now) (claim_of stated.now)) }
 {
     match stated {
-        Axiom::SubClass(below, above) => put_subclass(out, below, above, lexicon),
-        Axiom::SubRole(below, above) => put_subrole(out, *below, *above, lexicon),
-        Axiom::Member(class, name) => put_member(out, class, *name, lexicon),
-        Axiom::Related(role, from, to) => put_related(out, "ObjectPropertyAssertion(", *role, *from, *to, lexicon),
-        Axiom::NotRelated(role, from, to) => put_related(out, "NegativeObjectPropertyAssertion(", *role, *from, *to, lexicon),
+        Axiom::SubClass(below, above) => put_subclass(out, "SubClassOf(", below, above, lexicon),
+        Axiom::SubRole(below, above) => put_subrole(
+            out,
+            "SubObjectPropertyOf(",
+            *below,
+            *above,
+            lexicon,
+        ),
+        Axiom::Member(class, name) => put_member(out, "ClassAssertion(", class, *name, lexicon),
+        Axiom::Related(role, from, to) => put_related(
+            out,
+            "ObjectPropertyAssertion(",
+            *role,
+            *from,
+            *to,
+            lexicon,
+        ),
+        Axiom::NotRelated(role, from, to) => put_related(
+            out,
+            "NegativeObjectPropertyAssertion(",
+            *role,
+            *from,
+            *to,
+            lexicon,
+        ),
         Axiom::Equal(one, other) => put_names(out, "SameIndividual(", *one, *other, lexicon),
         Axiom::Differ(one, other) => put_names(out, "DifferentIndividuals(", *one, *other, lexicon),
     }
 }
 
-fn put_subclass<L: Spelled>(out: &mut Text8, below: &Class, above: &Class, lexicon: &L) -> Result<(), Memory>
-    ensures { OnOk result (out.new ≡ out.old ++ two_arguments (codes "SubClassOf(") (class_text (L.canonical_form lexicon.now) (concept_of below.now)) (class_text (L.canonical_form lexicon.now) (concept_of above.now))) }
+fn put_subclass<L: Spelled>(
+    out: &mut Text8,
+    kind: &str,
+    below: &Class,
+    above: &Class,
+    lexicon: &L,
+) -> Result<(), Memory>
+    ensures { OnOk result (out.new ≡ out.old ++ two_arguments kind.now (class_text (L.canonical_form lexicon.now) (concept_of below.now)) (class_text (L.canonical_form lexicon.now) (concept_of above.now))) }
 {
-    out.push_str("SubClassOf(")?;
+    out.push_str(kind)?;
     put_class(out, below, lexicon)?;
     out.push_str(" ")?;
     put_class(out, above, lexicon)?;
     out.push_str(")")
 }
 
-fn put_subrole<L: Spelled>(out: &mut Text8, below: Role, above: Role, lexicon: &L) -> Result<(), Memory>
-    ensures { OnOk result (out.new ≡ out.old ++ two_arguments (codes "SubObjectPropertyOf(") (role_text (L.canonical_form lexicon.now) below) (role_text (L.canonical_form lexicon.now) above)) }
+fn put_subrole<L: Spelled>(
+    out: &mut Text8,
+    kind: &str,
+    below: Role,
+    above: Role,
+    lexicon: &L,
+) -> Result<(), Memory>
+    ensures { OnOk result (out.new ≡ out.old ++ two_arguments kind.now (role_text (L.canonical_form lexicon.now) below) (role_text (L.canonical_form lexicon.now) above)) }
 {
-    out.push_str("SubObjectPropertyOf(")?;
+    out.push_str(kind)?;
     put_role(out, below, lexicon)?;
     out.push_str(" ")?;
     put_role(out, above, lexicon)?;
     out.push_str(")")
 }
 
-fn put_member<L: Spelled>(out: &mut Text8, class: &Class, name: WordId, lexicon: &L) -> Result<(), Memory>
-    ensures { OnOk result (out.new ≡ out.old ++ two_arguments (codes "ClassAssertion(") (class_text (L.canonical_form lexicon.now) (concept_of class.now)) (word_text (L.canonical_form lexicon.now) name)) }
+fn put_member<L: Spelled>(
+    out: &mut Text8,
+    kind: &str,
+    class: &Class,
+    name: WordId,
+    lexicon: &L,
+) -> Result<(), Memory>
+    ensures { OnOk result (out.new ≡ out.old ++ two_arguments kind.now (class_text (L.canonical_form lexicon.now) (concept_of class.now)) (word_text (L.canonical_form lexicon.now) name)) }
 {
-    out.push_str("ClassAssertion(")?;
+    out.push_str(kind)?;
     put_class(out, class, lexicon)?;
     out.push_str(" ")?;
     put_word(out, name, lexicon)?;
@@ -202,7 +254,13 @@ fn put_related<L: Spelled>(
     out.push_str(")")
 }
 
-fn put_names<L: Spelled>(out: &mut Text8, kind: &str, one: WordId, other: WordId, lexicon: &L) -> Result<(), Memory>
+fn put_names<L: Spelled>(
+    out: &mut Text8,
+    kind: &str,
+    one: WordId,
+    other: WordId,
+    lexicon: &L,
+) -> Result<(), Memory>
     ensures { OnOk result (out.new ≡ out.old ++ two_arguments kind.now (word_text (L.canonical_form lexicon.now) one) (word_text (L.canonical_form lexicon.now) other)) }
 {
     out.push_str(kind)?;

@@ -16,18 +16,18 @@ label [] n = n
 label (At k c ∷ ps) n = label ps n
 label (Edge word a b ∷ ps) n = moved (label ps a) (label ps b) (label ps n)
 
-false_or : (b : Bool) → (b || false) ≡ b
+pub false_or : (b : Bool) → (b || false) ≡ b
 false_or true = refl
 false_or false = refl
 
-eqb-sym : (n m : ℕ) → (n == m) ≡ (m == n)
+pub eqb-sym : (n m : ℕ) → (n == m) ≡ (m == n)
 eqb-sym n m = same_from_decides (n == m) (m == n) (Decides-eqb n m) (Decides-like (m == n) (λ e. sym e) (λ e. sym e) (Decides-eqb m n))
 
-and_false : (b : Bool) → (b && false) ≡ false
+pub and_false : (b : Bool) → (b && false) ≡ false
 and_false true = refl
 and_false false = refl
 
-and_true : (b : Bool) → (b && true) ≡ b
+pub and_true : (b : Bool) → (b && true) ≡ b
 and_true true = refl
 and_true false = refl
 
@@ -38,6 +38,12 @@ chosen_same true false e x y b n m tt_ tf ft ff =
 chosen_same false true e x y b n m tt_ tf ft ff = sym (ap (λ z. z || ((n == b) && true)) (ft refl refl) ∙ and_true (n == b))
 chosen_same false false e x y b n m tt_ tf ft ff = sym (ap (λ z. e || z) (and_false (n == b)) ∙ (false_or e ∙ ff))
 
+pub from_eqb : (x y : ℕ) → (x == y) ≡ true → x ≡ y
+from_eqb x y = (Decides-eqb x y).0
+
+pub clash : (c : Bool) → c ≡ false → c ≡ true → ⊥
+clash c p q = let no : true ≡ false = sym q ∙ p in cc
+
 -- numbers are one after a move where they were, or where one is moved to the other
 moved_same : (a b n m : ℕ) → (moved a b n == moved a b m) ≡ ((n == m) || (((n == a) && (b == m)) || ((n == b) && (a == m))))
 moved_same a b n m =
@@ -47,12 +53,6 @@ moved_same a b n m =
     (λ p q. ne_eqb n m (λ e. clash (n == a) p (eq-eqb n a (e ∙ from_eqb m a q))))
     refl
     ∙ ap (λ z. (n == m) || (((n == a) && (b == m)) || ((n == b) && z))) (eqb-sym m a)
-  where
-    from_eqb : (x y : ℕ) → (x == y) ≡ true → x ≡ y
-    from_eqb x y = (Decides-eqb x y).0
-
-    clash : (c : Bool) → c ≡ false → c ≡ true → ⊥
-    clash c p q = let no : true ≡ false = sym q ∙ p in cc
 
 pub connected-label : (ps : List Part) (n m : ℕ) → connected ps n m ≡ (label ps n == label ps m)
 connected-label [] n m = refl

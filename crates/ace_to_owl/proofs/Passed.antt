@@ -30,3 +30,9 @@ cons_option-listed None ys = refl
 -- past the end nothing is left
 pub drop_past : {X Y : Type 0} (f : X → Y) (xs : List X) (k : ℕ) → length xs ≤ k → drop k (map f xs) ≡ []
 drop_past f xs k past = drop-map f k xs ∙ ap (map f) (drop_of_length-le xs {i = k} past)
+
+pub drop_here : {X : Type 0} (xs : List X) (k : ℕ) (x : X) → k < length xs → x ≡ get_or xs k x → drop k xs ≡ x ∷ drop (k + 1) xs
+drop_here xs k x within is =
+    drop-cons xs k x within
+    ∙ ap (λ y. y ∷ drop (suc k) xs) (sym is)
+    ∙ ap (λ n. x ∷ drop n xs) (sym (add-one k))

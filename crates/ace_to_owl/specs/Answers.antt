@@ -1,8 +1,12 @@
 -- What the calls of this crate answer, against what the mapping gives.
 use Rattle.std.specs.Prelude.{◌≡◌, List, [], ◌∷◌, Result, Ok, Err, Option, Some, None}
 use Rattle.logic_terms.specs.declared.cause.Cause.{Cause}
-use Rattle.logic_terms.specs.Concept.{Concept}
-use Rattle.logic_terms.specs.Shown.{concept_of}
+use Rattle.logic_terms.specs.Concept.{Concept, Claim}
+use Rattle.logic_terms.specs.Shown.{concept_of, claims_of}
+use Rattle.ace_to_owl.specs.declared.mapping.Mapped.{Mapped}
+use Rattle.ace_to_owl.specs.declared.mapping.Mapped.TheVariants as mapped_answer
+use Rattle.ace_to_owl.specs.declared.mapping.Asked.{Asked}
+use Rattle.ace_to_owl.specs.declared.mapping.Asked.TheVariants as asked_answer
 use Rattle.ace_to_owl.specs.declared.fault.Fault.{Fault}
 use Rattle.ace_to_owl.specs.declared.fault.Fault.TheVariants.{Outside, Memory}
 use Rattle.ace_to_owl.specs.declared.part.Part as rolled
@@ -28,3 +32,12 @@ option_shown shown None = None
 abbrev pub listed : {X : Type 0} → Option X → List X
 listed (Some x) = x ∷ []
 listed None = []
+
+-- what an answer says of the mapping: the axioms or the class, or the cause why there is none
+abbrev pub mapped : Mapped → Result (List Claim) Cause
+mapped (mapped_answer.Axioms axioms) = Ok (claims_of axioms)
+mapped (mapped_answer.Outside cause) = Err cause
+
+abbrev pub asked : Asked → Result Concept Cause
+asked (asked_answer.Class class) = Ok (concept_of class)
+asked (asked_answer.Outside cause) = Err cause

@@ -1,4 +1,5 @@
 pub mod Answers
+pub mod Groups
 pub mod Mapping
 pub mod Moves
 pub mod Outcomes

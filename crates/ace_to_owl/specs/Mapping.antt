@@ -1,6 +1,6 @@
 -- The axioms of a statement and the class of a question. In the manner of Kaljurand, Attempto Controlled English as a
 -- Semantic Web Language, 2007.
-use Rattle.std.specs.Prelude.{ℕ, ◌==◌, ◌++◌, map, ◌&&◌, ◌||◌, Bool, not, List, [], ◌∷◌, Option, Some, None, Result, Ok, Err, if◌then◌else◌}
+use Rattle.std.specs.Prelude.{ℕ, ◌==◌, ◌++◌, map, length, ◌&&◌, ◌||◌, Bool, false, not, List, [], ◌∷◌, Option, Some, None, Result, Ok, Err, if◌then◌else◌}
 use Rattle.std.specs.List.{list_any, list_all, filter, cons_option}
 use Rattle.wiki_base.specs.declared.numbers.WordId.{WordId}
 use Rattle.logic_terms.specs.declared.structures.Thing.{Thing}
@@ -48,12 +48,22 @@ denied_claim (AreRelated word (Name from) (Name to)) = Some (NegativePropertyAss
 denied_claim (AreSame (Name one) (Name other)) = Some (DifferentIndividuals one other)
 denied_claim c = None
 
+-- whether two referents are the only ones of a list
+abbrev pub is_pair : List ℕ → ℕ → ℕ → Bool
+is_pair [] x y = false
+is_pair (p ∷ []) x y = false
+is_pair (p ∷ q ∷ []) x y = ((x == p) && (y == q)) || ((x == q) && (y == p))
+is_pair (p ∷ q ∷ r ∷ rs) x y = false
+
 -- two referents, one relation of them on the left and one on the right
-abbrev pub role_claim : List ℕ → Condition → Condition → Option Claim
-role_claim (p ∷ q ∷ []) (AreRelated below (Ref x) (Ref y)) (AreRelated above (Ref u) (Ref v)) =
-    if not ((x == p) && (y == q) || (x == q) && (y == p)) then None
+abbrev pub pair_claim : List ℕ → WordId → ℕ → ℕ → WordId → ℕ → ℕ → Option Claim
+pair_claim rs below x y above u v =
+    if not (is_pair rs x y) then None
     else if (u == x) && (v == y) then Some (SubPropertyOf (straight below) (straight above))
     else if (u == y) && (v == x) then Some (SubPropertyOf (straight below) (inverse above)) else None
+
+abbrev pub role_claim : List ℕ → Condition → Condition → Option Claim
+role_claim rs (AreRelated below (Ref x) (Ref y)) (AreRelated above (Ref u) (Ref v)) = pair_claim rs below x y above u v
 role_claim rs c d = None
 
 abbrev pub subrole_claim : Structure → Structure → Option Claim
@@ -63,29 +73,36 @@ subrole_claim k l =
       | None ↦ None
     ]
 
+abbrev pub denied : Structure → Option Claim
+denied k = elim (only_fact k) [ Some c ↦ denied_claim c | None ↦ None ]
+
 -- a condition that is an axiom as it stands
 abbrev pub plain_claim : Condition → Option Claim
 plain_claim (IsA noun (Name name)) = Some (ClassAssertion (Atomic noun) name)
 plain_claim (AreRelated word (Name from) (Name to)) = Some (PropertyAssertion (straight word) from to)
 plain_claim (AreSame (Name one) (Name other)) = Some (SameIndividual one other)
-plain_claim (Negation k) = elim (only_fact k) [ Some c ↦ denied_claim c | None ↦ None ]
+plain_claim (Negation k) = denied k
 plain_claim (Implication k l) = subrole_claim k l
 plain_claim c = None
 
--- a condition of which nothing else is known, with a name in it or none
-abbrev pub other_claim : Condition → Result Claim Cause
-other_claim c = next (roll None (structure [] (also_condition c no_condition))) (λ d. Ok (SubClassOf Everything d))
+-- a structure of one condition
+abbrev pub alone : Condition → Structure
+alone c = structure [] (also_condition c no_condition)
 
-abbrev pub first_referent_claim : Condition → Result Claim Cause
-first_referent_claim (Implication (structure (x ∷ rs) cs) l) = subclass_claim x (structure (x ∷ rs) cs) l
-first_referent_claim c = other_claim c
+-- a condition that speaks of no name, and of no referent on its left side: it is true of every element or of none
+abbrev pub other_claim : Condition → Result Claim Cause
+other_claim c = next (roll None (alone c)) (λ d. Ok (SubClassOf Everything d))
+
+abbrev pub leading_claim : Structure → Structure → List ℕ → Result Claim Cause
+leading_claim k l [] = other_claim (Implication k l)
+leading_claim k l (x ∷ xs) = subclass_claim x k l
+
+abbrev pub nameless_claim : Condition → Result Claim Cause
+nameless_claim (Implication k l) = leading_claim k l (referents_in k)
+nameless_claim c = other_claim c
 
 abbrev pub named_claim : Condition → Result Claim Cause
-named_claim c =
-    elim (first_name (terms_in_condition [] c)) [
-      | Some name ↦ member_claim name (structure [] (also_condition c no_condition))
-      | None ↦ first_referent_claim c
-    ]
+named_claim c = elim (first_name (terms_in_condition [] c)) [ Some name ↦ member_claim name (alone c) | None ↦ nameless_claim c ]
 
 -- an implication by those of its left referents that its right side uses
 abbrev pub used_claim : Structure → Structure → List ℕ → Result Claim Cause
@@ -130,19 +147,18 @@ claim_together rs cs =
 
 -- the axiom of a condition with this group, where those groups came before: without a group it stands alone, and others
 -- go with the first of their component
-abbrev pub claim_at : List ℕ → List Condition → List (List ℕ) → List ℕ → Condition → Result (Option Claim) Cause
-claim_at rs all before [] c = next (claim_alone c) (λ claim. Ok (Some claim))
-claim_at rs all before (q ∷ qs) c =
-    let gs : List (List ℕ) = map (own_terms rs) all in
-    if list_any (together gs (q ∷ qs)) before then Ok None
-    else next (claim_together (referents_with gs (q ∷ qs) rs) (conditions_with rs gs (q ∷ qs) all)) (λ claim. Ok (Some claim))
+abbrev pub claim_at : List ℕ → List (List ℕ) → List Condition → List (List ℕ) → List ℕ → Condition → Result (Option Claim) Cause
+claim_at rs gs all before own c =
+    if length own == 0 then next (claim_alone c) (λ claim. Ok (Some claim))
+    else if list_any (together gs own) before then Ok None
+    else next (claim_together (referents_with gs own rs) (conditions_with rs gs own all)) (λ claim. Ok (Some claim))
 
 -- the axioms of conditions in order, where those groups came before
-abbrev pub claims_after : List ℕ → List Condition → List (List ℕ) → List Condition → Result (List Claim) Cause
-claims_after rs all before [] = Ok []
-claims_after rs all before (c ∷ cs) =
-    next (claim_at rs all before (own_terms rs c) c) (λ claim. next (claims_after rs all (before ++ own_terms rs c ∷ []) cs) (λ claims. Ok (cons_option claim claims)))
+abbrev pub claims_after : List ℕ → List (List ℕ) → List Condition → List (List ℕ) → List Condition → Result (List Claim) Cause
+claims_after rs gs all before [] = Ok []
+claims_after rs gs all before (c ∷ cs) =
+    next (claim_at rs gs all before (own_terms rs c) c) (λ claim. next (claims_after rs gs all (before ++ own_terms rs c ∷ []) cs) (λ claims. Ok (cons_option claim claims)))
 
 -- the axioms of a statement, or the first cause why there are none
 abbrev pub axioms_stated : Structure → Result (List Claim) Cause
-axioms_stated (structure rs cs) = claims_after rs (condition_list cs) [] (condition_list cs)
+axioms_stated (structure rs cs) = claims_after rs (map (own_terms rs) (condition_list cs)) (condition_list cs) [] (condition_list cs)

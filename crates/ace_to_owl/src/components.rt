@@ -82,16 +82,20 @@ fn has_label(moves: &[(u32, u32)], wanted: u32, group: &[u16]) -> bool
 pub fn is_earlier(moves: &[(u32, u32)], own: &[u16], before: &[List<u16>]) -> bool
     ensures { result ≡ list_any (λ other. list_any (λ q. list_any (λ p. moved_by moves.now q == moved_by moves.now p) other) own.now) before.now }
 {
-    before
-        .iter()
-        .any(|group| is_together(moves, own, group.as_slice()))
+    for group in before {
+        if is_together(moves, own, group.as_slice()) {
+            return true;
+        }
+    }
+    false
 }
 
-fn is_labelled(moves: &[(u32, u32)], own: &[u16], wanted: u32) -> bool
-    ensures { result ≡ list_any (λ r. moved_by moves.now r == wanted) own.now }
+fn is_labelled(moves: &[(u32, u32)], own: &[u16], referent: u16) -> bool
+    ensures { result ≡ list_any (λ r. moved_by moves.now r == moved_by moves.now referent) own.now }
 {
+    let wanted = label(moves, referent as u32);
     own.iter()
-        .any(|referent| label(moves, *referent as u32) == wanted)
+        .any(|other| label(moves, *other as u32) == wanted)
 }
 
 /// Those of the referents that have the label of one of a group.
@@ -105,7 +109,7 @@ pub fn referents_with(
 {
     let mut inside = List::new(alloc);
     for referent in referents {
-        if is_labelled(moves, own, label(moves, *referent as u32)) {
+        if is_labelled(moves, own, *referent) {
             inside.push(*referent)?;
         }
     }

@@ -1,16 +1,15 @@
 //! From structures to axioms and classes, with the same truth.
 #![tactic(auto)]
 
+mod alone;
+mod components;
 mod fault;
 mod graph;
+mod mapping;
 mod part;
 mod rolling;
+mod statement;
 mod terms;
 mod tree;
 
-pub use fault::Fault;
-pub use graph::tree_fault;
-pub use part::{Part, is_among, is_root, member, noun_part, relation_part, same_part, same_thing};
-pub use rolling::{part_of, roll};
-pub use terms::{condition_terms, first_name, open_terms, referents_among, structure_terms};
-pub use tree::class_of_tree;
+pub use mapping::{Asked, Mapped, map_question, map_statement};

@@ -135,8 +135,8 @@ fn implies_part(
     let terms = implication_terms(alloc, left, right)?;
     let (inner_root, node) = holder(alloc, root, referents, terms.as_slice())?;
     let class = roll_without(alloc, inner_root, left, right)?;
-    let negative = negated(alloc, &class)?;
-    Ok(Part::At(node, negative))
+    let kept = negated(alloc, &class)?;
+    Ok(Part::At(node, kept))
 }
 
 #[cycle(rolling)]

@@ -80,6 +80,10 @@ mark_step F xs i x m n all lt is new h =
     let more : marked m (flat_map F (drop i xs)) ≡ marked (marked m (F x)) (flat_map F (drop (i + 1) xs)) = ap (λ ys. marked m (flat_map F ys)) step ∙ marked_append m (F x) (flat_map F (drop (i + 1) xs)) in
     ap (λ z. marked z (flat_map F (drop (i + 1) xs))) new ∙ sym more ∙ h
 
+-- std's law, under a name that an attribute can write
+pub any_append : {X : Type 0} (p : X → Bool) (xs ys : List X) → list_any p (xs ++ ys) ≡ (list_any p xs || list_any p ys)
+any_append p xs ys = list_any-append p xs ys
+
 taken_both : {X : Type 0} (F G : X → List ℕ) (ps ns : List X) → list_any (has (flat_map F (ps ++ ns))) (flat_map G (ps ++ ns)) ≡ (list_any (has (flat_map F ps ++ flat_map F ns)) (flat_map G ps) || list_any (has (flat_map F ps ++ flat_map F ns)) (flat_map G ns))
 taken_both F G ps ns =
     ap (λ zs. list_any (has zs) (flat_map G (ps ++ ns))) (flat_map-append F ps ns)

@@ -3,13 +3,17 @@ use Rattle.std.proofs.Common.{◌≡◌, ℕ, ◌+◌, ◌<◌, List, [], ◌∷
 use Rattle.std.specs.Prelude.{if◌then◌else◌, ◌==◌}
 use Rattle.std.specs.List.{flat_map, list_any, list_all}
 use Rattle.std.proofs.lemmas.Grind.{flat_map-append, common_steps}
-use Rattle.std.proofs.lemmas.List.Folds.{list_any-append, list_all-append as all_append}
+use Rattle.std.proofs.lemmas.List.Folds.{list_any-append, list_all-append}
 use Rattle.std.proofs.Math.Bool.{or-false as or_false}
 use Rattle.wiki_base.proofs.BoolLaws.{and-swap as and_swap, or-swap as or_swap}
 use Rattle.codeco_terms.specs.declared.values.Term.{Term}
 use Rattle.codeco_terms.specs.declared.values.Term.TheVariants.{Val, Var}
 use Rattle.codeco_checked.specs.Numbering.{has}
 use Rattle.codeco_checked.specs.Occurrences.{put_feature, with_taken, term_variables}
+
+-- std's law, under a name that an attribute can write
+pub all_append : {X : Type 0} (p : X → Bool) (xs ys : List X) → list_all p (xs ++ ys) ≡ (list_all p xs && list_all p ys)
+all_append p xs ys = list_all-append p xs ys
 
 pub has_append : (xs ys : List ℕ) (x : ℕ) → has (xs ++ ys) x ≡ (has xs x || has ys x)
 has_append xs ys x = list_any-append _ xs ys

@@ -52,3 +52,7 @@ module _ (k : Theory) (g : Graph) where
 
   pub left_ends : (r : Bool) (s : Step) (n : ℕ) (ts : List Closed) (i : ℕ) → length ts ≤ i → r ≡ close_left s n (drop i ts) → r ≡ (n == choices g s)
   left_ends r s n ts i past now = now ∙ ap (close_left s n) (drop_all i ts past)
+
+-- behind the last subtree, the count of choices decides
+pub close_past : (k : Theory) (g : Graph) (s : Step) (n : ℕ) (ts : List Closed) (i : ℕ) → length ts ≤ i → close_from k g s n (trees_from (map tree_of (drop i ts))) ≡ (n == choices g s)
+close_past k g s n ts i past = ap (close_left k g s n) (drop_all i ts past)

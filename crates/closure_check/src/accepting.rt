@@ -22,6 +22,7 @@ pub fn accepts(alloc: Global, k: &Knowledge, closed: &Closed) -> Result<bool, Me
 }
 
 // Whether a tree closes a branch.
+#[tactic(auto, using(crate::proofs::TreeLaws::close_past))]
 fn closes(k: &Knowledge, b: &Branch, closed: &Closed) -> Result<bool, Memory>
     ensures { IfOk result (λ yes. yes ≡ closes (theory_of k.now) (graph_of b.now) (tree_of closed.now)) }
 {

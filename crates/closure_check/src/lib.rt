@@ -2,5 +2,7 @@
 #![tactic(auto)]
 
 mod accepting;
+#[cfg(test)]
+mod tests;
 
 pub use accepting::accepts;

@@ -1,7 +1,7 @@
 use Rattle.std.proofs.Common.{◌≡◌, List, ◌++◌, OnOk, sym, ap, ◌∙◌, subst}
-use Rattle.logic_terms.specs.Concept.{Concept, SomeValuesFrom, AllValuesFrom, concepts_from}
+use Rattle.logic_terms.specs.Concept.{Concept, ComplementOf, SomeValuesFrom, AllValuesFrom, concepts_from}
 use Rattle.logic_terms.specs.Shown.{concept_of, concepts_of}
-use Rattle.logic_terms.proofs.ShownLemmas.{concept_of-Not, concept_of-And, concept_of-Or, concept_of-Some, concept_of-All, concept_of-Value}
+use Rattle.logic_terms.proofs.ShownLemmas.{concept_of-Not, concept_of-And, concept_of-Or, concept_of-Some, concept_of-All}
 use Rattle.owl_text.specs.Texts.{class_text, classes_text}
 use Rattle.owl_text.proofs.TextLemmas.{written_on}
 use Rattle.owl_text.proofs.printing.+printing.Goals as goal
@@ -35,3 +35,9 @@ put_each-loop-place-preserved g t c =
     let form = g.L.Spelled.canonical_form c.args.lexicon.now in
     let cs : List Concept = concepts_of c.args.members.now in
     written_on form cs c.loop-place.place (concept_of c.get.result.now) (c.args.out.now ++ classes_text form (concepts_from cs)) c.loop-place.out c.put_space.new.out c.put_class.new.out c.get.ensures.item c.in_ok-put_space.ensures c.in_ok-put_class.ensures c.loop-place.invariant
+
+pub put_class-returns-in-Not : goal.put_class-returns-in-Not
+put_class-returns-in-Not g t c =
+    subst (λ text. OnOk c.put_complement.result (c.put_complement.new.out ≡ c.args.out.now ++ text))
+    (sym (ap (class_text (g.L.Spelled.canonical_form c.args.lexicon.now)) (ap concept_of c.in-Not.is ∙ concept_of-Not c.in-Not.inner ∙ ap (λ k. ComplementOf (concept_of k)) (sym c.deref.ensures))))
+    c.put_complement.ensures

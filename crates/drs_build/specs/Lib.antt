@@ -1,5 +1,0 @@
-pub mod Joining
-pub mod Meanings
-pub mod Nodes
-pub mod Made
-pub mod Built

@@ -1,8 +1,0 @@
-//! Closed trees: a tree that is accepted shows that its knowledge has no finite model.
-#![tactic(auto)]
-
-mod accepting;
-#[cfg(test)]
-mod tests;
-
-pub use accepting::accepts;

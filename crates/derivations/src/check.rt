@@ -42,7 +42,7 @@ pub fn check_tree(
 }
 
 // Whether the tree is a derivation of the setting's tokens.
-fn is_derivation(alloc: Global, setting: &Setting<'_>, tree: &Tree) -> Result<bool, Memory>
+pub(crate) fn is_derivation(alloc: Global, setting: &Setting<'_>, tree: &Tree) -> Result<bool, Memory>
     requires { IsLimited setting.now.grammar }
     ensures { IfOk result (λ yes. IsTrue yes ↔ IsDerivation setting.now (node_of tree.now)) }
 {
@@ -58,7 +58,7 @@ fn is_derivation(alloc: Global, setting: &Setting<'_>, tree: &Tree) -> Result<bo
 }
 
 // The readings of each token.
-fn readings_of(alloc: Global, lexicon: &Lexicon, tokens: &[Token]) -> Result<Vec<Readings>, Memory>
+pub fn readings_of(alloc: Global, lexicon: &Lexicon, tokens: &[Token]) -> Result<Vec<Readings>, Memory>
     ensures { IfOk result
         (λ readings. readings.items ≡ map (lexical.readings_of lexicon.now.live) tokens.now) }
 {

@@ -17,7 +17,7 @@ use std::alloc::Global;
 use wiki_base::Memory;
 
 // The rule with the number, from 1.
-fn rule_with(grammar: &Grammar, number: u16) -> Option<&Rule>
+pub fn rule_with(grammar: &Grammar, number: u16) -> Option<&Rule>
     ensures { option_copied result ≡ derives.rule_with grammar.now number }
 {
     if number == 0 {
@@ -28,7 +28,7 @@ fn rule_with(grammar: &Grammar, number: u16) -> Option<&Rule>
 }
 
 // Whether the names are equal, and each feature that both have has the same value.
-fn fits(head: &Test, asked: &Test) -> bool
+pub fn fits(head: &Test, asked: &Test) -> bool
     ensures { result ≡ derives.fits head.now asked.now }
 {
     head.name == asked.name && all_fit(head.values.as_slice(), asked.values.as_slice())

@@ -8,7 +8,7 @@ use std::alloc::Global;
 use wiki_base::Memory;
 
 // What the variable stands for.
-pub(crate) fn value_under(values: &[(u8, Value)], variable: u8) -> Value
+pub fn value_under(values: &[(u8, Value)], variable: u8) -> Value
     ensures { result ≡ instances.value_under values.now variable }
 {
     for (other, value) in values {
@@ -20,7 +20,7 @@ pub(crate) fn value_under(values: &[(u8, Value)], variable: u8) -> Value
 }
 
 // What the term stands for.
-pub(crate) fn term_value(values: &[(u8, Value)], term: Term) -> Value
+pub fn term_value(values: &[(u8, Value)], term: Term) -> Value
     ensures { result ≡ instances.term_value values.now term }
 {
     match term {
@@ -30,7 +30,7 @@ pub(crate) fn term_value(values: &[(u8, Value)], term: Term) -> Value
 }
 
 // The category under the instance.
-pub(crate) fn under(
+pub fn under(
     alloc: Global,
     values: &[(u8, Value)],
     category: &Category,
@@ -59,7 +59,7 @@ fn feats_under(
 }
 
 // The tests of the patterns under the instance.
-pub(crate) fn tests_under(
+pub fn tests_under(
     alloc: Global,
     values: &[(u8, Value)],
     patterns: &[Pattern],

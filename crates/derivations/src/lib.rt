@@ -18,8 +18,14 @@ mod stand;
 mod trees;
 mod variables;
 
-pub use check::check_tree;
+pub use check::{check_tree, readings_of};
 pub use cuts::Cut;
 pub use cutting::cut;
+pub use derive::{fits, rule_with};
+pub use features::features_of;
+pub use instances::{term_value, tests_under, under, value_under};
+pub use setting::Setting;
 pub use showing::show;
+pub use stand::{takes, written};
 pub use trees::{Binds, Places, Tree, Trees};
+pub use variables::{is_instance, rule_own_features, variables_of};

@@ -18,10 +18,10 @@ const WORD_FEATURE: u16 = 3;
 
 // What a derivation is of: a grammar, tokens, and the readings of each token by a lexicon.
 #[derive(Drop)]
-pub(crate) struct Setting<'a> {
-    pub(crate) grammar: &'a Grammar,
-    pub(crate) tokens: &'a [Token],
-    pub(crate) readings: &'a [Readings],
+pub struct Setting<'a> {
+    pub grammar: &'a Grammar,
+    pub tokens: &'a [Token],
+    pub readings: &'a [Readings],
 }
 
 impl<'a> Model for Setting<'a> {
@@ -38,7 +38,7 @@ impl<'a> Model for Setting<'a> {
 
 impl Setting<'_> {
     // The place after a token that is the terminal.
-    pub(crate) fn after_terminal(&self, terminal: u16, place: u16) -> Option<u16>
+    pub fn after_terminal(&self, terminal: u16, place: u16) -> Option<u16>
         ensures { result ≡ (if settings.matches_terminal self.now terminal place then Some (place + 1) else None) }
     {
         if (place as usize) < self.tokens.len() && self.matches_terminal(terminal, place as usize) {
@@ -49,7 +49,7 @@ impl Setting<'_> {
     }
 
     // The place after a token that reads as the category.
-    pub(crate) fn after_preterminal(&self, asked: &Test, place: u16) -> Option<u16>
+    pub fn after_preterminal(&self, asked: &Test, place: u16) -> Option<u16>
         ensures { result ≡ (if settings.matches_preterminal self.now asked.now place then Some (place + 1) else None) }
     {
         if (place as usize) < self.readings.len()
@@ -92,7 +92,7 @@ impl Setting<'_> {
     }
 
     // Whether the value is one of those that are declared.
-    pub(crate) fn is_value(&self, declared: &Declared, value: Value) -> bool
+    pub fn is_value(&self, declared: &Declared, value: Value) -> bool
         ensures { result ≡ settings.is_value self.now declared.now value }
     {
         match declared {
@@ -113,7 +113,7 @@ impl Setting<'_> {
     }
 
     // Whether the value is one of the feature with the number.
-    pub(crate) fn fits_feature(&self, feature: u16, value: Value) -> bool
+    pub fn fits_feature(&self, feature: u16, value: Value) -> bool
         ensures { result ≡ settings.fits_feature self.now feature value }
     {
         match self.grammar.features().as_slice().get(feature as usize) {

@@ -15,7 +15,7 @@ use std::alloc::Global;
 use wiki_base::Memory;
 
 // Whether the values are an instance of the rule at the setting.
-pub(crate) fn is_instance(
+pub fn is_instance(
     alloc: Global,
     setting: &Setting<'_>,
     rule: &Rule,
@@ -82,7 +82,7 @@ fn after(values: &[(u8, Value)], count: usize) -> &[(u8, Value)]
 
 // The numbers of the written variables, and of so many own ones.
 #[tactic(auto, using(crate::proofs::InstanceLemmas::range_more))]
-fn variables_of(alloc: Global, rule: &Rule, own: usize) -> Result<Vec<usize>, Memory>
+pub fn variables_of(alloc: Global, rule: &Rule, own: usize) -> Result<Vec<usize>, Memory>
     ensures { IfOk result
         (λ numbers. numbers.items ≡ instances.written_variables rule.now ++ range_with_len 16 own) }
 {
@@ -140,7 +140,7 @@ fn have_numbers(values: &[(u8, Value)], numbers: &[usize]) -> bool
 }
 
 // The features of the rule's own variables.
-fn rule_own_features(alloc: Global, grammar: &Grammar, body: &[Element]) -> Result<Vec<u16>, Memory>
+pub fn rule_own_features(alloc: Global, grammar: &Grammar, body: &[Element]) -> Result<Vec<u16>, Memory>
     ensures { IfOk result
         (λ own. own.items ≡ flat_map (instances.own_features grammar.now) body.now) }
 {

@@ -1,1 +1,5 @@
 pub mod PassLemmas
+pub mod OpenerLemmas
+pub mod BranchLemmas
+pub mod StepLemmas
+pub mod ChoiceLemmas

@@ -25,19 +25,19 @@ use Rattle.derivations.specs.Derives.{At, Stand, Phrase, pass, run, pass_child, 
 use Rattle.chart.specs.Leading.{Leads, ElementLeads, Path, RuleLeads, Finds, own_past, closed_at}
 
 -- what holds where a choice gives something
-if_some : {X P : Type 0} (b : Bool) (x y : X) → (if b then Some x else None) ≡ Some y → (b ≡ true → x ≡ y → P) → P
+pub if_some : {X P : Type 0} (b : Bool) (x y : X) → (if b then Some x else None) ≡ Some y → (b ≡ true → x ≡ y → P) → P
 if_some true x y h k = k refl (same_Some x y h)
 if_some false x y h k = absurd (cc)
 
-unless_some : {X P : Type 0} (b : Bool) (x y : X) → (if b then None else Some x) ≡ Some y → (b ≡ false → x ≡ y → P) → P
+pub unless_some : {X P : Type 0} (b : Bool) (x y : X) → (if b then None else Some x) ≡ Some y → (b ≡ false → x ≡ y → P) → P
 unless_some true x y h k = absurd (cc)
 unless_some false x y h k = k refl (same_Some x y h)
 
-both_true : {P : Type 0} (a b : Bool) → (a && b) ≡ true → (a ≡ true → b ≡ true → P) → P
+pub both_true : {P : Type 0} (a b : Bool) → (a && b) ≡ true → (a ≡ true → b ≡ true → P) → P
 both_true true b h k = k refl h
 both_true false b h k = absurd (cc)
 
-same_value_is : (v w : Value) → same_value v w ≡ true → v ≡ w
+pub same_value_is : (v w : Value) → same_value v w ≡ true → v ≡ w
 same_value_is (Atom a) (Atom b) h = let e : a ≡ b = grind (arith, nat_tests) in ap Atom e
 same_value_is (Atom a) (Word w) h = absurd (cc)
 same_value_is (Atom a) (Pos p) h = absurd (cc)
@@ -48,7 +48,7 @@ same_value_is (Pos p) (Atom b) h = absurd (cc)
 same_value_is (Pos p) (Word w) h = absurd (cc)
 same_value_is (Pos p) (Pos q) h = let e : p ≡ q = grind (arith, nat_tests) in ap Pos e
 
-same_number : (n : ℕ) → (n == n) ≡ true
+pub same_number : (n : ℕ) → (n == n) ≡ true
 same_number n = grind (arith, nat_tests)
 
 pub same_value-refl : (v : Value) → same_value v v ≡ true
@@ -164,15 +164,15 @@ pub record Passes (s : Setting) (values : List (ℕ × Value)) (e : Element) (at
   pub children : Nodes
   pub is : pass s values e (stand_at s at found own children) ≡ Some (stand_at s after to_find (own_past s e own) to_come)
 
-if_true : {X : Type 0} (b : Bool) (x y : X) → b ≡ true → x ≡ y → (if b then Some x else None) ≡ Some y
+pub if_true : {X : Type 0} (b : Bool) (x y : X) → b ≡ true → x ≡ y → (if b then Some x else None) ≡ Some y
 if_true true x y h e = ap Some e
 if_true false x y h e = absurd (cc)
 
-if_false : {X : Type 0} (b : Bool) (x y : X) → b ≡ false → x ≡ y → (if b then None else Some x) ≡ Some y
+pub if_false : {X : Type 0} (b : Bool) (x y : X) → b ≡ false → x ≡ y → (if b then None else Some x) ≡ Some y
 if_false true x y h e = absurd (cc)
 if_false false x y h e = ap Some e
 
-and_both : (a b : Bool) → a ≡ true → b ≡ true → (a && b) ≡ true
+pub and_both : (a b : Bool) → a ≡ true → b ≡ true → (a && b) ≡ true
 and_both true b h k = k
 and_both false b h k = absurd (cc)
 

@@ -72,3 +72,10 @@ pub record RuleLeads (s : Setting) (rule : Rule) (values : List (ℕ × Value)) 
   pub last : At
   pub path : Path s values (own_values rule values) rule.body at last
   pub end : after ≡ closed_at rule at.list last
+
+-- the entries of a list without the openers
+abbrev pub referents : List Entry → List Entry
+referents [] = []
+referents (entry.Opener ∷ rest) = referents rest
+referents (entry.Weak referent pos ∷ rest) = entry.Weak referent pos ∷ referents rest
+referents (entry.Strong referent pos ∷ rest) = entry.Strong referent pos ∷ referents rest

@@ -1,1 +1,4 @@
 pub mod Leading
+pub mod Branches
+pub mod Steps
+pub mod Choices

@@ -1,4 +1,4 @@
 //! The chart: which tokens have a derivation, by a table of where phrases end.
 #![tactic(auto)]
 
-ghost use Rattle.std.specs.Prelude.{◌≡◌};
+mod states;

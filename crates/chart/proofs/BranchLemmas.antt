@@ -15,8 +15,8 @@ use Rattle.codeco_terms.specs.declared.categories.Ground.{Ground}
 use Rattle.codeco_terms.specs.Values.{same_value}
 use Rattle.scopes.specs.declared.tests.Test.{Test}
 use Rattle.scopes.specs.Resolution.{has_value, agrees}
-use Rattle.derivations.specs.Instances.{looked_up, value_under, term_value, under, feats_under, tests_under}
-use Rattle.derivations.specs.Derives.{same_where_both, fits}
+use Rattle.derivation_trees.specs.Instances.{looked_up, value_under, term_value, under, feats_under, tests_under}
+use Rattle.derivation_trees.specs.Derives.{same_where_both, fits}
 use Rattle.chart.specs.Branches.{OneOf, Extends, AnyExtends, bound_at, bound_term, restricted, value_where, values_at, having, read_as, meeting_one, meeting, closing, closing_patterns, marked, known_value, known_feature, known_features}
 use Rattle.chart.proofs.PassLemmas.{if_some, both_true, and_both, same_value_is, same_value-refl, same_number}
 

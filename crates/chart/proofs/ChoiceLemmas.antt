@@ -20,10 +20,10 @@ use Rattle.codeco_checked.specs.Numbering.{has}
 use Rattle.codeco_checked.specs.Faults.{values_of}
 use Rattle.codeco_checked.specs.Occurrences.{positions, mentions, whole, with_taken, rule_features, rule_variables, category_variables, element_variables, term_variables}
 use Rattle.scopes.specs.Resolution.{has_value}
-use Rattle.derivations.specs.Settings.{Setting, has_word, is_value, fits_feature}
-use Rattle.derivations.specs.Instances.{looked_up, value_under, term_value, same_numbers, term_fits, own_fit, own_values, written_variables, variables_of, rule_own_features, is_instance}
-use Rattle.derivations.specs.Derives.{first_value}
-use Rattle.derivations.proofs.OccurrenceLemmas.{all_append, with_taken_all, with_taken_has, has_append, has_flat_map_cons}
+use Rattle.derivation_trees.specs.Settings.{Setting, has_word, is_value, fits_feature}
+use Rattle.derivation_trees.specs.Instances.{looked_up, value_under, term_value, same_numbers, term_fits, own_fit, own_values, written_variables, variables_of, rule_own_features, is_instance}
+use Rattle.derivation_trees.specs.Derives.{first_value}
+use Rattle.derivation_trees.proofs.OccurrenceLemmas.{all_append, with_taken_all, with_taken_has, has_append, has_flat_map_cons}
 use Rattle.chart.specs.Branches.{OneOf, values_at, marked}
 use Rattle.chart.specs.Choices.{pattern_terms, element_terms, terms_of, stands_for, first_feature, words_of, all_positions, declared_values, feature_values, own_choices, variable_choices, choices, choices_in}
 use Rattle.chart.proofs.PassLemmas.{both_true, and_both, same_value_is, same_number}

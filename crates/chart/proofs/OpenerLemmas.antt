@@ -19,10 +19,10 @@ use Rattle.scopes.specs.declared.tests.Test.{Test}
 use Rattle.scopes.specs.declared.tests.Tests.{Tests}
 use Rattle.scopes.specs.AccessList.{closed, introduced}
 use Rattle.scopes.specs.Resolution.{Finding, finding, finding_at, is_agreeing, closest_finding, last_of}
-use Rattle.derivations.specs.Trees.{Node, Nodes, node, none, more}
-use Rattle.derivations.specs.Settings.{Setting, matches_terminal, matches_preterminal}
-use Rattle.derivations.specs.Instances.{value_under, under, tests_under, is_instance, own_values}
-use Rattle.derivations.specs.Derives.{At, Stand, Phrase, pass, run, pass_child, pass_token, pass_finding, is_found, moved, referent, own_rest, reference_tests, phrase_of, phrases_of, phrase, begun, ended, is_none_left, rule_with, fits, list_after}
+use Rattle.derivation_trees.specs.Trees.{Node, Nodes, node, none, more}
+use Rattle.derivation_trees.specs.Settings.{Setting, matches_terminal, matches_preterminal}
+use Rattle.derivation_trees.specs.Instances.{value_under, under, tests_under, is_instance, own_values}
+use Rattle.derivation_trees.specs.Derives.{At, Stand, Phrase, pass, run, pass_child, pass_token, pass_finding, is_found, moved, referent, own_rest, reference_tests, phrase_of, phrases_of, phrase, begun, ended, is_none_left, rule_with, fits, list_after}
 use Rattle.chart.specs.Leading.{Leads, referents}
 use Rattle.chart.proofs.PassLemmas.{if_some, unless_some, if_true, if_false, both_true}
 

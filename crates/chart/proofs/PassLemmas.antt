@@ -18,10 +18,10 @@ use Rattle.scopes.specs.declared.entries.Entry.{Entry}
 use Rattle.scopes.specs.declared.entries.Entry.TheVariants as entry
 use Rattle.scopes.specs.declared.tests.Test.{Test}
 use Rattle.scopes.specs.Resolution.{Finding, is_agreeing, closest_finding}
-use Rattle.derivations.specs.Trees.{Node, Nodes, node, none, more}
-use Rattle.derivations.specs.Settings.{Setting, matches_terminal, matches_preterminal}
-use Rattle.derivations.specs.Instances.{looked_up, value_under, under, tests_under, is_instance, own_values, own_features, left_out, features_of}
-use Rattle.derivations.specs.Derives.{At, Stand, Phrase, pass, run, pass_child, pass_finding, is_found, takes, moved, own_after, own_rest, reference_tests, phrase_of, phrases_of, phrase, begun, ended, is_none_left, rule_with, fits, list_after}
+use Rattle.derivation_trees.specs.Trees.{Node, Nodes, node, none, more}
+use Rattle.derivation_trees.specs.Settings.{Setting, matches_terminal, matches_preterminal}
+use Rattle.derivation_trees.specs.Instances.{looked_up, value_under, under, tests_under, is_instance, own_values, own_features, left_out, features_of}
+use Rattle.derivation_trees.specs.Derives.{At, Stand, Phrase, pass, run, pass_child, pass_finding, is_found, takes, moved, own_after, own_rest, reference_tests, phrase_of, phrases_of, phrase, begun, ended, is_none_left, rule_with, fits, list_after}
 use Rattle.chart.specs.Leading.{Leads, ElementLeads, Path, RuleLeads, Finds, own_past, closed_at}
 
 -- what holds where a choice gives something

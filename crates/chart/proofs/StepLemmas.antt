@@ -20,10 +20,10 @@ use Rattle.scopes.specs.declared.tests.Test.{Test}
 use Rattle.scopes.specs.declared.tests.Tests.{Tests}
 use Rattle.scopes.specs.AccessList.{introduced}
 use Rattle.scopes.specs.Resolution.{has_value, agrees, Finding, is_agreeing, closest_finding}
-use Rattle.derivations.specs.Settings.{Setting, matches_terminal, matches_preterminal}
-use Rattle.derivations.specs.Instances.{looked_up, value_under, term_value, under, feats_under, tests_under, features_of}
-use Rattle.derivations.specs.Derives.{At, referent, filled, filled_value, first_value, own_after, takes, reference_tests}
-use Rattle.derivations.specs.Stands.{is_sub}
+use Rattle.derivation_trees.specs.Settings.{Setting, matches_terminal, matches_preterminal}
+use Rattle.derivation_trees.specs.Instances.{looked_up, value_under, term_value, under, feats_under, tests_under, features_of}
+use Rattle.derivation_trees.specs.Derives.{At, referent, filled, filled_value, first_value, own_after, takes, reference_tests}
+use Rattle.derivation_trees.specs.Stands.{is_sub}
 use Rattle.chart.specs.declared.states.State.{State}
 use Rattle.chart.specs.Leading.{ElementLeads, Finds, moved_on, entered}
 use Rattle.chart.specs.Branches.{OneOf, Extends, AnyExtends, restricted, having, read_as, closing, closing_patterns, marked}

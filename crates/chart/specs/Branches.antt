@@ -9,7 +9,7 @@ use Rattle.codeco_terms.specs.declared.categories.Category.{Category}
 use Rattle.codeco_terms.specs.declared.categories.Pattern.{Pattern}
 use Rattle.codeco_terms.specs.declared.categories.Ground.{Ground}
 use Rattle.codeco_terms.specs.Values.{same_value}
-use Rattle.derivations.specs.Instances.{looked_up, value_under}
+use Rattle.derivation_trees.specs.Instances.{looked_up, value_under}
 
 -- one of the values
 abbrev pub OneOf : {X : Type 0} → List X → X → Type 0

@@ -15,8 +15,8 @@ use Rattle.codeco_terms.specs.declared.rules.Rule.{Rule}
 use Rattle.codeco_checked.specs.Numbering.{has}
 use Rattle.codeco_checked.specs.Faults.{values_of}
 use Rattle.codeco_checked.specs.Occurrences.{positions}
-use Rattle.derivations.specs.Settings.{Setting}
-use Rattle.derivations.specs.Instances.{rule_own_features}
+use Rattle.derivation_trees.specs.Settings.{Setting}
+use Rattle.derivation_trees.specs.Instances.{rule_own_features}
 use Rattle.chart.specs.Branches.{values_at, marked}
 
 -- the features that a pattern writes, with their terms

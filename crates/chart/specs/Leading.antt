@@ -11,10 +11,10 @@ use Rattle.scopes.specs.declared.entries.Entry.TheVariants as entry
 use Rattle.scopes.specs.declared.tests.Test.{Test}
 use Rattle.scopes.specs.AccessList.{introduced}
 use Rattle.scopes.specs.Resolution.{Finding, is_agreeing, closest_finding}
-use Rattle.derivations.specs.Trees.{Node}
-use Rattle.derivations.specs.Settings.{Setting, matches_terminal, matches_preterminal}
-use Rattle.derivations.specs.Instances.{value_under, under, tests_under, is_instance, own_values, own_features}
-use Rattle.derivations.specs.Derives.{At, phrase_of, rule_with, fits, referent, takes, reference_tests, list_after}
+use Rattle.derivation_trees.specs.Trees.{Node}
+use Rattle.derivation_trees.specs.Settings.{Setting, matches_terminal, matches_preterminal}
+use Rattle.derivation_trees.specs.Instances.{value_under, under, tests_under, is_instance, own_values, own_features}
+use Rattle.derivation_trees.specs.Derives.{At, phrase_of, rule_with, fits, referent, takes, reference_tests, list_after}
 
 -- some tree leads, as a phrase for the category, from a place and a list to a place and a list
 abbrev pub Leads : Setting → Test → At → At → Type 0

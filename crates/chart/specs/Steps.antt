@@ -14,9 +14,9 @@ use Rattle.scopes.specs.declared.entries.Entry.{Entry}
 use Rattle.scopes.specs.declared.entries.Entry.TheVariants as entry
 use Rattle.scopes.specs.AccessList.{introduced}
 use Rattle.scopes.specs.Resolution.{Finding, is_agreeing, closest_finding}
-use Rattle.derivations.specs.Settings.{Setting, matches_terminal}
-use Rattle.derivations.specs.Instances.{looked_up, feats_under, tests_under, features_of}
-use Rattle.derivations.specs.Derives.{At, reference_tests}
+use Rattle.derivation_trees.specs.Settings.{Setting, matches_terminal}
+use Rattle.derivation_trees.specs.Instances.{looked_up, feats_under, tests_under, features_of}
+use Rattle.derivation_trees.specs.Derives.{At, reference_tests}
 use Rattle.chart.specs.declared.states.State.{State}
 use Rattle.chart.specs.declared.states.End.{End}
 use Rattle.chart.specs.Branches.{Extends, restricted, having, read_as, meeting, closing, closing_patterns, marked}

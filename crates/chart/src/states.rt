@@ -1,5 +1,5 @@
 // Where a node may stand after some of its elements, and where phrases end.
-use derivations::Binds;
+use derivation_trees::Binds;
 use scopes::{Access, Entry, TestValues};
 
 // A partial instance of a rule, with the place and the list after some of the rule's elements.

@@ -3,7 +3,7 @@ use Rattle.std.proofs.Common.{◌≡◌, ℕ, ◌+◌, ◌<◌, Bool, List, subs
 use Rattle.std.specs.Prelude.{IsTrue, IfOk, Result, ◌==◌}
 use Rattle.std.specs.List.{list_any}
 use Rattle.std.proofs.lemmas.Result.{IfOk-weaker}
-use Rattle.wiki_base.specs.declared.memory.Memory.{Memory}
+use Rattle.lists.specs.declared.memory.Memory.{Memory}
 use Rattle.codeco_terms.specs.declared.rules.Rule.{Rule}
 use Rattle.codeco_terms.specs.GrammarParts.{GrammarParts}
 use Rattle.codeco_checked.specs.declared.fault.GrammarFault.TheVariants.{BadValue, EmptyRule, LeftRecursion, TakenVariable}

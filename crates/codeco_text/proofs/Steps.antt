@@ -1,7 +1,7 @@
 -- A step that goes on where a test holds.
 use Rattle.std.proofs.Common.{◌≡◌, ℕ, ◌+◌, ◌≤◌, Bool, true, false, eqb, List, Option, Some, None, Result, Ok, refl, sym, ap, subst, ◌∙◌}
 use Rattle.std.proofs.lemmas.Bool.{cond-false}
-use Rattle.wiki_base.specs.declared.memory.Memory.{Memory}
+use Rattle.lists.specs.declared.memory.Memory.{Memory}
 use Rattle.codeco_text.specs.declared.mode.Mode.{Mode}
 use Rattle.codeco_text.specs.declared.mode.Mode.TheVariants as mode
 use Rattle.codeco_text.specs.declared.symbols.Lexeme.TheVariants as lexeme

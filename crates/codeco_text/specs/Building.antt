@@ -25,7 +25,7 @@ use Rattle.codeco_text.specs.declared.builder.OpenDeclaration.{OpenDeclaration}
 use Rattle.codeco_text.specs.declared.builder.OpenCategory.{OpenCategory}
 use Rattle.codeco_text.specs.declared.builder.OpenRule.{OpenRule}
 use Rattle.codeco_text.specs.declared.builder.Builder.{Builder}
-use Rattle.wiki_base.specs.declared.memory.Memory.{Memory}
+use Rattle.lists.specs.declared.memory.Memory.{Memory}
 use Rattle.codeco_text.specs.Names.{same_bytes}
 use Rattle.codeco_text.specs.Notation.{lexemes, label_lexemes, named, arrow, body_lexemes, signed, feat_lexemes, category_lexemes}
 use Rattle.codeco_text.specs.Reading.{after_category, advance, is_sign, begins_pattern}

@@ -1,6 +1,6 @@
 -- What a reading of a text that lies in memory is in. Only calls inside the crate speak of it.
 use Rattle.std.specs.Prelude.{◌≡◌, ℕ, ◌≤◌, List, [], Option, Some, None, Result, Ok, Err, slice_range}
-use Rattle.wiki_base.specs.declared.memory.Memory.{Memory}
+use Rattle.lists.specs.declared.memory.Memory.{Memory}
 use Rattle.codeco_text.specs.declared.mode.Mode.{Mode}
 use Rattle.codeco_text.specs.declared.mode.Mode.TheVariants as mode
 use Rattle.codeco_text.specs.declared.written.WrittenItem.{WrittenItem}

@@ -4,7 +4,7 @@ use Rattle.std.specs.Prelude.{◌↔◌}
 use Rattle.std.specs.Bool.{Decides}
 use Rattle.std.proofs.lemmas.Bool.Decides.{Decides-at}
 use Rattle.std.proofs.lemmas.List.{take_more}
-use Rattle.wiki_base.specs.declared.memory.Memory.{Memory}
+use Rattle.lists.specs.declared.memory.Memory.{Memory}
 use Rattle.logic_terms.specs.Free.{IsClosed}
 use Rattle.logic_terms.specs.Reading.{IsTrueUnder}
 use Rattle.logic_terms.proofs.Closed.{is_true-closed}

@@ -1,7 +1,7 @@
 // A list of bytes: a line, a page, what `show` gives.
 ghost use Rattle.std.specs.Prelude.{◌≡◌, ◌++◌, [], IfOk, OnOk, OnErr};
 
-use crate::memory::Memory;
+use lists::Memory;
 use std::alloc::Global;
 use std::marker::Model;
 

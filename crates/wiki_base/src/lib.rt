@@ -2,13 +2,12 @@
 #![tactic(auto)]
 
 mod bytes;
-mod memory;
 mod numbers;
 mod text;
 mod tokens;
 
 pub use bytes::{Arg, Text8};
-pub use memory::Memory;
+pub use lists::{Boxed, Copied, List, Memory};
 pub use numbers::{Place, Rev, SessionId, WordId};
 pub use text::{BadText, LONGEST_TEXT, Text};
 pub use tokens::{Token, Tokens};

@@ -4,7 +4,7 @@ ghost use Rattle.std.specs.Str.{chars};
 ghost use Rattle.wiki_base.specs.Text.{fault_of, misplaced, begins_with_letter, is_in_place, IsText, AllInPlace, IsFirstMisplaced};
 ghost use Rattle.wiki_base.specs.declared.text.BadText.TheVariants.{Memory};
 
-use crate::memory::Memory;
+use lists::Memory;
 use std::alloc::{AllocError, Global};
 use std::marker::Model;
 use unicode::properties::is_alphabetic;

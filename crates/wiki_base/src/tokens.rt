@@ -2,7 +2,7 @@
 ghost use Rattle.std.specs.Prelude.{◌≡◌, ◌==◌, ◌<◌, ◌++◌, ◌∷◌, [], Some, IfOk, OnOk, OnErr, length, slice_get};
 ghost use Rattle.wiki_base.specs.Token.{IsToken};
 
-use crate::memory::Memory;
+use lists::Memory;
 use std::alloc::Global;
 use std::marker::Model;
 

@@ -40,7 +40,7 @@ pub extends_last : (v b : Binds) (x : ℕ) (value : Value) → Extends v (b ++ (
 extends_last v [] x value h = h.0
 extends_last v (p ∷ b) x value h = extends_last v b x value h.1
 
-number_is : (a b : ℕ) → (a == b) ≡ true → a ≡ b
+pub number_is : (a b : ℕ) → (a == b) ≡ true → a ≡ b
 number_is a b h = grind (arith, nat_tests)
 
 -- a variable has the value that is known of it
@@ -135,7 +135,7 @@ restricted_from v term values (b ∷ bs) h =
 
 -- the values given for a feature
 
-values_at_to : (vals : Binds) (feature : ℕ) (value : Value) → has_value vals (feature, value) ≡ true → OneOf (values_at vals feature) value
+pub values_at_to : (vals : Binds) (feature : ℕ) (value : Value) → has_value vals (feature, value) ≡ true → OneOf (values_at vals feature) value
 values_at_to [] feature value h = absurd (cc)
 values_at_to (p ∷ vals) feature value h = at (values_at_to vals feature value) (p.0 == feature) (same_value p.1 value) refl refl h
   where

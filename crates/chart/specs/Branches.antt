@@ -38,8 +38,7 @@ bound_term bound (Var x) value = bound_at bound x value (looked_up bound x)
 
 -- the assignments under which the term has one of the values
 abbrev pub restricted : Term → List Value → List (List (ℕ × Value)) → List (List (ℕ × Value))
-restricted term values [] = []
-restricted term values (b ∷ bs) = filter_map (bound_term b term) values ++ restricted term values bs
+restricted term values bs = flat_map (λ b. filter_map (bound_term b term) values) bs
 
 -- the value of a feature, where it is this one
 abbrev pub value_where : ℕ → (ℕ × Value) → Option Value

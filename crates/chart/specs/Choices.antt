@@ -57,12 +57,19 @@ words_of readings = flat_map (λ r. values_at r.vals 3) readings
 abbrev pub all_positions : Setting → List Value
 all_positions s = map Pos (range_with_len 0 (length s.tokens + 1))
 
+-- word 0, which stands for every word without a form among the tokens
+abbrev pub no_word : Value
+no_word = Word (record { 0 = 0 })
+
+abbrev pub atom_value : ℕ → Value
+atom_value a = Atom a
+
 -- the values that are declared so
 abbrev pub declared_values : Setting → Declared → List Value
 declared_values s declared.Undeclared = []
-declared_values s declared.Words = Word (record { 0 = 0 }) ∷ flat_map words_of s.readings
+declared_values s declared.Words = no_word ∷ flat_map words_of s.readings
 declared_values s declared.Positions = all_positions s
-declared_values s (declared.Atoms atoms) = map Atom atoms
+declared_values s (declared.Atoms atoms) = map atom_value atoms
 
 -- the values of a feature
 abbrev pub feature_values : Setting → ℕ → List Value

@@ -2,3 +2,4 @@ pub mod Leading
 pub mod Branches
 pub mod Steps
 pub mod Choices
+pub mod Ends

@@ -32,8 +32,7 @@ Covers values at (state ∷ states) = (Extends values state.binds × (at_of stat
 
 -- states at one place with one list
 abbrev pub placed : ℕ → List Entry → List (List (ℕ × Value)) → List State
-placed place list [] = []
-placed place list (b ∷ bs) = record { binds = b; place = place; list = list } ∷ placed place list bs
+placed place list bs = map (λ b. record { binds = b; place = place; list = list }) bs
 
 -- the readings of the token at the place
 abbrev pub readings_at : Setting → ℕ → List Ground
@@ -41,8 +40,7 @@ readings_at s place = unwrap_or (slice_get s.readings place) []
 
 -- the assignments under which the category is one of the readings
 abbrev pub read_all : Category → List (ℕ × Value) → List Ground → List (List (ℕ × Value))
-read_all c bound [] = []
-read_all c bound (r ∷ rs) = read_as c bound r ++ read_all c bound rs
+read_all c bound readings = flat_map (read_as c bound) readings
 
 abbrev pub completed_term : ℕ → Option Term → Term
 completed_term n None = Var n
@@ -80,16 +78,17 @@ finding_binds positive b None = []
 finding_binds positive b (Some finding) = taking finding.referent b (slice_get positive finding.pattern)
 
 -- the assignments under which the reference finds a referent, whose tests are known
+abbrev pub refer_one : List Pattern → List Pattern → List Entry → List (ℕ × Value) → List (List (ℕ × Value))
+refer_one positive negative list b =
+    finding_binds positive b (closest_finding (reference_tests b positive negative) list)
+
 abbrev pub refer : List Pattern → List Pattern → List Entry → List (List (ℕ × Value)) → List (List (ℕ × Value))
-refer positive negative list [] = []
-refer positive negative list (b ∷ bs) =
-    finding_binds positive b (closest_finding (reference_tests b positive negative) list) ++ refer positive negative list bs
+refer positive negative list bs = flat_map (refer_one positive negative list) bs
 
 -- the assignments under which no referent agrees
 abbrev pub refer_none : List Pattern → List Entry → List (List (ℕ × Value)) → List (List (ℕ × Value))
-refer_none patterns list [] = []
-refer_none patterns list (b ∷ bs) =
-    (if list_any (is_agreeing (tests_under b patterns)) list then [] else b ∷ []) ++ refer_none patterns list bs
+refer_none patterns list bs =
+    flat_map (λ b. if list_any (is_agreeing (tests_under b patterns)) list then [] else b ∷ []) bs
 
 -- the states after an element that is no category
 abbrev pub plain_steps : Setting → (Term → List Value) → ℕ → Element → State → List State
@@ -109,7 +108,8 @@ plain_steps s choices n (NoBack patterns) state =
     placed state.place state.list (refer_none patterns state.list (closing_patterns choices patterns (state.binds ∷ [])))
 
 -- the states after a category, by the ends of its phrases
+abbrev pub sub_step : Category → State → End → List State
+sub_step c state e = placed e.place (state.list ++ e.tail) (meeting e.values c.feats (state.binds ∷ []))
+
 abbrev pub sub_steps : Category → State → List End → List State
-sub_steps c state [] = []
-sub_steps c state (e ∷ es) =
-    placed e.place (state.list ++ e.tail.items) (meeting e.values c.feats (state.binds ∷ [])) ++ sub_steps c state es
+sub_steps c state ends = flat_map (sub_step c state) ends

@@ -30,7 +30,7 @@ use Rattle.chart.specs.Branches.{OneOf, values_at, marked}
 use Rattle.chart.specs.Choices.{pattern_terms, element_terms, terms_of, stands_for, first_feature, words_of, all_positions, declared_values, feature_values, atom_value, own_choices, variable_choices, choices, choices_in}
 use Rattle.chart.proofs.PassLemmas.{both_true, and_both, same_value_is, same_number}
 use Rattle.chart.proofs.BranchLemmas.{Binds, either, Chosen, values_at_to, number_is}
-use Rattle.chart.proofs.StepLemmas.{OwnFrom}
+use Rattle.chart.specs.Ends.{OwnFrom, values_of_all}
 
 -- values of features
 
@@ -293,10 +293,6 @@ same_numbers_is (x ∷ xs) (y ∷ ys) h =
 
 differs : (a b : ℕ) → a < b → (a == b) ≡ false
 differs a b lt = grind (arith, nat_tests)
-
--- the values of variables that stand in order are those of the list
-abbrev pub values_of_all : Binds → List ℕ → Binds
-values_of_all v xs = map (λ x. (x, value_under v x)) xs
 
 shift_values : (p : ℕ × Value) (v : Binds) (xs : List ℕ) → AllAbove p.0 xs → values_of_all (p ∷ v) xs ≡ values_of_all v xs
 shift_values p v [] h = refl

@@ -5,3 +5,7 @@ pub mod BranchLemmas
 pub mod StepLemmas
 pub mod ChoiceLemmas
 pub mod EndLemmas
+pub mod TurnLemmas
+pub mod TableLemmas
+pub mod SentenceLemmas
+pub mod CutLemmas

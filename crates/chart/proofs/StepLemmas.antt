@@ -28,6 +28,7 @@ use Rattle.chart.specs.declared.states.State.{State}
 use Rattle.chart.specs.Leading.{ElementLeads, Finds, moved_on, entered}
 use Rattle.chart.specs.Branches.{OneOf, Extends, AnyExtends, restricted, having, read_as, closing, closing_patterns, marked}
 use Rattle.chart.specs.Steps.{at_of, Covers, placed, readings_at, read_all, completed_term, number_after, completed, introduced_state, introducing, taking, finding_binds, refer, refer_none, plain_steps}
+use Rattle.chart.specs.Ends.{OwnFrom}
 use Rattle.chart.proofs.PassLemmas.{both_true, and_both, same_value_is}
 use Rattle.chart.proofs.BranchLemmas.{Binds, either, any_left, any_right, any_append, restricted_to, restricted_from, having_to, having_from, read_to, read_from, Chosen, closing_to, closing_from, closing_patterns_to, closing_patterns_from, KnownAll, KnownPatterns, Each, closing_known, closing_patterns_known, closing_patterns_keeps, patterns_stay, each_both, feats_same, tests_same, single}
 
@@ -82,10 +83,6 @@ matches_is s asked place = at (slice_get s.readings place)
     at (Some rs) = refl
 
 -- introductions
-
--- the own variables to come are those from a number on
-abbrev pub OwnFrom : Binds → Binds → ℕ → Type 0
-OwnFrom v own n = (j : ℕ) → first_value (drop j own) ≡ value_under v (n + j)
 
 own_first : (v own : Binds) (n : ℕ) → OwnFrom v own n → first_value own ≡ value_under v n
 own_first v own n h = let e : n + 0 ≡ n = omega arith in h 0 ∙ ap (value_under v) e

@@ -3,3 +3,5 @@ pub mod Branches
 pub mod Steps
 pub mod Choices
 pub mod Ends
+pub mod Table
+pub mod Cuts

@@ -85,10 +85,13 @@ refer_one positive negative list b =
 abbrev pub refer : List Pattern → List Pattern → List Entry → List (List (ℕ × Value)) → List (List (ℕ × Value))
 refer positive negative list bs = flat_map (refer_one positive negative list) bs
 
+-- the assignment alone, where no referent agrees
+abbrev pub refer_none_one : List Pattern → List Entry → List (ℕ × Value) → List (List (ℕ × Value))
+refer_none_one patterns list b = if list_any (is_agreeing (tests_under b patterns)) list then [] else b ∷ []
+
 -- the assignments under which no referent agrees
 abbrev pub refer_none : List Pattern → List Entry → List (List (ℕ × Value)) → List (List (ℕ × Value))
-refer_none patterns list bs =
-    flat_map (λ b. if list_any (is_agreeing (tests_under b patterns)) list then [] else b ∷ []) bs
+refer_none patterns list bs = flat_map (refer_none_one patterns list) bs
 
 -- the states after an element that is no category
 abbrev pub plain_steps : Setting → (Term → List Value) → ℕ → Element → State → List State
@@ -113,3 +116,7 @@ sub_step c state e = placed e.place (state.list ++ e.tail) (meeting e.values c.f
 
 abbrev pub sub_steps : Category → State → List End → List State
 sub_steps c state ends = flat_map (sub_step c state) ends
+
+-- the states at the start of a rule
+abbrev pub starting : List (ℕ × Value) → List (ℕ × Term) → ℕ → List Entry → List State
+starting known feats place list = placed place list (meeting known feats ([] ∷ []))

@@ -3,5 +3,11 @@
 
 mod branches;
 mod choices;
+mod ends;
+mod sameness;
+mod sentences;
 mod states;
 mod steps;
+mod table;
+
+pub use sentences::has_derivation;

@@ -26,7 +26,7 @@ use std::alloc::Global;
 use wiki_base::Memory;
 
 // Adds states at one place with one list.
-fn push_placed(
+pub(crate) fn push_placed(
     place: u16,
     list: &Access,
     bounds: &[Bound],
@@ -47,7 +47,7 @@ fn push_placed(
 }
 
 // The assignments under which each term has one of its choices.
-fn close(
+pub(crate) fn close(
     alloc: Global,
     setting: &Setting<'_>,
     plan: &Plan,
@@ -176,7 +176,7 @@ fn values_of(bound: &[(u8, Value)], feats: &[Feat]) -> Vals
 
 // The referent under the assignment.
 fn referent_of(name: u16, feats: &[Feat], bound: &[(u8, Value)]) -> Result<Ground, Memory>
-    ensures { IfOk result (λ ground. ground ≡ record { name = name; vals = instances.feats_under bound.now feats.now }) }
+    ensures { IfOk result (λ referent. referent ≡ record { name = name; vals = instances.feats_under bound.now feats.now }) }
 {
     if feats.len() > 16 {
         return Err(Memory);
@@ -353,8 +353,7 @@ fn refer_none_one(
     list: &Access,
     bound: &[(u8, Value)],
 ) -> Result<List<Bound>, Memory>
-    ensures { IfOk result (λ out. out
-        ≡ (if list_any (is_agreeing (instances.tests_under bound.now patterns.now)) list.now then [] else bound.now ∷ [])) }
+    ensures { IfOk result (λ out. out ≡ steps.refer_none_one patterns.now list.now bound.now) }
 {
     let tests = Tests {
         positive: tests_under(alloc, bound, patterns)?,

@@ -1,0 +1,35 @@
+-- The table of ends.
+use Rattle.std.specs.Prelude.{◌≡◌, ℕ, ◌<◌, List, length, slice_get, Option, Some, None, All}
+use Rattle.codeco_terms.specs.declared.values.Value.{Value}
+use Rattle.scopes.specs.declared.entries.Entry.{Entry}
+use Rattle.derivation_trees.specs.Settings.{Setting}
+use Rattle.derivation_trees.specs.Derives.{At}
+use Rattle.chart.specs.declared.table.Row.{Row}
+use Rattle.chart.specs.Ends.{IsEnds}
+
+-- the place and the list of a row
+abbrev pub row_at : Row → At
+row_at row = record { place = row.place; list = row.list }
+
+-- the row has the ends of its category
+abbrev pub IsRow : Setting → Row → Type 0
+IsRow s row = IsEnds s row.name row.known (row_at row) row.ends
+
+-- each row of the table has the ends of its category
+pub record AreRows (s : Setting) (rows : List Row) : Type 0 where
+  pub all : All (IsRow s) rows
+
+-- the row with this number has the ends of the category from the place and the list
+pub record HasRow (s : Setting) (rows : List Row) (number name : ℕ) (known : List (ℕ × Value)) (at : At) : Type 0 where
+  pub row : Row
+  pub is : slice_get rows number ≡ Some row
+  pub ends : IsEnds s name known at row.ends
+
+-- the row with this number is that of the category, the known values, the place and the list
+pub record IsFound (rows : List Row) (number name : ℕ) (known : List (ℕ × Value)) (place : ℕ) (list : List Entry) : Type 0 where
+  pub row : Row
+  pub is : slice_get rows number ≡ Some row
+  pub name_is : row.name ≡ name
+  pub known_is : row.known ≡ known
+  pub place_is : row.place ≡ place
+  pub list_is : row.list ≡ list

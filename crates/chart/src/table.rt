@@ -1,0 +1,420 @@
+// The table of ends: a row for each category with known values, place and list that was asked for.
+ghost use Rattle.std.specs.Prelude.{◌≡◌, ◌+◌, ◌≤◌, ◌<◌, ◌∷◌, [], ◌++◌, map, drop, length, ℕ, List, Some, All, IfOk, IfSome, OnOk, true, false, slice_get, flat_map};
+ghost use Rattle.codeco_checked.specs.Occurrences.{positions};
+ghost use Rattle.scopes.specs.declared.entries.Entry.{Entry as OneEntry};
+ghost use Rattle.derivation_trees.specs.Instances as instances;
+ghost use Rattle.derivation_trees.specs.Stands.{is_sub};
+ghost use Rattle.chart.specs.Leading.{referents};
+ghost use Rattle.chart.specs.Branches as branches;
+ghost use Rattle.chart.specs.Choices as choosing;
+ghost use Rattle.chart.specs.Steps as steps;
+ghost use Rattle.chart.specs.Ends as ending;
+ghost use Rattle.chart.specs.Table as tables;
+ghost use Rattle.codeco_terms.specs.declared.elements.Element.{Element as OneElement};
+ghost use Rattle.codeco_terms.specs.declared.elements.Element.TheVariants.{Sub};
+ghost use Rattle.chart.specs.declared.states.State.{State as OneState};
+ghost use Rattle.chart.specs.declared.table.Row.{Row as OneRow};
+
+use crate::branches::{known_features, meet};
+use crate::choices::{Plan, plan_of};
+use crate::ends::finished;
+use crate::sameness::{same_end, same_entries, same_values};
+use crate::states::{Bound, End, Feat, State};
+use crate::steps::{extended, push_ends, push_placed, push_plain};
+use codeco_terms::{Category, Element, Rule, Value};
+use derivation_trees::{Setting, rule_own_features};
+use lists::List;
+use scopes::{Access, Entry, TestValues};
+use std::alloc::Global;
+use wiki_base::Memory;
+
+// The ends of the phrases of a category with known values, from a place and a list without openers.
+#[derive(Drop)]
+pub(crate) struct Row {
+    pub(crate) name: u16,
+    pub(crate) known: List<(u16, Value)>,
+    pub(crate) place: u16,
+    pub(crate) list: List<Entry>,
+    pub(crate) ends: List<End>,
+}
+
+fn is_row(row: &Row, name: u16, known: &[(u16, Value)], place: u16, list: &[Entry]) -> bool
+    ensures name { result ≡ true → row.now.name ≡ name }
+    ensures known { result ≡ true → row.now.known ≡ known.now }
+    ensures place { result ≡ true → row.now.place ≡ place }
+    ensures list { result ≡ true → row.now.list ≡ list.now }
+{
+    row.name == name
+        && row.place == place
+        && same_values(row.known.as_slice(), known)
+        && same_entries(row.list.as_slice(), list)
+}
+
+// The number of the row, if it is there.
+fn find(
+    rows: &[Row],
+    name: u16,
+    known: &[(u16, Value)],
+    place: u16,
+    list: &[Entry],
+) -> Option<usize>
+    ensures { IfSome result (λ number. tables.IsFound rows.now number name known.now place list.now) }
+{
+    for (number, row) in rows.iter().enumerate() {
+        if is_row(row, name, known, place, list) {
+            return Some(number);
+        }
+    }
+    None
+}
+
+fn has_end(ends: &[End], end: &End) -> bool
+    ensures { result ≡ true → ending.HasMore ends.now ends.now (end.now ∷ []) }
+{
+    for other in ends {
+        if same_end(other, end) {
+            return true;
+        }
+    }
+    false
+}
+
+// Adds the end, where it isn't there yet.
+fn push_new(end: End, out: &mut List<End>) -> Result<(), Memory>
+    ensures { OnOk result (ending.HasMore out.old out.new (end ∷ [])) }
+{
+    if has_end(out.as_slice(), &end) {
+        Ok(())
+    } else {
+        out.push(end)
+    }
+}
+
+fn copy_end(alloc: Global, end: &End) -> Result<End, Memory>
+    ensures { IfOk result (λ copied. copied ≡ end.now) }
+{
+    Ok(End {
+        values: copy_values(alloc, end.values.as_slice())?,
+        place: end.place,
+        tail: copy_entries(alloc, end.tail.as_slice())?,
+    })
+}
+
+fn copy_values(alloc: Global, values: &[(u16, Value)]) -> Result<TestValues, Memory>
+    ensures { IfOk result (λ copied. copied ≡ values.now) }
+{
+    let mut copied = TestValues::new(alloc);
+    for value in values {
+        copied.push(*value)?;
+    }
+    Ok(copied)
+}
+
+fn copy_entries(alloc: Global, entries: &[Entry]) -> Result<List<Entry>, Memory>
+    ensures { IfOk result (λ copied. copied ≡ entries.now) }
+{
+    let mut copied = List::new(alloc);
+    for entry in entries {
+        copied.push(entry.copy())?;
+    }
+    Ok(copied)
+}
+
+// Adds those of the ends that aren't there yet.
+fn push_all_new(alloc: Global, ends: &[End], out: &mut List<End>) -> Result<(), Memory>
+    ensures { OnOk result (ending.HasMore out.old out.new ends.now) }
+{
+    for end in ends {
+        push_new(copy_end(alloc, end)?, out)?;
+    }
+    Ok(())
+}
+
+// Adds the ends of phrases of the rule that stand in these states after the last element.
+fn push_finished(
+    alloc: Global,
+    setting: &Setting<'_>,
+    rule: &Rule,
+    plan: &Plan,
+    before: &Access,
+    states: &[State],
+    out: &mut List<End>,
+) -> Result<(), Memory>
+    requires terms { plan.now.terms ≡ choosing.terms_of rule.now }
+    requires places { plan.now.places ≡ flat_map positions rule.now.body }
+    requires own { plan.now.own ≡ instances.rule_own_features setting.now.grammar rule.now }
+    ensures { OnOk result (ending.HasFinished setting.now rule.now before.now states.now out.old out.new) }
+{
+    for state in states {
+        let ends = finished(alloc, setting, rule, plan, before, state)?;
+        push_all_new(alloc, ends.as_slice(), out)?;
+    }
+    Ok(())
+}
+
+// The number of own variables after the element.
+fn number_past(
+    alloc: Global,
+    setting: &Setting<'_>,
+    number: u16,
+    body: &[Element],
+    place: usize,
+) -> Result<u16, Memory>
+    requires { place < length body.now }
+    ensures { IfOk result (λ next. (e : OneElement) → slice_get body.now place ≡ Some e
+        → next ≡ number + length (instances.own_features setting.now.grammar e)) }
+{
+    let own = rule_own_features(alloc, setting.grammar, &body[place..place + 1])?;
+    match u16::try_from(own.len()) {
+        Ok(count) => number.checked_add(count).ok_or(Memory),
+        Err(_) => Err(Memory),
+    }
+}
+
+fn push_referent(entry: &Entry, out: &mut List<Entry>) -> Result<(), Memory>
+    ensures { OnOk result (out.new ≡ out.old ++ referents (entry.now ∷ [])) }
+{
+    match entry {
+        Entry::Opener => Ok(()),
+        _ => out.push(entry.copy()),
+    }
+}
+
+// The entries of the list that are no openers.
+fn referents_of(alloc: Global, list: &Access) -> Result<List<Entry>, Memory>
+    ensures { IfOk result (λ entries. entries ≡ referents list.now) }
+{
+    let mut entries = List::new(alloc);
+    for place in 0..list.len() {
+        push_referent(list.get(place), &mut entries)?;
+    }
+    Ok(entries)
+}
+
+// The states at the start of a rule.
+fn start_states(
+    alloc: Global,
+    known: &[(u16, Value)],
+    feats: &[Feat],
+    place: u16,
+    list: &Access,
+) -> Result<List<State>, Memory>
+    ensures { IfOk result (λ states. states ≡ steps.starting known.now feats.now place list.now) }
+{
+    let mut none: List<Bound> = List::new(alloc);
+    none.push(List::new(alloc))?;
+    let bounds = meet(alloc, known, feats, none)?;
+    let mut states = List::new(alloc);
+    push_placed(place, list, bounds.as_slice(), alloc, &mut states)?;
+    Ok(states)
+}
+
+// The number of the row with the ends of the category, which is made where it isn't there yet.
+#[cycle(ends)]
+pub(crate) fn row_of(
+    alloc: Global,
+    setting: &Setting<'_>,
+    rows: &mut List<Row>,
+    depth: u32,
+    name: u16,
+    known: List<(u16, Value)>,
+    place: u16,
+    list: List<Entry>,
+) -> Result<usize, Memory>
+    requires { tables.AreRows setting.now rows.old }
+    ensures rows { OnOk result (tables.AreRows setting.now rows.new) }
+    ensures row { IfOk result (λ number. tables.HasRow setting.now rows.new number name known (record { place = place; list = list })) }
+{
+    if let Some(number) = find(rows.as_slice(), name, known.as_slice(), place, list.as_slice()) {
+        return Ok(number);
+    }
+    let ends = category_ends(
+        alloc,
+        setting,
+        rows,
+        depth,
+        name,
+        known.as_slice(),
+        place,
+        list.as_slice(),
+    )?;
+    let number = rows.len();
+    rows.push(Row {
+        name,
+        known,
+        place,
+        list,
+        ends,
+    })?;
+    Ok(number)
+}
+
+// The ends of the category, by all its rules.
+#[cycle(ends)]
+fn category_ends(
+    alloc: Global,
+    setting: &Setting<'_>,
+    rows: &mut List<Row>,
+    depth: u32,
+    name: u16,
+    known: &[(u16, Value)],
+    place: u16,
+    list: &[Entry],
+) -> Result<List<End>, Memory>
+    requires { tables.AreRows setting.now rows.old }
+    ensures rows { OnOk result (tables.AreRows setting.now rows.new) }
+    ensures ends { IfOk result (λ ends. ending.IsEnds setting.now name known.now (record { place = place; list = list.now }) ends) }
+{
+    let start = extended(&Access::empty(alloc), list)?;
+    let mut ends = List::new(alloc);
+    for rule in setting.grammar.rules().as_slice() {
+        if rule.head.name == name {
+            push_rule(alloc, setting, rows, depth, rule, known, place, &start, &mut ends)?;
+        }
+    }
+    Ok(ends)
+}
+
+// Adds the ends of the rule.
+#[cycle(ends)]
+fn push_rule(
+    alloc: Global,
+    setting: &Setting<'_>,
+    rows: &mut List<Row>,
+    depth: u32,
+    rule: &Rule,
+    known: &[(u16, Value)],
+    place: u16,
+    start: &Access,
+    out: &mut List<End>,
+) -> Result<(), Memory>
+    requires { tables.AreRows setting.now rows.old }
+    ensures rows { OnOk result (tables.AreRows setting.now rows.new) }
+    ensures ends { OnOk result (ending.HasEndsOfRule setting.now rule.now known.now (record { place = place; list = start.now }) out.old out.new) }
+{
+    let plan = plan_of(alloc, setting, rule)?;
+    let starts = start_states(alloc, known, rule.head.feats.as_slice(), place, start)?;
+    let states = last_states(alloc, setting, rows, depth, rule, &plan, starts)?;
+    push_finished(alloc, setting, rule, &plan, start, states.as_slice(), out)
+}
+
+// The states after the last element.
+#[cycle(ends)]
+fn last_states(
+    alloc: Global,
+    setting: &Setting<'_>,
+    rows: &mut List<Row>,
+    depth: u32,
+    rule: &Rule,
+    plan: &Plan,
+    starts: List<State>,
+) -> Result<List<State>, Memory>
+    requires rows { tables.AreRows setting.now rows.old }
+    requires terms { plan.now.terms ≡ choosing.terms_of rule.now }
+    requires places { plan.now.places ≡ flat_map positions rule.now.body }
+    requires own { plan.now.own ≡ instances.rule_own_features setting.now.grammar rule.now }
+    ensures rows { OnOk result (tables.AreRows setting.now rows.new) }
+    ensures last { IfOk result (λ states. ending.AreLast setting.now rule.now starts states) }
+{
+    let body = rule.body.as_slice();
+    let mut states = starts;
+    let mut number: u16 = 16;
+    for (place, element) in body.iter().enumerate() {
+        states = next_states(alloc, setting, rows, depth, rule, plan, number, element, states.as_slice())?;
+        number = number_past(alloc, setting, number, body, place)?;
+    }
+    Ok(states)
+}
+
+// The states after an element.
+#[cycle(ends)]
+fn next_states(
+    alloc: Global,
+    setting: &Setting<'_>,
+    rows: &mut List<Row>,
+    depth: u32,
+    rule: &Rule,
+    plan: &Plan,
+    number: u16,
+    element: &Element,
+    states: &[State],
+) -> Result<List<State>, Memory>
+    requires rows { tables.AreRows setting.now rows.old }
+    requires terms { plan.now.terms ≡ choosing.terms_of rule.now }
+    requires places { plan.now.places ≡ flat_map positions rule.now.body }
+    requires own { plan.now.own ≡ instances.rule_own_features setting.now.grammar rule.now }
+    ensures rows { OnOk result (tables.AreRows setting.now rows.new) }
+    ensures steps { IfOk result (λ news. ending.AreSteps setting.now rule.now number element.now states.now news) }
+{
+    let mut news = List::new(alloc);
+    for state in states {
+        push_state(alloc, setting, rows, depth, rule, plan, number, element, state, &mut news)?;
+    }
+    Ok(news)
+}
+
+// Adds the states after an element from one state.
+#[cycle(ends)]
+fn push_state(
+    alloc: Global,
+    setting: &Setting<'_>,
+    rows: &mut List<Row>,
+    depth: u32,
+    rule: &Rule,
+    plan: &Plan,
+    number: u16,
+    element: &Element,
+    state: &State,
+    out: &mut List<State>,
+) -> Result<(), Memory>
+    requires rows { tables.AreRows setting.now rows.old }
+    requires terms { plan.now.terms ≡ choosing.terms_of rule.now }
+    requires places { plan.now.places ≡ flat_map positions rule.now.body }
+    requires own { plan.now.own ≡ instances.rule_own_features setting.now.grammar rule.now }
+    ensures rows { OnOk result (tables.AreRows setting.now rows.new) }
+    ensures step { OnOk result ((news : List OneState) × (out.new ≡ out.old ++ news) × ending.IsStep setting.now rule.now number element.now state.now news) }
+{
+    match element {
+        Element::Sub(category) => push_category(alloc, setting, rows, depth, rule, number, category, state, out),
+        _ => push_plain(alloc, setting, plan, number, element, state, out),
+    }
+}
+
+// Adds the states after a category from one state. Calls are nested as deep as categories are, which the grammar bounds.
+#[cycle(ends)]
+fn push_category(
+    alloc: Global,
+    setting: &Setting<'_>,
+    rows: &mut List<Row>,
+    depth: u32,
+    rule: &Rule,
+    number: u16,
+    category: &Category,
+    state: &State,
+    out: &mut List<State>,
+) -> Result<(), Memory>
+    requires rows { tables.AreRows setting.now rows.old }
+    ensures rows { OnOk result (tables.AreRows setting.now rows.new) }
+    ensures step { OnOk result ((news : List OneState) × (out.new ≡ out.old ++ news) × ending.IsStep setting.now rule.now number (Sub category.now) state.now news) }
+{
+    let deeper = depth.checked_sub(1).ok_or(Memory)?;
+    let known = known_features(alloc, state.binds.as_slice(), category.feats.as_slice())?;
+    let list = referents_of(alloc, &state.list)?;
+    let number = row_of(alloc, setting, rows, deeper, category.name, known, state.place, list)?;
+    push_row(alloc, category, state, rows.as_slice(), number, out)
+}
+
+// Adds the states after a category, by a row.
+fn push_row(
+    alloc: Global,
+    category: &Category,
+    state: &State,
+    rows: &[Row],
+    number: usize,
+    out: &mut List<State>,
+) -> Result<(), Memory>
+    requires { number < length rows.now }
+    ensures { OnOk result ((row : OneRow) → slice_get rows.now number ≡ Some row → out.new ≡ out.old ++ steps.sub_steps category.now state.now row.ends) }
+{
+    push_ends(alloc, category, state, rows[number].ends.as_slice(), out)
+}

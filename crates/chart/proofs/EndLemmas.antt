@@ -565,6 +565,10 @@ more_one ends x = record {
   only = λ e o. either (λ h. inl h) (λ h. inr (inl h)) (one_front ends x e o);
 }
 
+-- an end that was added
+pub more_push : (before after : List End) (x : End) → after ≡ before ++ x ∷ [] → HasMore before after (x ∷ [])
+more_push before after x e = subst (λ l. HasMore before l (x ∷ [])) (sym e) (more_one before x)
+
 pub more_same : (ends : List End) (x y : End) → OneOf ends y → y ≡ x → HasMore ends ends (x ∷ [])
 more_same ends x y o is = record {
   kept = λ e h. h;

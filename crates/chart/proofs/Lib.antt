@@ -7,5 +7,6 @@ pub mod ChoiceLemmas
 pub mod EndLemmas
 pub mod TurnLemmas
 pub mod TableLemmas
+pub mod CycleLemmas
 pub mod SentenceLemmas
 pub mod CutLemmas

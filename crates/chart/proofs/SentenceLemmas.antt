@@ -1,6 +1,8 @@
 -- Sentences, by the ends of `text`.
 use Rattle.std.proofs.Common.{◌≡◌, ℕ, suc, zero, List, [], ◌∷◌, ◌++◌, Bool, true, false, ◌&&◌, ◌||◌, length, Option, Some, None, refl, sym, ap, ◌∙◌, subst, arith, ◌⊎◌, inl, inr, IsTrue, ◌↔◌}
-use Rattle.std.specs.Prelude.{◌==◌}
+use Rattle.std.specs.Prelude.{◌==◌, slice_get}
+use Rattle.chart.specs.declared.table.Row.{Row}
+use Rattle.chart.specs.Table.{HasRow}
 use Rattle.std.specs.List.{list_any, list_all}
 use Rattle.codeco_terms.specs.declared.values.Value.{Value}
 use Rattle.scopes.specs.declared.entries.Entry.{Entry}
@@ -55,3 +57,10 @@ pub end_of : (s : Setting) (ends : List End) → IsEnds s 5 [] first_at ends →
 end_of s ends is tree derives =
     let found = is.complete text_category (record { place = length s.tokens; list = derives.0 }) refl (λ p o. absurd o) (tree, derives.1) in
     any_of (length s.tokens) ends found.0 found.1 (sym (ap (λ a. a.place) found.3))
+
+-- what the row of `text` tells
+pub told : (s : Setting) (rows seen : List Row) (number count : ℕ) (known : List (ℕ × Value)) (list : List Entry) (b : Bool) → seen ≡ rows → known ≡ [] → list ≡ [] → count ≡ length s.tokens → HasRow s rows number 5 known (record { place = 0; list = list }) → ((row : Row) → slice_get seen number ≡ Some row → b ≡ list_any (λ e. e.place == count) row.ends) → IsTrue b ↔ ((tree : Node) × IsDerivation s tree)
+told s rows seen number count known list b r k l n has h =
+    let ends : IsEnds s 5 [] first_at has.row.ends = subst (λ x. IsEnds s 5 x first_at has.row.ends) k (subst (λ x. IsEnds s 5 known (record { place = 0; list = x }) has.row.ends) l has.ends) in
+    let is : b ≡ list_any (λ e. e.place == length s.tokens) has.row.ends = h has.row (ap (λ x. slice_get x number) r ∙ has.is) ∙ ap (λ m. list_any (λ e. e.place == m) has.row.ends) n in
+    (λ t. sentence_of s has.row.ends ends (sym is ∙ t), λ d. is ∙ end_of s has.row.ends ends d.0 d.1)

@@ -50,3 +50,23 @@ finished_turn s rule start states i state first before after lt is a b =
 pub steps_turn : (s : Setting) (rule : Rule) (n : ℕ) (e : Element) (states : List State) (i : ℕ) (state : State) (before after : List State) → i < length states → state ≡ get_or states i state → AreSteps s rule n e (take i states) before → (news : List State) × (after ≡ before ++ news) × IsStep s rule n e state news → AreSteps s rule n e (take (i + 1) states) after
 steps_turn s rule n e states i state before after lt is a b =
     subst (λ xs. AreSteps s rule n e xs after) (sym (take_turn states i state lt is)) (subst (AreSteps s rule n e (take i states ++ state ∷ [])) (sym b.1) (steps_more s rule n e (take i states) state before b.0 a b.2))
+
+-- at the ends of the loops
+
+all_taken : {X : Type 0} (n : ℕ) (xs : List X) → length xs ≤ n → take n xs ≡ xs
+all_taken zero [] le = refl
+all_taken zero (x ∷ xs) le = absurd (omega arith)
+all_taken (suc n) [] le = refl
+all_taken (suc n) (x ∷ xs) le = ap (λ ys. x ∷ ys) (all_taken n xs (omega arith))
+
+pub more_done : (first after xs : List End) (i : ℕ) → length xs ≤ i → HasMore first after (take i xs) → HasMore first after xs
+more_done first after xs i le h = subst (HasMore first after) (all_taken i xs le) h
+
+pub finished_done : (s : Setting) (rule : Rule) (start : List Entry) (states : List State) (i : ℕ) (first after : List End) → length states ≤ i → HasFinished s rule start (take i states) first after → HasFinished s rule start states first after
+finished_done s rule start states i first after le h = subst (λ xs. HasFinished s rule start xs first after) (all_taken i states le) h
+
+pub steps_done : (s : Setting) (rule : Rule) (n : ℕ) (e : Element) (states news : List State) (i : ℕ) → length states ≤ i → AreSteps s rule n e (take i states) news → AreSteps s rule n e states news
+steps_done s rule n e states news i le h = subst (λ xs. AreSteps s rule n e xs news) (all_taken i states le) h
+
+pub more_seen : (ends seen : List End) (x : End) → seen ≡ ends → HasMore seen seen (x ∷ []) → HasMore ends ends (x ∷ [])
+more_seen ends seen x e h = subst (λ l. HasMore l l (x ∷ [])) e h

@@ -160,6 +160,11 @@ pub record HasEndsOfRule (s : Setting) (rule : Rule) (known : List (ℕ × Value
   pub new : HasRuleEnds s rule known at after
   pub only : (e : End) → OneOf after e → OneOf before e ⊎ IsRuleEnd s rule at e
 
+-- the later list has the ends of the first and, if the rule has the name, those of the rule
+pub record HasEndsIfNamed (s : Setting) (rule : Rule) (name : ℕ) (known : List (ℕ × Value)) (at : At) (before after : List End) : Type 0 where
+  pub named : rule.head.name ≡ name → HasEndsOfRule s rule known at before after
+  pub other : (rule.head.name ≡ name → ⊥) → after ≡ before
+
 -- what the rules up to this number give
 pub record HasEndsUpTo (s : Setting) (name : ℕ) (known : List (ℕ × Value)) (at : At) (count : ℕ) (ends : List End) : Type 0 where
   pub sound : (e : End) → OneOf ends e → IsEndOf s name at e

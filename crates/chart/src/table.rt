@@ -21,7 +21,7 @@ use crate::ends::finished;
 use crate::sameness::{same_end, same_entries, same_values};
 use crate::states::{Bound, End, Feat, State};
 use crate::steps::{extended, push_ends, push_placed, push_plain};
-use codeco_terms::{Category, Element, Rule, Value};
+use codeco_terms::{Category, Element, Grammar, Rule, Value};
 use derivation_trees::{Setting, rule_own_features};
 use lists::List;
 use scopes::{Access, Entry, TestValues};
@@ -86,7 +86,8 @@ fn push_new(end: End, out: &mut List<End>) -> Result<(), Memory>
     if has_end(out.as_slice(), &end) {
         Ok(())
     } else {
-        out.push(end)
+        out.push(end)?;
+        Ok(())
     }
 }
 
@@ -152,20 +153,38 @@ fn push_finished(
     Ok(())
 }
 
-// The number of own variables after the element.
-fn number_past(
+// How many own variables the element at the place has.
+fn own_count_of(
     alloc: Global,
-    setting: &Setting<'_>,
-    number: u16,
+    grammar: &Grammar,
     body: &[Element],
     place: usize,
-) -> Result<u16, Memory>
+) -> Result<usize, Memory>
     requires { place < length body.now }
-    ensures { IfOk result (λ next. (e : OneElement) → slice_get body.now place ≡ Some e
-        → next ≡ number + length (instances.own_features setting.now.grammar e)) }
+    ensures { IfOk result (λ count. (e : OneElement) → slice_get body.now place ≡ Some e
+        → count ≡ length (instances.own_features grammar.now e)) }
 {
-    let own = rule_own_features(alloc, setting.grammar, &body[place..place + 1])?;
-    match u16::try_from(own.len()) {
+    let own = rule_own_features(alloc, grammar, &body[place..place + 1])?;
+    Ok(own.len())
+}
+
+fn own_count(
+    alloc: Global,
+    setting: &Setting<'_>,
+    body: &[Element],
+    place: usize,
+) -> Result<usize, Memory>
+    requires { place < length body.now }
+    ensures { IfOk result (λ count. (e : OneElement) → slice_get body.now place ≡ Some e
+        → count ≡ length (instances.own_features setting.now.grammar e)) }
+{
+    own_count_of(alloc, setting.grammar, body, place)
+}
+
+fn add_count(number: u16, count: usize) -> Result<u16, Memory>
+    ensures { IfOk result (λ next. next ≡ number + count) }
+{
+    match u16::try_from(count) {
         Ok(count) => number.checked_add(count).ok_or(Memory),
         Err(_) => Err(Memory),
     }
@@ -209,6 +228,24 @@ fn start_states(
     Ok(states)
 }
 
+// The list of the entries.
+fn access_of(alloc: Global, entries: &[Entry]) -> Result<Access, Memory>
+    ensures { IfOk result (λ access. access ≡ entries.now) }
+{
+    let empty = Access::empty(alloc);
+    extended(&empty, entries)
+}
+
+// Adds the row, and gives its number.
+fn push_new_row(rows: &mut List<Row>, row: Row) -> Result<usize, Memory>
+    ensures rows { OnOk result (rows.new ≡ rows.old ++ row ∷ []) }
+    ensures number { IfOk result (λ number. number ≡ length rows.old) }
+{
+    let number = rows.len();
+    rows.push(row)?;
+    Ok(number)
+}
+
 // The number of the row with the ends of the category, which is made where it isn't there yet.
 #[cycle(ends)]
 pub(crate) fn row_of(
@@ -228,6 +265,7 @@ pub(crate) fn row_of(
     if let Some(number) = find(rows.as_slice(), name, known.as_slice(), place, list.as_slice()) {
         return Ok(number);
     }
+    let start = access_of(alloc, list.as_slice())?;
     let ends = category_ends(
         alloc,
         setting,
@@ -236,16 +274,16 @@ pub(crate) fn row_of(
         name,
         known.as_slice(),
         place,
-        list.as_slice(),
+        &start,
     )?;
-    let number = rows.len();
-    rows.push(Row {
+    let row = Row {
         name,
         known,
         place,
         list,
         ends,
-    })?;
+    };
+    let number = push_new_row(rows, row)?;
     Ok(number)
 }
 
@@ -259,20 +297,46 @@ fn category_ends(
     name: u16,
     known: &[(u16, Value)],
     place: u16,
-    list: &[Entry],
+    start: &Access,
 ) -> Result<List<End>, Memory>
     requires { tables.AreRows setting.now rows.old }
     ensures rows { OnOk result (tables.AreRows setting.now rows.new) }
-    ensures ends { IfOk result (λ ends. ending.IsEnds setting.now name known.now (record { place = place; list = list.now }) ends) }
+    ensures ends { IfOk result (λ ends. ending.IsEnds setting.now name known.now (record { place = place; list = start.now }) ends) }
 {
-    let start = extended(&Access::empty(alloc), list)?;
     let mut ends = List::new(alloc);
     for rule in setting.grammar.rules().as_slice() {
-        if rule.head.name == name {
-            push_rule(alloc, setting, rows, depth, rule, known, place, &start, &mut ends)?;
-        }
+        push_named(
+            alloc, setting, rows, depth, name, rule, known, place, start, &mut ends,
+        )?;
     }
     Ok(ends)
+}
+
+// Adds the ends of the rule, if it has the name.
+#[cycle(ends)]
+fn push_named(
+    alloc: Global,
+    setting: &Setting<'_>,
+    rows: &mut List<Row>,
+    depth: u32,
+    name: u16,
+    rule: &Rule,
+    known: &[(u16, Value)],
+    place: u16,
+    start: &Access,
+    out: &mut List<End>,
+) -> Result<(), Memory>
+    requires { tables.AreRows setting.now rows.old }
+    ensures rows { OnOk result (tables.AreRows setting.now rows.new) }
+    ensures ends { OnOk result (ending.HasEndsIfNamed setting.now rule.now name known.now (record { place = place; list = start.now }) out.old out.new) }
+{
+    if rule.head.name == name {
+        push_rule(
+            alloc, setting, rows, depth, rule, known, place, start, out,
+        )?;
+        return Ok(());
+    }
+    Ok(())
 }
 
 // Adds the ends of the rule.
@@ -295,7 +359,8 @@ fn push_rule(
     let plan = plan_of(alloc, setting, rule)?;
     let starts = start_states(alloc, known, rule.head.feats.as_slice(), place, start)?;
     let states = last_states(alloc, setting, rows, depth, rule, &plan, starts)?;
-    push_finished(alloc, setting, rule, &plan, start, states.as_slice(), out)
+    push_finished(alloc, setting, rule, &plan, start, states.as_slice(), out)?;
+    Ok(())
 }
 
 // The states after the last element.
@@ -321,7 +386,8 @@ fn last_states(
     let mut number: u16 = 16;
     for (place, element) in body.iter().enumerate() {
         states = next_states(alloc, setting, rows, depth, rule, plan, number, element, states.as_slice())?;
-        number = number_past(alloc, setting, number, body, place)?;
+        let count = own_count(alloc, setting, body, place)?;
+        number = add_count(number, count)?;
     }
     Ok(states)
 }
@@ -375,8 +441,16 @@ fn push_state(
     ensures step { OnOk result ((news : List OneState) × (out.new ≡ out.old ++ news) × ending.IsStep setting.now rule.now number element.now state.now news) }
 {
     match element {
-        Element::Sub(category) => push_category(alloc, setting, rows, depth, rule, number, category, state, out),
-        _ => push_plain(alloc, setting, plan, number, element, state, out),
+        Element::Sub(category) => {
+            push_category(
+                alloc, setting, rows, depth, rule, number, category, state, out,
+            )?;
+            Ok(())
+        }
+        _ => {
+            push_plain(alloc, setting, plan, number, element, state, out)?;
+            Ok(())
+        }
     }
 }
 
@@ -400,8 +474,18 @@ fn push_category(
     let deeper = depth.checked_sub(1).ok_or(Memory)?;
     let known = known_features(alloc, state.binds.as_slice(), category.feats.as_slice())?;
     let list = referents_of(alloc, &state.list)?;
-    let number = row_of(alloc, setting, rows, deeper, category.name, known, state.place, list)?;
-    push_row(alloc, category, state, rows.as_slice(), number, out)
+    let row = row_of(
+        alloc,
+        setting,
+        rows,
+        deeper,
+        category.name,
+        known,
+        state.place,
+        list,
+    )?;
+    push_row(alloc, category, state, rows.as_slice(), row, out)?;
+    Ok(())
 }
 
 // Adds the states after a category, by a row.

@@ -1,8 +1,9 @@
-use Rattle.std.proofs.Common.{◌≡◌, take, drop, map, ◌++◌, ◌∷◌, [], length, ◌≤◌, ◌-◌}
-use Rattle.chart.specs.Ends.{as_terms, values_of_all, finished_one}
-use Rattle.std.specs.List.{flat_map}
-use Rattle.scopes.specs.AccessList.{closed, strong_referents}
+use Rattle.std.proofs.Common.{◌≡◌, ◌++◌, length}
+use Rattle.scopes.specs.AccessList.{closed}
 use Rattle.chart.proofs.ends.closed.Given as goal
 
-abbrev pub invariant-loop-entry : goal.invariant-loop-entry
-invariant-loop-entry l = l.left ++ closed l.rest ≡ closed l.entries
+abbrev pub invariant-loop-rest : goal.invariant-loop-rest
+invariant-loop-rest l = l.left ++ closed l.rest ≡ closed l.entries
+
+abbrev pub decreases-loop-rest : goal.decreases-loop-rest
+decreases-loop-rest l = length l.rest

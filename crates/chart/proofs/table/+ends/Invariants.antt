@@ -4,29 +4,32 @@ use Rattle.chart.specs.Table.{AreRows}
 use Rattle.chart.proofs.table.+ends.Given as goal
 
 abbrev pub decreases-row_of : goal.decreases-row_of
-decreases-row_of l = 7 * l.depth + 7
+decreases-row_of l = 8 * l.depth + 8
 
 abbrev pub decreases-category_ends : goal.decreases-category_ends
-decreases-category_ends l = 7 * l.depth + 6
+decreases-category_ends l = 8 * l.depth + 7
+
+abbrev pub decreases-push_named : goal.decreases-push_named
+decreases-push_named l = 8 * l.depth + 6
 
 abbrev pub decreases-push_rule : goal.decreases-push_rule
-decreases-push_rule l = 7 * l.depth + 5
+decreases-push_rule l = 8 * l.depth + 5
 
 abbrev pub decreases-last_states : goal.decreases-last_states
-decreases-last_states l = 7 * l.depth + 4
+decreases-last_states l = 8 * l.depth + 4
 
 abbrev pub decreases-next_states : goal.decreases-next_states
-decreases-next_states l = 7 * l.depth + 3
+decreases-next_states l = 8 * l.depth + 3
 
 abbrev pub decreases-push_state : goal.decreases-push_state
-decreases-push_state l = 7 * l.depth + 2
+decreases-push_state l = 8 * l.depth + 2
 
 abbrev pub decreases-push_category : goal.decreases-push_category
-decreases-push_category l = 7 * l.depth + 1
+decreases-push_category l = 8 * l.depth + 1
 
 abbrev pub invariant-category_ends-loop-rule : goal.invariant-category_ends-loop-rule
 invariant-category_ends-loop-rule l =
-    AreRows l.setting l.rows × HasEndsUpTo l.setting l.name l.known (record { place = l.place; list = l.list }) l.rule-index l.ends
+    AreRows l.setting l.rows × HasEndsUpTo l.setting l.name l.known (record { place = l.place; list = l.start }) l.rule-index l.ends
 
 abbrev pub invariant-last_states-loop-place : goal.invariant-last_states-loop-place
 invariant-last_states-loop-place l =

@@ -20,6 +20,7 @@ use Rattle.derivation_trees.specs.Stands.{is_sub}
 use Rattle.chart.specs.declared.states.State.{State}
 use Rattle.chart.specs.declared.states.End.{End}
 use Rattle.chart.specs.declared.table.Row.{Row}
+use Rattle.chart.specs.Leading.{referents}
 use Rattle.chart.specs.Branches.{known_features}
 use Rattle.chart.specs.Choices.{choices, choices_in, terms_of}
 use Rattle.chart.specs.Steps.{plain_steps, sub_steps, starting}
@@ -125,3 +126,8 @@ finished_same s rule start seen states before after e h = subst (λ x. HasFinish
 
 pub start_steps : (s : Setting) (rule : Rule) (n : ℕ) (e : Element) (news : List State) → news ≡ [] → AreSteps s rule n e [] news
 start_steps s rule n e news is = subst (AreSteps s rule n e []) (sym is) (steps_none s rule n e)
+
+-- the states after a category, by a row that was looked up or made
+pub category_returned : (s : Setting) (rule : Rule) (n : ℕ) (c : Category) (state : State) (rows seen : List Row) (number : ℕ) (known : List (ℕ × Value)) (list : List Entry) (before after : List State) → seen ≡ rows → known ≡ known_features state.binds c.feats → list ≡ referents state.list → HasRow s rows number c.name known (record { place = state.place; list = list }) → ((row : Row) → slice_get seen number ≡ Some row → after ≡ before ++ sub_steps c state row.ends) → (news : List State) × (after ≡ before ++ news) × IsStep s rule n (Sub c) state news
+category_returned s rule n c state rows seen number known list before after r k l has h =
+    category_state s rule n c state rows number before after (subst (λ x. HasRow s rows number c.name x (stripped state)) k (subst (λ x. HasRow s rows number c.name known (record { place = state.place; list = x })) l has)) (λ row e. h row (ap (λ x. slice_get x number) r ∙ e))

@@ -1,11 +1,12 @@
-use Rattle.std.proofs.Common.{◌≡◌, ℕ, ◌+◌, ◌<◌, ◌≤◌, ◌++◌, ◌∷◌, [], false, length, ap, ◌∙◌, sym, refl, arith, rules}
+use Rattle.std.proofs.Common.{◌≡◌, ℕ, ◌+◌, ◌<◌, ◌≤◌, ◌++◌, ◌∷◌, [], false, length, ap, ◌∙◌, sym, refl, subst, arith, rules}
 use Rattle.derivation_trees.proofs.StandLemmas.{not_sub}
 use Rattle.chart.proofs.EndLemmas.{reached_first, steps_none}
 use Rattle.chart.proofs.TurnLemmas.{steps_turn, steps_done}
 use Rattle.chart.proofs.TableLemmas.{found_row, row_below}
-use Rattle.chart.proofs.CycleLemmas.{row_found, row_returned, rows_returned, finished_same, start_steps, start_rules, rule_turn, rules_done, named_ends, other_ends, rule_pushed, reached_turn, reached_done, plain_state, category_state, step_same}
+use Rattle.chart.proofs.CycleLemmas.{row_found, row_returned, rows_returned, finished_same, start_steps, start_rules, rule_turn, rules_done, named_ends, other_ends, rule_pushed, reached_turn, reached_done, plain_state, category_returned, step_same}
 use Rattle.codeco_terms.specs.declared.elements.Element.TheVariants.{Sub}
 use Rattle.chart.specs.Steps.{starting}
+use Rattle.chart.specs.Branches.{known_features}
 use Rattle.chart.proofs.table.+ends.Goals as goal
 
 pub category_ends-loop-rule-init : goal.category_ends-loop-rule-init
@@ -57,7 +58,13 @@ push_state-returns-in_default-clause-step t c =
     plain_state c.args.setting.now c.args.rule.now c.args.plan.now.terms c.args.plan.now.places c.args.plan.now.own c.args.number c.args.element.now c.args.state.now c.args.out.now c.push_plain-in_default.new.out c.requires.terms c.requires.places c.requires.own (not_sub c.args.element.now c.in_default.not-Sub) c.in_ok-push_plain-in_default.ensures
 
 pub push_category-returns-clause-step : goal.push_category-returns-clause-step
-push_category-returns-clause-step t c = ?
+push_category-returns-clause-step t c =
+    category_returned c.args.setting.now c.args.rule.now c.args.number c.args.category.now c.args.state.now c.row_of.new.rows c.as_slice-3.result.now c.in_ok-row.row c.in_ok-known.known c.in_ok-list.list c.args.out.now c.push_row.new.out c.as_slice-3.ensures (c.in_ok-known.ensures ∙ ap (λ b. known_features b c.as_slice-2.result.now) c.as_slice.ensures ∙ ap (known_features c.args.state.now.binds) c.as_slice-2.ensures) c.in_ok-list.ensures c.in_ok-row.ensures.row c.in_ok-push_row.ensures
+
+pub push_category-push_row-requires : goal.push_category-push_row-requires
+push_category-push_row-requires t c =
+    let has = c.in_ok-row.ensures.row in
+    subst (λ l. c.in_ok-row.row < length l) (sym c.as_slice-3.ensures) (row_below c.row_of.new.rows c.in_ok-row.row has.row has.is)
 
 pub next_states-returns-clause-steps : goal.next_states-returns-clause-steps
 next_states-returns-clause-steps t c =

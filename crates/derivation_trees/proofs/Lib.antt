@@ -5,3 +5,5 @@ pub mod StandLemmas
 pub mod LimitLemmas
 pub mod PieceLemmas
 pub mod WordLemmas
+pub mod CodeLemmas
+pub mod SketchLemmas

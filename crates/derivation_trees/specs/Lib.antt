@@ -9,3 +9,5 @@ pub mod Partial
 pub mod Menus
 pub mod Codes
 pub mod Skeletons
+pub mod Sketches
+pub mod SketchesHeld

@@ -29,11 +29,15 @@ word_of_value (Atom a) = record { 0 = 0 }
 word_of_value (Word w) = w
 word_of_value (Pos p) = record { 0 = 0 }
 
+-- the word of a reading: the value of its feature 3
+abbrev pub word_among : List (ℕ × Value) → WordId
+word_among vals = option_map_or word_of_value (looked_up vals 3) (record { 0 = 0 })
+
 -- The word of which a token is a form, by its readings: the feature 3 of a reading is its word, and all readings of a token
 -- have the same one, since no two words share a form.
 abbrev pub word_in : List Ground → WordId
 word_in [] = record { 0 = 0 }
-word_in (reading ∷ others) = option_map_or word_of_value (looked_up reading.vals 3) (record { 0 = 0 })
+word_in (reading ∷ others) = word_among reading.vals
 
 -- the word of which the token at the place is a form
 abbrev pub word_at : Setting → ℕ → WordId
@@ -87,11 +91,11 @@ abbrev mutual
   pub skeleton_at : Setting → Node → At → Skeleton
   skeleton_at s (node number values found children) at =
       option_map_or
-          (λ rule. skeleton number at.place (end_place s rule values (start rule values found (phrases_of s children) at)) found
-              (met (word_here s) s values rule.body (start rule values found (phrases_of s children) at))
-              (skeletons_at s children (met child_here s values rule.body (start rule values found (phrases_of s children) at))))
-          (rule_with s.grammar number)
-          (skeleton number at.place at.place found [] [])
+      (λ rule. skeleton number at.place (end_place s rule values (start rule values found (phrases_of s children) at)) found
+      (met (word_here s) s values rule.body (start rule values found (phrases_of s children) at))
+      (skeletons_at s children (met child_here s values rule.body (start rule values found (phrases_of s children) at))))
+      (rule_with s.grammar number)
+      (skeleton number at.place at.place found [] [])
 
   -- the skeletons of trees, each from its own place and list
   pub skeletons_at : Setting → Nodes → List At → List Skeleton

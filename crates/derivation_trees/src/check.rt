@@ -42,7 +42,7 @@ pub fn check_tree(
 }
 
 // Whether the tree is a derivation of the setting's tokens.
-pub(crate) fn is_derivation(alloc: Global, setting: &Setting<'_>, tree: &Tree) -> Result<bool, Memory>
+fn is_derivation(alloc: Global, setting: &Setting<'_>, tree: &Tree) -> Result<bool, Memory>
     requires { IsLimited setting.now.grammar }
     ensures { IfOk result (λ yes. IsTrue yes ↔ IsDerivation setting.now (node_of tree.now)) }
 {
@@ -57,8 +57,12 @@ pub(crate) fn is_derivation(alloc: Global, setting: &Setting<'_>, tree: &Tree) -
     }
 }
 
-// The readings of each token.
-pub fn readings_of(alloc: Global, lexicon: &Lexicon, tokens: &[Token]) -> Result<Vec<Readings>, Memory>
+/// The readings of each token.
+pub fn readings_of(
+    alloc: Global,
+    lexicon: &Lexicon,
+    tokens: &[Token],
+) -> Result<Vec<Readings>, Memory>
     ensures { IfOk result
         (λ readings. readings.items ≡ map (lexical.readings_of lexicon.now.live) tokens.now) }
 {

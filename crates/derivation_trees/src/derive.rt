@@ -17,7 +17,7 @@ use std::alloc::Global;
 use wiki_base::Memory;
 
 // The rule with the number, from 1.
-pub fn rule_with(grammar: &Grammar, number: u16) -> Option<&Rule>
+pub(crate) fn rule_with(grammar: &Grammar, number: u16) -> Option<&Rule>
     ensures { option_copied result ≡ derives.rule_with grammar.now number }
 {
     if number == 0 {
@@ -27,7 +27,7 @@ pub fn rule_with(grammar: &Grammar, number: u16) -> Option<&Rule>
     }
 }
 
-// Whether the names are equal, and each feature that both have has the same value.
+/// Whether the names are equal, and each feature that both have has the same value.
 pub fn fits(head: &Test, asked: &Test) -> bool
     ensures { result ≡ derives.fits head.now asked.now }
 {
@@ -226,8 +226,8 @@ fn end(
     Ok(Some((place, list)))
 }
 
-// The list after a phrase: closed where the rule is scope-closing.
-fn closed(rule: &Rule, begun: &Access, list: Access) -> Result<Access, Memory>
+/// The list after a phrase that began with a list: closed where the rule is scope-closing.
+pub fn closed(rule: &Rule, begun: &Access, list: Access) -> Result<Access, Memory>
     requires { Begins begun.now list }
     ensures is { IfOk result (λ after. after ≡ derives.list_after rule.now.closing begun.now list) }
     ensures grows { IfOk result (λ after. Begins begun.now after) }

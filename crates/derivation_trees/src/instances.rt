@@ -7,7 +7,7 @@ use scopes::{Test, TestList, TestValues};
 use std::alloc::Global;
 use wiki_base::Memory;
 
-// What the variable stands for.
+/// What the variable stands for.
 pub fn value_under(values: &[(u8, Value)], variable: u8) -> Value
     ensures { result ≡ instances.value_under values.now variable }
 {
@@ -19,7 +19,7 @@ pub fn value_under(values: &[(u8, Value)], variable: u8) -> Value
     Value::Atom(0)
 }
 
-// What the term stands for.
+/// What the term stands for.
 pub fn term_value(values: &[(u8, Value)], term: Term) -> Value
     ensures { result ≡ instances.term_value values.now term }
 {
@@ -29,12 +29,8 @@ pub fn term_value(values: &[(u8, Value)], term: Term) -> Value
     }
 }
 
-// The category under the instance.
-pub fn under(
-    alloc: Global,
-    values: &[(u8, Value)],
-    category: &Category,
-) -> Result<Test, Memory>
+/// The category under the instance.
+pub fn under(alloc: Global, values: &[(u8, Value)], category: &Category) -> Result<Test, Memory>
     ensures { IfOk result (λ test. test ≡ instances.under values.now category.now) }
 {
     Ok(Test {
@@ -58,7 +54,7 @@ fn feats_under(
     Ok(found)
 }
 
-// The tests of the patterns under the instance.
+/// The tests of the patterns under the instance.
 pub fn tests_under(
     alloc: Global,
     values: &[(u8, Value)],

@@ -16,6 +16,7 @@ mod pieces;
 mod setting;
 mod showing;
 mod skeletons;
+mod sketch;
 mod stand;
 mod trees;
 mod variables;
@@ -23,13 +24,16 @@ mod variables;
 pub use check::{check_tree, readings_of};
 pub use cuts::Cut;
 pub use cutting::cut;
-pub use derive::{fits, rule_with};
+pub use derive::{closed, fits};
 pub use features::features_of;
 pub use instances::{term_value, tests_under, under, value_under};
 pub use menus::{Group, Menu};
 pub use setting::Setting;
 pub use showing::show;
 pub use skeletons::{Skeleton, Skeletons, Words};
-pub use stand::{takes, written};
+pub use sketch::sketch_of;
+pub use stand::{Progress, pass, written};
 pub use trees::{Binds, Places, Tree, Trees};
-pub use variables::{is_instance, rule_own_features, variables_of};
+pub use variables::{
+    is_instance, own_values, push_own_features, rule_own_features, variables_of, written_variables,
+};

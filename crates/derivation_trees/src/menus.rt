@@ -110,13 +110,15 @@ impl<'a> Menu<'a> {
     }
 
     /// An equal menu, whose texts are borrowed from where this one's are.
+    #[tactic(auto, using(crate::proofs::CodeLemmas::take_next))]
     pub fn copy(&self) -> Result<Menu<'a>, Memory>
         ensures { IfOk result (λ copied. copied ≡ self.now) }
     {
-        let mut items = Vec::with_capacity(*self.items.allocator(), self.items.len())?;
-        for (group, text) in &self.items {
-            items.push((*group, *text))?;
+        let mut copied = Menu::new(*self.items.allocator());
+        for place in 0..self.len() {
+            let (group, text) = self.get(place);
+            copied.push(group, text)?;
         }
-        Ok(Menu { items })
+        Ok(copied)
     }
 }

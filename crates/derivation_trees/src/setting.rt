@@ -16,7 +16,7 @@ use wiki_base::Token;
 /// The feature of preterminals that holds the word.
 const WORD_FEATURE: u16 = 3;
 
-// What a derivation is of: a grammar, tokens, and the readings of each token by a lexicon.
+/// What a derivation is of: a grammar, at most 40 tokens, and the readings of each token by a lexicon.
 #[derive(Drop)]
 pub struct Setting<'a> {
     pub grammar: &'a Grammar,

@@ -18,18 +18,18 @@ use scopes::{Access, TestList, Tests, has_value};
 use std::alloc::Global;
 use wiki_base::Memory;
 
-// Where a node stands after some of its elements: the place and the list there, and the found positions and the own
-// variables that are still to come.
+/// Where a node stands after some of its elements: the place and the list there, and the found positions and the own
+/// variables that are still to come.
 #[derive(Drop)]
-pub(crate) struct Progress<'a> {
-    pub(crate) place: u16,
-    pub(crate) list: Access,
-    pub(crate) found: &'a [u16],
-    pub(crate) own: &'a [(u8, Value)],
+pub struct Progress<'a> {
+    pub place: u16,
+    pub list: Access,
+    pub found: &'a [u16],
+    pub own: &'a [(u8, Value)],
 }
 
-// What an element that is no category does.
-pub(crate) fn pass<'a>(
+/// What an element that is no category does.
+pub fn pass<'a>(
     alloc: Global,
     setting: &Setting<'_>,
     values: &[(u8, Value)],
@@ -245,7 +245,7 @@ fn fill<'a>(
     }
 }
 
-// The term that is written for the feature.
+/// The term that is written for the feature.
 pub fn written(feats: &[(u16, Term)], feature: u16) -> Option<Term>
     ensures { result ≡ looked_up feats.now feature }
 {
@@ -281,7 +281,7 @@ fn fill_all<'a>(
 }
 
 // Whether the marked variables of the pattern have the values of the referent.
-pub fn takes(values: &[(u8, Value)], referent: &Ground, pattern: Option<&Pattern>) -> bool
+fn takes(values: &[(u8, Value)], referent: &Ground, pattern: Option<&Pattern>) -> bool
     ensures { result ≡ derives.takes values.now referent.now (option_map (λ p. p.now) pattern.entry) }
 {
     match pattern {

@@ -1,5 +1,6 @@
 // Derivation trees.
-ghost use Rattle.std.specs.Prelude.{◌≡◌, ◌<◌, ◌↔◌, ◌==◌, [], ◌∷◌, ◌++◌, length, slice_get, Some, IsTrue, OnOk, OnErr};
+ghost use Rattle.std.specs.Prelude.{◌≡◌, ◌<◌, ◌↔◌, ◌==◌, [], ◌∷◌, ◌++◌, length, slice_get, Some, IsTrue, IfOk, OnOk, OnErr};
+ghost use Rattle.derivation_trees.specs.Trees.{node_of, nodes_of};
 
 use codeco_terms::Value;
 use std::alloc::Global;
@@ -65,6 +66,17 @@ impl Binds {
         ensures { slice_get self.now place ≡ Some result.now }
     {
         &self.items[place]
+    }
+
+    /// An equal list.
+    pub fn copy(&self, alloc: Global) -> Result<Self, Memory>
+        ensures { IfOk result (λ copied. copied ≡ self.now) }
+    {
+        let mut items = Vec::new(alloc);
+        for item in &self.items {
+            items.push(*item)?;
+        }
+        Ok(Binds { items })
     }
 
     /// All of them, in order.
@@ -144,6 +156,17 @@ impl Places {
         &self.items[place]
     }
 
+    /// An equal list.
+    pub fn copy(&self, alloc: Global) -> Result<Self, Memory>
+        ensures { IfOk result (λ copied. copied ≡ self.now) }
+    {
+        let mut items = Vec::new(alloc);
+        for item in &self.items {
+            items.push(*item)?;
+        }
+        Ok(Places { items })
+    }
+
     /// All of them, in order.
     pub fn as_slice(&self) -> &[u16]
         ensures { result.now ≡ self.now }
@@ -181,7 +204,6 @@ pub struct Trees {
 
 impl Trees {
     ghost use Rattle.std.specs.Prelude.{map};
-    ghost use Rattle.derivation_trees.specs.Trees.{node_of, nodes_of};
     ghost use Rattle.derivation_trees.specs.declared.trees.Tree.TheViews.{size-Tree, size-Trees};
 
     /// No trees, which takes no memory.
@@ -238,5 +260,35 @@ impl Trees {
     {
         self.items.push(tree)?;
         Ok(())
+    }
+}
+
+impl Tree {
+    /// A tree that is the same node.
+    #[cycle(copying)]
+    pub fn copy(&self, alloc: Global) -> Result<Tree, Memory>
+        ensures { IfOk result (λ copied. node_of copied ≡ node_of self.now) }
+    {
+        Ok(Tree {
+            rule: self.rule,
+            values: self.values.copy(alloc)?,
+            found: self.found.copy(alloc)?,
+            children: self.children.copy(alloc)?,
+        })
+    }
+}
+
+impl Trees {
+    /// A list of the same nodes.
+    #[tactic(auto, using(crate::proofs::CodeLemmas::take_next))]
+    #[cycle(copying)]
+    pub fn copy(&self, alloc: Global) -> Result<Trees, Memory>
+        ensures { IfOk result (λ copied. nodes_of copied ≡ nodes_of self.now) }
+    {
+        let mut copied = Trees::new(alloc);
+        for place in 0..self.len() {
+            copied.push(self.get(place).copy(alloc)?)?;
+        }
+        Ok(copied)
     }
 }

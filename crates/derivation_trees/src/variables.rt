@@ -14,7 +14,7 @@ use codeco_terms::{Category, Element, Grammar, Pattern, Rule, Term, Value};
 use std::alloc::Global;
 use wiki_base::Memory;
 
-// Whether the values are an instance of the rule at the setting.
+/// Whether the values are an instance of the rule at the setting.
 pub fn is_instance(
     alloc: Global,
     setting: &Setting<'_>,
@@ -57,8 +57,8 @@ fn all_hold(
         && own_fit(setting, own, mine)
 }
 
-// The rule's own variables with their values.
-pub(crate) fn own_values<'a>(
+/// The rule's own variables with their values.
+pub fn own_values<'a>(
     alloc: Global,
     rule: &Rule,
     values: &'a [(u8, Value)],
@@ -80,7 +80,7 @@ fn after(values: &[(u8, Value)], count: usize) -> &[(u8, Value)]
     }
 }
 
-// The numbers of the written variables, and of so many own ones.
+/// The numbers of the written variables, and of so many own ones.
 #[tactic(auto, using(crate::proofs::InstanceLemmas::range_more))]
 pub fn variables_of(alloc: Global, rule: &Rule, own: usize) -> Result<Vec<usize>, Memory>
     ensures { IfOk result
@@ -93,7 +93,8 @@ pub fn variables_of(alloc: Global, rule: &Rule, own: usize) -> Result<Vec<usize>
     Ok(numbers)
 }
 
-fn written_variables(alloc: Global, rule: &Rule) -> Result<Vec<usize>, Memory>
+/// The variables that are written in the rule, in order of number.
+pub fn written_variables(alloc: Global, rule: &Rule) -> Result<Vec<usize>, Memory>
     ensures { IfOk result (λ numbers. numbers.items ≡ instances.written_variables rule.now) }
 {
     let mut numbers = Vec::new(alloc);
@@ -139,7 +140,7 @@ fn have_numbers(values: &[(u8, Value)], numbers: &[usize]) -> bool
     values.len() == numbers.len()
 }
 
-// The features of the rule's own variables.
+/// The features of the rule's own variables.
 pub fn rule_own_features(alloc: Global, grammar: &Grammar, body: &[Element]) -> Result<Vec<u16>, Memory>
     ensures { IfOk result
         (λ own. own.items ≡ flat_map (instances.own_features grammar.now) body.now) }
@@ -151,7 +152,8 @@ pub fn rule_own_features(alloc: Global, grammar: &Grammar, body: &[Element]) -> 
     Ok(own)
 }
 
-fn push_own_features(
+/// Adds the features that an introduction leaves out.
+pub fn push_own_features(
     alloc: Global,
     grammar: &Grammar,
     element: &Element,

@@ -1,1 +1,5 @@
+pub mod Among
 pub mod Enumeration
+pub mod Choices
+pub mod Paths
+pub mod Listed

@@ -6,6 +6,7 @@ ghost use Rattle.derivations.specs.Enumeration as enumeration;
 
 use codeco_terms::{Declared, Ground, Value};
 use derivation_trees::Setting;
+use lexicon::Readings;
 use lists::List;
 use std::alloc::Global;
 use wiki_base::{Memory, WordId};
@@ -64,19 +65,28 @@ fn add_words(values: &mut List<Value>, readings: &[Ground]) -> Result<(), Memory
     Ok(())
 }
 
+// Adds the words of the readings of all tokens.
+fn add_all_words(values: &mut List<Value>, all: &[Readings]) -> Result<(), Memory>
+    ensures { OnOk result (values.new ≡ enumeration.with_all_words values.old all.now) }
+{
+    for readings in all {
+        add_words(values, readings.as_slice())?;
+    }
+    Ok(())
+}
+
 // Word 0 and the words with a form among the tokens.
 fn word_values(alloc: Global, setting: &Setting<'_>) -> Result<List<Value>, Memory>
     ensures { IfOk result (λ values. values ≡ enumeration.word_values setting.now) }
 {
     let mut values = List::new(alloc);
     values.push(Value::Word(WordId(0)))?;
-    for readings in setting.readings {
-        add_words(&mut values, readings.as_slice())?;
-    }
+    add_all_words(&mut values, setting.readings)?;
     Ok(values)
 }
 
-fn position_values(alloc: Global, setting: &Setting<'_>) -> Result<List<Value>, Memory>
+#[tactic(auto, using(crate::proofs::LoopLemmas::positions_more))]
+pub(crate) fn position_values(alloc: Global, setting: &Setting<'_>) -> Result<List<Value>, Memory>
     ensures { IfOk result (λ values. values ≡ enumeration.position_values setting.now) }
 {
     let mut values = List::new(alloc);

@@ -1,0 +1,11 @@
+pub mod Members
+pub mod ValueLemmas
+pub mod TermLemmas
+pub mod ChoiceLemmas
+pub mod StepLemmas
+pub mod ListingLemmas
+pub mod GrowLemmas
+pub mod DepthLemmas
+pub mod LoopLemmas
+pub mod SkeletonLemmas
+pub mod LeastLemmas

@@ -1,7 +1,9 @@
 pub mod Climb
 pub mod EntriesLemmas
+pub mod ExtentsLemmas
 pub mod Labels
 pub mod ModelOf
+pub mod Pictured
 pub mod Rest
 pub mod Same
 pub mod Sound

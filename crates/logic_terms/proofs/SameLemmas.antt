@@ -3,11 +3,12 @@ use Rattle.std.proofs.Common.{◌≡◌, ◌≢◌, ℕ, suc, ◌+◌, ◌≤◌
 use Rattle.std.specs.Option.{option_map}
 use Rattle.std.proofs.lemmas.List.{length-map}
 use Rattle.std.proofs.lemmas.Option.{slice_get-map}
-use Rattle.std.specs.Prelude.{not}
-use Rattle.std.specs.List.{list_any}
-use Rattle.std.proofs.lemmas.Bool.{and_left, and_from}
-use Rattle.logic_terms.specs.Concept.{Concept, Concepts, no_concept, also_concept, concepts_from}
-use Rattle.logic_terms.specs.Same.{same_concept, same_concepts}
+use Rattle.std.proofs.lemmas.Bool.{eqb-true, eq-eqb}
+use Rattle.logic_terms.specs.Concept.{Concept, Concepts, Everything, Atomic, ComplementOf, IntersectionOf, UnionOf, SomeValuesFrom, AllValuesFrom, HasValue, no_concept, also_concept, concepts_from}
+use Rattle.logic_terms.specs.declared.expressions.Role.{Role}
+use Rattle.wiki_base.specs.declared.numbers.WordId.{WordId}
+use Rattle.logic_terms.specs.Interpretation.{is_word}
+use Rattle.logic_terms.specs.Same.{same_direction, same_role, same_concept, same_concepts}
 use Rattle.logic_terms.proofs.Walks.{left_more, left_none, drop_get}
 
 and_false : (a : Bool) → (a && false) ≡ false
@@ -66,3 +67,76 @@ module _ (f : Concept → Concept) (from : Concepts → Concepts) (each : (ds : 
 
   pub made_same-begin : (cs ds : List Concept) → same_concepts (concepts_from cs) (from (concepts_from ds)) ≡ rest_same cs (map f ds) 0
   made_same-begin cs ds = ap (same_concepts (concepts_from cs)) (each ds)
+
+both_parts : (a b : Bool) → (a && b) ≡ true → (a ≡ true) × (b ≡ true)
+both_parts true b h = (refl, h)
+both_parts false b h = cc
+
+pub word_equal : (v w : WordId) → is_word v w ≡ true → v ≡ w
+word_equal v w h = let e : v.0 ≡ w.0 = eqb-true v.0 w.0 h in λ j. record { 0 = e j }
+
+direction_equal : (a b : Bool) → same_direction a b ≡ true → a ≡ b
+direction_equal true true h = refl
+direction_equal true false h = cc
+direction_equal false true h = cc
+direction_equal false false h = refl
+
+pub role_equal : (r s : Role) → same_role r s ≡ true → r ≡ s
+role_equal r s h =
+    let p : (is_word r.id s.id ≡ true) × (same_direction r.inverted s.inverted ≡ true) = both_parts (is_word r.id s.id) (same_direction r.inverted s.inverted) h in
+    let e : r.id ≡ s.id = word_equal r.id s.id p.0 in
+    let d : r.inverted ≡ s.inverted = direction_equal r.inverted s.inverted p.1 in
+    λ j. record { id = e j; inverted = d j }
+
+-- classes that the test calls the same are equal
+mutual
+  pub same_concept-equal : (c d : Concept) → same_concept c d ≡ true → c ≡ d
+  same_concept-equal Everything Everything h = refl
+  same_concept-equal (Atomic v) (Atomic w) h = ap Atomic (word_equal v w h)
+  same_concept-equal (ComplementOf c) (ComplementOf d) h = ap ComplementOf (same_concept-equal c d h)
+  same_concept-equal (IntersectionOf cs) (IntersectionOf ds) h = ap IntersectionOf (same_concepts-equal cs ds h)
+  same_concept-equal (UnionOf cs) (UnionOf ds) h = ap UnionOf (same_concepts-equal cs ds h)
+  same_concept-equal (SomeValuesFrom r c) (SomeValuesFrom s d) h =
+      let p : (same_role r s ≡ true) × (same_concept c d ≡ true) = both_parts (same_role r s) (same_concept c d) h in
+      ap (λ t. SomeValuesFrom t c) (role_equal r s p.0) ∙ ap (SomeValuesFrom s) (same_concept-equal c d p.1)
+  same_concept-equal (AllValuesFrom r c) (AllValuesFrom s d) h =
+      let p : (same_role r s ≡ true) × (same_concept c d ≡ true) = both_parts (same_role r s) (same_concept c d) h in
+      ap (λ t. AllValuesFrom t c) (role_equal r s p.0) ∙ ap (AllValuesFrom s) (same_concept-equal c d p.1)
+  same_concept-equal (HasValue r a) (HasValue s b) h =
+      let p : (same_role r s ≡ true) × (is_word a b ≡ true) = both_parts (same_role r s) (is_word a b) h in
+      ap (λ t. HasValue t a) (role_equal r s p.0) ∙ ap (HasValue s) (word_equal a b p.1)
+  same_concept-equal _ _ h = cc
+
+  pub same_concepts-equal : (cs ds : Concepts) → same_concepts cs ds ≡ true → cs ≡ ds
+  same_concepts-equal no_concept no_concept h = refl
+  same_concepts-equal (also_concept c cs) (also_concept d ds) h =
+      let p : (same_concept c d ≡ true) × (same_concepts cs ds ≡ true) = both_parts (same_concept c d) (same_concepts cs ds) h in
+      ap (λ k. also_concept k cs) (same_concept-equal c d p.0) ∙ ap (also_concept d) (same_concepts-equal cs ds p.1)
+  same_concepts-equal _ _ h = cc
+
+pub same_word : (w : WordId) → is_word w w ≡ true
+same_word w = eq-eqb w.0 w.0 refl
+
+same_self : (b : Bool) → same_direction b b ≡ true
+same_self true = refl
+same_self false = refl
+
+pub same_role-self : (r : Role) → same_role r r ≡ true
+same_role-self r =
+    ap (λ b. b && same_direction r.inverted r.inverted) (same_word r.id) ∙ same_self r.inverted
+
+-- each class is the same as itself
+mutual
+  pub same_concept-self : (c : Concept) → same_concept c c ≡ true
+  same_concept-self Everything = refl
+  same_concept-self (Atomic w) = same_word w
+  same_concept-self (ComplementOf c) = same_concept-self c
+  same_concept-self (IntersectionOf cs) = same_concepts-self cs
+  same_concept-self (UnionOf cs) = same_concepts-self cs
+  same_concept-self (SomeValuesFrom r c) = ap (λ b. b && same_concept c c) (same_role-self r) ∙ same_concept-self c
+  same_concept-self (AllValuesFrom r c) = ap (λ b. b && same_concept c c) (same_role-self r) ∙ same_concept-self c
+  same_concept-self (HasValue r a) = ap (λ b. b && is_word a a) (same_role-self r) ∙ same_word a
+
+  pub same_concepts-self : (cs : Concepts) → same_concepts cs cs ≡ true
+  same_concepts-self no_concept = refl
+  same_concepts-self (also_concept c cs) = ap (λ b. b && same_concepts cs cs) (same_concept-self c) ∙ same_concepts-self cs

@@ -122,6 +122,16 @@ impl Classes {
         Ok(())
     }
 
+    /// Moves the classes of another list to the end. Where memory is refused the list stays, and the others are dropped.
+    pub fn append(&mut self, more: Classes) -> Result<(), Memory>
+        ensures ok { OnOk result (concepts_of self.new ≡ concepts_of self.old ++ concepts_of more) }
+        ensures err { OnErr result (concepts_of self.new ≡ concepts_of self.old) }
+    {
+        let Classes { mut items } = more;
+        self.items.append(&mut items)?;
+        Ok(())
+    }
+
     /// Equal classes in memory of their own.
     #[cycle(copying)]
     pub fn copy(&self) -> Result<Classes, Memory>

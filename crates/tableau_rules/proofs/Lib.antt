@@ -3,3 +3,4 @@ pub mod Firsts
 pub mod Lists
 pub mod MapWalks
 pub mod NameLaws
+pub mod Passing

@@ -1,6 +1,12 @@
 -- Tests on lists that were made of others.
 use Rattle.std.proofs.Common.{◌≡◌, ℕ, zero, suc, ◌+◌, ◌&&◌, ◌||◌, Bool, true, false, List, [], ◌∷◌, map, filter, length, cond, refl, sym, ap, ◌∙◌}
+use Rattle.std.specs.Prelude.{not}
 use Rattle.std.specs.List.{list_any, list_all}
+use Rattle.wiki_base.specs.declared.numbers.WordId.{WordId}
+use Rattle.logic_terms.specs.Concept.{Concept}
+use Rattle.logic_terms.specs.Interpretation.{is_word}
+use Rattle.logic_terms.specs.Same.{has_concept}
+use Rattle.tableau_rules.specs.Rules.{lacks_some}
 
 pub list_any-map : {X Y : Type 0} (test : Y → Bool) (f : X → Y) (xs : List X) → list_any test (map f xs) ≡ list_any (λ x. test (f x)) xs
 list_any-map test f [] = refl
@@ -31,3 +37,9 @@ kept_any test false x rest other h = h
 pub list_any-filter : {X : Type 0} (test p : X → Bool) (xs : List X) → list_any test (filter p xs) ≡ list_any (λ x. p x && test x) xs
 list_any-filter test p [] = refl
 list_any-filter test p (x ∷ xs) = kept_any test (p x) x (filter p xs) (list_any (λ y. p y && test y) xs) (list_any-filter test p xs)
+
+-- some unfolding of a word is missing where some entry is one of the word and missing
+pub lacks_unfolding_as_list : (label : List Concept) (entries : List (WordId × Concept)) (word : WordId) → lacks_some label (map (λ e. e.1) (filter (λ e. is_word word e.0) entries)) ≡ list_any (λ e. is_word word e.0 && not (has_concept label e.1)) entries
+lacks_unfolding_as_list label entries word =
+    list_any-map (λ c. not (has_concept label c)) (λ e. e.1) (filter (λ e. is_word word e.0) entries)
+    ∙ list_any-filter (λ e. not (has_concept label e.1)) (λ e. is_word word e.0) entries

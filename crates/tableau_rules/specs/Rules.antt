@@ -94,7 +94,13 @@ abbrev pub with_classes : List Concept → List Concept → List Concept
 with_classes label [] = label
 with_classes label (c ∷ cs) = with_classes (with_class label c) cs
 
--- a branch with classes in the label of x
+-- a branch with classes at the end of the label of x, and with those of them that are missing there
+abbrev pub grown : Graph → ℕ → List Concept → Graph
+grown g x cs = option_map_or (λ v. record {
+  nodes = slice_set g.nodes x (record { parent = v.parent; label = v.label ++ cs });
+  edges = g.edges;
+}) (slice_get g.nodes x) g
+
 abbrev pub adding : Graph → ℕ → List Concept → Graph
 adding g x cs = option_map_or (λ v. record {
   nodes = slice_set g.nodes x (record { parent = v.parent; label = with_classes v.label cs });

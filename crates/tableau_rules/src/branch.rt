@@ -1,7 +1,8 @@
 // Branches.
-ghost use Rattle.std.specs.Prelude.{◌≡◌, ◌<◌, [], ◌∷◌, ◌++◌, List, map, length, None, Some, MatchOption, IfOk};
+ghost use Rattle.std.specs.Prelude.{◌≡◌, ◌<◌, [], ◌∷◌, ◌++◌, List, map, length, slice_get, None, Some, MatchOption, IfOk, OnOk, OnErr};
 ghost use Rattle.logic_terms.specs.Shown.{concept_of, concepts_of};
 ghost use Rattle.tableau_rules.specs.Graph.{Graph, Vertex, label_at, class_at, parent_of};
+ghost use Rattle.tableau_rules.specs.Rules.{grown, with_edge, with_node};
 ghost use Rattle.tableau_rules.specs.Shown.{graph_of, vertex_of};
 
 use logic_terms::{Class, Classes, Role};
@@ -99,6 +100,13 @@ impl Branch {
         self.label(node).get(place as usize)
     }
 
+    /// How many classes a node's label has. It takes no memory.
+    pub fn label_len(&self, node: u64) -> u64
+        ensures { result ≡ length (label_at (graph_of self.now) node) }
+    {
+        self.label(node).len() as u64
+    }
+
     /// How many nodes there are.
     pub fn len(&self) -> u64
         ensures { result ≡ length (graph_of self.now).nodes }
@@ -113,6 +121,61 @@ impl Branch {
         match self.nodes.get(node as usize) {
             Some(found) => found.parent,
             None => None,
+        }
+    }
+
+    /// The edge at a place, if there is one. It takes no memory.
+    pub fn edge(&self, place: u64) -> Option<Edge>
+        ensures { result ≡ slice_get (graph_of self.now).edges place }
+    {
+        self.edges.get(place as usize).copied()
+    }
+
+    /// How many edges there are. It takes no memory.
+    pub fn edge_count(&self) -> u64
+        ensures { result ≡ length (graph_of self.now).edges }
+    {
+        self.edges.len() as u64
+    }
+
+    pub(crate) fn allocator(&self) -> Global {
+        *self.nodes.allocator()
+    }
+
+    // Adds classes at the end of a node's label, unchanged where memory is refused.
+    pub(crate) fn grow(&mut self, node: u64, more: Classes) -> Result<(), Memory>
+        ensures ok { OnOk result (graph_of self.new ≡ grown (graph_of self.old) node (concepts_of more)) }
+        ensures err { OnErr result (graph_of self.new ≡ graph_of self.old) }
+    {
+        let place = node as usize;
+        if place < self.nodes.len() {
+            let found = &mut self.nodes[place];
+            found.label.append(more)?;
+        }
+        Ok(())
+    }
+
+    // Adds an edge, unchanged where memory is refused.
+    pub(crate) fn join(&mut self, edge: Edge) -> Result<(), Memory>
+        ensures ok { OnOk result (graph_of self.new ≡ with_edge (graph_of self.old) edge) }
+        ensures err { OnErr result (graph_of self.new ≡ graph_of self.old) }
+    {
+        self.edges.push(edge)?;
+        Ok(())
+    }
+
+    // Adds a node and an edge, unchanged where memory is refused.
+    pub(crate) fn sprout(&mut self, node: Node, edge: Edge) -> Result<(), Memory>
+        ensures ok { OnOk result (graph_of self.new ≡ with_node (graph_of self.old) (vertex_of node) edge) }
+        ensures err { OnErr result (graph_of self.new ≡ graph_of self.old) }
+    {
+        self.edges.push(edge)?;
+        match self.nodes.push(node) {
+            Ok(()) => Ok(()),
+            Err(_) => {
+                let _ = self.edges.pop();
+                Err(Memory)
+            }
         }
     }
 

@@ -61,7 +61,7 @@ fn first_by(k: &Knowledge, b: &Branch, rule: Rule) -> Option<Step>
 fn first_at(k: &Knowledge, b: &Branch, rule: Rule, node: u64) -> Option<Step>
     ensures { result ≡ first_at (theory_of k.now) (graph_of b.now) rule node }
 {
-    for class in 0..b.label(node).len() as u64 {
+    for class in 0..b.label_len(node) {
         if let Some(other) = site_at(k, b, rule, node, class) {
             return Some(Step {
                 rule,

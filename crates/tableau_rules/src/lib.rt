@@ -3,16 +3,23 @@
 
 mod blocking;
 mod branch;
+mod changes;
+mod clashes;
 mod finder;
+mod grown;
 mod label;
 mod names;
 mod neighbour;
 mod rows;
+mod starting;
 mod step;
 
 pub use blocking::{is_blocked, is_directly_blocked, is_indirectly_blocked};
 pub use branch::{Branch, Edge, Node};
+pub use changes::{apply, choices};
+pub use clashes::{clash, is_clash};
 pub use finder::{applicable, applies};
 pub use names::{node_of, root_count};
 pub use neighbour::{is_neighbour, makes_neighbour};
+pub use starting::start;
 pub use step::{Clash, Closed, Rule, Step};

@@ -1,0 +1,4 @@
+// Which trees are closed.
+pub fn one() -> u8 {
+    1
+}

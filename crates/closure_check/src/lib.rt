@@ -1,0 +1,4 @@
+//! Closed trees: a tree that is accepted shows that its knowledge has no finite model.
+#![tactic(auto)]
+
+mod accepting;

@@ -1,0 +1,11 @@
+use Rattle.std.proofs.Common.{◌≡◌, ◌++◌, drop, map, filter}
+use Rattle.logic_terms.specs.Interpretation.{is_word}
+use Rattle.logic_terms.specs.Known.{theory_of, stated}
+use Rattle.logic_terms.specs.Shown.{concepts_of}
+use Rattle.logic_terms.specs.Theory.{representative}
+use Rattle.tableau_rules.specs.Branches.{asserted}
+use Rattle.tableau_rules.specs.Clashes.{passes}
+use Rattle.tableau_rules.proofs.starting.asserted.Given as goal
+
+abbrev pub invariant-loop-entry : goal.invariant-loop-entry
+invariant-loop-entry l = asserted (theory_of l.k) l.root ≡ concepts_of l.classes ++ map (λ e. e.1) (filter (λ e. passes (representative (theory_of l.k) e.0) (is_word l.root)) (stated (drop l.entry-index l.entry-items)))

@@ -2,6 +2,7 @@ pub mod Climb
 pub mod EntriesLemmas
 pub mod ExtentsLemmas
 pub mod Labels
+pub mod Made
 pub mod ModelOf
 pub mod Pictured
 pub mod Rest

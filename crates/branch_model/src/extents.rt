@@ -114,7 +114,7 @@ fn add_pair(
     }
 }
 
-fn stand(stands: &[Option<u64>], node: u64) -> Option<u64>
+pub(crate) fn stand(stands: &[Option<u64>], node: u64) -> Option<u64>
     ensures { result ≡ stand_of stands.now node }
 {
     match stands.get(node as usize) {

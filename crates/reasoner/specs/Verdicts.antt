@@ -2,6 +2,8 @@
 use Rattle.std.specs.Prelude.{ℕ, List, IsTrue}
 use Rattle.wiki_base.specs.declared.numbers.WordId.{WordId}
 use Rattle.logic_terms.specs.Concept.{Claim}
+use Rattle.logic_terms.specs.Interpretation.{Interpretation, is_interpretation}
+use Rattle.logic_terms.specs.Reading.{IsModel}
 use Rattle.logic_terms.specs.Theory.{Theory}
 use Rattle.absorb.specs.Absorbed.{IsAbsorbed}
 use Rattle.owl_eval.specs.declared.checked.CheckedModel.{CheckedModel}
@@ -28,6 +30,13 @@ abbrev pub IfSpent : Verdict → (Branch → Type 0) → Type 0
 IfSpent (Consistent checked) P = Unit {0}
 IfSpent (Inconsistent tree) P = Unit {0}
 IfSpent (Spent b) P = P b
+
+-- a finite interpretation is a model of these axioms, and no finite interpretation is
+abbrev pub IsFiniteModel : Interpretation → List Claim → Type 0
+IsFiniteModel i claims = IsTrue (is_interpretation i) × IsModel i claims
+
+abbrev pub HaveNoModel : List Claim → Type 0
+HaveNoModel claims = (i : Interpretation) → ¬ IsFiniteModel i claims
 
 -- the tree is a closed one of the absorbed knowledge of these axioms and names
 pub record ClosesAll (claims : List Claim) (names : List WordId) (tree : Tree) : Type 0 where

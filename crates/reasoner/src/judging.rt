@@ -1,7 +1,6 @@
 // Verdicts on axioms.
 ghost use Rattle.std.specs.Prelude.{◌≡◌, true, IfOk, IsTrue};
 ghost use Rattle.logic_terms.specs.Shown.{claims_of};
-ghost use Rattle.logic_terms.specs.Interpretation.{Interpretation};
 ghost use Rattle.logic_terms.specs.Known.{theory_of};
 ghost use Rattle.logic_terms.specs.Plain.{are_plain};
 ghost use Rattle.logic_terms.specs.Reading.{IsModel};
@@ -9,7 +8,7 @@ ghost use Rattle.absorb.specs.Mentioned.{are_over};
 ghost use Rattle.owl_eval.specs.Checked.{kept_interp, kept_claims};
 ghost use Rattle.tableau_rules.specs.Shown.{graph_of};
 ghost use Rattle.tableau_rules.specs.Trees.{tree_of};
-ghost use Rattle.reasoner.specs.Verdicts.{IfConsistent, IfInconsistent, IfSpent, ClosesAll, SpendsAll};
+ghost use Rattle.reasoner.specs.Verdicts.{IfConsistent, IfInconsistent, IfSpent, IsFiniteModel, HaveNoModel, ClosesAll, SpendsAll};
 
 use crate::answer::Verdict;
 use absorb::absorb;
@@ -32,9 +31,9 @@ pub fn verdict(
     requires over { IsTrue (are_over names.now (claims_of axioms)) }
     requires plain { IsTrue (are_plain (claims_of axioms)) }
     ensures consistent { IfOk result (λ v. IfConsistent v (λ m. kept_claims m ≡ claims_of axioms)) }
-    ensures model { IfOk result (λ v. IfConsistent v (λ m. IsModel (kept_interp m) (claims_of axioms))) }
+    ensures model { IfOk result (λ v. IfConsistent v (λ m. IsFiniteModel (kept_interp m) (claims_of axioms))) }
     ensures inconsistent { IfOk result (λ v. IfInconsistent v (λ tree. ClosesAll (claims_of axioms) names.now (tree_of tree))) }
-    ensures impossible { IfOk result (λ v. IfInconsistent v (λ _. (i : Interpretation) → IsModel i (claims_of axioms) → ⊥)) }
+    ensures impossible { IfOk result (λ v. IfInconsistent v (λ _. HaveNoModel (claims_of axioms))) }
     ensures spent { IfOk result (λ v. IfSpent v (λ b. SpendsAll (claims_of axioms) names.now budget (graph_of b))) }
     ensures not_kept { IfOk result (λ v. IfSpent v (λ _. ¬ IsModel (kept_interp kept.now) (claims_of axioms))) }
 {

@@ -1,5 +1,6 @@
 // Interpretations that were checked to be models.
-ghost use Rattle.std.specs.Prelude.{◌≡◌, true, ◌↔◌, IsOk, IfOk, IfErr};
+ghost use Rattle.std.specs.Prelude.{◌≡◌, true, ◌↔◌, IsTrue, IsOk, IfOk, IfErr};
+ghost use Rattle.logic_terms.specs.Interpretation.{is_interpretation};
 ghost use Rattle.logic_terms.specs.Shown.{claims_of};
 ghost use Rattle.logic_terms.specs.Meaning.{all_hold};
 ghost use Rattle.logic_terms.specs.Reading.{IsModel};
@@ -37,8 +38,9 @@ impl CheckedModel {
     pub fn interp(&self) -> &Interp
         ensures part { result.now ≡ kept_interp self.now }
         ensures model { IsModel result.now (kept_claims self.now) }
+        ensures sound { IsTrue (is_interpretation result.now) }
     {
-        &self.interp
+        self.interp.lent()
     }
 
     /// The axioms, which are true in the interpretation.

@@ -146,6 +146,15 @@ impl Interp {
         (relation.word(), relation.pairs())
     }
 
+    // The interpretation itself, with what is true of every one.
+    pub(crate) fn lent(&self) -> &Interp
+        ensures same { result.now ≡ self.now }
+        ensures sound { IsTrue (is_interpretation self.now) }
+    {
+        let _ = &self.size;
+        self
+    }
+
     // The element of a name.
     pub(crate) fn element(&self, name: WordId) -> u64
         ensures { result ≡ element_of self.now name }

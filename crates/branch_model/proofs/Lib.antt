@@ -5,6 +5,7 @@ pub mod Labels
 pub mod Made
 pub mod ModelOf
 pub mod Pictured
+pub mod Placing
 pub mod Rest
 pub mod Same
 pub mod Sound

@@ -17,7 +17,7 @@ pub(crate) struct Elements {
     pub(crate) stands: Vec<Option<u64>>,
 }
 
-pub(crate) fn elements(alloc: Global, k: &Knowledge, b: &Branch) -> Result<Elements, Memory>
+pub(crate) fn find_elements(alloc: Global, k: &Knowledge, b: &Branch) -> Result<Elements, Memory>
     requires { ParentsBelow (graph_of b.now) }
     ensures { IfOk result (λ made. ArePlaced (theory_of k.now) (graph_of b.now) (length (graph_of b.now).nodes) made.owners.items made.stands.items) }
 {

@@ -4,6 +4,6 @@
 mod elements;
 mod entries;
 mod extents;
-mod model;
+mod making;
 
-pub use model::model;
+pub use making::model;

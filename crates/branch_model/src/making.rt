@@ -9,7 +9,7 @@ ghost use Rattle.tableau_rules.specs.Neighbours.{node_of};
 ghost use Rattle.tableau_rules.specs.Shown.{graph_of};
 ghost use Rattle.branch_model.specs.Named.{named_elements, element_named};
 
-use crate::elements::elements;
+use crate::elements::find_elements;
 use crate::extents::{class_extents, role_pairs, stand};
 use logic_terms::Knowledge;
 use owl_eval::Interp;
@@ -28,7 +28,7 @@ pub fn model(alloc: Global, k: &Knowledge, b: &Branch) -> Result<Interp, Memory>
     ensures model { IfOk result (λ i. IsModelOf i (theory_of k.now)) }
     ensures sound { IfOk result (λ i. IsTrue (is_interpretation i)) }
 {
-    let placed = elements(alloc, k, b)?;
+    let placed = find_elements(alloc, k, b)?;
     let names = name_elements(alloc, k, placed.stands.as_slice())?;
     let classes = class_extents(alloc, b, placed.owners.as_slice())?;
     let relations = role_pairs(alloc, k, b, placed.stands.as_slice())?;

@@ -60,7 +60,7 @@ module _ (names : List WordId) where
   over-either : (c d : Concept) → over (names_in c) ≡ true → over (names_in d) ≡ true → over (names_in (either c d)) ≡ true
   over-either c d p q = both (names_in c) (names_in d ++ []) p (both (names_in d) [] q refl)
 
-  over-complement : (c : Concept) → over (names_in c) ≡ true → over (names_in (complement c)) ≡ true
+  pub over-complement : (c : Concept) → over (names_in c) ≡ true → over (names_in (complement c)) ≡ true
   over-complement c p = ap over (names_in-complement c) ∙ p
 
   over-without : (cs : Concepts) → over (names_in_each cs) ≡ true → over (names_in_each (without_first_word cs)) ≡ true

@@ -34,7 +34,7 @@ fn feature(alloc: Global, row: &FeatureRow) -> Result<Feature, Memory>
     ensures { IfOk result (λ made. made ≡ feature_of row.now) }
 {
     Ok(Feature {
-        name: Symbol::read(alloc, row.0)?,
+        name: Symbol::from_slice(alloc, row.0)?,
         declared: declared(alloc, &row.1)?,
     })
 }
@@ -62,7 +62,7 @@ pub fn symbols(alloc: Global, texts: &[&[u8]]) -> Result<Symbols, Memory>
 {
     let mut made = Symbols::new(alloc);
     for text in texts {
-        made.push(Symbol::read(alloc, text)?)?;
+        made.push(Symbol::from_slice(alloc, text)?)?;
     }
     Ok(made)
 }

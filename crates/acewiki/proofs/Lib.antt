@@ -1,5 +1,2 @@
-pub mod AddLemmas
-pub mod CauseLemmas
-pub mod LineLemmas
-pub mod ReplyLemmas
+pub mod CommandLemmas
 pub mod RunLemmas

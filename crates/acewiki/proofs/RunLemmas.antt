@@ -1,186 +1,244 @@
 -- Runs that go on by one line, and runs that end.
-use Rattle.std.proofs.Common.{◌≡◌, ℕ, ◌<◌, ◌≤◌, List, [], ◌∷◌, ◌++◌, take, drop, Option, IsTrue, refl, sym, ap, subst, ◌∙◌, append_assoc, append-nil, arith, take-append-drop, ◌⊎◌, inl, inr, ◌↔◌}
+use Rattle.std.proofs.Common.{◌≡◌, ◌≢◌, ℕ, ◌+◌, ◌-◌, ◌<◌, ◌≤◌, List, [], ◌∷◌, ◌++◌, length, take, drop, map, Option, Some, None, IsTrue, refl, sym, ap, subst, ◌∙◌, append_assoc, append-nil, arith, take-append-drop, ◌⊎◌, inl, inr, ◌↔◌}
 use Rattle.std.proofs.lemmas.Bool.{false≢true, cases_lt}
-use Rattle.std.specs.Io.KnownBytes.{append_known, IsAtEnd}
+use Rattle.std.proofs.lemmas.Grind.{flat_map-append}
+use Rattle.std.proofs.lemmas.List.{map_push, length-append, take_at}
+use Rattle.std.specs.Io.KnownBytes.{Consumes, Appends, Keeps, IsAtEnd}
 use Rattle.wiki_io.specs.declared.limits.TheConstants.{MAX_INPUT}
 use Rattle.wiki_io.specs.declared.reader.Line.{Line}
 use Rattle.wiki_io.specs.declared.reader.Line.TheVariants as said_by
 use Rattle.wiki_io.specs.Faults.{Rose}
-use Rattle.wiki_io.specs.Lines.{InputLine, input_lines, AreReadLines}
+use Rattle.wiki_io.specs.Lines.{InputLine, input_lines, Begins, AreKnown, AreReadLines}
 use Rattle.wiki_io.specs.Reading.{Reading, unread, lines_to_come, answered, ReadsLine, HasNoLine, HasGivenFrom}
-use Rattle.wiki_io.proofs.KnownLemmas.{append_known-append, append_known-nil, prepend_known-nil}
-use Rattle.wiki_io.proofs.ReadingLemmas.{HasGivenFrom-unread, HasGivenFrom-call, HasGiven-end, HasGiven-fault}
-use Rattle.lexicon.specs.Words.{Listed}
-use Rattle.acewiki.specs.Wiki.{no_words}
-use Rattle.acewiki.specs.Replay.{answer, after, answers, after_all, replies, Begins, Replays}
+use Rattle.wiki_io.proofs.KnownLemmas.{Appends-nil, Appends-trans, Appends-kept, Consumes-nil}
+use Rattle.wiki_io.proofs.ReadingLemmas.{HasGivenFrom-unread, HasGivenFrom-call, HasGiven-end, HasGiven-fault, HasGiven-known, AreKnown-front}
+use Rattle.wiki_talk.specs.declared.requests.Request.{Request}
+use Rattle.wiki_talk.specs.declared.replies.Reply.{Reply}
+use Rattle.wiki_talk.specs.Turns.{Exchange, answered as answered_by, request_in}
+use Rattle.wire_json.specs.Replies.{reply_line}
+use Rattle.wiki_talk.proofs.TurnLemmas.{Turns-push}
+use Rattle.wiki_core.specs.State.{State}
+use Rattle.wiki_core.specs.Step.{Step}
+use Rattle.acewiki.specs.declared.command.Outcome.{Outcome}
+use Rattle.acewiki.specs.declared.command.Outcome.TheVariants.{Done, ReadFault, WriteFault, TooMuch, Memory}
+use Rattle.acewiki.specs.Lines.{asked, told, reply_lines, StepsLine, StepsLines, RepliesTo, WasStepped, AnswersLine, BeginsAnswer, GivesUpLine, CutsLine}
+use Rattle.acewiki.specs.Replay.{StepsInput, but_last, Replays}
+
+-- ---- one line
+
+-- what a step on the request of a line is to the line
+pub RepliesTo-step : (old : State) (line : InputLine) (new : State) (request : Request) (bytes : List ℕ) → Some request ≡ asked line → (reply : Reply) × Step old request reply new × (bytes ≡ reply_line reply) → RepliesTo old line new bytes
+RepliesTo-step old line new request bytes is_asked stepped = record {
+  exchange = answered_by request stepped.0;
+  steps = record { asked_now = is_asked; turn = stepped.1 };
+  is_told = stepped.2;
+}
+
+pub WasStepped-step : (old : State) (line : InputLine) (new : State) (request : Request) → Some request ≡ asked line → (new ≡ old) ⊎ ((reply : Reply) × Step old request reply new) → WasStepped old line new
+WasStepped-step old line new request is_asked (inl same) = inl same
+WasStepped-step old line new request is_asked (inr stepped) = inr (answered_by request stepped.0, record { asked_now = is_asked; turn = stepped.1 })
 
 -- ---- one more line
 
-answers-append : (words : Listed) (given more : List InputLine) → answers words (given ++ more) ≡ answers words given ++ answers (after_all words given) more
-answers-append words [] more = refl
-answers-append words (line ∷ given) more = ap (λ (rest : List ℕ). answer words line ++ rest) (answers-append (after words line) given more) ∙ sym (append_assoc (answer words line) _ _)
+StepsLines-none : (first : State) → StepsLines first [] [] first
+StepsLines-none first = record { asked_then = refl; turns = refl }
 
-after_all-append : (words : Listed) (given more : List InputLine) → after_all words (given ++ more) ≡ after_all (after_all words given) more
-after_all-append words [] more = refl
-after_all-append words (line ∷ given) more = after_all-append (after words line) given more
+StepsLines-push : (first : State) (lines : List InputLine) (line : InputLine) (exchanges : List (Exchange Request Reply)) (exchange : Exchange Request Reply) (before last : State)
+    → StepsLines first lines exchanges before → StepsLine before line exchange last → StepsLines first (lines ++ line ∷ []) (exchanges ++ exchange ∷ []) last
+StepsLines-push first lines line exchanges exchange before last steps one = record {
+  asked_then = map_push request_in exchanges exchange ∙ ap (λ l. l ++ request_in exchange ∷ []) steps.asked_then ∙ ap (λ o. map asked lines ++ o ∷ []) one.asked_now ∙ sym (map_push asked lines line);
+  turns = Turns-push Step first exchanges exchange before last steps.turns one.turn;
+}
 
-replies-push : (given : List InputLine) (line : InputLine) → replies (given ++ line ∷ []) ≡ replies given ++ answer (after_all no_words given) line
-replies-push given line = answers-append no_words given (line ∷ []) ∙ ap (λ (last : List ℕ). replies given ++ last) (append-nil (answer (after_all no_words given) line))
+reply_lines-push : (exchanges : List (Exchange Request Reply)) (exchange : Exchange Request Reply) → reply_lines (exchanges ++ exchange ∷ []) ≡ reply_lines exchanges ++ told exchange
+reply_lines-push exchanges exchange = flat_map-append told exchanges (exchange ∷ []) ∙ ap (λ (l : List ℕ). reply_lines exchanges ++ l) (append-nil (told exchange))
+
+but_last-push : (exchanges : List (Exchange Request Reply)) (exchange : Exchange Request Reply) → but_last (exchanges ++ exchange ∷ []) ≡ exchanges
+but_last-push exchanges exchange =
+    let size : length (exchanges ++ exchange ∷ []) - 1 ≡ length exchanges = omega (arith, length-append exchanges (exchange ∷ [])) in
+    ap (λ (k : ℕ). take k (exchanges ++ exchange ∷ [])) size ∙ take_at exchanges (exchange ∷ []) (length exchanges) refl
+
+-- the reply lines of all turns begin with those of all but the last
+whole-all : (exchanges : List (Exchange Request Reply)) → Begins (reply_lines (but_last exchanges)) (reply_lines exchanges)
+whole-all exchanges =
+    let k = length exchanges - 1 in
+    (reply_lines (drop k exchanges), ap reply_lines (sym (take-append-drop k exchanges)) ∙ flat_map-append told (take k exchanges) (drop k exchanges))
+
+Begins-refl : (l : List ℕ) → Begins l l
+Begins-refl l = ([], sym (append-nil l))
 
 -- ---- in the midst of a run
 
--- The lines that were given so far, at a moment at which the input has `left` left and the reader stands so. The counts
--- of faults have not fallen.
-pub record Running (first taken_first : Option (List ℕ)) (left : Option (List ℕ)) (reader : Reading) (words : Listed) (taken : Option (List ℕ)) (input_first input output_first output : ℕ) : Type 0 where
+-- The lines that were given so far were stepped and answered, at a moment at which the input has `left` left and the
+-- reader stands so. The counts of faults have not fallen.
+pub record Running (start : State) (first taken_first : Option (List ℕ)) (left : Option (List ℕ)) (reader : Reading) (wiki : State) (taken : Option (List ℕ)) (input_first input output_first output : ℕ) : Type 0 where
   pub given : List InputLine
   pub lines : HasGivenFrom first given reader left
   pub at_end : IsTrue reader.ended → IsAtEnd left
   pub within : reader.count ≤ MAX_INPUT
-  pub words_now : words ≡ after_all no_words given
-  pub sink : taken ≡ append_known taken_first (replies given)
+  pub exchanges : List (Exchange Request Reply)
+  pub steps : StepsLines start given exchanges wiki
+  pub sink : Appends taken_first taken (reply_lines exchanges)
   pub input_faults : input_first ≤ input
   pub output_faults : output_first ≤ output
 
-pub Running-first : (first taken : Option (List ℕ)) (reader : Reading) (words : Listed) (input output : ℕ) → reader ≡ unread → words ≡ no_words → Running first taken first reader words taken input input output output
-Running-first first taken reader words input output fresh none = subst (λ r. Running first taken first r words taken input input output output) (sym fresh) (record {
-  given = [];
-  lines = HasGivenFrom-unread first;
-  at_end = λ ended. absurd (false≢true ended);
-  within = omega arith;
-  words_now = none;
-  sink = sym (append_known-nil taken);
-  input_faults = omega arith;
-  output_faults = omega arith;
-})
+pub Running-first : (start : State) (first taken : Option (List ℕ)) (reader : Reading) (wiki : State) (input output : ℕ) → reader ≡ unread → wiki ≡ start → Running start first taken first reader wiki taken input input output output
+Running-first start first taken reader wiki input output fresh is_start =
+    subst (λ r. Running start first taken first r wiki taken input input output output) (sym fresh)
+    (subst (λ w. Running start first taken first unread w taken input input output output) (sym is_start) (record {
+      given = [];
+      lines = HasGivenFrom-unread first;
+      at_end = λ ended. absurd (false≢true ended);
+      within = omega arith;
+      exchanges = [];
+      steps = StepsLines-none start;
+      sink = Appends-nil taken;
+      input_faults = omega arith;
+      output_faults = omega arith;
+    }))
 
 -- ---- one call of the reader further
 
-module _ (first taken_first left : Option (List ℕ)) (old : Reading) (words : Listed) (taken : Option (List ℕ)) (input_first input output_first output : ℕ)
-    (run : Running first taken_first left old words taken input_first input output_first output)
-    (said : Line) (new : Reading) (left_after : Option (List ℕ)) (call : ReadsLine left old said new left_after) where
+module _ (start : State) (first taken_first left : Option (List ℕ)) (old : Reading) (wiki : State) (taken : Option (List ℕ)) (input_first input output_first output : ℕ)
+    (run : Running start first taken_first left old wiki taken input_first input output_first output)
+    (said : Line) (new : Reading) (left_after : Option (List ℕ)) (call : ReadsLine left old said new left_after)
+    (end : IsTrue new.ended → IsAtEnd left_after) where
   called : HasGivenFrom first (run.given ++ answered said new.line) new left_after
   called = HasGivenFrom-call first run.given old new left left_after said run.lines call
 
-  -- the lines that were read begin with those that were given
-  all_given : input_lines called.bytes ≡ (run.given ++ answered said new.line) ++ lines_to_come new []
-  all_given = ap input_lines (sym (append-nil called.bytes)) ∙ called.lines [] (λ _. refl)
-
-  front : Begins (replies run.given) (replies (input_lines called.bytes))
-  front =
-      let more = answered said new.line ++ lines_to_come new [] in
-      (answers (after_all no_words run.given) more, ap replies (all_given ∙ append_assoc run.given (answered said new.line) (lines_to_come new [])) ∙ answers-append no_words run.given more)
+  known : AreKnown called.bytes left_after (run.given ++ answered said new.line)
+  known = HasGiven-known called.bytes (run.given ++ answered said new.line) new left_after called.lines end
 
   none_given : answered said new.line ≡ [] → run.given ++ answered said new.line ≡ run.given
   none_given none = ap (λ (more : List InputLine). run.given ++ more) none ∙ append-nil run.given
 
-  pub at_end-call : (IsTrue new.ended → IsTrue old.ended ⊎ IsAtEnd left_after) → (IsTrue old.ended → left_after ≡ left) → IsTrue new.ended → IsAtEnd left_after
-  at_end-call nothing same ended = elim (nothing ended) [ inl was ↦ subst IsAtEnd (sym (same was)) (run.at_end was) | inr end ↦ end ]
-
-  pub Replays-end : answered said new.line ≡ [] → new.pending ≡ [] → IsAtEnd left_after → Replays first taken_first 0 left_after taken
-  Replays-end none pending end = record {
-    read = called.bytes;
-    written = replies run.given;
-    source = called.source;
-    sink = run.sink;
-    front = front;
-    done = λ _. (end, ap replies (sym (none_given none) ∙ HasGiven-end called.bytes (run.given ++ answered said new.line) new called.lines pending));
-    read_fault = λ is. absurd (omega arith);
-    too_large = λ is. absurd (omega arith);
+  -- it ends with all lines so far answered
+  Replays-answered : (outcome : Outcome) → (outcome ≡ Done → IsAtEnd left_after × (length called.bytes ≤ MAX_INPUT) × (run.given ≡ input_lines called.bytes))
+      → (outcome ≡ ReadFault → AreReadLines called.bytes run.given) → (outcome ≡ TooMuch → MAX_INPUT < length called.bytes)
+      → (taken_after : Option (List ℕ)) → Appends taken taken_after [] → Replays start first taken_first outcome left_after taken_after
+  Replays-answered outcome done fault large taken_after kept = record {
+    input = record {
+      read = called.bytes;
+      source = called.source;
+      lines = run.given;
+      known = AreKnown-front called.bytes left_after run.given (answered said new.line) known;
+      exchanges = run.exchanges;
+      last = wiki;
+      steps = run.steps;
+      done = done;
+      read_fault = fault;
+      too_large = large;
+    };
+    written = reply_lines run.exchanges;
+    sink = Appends-kept taken_first taken taken_after (reply_lines run.exchanges) run.sink kept;
+    front = Begins-refl (reply_lines run.exchanges);
+    whole = whole-all run.exchanges;
+    all = λ _ _. refl;
   }
 
-  pub Replays-fault : answered said new.line ≡ [] → HasNoLine new → Replays first taken_first 3 left_after taken
-  Replays-fault none no_line = record {
-    read = called.bytes;
-    written = replies run.given;
-    source = called.source;
-    sink = run.sink;
-    front = front;
-    done = λ is. absurd (omega arith);
-    read_fault = λ _. (run.given, subst (AreReadLines called.bytes) (none_given none) (HasGiven-fault called.bytes (run.given ++ answered said new.line) new called.lines no_line), refl);
-    too_large = λ is. absurd (omega arith);
-  }
+  pub Replays-end : answered said new.line ≡ [] → new.pending ≡ [] → new.count ≤ MAX_INPUT → IsAtEnd left_after → Replays start first taken_first Done left_after taken
+  Replays-end none pending within at_end = Replays-answered Done
+      (λ _. (at_end, omega (arith, called.count, within), sym (none_given none) ∙ HasGiven-end called.bytes (run.given ++ answered said new.line) new called.lines pending))
+      (λ is. absurd (cc is)) (λ is. absurd (cc is)) taken (Appends-nil taken)
 
-  pub Replays-too_large : MAX_INPUT < new.count → Replays first taken_first 6 left_after taken
-  Replays-too_large large = record {
-    read = called.bytes;
-    written = replies run.given;
-    source = called.source;
-    sink = run.sink;
-    front = front;
-    done = λ is. absurd (omega arith);
-    read_fault = λ is. absurd (omega arith);
-    too_large = λ _. omega (arith, called.count);
-  }
+  pub Replays-fault : answered said new.line ≡ [] → HasNoLine new → Replays start first taken_first ReadFault left_after taken
+  Replays-fault none no_line = Replays-answered ReadFault (λ is. absurd (cc is))
+      (λ _. subst (AreReadLines called.bytes) (none_given none) (HasGiven-fault called.bytes (run.given ++ answered said new.line) new called.lines no_line))
+      (λ is. absurd (cc is)) taken (Appends-nil taken)
 
-  pub Replays-memory : Replays first taken_first 9 left_after taken
-  Replays-memory = record {
-    read = called.bytes;
-    written = replies run.given;
-    source = called.source;
-    sink = run.sink;
-    front = front;
-    done = λ is. absurd (omega arith);
-    read_fault = λ is. absurd (omega arith);
-    too_large = λ is. absurd (omega arith);
-  }
+  pub Replays-too_large : MAX_INPUT < new.count → Replays start first taken_first TooMuch left_after taken
+  Replays-too_large large = Replays-answered TooMuch (λ is. absurd (cc is)) (λ is. absurd (cc is)) (λ _. omega (arith, called.count, large)) taken (Appends-nil taken)
 
-  module _ (line : InputLine) (gives : answered said new.line ≡ line ∷ []) (reply : List ℕ) (is_answer : reply ≡ answer words line) where
+  module _ (line : InputLine) (gives : answered said new.line ≡ line ∷ []) where
     more_given : run.given ++ answered said new.line ≡ run.given ++ line ∷ []
     more_given = ap (λ (more : List InputLine). run.given ++ more) gives
 
-    replies_more : replies (run.given ++ line ∷ []) ≡ replies run.given ++ reply
-    replies_more = replies-push run.given line ∙ ap (λ (r : List ℕ). replies run.given ++ r) (sym (is_answer ∙ ap (λ (w : Listed). answer w line) run.words_now))
-
-    sink_more : (taken_after : Option (List ℕ)) (bytes : List ℕ) → taken_after ≡ append_known taken bytes → taken_after ≡ append_known taken_first (replies run.given ++ bytes)
-    sink_more taken_after bytes taking = taking ∙ ap (λ (t : Option (List ℕ)). append_known t bytes) run.sink ∙ append_known-append taken_first (replies run.given) bytes
-
     -- a reply that was cut
-    pub Replays-cut : (taken_after : Option (List ℕ)) (n : ℕ) → taken_after ≡ append_known taken (take n reply) → Replays first taken_first 4 left_after taken_after
-    Replays-cut taken_after n taking =
-        let rest = lines_to_come new [] in
-        let later = answers (after_all no_words (run.given ++ line ∷ [])) rest in
-        let whole : replies (input_lines called.bytes) ≡ (replies run.given ++ reply) ++ later =
-        ap replies (all_given ∙ ap (λ (given : List InputLine). given ++ rest) more_given) ∙ answers-append no_words (run.given ++ line ∷ []) rest
-        ∙ ap (λ (told : List ℕ). told ++ later) replies_more in
-        let parts : (replies run.given ++ reply) ++ later ≡ (replies run.given ++ take n reply) ++ (drop n reply ++ later) =
-        ap (λ (r : List ℕ). (replies run.given ++ r) ++ later) (sym (take-append-drop n reply)) ∙ simp append_assoc in
+    Replays-begun : (wiki_after : State) (taken_after : Option (List ℕ)) → BeginsAnswer wiki line taken wiki_after taken_after → Replays start first taken_first WriteFault left_after taken_after
+    Replays-begun wiki_after taken_after begun =
+        let exchange = begun.replies.exchange in
+        let part = take begun.count begun.reply in
         record {
-          read = called.bytes;
-          written = replies run.given ++ take n reply;
-          source = called.source;
-          sink = sink_more taken_after (take n reply) taking;
-          front = (drop n reply ++ later, whole ∙ parts);
-          done = λ is. absurd (omega arith);
-          read_fault = λ is. absurd (omega arith);
-          too_large = λ is. absurd (omega arith);
+          input = record {
+            read = called.bytes;
+            source = called.source;
+            lines = run.given ++ line ∷ [];
+            known = subst (AreKnown called.bytes left_after) more_given known;
+            exchanges = run.exchanges ++ exchange ∷ [];
+            last = wiki_after;
+            steps = StepsLines-push start run.given line run.exchanges exchange wiki wiki_after run.steps begun.replies.steps;
+            done = λ is. absurd (cc is);
+            read_fault = λ is. absurd (cc is);
+            too_large = λ is. absurd (cc is);
+          };
+          written = reply_lines run.exchanges ++ part;
+          sink = Appends-trans taken_first taken taken_after (reply_lines run.exchanges) part run.sink begun.written;
+          front = (
+            drop begun.count begun.reply,
+            reply_lines-push run.exchanges exchange ∙ ap (λ (l : List ℕ). reply_lines run.exchanges ++ l) (sym begun.replies.is_told ∙ sym (take-append-drop begun.count begun.reply))
+                ∙ sym (append_assoc (reply_lines run.exchanges) part (drop begun.count begun.reply)),
+          );
+          whole = (part, ap (λ (es : List (Exchange Request Reply)). reply_lines es ++ part) (sym (but_last-push run.exchanges exchange)));
+          all = λ not _. absurd (not refl);
         }
 
+    -- the line had no whole reply
+    pub Replays-cut : (outcome : Outcome) (wiki_after : State) (taken_after : Option (List ℕ)) → CutsLine outcome wiki line taken wiki_after taken_after → Replays start first taken_first outcome left_after taken_after
+    Replays-cut WriteFault wiki_after taken_after cut = Replays-begun wiki_after taken_after cut
+    Replays-cut Memory wiki_after taken_after cut = Replays-answered Memory (λ is. absurd (cc is)) (λ is. absurd (cc is)) (λ is. absurd (cc is)) taken_after (Appends-none taken taken_after cut.written)
+      where
+        Appends-none : (a b : Option (List ℕ)) → Keeps a b → Appends a b []
+        Appends-none None b kept = tt
+        Appends-none (Some xs) None kept = kept
+        Appends-none (Some xs) (Some ys) kept = kept ∙ sym (append-nil xs)
+    Replays-cut Done wiki_after taken_after cut = absurd cut
+    Replays-cut ReadFault wiki_after taken_after cut = absurd cut
+    Replays-cut TooMuch wiki_after taken_after cut = absurd cut
+    Replays-cut outcome wiki_after taken_after cut = absurd cut
+
     -- a reply that was written whole
-    pub Running-line : (words_then : Listed) (taken_after : Option (List ℕ)) (input_after output_after : ℕ) → (IsTrue new.ended → IsAtEnd left_after) → new.count ≤ MAX_INPUT → words_then ≡ after words line
-        → taken_after ≡ append_known taken reply → input ≤ input_after → output ≤ output_after
-        → Running first taken_first left_after new words_then taken_after input_first input_after output_first output_after
-    Running-line words_then taken_after input_after output_after end within words_more taking input_kept output_kept = record {
-      given = run.given ++ line ∷ [];
-      lines = subst (λ (given : List InputLine). HasGivenFrom first given new left_after) more_given called;
-      at_end = end;
-      within = within;
-      words_now = words_more ∙ ap (λ (w : Listed). after w line) run.words_now ∙ sym (after_all-append no_words run.given (line ∷ []));
-      sink = sink_more taken_after reply taking ∙ ap (append_known taken_first) (sym replies_more);
-      input_faults = omega (arith, run.input_faults);
-      output_faults = omega (arith, run.output_faults);
-    }
+    pub Running-line : (wiki_after : State) (taken_after : Option (List ℕ)) (input_after output_after : ℕ) → new.count ≤ MAX_INPUT → AnswersLine wiki line taken wiki_after taken_after
+        → input ≤ input_after → output ≤ output_after → Running start first taken_first left_after new wiki_after taken_after input_first input_after output_first output_after
+    Running-line wiki_after taken_after input_after output_after within answers input_kept output_kept =
+        let exchange = answers.replies.exchange in
+        record {
+          given = run.given ++ line ∷ [];
+          lines = subst (λ (given : List InputLine). HasGivenFrom first given new left_after) more_given called;
+          at_end = end;
+          within = within;
+          exchanges = run.exchanges ++ exchange ∷ [];
+          steps = StepsLines-push start run.given line run.exchanges exchange wiki wiki_after run.steps answers.replies.steps;
+          sink = subst (Appends taken_first taken_after) (ap (λ (l : List ℕ). reply_lines run.exchanges ++ l) answers.replies.is_told ∙ sym (reply_lines-push run.exchanges exchange))
+              (Appends-trans taken_first taken taken_after (reply_lines run.exchanges) answers.reply run.sink answers.written);
+          input_faults = omega (arith, run.input_faults);
+          output_faults = omega (arith, run.output_faults);
+        }
+
+-- the source ended in this call or before
+pub at_end-call : (left left_after : Option (List ℕ)) (old new : Reading) → (IsTrue old.ended → IsAtEnd left) → (IsTrue new.ended → IsTrue old.ended ⊎ IsAtEnd left_after) → (IsTrue old.ended → left_after ≡ left)
+    → IsTrue new.ended → IsAtEnd left_after
+at_end-call left left_after old new before nothing same ended = elim (nothing ended) [ inl was ↦ subst IsAtEnd (sym (same was)) (before was) | inr end ↦ end ]
 
 -- nothing was read or written yet
-pub Replays-none : (left taken : Option (List ℕ)) → Replays left taken 9 left taken
-Replays-none left taken = record {
-  read = [];
+pub Replays-none : (start : State) (left taken : Option (List ℕ)) → Replays start left taken Memory left taken
+Replays-none start left taken = record {
+  input = record {
+    read = [];
+    source = Consumes-nil left;
+    lines = [];
+    known = inl (λ rest. (input_lines rest, refl));
+    exchanges = [];
+    last = start;
+    steps = StepsLines-none start;
+    done = λ is. absurd (cc is);
+    read_fault = λ is. absurd (cc is);
+    too_large = λ is. absurd (cc is);
+  };
   written = [];
-  source = sym (prepend_known-nil left);
-  sink = sym (append_known-nil taken);
-  front = (replies (input_lines []), refl);
-  done = λ is. absurd (omega arith);
-  read_fault = λ is. absurd (omega arith);
-  too_large = λ is. absurd (omega arith);
+  sink = Appends-nil taken;
+  front = ([], refl);
+  whole = ([], refl);
+  all = λ _ _. refl;
 }
 
 -- where a line was given, the input is not too large
@@ -192,6 +250,16 @@ within-call said line given count gives too_much = elim (cases_lt MAX_INPUT coun
   where
     nil≢cons : [] ≡ given ∷ [] → ⊥
     nil≢cons is = cc
+
+-- where the end was told, it is not too large either
+pub within-end : (said : Line) (count : ℕ) → said ≡ said_by.End → (said ≡ said_by.TooMuch) ↔ (MAX_INPUT < count) → count ≤ MAX_INPUT
+within-end said count ended too_much = elim (cases_lt MAX_INPUT count) [
+  | inl over ↦ absurd (end_is_not (sym ended ∙ too_much.1 over))
+  | inr within ↦ within
+]
+  where
+    end_is_not : said_by.End ≡ said_by.TooMuch → ⊥
+    end_is_not is = cc
 
 -- a count that rose after it had not fallen
 pub Rose-later : (first before now : ℕ) → first ≤ before → Rose before now → Rose first now

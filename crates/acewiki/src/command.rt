@@ -4,6 +4,9 @@ ghost use Rattle.acewiki.specs.declared.command.Outcome.TheVariants.{Memory as o
 
 use wiki_base::{Arg, Memory};
 
+/// How many steps a search may take where the command says nothing else.
+pub const DEFAULT_BUDGET: u64 = 1_000_000;
+
 /// What the program is asked to do.
 #[derive(Clone, Copy, Debug, PartialEq, Eq)]
 pub enum Command {
@@ -19,7 +22,7 @@ impl Command {
         ensures { result ≡ command_of words.now }
     {
         match words {
-            [word] if word.as_bytes() == b"replay".as_slice() => Some(Command::Replay),
+            [word] if word.as_slice() == b"replay".as_slice() => Some(Command::Replay),
             _ => None,
         }
     }

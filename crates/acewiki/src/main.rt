@@ -2,13 +2,11 @@
 #![tactic(auto)]
 
 mod command;
+mod lines;
 mod replay;
 mod run;
-mod talk;
 #[cfg(test)]
 mod tests;
-mod wiki;
-mod wire;
 
 use command::Outcome;
 pub use run::run;

@@ -1,20 +1,20 @@
 // The command `replay`: one reply line for each line of the input.
-ghost use Rattle.std.specs.Prelude.{◌≡◌, IfOk, OnOk};
-ghost use Rattle.std.specs.Bool.{OnTrue};
+ghost use Rattle.std.specs.Prelude.{◌≡◌, IfOk};
 ghost use Rattle.wiki_io.specs.Faults.{Rose};
-ghost use Rattle.acewiki.specs.Command.{status_of};
-ghost use Rattle.acewiki.specs.Replay.{line_handed, answer, after, Replays};
+ghost use Rattle.wiki_io.specs.Reading.{unread};
+ghost use Rattle.acewiki.specs.Replay.{ace_wiki, Replays};
 
-use crate::command::Outcome;
-use crate::wiki::Wiki;
-use crate::wire::{bad_request_line, read_request, reply_line};
+use crate::command::{DEFAULT_BUDGET, Outcome};
+use crate::lines::answer_line;
+use ace_grammar::built_in;
 use std::alloc::Global;
-use wiki_base::{Memory, Text8};
-use wiki_io::{Line, LineReader, Sink, Source, put};
+use wiki_base::Memory;
+use wiki_core::Wiki;
+use wiki_io::{Line, LineReader, Sink, Source};
 
-/// Answers each line of the input, as soon as it was read, by one line on the output.
+/// Answers each line of the input by one line on the output, before it reads the next.
 pub fn replay<S: Source, K: Sink>(alloc: Global, input: &mut S, output: &mut K) -> Outcome
-    ensures replays { Replays (S.left input.old) (K.taken output.old) (status_of result) (S.left input.new) (K.taken output.new) }
+    ensures replays { Replays ace_wiki (S.left input.old) (K.taken output.old) result (S.left input.new) (K.taken output.new) }
     ensures read_fault { result ≡ Outcome.ReadFault → Rose (S.faults input.old) (S.faults input.new) }
     ensures write_fault { result ≡ Outcome.WriteFault → Rose (K.faults output.old) (K.faults output.new) }
     ensures usage { result ≡ Outcome.Usage → ⊥ }
@@ -22,9 +22,26 @@ pub fn replay<S: Source, K: Sink>(alloc: Global, input: &mut S, output: &mut K) 
     let Ok(mut reader) = LineReader::new(alloc) else {
         return Outcome::Memory;
     };
-    let Ok(mut wiki) = Wiki::new(alloc) else {
+    let Ok(mut wiki) = ace_wiki(alloc) else {
         return Outcome::Memory;
     };
+    answer_lines(alloc, &mut reader, &mut wiki, input, output)
+}
+
+// Answers each line that a fresh reader gives.
+fn answer_lines<S: Source, K: Sink>(
+    alloc: Global,
+    reader: &mut LineReader,
+    wiki: &mut Wiki,
+    input: &mut S,
+    output: &mut K,
+) -> Outcome
+    requires { reader.old ≡ unread }
+    ensures replays { Replays wiki.old (S.left input.old) (K.taken output.old) result (S.left input.new) (K.taken output.new) }
+    ensures read_fault { result ≡ Outcome.ReadFault → Rose (S.faults input.old) (S.faults input.new) }
+    ensures write_fault { result ≡ Outcome.WriteFault → Rose (K.faults output.old) (K.faults output.new) }
+    ensures usage { result ≡ Outcome.Usage → ⊥ }
+{
     'lines: loop {
         let line = match reader.next_line(input) {
             Line::Text => Some(reader.line()),
@@ -33,26 +50,15 @@ pub fn replay<S: Source, K: Sink>(alloc: Global, input: &mut S, output: &mut K) 
             Line::ReadFault => return Outcome::ReadFault,
             Line::TooMuch => return Outcome::TooMuch,
         };
-        let Ok(reply) = answer(alloc, &mut wiki, line) else {
-            return Outcome::Memory;
-        };
-        if !put(output, reply.as_bytes()) {
-            return Outcome::WriteFault;
+        if let Err(outcome) = answer_line(alloc, wiki, line, output) {
+            return outcome;
         }
     }
 }
 
-// The reply line to a line; none is one that is too long.
-fn answer(alloc: Global, wiki: &mut Wiki, line: Option<&[u8]>) -> Result<Text8, Memory>
-    ensures reply { IfOk result (λ reply. reply ≡ answer wiki.old (line_handed line.entry)) }
-    ensures words { OnOk result (wiki.new ≡ after wiki.old (line_handed line.entry)) }
+// The wiki that the program begins with.
+fn ace_wiki(alloc: Global) -> Result<Wiki, Memory>
+    ensures { IfOk result (λ wiki. wiki ≡ ace_wiki) }
 {
-    let request = match line {
-        Some(line) => read_request(alloc, line)?,
-        None => None,
-    };
-    match request {
-        Some(request) => reply_line(alloc, &wiki.step(&request)?),
-        None => bad_request_line(alloc),
-    }
+    Wiki::new(alloc, built_in(alloc)?, DEFAULT_BUDGET)
 }

@@ -1,10 +1,10 @@
 // The top call: the words, the streams, and the status of the process.
 ghost use Rattle.std.specs.Prelude.{◌≡◌, ◌≢◌, ◌↔◌, ◌⊎◌, ℕ, List, None, Some};
-ghost use Rattle.std.specs.Io.KnownBytes.{append_known};
 ghost use Rattle.wiki_io.specs.Faults.{Rose};
 ghost use Rattle.wiki_io.specs.Lines.{input_lines};
 ghost use Rattle.acewiki.specs.Command.{command_of, status_of, words_of};
-ghost use Rattle.acewiki.specs.Replay.{replies, Replays, IsWithin, Tells, EndsWith};
+ghost use Rattle.acewiki.specs.Replay.{ace_wiki, AnswersLines, Replays, IsWithin, Tells, EndsWith};
+ghost use Rattle.acewiki.specs.declared.command.Outcome.{Outcome};
 
 use crate::command::{Command, Outcome};
 use crate::replay::replay;
@@ -26,12 +26,13 @@ pub fn run<S: Source, K: Sink, E: Sink>(
     ensures usage { (result ≡ 2) ↔ (command_of words.now ≡ None) }
     ensures idle { result ≡ 2 → (input.new ≡ input.old) × (output.new ≡ output.old) }
 
-    // With status 0 the reply lines to all lines of the input were written, and nothing else.
+    // With status 0 all lines of the input were stepped in one run, and their reply lines were written.
     ensures done { result ≡ 0 → (bytes : List ℕ) → S.left input.old ≡ Some bytes
-        → K.taken output.new ≡ append_known (K.taken output.old) (replies (input_lines bytes)) }
+        → AnswersLines ace_wiki (input_lines bytes) (K.taken output.old) (K.taken output.new) }
 
-    // With any status, what was written belongs to what was read.
-    ensures replays { result ≢ 2 → Replays (S.left input.old) (K.taken output.old) result (S.left input.new) (K.taken output.new) }
+    // With any status, what was written belongs to the lines that were stepped.
+    ensures replays { (outcome : Outcome) → result ≡ status_of outcome → outcome ≢ Outcome.Usage
+        → Replays ace_wiki (S.left input.old) (K.taken output.old) outcome (S.left input.new) (K.taken output.new) }
 
     ensures read_fault { result ≡ 3 → Rose (S.faults input.old) (S.faults input.new) }
     ensures write_fault { result ≡ 4 → Rose (K.faults output.old) (K.faults output.new) }

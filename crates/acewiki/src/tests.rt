@@ -56,7 +56,7 @@ fn an_empty_input_has_no_reply(rt: HostRuntime) -> Result<(), Fail> {
 
 #[test]
 fn names_are_added_and_found(rt: HostRuntime) -> Result<(), Fail> {
-    let exchange: [(&str, &str); 6] = [
+    let exchange: [(&str, &str); 7] = [
         (
             r#"{"do":"word","kind":"name","forms":["Bern"]}"#,
             r#"{"done":"word"}"#,
@@ -78,6 +78,10 @@ fn names_are_added_and_found(rt: HostRuntime) -> Result<(), Fail> {
             r#"{"name":"BadForm","refused":2,"which":0}"#,
         ),
         (r#"{"do":"fly"}"#, r#"{"name":"BadRequest","refused":0}"#),
+        (
+            r#"{"do":"words"}"#,
+            r#"{"done":"words","words":[{"forms":["Bern"],"kind":"name"}]}"#,
+        ),
     ];
     assert_replies(&rt, rt.alloc(), &exchange)
 }

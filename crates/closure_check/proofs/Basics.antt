@@ -4,7 +4,7 @@ use Rattle.std.specs.Prelude.{not, ◌⊎◌, nat_lt, slice_set, filter_map, if�
 use Rattle.std.specs.List.{list_any, list_all, cons_option}
 use Rattle.std.specs.Option.{option_map_or, option_and_then, option_map, option_or}
 use Rattle.std.specs.Map.{lookup}
-use Rattle.std.proofs.lemmas.Bool.{cases_eq}
+use Rattle.std.proofs.lemmas.Bool.{cases_eq, ltb-true}
 use Rattle.logic_terms.specs.Meaning.{some_below, each_below, implies}
 use Rattle.tableau_rules.specs.First.{first_below, where_true}
 use Rattle.tableau_rules.specs.Clashes.{passes}
@@ -49,7 +49,7 @@ pub all_at : {X : Type 0} (test : X → Bool) (xs : List X) (i : ℕ) (x : X) �
 all_at test [] i x h at = cc
 all_at test (y ∷ ys) zero x h at =
     let e : y ≡ x = cc in
-    sym (ap test (sym e)) ∙ both_left (test y) (list_all test ys) h
+    ap test (sym e) ∙ both_left (test y) (list_all test ys) h
 all_at test (y ∷ ys) (suc i) x h at = all_at test ys i x (both_right (test y) (list_all test ys) h) at
 
 pub all_append : {X : Type 0} (test : X → Bool) (xs ys : List X) → list_all test xs ≡ true → list_all test ys ≡ true → list_all test (xs ++ ys) ≡ true
@@ -107,10 +107,10 @@ only_one test (x ∷ []) h few = (x, refl, elim (either (test x) false h) [ inl 
   where
     never : false ≡ true → ⊥
     never e = cc
-only_one test (x ∷ y ∷ ys) h few = absurd (too_many ys few)
+only_one test (x ∷ y ∷ ys) h few = absurd (too_many (length ys) few)
   where
-    too_many : (zs : List _) → nat_lt (suc (suc (length zs))) 2 ≡ true → ⊥
-    too_many zs e = absurd (omega (arith, Rattle.std.proofs.lemmas.Bool.ltb-true (suc (suc (length zs))) 2 e))
+    too_many : (n : ℕ) → nat_lt (suc (suc n)) 2 ≡ true → ⊥
+    too_many n e = omega (arith, ltb-true (suc (suc n)) 2 e)
 
 pub each_at : (n : ℕ) (test : ℕ → Bool) (x : ℕ) → each_below n test ≡ true → x < n → test x ≡ true
 each_at zero test x h lt = absurd (omega arith)
@@ -133,11 +133,11 @@ where_some false x z h = cc
 -- the first number that passes a test passes it
 pub first_passes : (n : ℕ) (test : ℕ → Bool) (z : ℕ) → first_below n (λ y. where_true (test y) y) ≡ Some z → test z ≡ true
 first_passes zero test z h = cc
-first_passes (suc n) test z h = go (first_below n (λ y. where_true (test y) y)) refl h
+first_passes (suc n) test z h = go (first_passes n test z) (first_below n (λ y. where_true (test y) y)) refl h
   where
-    go : (o : Option ℕ) → first_below n (λ y. where_true (test y) y) ≡ o → option_or o (where_true (test n) n) ≡ Some z → test z ≡ true
-    go None e k = (let w = where_some (test n) n z k in ap test (sym w.1) ∙ w.0)
-    go (Some y) e k = first_passes n test z (e ∙ k)
+    go : (first_below n (λ y. where_true (test y) y) ≡ Some z → test z ≡ true) → (o : Option ℕ) → first_below n (λ y. where_true (test y) y) ≡ o → option_or o (where_true (test n) n) ≡ Some z → test z ≡ true
+    go before None e k = (let w = where_some (test n) n z k in ap test (sym w.1) ∙ w.0)
+    go before (Some y) e k = before (e ∙ k)
 
 pub where_holds : {X : Type 0} (b : Bool) (x z : X) → where_true b x ≡ Some z → b ≡ true
 where_holds true x z h = refl
@@ -165,9 +165,10 @@ push_cases (x ∷ xs) v (suc y) = elim (push_cases xs v y) [
 -- what is found of a key passes the test of some entry with the key
 pub lookup_entry : {K X : Type 0} (is : K → Bool) (each : K × X → Bool) (es : List (K × X)) (x : X) → lookup is es ≡ Some x → list_all each es ≡ true → (key : K) × (is key ≡ true) × (each (key, x) ≡ true)
 lookup_entry is each [] x h q = cc
-lookup_entry is each (e ∷ es) x h q = go (is e.0) refl h
+lookup_entry {K} {X} is each (e ∷ es) x h q =
+    go (λ k. lookup_entry is each es x k (both_right (each e) (list_all each es) q)) (is e.0) refl h
   where
-    go : (b : Bool) → is e.0 ≡ b → cond b (Some e.1) (lookup is es) ≡ Some x → (key : _) × (is key ≡ true) × (each (key, x) ≡ true)
-    go true here k =
+    go : (lookup is es ≡ Some x → (key : K) × (is key ≡ true) × (each (key, x) ≡ true)) → (b : Bool) → is e.0 ≡ b → cond b (Some e.1) (lookup is es) ≡ Some x → (key : K) × (is key ≡ true) × (each (key, x) ≡ true)
+    go further true here k =
         (let same : e.1 ≡ x = cc in (e.0, here, ap (λ z. each (e.0, z)) (sym same) ∙ both_left (each e) (list_all each es) q))
-    go false here k = lookup_entry is each es x k (both_right (each e) (list_all each es) q)
+    go further false here k = further k

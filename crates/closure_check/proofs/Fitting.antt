@@ -157,12 +157,12 @@ module _ (i : Interpretation) (k : Theory) (f : ℕ → ℕ) (elements : (x : �
 -- a place is within the list, and has the word
 pub place_within : (ws : List WordId) (w : WordId) (x : ℕ) → place_in ws w ≡ Some x → x < length ws
 place_within [] w x h = cc
-place_within (v ∷ vs) w x h = go (is_word w v) (place_in vs w) refl h
+place_within (v ∷ vs) w x h = go (λ m. place_within vs w m) (is_word w v) (place_in vs w) refl h
   where
-    go : (b : Bool) (o : Option ℕ) → place_in vs w ≡ o → (if b then Some 0 else option_map suc o) ≡ Some x → x < suc (length vs)
-    go true o e k = let z : 0 ≡ x = cc in omega arith
-    go false None e k = cc
-    go false (Some m) e k = let z : suc m ≡ x = cc in let lt : m < length vs = place_within vs w m e in omega arith
+    go : ((m : ℕ) → place_in vs w ≡ Some m → m < length vs) → (b : Bool) (o : Option ℕ) → place_in vs w ≡ o → (if b then Some 0 else option_map suc o) ≡ Some x → x < suc (length vs)
+    go further true o e k = (let z : 0 ≡ x = cc in omega arith)
+    go further false None e k = cc
+    go further false (Some m) e k = (let z : suc m ≡ x = cc in let lt : m < length vs = further m e in omega arith)
 
 pub node_within : (k : Theory) (name : WordId) (x : ℕ) → node_of k name ≡ Some x → x < length (roots k)
 node_within k name x h = go (representative k name) h

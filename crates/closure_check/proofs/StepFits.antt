@@ -74,19 +74,17 @@ some_values_in i _ p a e h = cc
 -- what an element of a class word unfolds to
 unfolded_in : (i : Interpretation) (word : WordId) (a : ℕ) → a < i.size → has_element i word a ≡ true → (es : List (WordId × Concept)) → list_all (λ e. holds i (SubClassOf (Atomic e.0) e.1)) es ≡ true → list_all (λ d. is_in i d a) (map (λ e. e.1) (filter (λ e. is_word word e.0) es)) ≡ true
 unfolded_in i word a lt is [] h = refl
-unfolded_in i word a lt is (e ∷ es) h = go (is_word word e.0) refl
+unfolded_in i word a lt is (e ∷ es) h =
+    go (unfolded_in i word a lt is es (both_right (holds i (SubClassOf (Atomic e.0) e.1)) (list_all (λ d. holds i (SubClassOf (Atomic d.0) d.1)) es) h)) (is_word word e.0) refl
   where
-    rest : list_all (λ d. is_in i d a) (map (λ d. d.1) (filter (λ d. is_word word d.0) es)) ≡ true
-    rest = unfolded_in i word a lt is es (both_right (holds i (SubClassOf (Atomic e.0) e.1)) (list_all (λ d. holds i (SubClassOf (Atomic d.0) d.1)) es) h)
-
-    go : (b : Bool) → is_word word e.0 ≡ b → list_all (λ d. is_in i d a) (map (λ d. d.1) (cond b (e ∷ filter (λ d. is_word word d.0) es) (filter (λ d. is_word word d.0) es))) ≡ true
-    go true same =
+    go : list_all (λ d. is_in i d a) (map (λ d. d.1) (filter (λ d. is_word word d.0) es)) ≡ true → (b : Bool) → is_word word e.0 ≡ b → list_all (λ d. is_in i d a) (map (λ d. d.1) (cond b (e ∷ filter (λ d. is_word word d.0) es) (filter (λ d. is_word word d.0) es))) ≡ true
+    go rest true same =
         both (is_in i e.1 a) (list_all (λ d. is_in i d a) (map (λ d. d.1) (filter (λ d. is_word word d.0) es)))
         (implied (has_element i e.0 a) (is_in i e.1 a)
         (each_at i.size (λ x. implies (has_element i e.0 x) (is_in i e.1 x)) a (both_left (holds i (SubClassOf (Atomic e.0) e.1)) (list_all (λ d. holds i (SubClassOf (Atomic d.0) d.1)) es) h) lt)
         (subst (λ v. has_element i v a ≡ true) (word_equal word e.0 same) is))
         rest
-    go false other = rest
+    go rest false other = rest
 
 -- each element is in each general class
 pub general_in : (i : Interpretation) (a : ℕ) → a < i.size → (cs : List Concept) → list_all (λ c. holds i (SubClassOf Everything c)) cs ≡ true → list_all (λ c. is_in i c a) cs ≡ true
@@ -150,18 +148,22 @@ module _ (i : Interpretation) (k : Theory) (obeys : Obeys i k) (g : Graph) (f : 
   or_fits : (o : Option (List Concept)) → union_part c ≡ o → (choice : ℕ) × (choice < option_map_or length o 1) × Fits i k (option_map_or (λ cs. adding g x (option_to_list (slice_get cs choice))) o g) f
   or_fits None e = (0, omega arith, fits)
   or_fits (Some cs) e =
-      let w = any_at (λ d. is_in i d (f x)) cs (union_in i c cs (f x) e inside) in
-      (w.0, w.1, subst (λ q. Fits i k (adding g x (option_to_list q)) f) (sym w.2.1)
-      (adding_fits i k g f fits x (w.2.0 ∷ []) (both (is_in i w.2.0 (f x)) true w.2.2 refl)))
+      let w = any_at (λ d. is_in i d (f x)) cs (union_in i c cs (f x) e inside) in (
+        w.0,
+        w.1,
+        subst (λ q. Fits i k (adding g x (option_to_list q)) f) (sym w.2.1)
+            (adding_fits i k g f fits x (w.2.0 ∷ []) (both (is_in i w.2.0 (f x)) true w.2.2 refl)),
+      )
 
   some_fits : x < length g.nodes → (o : Option (Role × Concept)) → some_part c ≡ o → (h : ℕ → ℕ) × Fits i k (option_map_or (λ p. with_node g (record { parent = Some x; label = with_classes [] (p.1 ∷ k.general) }) (record { from = x; role = p.0; to = length g.nodes })) o g) h
   some_fits lt None e = (f, fits)
   some_fits lt (Some p) e =
-      let w = some_values_in i c p (f x) e inside in
-      (and_at (length g.nodes) w.0 f,
-      with_node_fits i k g f fits (record { parent = Some x; label = with_classes [] (p.1 ∷ k.general) }) (record { from = x; role = p.0; to = length g.nodes }) w.0 w.1
-      (with_classes_all (λ d. is_in i d w.0) [] (p.1 ∷ k.general) refl (both (is_in i p.1 w.0) (list_all (λ d. is_in i d w.0) k.general) w.3 (general_in i w.0 w.1 k.general obeys.general)))
-      w.2 lt refl)
+      let w = some_values_in i c p (f x) e inside in (
+        and_at (length g.nodes) w.0 f,
+        with_node_fits i k g f fits (record { parent = Some x; label = with_classes [] (p.1 ∷ k.general) }) (record { from = x; role = p.0; to = length g.nodes }) w.0 w.1
+            (with_classes_all (λ d. is_in i d w.0) [] (p.1 ∷ k.general) refl (both (is_in i p.1 w.0) (list_all (λ d. is_in i d w.0) k.general) w.3 (general_in i w.0 w.1 k.general obeys.general)))
+            w.2 lt refl,
+      )
 
   -- some choice of the rule gives a branch that the interpretation fits
   rule_fits : x < length g.nodes → (r : Rule) (y : ℕ) → row k g r x c ≡ Some y → (choice : ℕ) × (choice < choices_for r c) × ((h : ℕ → ℕ) × Fits i k (effect k g r x c y choice) h)
@@ -198,6 +200,8 @@ step_fits i k obeys g f fits s h =
     let row_at = applied_row k g s h in
     let c : Concept = row_at.0 in
     let at : class_at g s.node s.class ≡ Some c = row_at.1 in
-    let w = rule_fits i k obeys g f fits s.node c (class_fits i k g f fits s.node s.class c at) (class_within g s.node s.class c at) s.rule s.other row_at.2 in
-    (w.0, subst (λ o. w.0 < option_map_or (choices_for s.rule) o 1) (sym at) w.1,
-    (w.2.0, subst (λ o. Fits i k (option_map_or (λ d. effect k g s.rule s.node d s.other w.0) o g) w.2.0) (sym at) w.2.1))
+    let w = rule_fits i k obeys g f fits s.node c (class_fits i k g f fits s.node s.class c at) (class_within g s.node s.class c at) s.rule s.other row_at.2 in (
+      w.0,
+      subst (λ o. w.0 < option_map_or (choices_for s.rule) o 1) (sym at) w.1,
+      (w.2.0, subst (λ o. Fits i k (option_map_or (λ d. effect k g s.rule s.node d s.other w.0) o g) w.2.0) (sym at) w.2.1),
+    )

@@ -2,3 +2,5 @@
 #![tactic(auto)]
 
 mod accepting;
+
+pub use accepting::accepts;

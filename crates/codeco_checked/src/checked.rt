@@ -3,7 +3,7 @@ ghost use Rattle.std.specs.Prelude.{◌≡◌, ◌↔◌, IsTrue, IfOk};
 
 use codeco_terms::Grammar;
 use std::marker::Model;
-use wiki_base::Memory;
+use wiki_base::{Copied, Memory};
 
 /// A grammar of the notation, with the numbers that the notation gives, in which no fault holds.
 #[derive(Drop)]

@@ -4,6 +4,7 @@ use Rattle.std.specs.List.{list_any, flat_map}
 use Rattle.std.proofs.lemmas.Grind.{flat_map-append}
 use Rattle.std.proofs.lemmas.List.Folds.{list_any-append}
 use Rattle.std.proofs.lemmas.Bool.{or_left, or_right}
+use Rattle.std.proofs.Math.Bool.{or-false as or_none}
 use Rattle.codeco_terms.specs.declared.values.Term.{Term}
 use Rattle.codeco_terms.specs.declared.values.Term.TheVariants.{Var}
 use Rattle.codeco_terms.specs.declared.categories.Category.{Category}
@@ -83,10 +84,6 @@ misplaced_same g r =
 pub bad_double : (g : GrammarParts) (r : Rule) → faults.has_double_feature r ≡ true → true ≡ faults.is_bad_rule g r
 bad_double g r h =
     sym (or_left (((faults.has_wrong_atom g r || faults.has_mixed_variable g r) || faults.has_wrong_position g r) || faults.has_double_feature r) (faults.has_wrong_preterminal g r) (or_right ((faults.has_wrong_atom g r || faults.has_mixed_variable g r) || faults.has_wrong_position g r) (faults.has_double_feature r) h))
-
-or_none : (a : Bool) → (a || false) ≡ a
-or_none true = refl
-or_none false = refl
 
 pub bad_others : (g : GrammarParts) (r : Rule) (feats : List (ℕ × Term)) (body : List Element) (found : Bool) → faults.has_double_feature r ≡ false → feats ≡ rule_feats r → body ≡ r.body → found ≡ (((has_wrong_atom g feats || has_mixed_variable g feats) || list_any (is_misplaced g feats) (flat_map positions body)) || list_any (faults.is_wrong_preterminal g) (flat_map faults.preterminals body)) → found ≡ faults.is_bad_rule g r
 bad_others g r feats body found single is same h =

@@ -8,8 +8,10 @@ use Rattle.codeco_terms.specs.GrammarParts.{GrammarParts}
 use Rattle.codeco_checked.specs.declared.fault.GrammarFault.{GrammarFault}
 use Rattle.codeco_checked.specs.declared.fault.GrammarFault.TheVariants.{Syntax, TooLarge, Undeclared, BadValue, EmptyRule, LeftRecursion, TakenVariable, LabelKind, NoStart, Memory}
 use Rattle.codeco_checked.specs.Faults.{at_rule, is_bad_rule, has_double_declaration, is_empty_rule, IsRecursive, is_taking_rule, has_start}
+use Rattle.codeco_checked.specs.Labels.{IsMisfit}
 use Rattle.codeco_checked.specs.Sound.{Holds}
 use Rattle.codeco_checked.specs.FirstFault.{fault_number, fault_place, is_before, IsFirst}
+use Rattle.codeco_labels.specs.Misfits.{FirstMisfit}
 use Rattle.codeco_faults.specs.First.{IsNowhere, IsFirstPlace}
 
 -- no fault of a number below this one holds
@@ -165,18 +167,25 @@ taking_fault g = record {
   holds = λ i x e h. place_at is_taking_rule g.rules i x e h;
 }
 
--- what holds no more, behind the faults of rules
-no_label : (g : GrammarParts) (f : GrammarFault) → fault_number f ≡ 8 → Holds g f → ⊥
-no_label g (Syntax n) e h = absurd (omega arith)
-no_label g (TooLarge n) e h = absurd (omega arith)
-no_label g (Undeclared n) e h = absurd (omega arith)
-no_label g (BadValue n) e h = absurd (omega arith)
-no_label g (EmptyRule n) e h = absurd (omega arith)
-no_label g (LeftRecursion n) e h = absurd (omega arith)
-no_label g (TakenVariable n) e h = absurd (omega arith)
-no_label g (LabelKind n) e h = h
-no_label g NoStart e h = absurd (omega arith)
-no_label g Memory e h = absurd (omega arith)
+-- the labels don't fit
+label_only : (g : GrammarParts) (f : GrammarFault) → fault_number f ≡ 8 → Holds g f → IsMisfit g.rules (fault_place f)
+label_only g (Syntax n) e h = absurd (omega arith)
+label_only g (TooLarge n) e h = absurd (omega arith)
+label_only g (Undeclared n) e h = absurd (omega arith)
+label_only g (BadValue n) e h = absurd (omega arith)
+label_only g (EmptyRule n) e h = absurd (omega arith)
+label_only g (LeftRecursion n) e h = absurd (omega arith)
+label_only g (TakenVariable n) e h = absurd (omega arith)
+label_only g (LabelKind n) e h = h
+label_only g NoStart e h = absurd (omega arith)
+label_only g Memory e h = absurd (omega arith)
+
+pub first_label : (g : GrammarParts) → NoneBelow g 8 → (i : ℕ) → FirstMisfit g.rules (Some i) → IsFirst g (LabelKind (i + 1))
+first_label g below i first =
+    is_first g (LabelKind (i + 1)) first.0 below (λ f e lt h. first.1 (fault_place f) (omega arith) (label_only g f e h))
+
+pub below_start : (g : GrammarParts) → NoneBelow g 8 → FirstMisfit g.rules None → NoneBelow g 9
+below_start g below none = none_more g 8 below (λ f e h. none (fault_place f) (label_only g f e h))
 
 start_only : (g : GrammarParts) (f : GrammarFault) → fault_number f ≡ 9 → Holds g f → IsTrue (not (has_start g)) × (fault_place f ≡ 0)
 start_only g (Syntax n) e h = absurd (omega arith)
@@ -190,9 +199,9 @@ start_only g (LabelKind n) e h = absurd (omega arith)
 start_only g NoStart e h = (h, refl)
 start_only g Memory e h = absurd (omega arith)
 
-pub first_start : (g : GrammarParts) → NoneBelow g 8 → has_start g ≡ false → IsFirst g NoStart
+pub first_start : (g : GrammarParts) → NoneBelow g 9 → has_start g ≡ false → IsFirst g NoStart
 first_start g below none =
-    is_first g NoStart (ap not none) (none_more g 8 below (no_label g)) (λ f e lt h. let at = start_only g f e h in omega (arith, at.1))
+    is_first g NoStart (ap not none) below (λ f e lt h. let at = start_only g f e h in omega (arith, at.1))
 
 none_all : (g : GrammarParts) → NoneBelow g 10 → (f : GrammarFault) → Holds g f → ⊥
 none_all g below (Syntax n) h = below (Syntax n) (omega arith) h
@@ -206,9 +215,9 @@ none_all g below (LabelKind n) h = below (LabelKind n) (omega arith) h
 none_all g below NoStart h = below NoStart (omega arith) h
 none_all g below Memory h = h
 
-pub none_left : (g : GrammarParts) → NoneBelow g 8 → has_start g ≡ true → (f : GrammarFault) → Holds g f → ⊥
+pub none_left : (g : GrammarParts) → NoneBelow g 9 → has_start g ≡ true → (f : GrammarFault) → Holds g f → ⊥
 none_left g below is =
-    none_all g (none_more g 9 (none_more g 8 below (no_label g)) (λ f e h. both_ways (not (has_start g)) (ap not is) (start_only g f e h).0))
+    none_all g (none_more g 9 below (λ f e h. both_ways (not (has_start g)) (ap not is) (start_only g f e h).0))
 
 -- what is known at the beginning
 

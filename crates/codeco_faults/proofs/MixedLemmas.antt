@@ -4,6 +4,8 @@ use Rattle.std.specs.List.{list_any}
 use Rattle.std.specs.Option.{option_map_or}
 use Rattle.std.proofs.lemmas.List.{get_or-set_same}
 use Rattle.std.proofs.lemmas.Bool.{cases_eq, eq-eqb, ne_eqb, eqb-true, not-false, or_left, and_right}
+use Rattle.std.proofs.Math.Bool.{or-false as or_none, or_assoc}
+use Rattle.wiki_base.proofs.BoolLaws.{or-turn as or_turn}
 use Rattle.codeco_terms.specs.declared.values.Term.{Term}
 use Rattle.codeco_terms.specs.declared.values.Term.TheVariants.{Val, Var}
 use Rattle.codeco_terms.specs.declared.values.Value.{Value}
@@ -33,12 +35,6 @@ pub any_same : {X : Type 0} (p q : X → Bool) (xs : List X) → ((x : X) → p 
 any_same p q [] h = refl
 any_same p q (x ∷ xs) h = ap (λ b. b || list_any p xs) (h x) ∙ ap (λ b. q x || b) (any_same p q xs h)
 
-or_turn : (a b c d : Bool) → ((a || b) || (c || d)) ≡ ((a || c) || (b || d))
-or_turn true b c d = refl
-or_turn false true true d = refl
-or_turn false true false d = refl
-or_turn false false c d = refl
-
 any_or : {X : Type 0} (p q : X → Bool) (xs : List X) → list_any (λ x. p x || q x) xs ≡ (list_any p xs || list_any q xs)
 any_or p q [] = refl
 any_or p q (x ∷ xs) = ap (λ b. (p x || q x) || b) (any_or p q xs) ∙ or_turn (p x) (q x) (list_any p xs) (list_any q xs)
@@ -51,17 +47,9 @@ or_self : (a : Bool) → (a || a) ≡ a
 or_self true = refl
 or_self false = refl
 
-or_none : (a : Bool) → (a || false) ≡ a
-or_none true = refl
-or_none false = refl
-
 or_twice : (a b : Bool) → (a || (a || b)) ≡ (a || b)
 or_twice true b = refl
 or_twice false b = refl
-
-or_assoc : (a b c : Bool) → ((a || b) || c) ≡ (a || (b || c))
-or_assoc true b c = refl
-or_assoc false b c = refl
 
 variable_sym : (t u : Term) → same_variable t u ≡ same_variable u t
 variable_sym (Val v) (Val w) = refl

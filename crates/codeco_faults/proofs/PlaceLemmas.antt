@@ -39,7 +39,7 @@ first_here P xs i y lt is here below = record {
   before = below;
 }
 
-some_below : {X : Type 0} (xs : List X) (k : ℕ) (x : X) → slice_get xs k ≡ Some x → k < length xs
+pub some_below : {X : Type 0} (xs : List X) (k : ℕ) (x : X) → slice_get xs k ≡ Some x → k < length xs
 some_below [] k x e = absurd cc
 some_below (y ∷ ys) zero x e = omega arith
 some_below (y ∷ ys) (suc k) x e = let rest = some_below ys k x e in omega arith

@@ -3,6 +3,7 @@ use Rattle.std.proofs.Common.{◌≡◌, ℕ, Bool, true, false, ◌||◌, eqb, 
 use Rattle.std.specs.Prelude.{if◌then◌else◌}
 use Rattle.std.specs.List.{list_any}
 use Rattle.std.proofs.lemmas.Bool.{cases_eq, eq-eqb, ne_eqb}
+use Rattle.wiki_base.proofs.BoolLaws.{or-swap as or_swap, or-turn as or_turn}
 use Rattle.codeco_terms.specs.declared.values.Term.{Term}
 use Rattle.codeco_terms.specs.declared.values.Term.TheVariants.{Var}
 use Rattle.codeco_checked.specs.Numbering.{has}
@@ -17,16 +18,6 @@ eqb_sym x y =
       | inl same ↦ eq-eqb x y same ∙ sym (eq-eqb y x (sym same))
       | inr other ↦ ne_eqb x y other ∙ sym (ne_eqb y x (λ e. other (sym e)))
     ]
-
-or_swap : (a b c : Bool) → (a || (b || c)) ≡ (b || (a || c))
-or_swap true true true = refl
-or_swap true true false = refl
-or_swap true false true = refl
-or_swap true false false = refl
-or_swap false true true = refl
-or_swap false true false = refl
-or_swap false false true = refl
-or_swap false false false = refl
 
 put_any_at : (p : ℕ × Term → Bool) (b : Bool) (q y : ℕ × Term) (ys : List (ℕ × Term)) → list_any p (put_feature q ys) ≡ (p q || list_any p ys) → list_any p (if b then q ∷ y ∷ ys else y ∷ put_feature q ys) ≡ (p q || (p y || list_any p ys))
 put_any_at p true q y ys h = refl
@@ -43,24 +34,6 @@ any_numbers p (x ∷ xs) = ap (λ b. p x.0 || b) (any_numbers p xs)
 
 pub put_numbers : (p : ℕ → Bool) (q : ℕ × Term) (ys : List (ℕ × Term)) → list_any p (numbers (put_feature q ys)) ≡ (p q.0 || list_any p (numbers ys))
 put_numbers p q ys = any_numbers p (put_feature q ys) ∙ put_any (λ x. p x.0) q ys ∙ ap (λ b. p q.0 || b) (sym (any_numbers p ys))
-
-or_turn : (a b c d : Bool) → ((a || b) || (c || d)) ≡ ((a || c) || (b || d))
-or_turn true true true true = refl
-or_turn true true true false = refl
-or_turn true true false true = refl
-or_turn true true false false = refl
-or_turn true false true true = refl
-or_turn true false true false = refl
-or_turn true false false true = refl
-or_turn true false false false = refl
-or_turn false true true true = refl
-or_turn false true true false = refl
-or_turn false true false true = refl
-or_turn false true false false = refl
-or_turn false false true true = refl
-or_turn false false true false = refl
-or_turn false false false true = refl
-or_turn false false false false = refl
 
 put_double_at : (b : Bool) (q y : ℕ × Term) (ys : List (ℕ × Term)) → is_double (numbers (put_feature q ys)) ≡ (has (numbers ys) q.0 || is_double (numbers ys)) → is_double (numbers (if b then q ∷ y ∷ ys else y ∷ put_feature q ys)) ≡ (has (numbers (y ∷ ys)) q.0 || is_double (numbers (y ∷ ys)))
 put_double_at true q y ys h = double_cons q.0 (numbers (y ∷ ys))

@@ -3,6 +3,7 @@ use Rattle.std.proofs.Common.{◌≡◌, ℕ, zero, suc, ◌+◌, ◌<◌, ◌�
 use Rattle.std.specs.List.{list_all, flat_map}
 use Rattle.std.proofs.lemmas.List.{get_or_past, length-replicate}
 use Rattle.std.proofs.lemmas.Bool.{cases_Bool, cases_lt, and_parts, and_from, eqb-true, ltb-true, lt-ltb, cond-true, cond-false, ne_eqb, or_from}
+use Rattle.wiki_base.proofs.ListLaws.{all_split}
 use Rattle.codeco_terms.specs.declared.declarations.Declared.{Declared}
 use Rattle.codeco_terms.specs.declared.declarations.Declared.TheVariants as declared
 use Rattle.codeco_terms.specs.declared.declarations.Feature.{Feature}
@@ -48,13 +49,6 @@ counted next total (x ∷ xs) h =
           let same = eqb-true x next parts.0 in
           (omega (arith, rest.0), and_from (ltb x total) (list_all (λ y. ltb y total) xs) (lt-ltb x total (omega (arith, rest.0))) rest.1)
     ]
-
-all_split : {X : Type 0} (p : X → Bool) (xs ys : List X) → list_all p (xs ++ ys) ≡ true → (list_all p xs ≡ true) × (list_all p ys ≡ true)
-all_split p [] ys h = (refl, h)
-all_split p (x ∷ xs) ys h =
-    let parts = and_parts (p x) (list_all p (xs ++ ys)) h in
-    let rest = all_split p xs ys parts.1 in
-    (and_from (p x) (list_all p xs) parts.0 rest.0, rest.1)
 
 -- a number that all of the list are below isn't in it
 not_has : (xs : List ℕ) (n a : ℕ) → list_all (λ x. ltb x n) xs ≡ true → n ≤ a → has xs a ≡ false

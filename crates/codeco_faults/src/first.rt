@@ -15,6 +15,7 @@ use crate::bodies::{has_start, is_empty_rule};
 use crate::recursion::{Followers, followers_of, is_recursive};
 use crate::references::is_taking_rule;
 use codeco_checked::GrammarFault;
+use codeco_labels::first_misfit;
 use codeco_terms::{Grammar, Rule};
 use std::alloc::Global;
 use wiki_base::Memory;
@@ -68,7 +69,7 @@ fn first_recursion(alloc: Global, grammar: &Grammar) -> Result<Option<usize>, Me
 }
 
 /// The first fault of a numbered grammar in which no limit is passed and each feature is declared once: of bad values,
-/// empty rules, left recursion, taken variables and a missing start. `None` where none holds.
+/// empty rules, left recursion, taken variables, labels that don't fit and a missing start. `None` where none holds.
 pub fn first_fault(alloc: Global, grammar: &Grammar) -> Result<Option<GrammarFault>, Memory>
     requires written { IsWritten grammar.now }
     requires atoms { CountsAtoms grammar.now }
@@ -88,6 +89,9 @@ pub fn first_fault(alloc: Global, grammar: &Grammar) -> Result<Option<GrammarFau
     }
     if let Some(place) = first_taking_rule(rules) {
         return Ok(Some(GrammarFault::TakenVariable(number_at(place))));
+    }
+    if let Some(place) = first_misfit(alloc, rules)? {
+        return Ok(Some(GrammarFault::LabelKind(number_at(place))));
     }
     if !has_start(rules) {
         return Ok(Some(GrammarFault::NoStart));

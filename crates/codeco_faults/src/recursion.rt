@@ -1,54 +1,18 @@
 // Left recursion: steps from the head of a rule to the category that stands first in it.
-ghost use Rattle.std.specs.Prelude.{◌≡◌, ◌==◌, ◌<◌, ◌++◌, ◌↔◌, ℕ, [], ◌∷◌, length, slice_set, slice_index_or, IfOk, OnOk, OnErr, IsTrue};
+ghost use Rattle.std.specs.Prelude.{◌≡◌, ◌==◌, ◌++◌, ◌↔◌, ℕ, [], ◌∷◌, length, slice_set, slice_index_or, IfOk, OnOk, IsTrue};
 ghost use Rattle.codeco_checked.specs.Numbering.{has};
 ghost use Rattle.codeco_faults.specs.Steps as steps;
 
 use crate::bodies::first_category;
 use codeco_terms::Rule;
 use std::alloc::Global;
-use std::marker::Model;
-use wiki_base::Memory;
+use wiki_base::{List, Memory};
 
 // How many numbers a category may have.
 const CATEGORIES: usize = 65536;
 
 // The categories that stand first in the rules of one category.
-#[derive(Drop)]
-pub(crate) struct Followers {
-    items: Vec<u16>,
-}
-
-impl Model for Followers {
-    ghost use Rattle.std.specs.Prelude.{List, ℕ};
-
-    ghost Value = { List ℕ };
-
-    ghost view = { λ a. a.items.items };
-}
-
-impl Followers {
-    fn new(alloc: Global) -> Followers
-        ensures { result ≡ [] }
-    {
-        Followers {
-            items: Vec::new(alloc),
-        }
-    }
-
-    fn push(&mut self, category: u16) -> Result<(), Memory>
-        ensures ok { OnOk result (self.new ≡ self.old ++ category ∷ []) }
-        ensures err { OnErr result (self.new ≡ self.old) }
-    {
-        self.items.push(category)?;
-        Ok(())
-    }
-
-    fn as_slice(&self) -> &[u16]
-        ensures { result.now ≡ self.now }
-    {
-        self.items.as_slice()
-    }
-}
+pub(crate) type Followers = List<u16>;
 
 // The followers of each category, by its number.
 #[tactic(auto, using(crate::proofs::StepLemmas::first_none, crate::proofs::StepLemmas::first_all, crate::proofs::StepLemmas::first_skip, crate::proofs::StepLemmas::first_more))]

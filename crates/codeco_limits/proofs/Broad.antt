@@ -15,7 +15,7 @@ use Rattle.codeco_text.proofs.Growth.{same_is}
 use Rattle.codeco_text.specs.Notation.{kinds}
 use Rattle.codeco_numbering.specs.Numbered.{Tables, number_of, plain_categories}
 use Rattle.codeco_numbering.proofs.SoundTables.{number_below, number_past}
-use Rattle.codeco_numbering.proofs.SoundLists.{all_split}
+use Rattle.wiki_base.proofs.ListLaws.{all_split}
 use Rattle.codeco_limits.specs.Pairs.{names_with}
 use Rattle.codeco_limits.specs.Early.{named_pairs, category_pairs, plain_pairs, kind_pairs, rule_plain_pairs, rule_kind_pairs}
 use Rattle.codeco_limits.proofs.Moves.{Same, same_refl, same_map}

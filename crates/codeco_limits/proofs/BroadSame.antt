@@ -3,6 +3,7 @@ use Rattle.std.proofs.Common.{◌≡◌, ℕ, zero, suc, ◌+◌, ◌<◌, Bool,
 use Rattle.std.specs.List.{list_any, list_all, flat_map, range_with_len}
 use Rattle.std.proofs.lemmas.List.Folds.{flat_map-map}
 use Rattle.std.proofs.lemmas.Bool.{cases_Bool, both_ways, and_parts, or_parts, or_cases, or_right, or_left, not-true, cond-true, cond-false}
+use Rattle.wiki_base.proofs.ListLaws.{all_both as both_all}
 use Rattle.codeco_terms.specs.declared.rules.Rule.{Rule}
 use Rattle.codeco_text.specs.declared.written.WrittenRule.{WrittenRule}
 use Rattle.codeco_text.specs.declared.written.WrittenItem.{WrittenItem}
@@ -23,7 +24,7 @@ use Rattle.codeco_limits.proofs.Numbers.{numbers_differ, among_gathered}
 use Rattle.codeco_limits.proofs.Mentions.{rule_given}
 use Rattle.codeco_limits.proofs.Broad.{given_at, given_kept, joined, kind_rule, plain_rule}
 use Rattle.codeco_limits.proofs.RuleSize.{rule_fits}
-use Rattle.codeco_limits.proofs.RulesSame.{rules_fit, both_all}
+use Rattle.codeco_limits.proofs.RulesSame.{rules_fit}
 use Rattle.codeco_limits.proofs.PairsThere.{feature_table, rule_categories_there, plain_features, kind_features, kind_names, plain_rules_first}
 
 -- the features that rules give to a name, rule by rule

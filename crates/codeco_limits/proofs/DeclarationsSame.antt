@@ -12,7 +12,7 @@ use Rattle.codeco_text.proofs.Growth.{same_is}
 use Rattle.codeco_checked.specs.Numbering.{differ, count_different, is_declared, declared_atoms, grammar_atoms, first_features, first_atoms}
 use Rattle.codeco_checked.specs.Faults.{count_texts, is_double, has_large_declarations, has_double_declaration}
 use Rattle.codeco_numbering.specs.Numbered.{NamedFeature, undeclared, is_open, number_of, with_declaration, with_items, with_undeclared, features_of, atoms_of, rules_of, written_features, domain_atoms, feature_atoms, numbered_domain, numbered_feature, numbered_of}
-use Rattle.codeco_numbering.proofs.SoundLists.{all_flat}
+use Rattle.wiki_base.proofs.ListLaws.{all_flat}
 use Rattle.codeco_numbering.proofs.SoundDeclared.{numbered_names}
 use Rattle.codeco_limits.specs.Early as early
 use Rattle.codeco_limits.specs.Early.{item_names, item_atoms, declared_names, has_large_written_declarations, has_double_written_declaration}

@@ -3,6 +3,7 @@ use Rattle.std.proofs.Common.{◌≡◌, ℕ, ◌≤◌, Bool, true, false, ◌&
 use Rattle.std.specs.Prelude.{IsTrue}
 use Rattle.std.specs.List.{list_all}
 use Rattle.std.proofs.lemmas.Bool.{both_ways, or_parts, ltb-true, ltb-false, true≢false}
+use Rattle.std.proofs.Math.Bool.{or-false as last, or_assoc}
 use Rattle.codeco_text.specs.declared.written.WrittenItem.{WrittenItem}
 use Rattle.codeco_text.specs.Notation.{item_fits}
 use Rattle.codeco_checked.specs.declared.fault.GrammarFault.{GrammarFault}
@@ -16,10 +17,6 @@ use Rattle.codeco_limits.proofs.DeclarationsSame.{large_declarations, double_dec
 use Rattle.codeco_limits.proofs.RulesSame.{large_places, rules_counted, undeclared_places}
 use Rattle.codeco_limits.proofs.BroadSame.{broad_category}
 
-or_assoc : (a b c : Bool) → ((a || b) || c) ≡ (a || (b || c))
-or_assoc true b c = refl
-or_assoc false b c = refl
-
 -- the places
 too_large : (items : List WrittenItem) → list_all item_fits items ≡ true → (n : ℕ) → is_too_large (numbered_of items) n ≡ is_too_large_place items n
 too_large items h n =
@@ -30,10 +27,6 @@ too_large items h n =
     ∙ or_assoc first (at_written_rule is_large_written_rule (rules_of items) n) (eqb n 501 && ltb 500 (length (rules_of items)))
     ∙ ap (λ b. ((eqb n 0 && b) || (eqb n 1 && has_broad_category g)) || is_large_place (rules_of items) n) (large_declarations items)
     ∙ ap (λ b. ((eqb n 0 && has_large_written_declarations items) || (eqb n 1 && b)) || is_large_place (rules_of items) n) (broad_category items h)
-
-last : (a : Bool) → (a || false) ≡ a
-last true = refl
-last false = refl
 
 bad_first : (items : List WrittenItem) → is_bad_value (numbered_of items) 0 ≡ has_double_written_declaration items
 bad_first items = last (has_double_declaration (numbered_of items)) ∙ double_declaration items
@@ -57,7 +50,7 @@ module _ (items : List WrittenItem) (fits : list_all item_fits items ≡ true) w
       least (EmptyRule n) b h = true≢false (sym b)
       least (LeftRecursion n) b h = true≢false (sym b)
       least (TakenVariable n) b h = true≢false (sym b)
-      least (LabelKind n) b h = h
+      least (LabelKind n) b h = true≢false (sym b)
       least NoStart b h = true≢false (sym b)
       least Memory b h = h
 
@@ -73,7 +66,7 @@ module _ (items : List WrittenItem) (fits : list_all item_fits items ≡ true) w
         least (EmptyRule n) b h = true≢false (sym b)
         least (LeftRecursion n) b h = true≢false (sym b)
         least (TakenVariable n) b h = true≢false (sym b)
-        least (LabelKind n) b h = h
+        least (LabelKind n) b h = true≢false (sym b)
         least NoStart b h = true≢false (sym b)
         least Memory b h = h
 
@@ -89,7 +82,7 @@ module _ (items : List WrittenItem) (fits : list_all item_fits items ≡ true) w
           least (EmptyRule n) b h = true≢false (sym b)
           least (LeftRecursion n) b h = true≢false (sym b)
           least (TakenVariable n) b h = true≢false (sym b)
-          least (LabelKind n) b h = h
+          least (LabelKind n) b h = true≢false (sym b)
           least NoStart b h = true≢false (sym b)
           least Memory b h = h
 
@@ -104,7 +97,7 @@ module _ (items : List WrittenItem) (fits : list_all item_fits items ≡ true) w
       none_early single (EmptyRule n) b h = true≢false (sym b)
       none_early single (LeftRecursion n) b h = true≢false (sym b)
       none_early single (TakenVariable n) b h = true≢false (sym b)
-      none_early single (LabelKind n) b h = h
+      none_early single (LabelKind n) b h = true≢false (sym b)
       none_early single NoStart b h = true≢false (sym b)
       none_early single Memory b h = h
 

@@ -3,17 +3,10 @@ use Rattle.std.proofs.Common.{◌≡◌, ℕ, ◌+◌, ◌<◌, ◌≤◌, Bool,
 use Rattle.std.specs.List.{flat_map, list_all}
 use Rattle.std.proofs.lemmas.List.{at_drop_more, at_drop_all}
 use Rattle.std.proofs.lemmas.List.Concat.{flat_map-append}
+use Rattle.std.proofs.lemmas.List.Folds.{list_all-append as all-append}
 use Rattle.codeco_text.specs.Names.{is_among}
 use Rattle.codeco_numbering.specs.Numbered.{gathered}
 use Rattle.codeco_limits.specs.Pairs.{has_pair, gathered_pairs}
-
-all-append : {X : Type 0} (p : X → Bool) (xs ys : List X) → list_all p (xs ++ ys) ≡ (list_all p xs && list_all p ys)
-all-append p [] ys = refl
-all-append p (x ∷ xs) ys = ap (λ b. p x && b) (all-append p xs ys) ∙ assoc (p x) (list_all p xs) (list_all p ys)
-  where
-    assoc : (a b c : Bool) → (a && (b && c)) ≡ ((a && b) && c)
-    assoc true b c = refl
-    assoc false b c = refl
 
 pub gathered-append : (names : List (List ℕ)) (xs ys : List (List ℕ)) → gathered names (xs ++ ys) ≡ gathered (gathered names xs) ys
 gathered-append names [] ys = refl

@@ -4,6 +4,7 @@ use Rattle.std.specs.List.{list_any, list_all, flat_map}
 use Rattle.std.proofs.lemmas.List.{map-append}
 use Rattle.std.proofs.lemmas.List.Concat.{flat_map-append}
 use Rattle.std.proofs.lemmas.Bool.{and_parts}
+use Rattle.wiki_base.proofs.BoolLaws.{and-swap as and_swap, or-swap as or_swap}
 
 -- a member may be moved to the front
 abbrev pub Movable : {X V : Type 0} → (List X → V) → Type 0
@@ -67,12 +68,6 @@ same_test {X} {xs} {ys} s F m = bit_back (F xs) (F ys) (s.moved (λ l. bit (F l)
 
 -- What may be moved
 
-or_swap : (a b c : Bool) → (a || (b || c)) ≡ (b || (a || c))
-or_swap true true c = refl
-or_swap true false c = refl
-or_swap false true c = refl
-or_swap false false c = refl
-
 pub any_move : {X : Type 0} (p : X → Bool) → Movable (list_any p)
 any_move p [] ys x = refl
 any_move p (z ∷ xs) ys x = ap (λ b. p z || b) (any_move p xs ys x) ∙ or_swap (p z) (p x) (list_any p (xs ++ ys))
@@ -88,12 +83,6 @@ same_parts {X} {Y} f s = record { moved = λ F m. s.moved (λ l. F (flat_map f l
     parted : (F : List Y → ℕ) → Movable F → Movable (λ l. F (flat_map f l))
     parted F m xs ys x =
         ap F (flat_map-append f xs (x ∷ ys)) ∙ (same_block (flat_map f xs) (f x) (flat_map f ys)).moved F m ∙ sym (ap (λ (l : List Y). F (f x ++ l)) (flat_map-append f xs ys))
-
-and_swap : (a b c : Bool) → (a && (b && c)) ≡ (b && (a && c))
-and_swap true true c = refl
-and_swap true false c = refl
-and_swap false true c = refl
-and_swap false false c = refl
 
 pub all_move : {X : Type 0} (p : X → Bool) → Movable (list_all p)
 all_move p [] ys x = refl

@@ -4,6 +4,7 @@ use Rattle.std.specs.List.{list_all, flat_map}
 use Rattle.std.proofs.lemmas.List.{map-append}
 use Rattle.std.proofs.lemmas.List.Concat.{flat_map-append}
 use Rattle.std.proofs.lemmas.Bool.{cases_Bool, both_ways, and_parts, and_from, cond-true, cond-false, or_right}
+use Rattle.std.proofs.lemmas.List.Folds.{list_all-map as all-map}
 use Rattle.codeco_text.specs.declared.written.WrittenFeat.{WrittenFeat}
 use Rattle.codeco_text.specs.declared.written.WrittenCategory.{WrittenCategory}
 use Rattle.codeco_text.specs.declared.written.WrittenElement.{WrittenElement}
@@ -15,7 +16,7 @@ use Rattle.codeco_text.proofs.Growth.{same_is}
 use Rattle.codeco_text.specs.Notation.{kinds}
 use Rattle.codeco_checked.specs.Numbering.{first_features}
 use Rattle.codeco_numbering.specs.Numbered.{NamedFeature, undeclared, with_items, with_undeclared, features_of, rules_of, written_features, category_features, element_categories, plain_categories, rule_names}
-use Rattle.codeco_numbering.proofs.SoundLists.{all_append, all_split, all_flat, all-map}
+use Rattle.wiki_base.proofs.ListLaws.{all_append, all_split, all_flat}
 use Rattle.codeco_numbering.proofs.SoundContents.{categories_of}
 use Rattle.codeco_limits.specs.Pairs.{names_with}
 use Rattle.codeco_limits.specs.Early.{named_pairs, category_pairs, plain_pairs, kind_pairs, rule_plain_pairs, rule_kind_pairs, written_plain_pairs, written_kind_pairs}

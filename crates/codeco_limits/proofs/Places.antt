@@ -5,6 +5,7 @@ use Rattle.std.specs.List.{list_any, list_all}
 use Rattle.std.specs.Option.{option_map_or}
 use Rattle.std.proofs.lemmas.List.{at_drop_more, at_drop_all}
 use Rattle.std.proofs.lemmas.Bool.{cases_Bool, cases_order, and_left, and_right, ltb-true, ltb-false, lt-ltb, le-ltb, eqb-true}
+use Rattle.std.proofs.Math.Bool.{or-false as last}
 use Rattle.codeco_text.specs.declared.written.Domain.{Domain}
 use Rattle.codeco_text.specs.declared.written.WrittenRule.{WrittenRule}
 use Rattle.codeco_text.specs.declared.written.WrittenItem.{WrittenItem}
@@ -76,10 +77,6 @@ some_below (x ∷ xs) (suc k) = some_below xs k ∙ step (length xs)
       | inl e ↦ let lt = ltb-true k n e in e ∙ sym (lt-ltb (suc k) (suc n) (omega arith))
       | inr e ↦ let le = ltb-false k n e in e ∙ sym (le-ltb (suc k) (suc n) (omega arith))
     ]
-
-last : (a : Bool) → (a || false) ≡ a
-last true = refl
-last false = refl
 
 -- the test at the rule of this number
 abbrev pub at_start : (ℕ → WrittenRule → Bool) → List WrittenRule → ℕ → Bool

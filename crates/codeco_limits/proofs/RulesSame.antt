@@ -5,6 +5,7 @@ use Rattle.std.specs.List.{list_any, list_all, flat_map}
 use Rattle.std.specs.Option.{option_map_or}
 use Rattle.std.proofs.lemmas.List.{length-map}
 use Rattle.std.proofs.lemmas.Bool.{and_parts, and_from}
+use Rattle.std.proofs.lemmas.List.Folds.{list_any-append as any-append}
 use Rattle.codeco_terms.specs.declared.values.Term.{Term}
 use Rattle.codeco_terms.specs.declared.rules.Rule.{Rule}
 use Rattle.codeco_text.specs.declared.written.WrittenFeat.{WrittenFeat}
@@ -18,7 +19,7 @@ use Rattle.codeco_checked.specs.Numbering.{is_declared}
 use Rattle.codeco_checked.specs.Occurrences.{rule_features}
 use Rattle.codeco_checked.specs.Faults.{at_rule, is_large_rule, is_undeclared_rule, values_of}
 use Rattle.codeco_numbering.specs.Numbered.{Tables, number_of, numbered_rule, features_of, atoms_of, rules_of, numbered_of, written_terminals, written_features, category_features, element_categories}
-use Rattle.codeco_numbering.proofs.SoundLists.{all_flat}
+use Rattle.wiki_base.proofs.ListLaws.{all_flat, all_both as both_all}
 use Rattle.codeco_numbering.proofs.SoundDeclared.{rules_pass}
 use Rattle.codeco_numbering.proofs.SoundContents.{terminals_of, tables_of, numbered_in}
 use Rattle.codeco_limits.specs.Early.{declared_names, is_large_written_rule, is_undeclared_written_rule, at_written_rule, is_undeclared_place}
@@ -43,13 +44,6 @@ rules_fit items h = rules_pass item_fits rule_fits (λ r e. e) items h
 abbrev pub rule_there : List (List ℕ) → WrittenRule → Bool
 rule_there terminals r = rule_fits r && all_among terminals (flat_map written_terminals r.body)
 
-pub both_all : {X : Type 0} (p q : X → Bool) (xs : List X) → list_all p xs ≡ true → list_all q xs ≡ true → list_all (λ x. p x && q x) xs ≡ true
-both_all p q [] h k = refl
-both_all p q (x ∷ xs) h k =
-    let hs = and_parts (p x) (list_all p xs) h in
-    let ks = and_parts (q x) (list_all q xs) k in
-    and_from (p x && q x) (list_all (λ y. p y && q y) xs) (and_from (p x) (q x) hs.0 ks.0) (both_all p q xs hs.1 ks.1)
-
 terminals_there : (items : List WrittenItem) → list_all (λ r. all_among (terminals_of items) (flat_map written_terminals r.body)) (rules_of items) ≡ true
 terminals_there items =
     let words = flat_map (λ (r : WrittenRule). flat_map written_terminals r.body) (rules_of items) in
@@ -70,14 +64,6 @@ rules_counted items = length-map (rules_of items) (numbered_in items)
 feat_numbers : (t : Tables) (fs : List WrittenFeat) (test : ℕ → Bool) → list_any (λ f. test f.0) (with_terms t (map (numbered_feat t.features) fs)) ≡ list_any (λ w. test (number_of t.features w)) (map (λ f. f.name) fs)
 feat_numbers t [] test = refl
 feat_numbers t (f ∷ fs) test = ap (λ b. test (number_of t.features f.name) || b) (feat_numbers t fs test)
-
-any-append : {X : Type 0} (p : X → Bool) (xs ys : List X) → list_any p (xs ++ ys) ≡ (list_any p xs || list_any p ys)
-any-append p [] ys = refl
-any-append p (x ∷ xs) ys = ap (λ b. p x || b) (any-append p xs ys) ∙ assoc (p x) (list_any p xs) (list_any p ys)
-  where
-    assoc : (a b c : Bool) → (a || (b || c)) ≡ ((a || b) || c)
-    assoc true b c = refl
-    assoc false b c = refl
 
 categories_numbers : (t : Tables) (test : ℕ → Bool) (cs : List WrittenCategory) → list_any (λ f. test f.0) (flat_map (written_feats t) cs) ≡ list_any (λ w. test (number_of t.features w)) (flat_map category_features cs)
 categories_numbers t test [] = refl

@@ -4,6 +4,7 @@ use Rattle.std.specs.List.{list_all, list_any, flat_map}
 use Rattle.std.specs.Prelude.{codes}
 use Rattle.std.proofs.lemmas.List.{length-map}
 use Rattle.std.proofs.lemmas.Bool.{and_parts, or_parts, or_left, or_right, not_from_false, not-false, false_from_ne_true, ltb-false}
+use Rattle.std.proofs.lemmas.List.Folds.{list_all-map as all-map}
 use Rattle.codeco_terms.specs.declared.declarations.Feature.{Feature}
 use Rattle.codeco_text.specs.declared.written.WrittenRule.{WrittenRule}
 use Rattle.codeco_text.specs.declared.written.WrittenItem.{WrittenItem}
@@ -15,7 +16,7 @@ use Rattle.codeco_checked.specs.Faults.{at_rule, is_double, is_bad_rule, count_t
 use Rattle.codeco_numbering.specs.Numbered.{undeclared, with_items, features_of, feature_atoms, atoms_of, rules_of, rule_names, written_terminals, category_names, element_names, variables_of, numbered_of}
 use Rattle.codeco_numbering.specs.Early.{HasNoEarlyFault}
 use Rattle.codeco_numbering.specs.Fitting.{HasRoom}
-use Rattle.codeco_numbering.proofs.SoundLists.{all-map, all_both, all_at, none_each}
+use Rattle.wiki_base.proofs.ListLaws.{all_both, all_at, none_each}
 use Rattle.codeco_numbering.proofs.SoundFaults.{at_no_rule}
 use Rattle.codeco_numbering.proofs.SoundCounts.{all_gathered, count_numbers, count_gathered}
 use Rattle.codeco_numbering.proofs.SoundFeatures.{feature_names}

@@ -12,7 +12,6 @@ pub mod SoundDeclared
 pub mod SoundDoubles
 pub mod SoundFaults
 pub mod SoundFeatures
-pub mod SoundLists
 pub mod SoundLowered
 pub mod SoundMentions
 pub mod SoundNames

@@ -8,7 +8,7 @@ use Rattle.codeco_text.proofs.Growth.{same_is}
 use Rattle.codeco_checked.specs.Numbering.{has, counts_up, count_different}
 use Rattle.codeco_checked.specs.Faults.{count_texts}
 use Rattle.codeco_numbering.specs.Numbered.{gathered, number_of}
-use Rattle.codeco_numbering.proofs.SoundLists.{all_weaken}
+use Rattle.wiki_base.proofs.ListLaws.{all_weaken}
 use Rattle.codeco_numbering.proofs.SoundTables.{same_bytes_refl, is_same, differs_comm, among_append, among_words, number_injective}
 
 -- numbers that are given by first occurrence are below their total

@@ -3,6 +3,7 @@ use Rattle.std.proofs.Common.{◌≡◌, ℕ, Bool, true, false, not, ◌&&◌, 
 use Rattle.std.specs.List.{list_all, list_any, flat_map}
 use Rattle.std.proofs.lemmas.List.{drop-map}
 use Rattle.std.proofs.lemmas.Bool.{and_parts, and_from}
+use Rattle.std.proofs.lemmas.List.Folds.{list_all-map as all-map}
 use Rattle.codeco_terms.specs.declared.rules.Rule.{Rule}
 use Rattle.codeco_text.specs.declared.written.WrittenRule.{WrittenRule}
 use Rattle.codeco_text.specs.declared.written.Domain.{Domain}
@@ -17,7 +18,7 @@ use Rattle.codeco_checked.specs.Numbering.{begins_with, first_features, is_decla
 use Rattle.codeco_checked.specs.Faults.{values_of, is_undeclared_rule}
 use Rattle.codeco_checked.specs.Sound.{Holds}
 use Rattle.codeco_numbering.specs.Numbered.{number_of, NamedFeature, undeclared, is_open, with_items, features_of, atoms_of, numbered_domain, numbered_feature, rules_of, written_features, numbered_of}
-use Rattle.codeco_numbering.proofs.SoundLists.{flat_all, all-map, all_weaken, all_both, all_from_none, none_each}
+use Rattle.wiki_base.proofs.ListLaws.{flat_all, all_weaken, all_both, all_from_none, none_each}
 use Rattle.codeco_numbering.proofs.SoundFaults.{at_no_rule}
 use Rattle.codeco_numbering.proofs.SoundFeatures.{feature_names, items_names, undeclared_names, none_undeclared, has_domain, items_behind, declared_among}
 use Rattle.codeco_numbering.proofs.SoundMentions.{rule_passes}

@@ -11,7 +11,7 @@ use Rattle.codeco_checked.specs.Occurrences.{put_feature, with_taken}
 use Rattle.codeco_checked.specs.Numbering.{has, count_different}
 use Rattle.codeco_checked.specs.Faults.{is_double}
 use Rattle.codeco_numbering.specs.Numbered.{Tables, numbered_term, plain_feats, taken_feats}
-use Rattle.codeco_numbering.proofs.SoundLists.{all_weaken}
+use Rattle.wiki_base.proofs.ListLaws.{all_weaken}
 use Rattle.codeco_numbering.proofs.SoundOrder.{rises, goes_before, stands}
 
 -- no number stands twice

@@ -12,7 +12,7 @@ use Rattle.codeco_text.specs.Names.{same_bytes, is_among}
 use Rattle.codeco_text.proofs.Growth.{same_is}
 use Rattle.codeco_checked.specs.Numbering.{begins_with, is_declared}
 use Rattle.codeco_numbering.specs.Numbered.{number_of, NamedFeature, undeclared, is_open, with_declaration, with_items, with_undeclared, numbered_domain, numbered_feature}
-use Rattle.codeco_numbering.proofs.SoundLists.{all_append}
+use Rattle.wiki_base.proofs.ListLaws.{all_append}
 
 abbrev pub feature_names : List NamedFeature → List (List ℕ)
 feature_names fs = map (λ f. f.name) fs

@@ -2,6 +2,7 @@
 use Rattle.std.proofs.Common.{◌≡◌, ℕ, Bool, true, ltb, List, [], ◌∷◌, map, refl, sym, ap, ◌∙◌, inl, inr}
 use Rattle.std.specs.List.{list_all, flat_map}
 use Rattle.std.proofs.lemmas.Bool.{and_parts, and_from, cases_Bool, cond-true, cond-false}
+use Rattle.std.proofs.lemmas.List.Folds.{list_all-map as all-map}
 use Rattle.codeco_terms.specs.declared.values.Term.{Term}
 use Rattle.codeco_terms.specs.declared.values.Term.TheVariants.{Var}
 use Rattle.codeco_terms.specs.declared.categories.Category.{Category}
@@ -15,7 +16,7 @@ use Rattle.codeco_text.specs.declared.written.WrittenItem.TheVariants as item
 use Rattle.codeco_text.specs.Notation.{is_plain, element_fits, item_fits}
 use Rattle.codeco_checked.specs.Occurrences.{put_feature, with_taken, whole, mentions, rule_mentions, rule_features}
 use Rattle.codeco_numbering.specs.Numbered.{number_of, put_in_order, in_order, ordered, Tables, numbered_term, plain_feats, taken_feats, numbered_category, numbered_pattern, numbered_element, numbered_rule, element_categories, category_features, written_features}
-use Rattle.codeco_numbering.proofs.SoundLists.{all_append, all_split, all_flat, flat_all, all-map}
+use Rattle.wiki_base.proofs.ListLaws.{all_append, all_split, all_flat, flat_all}
 use Rattle.codeco_numbering.proofs.SoundOrder.{ordered_plain, plain_every}
 
 -- Marked features among the others

@@ -3,6 +3,7 @@ use Rattle.std.proofs.Common.{◌≡◌, ℕ, Bool, true, not, ◌&&◌, List, [
 use Rattle.std.specs.Prelude.{codes}
 use Rattle.std.specs.List.{list_all, flat_map}
 use Rattle.std.proofs.lemmas.Bool.{and_parts, and_from, cases_Bool, cond-true, cond-false}
+use Rattle.std.proofs.lemmas.List.Folds.{list_all-map as all-map}
 use Rattle.codeco_text.specs.declared.written.WrittenCategory.{WrittenCategory}
 use Rattle.codeco_text.specs.declared.written.WrittenElement.{WrittenElement}
 use Rattle.codeco_text.specs.declared.written.WrittenElement.TheVariants as element
@@ -17,7 +18,7 @@ use Rattle.codeco_text.specs.Notation as notation
 use Rattle.codeco_checked.specs.Numbering.{first_features, first_atoms}
 use Rattle.codeco_checked.specs.Sound.{is_empty, has_values}
 use Rattle.codeco_numbering.specs.Numbered.{gathered, number_of, NamedFeature, undeclared, features_of, feature_atoms, domain_atoms, atoms_of, numbered_domain, numbered_feature, element_categories, rules_of, category_features, written_features, plain_categories, rule_names, written_terminals}
-use Rattle.codeco_numbering.proofs.SoundLists.{all_append, flat_all, all-map, all_weaken}
+use Rattle.wiki_base.proofs.ListLaws.{all_append, flat_all, all_weaken}
 use Rattle.codeco_numbering.proofs.SoundSpelled.{term_spelled, feat_spelled, category_spelled, element_spelled, label_spelled, domain_spelled, item_spelled}
 use Rattle.codeco_numbering.proofs.SoundFeatures.{item_passes, items_all, undeclared_all}
 use Rattle.codeco_numbering.proofs.SoundContents.{terminals_of, categories_of}

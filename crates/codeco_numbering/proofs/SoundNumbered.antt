@@ -3,6 +3,7 @@ use Rattle.std.proofs.Common.{◌≡◌, ℕ, Bool, true, false, not, ◌&&◌, 
 use Rattle.std.specs.Prelude.{codes, IsTrue}
 use Rattle.std.specs.List.{list_all, list_any, flat_map}
 use Rattle.std.proofs.lemmas.Bool.{and_parts, or_parts, or_from, or_right, cases_Bool, cond-true, cond-false}
+use Rattle.std.proofs.lemmas.List.Folds.{list_all-map as all-map}
 use Rattle.codeco_terms.specs.declared.rules.Rule.{Rule}
 use Rattle.codeco_terms.specs.GrammarParts.{GrammarParts}
 use Rattle.codeco_text.specs.declared.written.WrittenRule.{WrittenRule}
@@ -17,7 +18,7 @@ use Rattle.codeco_checked.specs.Faults.{at_rule, has_wrong_atom, has_mixed_varia
 use Rattle.codeco_checked.specs.FirstFault.{is_before}
 use Rattle.codeco_checked.specs.Sound.{Holds, IsWritten, is_written_rule}
 use Rattle.codeco_numbering.specs.Numbered.{gathered, number_of, features_of, feature_atoms, atoms_of, numbered_feature, rules_of, category_names, element_names, rule_names, written_terminals, numbered_of}
-use Rattle.codeco_numbering.proofs.SoundLists.{all-map, all_weaken, all_both, none_each}
+use Rattle.wiki_base.proofs.ListLaws.{all_weaken, all_both, none_each}
 use Rattle.codeco_numbering.proofs.SoundTables.{differ_gathered, gathered_counts_up}
 use Rattle.codeco_numbering.proofs.SoundCounts.{count_gathered}
 use Rattle.codeco_numbering.proofs.SoundFaults.{at_no_rule}

@@ -3,6 +3,7 @@ use Rattle.std.proofs.Common.{◌≡◌, ℕ, ◌≤◌, Bool, true, not, ◌&&�
 use Rattle.std.specs.List.{list_all, flat_map}
 use Rattle.std.proofs.lemmas.List.{map-append}
 use Rattle.std.proofs.lemmas.Bool.{and_parts, and_from, cases_Bool, ltb-true, ltb-false, leb-true, le-ltb, le-leb, cond-true, cond-false}
+use Rattle.std.proofs.lemmas.List.Folds.{list_all-map as all-map}
 use Rattle.codeco_terms.specs.declared.values.Value.TheVariants.{Atom}
 use Rattle.codeco_terms.specs.declared.values.Term.{Term}
 use Rattle.codeco_terms.specs.declared.values.Term.TheVariants.{Val, Var}
@@ -12,7 +13,6 @@ use Rattle.codeco_text.specs.declared.written.WrittenCategory.{WrittenCategory}
 use Rattle.codeco_text.specs.Notation.{is_marked, is_plain}
 use Rattle.codeco_checked.specs.Occurrences.{put_feature, with_taken, term_variables}
 use Rattle.codeco_numbering.specs.Numbered.{number_of, put_in_order, in_order, ordered, term_names, Tables, numbered_term, plain_feats, taken_feats}
-use Rattle.codeco_numbering.proofs.SoundLists.{all-map}
 
 -- each number is at least the one before it, the first at least n
 abbrev pub rises : ℕ → List (ℕ × WrittenTerm) → Bool

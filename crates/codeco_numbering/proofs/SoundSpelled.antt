@@ -18,7 +18,7 @@ use Rattle.codeco_text.specs.declared.written.WrittenItem.{WrittenItem}
 use Rattle.codeco_text.specs.declared.written.WrittenItem.TheVariants as item
 use Rattle.codeco_text.specs.Names.{is_identifier, is_variable, is_terminal, is_among}
 use Rattle.codeco_text.specs.Notation.{labels, kinds, is_symbol, SpellsFrom, IsSpelling, listed, term_lexemes, feat_lexemes, category_lexemes, named, signed, element_lexemes, label_lexemes, arrow, body_lexemes, domain_lexemes, item_lexemes, lexemes}
-use Rattle.codeco_numbering.proofs.SoundLists.{all_split}
+use Rattle.wiki_base.proofs.ListLaws.{all_split}
 
 abbrev pub term_spelled : WrittenTerm → Bool
 term_spelled (term.Atom w) = is_identifier w

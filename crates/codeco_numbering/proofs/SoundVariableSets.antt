@@ -4,6 +4,8 @@ use Rattle.std.specs.List.{list_all, flat_map}
 use Rattle.std.proofs.lemmas.List.{map-append}
 use Rattle.std.proofs.lemmas.List.Concat.{flat_map-append}
 use Rattle.std.proofs.lemmas.Bool.{and_parts, cases_Bool, cond-true, cond-false}
+use Rattle.std.proofs.Math.Bool.{or_assoc as or_three}
+use Rattle.wiki_base.proofs.BoolLaws.{or-swap as or_swap}
 use Rattle.codeco_terms.specs.declared.values.Term.{Term}
 use Rattle.codeco_terms.specs.declared.values.Term.TheVariants.{Var}
 use Rattle.codeco_text.specs.declared.written.WrittenTerm.{WrittenTerm}
@@ -19,19 +21,6 @@ use Rattle.codeco_checked.specs.Numbering.{has, count_different}
 use Rattle.codeco_numbering.specs.Numbered.{number_of, ordered, term_names, category_names, Tables, plain_feats, taken_feats, numbered_category, numbered_pattern, numbered_element, element_names, numbered_rule}
 use Rattle.codeco_numbering.proofs.SoundSets.{has_append, count_same}
 use Rattle.codeco_numbering.proofs.SoundVariables.{variable_numbers, category_numbered, one_numbered}
-
-or_swap : (a b c : Bool) → (a || (b || c)) ≡ (b || (a || c))
-or_swap true true c = refl
-or_swap true false c = refl
-or_swap false b c = refl
-
-or_three : (a b c : Bool) → ((a || b) || c) ≡ (a || (b || c))
-or_three true b c = refl
-or_three false b c = refl
-
-or_none : (a : Bool) → (a || false) ≡ a
-or_none true = refl
-or_none false = refl
 
 abbrev variables_in : List (ℕ × Term) → List ℕ
 variables_in fs = flat_map (λ f. term_variables f.1) fs

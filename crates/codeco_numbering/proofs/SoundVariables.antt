@@ -14,7 +14,7 @@ use Rattle.codeco_text.specs.Notation.{is_plain, element_fits, item_fits}
 use Rattle.codeco_checked.specs.Occurrences.{with_taken, whole, mentions, rule_mentions, term_variables, category_variables, element_variables, rule_variables}
 use Rattle.codeco_checked.specs.Faults.{is_double, has_double_feature}
 use Rattle.codeco_numbering.specs.Numbered.{number_of, ordered, category_names, Tables, plain_feats, taken_feats, numbered_category, numbered_pattern, numbered_element, element_names, numbered_rule}
-use Rattle.codeco_numbering.proofs.SoundLists.{all_split, none_each}
+use Rattle.wiki_base.proofs.ListLaws.{all_split, none_each}
 use Rattle.codeco_numbering.proofs.SoundOrder.{order_rises, ordered_plain, every_feat, plain_every, whole_every, every_variables}
 use Rattle.codeco_numbering.proofs.SoundDoubles.{stands_apart}
 

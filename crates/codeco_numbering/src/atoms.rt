@@ -84,7 +84,7 @@ fn numbered_feature(alloc: Global, atoms: &Names, feature: &NamedFeature) -> Res
     ensures { IfOk result (λ numbered. numbered ≡ numbered_feature atoms.now feature.now) }
 {
     Ok(Feature {
-        name: Symbol::read(alloc, feature.name)?,
+        name: Symbol::from_slice(alloc, feature.name)?,
         declared: numbered_domain(alloc, atoms, feature)?,
     })
 }

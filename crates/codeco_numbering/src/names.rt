@@ -84,7 +84,7 @@ impl Names {
     {
         let mut symbols = front;
         for name in self.set.as_slice() {
-            symbols.push(Symbol::read(alloc, name.as_slice())?)?;
+            symbols.push(Symbol::from_slice(alloc, name.as_slice())?)?;
         }
         Ok(symbols)
     }

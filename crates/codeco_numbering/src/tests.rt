@@ -54,7 +54,7 @@ fn labels_have_their_names(rt: HostRuntime) -> Result<(), Fail> {
         ("whichobj", Label::Whichobj),
         ("mark", Label::Mark),
     ] {
-        let written = Some(Symbol::read(rt.alloc(), name.as_bytes())?);
+        let written = Some(Symbol::from_slice(rt.alloc(), name.as_bytes())?);
         assert_eq!(rt; label_of(&written), Some(label), "{name}");
     }
     assert_eq!(rt; label_of(&None), None);

@@ -20,11 +20,11 @@ fn kind_symbols(alloc: Global) -> Result<Symbols, Memory>
     ensures { IfOk result (λ symbols. symbols ≡ kinds) }
 {
     let mut symbols = Symbols::new(alloc);
-    symbols.push(Symbol::read(alloc, b"name")?)?;
-    symbols.push(Symbol::read(alloc, b"noun")?)?;
-    symbols.push(Symbol::read(alloc, b"of")?)?;
-    symbols.push(Symbol::read(alloc, b"verb")?)?;
-    symbols.push(Symbol::read(alloc, b"adj")?)?;
+    symbols.push(Symbol::from_slice(alloc, b"name")?)?;
+    symbols.push(Symbol::from_slice(alloc, b"noun")?)?;
+    symbols.push(Symbol::from_slice(alloc, b"of")?)?;
+    symbols.push(Symbol::from_slice(alloc, b"verb")?)?;
+    symbols.push(Symbol::from_slice(alloc, b"adj")?)?;
     Ok(symbols)
 }
 

@@ -18,7 +18,7 @@ use Rattle.codeco_checked.specs.Sound.{IsSound, ascends, is_empty, is_written, i
 use Rattle.codeco_printer.specs.Unnumbered.{name_at, written_pattern, written_element, written_rule}
 use Rattle.codeco_numbering.specs.Numbered.{gathered, plain_categories, rule_names}
 use Rattle.codeco_numbering.proofs.SoundLowered.{lowered, lowered_append, lowered_counts}
-use Rattle.codeco_numbering.proofs.SoundLists.{all_weaken}
+use Rattle.wiki_base.proofs.ListLaws.{all_weaken}
 use Rattle.codeco_numbering.proofs.SoundCounts.{counted}
 use Rattle.codeco_printer.proofs.Tables.{gathered_counts, begins_take}
 

@@ -3,6 +3,7 @@ use Rattle.std.proofs.Common.{◌≡◌, ℕ, Bool, true, ltb, List, [], ◌∷�
 use Rattle.std.specs.List.{list_all, flat_map}
 use Rattle.std.proofs.lemmas.List.{length-map}
 use Rattle.std.proofs.lemmas.Bool.{and_parts, and_from, ltb-true}
+use Rattle.std.proofs.lemmas.List.Folds.{list_all-map as all-map}
 use Rattle.codeco_terms.specs.declared.values.Term.{Term}
 use Rattle.codeco_terms.specs.declared.values.Term.TheVariants.{Var}
 use Rattle.codeco_terms.specs.declared.categories.Category.{Category}
@@ -19,7 +20,7 @@ use Rattle.codeco_checked.specs.Occurrences.{whole, mentions, rule_mentions, rul
 use Rattle.codeco_checked.specs.Sound.{IsSound}
 use Rattle.codeco_printer.specs.Unnumbered.{feature_name, letter, written_term, plain_terms, taken_terms, merged, with_names, written_category, written_pattern, written_element, written_rule}
 use Rattle.codeco_numbering.specs.Numbered.{element_categories, category_features, written_features}
-use Rattle.codeco_numbering.proofs.SoundLists.{all_append, all_split, all_flat, flat_all, all-map, all_weaken}
+use Rattle.wiki_base.proofs.ListLaws.{all_append, all_split, all_flat, flat_all, all_weaken}
 use Rattle.codeco_numbering.proofs.SoundMentions.{with_taken_all}
 use Rattle.codeco_printer.proofs.WrittenSound.{merged_all}
 use Rattle.codeco_printer.proofs.SoundNumbers.{feat_below, atom_below, feats_below, all_feats_below}

@@ -13,7 +13,7 @@ use Rattle.codeco_printer.specs.Unnumbered.{written_rule, written_feature, writt
 use Rattle.codeco_printer.specs.Writing.{Output, nothing, write}
 use Rattle.codeco_printer.proofs.Led.{led_items}
 use Rattle.codeco_printer.proofs.PrintLaws.{spells-printed, needs_space}
-use Rattle.codeco_numbering.proofs.SoundLists.{all_split}
+use Rattle.wiki_base.proofs.ListLaws.{all_split}
 use Rattle.codeco_printer.proofs.Spelled.{items_symbols}
 use Rattle.codeco_printer.proofs.Streamed.{write_is}
 use Rattle.codeco_printer.proofs.WriteLaws.{write_append}

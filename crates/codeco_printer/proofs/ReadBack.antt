@@ -29,7 +29,7 @@ use Rattle.std.specs.List.{list_any}
 use Rattle.codeco_printer.specs.Unnumbered.{name_at, written_element, written_rule, declaration, written_feature, written_of}
 use Rattle.codeco_numbering.specs.Numbered.{gathered, number_of, NamedFeature, undeclared, is_open, with_declaration, with_item, with_items, with_undeclared, written_features, features_of, feature_atoms, atoms_of, numbered_domain, numbered_feature, item_rules, rules_of, rule_names, written_terminals, variables_of, numbered_rule, numbered_of}
 use Rattle.codeco_numbering.proofs.SoundFeatures.{none_undeclared}
-use Rattle.codeco_numbering.proofs.SoundLists.{all_append, all_flat, all_weaken, all_both}
+use Rattle.wiki_base.proofs.ListLaws.{all_append, all_flat, all_weaken, all_both}
 use Rattle.codeco_numbering.proofs.SoundCounts.{counted}
 use Rattle.codeco_printer.proofs.SoundNumbers.{is_fine, all_fine}
 use Rattle.codeco_numbering.proofs.SoundTables.{same_bytes_refl, differs_comm}

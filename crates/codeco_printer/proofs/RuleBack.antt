@@ -5,6 +5,7 @@ use Rattle.std.specs.List.{list_all, flat_map}
 use Rattle.std.proofs.lemmas.List.{append-nil, map-append, length-map, length-drop, get_or-drop, get_or-take}
 use Rattle.std.proofs.lemmas.List.Concat.{flat_map-append}
 use Rattle.std.proofs.lemmas.Bool.{and_parts, and_from, ltb-true, leb-true}
+use Rattle.std.proofs.lemmas.List.Folds.{list_all-map as all-map}
 use Rattle.codeco_terms.specs.declared.values.Value.TheVariants.{Atom, Word, Pos}
 use Rattle.codeco_terms.specs.declared.values.Term.{Term}
 use Rattle.codeco_terms.specs.declared.values.Term.TheVariants.{Val, Var}
@@ -25,7 +26,7 @@ use Rattle.codeco_checked.specs.Sound.{ascends, is_empty, is_written, is_written
 use Rattle.codeco_printer.specs.Unnumbered.{name_at, feature_name, letter, written_term, plain_terms, taken_terms, below, from, merged, with_names, written_category, written_pattern, written_element, written_rule}
 use Rattle.codeco_numbering.specs.Labels.{label_name}
 use Rattle.codeco_numbering.specs.Numbered.{number_of, in_order, ordered, category_names, Tables, numbered_term, plain_feats, taken_feats, numbered_category, numbered_preterminal, numbered_pattern, numbered_element, element_names, gathered, variables_of, numbered_label, numbered_rule}
-use Rattle.codeco_numbering.proofs.SoundLists.{all_split, all_flat, all-map, all_weaken}
+use Rattle.wiki_base.proofs.ListLaws.{all_split, all_flat, all_weaken}
 use Rattle.codeco_numbering.proofs.SoundMentions.{with_taken_all}
 use Rattle.codeco_printer.proofs.WrittenSound.{below_all, from_all, merged_all}
 use Rattle.codeco_printer.proofs.SoundNumbers.{term_fine, feat_fine, category_fine, names_below, feats_below, terminals_below, few_variables, is_fine, positions_fine, mentions_fine}

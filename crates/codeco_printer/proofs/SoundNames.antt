@@ -4,6 +4,7 @@ use Rattle.std.specs.Prelude.{slice_get}
 use Rattle.std.specs.Option.{option_map_or}
 use Rattle.std.specs.List.{list_all, list_any}
 use Rattle.std.proofs.lemmas.Bool.{and_parts, and_from, or_parts, ltb-true, le-leb, eqb-true, or_cases, or_right}
+use Rattle.std.proofs.lemmas.List.Folds.{list_all-map as all-map}
 use Rattle.codeco_terms.specs.declared.values.Value.TheVariants.{Atom, Word, Pos}
 use Rattle.codeco_terms.specs.declared.values.Term.{Term}
 use Rattle.codeco_terms.specs.declared.values.Term.TheVariants.{Val, Var}
@@ -26,7 +27,7 @@ use Rattle.codeco_printer.specs.Unnumbered.{name_at, feature_name, letter, lette
 use Rattle.codeco_numbering.specs.Labels.{label_name}
 use Rattle.codeco_numbering.proofs.SoundCounts.{counted}
 use Rattle.codeco_numbering.proofs.SoundFaults.{at_no_rule}
-use Rattle.codeco_numbering.proofs.SoundLists.{all_flat, all-map, all_weaken, all_both, all_from_none, none_each, all_at}
+use Rattle.wiki_base.proofs.ListLaws.{all_flat, all_weaken, all_both, all_from_none, none_each, all_at}
 
 pub letter_variable : (x : ℕ) → is_variable (letter x) ≡ true
 letter_variable x =

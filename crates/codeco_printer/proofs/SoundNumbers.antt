@@ -4,6 +4,7 @@ use Rattle.std.specs.Prelude.{slice_get}
 use Rattle.std.specs.Option.{option_map_or}
 use Rattle.std.specs.List.{list_all, list_any, flat_map}
 use Rattle.std.proofs.lemmas.Bool.{and_parts, and_from, or_parts, or_left, or_right, ltb-false, lt-ltb, le-leb}
+use Rattle.std.proofs.lemmas.List.Folds.{list_all-map as all-map}
 use Rattle.codeco_terms.specs.declared.values.Value.TheVariants.{Atom, Word, Pos}
 use Rattle.codeco_terms.specs.declared.values.Term.{Term}
 use Rattle.codeco_terms.specs.declared.values.Term.TheVariants.{Val, Var}
@@ -19,7 +20,7 @@ use Rattle.codeco_checked.specs.Numbering.{count_different, declared_atoms, gram
 use Rattle.codeco_checked.specs.Faults.{at_rule, values_of, term_fits, is_undeclared_rule, is_bad_rule, is_large_rule, has_large_declarations, has_broad_category}
 use Rattle.codeco_checked.specs.Sound.{IsSound, is_written_rule}
 use Rattle.codeco_numbering.proofs.SoundFaults.{at_no_rule}
-use Rattle.codeco_numbering.proofs.SoundLists.{all_split, all_flat, flat_all, all-map, all_weaken, all_both, all_from_none, none_each}
+use Rattle.wiki_base.proofs.ListLaws.{all_split, all_flat, flat_all, all_weaken, all_both, all_from_none, none_each}
 use Rattle.codeco_numbering.proofs.SoundCounts.{counted}
 use Rattle.codeco_printer.proofs.SoundNames.{no_undeclared, no_bad, not_wrong, values_at}
 

@@ -21,7 +21,7 @@ use Rattle.codeco_text.specs.Notation.{labels, kinds, is_symbol, listed, term_le
 use Rattle.codeco_printer.specs.Writing.{closed_feats}
 use Rattle.codeco_printer.proofs.WriteLaws.{category_closed}
 use Rattle.codeco_numbering.proofs.SoundSpelled.{term_spelled, feat_spelled, category_spelled, element_spelled, label_spelled, domain_spelled, item_spelled}
-use Rattle.codeco_numbering.proofs.SoundLists.{all_append}
+use Rattle.wiki_base.proofs.ListLaws.{all_append}
 
 abbrev AreSymbols : List Lexeme → Type 0
 AreSymbols xs = list_all is_symbol xs ≡ true

@@ -3,6 +3,7 @@ use Rattle.std.proofs.Common.{◌≡◌, ℕ, Bool, true, not, ◌&&◌, ltb, Li
 use Rattle.std.specs.Option.{option_map}
 use Rattle.std.specs.List.{list_all, flat_map}
 use Rattle.std.proofs.lemmas.Bool.{and_parts, and_from, cases_Bool, cond-true, cond-false}
+use Rattle.std.proofs.lemmas.List.Folds.{list_all-map as all-map}
 use Rattle.codeco_terms.specs.declared.values.Term.{Term}
 use Rattle.codeco_terms.specs.declared.values.Term.TheVariants.{Val, Var}
 use Rattle.codeco_terms.specs.declared.categories.Category.{Category}
@@ -27,7 +28,7 @@ use Rattle.codeco_checked.specs.Sound.{IsSound, is_empty, is_written, is_written
 use Rattle.codeco_printer.specs.Unnumbered.{name_at, feature_name, letter, written_term, plain_terms, taken_terms, below, from, merged, with_names, written_category, written_pattern, written_element, written_rule, declaration, written_feature, written_of}
 use Rattle.codeco_numbering.specs.Labels.{label_name}
 use Rattle.codeco_numbering.proofs.SoundMentions.{with_taken_all}
-use Rattle.codeco_numbering.proofs.SoundLists.{all_append, all_split, all_flat, flat_all, all-map, all_weaken, all_both}
+use Rattle.wiki_base.proofs.ListLaws.{all_append, all_split, all_flat, flat_all, all_weaken, all_both}
 use Rattle.codeco_printer.proofs.WriteLaws.{merged_none}
 use Rattle.codeco_printer.proofs.SoundNames.{letter_variable, label_named, kind_named, term_named, feat_named, category_named, atoms_named, mentions_named, terminals_named}
 use Rattle.codeco_numbering.proofs.SoundSpelled.{term_spelled, feat_spelled, category_spelled, element_spelled, label_spelled, item_spelled}

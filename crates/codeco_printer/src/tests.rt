@@ -17,7 +17,7 @@ fn symbols(alloc: Global, texts: &[&[u8]]) -> Result<Symbols, Memory>
 {
     let mut made = Symbols::new(alloc);
     for text in texts {
-        made.push(Symbol::read(alloc, text)?)?;
+        made.push(Symbol::from_slice(alloc, text)?)?;
     }
     Ok(made)
 }
@@ -36,7 +36,7 @@ fn undeclared(alloc: Global, names: &[&[u8]]) -> Result<Features, Memory>
     let mut made = Features::new(alloc);
     for name in names {
         made.push(Feature {
-            name: Symbol::read(alloc, name)?,
+            name: Symbol::from_slice(alloc, name)?,
             declared: Declared::Undeclared,
         })?;
     }

@@ -1,9 +1,10 @@
 // Texts with their faults and places, worked out by hand from the notation.
-use crate::texts::{GRAMMARS, NO_SENTENCES, REFUSED};
+use crate::texts::{GRAMMARS, LABELLED, MISLABELLED, NO_SENTENCES, REFUSED};
 use crate::{GrammarFault, print_grammar, read_grammar};
 use std::alloc::Global;
 use std::process::Abort;
 use std::test::Fail;
+use wiki_base::Copied;
 
 fn refusal(alloc: Global, text: &str) -> Option<GrammarFault> {
     read_grammar(alloc, text).err()
@@ -75,13 +76,32 @@ fn a_grammar_without_faults_is_read_and_printed(rt: HostRuntime) -> Result<(), F
 #[test]
 fn a_grammar_is_labelled_where_each_rule_has_a_label(rt: HostRuntime) -> Result<(), Fail> {
     for (text, labelled) in [
-        ("{pass} text --> a. {name} a --> [b].", true),
-        ("{pass} text --> a. a --> [b].", false),
+        ("{statement} text --> s. {say} s --> [b] n v.", true),
         ("text --> [b].", false),
     ] {
         let grammar = read_grammar(rt.alloc(), text).ok().ok_or("a grammar")?;
         assert_eq!(rt; grammar.is_labelled(), labelled, "{text}");
         assert_eq!(rt; grammar.copy()?.is_labelled(), labelled, "{text}");
+    }
+    Ok(())
+}
+
+#[test]
+fn labels_that_meet_their_rows_are_admitted(rt: HostRuntime) -> Result<(), Fail> {
+    for text in LABELLED {
+        assert_eq!(rt; refusal(rt.alloc(), text), None, "{text}");
+    }
+    Ok(())
+}
+
+#[test]
+fn the_first_label_that_breaks_its_row_is_told(rt: HostRuntime) -> Result<(), Fail> {
+    for (text, rule) in MISLABELLED {
+        assert_eq!(rt;
+            refusal(rt.alloc(), text),
+            Some(GrammarFault::LabelKind(rule)),
+            "{text}"
+        );
     }
     Ok(())
 }

@@ -5,7 +5,7 @@ ghost use Rattle.codeco_terms.specs.Unification.{HasRoom};
 use crate::*;
 use std::alloc::Global;
 use std::test::Fail;
-use wiki_base::{Memory, WordId};
+use wiki_base::{Copied, Memory, WordId};
 
 // A category whose features 0 and 1 are the variable 1.
 fn twice(alloc: Global) -> Result<Category, Memory>
@@ -49,7 +49,7 @@ fn names_and_values_that_differ_leave_the_map_as_it_was(rt: HostRuntime) -> Resu
 fn a_grammar_is_copied_with_its_names(rt: HostRuntime) -> Result<(), Fail> {
     let alloc = rt.alloc();
     let mut names = Symbols::new(alloc);
-    names.push(Symbol::read(alloc, b"text")?)?;
+    names.push(Symbol::from_slice(alloc, b"text")?)?;
     let none = Symbols::new(alloc);
     let grammar = Grammar::new(
         Features::new(alloc),

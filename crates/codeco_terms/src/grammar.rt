@@ -1,9 +1,9 @@
 // Grammars.
-ghost use Rattle.std.specs.Prelude.{◌≡◌, IfOk};
+ghost use Rattle.std.specs.Prelude.{◌≡◌};
 
 use crate::{Features, Rules, Symbols};
 use std::marker::Model;
-use wiki_base::Memory;
+use wiki_base::{Copied, Memory};
 
 /// A grammar: its features, its atoms, its terminals, the names of its categories and its rules. Each is a list in
 /// order of number, from 0, but that the rule at place n has the number n + 1. An atom is what has its name, so
@@ -89,11 +89,10 @@ impl Grammar {
     {
         &self.rules
     }
+}
 
-    /// An equal grammar.
-    pub fn copy(&self) -> Result<Self, Memory>
-        ensures { IfOk result (λ copied. copied ≡ self.now) }
-    {
+impl Copied for Grammar {
+    fn copy(&self) -> Result<Self, Memory> {
         Ok(Grammar {
             features: self.features.copy()?,
             atoms: self.atoms.copy()?,

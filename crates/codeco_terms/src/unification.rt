@@ -4,6 +4,7 @@ ghost use Rattle.std.specs.Bool.{OnTrue, OnFalse};
 ghost use Rattle.codeco_terms.specs.Unification.{Bindings, Extends, Meets, AgreeOnShared, Equates, CanEquate, IsLeastExtension, HasRoom, meaning_of};
 
 use crate::{Category, Env, Ground, Term, Value};
+use wiki_base::Copied;
 
 /// Makes the category equal to the ground one on each feature that both have, by giving variables values. True
 /// exactly where the names are equal and some extension of the map does so; then just the variables needed are added.

@@ -1,7 +1,7 @@
 // What a feature may be: a value, or a variable that stands for one.
 ghost use Rattle.std.specs.Prelude.{◌≡◌};
 
-use wiki_base::WordId;
+use wiki_base::{Copied, Memory, WordId};
 
 /// A value of a feature: an atom by its number, a word, or a position (a number of tokens).
 #[derive(Clone, Copy, Debug, PartialEq, Eq)]
@@ -32,4 +32,16 @@ impl Value {
 pub enum Term {
     Val(Value),
     Var(u8),
+}
+
+impl Copied for Value {
+    fn copy(&self) -> Result<Value, Memory> {
+        Ok(*self)
+    }
+}
+
+impl Copied for Term {
+    fn copy(&self) -> Result<Term, Memory> {
+        Ok(*self)
+    }
 }

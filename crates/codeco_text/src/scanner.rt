@@ -47,7 +47,7 @@ fn identifier(alloc: Global, word: &[u8]) -> Result<Option<Lexeme>, Memory>
     ensures { IfOk result (λ found. found ≡ identifier word.now) }
 {
     if is_identifier(word) {
-        Ok(Some(Lexeme::Identifier(Symbol::read(alloc, word)?)))
+        Ok(Some(Lexeme::Identifier(Symbol::from_slice(alloc, word)?)))
     } else {
         Ok(None)
     }
@@ -58,7 +58,7 @@ fn keyword_or_name(alloc: Global, is_keyword: bool, word: &[u8]) -> Result<Optio
     ensures { IfOk result (λ found. found ≡ (if is_keyword then Some (Lexeme.Keyword word.now) else identifier word.now)) }
 {
     if is_keyword {
-        Ok(Some(Lexeme::Keyword(Symbol::read(alloc, word)?)))
+        Ok(Some(Lexeme::Keyword(Symbol::from_slice(alloc, word)?)))
     } else {
         identifier(alloc, word)
     }
@@ -69,7 +69,7 @@ fn variable(alloc: Global, word: &[u8]) -> Result<Option<Lexeme>, Memory>
     ensures { IfOk result (λ found. found ≡ (if is_variable word.now then Some (Lexeme.Variable word.now) else None)) }
 {
     if is_variable(word) {
-        Ok(Some(Lexeme::Variable(Symbol::read(alloc, word)?)))
+        Ok(Some(Lexeme::Variable(Symbol::from_slice(alloc, word)?)))
     } else {
         Ok(None)
     }
@@ -80,7 +80,7 @@ fn label(alloc: Global, word: &[u8]) -> Result<Option<Lexeme>, Memory>
     ensures { IfOk result (λ found. found ≡ (if is_among labels word.now then Some (Lexeme.Label word.now) else None)) }
 {
     if is_label(word) {
-        Ok(Some(Lexeme::Label(Symbol::read(alloc, word)?)))
+        Ok(Some(Lexeme::Label(Symbol::from_slice(alloc, word)?)))
     } else {
         Ok(None)
     }
@@ -91,7 +91,7 @@ fn kind(alloc: Global, word: &[u8]) -> Result<Option<Lexeme>, Memory>
     ensures { IfOk result (λ found. found ≡ (if is_among kinds word.now then Some (Lexeme.Kind word.now) else None)) }
 {
     if is_kind(word) {
-        Ok(Some(Lexeme::Kind(Symbol::read(alloc, word)?)))
+        Ok(Some(Lexeme::Kind(Symbol::from_slice(alloc, word)?)))
     } else {
         Ok(None)
     }
@@ -102,7 +102,7 @@ fn term(alloc: Global, word: &[u8]) -> Result<Option<Lexeme>, Memory>
     ensures { IfOk result (λ found. found ≡ (if is_variable word.now then Some (Lexeme.Variable word.now) else identifier word.now)) }
 {
     if is_variable(word) {
-        Ok(Some(Lexeme::Variable(Symbol::read(alloc, word)?)))
+        Ok(Some(Lexeme::Variable(Symbol::from_slice(alloc, word)?)))
     } else {
         identifier(alloc, word)
     }
@@ -271,7 +271,7 @@ fn end_terminal(builder: &mut Builder, alloc: Global, bytes: &[u8]) -> Result<Op
         take_whole(
             builder,
             alloc,
-            Lexeme::Terminal(Symbol::read(alloc, bytes)?),
+            Lexeme::Terminal(Symbol::from_slice(alloc, bytes)?),
         )
     } else {
         Ok(None)

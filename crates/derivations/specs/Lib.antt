@@ -1,7 +1,5 @@
-pub mod Trees
-pub mod Settings
-pub mod Instances
-pub mod Derives
-pub mod Stands
-pub mod Sentences
-pub mod Cutting
+pub mod Among
+pub mod Enumeration
+pub mod Choices
+pub mod Paths
+pub mod Listed

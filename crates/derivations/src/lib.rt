@@ -1,25 +1,13 @@
-//! Tokens, trees and derivations: how a text is cut into tokens and tokens are shown as a text, what a sentence of a
-//! grammar is, and the check that a tree derives one (after the
-//! Codeco notation of T. Kuhn, Controlled English for Knowledge Representation, 2010; the rules of references are
-//! this project's own).
+//! Derivations: what `derivation_trees` has, and beside it the least skeleton and the menu of tokens, by listing trees.
 #![tactic(auto)]
 
-mod check;
-mod cuts;
-mod cutting;
-mod derive;
-mod features;
-mod fitting;
-mod instances;
-mod pieces;
-mod setting;
-mod showing;
-mod stand;
-mod trees;
-mod variables;
+mod choices;
+mod least;
+mod listing;
+mod paths;
+mod values;
 
-pub use check::check_tree;
-pub use cuts::Cut;
-pub use cutting::cut;
-pub use showing::show;
-pub use trees::{Binds, Places, Tree, Trees};
+pub use derivation_trees::{
+    Binds, Cut, Group, Menu, Places, Skeleton, Skeletons, Tree, Trees, Words, check_tree, cut, show,
+};
+pub use least::plain_least;

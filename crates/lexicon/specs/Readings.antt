@@ -1,10 +1,10 @@
 -- What a form of a word is to a grammar: the preterminal of its kind, with values of its features.
-use Rattle.std.specs.Prelude.{ℕ, ◌+◌, ◌==◌, Bool, false, ◌&&◌, if◌then◌else◌, List, [], ◌∷◌, codes}
-use Rattle.std.specs.List.{flat_map, list_any, list_all}
+use Rattle.std.specs.Prelude.{ℕ, ◌+◌, ◌==◌, Bool, false, if◌then◌else◌, List, [], ◌∷◌, codes}
+use Rattle.std.specs.List.{flat_map, list_any}
 use Rattle.std.specs.Str.{bytes_eq}
 use Rattle.wiki_base.specs.declared.numbers.WordId.{WordId}
 use Rattle.codeco_terms.specs.declared.values.Value.{Value}
-use Rattle.codeco_terms.specs.declared.values.Value.TheVariants.{Atom, Word as TheWord, Pos}
+use Rattle.codeco_terms.specs.declared.values.Value.TheVariants.{Atom, Word as TheWord}
 use Rattle.codeco_terms.specs.declared.categories.Ground.{Ground}
 use Rattle.lexicon.specs.declared.kinds.Kind.{Kind}
 use Rattle.lexicon.specs.declared.kinds.Kind.TheVariants.{Name, Noun, Of, Verb, Adjective}
@@ -56,19 +56,3 @@ readings_of_word token word = readings_from word.forms.kind word.id token 0 word
 -- the readings of the token as a form of a live word
 abbrev pub readings_of : List Word → List ℕ → List Ground
 readings_of live token = flat_map (readings_of_word token) live
-
--- the values are the same
-abbrev pub is_value : Value → Value → Bool
-is_value (Atom n) (Atom m) = n == m
-is_value (TheWord w) (TheWord v) = w.0 == v.0
-is_value (Pos n) (Pos m) = n == m
-is_value v w = false
-
--- each value that is given for a feature is the reading's
-abbrev pub has_values : List (ℕ × Value) → List (ℕ × Value) → Bool
-has_values given vals = list_all (λ g. list_any (λ v. g.0 == v.0 && is_value g.1 v.1) vals) given
-
--- the token is a form of a live word of the preterminal's kind, and has the values that are given for its features
-abbrev pub matches_preterminal : List Word → List ℕ → Ground → Bool
-matches_preterminal live token given =
-    list_any (λ r. r.name == given.name && has_values given.vals r.vals) (readings_of live token)

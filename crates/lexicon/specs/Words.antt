@@ -1,6 +1,6 @@
 -- A lexicon as the list of its live words.
-use Rattle.std.specs.Prelude.{◌≡◌, ℕ, ◌+◌, ◌<◌, ◌≤◌, ◌^◌, ◌==◌, Bool, true, false, not, if◌then◌else◌, List, [], ◌∷◌, ◌++◌, length, map, All, AllPairs, filter, find, option_map, Option, Some, None, ⊤}
-use Rattle.std.specs.Option.{option_or, option_map_or}
+use Rattle.std.specs.Prelude.{◌≡◌, ℕ, ◌+◌, ◌<◌, ◌≤◌, ◌^◌, ◌==◌, Bool, true, false, not, if◌then◌else◌, List, [], ◌∷◌, ◌++◌, length, map, All, AllPairs, filter, find, slice_get, option_map, Option, Some, None, ⊤}
+use Rattle.std.specs.Option.{option_or, option_map_or, option_and_then}
 use Rattle.std.specs.List.{list_any, HoldsAt}
 use Rattle.std.specs.Str.{bytes_eq}
 use Rattle.wiki_base.specs.declared.numbers.WordId.{WordId}
@@ -8,8 +8,10 @@ use Rattle.wiki_base.specs.Text.{IsText}
 use Rattle.lexicon.specs.declared.kinds.Forms.{Forms}
 use Rattle.lexicon.specs.declared.words.Word.{Word}
 use Rattle.lexicon.specs.declared.words.LexFault.{LexFault}
+use Rattle.lexicon.specs.declared.words.LexLimit.TheVariants.{Words, Numbers}
+use Rattle.lexicon.specs.declared.words.TheConstants.{MOST_WORDS, LAST_NUMBER}
 use Rattle.lexicon.specs.declared.words.LexFault.TheVariants.{Taken, Reserved, NoWord, Full, Memory}
-use Rattle.lexicon.specs.Kinds.{IsComplete}
+use Rattle.lexicon.specs.Kinds.{canonical_place, IsComplete}
 use Rattle.lexicon.specs.Terminals.{is_reserved}
 
 -- the live words, the terminals of the grammar, and the last number that was given to a word
@@ -38,6 +40,10 @@ owner live text = option_map (λ word. word.id) (find (has_form text) live)
 abbrev pub forms_of : List Word → WordId → Option Forms
 forms_of live id = option_map (λ word. word.forms) (find (has_number id) live)
 
+-- the canonical form of the word with the number
+abbrev pub canonical_form_of : List Word → WordId → Option (List ℕ)
+canonical_form_of live id = option_and_then (λ forms. slice_get forms.texts (canonical_place forms.kind)) (forms_of live id)
+
 -- the words but for the one with the number
 abbrev pub others : List Word → WordId → List Word
 others live id = filter (λ word. not (has_number id word)) live
@@ -60,7 +66,7 @@ pub record IsLexicon (listed : Listed) : Type 0 where
   pub spelled : All (λ word. All IsText word.forms.texts) listed.live
   pub apart : AllPairs SharesNoForm listed.live
   pub unreserved : All (HasNoTerminal listed.terminals) listed.live
-  pub few : length listed.live ≤ 5000
+  pub few : length listed.live ≤ MOST_WORDS
   pub last_fits : listed.last < 2 ^ 32
 
 -- the word that would be added next, with these forms
@@ -91,10 +97,10 @@ first_reserved terminals [] = None
 first_reserved terminals (text ∷ texts) =
     if is_reserved terminals text then Some (Reserved text) else first_reserved terminals texts
 
--- no word can be added: there are 5,000, or all numbers are given
+-- no word can be added: there are `MOST_WORDS`, or all numbers are given
 abbrev pub fullness : Listed → Option LexFault
 fullness listed =
-    if length listed.live == 5000 then Some (Full 5000) else (if listed.last == 4294967295 then Some (Full 4294967295) else None)
+    if length listed.live == MOST_WORDS then Some (Full Words) else (if listed.last == LAST_NUMBER then Some (Full Numbers) else None)
 
 -- the first cause that stands against forms beside these words
 abbrev pub forms_refusal : List Word → List (List ℕ) → Forms → Option LexFault

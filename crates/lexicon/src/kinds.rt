@@ -1,9 +1,7 @@
 // The kinds of words, and the forms of one word.
-ghost use Rattle.std.specs.Prelude.{◌≡◌, ◌<◌, ◌↔◌, [], length, IfOk, IsTrue, slice_get, Some};
+ghost use Rattle.std.specs.Prelude.{◌≡◌, slice_get, Some};
 
-use std::alloc::Global;
-use std::marker::Model;
-use wiki_base::{Memory, Text};
+use wiki_base::{Copied, List, Memory, Text};
 
 /// The five kinds of words, after Kuhn, Controlled English for Knowledge Representation, 2010.
 #[derive(Clone, Copy, Debug, PartialEq, Eq)]
@@ -46,78 +44,7 @@ impl Kind {
 }
 
 /// A list of texts, seen as the list of their bytes.
-#[derive(Drop)]
-pub struct Texts {
-    items: Vec<Text>,
-}
-
-impl Model for Texts {
-    ghost use Rattle.std.specs.Prelude.{List, ℕ};
-
-    ghost Value = { List (List ℕ) };
-
-    ghost view = { λ t. t.items.items };
-}
-
-impl Texts {
-    /// These texts.
-    pub fn from_vec(items: Vec<Text>) -> Self
-        ensures { result ≡ items.items }
-    {
-        Texts { items }
-    }
-
-    /// The texts, without copying them.
-    pub fn into_vec(self) -> Vec<Text>
-        ensures { result.items ≡ self }
-    {
-        self.items
-    }
-
-    pub fn len(&self) -> usize
-        ensures { result ≡ length self.now }
-    {
-        self.items.len()
-    }
-
-    pub fn is_empty(&self) -> bool
-        ensures { IsTrue result ↔ (self.now ≡ []) }
-    {
-        self.items.is_empty()
-    }
-
-    /// The text at a place, from 0.
-    pub fn get(&self, place: usize) -> &Text
-        requires { place < length self.now }
-        ensures { slice_get self.now place ≡ Some result.now }
-    {
-        &self.items[place]
-    }
-
-    pub fn as_slice(&self) -> &[Text]
-        ensures { result.now ≡ self.now }
-    {
-        self.items.as_slice()
-    }
-
-    /// A list of equal texts.
-    pub fn copied(alloc: Global, texts: &[Text]) -> Result<Texts, Memory>
-        ensures { IfOk result (λ copies. copies ≡ texts.now) }
-    {
-        let mut items = Vec::with_capacity(alloc, texts.len())?;
-        for text in texts {
-            items.push(text.copy()?)?;
-        }
-        Ok(Texts { items })
-    }
-
-    /// An equal list.
-    pub fn copy(&self) -> Result<Texts, Memory>
-        ensures { IfOk result (λ texts. texts ≡ self.now) }
-    {
-        Texts::copied(*self.items.allocator(), self.as_slice())
-    }
-}
+pub type Texts = List<Text>;
 
 /// The forms of one word, in this order: of a name, an of-construct or an adjective its text; of a noun its singular
 /// and plural; of a verb its third person, infinitive and past participle.
@@ -137,11 +64,10 @@ impl Forms {
     {
         self.texts.get(self.kind.canonical_place())
     }
+}
 
-    /// Equal forms.
-    pub fn copy(&self) -> Result<Forms, Memory>
-        ensures { IfOk result (λ forms. forms ≡ self.now) }
-    {
+impl Copied for Forms {
+    fn copy(&self) -> Result<Self, Memory> {
         Ok(Forms {
             kind: self.kind,
             texts: self.texts.copy()?,

@@ -8,7 +8,7 @@ ghost use Rattle.lexicon.specs.declared.suggest.FormFault.TheVariants.{Memory as
 use crate::endings::{with_d, with_s};
 use crate::kinds::{Forms, Kind, Texts};
 use std::alloc::{AllocError, AllocFailed, Global};
-use wiki_base::{Memory, Text};
+use wiki_base::{Copied, Memory, Text};
 
 /// Why the given texts are no forms of a word.
 #[derive(Clone, Copy, Debug, PartialEq, Eq)]

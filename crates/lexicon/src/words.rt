@@ -11,10 +11,31 @@ use std::alloc::{AllocError, AllocFailed, Global};
 use std::collections::HashMap;
 use std::marker::Model;
 use std::mem;
-use wiki_base::{Memory, Text, WordId};
+use wiki_base::{Copied, List, Memory, Spelled, Text, WordId};
 
 /// The greatest number of live words.
 pub const MOST_WORDS: usize = 5000;
+
+/// The last number that a word can be given.
+pub const LAST_NUMBER: u32 = 4_294_967_295;
+
+impl Copied for Word {
+    fn copy(&self) -> Result<Self, Memory> {
+        Ok(Word {
+            id: self.id,
+            forms: self.forms.copy()?,
+        })
+    }
+}
+
+/// What bounds a lexicon.
+#[derive(Clone, Copy, Debug, PartialEq, Eq)]
+pub enum LexLimit {
+    /// The live words: `MOST_WORDS`.
+    Words,
+    /// The numbers that are given: up to `LAST_NUMBER`.
+    Numbers,
+}
 
 /// One live word.
 #[derive(Drop)]
@@ -32,8 +53,8 @@ pub enum LexFault {
     Reserved { text: Text },
     /// No live word has the number.
     NoWord(WordId),
-    /// There are 5,000 live words, or the last number, 4,294,967,295, was given.
-    Full { limit: u32 },
+    /// The limit is reached: there are `MOST_WORDS` live words, or `LAST_NUMBER` was given.
+    Full(LexLimit),
     Memory,
 }
 
@@ -168,18 +189,6 @@ impl Lexicon {
         }
     }
 
-    /// An equal lexicon.
-    pub fn copy(&self) -> Result<Self, Memory>
-        ensures { IfOk result (λ lexicon. lexicon ≡ self.now) }
-    {
-        Ok(Lexicon {
-            words: copied(*self.words.allocator(), &self.words)?,
-            terminals: self.terminals.copy()?,
-            last: self.last,
-            index: self.index.clone()?,
-        })
-    }
-
     /// Adds a word under the next number. Refused are, in this order, a form of another live word, a form that the
     /// grammar has, and the limits. The forms are copied.
     pub fn add(&mut self, forms: &Forms) -> Result<WordId, LexFault>
@@ -303,27 +312,37 @@ impl Lexicon {
         ensures full { IfErr result (λ fault. fullness self.now ≡ Some fault) }
     {
         if self.words.len() == MOST_WORDS {
-            return Err(LexFault::Full {
-                limit: MOST_WORDS as u32,
-            });
+            return Err(LexFault::Full(LexLimit::Words));
         }
-        if self.last == u32::MAX {
-            return Err(LexFault::Full { limit: u32::MAX });
+        if self.last == LAST_NUMBER {
+            return Err(LexFault::Full(LexLimit::Numbers));
         }
         Ok(())
     }
 }
 
-// Equal words.
-fn copied(alloc: Global, words: &[Word]) -> Result<Vec<Word>, Memory>
-    ensures { IfOk result (λ copies. copies.items ≡ words.now) }
-{
-    let mut copies = Vec::with_capacity(alloc, words.len())?;
-    for word in words {
-        let forms = word.forms.copy()?;
-        copies.push(Word { id: word.id, forms })?;
+impl Copied for Lexicon {
+    fn copy(&self) -> Result<Self, Memory> {
+        Ok(Lexicon {
+            words: List::copied(*self.words.allocator(), &self.words)?.into_vec(),
+            terminals: self.terminals.copy()?,
+            last: self.last,
+            index: self.index.clone()?,
+        })
     }
-    Ok(copies)
+}
+
+impl Spelled for Lexicon {
+    ghost use Rattle.lexicon.specs.Words.{canonical_form_of};
+
+    ghost canonical_form = { λ lexicon id. canonical_form_of lexicon.live id };
+
+    fn spelled(&self, id: WordId) -> Option<&str> {
+        match self.word(id) {
+            Some(forms) => Some(forms.canonical().as_str()),
+            None => None,
+        }
+    }
 }
 
 #[cfg(test)]
@@ -337,7 +356,7 @@ mod tests {
     // A lexicon beside a grammar with the terminal `every`.
     fn beside_every(alloc: Global) -> Result<Lexicon, Fail> {
         let mut terminals = Symbols::new(alloc);
-        terminals.push(Symbol::read(alloc, b"every")?)?;
+        terminals.push(Symbol::from_slice(alloc, b"every")?)?;
         let grammar = Grammar::new(
             Features::new(alloc),
             Symbols::new(alloc),
@@ -423,7 +442,7 @@ mod tests {
         let mut lexicon = beside_every(rt.alloc())?;
         add_many(rt.alloc(), &mut lexicon, 5000)?;
         match refused(rt.alloc(), &mut lexicon, Kind::Name, "zzz")? {
-            LexFault::Full { limit } => assert_eq!(rt; limit, 5000),
+            LexFault::Full(limit) => assert_eq!(rt; limit, LexLimit::Words),
             _ => return Err(Fail::from("not full")),
         }
         assert_eq!(rt; lexicon.find("zzz"), None);

@@ -11,3 +11,6 @@ pub use boxed::Boxed;
 pub use copied::Copied;
 pub use list::List;
 pub use memory::Memory;
+
+#[cfg(test)]
+mod tests;

@@ -9,7 +9,7 @@ use Rattle.logic_terms.specs.declared.expressions.Role.{Role}
 use Rattle.wiki_base.specs.declared.numbers.WordId.{WordId}
 use Rattle.logic_terms.specs.Interpretation.{is_word}
 use Rattle.logic_terms.specs.Same.{same_direction, same_role, same_concept, same_concepts}
-use Rattle.logic_terms.proofs.Walks.{left_more, left_none, drop_get}
+use Rattle.logic_terms.proofs.Walks.{left_none, drop_get}
 
 and_false : (a : Bool) → (a && false) ≡ false
 and_false true = refl

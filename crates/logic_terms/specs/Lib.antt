@@ -5,8 +5,8 @@ pub mod Interpretation
 pub mod Introduced
 pub mod Known
 pub mod Meaning
-pub mod Names
 pub mod Parts
+pub mod Names
 pub mod Plain
 pub mod Reading
 pub mod Same

@@ -48,15 +48,18 @@ impl Class {
                 _ => false,
             },
             Class::Some(role, inner) => match other {
-                Class::Some(others_role, others) => role.is_same(*others_role) && inner.is_same(others),
+                Class::Some(others_role, others) => role.is_same(*others_role)
+                    && inner.is_same(others),
                 _ => false,
             },
             Class::All(role, inner) => match other {
-                Class::All(others_role, others) => role.is_same(*others_role) && inner.is_same(others),
+                Class::All(others_role, others) => role.is_same(*others_role)
+                    && inner.is_same(others),
                 _ => false,
             },
             Class::Value(role, name) => match other {
-                Class::Value(others_role, others) => role.is_same(*others_role) && name.0 == others.0,
+                Class::Value(others_role, others) => role.is_same(*others_role)
+                    && name.0 == others.0,
                 _ => false,
             },
         }

@@ -31,7 +31,8 @@ impl Class {
                 _ => false,
             },
             Class::All(role, inner) => match self {
-                Class::Some(own_role, own) => own_role.is_same(*role) && own.is_complement_of(inner),
+                Class::Some(own_role, own) => own_role.is_same(*role)
+                    && own.is_complement_of(inner),
                 _ => false,
             },
         }
@@ -66,11 +67,13 @@ impl Class {
                 _ => false,
             },
             Class::Some(role, inner) => match self {
-                Class::Some(own_role, own) => own_role.is_same(*role) && own.is_normal_form_of(inner),
+                Class::Some(own_role, own) => own_role.is_same(*role)
+                    && own.is_normal_form_of(inner),
                 _ => false,
             },
             Class::All(role, inner) => match self {
-                Class::All(own_role, own) => own_role.is_same(*role) && own.is_normal_form_of(inner),
+                Class::All(own_role, own) => own_role.is_same(*role)
+                    && own.is_normal_form_of(inner),
                 _ => false,
             },
         }

@@ -1,12 +1,11 @@
 // Discourse representation structures.
-ghost use Rattle.std.specs.Prelude.{◌≡◌, ◌<◌, ◌==◌, [], ◌∷◌, ◌++◌, map, length, slice_get, Some, OnOk, OnErr, IfOk};
+ghost use Rattle.std.specs.Prelude.{◌≡◌, ◌<◌, ◌==◌, [], ◌∷◌, ◌++◌, map, length, slice_get, Some, OnOk, OnErr};
 ghost use Rattle.logic_terms.specs.Shown.{condition_of, conditions_of, structure_of};
 ghost use Rattle.logic_terms.specs.Structure.{structure, conditions_from, conditions_in, referents_in};
 ghost use Rattle.logic_terms.specs.declared.structures.Cond.TheViews.{size-Cond, size-Conds, size-Drs};
 
 use std::alloc::Global;
-use std::marker::Model;
-use wiki_base::{Memory, WordId};
+use wiki_base::{List, Memory, WordId};
 
 /// What a condition speaks of: a referent or a name.
 #[derive(Clone, Copy, Debug, PartialEq, Eq)]
@@ -16,79 +15,7 @@ pub enum Thing {
 }
 
 /// A list of referents.
-#[derive(Drop)]
-pub struct Referents {
-    items: Vec<u16>,
-}
-
-impl Model for Referents {
-    ghost use Rattle.std.specs.Prelude.{List, ℕ};
-
-    ghost Value = { List ℕ };
-
-    ghost view = { λ r. r.items.items };
-}
-
-impl Referents {
-    /// The empty list.
-    pub fn new(alloc: Global) -> Self
-        ensures { result ≡ [] }
-    {
-        Referents {
-            items: Vec::new(alloc),
-        }
-    }
-
-    /// The referents of a `Vec`, in order.
-    pub fn from_vec(items: Vec<u16>) -> Self
-        ensures { result ≡ items.items }
-    {
-        Referents { items }
-    }
-
-    /// The same referents as a `Vec`.
-    pub fn into_vec(self) -> Vec<u16>
-        ensures { result.items ≡ self }
-    {
-        let Referents { items } = self;
-        items
-    }
-
-    pub fn len(&self) -> usize
-        ensures { result ≡ length self.now }
-    {
-        self.items.len()
-    }
-
-    pub fn is_empty(&self) -> bool
-        ensures { result ≡ (length self.now == 0) }
-    {
-        self.items.is_empty()
-    }
-
-    /// The referent at a place below the length.
-    pub fn get(&self, place: usize) -> u16
-        requires { place < length self.now }
-        ensures { slice_get self.now place ≡ Some result }
-    {
-        self.items[place]
-    }
-
-    pub fn as_slice(&self) -> &[u16]
-        ensures { result.now ≡ self.now }
-    {
-        self.items.as_slice()
-    }
-
-    /// Adds a referent at the end. Where memory is refused the list stays.
-    pub fn push(&mut self, referent: u16) -> Result<(), Memory>
-        ensures ok { OnOk result (self.new ≡ self.old ++ referent ∷ []) }
-        ensures err { OnErr result (self.new ≡ self.old) }
-    {
-        self.items.push(referent)?;
-        Ok(())
-    }
-}
+pub type Referents = List<u16>;
 
 /// A condition of a structure, after Kamp and Reyle, From Discourse to Logic, 1993.
 #[cycle(drs)]

@@ -80,7 +80,7 @@ fn structures_lend_their_referents_and_conditions(rt: HostRuntime) -> Result<(),
     assert!(rt; referents.is_empty());
     referents.push(4)?;
     assert_eq!(rt; referents.len(), 1);
-    assert_eq!(rt; referents.get(0), 4);
+    assert_eq!(rt; *referents.get(0), 4);
     let mut conditions = Conds::new(alloc);
     assert!(rt; conditions.is_empty());
     conditions.push(Cond::Same(Thing::Ref(4), Thing::Name(WordId(1))))?;
@@ -90,5 +90,64 @@ fn structures_lend_their_referents_and_conditions(rt: HostRuntime) -> Result<(),
     assert_eq!(rt; drs.conditions().len(), 1);
     assert_eq!(rt; drs.conditions().as_slice().len(), 1);
     assert!(rt; matches!(drs.conditions().get(0), Cond::Same(Thing::Ref(4), _)));
+    Ok(())
+}
+
+#[test]
+fn knowledge_lends_its_lists_and_is_copied(rt: HostRuntime) -> Result<(), Fail> {
+    let alloc = rt.alloc();
+    let straight = Role {
+        id: WordId(2),
+        inverted: false,
+    };
+    let mut general = Classes::new(alloc);
+    general.push(Class::Named(WordId(9)))?;
+    let k = Knowledge::new(
+        vec![in alloc; (WordId(5), WordId(5)), (WordId(6), WordId(5))]?,
+        vec![in alloc; (OWN, straight)]?,
+        vec![in alloc; (WordId(6), Class::Named(WordId(9)))]?,
+        vec![in alloc; (OWN, WordId(5), WordId(6))]?,
+        vec![in alloc; (WordId(5), WordId(6))]?,
+        vec![in alloc; (WordId(9), Class::Thing)]?,
+        general,
+    );
+    let copied = k.copy(alloc)?;
+    assert_eq!(rt; copied.names().len(), 2);
+    assert_eq!(rt; copied.hierarchy().len(), 1);
+    assert_eq!(rt; copied.assertions().len(), 1);
+    assert_eq!(rt; copied.edges().len(), 1);
+    assert_eq!(rt; copied.differences().len(), 1);
+    assert_eq!(rt; copied.unfoldings().len(), 1);
+    assert_eq!(rt; copied.general().len(), 1);
+    assert!(rt; matches!(k.representative(WordId(6)), Some(WordId(5))));
+    assert!(rt; k.representative(WordId(7)).is_none());
+    assert!(rt; k.is_below(OWN, straight));
+    assert!(rt; !k.is_below(straight, OWN));
+    assert!(rt; k.is_below(straight, OWN.inverse()));
+    Ok(())
+}
+
+#[test]
+fn classes_are_compared_part_by_part(rt: HostRuntime) -> Result<(), Fail> {
+    let alloc = rt.alloc();
+    let class = class_of_every_kind(alloc)?;
+    let negative = negated(alloc, &class)?;
+    assert!(rt; class.is_same(&class.copy(alloc)?));
+    assert!(rt; !class.is_same(&negative));
+    assert!(rt; negative.is_complement_of(&class));
+    assert!(rt; !class.is_complement_of(&class));
+    assert!(rt; negative.union().is_some());
+    assert!(rt; class.existential().is_none());
+    assert!(rt; class.universal().is_none());
+    assert!(rt; class.value().is_none());
+    assert!(rt; class.word().is_none());
+    assert!(rt; class.complemented().is_none());
+    let mut listed = Classes::new(alloc);
+    listed.push(negative)?;
+    assert!(rt; !listed.has(&class));
+    assert!(rt; listed.has_complement_of(&class));
+    listed.append(Classes::from_vec(vec![in alloc; class]?))?;
+    assert_eq!(rt; listed.len(), 2);
+    assert!(rt; listed.get(1).intersection().is_some());
     Ok(())
 }

@@ -1,14 +1,16 @@
 -- Lists that are put in order stay what they were.
-use Rattle.std.proofs.Common.{◌≡◌, ℕ, ◌&&◌, Bool, List, [], ◌∷◌, ◌++◌, IsPermutation, IsSorted, refl, sym, ap, ◌∙◌, subst}
+use Rattle.std.proofs.Common.{◌≡◌, ◌==◌, true, false, Some, if◌then◌else◌, ℕ, ◌&&◌, Bool, List, [], ◌∷◌, ◌++◌, IsPermutation, IsSorted, refl, sym, ap, ◌∙◌, subst}
 use Rattle.std.specs.declared.alloc.Global.{Global}
 use Rattle.std.specs.declared.vec.Vec.{Vec}
 use Rattle.std.specs.declared.cmp.Ordering.{Ordering}
 use Rattle.wiki_base.specs.declared.numbers.WordId.{WordId}
-use Rattle.std.specs.Prelude.{nat_lt}
+use Rattle.std.specs.Prelude.{nat_lt, unwrap_or}
+use Rattle.std.specs.Map.{lookup}
+use Rattle.std.proofs.lemmas.List.Sorted.{list_any-IsPermutation}
 use Rattle.std.specs.Ordering.{nat_cmp}
-use Rattle.std.specs.List.{list_all}
-use Rattle.logic_terms.specs.Interpretation.{is_interpretation, words_above, words_rise}
-use Rattle.owl_eval.specs.Given.{lists_in, AreArranged}
+use Rattle.std.specs.List.{list_all, list_any}
+use Rattle.logic_terms.specs.Interpretation.{is_word, is_interpretation, words_above, words_rise}
+use Rattle.owl_eval.specs.Given.{lists_in, AreArranged, MeansSame}
 use Rattle.owl_eval.specs.Pairs.{pair_cmp}
 use Rattle.owl_eval.proofs.Filters.{list_all-IsPermutation}
 
@@ -72,3 +74,29 @@ words_rise-lists_in (e ∷ es) = words_above-lists_in e.0 es
 pub list_all-lists_in : {X : Type 0} (test : List X → Bool) (es : List (WordId × Vec X Global)) → list_all (λ e. test e.1) (lists_in es) ≡ list_all (λ e. test e.1.items) es
 list_all-lists_in test [] = refl
 list_all-lists_in test (e ∷ es) = ap (λ b. test e.1.items && b) (list_all-lists_in test es)
+
+-- what a test finds in the list of a word
+found-arranged : {X : Type 0} (cmp : X → X → Ordering) (test : X → Bool) (word : WordId) (es fs : List (WordId × List X)) → AreArranged cmp es fs →
+    list_any test (unwrap_or (lookup (is_word word) es) []) ≡ list_any test (unwrap_or (lookup (is_word word) fs) [])
+found-arranged cmp test word [] [] all = refl
+found-arranged cmp test word [] (f ∷ fs) all = absurd all
+found-arranged cmp test word (e ∷ es) [] all = absurd all
+found-arranged {X} cmp test word (e ∷ es) (f ∷ fs) all =
+    let Finds : Bool → List X → List X → Type 0 = λ b xs ys.
+    list_any test (unwrap_or (if b then Some xs else lookup (is_word word) es) []) ≡ list_any test (unwrap_or (if b then Some ys else lookup (is_word word) fs) []) in
+    let cases : (b : Bool) → Finds b e.1 f.1 = λ b. elim b as (λ b. Finds b e.1 f.1) [
+      | true ↦ list_any-IsPermutation test e.1 f.1 all.0.same
+      | false ↦ found-arranged cmp test word es fs all.1
+    ] in
+    ap (λ v. list_any test (unwrap_or (if is_word word v then Some e.1 else lookup (is_word word) es) [])) all.0.word
+    ∙ cases (is_word word f.0)
+
+-- an interpretation whose lists are put in order means what it meant
+pub arranged-means : (n : ℕ) (names : List (WordId × ℕ)) (es fs : List (WordId × List ℕ)) (ps qs : List (WordId × List (ℕ × ℕ))) → AreArranged nat_cmp es fs → AreArranged pair_cmp ps qs →
+    MeansSame (record { size = n; names = names; classes = es; relations = ps }) (record { size = n; names = names; classes = fs; relations = qs })
+arranged-means n names es fs ps qs classes relations = record {
+  size = refl;
+  names = λ name. refl;
+  classes = λ word x. found-arranged nat_cmp (λ y. y == x) word es fs classes;
+  relations = λ word x y. found-arranged pair_cmp (λ p. (p.0 == x) && (p.1 == y)) word ps qs relations;
+}

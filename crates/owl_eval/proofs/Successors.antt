@@ -4,6 +4,8 @@ use Rattle.std.specs.Prelude.{nat_lt, not, if◌then◌else◌}
 use Rattle.std.specs.List.{list_any, list_all}
 use Rattle.std.specs.Map.{lookup}
 use Rattle.std.proofs.lemmas.Bool.{ltb-true, and_parts, eq-eqb, ne_eqb, cases_eq}
+use Rattle.std.proofs.Math.Bool.{or-false as or_none}
+use Rattle.wiki_base.proofs.BoolLaws.{or-turn as swap_or}
 use Rattle.wiki_base.specs.declared.numbers.WordId.{WordId}
 use Rattle.logic_terms.specs.declared.expressions.Role.{Role}
 use Rattle.logic_terms.specs.Interpretation.{Interpretation, is_interpretation, is_word, words_rise, pairs_of, relates}
@@ -15,13 +17,6 @@ use Rattle.owl_eval.proofs.Filters.{list_all-not}
 none_below : (n : ℕ) (test : ℕ → Bool) → ((k : ℕ) → test k ≡ false) → some_below n test ≡ false
 none_below zero test none = refl
 none_below (suc n) test none = ap (λ b. b || some_below n test) (none n) ∙ none_below n test none
-
-swap_or : (a b c d : Bool) → ((a || b) || (c || d)) ≡ ((a || c) || (b || d))
-swap_or true b c d = refl
-swap_or false true true d = refl
-swap_or false true false d = refl
-swap_or false false true d = refl
-swap_or false false false d = refl
 
 some_below-or : (n : ℕ) (f g : ℕ → Bool) → some_below n (λ k. f k || g k) ≡ (some_below n f || some_below n g)
 some_below-or zero f g = refl
@@ -36,10 +31,6 @@ past_one : (n k : ℕ) (test : ℕ → Bool) → n ≤ k → some_below n (λ y.
 past_one zero k test le = refl
 past_one (suc n) k test le =
     ap (λ b. (b && test n) || some_below n (λ y. (k == y) && test y)) (ne_eqb k n (λ e. omega arith)) ∙ past_one n k test (omega arith)
-
-or_none : (a : Bool) → (a || false) ≡ a
-or_none true = refl
-or_none false = refl
 
 pub some_below-one : (n k : ℕ) (test : ℕ → Bool) → k < n → some_below n (λ y. (k == y) && test y) ≡ test k
 some_below-one zero k test lt = absurd (omega arith)

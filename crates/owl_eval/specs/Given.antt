@@ -4,7 +4,7 @@ use Rattle.std.specs.declared.alloc.Global.{Global}
 use Rattle.std.specs.declared.vec.Vec.{Vec}
 use Rattle.std.specs.declared.cmp.Ordering.{Ordering}
 use Rattle.wiki_base.specs.declared.numbers.WordId.{WordId}
-use Rattle.logic_terms.specs.Interpretation.{Interpretation}
+use Rattle.logic_terms.specs.Interpretation.{Interpretation, element_of, has_element, has_pair}
 
 -- each word with the list in its `Vec`
 abbrev pub lists_in : {X : Type 0} → List (WordId × Vec X Global) → List (WordId × List X)
@@ -30,3 +30,11 @@ AreArranged cmp [] [] = Unit {0}
 AreArranged cmp [] (f ∷ fs) = ⊥
 AreArranged cmp (e ∷ es) [] = ⊥
 AreArranged cmp (e ∷ es) (f ∷ fs) = IsArranged cmp e f × AreArranged cmp es fs
+
+-- The one interpretation means what the other does: it has the size, and gives each name, class word and relation word the
+-- same element, elements and pairs.
+pub record MeansSame (i j : Interpretation) : Type 0 where
+  pub size : i.size ≡ j.size
+  pub names : (name : WordId) → element_of i name ≡ element_of j name
+  pub classes : (word : WordId) (x : ℕ) → has_element i word x ≡ has_element j word x
+  pub relations : (word : WordId) (x y : ℕ) → has_pair i word x y ≡ has_pair j word x y

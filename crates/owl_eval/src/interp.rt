@@ -6,7 +6,7 @@ ghost use Rattle.std.specs.Ordering.{nat_cmp};
 ghost use Rattle.std.specs.List.{list_any, list_all};
 ghost use Rattle.logic_terms.specs.Interpretation.{is_interpretation, is_word, words_rise, element_of, has_element, has_pair, relates};
 ghost use Rattle.logic_terms.specs.Meaning.{implies, some_below, each_below};
-ghost use Rattle.owl_eval.specs.Given.{given, lists_in, AreArranged};
+ghost use Rattle.owl_eval.specs.Given.{given, lists_in, AreArranged, MeansSame};
 ghost use Rattle.owl_eval.specs.Pairs.{pair_cmp, pairs_along};
 
 use crate::extent::Extent;
@@ -50,6 +50,9 @@ impl Interp {
         relations: Vec<(WordId, Vec<(u64, u64)>)>,
     ) -> Result<Interp, Memory>
         requires { IsTrue (is_interpretation (given size names.items classes.items relations.items)) }
+        ensures means { IfOk result (λ made. MeansSame (given size names.items classes.items relations.items) made) }
+
+        // How it is kept: the lists that were given, each in rising order.
         ensures size { IfOk result (λ made. made.size ≡ size) }
         ensures names { IfOk result (λ made. made.names ≡ names.items) }
         ensures classes { IfOk result (λ made. AreArranged nat_cmp (lists_in classes.items) made.classes) }
@@ -155,15 +158,15 @@ impl Interp {
         self
     }
 
-    // The element of a name.
-    pub(crate) fn element(&self, name: WordId) -> u64
+    /// The element of a name; 0 where it has none.
+    pub fn element(&self, name: WordId) -> u64
         ensures { result ≡ element_of self.now name }
     {
         element_in(self.names.as_slice(), name)
     }
 
-    // Whether an element is in a class word.
-    pub(crate) fn has_element(&self, word: WordId, element: u64) -> bool
+    /// Whether an element is in a class word.
+    pub fn has_element(&self, word: WordId, element: u64) -> bool
         ensures { result ≡ has_element self.now word element }
     {
         match extent_in(self.classes.as_slice(), word) {
@@ -172,8 +175,8 @@ impl Interp {
         }
     }
 
-    // Whether two elements are a pair of a relation word.
-    pub(crate) fn has_pair(&self, word: WordId, from: u64, to: u64) -> bool
+    /// Whether two elements are a pair of a relation word.
+    pub fn has_pair(&self, word: WordId, from: u64, to: u64) -> bool
         ensures { result ≡ has_pair self.now word from to }
     {
         match relation_in(self.relations.as_slice(), word) {
@@ -182,8 +185,8 @@ impl Interp {
         }
     }
 
-    // Whether two elements are a pair of a role.
-    pub(crate) fn relates(&self, role: Role, from: u64, to: u64) -> bool
+    /// Whether two elements are a pair of a role, which swaps the pairs of its word where it is inverted.
+    pub fn relates(&self, role: Role, from: u64, to: u64) -> bool
         ensures { result ≡ relates self.now role from to }
     {
         if role.inverted {

@@ -14,7 +14,7 @@ use codeco_terms::Ground;
 use std::alloc::Global;
 use std::marker::Model;
 use std::rc::Rc;
-use wiki_base::Memory;
+use wiki_base::{Copied, Memory};
 
 // The newest entry over the older ones, which other lists may share.
 #[derive(Drop)]

@@ -2,6 +2,7 @@
 ghost use Rattle.std.specs.Prelude.{◌≡◌};
 
 use codeco_terms::Ground;
+use wiki_base::Copied;
 
 /// An entry of an access list: the opener of a scope, or a referent with the position at which it was introduced
 /// (the number of tokens before it). A weak referent is no longer found once its scope has closed; a strong one is.

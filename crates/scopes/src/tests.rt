@@ -1,12 +1,10 @@
 // What a reference asks of a referent.
-ghost use Rattle.std.specs.Prelude.{◌≡◌, ◌<◌, ◌↔◌, ℕ, List, [], ◌∷◌, ◌++◌, length, slice_get, Some, IsTrue, OnOk, OnErr, position};
+ghost use Rattle.std.specs.Prelude.{◌≡◌, position};
 ghost use Rattle.std.specs.List.{list_any, list_all};
 ghost use Rattle.scopes.specs.Resolution as resolution;
 
 use codeco_terms::{Ground, Value};
-use std::alloc::Global;
-use std::marker::Model;
-use wiki_base::Memory;
+use wiki_base::List;
 
 /// A test of a referent: the name of its category, and values that it must have.
 #[derive(Drop)]
@@ -23,160 +21,10 @@ pub struct Tests {
 }
 
 /// The values that a test asks for, each with its feature.
-#[derive(Drop)]
-pub struct TestValues {
-    items: Vec<(u16, Value)>,
-}
-
-impl Model for TestValues {
-    ghost use Rattle.std.specs.Prelude.{List, ℕ};
-    ghost use Rattle.codeco_terms.specs.declared.values.Value.{Value as OneValue};
-
-    ghost Value = { List (ℕ × OneValue) };
-
-    ghost view = { λ a. a.items.items };
-}
-
-impl TestValues {
-    /// The empty list, which takes no memory.
-    pub fn new(alloc: Global) -> Self
-        ensures { result ≡ [] }
-    {
-        TestValues {
-            items: Vec::new(alloc),
-        }
-    }
-
-    /// The list of what the vector holds, which takes no memory.
-    pub fn from_vec(items: Vec<(u16, Value)>) -> Self
-        ensures { result ≡ items.items }
-    {
-        TestValues { items }
-    }
-
-    /// Gives the vector back, which takes no memory.
-    pub fn into_vec(self) -> Vec<(u16, Value)>
-        ensures { result.items ≡ self }
-    {
-        self.items
-    }
-
-    /// How many values there are.
-    pub fn len(&self) -> usize
-        ensures { result ≡ length self.now }
-    {
-        self.items.len()
-    }
-
-    /// Whether there is none.
-    pub fn is_empty(&self) -> bool
-        ensures { IsTrue result ↔ (self.now ≡ []) }
-    {
-        self.items.is_empty()
-    }
-
-    /// The one at a place below the length.
-    pub fn get(&self, place: usize) -> &(u16, Value)
-        requires { place < length self.now }
-        ensures { slice_get self.now place ≡ Some result.now }
-    {
-        &self.items[place]
-    }
-
-    /// All of them, in order.
-    pub fn as_slice(&self) -> &[(u16, Value)]
-        ensures { result.now ≡ self.now }
-    {
-        self.items.as_slice()
-    }
-
-    /// Adds one at the end.
-    pub fn push(&mut self, item: (u16, Value)) -> Result<(), Memory>
-        ensures ok { OnOk result (self.new ≡ self.old ++ item ∷ []) }
-        ensures err { OnErr result (self.new ≡ self.old) }
-    {
-        self.items.push(item)?;
-        Ok(())
-    }
-}
+pub type TestValues = List<(u16, Value)>;
 
 /// Tests, in the order of the patterns that they come from.
-#[derive(Drop)]
-pub struct TestList {
-    items: Vec<Test>,
-}
-
-impl Model for TestList {
-    ghost use Rattle.std.specs.Prelude.{List, ℕ};
-    ghost use Rattle.scopes.specs.declared.tests.Test.{Test};
-
-    ghost Value = { List Test };
-
-    ghost view = { λ a. a.items.items };
-}
-
-impl TestList {
-    /// The empty list, which takes no memory.
-    pub fn new(alloc: Global) -> Self
-        ensures { result ≡ [] }
-    {
-        TestList {
-            items: Vec::new(alloc),
-        }
-    }
-
-    /// The list of what the vector holds, which takes no memory.
-    pub fn from_vec(items: Vec<Test>) -> Self
-        ensures { result ≡ items.items }
-    {
-        TestList { items }
-    }
-
-    /// Gives the vector back, which takes no memory.
-    pub fn into_vec(self) -> Vec<Test>
-        ensures { result.items ≡ self }
-    {
-        self.items
-    }
-
-    /// How many tests there are.
-    pub fn len(&self) -> usize
-        ensures { result ≡ length self.now }
-    {
-        self.items.len()
-    }
-
-    /// Whether there is none.
-    pub fn is_empty(&self) -> bool
-        ensures { IsTrue result ↔ (self.now ≡ []) }
-    {
-        self.items.is_empty()
-    }
-
-    /// The one at a place below the length.
-    pub fn get(&self, place: usize) -> &Test
-        requires { place < length self.now }
-        ensures { slice_get self.now place ≡ Some result.now }
-    {
-        &self.items[place]
-    }
-
-    /// All of them, in order.
-    pub fn as_slice(&self) -> &[Test]
-        ensures { result.now ≡ self.now }
-    {
-        self.items.as_slice()
-    }
-
-    /// Adds one at the end.
-    pub fn push(&mut self, item: Test) -> Result<(), Memory>
-        ensures ok { OnOk result (self.new ≡ self.old ++ item ∷ []) }
-        ensures err { OnErr result (self.new ≡ self.old) }
-    {
-        self.items.push(item)?;
-        Ok(())
-    }
-}
+pub type TestList = List<Test>;
 
 /// Whether the values have this one at this feature.
 pub fn has_value(vals: &[(u16, Value)], wanted: (u16, Value)) -> bool

@@ -1,5 +1,6 @@
 pub mod Climbing
 pub mod Firsts
+pub mod Growing
 pub mod Lists
 pub mod MapWalks
 pub mod NameLaws

@@ -94,7 +94,13 @@ fn planned(k: &Knowledge, b: &Branch, step: &Step, choice: u64) -> Result<Change
     }
 }
 
-fn planned_by(k: &Knowledge, b: &Branch, step: &Step, class: &Class, choice: u64) -> Result<Change, Memory>
+fn planned_by(
+    k: &Knowledge,
+    b: &Branch,
+    step: &Step,
+    class: &Class,
+    choice: u64,
+) -> Result<Change, Memory>
     ensures { IfOk result (λ change. changed (graph_of b.now) change ≡ effect (theory_of k.now) (graph_of b.now) step.now.rule step.now.node (concept_of class.now) step.now.other choice) }
 {
     let node = step.node;

@@ -1,6 +1,6 @@
 // What labels grow by, as lists of their own: a branch changes only once the memory for a change is there.
 ghost use Rattle.std.specs.Prelude.{◌≡◌, ◌&&◌, ◌++◌, ◌∷◌, [], map, filter, not, None, Some, MatchOption, IfOk, slice_get};
-ghost use Rattle.std.specs.Option.{option_to_list};
+ghost use Rattle.std.specs.Option.{option_map, option_to_list};
 ghost use Rattle.logic_terms.specs.Interpretation.{is_word};
 ghost use Rattle.logic_terms.specs.Known.{theory_of};
 ghost use Rattle.logic_terms.specs.Same.{has_concept};
@@ -44,7 +44,11 @@ pub(crate) fn missing_one(alloc: Global, label: &[Class], class: &Class) -> Resu
 }
 
 // The same where there may be no class.
-pub(crate) fn missing_of(alloc: Global, label: &[Class], class: Option<&Class>) -> Result<Classes, Memory>
+pub(crate) fn missing_of(
+    alloc: Global,
+    label: &[Class],
+    class: Option<&Class>,
+) -> Result<Classes, Memory>
     ensures { IfOk result (λ more. map concept_of label.now ++ concepts_of more ≡ with_classes (map concept_of label.now) (option_to_list (option_map (λ c. concept_of c.now) class.entry))) }
 {
     match class {

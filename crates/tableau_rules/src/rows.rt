@@ -108,7 +108,9 @@ fn first_in_need(k: &Knowledge, b: &Branch, role: Role, class: &Class, node: u64
 fn is_in_need(k: &Knowledge, b: &Branch, role: Role, class: &Class, node: u64, other: u64) -> bool
     ensures { result ≡ needs (theory_of k.now) (graph_of b.now) role (concept_of class.now) node other }
 {
-    is_neighbour(k, b, role, node, other) && !is_indirectly_blocked(k, b, other) && !has(b.label(other), class)
+    is_neighbour(k, b, role, node, other)
+        && !is_indirectly_blocked(k, b, other)
+        && !has(b.label(other), class)
 }
 
 fn by_value(k: &Knowledge, b: &Branch, node: u64, class: &Class) -> Option<u64>
@@ -116,7 +118,9 @@ fn by_value(k: &Knowledge, b: &Branch, node: u64, class: &Class) -> Option<u64>
 {
     match class.value() {
         Some(parts) => match node_of(k, parts.1) {
-            Some(named) => zero_where(!is_blocked(k, b, node) && !is_neighbour(k, b, parts.0, node, named)),
+            Some(named) => zero_where(
+                !is_blocked(k, b, node) && !is_neighbour(k, b, parts.0, node, named),
+            ),
             None => None,
         },
         None => None,
@@ -148,7 +152,9 @@ fn by_some(k: &Knowledge, b: &Branch, node: u64, class: &Class) -> Option<u64>
     ensures { result ≡ row (theory_of k.now) (graph_of b.now) rule.Some node (concept_of class.now) }
 {
     match class.existential() {
-        Some(parts) => zero_where(!is_blocked(k, b, node) && !is_served(k, b, parts.0, parts.1, node)),
+        Some(parts) => zero_where(
+            !is_blocked(k, b, node) && !is_served(k, b, parts.0, parts.1, node),
+        ),
         None => None,
     }
 }
@@ -168,7 +174,9 @@ fn is_served(k: &Knowledge, b: &Branch, role: Role, class: &Class, node: u64) ->
 fn is_witness(k: &Knowledge, b: &Branch, role: Role, class: &Class, node: u64, other: u64) -> bool
     ensures { result ≡ serves (theory_of k.now) (graph_of b.now) role (concept_of class.now) node other }
 {
-    is_neighbour(k, b, role, node, other) && !is_indirectly_blocked(k, b, other) && has(b.label(other), class)
+    is_neighbour(k, b, role, node, other)
+        && !is_indirectly_blocked(k, b, other)
+        && has(b.label(other), class)
 }
 
 fn zero_where(applies: bool) -> Option<u64>

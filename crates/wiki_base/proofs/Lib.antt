@@ -1,1 +1,4 @@
+pub mod BoolLaws
+pub mod ListLaws
+pub mod OptionLaws
 pub mod TextLemmas

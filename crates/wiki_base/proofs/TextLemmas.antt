@@ -3,6 +3,7 @@ use Rattle.std.proofs.Common.{◌≡◌, ℕ, ◌+◌, Bool, true, false, List, 
 use Rattle.std.specs.Prelude.{if◌then◌else◌, encode_utf8}
 use Rattle.std.specs.Str.{chars, IsUtf8, encode_utf8_all}
 use Rattle.std.proofs.lemmas.Str.{chars_past_char, chars-nil}
+use Rattle.wiki_base.proofs.OptionLaws.{option_map-none}
 use Rattle.wiki_base.specs.Text.{is_letter, is_in_place, misplaced, ends_with_letter, IsInPlace, AllInPlace, IsFirstMisplaced}
 
 -- two sums of a place are one
@@ -37,10 +38,6 @@ pub ends_with_letter-last : (before : List ℕ) (c : ℕ) → ends_with_letter (
 ends_with_letter-last [] c = refl
 ends_with_letter-last (d ∷ []) c = refl
 ends_with_letter-last (d ∷ e ∷ ds) c = ends_with_letter-last (e ∷ ds) c
-
-option_map-none : (f : ℕ → ℕ) (o : Option ℕ) → option_map f o ≡ None → o ≡ None
-option_map-none f None none = refl
-option_map-none f (Some n) none = cc
 
 option_map-some : (f : ℕ → ℕ) (o : Option ℕ) (m : ℕ) → option_map f o ≡ Some m → (n : ℕ) × (o ≡ Some n) × (m ≡ f n)
 option_map-some f None m some = absurd (cc)

@@ -2,6 +2,7 @@
 use Rattle.std.specs.Prelude.{◌≡◌, ℕ, ◌+◌, Bool, true, false, ◌&&◌, ◌||◌, ◌==◌, nat_lt, if◌then◌else◌, ◌<◌, List, [], ◌∷◌, ◌++◌, length, option_map, Option, Some, None, encode_utf8}
 use Rattle.std.specs.Str.{chars, encode_utf8_all}
 use Rattle.unicode.specs.Binary.{is_alphabetic}
+use Rattle.wiki_base.specs.declared.text.TheConstants.{LONGEST_TEXT}
 use Rattle.wiki_base.specs.declared.text.BadText.{BadText}
 use Rattle.wiki_base.specs.declared.text.BadText.TheVariants.{Empty, TooLong, Letter}
 
@@ -25,15 +26,11 @@ misplaced after_letter [] = None
 misplaced after_letter (c ∷ cs) =
     if is_in_place after_letter c cs then option_map (λ n. length (encode_utf8 c) + n) (misplaced (is_letter c) cs) else Some 0
 
--- the greatest number of bytes that a text may have
-abbrev pub longest : ℕ
-longest = 64
-
 -- what is wrong with these bytes as a text: there are none, too many, or the first misplaced character is at a byte
 abbrev pub fault_of : List ℕ → Option BadText
 fault_of [] = Some Empty
 fault_of (b ∷ bs) =
-    if nat_lt longest (length (b ∷ bs)) then Some TooLong else option_map Letter (misplaced false (chars (b ∷ bs)))
+    if nat_lt LONGEST_TEXT (length (b ∷ bs)) then Some TooLong else option_map Letter (misplaced false (chars (b ∷ bs)))
 
 -- the bytes are a text
 abbrev pub IsText : List ℕ → Type 0

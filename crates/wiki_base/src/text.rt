@@ -4,7 +4,7 @@ ghost use Rattle.std.specs.Str.{chars};
 ghost use Rattle.wiki_base.specs.Text.{fault_of, misplaced, begins_with_letter, is_in_place, IsText, AllInPlace, IsFirstMisplaced};
 ghost use Rattle.wiki_base.specs.declared.text.BadText.TheVariants.{Memory};
 
-use lists::Memory;
+use lists::{Copied, Memory};
 use std::alloc::{AllocError, Global};
 use std::marker::Model;
 use unicode::properties::is_alphabetic;
@@ -58,9 +58,9 @@ impl Text {
         ensures cause { MatchResult result (λ _. IsText s.now) (λ fault. (fault ≡ BadText.Memory) ⊎ (fault_of s.now ≡ Some fault)) }
 
         // What the fault says, in other words.
-        ensures accepted { OnOk result ((s.now ≢ []) × (length s.now ≤ 64) × AllInPlace (chars s.now)) }
+        ensures accepted { OnOk result ((s.now ≢ []) × (length s.now ≤ LONGEST_TEXT) × AllInPlace (chars s.now)) }
         ensures empty { IsErrOf result BadText.Empty → s.now ≡ [] }
-        ensures too_long { IsErrOf result BadText.TooLong → 64 < length s.now }
+        ensures too_long { IsErrOf result BadText.TooLong → LONGEST_TEXT < length s.now }
         ensures letter { (place : ℕ) → IsErrOf result (BadText.Letter place) → IsFirstMisplaced (chars s.now) place }
     {
         if s.is_empty() {
@@ -83,11 +83,10 @@ impl Text {
     {
         self.text.as_str()
     }
+}
 
-    /// An equal text.
-    pub fn copy(&self) -> Result<Text, Memory>
-        ensures { IfOk result (λ text. text ≡ self.now) }
-    {
+impl Copied for Text {
+    fn copy(&self) -> Result<Self, Memory> {
         Ok(Text {
             text: self.text.clone()?,
         })

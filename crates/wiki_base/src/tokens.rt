@@ -1,10 +1,13 @@
 // The pieces that a sentence is cut into.
-ghost use Rattle.std.specs.Prelude.{◌≡◌, ◌==◌, ◌<◌, ◌++◌, ◌∷◌, [], Some, IfOk, OnOk, OnErr, length, slice_get};
+ghost use Rattle.std.specs.Prelude.{◌≡◌, IfOk};
 ghost use Rattle.wiki_base.specs.Token.{IsToken};
 
-use lists::Memory;
+use lists::{Copied, List, Memory};
 use std::alloc::Global;
 use std::marker::Model;
+
+/// The greatest number of tokens of a sentence.
+pub const MOST_TOKENS: usize = 40;
 
 /// A piece of a sentence: text of at least one byte, and without a space. Seen as its bytes.
 #[derive(Drop)]
@@ -41,11 +44,10 @@ impl Token {
     {
         self.text.as_str()
     }
+}
 
-    /// An equal token.
-    pub fn copy(&self) -> Result<Token, Memory>
-        ensures { IfOk result (λ token. token ≡ self.now) }
-    {
+impl Copied for Token {
+    fn copy(&self) -> Result<Self, Memory> {
         Ok(Token {
             text: self.text.clone()?,
         })
@@ -53,89 +55,7 @@ impl Token {
 }
 
 /// A list of tokens.
-#[derive(Drop)]
-pub struct Tokens {
-    items: Vec<Token>,
-}
-
-impl Model for Tokens {
-    ghost use Rattle.std.specs.Prelude.{List, ℕ};
-
-    ghost Value = { List (List ℕ) };
-
-    ghost view = { λ t. t.items.items };
-}
-
-impl Tokens {
-    /// No tokens.
-    pub fn new(alloc: Global) -> Tokens
-        ensures { result ≡ [] }
-    {
-        Tokens {
-            items: Vec::new(alloc),
-        }
-    }
-
-    /// These tokens.
-    pub fn from_vec(items: Vec<Token>) -> Tokens
-        ensures { result ≡ items.items }
-    {
-        Tokens { items }
-    }
-
-    /// The tokens, without copying them.
-    pub fn into_vec(self) -> Vec<Token>
-        ensures { result.items ≡ self }
-    {
-        self.items
-    }
-
-    pub fn len(&self) -> usize
-        ensures { result ≡ length self.now }
-    {
-        self.items.len()
-    }
-
-    pub fn is_empty(&self) -> bool
-        ensures { result ≡ (length self.now == 0) }
-    {
-        self.items.is_empty()
-    }
-
-    /// The token at a place, from 0.
-    pub fn get(&self, at: usize) -> &Token
-        requires { at < length self.now }
-        ensures { slice_get self.now at ≡ Some result.now }
-    {
-        &self.items[at]
-    }
-
-    pub fn as_slice(&self) -> &[Token]
-        ensures { result.now ≡ self.now }
-    {
-        self.items.as_slice()
-    }
-
-    /// Adds a token at the end.
-    pub fn push(&mut self, token: Token) -> Result<(), Memory>
-        ensures ok { OnOk result (self.new ≡ self.old ++ token ∷ []) }
-        ensures err { OnErr result (self.new ≡ self.old) }
-    {
-        self.items.push(token)?;
-        Ok(())
-    }
-
-    /// An equal list.
-    pub fn copy(&self) -> Result<Tokens, Memory>
-        ensures { IfOk result (λ tokens. tokens ≡ self.now) }
-    {
-        let mut items = Vec::with_capacity(*self.items.allocator(), self.items.len())?;
-        for token in &self.items {
-            items.push(token.copy()?)?;
-        }
-        Ok(Tokens { items })
-    }
-}
+pub type Tokens = List<Token>;
 
 #[cfg(test)]
 mod tests {

@@ -1,4 +1,5 @@
 pub mod KnownLemmas
+pub mod LinkLemmas
 pub mod LineLemmas
 pub mod PartLemmas
 pub mod ReadingLemmas

@@ -1,6 +1,8 @@
 pub mod Faults
 pub mod Lines
+pub mod Link
 pub mod Memory
+pub mod MemoryLink
 pub mod ReaderFields
 pub mod Reading
 pub mod Sink

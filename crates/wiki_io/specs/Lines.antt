@@ -1,6 +1,7 @@
 -- The lines of an input, as a list of bytes is cut into them.
-use Rattle.std.specs.Prelude.{◌≡◌, ◌≢◌, ◌⊎◌, ℕ, List, [], ◌∷◌, ◌++◌, length, map, All, ◌==◌, nat_lt, if◌then◌else◌}
+use Rattle.std.specs.Prelude.{◌≡◌, ◌≢◌, ◌⊎◌, ℕ, Option, List, [], ◌∷◌, ◌++◌, length, map, All, ◌==◌, nat_lt, if◌then◌else◌}
 use Rattle.std.specs.List.{onto_first}
+use Rattle.std.specs.Io.KnownBytes.{IsAtEnd}
 use Rattle.wiki_io.specs.declared.limits.TheConstants.{NEWLINE, MAX_LINE}
 
 -- the pieces that end with a newline byte, without it, and the rest of the bytes if there is a rest
@@ -43,6 +44,15 @@ after_newline (b ∷ bytes) = if b == NEWLINE then bytes else after_newline byte
 -- no byte is a newline byte
 abbrev pub HasNoNewline : List ℕ → Type 0
 HasNoNewline bytes = All (λ b. b ≢ NEWLINE) bytes
+
+-- the one list begins the other
+abbrev pub Begins : {X : Type 0} → List X → List X → Type 0
+Begins {X} front whole = (more : List X) × (whole ≡ front ++ more)
+
+-- Lines that are known from the first bytes of an input, after which it has `left` left: whatever comes after these
+-- bytes, the input begins with these lines. At the input's end its last line is known too.
+abbrev pub AreKnown : List ℕ → Option (List ℕ) → List InputLine → Type 0
+AreKnown read left lines = ((rest : List ℕ) → Begins lines (input_lines (read ++ rest))) ⊎ (IsAtEnd left × Begins lines (input_lines read))
 
 -- Lines that can be known from these first bytes of an input, whatever comes after: the whole ones. A last one that is
 -- too long already, and whose newline has not come, may be among them or not.

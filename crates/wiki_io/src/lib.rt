@@ -2,14 +2,18 @@
 #![tactic(auto)]
 
 mod limits;
+mod links;
 mod memory;
+mod memory_link;
 mod reader;
 mod sinks;
 mod sources;
 mod streams;
 
 pub use limits::{MAX_INPUT, MAX_LINE, NEWLINE};
+pub use links::{Event, Link, Listen, Next};
 pub use memory::{MemorySink, MemorySource};
+pub use memory_link::{Fails, MemoryLink};
 pub use reader::{Line, LineReader};
 pub use sinks::{Sink, Took, put};
 pub use sources::{Got, Source};

@@ -13,4 +13,4 @@ returns-in-Some-clause-exact c =
 pub loop-place-preserved : goal.loop-place-preserved
 loop-place-preserved c =
     let lt : c.loop-place.place < length (label_at (graph_of c.args.b.now) c.args.node) = omega (arith, c.label_len-place-end.ensures, c.loop-place-test.true) in
-    passes_more (clashes_at (theory_of c.args.k.now) (graph_of c.args.b.now) c.args.node) (label_at (graph_of c.args.b.now) c.args.node) c.loop-place.place lt c.loop-place.invariant (sym c.in-None.ensures.exact)
+    passes_more (clashes_at (theory_of c.args.k.now) (graph_of c.args.b.now) c.args.node) (label_at (graph_of c.args.b.now) c.args.node) c.loop-place.place lt c.loop-place.invariant (sym c.in_default.ensures.exact)

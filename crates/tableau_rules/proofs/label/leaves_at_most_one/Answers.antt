@@ -11,15 +11,15 @@ use Rattle.tableau_rules.proofs.label.leaves_at_most_one.Goals.{then-not-has_com
 pub loop-class-preserved : goal.loop-class-preserved
 loop-class-preserved c = elim c.if-not-has_complement.branch [
   | then-not-has_complement w ↦ record {
-      low = omega arith;
-      counted = w.open-is ∙ (ap (λ n. n + 1) c.loop-class.invariant.counted
+    low = omega arith;
+    counted = w.open-is ∙ (ap (λ n. n + 1) c.loop-class.invariant.counted
         ∙ sym (map_count_more concept_of (λ d. not (has_concept (map concept_of c.args.label.now) (complement d))) c.args.members.now c.loop-class.class-index c.class-item.result c.loop-class-test.true c.class-item.is true (ap not (sym c.has_complement.ensures ∙ w.if-not-has_complement.true))));
-    }
+  }
   | else-not-has_complement w ↦ record {
-      low = omega arith;
-      counted = w.open-is ∙ (c.loop-class.invariant.counted ∙ (sym (plus_none _)
+    low = omega arith;
+    counted = w.open-is ∙ (c.loop-class.invariant.counted ∙ (sym (plus_none _)
         ∙ sym (map_count_more concept_of (λ d. not (has_concept (map concept_of c.args.label.now) (complement d))) c.args.members.now c.loop-class.class-index c.class-item.result c.loop-class-test.true c.class-item.is false (ap not (sym c.has_complement.ensures ∙ w.if-not-has_complement.false)))));
-    }
+  }
 ]
   where
     plus_none : (n : ℕ) → n + 0 ≡ n

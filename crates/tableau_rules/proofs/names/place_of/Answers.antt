@@ -18,13 +18,13 @@ returns-then-root-entry c =
 pub loop-entry-preserved : goal.loop-entry-preserved
 loop-entry-preserved c = elim c.if-entry.branch [
   | then-entry+else-root-entry w ↦ record {
-      low = omega arith;
-      left_decides = subst (λ m. place_in (roots (theory_of c.args.k.now)) c.args.root ≡ place_from m (roots_in (drop (c.loop-entry.entry-index + 1) c.names-entry-items.result.now)) c.args.root) (sym w.place-is)
-          (place_on c.names-entry-items.result.now c.loop-entry.entry-index _ c.loop-entry-test.true c.args.root c.loop-entry.place _ c.loop-entry.invariant.left_decides w.if-entry.true w.if-root-entry.false);
-    }
+    low = omega arith;
+    left_decides = subst (λ m. place_in (roots (theory_of c.args.k.now)) c.args.root ≡ place_from m (roots_in (drop (c.loop-entry.entry-index + 1) c.names-entry-items.result.now)) c.args.root) (sym w.place-is)
+        (place_on c.names-entry-items.result.now c.loop-entry.entry-index _ c.loop-entry-test.true c.args.root c.loop-entry.place _ c.loop-entry.invariant.left_decides w.if-entry.true w.if-root-entry.false);
+  }
   | else-entry w ↦ record {
-      low = omega arith;
-      left_decides = subst (λ m. place_in (roots (theory_of c.args.k.now)) c.args.root ≡ place_from m (roots_in (drop (c.loop-entry.entry-index + 1) c.names-entry-items.result.now)) c.args.root) (sym w.place-is)
-          (place_passed c.names-entry-items.result.now c.loop-entry.entry-index _ c.loop-entry-test.true c.args.root c.loop-entry.place _ c.loop-entry.invariant.left_decides w.if-entry.false);
-    }
+    low = omega arith;
+    left_decides = subst (λ m. place_in (roots (theory_of c.args.k.now)) c.args.root ≡ place_from m (roots_in (drop (c.loop-entry.entry-index + 1) c.names-entry-items.result.now)) c.args.root) (sym w.place-is)
+        (place_passed c.names-entry-items.result.now c.loop-entry.entry-index _ c.loop-entry-test.true c.args.root c.loop-entry.place _ c.loop-entry.invariant.left_decides w.if-entry.false);
+  }
 ]

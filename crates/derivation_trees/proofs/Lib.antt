@@ -1,0 +1,9 @@
+pub mod PutLemmas
+pub mod OccurrenceLemmas
+pub mod InstanceLemmas
+pub mod StandLemmas
+pub mod LimitLemmas
+pub mod PieceLemmas
+pub mod WordLemmas
+pub mod CodeLemmas
+pub mod SketchLemmas

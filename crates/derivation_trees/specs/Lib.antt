@@ -1,0 +1,13 @@
+pub mod Trees
+pub mod Settings
+pub mod Instances
+pub mod Derives
+pub mod Stands
+pub mod Sentences
+pub mod Cutting
+pub mod Partial
+pub mod Menus
+pub mod Codes
+pub mod Skeletons
+pub mod Sketches
+pub mod SketchesHeld

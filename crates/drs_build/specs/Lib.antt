@@ -1,0 +1,5 @@
+pub mod Joining
+pub mod Meanings
+pub mod Nodes
+pub mod Made
+pub mod Built

@@ -1,0 +1,11 @@
+//! The wiki: its state, and one step of it for each request.
+#![tactic(auto)]
+
+mod faults;
+#[cfg(test)]
+mod tests;
+mod told;
+mod wiki;
+mod words;
+
+pub use wiki::Wiki;

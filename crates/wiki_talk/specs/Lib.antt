@@ -1,0 +1,4 @@
+pub mod Kinds
+pub mod Limits
+pub mod Refusals
+pub mod Turns

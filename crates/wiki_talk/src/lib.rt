@@ -1,0 +1,16 @@
+//! What is asked of the wiki, and what it answers.
+#![tactic(auto)]
+
+mod kinds;
+mod limits;
+mod refusals;
+mod replies;
+mod requests;
+#[cfg(test)]
+mod tests;
+
+pub use kinds::{kind_name, kind_named};
+pub use limits::Limit;
+pub use refusals::{BAD_REQUEST, Refusal, Title};
+pub use replies::{Reply, WordView, WordViews};
+pub use requests::Request;

@@ -162,6 +162,9 @@ module _ (k : Theory) (lawful : IsLawful k) (plain : is_plain_theory k ≡ true)
         here : (cs : List Concept) (j : ℕ) (d : Concept) → j < length cs → has_concept cs (get_or cs j d) ≡ true
         here cs j d lt = Rattle.std.proofs.lemmas.List.Folds.list_any_at (λ c. Rattle.logic_terms.specs.Same.same_concept c (get_or cs j d)) cs j d lt (Rattle.branch_model.proofs.Same.concept_refl (get_or cs j d))
 
+        both : {b : Bool} → b ≡ true → b ≡ false → ⊥
+        both t f = cc
+
         apart : (j : ℕ) (d : WordId × WordId) → j < length k.differences → element_of i (get_or k.differences j d).0 ≡ element_of i (get_or k.differences j d).1 → ⊥
         apart j d lt same =
             let given = and_parts (is_given k (get_or k.differences j d).0) (is_given k (get_or k.differences j d).1) (lawful.differences j d lt) in
@@ -178,6 +181,3 @@ module _ (k : Theory) (lawful : IsLawful k) (plain : is_plain_theory k ≡ true)
               ∙ ap (λ o. passes o (is_word root.0)) root'.1 ∙ ap (is_word root.0) (sym rep) ∙ Rattle.std.proofs.lemmas.Bool.eq-eqb root.0.0 root.0.0 refl in
             let differ' : are_joined k (get_or k.differences j d).0 (get_or k.differences j d).1 ≡ false = differ k g ended.0 (get_or k.differences j d) (Contains-get_or k.differences j d lt) in
             both yes differ'
-
-        both : {b : Bool} → b ≡ true → b ≡ false → ⊥
-        both t f = cc

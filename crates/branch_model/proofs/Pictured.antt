@@ -210,7 +210,7 @@ module _ (k : Theory) (lawful : IsLawful k) (g : Graph) (sound : IsSound k g) (o
     linked_to : (role : Role) (e f : ℕ) → Relates i role e f → (x : ℕ) × (y : ℕ) × (x < length g.nodes) × (y < length g.nodes) × (is_indirectly_blocked k g x ≡ false) × (is_indirectly_blocked k g y ≡ false) × (place_of stands x ≡ e) × (place_of stands y ≡ f) × (is_neighbour k g role x y ≡ true)
     linked_to role e f related = elim (adds_rs.only role.id (turned_pair role.inverted e f) ((relations role.id (turned_pair role.inverted e f)).0 (relates_pair i role e f related))) [
       | inl none ↦ absurd (no_items role.id (turned_pair role.inverted e f) none)
-      | inr (j, edge, at, a, b, from, to, pair) ↦
+      | inr (j, edge, at, (a, b, from, to, pair)) ↦
         (let ends = edge_ends (length g.nodes) g.edges j edge sound.ends at in
         let above = role_above edge a b role.id (turned_pair role.inverted e f) pair in
         let free_from = shown_free edge.from a ends.0 from in
@@ -237,8 +237,8 @@ module _ (k : Theory) (lawful : IsLawful k) (g : Graph) (sound : IsSound k g) (o
               let to_is = eqb-true edge.to y q.0 in
               let sx = standing x (subst (λ n. n < length g.nodes) from_is ends.0) free_x in
               let sy = standing y (subst (λ n. n < length g.nodes) to_is ends.1) free_y in
-              shown role x y sx.0 sy.0 sx.2 sy.2 (found.0, edge, found.2, sx.0, sy.0, ap (stand_of stands) from_is ∙ sx.2, ap (stand_of stands) to_is ∙ sy.2,
-                above_role edge role sx.0 sy.0 role.id (turned_pair role.inverted sx.0 sy.0) q.1 (refl, refl)))
+              shown role x y sx.0 sy.0 sx.2 sy.2 (found.0, edge, found.2, (sx.0, sy.0, ap (stand_of stands) from_is ∙ sx.2, ap (stand_of stands) to_is ∙ sy.2,
+                above_role edge role sx.0 sy.0 role.id (turned_pair role.inverted sx.0 sy.0) q.1 (refl, refl))))
           | inr come ↦ (let p = and_parts (edge.from == y) ((edge.to == x) && is_below k (inverse edge.role) role) come in
               let q = and_parts (edge.to == x) (is_below k (inverse edge.role) role) p.1 in
               let from_is = eqb-true edge.from y p.0 in
@@ -246,8 +246,8 @@ module _ (k : Theory) (lawful : IsLawful k) (g : Graph) (sound : IsSound k g) (o
               let sx = standing x (subst (λ n. n < length g.nodes) to_is ends.1) free_x in
               let sy = standing y (subst (λ n. n < length g.nodes) from_is ends.0) free_y in
               let up : is_below k edge.role (inverse role) ≡ true = subst (λ r. is_below k r (inverse role) ≡ true) (inverse_twice edge.role) (lawful.inverses (inverse edge.role) role q.1) in
-              shown role x y sx.0 sy.0 sx.2 sy.2 (found.0, edge, found.2, sy.0, sx.0, ap (stand_of stands) from_is ∙ sy.2, ap (stand_of stands) to_is ∙ sx.2,
-                above_role edge (inverse role) sy.0 sx.0 role.id (turned_pair role.inverted sx.0 sy.0) up (refl, turn_pair role.inverted sy.0 sx.0)))
+              shown role x y sx.0 sy.0 sx.2 sy.2 (found.0, edge, found.2, (sy.0, sx.0, ap (stand_of stands) from_is ∙ sy.2, ap (stand_of stands) to_is ∙ sx.2,
+                above_role edge (inverse role) sy.0 sx.0 role.id (turned_pair role.inverted sx.0 sy.0) up (refl, turn_pair role.inverted sy.0 sx.0))))
         ]
       where
         shown : (role : Role) (x y a b : ℕ) → stand_of stands x ≡ Some a → stand_of stands y ≡ Some b → AreLinks k stands g.edges role.id (turned_pair role.inverted a b) → Relates i role (place_of stands x) (place_of stands y)

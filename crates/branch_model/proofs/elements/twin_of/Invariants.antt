@@ -5,13 +5,13 @@ use Rattle.tableau_rules.specs.Blocking.{has_twin, ancestors, is_indirectly_bloc
 use Rattle.tableau_rules.specs.Shown.{graph_of}
 use Rattle.branch_model.proofs.elements.twin_of.Given as goal
 
-abbrev pub invariant-loop-at : goal.invariant-loop-at
-invariant-loop-at l = record {
+abbrev pub invariant-loop-parent : goal.invariant-loop-parent
+invariant-loop-parent l = record {
   low : l.at ≤ l.node;
   count : l.named ≡ length (roots (theory_of l.k));
   above : has_twin (theory_of l.k) (graph_of l.b) l.node (ancestors (graph_of l.b) l.at) ≡ true;
   free : is_indirectly_blocked (theory_of l.k) (graph_of l.b) l.at ≡ false;
 }
 
-abbrev pub decreases-loop-at : goal.decreases-loop-at
-decreases-loop-at l = l.at
+abbrev pub decreases-loop-parent : goal.decreases-loop-parent
+decreases-loop-parent l = l.at

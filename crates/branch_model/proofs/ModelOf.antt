@@ -177,7 +177,7 @@ module _ (k : Theory) (lawful : IsLawful k) (plain : is_plain_theory k ≡ true)
             let is : Some root.0 ≡ Some root'.0 = sym root.2 ∙ ap (slice_get (roots k)) node ∙ root'.2 in
             let rep : root.0 ≡ root'.0 = cc in
             let yes : are_joined k (get_or k.differences j d).0 (get_or k.differences j d).1 ≡ true =
-              ap (λ o. passes o (λ r. passes (representative k (get_or k.differences j d).1) (is_word r))) root.1
-              ∙ ap (λ o. passes o (is_word root.0)) root'.1 ∙ ap (is_word root.0) (sym rep) ∙ Rattle.std.proofs.lemmas.Bool.eq-eqb root.0.0 root.0.0 refl in
+            ap (λ o. passes o (λ r. passes (representative k (get_or k.differences j d).1) (is_word r))) root.1
+            ∙ ap (λ o. passes o (is_word root.0)) root'.1 ∙ ap (is_word root.0) (sym rep) ∙ Rattle.std.proofs.lemmas.Bool.eq-eqb root.0.0 root.0.0 refl in
             let differ' : are_joined k (get_or k.differences j d).0 (get_or k.differences j d).1 ≡ false = differ k g ended.0 (get_or k.differences j d) (Contains-get_or k.differences j d lt) in
             both yes differ'

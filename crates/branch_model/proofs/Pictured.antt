@@ -202,27 +202,43 @@ module _ (k : Theory) (lawful : IsLawful k) (g : Graph) (sound : IsSound k g) (o
   ]
 
   module _ (i : Interpretation) (size : i.size ≡ length owners)
-    (es : List (WordId × List ℕ)) (adds_es : Adds [] es (Labels g 0 owners))
-    (rs : List (WordId × List (ℕ × ℕ))) (adds_rs : Adds [] rs (AreLinks k stands g.edges))
-    (classes : (v : WordId) (x : ℕ) → Contains (elements_of i v) x ↔ Contains (items_of v es) x)
-    (relations : (v : WordId) (p : ℕ × ℕ) → Contains (pairs_of i v) p ↔ Contains (items_of v rs) p)
-    (names : (name : WordId) (y : ℕ) → node_of k name ≡ Some y → element_of i name ≡ place_of stands y) where
+      (es : List (WordId × List ℕ)) (adds_es : Adds [] es (Labels g 0 owners))
+      (rs : List (WordId × List (ℕ × ℕ))) (adds_rs : Adds [] rs (AreLinks k stands g.edges))
+      (classes : (v : WordId) (x : ℕ) → Contains (elements_of i v) x ↔ Contains (items_of v es) x)
+      (relations : (v : WordId) (p : ℕ × ℕ) → Contains (pairs_of i v) p ↔ Contains (items_of v rs) p)
+      (names : (name : WordId) (y : ℕ) → node_of k name ≡ Some y → element_of i name ≡ place_of stands y) where
     linked_to : (role : Role) (e f : ℕ) → Relates i role e f → (x : ℕ) × (y : ℕ) × (x < length g.nodes) × (y < length g.nodes) × (is_indirectly_blocked k g x ≡ false) × (is_indirectly_blocked k g y ≡ false) × (place_of stands x ≡ e) × (place_of stands y ≡ f) × (is_neighbour k g role x y ≡ true)
     linked_to role e f related = elim (adds_rs.only role.id (turned_pair role.inverted e f) ((relations role.id (turned_pair role.inverted e f)).0 (relates_pair i role e f related))) [
       | inl none ↦ absurd (no_items role.id (turned_pair role.inverted e f) none)
       | inr (j, edge, at, (a, b, from, to, pair)) ↦
-        (let ends = edge_ends (length g.nodes) g.edges j edge sound.ends at in
-        let above = role_above edge a b role.id (turned_pair role.inverted e f) pair in
-        let free_from = shown_free edge.from a ends.0 from in
-        let free_to = shown_free edge.to b ends.1 to in
-        elim (same_or_turned above.0 role above.2.0) [
-          | inl same ↦ (let is = pair_same role.inverted a b e f (sym (ap (λ (r : Role). turned_pair r.inverted a b) same) ∙ above.2.1) in
-              (edge.from, edge.to, ends.0, ends.1, free_from, free_to, placed_at edge.from a from ∙ is.0, placed_at edge.to b to ∙ is.1,
-               forth role j edge at (subst (λ r. is_below k edge.role r ≡ true) same above.1)))
-          | inr turned ↦ (let is = pair_turned role.inverted a b e f (sym (ap (λ (r : Role). turned_pair r.inverted a b) turned) ∙ above.2.1) in
-              (edge.to, edge.from, ends.1, ends.0, free_to, free_from, placed_at edge.to b to ∙ is.1, placed_at edge.from a from ∙ is.0,
-               back role j edge at (subst (λ r. is_below k edge.role r ≡ true) turned above.1)))
-        ])
+          (let ends = edge_ends (length g.nodes) g.edges j edge sound.ends at in
+          let above = role_above edge a b role.id (turned_pair role.inverted e f) pair in
+          let free_from = shown_free edge.from a ends.0 from in
+          let free_to = shown_free edge.to b ends.1 to in
+          elim (same_or_turned above.0 role above.2.0) [
+            | inl same ↦ (let is = pair_same role.inverted a b e f (sym (ap (λ (r : Role). turned_pair r.inverted a b) same) ∙ above.2.1) in (
+              edge.from,
+              edge.to,
+              ends.0,
+              ends.1,
+              free_from,
+              free_to,
+              placed_at edge.from a from ∙ is.0,
+              placed_at edge.to b to ∙ is.1,
+              forth role j edge at (subst (λ r. is_below k edge.role r ≡ true) same above.1),
+            ))
+            | inr turned ↦ (let is = pair_turned role.inverted a b e f (sym (ap (λ (r : Role). turned_pair r.inverted a b) turned) ∙ above.2.1) in (
+              edge.to,
+              edge.from,
+              ends.1,
+              ends.0,
+              free_to,
+              free_from,
+              placed_at edge.to b to ∙ is.1,
+              placed_at edge.from a from ∙ is.0,
+              back role j edge at (subst (λ r. is_below k edge.role r ≡ true) turned above.1),
+            ))
+          ])
     ]
 
     linked_from : (role : Role) (x y : ℕ) → is_indirectly_blocked k g x ≡ false → is_indirectly_blocked k g y ≡ false → is_neighbour k g role x y ≡ true → Relates i role (place_of stands x) (place_of stands y)
@@ -237,8 +253,18 @@ module _ (k : Theory) (lawful : IsLawful k) (g : Graph) (sound : IsSound k g) (o
               let to_is = eqb-true edge.to y q.0 in
               let sx = standing x (subst (λ n. n < length g.nodes) from_is ends.0) free_x in
               let sy = standing y (subst (λ n. n < length g.nodes) to_is ends.1) free_y in
-              shown role x y sx.0 sy.0 sx.2 sy.2 (found.0, edge, found.2, (sx.0, sy.0, ap (stand_of stands) from_is ∙ sx.2, ap (stand_of stands) to_is ∙ sy.2,
-                above_role edge role sx.0 sy.0 role.id (turned_pair role.inverted sx.0 sy.0) q.1 (refl, refl))))
+              shown role x y sx.0 sy.0 sx.2 sy.2 (
+                found.0,
+                edge,
+                found.2,
+                (
+                  sx.0,
+                  sy.0,
+                  ap (stand_of stands) from_is ∙ sx.2,
+                  ap (stand_of stands) to_is ∙ sy.2,
+                  above_role edge role sx.0 sy.0 role.id (turned_pair role.inverted sx.0 sy.0) q.1 (refl, refl),
+                ),
+              ))
           | inr come ↦ (let p = and_parts (edge.from == y) ((edge.to == x) && is_below k (inverse edge.role) role) come in
               let q = and_parts (edge.to == x) (is_below k (inverse edge.role) role) p.1 in
               let from_is = eqb-true edge.from y p.0 in
@@ -246,8 +272,18 @@ module _ (k : Theory) (lawful : IsLawful k) (g : Graph) (sound : IsSound k g) (o
               let sx = standing x (subst (λ n. n < length g.nodes) to_is ends.1) free_x in
               let sy = standing y (subst (λ n. n < length g.nodes) from_is ends.0) free_y in
               let up : is_below k edge.role (inverse role) ≡ true = subst (λ r. is_below k r (inverse role) ≡ true) (inverse_twice edge.role) (lawful.inverses (inverse edge.role) role q.1) in
-              shown role x y sx.0 sy.0 sx.2 sy.2 (found.0, edge, found.2, (sy.0, sx.0, ap (stand_of stands) from_is ∙ sy.2, ap (stand_of stands) to_is ∙ sx.2,
-                above_role edge (inverse role) sy.0 sx.0 role.id (turned_pair role.inverted sx.0 sy.0) up (refl, turn_pair role.inverted sy.0 sx.0))))
+              shown role x y sx.0 sy.0 sx.2 sy.2 (
+                found.0,
+                edge,
+                found.2,
+                (
+                  sy.0,
+                  sx.0,
+                  ap (stand_of stands) from_is ∙ sy.2,
+                  ap (stand_of stands) to_is ∙ sx.2,
+                  above_role edge (inverse role) sy.0 sx.0 role.id (turned_pair role.inverted sx.0 sy.0) up (refl, turn_pair role.inverted sy.0 sx.0),
+                ),
+              ))
         ]
       where
         shown : (role : Role) (x y a b : ℕ) → stand_of stands x ≡ Some a → stand_of stands y ≡ Some b → AreLinks k stands g.edges role.id (turned_pair role.inverted a b) → Relates i role (place_of stands x) (place_of stands y)

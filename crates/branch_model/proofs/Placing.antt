@@ -99,9 +99,11 @@ module _ (k : Theory) (g : Graph) (n : ℕ) (owners : List ℕ) (stands : List (
       | inl below ↦ owned_still (Some (length owners)) e z (sym (get_push_old owners n e below) ∙ at)
       | inr past ↦ (let lt = slice_get_within (owners ++ n ∷ []) e z at in
           let is : e ≡ length owners = omega (arith, length-append owners (n ∷ [])) in
-          let own : n ≡ z = one_some (sym (get_push_new owners n) ∙ ap (slice_get (owners ++ n ∷ [])) (sym is) ∙ at) in
-          (subst (λ w. w < n + 1) own (omega arith), subst (λ w. is_blocked k g w ≡ false) own (or_from (is_directly_blocked k g n) (is_indirectly_blocked k g n) direct free_n),
-           subst (λ w. slice_get (stands ++ Some (length owners) ∷ []) w ≡ Some (Some e)) own (new (Some (length owners)) ∙ ap (λ d. Some (Some d)) (sym is))))
+          let own : n ≡ z = one_some (sym (get_push_new owners n) ∙ ap (slice_get (owners ++ n ∷ [])) (sym is) ∙ at) in (
+            subst (λ w. w < n + 1) own (omega arith),
+            subst (λ w. is_blocked k g w ≡ false) own (or_from (is_directly_blocked k g n) (is_indirectly_blocked k g n) direct free_n),
+            subst (λ w. slice_get (stands ++ Some (length owners) ∷ []) w ≡ Some (Some e)) own (new (Some (length owners)) ∙ ap (λ d. Some (Some d)) (sym is)),
+          ))
     ];
   }
     where

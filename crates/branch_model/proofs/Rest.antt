@@ -95,7 +95,7 @@ module _ (k : Theory) (g : Graph) (done : first_step k g ≡ None) where
       let at = place_of (label_at g x) c has in
       let here = first_none (length g.nodes) (first_at k g r) (no_first r) x lt in
       let site_none = map_none (λ y. record { rule = r; node = x; class = at.0; other = y }) (site_at k g r x at.0)
-        (first_none (length (label_at g x)) (λ place. option_map (λ y. record { rule = r; node = x; class = place; other = y }) (site_at k g r x place)) here at.0 at.1) in
+      (first_none (length (label_at g x)) (λ place. option_map (λ y. record { rule = r; node = x; class = place; other = y }) (site_at k g r x place)) here at.0 at.1) in
       sym (cond-false (is_indirectly_blocked k g x) None (row k g r x c) free)
       ∙ sym (ap (λ o. option_and_then (site k g r x) o) at.2) ∙ site_none
 
@@ -129,7 +129,7 @@ module _ (k : Theory) (g : Graph) (done : first_step k g ≡ None) where
     pub value_done : (role : Role) (name : WordId) (y : ℕ) → has_concept (label_at g x) (HasValue role name) ≡ true → is_blocked k g x ≡ false → node_of k name ≡ Some y → is_neighbour k g role x y ≡ true
     value_done role name y has clear node =
         let none = where_none (not (is_blocked k g x) && not (is_neighbour k g role x y)) 0
-          (sym (ap (λ o. option_and_then (λ y. where_true (not (is_blocked k g x) && not (is_neighbour k g role x y)) 0) o) node) ∙ no_row rule.Value x (HasValue role name) lt free has) in
+        (sym (ap (λ o. option_and_then (λ y. where_true (not (is_blocked k g x) && not (is_neighbour k g role x y)) 0) o) node) ∙ no_row rule.Value x (HasValue role name) lt free has) in
         elim (and_cases (not (is_blocked k g x)) (not (is_neighbour k g role x y)) none) [
           | inl blocked ↦ (let t : is_blocked k g x ≡ true = not-false (is_blocked k g x) blocked in absurd (both t clear))
           | inr near ↦ not-false (is_neighbour k g role x y) near

@@ -23,12 +23,12 @@ use Rattle.tableau.specs.Ends.{IsCutAt}
 
 -- one search after another
 pub onward_join : (k : Theory) (n m : ℕ) (s t : Searching) (o : Option Searching) → onward k n s ≡ Some t → onward k m t ≡ o → onward k (n + m) s ≡ o
-onward_join k n zero s t o first then = ap (λ i. onward k i s) (nothing n) ∙ first ∙ then
+onward_join k n zero s t o first made = ap (λ i. onward k i s) (nothing n) ∙ first ∙ made
   where
     nothing : (n : ℕ) → n + 0 ≡ n
     nothing n = omega arith
-onward_join k n (suc m) s t o first then =
-    ap (λ i. onward k i s) (one n m) ∙ ap (option_and_then (next_search k)) (onward_join k n m s t (onward k m t) first refl) ∙ then
+onward_join k n (suc m) s t o first made =
+    ap (λ i. onward k i s) (one n m) ∙ ap (option_and_then (next_search k)) (onward_join k n m s t (onward k m t) first refl) ∙ made
   where
     one : (n m : ℕ) → n + suc m ≡ suc (n + m)
     one n m = omega arith
@@ -71,29 +71,29 @@ pub begins : (k : Theory) (g : Graph) (step : Step) (w : List OpenChoice) → ha
 begins k g step w calm first = (record { graph = g; waiting = w }, refl, refl, open_first k g w step calm first)
 
 takes : (k : Theory) (g : Graph) (step : Step) (n : ℕ) (w : List OpenChoice) (t : Searching) → n < choices g step → open_choices k t ≡ Some (remaining (choice_of g step n) ++ w) → next_search k t ≡ Some (taken k g step n w)
-takes k g step n w t lt open =
-    ap (option_and_then (resumed k)) (open ∙ ap (λ r. Some (r ++ w)) (remaining_there (choice_of g step n) lt))
+takes k g step n w t lt behind =
+    ap (option_and_then (resumed k)) (behind ∙ ap (λ r. Some (r ++ w)) (remaining_there (choice_of g step n) lt))
 
 -- the search goes on where a choice is left
 pub past_here : (k : Theory) (g : Graph) (step : Step) (n used : ℕ) (s : Searching) (w : List OpenChoice) (last : Graph) → n < choices g step → ComesTo k used s last (remaining (choice_of g step n) ++ w) → GoesPast k used s last
-past_here k g step n used s w last lt (t, at, graph, open) = (t, at, graph, ap is_some (takes k g step n w t lt open))
+past_here k g step n used s w last lt (t, at, graph, behind) = (t, at, graph, ap is_some (takes k g step n w t lt behind))
 
 one_on : (k : Theory) (g : Graph) (step : Step) (n used : ℕ) (s : Searching) (w : List OpenChoice) (last : Graph) → n < choices g step → ComesTo k used s last (remaining (choice_of g step n) ++ w) → onward k (used + 1) s ≡ Some (taken k g step n w)
-one_on k g step n used s w last lt (t, at, graph, open) = onward_join k used 1 s t (Some (taken k g step n w)) at (takes k g step n w t lt open)
+one_on k g step n used s w last lt (t, at, graph, behind) = onward_join k used 1 s t (Some (taken k g step n w)) at (takes k g step n w t lt behind)
 
 -- what comes of the branch after a choice is what comes of the search
-pub comes_on : (k : Theory) (g : Graph) (step : Step) (n used more total : ℕ) (s : Searching) (w : List OpenChoice) (last then : Graph) → n < choices g step → used + 1 + more ≡ total → ComesTo k used s last (remaining (choice_of g step n) ++ w) → ComesTo k more (taken k g step n w) then (remaining (choice_of g step (n + 1)) ++ w) → ComesTo k total s then (remaining (choice_of g step (n + 1)) ++ w)
-comes_on k g step n used more total s w last then lt sum before (t, at, graph, open) =
-    (t, ap (λ i. onward k i s) (sym sum) ∙ onward_join k (used + 1) more s (taken k g step n w) (Some t) (one_on k g step n used s w last lt before) at, graph, open)
+pub comes_on : (k : Theory) (g : Graph) (step : Step) (n used more total : ℕ) (s : Searching) (w : List OpenChoice) (last made : Graph) → n < choices g step → used + 1 + more ≡ total → ComesTo k used s last (remaining (choice_of g step n) ++ w) → ComesTo k more (taken k g step n w) made (remaining (choice_of g step (n + 1)) ++ w) → ComesTo k total s made (remaining (choice_of g step (n + 1)) ++ w)
+comes_on k g step n used more total s w last made lt sum before (t, at, graph, behind) =
+    (t, ap (λ i. onward k i s) (sym sum) ∙ onward_join k (used + 1) more s (taken k g step n w) (Some t) (one_on k g step n used s w last lt before) at, graph, behind)
 
-pub past_on : (k : Theory) (g : Graph) (step : Step) (n used more total : ℕ) (s : Searching) (w : List OpenChoice) (last then : Graph) → n < choices g step → used + 1 + more ≡ total → ComesTo k used s last (remaining (choice_of g step n) ++ w) → GoesPast k more (taken k g step n w) then → GoesPast k total s then
-past_on k g step n used more total s w last then lt sum before (t, at, graph, on) =
+pub past_on : (k : Theory) (g : Graph) (step : Step) (n used more total : ℕ) (s : Searching) (w : List OpenChoice) (last made : Graph) → n < choices g step → used + 1 + more ≡ total → ComesTo k used s last (remaining (choice_of g step n) ++ w) → GoesPast k more (taken k g step n w) made → GoesPast k total s made
+past_on k g step n used more total s w last made lt sum before (t, at, graph, on) =
     (t, ap (λ i. onward k i s) (sym sum) ∙ onward_join k (used + 1) more s (taken k g step n w) (Some t) (one_on k g step n used s w last lt before) at, graph, on)
 
 -- no choice is left
 pub comes_last : (k : Theory) (g : Graph) (step : Step) (n used : ℕ) (s : Searching) (w : List OpenChoice) (last : Graph) → choices g step ≤ n → ComesTo k used s last (remaining (choice_of g step n) ++ w) → ComesTo k used s last w
-comes_last k g step n used s w last le (t, at, graph, open) =
-    (t, at, graph, open ∙ ap (λ r. Some (r ++ w)) (remaining_none (choice_of g step n) le))
+comes_last k g step n used s w last le (t, at, graph, behind) =
+    (t, at, graph, behind ∙ ap (λ r. Some (r ++ w)) (remaining_none (choice_of g step n) le))
 
 pub comes_at_clash : (k : Theory) (g : Graph) (w : List OpenChoice) → has_clash k g ≡ true → ComesTo k 0 (record { graph = g; waiting = w }) g w
 comes_at_clash k g w clash = (record { graph = g; waiting = w }, refl, refl, open_clash k g w clash)

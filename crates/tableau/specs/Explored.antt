@@ -17,7 +17,7 @@ onward k (suc n) s = option_and_then (next_search k) (onward k n s)
 
 -- the search from a branch has come to a closed branch, and goes back to these open choices
 abbrev pub ComesTo : Theory → ℕ → Searching → Graph → List OpenChoice → Type 0
-ComesTo k used s g open = (t : Searching) × (onward k used s ≡ Some t) × (t.graph ≡ g) × (open_choices k t ≡ Some open)
+ComesTo k used s g behind = (t : Searching) × (onward k used s ≡ Some t) × (t.graph ≡ g) × (open_choices k t ≡ Some behind)
 
 -- the search from a branch goes on after so many rule applications, the last of which made this branch
 abbrev pub GoesPast : Theory → ℕ → Searching → Graph → Type 0

@@ -6,6 +6,7 @@ pub mod Made
 pub mod ModelOf
 pub mod Pictured
 pub mod Placing
+pub mod Putting
 pub mod Rest
 pub mod Same
 pub mod Sound

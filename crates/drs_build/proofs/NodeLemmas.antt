@@ -1,5 +1,5 @@
 -- The meaning of a node by its label and its children.
-use Rattle.std.proofs.Common.{◌≡◌, ℕ, zero, suc, Bool, true, false, cond, List, [], ◌∷◌, ◌++◌, map, refl, sym, ap, ◌∙◌, subst, Option, Some, None}
+use Rattle.std.proofs.Common.{◌≡◌, ℕ, zero, suc, Bool, true, false, cond, List, [], ◌∷◌, ◌++◌, map, refl, sym, ap, ◌∙◌, append_assoc, Option, Some, None}
 use Rattle.std.specs.Prelude.{filter, flat_map, slice_get, slice_index, slice_index_or}
 use Rattle.std.specs.Option.{option_map_or}
 use Rattle.wiki_base.specs.declared.numbers.WordId.{WordId}
@@ -34,6 +34,13 @@ names_of_is g sk =
     ap (λ n. n.names) (named_is g sk)
     ∙ ap (λ es. own_name g (out-Skeleton sk).rule (out-Skeleton sk).start (out-Skeleton sk).words es ++ flat_map (λ c. c.names) (map (named g) (out-Skeleton sk).children)) (named_ends g (out-Skeleton sk).children)
     ∙ ap (λ ns. own_name g (out-Skeleton sk).rule (out-Skeleton sk).start (out-Skeleton sk).words (ends_of (out-Skeleton sk).children) ++ ns) (names_in_all g (out-Skeleton sk).children)
+
+-- the names of a skeleton, put after others in parts
+pub names_whole : (g : GrammarParts) (sk : Skeleton) (before all : List (ℕ × WordId)) → all ≡ (before ++ own_name g (out-Skeleton sk).rule (out-Skeleton sk).start (out-Skeleton sk).words (ends_of (out-Skeleton sk).children)) ++ flat_map (names_of g) (out-Skeleton sk).children → all ≡ before ++ names_of g sk
+names_whole g sk before all h =
+    h
+    ∙ append_assoc before (own_name g (out-Skeleton sk).rule (out-Skeleton sk).start (out-Skeleton sk).words (ends_of (out-Skeleton sk).children)) (flat_map (names_of g) (out-Skeleton sk).children)
+    ∙ ap (λ ns. before ++ ns) (sym (names_of_is g sk))
 
 -- Meanings
 

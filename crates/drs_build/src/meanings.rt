@@ -16,6 +16,7 @@ use std::alloc::Global;
 use wiki_base::{Memory, WordId};
 
 /// The text whose parts are built: its grammar and its names.
+#[derive(Clone, Copy)]
 pub(crate) struct Text<'a> {
     pub alloc: Global,
     pub grammar: &'a Grammar,

@@ -1,6 +1,8 @@
+pub mod Complement
 pub mod Concept
 pub mod Free
 pub mod Interpretation
+pub mod Introduced
 pub mod Meaning
 pub mod Reading
 pub mod Shown

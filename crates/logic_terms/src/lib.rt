@@ -1,12 +1,16 @@
 //! Structures, classes and axioms, and what each of them says of an interpretation.
 #![tactic(auto)]
 
+mod cause;
+mod complement;
 mod expressions;
 mod statements;
 mod structures;
 #[cfg(test)]
 mod tests;
 
+pub use cause::Cause;
+pub use complement::negated;
 pub use expressions::{Class, Classes, Role};
 pub use statements::{Axiom, Axioms};
 pub use structures::{Cond, Conds, Drs, Referents, Thing};

@@ -12,6 +12,7 @@ use Rattle.wiki_base.specs.Text.{IsText}
 use Rattle.lexicon.specs.declared.kinds.Forms.{Forms}
 use Rattle.lexicon.specs.declared.words.Word.{Word}
 use Rattle.lexicon.specs.declared.words.LexFault.TheVariants.{Taken, Reserved}
+use Rattle.lexicon.specs.declared.words.TheConstants.{MOST_WORDS}
 use Rattle.lexicon.specs.Kinds.{IsComplete}
 use Rattle.lexicon.specs.Words.{Listed, is_among, has_form, owner, SharesNoForm, HasNoTerminal, IsLexicon, next_word, with_word, first_taken, first_reserved, fullness, forms_refusal}
 use Rattle.lexicon.specs.Terminals.{is_reserved}
@@ -106,7 +107,7 @@ module _ (listed : Listed) (forms : Forms) (lexicon : IsLexicon listed) (complet
       by_test false free = refl
 
   -- there is room for one more word, and one more number
-  room_left : (length listed.live < 5000) × (listed.last + 1 < 2 ^ 32)
+  room_left : (length listed.live < MOST_WORDS) × (listed.last + 1 < 2 ^ 32)
   room_left = grind (arith, nat_tests, lexicon.few, lexicon.last_fits)
 
   -- the list with the new word is a lexicon

@@ -6,7 +6,9 @@ use Rattle.std.proofs.lemmas.Bool.Decides.{nat_tests}
 use Rattle.wiki_base.specs.declared.numbers.WordId.{WordId}
 use Rattle.lexicon.specs.declared.kinds.Forms.{Forms}
 use Rattle.lexicon.specs.declared.words.Word.{Word}
-use Rattle.lexicon.specs.declared.words.LexFault.TheVariants.{Taken, Reserved, Full}
+use Rattle.lexicon.specs.declared.words.LexFault.TheVariants.{Taken, Reserved, Full, NoWord}
+use Rattle.lexicon.specs.declared.words.LexLimit.TheVariants.{Words, Numbers}
+use Rattle.lexicon.specs.declared.words.TheConstants.{MOST_WORDS, LAST_NUMBER}
 use Rattle.lexicon.specs.Words.{Listed, has_form, owner, forms_of, first_taken, first_reserved, fullness, forms_refusal, add_refusal}
 use Rattle.lexicon.specs.Terminals.{is_reserved}
 
@@ -49,9 +51,9 @@ reserved_not_taken terminals (first ∷ texts) text id is = by_test (is_reserved
     by_test false is rest = rest is
 
 full_not_taken : (listed : Listed) (text : List ℕ) (id : WordId) → fullness listed ≡ Some (Taken text id) → ⊥
-full_not_taken listed text id is = by_tests (eqb (length listed.live) 5000) (eqb listed.last 4294967295) is
+full_not_taken listed text id is = by_tests (eqb (length listed.live) MOST_WORDS) (eqb listed.last LAST_NUMBER) is
   where
-    by_tests : (b c : Bool) → cond b (Some (Full 5000)) (cond c (Some (Full 4294967295)) None) ≡ Some (Taken text id) → ⊥
+    by_tests : (b c : Bool) → cond b (Some (Full Words)) (cond c (Some (Full Numbers)) None) ≡ Some (Taken text id) → ⊥
     by_tests true c is = cc
     by_tests false true is = cc
     by_tests false false is = cc
@@ -70,3 +72,39 @@ owner-forms_refusal live terminals forms text id is =
 pub owner-add_refusal : (listed : Listed) (forms : Forms) (text : List ℕ) (id : WordId) → add_refusal listed forms ≡ Some (Taken text id) → owner listed.live text ≡ Some id
 owner-add_refusal listed forms text id is =
     owner-forms_refusal listed.live listed.terminals forms text id (first_names (forms_refusal listed.live listed.terminals forms) (fullness listed) (Taken text id) (full_not_taken listed text id) is)
+
+-- neither of two causes is this one
+neither : {X : Type 0} (a b : Option X) (x : X) → (a ≡ Some x → ⊥) → (b ≡ Some x → ⊥) → option_or a b ≡ Some x → ⊥
+neither (Some y) b x not_a not_b is = not_a is
+neither None b x not_a not_b is = not_b is
+
+taken_not_absent : (live : List Word) (texts : List (List ℕ)) (id : WordId) → first_taken live texts ≡ Some (NoWord id) → ⊥
+taken_not_absent live [] id is = cc
+taken_not_absent live (text ∷ texts) id is = by_owner (owner live text) is (taken_not_absent live texts id)
+  where
+    by_owner : (o : Option WordId) → option_or (option_map (Taken text) o) (first_taken live texts) ≡ Some (NoWord id) → (first_taken live texts ≡ Some (NoWord id) → ⊥) → ⊥
+    by_owner None is rest = rest is
+    by_owner (Some word) is rest = cc
+
+reserved_not_absent : (terminals texts : List (List ℕ)) (id : WordId) → first_reserved terminals texts ≡ Some (NoWord id) → ⊥
+reserved_not_absent terminals [] id is = cc
+reserved_not_absent terminals (text ∷ texts) id is = by_test (is_reserved terminals text) is (reserved_not_absent terminals texts id)
+  where
+    by_test : (b : Bool) → cond b (Some (Reserved text)) (first_reserved terminals texts) ≡ Some (NoWord id) → (first_reserved terminals texts ≡ Some (NoWord id) → ⊥) → ⊥
+    by_test true is rest = cc
+    by_test false is rest = rest is
+
+full_not_absent : (listed : Listed) (id : WordId) → fullness listed ≡ Some (NoWord id) → ⊥
+full_not_absent listed id is = by_tests (eqb (length listed.live) MOST_WORDS) (eqb listed.last LAST_NUMBER) is
+  where
+    by_tests : (b c : Bool) → cond b (Some (Full Words)) (cond c (Some (Full Numbers)) None) ≡ Some (NoWord id) → ⊥
+    by_tests true c is = cc
+    by_tests false true is = cc
+    by_tests false false is = cc
+
+-- a new word is refused for no word that isn't there
+pub add_refusal_names_none : (listed : Listed) (forms : Forms) (id : WordId) → add_refusal listed forms ≡ Some (NoWord id) → ⊥
+add_refusal_names_none listed forms id is =
+    neither (forms_refusal listed.live listed.terminals forms) (fullness listed) (NoWord id)
+    (neither (first_taken listed.live forms.texts) (first_reserved listed.terminals forms.texts) (NoWord id) (taken_not_absent listed.live forms.texts id) (reserved_not_absent listed.terminals forms.texts id))
+    (full_not_absent listed id) is

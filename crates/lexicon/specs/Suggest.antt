@@ -6,7 +6,9 @@ use Rattle.lexicon.specs.declared.kinds.Kind.{Kind}
 use Rattle.lexicon.specs.declared.kinds.Kind.TheVariants.{Noun, Verb}
 use Rattle.lexicon.specs.declared.suggest.FormFault.{FormFault}
 use Rattle.lexicon.specs.declared.suggest.FormFault.TheVariants.{Count, TooLong, Memory}
+use Rattle.lexicon.specs.declared.words.TheConstants.{LAST_NUMBER}
 use Rattle.lexicon.specs.Kinds.{form_count}
+use Rattle.wiki_base.specs.Text.{longest}
 
 -- the text ends in these bytes
 abbrev pub ends_in : List ℕ → List ℕ → Bool
@@ -48,13 +50,13 @@ form_texts Noun (text ∷ []) = text ∷ with_s text ∷ []
 form_texts Verb (text ∷ []) = with_s text ∷ text ∷ with_d text ∷ []
 form_texts kind given = given
 
--- a suggested form has over 64 bytes, where one text was given
+-- a suggested form is longer than a text may be, where one text was given
 abbrev pub too_long : List ℕ → Option FormFault
-too_long text = if nat_lt 64 (length text) then Some (TooLong 1) else None
+too_long text = if nat_lt longest (length text) then Some (TooLong 1) else None
 
 -- a number as it is told, at most 4,294,967,295
 abbrev pub told : ℕ → ℕ
-told n = min n 4294967295
+told n = min n LAST_NUMBER
 
 -- the number of texts is not that of the kind's forms
 abbrev pub count_fault : Kind → List (List ℕ) → Option FormFault

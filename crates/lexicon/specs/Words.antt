@@ -8,6 +8,8 @@ use Rattle.wiki_base.specs.Text.{IsText}
 use Rattle.lexicon.specs.declared.kinds.Forms.{Forms}
 use Rattle.lexicon.specs.declared.words.Word.{Word}
 use Rattle.lexicon.specs.declared.words.LexFault.{LexFault}
+use Rattle.lexicon.specs.declared.words.LexLimit.TheVariants.{Words, Numbers}
+use Rattle.lexicon.specs.declared.words.TheConstants.{MOST_WORDS, LAST_NUMBER}
 use Rattle.lexicon.specs.declared.words.LexFault.TheVariants.{Taken, Reserved, NoWord, Full, Memory}
 use Rattle.lexicon.specs.Kinds.{IsComplete}
 use Rattle.lexicon.specs.Terminals.{is_reserved}
@@ -60,7 +62,7 @@ pub record IsLexicon (listed : Listed) : Type 0 where
   pub spelled : All (λ word. All IsText word.forms.texts) listed.live
   pub apart : AllPairs SharesNoForm listed.live
   pub unreserved : All (HasNoTerminal listed.terminals) listed.live
-  pub few : length listed.live ≤ 5000
+  pub few : length listed.live ≤ MOST_WORDS
   pub last_fits : listed.last < 2 ^ 32
 
 -- the word that would be added next, with these forms
@@ -91,10 +93,10 @@ first_reserved terminals [] = None
 first_reserved terminals (text ∷ texts) =
     if is_reserved terminals text then Some (Reserved text) else first_reserved terminals texts
 
--- no word can be added: there are 5,000, or all numbers are given
+-- no word can be added: there are `MOST_WORDS`, or all numbers are given
 abbrev pub fullness : Listed → Option LexFault
 fullness listed =
-    if length listed.live == 5000 then Some (Full 5000) else (if listed.last == 4294967295 then Some (Full 4294967295) else None)
+    if length listed.live == MOST_WORDS then Some (Full Words) else (if listed.last == LAST_NUMBER then Some (Full Numbers) else None)
 
 -- the first cause that stands against forms beside these words
 abbrev pub forms_refusal : List Word → List (List ℕ) → Forms → Option LexFault

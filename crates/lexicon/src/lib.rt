@@ -12,4 +12,4 @@ mod words;
 pub use kinds::{Forms, Kind, Texts};
 pub use readings::{MOST_READINGS, Readings};
 pub use suggest::{FormFault, forms};
-pub use words::{LexFault, Lexicon, MOST_WORDS, Word};
+pub use words::{LAST_NUMBER, LexFault, LexLimit, Lexicon, MOST_WORDS, Word};

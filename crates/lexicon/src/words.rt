@@ -16,6 +16,18 @@ use wiki_base::{Memory, Text, WordId};
 /// The greatest number of live words.
 pub const MOST_WORDS: usize = 5000;
 
+/// The last number that a word can be given.
+pub const LAST_NUMBER: u32 = 4_294_967_295;
+
+/// What bounds a lexicon.
+#[derive(Clone, Copy, Debug, PartialEq, Eq)]
+pub enum LexLimit {
+    /// The live words: `MOST_WORDS`.
+    Words,
+    /// The numbers that are given: up to `LAST_NUMBER`.
+    Numbers,
+}
+
 /// One live word.
 #[derive(Drop)]
 pub struct Word {
@@ -32,8 +44,8 @@ pub enum LexFault {
     Reserved { text: Text },
     /// No live word has the number.
     NoWord(WordId),
-    /// There are 5,000 live words, or the last number, 4,294,967,295, was given.
-    Full { limit: u32 },
+    /// The limit is reached: there are `MOST_WORDS` live words, or `LAST_NUMBER` was given.
+    Full(LexLimit),
     Memory,
 }
 
@@ -303,12 +315,10 @@ impl Lexicon {
         ensures full { IfErr result (λ fault. fullness self.now ≡ Some fault) }
     {
         if self.words.len() == MOST_WORDS {
-            return Err(LexFault::Full {
-                limit: MOST_WORDS as u32,
-            });
+            return Err(LexFault::Full(LexLimit::Words));
         }
-        if self.last == u32::MAX {
-            return Err(LexFault::Full { limit: u32::MAX });
+        if self.last == LAST_NUMBER {
+            return Err(LexFault::Full(LexLimit::Numbers));
         }
         Ok(())
     }
@@ -423,7 +433,7 @@ mod tests {
         let mut lexicon = beside_every(rt.alloc())?;
         add_many(rt.alloc(), &mut lexicon, 5000)?;
         match refused(rt.alloc(), &mut lexicon, Kind::Name, "zzz")? {
-            LexFault::Full { limit } => assert_eq!(rt; limit, 5000),
+            LexFault::Full(limit) => assert_eq!(rt; limit, LexLimit::Words),
             _ => return Err(Fail::from("not full")),
         }
         assert_eq!(rt; lexicon.find("zzz"), None);

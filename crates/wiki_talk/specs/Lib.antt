@@ -1,0 +1,5 @@
+pub mod Kinds
+pub mod Limits
+pub mod Refusals
+pub mod Turns
+pub mod Statuses

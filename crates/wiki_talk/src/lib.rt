@@ -1,0 +1,20 @@
+//! What is asked of the wiki, and what it answers.
+#![tactic(auto)]
+
+mod kinds;
+mod limits;
+mod refusals;
+mod replies;
+mod requests;
+mod statuses;
+#[cfg(test)]
+mod tests;
+mod text8;
+
+pub use kinds::{kind_name, kind_named};
+pub use limits::Limit;
+pub use refusals::{BAD_REQUEST, Refusal, Title};
+pub use replies::{Meant, MenuView, Numbers, Reply, SentenceView, SentenceViews, WordView, WordViews};
+pub use requests::{Request, Text8s};
+pub use statuses::Status;
+pub use text8::Text8;

@@ -1,0 +1,52 @@
+// Why a request is refused.
+ghost use Rattle.std.specs.Prelude.{◌≡◌};
+
+use crate::limits::Limit;
+use crate::text8::Text8;
+
+/// Why a request was refused.
+#[derive(Drop)]
+pub enum Refusal {
+    /// No live word has the form.
+    NoWord { text: Text8 },
+    /// The form of this place, from 0, can't be a form of a word; or their number, where each could be.
+    BadForm { which: u32 },
+    /// Another live word, named by its canonical form, has the form.
+    Taken { text: Text8, word: Text8 },
+    /// The grammar has the text as a word of its own, or has it with a small first letter.
+    Reserved { text: Text8 },
+    /// The limit is reached.
+    Full { which: Limit, limit: u32 },
+}
+
+/// The number and the name by which a refusal is told.
+#[derive(Clone, Copy, Debug)]
+pub struct Title {
+    pub number: u32,
+    pub name: &'static str,
+}
+
+/// What tells a line that is too long or is no request.
+pub const BAD_REQUEST: Title = Title {
+    number: 0,
+    name: "BadRequest",
+};
+
+impl Refusal {
+    ghost use Rattle.wiki_talk.specs.Refusals.{title_of};
+
+    /// The number and the name by which the refusal is told.
+    pub fn title(&self) -> Title
+        ensures number { result.number ≡ (title_of self.now).number }
+        ensures name { result.name.now ≡ (title_of self.now).name }
+    {
+        let (number, name) = match self {
+            Refusal::NoWord { .. } => (1, "NoWord"),
+            Refusal::BadForm { .. } => (2, "BadForm"),
+            Refusal::Taken { .. } => (3, "Taken"),
+            Refusal::Reserved { .. } => (4, "Reserved"),
+            Refusal::Full { .. } => (7, "Full"),
+        };
+        Title { number, name }
+    }
+}

@@ -7,7 +7,7 @@ ghost use Rattle.std.specs.Prelude.{◌≤◌, length};
 use ace_grammar::built_in;
 use codeco_checked::CheckedGrammar;
 use codeco_terms::Value;
-use derivations::{Binds, Cut, Places, Tree, Trees, check_tree, cut};
+use derivation_trees::{Binds, Cut, Places, Tree, Trees, check_tree, cut};
 use lexicon::{Kind, Lexicon, forms};
 use std::alloc::{AllocError, AllocFailed, Global};
 use std::time::CpuClock;

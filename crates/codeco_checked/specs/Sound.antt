@@ -17,6 +17,7 @@ use Rattle.codeco_text.specs.Names.{is_identifier, is_terminal}
 use Rattle.codeco_checked.specs.declared.fault.GrammarFault.{GrammarFault}
 use Rattle.codeco_checked.specs.declared.fault.GrammarFault.TheVariants.{Syntax, TooLarge, Undeclared, BadValue, EmptyRule, LeftRecursion, TakenVariable, LabelKind, NoStart, Memory}
 use Rattle.codeco_checked.specs.Numbering.{IsNumbered}
+use Rattle.codeco_checked.specs.Labels.{IsMisfit}
 use Rattle.codeco_checked.specs.Faults.{at_rule, is_too_large, is_undeclared_rule, is_bad_value, is_empty_rule, IsRecursive, is_taking_rule, has_start}
 
 -- the fault holds of the grammar, at the place that it names
@@ -28,7 +29,7 @@ Holds g (BadValue n) = IsTrue (is_bad_value g n)
 Holds g (EmptyRule n) = IsTrue (at_rule is_empty_rule g.rules n)
 Holds g (LeftRecursion n) = (r : Rule) × (0 < n) × (slice_get g.rules (n - 1) ≡ Some r) × IsRecursive g r.head.name
 Holds g (TakenVariable n) = IsTrue (at_rule is_taking_rule g.rules n)
-Holds g (LabelKind n) = ⊥
+Holds g (LabelKind n) = IsMisfit g.rules n
 Holds g NoStart = IsTrue (not (has_start g))
 Holds g Memory = ⊥
 

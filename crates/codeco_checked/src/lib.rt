@@ -3,6 +3,8 @@
 
 mod checked;
 mod fault;
+mod labels;
 
 pub use checked::CheckedGrammar;
 pub use fault::GrammarFault;
+pub use labels::{Children, Heads, Kind, LabelRow, Words, label_row};

@@ -57,7 +57,7 @@ module _ (items : List WrittenItem) (fits : list_all item_fits items ≡ true) w
       least (EmptyRule n) b h = true≢false (sym b)
       least (LeftRecursion n) b h = true≢false (sym b)
       least (TakenVariable n) b h = true≢false (sym b)
-      least (LabelKind n) b h = h
+      least (LabelKind n) b h = true≢false (sym b)
       least NoStart b h = true≢false (sym b)
       least Memory b h = h
 
@@ -73,7 +73,7 @@ module _ (items : List WrittenItem) (fits : list_all item_fits items ≡ true) w
         least (EmptyRule n) b h = true≢false (sym b)
         least (LeftRecursion n) b h = true≢false (sym b)
         least (TakenVariable n) b h = true≢false (sym b)
-        least (LabelKind n) b h = h
+        least (LabelKind n) b h = true≢false (sym b)
         least NoStart b h = true≢false (sym b)
         least Memory b h = h
 
@@ -89,7 +89,7 @@ module _ (items : List WrittenItem) (fits : list_all item_fits items ≡ true) w
           least (EmptyRule n) b h = true≢false (sym b)
           least (LeftRecursion n) b h = true≢false (sym b)
           least (TakenVariable n) b h = true≢false (sym b)
-          least (LabelKind n) b h = h
+          least (LabelKind n) b h = true≢false (sym b)
           least NoStart b h = true≢false (sym b)
           least Memory b h = h
 
@@ -104,7 +104,7 @@ module _ (items : List WrittenItem) (fits : list_all item_fits items ≡ true) w
       none_early single (EmptyRule n) b h = true≢false (sym b)
       none_early single (LeftRecursion n) b h = true≢false (sym b)
       none_early single (TakenVariable n) b h = true≢false (sym b)
-      none_early single (LabelKind n) b h = h
+      none_early single (LabelKind n) b h = true≢false (sym b)
       none_early single NoStart b h = true≢false (sym b)
       none_early single Memory b h = h
 

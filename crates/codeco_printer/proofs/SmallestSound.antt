@@ -1,11 +1,17 @@
 -- The grammar of the text `text --> [a].` has no fault.
-use Rattle.std.proofs.Common.{refl}
+use Rattle.std.proofs.Common.{List, [], ◌∷◌, refl}
+use Rattle.codeco_checked.specs.declared.labels.Kind.{Kind}
+use Rattle.codeco_checked.specs.declared.labels.Kind.TheVariants.{Text, Sentence}
 use Rattle.codeco_checked.specs.Numbering.{IsNumbered}
 use Rattle.codeco_checked.specs.Sound.{IsWritten, IsSound}
 use Rattle.codeco_checked.proofs.FaultTests.{PassesTests, faultless}
 use Rattle.codeco_printer.specs.Smallest.{smallest_grammar}
 
-passes : PassesTests smallest_grammar (λ _. 0)
+-- text is a text
+abbrev kinds : List Kind
+kinds = Sentence ∷ Sentence ∷ Sentence ∷ Sentence ∷ Sentence ∷ Text ∷ []
+
+passes : PassesTests smallest_grammar (λ _. 0) kinds
 passes = record {
   declarations = refl;
   broad = refl;
@@ -17,6 +23,11 @@ passes = record {
   empty = refl;
   falls = refl;
   taken = refl;
+  alike = refl;
+  marked = refl;
+  marks = refl;
+  text = refl;
+  fit = refl;
   start = refl;
 }
 
@@ -39,4 +50,4 @@ numbered = record {
 }
 
 pub smallest_sound : IsSound smallest_grammar
-smallest_sound = record { written = written; numbered = numbered; faultless = faultless smallest_grammar (λ _. 0) passes }
+smallest_sound = record { written = written; numbered = numbered; faultless = faultless smallest_grammar (λ _. 0) kinds passes }

@@ -5,7 +5,7 @@ ghost use Rattle.codeco_text.specs.Notation.{sign_bytes};
 use codeco_text::Sign;
 use std::alloc::Global;
 use std::marker::Model;
-use wiki_base::{Memory, Text8};
+use wiki_base::{Bytes, Memory};
 
 /// The bytes of a sign.
 pub fn sign_bytes(sign: Sign) -> &'static [u8]
@@ -63,11 +63,11 @@ impl Printer {
         }
     }
 
-    /// The text, which takes no memory.
-    pub fn into_text(self) -> Text8
+    /// The bytes of the text, which takes no memory.
+    pub fn into_text(self) -> Bytes
         ensures { result ≡ self.bytes }
     {
-        Text8::from_vec(self.bytes)
+        Bytes::from_vec(self.bytes)
     }
 
     /// Adds a name, a variable or a keyword.

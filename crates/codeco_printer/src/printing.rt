@@ -58,7 +58,7 @@ use codeco_terms::{
 };
 use codeco_text::Sign;
 use std::alloc::Global;
-use wiki_base::{Memory, Text8};
+use wiki_base::{Bytes, Memory};
 
 fn print_term(out: &mut Printer, grammar: &Grammar, term: Term) -> Result<(), Memory>
     ensures { OnOk result (out.new ≡ write out.old (term_lexemes (written_term grammar.now term))) }
@@ -373,7 +373,7 @@ fn print_parts(alloc: Global, grammar: &Grammar) -> Result<Printer, Memory>
 /// The text of a grammar in its notation: the declarations in order of number, and then the rules. Features stand in
 /// order of number; variable 0 is written as `A`, variable 1 as `B` and so on. One space stands exactly between two
 /// symbols that would be read otherwise without it, and there is no other white space.
-pub fn print_grammar(alloc: Global, grammar: &CheckedGrammar) -> Result<Text8, Memory>
+pub fn print_grammar(alloc: Global, grammar: &CheckedGrammar) -> Result<Bytes, Memory>
     ensures text { IfOk result (λ text. text ≡ printed (lexemes (written_of grammar.now))) }
     ensures spelling { IfOk result (λ text. IsSpelling text (written_of grammar.now)) }
 

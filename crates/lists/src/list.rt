@@ -155,6 +155,25 @@ impl<T: Drop> List<T> {
     }
 }
 
+impl<T: Copy> List<T> {
+    /// A copy of a slice.
+    pub fn from_slice(alloc: Global, items: &[T]) -> Result<List<T>, Memory>
+        ensures { IfOk result (λ list. list ≡ items.now) }
+    {
+        let items = Vec::from_slice(alloc, items)?;
+        Ok(List { items })
+    }
+
+    /// Adds the items of a slice at the end.
+    pub fn extend(&mut self, more: &[T]) -> Result<(), Memory>
+        ensures ok { OnOk result (self.new ≡ self.old ++ more.now) }
+        ensures err { OnErr result (self.new ≡ self.old) }
+    {
+        self.items.extend_from_slice(more)?;
+        Ok(())
+    }
+}
+
 impl<T: Copied + Drop> Copied for List<T> {
     fn copy(&self) -> Result<List<T>, Memory> {
         let mut items = Vec::with_capacity(*self.items.allocator(), self.items.len())?;

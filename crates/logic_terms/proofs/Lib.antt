@@ -2,5 +2,9 @@ pub mod Closed
 pub mod ComplementLemmas
 pub mod Extensions
 pub mod MeaningLemmas
+pub mod Places
+pub mod SameLemmas
+pub mod NamesLemmas
 pub mod ShownLemmas
 pub mod Taken
+pub mod Walks

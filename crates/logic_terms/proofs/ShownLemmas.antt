@@ -1,10 +1,11 @@
 -- What each kind of class, axiom, condition and structure shows.
-use Rattle.std.proofs.Common.{◌≡◌, List, [], ◌∷◌, refl, sym, ap, ◌∙◌}
+use Rattle.std.proofs.Common.{◌≡◌, List, [], ◌∷◌, Option, Some, refl, sym, ap, ◌∙◌}
 use Rattle.std.specs.declared.alloc.Global.{Global}
 use Rattle.std.specs.declared.boxed.Box.{Box}
 use Rattle.wiki_base.specs.declared.numbers.WordId.{WordId}
 use Rattle.logic_terms.specs.declared.expressions.Role.{Role}
 use Rattle.logic_terms.specs.Structure.{Condition, Conditions, Structure, IsA, AreRelated, AreSame, Negation, Implication, Disjunction, structure, condition_list, conditions_from, conditions_in}
+use Rattle.logic_terms.specs.Parts.{members_in, intersection_part, union_part}
 use Rattle.logic_terms.specs.Shown.{concept_layer, members_layer, concept_of, concepts_of, condition_layer, conditions_layer, structure_layer, condition_of, conditions_of, structure_of}
 use Rattle.logic_terms.specs.Concept.{Concept, Concepts, Everything, Atomic, ComplementOf, IntersectionOf, UnionOf, SomeValuesFrom, AllValuesFrom, HasValue, concepts_from}
 use Rattle.logic_terms.specs.declared.expressions.Class.{Class}
@@ -104,3 +105,19 @@ pub condition_of-Or : (k : Drs) (l : Drs) → condition_of (cond.Or k l) ≡ Dis
 condition_of-Or k l =
     ap condition_of (sym (cond.rolls-Or k l))
     ∙ fold-roll-Cond Condition Conditions Structure condition_layer conditions_layer structure_layer (open_cond.Or k l)
+
+-- the members of a list of concepts are its concepts
+pub members_in-concepts_from : (cs : List Concept) → members_in (concepts_from cs) ≡ cs
+members_in-concepts_from [] = refl
+members_in-concepts_from (c ∷ cs) = ap (λ rest. c ∷ rest) (members_in-concepts_from cs)
+
+-- the members of an intersection and of a union, from what they are written as
+pub intersection_part-And : (k : Class) (m : Classes) → k ≡ class.And m → intersection_part (concept_of k) ≡ Some (concepts_of m)
+intersection_part-And k m e =
+    ap (λ c. intersection_part (concept_of c)) e
+    ∙ (ap intersection_part (concept_of-And m) ∙ ap Some (members_in-concepts_from (concepts_of m)))
+
+pub union_part-Or : (k : Class) (m : Classes) → k ≡ class.Or m → union_part (concept_of k) ≡ Some (concepts_of m)
+union_part-Or k m e =
+    ap (λ c. union_part (concept_of c)) e
+    ∙ (ap union_part (concept_of-Or m) ∙ ap Some (members_in-concepts_from (concepts_of m)))

@@ -3,8 +3,13 @@ pub mod Concept
 pub mod Free
 pub mod Interpretation
 pub mod Introduced
+pub mod Known
 pub mod Meaning
+pub mod Parts
+pub mod Names
 pub mod Reading
+pub mod Same
 pub mod Shown
 pub mod Structure
+pub mod Theory
 pub mod Truth

@@ -2,8 +2,13 @@
 #![tactic(auto)]
 
 mod cause;
+mod comparing;
 mod complement;
 mod expressions;
+mod knowledge;
+mod names;
+mod opposing;
+mod parts;
 mod statements;
 mod structures;
 #[cfg(test)]
@@ -12,5 +17,7 @@ mod tests;
 pub use cause::Cause;
 pub use complement::negated;
 pub use expressions::{Class, Classes, Role};
+pub use knowledge::Knowledge;
+pub use names::Names;
 pub use statements::{Axiom, Axioms};
 pub use structures::{Cond, Conds, Drs, Referents, Thing};

@@ -66,12 +66,17 @@ sentence_item sentence =
     codes "<li class=\"" ++ (status_name sentence.status ++ (codes "\">" ++ (escaped sentence.text
     ++ (answers_of sentence.status sentence.answers sentence.unknown ++ codes "</li>"))))
 
+-- the forms of the article at a path: a text to add, and a button that opens a session
+unfoldable pub forms_at : List ℕ → List ℕ
+forms_at path =
+    codes "<form method=\"post\" action=\"/article/" ++ (path
+    ++ (codes "/add\"><input name=\"text\"><button>Add</button></form><form method=\"post\" action=\"/article/" ++ (path
+    ++ codes "/open\"><button>Editor</button></form>")))
+
 abbrev pub article_body : List ℕ → List SentenceView → List ℕ
 article_body form sentences =
     codes "<h1>" ++ (escaped form ++ (codes "</h1><ol>" ++ (flat_map sentence_item sentences
-    ++ (codes "</ol><form method=\"post\" action=\"/article/" ++ (byte_serialize form
-    ++ (codes "/add\"><input name=\"text\"><button>Add</button></form><form method=\"post\" action=\"/article/" ++ (byte_serialize form
-    ++ codes "/open\"><button>Editor</button></form>")))))))
+    ++ (codes "</ol>" ++ forms_at (byte_serialize form)))))
 
 -- an article's sentences, with a form for a new one and one for a session
 abbrev pub article_page : List ℕ → List SentenceView → List ℕ

@@ -2,7 +2,8 @@
 ghost use Rattle.std.specs.Prelude.{◌≡◌, IfOk};
 ghost use Rattle.std.specs.List.{flat_map};
 ghost use Rattle.std.specs.String.{string_bytes};
-ghost use Rattle.pages.specs.Pages.{further, joined, unknown_shown, answers_of, sentence_item, article_body, article_page};
+ghost use Rattle.form_urlencoded.specs.Form.{byte_serialize};
+ghost use Rattle.pages.specs.Pages.{further, joined, unknown_shown, answers_of, sentence_item, forms_at, article_body, article_page};
 
 use crate::html::{coded, escaped, framed};
 use std::alloc::Global;
@@ -26,9 +27,23 @@ fn article_body(alloc: Global, form: &str, sentences: &[SentenceView]) -> Result
 {
     let shown = escaped(alloc, form)?;
     let items = sentence_items(alloc, sentences)?;
+    let forms = article_forms(alloc, form)?;
+    Ok(format!(in alloc; "<h1>{shown}</h1><ol>{items}</ol>{forms}")?)
+}
+
+fn article_forms(alloc: Global, form: &str) -> Result<String, Memory>
+    ensures { IfOk result (λ forms. string_bytes forms ≡ forms_at (byte_serialize form.now)) }
+{
     let path = coded(alloc, form)?;
+    forms_at(alloc, path.as_str())
+}
+
+#[tactic(auto, unfolding(crate::specs::Pages::forms_at))]
+fn forms_at(alloc: Global, path: &str) -> Result<String, Memory>
+    ensures { IfOk result (λ forms. string_bytes forms ≡ forms_at path.now) }
+{
     Ok(format!(in alloc;
-        "<h1>{shown}</h1><ol>{items}</ol><form method=\"post\" action=\"/article/{path}/add\"><input name=\"text\"><button>Add</button></form><form method=\"post\" action=\"/article/{path}/open\"><button>Editor</button></form>"
+        "<form method=\"post\" action=\"/article/{path}/add\"><input name=\"text\"><button>Add</button></form><form method=\"post\" action=\"/article/{path}/open\"><button>Editor</button></form>"
     )?)
 }
 

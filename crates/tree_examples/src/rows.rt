@@ -1,6 +1,6 @@
 // Trees as tables: a row is a node, behind the rows of its children.
 use codeco_terms::Value;
-use derivations::{Binds, Places, Tree, Trees};
+use derivation_trees::{Binds, Places, Tree, Trees};
 use std::alloc::Global;
 use std::test::Fail;
 use wiki_base::WordId;

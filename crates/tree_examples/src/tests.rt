@@ -7,7 +7,7 @@ use ace_grammar::built_in;
 use codeco_checked::CheckedGrammar;
 use codeco_reader::read_grammar;
 use codeco_terms::Value;
-use derivations::{Cut, Tree, check_tree, cut, show};
+use derivation_trees::{Cut, Tree, check_tree, cut, show};
 use lexicon::{Kind, Lexicon, forms};
 use std::alloc::Global;
 use std::process::Abort;

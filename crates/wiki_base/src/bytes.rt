@@ -1,108 +1,120 @@
-// A list of bytes: a line, a page, what `show` gives.
-ghost use Rattle.std.specs.Prelude.{◌≡◌, ◌++◌, [], IfOk, OnOk, OnErr};
+// Texts in UTF-8, and bytes that need not be.
+ghost use Rattle.std.specs.Prelude.{◌≡◌, ◌++◌, [], IsUtf8, IfOk, OnOk, OnErr, MatchOption};
+ghost use Rattle.std.specs.String.{string_bytes};
 
-use lists::Memory;
+use lists::{Copied, List, Memory};
 use std::alloc::Global;
 use std::marker::Model;
 
-/// Bytes, in most places those of a text in UTF-8. Seen as their list.
+/// Bytes that need not be a text: a word of the command line, a piece that came over a connection.
+pub type Bytes = List<u8>;
+
+/// One word of the command line.
+pub type Arg = Bytes;
+
+/// A text in UTF-8: a line, a page, what `show` gives. Seen as its bytes.
 #[derive(Drop)]
 pub struct Text8 {
-    bytes: Vec<u8>,
+    text: String,
 }
 
+/// A list of texts.
+pub type Text8s = List<Text8>;
+
 impl Model for Text8 {
-    ghost use Rattle.std.specs.Prelude.{List, ℕ};
+    ghost use Rattle.std.specs.Prelude.{List, ℕ, IsUtf8};
+    ghost use Rattle.std.specs.String.{string_bytes};
 
     ghost Value = { List ℕ };
 
-    ghost view = { λ t. t.bytes.items };
+    ghost view = { λ t. string_bytes t.text };
+
+    ghost invariant = { λ t. IsUtf8 (string_bytes t.text) };
 }
 
 impl Text8 {
-    /// No bytes.
+    /// The empty text, which takes no memory.
     pub fn new(alloc: Global) -> Text8
         ensures { result ≡ [] }
     {
         Text8 {
-            bytes: Vec::new(alloc),
+            text: String::new(alloc),
         }
     }
 
-    /// These bytes.
-    pub fn from_vec(bytes: Vec<u8>) -> Text8
-        ensures { result ≡ bytes.items }
-    {
-        Text8 { bytes }
-    }
-
-    /// A copy of these bytes.
-    pub fn from_slice(alloc: Global, bytes: &[u8]) -> Result<Text8, Memory>
-        ensures { IfOk result (λ text. text ≡ bytes.now) }
+    /// A copy of this text.
+    pub fn from_str(alloc: Global, text: &str) -> Result<Text8, Memory>
+        ensures { IfOk result (λ made. made ≡ text.now) }
     {
         Ok(Text8 {
-            bytes: bytes.to_vec(alloc)?,
+            text: String::from_str(alloc, text)?,
         })
     }
 
-    pub fn as_bytes(&self) -> &[u8]
-        ensures { result.now ≡ self.now }
+    /// The text of a string, which takes no memory.
+    pub fn from_string(text: String) -> Text8
+        ensures { result ≡ string_bytes text }
     {
-        self.bytes.as_slice()
+        Text8 { text }
+    }
+
+    /// The text with these bytes, if they are UTF-8. It takes no memory.
+    pub fn from_utf8(bytes: Vec<u8>) -> Option<Text8>
+        ensures { MatchOption result (¬ (IsUtf8 bytes.items)) (λ made. made ≡ bytes.items) }
+    {
+        match String::from_utf8(bytes) {
+            Ok(text) => Some(Text8 { text }),
+            Err(_) => None,
+        }
+    }
+
+    /// The text with these bytes, which are UTF-8. It takes no memory.
+    pub fn from_vec(bytes: Vec<u8>) -> Text8
+        requires { IsUtf8 bytes.items }
+        ensures { result ≡ bytes.items }
+    {
+        match String::from_utf8(bytes) {
+            Ok(text) => Text8 { text },
+            Err(_) => unreachable!(),
+        }
+    }
+
+    pub fn as_str(&self) -> &str
+        ensures value { result.now ≡ self.now }
+        ensures utf8 { IsUtf8 self.now }
+    {
+        self.text.as_str()
+    }
+
+    pub fn as_bytes(&self) -> &[u8]
+        ensures value { result.now ≡ self.now }
+        ensures utf8 { IsUtf8 self.now }
+    {
+        self.text.as_bytes()
     }
 
     /// The bytes, without copying them.
     pub fn into_vec(self) -> Vec<u8>
         ensures { result.items ≡ self }
     {
-        self.bytes
+        self.text.into_bytes()
     }
 
-    /// Adds bytes at the end.
-    pub fn extend(&mut self, more: &[u8]) -> Result<(), Memory>
+    /// Adds a text at the end.
+    pub fn push_str(&mut self, more: &str) -> Result<(), Memory>
         ensures ok { OnOk result (self.new ≡ self.old ++ more.now) }
         ensures err { OnErr result (self.new ≡ self.old) }
     {
-        self.bytes.extend_from_slice(more)?;
+        self.text.push_str(more)?;
         Ok(())
     }
+}
 
-    /// An equal list.
-    pub fn copy(&self) -> Result<Text8, Memory>
-        ensures { IfOk result (λ text. text ≡ self.now) }
-    {
+impl Copied for Text8 {
+    fn copy(&self) -> Result<Text8, Memory> {
         Ok(Text8 {
-            bytes: self.bytes.clone()?,
+            text: self.text.clone()?,
         })
-    }
-}
-
-/// One word of the command line. Seen as its bytes, which need not be UTF-8.
-#[derive(Drop)]
-pub struct Arg {
-    bytes: Vec<u8>,
-}
-
-impl Model for Arg {
-    ghost use Rattle.std.specs.Prelude.{List, ℕ};
-
-    ghost Value = { List ℕ };
-
-    ghost view = { λ a. a.bytes.items };
-}
-
-impl Arg {
-    /// The word with these bytes.
-    pub fn from_vec(bytes: Vec<u8>) -> Arg
-        ensures { result ≡ bytes.items }
-    {
-        Arg { bytes }
-    }
-
-    pub fn as_bytes(&self) -> &[u8]
-        ensures { result.now ≡ self.now }
-    {
-        self.bytes.as_slice()
     }
 }
 
@@ -112,17 +124,24 @@ mod tests {
     use std::test::Fail;
 
     #[test]
-    fn bytes_are_added_and_copied(rt: HostRuntime) -> Result<(), Fail> {
+    fn texts_are_added_and_copied(rt: HostRuntime) -> Result<(), Fail> {
         let mut text = Text8::new(rt.alloc());
-        text.extend(b"ab")?;
-        text.extend(b"c")?;
-        assert_eq!(rt; text.copy()?.as_bytes(), b"abc".as_slice());
+        text.push_str("Zü")?;
+        text.push_str("rich")?;
+        assert_eq!(rt; text.copy()?.as_str(), "Zürich");
+        assert_eq!(rt; text.as_bytes().len(), 7);
         assert_eq!(rt;
-            Text8::from_slice(rt.alloc(), b"x")?.as_bytes(),
+            Text8::from_str(rt.alloc(), "x")?.into_vec().as_slice(),
             b"x".as_slice()
         );
-        let word = Arg::from_vec(text.into_vec());
-        assert_eq!(rt; word.as_bytes(), b"abc".as_slice());
+        Ok(())
+    }
+
+    #[test]
+    fn bytes_that_are_no_utf8_are_no_text(rt: HostRuntime) -> Result<(), Fail> {
+        let text = Text8::from_utf8(b"a".to_vec(rt.alloc())?);
+        assert!(rt; text.is_some_and(|text| text.as_str() == "a"));
+        assert!(rt; Text8::from_utf8([0xC3].to_vec(rt.alloc())?).is_none());
         Ok(())
     }
 }

@@ -1,52 +1,60 @@
 -- Bytes that a source or a sink may tell, over several calls.
-use Rattle.std.proofs.Common.{◌≡◌, ℕ, ◌+◌, ◌-◌, ◌≤◌, List, [], ◌++◌, length, take, drop, Option, Some, None, refl, sym, ◌∙◌, ap, arith}
-use Rattle.std.specs.Io.KnownBytes.{prepend_known, append_known}
+use Rattle.std.proofs.Common.{◌≡◌, ℕ, ◌+◌, ◌-◌, ◌≤◌, List, [], ◌++◌, length, take, drop, Option, Some, None, refl, subst, sym, ◌∙◌, ap, arith}
+use Rattle.std.specs.Io.KnownBytes.{Consumes, Appends}
 use Rattle.std.proofs.lemmas.List.{append_assoc, append-nil, drop-drop, take_at, take-append-drop, length-take, length-drop, length-append, take_rest, nil_from_length}
 
-pub append_known-append : (known : Option (List ℕ)) (a b : List ℕ) → append_known (append_known known a) b ≡ append_known known (a ++ b)
-append_known-append None a b = refl
-append_known-append (Some xs) a b = ap Some (append_assoc xs a b)
+pub Consumes-nil : (known : Option (List ℕ)) → Consumes known known []
+Consumes-nil None = tt
+Consumes-nil (Some xs) = refl
 
-pub prepend_known-append : (known : Option (List ℕ)) (a b : List ℕ) → prepend_known a (prepend_known b known) ≡ prepend_known (a ++ b) known
-prepend_known-append None a b = refl
-prepend_known-append (Some xs) a b = ap Some (sym (append_assoc a b xs))
+pub Appends-nil : (known : Option (List ℕ)) → Appends known known []
+Appends-nil None = tt
+Appends-nil (Some xs) = sym (append-nil xs)
 
-pub prepend_known-nil : (known : Option (List ℕ)) → prepend_known [] known ≡ known
-prepend_known-nil None = refl
-prepend_known-nil (Some xs) = refl
+pub Appends-trans : (a b c : Option (List ℕ)) (bs cs : List ℕ) → Appends a b bs → Appends b c cs → Appends a c (bs ++ cs)
+Appends-trans None b c bs cs first second = tt
+Appends-trans (Some xs) None c bs cs first second = absurd first
+Appends-trans (Some xs) (Some ys) None bs cs first second = absurd second
+Appends-trans (Some xs) (Some ys) (Some zs) bs cs first second = second ∙ ap (λ (l : List ℕ). l ++ cs) first ∙ append_assoc xs bs cs
 
-pub append_known-nil : (known : Option (List ℕ)) → append_known known [] ≡ known
-append_known-nil None = refl
-append_known-nil (Some xs) = ap Some (append-nil xs)
+pub Consumes-trans : (a b c : Option (List ℕ)) (bs cs : List ℕ) → Consumes a b bs → Consumes b c cs → Consumes a c (bs ++ cs)
+Consumes-trans None b c bs cs first second = tt
+Consumes-trans (Some xs) None c bs cs first second = absurd first
+Consumes-trans (Some xs) (Some ys) None bs cs first second = absurd second
+Consumes-trans (Some xs) (Some ys) (Some zs) bs cs first second = first ∙ ap (λ (l : List ℕ). bs ++ l) second ∙ sym (append_assoc bs cs zs)
+
+-- a last call that took nothing
+pub Appends-kept : (a b c : Option (List ℕ)) (bs : List ℕ) → Appends a b bs → Appends b c [] → Appends a c bs
+Appends-kept a b c bs first second = subst (Appends a c) (append-nil bs) (Appends-trans a b c bs [] first second)
 
 -- of these bytes a front part was taken, and the rest is left
 pub record HasWritten (bytes rest : List ℕ) (first now : Option (List ℕ)) : Type 0 where
   pub front : List ℕ
   pub all : bytes ≡ front ++ rest
-  pub taken : now ≡ append_known first front
+  pub taken : Appends first now front
 
 pub HasWritten-none : (bytes : List ℕ) (first : Option (List ℕ)) → HasWritten bytes bytes first first
-HasWritten-none bytes first = record { front = []; all = refl; taken = sym (append_known-nil first) }
+HasWritten-none bytes first = record { front = []; all = refl; taken = Appends-nil first }
 
 -- a write takes the first n bytes of the rest
 pub HasWritten-more : (bytes rest : List ℕ) (first before now : Option (List ℕ)) (n : ℕ) → HasWritten bytes rest first before → n ≤ length rest
-    → now ≡ append_known before (take n rest) → HasWritten bytes (take (length rest - n) (drop n rest)) first now
+    → Appends before now (take n rest) → HasWritten bytes (take (length rest - n) (drop n rest)) first now
 HasWritten-more bytes rest first before now n written fits is = record {
   front = written.front ++ take n rest;
   all = written.all ∙ ap (λ (l : List ℕ). written.front ++ l) (sym (take-append-drop n rest) ∙ ap (λ (l : List ℕ). take n rest ++ l) (sym (take_rest rest n)))
       ∙ sym (append_assoc written.front (take n rest) (take (length rest - n) (drop n rest)));
-  taken = is ∙ ap (λ (o : Option (List ℕ)). append_known o (take n rest)) written.taken ∙ append_known-append first written.front (take n rest);
+  taken = Appends-trans first before now written.front (take n rest) written.taken is;
 }
 
-pub HasWritten-all : (bytes rest : List ℕ) (first now : Option (List ℕ)) → HasWritten bytes rest first now → length rest ≡ 0 → now ≡ append_known first bytes
+pub HasWritten-all : (bytes rest : List ℕ) (first now : Option (List ℕ)) → HasWritten bytes rest first now → length rest ≡ 0 → Appends first now bytes
 HasWritten-all bytes rest first now written none =
-    written.taken ∙ ap (λ (l : List ℕ). append_known first l) (sym (written.all ∙ ap (λ (l : List ℕ). written.front ++ l) (nil_from_length rest none) ∙ append-nil written.front))
+    subst (Appends first now) (sym (written.all ∙ ap (λ (l : List ℕ). written.front ++ l) (nil_from_length rest none) ∙ append-nil written.front)) written.taken
 
 pub HasWritten-prefix : (bytes rest : List ℕ) (first now : Option (List ℕ)) → HasWritten bytes rest first now
-    → (n : ℕ) × (n ≤ length bytes) × (now ≡ append_known first (take n bytes))
+    → (n : ℕ) × (n ≤ length bytes) × Appends first now (take n bytes)
 HasWritten-prefix bytes rest first now written =
     let front_is : take (length written.front) bytes ≡ written.front = ap (λ (l : List ℕ). take (length written.front) l) written.all ∙ take_at written.front rest (length written.front) refl in
-    (length written.front, omega (arith, ap length written.all, length-append written.front rest), written.taken ∙ ap (λ (l : List ℕ). append_known first l) (sym front_is))
+    (length written.front, omega (arith, ap length written.all, length-append written.front rest), subst (Appends first now) (sym front_is) written.taken)
 
 -- a read of n bytes of memory, which were copied before other bytes
 pub read_part : (bytes copied others : List ℕ) (at n : ℕ) → copied ≡ take ((at + n) - at) (drop at bytes) → at + n ≤ length bytes

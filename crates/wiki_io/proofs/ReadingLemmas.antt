@@ -1,6 +1,6 @@
 -- For whoever reads all lines of a source: what was given since the reader was fresh.
 use Rattle.std.proofs.Common.{◌≡◌, ◌≢◌, ◌≤◌, ℕ, true, false, IsTrue, List, [], ◌∷◌, ◌++◌, length, map, Option, Some, None, refl, sym, ◌∙◌, ap, inl, inr, arith, replicate, subst}
-use Rattle.std.specs.Io.KnownBytes.{prepend_known, IsAtEnd}
+use Rattle.std.specs.Io.KnownBytes.{Consumes, IsAtEnd}
 use Rattle.std.proofs.lemmas.Bool.{false≢true}
 use Rattle.std.proofs.lemmas.List.{append_assoc, append-nil, length-append, length-replicate, same_from_push}
 use Rattle.std.proofs.lemmas.List.Elements.{All-replicate}
@@ -8,13 +8,13 @@ use Rattle.wiki_io.specs.Lines.{after_newline, HasNoNewline, InputLine, text, to
 use Rattle.wiki_io.specs.Reading.{Reading, unread, lines_to_come, CanFollow, ReadsLine, HasNoLine, HasGiven, HasGivenFrom, answered}
 use Rattle.wiki_io.specs.declared.limits.TheConstants.{NEWLINE, MAX_LINE}
 use Rattle.wiki_io.specs.declared.reader.Line.{Line}
-use Rattle.wiki_io.proofs.KnownLemmas.{prepend_known-append, prepend_known-nil}
+use Rattle.wiki_io.proofs.KnownLemmas.{Consumes-trans, Consumes-nil}
 use Rattle.wiki_io.proofs.LineLemmas.{last_part, input_lines-ended, cut_lines-line, after_newline-part, line_of-short, line_of-long}
 use Rattle.wiki_io.proofs.StepLemmas.{bytes_to_come-given, bytes_to_come-skipped, lines_to_come-none}
 
 -- a fresh reader has given nothing
 pub HasGivenFrom-unread : (first : Option (List ℕ)) → HasGivenFrom first [] unread first
-HasGivenFrom-unread first = record { bytes = []; source = sym (prepend_known-nil first); count = refl; lines = λ rest follows. refl }
+HasGivenFrom-unread first = record { bytes = []; source = Consumes-nil first; count = refl; lines = λ rest follows. refl }
 
 -- each call gives the next line
 pub HasGiven-call : (bytes : List ℕ) (given : List InputLine) (old new : Reading) (left after : Option (List ℕ)) (answer : Line) → HasGiven bytes given old
@@ -29,7 +29,7 @@ pub HasGivenFrom-call : (first : Option (List ℕ)) (given : List InputLine) (ol
     → HasGivenFrom first given old left → ReadsLine left old answer new after → HasGivenFrom first (given ++ answered answer new.line) new after
 HasGivenFrom-call first given old new left after answer had call = record {
   bytes = had.bytes ++ call.got;
-  source = had.source ∙ ap (λ (o : Option (List ℕ)). prepend_known had.bytes o) call.source ∙ prepend_known-append after had.bytes call.got;
+  source = Consumes-trans first left after had.bytes call.got had.source call.source;
   count = omega (arith, call.count, had.count, length-append had.bytes call.got);
   lines = HasGiven-call had.bytes given old new left after answer had.lines call;
 }
@@ -40,26 +40,25 @@ HasGiven-end bytes given reader had pending =
     sym (append-nil given) ∙ ap (λ (l : List InputLine). given ++ l) (sym (lines_to_come-none reader pending)) ∙ sym (had [] (λ _. refl)) ∙ ap input_lines (append-nil bytes)
 
 -- of a source that told its bytes
-told_end : (bytes all : List ℕ) (left : Option (List ℕ)) → Some all ≡ prepend_known bytes left → IsAtEnd left → all ≡ bytes
-told_end bytes all None is end = absurd (cc is)
+told_end : (bytes all : List ℕ) (left : Option (List ℕ)) → Consumes (Some all) left bytes → IsAtEnd left → all ≡ bytes
+told_end bytes all None is end = absurd is
 told_end bytes all (Some rest) is end =
-    let same : all ≡ bytes ++ rest = cc is in
-    same ∙ ap (λ (l : List ℕ). bytes ++ l) end ∙ append-nil bytes
+    is ∙ ap (λ (l : List ℕ). bytes ++ l) end ∙ append-nil bytes
 
 pub HasGivenFrom-end : (first : Option (List ℕ)) (given : List InputLine) (reader : Reading) (left : Option (List ℕ)) (all : List ℕ) → HasGivenFrom first given reader left
     → reader.pending ≡ [] → IsAtEnd left → first ≡ Some all → given ≡ input_lines all
 HasGivenFrom-end first given reader left all had pending end told =
-    HasGiven-end had.bytes given reader had.lines pending ∙ ap input_lines (sym (told_end had.bytes all left (sym told ∙ had.source) end))
+    HasGiven-end had.bytes given reader had.lines pending ∙ ap input_lines (sym (told_end had.bytes all left (subst (λ (o : Option (List ℕ)). Consumes o left had.bytes) told had.source) end))
 
 -- whenever, the lines given are the first ones
-told_left : (bytes all : List ℕ) (left : Option (List ℕ)) → Some all ≡ prepend_known bytes left → (rest : List ℕ) × (left ≡ Some rest) × (all ≡ bytes ++ rest)
-told_left bytes all None is = absurd (cc is)
-told_left bytes all (Some rest) is = (rest, refl, cc is)
+told_left : (bytes all : List ℕ) (left : Option (List ℕ)) → Consumes (Some all) left bytes → (rest : List ℕ) × (left ≡ Some rest) × (all ≡ bytes ++ rest)
+told_left bytes all None is = absurd is
+told_left bytes all (Some rest) is = (rest, refl, is)
 
 pub HasGivenFrom-front : (first : Option (List ℕ)) (given : List InputLine) (reader : Reading) (left : Option (List ℕ)) (all : List ℕ) → HasGivenFrom first given reader left
     → (IsTrue reader.ended → IsAtEnd left) → first ≡ Some all → (more : List InputLine) × (input_lines all ≡ given ++ more)
 HasGivenFrom-front first given reader left all had end told =
-    let known = told_left had.bytes all left (sym told ∙ had.source) in
+    let known = told_left had.bytes all left (subst (λ (o : Option (List ℕ)). Consumes o left had.bytes) told had.source) in
     let can : CanFollow reader known.0 = λ ended. subst IsAtEnd known.1 (end ended) in
     (lines_to_come reader known.0, ap input_lines known.2 ∙ had.lines known.0 can)
 

@@ -1,7 +1,7 @@
 -- The steps of a reader: what each leaves of the lines to come.
 use Rattle.std.proofs.Common.{◌≡◌, ℕ, ◌+◌, ◌<◌, ◌≤◌, Bool, true, false, cond, List, [], ◌∷◌, ◌++◌, length, take, drop, Some, refl, sym, ◌∙◌, ap, arith, Option, map}
 use Rattle.std.specs.List.{slice_get}
-use Rattle.std.specs.Io.KnownBytes.{prepend_known}
+use Rattle.std.specs.Io.KnownBytes.{Consumes}
 use Rattle.std.proofs.lemmas.List.{append_assoc, append-nil, length-append}
 use Rattle.std.proofs.lemmas.Bool.{false≢true}
 use Rattle.wiki_io.specs.Lines.{after_newline, HasNoNewline, InputLine, text, too_long, line_of, input_lines, whole_lines}
@@ -10,7 +10,7 @@ use Rattle.wiki_io.specs.declared.limits.TheConstants.{NEWLINE, MAX_LINE}
 use Rattle.wiki_io.specs.declared.reader.Line.{Line}
 use Rattle.wiki_io.specs.declared.reader.Line.TheVariants.{Text, TooLong, End}
 use Rattle.wiki_io.specs.declared.sources.Got.{Got}
-use Rattle.wiki_io.proofs.KnownLemmas.{prepend_known-append, prepend_known-nil}
+use Rattle.wiki_io.proofs.KnownLemmas.{Consumes-trans, Consumes-nil}
 use Rattle.wiki_io.proofs.LineLemmas.{after_newline-part, cut_whole_lines-none}
 use Rattle.wiki_io.proofs.PartLemmas.{input_lines-line, input_lines-too_long, input_lines-last, after_newline-line}
 
@@ -81,13 +81,13 @@ bytes_to_come-append now new more rest skips pending =
 -- In the midst of a call: it began at `first` and `old`, and since then it has read some bytes and given no line.
 pub record HasRead (first : Option (List ℕ)) (old now : Reading) (left : Option (List ℕ)) : Type 0 where
   pub got : List ℕ
-  pub source : first ≡ prepend_known got left
+  pub source : Consumes first left got
   pub count : now.count ≡ old.count + length got
   pub bytes : (rest : List ℕ) → bytes_to_come old (got ++ rest) ≡ bytes_to_come now rest
   pub goes_on : now.ended ≡ false
 
 pub HasRead-none : (left : Option (List ℕ)) (old : Reading) → old.ended ≡ false → HasRead left old old left
-HasRead-none left old goes_on = record { got = []; source = sym (prepend_known-nil left); count = omega arith; bytes = λ rest. refl; goes_on = goes_on }
+HasRead-none left old goes_on = record { got = []; source = Consumes-nil left; count = omega arith; bytes = λ rest. refl; goes_on = goes_on }
 
 pub HasRead-kept : (first : Option (List ℕ)) (old now new : Reading) (left : Option (List ℕ)) → HasRead first old now left
     → KeepsBytes now new → new.count ≡ now.count → new.ended ≡ false → HasRead first old new left
@@ -103,7 +103,7 @@ pub HasRead-more : (first : Option (List ℕ)) (old now new : Reading) (before l
     → Fills before now answer new left → HasRead first old new left
 HasRead-more first old now new before left answer read fills = record {
   got = read.got ++ fills.got;
-  source = read.source ∙ ap (λ (o : Option (List ℕ)). prepend_known read.got o) fills.source ∙ prepend_known-append left read.got fills.got;
+  source = Consumes-trans first before left read.got fills.got read.source fills.source;
   count = omega (arith, fills.count, read.count, length-append read.got fills.got);
   bytes = λ rest. ap (λ (l : List ℕ). bytes_to_come old l) (append_assoc read.got fills.got rest) ∙ read.bytes (fills.got ++ rest)
       ∙ bytes_to_come-append now new fills.got rest fills.skips fills.pending;
@@ -152,7 +152,7 @@ pub ReadsLine-ended : (left : Option (List ℕ)) (old new : Reading) → old.pen
     → ReadsLine left old End new left
 ReadsLine-ended left old new was is same ended count = record {
   got = [];
-  source = sym (prepend_known-nil left);
+  source = Consumes-nil left;
   count = omega (arith, count);
   at_end = λ was. (refl, same ∙ was);
   lines = λ rest follows.

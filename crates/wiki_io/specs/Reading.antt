@@ -1,6 +1,6 @@
 -- A reader in the midst of an input, and what one of its calls does.
 use Rattle.std.specs.Prelude.{◌≡◌, ◌<◌, ◌+◌, ℕ, Bool, false, IsTrue, List, [], ◌∷◌, ◌++◌, length, Option, if◌then◌else◌}
-use Rattle.std.specs.Io.KnownBytes.{prepend_known}
+use Rattle.std.specs.Io.KnownBytes.{Consumes}
 use Rattle.wiki_io.specs.Lines.{InputLine, text, too_long, input_lines, after_newline, HasNoNewline}
 use Rattle.wiki_io.specs.declared.limits.TheConstants.{MAX_LINE}
 use Rattle.wiki_io.specs.declared.reader.Line.{Line}
@@ -48,7 +48,7 @@ answered TooMuch line = []
 -- are the line that it gives and the lines to come after it, whatever follows in the input.
 pub record ReadsLine (left : Option (List ℕ)) (old : Reading) (answer : Line) (new : Reading) (left_after : Option (List ℕ)) : Type 0 where
   pub got : List ℕ
-  pub source : left ≡ prepend_known got left_after
+  pub source : Consumes left left_after got
   pub count : new.count ≡ old.count + length got
   pub at_end : IsTrue old.ended → (got ≡ []) × IsTrue new.ended
   pub lines : (rest : List ℕ) → CanFollow new rest
@@ -71,7 +71,7 @@ GotSome Failed got = got ≡ []
 -- a read puts the bytes that it gave behind those that were there
 pub record Fills (left : Option (List ℕ)) (old : Reading) (answer : Got) (new : Reading) (left_after : Option (List ℕ)) : Type 0 where
   pub got : List ℕ
-  pub source : left ≡ prepend_known got left_after
+  pub source : Consumes left left_after got
   pub count : new.count ≡ old.count + length got
   pub pending : new.pending ≡ old.pending ++ got
   pub skips : new.skips ≡ old.skips
@@ -95,6 +95,6 @@ HasGiven bytes given reader = (rest : List ℕ) → CanFollow reader rest
 -- The same, where the source had `first` left when the reader was fresh, and has `left` left now.
 pub record HasGivenFrom (first : Option (List ℕ)) (given : List InputLine) (reader : Reading) (left : Option (List ℕ)) : Type 0 where
   pub bytes : List ℕ
-  pub source : first ≡ prepend_known bytes left
+  pub source : Consumes first left bytes
   pub count : reader.count ≡ length bytes
   pub lines : HasGiven bytes given reader

@@ -1,5 +1,5 @@
 -- What one `write` to a sink takes.
-use Rattle.std.specs.Prelude.{ℕ, ◌<◌, ◌≤◌, List, [], take, ⊤}
+use Rattle.std.specs.Prelude.{ℕ, Bool, true, false, ◌<◌, ◌≤◌, List, [], take, ⊤}
 use Rattle.wiki_io.specs.declared.sinks.Took.{Took}
 use Rattle.wiki_io.specs.declared.sinks.Took.TheVariants.{Bytes, Failed}
 
@@ -7,6 +7,11 @@ use Rattle.wiki_io.specs.declared.sinks.Took.TheVariants.{Bytes, Failed}
 abbrev pub bytes_taken : Took → List ℕ → List ℕ
 bytes_taken (Bytes n) piece = take n piece
 bytes_taken Failed piece = []
+
+-- the write failed
+abbrev pub is_failure : Took → Bool
+is_failure (Bytes n) = false
+is_failure Failed = true
 
 -- where bytes were taken, there is one at least, and no more than a piece of this length has
 abbrev pub TookFits : Took → ℕ → Type 0

@@ -1,9 +1,9 @@
 // A source and a sink in memory, whose calls fail where that is asked for.
-ghost use Rattle.std.specs.Prelude.{◌≡◌, ◌<◌, ◌≤◌, [], Some, length, min, true, ◌-◌, ◌^◌};
-ghost use Rattle.std.specs.Io.KnownBytes.{prepend_known, append_known, IsAtEnd};
+ghost use Rattle.std.specs.Prelude.{◌≡◌, if◌then◌else◌, ◌<◌, ◌≤◌, [], Some, length, min, true, ◌-◌, ◌^◌};
+ghost use Rattle.std.specs.Io.KnownBytes.{Consumes, Appends, IsAtEnd};
 ghost use Rattle.wiki_io.specs.Faults.{Rose};
 ghost use Rattle.wiki_io.specs.Memory.{is_to_fail, next_got, one_more};
-ghost use Rattle.wiki_io.specs.Sink.{bytes_taken, TookFits, IfTook};
+ghost use Rattle.wiki_io.specs.Sink.{bytes_taken, is_failure, TookFits, IfTook};
 ghost use Rattle.wiki_io.specs.Source.{bytes_got, GotFits};
 
 use crate::sinks::{Sink, Took};
@@ -80,12 +80,14 @@ impl Source for MemorySource {
     fn read(&mut self, buf: &mut [u8]) -> Got
         requires { 0 < length buf.old }
         ensures fits { GotFits result (length buf.old) }
-        ensures bytes { Some self.old.bytes ≡ prepend_known (bytes_got result buf.new) (Some self.new.bytes) }
+        ensures bytes { Consumes (Some self.old.bytes) (Some self.new.bytes) (bytes_got result buf.new) }
         ensures end { result ≡ Got.End → IsAtEnd (Some self.new.bytes) }
         ensures failed { result ≡ Got.Failed → Rose self.old.faults self.new.faults }
         ensures faults { self.old.faults ≤ self.new.faults }
 
+        // It fails exactly where it is to fail, and then alone its count of failures rises.
         ensures answer { result ≡ next_got self.old (length buf.old) }
+        ensures count { self.new.faults ≡ (if is_to_fail self.old then one_more self.old.faults else self.old.faults) }
         ensures calls { self.new.calls ≡ one_more self.old.calls }
         ensures same { (self.new.fails ≡ self.old.fails) × (self.new.largest ≡ self.old.largest) }
     {
@@ -172,13 +174,14 @@ impl Sink for MemorySink {
     fn write(&mut self, bytes: &[u8]) -> Took
         requires { 0 < length bytes.now }
         ensures fits { TookFits result (length bytes.now) }
-        ensures bytes { Some self.new.bytes ≡ append_known (Some self.old.bytes) (bytes_taken result bytes.now) }
+        ensures bytes { Appends (Some self.old.bytes) (Some self.new.bytes) (bytes_taken result bytes.now) }
         ensures failed { result ≡ Took.Failed → Rose self.old.faults self.new.faults }
         ensures faults { self.old.faults ≤ self.new.faults }
 
         // It fails where it is to fail, and for want of memory.
         ensures to_fail { is_to_fail self.old ≡ true → result ≡ Took.Failed }
         ensures size { IfTook result (λ size. size ≡ min (length bytes.now) self.old.largest) }
+        ensures count { self.new.faults ≡ (if is_failure result then one_more self.old.faults else self.old.faults) }
         ensures calls { self.new.calls ≡ one_more self.old.calls }
         ensures same { (self.new.fails ≡ self.old.fails) × (self.new.largest ≡ self.old.largest) }
     {

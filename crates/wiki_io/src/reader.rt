@@ -1,7 +1,7 @@
 // The lines of an input, one call for each.
 ghost use Rattle.std.specs.Prelude.{◌≡◌, ◌≢◌, ◌<◌, ◌≤◌, ◌+◌, ◌-◌, ◌++◌, ◌↔◌, ◌⊎◌, ℕ, [], IfOk, IfSome, IfNone, IsTrue, true, false, length, take, drop, slice_get, slice_range, vec_len, Some};
 ghost use Rattle.std.specs.Bool.{OnTrue, OnFalse};
-ghost use Rattle.std.specs.Io.KnownBytes.{prepend_known, IsAtEnd};
+ghost use Rattle.std.specs.Io.KnownBytes.{Consumes, IsAtEnd};
 ghost use Rattle.wiki_io.specs.Faults.{Rose};
 ghost use Rattle.wiki_io.specs.Lines.{whole_lines, HasNoNewline};
 ghost use Rattle.wiki_io.specs.Reading.{unread, bytes_to_come, ReadsLine, HasNoLine, GivesLine, KeepsBytes, Fills, lines_to_come, answered};
@@ -305,7 +305,7 @@ fn to_front(buffer: &mut Vec<u8>, start: usize, end: usize)
 fn read_behind<S: Source>(source: &mut S, buffer: &mut Vec<u8>, from: usize) -> Got
     requires { from < vec_len buffer.old }
     ensures fits { GotFits result (vec_len buffer.old - from) }
-    ensures bytes { S.left source.old ≡ prepend_known (bytes_got result (drop from buffer.new.items)) (S.left source.new) }
+    ensures bytes { Consumes (S.left source.old) (S.left source.new) (bytes_got result (drop from buffer.new.items)) }
     ensures front { take from buffer.new.items ≡ take from buffer.old.items }
     ensures length { vec_len buffer.new ≡ vec_len buffer.old }
     ensures end { result ≡ Got.End → IsAtEnd (S.left source.new) }

@@ -1,7 +1,7 @@
 // Where bytes go to.
 ghost use Rattle.std.specs.Prelude.{◌≡◌, ◌<◌, ◌≤◌, ℕ, List, Option, length, take};
 ghost use Rattle.std.specs.Bool.{OnTrue, OnFalse};
-ghost use Rattle.std.specs.Io.KnownBytes.{append_known};
+ghost use Rattle.std.specs.Io.KnownBytes.{Appends};
 ghost use Rattle.wiki_io.specs.Faults.{Rose};
 ghost use Rattle.wiki_io.specs.Sink.{bytes_taken, TookFits};
 
@@ -26,7 +26,7 @@ pub trait Sink {
     fn write(&mut self, bytes: &[u8]) -> Took
         requires { 0 < length bytes.now }
         ensures fits { TookFits result (length bytes.now) }
-        ensures bytes { taken self.new ≡ append_known (taken self.old) (bytes_taken result bytes.now) }
+        ensures bytes { Appends (taken self.old) (taken self.new) (bytes_taken result bytes.now) }
         ensures failed { result ≡ Took.Failed → Rose (faults self.old) (faults self.new) }
         ensures faults { faults self.old ≤ faults self.new };
 }
@@ -34,9 +34,9 @@ pub trait Sink {
 /// Writes all bytes, in as many writes as it takes, and tells whether that was done.
 /// Where it answers false, a write failed, and the sink took a front part of the bytes.
 pub fn put<K: Sink>(sink: &mut K, bytes: &[u8]) -> bool
-    ensures all { OnTrue result (K.taken sink.new ≡ append_known (K.taken sink.old) bytes.now) }
+    ensures all { OnTrue result (Appends (K.taken sink.old) (K.taken sink.new) bytes.now) }
     ensures prefix { (n : ℕ) × (n ≤ length bytes.now)
-        × (K.taken sink.new ≡ append_known (K.taken sink.old) (take n bytes.now)) }
+        × Appends (K.taken sink.old) (K.taken sink.new) (take n bytes.now) }
     ensures failed { OnFalse result (Rose (K.faults sink.old) (K.faults sink.new)) }
     ensures faults { K.faults sink.old ≤ K.faults sink.new }
 {

@@ -1,6 +1,6 @@
 // Where bytes come from.
 ghost use Rattle.std.specs.Prelude.{◌≡◌, ◌<◌, ◌≤◌, ℕ, List, Option, length};
-ghost use Rattle.std.specs.Io.KnownBytes.{prepend_known, IsAtEnd};
+ghost use Rattle.std.specs.Io.KnownBytes.{Consumes, IsAtEnd};
 ghost use Rattle.wiki_io.specs.Faults.{Rose};
 ghost use Rattle.wiki_io.specs.Source.{bytes_got, GotFits};
 
@@ -27,7 +27,7 @@ pub trait Source {
     fn read(&mut self, buf: &mut [u8]) -> Got
         requires { 0 < length buf.old }
         ensures fits { GotFits result (length buf.old) }
-        ensures bytes { left self.old ≡ prepend_known (bytes_got result buf.new) (left self.new) }
+        ensures bytes { Consumes (left self.old) (left self.new) (bytes_got result buf.new) }
         ensures end { result ≡ Got.End → IsAtEnd (left self.new) }
         ensures failed { result ≡ Got.Failed → Rose (faults self.old) (faults self.new) }
         ensures faults { faults self.old ≤ faults self.new };

@@ -1,40 +1,30 @@
-// The streams of std as sources and sinks: the edge that is trusted. They tell nothing of what a stream gave or took.
-ghost use Rattle.std.specs.Prelude.{◌≡◌, None};
+// The streams of std as sources and sinks: the edge that is trusted. They tell what std tells of the reader or writer.
+ghost use Rattle.std.specs.Prelude.{◌≡◌};
 
 use crate::sinks::{Sink, Took};
 use crate::sources::{Got, Source};
 use std::io::{Read, Write};
-use std::marker::Model;
 
 /// A reader, such as standard input, as a source. Each error counts.
 #[derive(Drop)]
 pub struct ReadSource<R> {
-    reader: R,
-    faults: u64,
-}
-
-// Seen as the count of its failures.
-impl<R> Model for ReadSource<R> {
-    ghost use Rattle.std.specs.Prelude.{ℕ};
-
-    ghost Value = { ℕ };
-
-    ghost view = { λ s. s.faults };
+    pub reader: R,
+    pub faults: u64,
 }
 
 impl<R: Read> ReadSource<R> {
     /// No read has failed yet.
     pub fn new(reader: R) -> Self
-        ensures { result ≡ 0 }
+        ensures { result ≡ record { reader = reader; faults = 0 } }
     {
         ReadSource { reader, faults: 0 }
     }
 }
 
 impl<R: Read> Source for ReadSource<R> {
-    ghost left = { λ _. None };
+    ghost left = { λ s. R.remaining s.reader };
 
-    ghost faults = { λ count. count };
+    ghost faults = { λ s. s.faults };
 
     fn read(&mut self, buf: &mut [u8]) -> Got {
         match self.reader.read(buf) {
@@ -51,32 +41,23 @@ impl<R: Read> Source for ReadSource<R> {
 /// A writer, such as standard output, as a sink. Each error counts, and each write that takes nothing.
 #[derive(Drop)]
 pub struct WriteSink<W> {
-    writer: W,
-    faults: u64,
-}
-
-// Seen as the count of its failures.
-impl<W> Model for WriteSink<W> {
-    ghost use Rattle.std.specs.Prelude.{ℕ};
-
-    ghost Value = { ℕ };
-
-    ghost view = { λ s. s.faults };
+    pub writer: W,
+    pub faults: u64,
 }
 
 impl<W: Write> WriteSink<W> {
     /// No write has failed yet.
     pub fn new(writer: W) -> Self
-        ensures { result ≡ 0 }
+        ensures { result ≡ record { writer = writer; faults = 0 } }
     {
         WriteSink { writer, faults: 0 }
     }
 }
 
 impl<W: Write> Sink for WriteSink<W> {
-    ghost taken = { λ _. None };
+    ghost taken = { λ s. W.contents s.writer };
 
-    ghost faults = { λ count. count };
+    ghost faults = { λ s. s.faults };
 
     fn write(&mut self, bytes: &[u8]) -> Took {
         match self.writer.write(bytes) {

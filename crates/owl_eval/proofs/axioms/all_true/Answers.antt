@@ -1,7 +1,7 @@
 use Rattle.std.proofs.Common.{sym, ◌∙◌}
 use Rattle.logic_terms.specs.Shown.{claim_of, claims_of}
 use Rattle.logic_terms.specs.Meaning.{holds}
-use Rattle.owl_eval.proofs.Places.{each_more, each_fails}
+use Rattle.logic_terms.proofs.Places.{each_more, each_fails}
 use Rattle.owl_eval.proofs.axioms.all_true.Goals as goal
 
 pub returns-then-not-is_true : goal.returns-then-not-is_true

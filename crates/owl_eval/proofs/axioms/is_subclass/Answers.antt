@@ -1,7 +1,7 @@
 use Rattle.std.proofs.Common.{◌≡◌, ◌<◌, Bool, true, false, sym, ap, ◌∙◌, arith}
 use Rattle.logic_terms.specs.Shown.{concept_of}
 use Rattle.logic_terms.specs.Meaning.{implies, is_in}
-use Rattle.owl_eval.proofs.Places.{each_below_fails}
+use Rattle.logic_terms.proofs.Places.{each_below_fails}
 use Rattle.owl_eval.proofs.axioms.is_subclass.Goals as goal
 
 no_implication : (a b : Bool) → a ≡ true → b ≡ false → implies a b ≡ false

@@ -1,7 +1,7 @@
 use Rattle.std.proofs.Common.{◌≡◌, ◌<◌, sym, ◌∙◌, arith}
 use Rattle.logic_terms.specs.Interpretation.{relates}
 use Rattle.logic_terms.specs.Meaning.{implies, each_below}
-use Rattle.owl_eval.proofs.Places.{each_below_more, each_below_fails}
+use Rattle.logic_terms.proofs.Places.{each_below_more, each_below_fails}
 use Rattle.owl_eval.proofs.axioms.is_subrole.Goals as goal
 use Rattle.owl_eval.proofs.axioms.is_subrole.Goals.{After-each_end_relates}
 

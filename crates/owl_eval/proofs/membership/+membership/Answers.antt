@@ -1,7 +1,7 @@
 use Rattle.std.proofs.Common.{sym, ◌∙◌}
 use Rattle.logic_terms.specs.Shown.{concept_of, concepts_of}
 use Rattle.logic_terms.specs.Meaning.{is_in}
-use Rattle.owl_eval.proofs.Places.{each_more, each_fails, some_more, some_passes}
+use Rattle.logic_terms.proofs.Places.{each_more, each_fails, some_more, some_passes}
 use Rattle.owl_eval.proofs.Members.{in_and, in_or, in_some, in_all, in_value}
 use Rattle.owl_eval.proofs.membership.+membership.Goals as goal
 

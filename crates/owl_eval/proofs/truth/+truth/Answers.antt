@@ -4,7 +4,7 @@ use Rattle.logic_terms.specs.Truth.{giving, some_extension, each_extension, cond
 use Rattle.logic_terms.proofs.ShownLemmas.{condition_of-Implies}
 use Rattle.owl_eval.specs.Assigned.{assigned, each_condition, carries_over}
 use Rattle.owl_eval.proofs.Assignments.{after_push, of_structure, of_implication, popped}
-use Rattle.owl_eval.proofs.Places.{each_more, each_fails, each_below_more, each_below_fails, some_below_more, some_below_passes}
+use Rattle.logic_terms.proofs.Places.{each_more, each_fails, each_below_more, each_below_fails, some_below_more, some_below_passes}
 use Rattle.owl_eval.proofs.truth.+truth.Goals as goal
 use Rattle.owl_eval.proofs.truth.+truth.Goals.{some_extension_true-After-pop, each_extension_true-After-pop}
 

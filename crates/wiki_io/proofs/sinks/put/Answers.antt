@@ -1,5 +1,5 @@
 use Rattle.std.proofs.Common.{arith, ◌∙◌}
-use Rattle.wiki_io.proofs.KnownLemmas.{append_known-nil, HasWritten-none, HasWritten-more, HasWritten-prefix}
+use Rattle.wiki_io.proofs.KnownLemmas.{Appends-kept, HasWritten-none, HasWritten-more, HasWritten-prefix}
 use Rattle.wiki_io.proofs.sinks.put.Goals as goal
 
 pub loop-rest-init : goal.loop-rest-init
@@ -14,4 +14,4 @@ loop-rest-preserved g c = record {
 pub returns-in-Failed-clause-prefix : goal.returns-in-Failed-clause-prefix
 returns-in-Failed-clause-prefix g c =
     let taken = HasWritten-prefix _ _ _ _ c.loop-rest.invariant.written in
-    (taken.0, taken.1, c.in-Failed.ensures.bytes ∙ append_known-nil _ ∙ taken.2)
+    (taken.0, taken.1, Appends-kept _ _ _ _ taken.2 c.in-Failed.ensures.bytes)

@@ -11,4 +11,4 @@ returns-clause-bytes c =
     let size = c.self.inside.bytes.ok.0 in
     let copied : c.copy_from_slice.new.self ≡ take ((at + n) - at) (drop at bytes) = c.copy_from_slice.ensures.after ∙ ap (λ l. take ((at + n) - at) (drop at l)) c.deref-2.ensures.value in
     let fits : at + n ≤ length bytes = omega (arith, size) in
-    ap (λ (held : Held). Some held.bytes) (sym c.self.view_is) ∙ ap Some (read_part bytes _ _ at n copied fits)
+    ap (λ (held : Held). held.bytes) (sym c.self.view_is) ∙ (read_part bytes _ _ at n copied fits)

@@ -1,0 +1,5 @@
+pub mod Mapping
+pub mod Outcomes
+pub mod Parts
+pub mod Rolling
+pub mod Terms

@@ -1,0 +1,11 @@
+pub mod Trees
+pub mod Settings
+pub mod Instances
+pub mod Derives
+pub mod Stands
+pub mod Sentences
+pub mod Cutting
+pub mod Partial
+pub mod Menus
+pub mod Codes
+pub mod Skeletons

@@ -1,7 +1,0 @@
-use Rattle.std.proofs.Common.{◌≡◌, ◌++◌, take, drop}
-use Rattle.derivations.specs.Instances.{put}
-use Rattle.derivations.proofs.features.place_for.Given as goal
-
-abbrev pub invariant-loop-place : goal.invariant-loop-place
-invariant-loop-place l =
-    take l.place l.numbers ++ put l.number (drop l.place l.numbers) ≡ put l.number l.numbers

@@ -1,9 +1,0 @@
-use Rattle.std.proofs.Common.{◌≡◌, drop, map, []}
-use Rattle.std.specs.List.{flat_map}
-use Rattle.codeco_checked.specs.Occurrences.{mentions, rule_mentions, whole}
-use Rattle.derivations.specs.Instances.{put_all, features_in}
-use Rattle.derivations.proofs.features.put_taken.Given as goal
-
-abbrev pub invariant-loop-feature : goal.invariant-loop-feature
-invariant-loop-feature l =
-    put_all l.features.items (map (λ t. t.0) (drop l.feature-index l.taken)) ≡ put_all l.initial.features.items (map (λ t. t.0) l.taken)

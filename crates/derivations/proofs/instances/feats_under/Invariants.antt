@@ -1,7 +1,0 @@
-use Rattle.std.proofs.Common.{◌≡◌, take}
-use Rattle.derivations.specs.Instances.{feats_under}
-use Rattle.derivations.proofs.instances.feats_under.Given as goal
-
-abbrev pub invariant-loop-feature : goal.invariant-loop-feature
-invariant-loop-feature l =
-    l.found ≡ feats_under l.values (take l.feature-index l.feats)

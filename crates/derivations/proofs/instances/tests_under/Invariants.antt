@@ -1,7 +1,0 @@
-use Rattle.std.proofs.Common.{◌≡◌, take}
-use Rattle.derivations.specs.Instances.{tests_under}
-use Rattle.derivations.proofs.instances.tests_under.Given as goal
-
-abbrev pub invariant-loop-pattern : goal.invariant-loop-pattern
-invariant-loop-pattern l =
-    l.tests ≡ tests_under l.values (take l.pattern-index l.patterns)

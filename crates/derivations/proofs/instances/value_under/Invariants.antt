@@ -1,7 +1,0 @@
-use Rattle.std.proofs.Common.{◌≡◌, drop}
-use Rattle.derivations.specs.Instances.{looked_up}
-use Rattle.derivations.proofs.instances.value_under.Given as goal
-
-abbrev pub invariant-loop-other : goal.invariant-loop-other
-invariant-loop-other l =
-    looked_up (drop l.other-index l.values) l.variable ≡ looked_up l.values l.variable

@@ -1,7 +1,0 @@
-use Rattle.std.proofs.Common.{◌≡◌, drop}
-use Rattle.derivations.specs.Instances.{looked_up}
-use Rattle.derivations.proofs.stand.written.Given as goal
-
-abbrev pub invariant-loop-other : goal.invariant-loop-other
-invariant-loop-other l =
-    looked_up (drop l.other-index l.feats) l.feature ≡ looked_up l.feats l.feature

@@ -1,0 +1,104 @@
+// The wiki and its step.
+ghost use Rattle.std.specs.Prelude.{◌≡◌, IsTrue, IfOk, OnErr, option_copied};
+
+use crate::faults::Fault;
+use crate::told::{told_word, told_words};
+use crate::words::add_word;
+use codeco_checked::CheckedGrammar;
+use lexicon::{Forms, Kind, Lexicon};
+use std::alloc::Global;
+use std::marker::Model;
+use wiki_base::Memory;
+use wiki_talk::{Refusal, Reply, Request, Text8};
+
+/// A wiki. It is seen as its state: the grammar, the budget of a search, and the live words.
+#[derive(Drop)]
+pub struct Wiki {
+    alloc: Global,
+    grammar: CheckedGrammar,
+    budget: u64,
+    lexicon: Lexicon,
+}
+
+impl Model for Wiki {
+    ghost use Rattle.wiki_core.specs.State.{State, IsSound};
+
+    ghost Value = { State };
+
+    ghost view = { λ w. record { grammar = w.grammar; budget = w.budget; words = w.lexicon } };
+
+    ghost invariant = { λ w. IsSound (record { grammar = w.grammar; budget = w.budget; words = w.lexicon }) };
+}
+
+impl Wiki {
+    ghost use Rattle.codeco_checked.specs.Sound.{is_labelled};
+    ghost use Rattle.wiki_core.specs.State.{first_state};
+    ghost use Rattle.wiki_core.specs.Step.{Step};
+    ghost use Rattle.wiki_core.specs.Words.{word_with};
+
+    /// A wiki without words, over a grammar in which each rule has a label. A search may take `budget` steps.
+    pub fn new(alloc: Global, grammar: CheckedGrammar, budget: u64) -> Result<Wiki, Memory>
+        requires { IsTrue (is_labelled grammar) }
+        ensures { IfOk result (λ wiki. wiki ≡ first_state grammar budget) }
+    {
+        let lexicon = Lexicon::new(alloc, grammar.grammar())?;
+        Ok(Wiki {
+            alloc,
+            grammar,
+            budget,
+            lexicon,
+        })
+    }
+
+    /// Does one request, or refuses it, which changes nothing.
+    pub fn step(&mut self, request: &Request) -> Result<Reply, Memory>
+        ensures step { IfOk result (λ reply. Step self.old request.now reply self.new) }
+        ensures memory { OnErr result (self.new ≡ self.old) }
+    {
+        match request {
+            Request::Word { kind, forms } => self.add(*kind, forms.as_slice()),
+            Request::Find { word } => self.find(word),
+            Request::Words => self.words(),
+        }
+    }
+
+    // Adds a word.
+    fn add(&mut self, kind: Kind, forms: &[Text8]) -> Result<Reply, Memory>
+        ensures step { IfOk result (λ reply. Step self.old (Request.Word kind forms.now) reply self.new) }
+        ensures memory { OnErr result (self.new ≡ self.old) }
+    {
+        match add_word(self.alloc, &mut self.lexicon, kind, forms) {
+            Ok(()) => Ok(Reply::Word),
+            Err(Fault::Refused(refusal)) => Ok(Reply::Refused(refusal)),
+            Err(Fault::Memory) => Err(Memory),
+        }
+    }
+
+    // Tells the word that has this form.
+    fn find(&self, word: &Text8) -> Result<Reply, Memory>
+        ensures { IfOk result (λ reply. Step self.now (Request.Find word.now) reply self.now) }
+    {
+        match self.found(word.as_str()) {
+            Some(forms) => Ok(Reply::Find {
+                word: told_word(self.alloc, forms)?,
+            }),
+            None => Ok(Reply::Refused(Refusal::NoWord { text: word.copy()? })),
+        }
+    }
+
+    // The forms of the word that has this one.
+    fn found(&self, form: &str) -> Option<&Forms>
+        ensures { option_copied result ≡ word_with self.now.words form.now }
+    {
+        self.lexicon.find(form).and_then(|id| self.lexicon.word(id))
+    }
+
+    // Tells all words.
+    fn words(&self) -> Result<Reply, Memory>
+        ensures { IfOk result (λ reply. Step self.now Request.Words reply self.now) }
+    {
+        Ok(Reply::Words {
+            words: told_words(self.alloc, &self.lexicon)?,
+        })
+    }
+}

@@ -1,0 +1,25 @@
+-- What stands in many lines, as JSON.
+use Rattle.std.specs.Prelude.{ℕ, List, [], ◌∷◌, ◌++◌, codes, map}
+use Rattle.serde_json.specs.Data.{Data, string, array, object, Items, no_members, member}
+use Rattle.serde_json.specs.View.{items_of}
+use Rattle.serde_json.specs.Written.{compact_text}
+use Rattle.wiki_talk.specs.declared.replies.WordView.{WordView}
+use Rattle.wiki_talk.specs.Kinds.{kind_name}
+
+-- the value as JSON with no space, and a newline
+unfoldable pub line_text : Data → List ℕ
+line_text value = compact_text value ++ 10 ∷ []
+
+-- a list of texts
+abbrev pub texts_items : List (List ℕ) → Items
+texts_items texts = items_of (map string texts)
+
+-- a word, with the members in the order of their keys, as everywhere
+abbrev pub word_value : WordView → Data
+word_value word = object
+    (member (codes "forms") (array (texts_items word.forms))
+    (member (codes "kind") (string (kind_name word.kind)) no_members))
+
+-- a list of words
+abbrev pub words_items : List WordView → Items
+words_items words = items_of (map word_value words)

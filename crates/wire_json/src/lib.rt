@@ -1,0 +1,13 @@
+//! Requests and replies as lines of JSON.
+#![tactic(auto)]
+
+mod line;
+mod read;
+mod refusals;
+#[cfg(test)]
+mod tests;
+mod values;
+mod write;
+
+pub use read::{TOO_LONG, read_request};
+pub use write::{bad_request_line, reply_line, request_line};

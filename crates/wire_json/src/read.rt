@@ -1,0 +1,109 @@
+// The request of a line.
+ghost use Rattle.std.specs.Prelude.{◌≡◌, IfOk, option_map};
+ghost use Rattle.serde_json.specs.View.{view, items_view};
+ghost use Rattle.wire_json.specs.Requests.{text_at, texts_at, texts_in, word_in, find_in, words_in, request_named, request_in, request_of};
+
+use serde_json::Value;
+use std::alloc::Global;
+use wiki_base::Memory;
+use wiki_talk::{Request, Text8, Text8s, kind_named};
+
+/// A line of so many bytes and more, its newline not counted, is too long to be a request.
+pub const TOO_LONG: usize = 65_536;
+
+/// The request of a line without its newline. `None` exactly where the line is too long or is no request.
+#[tactic(auto, unfolding(crate::specs::Requests::request_of))]
+pub fn read_request(alloc: Global, line: &[u8]) -> Result<Option<Request>, Memory>
+    ensures { IfOk result (λ request. request ≡ request_of line.now) }
+{
+    if line.len() >= TOO_LONG {
+        return Ok(None);
+    }
+    match Value::from_slice(alloc, line) {
+        Ok(value) => request_from(alloc, &value),
+        Err(error) if error.is_memory() => Err(Memory),
+        Err(_) => Ok(None),
+    }
+}
+
+fn request_from(alloc: Global, value: &Value) -> Result<Option<Request>, Memory>
+    ensures { IfOk result (λ request. request ≡ request_in (view value.now)) }
+{
+    match text_of(value, "do") {
+        Some(name) => request_named(alloc, value, name),
+        None => Ok(None),
+    }
+}
+
+#[tactic(auto, unfolding(crate::specs::Requests::request_named))]
+fn request_named(alloc: Global, value: &Value, name: &str) -> Result<Option<Request>, Memory>
+    ensures { IfOk result (λ request. request ≡ request_named (view value.now) name.now) }
+{
+    match name {
+        "word" => word_from(alloc, value),
+        "find" => find_from(alloc, value),
+        "words" => Ok(Some(Request::Words)),
+        _ => Ok(None),
+    }
+}
+
+#[tactic(auto, unfolding(crate::specs::Requests::word_in))]
+fn word_from(alloc: Global, value: &Value) -> Result<Option<Request>, Memory>
+    ensures { IfOk result (λ request. request ≡ word_in (view value.now)) }
+{
+    let Some(name) = text_of(value, "kind") else {
+        return Ok(None);
+    };
+    let Some(kind) = kind_named(name) else {
+        return Ok(None);
+    };
+    match texts_of(alloc, value, "forms")? {
+        Some(forms) => Ok(Some(Request::Word {
+            kind,
+            forms: Text8s::from_vec(forms),
+        })),
+        None => Ok(None),
+    }
+}
+
+#[tactic(auto, unfolding(crate::specs::Requests::find_in))]
+fn find_from(alloc: Global, value: &Value) -> Result<Option<Request>, Memory>
+    ensures { IfOk result (λ request. request ≡ find_in (view value.now)) }
+{
+    match text_of(value, "word") {
+        Some(word) => Ok(Some(Request::Find {
+            word: Text8::from_str(alloc, word)?,
+        })),
+        None => Ok(None),
+    }
+}
+
+// The text at a key, if there is one.
+fn text_of<'a>(value: &'a Value, key: &str) -> Option<&'a str>
+    ensures { option_map (λ text. text.now) result ≡ text_at key.now (view value.now) }
+{
+    value.get(key).and_then(Value::as_str)
+}
+
+// The texts of the list at a key, if it is a list of texts.
+fn texts_of(alloc: Global, value: &Value, key: &str) -> Result<Option<Vec<Text8>>, Memory>
+    ensures { IfOk result (λ texts. option_map (λ v. v.items) texts ≡ texts_at key.now (view value.now)) }
+{
+    let Some(items) = value.get(key).and_then(Value::as_array) else {
+        return Ok(None);
+    };
+    texts_from(alloc, items)
+}
+
+fn texts_from(alloc: Global, items: &[Value]) -> Result<Option<Vec<Text8>>, Memory>
+    ensures { IfOk result (λ texts. option_map (λ v. v.items) texts ≡ texts_in (items_view items.now)) }
+{
+    let mut texts = Vec::new(alloc);
+    for item in items {
+        let Some(text) = item.as_str() else {
+            return Ok(None);
+        };
+        texts.push(Text8::from_str(alloc, text)?)?;
+    }
+    Ok(Some(texts))
+}

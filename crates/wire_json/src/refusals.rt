@@ -1,0 +1,51 @@
+// The values of refusals: the name and the number by which each is told, and what it carries.
+ghost use Rattle.std.specs.Prelude.{◌≡◌, IfOk, codes};
+ghost use Rattle.serde_json.specs.View.{view};
+ghost use Rattle.serde_json.specs.Data.{string, number, unsigned, object, member, no_members};
+ghost use Rattle.wire_json.specs.Replies.{told, refusal_value};
+ghost use Rattle.wiki_talk.specs.Limits.{name_of};
+
+use serde_json::{Value, json};
+use std::alloc::Global;
+use wiki_base::Memory;
+use wiki_talk::{Limit, Refusal, Text8, Title};
+
+pub(crate) fn refusal_value(alloc: Global, refusal: &Refusal) -> Result<Value, Memory>
+    ensures { IfOk result (λ value. view value ≡ refusal_value refusal.now) }
+{
+    let title = refusal.title();
+    match refusal {
+        Refusal::NoWord { text } | Refusal::Reserved { text } => text_value(alloc, title, text),
+        Refusal::BadForm { which } => which_value(alloc, title, *which),
+        Refusal::Taken { text, word } => taken_value(alloc, title, text, word),
+        Refusal::Full { which, limit } => full_value(alloc, title, *which, *limit),
+    }
+}
+
+fn text_value(alloc: Global, title: Title, text: &Text8) -> Result<Value, Memory>
+    ensures { IfOk result (λ value. view value ≡ object (told title.number title.name.now (member (codes "text") (string text.now) no_members))) }
+{
+    let text = text.as_str();
+    Ok(json!(in alloc; {"name": title.name, "refused": title.number, "text": text})?)
+}
+
+fn which_value(alloc: Global, title: Title, which: u32) -> Result<Value, Memory>
+    ensures { IfOk result (λ value. view value ≡ object (told title.number title.name.now (member (codes "which") (number (unsigned which)) no_members))) }
+{
+    Ok(json!(in alloc; {"name": title.name, "refused": title.number, "which": which})?)
+}
+
+fn taken_value(alloc: Global, title: Title, text: &Text8, word: &Text8) -> Result<Value, Memory>
+    ensures { IfOk result (λ value. view value ≡ object (told title.number title.name.now (member (codes "text") (string text.now) (member (codes "word") (string word.now) no_members)))) }
+{
+    let text = text.as_str();
+    let word = word.as_str();
+    Ok(json!(in alloc; {"name": title.name, "refused": title.number, "text": text, "word": word})?)
+}
+
+fn full_value(alloc: Global, title: Title, which: Limit, limit: u32) -> Result<Value, Memory>
+    ensures { IfOk result (λ value. view value ≡ object (member (codes "limit") (number (unsigned limit)) (told title.number title.name.now (member (codes "which") (string (name_of which)) no_members)))) }
+{
+    let which = which.name();
+    Ok(json!(in alloc; {"limit": limit, "name": title.name, "refused": title.number, "which": which})?)
+}

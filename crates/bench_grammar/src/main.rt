@@ -8,7 +8,7 @@ use std::alloc::Global;
 use std::str::Utf8Error;
 use std::time::CpuClock;
 use std::{env, io, str};
-use wiki_base::{Memory, Text8};
+use wiki_base::{Bytes, Memory};
 
 #[derive(Debug, Drop)]
 enum Fault {
@@ -43,14 +43,14 @@ impl From<Utf8Error> for Fault {
 }
 
 // Whether the printed text makes a grammar that is printed in the same way.
-fn is_read_back(alloc: Global, printed: &Text8) -> Result<bool, Fault> {
-    let again = read_grammar(alloc, str::from_utf8(printed.as_bytes())?)?;
-    Ok(print_grammar(alloc, &again)?.as_bytes() == printed.as_bytes())
+fn is_read_back(alloc: Global, printed: &Bytes) -> Result<bool, Fault> {
+    let again = read_grammar(alloc, str::from_utf8(printed.as_slice())?)?;
+    Ok(print_grammar(alloc, &again)?.as_slice() == printed.as_slice())
 }
 
-fn is_built_in(alloc: Global, printed: &Text8) -> Result<bool, Fault> {
+fn is_built_in(alloc: Global, printed: &Bytes) -> Result<bool, Fault> {
     let built_in = built_in(alloc)?;
-    Ok(print_grammar(alloc, &built_in)?.as_bytes() == printed.as_bytes())
+    Ok(print_grammar(alloc, &built_in)?.as_slice() == printed.as_slice())
 }
 
 fn report(rt: &HostRuntime, grammar: &CheckedGrammar) -> Result<(), Fault> {

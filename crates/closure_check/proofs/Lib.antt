@@ -1,0 +1,7 @@
+pub mod Basics
+pub mod ClashFits
+pub mod Fitting
+pub mod Soundness
+pub mod StartFits
+pub mod StepFits
+pub mod TreeLaws

@@ -1,0 +1,8 @@
+//! Closed trees: a tree that is accepted shows that its knowledge has no finite model.
+#![tactic(auto)]
+
+mod accepting;
+#[cfg(test)]
+mod tests;
+
+pub use accepting::accepts;

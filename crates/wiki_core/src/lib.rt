@@ -2,6 +2,8 @@
 #![tactic(auto)]
 
 mod faults;
+mod parsing;
+mod stand_in;
 #[cfg(test)]
 mod tests;
 mod told;

@@ -30,6 +30,7 @@ pub fn words<C: CommandLine>(alloc: Global, line: &C) -> Result<Vec<Arg>, Memory
 }
 
 /// The command line of the process: the edge that is trusted. It tells nothing.
+#[derive(Drop)]
 pub struct ProcessLine<'a, R> {
     env: &'a R,
 }

@@ -15,6 +15,6 @@ pub use causes::cause_name;
 pub use kinds::{kind_name, kind_named};
 pub use limits::Limit;
 pub use refusals::{BAD_REQUEST, Refusal, Title};
-pub use replies::{Reply, WordView, WordViews};
+pub use replies::{MenuView, Numbers, Reply, WordView, WordViews};
 pub use requests::Request;
 pub use statuses::Status;

@@ -2,12 +2,11 @@
 use Rattle.std.proofs.Common.{◌≡◌, ℕ, ◌==◌, ◌&&◌, ◌||◌, Bool, true, false, List, [], ◌∷◌, ◌++◌, refl, sym, ap, ◌∙◌}
 use Rattle.std.specs.Prelude.{if◌then◌else◌}
 use Rattle.std.specs.List.{list_any}
-use Rattle.std.proofs.lemmas.Bool.{eq-eqb, ne_eqb, or_right, cases_Bool}
-use Rattle.std.proofs.lemmas.Bool.Decides.{Decides-eqb}
+use Rattle.std.proofs.lemmas.Bool.{eq-eqb, ne_eqb}
 use Rattle.std.proofs.lemmas.List.Folds.{list_any-append}
-use Rattle.ace_to_owl.specs.Moves.{moved, moved_by, gathered}
+use Rattle.ace_to_owl.specs.Moves.{moved, gathered}
 use Rattle.ace_to_owl.specs.Mapping.{joined}
-use Rattle.ace_to_owl.proofs.Labels.{eqb-sym, moved_by-append, false_or, and_false, and_true, from_eqb, clash}
+use Rattle.ace_to_owl.proofs.Labels.{eqb-sym, false_or, from_eqb, clash}
 
 -- a label after the first members of a group were gathered, and after one more
 abbrev pub gathered_to : (ℕ → ℕ) → ℕ → List ℕ → ℕ → ℕ

@@ -1,9 +1,8 @@
 -- Rolling up, by the lists of a structure.
-use Rattle.std.proofs.Common.{◌≡◌, ℕ, ◌+◌, List, [], ◌∷◌, ◌++◌, Option, Result, Ok, Err, map, drop, Some, slice_get, refl, sym, ap, ◌∙◌, append_assoc, subst}
+use Rattle.std.proofs.Common.{◌≡◌, ℕ, List, [], ◌∷◌, ◌++◌, Option, Result, Ok, Err, map, refl, sym, ap, ◌∙◌, append_assoc}
 use Rattle.logic_terms.specs.declared.structures.Thing.{Thing}
 use Rattle.logic_terms.specs.declared.cause.Cause.{Cause}
-use Rattle.logic_terms.specs.Concept.{Concept}
-use Rattle.logic_terms.specs.Structure.{Condition, Conditions, Structure, structure, conditions_from, referents_in, conditions_in}
+use Rattle.logic_terms.specs.Structure.{Condition, Structure, conditions_from, referents_in, conditions_in}
 use Rattle.ace_to_owl.specs.declared.fault.Fault.{Fault}
 use Rattle.ace_to_owl.specs.declared.fault.Fault.TheVariants.{Outside, Memory}
 use Rattle.ace_to_owl.specs.Answers.{Agrees}

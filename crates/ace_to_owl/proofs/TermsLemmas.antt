@@ -1,9 +1,7 @@
 -- The terms of a structure, by its lists.
-use Rattle.std.proofs.Common.{◌≡◌, ℕ, List, [], ◌∷◌, ◌++◌, refl, sym, ap, ◌∙◌, append_assoc}
-use Rattle.logic_terms.specs.declared.structures.Drs.{Drs}
-use Rattle.logic_terms.specs.declared.structures.Thing.{Thing}
+use Rattle.std.proofs.Common.{◌≡◌, ℕ, List, ◌++◌, refl, sym, ap, ◌∙◌}
 use Rattle.logic_terms.specs.Structure.{Condition, Conditions, Structure, no_condition, also_condition, structure, conditions_from, condition_list, referents_in, conditions_in}
-use Rattle.ace_to_owl.specs.Terms.{terms_in, terms_in_all, terms_in_condition}
+use Rattle.ace_to_owl.specs.Terms.{terms_in, terms_in_all}
 
 pub conditions_from-condition_list : (cs : Conditions) → conditions_from (condition_list cs) ≡ cs
 conditions_from-condition_list no_condition = refl

@@ -6,3 +6,4 @@ pub mod Outcomes
 pub mod Parts
 pub mod Rolling
 pub mod Terms
+pub mod Truths

@@ -3,13 +3,11 @@
 use Rattle.std.specs.Prelude.{ℕ, ◌==◌, ◌++◌, map, length, ◌&&◌, ◌||◌, Bool, false, not, List, [], ◌∷◌, Option, Some, None, Result, Ok, Err, if◌then◌else◌}
 use Rattle.std.specs.List.{list_any, list_all, filter, cons_option}
 use Rattle.wiki_base.specs.declared.numbers.WordId.{WordId}
-use Rattle.logic_terms.specs.declared.structures.Thing.{Thing}
 use Rattle.logic_terms.specs.declared.structures.Thing.TheVariants.{Ref, Name}
-use Rattle.logic_terms.specs.declared.expressions.Role.{Role}
 use Rattle.logic_terms.specs.declared.cause.Cause.{Cause}
 use Rattle.logic_terms.specs.declared.cause.Cause.TheVariants.{Shared, NoRoot}
 use Rattle.logic_terms.specs.Concept.{Concept, Everything, Atomic, Claim, SubClassOf, SubPropertyOf, ClassAssertion, PropertyAssertion, NegativePropertyAssertion, SameIndividual, DifferentIndividuals}
-use Rattle.logic_terms.specs.Structure.{Condition, Conditions, Structure, IsA, AreRelated, AreSame, Negation, Implication, Disjunction, no_condition, also_condition, structure, conditions_from, condition_list, referents_in}
+use Rattle.logic_terms.specs.Structure.{Condition, Structure, IsA, AreRelated, AreSame, Negation, Implication, no_condition, also_condition, structure, conditions_from, condition_list, referents_in}
 use Rattle.ace_to_owl.specs.Outcomes.{next}
 use Rattle.ace_to_owl.specs.Terms.{terms_in, terms_in_all, terms_in_condition, first_name, referents_among}
 use Rattle.ace_to_owl.specs.Parts.{straight, inverse}

@@ -1,6 +1,6 @@
 -- Labels that move one after another, for the private calls that compare them.
 use Rattle.std.specs.List.{list_any}
-use Rattle.std.specs.Prelude.{ℕ, ◌==◌, Bool, List, [], ◌∷◌, if◌then◌else◌}
+use Rattle.std.specs.Prelude.{ℕ, ◌==◌, List, [], ◌∷◌, if◌then◌else◌}
 
 -- a label that moves where it is the first
 abbrev pub moved : ℕ → ℕ → ℕ → ℕ

@@ -6,7 +6,7 @@ use Rattle.wiki_base.specs.declared.numbers.WordId.{WordId}
 use Rattle.logic_terms.specs.declared.expressions.Role.{Role}
 use Rattle.logic_terms.specs.declared.cause.Cause.{Cause}
 use Rattle.logic_terms.specs.declared.cause.Cause.TheVariants.{Cycle, NoRoot}
-use Rattle.logic_terms.specs.Concept.{Concept, Concepts, Everything, IntersectionOf, SomeValuesFrom, concepts_from}
+use Rattle.logic_terms.specs.Concept.{Concept, Everything, IntersectionOf, SomeValuesFrom, concepts_from}
 
 -- one condition gives a class to a member, or an edge from one member to another
 pub data Part : Type 0 where

@@ -1,7 +1,7 @@
 -- Rolling up: the class of those elements for which a structure is true with the element for its root.
 -- In the manner of Horrocks and Tessaris, A Conjunctive Query Language for Description Logic ABoxes, 2000.
 use Rattle.std.specs.Prelude.{ℕ, ◌==◌, ◌+◌, ◌++◌, ◌||◌, Bool, false, List, [], ◌∷◌, Option, Some, None, Result, Ok, Err, if◌then◌else◌}
-use Rattle.std.specs.List.{list_any, list_all}
+use Rattle.std.specs.List.{list_all}
 use Rattle.std.specs.Option.{is_none}
 use Rattle.wiki_base.specs.declared.numbers.WordId.{WordId}
 use Rattle.logic_terms.specs.declared.structures.Thing.{Thing}

@@ -10,7 +10,7 @@ ghost use Rattle.ace_to_owl.specs.Rolling.{roll};
 ghost use Rattle.ace_to_owl.specs.Mapping.{class_asked, subclass_claim, member_claim, only_condition, only_fact, denied, denied_claim, is_pair, pair_claim, role_claim, subrole_claim, plain_claim, alone, other_claim, leading_claim, nameless_claim, named_claim, used_claim, compound_claim, claim_alone};
 
 use crate::fault::Fault;
-use crate::rolling::{part_of, roll, rolled};
+use crate::rolling::{class_at_root, part_of, rolled};
 use crate::terms::{condition_terms, first_name, referents_among, structure_terms};
 use crate::tree::class_of_tree;
 use lists::List;
@@ -257,7 +257,7 @@ fn subclass_claim(alloc: Global, referent: u16, left: &Drs, right: &Drs) -> Resu
     ensures { Agrees claim_of result (subclass_claim referent (structure_of left.now) (structure_of right.now)) }
 {
     let below = class_asked(alloc, left, referent)?;
-    let above = roll(alloc, Some(Thing::Ref(referent)), right)?;
+    let above = class_at_root(alloc, Some(Thing::Ref(referent)), right)?;
     Ok(Axiom::SubClass(below, above))
 }
 

@@ -8,6 +8,7 @@ ghost use Rattle.ace_to_owl.specs.Answers.{part_shown, Agrees};
 ghost use Rattle.ace_to_owl.specs.Outcomes.{next};
 ghost use Rattle.ace_to_owl.specs.Parts.{class_of_tree};
 ghost use Rattle.ace_to_owl.specs.Terms.{is_open, same_thing};
+ghost use Rattle.ace_to_owl.specs.Truths.{RollsTruly};
 ghost use Rattle.ace_to_owl.specs.Rolling.{held_at, holder, negation_part, roll, roll_with, parts, part_of};
 
 use crate::fault::Fault;
@@ -19,9 +20,20 @@ use logic_terms::{Cause, Class, Classes, Cond, Conds, Drs, Thing, negated};
 use std::alloc::Global;
 use wiki_base::Memory;
 
-/// The class of a structure at a root, or why there is none.
+/// The class of a structure at a root, or why there is none. Where each referent is introduced once and the root is none
+/// of them, an element is in the class exactly where the structure is true with it for the root.
+pub fn class_at_root(alloc: Global, root: Option<Thing>, drs: &Drs) -> Result<Class, Fault>
+    ensures exact { Agrees concept_of result (roll root (structure_of drs.now)) }
+    ensures truth { IfOk result (λ class. RollsTruly root (structure_of drs.now) (concept_of class)) }
+{
+    match roll(alloc, root, drs) {
+        Ok(class) => Ok(class),
+        Err(fault) => Err(fault),
+    }
+}
+
 #[cycle(rolling)]
-pub fn roll(alloc: Global, root: Option<Thing>, drs: &Drs) -> Result<Class, Fault>
+fn roll(alloc: Global, root: Option<Thing>, drs: &Drs) -> Result<Class, Fault>
     ensures { Agrees concept_of result (roll root (structure_of drs.now)) }
 {
     rolled(alloc, root, drs.referents().as_slice(), drs.conditions())

@@ -1,4 +1,4 @@
-use Rattle.std.proofs.Common.{◌≡◌, ◌==◌, Some, ap, ◌∙◌, sym, subst, refl, ℕ}
+use Rattle.std.proofs.Common.{◌≡◌, ◌==◌, Some, ap, ◌∙◌, subst, refl, ℕ}
 use Rattle.std.specs.Prelude.{not}
 use Rattle.std.specs.List.{filter}
 use Rattle.logic_terms.specs.declared.structures.Thing.TheVariants.{Ref}

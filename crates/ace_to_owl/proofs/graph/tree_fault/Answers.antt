@@ -1,12 +1,11 @@
 use Rattle.logic_terms.specs.Shown.{concept_of}
-use Rattle.std.proofs.Common.{◌≡◌, ℕ, ◌==◌, get_or, ◌+◌, ◌-◌, ◌<◌, ◌≤◌, Bool, true, false, List, [], ◌∷◌, ◌++◌, map, drop, length, sym, ap, ◌∙◌, refl, arith}
+use Rattle.std.proofs.Common.{◌≡◌, ℕ, ◌==◌, get_or, ◌+◌, ◌-◌, ◌<◌, ◌≤◌, true, false, List, ◌∷◌, map, drop, length, sym, ap, ◌∙◌, arith}
 use Rattle.std.specs.List.{list_all}
-use Rattle.wiki_base.specs.declared.numbers.WordId.{WordId}
 use Rattle.logic_terms.specs.Concept.{Concept}
 use Rattle.ace_to_owl.specs.declared.part.Part as rolled
 use Rattle.ace_to_owl.specs.Answers.{part_shown}
 use Rattle.ace_to_owl.specs.Moves.{moved_by}
-use Rattle.ace_to_owl.specs.Parts.{Part, At, Edge, has_cycle, tree_fault, each_reached}
+use Rattle.ace_to_owl.specs.Parts.{Part, At, Edge, has_cycle}
 use Rattle.ace_to_owl.proofs.Labels.{label, labels_on, labels_past, cycle_here, forest_on, has_cycle-drop, reached_by_labels, fault_cycle, fault_reached}
 use Rattle.ace_to_owl.proofs.Passed.{drop_read}
 use Rattle.ace_to_owl.proofs.graph.tree_fault.Goals as goal

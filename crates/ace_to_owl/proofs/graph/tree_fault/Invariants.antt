@@ -1,4 +1,4 @@
-use Rattle.std.proofs.Common.{◌≡◌, ℕ, ◌≤◌, false, List, map, drop, length}
+use Rattle.std.proofs.Common.{◌≡◌, ℕ, ◌≤◌, false, map, drop, length}
 use Rattle.ace_to_owl.specs.Answers.{part_shown}
 use Rattle.ace_to_owl.specs.Parts.{has_cycle}
 use Rattle.ace_to_owl.specs.Moves.{moved_by}

@@ -1,5 +1,5 @@
 use Rattle.std.proofs.lemmas.List.{map-append}
-use Rattle.std.proofs.Common.{◌≡◌, ◌+◌, List, [], ◌∷◌, ◌++◌, Ok, map, drop, sym, ap, ◌∙◌, subst}
+use Rattle.std.proofs.Common.{◌+◌, List, [], ◌∷◌, map, drop, ap, ◌∙◌, subst}
 use Rattle.logic_terms.specs.Shown.{concept_of, structure_of, condition_of, conditions_of}
 use Rattle.logic_terms.specs.Structure.{Condition, conditions_from}
 use Rattle.ace_to_owl.specs.Answers.{part_shown, Agrees}

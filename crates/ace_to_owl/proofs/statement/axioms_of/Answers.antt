@@ -1,4 +1,4 @@
-use Rattle.std.proofs.Common.{◌≡◌, ◌==◌, sym, ap, ◌∙◌, subst}
+use Rattle.std.proofs.Common.{◌==◌, sym, ap, ◌∙◌, subst}
 use Rattle.logic_terms.specs.Shown.{claims_of, conditions_of}
 use Rattle.ace_to_owl.specs.Answers.{Agrees}
 use Rattle.ace_to_owl.specs.Moves.{moved_by}

@@ -1,14 +1,12 @@
-use Rattle.std.proofs.Common.{◌≡◌, ℕ, List, Some, Ok, Err, sym, ap, ◌∙◌, subst}
+use Rattle.std.proofs.Common.{Some, Ok, sym, ap, ◌∙◌}
 use Rattle.logic_terms.specs.declared.structures.Thing.TheVariants.{Name}
 use Rattle.logic_terms.specs.Concept.{ClassAssertion}
-use Rattle.logic_terms.specs.Shown.{concept_of, claim_of, conditions_of}
+use Rattle.logic_terms.specs.Shown.{conditions_of}
 use Rattle.logic_terms.specs.Structure.{Conditions, conditions_from}
-use Rattle.ace_to_owl.specs.Answers.{Agrees}
 use Rattle.ace_to_owl.specs.Outcomes.{next}
 use Rattle.ace_to_owl.specs.Parts.{class_of_tree}
 use Rattle.ace_to_owl.specs.Rolling.{parts}
-use Rattle.ace_to_owl.specs.Mapping.{conditions_with, referents_with}
-use Rattle.ace_to_owl.proofs.RollingLemmas.{stopped}
+use Rattle.ace_to_owl.specs.Mapping.{conditions_with}
 use Rattle.ace_to_owl.proofs.statement.claim_named.Goals as goal
 
 pub returns-in-Ok : goal.returns-in-Ok

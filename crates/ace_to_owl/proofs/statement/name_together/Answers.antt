@@ -1,4 +1,4 @@
-use Rattle.std.proofs.Common.{◌≡◌, Bool, List, sym, ap, ◌∙◌}
+use Rattle.std.proofs.Common.{Bool, List, sym, ap, ◌∙◌}
 use Rattle.logic_terms.specs.Shown.{condition_of, conditions_of}
 use Rattle.logic_terms.specs.Structure.{Condition}
 use Rattle.ace_to_owl.specs.Mapping.{own_terms, together}

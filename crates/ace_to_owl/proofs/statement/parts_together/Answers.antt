@@ -1,4 +1,4 @@
-use Rattle.std.proofs.Common.{◌≡◌, Bool, List, sym, ap, ◌∙◌, map}
+use Rattle.std.proofs.Common.{Bool, List, sym, ap, ◌∙◌, map}
 use Rattle.logic_terms.specs.Shown.{condition_of, conditions_of}
 use Rattle.logic_terms.specs.Structure.{Condition, conditions_from}
 use Rattle.ace_to_owl.specs.Answers.{part_shown, option_shown}

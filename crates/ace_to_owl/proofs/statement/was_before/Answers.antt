@@ -1,4 +1,4 @@
-use Rattle.std.proofs.Common.{◌≡◌, ℕ, List, ap, ◌∙◌}
+use Rattle.std.proofs.Common.{ℕ, List, ap, ◌∙◌}
 use Rattle.std.specs.List.{list_any}
 use Rattle.ace_to_owl.specs.Mapping.{together}
 use Rattle.ace_to_owl.proofs.ClaimLemmas.{labels_before}

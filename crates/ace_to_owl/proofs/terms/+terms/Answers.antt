@@ -1,4 +1,4 @@
-use Rattle.std.proofs.Common.{◌≡◌, List, ◌∷◌, ◌++◌, drop, ◌+◌, sym, ap, ◌∙◌, append_assoc}
+use Rattle.std.proofs.Common.{List, ◌++◌, drop, ◌+◌, sym, ap, ◌∙◌, append_assoc}
 use Rattle.logic_terms.specs.declared.structures.Thing.{Thing}
 use Rattle.logic_terms.specs.Shown.{structure_of, condition_of, conditions_of}
 use Rattle.logic_terms.specs.Structure.{Condition, conditions_from}

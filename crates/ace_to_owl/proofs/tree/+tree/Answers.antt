@@ -1,6 +1,6 @@
-use Rattle.std.proofs.Common.{◌≡◌, ◌+◌, ◌-◌, ◌<◌, List, ◌∷◌, ◌++◌, map, sym, ap, ◌∙◌, arith}
-use Rattle.logic_terms.specs.Shown.{concept_of, concepts_of}
-use Rattle.ace_to_owl.specs.Answers.{part_shown, option_shown, listed}
+use Rattle.std.proofs.Common.{◌-◌, ◌<◌, List, ◌++◌, map, ap, ◌∙◌, arith}
+use Rattle.logic_terms.specs.Shown.{concepts_of}
+use Rattle.ace_to_owl.specs.Answers.{part_shown, listed}
 use Rattle.ace_to_owl.specs.Parts.{Part, part_at, class_at}
 use Rattle.ace_to_owl.proofs.TreeLemmas.{gift_on, gifts_all, class_at-depth}
 use Rattle.ace_to_owl.proofs.tree.+tree.Goals as goal

@@ -1,1 +1,1 @@
-pub mod ExploredLemmas
+pub mod WayLemmas

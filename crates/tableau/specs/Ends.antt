@@ -1,13 +1,11 @@
 -- How a search may end.
-use Rattle.std.specs.Prelude.{ℕ, zero, suc, ◌≡◌, Option, Some, is_some, IsTrue, List}
-use Rattle.std.specs.Option.{option_and_then}
+use Rattle.std.specs.Prelude.{ℕ, ◌≡◌, Some, IsTrue}
 use Rattle.logic_terms.specs.Theory.{Theory}
 use Rattle.tableau_rules.specs.declared.branch.Branch.{Branch}
 use Rattle.tableau_rules.specs.declared.step.Closed.{Closed as Tree}
 use Rattle.tableau_rules.specs.Graph.{Graph}
-use Rattle.tableau_rules.specs.Shown.{graph_of}
 use Rattle.tableau_rules.specs.Branches.{IsBranch, is_finished}
-use Rattle.tableau_rules.specs.Searching.{Searching, searched, next_search, IsLonger}
+use Rattle.tableau_rules.specs.Searching.{Searching, searched, IsLonger}
 use Rattle.tableau.specs.declared.outcome.Outcome.{Outcome}
 use Rattle.tableau.specs.declared.outcome.Outcome.TheVariants.{Finished, Closed, Spent}
 

@@ -3,6 +3,8 @@
 
 mod outcome;
 mod searching;
+mod turn;
+mod way;
 
 pub use outcome::Outcome;
 pub use searching::search;

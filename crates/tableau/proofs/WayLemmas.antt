@@ -22,6 +22,7 @@ use Rattle.tableau_rules.specs.Searching.{OpenChoice, Searching, begun_search, r
 use Rattle.tableau_rules.specs.Shown.{graph_of}
 use Rattle.tableau_rules.specs.Trees.{Tree, Trees, ends, splits, no_tree, also_tree, trees_from, tree_layer, tree_of, closes, close_from, is_closed}
 use Rattle.tableau.specs.declared.way.Taken.{Taken}
+use Rattle.tableau.specs.declared.turn.Turn.{Turn}
 use Rattle.tableau.specs.declared.turn.Turn.TheVariants as turn
 use Rattle.tableau.specs.Ends.{IsEnd, IsCutAt}
 use Rattle.tableau.specs.Turns.{IsNext, IsTurn, IsLast, IsBack}
@@ -239,7 +240,7 @@ module _ (k : Theory) (waiting : List OpenChoice) (old new : List Taken) (t : Ta
       }
 
 -- turns
-pub turns_back : (k : Theory) (s : Searching) (way : List Taken) (t : Rattle.tableau.specs.declared.turn.Turn.Turn) → open_choices k s ≡ Some s.waiting → IsBack k s.waiting way t → IsTurn k s way t
+pub turns_back : (k : Theory) (s : Searching) (way : List Taken) (t : Turn) → open_choices k s ≡ Some s.waiting → IsBack k s.waiting way t → IsTurn k s way t
 turns_back k s way turn.Finished at back = absurd back
 turns_back k s way (turn.Shut tree) at back = back
 turns_back k s way (turn.Forward step) at back = absurd back
@@ -275,3 +276,20 @@ cut_at k n s t g at next here = record {
   longer = ap (λ o. is_some (option_and_then (next_search k) o)) at ∙ ap is_some next;
   last = (s, at, sym here);
 }
+
+-- ends
+pub ends_at : (k : Theory) (way new : List Taken) (g : Graph) (t : Turn) → Leads k way → g ≡ (reached k way).graph → IsTurn k (reached k way) new t → t ≡ turn.Finished → IsEnd k g
+ends_at k way new g t leads here turned is = record {
+  branch = subst (IsBranch k) (sym here) (leads_to_branch k way leads);
+  finished = subst (λ h. IsTrue (is_finished k h)) (sym here) (subst (IsTurn k (reached k way) new) is turned);
+}
+
+pub cut_forward : (k : Theory) (n m : ℕ) (way new : List Taken) (g : Graph) (t : Turn) (step : Step) → n ≡ m → searched k n ≡ Some (reached k way) → g ≡ (reached k way).graph → IsTurn k (reached k way) new t → t ≡ turn.Forward step → IsCutAt k m g
+cut_forward k n m way new g t step same at here turned is =
+    let next : IsNext k (reached k way) new step [] (reached k way).graph = subst (IsTurn k (reached k way) new) is turned in
+    subst (λ i. IsCutAt k i g) same (cut_at k n (reached k way) (chosen k (reached k new) step 0) g at next.next here)
+
+pub cut_back : (k : Theory) (n m : ℕ) (way new : List Taken) (g : Graph) (t : Turn) (step : Step) (trees : List Closed) (b : Branch) → n ≡ m → searched k n ≡ Some (reached k way) → g ≡ (reached k way).graph → IsTurn k (reached k way) new t → t ≡ turn.Back step trees b → IsCutAt k m g
+cut_back k n m way new g t step trees b same at here turned is =
+    let next : IsNext k (reached k way) new step trees (graph_of b) = subst (IsTurn k (reached k way) new) is turned in
+    subst (λ i. IsCutAt k i g) same (cut_at k n (reached k way) (chosen k (reached k new) step (length trees)) g at next.next here)

@@ -5,7 +5,7 @@
 /// A row of the table.
 pub(crate) type Base = (u8, &'static str, u64, u64);
 
-pub(crate) static BASES: [Base; 44] = [
+pub(crate) static BASES: [Base; 48] = [
     // No city (A) is a country (B), and Bern is a city, a country, or both.
     (1, "AB!< A1:", 1, 1),
     (1, "AB!< A1: B1:", 1, 0),
@@ -55,6 +55,12 @@ pub(crate) static BASES: [Base; 44] = [
     (1, "A1: AAr?< A1s=<", 7, 2),
     (1, "A1: ABAr?|< BA!<", 14, 2),
     (1, "TAB|< A!1: BBr?<", 6, 2),
+    (1, "A1: AAR?<", 5, 2),
+    (1, "A1: AAr?< ABr*< BA<", 7, 2),
+    // A node that serves Bern's class is blocked from above before Bern's turn comes, and then serves no more.
+    (1, "At?1: ABr?< BDr?< DEE|R*< D1s=< DC< DCS?s*< EA< EB< EER*< EEE|<", 19, 4),
+    // Forty successors, one within the other.
+    (1, "Ar?r?r?r?r?r?r?r?r?r?r?r?r?r?r?r?r?r?r?r?r?r?r?r?r?r?r?r?r?r?r?r?r?r?r?r?r?r?r?r?1:", 40, 41),
     // Inclusions by their forms.
     (1, "AB|C< A1: C!1:", 1, 0),
     (1, "AB&C< A1: B1: C!1:", 2, 0),

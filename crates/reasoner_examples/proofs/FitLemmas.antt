@@ -1,13 +1,48 @@
 -- Fit classes and axioms are plain, and over the given names.
-use Rattle.std.proofs.Common.{◌≡◌, ℕ, ◌+◌, ◌<◌, ◌&&◌, Bool, true, false, List, [], ◌∷◌, ◌++◌, map, length, take, Some, slice_get, refl, sym, ap, ◌∙◌}
+use Rattle.std.proofs.Common.{◌≡◌, ℕ, suc, ◌<◌, ◌≤◌, ◌&&◌, Bool, true, false, List, [], ◌∷◌, ◌++◌, length, refl, sym, ap, ◌∙◌, arith}
+use Rattle.std.specs.Prelude.{nat_lt, not}
 use Rattle.std.specs.List.{list_all}
-use Rattle.std.proofs.lemmas.Bool.{and_from, and_parts}
+use Rattle.std.proofs.lemmas.Bool.{and_from, and_parts, lt-ltb, le-ltb}
 use Rattle.wiki_base.specs.declared.numbers.WordId.{WordId}
+use Rattle.logic_terms.specs.declared.expressions.Class.{Class}
+use Rattle.logic_terms.specs.declared.expressions.Classes.{Classes}
+use Rattle.logic_terms.specs.declared.expressions.Class.TheVariants as class
 use Rattle.logic_terms.specs.Complement.{is_simple, is_normal, is_wide, has_two, each_normal, each_wide}
 use Rattle.logic_terms.specs.Concept.{Concept, Concepts, Everything, Atomic, ComplementOf, IntersectionOf, UnionOf, SomeValuesFrom, AllValuesFrom, HasValue, no_concept, also_concept, concepts_from, Claim, SubClassOf, SubPropertyOf, ClassAssertion, PropertyAssertion, NegativePropertyAssertion, SameIndividual, DifferentIndividuals}
 use Rattle.logic_terms.specs.Plain.{is_plain_claim}
+use Rattle.logic_terms.specs.Shown.{concept_of, concepts_of}
+use Rattle.logic_terms.proofs.ShownLemmas.{concept_of-And, concept_of-Or}
 use Rattle.absorb.specs.Mentioned.{is_among, names_in, names_in_each, names_in_claim}
-use Rattle.reasoner_examples.specs.Fit.{is_fit, each_fit, fits}
+use Rattle.reasoner_examples.specs.Fit.{is_fit, each_fit, members_fit, fits}
+
+-- members in a list
+each_in : (names : List WordId) (cs : List Concept) → list_all (is_fit names) cs ≡ each_fit names (concepts_from cs)
+each_in names [] = refl
+each_in names (c ∷ cs) = ap (λ b. is_fit names c && b) (each_in names cs)
+
+two_in : (cs : List Concept) → not (nat_lt (length cs) 2) ≡ has_two (concepts_from cs)
+two_in [] = refl
+two_in (c ∷ []) = refl
+two_in (c ∷ (d ∷ cs)) = ap not (le-ltb 2 (suc (suc (length cs))) (omega arith))
+
+in_members : (names : List WordId) (cs : List Concept) → members_fit names cs ≡ (has_two (concepts_from cs) && each_fit names (concepts_from cs))
+in_members names cs = ap (λ b. b && list_all (is_fit names) cs) (two_in cs) ∙ ap (λ b. has_two (concepts_from cs) && b) (each_in names cs)
+
+module _ (names : List WordId) (whole : Class) (members : Classes) (r : Bool) (h : r ≡ members_fit names (concepts_of members)) where
+  shown : (kind : Class) (c : Concept) → whole ≡ kind → concept_of kind ≡ c → is_fit names c ≡ is_fit names (concept_of whole)
+  shown kind c is shows = sym (ap (λ w. is_fit names (concept_of w)) is ∙ ap (is_fit names) shows)
+
+  pub in_and : whole ≡ class.And members → r ≡ is_fit names (concept_of whole)
+  in_and is = h ∙ (in_members names (concepts_of members) ∙ shown _ _ is (concept_of-And members))
+
+  pub in_or : whole ≡ class.Or members → r ≡ is_fit names (concept_of whole)
+  in_or is = h ∙ (in_members names (concepts_of members) ∙ shown _ _ is (concept_of-Or members))
+
+pub too_few : (names : List WordId) (cs : List Concept) → length cs < 2 → members_fit names cs ≡ false
+too_few names cs few = ap (λ b. not b && list_all (is_fit names) cs) (lt-ltb (length cs) 2 few)
+
+pub enough : (names : List WordId) (cs : List Concept) → 2 ≤ length cs → members_fit names cs ≡ list_all (is_fit names) cs
+enough names cs many = ap (λ b. not b && list_all (is_fit names) cs) (le-ltb (length cs) 2 many)
 
 all_append : {X : Type 0} (test : X → Bool) (xs ys : List X) → list_all test xs ≡ true → list_all test ys ≡ true → list_all test (xs ++ ys) ≡ true
 all_append test [] ys here there = there

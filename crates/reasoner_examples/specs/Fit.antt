@@ -1,5 +1,6 @@
 -- Which axioms a verdict may be asked on, over these names.
-use Rattle.std.specs.Prelude.{◌&&◌, Bool, true, List}
+use Rattle.std.specs.Prelude.{◌&&◌, Bool, true, List, length, nat_lt, not}
+use Rattle.std.specs.List.{list_all}
 use Rattle.wiki_base.specs.declared.numbers.WordId.{WordId}
 use Rattle.logic_terms.specs.Complement.{is_simple, has_two}
 use Rattle.logic_terms.specs.Concept.{Concept, Concepts, Everything, Atomic, ComplementOf, IntersectionOf, UnionOf, SomeValuesFrom, AllValuesFrom, HasValue, no_concept, also_concept, Claim, SubClassOf, SubPropertyOf, ClassAssertion, PropertyAssertion, NegativePropertyAssertion, SameIndividual, DifferentIndividuals}
@@ -20,6 +21,10 @@ abbrev mutual
   pub each_fit : List WordId → Concepts → Bool
   each_fit names no_concept = true
   each_fit names (also_concept c cs) = is_fit names c && each_fit names cs
+
+-- the same of members in a list
+abbrev pub members_fit : List WordId → List Concept → Bool
+members_fit names cs = not (nat_lt (length cs) 2) && list_all (is_fit names) cs
 
 -- the same of an axiom
 abbrev pub fits : List WordId → Claim → Bool

@@ -1,11 +1,10 @@
 // Which axioms a verdict may be asked on.
-ghost use Rattle.std.specs.Prelude.{◌≡◌, ◌&&◌, IsTrue};
-ghost use Rattle.logic_terms.specs.Complement.{is_simple, has_two};
-ghost use Rattle.logic_terms.specs.Concept.{concepts_from};
+ghost use Rattle.std.specs.Prelude.{◌≡◌, IsTrue};
+ghost use Rattle.logic_terms.specs.Complement.{is_simple};
 ghost use Rattle.logic_terms.specs.Plain.{are_plain};
 ghost use Rattle.logic_terms.specs.Shown.{concept_of, concepts_of, claim_of, claims_of};
 ghost use Rattle.absorb.specs.Mentioned.{is_among, are_over};
-ghost use Rattle.reasoner_examples.specs.Fit.{is_fit, each_fit, fits};
+ghost use Rattle.reasoner_examples.specs.Fit.{is_fit, members_fit, fits};
 
 use logic_terms::{Axiom, Axioms, Class, Classes, Names};
 use wiki_base::WordId;
@@ -16,8 +15,8 @@ pub(crate) fn are_fit(names: &Names, axioms: &Axioms) -> bool
     ensures over { IsTrue result → IsTrue (are_over names.now (claims_of axioms.now)) }
     ensures plain { IsTrue result → IsTrue (are_plain (claims_of axioms.now)) }
 {
-    for axiom in axioms.as_slice() {
-        if !fits(names, axiom) {
+    for place in 0..axioms.len() {
+        if !fits(names, axioms.get(place)) {
             return false;
         }
     }
@@ -46,18 +45,22 @@ fn is_fit(names: &Names, class: &Class) -> bool
         Class::Thing => true,
         Class::Named(_) => true,
         Class::Not(inner) => is_simple(inner) && is_fit(names, inner),
-        Class::And(members) => members.len() > 1 && each_fit(names, members),
-        Class::Or(members) => members.len() > 1 && each_fit(names, members),
+        Class::And(members) => members_fit(names, members),
+        Class::Or(members) => members_fit(names, members),
         Class::Some(_, inner) => is_fit(names, inner),
         Class::All(_, inner) => is_fit(names, inner),
         Class::Value(_, name) => is_given(names, *name),
     }
 }
 
+// Whether there are at least two members, and each is fit.
 #[cycle(fitting)]
-fn each_fit(names: &Names, members: &Classes) -> bool
-    ensures { result ≡ each_fit names.now (concepts_from (concepts_of members.now)) }
+fn members_fit(names: &Names, members: &Classes) -> bool
+    ensures { result ≡ members_fit names.now (concepts_of members.now) }
 {
+    if members.len() < 2 {
+        return false;
+    }
     for place in 0..members.len() {
         if !is_fit(names, members.get(place)) {
             return false;

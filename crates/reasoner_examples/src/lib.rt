@@ -6,6 +6,8 @@ mod bases;
 #[cfg(test)]
 mod fitting;
 #[cfg(test)]
+mod models;
+#[cfg(test)]
 mod reading;
 #[cfg(test)]
 mod tests;

@@ -1,6 +1,7 @@
 // How searches over small knowledge bases end, and what verdicts say of them.
 use crate::bases::BASES;
 use crate::fitting::are_fit;
+use crate::models::has_small_model;
 use crate::reading::{names_of, read};
 use absorb::absorb;
 use closure_check::accepts;
@@ -11,7 +12,7 @@ use std::alloc::Global;
 use std::test::Fail;
 use tableau::{Outcome, search};
 
-// How a search or a verdict ended, with the size of the model of a finished branch where a verdict has one.
+// How a search ended.
 #[derive(Clone, Copy, PartialEq, Eq)]
 enum End {
     Open,
@@ -114,5 +115,17 @@ fn a_kept_model_needs_no_search(rt: HostRuntime) -> Result<(), Fail> {
     assert!(rt; matches!(searched, Verdict::Spent(_)));
     let later = judged(alloc, 1, "AB|1:", &kept, 1)?;
     assert!(rt; matches!(later, Verdict::Consistent(_)));
+    Ok(())
+}
+
+#[test]
+fn no_small_model_is_overlooked(rt: HostRuntime) -> Result<(), Fail> {
+    let alloc = rt.alloc();
+    for (names, text, _, size) in BASES.iter() {
+        let axioms = read(alloc, text)?;
+        if has_small_model(alloc, &axioms, *names, text)? {
+            assert!(rt; *size > 0, "{text}");
+        }
+    }
     Ok(())
 }

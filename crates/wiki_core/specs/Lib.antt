@@ -1,5 +1,12 @@
 pub mod Faults
+pub mod Holding
+pub mod Knowledge
+pub mod Meanings
+pub mod Objections
 pub mod Parsing
+pub mod Places
+pub mod Reading
+pub mod Senses
 pub mod State
 pub mod Step
 pub mod Words

@@ -2,6 +2,8 @@
 #![tactic(auto)]
 
 mod faults;
+mod keeping;
+mod meaning;
 mod parsing;
 #[cfg(test)]
 mod tests;

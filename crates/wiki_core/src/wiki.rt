@@ -3,40 +3,47 @@ ghost use Rattle.std.specs.Prelude.{◌≡◌, ◌≤◌, ℕ, List, length, IsT
 ghost use Rattle.wiki_base.specs.declared.tokens.TheConstants.{MOST_TOKENS};
 
 use crate::faults::Fault;
+use crate::keeping::first_model;
 use crate::parsing::{no_sentence, told_code, too_many_tokens};
 use crate::told::{told_word, told_words};
 use crate::words::add_word;
+use articles::Articles;
 use codeco_checked::CheckedGrammar;
 use derivations::{Cut, cut, plain_least};
 use lexicon::{Forms, Kind, Lexicon};
 use lists::Copied;
+use owl_eval::CheckedModel;
 use std::alloc::Global;
 use std::marker::Model;
 use wiki_base::{Memory, Text8, Tokens};
 use wiki_talk::{Refusal, Reply, Request};
 
-/// A wiki. It is seen as its state: the grammar, the budget of a search, and the live words.
+/// A wiki. It is seen as its state, the grammar, the budget of a search, the live words and their articles, beside the
+/// interpretation and the axioms of the model that it keeps.
 #[derive(Drop)]
 pub struct Wiki {
     alloc: Global,
     grammar: CheckedGrammar,
     budget: u64,
     lexicon: Lexicon,
+    articles: Articles,
+    kept: CheckedModel,
 }
 
 impl Model for Wiki {
-    ghost use Rattle.wiki_core.specs.State.{State, IsSound};
+    ghost use Rattle.owl_eval.specs.Checked.{kept_interp, kept_claims};
+    ghost use Rattle.wiki_core.specs.Holding.{Holding, IsKept};
 
-    ghost Value = { State };
+    ghost Value = { Holding };
 
-    ghost view = { λ w. record { grammar = w.grammar; budget = w.budget; words = w.lexicon } };
+    ghost view = { λ w. record { state = record { grammar = w.grammar; budget = w.budget; words = w.lexicon; articles = w.articles }; interpretation = kept_interp w.kept; claims = kept_claims w.kept } };
 
-    ghost invariant = { λ w. IsSound (record { grammar = w.grammar; budget = w.budget; words = w.lexicon }) };
+    ghost invariant = { λ w. IsKept (record { state = record { grammar = w.grammar; budget = w.budget; words = w.lexicon; articles = w.articles }; interpretation = kept_interp w.kept; claims = kept_claims w.kept }) };
 }
 
 impl Wiki {
     ghost use Rattle.codeco_checked.specs.Sound.{is_labelled};
-    ghost use Rattle.wiki_core.specs.State.{first_state};
+    ghost use Rattle.wiki_core.specs.Holding.{first_holding, IsKept};
     ghost use Rattle.wiki_core.specs.Parsing.{tokens_of};
     ghost use Rattle.wiki_core.specs.Step.{Step};
     ghost use Rattle.wiki_core.specs.Words.{word_with};
@@ -44,20 +51,25 @@ impl Wiki {
     /// A wiki without words, over a grammar in which each rule has a label. A search may take `budget` steps.
     pub fn new(alloc: Global, grammar: CheckedGrammar, budget: u64) -> Result<Wiki, Memory>
         requires { IsTrue (is_labelled grammar) }
-        ensures { IfOk result (λ wiki. wiki ≡ first_state grammar budget) }
+        ensures { IfOk result (λ wiki. wiki ≡ first_holding grammar budget) }
     {
         let lexicon = Lexicon::new(alloc, grammar.grammar())?;
+        let articles = Articles::new(alloc)?;
+        let kept = first_model(alloc)?;
         Ok(Wiki {
             alloc,
             grammar,
             budget,
             lexicon,
+            articles,
+            kept,
         })
     }
 
     /// Does one request, or refuses it, which changes nothing.
     pub fn step(&mut self, request: &Request) -> Result<Reply, Memory>
-        ensures step { IfOk result (λ reply. Step self.old request.now reply self.new) }
+        ensures step { IfOk result (λ reply. Step self.old.state request.now reply self.new.state) }
+        ensures kept { IsKept self.new }
         ensures memory { OnErr result (self.new ≡ self.old) }
     {
         match request {
@@ -65,12 +77,13 @@ impl Wiki {
             Request::Find { word } => self.find(word),
             Request::Words => self.words(),
             Request::Parse { text } => self.parse(text),
+            _ => Err(Memory),
         }
     }
 
     // Adds a word.
     fn add(&mut self, kind: Kind, forms: &[Text8]) -> Result<Reply, Memory>
-        ensures step { IfOk result (λ reply. Step self.old (Request.Word kind forms.now) reply self.new) }
+        ensures step { IfOk result (λ reply. Step self.old.state (Request.Word kind forms.now) reply self.new.state) }
         ensures memory { OnErr result (self.new ≡ self.old) }
     {
         match add_word(self.alloc, &mut self.lexicon, kind, forms) {
@@ -82,7 +95,7 @@ impl Wiki {
 
     // Tells the word that has this form.
     fn find(&self, word: &Text8) -> Result<Reply, Memory>
-        ensures { IfOk result (λ reply. Step self.now (Request.Find word.now) reply self.now) }
+        ensures { IfOk result (λ reply. Step self.now.state (Request.Find word.now) reply self.now.state) }
     {
         match self.found(word.as_str()) {
             Some(forms) => Ok(Reply::Find {
@@ -94,14 +107,14 @@ impl Wiki {
 
     // The forms of the word that has this one.
     fn found(&self, form: &str) -> Option<&Forms>
-        ensures { option_copied result ≡ word_with self.now.words form.now }
+        ensures { option_copied result ≡ word_with self.now.state.words form.now }
     {
         self.lexicon.find(form).and_then(|id| self.lexicon.word(id))
     }
 
     // Tells all words.
     fn words(&self) -> Result<Reply, Memory>
-        ensures { IfOk result (λ reply. Step self.now Request.Words reply self.now) }
+        ensures { IfOk result (λ reply. Step self.now.state Request.Words reply self.now.state) }
     {
         Ok(Reply::Words {
             words: told_words(self.alloc, &self.lexicon)?,
@@ -109,7 +122,7 @@ impl Wiki {
     }
     // Tells the code of a text.
     fn parse(&self, text: &Text8) -> Result<Reply, Memory>
-        ensures { IfOk result (λ reply. Step self.now (Request.Parse text.now) reply self.now) }
+        ensures { IfOk result (λ reply. Step self.now.state (Request.Parse text.now) reply self.now.state) }
     {
         match cut(self.alloc, self.grammar.grammar(), text.as_str())? {
             Cut::TooMany => Ok(Reply::Refused(too_many_tokens())),
@@ -120,8 +133,8 @@ impl Wiki {
     // Tells the code of tokens.
     fn parse_tokens(&self, tokens: &Tokens) -> Result<Reply, Memory>
         requires { length tokens.now ≤ MOST_TOKENS }
-        ensures { IfOk result (λ reply. (text : List ℕ) → tokens_of self.now text ≡ tokens.now
-            → Step self.now (Request.Parse text) reply self.now) }
+        ensures { IfOk result (λ reply. (text : List ℕ) → tokens_of self.now.state text ≡ tokens.now
+            → Step self.now.state (Request.Parse text) reply self.now.state) }
     {
         match plain_least(self.alloc, &self.grammar, &self.lexicon, tokens)? {
             Some(least) => Ok(Reply::Parse {

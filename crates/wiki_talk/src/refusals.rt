@@ -3,6 +3,7 @@ ghost use Rattle.std.specs.Prelude.{◌≡◌};
 
 use crate::limits::Limit;
 use crate::replies::MenuView;
+use crate::statuses::Status;
 use wiki_base::Text8;
 
 /// Why a request was refused.
@@ -20,6 +21,14 @@ pub enum Refusal {
     Full { which: Limit, limit: u32 },
     /// The tokens have no derivation. Of them the first `k` can be typed and no more, and the menu is theirs.
     NotSentence { k: u32, menu: MenuView },
+    /// The article has no such place; so many sentences it has.
+    NoPlace { length: u32 },
+    /// The first place at which the word is used: in its own article, or by a sentence with a form of it.
+    InUse { article: Text8, at: u32 },
+    /// The first place whose sentence would lose its derivation or mean something else.
+    Breaks { article: Text8, at: u32 },
+    /// The sentence has another status than the request is for.
+    BadStatus { status: Status },
 }
 
 /// The number and the name by which a refusal is told.
@@ -48,8 +57,12 @@ impl Refusal {
             Refusal::BadForm { .. } => (2, "BadForm"),
             Refusal::Taken { .. } => (3, "Taken"),
             Refusal::Reserved { .. } => (4, "Reserved"),
+            Refusal::NoPlace { .. } => (5, "NoPlace"),
             Refusal::Full { .. } => (7, "Full"),
             Refusal::NotSentence { .. } => (12, "NotSentence"),
+            Refusal::InUse { .. } => (13, "InUse"),
+            Refusal::Breaks { .. } => (14, "Breaks"),
+            Refusal::BadStatus { .. } => (15, "BadStatus"),
         };
         Title { number, name }
     }

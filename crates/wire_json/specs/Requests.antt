@@ -1,13 +1,15 @@
 -- Requests as lines of JSON: which lines are requests, and the line of a request.
 use Rattle.std.specs.Prelude.{ℕ, List, [], ◌∷◌, length, codes, if◌then◌else◌, nat_lt, Option, Some, None, find, option_map, option_and_then}
+use Rattle.std.specs.Option.{option_map_or}
 use Rattle.std.specs.Str.{is_utf8, bytes_eq}
-use Rattle.serde_json.specs.Data.{Data, string, array, object, Items, no_items, item, no_members, member}
+use Rattle.serde_json.specs.Data.{Data, string, number, unsigned, array, object, Items, no_items, item, Members, no_members, member}
 use Rattle.serde_json.specs.Read.{read}
-use Rattle.serde_json.specs.Find.{get, as_str, as_array}
+use Rattle.serde_json.specs.Find.{get, as_str, as_array, as_number, as_u64}
 use Rattle.wiki_talk.specs.declared.requests.Request.{Request}
 use Rattle.wiki_talk.specs.declared.requests.Request.TheVariants as requests
 use Rattle.wiki_talk.specs.Kinds.{kind_name, kind_named}
 use Rattle.wire_json.specs.declared.read.TheConstants.{TOO_LONG}
+use Rattle.wire_json.specs.declared.places.TheConstants.{NUMBERS}
 use Rattle.wire_json.specs.Values.{line_text, texts_items}
 
 -- the text at a key of an object
@@ -41,6 +43,56 @@ words_in value = Some requests.Words
 unfoldable pub parse_in : Data → Option Request
 parse_in value = option_map requests.Parse (text_at (codes "text") value)
 
+-- a whole number up to 4,294,967,295
+abbrev pub number_in : Data → Option ℕ
+number_in value = option_and_then (λ n. if nat_lt n NUMBERS then Some n else None) (option_and_then as_u64 (as_number value))
+
+-- the number at a key of an object
+abbrev pub number_at : List ℕ → Data → Option ℕ
+number_at key value = option_and_then number_in (get key value)
+
+-- the number at a key that may be absent: no number where it is
+abbrev pub number_if_any : List ℕ → Data → Option (Option ℕ)
+number_if_any key value = option_map_or (λ v. option_map Some (number_in v)) (get key value) (Some None)
+
+-- the word of an article, and a place in it: `article` and `at`
+unfoldable pub place_at : Data → Option (List ℕ × ℕ)
+place_at value = option_and_then (λ article. option_map (λ at. (article, at)) (number_at (codes "at") value)) (text_at (codes "article") value)
+
+-- other forms of a word: `word` and `forms`
+unfoldable pub reword_in : Data → Option Request
+reword_in value = option_and_then (λ word. option_map (requests.Reword word) (texts_at (codes "forms") value)) (text_at (codes "word") value)
+
+-- a word that is to go: `word`
+unfoldable pub unword_in : Data → Option Request
+unword_in value = option_map requests.Unword (text_at (codes "word") value)
+
+-- a new sentence: `article`, `text`, and `at` where it isn't to stand behind the last
+unfoldable pub add_in : Data → Option Request
+add_in value =
+    option_and_then (λ article. option_and_then (λ at. option_map (requests.Add article at) (text_at (codes "text") value)) (number_if_any (codes "at") value)) (text_at (codes "article") value)
+
+-- another sentence in place of one: `article`, `at` and `text`
+unfoldable pub edit_in : Data → Option Request
+edit_in value = option_and_then (λ place. option_map (requests.Edit place.0 place.1) (text_at (codes "text") value)) (place_at value)
+
+-- requests on the sentence at a place
+unfoldable pub remove_in : Data → Option Request
+remove_in value = option_map (λ place. requests.Remove place.0 place.1) (place_at value)
+
+unfoldable pub retract_in : Data → Option Request
+retract_in value = option_map (λ place. requests.Retract place.0 place.1) (place_at value)
+
+unfoldable pub reassert_in : Data → Option Request
+reassert_in value = option_map (λ place. requests.Reassert place.0 place.1) (place_at value)
+
+unfoldable pub axioms_in : Data → Option Request
+axioms_in value = option_map (λ place. requests.Axioms place.0 place.1) (place_at value)
+
+-- an article: `article`
+unfoldable pub read_in : Data → Option Request
+read_in value = option_map requests.Read (text_at (codes "article") value)
+
 -- a name, and what an object that has it in `do` asks
 pub record Row : Type 0 where
   pub name : List ℕ
@@ -53,6 +105,15 @@ rows =
     ∷ record { name = codes "find"; request = find_in }
     ∷ record { name = codes "words"; request = words_in }
     ∷ record { name = codes "parse"; request = parse_in }
+    ∷ record { name = codes "reword"; request = reword_in }
+    ∷ record { name = codes "unword"; request = unword_in }
+    ∷ record { name = codes "add"; request = add_in }
+    ∷ record { name = codes "edit"; request = edit_in }
+    ∷ record { name = codes "remove"; request = remove_in }
+    ∷ record { name = codes "retract"; request = retract_in }
+    ∷ record { name = codes "reassert"; request = reassert_in }
+    ∷ record { name = codes "read"; request = read_in }
+    ∷ record { name = codes "axioms"; request = axioms_in }
     ∷ []
 
 -- the request of this name that an object describes
@@ -73,6 +134,18 @@ request_of line = if nat_lt (length line) TOO_LONG then option_and_then request_
 
 -- ---- the line of a request
 
+-- a number before other members, where there is one
+abbrev pub with_number : List ℕ → Option ℕ → Members → Members
+with_number key None others = others
+with_number key (Some n) others = member key (number (unsigned n)) others
+
+-- a request of this name on the sentence at a place
+abbrev pub place_value : List ℕ → List ℕ → ℕ → Data
+place_value name article at = object
+    (member (codes "article") (string article)
+    (member (codes "at") (number (unsigned at))
+    (member (codes "do") (string name) no_members)))
+
 abbrev pub request_value : Request → Data
 request_value (requests.Word kind forms) = object
     (member (codes "do") (string (codes "word"))
@@ -85,6 +158,30 @@ request_value requests.Words = object (member (codes "do") (string (codes "words
 request_value (requests.Parse text) = object
     (member (codes "do") (string (codes "parse"))
     (member (codes "text") (string text) no_members))
+request_value (requests.Reword word forms) = object
+    (member (codes "do") (string (codes "reword"))
+    (member (codes "forms") (array (texts_items forms))
+    (member (codes "word") (string word) no_members)))
+request_value (requests.Unword word) = object
+    (member (codes "do") (string (codes "unword"))
+    (member (codes "word") (string word) no_members))
+request_value (requests.Add article at text) = object
+    (member (codes "article") (string article)
+    (with_number (codes "at") at
+    (member (codes "do") (string (codes "add"))
+    (member (codes "text") (string text) no_members))))
+request_value (requests.Edit article at text) = object
+    (member (codes "article") (string article)
+    (member (codes "at") (number (unsigned at))
+    (member (codes "do") (string (codes "edit"))
+    (member (codes "text") (string text) no_members))))
+request_value (requests.Remove article at) = place_value (codes "remove") article at
+request_value (requests.Retract article at) = place_value (codes "retract") article at
+request_value (requests.Reassert article at) = place_value (codes "reassert") article at
+request_value (requests.Read article) = object
+    (member (codes "article") (string article)
+    (member (codes "do") (string (codes "read")) no_members))
+request_value (requests.Axioms article at) = place_value (codes "axioms") article at
 
 abbrev pub request_line : Request → List ℕ
 request_line request = line_text (request_value request)

@@ -1,11 +1,16 @@
 -- What stands in many lines, as JSON.
-use Rattle.std.specs.Prelude.{ℕ, List, [], ◌∷◌, ◌++◌, codes, map}
-use Rattle.serde_json.specs.Data.{Data, string, number, unsigned, array, object, Items, no_members, member}
+use Rattle.std.specs.Prelude.{ℕ, List, [], ◌∷◌, ◌++◌, codes, map, Bool, true, false, if◌then◌else◌, Option, Some, None}
+use Rattle.serde_json.specs.Data.{Data, string, number, unsigned, array, object, Items, Members, no_members, member}
 use Rattle.serde_json.specs.View.{items_of}
 use Rattle.serde_json.specs.Written.{compact_text}
 use Rattle.wiki_talk.specs.declared.replies.WordView.{WordView}
 use Rattle.wiki_talk.specs.declared.replies.MenuView.{MenuView}
+use Rattle.logic_terms.specs.declared.cause.Cause.{Cause}
+use Rattle.wiki_talk.specs.declared.replies.SentenceView.{SentenceView}
+use Rattle.wiki_talk.specs.declared.statuses.Status.{Status}
+use Rattle.wiki_talk.specs.declared.statuses.Status.TheVariants.{Question}
 use Rattle.wiki_talk.specs.Kinds.{kind_name}
+use Rattle.wiki_talk.specs.Statuses.{status_name, cause_in, cause_name}
 
 -- the value as JSON with no space, and a newline
 unfoldable pub line_text : Data → List ℕ
@@ -38,3 +43,34 @@ menu_value menu = object
 -- a list of words
 abbrev pub words_items : List WordView → Items
 words_items words = items_of (map word_value words)
+
+-- a cause before other members, where there is one
+abbrev pub with_cause : Option Cause → Members → Members
+with_cause None others = others
+with_cause (Some cause) others = member (codes "cause") (string (cause_name cause)) others
+
+-- the members of a sentence that has no answers
+abbrev pub plain_members : SentenceView → Members
+plain_members view =
+    with_cause (cause_in view.status)
+    (member (codes "status") (string (status_name view.status))
+    (member (codes "text") (string view.text) no_members))
+
+-- the members of a question that asks for a class
+abbrev pub question_members : SentenceView → Members
+question_members view =
+    member (codes "answers") (array (texts_items view.answers))
+    (member (codes "status") (string (status_name view.status))
+    (member (codes "text") (string view.text)
+    (member (codes "unknown") (array (texts_items view.unknown)) no_members)))
+
+abbrev pub is_question : Status → Bool
+is_question Question = true
+is_question _ = false
+
+abbrev pub sentence_value : SentenceView → Data
+sentence_value view = object (if is_question view.status then question_members view else plain_members view)
+
+-- a list of sentences
+abbrev pub sentences_items : List SentenceView → Items
+sentences_items sentences = items_of (map sentence_value sentences)

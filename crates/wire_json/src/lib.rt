@@ -1,13 +1,17 @@
 //! Requests and replies as lines of JSON.
 #![tactic(auto)]
 
+mod asking;
 mod line;
+mod places;
 mod read;
 mod refusals;
+mod statuses;
 #[cfg(test)]
 mod tests;
 mod values;
 mod write;
 
+pub use places::NUMBERS;
 pub use read::{TOO_LONG, read_request};
 pub use write::{bad_request_line, reply_line, request_line};

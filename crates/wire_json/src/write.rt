@@ -1,17 +1,18 @@
 // The lines of requests and replies.
-ghost use Rattle.std.specs.Prelude.{◌≡◌, IfOk};
+ghost use Rattle.std.specs.Prelude.{◌≡◌, ℕ, List, IfOk};
 ghost use Rattle.serde_json.specs.View.{view};
 ghost use Rattle.wire_json.specs.Replies.{reply_value, reply_line, bad_request_value, bad_request_line};
-ghost use Rattle.wire_json.specs.Requests.{request_value, request_line};
+ghost use Rattle.wire_json.specs.Requests.{request_line};
 
+use crate::asking::request_value;
 use crate::line::line_of;
 use crate::refusals::refusal_value;
-use crate::values::{numbers_value, texts_value, word_value, words_value};
-use lexicon::Kind;
+use crate::statuses::{caused_value, done_value, meant_value, sentences_value, status_value};
+use crate::values::{numbers_value, word_value, words_value};
 use serde_json::{Value, json};
 use std::alloc::Global;
 use wiki_base::{Memory, Text8};
-use wiki_talk::{BAD_REQUEST, Reply, Request, WordView, kind_name};
+use wiki_talk::{BAD_REQUEST, Reply, Request, SentenceView, WordView};
 
 /// The line of a reply, with its newline.
 pub fn reply_line(alloc: Global, reply: &Reply) -> Result<Text8, Memory>
@@ -44,12 +45,36 @@ fn reply_value(alloc: Global, reply: &Reply) -> Result<Value, Memory>
     ensures { IfOk result (λ value. view value ≡ reply_value reply.now) }
 {
     match reply {
-        Reply::Word => Ok(json!(in alloc; {"done": "word"})?),
+        Reply::Word => done_value(alloc, "word"),
         Reply::Find { word } => find_reply_value(alloc, word),
         Reply::Words { words } => words_reply_value(alloc, words.as_slice()),
         Reply::Parse { code } => parse_reply_value(alloc, code.as_slice()),
+        Reply::Reword => done_value(alloc, "reword"),
+        Reply::Unword => done_value(alloc, "unword"),
+        Reply::Add { status } => caused_value(alloc, "add", *status),
+        Reply::Edit { status } => caused_value(alloc, "edit", *status),
+        Reply::Remove => done_value(alloc, "remove"),
+        Reply::Retract { status } => status_value(alloc, "retract", *status),
+        Reply::Reassert { status } => status_value(alloc, "reassert", *status),
+        Reply::Read {
+            revision,
+            sentences,
+            ..
+        } => read_reply_value(alloc, *revision, sentences.as_slice()),
+        Reply::Axioms { meant } => meant_value(alloc, meant),
         Reply::Refused(refusal) => refusal_value(alloc, refusal),
     }
+}
+
+fn read_reply_value(
+    alloc: Global,
+    revision: u32,
+    sentences: &[SentenceView],
+) -> Result<Value, Memory>
+    ensures { IfOk result (λ value. (form : List ℕ) → view value ≡ reply_value (Reply.Read form revision sentences.now)) }
+{
+    let sentences = sentences_value(alloc, sentences)?;
+    Ok(json!(in alloc; {"done": "read", "revision": revision, "sentences": sentences})?)
 }
 
 fn find_reply_value(alloc: Global, word: &WordView) -> Result<Value, Memory>
@@ -71,29 +96,4 @@ fn parse_reply_value(alloc: Global, code: &[u32]) -> Result<Value, Memory>
 {
     let code = numbers_value(alloc, code)?;
     Ok(json!(in alloc; {"code": code, "done": "parse"})?)
-}
-
-fn request_value(alloc: Global, request: &Request) -> Result<Value, Memory>
-    ensures { IfOk result (λ value. view value ≡ request_value request.now) }
-{
-    match request {
-        Request::Word { kind, forms } => word_request_value(alloc, *kind, forms.as_slice()),
-        Request::Find { word } => {
-            let word = word.as_str();
-            Ok(json!(in alloc; {"do": "find", "word": word})?)
-        }
-        Request::Words => Ok(json!(in alloc; {"do": "words"})?),
-        Request::Parse { text } => {
-            let text = text.as_str();
-            Ok(json!(in alloc; {"do": "parse", "text": text})?)
-        }
-    }
-}
-
-fn word_request_value(alloc: Global, kind: Kind, forms: &[Text8]) -> Result<Value, Memory>
-    ensures { IfOk result (λ value. view value ≡ request_value (Request.Word kind forms.now)) }
-{
-    let forms = texts_value(alloc, forms)?;
-    let kind = kind_name(kind);
-    Ok(json!(in alloc; {"do": "word", "forms": forms, "kind": kind})?)
 }

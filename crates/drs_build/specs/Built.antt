@@ -1,5 +1,5 @@
 -- What is built of a skeleton.
-use Rattle.std.specs.Prelude.{◌≡◌, ℕ, Bool, true, false, List, [], Some}
+use Rattle.std.specs.Prelude.{◌≡◌, ℕ, Bool, true, false, List, [], Some, Contains}
 use Rattle.std.specs.Option.{option_map_or}
 use Rattle.codeco_terms.specs.declared.rules.Label.{Label}
 use Rattle.codeco_terms.specs.declared.rules.Label.TheVariants as label
@@ -12,6 +12,7 @@ use Rattle.derivation_trees.specs.Sentences.{setting_of}
 use Rattle.derivation_trees.specs.Skeletons.{skeleton_of}
 use Rattle.logic_terms.specs.Free.{free_in, IsClosed}
 use Rattle.logic_terms.specs.Shown.{structure_of}
+use Rattle.logic_terms.specs.Structure.{referents_in}
 use Rattle.logic_terms.specs.Introduced.{IntroducesOnce}
 use Rattle.drs_build.specs.declared.building.Built.{Built}
 use Rattle.drs_build.specs.declared.building.Built.TheVariants.{Statement, Question, Free}
@@ -51,3 +52,9 @@ abbrev pub EachOnce : Built → Type 0
 EachOnce (Statement drs) = IntroducesOnce (structure_of drs)
 EachOnce (Question drs referent) = IntroducesOnce (structure_of drs)
 EachOnce (Free referent) = Unit {0}
+
+-- the referent that a question asks for is one that its structure introduces
+abbrev pub AskedIntroduced : Built → Type 0
+AskedIntroduced (Statement drs) = Unit {0}
+AskedIntroduced (Question drs referent) = Contains (referents_in (structure_of drs)) referent
+AskedIntroduced (Free referent) = Unit {0}

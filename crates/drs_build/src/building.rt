@@ -49,6 +49,7 @@ pub fn build(alloc: Global, grammar: &CheckedGrammar, skeleton: &Skeleton) -> Re
     ensures exact { IfOk result (built.Builds grammar.now skeleton.now) }
     ensures closed { IfOk result built.NoneFree }
     ensures once { IfOk result built.EachOnce }
+    ensures asked { IfOk result built.AskedIntroduced }
 {
     let grammar = grammar.grammar();
     let names = names_of(alloc, grammar, skeleton)?;

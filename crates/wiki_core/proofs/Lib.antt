@@ -1,2 +1,8 @@
 pub mod CauseLemmas
+pub mod KnownLemmas
+pub mod MeaningLemmas
 pub mod MenuLemmas
+pub mod NameLemmas
+pub mod UniqueLemmas
+pub mod UseLemmas
+pub mod WordLemmas

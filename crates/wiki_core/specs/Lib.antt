@@ -1,12 +1,14 @@
 pub mod Faults
 pub mod Holding
+pub mod Judgements
+pub mod Kept
 pub mod Knowledge
 pub mod Meanings
-pub mod Objections
 pub mod Parsing
 pub mod Places
-pub mod Reading
+pub mod Refusing
 pub mod Senses
 pub mod State
 pub mod Step
+pub mod Telling
 pub mod Words

@@ -49,6 +49,12 @@ pub record IsNoSentence (g : GrammarParts) (words : Listed) (tokens : List (List
   pub follows : IsTextMenu g words (take count tokens) menu
   pub told : refusal ≡ NotSentence count (told_menu menu)
 
+-- the text has too many tokens, or has no derivation
+abbrev pub RefusesText : State → List ℕ → Refusal → Type 0
+RefusesText state text refusal =
+    ((MOST_TOKENS < length (tokens_of state text)) × (refusal ≡ full_at limits.Tokens))
+    ⊎ ((length (tokens_of state text) ≤ MOST_TOKENS) × IsNoSentence state.grammar state.words (tokens_of state text) refusal)
+
 -- the code of the least skeleton is told
 pub record TellsCode (old : State) (text : List ℕ) (reply : Reply) (new : State) : Type 0 where
   pub least : Skeleton

@@ -1,59 +1,47 @@
--- The places of sentences, and the first that a test or a fact picks.
-use Rattle.std.specs.Prelude.{◌≡◌, ◌≢◌, ℕ, ◌+◌, ◌==◌, ◌||◌, Bool, false, List, [], ◌∷◌, ◌⊎◌}
-use Rattle.std.specs.List.{flat_map, list_any}
-use Rattle.std.specs.Option.{option_map_or}
+-- The articles and sentences that texts and places name, and the first of the sentences with a property.
+use Rattle.std.specs.Prelude.{◌≡◌, ℕ, ◌+◌, List, [], ◌∷◌, take, slice_get, All, Option, Some, option_and_then}
+use Rattle.std.specs.List.{flat_map}
 use Rattle.wiki_base.specs.declared.numbers.WordId.{WordId}
-use Rattle.lexicon.specs.Words.{Listed, owner}
-use Rattle.lexicon.specs.declared.words.Word.{Word}
+use Rattle.lexicon.specs.Words.{owner}
 use Rattle.articles.specs.declared.sentences.Sentence.{Sentence}
 use Rattle.articles.specs.declared.article.Article.{Article}
-use Rattle.derivation_trees.specs.Sentences.{IsSentence}
+use Rattle.articles.specs.Articles.{article_of, sentence_at}
 use Rattle.wiki_core.specs.State.{State}
-use Rattle.wiki_core.specs.Senses.{Sense, Mean}
 
--- a sentence with its place: the word of its article, and how many sentences stand before it
+-- the live word that has the form
+abbrev pub word_named : State → List ℕ → Option WordId
+word_named state text = owner state.words.live text
+
+-- the article of the live word that has the form
+abbrev pub article_named : State → List ℕ → Option Article
+article_named state text = option_and_then (article_of state.articles) (word_named state text)
+
+-- the sentence at a place of that article
+abbrev pub sentence_named : State → List ℕ → ℕ → Option Sentence
+sentence_named state text place = option_and_then (λ word. sentence_at state.articles word place) (word_named state text)
+
+-- a sentence, the word of its article, and its place in it
 pub record Placed : Type 0 where
   pub word : WordId
-  pub at : ℕ
+  pub place : ℕ
   pub sentence : Sentence
 
+-- sentences of a word's article, of which the first stands at the place
 abbrev pub placed_from : WordId → ℕ → List Sentence → List Placed
-placed_from word at [] = []
-placed_from word at (sentence ∷ sentences) =
-    record { word = word; at = at; sentence = sentence } ∷ placed_from word (at + 1) sentences
+placed_from word place [] = []
+placed_from word place (sentence ∷ sentences) = record { word = word; place = place; sentence = sentence } ∷ placed_from word (place + 1) sentences
 
--- all sentences with their places, articles in order of their words' numbers
-abbrev pub places : List Article → List Placed
-places articles = flat_map (λ article. placed_from article.word 0 article.sentences) articles
+-- the sentences of an article, in order
+abbrev pub placed_in : Article → List Placed
+placed_in article = placed_from article.word 0 article.sentences
 
--- the text is a form of the word
-abbrev pub is_form_of : List Word → WordId → List ℕ → Bool
-is_form_of live word text = option_map_or (λ other. other.0 == word.0) (owner live text) false
+-- all sentences: articles in order of word number, sentences in order
+abbrev pub all_placed : List Article → List Placed
+all_placed articles = flat_map placed_in articles
 
--- the place stands in the word's article, or its sentence has a form of the word
-abbrev pub uses : List Word → WordId → Placed → Bool
-uses live word placed = (placed.word.0 == word.0) || list_any (is_form_of live word) placed.sentence.tokens
-
--- the sentence means by these words what it meant by the old ones
-pub record Keeps (state : State) (words : Listed) (sentence : Sentence) : Type 0 where
-  pub sense : Sense
-  pub before : Mean state.grammar state.words sentence.tokens sense
-  pub after : Mean state.grammar words sentence.tokens sense
-
--- it means something else
-pub record MeansOther (state : State) (words : Listed) (sentence : Sentence) : Type 0 where
-  pub sense : Sense
-  pub other : Sense
-  pub before : Mean state.grammar state.words sentence.tokens sense
-  pub after : Mean state.grammar words sentence.tokens other
-  pub differ : sense ≢ other
-
--- the sentence loses its derivation, or means something else
-abbrev pub Breaks : State → Listed → Sentence → Type 0
-Breaks state words sentence = (¬ IsSentence state.grammar words sentence.tokens) ⊎ MeansOther state words sentence
-
--- the first of these places whose sentence breaks
-abbrev pub IsFirstBroken : State → Listed → List Placed → Placed → Type 0
-IsFirstBroken state words [] first = ⊥
-IsFirstBroken state words (placed ∷ others) first =
-    (Breaks state words placed.sentence × (first ≡ placed)) ⊎ (Keeps state words placed.sentence × IsFirstBroken state words others first)
+-- the first of these sentences that has the property
+pub record IsFirstPlaced (P : Placed → Type 0) (sentences : List Placed) (found : Placed) : Type 0 where
+  pub count : ℕ
+  pub here : slice_get sentences count ≡ Some found
+  pub holds : P found
+  pub earlier : All (λ other. ¬ P other) (take count sentences)

@@ -1,10 +1,9 @@
 -- The plain wiki: one step of it for each request.
-use Rattle.std.specs.Prelude.{◌≡◌, ℕ, ◌++◌, List, [], ◌∷◌, length, insert, remove, slice_set, slice_get, option_map, unwrap_or, Option, Some, None}
-use Rattle.std.specs.List.{AllZip}
+use Rattle.std.specs.Prelude.{◌≡◌, ℕ, List, [], ◌∷◌, ◌++◌, length, insert, remove, slice_set, unwrap_or, Option, Some, None, option_map}
 use Rattle.wiki_base.specs.declared.numbers.WordId.{WordId}
 use Rattle.lexicon.specs.declared.kinds.Kind.{Kind}
 use Rattle.lexicon.specs.declared.kinds.Forms.{Forms}
-use Rattle.lexicon.specs.Words.{with_word, with_forms, without_word, next_word, owner, forms_of, canonical_form_of}
+use Rattle.lexicon.specs.Words.{with_word, with_forms, without_word, next_word, forms_of, canonical_form_of}
 use Rattle.wiki_talk.specs.declared.statuses.Status.{Status}
 use Rattle.wiki_talk.specs.declared.statuses.Status.TheVariants.{Asserted, Retracted}
 use Rattle.wiki_talk.specs.declared.refusals.Refusal.{Refusal}
@@ -15,28 +14,50 @@ use Rattle.wiki_talk.specs.declared.requests.Request.{Request}
 use Rattle.wiki_talk.specs.declared.requests.Request.TheVariants as requests
 use Rattle.articles.specs.declared.sentences.Sentence.{Sentence}
 use Rattle.articles.specs.declared.article.Article.{Article}
-use Rattle.articles.specs.Articles.{article_of, sentence_at, new_article, without_article, with_status}
-use Rattle.wiki_core.specs.State.{State, with_sentences}
-use Rattle.wiki_core.specs.Senses.{Sense, Mean}
-use Rattle.wiki_core.specs.Knowledge.{GetsStatus}
-use Rattle.wiki_core.specs.Reading.{IsToldAs, told_sense}
-use Rattle.wiki_core.specs.Parsing.{tokens_of, TellsCode}
-use Rattle.wiki_core.specs.Words.{word_with, told_word, told_words, forms_given}
-use Rattle.wiki_core.specs.Objections.{IsFirst, objections, forms_for}
+use Rattle.articles.specs.Articles.{new_article, without_article, with_change, with_status}
+use Rattle.wiki_core.specs.State.{State}
+use Rattle.wiki_core.specs.Words.{word_with, told_word, told_words, forms_given, word_refusal}
+use Rattle.wiki_core.specs.Places.{word_named, article_named, sentence_named}
+use Rattle.wiki_core.specs.Parsing.{tokens_of, RefusesText, TellsCode}
+use Rattle.wiki_core.specs.Meanings.{Meaning, Means}
+use Rattle.wiki_core.specs.Knowledge.{GetStatus}
+use Rattle.wiki_core.specs.Telling.{told_meaning, TellsSentences}
+use Rattle.wiki_core.specs.Refusing.{FirstOf, NamesNoWord, IsBadReword, BreaksSentence, IsInUse, HasNoSentenceAt, IsPastEnd, IsFullOfSentences, HasTooManyTokens, IsAtLastRevision, HasNoDerivation, HasBadStatus, may_retract, may_reassert}
 
 -- ---- why a request is refused
 
--- the refusal tells the first objection that stands against the request
+-- the refusal tells the first cause that stands against the request
 abbrev pub Refuses : State → Request → Refusal → Type 0
-Refuses state request refusal = IsFirst state (objections request) refusal
+Refuses state (requests.Word kind texts) refusal = word_refusal state.words kind texts ≡ Some refusal
+Refuses state (requests.Find text) refusal = NamesNoWord state text refusal
+Refuses state requests.Words refusal = ⊥
+Refuses state (requests.Parse text) refusal = RefusesText state text refusal
+Refuses state (requests.Reword text texts) refusal = FirstOf (NamesNoWord state text ∷ IsBadReword state text texts ∷ BreaksSentence state text texts ∷ []) refusal
+Refuses state (requests.Unword text) refusal = FirstOf (NamesNoWord state text ∷ IsInUse state text ∷ []) refusal
+Refuses state (requests.Add article given text) refusal =
+    FirstOf (NamesNoWord state article ∷ IsPastEnd state article given ∷ IsFullOfSentences state ∷ HasTooManyTokens state text
+    ∷ IsAtLastRevision state article ∷ HasNoDerivation state text ∷ []) refusal
+Refuses state (requests.Edit article place text) refusal =
+    FirstOf (NamesNoWord state article ∷ HasNoSentenceAt state article place ∷ HasTooManyTokens state text
+    ∷ IsAtLastRevision state article ∷ HasNoDerivation state text ∷ []) refusal
+Refuses state (requests.Remove article place) refusal =
+    FirstOf (NamesNoWord state article ∷ HasNoSentenceAt state article place ∷ IsAtLastRevision state article ∷ []) refusal
+Refuses state (requests.Retract article place) refusal =
+    FirstOf (NamesNoWord state article ∷ HasNoSentenceAt state article place ∷ IsAtLastRevision state article
+    ∷ HasBadStatus state may_retract article place ∷ []) refusal
+Refuses state (requests.Reassert article place) refusal =
+    FirstOf (NamesNoWord state article ∷ HasNoSentenceAt state article place ∷ IsAtLastRevision state article
+    ∷ HasBadStatus state may_reassert article place ∷ []) refusal
+Refuses state (requests.Read article) refusal = NamesNoWord state article refusal
+Refuses state (requests.Axioms article place) refusal = FirstOf (NamesNoWord state article ∷ HasNoSentenceAt state article place ∷ []) refusal
 
 -- nothing stands against the request
 abbrev pub IsFree : State → Request → Type 0
 IsFree state request = (refusal : Refusal) → ¬ Refuses state request refusal
 
--- ---- what a request does
+-- ---- what a request does to words
 
--- a word is added under the next number, with an article without sentences
+-- a word is added under the next number, with an empty article
 pub record AddsWord (old : State) (kind : Kind) (texts : List (List ℕ)) (reply : Reply) (new : State) : Type 0 where
   pub answer : reply ≡ replies.Word
   pub after : new ≡ record old {
@@ -56,98 +77,115 @@ pub record TellsWords (old : State) (reply : Reply) (new : State) : Type 0 where
   pub answer : reply ≡ replies.Words (told_words old.words)
   pub after : new ≡ old
 
--- the word gets other forms, and its sentences keep their tokens
+-- the word that has the form gets other forms, and all sentences stay
 pub record RewordsWord (old : State) (text : List ℕ) (texts : List (List ℕ)) (reply : Reply) (new : State) : Type 0 where
   pub word : WordId
-  pub named : owner old.words.live text ≡ Some word
+  pub named : word_named old text ≡ Some word
   pub forms : Forms
-  pub had : forms_of old.words.live word ≡ Some forms
+  pub of_word : forms_of old.words.live word ≡ Some forms
   pub answer : reply ≡ replies.Reword
-  pub after : new ≡ record old { words = with_forms old.words word (forms_for forms texts) }
+  pub after : new ≡ record old { words = with_forms old.words word (forms_given forms.kind texts) }
 
--- the word goes, and its article
+-- the word that has the form goes, and its empty article
 pub record RemovesWord (old : State) (text : List ℕ) (reply : Reply) (new : State) : Type 0 where
   pub word : WordId
-  pub named : owner old.words.live text ≡ Some word
+  pub named : word_named old text ≡ Some word
   pub answer : reply ≡ replies.Unword
   pub after : new ≡ record old { words = without_word old.words word; articles = without_article old.articles word }
 
--- a sentence of these tokens with a status
-abbrev pub sentence : List (List ℕ) → Status → Sentence
-sentence tokens status = record { tokens = tokens; status = status }
+-- ---- what a request does to sentences
 
--- a change of an article by which a sentence of these tokens comes in, or is taken up again, with a status that it gets from
--- the wiki in which it is taken as asserted
-pub record TakesUp (old : State) (word : WordId) (tokens : List (List ℕ)) (change : Status → List Sentence → List Sentence) (status : Status) (new : State) : Type 0 where
-  pub sense : Sense
-  pub means : Mean old.grammar old.words tokens sense
-  pub gets : GetsStatus (with_sentences old word (change Asserted)) sense status
-  pub after : new ≡ with_sentences old word (change status)
+-- the wiki with a sentence at a place of an article, before the one that is there
+abbrev pub with_inserted : State → WordId → ℕ → Sentence → State
+with_inserted old word place sentence = record old { articles = with_change old.articles word (λ sentences. insert sentences place sentence) }
 
--- a sentence is put in at a place, or behind the last
-pub record AddsSentence (old : State) (article : List ℕ) (at : Option ℕ) (text : List ℕ) (reply : Reply) (new : State) : Type 0 where
+-- the wiki with a sentence in place of the one at a place of an article
+abbrev pub with_replaced : State → WordId → ℕ → Sentence → State
+with_replaced old word place sentence = record old { articles = with_change old.articles word (λ sentences. slice_set sentences place sentence) }
+
+-- the wiki without the sentence at a place of an article
+abbrev pub with_taken : State → WordId → ℕ → State
+with_taken old word place = record old { articles = with_change old.articles word (λ sentences. remove sentences place) }
+
+-- the wiki with another status for the sentence at a place of an article
+abbrev pub with_marked : State → WordId → ℕ → Status → State
+with_marked old word place status = record old { articles = with_change old.articles word (λ sentences. with_status sentences place status) }
+
+-- the tokens of a text as a sentence with a status
+abbrev pub sentence_with : State → List ℕ → Status → Sentence
+sentence_with state text status = record { tokens = tokens_of state text; status = status }
+
+-- the place that is given, or the end of the article
+abbrev pub place_for : State → List ℕ → Option ℕ → Option ℕ
+place_for state article given = option_map (λ found. unwrap_or given (length found.sentences)) (article_named state article)
+
+-- a sentence is inserted at the place that is given, or at the end, with the status that it gets there
+pub record AddsSentence (old : State) (article : List ℕ) (given : Option ℕ) (text : List ℕ) (reply : Reply) (new : State) : Type 0 where
   pub word : WordId
-  pub named : owner old.words.live article ≡ Some word
-  pub found : Article
-  pub there : article_of old.articles word ≡ Some found
+  pub named : word_named old article ≡ Some word
+  pub place : ℕ
+  pub at_place : place_for old article given ≡ Some place
   pub status : Status
-  pub takes : TakesUp old word (tokens_of old text) (λ s sentences. insert sentences (unwrap_or at (length found.sentences)) (sentence (tokens_of old text) s)) status new
+  pub gets : GetStatus (with_inserted old word place (sentence_with old text Asserted)) (tokens_of old text) status
   pub answer : reply ≡ replies.Add status
+  pub after : new ≡ with_inserted old word place (sentence_with old text status)
 
--- a sentence is put in place of another, which leaves
-pub record EditsSentence (old : State) (article : List ℕ) (at : ℕ) (text : List ℕ) (reply : Reply) (new : State) : Type 0 where
+-- a sentence is put in place of another, with the status that it gets there, where the other one has left the knowledge
+pub record EditsSentence (old : State) (article : List ℕ) (place : ℕ) (text : List ℕ) (reply : Reply) (new : State) : Type 0 where
   pub word : WordId
-  pub named : owner old.words.live article ≡ Some word
+  pub named : word_named old article ≡ Some word
   pub status : Status
-  pub takes : TakesUp old word (tokens_of old text) (λ s sentences. slice_set sentences at (sentence (tokens_of old text) s)) status new
+  pub gets : GetStatus (with_replaced old word place (sentence_with old text Asserted)) (tokens_of old text) status
   pub answer : reply ≡ replies.Edit status
+  pub after : new ≡ with_replaced old word place (sentence_with old text status)
 
--- a sentence leaves
-pub record RemovesSentence (old : State) (article : List ℕ) (at : ℕ) (reply : Reply) (new : State) : Type 0 where
+-- the sentence at the place is taken out
+pub record RemovesSentence (old : State) (article : List ℕ) (place : ℕ) (reply : Reply) (new : State) : Type 0 where
   pub word : WordId
-  pub named : owner old.words.live article ≡ Some word
+  pub named : word_named old article ≡ Some word
   pub answer : reply ≡ replies.Remove
-  pub after : new ≡ with_sentences old word (λ sentences. remove sentences at)
+  pub after : new ≡ with_taken old word place
 
--- a sentence is retracted
-pub record RetractsSentence (old : State) (article : List ℕ) (at : ℕ) (reply : Reply) (new : State) : Type 0 where
+-- the sentence at the place becomes a retracted one
+pub record RetractsSentence (old : State) (article : List ℕ) (place : ℕ) (reply : Reply) (new : State) : Type 0 where
   pub word : WordId
-  pub named : owner old.words.live article ≡ Some word
+  pub named : word_named old article ≡ Some word
   pub answer : reply ≡ replies.Retract Retracted
-  pub after : new ≡ with_sentences old word (λ sentences. with_status sentences at Retracted)
+  pub after : new ≡ with_marked old word place Retracted
 
--- a sentence is taken up again
-pub record ReassertsSentence (old : State) (article : List ℕ) (at : ℕ) (reply : Reply) (new : State) : Type 0 where
+-- the sentence at the place gets the status that it gets as a new one
+pub record ReassertsSentence (old : State) (article : List ℕ) (place : ℕ) (reply : Reply) (new : State) : Type 0 where
   pub word : WordId
-  pub named : owner old.words.live article ≡ Some word
-  pub again : Sentence
-  pub there : sentence_at old.articles word at ≡ Some again
+  pub named : word_named old article ≡ Some word
+  pub sentence : Sentence
+  pub here : sentence_named old article place ≡ Some sentence
   pub status : Status
-  pub takes : TakesUp old word again.tokens (λ s sentences. with_status sentences at s) status new
+  pub gets : GetStatus (with_marked old word place Asserted) sentence.tokens status
   pub answer : reply ≡ replies.Reassert status
+  pub after : new ≡ with_marked old word place status
 
--- an article is told: its word's canonical form, how often it was changed, and its sentences in order
+-- ---- what is told of sentences
+
+-- an article is told: the canonical form of its word, its revision and its sentences
 pub record TellsArticle (old : State) (text : List ℕ) (reply : Reply) (new : State) : Type 0 where
   pub word : WordId
-  pub named : owner old.words.live text ≡ Some word
-  pub article : Article
-  pub there : article_of old.articles word ≡ Some article
+  pub named : word_named old text ≡ Some word
   pub form : List ℕ
-  pub canonical : canonical_form_of old.words.live word ≡ Some form
+  pub spelled : canonical_form_of old.words.live word ≡ Some form
+  pub article : Article
+  pub found : article_named old text ≡ Some article
   pub views : List SentenceView
-  pub told : AllZip (IsToldAs old) article.sentences views
+  pub tells : TellsSentences old article.sentences views
   pub answer : reply ≡ replies.Read form article.revision.0 views
   pub after : new ≡ old
 
--- what a sentence means is told
-pub record TellsSense (old : State) (article : List ℕ) (at : ℕ) (reply : Reply) (new : State) : Type 0 where
-  pub word : WordId
-  pub named : owner old.words.live article ≡ Some word
-  pub asked : Sentence
-  pub there : sentence_at old.articles word at ≡ Some asked
-  pub sense : Sense
-  pub means : Mean old.grammar old.words asked.tokens sense
-  pub answer : reply ≡ replies.Axioms (told_sense old.words sense)
+-- the meaning of the sentence at the place is told
+pub record TellsMeaning (old : State) (article : List ℕ) (place : ℕ) (reply : Reply) (new : State) : Type 0 where
+  pub sentence : Sentence
+  pub here : sentence_named old article place ≡ Some sentence
+  pub meaning : Meaning
+  pub means : Means old.grammar old.words sentence.tokens meaning
+  pub answer : reply ≡ replies.Axioms (told_meaning old.words meaning)
   pub after : new ≡ old
 
 abbrev pub Does : State → Request → Reply → State → Type 0
@@ -155,17 +193,17 @@ Does old (requests.Word kind texts) reply new = AddsWord old kind texts reply ne
 Does old (requests.Find text) reply new = TellsWord old text reply new
 Does old requests.Words reply new = TellsWords old reply new
 Does old (requests.Parse text) reply new = TellsCode old text reply new
-Does old (requests.Reword word texts) reply new = RewordsWord old word texts reply new
-Does old (requests.Unword word) reply new = RemovesWord old word reply new
-Does old (requests.Add article at text) reply new = AddsSentence old article at text reply new
-Does old (requests.Edit article at text) reply new = EditsSentence old article at text reply new
-Does old (requests.Remove article at) reply new = RemovesSentence old article at reply new
-Does old (requests.Retract article at) reply new = RetractsSentence old article at reply new
-Does old (requests.Reassert article at) reply new = ReassertsSentence old article at reply new
+Does old (requests.Reword text texts) reply new = RewordsWord old text texts reply new
+Does old (requests.Unword text) reply new = RemovesWord old text reply new
+Does old (requests.Add article given text) reply new = AddsSentence old article given text reply new
+Does old (requests.Edit article place text) reply new = EditsSentence old article place text reply new
+Does old (requests.Remove article place) reply new = RemovesSentence old article place reply new
+Does old (requests.Retract article place) reply new = RetractsSentence old article place reply new
+Does old (requests.Reassert article place) reply new = ReassertsSentence old article place reply new
 Does old (requests.Read article) reply new = TellsArticle old article reply new
-Does old (requests.Axioms article at) reply new = TellsSense old article at reply new
+Does old (requests.Axioms article place) reply new = TellsMeaning old article place reply new
 
--- One step of the wiki: the first objection that stands against a request is told, and changes nothing; a request against
+-- One step of the wiki: the first cause that stands against a request is told, and changes nothing; a request against
 -- which nothing stands is done.
 abbrev pub Step : State → Request → Reply → State → Type 0
 Step old request (replies.Refused refusal) new = Refuses old request refusal × (new ≡ old)

@@ -1,13 +1,19 @@
 //! The wiki: its state, and one step of it for each request.
 #![tactic(auto)]
 
+mod answering;
 mod faults;
+mod judging;
 mod keeping;
-mod meaning;
+mod knowing;
+mod meant;
+mod names;
 mod parsing;
+mod sense;
 #[cfg(test)]
 mod tests;
 mod told;
+mod uses;
 mod wiki;
 mod words;
 

@@ -1,25 +1,26 @@
 // The wiki and its step.
-ghost use Rattle.std.specs.Prelude.{◌≡◌, ◌≤◌, ℕ, List, length, IsTrue, IfOk, OnErr, option_copied};
+ghost use Rattle.std.specs.Prelude.{◌≡◌, ◌≤◌, ◌<◌, ◌^◌, ℕ, List, length, find, IsTrue, IsSome, IfOk, IfSome, OnErr, Some, option_copied, option_map};
 ghost use Rattle.wiki_base.specs.declared.tokens.TheConstants.{MOST_TOKENS};
+ghost use Rattle.lexicon.specs.declared.words.TheConstants.{LAST_NUMBER};
+ghost use Rattle.wiki_talk.specs.declared.refusals.Refusal.{Refusal as TheRefusal};
+ghost use Rattle.wiki_core.specs.Words.{word_refusal};
 
 use crate::faults::Fault;
-use crate::keeping::first_model;
 use crate::parsing::{no_sentence, told_code, too_many_tokens};
-use crate::told::{told_word, told_words};
+use crate::told::{told_text, told_word, told_words};
+use crate::uses::first_use;
 use crate::words::add_word;
 use articles::Articles;
 use codeco_checked::CheckedGrammar;
 use derivations::{Cut, cut, plain_least};
 use lexicon::{Forms, Kind, Lexicon};
 use lists::Copied;
-use owl_eval::CheckedModel;
 use std::alloc::Global;
 use std::marker::Model;
-use wiki_base::{Memory, Text8, Tokens};
+use wiki_base::{Memory, Text8, Tokens, WordId};
 use wiki_talk::{Refusal, Reply, Request};
 
-/// A wiki. It is seen as its state, the grammar, the budget of a search, the live words and their articles, beside the
-/// interpretation and the axioms of the model that it keeps.
+/// A wiki. It is seen as its state: the grammar, the budget of a search, the live words and their articles.
 #[derive(Drop)]
 pub struct Wiki {
     alloc: Global,
@@ -27,49 +28,51 @@ pub struct Wiki {
     budget: u64,
     lexicon: Lexicon,
     articles: Articles,
-    kept: CheckedModel,
+    // The last number that was given to a word.
+    last: u32,
 }
 
 impl Model for Wiki {
-    ghost use Rattle.owl_eval.specs.Checked.{kept_interp, kept_claims};
-    ghost use Rattle.wiki_core.specs.Holding.{Holding, IsKept};
+    ghost use Rattle.wiki_core.specs.State.{State, IsSound};
 
-    ghost Value = { Holding };
+    ghost Value = { State };
 
-    ghost view = { λ w. record { state = record { grammar = w.grammar; budget = w.budget; words = w.lexicon; articles = w.articles }; interpretation = kept_interp w.kept; claims = kept_claims w.kept } };
+    ghost view = { λ w. record { grammar = w.grammar; budget = w.budget; words = w.lexicon; articles = w.articles } };
 
-    ghost invariant = { λ w. IsKept (record { state = record { grammar = w.grammar; budget = w.budget; words = w.lexicon; articles = w.articles }; interpretation = kept_interp w.kept; claims = kept_claims w.kept }) };
+    ghost invariant = { λ w. IsSound (record { grammar = w.grammar; budget = w.budget; words = w.lexicon; articles = w.articles }) × (w.last ≡ w.lexicon.last) };
 }
 
 impl Wiki {
     ghost use Rattle.codeco_checked.specs.Sound.{is_labelled};
-    ghost use Rattle.wiki_core.specs.Holding.{first_holding, IsKept};
+    ghost use Rattle.wiki_core.specs.State.{first_state};
     ghost use Rattle.wiki_core.specs.Parsing.{tokens_of};
     ghost use Rattle.wiki_core.specs.Step.{Step};
+    ghost use Rattle.lexicon.specs.declared.kinds.Forms.{Forms as TheForms};
+    ghost use Rattle.lexicon.specs.Words.{forms_of, canonical_form_of};
+    ghost use Rattle.wiki_core.specs.Places.{all_placed};
+    ghost use Rattle.wiki_core.specs.Refusing.{uses_word};
     ghost use Rattle.wiki_core.specs.Words.{word_with};
 
     /// A wiki without words, over a grammar in which each rule has a label. A search may take `budget` steps.
     pub fn new(alloc: Global, grammar: CheckedGrammar, budget: u64) -> Result<Wiki, Memory>
         requires { IsTrue (is_labelled grammar) }
-        ensures { IfOk result (λ wiki. wiki ≡ first_holding grammar budget) }
+        ensures { IfOk result (λ wiki. wiki ≡ first_state grammar budget) }
     {
         let lexicon = Lexicon::new(alloc, grammar.grammar())?;
         let articles = Articles::new(alloc)?;
-        let kept = first_model(alloc)?;
         Ok(Wiki {
             alloc,
             grammar,
             budget,
             lexicon,
             articles,
-            kept,
+            last: 0,
         })
     }
 
     /// Does one request, or refuses it, which changes nothing.
     pub fn step(&mut self, request: &Request) -> Result<Reply, Memory>
-        ensures step { IfOk result (λ reply. Step self.old.state request.now reply self.new.state) }
-        ensures kept { IsKept self.new }
+        ensures step { IfOk result (λ reply. Step self.old request.now reply self.new) }
         ensures memory { OnErr result (self.new ≡ self.old) }
     {
         match request {
@@ -77,25 +80,81 @@ impl Wiki {
             Request::Find { word } => self.find(word),
             Request::Words => self.words(),
             Request::Parse { text } => self.parse(text),
+            Request::Unword { word } => self.unword(word),
+            // The others wait for the calls that tell a sentence's meaning and verdict.
             _ => Err(Memory),
         }
     }
 
-    // Adds a word.
+    // Adds a word, with an empty article. The article comes first, since it can be taken out again.
     fn add(&mut self, kind: Kind, forms: &[Text8]) -> Result<Reply, Memory>
-        ensures step { IfOk result (λ reply. Step self.old.state (Request.Word kind forms.now) reply self.new.state) }
+        ensures step { IfOk result (λ reply. Step self.old (Request.Word kind forms.now) reply self.new) }
         ensures memory { OnErr result (self.new ≡ self.old) }
     {
+        let Some(number) = self.last.checked_add(1) else {
+            return refuse_word(self.alloc, &mut self.lexicon, kind, forms);
+        };
+        let word = WordId(number);
+        self.articles.begin(word)?;
         match add_word(self.alloc, &mut self.lexicon, kind, forms) {
-            Ok(()) => Ok(Reply::Word),
-            Err(Fault::Refused(refusal)) => Ok(Reply::Refused(refusal)),
-            Err(Fault::Memory) => Err(Memory),
+            Ok(()) => {
+                self.last = number;
+                Ok(Reply::Word)
+            }
+            Err(fault) => {
+                self.articles.end(word);
+                refused(fault)
+            }
+        }
+    }
+
+    // Takes a word out, with its empty article.
+    fn unword(&mut self, text: &Text8) -> Result<Reply, Memory>
+        ensures step { IfOk result (λ reply. Step self.old (Request.Unword text.now) reply self.new) }
+        ensures memory { OnErr result (self.new ≡ self.old) }
+    {
+        let Some(word) = self.lexicon.find(text.as_str()) else {
+            return Ok(Reply::Refused(Refusal::NoWord { text: text.copy()? }));
+        };
+        match self.use_of(word) {
+            Some((article, at)) => Ok(Reply::Refused(self.in_use(article, at)?)),
+            None => {
+                self.articles.end(word);
+                let _ = self.lexicon.remove(word);
+                Ok(Reply::Unword)
+            }
+        }
+    }
+
+    // The first place that needs a live word.
+    fn use_of(&self, word: WordId) -> Option<(WordId, usize)>
+        ensures { (forms : TheForms) → forms_of self.now.words.live word ≡ Some forms
+            → result ≡ option_map (λ placed. (placed.word, placed.place)) (find (uses_word word forms) (all_placed self.now.articles)) }
+    {
+        match self.lexicon.word(word) {
+            Some(forms) => first_use(self.articles.as_slice(), word, forms),
+            None => None,
+        }
+    }
+
+    // Tells a place that needs a word.
+    fn in_use(&self, article: WordId, at: usize) -> Result<Refusal, Memory>
+        requires fits { at < 2 ^ 32 }
+        requires lives { IsSome (forms_of self.now.words.live article) }
+        ensures { IfOk result (λ refusal. IfSome (canonical_form_of self.now.words.live article) (λ form. refusal ≡ Refusal.InUse form at)) }
+    {
+        match self.lexicon.word(article) {
+            Some(forms) => Ok(Refusal::InUse {
+                article: told_text(self.alloc, forms.canonical())?,
+                at: at as u32,
+            }),
+            None => unreachable!(),
         }
     }
 
     // Tells the word that has this form.
     fn find(&self, word: &Text8) -> Result<Reply, Memory>
-        ensures { IfOk result (λ reply. Step self.now.state (Request.Find word.now) reply self.now.state) }
+        ensures { IfOk result (λ reply. Step self.now (Request.Find word.now) reply self.now) }
     {
         match self.found(word.as_str()) {
             Some(forms) => Ok(Reply::Find {
@@ -107,14 +166,14 @@ impl Wiki {
 
     // The forms of the word that has this one.
     fn found(&self, form: &str) -> Option<&Forms>
-        ensures { option_copied result ≡ word_with self.now.state.words form.now }
+        ensures { option_copied result ≡ word_with self.now.words form.now }
     {
         self.lexicon.find(form).and_then(|id| self.lexicon.word(id))
     }
 
     // Tells all words.
     fn words(&self) -> Result<Reply, Memory>
-        ensures { IfOk result (λ reply. Step self.now.state Request.Words reply self.now.state) }
+        ensures { IfOk result (λ reply. Step self.now Request.Words reply self.now) }
     {
         Ok(Reply::Words {
             words: told_words(self.alloc, &self.lexicon)?,
@@ -122,7 +181,7 @@ impl Wiki {
     }
     // Tells the code of a text.
     fn parse(&self, text: &Text8) -> Result<Reply, Memory>
-        ensures { IfOk result (λ reply. Step self.now.state (Request.Parse text.now) reply self.now.state) }
+        ensures { IfOk result (λ reply. Step self.now (Request.Parse text.now) reply self.now) }
     {
         match cut(self.alloc, self.grammar.grammar(), text.as_str())? {
             Cut::TooMany => Ok(Reply::Refused(too_many_tokens())),
@@ -133,8 +192,8 @@ impl Wiki {
     // Tells the code of tokens.
     fn parse_tokens(&self, tokens: &Tokens) -> Result<Reply, Memory>
         requires { length tokens.now ≤ MOST_TOKENS }
-        ensures { IfOk result (λ reply. (text : List ℕ) → tokens_of self.now.state text ≡ tokens.now
-            → Step self.now.state (Request.Parse text) reply self.now.state) }
+        ensures { IfOk result (λ reply. (text : List ℕ) → tokens_of self.now text ≡ tokens.now
+            → Step self.now (Request.Parse text) reply self.now) }
     {
         match plain_least(self.alloc, &self.grammar, &self.lexicon, tokens)? {
             Some(least) => Ok(Reply::Parse {
@@ -147,5 +206,32 @@ impl Wiki {
                 tokens,
             )?)),
         }
+    }
+}
+
+// The reply that tells why a request changes nothing.
+fn refused(fault: Fault) -> Result<Reply, Memory>
+    ensures { IfOk result (λ reply. (refusal : TheRefusal) × (fault ≡ Fault.Refused refusal) × (reply ≡ Reply.Refused refusal)) }
+{
+    match fault {
+        Fault::Refused(refusal) => Ok(Reply::Refused(refusal)),
+        Fault::Memory => Err(Memory),
+    }
+}
+
+// Refuses a word where all numbers are given.
+fn refuse_word(
+    alloc: Global,
+    lexicon: &mut Lexicon,
+    kind: Kind,
+    forms: &[Text8],
+) -> Result<Reply, Memory>
+    requires { lexicon.old.last ≡ LAST_NUMBER }
+    ensures refused { IfOk result (λ reply. (refusal : TheRefusal) × (word_refusal lexicon.old kind forms.now ≡ Some refusal) × (reply ≡ Reply.Refused refusal)) }
+    ensures words { lexicon.new ≡ lexicon.old }
+{
+    match add_word(alloc, lexicon, kind, forms) {
+        Ok(()) => unreachable!(),
+        Err(fault) => refused(fault),
     }
 }

@@ -7,6 +7,7 @@ use Rattle.wiki_talk.specs.declared.refusals.Refusal.{Refusal}
 use Rattle.wiki_talk.specs.declared.refusals.Refusal.TheVariants.{NoWord, BadForm, Taken, Reserved, Full, NotSentence, NoPlace, InUse, Breaks, BadStatus}
 use Rattle.wiki_talk.specs.declared.statuses.Status.{Status}
 use Rattle.wiki_talk.specs.declared.replies.Meant.{Meant}
+use Rattle.wiki_talk.specs.declared.replies.SentenceView.{SentenceView}
 use Rattle.wiki_talk.specs.declared.replies.Meant.TheVariants as meant
 use Rattle.wiki_talk.specs.Limits.{name_of}
 use Rattle.wiki_talk.specs.Statuses.{status_name, cause_in, cause_name}
@@ -52,6 +53,13 @@ caused_value name status = object
     (member (codes "done") (string name)
     (member (codes "status") (string (status_name status)) no_members)))
 
+-- an article with its revision and its sentences
+abbrev pub read_value : ℕ → List SentenceView → Data
+read_value revision sentences = object
+    (member (codes "done") (string (codes "read"))
+    (member (codes "revision") (number (unsigned revision))
+    (member (codes "sentences") (array (sentences_items sentences)) no_members)))
+
 -- what a sentence means: its axioms, its class, or no axioms and the cause
 abbrev pub meant_members : Meant → Members
 meant_members (meant.Axioms axioms) =
@@ -81,10 +89,7 @@ reply_value (replies.Edit status) = caused_value (codes "edit") status
 reply_value replies.Remove = done_value (codes "remove")
 reply_value (replies.Retract status) = status_value (codes "retract") status
 reply_value (replies.Reassert status) = status_value (codes "reassert") status
-reply_value (replies.Read form revision sentences) = object
-    (member (codes "done") (string (codes "read"))
-    (member (codes "revision") (number (unsigned revision))
-    (member (codes "sentences") (array (sentences_items sentences)) no_members)))
+reply_value (replies.Read form revision sentences) = read_value revision sentences
 reply_value (replies.Axioms meant) = object (meant_members meant)
 reply_value (replies.Refused refusal) = refusal_value refusal
 

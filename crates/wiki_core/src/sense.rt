@@ -1,8 +1,7 @@
 // What tokens mean.
-ghost use Rattle.std.specs.Prelude.{◌≡◌, ◌≤◌, length, IsTrue, IfOk, IfSome, IfNone};
+ghost use Rattle.std.specs.Prelude.{◌≡◌, ◌≤◌, None, length, IsTrue, IfOk, IfSome, IfNone};
 ghost use Rattle.wiki_base.specs.declared.tokens.TheConstants.{MOST_TOKENS};
 ghost use Rattle.codeco_checked.specs.Sound.{is_labelled};
-ghost use Rattle.logic_terms.specs.Free.{IsClosed};
 ghost use Rattle.logic_terms.specs.Shown.{structure_of};
 ghost use Rattle.derivation_trees.specs.Sentences.{IsSentence};
 ghost use Rattle.derivation_trees.specs.Skeletons.{IsLeastSkeleton};
@@ -10,8 +9,8 @@ ghost use Rattle.std.specs.Option.{option_copied};
 ghost use Rattle.derivation_trees.specs.Derives.{rule_with};
 ghost use Rattle.drs_build.specs.Nodes.{label_of};
 ghost use Rattle.drs_build.specs.Built.{IsDerived, is_ask, is_question};
-ghost use Rattle.wiki_core.specs.Senses.{Mean, sense_of, statement_sense, question_sense};
-ghost use Rattle.wiki_core.specs.Meanings.{sense};
+ghost use Rattle.wiki_core.specs.Meanings.{Means, skeleton_meaning, statement_meaning, question_meaning};
+ghost use Rattle.wiki_core.specs.Senses.{meaning_in};
 
 use ace_to_owl::{Asked, Mapped, map_question, map_statement};
 use codeco_checked::CheckedGrammar;
@@ -25,7 +24,7 @@ use wiki_base::{Memory, Tokens};
 
 // The axioms that a statement states, the class that a question asks for, or why a statement or a question has none.
 #[derive(Drop)]
-pub(crate) enum Meaning {
+pub(crate) enum Sense {
     Axioms(Axioms),
     Class(Class),
     NoAxioms(Cause),
@@ -33,20 +32,20 @@ pub(crate) enum Meaning {
 }
 
 // What the tokens mean, if they have a derivation.
-pub(crate) fn meaning(
+pub(crate) fn sense(
     alloc: Global,
     grammar: &CheckedGrammar,
     lexicon: &Lexicon,
     tokens: &Tokens,
-) -> Result<Option<Meaning>, Memory>
+) -> Result<Option<Sense>, Memory>
     requires few { length tokens.now ≤ MOST_TOKENS }
     requires labelled { IsTrue (is_labelled grammar.now) }
 
-    ensures means { IfOk result (λ found. IfSome found (λ m. Mean grammar.now lexicon.now tokens.now (sense m))) }
+    ensures means { IfOk result (λ found. IfSome found (λ m. Means grammar.now lexicon.now tokens.now (meaning_in m))) }
     ensures none { IfOk result (λ found. IfNone found (IsSentence grammar.now lexicon.now tokens.now → ⊥)) }
 {
     match least(alloc, grammar, lexicon, tokens)? {
-        Some(skeleton) => Ok(Some(meaning_of(alloc, grammar, &skeleton)?)),
+        Some(skeleton) => Ok(Some(sense_of(alloc, grammar, &skeleton)?)),
         None => Ok(None),
     }
 }
@@ -68,44 +67,38 @@ fn least(
 }
 
 // What the skeleton of a derivation means.
-fn meaning_of(
-    alloc: Global,
-    grammar: &CheckedGrammar,
-    skeleton: &Skeleton,
-) -> Result<Meaning, Memory>
+fn sense_of(alloc: Global, grammar: &CheckedGrammar, skeleton: &Skeleton) -> Result<Sense, Memory>
     requires labelled { IsTrue (is_labelled grammar.now) }
     requires derived { IsDerived grammar.now skeleton.now }
-    ensures { IfOk result (λ m. sense m ≡ sense_of grammar.now skeleton.now) }
+    ensures { IfOk result (λ m. meaning_in m ≡ skeleton_meaning grammar.now skeleton.now) }
 {
     match build(alloc, grammar, skeleton)? {
         Built::Statement(drs) => stated(alloc, &drs),
         Built::Question(drs, referent) => asked(alloc, &drs, referent),
         Built::Free(_) if is_question(grammar.grammar(), skeleton) => {
-            Ok(Meaning::NoClass(Cause::Free))
+            Ok(Sense::NoClass(Cause::Free))
         }
-        Built::Free(_) => Ok(Meaning::NoAxioms(Cause::Free)),
+        Built::Free(_) => Ok(Sense::NoAxioms(Cause::Free)),
     }
 }
 
 // What a statement states in which no referent is free.
-fn stated(alloc: Global, drs: &Drs) -> Result<Meaning, Memory>
-    requires { IsClosed (structure_of drs.now) }
-    ensures { IfOk result (λ m. sense m ≡ statement_sense (structure_of drs.now)) }
+fn stated(alloc: Global, drs: &Drs) -> Result<Sense, Memory>
+    ensures { IfOk result (λ m. meaning_in m ≡ statement_meaning (structure_of drs.now) None) }
 {
     match map_statement(alloc, drs)? {
-        Mapped::Axioms(axioms) => Ok(Meaning::Axioms(axioms)),
-        Mapped::Outside(cause) => Ok(Meaning::NoAxioms(cause)),
+        Mapped::Axioms(axioms) => Ok(Sense::Axioms(axioms)),
+        Mapped::Outside(cause) => Ok(Sense::NoAxioms(cause)),
     }
 }
 
 // What a question asks for in which no referent is free.
-fn asked(alloc: Global, drs: &Drs, referent: u16) -> Result<Meaning, Memory>
-    requires { IsClosed (structure_of drs.now) }
-    ensures { IfOk result (λ m. sense m ≡ question_sense (structure_of drs.now) referent) }
+fn asked(alloc: Global, drs: &Drs, referent: u16) -> Result<Sense, Memory>
+    ensures { IfOk result (λ m. meaning_in m ≡ question_meaning (structure_of drs.now) referent None) }
 {
     match map_question(alloc, drs, referent)? {
-        Asked::Class(class) => Ok(Meaning::Class(class)),
-        Asked::Outside(cause) => Ok(Meaning::NoClass(cause)),
+        Asked::Class(class) => Ok(Sense::Class(class)),
+        Asked::Outside(cause) => Ok(Sense::NoClass(cause)),
     }
 }
 

@@ -3,9 +3,9 @@
 // elements the model of the finished branch has: 0 where all branches are closed.
 
 /// A row of the table.
-pub(crate) type Base = (u8, &'static str, u64, u64);
+pub type Base = (u8, &'static str, u64, u64);
 
-pub(crate) static BASES: [Base; 48] = [
+pub static BASES: [Base; 48] = [
     // No city (A) is a country (B), and Bern is a city, a country, or both.
     (1, "AB!< A1:", 1, 1),
     (1, "AB!< A1: B1:", 1, 0),

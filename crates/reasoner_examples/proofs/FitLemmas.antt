@@ -24,7 +24,7 @@ each_in names (c ∷ cs) = ap (λ b. is_fit names c && b) (each_in names cs)
 two_in : (cs : List Concept) → not (nat_lt (length cs) 2) ≡ has_two (concepts_from cs)
 two_in [] = refl
 two_in (c ∷ []) = refl
-two_in (c ∷ (d ∷ cs)) = ap not (le-ltb 2 (suc (suc (length cs))) (omega arith))
+two_in (c ∷ (d ∷ cs)) = ap not (le-ltb (suc (suc (length cs))) 2 (omega arith))
 
 in_members : (names : List WordId) (cs : List Concept) → members_fit names cs ≡ (has_two (concepts_from cs) && each_fit names (concepts_from cs))
 in_members names cs = ap (λ b. b && list_all (is_fit names) cs) (two_in cs) ∙ ap (λ b. has_two (concepts_from cs) && b) (each_in names cs)

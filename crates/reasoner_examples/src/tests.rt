@@ -1,5 +1,5 @@
 // How searches over small knowledge bases end, and what verdicts say of them.
-use crate::bases::BASES;
+use crate::bases::{BASES, NESTED};
 use crate::fitting::are_fit;
 use crate::models::has_small_model;
 use crate::reading::{names_of, read};
@@ -96,11 +96,27 @@ fn each_base_has_its_verdict(rt: HostRuntime) -> Result<(), Fail> {
     let alloc = rt.alloc();
     let kept = bare(alloc)?;
     for (names, axioms, steps, size) in BASES.iter() {
+        if *steps > 0 {
+            let early = judged(alloc, *names, axioms, &kept, *steps - 1)?;
+            assert!(rt; matches!(early, Verdict::Spent(_)), "{axioms}");
+        }
         match judged(alloc, *names, axioms, &kept, *steps)? {
             Verdict::Consistent(model) => assert_eq!(rt; model.interp().size(), *size, "{axioms}"),
             Verdict::Inconsistent(_) => assert_eq!(rt; 0, *size, "{axioms}"),
             Verdict::Spent(_) => assert!(rt; false, "{axioms}"),
         }
+    }
+    Ok(())
+}
+
+#[test]
+fn a_class_may_be_nested_deep(rt: HostRuntime) -> Result<(), Fail> {
+    let alloc = rt.alloc();
+    let kept = bare(alloc)?;
+    let (names, axioms, steps, size) = NESTED;
+    match judged(alloc, names, axioms, &kept, steps)? {
+        Verdict::Consistent(model) => assert_eq!(rt; model.interp().size(), size),
+        _ => assert!(rt; false, "a model"),
     }
     Ok(())
 }

@@ -1,4 +1,5 @@
-//! Gives verdicts on axioms that are drawn by a rule. With the word `time` it also tells how much processor time each took.
+//! Gives verdicts on the axioms of 200 sentences that are drawn by a rule. With the word `time` they are 2,000, and it also
+//! tells how much processor time each verdict took.
 #![tactic(auto)]
 
 use logic_terms::{Axiom, Axioms, Class, Names, Role};
@@ -9,8 +10,6 @@ use std::alloc::{AllocError, AllocFailed, Global};
 use std::time::CpuClock;
 use std::{env, io};
 use wiki_base::{Memory, WordId};
-
-const SENTENCES: u32 = 2_000;
 
 const NOUNS: u32 = 20;
 
@@ -117,10 +116,10 @@ fn axiom(alloc: Global, number: u32, draws: [u32; 3]) -> Result<Option<Axiom>, F
     Ok(drawn)
 }
 
-fn axioms(alloc: Global, seed: u32) -> Result<Axioms, Fault> {
+fn axioms(alloc: Global, sentences: u32, seed: u32) -> Result<Axioms, Fault> {
     let mut made = Axioms::new(alloc);
     let mut state = seed;
-    for number in 0..SENTENCES {
+    for number in 0..sentences {
         let first = drawn(state);
         let second = drawn(first);
         let third = drawn(second);
@@ -138,10 +137,15 @@ fn bare(alloc: Global) -> Result<CheckedModel, Fault> {
     CheckedModel::new(interp, Axioms::new(alloc)).map_err(|_| Fault::Axioms)
 }
 
-// The verdict on the axioms within a budget.
-fn judged(alloc: Global, kept: &CheckedModel, budget: u64) -> Result<Verdict, Fault> {
+// The verdict on the axioms of so many sentences within a budget.
+fn judged(
+    alloc: Global,
+    sentences: u32,
+    kept: &CheckedModel,
+    budget: u64,
+) -> Result<Verdict, Fault> {
     let names = names(alloc)?;
-    let axioms = axioms(alloc, 7)?;
+    let axioms = axioms(alloc, sentences, 7)?;
     if are_fit(&names, &axioms) {
         Ok(verdict(alloc, axioms, &names, kept, budget)?)
     } else {
@@ -149,26 +153,33 @@ fn judged(alloc: Global, kept: &CheckedModel, budget: u64) -> Result<Verdict, Fa
     }
 }
 
+// How many elements a verdict's model has, and 0 where it has none.
+fn size(verdict: &Verdict) -> u64 {
+    match verdict {
+        Verdict::Consistent(model) => model.interp().size(),
+        _ => 0,
+    }
+}
+
 fn main(rt: HostRuntime) -> Result<(), Fault> {
     let alloc = rt.alloc();
     let timed = env::args(&rt)?.count() > 1;
+    let (sentences, steps) = if timed { (2_000, 424) } else { (200, 245) };
     let none = bare(alloc)?;
-    if let Verdict::Spent(_) = judged(alloc, &none, 423)? {
-        println!(rt; "1600 axioms within 423 applications: spent")?;
+    if !timed {
+        let early = size(&judged(alloc, sentences, &none, steps - 1)?);
+        println!(rt; "{early} elements one application earlier")?;
     }
     let start = rt.thread_cpu_time()?;
-    let found = judged(alloc, &none, 424)?;
+    let found = judged(alloc, sentences, &none, steps)?;
     let searched = rt.thread_cpu_time()?.saturating_sub(start);
+    let elements = size(&found);
+    println!(rt; "{elements} elements after {steps} applications")?;
     if let Verdict::Consistent(model) = found {
-        let size = model.interp().size();
-        println!(rt; "1600 axioms within 424 applications: a model of {size} elements")?;
         let start = rt.thread_cpu_time()?;
-        let again = judged(alloc, &model, 0)?;
+        let again = size(&judged(alloc, sentences, &model, 0)?);
         let kept = rt.thread_cpu_time()?.saturating_sub(start);
-        if let Verdict::Consistent(same) = again {
-            let size = same.interp().size();
-            println!(rt; "1600 axioms with that model kept: a model of {size} elements")?;
-        }
+        println!(rt; "{again} elements with the model kept")?;
         if timed {
             let searched = searched.as_micros();
             let kept = kept.as_micros();

@@ -11,4 +11,4 @@ mod tests;
 pub use bases::{BASES, Base, NESTED};
 pub use fitting::are_fit;
 pub use models::has_small_model;
-pub use reading::{names_of, read};
+pub use reading::{first_names, names_of, read};

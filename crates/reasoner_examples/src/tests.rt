@@ -2,7 +2,7 @@
 use crate::bases::{BASES, NESTED};
 use crate::fitting::are_fit;
 use crate::models::has_small_model;
-use crate::reading::{names_of, read};
+use crate::reading::{first_names, names_of, read};
 use absorb::absorb;
 use closure_check::accepts;
 use logic_terms::{Axioms, Knowledge, Names};
@@ -142,6 +142,19 @@ fn no_small_model_is_overlooked(rt: HostRuntime) -> Result<(), Fail> {
         if has_small_model(alloc, &axioms, *names, text)? {
             assert!(rt; *size > 0, "{text}");
         }
+    }
+    Ok(())
+}
+
+#[test]
+fn each_of_many_names_is_an_element(rt: HostRuntime) -> Result<(), Fail> {
+    let alloc = rt.alloc();
+    let names = first_names(alloc, 500)?;
+    let axioms = read(alloc, "A1:")?;
+    assert!(rt; are_fit(&names, &axioms));
+    match verdict(alloc, axioms, &names, &bare(alloc)?, 0)? {
+        Verdict::Consistent(model) => assert_eq!(rt; model.interp().size(), 500),
+        _ => assert!(rt; false, "a model"),
     }
     Ok(())
 }

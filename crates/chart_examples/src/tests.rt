@@ -1,0 +1,98 @@
+// The words are Mary, cat and see, with the numbers 1, 2 and 3.
+use ace_grammar::built_in;
+use chart::has_derivation;
+use codeco_checked::CheckedGrammar;
+use codeco_reader::read_grammar;
+use derivation_trees::{Cut, cut};
+use lexicon::{Kind, Lexicon, forms};
+use std::alloc::Global;
+use std::process::Abort;
+use std::test::Fail;
+use wiki_base::Text;
+
+fn words(alloc: Global, grammar: &CheckedGrammar) -> Result<Lexicon, Fail> {
+    let mut lexicon = Lexicon::new(alloc, grammar.grammar())?;
+    for (kind, text) in [
+        (Kind::Name, "Mary"),
+        (Kind::Noun, "cat"),
+        (Kind::Verb, "see"),
+    ] {
+        let mut given = Vec::new(alloc);
+        given.push(Text::read(alloc, text)?)?;
+        let forms = forms(alloc, kind, given.as_slice())?;
+        if lexicon.add(&forms).is_err() {
+            return Err(Fail::new("a word that is free"));
+        }
+    }
+    Ok(lexicon)
+}
+
+// Whether the text has a derivation.
+fn derives(rt: &impl Abort, alloc: Global, grammar: &CheckedGrammar, text: &str) -> Result<bool, Fail> {
+    let lexicon = words(alloc, grammar)?;
+    let Cut::Tokens(tokens) = cut(alloc, grammar.grammar(), text)? else {
+        return Err(Fail::new("at most 40 tokens"));
+    };
+    assert!(rt; tokens.len() <= 40);
+    Ok(has_derivation(alloc, grammar, &lexicon, &tokens)?)
+}
+
+#[test]
+fn sentences_of_the_built_in_grammar_are_told(rt: HostRuntime) -> Result<(), Fail> {
+    let alloc = rt.alloc();
+    let grammar = built_in(alloc)?;
+    for (text, yes) in [
+        ("Mary sees a cat.", true),
+        ("If X sees Y then Y sees X.", true),
+        ("Every cat sees the cat.", true),
+        ("Every cat sees itself.", true),
+        ("Mary sees something that sees something that sees Mary.", true),
+        ("No cat sees a cat that sees Mary.", true),
+        ("Mary sees a cat and sees it.", true),
+        ("Mary sees it.", false),
+        ("Mary sees the cat.", false),
+        ("Mary sees a cat", false),
+        ("Mary sees an cat.", false),
+        ("X sees Y and Z", false),
+    ] {
+        assert_eq!(rt; derives(&rt, alloc, &grammar, text)?, yes, "{text}");
+    }
+    Ok(())
+}
+
+#[test]
+fn odd_grammars_derive_what_their_trees_do(rt: HostRuntime) -> Result<(), Fail> {
+    let alloc = rt.alloc();
+    for (grammar, text, yes) in [
+        ("feature k: p, q. feature id: position. text --> m n r [e]. m --> [m] #P > x(k: p, id: P). n --> [n] #P > x(k: q, id: P). r --> < +x(k: K, id: ?I) [r].", "m n r e", true),
+        ("feature k: p, q. feature id: position. text --> m n r [e]. m --> [m] #P > x(k: p, id: P). n --> [n] #P > x(k: q, id: P). r --> < +x(k: K, id: ?I) [r].", "m r n e", false),
+        ("text --> a. a --> [t].", "t", true),
+        ("feature k: p, q. feature l: p, q. text --> a(k: K, l: L) b(k: K, l: L). a(k: X, l: X) --> [t]. b(k: p, l: q) --> [u].", "t u", false),
+        ("feature k: p, q. feature l: p, q. text --> a(k: K, l: L) b(k: K, l: L). a(k: X, l: X) --> [t]. b(k: p, l: p) --> [u].", "t u", true),
+        ("feature w: word. text --> > x(w: W) < +x(w: V) -x(w: Z) [t] $noun(w: Z).", "t cat", true),
+        ("feature w: word. text --> > x(w: W) < +x(w: V) -x(w: Z) [t] $noun(w: Z).", "t", false),
+        ("feature w: word. text --> > x(w: A) /< +x(w: B) [t].", "t", false),
+        ("feature w: word. text --> > x(w: A) /< +x(w: B) [t] $noun(w: A).", "t cat", true),
+        ("feature id: position. text --> #A > x(id: A) [t] #B > x(id: B) /< +x(id: I).", "t", false),
+        ("text --> s [e]. s ~~> // a < +x [u]. a --> [t] > x.", "t u e", true),
+        ("text --> s < +x [e]. s ~~> // a. a --> [t] > x.", "t e", false),
+        ("text --> s < +x [e]. s ~~> // a. a --> [t] >> x.", "t e", true),
+        ("text --> s < +x [e]. s --> // a. a --> [t] > x.", "t e", true),
+    ] {
+        let read = read_grammar(alloc, grammar)?;
+        assert_eq!(rt; derives(&rt, alloc, &read, text)?, yes, "{text} by {grammar}");
+    }
+    Ok(())
+}
+
+#[test]
+fn an_ambiguous_grammar_ends_at_once(rt: HostRuntime) -> Result<(), Fail> {
+    let alloc = rt.alloc();
+    let grammar = read_grammar(
+        alloc,
+        "text --> s [e]. s --> a. s --> a s. s --> b s. a --> [x]. b --> [x].",
+    )?;
+    let text = "x x x x x x x x x x x x x x x x x x x x x x x x x x x x x x x x x x x x x x x e";
+    assert!(rt; derives(&rt, alloc, &grammar, text)?);
+    Ok(())
+}

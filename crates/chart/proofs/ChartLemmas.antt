@@ -134,3 +134,16 @@ pub chart_told : (s : Setting) (derives : List Bool) (told_of : Bool) → IsChar
 chart_told s derives told_of chart h =
     let read = chart.read in
     subst (λ x. IsTrue told_of ↔ Derived x) (setting_same s.grammar _ _ _ _ (take_whole (length s.tokens) s.tokens (omega arith)) (take_whole (length s.tokens) s.readings (omega arith))) (chart.told (length s.tokens) told_of (omega arith) h)
+
+-- the chart after an advance, by what it kept
+pub chart_grown : (g kept : GrammarParts) (f : List ℕ → List Ground) (s : Setting) (old : List (List ℕ)) (old_readings : List (List Ground)) (token : List ℕ) (tokens : List (List ℕ)) (readings : List (List Ground)) (derives grown : List Bool) (b : Bool) → setting kept old old_readings ≡ s → s ≡ setting g s.tokens (map f s.tokens) → length s.tokens < MOST_TOKENS → IsChart (setting kept old old_readings) derives → tokens ≡ old ++ token ∷ [] → readings ≡ map f tokens → grown ≡ derives ++ b ∷ [] → IsTrue b ↔ Derived (setting g tokens (map f tokens)) → IsChart (setting kept tokens readings) grown
+chart_grown g kept f s old old_readings token tokens readings derives grown b view is_kept room chart t r d is =
+    let grammar_is : kept ≡ g = ap (λ x. x.grammar) (view ∙ is_kept) in
+    let old_is : old ≡ s.tokens = ap (λ x. x.tokens) view in
+    let readings_are : old_readings ≡ map f old = ap (λ x. x.readings) (view ∙ is_kept) ∙ ap (map f) (sym old_is) in
+    let below : length old < MOST_TOKENS = subst (λ x. length x < MOST_TOKENS) (sym old_is) room in
+    let before : IsChart (setting g old (map f old)) derives = subst (λ x. IsChart x derives) (ap (λ x. setting x old old_readings) grammar_is ∙ ap (setting g old) readings_are) chart in
+    let told : IsTrue b ↔ Derived (setting g (old ++ token ∷ []) (map f (old ++ token ∷ []))) = subst (λ x. IsTrue b ↔ Derived (setting g x (map f x))) t is in
+    let after = chart_more g f old token derives b below before told in
+    let same : setting kept tokens readings ≡ setting g (old ++ token ∷ []) (map f (old ++ token ∷ [])) = ap (λ x. setting x tokens readings) grammar_is ∙ ap (setting g tokens) r ∙ ap (λ x. setting g x (map f x)) t in
+    subst (λ x. IsChart x grown) (sym same) (subst (IsChart (setting g (old ++ token ∷ []) (map f (old ++ token ∷ [])))) (sym d) after)

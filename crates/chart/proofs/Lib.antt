@@ -1,16 +1,4 @@
-pub mod Loops
-pub mod PassLemmas
-pub mod OpenerLemmas
-pub mod BranchLemmas
-pub mod StepLemmas
-pub mod ChoiceLemmas
-pub mod EndLemmas
-pub mod TurnLemmas
-pub mod TableLemmas
-pub mod CycleLemmas
-pub mod SentenceLemmas
-pub mod CutLemmas
-pub mod HeadLemmas
 pub mod ChartLemmas
 pub mod TurnedLemmas
 pub mod TurnedTrees
+pub mod SwapLemmas

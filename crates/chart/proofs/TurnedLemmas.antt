@@ -32,7 +32,7 @@ use Rattle.scopes.specs.Resolution.{Finding, finding, finding_at, has_value, agr
 use Rattle.derivation_trees.specs.Settings.{Setting, matches_terminal, matches_preterminal, has_word, is_value, fits_feature}
 use Rattle.derivation_trees.specs.Instances.{looked_up, value_under, term_value, feats_under, under, tests_under, term_fits, own_fit, own_values, variables_of, same_numbers, rule_own_features, written_variables, is_instance, features_of}
 use Rattle.derivation_trees.specs.Derives.{At, first_value, filled_value, own_after, filled, own_rest, referent, takes, is_found, reference_tests, same_where_both, fits}
-use Rattle.chart.proofs.PassLemmas.{same_value_is}
+use Rattle.chart_table.proofs.PassLemmas.{same_value_is}
 
 abbrev pub Binds : Type 0
 Binds = List (ℕ × Value)
@@ -88,11 +88,11 @@ value_same h t (Pos p) (Pos q) = refl
 
 looked_up_turned : (h : ℕ → ℕ) (vs : Binds) (x : ℕ) → looked_up (turned_all h vs) x ≡ option_map (turned h) (looked_up vs x)
 looked_up_turned h [] x = refl
-looked_up_turned h (p ∷ vs) x = at (p.0 == x)
+looked_up_turned h (p ∷ vs) x = at (looked_up_turned h vs x) (p.0 == x)
   where
-    at : (b : Bool) → (if b then Some (turned h p.1) else looked_up (turned_all h vs) x) ≡ option_map (turned h) (if b then Some p.1 else looked_up vs x)
-    at true = refl
-    at false = looked_up_turned h vs x
+    at : looked_up (turned_all h vs) x ≡ option_map (turned h) (looked_up vs x) → (b : Bool) → (if b then Some (turned h p.1) else looked_up (turned_all h vs) x) ≡ option_map (turned h) (if b then Some p.1 else looked_up vs x)
+    at rest true = refl
+    at rest false = rest
 
 pub value_turned : (h : ℕ → ℕ) (vs : Binds) (x : ℕ) → value_under (turned_all h vs) x ≡ turned h (value_under vs x)
 value_turned h vs x = ap (λ o. unwrap_or o (Atom 0)) (looked_up_turned h vs x) ∙ at (looked_up vs x)
@@ -239,11 +239,11 @@ SomeWritten (Some t) = is_written_term t ≡ true
 
 looked_written : (feats : List (ℕ × Term)) (f : ℕ) → AllWritten feats → SomeWritten (looked_up feats f)
 looked_written [] f w = tt
-looked_written (q ∷ feats) f w = at (q.0 == f)
+looked_written (q ∷ feats) f w = at (looked_written feats f w.1) (q.0 == f)
   where
-    at : (b : Bool) → SomeWritten (if b then Some q.1 else looked_up feats f)
-    at true = w.0
-    at false = looked_written feats f w.1
+    at : SomeWritten (looked_up feats f) → (b : Bool) → SomeWritten (if b then Some q.1 else looked_up feats f)
+    at rest true = w.0
+    at rest false = rest
 
 filled_value_turned : (h : ℕ → ℕ) (vs own : Binds) (o : Option Term) → SomeWritten o → filled_value (turned_all h vs) (turned_all h own) o ≡ turned h (filled_value vs own o)
 filled_value_turned h vs own None w = first_turned h own
@@ -360,7 +360,7 @@ pub own_values_turned : (h : ℕ → ℕ) (rule : Rule) (vs : Binds) → own_val
 own_values_turned h rule vs = drop_turned (turned_pair h) (length (written_variables rule)) vs
 
 pub instance_turned : (h : ℕ → ℕ) → IsTurn h → (s other : Setting) → Alike h s other → (rule : Rule) (vs : Binds) → is_instance other rule (turned_all h vs) ≡ is_instance s rule vs
-  unfolding is_instance
+unfolding is_instance
 instance_turned h t s other a rule vs =
     let one : same_numbers (map (λ p. p.0) (turned_all h vs)) (variables_of other.grammar rule) ≡ same_numbers (map (λ p. p.0) vs) (variables_of s.grammar rule) = ap (λ l. same_numbers l (variables_of other.grammar rule)) (numbers_turned h vs) ∙ ap (λ g. same_numbers (map (λ p. p.0) vs) (variables_of g rule)) a.grammar in
     let two = terms_fit_turned h t s other a vs (rule_features rule) in

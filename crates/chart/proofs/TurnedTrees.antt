@@ -25,9 +25,9 @@ use Rattle.derivation_trees.specs.Settings.{Setting, matches_terminal, matches_p
 use Rattle.derivation_trees.specs.Instances.{value_under, under, tests_under, own_values, is_instance, features_of}
 use Rattle.derivation_trees.specs.Derives.{At, Phrase, Stand, moved, pass, run, pass_token, pass_child, pass_introduction, pass_finding, is_found, reference_tests, referent, own_rest, is_none_left, list_after, ended, fits, begun, phrase, rule_with, phrase_of, phrases_of, text_category}
 use Rattle.derivation_trees.specs.Partial.{CutNode, stopped, entered, used_up, front, next_category, sub_of, front_of, cut_end}
-use Rattle.chart.specs.Cuts.{CutLeads}
-use Rattle.chart.proofs.PassLemmas.{if_some, unless_some, if_true, if_false, both_true, and_both}
-use Rattle.chart.proofs.CutLemmas.{map_some, used_up_is}
+use Rattle.chart_table.specs.Cuts.{CutLeads}
+use Rattle.chart_table.proofs.PassLemmas.{if_some, unless_some, if_true, if_false, both_true, and_both}
+use Rattle.chart_table.proofs.CutLemmas.{map_some, used_up_is}
 use Rattle.chart.proofs.TurnedLemmas.{Binds, IsTurn, turned, turned_pair, turned_all, turned_test, turned_entry, turned_list, turned_finding, turned_tests, Alike, AllWritten, PatternsWritten, value_same, value_turned, under_turned, tests_turned, none_turned, closest_turned, closed_turned, drop_turned, length_turned, introduced_turned, rest_turned, referent_turned, fits_turned, found_turned, reference_turned, preterminal_turned, own_values_turned, instance_turned}
 
 abbrev pub turned_at : (ℕ → ℕ) → At → At
@@ -176,7 +176,7 @@ phrase_turned h t s other a rule vs found ps qs w par asked at after e =
     let none_too = ap (λ x. is_none_left last.found && x) (none_left_turned h last.children r.left r.turning) ∙ none_left in
     ap (option_and_then (λ stand. option_and_then (ended rule (turned_list h at.list)) (run other (turned_all h vs) rule.body stand))) (begun_turned h t s other a rule vs found ps qs asked at w.0 b) ∙ ap (option_and_then (ended rule (turned_list h at.list))) r.same ∙ if_true _ _ _ none_too (ap (λ l. record { place = last.at.place; list = l }) (list_after_turned h rule.closing at.list last.at.list) ∙ ap (turned_at h) is_after)))))
 
-mutual
+abbrev mutual
   turned_node : (ℕ → ℕ) → Node → Node
   turned_node h (node number vs found ns) = node number (turned_all h vs) found (turned_nodes h ns)
 
@@ -186,13 +186,11 @@ mutual
 
 mutual
   node_turned : (h : ℕ → ℕ) → IsTurn h → (s other : Setting) → Alike h s other → RulesWritten s.grammar → (n : Node) → Turning h (phrase_of s n) (phrase_of other (turned_node h n))
-    unfolding turned_node, turned_nodes
   node_turned h t s other a w (node number vs found ns) asked at after e =
       option_and_then_some _ (rule_with s.grammar number) after e (λ rule has leads.
       ap (λ g. option_and_then (λ r. phrase other r (turned_all h vs) found (phrases_of other (turned_nodes h ns)) (turned_test h asked) (turned_at h at)) (rule_with g number)) a.grammar ∙ ap (option_and_then (λ r. phrase other r (turned_all h vs) found (phrases_of other (turned_nodes h ns)) (turned_test h asked) (turned_at h at))) has ∙ phrase_turned h t s other a rule vs found (phrases_of s ns) (phrases_of other (turned_nodes h ns)) (w number rule has) (nodes_turned h t s other a w ns) asked at after leads)
 
   nodes_turned : (h : ℕ → ℕ) → IsTurn h → (s other : Setting) → Alike h s other → RulesWritten s.grammar → (ns : Nodes) → AllTurning h (phrases_of s ns) (phrases_of other (turned_nodes h ns))
-    unfolding turned_node, turned_nodes
   nodes_turned h t s other a w none = tt
   nodes_turned h t s other a w (more n ns) = (node_turned h t s other a w n, nodes_turned h t s other a w ns)
 
@@ -213,6 +211,22 @@ front_turned h t s other a rule vs found ps qs count asked at stand w par e =
     let none_too = ap (λ x. is_none_left last.found && x) (none_left_turned h last.children r.left r.turning) ∙ none_left in
     (r.left, ap (option_and_then (λ st. option_and_then used_up (run other (turned_all h vs) (take count rule.body) st))) (begun_turned h t s other a rule vs found ps qs asked at w.0 b) ∙ ap (option_and_then used_up) r.same ∙ if_true _ _ _ none_too (ap (λ st. turned_stand h st r.left) is_last))))))
 
+sub_written : (e : Element) (c : Category) → ElementWritten e → sub_of e ≡ Some c → AllWritten c.feats
+sub_written (Terminal t) c v i = absurd (cc)
+sub_written (Preterminal d) c v i = absurd (cc)
+sub_written (Sub d) c v i = subst (λ x. AllWritten x.feats) (same_Some d c i) v
+sub_written (Position x) c v i = absurd (cc)
+sub_written Opener c v i = absurd (cc)
+sub_written (Forward d) c v i = absurd (cc)
+sub_written (Strong d) c v i = absurd (cc)
+sub_written (Back p q) c v i = absurd (cc)
+sub_written (NoBack p) c v i = absurd (cc)
+
+next_written : (es : List Element) (k : ℕ) (c : Category) → BodyWritten es → option_and_then sub_of (slice_get es k) ≡ Some c → AllWritten c.feats
+next_written [] k c v i = absurd (cc)
+next_written (x ∷ es) zero c v i = sub_written x c v.0 i
+next_written (x ∷ es) (suc k) c v i = next_written es k c v.1 i
+
 cut_turned : (h : ℕ → ℕ) → IsTurn h → (s other : Setting) → Alike h s other → RulesWritten s.grammar → (cut : CutNode) (asked : Test) (at : At) (n : ℕ) → cut_end s cut asked at ≡ Some n → (other_cut : CutNode) × (cut_end other other_cut (turned_test h asked) (turned_at h at) ≡ Some n)
 cut_turned h t s other a w (stopped number vs found ns count) asked at n e =
     map_some (λ (stand : Stand). stand.at.place) (front_of s number vs found ns count asked at) n e (λ stand is place.
@@ -230,22 +244,6 @@ cut_turned h t s other a w (entered number vs found ns count child) asked at n e
     let written = next_written rule.body count c (w number rule has).1 next_is in
     let inner = cut_turned h t s other a w child (under vs c) stand.at n deep in
     (entered number (turned_all h vs) found (turned_nodes h ns) count inner.0, ap (λ g. option_and_then (λ st. option_and_then (λ category. cut_end other inner.0 (under (turned_all h vs) category) st.at) (option_and_then (λ r. next_category r count) (rule_with g number))) (option_and_then (λ r. front other r (turned_all h vs) found qs count (turned_test h asked) (turned_at h at)) (rule_with g number))) a.grammar ∙ ap (λ o. option_and_then (λ st. option_and_then (λ category. cut_end other inner.0 (under (turned_all h vs) category) st.at) (option_and_then (λ r. next_category r count) o)) (option_and_then (λ r. front other r (turned_all h vs) found qs count (turned_test h asked) (turned_at h at)) o)) has ∙ ap (option_and_then (λ st. option_and_then (λ category. cut_end other inner.0 (under (turned_all h vs) category) st.at) (next_category rule count))) f.1 ∙ ap (option_and_then (λ category. cut_end other inner.0 (under (turned_all h vs) category) (turned_at h stand.at))) next_is ∙ ap (λ x. cut_end other inner.0 x (turned_at h stand.at)) (under_turned h vs c written) ∙ inner.1))))
-  where
-    sub_written : (e : Element) (c : Category) → ElementWritten e → sub_of e ≡ Some c → AllWritten c.feats
-    sub_written (Terminal t) c v i = absurd (cc)
-    sub_written (Preterminal d) c v i = absurd (cc)
-    sub_written (Sub d) c v i = subst (λ x. AllWritten x.feats) (same_Some d c i) v
-    sub_written (Position x) c v i = absurd (cc)
-    sub_written Opener c v i = absurd (cc)
-    sub_written (Forward d) c v i = absurd (cc)
-    sub_written (Strong d) c v i = absurd (cc)
-    sub_written (Back p q) c v i = absurd (cc)
-    sub_written (NoBack p) c v i = absurd (cc)
-
-    next_written : (es : List Element) (k : ℕ) (c : Category) → BodyWritten es → option_and_then sub_of (slice_get es k) ≡ Some c → AllWritten c.feats
-    next_written [] k c v i = absurd (cc)
-    next_written (x ∷ es) zero c v i = sub_written x c v.0 i
-    next_written (x ∷ es) (suc k) c v i = next_written es k c v.1 i
 
 -- partial derivations stay
 pub partial_turned : (h : ℕ → ℕ) → IsTurn h → (s other : Setting) → Alike h s other → RulesWritten s.grammar → CutLeads s text_category (record { place = 0; list = [] }) → CutLeads other text_category (record { place = 0; list = [] })

@@ -1,8 +1,3 @@
-pub mod Leading
-pub mod Branches
-pub mod Steps
-pub mod Choices
-pub mod Ends
-pub mod Table
-pub mod Cuts
 pub mod Charts
+pub mod Alike
+pub mod Trying

@@ -8,7 +8,7 @@ ghost use Rattle.derivation_trees.specs.Sentences.{setting_of, IsSentence};
 ghost use Rattle.lexicon.specs.Readings as lexical;
 ghost use Rattle.chart.specs.Charts as charting;
 
-use crate::sentences::found_of;
+use chart_table::standing_of;
 use codeco_checked::CheckedGrammar;
 use derivation_trees::{Setting, readings_of};
 use lexicon::{Lexicon, Readings};
@@ -117,8 +117,8 @@ fn derives_nothing(alloc: Global, grammar: &CheckedGrammar) -> Result<bool, Memo
         tokens: &[],
         readings: &[],
     };
-    let found = found_of(alloc, &setting)?;
-    Ok(found.derives)
+    let standing = standing_of(alloc, &setting)?;
+    Ok(standing.derives)
 }
 
 fn with_token(tokens: &Tokens, token: &Token) -> Result<Tokens, Memory>
@@ -150,10 +150,10 @@ fn step_to(grammar: &CheckedGrammar, lexicon: &Lexicon, tokens: &Tokens) -> Resu
         tokens: tokens.as_slice(),
         readings: readings.as_slice(),
     };
-    let found = found_of(alloc, &setting)?;
+    let standing = standing_of(alloc, &setting)?;
     Ok(Step {
         readings,
-        begins: found.begins,
-        derives: found.derives,
+        begins: standing.begins,
+        derives: standing.derives,
     })
 }

@@ -1,15 +1,8 @@
-//! The chart: which tokens have a derivation, by a table of where phrases end.
+//! The chart: whether a list of tokens that grows and shrinks at its end has a derivation, and which tokens may follow.
 #![tactic(auto)]
 
-mod branches;
+mod alike;
 mod charts;
-mod choices;
-mod ends;
-mod sameness;
-mod sentences;
-mod states;
-mod steps;
-mod table;
 
+pub use chart_table::has_derivation;
 pub use charts::Chart;
-pub use sentences::has_derivation;

@@ -1,6 +1,9 @@
 // The words are Mary, cat and see, with the numbers 1, 2 and 3.
+ghost use Rattle.std.specs.Prelude.{◌≡◌, OnOk};
+ghost use Rattle.derivation_trees.specs.Sentences.{setting_of};
+
 use ace_grammar::built_in;
-use chart::has_derivation;
+use chart::{Chart, has_derivation};
 use codeco_checked::CheckedGrammar;
 use codeco_reader::read_grammar;
 use derivation_trees::{Cut, cut};
@@ -8,7 +11,7 @@ use lexicon::{Kind, Lexicon, forms};
 use std::alloc::Global;
 use std::process::Abort;
 use std::test::Fail;
-use wiki_base::Text;
+use wiki_base::{MOST_TOKENS, Text, Token};
 
 fn words(alloc: Global, grammar: &CheckedGrammar) -> Result<Lexicon, Fail> {
     let mut lexicon = Lexicon::new(alloc, grammar.grammar())?;
@@ -28,12 +31,17 @@ fn words(alloc: Global, grammar: &CheckedGrammar) -> Result<Lexicon, Fail> {
 }
 
 // Whether the text has a derivation.
-fn derives(rt: &impl Abort, alloc: Global, grammar: &CheckedGrammar, text: &str) -> Result<bool, Fail> {
+fn derives(
+    rt: &impl Abort,
+    alloc: Global,
+    grammar: &CheckedGrammar,
+    text: &str,
+) -> Result<bool, Fail> {
     let lexicon = words(alloc, grammar)?;
     let Cut::Tokens(tokens) = cut(alloc, grammar.grammar(), text)? else {
         return Err(Fail::new("at most 40 tokens"));
     };
-    assert!(rt; tokens.len() <= 40);
+    assert!(rt; tokens.len() <= MOST_TOKENS);
     Ok(has_derivation(alloc, grammar, &lexicon, &tokens)?)
 }
 
@@ -46,7 +54,10 @@ fn sentences_of_the_built_in_grammar_are_told(rt: HostRuntime) -> Result<(), Fai
         ("If X sees Y then Y sees X.", true),
         ("Every cat sees the cat.", true),
         ("Every cat sees itself.", true),
-        ("Mary sees something that sees something that sees Mary.", true),
+        (
+            "Mary sees something that sees something that sees Mary.",
+            true,
+        ),
         ("No cat sees a cat that sees Mary.", true),
         ("Mary sees a cat and sees it.", true),
         ("Mary sees it.", false),
@@ -64,24 +75,164 @@ fn sentences_of_the_built_in_grammar_are_told(rt: HostRuntime) -> Result<(), Fai
 fn odd_grammars_derive_what_their_trees_do(rt: HostRuntime) -> Result<(), Fail> {
     let alloc = rt.alloc();
     for (grammar, text, yes) in [
-        ("feature k: p, q. feature id: position. text --> m n r [e]. m --> [m] #P > x(k: p, id: P). n --> [n] #P > x(k: q, id: P). r --> < +x(k: K, id: ?I) [r].", "m n r e", true),
-        ("feature k: p, q. feature id: position. text --> m n r [e]. m --> [m] #P > x(k: p, id: P). n --> [n] #P > x(k: q, id: P). r --> < +x(k: K, id: ?I) [r].", "m r n e", false),
+        (
+            "feature k: p, q. feature id: position. text --> m n r [e]. m --> [m] #P > x(k: p, id: P). n --> [n] #P > x(k: q, id: P). r --> < +x(k: K, id: ?I) [r].",
+            "m n r e",
+            true,
+        ),
+        (
+            "feature k: p, q. feature id: position. text --> m n r [e]. m --> [m] #P > x(k: p, id: P). n --> [n] #P > x(k: q, id: P). r --> < +x(k: K, id: ?I) [r].",
+            "m r n e",
+            false,
+        ),
         ("text --> a. a --> [t].", "t", true),
-        ("feature k: p, q. feature l: p, q. text --> a(k: K, l: L) b(k: K, l: L). a(k: X, l: X) --> [t]. b(k: p, l: q) --> [u].", "t u", false),
-        ("feature k: p, q. feature l: p, q. text --> a(k: K, l: L) b(k: K, l: L). a(k: X, l: X) --> [t]. b(k: p, l: p) --> [u].", "t u", true),
-        ("feature w: word. text --> > x(w: W) < +x(w: V) -x(w: Z) [t] $noun(w: Z).", "t cat", true),
-        ("feature w: word. text --> > x(w: W) < +x(w: V) -x(w: Z) [t] $noun(w: Z).", "t", false),
-        ("feature w: word. text --> > x(w: A) /< +x(w: B) [t].", "t", false),
-        ("feature w: word. text --> > x(w: A) /< +x(w: B) [t] $noun(w: A).", "t cat", true),
-        ("feature id: position. text --> #A > x(id: A) [t] #B > x(id: B) /< +x(id: I).", "t", false),
-        ("text --> s [e]. s ~~> // a < +x [u]. a --> [t] > x.", "t u e", true),
-        ("text --> s < +x [e]. s ~~> // a. a --> [t] > x.", "t e", false),
-        ("text --> s < +x [e]. s ~~> // a. a --> [t] >> x.", "t e", true),
-        ("text --> s < +x [e]. s --> // a. a --> [t] > x.", "t e", true),
+        (
+            "feature k: p, q. feature l: p, q. text --> a(k: K, l: L) b(k: K, l: L). a(k: X, l: X) --> [t]. b(k: p, l: q) --> [u].",
+            "t u",
+            false,
+        ),
+        (
+            "feature k: p, q. feature l: p, q. text --> a(k: K, l: L) b(k: K, l: L). a(k: X, l: X) --> [t]. b(k: p, l: p) --> [u].",
+            "t u",
+            true,
+        ),
+        (
+            "feature w: word. text --> > x(w: W) < +x(w: V) -x(w: Z) [t] $noun(w: Z).",
+            "t cat",
+            true,
+        ),
+        (
+            "feature w: word. text --> > x(w: W) < +x(w: V) -x(w: Z) [t] $noun(w: Z).",
+            "t",
+            false,
+        ),
+        (
+            "feature w: word. text --> > x(w: A) /< +x(w: B) [t].",
+            "t",
+            false,
+        ),
+        (
+            "feature w: word. text --> > x(w: A) /< +x(w: B) [t] $noun(w: A).",
+            "t cat",
+            true,
+        ),
+        (
+            "feature id: position. text --> #A > x(id: A) [t] #B > x(id: B) /< +x(id: I).",
+            "t",
+            false,
+        ),
+        (
+            "text --> s [e]. s ~~> // a < +x [u]. a --> [t] > x.",
+            "t u e",
+            true,
+        ),
+        (
+            "text --> s < +x [e]. s ~~> // a. a --> [t] > x.",
+            "t e",
+            false,
+        ),
+        (
+            "text --> s < +x [e]. s ~~> // a. a --> [t] >> x.",
+            "t e",
+            true,
+        ),
+        (
+            "text --> s < +x [e]. s --> // a. a --> [t] > x.",
+            "t e",
+            true,
+        ),
     ] {
         let read = read_grammar(alloc, grammar)?;
-        assert_eq!(rt; derives(&rt, alloc, &read, text)?, yes, "{text} by {grammar}");
+        assert_eq!(rt;
+            derives(&rt, alloc, &read, text)?,
+            yes,
+            "{text} by {grammar}"
+        );
     }
+    Ok(())
+}
+
+// Takes the token into the chart, and tells whether the longer list has a partial derivation.
+fn taken(
+    rt: &impl Abort,
+    chart: &mut Chart,
+    grammar: &CheckedGrammar,
+    lexicon: &Lexicon,
+    token: &Token,
+) -> Result<bool, Fail>
+    requires { chart.old ≡ setting_of grammar.now lexicon.now chart.old.tokens }
+    ensures { OnOk result (chart.new ≡ setting_of grammar.now lexicon.now chart.new.tokens) }
+{
+    assert!(rt; chart.tokens().len() < MOST_TOKENS);
+    Ok(chart.advance(grammar, lexicon, token)?)
+}
+
+// For each token of the text, whether the tokens up to it have a partial derivation, and whether they have a derivation.
+fn answers(
+    rt: &impl Abort,
+    alloc: Global,
+    grammar: &CheckedGrammar,
+    text: &str,
+) -> Result<Vec<(bool, bool)>, Fail> {
+    let lexicon = words(alloc, grammar)?;
+    let Cut::Tokens(tokens) = cut(alloc, grammar.grammar(), text)? else {
+        return Err(Fail::new("at most 40 tokens"));
+    };
+    let mut chart = Chart::new(alloc, grammar)?;
+    let mut answers = Vec::new(alloc);
+    for token in tokens.as_slice() {
+        let begins = taken(rt, &mut chart, grammar, &lexicon, token)?;
+        answers.push((begins, chart.complete()))?;
+    }
+    Ok(answers)
+}
+
+#[test]
+fn each_token_tells_whether_the_list_goes_on(rt: HostRuntime) -> Result<(), Fail> {
+    let alloc = rt.alloc();
+    let referents =
+        "feature k: p, q. feature id: position. text --> m n r [e]. m --> [m] #P > x(k: p, id: P). n --> [n] #P > x(k: q, id: P). r --> < +x(k: K, id: ?I) [r].";
+    let later = "feature w: word. text --> > x(w: W) < +x(w: V) -x(w: Z) [t] $noun(w: Z).";
+    let none = "feature w: word. text --> > x(w: A) /< +x(w: B) [t].";
+    for (grammar, text, told) in [
+        (
+            referents,
+            "m n r e",
+            [(true, false), (true, false), (true, false), (true, true)].as_slice(),
+        ),
+        (
+            referents,
+            "m r e",
+            [(true, false), (false, false), (false, false)].as_slice(),
+        ),
+        (later, "t cat", [(false, false), (true, true)].as_slice()),
+        (none, "t", [(false, false)].as_slice()),
+    ] {
+        let read = read_grammar(alloc, grammar)?;
+        let found = answers(&rt, alloc, &read, text)?;
+        assert_eq!(rt; found.as_slice(), told, "{text} by {grammar}");
+    }
+    Ok(())
+}
+
+#[test]
+fn back_gives_the_chart_of_the_tokens_before(rt: HostRuntime) -> Result<(), Fail> {
+    let alloc = rt.alloc();
+    let grammar = read_grammar(alloc, "text --> [a]. text --> [a] [b].")?;
+    let lexicon = words(alloc, &grammar)?;
+    let mut chart = Chart::new(alloc, &grammar)?;
+    let a = Token::from_str(alloc, "a")?;
+    assert!(rt; !chart.complete());
+    assert!(rt; taken(&rt, &mut chart, &grammar, &lexicon, &a)?);
+    assert!(rt; chart.complete());
+    assert!(rt; !taken(&rt, &mut chart, &grammar, &lexicon, &a)?);
+    assert!(rt; !chart.complete());
+    assert!(rt; chart.back());
+    assert!(rt; chart.complete());
+    assert_eq!(rt; chart.tokens().len(), 1);
+    assert!(rt; chart.back());
+    assert!(rt; !chart.complete());
+    assert!(rt; !chart.back());
     Ok(())
 }
 

@@ -1,6 +1,0 @@
-use Rattle.std.proofs.Common.{◌≡◌, take, drop, ◌++◌}
-use Rattle.chart.specs.Branches.{meeting_one}
-use Rattle.chart.proofs.branches.meet_one.Given as goal
-
-abbrev pub invariant-loop-feat : goal.invariant-loop-feat
-invariant-loop-feat l = meeting_one l.pair (drop l.feat-index l.feats) l.all ≡ meeting_one l.pair l.feats l.fn.bounds

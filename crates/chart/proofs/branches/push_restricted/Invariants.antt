@@ -1,7 +1,0 @@
-use Rattle.std.proofs.Common.{◌≡◌, take, drop, ◌++◌}
-use Rattle.std.specs.List.{filter_map}
-use Rattle.chart.specs.Branches.{bound_term}
-use Rattle.chart.proofs.branches.push_restricted.Given as goal
-
-abbrev pub invariant-loop-value : goal.invariant-loop-value
-invariant-loop-value l = l.out ≡ l.fn.out ++ filter_map (bound_term l.bound l.term) (take l.value-index l.values)

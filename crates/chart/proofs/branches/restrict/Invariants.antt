@@ -1,6 +1,0 @@
-use Rattle.std.proofs.Common.{◌≡◌, take, drop, ◌++◌}
-use Rattle.chart.specs.Branches.{restricted}
-use Rattle.chart.proofs.branches.restrict.Given as goal
-
-abbrev pub invariant-loop-bound : goal.invariant-loop-bound
-invariant-loop-bound l = l.out ≡ restricted l.term l.values (take l.bound-index l.bounds)

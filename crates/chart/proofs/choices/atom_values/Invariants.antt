@@ -1,6 +1,0 @@
-use Rattle.std.proofs.Common.{◌≡◌, take, drop, map, ◌++◌, ◌∷◌, []}
-use Rattle.chart.specs.Choices.{atom_value}
-use Rattle.chart.proofs.choices.atom_values.Given as goal
-
-abbrev pub invariant-loop-atom : goal.invariant-loop-atom
-invariant-loop-atom l = l.values ≡ map atom_value (take l.atom-index l.atoms)

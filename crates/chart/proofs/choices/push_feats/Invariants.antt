@@ -1,5 +1,0 @@
-use Rattle.std.proofs.Common.{◌≡◌, take, drop, map, ◌++◌, ◌∷◌, []}
-use Rattle.chart.proofs.choices.push_feats.Given as goal
-
-abbrev pub invariant-loop-feat : goal.invariant-loop-feat
-invariant-loop-feat l = l.out ≡ l.fn.out ++ take l.feat-index l.feats

@@ -1,6 +1,0 @@
-use Rattle.std.proofs.Common.{◌≡◌, take, drop, map, ◌++◌, ◌∷◌, []}
-use Rattle.chart.specs.Branches.{marked}
-use Rattle.chart.proofs.choices.push_taken.Given as goal
-
-abbrev pub invariant-loop-feature : goal.invariant-loop-feature
-invariant-loop-feature l = l.out ≡ l.fn.out ++ map marked (take l.feature-index l.taken)

@@ -1,5 +1,0 @@
-use Rattle.std.proofs.Common.{◌≡◌, take, drop, map, ◌++◌, ◌∷◌, [], length, ◌≤◌, ◌-◌}
-use Rattle.chart.proofs.sameness.same_values.Given as goal
-
-abbrev pub invariant-loop-place : goal.invariant-loop-place
-invariant-loop-place l = take l.place l.values ≡ take l.place l.others

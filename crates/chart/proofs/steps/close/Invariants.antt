@@ -1,7 +1,0 @@
-use Rattle.std.proofs.Common.{◌≡◌, take, drop, map, ◌++◌, ◌∷◌, [], length, ◌≤◌}
-use Rattle.chart.specs.Branches.{closing, closing_patterns, marked}
-use Rattle.chart.specs.Choices.{choices}
-use Rattle.chart.proofs.steps.close.Given as goal
-
-abbrev pub invariant-loop-feat : goal.invariant-loop-feat
-invariant-loop-feat l = closing (choices l.setting l.plan.terms l.plan.places l.plan.own) (drop l.feat-index l.feats) l.all ≡ closing (choices l.setting l.plan.terms l.plan.places l.plan.own) l.feats l.fn.bounds

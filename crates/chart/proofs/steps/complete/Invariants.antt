@@ -1,6 +1,0 @@
-use Rattle.std.proofs.Common.{◌≡◌, take, drop, map, ◌++◌, ◌∷◌, [], length, ◌≤◌}
-use Rattle.chart.specs.Steps.{placed, read_all, completed, introduced_state, refer, refer_none, sub_steps}
-use Rattle.chart.proofs.steps.complete.Given as goal
-
-abbrev pub invariant-loop-feature : goal.invariant-loop-feature
-invariant-loop-feature l = l.out ++ completed l.feats (drop l.feature-index l.features) l.next ≡ completed l.feats l.features l.fn.number

@@ -1,7 +1,0 @@
-use Rattle.std.proofs.Common.{◌≡◌, take, drop, map, ◌++◌, ◌∷◌, [], length, ◌≤◌}
-use Rattle.chart.specs.Branches.{closing, closing_patterns, marked}
-use Rattle.chart.specs.Choices.{choices}
-use Rattle.chart.proofs.steps.marked_feats.Given as goal
-
-abbrev pub invariant-loop-feature : goal.invariant-loop-feature
-invariant-loop-feature l = l.feats ≡ map marked (take l.feature-index l.taken)

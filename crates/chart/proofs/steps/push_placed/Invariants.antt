@@ -1,6 +1,0 @@
-use Rattle.std.proofs.Common.{◌≡◌, take, drop, map, ◌++◌, ◌∷◌, [], length, ◌≤◌}
-use Rattle.chart.specs.Steps.{placed, read_all, completed, introduced_state, refer, refer_none, sub_steps}
-use Rattle.chart.proofs.steps.push_placed.Given as goal
-
-abbrev pub invariant-loop-bound : goal.invariant-loop-bound
-invariant-loop-bound l = l.out ≡ l.fn.out ++ placed l.place l.list (take l.bound-index l.bounds)

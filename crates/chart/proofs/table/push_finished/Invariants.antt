@@ -1,6 +1,0 @@
-use Rattle.std.proofs.Common.{◌≡◌, ℕ, List, take, drop, map, ◌++◌, ◌+◌, ◌*◌, ◌∷◌, [], length, ◌≤◌, ◌-◌}
-use Rattle.chart.specs.Ends.{HasFinished}
-use Rattle.chart.proofs.table.push_finished.Given as goal
-
-abbrev pub invariant-loop-state : goal.invariant-loop-state
-invariant-loop-state l = HasFinished l.setting l.rule l.before (take l.state-index l.states) l.fn.out l.out

@@ -1,6 +1,0 @@
-use Rattle.std.proofs.Common.{◌≡◌, ℕ, List, take, drop, map, ◌++◌, ◌+◌, ◌*◌, ◌∷◌, [], length, ◌≤◌, ◌-◌}
-use Rattle.chart.specs.Leading.{referents}
-use Rattle.chart.proofs.table.referents_of.Given as goal
-
-abbrev pub invariant-loop-place : goal.invariant-loop-place
-invariant-loop-place l = l.entries ≡ referents (take l.place l.list)

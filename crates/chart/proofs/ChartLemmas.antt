@@ -147,3 +147,7 @@ chart_grown g kept f s old old_readings token tokens readings derives grown b vi
     let after = chart_more g f old token derives b below before told in
     let same : setting kept tokens readings ≡ setting g (old ++ token ∷ []) (map f (old ++ token ∷ [])) = ap (λ x. setting x tokens readings) grammar_is ∙ ap (setting g tokens) r ∙ ap (λ x. setting g x (map f x)) t in
     subst (λ x. IsChart x grown) (sym same) (subst (IsChart (setting g (old ++ token ∷ []) (map f (old ++ token ∷ [])))) (sym d) after)
+
+-- a chart by its own tokens
+pub kept_on : (g : GrammarParts) (f : List ℕ → List Ground) (s : Setting) (tokens : List (List ℕ)) → s ≡ setting g tokens (map f tokens) → s ≡ setting g s.tokens (map f s.tokens)
+kept_on g f s tokens e = e ∙ ap (λ t. setting g t (map f t)) (sym (ap (λ x. x.tokens) e))

@@ -1,5 +1,5 @@
 // Tokens that read alike but for their words: each may follow where the other may, if neither word is among the tokens.
-ghost use Rattle.std.specs.Prelude.{◌≡◌, ◌≤◌, ◌<◌, ◌↔◌, ◌∷◌, [], ◌++◌, length, map, true, false, IsTrue, IfOk, IfSome};
+ghost use Rattle.std.specs.Prelude.{◌≡◌, ◌≤◌, ◌<◌, ◌↔◌, ◌∷◌, [], ◌++◌, length, map, true, false, IsTrue, IfOk, IfSome, OnOk};
 ghost use Rattle.std.specs.List.{list_all};
 ghost use Rattle.wiki_base.specs.Token.{IsToken};
 ghost use Rattle.wiki_base.specs.declared.tokens.TheConstants.{MOST_TOKENS};
@@ -159,6 +159,15 @@ fn known(tried: &[Tried], readings: &[Ground], word: WordId) -> Option<bool>
     None
 }
 
+fn with_text(alloc: Global, tokens: &Tokens, text: &str) -> Result<Tokens, Memory>
+    requires { IsToken text.now }
+    ensures { IfOk result (λ longer. longer ≡ tokens.now ++ text.now ∷ []) }
+{
+    let mut longer = tokens.copy()?;
+    longer.push(Token::from_str(alloc, text)?)?;
+    Ok(longer)
+}
+
 // Whether the tokens with the text at their end have a partial derivation.
 fn try_token(
     alloc: Global,
@@ -171,9 +180,9 @@ fn try_token(
     requires token { IsToken text.now }
     ensures { IfOk result (λ follows. IsTrue follows ↔ IsBeginning grammar.now lexicon.now (tokens.now ++ text.now ∷ [])) }
 {
-    let mut longer = tokens.copy()?;
-    longer.push(Token::from_str(alloc, text)?)?;
-    begins(alloc, grammar, lexicon, &longer)
+    let longer = with_text(alloc, tokens, text)?;
+    let follows = begins(alloc, grammar, lexicon, &longer)?;
+    Ok(follows)
 }
 
 // Whether the text, which has the word, is no terminal, and the word is none of those among the tokens.
@@ -207,14 +216,16 @@ pub(crate) fn follows(
     requires tried { trying.AreTried grammar.now lexicon.now tokens.now tried.old }
     ensures follows { IfOk result (λ follows. IsTrue follows ↔ IsBeginning grammar.now lexicon.now (tokens.now ++ text.now ∷ [])) }
     ensures tried { trying.AreTried grammar.now lexicon.now tokens.now tried.new }
+    ensures sound { OnOk result (IsSound grammar.now) }
 {
     let read = lexicon.readings(text);
     let word = word_of(read.as_slice());
     if !is_new(grammar, readings, text, word) {
-        return try_token(alloc, grammar, lexicon, tokens, text);
+        let alone = try_token(alloc, grammar, lexicon, tokens, text)?;
+        return Ok(alone);
     }
-    if let Some(follows) = known(tried.as_slice(), read.as_slice(), word) {
-        return Ok(follows);
+    if let Some(answer) = known(tried.as_slice(), read.as_slice(), word) {
+        return Ok(answer);
     }
     let follows = try_token(alloc, grammar, lexicon, tokens, text)?;
     tried.push(Tried {

@@ -1,5 +1,5 @@
 // The words are Mary, cat and see, with the numbers 1, 2 and 3.
-ghost use Rattle.std.specs.Prelude.{◌≡◌, OnOk};
+ghost use Rattle.std.specs.Prelude.{◌≡◌, IfOk, OnOk};
 ghost use Rattle.derivation_trees.specs.Sentences.{setting_of};
 
 use ace_grammar::built_in;
@@ -152,6 +152,15 @@ fn odd_grammars_derive_what_their_trees_do(rt: HostRuntime) -> Result<(), Fail> 
     Ok(())
 }
 
+// The chart of no tokens.
+fn started(alloc: Global, grammar: &CheckedGrammar, lexicon: &Lexicon) -> Result<Chart, Fail>
+    ensures { IfOk result (λ chart. chart ≡ setting_of grammar.now lexicon.now chart.tokens) }
+{
+    let _ = lexicon;
+    let chart = Chart::new(alloc, grammar)?;
+    Ok(chart)
+}
+
 // Takes the token into the chart, and tells whether the longer list has a partial derivation.
 fn taken(
     rt: &impl Abort,
@@ -164,7 +173,8 @@ fn taken(
     ensures { OnOk result (chart.new ≡ setting_of grammar.now lexicon.now chart.new.tokens) }
 {
     assert!(rt; chart.tokens().len() < MOST_TOKENS);
-    Ok(chart.advance(grammar, lexicon, token)?)
+    let begins = chart.advance(grammar, lexicon, token)?;
+    Ok(begins)
 }
 
 // For each token of the text, whether the tokens up to it have a partial derivation, and whether they have a derivation.
@@ -178,7 +188,7 @@ fn answers(
     let Cut::Tokens(tokens) = cut(alloc, grammar.grammar(), text)? else {
         return Err(Fail::new("at most 40 tokens"));
     };
-    let mut chart = Chart::new(alloc, grammar)?;
+    let mut chart = started(alloc, grammar, &lexicon)?;
     let mut answers = Vec::new(alloc);
     for token in tokens.as_slice() {
         let begins = taken(rt, &mut chart, grammar, &lexicon, token)?;
@@ -220,7 +230,7 @@ fn back_gives_the_chart_of_the_tokens_before(rt: HostRuntime) -> Result<(), Fail
     let alloc = rt.alloc();
     let grammar = read_grammar(alloc, "text --> [a]. text --> [a] [b].")?;
     let lexicon = words(alloc, &grammar)?;
-    let mut chart = Chart::new(alloc, &grammar)?;
+    let mut chart = started(alloc, &grammar, &lexicon)?;
     let a = Token::from_str(alloc, "a")?;
     assert!(rt; !chart.complete());
     assert!(rt; taken(&rt, &mut chart, &grammar, &lexicon, &a)?);

@@ -1,18 +1,20 @@
 -- Fit classes and axioms are plain, and over the given names.
-use Rattle.std.proofs.Common.{◌≡◌, ℕ, suc, ◌<◌, ◌≤◌, ◌&&◌, Bool, true, false, List, [], ◌∷◌, ◌++◌, length, refl, sym, ap, ◌∙◌, arith}
+use Rattle.std.proofs.Common.{◌≡◌, ℕ, suc, ◌<◌, ◌≤◌, ◌&&◌, Bool, true, false, List, [], ◌∷◌, ◌++◌, length, take, refl, sym, ap, ◌∙◌, arith}
 use Rattle.std.specs.Prelude.{nat_lt, not}
 use Rattle.std.specs.List.{list_all}
+use Rattle.std.proofs.lemmas.List.{take_all}
 use Rattle.std.proofs.lemmas.Bool.{and_from, and_parts, lt-ltb, le-ltb}
+use Rattle.wiki_base.proofs.ListLaws.{all_append}
 use Rattle.wiki_base.specs.declared.numbers.WordId.{WordId}
 use Rattle.logic_terms.specs.declared.expressions.Class.{Class}
 use Rattle.logic_terms.specs.declared.expressions.Classes.{Classes}
 use Rattle.logic_terms.specs.declared.expressions.Class.TheVariants as class
 use Rattle.logic_terms.specs.Complement.{is_simple, is_normal, is_wide, has_two, each_normal, each_wide}
 use Rattle.logic_terms.specs.Concept.{Concept, Concepts, Everything, Atomic, ComplementOf, IntersectionOf, UnionOf, SomeValuesFrom, AllValuesFrom, HasValue, no_concept, also_concept, concepts_from, Claim, SubClassOf, SubPropertyOf, ClassAssertion, PropertyAssertion, NegativePropertyAssertion, SameIndividual, DifferentIndividuals}
-use Rattle.logic_terms.specs.Plain.{is_plain_claim}
+use Rattle.logic_terms.specs.Plain.{is_plain_claim, are_plain}
 use Rattle.logic_terms.specs.Shown.{concept_of, concepts_of}
 use Rattle.logic_terms.proofs.ShownLemmas.{concept_of-And, concept_of-Or}
-use Rattle.absorb.specs.Mentioned.{is_among, names_in, names_in_each, names_in_claim}
+use Rattle.absorb.specs.Mentioned.{is_among, names_in, names_in_each, names_in_claim, are_over}
 use Rattle.reasoner_examples.specs.Fit.{is_fit, each_fit, members_fit, fits}
 
 -- members in a list
@@ -23,7 +25,7 @@ each_in names (c ∷ cs) = ap (λ b. is_fit names c && b) (each_in names cs)
 two_in : (cs : List Concept) → not (nat_lt (length cs) 2) ≡ has_two (concepts_from cs)
 two_in [] = refl
 two_in (c ∷ []) = refl
-two_in (c ∷ (d ∷ cs)) = ap not (le-ltb 2 (suc (suc (length cs))) (omega arith))
+two_in (c ∷ (d ∷ cs)) = ap not (le-ltb (suc (suc (length cs))) 2 (omega arith))
 
 in_members : (names : List WordId) (cs : List Concept) → members_fit names cs ≡ (has_two (concepts_from cs) && each_fit names (concepts_from cs))
 in_members names cs = ap (λ b. b && list_all (is_fit names) cs) (two_in cs) ∙ ap (λ b. has_two (concepts_from cs) && b) (each_in names cs)
@@ -43,12 +45,6 @@ too_few names cs few = ap (λ b. not b && list_all (is_fit names) cs) (lt-ltb (l
 
 pub enough : (names : List WordId) (cs : List Concept) → 2 ≤ length cs → members_fit names cs ≡ list_all (is_fit names) cs
 enough names cs many = ap (λ b. not b && list_all (is_fit names) cs) (le-ltb (length cs) 2 many)
-
-all_append : {X : Type 0} (test : X → Bool) (xs ys : List X) → list_all test xs ≡ true → list_all test ys ≡ true → list_all test (xs ++ ys) ≡ true
-all_append test [] ys here there = there
-all_append test (x ∷ xs) ys here there =
-    let parts = and_parts (test x) (list_all test xs) here in
-    and_from (test x) (list_all test (xs ++ ys)) parts.0 (all_append test xs ys parts.1 there)
 
 module _ (names : List WordId) where
   mutual
@@ -151,3 +147,13 @@ module _ (names : List WordId) where
   each_over (claim ∷ claims) h =
       let parts = and_parts (fits names claim) (list_all (fits names) claims) h in
       and_from (list_all (is_among names) (names_in_claim claim)) (list_all (λ c. list_all (is_among names) (names_in_claim c)) claims) (claim_over names claim parts.0) (each_over claims parts.1)
+
+-- all members of a list were passed
+pub all_members : (names : List WordId) (cs : List Concept) (n : ℕ) → length cs ≤ n → 2 ≤ length cs → list_all (is_fit names) (take n cs) ≡ true → members_fit names cs ≡ true
+all_members names cs n past many h = enough names cs many ∙ (ap (list_all (is_fit names)) (sym (take_all n cs past)) ∙ h)
+
+pub all_over : (names : List WordId) (claims : List Claim) (n : ℕ) → length claims ≤ n → list_all (fits names) (take n claims) ≡ true → are_over names claims ≡ true
+all_over names claims n past h = each_over names claims (ap (list_all (fits names)) (sym (take_all n claims past)) ∙ h)
+
+pub all_plain : (names : List WordId) (claims : List Claim) (n : ℕ) → length claims ≤ n → list_all (fits names) (take n claims) ≡ true → are_plain claims ≡ true
+all_plain names claims n past h = each_plain names claims (ap (list_all (fits names)) (sym (take_all n claims past)) ∙ h)

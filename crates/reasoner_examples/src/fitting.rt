@@ -9,9 +9,9 @@ ghost use Rattle.reasoner_examples.specs.Fit.{is_fit, members_fit, fits};
 use logic_terms::{Axiom, Axioms, Class, Classes, Names};
 use wiki_base::WordId;
 
-// Whether each name in the axioms is a given one, and each class is in negation normal form and has at least two members
-// in each intersection and union.
-pub(crate) fn are_fit(names: &Names, axioms: &Axioms) -> bool
+/// Whether each name in the axioms is a given one, and each class is in negation normal form and has at least two members
+/// in each intersection and union: what a verdict asks of axioms.
+pub fn are_fit(names: &Names, axioms: &Axioms) -> bool
     ensures over { IsTrue result → IsTrue (are_over names.now (claims_of axioms.now)) }
     ensures plain { IsTrue result → IsTrue (are_plain (claims_of axioms.now)) }
 {
@@ -23,10 +23,10 @@ pub(crate) fn are_fit(names: &Names, axioms: &Axioms) -> bool
     true
 }
 
-fn fits(names: &Names, axiom: &Axiom) -> bool
-    ensures { result ≡ fits names.now (claim_of axiom.now) }
+fn fits(names: &Names, given: &Axiom) -> bool
+    ensures { result ≡ fits names.now (claim_of given.now) }
 {
-    match axiom {
+    match given {
         Axiom::SubClass(below, above) => is_fit(names, below) && is_fit(names, above),
         Axiom::SubRole(_, _) => true,
         Axiom::Member(class, name) => is_given(names, *name) && is_fit(names, class),

@@ -13,8 +13,8 @@ struct Shelf {
     axioms: Axioms,
 }
 
-// The first names, `1` to `3`: so many of them, and three where there are more.
-pub(crate) fn names_of(alloc: Global, count: u8) -> Result<Names, Fail> {
+/// The first names, `1` to `3`: so many of them, and three where there are more.
+pub fn names_of(alloc: Global, count: u8) -> Result<Names, Fail> {
     match count {
         0 => Ok(Names::new(alloc)),
         1 => Ok(Names::from_vec(vec![in alloc; WordId(49)]?)),
@@ -23,11 +23,20 @@ pub(crate) fn names_of(alloc: Global, count: u8) -> Result<Names, Fail> {
     }
 }
 
-// The axioms of a text. `T` is everything, `A` to `H` are class words, digits are names, `r`, `s` and `t` are relation
-// words, and `R`, `S` and `U` their inverses. `!`, `&` and `|` take one or two classes, `?` (some) and `*` (all) a role and
-// a class, `=` (value) a role and a name. Axioms: `<` two classes, `^` two roles, `:` a class and a name, `+` (related) and
-// `-` (not related) a role and two names, `~` (equal) and `#` (different) two names. What is taken stands in order.
-pub(crate) fn read(alloc: Global, text: &str) -> Result<Axioms, Fail> {
+/// So many names, from number 0 on.
+pub fn first_names(alloc: Global, count: u32) -> Result<Names, Fail> {
+    let mut names = Names::new(alloc);
+    for number in 0..count {
+        names.push(WordId(number))?;
+    }
+    Ok(names)
+}
+
+/// The axioms of a text. `T` is everything, `A` to `H` are class words, digits are names, `r`, `s` and `t` are relation
+/// words, and `R`, `S` and `U` their inverses. `!`, `&` and `|` take one or two classes, `?` (some) and `*` (all) a role and
+/// a class, `=` (value) a role and a name. Axioms: `<` two classes, `^` two roles, `:` a class and a name, `+` (related) and
+/// `-` (not related) a role and two names, `~` (equal) and `#` (different) two names. What is taken stands in order.
+pub fn read(alloc: Global, text: &str) -> Result<Axioms, Fail> {
     let mut shelf = Shelf {
         classes: Vec::new(alloc),
         roles: Vec::new(alloc),

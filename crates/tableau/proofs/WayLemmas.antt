@@ -1,8 +1,8 @@
 -- The way of a search, one choice further and one choice back.
-use Rattle.std.proofs.Common.{◌≡◌, ℕ, zero, suc, ◌+◌, ◌<◌, ◌≤◌, ◌&&◌, ◌==◌, Bool, true, false, List, [], ◌∷◌, ◌++◌, map, length, Option, Some, None, refl, sym, ap, ◌∙◌, subst, inl, inr, arith, length-append}
-use Rattle.std.specs.Prelude.{nat_lt, is_some, IsTrue, if◌then◌else◌, not, ◌⊎◌}
+use Rattle.std.proofs.Common.{◌≡◌, ℕ, zero, suc, ◌+◌, ◌<◌, ◌≤◌, ◌==◌, true, false, List, [], ◌∷◌, ◌++◌, map, length, Option, Some, None, refl, sym, ap, ◌∙◌, subst, inl, inr, arith, length-append}
+use Rattle.std.specs.Prelude.{nat_lt, is_some, IsTrue, not, ◌⊎◌}
 use Rattle.std.specs.Option.{option_and_then, option_map, option_map_or, option_or}
-use Rattle.std.proofs.lemmas.Bool.{and_from, and_parts, cond-true, cond-false, lt-ltb, le-ltb, eq-eqb, not_from_false}
+use Rattle.std.proofs.lemmas.Bool.{and_from, cond-true, cond-false, lt-ltb, le-ltb, eq-eqb, not_from_false}
 use Rattle.logic_terms.specs.Theory.{Theory}
 use Rattle.tableau_rules.specs.declared.branch.Branch.{Branch}
 use Rattle.tableau_rules.specs.declared.step.Step.{Step}
@@ -17,10 +17,10 @@ use Rattle.tableau_rules.specs.Graph.{Graph, class_at}
 use Rattle.tableau_rules.specs.First.{first_below}
 use Rattle.tableau_rules.specs.Clashes.{is_clash, has_clash}
 use Rattle.tableau_rules.specs.Rules.{site_at, first_at, first_by, first_step, applies, choices, after}
-use Rattle.tableau_rules.specs.Branches.{IsBranch, begun, stepped, start, is_finished}
-use Rattle.tableau_rules.specs.Searching.{OpenChoice, Searching, begun_search, remaining, resumed, open_choices, next_search, searched, IsLonger}
+use Rattle.tableau_rules.specs.Branches.{IsBranch, begun, stepped, is_finished}
+use Rattle.tableau_rules.specs.Searching.{OpenChoice, Searching, begun_search, remaining, resumed, open_choices, next_search, searched}
 use Rattle.tableau_rules.specs.Shown.{graph_of}
-use Rattle.tableau_rules.specs.Trees.{Tree, Trees, ends, splits, no_tree, also_tree, trees_from, tree_layer, tree_of, closes, close_from, is_closed}
+use Rattle.tableau_rules.specs.Trees.{Tree, ends, splits, trees_from, tree_layer, tree_of, closes, close_from, is_closed}
 use Rattle.tableau.specs.declared.way.Taken.{Taken}
 use Rattle.tableau.specs.declared.turn.Turn.{Turn}
 use Rattle.tableau.specs.declared.turn.Turn.TheVariants as turn

@@ -11,7 +11,9 @@ pub push_names-requires : goal.push_names-requires
 push_names-requires t c = (omega (arith, c.child_at.ensures.smaller), child_in_order c.args.grammar.now c.args.skeleton.now c.loop-place.place c.child_at.result.now c.requires c.child_at.ensures.item)
 
 pub loop-place-preserved : goal.loop-place-preserved
-loop-place-preserved t c = ?
+loop-place-preserved t c =
+    let sk = c.args.skeleton.now in
+    names_more c.args.grammar.now (out-Skeleton sk).children c.loop-place.place c.child_at.result.now (c.args.names.now ++ own_name c.args.grammar.now (out-Skeleton sk).rule (out-Skeleton sk).start (out-Skeleton sk).words (ends_of (out-Skeleton sk).children)) c.loop-place.names c.push_names.new.names c.child_at.ensures.item c.loop-place.invariant c.in_ok-push_names.ensures
 
 pub returns : goal.returns
 returns t c =

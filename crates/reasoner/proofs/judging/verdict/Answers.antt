@@ -1,4 +1,4 @@
-use Rattle.std.proofs.Common.{◌≡◌, sym, subst}
+use Rattle.std.proofs.Common.{sym, subst}
 use Rattle.std.specs.Prelude.{IsTrue}
 use Rattle.logic_terms.specs.Known.{theory_of}
 use Rattle.logic_terms.specs.Shown.{claims_of}

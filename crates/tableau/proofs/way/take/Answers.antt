@@ -2,7 +2,6 @@ use Rattle.std.proofs.Common.{length, sym, ap, ◌∙◌}
 use Rattle.logic_terms.specs.Known.{theory_of}
 use Rattle.tableau_rules.specs.Rules.{after}
 use Rattle.tableau_rules.specs.Shown.{graph_of}
-use Rattle.tableau.specs.declared.way.Taken.{Taken}
 use Rattle.tableau.specs.Ways.{reached}
 use Rattle.tableau.proofs.WayLemmas.{kept_at, leads_push, reached_push}
 use Rattle.tableau.proofs.way.take.Goals as goal

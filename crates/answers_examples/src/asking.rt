@@ -1,6 +1,4 @@
 // Questions as they are written.
-ghost use Rattle.std.specs.Prelude.{◌≡◌};
-
 use answers::{Answers, ask};
 use logic_terms::{Axiom, Axioms, Names};
 use owl_eval::CheckedModel;
@@ -8,7 +6,7 @@ use reasoner_examples::are_fit;
 use std::alloc::Global;
 use std::test::Fail;
 
-/// The answers to the class of the first axiom of a question, which says that a name is in the class.
+/// The answers to the class of a question's first axiom, which says of a name that it is in the class.
 pub fn asked(
     alloc: Global,
     question: &Axioms,
@@ -16,8 +14,14 @@ pub fn asked(
     names: &Names,
     budget: u64,
 ) -> Result<Answers, Fail> {
-    if question.is_empty() || !are_fit(names, question) || !are_fit(names, kept.axioms()) {
+    if !are_fit(names, question) {
+        return Err("a fit question".into());
+    }
+    if !are_fit(names, kept.axioms()) {
         return Err("fit axioms".into());
+    }
+    if question.is_empty() {
+        return Err("a question".into());
     }
     match question.get(0) {
         Axiom::Member(class, _) => Ok(ask(alloc, class, kept, names, budget)?),

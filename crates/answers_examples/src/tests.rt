@@ -66,11 +66,11 @@ fn each_question_has_its_answers(rt: HostRuntime) -> Result<(), Fail> {
 fn a_name_is_an_answer_where_no_small_model_denies_it(rt: HostRuntime) -> Result<(), Fail> {
     let alloc = rt.alloc();
     for (count, axioms, _, denial, _, yes, _) in QUESTIONS.iter() {
-        for name in 1..*count + 1 {
+        for name in 1..=*count {
             let text = format!(in alloc; "{axioms} {denial}{name}:")?;
             let denied = read(alloc, text.as_str())?;
             let small = has_small_model(alloc, &denied, *count, text.as_str())?;
-            let answered = yes.as_bytes().contains(&(b'0' + name));
+            let answered = yes.as_bytes().contains(&b'0'.saturating_add(name));
             assert!(rt; answered != small, "{text}");
         }
     }

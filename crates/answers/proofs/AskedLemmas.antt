@@ -206,11 +206,11 @@ module _ (ns : List WordId) (up : names_rise ns ≡ true) (i : ℕ) (d : WordId)
   not_before there = let less = below_place ns up i (get_or ns i d) (slice_get-get_or ns i d lt) (get_or ns i d) there in omega arith
 
 module _ (kept : Interpretation) (claims : List Claim) (names : List WordId) (budget : ℕ) (c : Concept) where
-  pub asked_as : {passed passed' yes yes' unknown unknown' : List WordId} → passed' ≡ passed → yes' ≡ yes → unknown' ≡ unknown → AskedSoFar kept claims names budget c passed yes unknown → AskedSoFar kept claims names budget c passed' yes' unknown'
-  asked_as {passed} {passed'} {yes} {yes'} {unknown} {unknown'} p y u h =
-      subst (λ ps. AskedSoFar kept claims names budget c ps yes' unknown') (sym p)
-      (subst (λ ys. AskedSoFar kept claims names budget c passed ys unknown') (sym y) (subst (λ us. AskedSoFar kept claims names budget c passed yes us) (sym u) h))
+  pub asked_as : {passed passed' sure sure' unknown unknown' : List WordId} → passed' ≡ passed → sure' ≡ sure → unknown' ≡ unknown → AskedSoFar kept claims names budget c passed sure unknown → AskedSoFar kept claims names budget c passed' sure' unknown'
+  asked_as {passed} {passed'} {sure} {sure'} {unknown} {unknown'} p y u h =
+      subst (λ ps. AskedSoFar kept claims names budget c ps sure' unknown') (sym p)
+      (subst (λ ys. AskedSoFar kept claims names budget c passed ys unknown') (sym y) (subst (λ us. AskedSoFar kept claims names budget c passed sure us) (sym u) h))
 
   -- all names are passed at the end
-  pub asked_all : (ns : List WordId) (i : ℕ) (yes unknown : List WordId) → ns ≡ names → length ns ≤ i → AskedSoFar kept claims names budget c (take i ns) yes unknown → AskedSoFar kept claims names budget c names yes unknown
-  asked_all ns i yes unknown is past h = subst (λ ps. AskedSoFar kept claims names budget c ps yes unknown) (take_all i ns past ∙ is) h
+  pub asked_all : (ns : List WordId) (i : ℕ) (sure unknown : List WordId) → ns ≡ names → length ns ≤ i → AskedSoFar kept claims names budget c (take i ns) sure unknown → AskedSoFar kept claims names budget c names sure unknown
+  asked_all ns i sure unknown is past h = subst (λ ps. AskedSoFar kept claims names budget c ps sure unknown) (take_all i ns past ∙ is) h

@@ -3,6 +3,5 @@ pub mod KnownLemmas
 pub mod MeaningLemmas
 pub mod MenuLemmas
 pub mod NameLemmas
-pub mod UniqueLemmas
 pub mod UseLemmas
 pub mod WordLemmas

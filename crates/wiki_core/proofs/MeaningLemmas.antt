@@ -8,12 +8,12 @@ use Rattle.articles.specs.declared.sentences.Sentence.{Sentence}
 use Rattle.wiki_core.specs.State.{State}
 use Rattle.wiki_core.specs.Meanings.{Meaning, stating, Means, skeleton_meaning}
 use Rattle.wiki_core.specs.Knowledge.{is_asserted, StatesFirst, AreStated, Knows, sentences_in}
-use Rattle.wiki_core.proofs.UniqueLemmas.{least_is_one}
+use Rattle.derivations.proofs.UniqueLemmas.{least_unique}
 
 -- tokens have at most one meaning
 pub means_one : (g : GrammarParts) (words : Listed) (tokens : List (List ℕ)) (one other : Meaning) → Means g words tokens one → Means g words tokens other → one ≡ other
 means_one g words tokens one other a b =
-    a.is ∙ ap (skeleton_meaning g) (least_is_one (setting_of g words tokens) a.least b.least a.is_least b.is_least) ∙ sym b.is
+    a.is ∙ ap (skeleton_meaning g) (least_unique (setting_of g words tokens) b.least a.least b.is_least a.is_least) ∙ sym b.is
 
 stating_same : (cs ds : List Claim) → stating cs ≡ stating ds → cs ≡ ds
 stating_same cs ds e = cc

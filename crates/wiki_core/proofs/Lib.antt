@@ -1,6 +1,7 @@
 pub mod CauseLemmas
 pub mod KnownLemmas
 pub mod MeaningLemmas
+pub mod MentionLemmas
 pub mod MenuLemmas
 pub mod NameLemmas
 pub mod UseLemmas

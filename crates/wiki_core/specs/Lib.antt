@@ -4,10 +4,12 @@ pub mod Judgements
 pub mod Kept
 pub mod Knowledge
 pub mod Meanings
+pub mod Mentions
 pub mod Parsing
 pub mod Places
 pub mod Refusing
 pub mod Senses
+pub mod Spending
 pub mod State
 pub mod Step
 pub mod Telling

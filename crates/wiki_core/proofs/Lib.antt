@@ -1,6 +1,6 @@
 pub mod CauseLemmas
+pub mod FirstLemmas
 pub mod KnownLemmas
-pub mod MeaningLemmas
 pub mod MentionLemmas
 pub mod MenuLemmas
 pub mod NameLemmas

@@ -32,7 +32,7 @@ pub(crate) enum Sense {
 }
 
 // What the tokens mean, if they have a derivation.
-pub(crate) fn sense(
+pub(crate) fn understood(
     alloc: Global,
     grammar: &CheckedGrammar,
     lexicon: &Lexicon,

@@ -1,2 +1,0 @@
-pub mod Html
-pub mod Pages

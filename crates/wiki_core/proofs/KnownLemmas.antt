@@ -11,11 +11,11 @@ use Rattle.wiki_talk.specs.declared.statuses.Status.{Status}
 use Rattle.wiki_talk.specs.declared.statuses.Status.TheVariants.{Asserted, Retracted, RedContradiction, RedBudget, Outside, Question, QuestionOutside}
 use Rattle.articles.specs.declared.sentences.Sentence.{Sentence}
 use Rattle.articles.specs.declared.article.Article.{Article}
-use Rattle.wiki_core.specs.declared.sense.Sense.{Sense}
+use Rattle.wiki_core.specs.declared.meanings.Sense.{Sense}
 use Rattle.wiki_core.specs.Meanings.{Meaning, stating, outside, asking, asking_outside, Means}
 use Rattle.wiki_core.specs.Knowledge.{is_asserted, StatesFirst, AreStated, sentences_in}
 use Rattle.wiki_core.specs.Holding.{FitsMeaning}
-use Rattle.wiki_core.specs.Senses.{meaning_in}
+use Rattle.wiki_core.specs.Found.{meaning_shown}
 use Rattle.wiki_core.specs.Kept.{stated_by, known_of, meanings_in, MeanEach, MeanInEach, known_in}
 
 -- sentences of which each has its meaning state what is known of them
@@ -101,7 +101,7 @@ known_in-past articles senses n past = by_length (cases_lt n (length articles))
 pub known_of-step : (sentences : List Sentence) (senses : List Sense) (i : ℕ) (s : Sentence) (sense : Sense)
     → i < length sentences → i < length senses → s ≡ get_or sentences i s → sense ≡ get_or senses i sense
     → known_of (drop i sentences) (meanings_in (drop i senses))
-    ≡ cond (is_asserted s.status) (stated_by (meaning_in sense)) [] ++ known_of (drop (i + 1) sentences) (meanings_in (drop (i + 1) senses))
+    ≡ cond (is_asserted s.status) (stated_by (meaning_shown sense)) [] ++ known_of (drop (i + 1) sentences) (meanings_in (drop (i + 1) senses))
 known_of-step sentences senses i s sense in_sentences in_senses at at_sense =
     ap (λ (ss : List Sentence). known_of ss (meanings_in (drop i senses))) (drop_more sentences i s in_sentences ∙ ap (λ (t : Sentence). t ∷ drop (i + 1) sentences) (sym at))
     ∙ ap (λ (ms : List Sense). known_of (s ∷ drop (i + 1) sentences) (meanings_in ms)) (drop_more senses i sense in_senses ∙ ap (λ (t : Sense). t ∷ drop (i + 1) senses) (sym at_sense))

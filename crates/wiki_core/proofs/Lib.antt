@@ -1,8 +1,13 @@
+pub mod AddLemmas
 pub mod CauseLemmas
 pub mod FirstLemmas
+pub mod FullLemmas
 pub mod KnownLemmas
+pub mod MeaningLemmas
 pub mod MentionLemmas
 pub mod MenuLemmas
 pub mod NameLemmas
+pub mod UnwordLemmas
 pub mod UseLemmas
+pub mod VerdictLemmas
 pub mod WordLemmas

@@ -6,11 +6,11 @@ use Rattle.lexicon.specs.Words.{Listed}
 use Rattle.logic_terms.specs.Concept.{Claim}
 use Rattle.articles.specs.declared.sentences.Sentence.{Sentence}
 use Rattle.articles.specs.declared.article.Article.{Article}
-use Rattle.wiki_core.specs.declared.sense.Sense.{Sense}
+use Rattle.wiki_core.specs.declared.meanings.Sense.{Sense}
 use Rattle.wiki_core.specs.Meanings.{Meaning, stating, outside, asking, asking_outside, Means}
 use Rattle.wiki_core.specs.Knowledge.{is_asserted, sentences_in}
 use Rattle.wiki_core.specs.Holding.{FitsMeaning}
-use Rattle.wiki_core.specs.Senses.{meaning_in}
+use Rattle.wiki_core.specs.Found.{meaning_shown}
 
 -- the axioms that a meaning states
 abbrev pub stated_by : Meaning → List Claim
@@ -28,7 +28,7 @@ known_of (sentence ∷ sentences) (meaning ∷ meanings) =
 
 -- the meanings that are kept
 abbrev pub meanings_in : List Sense → List Meaning
-meanings_in senses = map meaning_in senses
+meanings_in senses = map meaning_shown senses
 
 -- each of the sentences has its meaning, and a status that fits it
 abbrev pub MeanEach : GrammarParts → Listed → List Sentence → List Meaning → Type 0

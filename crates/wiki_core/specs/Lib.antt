@@ -1,4 +1,5 @@
 pub mod Faults
+pub mod Found
 pub mod Holding
 pub mod Judgements
 pub mod Kept
@@ -8,7 +9,6 @@ pub mod Mentions
 pub mod Parsing
 pub mod Places
 pub mod Refusing
-pub mod Senses
 pub mod Spending
 pub mod State
 pub mod Step

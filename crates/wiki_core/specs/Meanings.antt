@@ -9,9 +9,9 @@ use Rattle.logic_terms.specs.declared.cause.Cause.TheVariants.{Free}
 use Rattle.logic_terms.specs.Concept.{Concept, Claim}
 use Rattle.logic_terms.specs.Structure.{Structure}
 use Rattle.logic_terms.specs.Free.{free_in}
+use Rattle.ace_to_owl.specs.Mapping.{axioms_stated, class_asked}
 use Rattle.drs_build.specs.Nodes.{meaning_of}
 use Rattle.drs_build.specs.Built.{is_question}
-use Rattle.ace_to_owl.specs.Mapping.{axioms_stated, class_asked}
 
 -- A statement states axioms, and a question asks for a class; or it is outside of what is mapped, for a cause.
 pub data Meaning : Type 0 where
@@ -40,7 +40,7 @@ abbrev pub question_meaning : Structure → ℕ → Option ℕ → Meaning
 question_meaning says asked None = question_by (class_asked says asked)
 question_meaning says asked (Some referent) = asking_outside Free
 
--- the meaning of a skeleton, by its structure: a question has the label of one at its root
+-- the meaning of a skeleton, by its structure
 abbrev pub skeleton_meaning : GrammarParts → Skeleton → Meaning
 skeleton_meaning g sk =
     if is_question g sk then question_meaning (meaning_of g sk).says (meaning_of g sk).referent (free_in [] (meaning_of g sk).says)

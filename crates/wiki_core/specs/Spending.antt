@@ -1,9 +1,8 @@
 -- What a step says of the model that was kept before it: no budget is told as spent where that model decides.
 use Rattle.std.specs.Prelude.{◌≡◌, ℕ, List, All, IfSome, Option, Some, None, option_map, option_and_then}
-use Rattle.std.specs.List.{AllZip}
 use Rattle.wiki_base.specs.declared.numbers.WordId.{WordId}
 use Rattle.logic_terms.specs.Concept.{Concept, Claim}
-use Rattle.logic_terms.specs.Interpretation.{Interpretation, element_of}
+use Rattle.logic_terms.specs.Interpretation.{element_of}
 use Rattle.logic_terms.specs.Reading.{IsIn, IsModel}
 use Rattle.wiki_talk.specs.declared.statuses.Status.{Status}
 use Rattle.wiki_talk.specs.declared.statuses.Status.TheVariants.{Asserted, RedBudget}
@@ -14,10 +13,10 @@ use Rattle.wiki_talk.specs.declared.requests.Request.{Request}
 use Rattle.wiki_talk.specs.declared.requests.Request.TheVariants as requests
 use Rattle.articles.specs.declared.sentences.Sentence.{Sentence}
 use Rattle.wiki_core.specs.State.{State}
-use Rattle.wiki_core.specs.Places.{word_named, article_named}
+use Rattle.wiki_core.specs.Places.{word_named}
 use Rattle.wiki_core.specs.Meanings.{asking, Means}
 use Rattle.wiki_core.specs.Knowledge.{Knows}
-use Rattle.wiki_core.specs.Telling.{spelled, is_question}
+use Rattle.wiki_core.specs.Telling.{spelled}
 use Rattle.wiki_core.specs.Step.{with_inserted, with_replaced, with_marked, sentence_with, place_for}
 use Rattle.wiki_core.specs.Holding.{Holding}
 

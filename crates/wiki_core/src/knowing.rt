@@ -3,9 +3,9 @@ ghost use Rattle.std.specs.Prelude.{◌≡◌, ◌++◌, [], OnOk, if◌then◌e
 ghost use Rattle.logic_terms.specs.Shown.{claims_of};
 ghost use Rattle.wiki_core.specs.Kept.{stated_by, known_of, known_in, meanings_in};
 ghost use Rattle.wiki_core.specs.Knowledge.{is_asserted};
-ghost use Rattle.wiki_core.specs.Senses.{meaning_in};
+ghost use Rattle.wiki_core.specs.Found.{meaning_shown};
 
-use crate::sense::Sense;
+use crate::meanings::Sense;
 use articles::{Article, Sentence};
 use lists::List;
 use logic_terms::Axioms;
@@ -60,7 +60,7 @@ fn push_sentence(
     sentence: &Sentence,
     sense: &Sense,
 ) -> Result<(), Memory>
-    ensures { OnOk result (claims_of known.new ≡ claims_of known.old ++ (if is_asserted sentence.now.status then stated_by (meaning_in sense.now) else [])) }
+    ensures { OnOk result (claims_of known.new ≡ claims_of known.old ++ (if is_asserted sentence.now.status then stated_by (meaning_shown sense.now) else [])) }
 {
     if is_asserted(sentence.status) {
         push_stated(alloc, known, sense)
@@ -71,13 +71,13 @@ fn push_sentence(
 
 // Adds the axioms that a sentence states.
 fn push_stated(alloc: Global, known: &mut Axioms, sense: &Sense) -> Result<(), Memory>
-    ensures { OnOk result (claims_of known.new ≡ claims_of known.old ++ stated_by (meaning_in sense.now)) }
+    ensures { OnOk result (claims_of known.new ≡ claims_of known.old ++ stated_by (meaning_shown sense.now)) }
 {
     match sense {
-        Sense::Axioms(own) => push_all(alloc, known, own),
-        Sense::Class(_) => Ok(()),
-        Sense::NoAxioms(_) => Ok(()),
-        Sense::NoClass(_) => Ok(()),
+        Sense::Stating(own) => push_all(alloc, known, own),
+        Sense::Asking(_) => Ok(()),
+        Sense::Outside(_) => Ok(()),
+        Sense::AskingOutside(_) => Ok(()),
     }
 }
 

@@ -6,10 +6,10 @@ mod faults;
 mod judging;
 mod keeping;
 mod knowing;
+mod meanings;
 mod meant;
 mod names;
 mod parsing;
-mod sense;
 #[cfg(test)]
 mod tests;
 mod told;

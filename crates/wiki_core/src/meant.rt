@@ -3,10 +3,10 @@ ghost use Rattle.std.specs.Prelude.{◌≡◌, IfOk, map};
 ghost use Rattle.lexicon.specs.Words.{canonical_form_of};
 ghost use Rattle.logic_terms.specs.Shown.{claims_of};
 ghost use Rattle.owl_text.specs.Texts.{claim_text};
-ghost use Rattle.wiki_core.specs.Senses.{meaning_in};
+ghost use Rattle.wiki_core.specs.Found.{meaning_shown};
 ghost use Rattle.wiki_core.specs.Telling.{told_meaning};
 
-use crate::sense::Sense;
+use crate::meanings::Sense;
 use lexicon::Lexicon;
 use logic_terms::Axioms;
 use owl_text::{print_axiom, print_class};
@@ -15,12 +15,12 @@ use wiki_base::{Memory, Text8s};
 use wiki_talk::Meant;
 
 pub(crate) fn told_meaning(alloc: Global, lexicon: &Lexicon, sense: &Sense) -> Result<Meant, Memory>
-    ensures { IfOk result (λ told. told ≡ told_meaning lexicon.now (meaning_in sense.now)) }
+    ensures { IfOk result (λ told. told ≡ told_meaning lexicon.now (meaning_shown sense.now)) }
 {
     match sense {
-        Sense::Axioms(axioms) => Ok(Meant::Axioms(told_axioms(alloc, lexicon, axioms)?)),
-        Sense::Class(class) => Ok(Meant::Class(print_class(alloc, class, lexicon)?)),
-        Sense::NoAxioms(cause) | Sense::NoClass(cause) => Ok(Meant::Outside(*cause)),
+        Sense::Stating(axioms) => Ok(Meant::Axioms(told_axioms(alloc, lexicon, axioms)?)),
+        Sense::Asking(class) => Ok(Meant::Class(print_class(alloc, class, lexicon)?)),
+        Sense::Outside(cause) | Sense::AskingOutside(cause) => Ok(Meant::Outside(*cause)),
     }
 }
 

@@ -1,5 +1,5 @@
 // The wiki and its step.
-ghost use Rattle.std.specs.Prelude.{◌≡◌, ◌≤◌, ◌<◌, ◌^◌, ℕ, List, length, find, IsTrue, IsSome, IfOk, IfSome, OnErr, Some, option_copied, option_map};
+ghost use Rattle.std.specs.Prelude.{◌≡◌, ◌≤◌, ◌<◌, ◌+◌, ℕ, List, length, find, All, IsTrue, IsSome, IfOk, IfSome, IfNone, OnErr, Some, option_copied, option_map};
 ghost use Rattle.wiki_base.specs.declared.tokens.TheConstants.{MOST_TOKENS};
 ghost use Rattle.lexicon.specs.declared.words.TheConstants.{LAST_NUMBER};
 ghost use Rattle.wiki_talk.specs.declared.refusals.Refusal.{Refusal as TheRefusal};
@@ -13,11 +13,11 @@ use crate::words::add_word;
 use articles::Articles;
 use codeco_checked::CheckedGrammar;
 use derivations::{Cut, cut, plain_least};
-use lexicon::{Forms, Kind, Lexicon};
+use lexicon::{Forms, Kind, Lexicon, MOST_WORDS};
 use lists::Copied;
 use std::alloc::Global;
 use std::marker::Model;
-use wiki_base::{Memory, Text8, Tokens, WordId};
+use wiki_base::{Memory, Place, Text8, Tokens, WordId};
 use wiki_talk::{Refusal, Reply, Request};
 
 /// A wiki. It is seen as its state: the grammar, the budget of a search, the live words and their articles.
@@ -33,6 +33,7 @@ pub struct Wiki {
 }
 
 impl Model for Wiki {
+    ghost use Rattle.std.specs.Prelude.{◌≡◌};
     ghost use Rattle.wiki_core.specs.State.{State, IsSound};
 
     ghost Value = { State };
@@ -48,9 +49,9 @@ impl Wiki {
     ghost use Rattle.wiki_core.specs.Parsing.{tokens_of};
     ghost use Rattle.wiki_core.specs.Step.{Step};
     ghost use Rattle.lexicon.specs.declared.kinds.Forms.{Forms as TheForms};
-    ghost use Rattle.lexicon.specs.Words.{forms_of, canonical_form_of};
-    ghost use Rattle.wiki_core.specs.Places.{all_placed};
-    ghost use Rattle.wiki_core.specs.Refusing.{uses_word};
+    ghost use Rattle.lexicon.specs.Words.{forms_of};
+    ghost use Rattle.wiki_core.specs.Places.{all_placed, told_place};
+    ghost use Rattle.wiki_core.specs.Refusing.{uses_word, TellsPlace};
     ghost use Rattle.wiki_core.specs.Words.{word_with};
 
     /// A wiki without words, over a grammar in which each rule has a label. A search may take `budget` steps.
@@ -91,7 +92,7 @@ impl Wiki {
         ensures step { IfOk result (λ reply. Step self.old (Request.Word kind forms.now) reply self.new) }
         ensures memory { OnErr result (self.new ≡ self.old) }
     {
-        let Some(number) = self.last.checked_add(1) else {
+        let Some(number) = self.next_number() else {
             return refuse_word(self.alloc, &mut self.lexicon, kind, forms);
         };
         let word = WordId(number);
@@ -108,6 +109,15 @@ impl Wiki {
         }
     }
 
+    // The number that the next word gets; none where all are given. It is above those of all articles.
+    fn next_number(&self) -> Option<u32>
+        ensures next { IfSome result (λ next. (next ≡ self.now.words.last + 1) × All (λ article. article.word.0 < next) self.now.articles) }
+        ensures none { IfNone result (self.now.words.last ≡ LAST_NUMBER) }
+    {
+        prove!(self.lexicon.len() <= MOST_WORDS);
+        self.last.checked_add(1)
+    }
+
     // Takes a word out, with its empty article.
     fn unword(&mut self, text: &Text8) -> Result<Reply, Memory>
         ensures step { IfOk result (λ reply. Step self.old (Request.Unword text.now) reply self.new) }
@@ -117,7 +127,7 @@ impl Wiki {
             return Ok(Reply::Refused(Refusal::NoWord { text: text.copy()? }));
         };
         match self.use_of(word) {
-            Some((article, at)) => Ok(Reply::Refused(self.in_use(article, at)?)),
+            Some(place) => Ok(Reply::Refused(self.in_use(place)?)),
             None => {
                 self.articles.end(word);
                 let _ = self.lexicon.remove(word);
@@ -127,9 +137,9 @@ impl Wiki {
     }
 
     // The first place that needs a live word.
-    fn use_of(&self, word: WordId) -> Option<(WordId, usize)>
+    fn use_of(&self, word: WordId) -> Option<Place>
         ensures { (forms : TheForms) → forms_of self.now.words.live word ≡ Some forms
-            → result ≡ option_map (λ placed. (placed.word, placed.place)) (find (uses_word word forms) (all_placed self.now.articles)) }
+            → result ≡ option_map told_place (find (uses_word word forms) (all_placed self.now.articles)) }
     {
         match self.lexicon.word(word) {
             Some(forms) => first_use(self.articles.as_slice(), word, forms),
@@ -138,15 +148,14 @@ impl Wiki {
     }
 
     // Tells a place that needs a word.
-    fn in_use(&self, article: WordId, at: usize) -> Result<Refusal, Memory>
-        requires fits { at < 2 ^ 32 }
-        requires lives { IsSome (forms_of self.now.words.live article) }
-        ensures { IfOk result (λ refusal. IfSome (canonical_form_of self.now.words.live article) (λ form. refusal ≡ Refusal.InUse form at)) }
+    fn in_use(&self, place: Place) -> Result<Refusal, Memory>
+        requires { IsSome (forms_of self.now.words.live place.article) }
+        ensures { IfOk result (TellsPlace self.now (λ form place. Refusal.InUse form place) place.article place.at) }
     {
-        match self.lexicon.word(article) {
+        match self.lexicon.word(place.article) {
             Some(forms) => Ok(Refusal::InUse {
                 article: told_text(self.alloc, forms.canonical())?,
-                at: at as u32,
+                at: place.at,
             }),
             None => unreachable!(),
         }
@@ -179,6 +188,7 @@ impl Wiki {
             words: told_words(self.alloc, &self.lexicon)?,
         })
     }
+
     // Tells the code of a text.
     fn parse(&self, text: &Text8) -> Result<Reply, Memory>
         ensures { IfOk result (λ reply. Step self.now (Request.Parse text.now) reply self.now) }

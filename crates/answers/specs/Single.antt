@@ -8,6 +8,7 @@ use Rattle.answers.specs.declared.asking.Asked.{Asked}
 use Rattle.answers.specs.declared.asking.Asked.TheVariants.{Yes, Unknown, No}
 use Rattle.answers.specs.Answered.{IsInAll, IsOutsideSome, IsUnknown}
 
+-- yes: in every finite model; unknown: the search was cut, and the kept interpretation has it; no: outside in some finite model
 abbrev pub Answered : Interpretation → List Claim → List WordId → ℕ → Concept → WordId → Asked → Type 0
 Answered kept claims names budget c name Yes = IsInAll claims c name
 Answered kept claims names budget c name Unknown = IsUnknown claims names budget c name × IsIn kept c (element_of kept name)

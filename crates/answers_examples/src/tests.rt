@@ -49,7 +49,8 @@ fn each_question_has_its_answers(rt: HostRuntime) -> Result<(), Fail> {
     for (count, axioms, class, _, most, yes, unknown) in QUESTIONS.iter() {
         let names = names_of(alloc, *count)?;
         let kept = model_of(alloc, &names, axioms)?;
-        let question = read(alloc, format!(in alloc; "{class}1:")?.as_str())?;
+        let text = format!(in alloc; "{class}1:")?;
+        let question = read(alloc, text.as_str())?;
         let told = asked(alloc, &question, &kept, &names, *most)?;
         assert!(rt; are(&told.yes, yes, ""), "{axioms} {class}");
         assert!(rt; told.unknown.is_empty(), "{axioms} {class}");
@@ -81,7 +82,8 @@ fn a_name_is_an_answer_where_no_small_model_denies_it(rt: HostRuntime) -> Result
 fn models_of_finished_branches_have_these_classes_and_pairs(rt: HostRuntime) -> Result<(), Fail> {
     let alloc = rt.alloc();
     for (count, axioms, elements, a, b, r, s) in PICTURES.iter() {
-        let model = model_of(alloc, &names_of(alloc, *count)?, axioms)?;
+        let names = names_of(alloc, *count)?;
+        let model = model_of(alloc, &names, axioms)?;
         let interp = model.interp();
         let mut name = WordId(49);
         for element in elements.as_bytes() {

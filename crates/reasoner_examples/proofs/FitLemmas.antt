@@ -4,6 +4,7 @@ use Rattle.std.specs.Prelude.{nat_lt, not}
 use Rattle.std.specs.List.{list_all}
 use Rattle.std.proofs.lemmas.List.{take_all}
 use Rattle.std.proofs.lemmas.Bool.{and_from, and_parts, lt-ltb, le-ltb}
+use Rattle.wiki_base.proofs.ListLaws.{all_append}
 use Rattle.wiki_base.specs.declared.numbers.WordId.{WordId}
 use Rattle.logic_terms.specs.declared.expressions.Class.{Class}
 use Rattle.logic_terms.specs.declared.expressions.Classes.{Classes}
@@ -24,7 +25,7 @@ each_in names (c ∷ cs) = ap (λ b. is_fit names c && b) (each_in names cs)
 two_in : (cs : List Concept) → not (nat_lt (length cs) 2) ≡ has_two (concepts_from cs)
 two_in [] = refl
 two_in (c ∷ []) = refl
-two_in (c ∷ (d ∷ cs)) = ap not (le-ltb 2 (suc (suc (length cs))) (omega arith))
+two_in (c ∷ (d ∷ cs)) = ap not (le-ltb (suc (suc (length cs))) 2 (omega arith))
 
 in_members : (names : List WordId) (cs : List Concept) → members_fit names cs ≡ (has_two (concepts_from cs) && each_fit names (concepts_from cs))
 in_members names cs = ap (λ b. b && list_all (is_fit names) cs) (two_in cs) ∙ ap (λ b. has_two (concepts_from cs) && b) (each_in names cs)
@@ -44,12 +45,6 @@ too_few names cs few = ap (λ b. not b && list_all (is_fit names) cs) (lt-ltb (l
 
 pub enough : (names : List WordId) (cs : List Concept) → 2 ≤ length cs → members_fit names cs ≡ list_all (is_fit names) cs
 enough names cs many = ap (λ b. not b && list_all (is_fit names) cs) (le-ltb (length cs) 2 many)
-
-all_append : {X : Type 0} (test : X → Bool) (xs ys : List X) → list_all test xs ≡ true → list_all test ys ≡ true → list_all test (xs ++ ys) ≡ true
-all_append test [] ys here there = there
-all_append test (x ∷ xs) ys here there =
-    let parts = and_parts (test x) (list_all test xs) here in
-    and_from (test x) (list_all test (xs ++ ys)) parts.0 (all_append test xs ys parts.1 there)
 
 module _ (names : List WordId) where
   mutual

@@ -5,7 +5,7 @@
 /// A row of the table.
 pub type Base = (u8, &'static str, u64, u64);
 
-pub static BASES: [Base; 48] = [
+pub static BASES: [Base; 47] = [
     // No city (A) is a country (B), and Bern is a city, a country, or both.
     (1, "AB!< A1:", 1, 1),
     (1, "AB!< A1: B1:", 1, 0),
@@ -64,13 +64,6 @@ pub static BASES: [Base; 48] = [
         19,
         4,
     ),
-    // Forty successors, one within the other.
-    (
-        1,
-        "Ar?r?r?r?r?r?r?r?r?r?r?r?r?r?r?r?r?r?r?r?r?r?r?r?r?r?r?r?r?r?r?r?r?r?r?r?r?r?r?r?1:",
-        40,
-        41,
-    ),
     // Inclusions by their forms.
     (1, "AB|C< A1: C!1:", 1, 0),
     (1, "AB&C< A1: B1: C!1:", 2, 0),
@@ -78,3 +71,11 @@ pub static BASES: [Base; 48] = [
     (1, "Ar*B< B!1:", 5, 2),
     (2, "12~ A1: B2: AB!<", 1, 0),
 ];
+
+/// Forty successors, one within the other: a search of 40 rule applications.
+pub static NESTED: Base = (
+    1,
+    "Ar?r?r?r?r?r?r?r?r?r?r?r?r?r?r?r?r?r?r?r?r?r?r?r?r?r?r?r?r?r?r?r?r?r?r?r?r?r?r?r?1:",
+    40,
+    41,
+);

@@ -23,10 +23,10 @@ pub fn are_fit(names: &Names, axioms: &Axioms) -> bool
     true
 }
 
-fn fits(names: &Names, axiom: &Axiom) -> bool
-    ensures { result ≡ fits names.now (claim_of axiom.now) }
+fn fits(names: &Names, given: &Axiom) -> bool
+    ensures { result ≡ fits names.now (claim_of given.now) }
 {
-    match axiom {
+    match given {
         Axiom::SubClass(below, above) => is_fit(names, below) && is_fit(names, above),
         Axiom::SubRole(_, _) => true,
         Axiom::Member(class, name) => is_given(names, *name) && is_fit(names, class),

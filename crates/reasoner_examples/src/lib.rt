@@ -8,7 +8,7 @@ mod reading;
 #[cfg(test)]
 mod tests;
 
-pub use bases::{BASES, Base};
+pub use bases::{BASES, Base, NESTED};
 pub use fitting::are_fit;
 pub use models::has_small_model;
-pub use reading::{names_of, read};
+pub use reading::{first_names, names_of, read};

@@ -23,6 +23,15 @@ pub fn names_of(alloc: Global, count: u8) -> Result<Names, Fail> {
     }
 }
 
+/// So many names, from number 0 on.
+pub fn first_names(alloc: Global, count: u32) -> Result<Names, Fail> {
+    let mut names = Names::new(alloc);
+    for number in 0..count {
+        names.push(WordId(number))?;
+    }
+    Ok(names)
+}
+
 /// The axioms of a text. `T` is everything, `A` to `H` are class words, digits are names, `r`, `s` and `t` are relation
 /// words, and `R`, `S` and `U` their inverses. `!`, `&` and `|` take one or two classes, `?` (some) and `*` (all) a role and
 /// a class, `=` (value) a role and a name. Axioms: `<` two classes, `^` two roles, `:` a class and a name, `+` (related) and

@@ -1,8 +1,8 @@
 // How searches over small knowledge bases end, and what verdicts say of them.
-use crate::bases::BASES;
+use crate::bases::{BASES, NESTED};
 use crate::fitting::are_fit;
 use crate::models::has_small_model;
-use crate::reading::{names_of, read};
+use crate::reading::{first_names, names_of, read};
 use absorb::absorb;
 use closure_check::accepts;
 use logic_terms::{Axioms, Knowledge, Names};
@@ -96,11 +96,27 @@ fn each_base_has_its_verdict(rt: HostRuntime) -> Result<(), Fail> {
     let alloc = rt.alloc();
     let kept = bare(alloc)?;
     for (names, axioms, steps, size) in BASES.iter() {
+        if *steps > 0 {
+            let early = judged(alloc, *names, axioms, &kept, *steps - 1)?;
+            assert!(rt; matches!(early, Verdict::Spent(_)), "{axioms}");
+        }
         match judged(alloc, *names, axioms, &kept, *steps)? {
             Verdict::Consistent(model) => assert_eq!(rt; model.interp().size(), *size, "{axioms}"),
             Verdict::Inconsistent(_) => assert_eq!(rt; 0, *size, "{axioms}"),
             Verdict::Spent(_) => assert!(rt; false, "{axioms}"),
         }
+    }
+    Ok(())
+}
+
+#[test]
+fn a_class_may_be_nested_deep(rt: HostRuntime) -> Result<(), Fail> {
+    let alloc = rt.alloc();
+    let kept = bare(alloc)?;
+    let (names, axioms, steps, size) = NESTED;
+    match judged(alloc, names, axioms, &kept, steps)? {
+        Verdict::Consistent(model) => assert_eq!(rt; model.interp().size(), size),
+        _ => assert!(rt; false, "a model"),
     }
     Ok(())
 }
@@ -126,6 +142,19 @@ fn no_small_model_is_overlooked(rt: HostRuntime) -> Result<(), Fail> {
         if has_small_model(alloc, &axioms, *names, text)? {
             assert!(rt; *size > 0, "{text}");
         }
+    }
+    Ok(())
+}
+
+#[test]
+fn each_of_many_names_is_an_element(rt: HostRuntime) -> Result<(), Fail> {
+    let alloc = rt.alloc();
+    let names = first_names(alloc, 500)?;
+    let axioms = read(alloc, "A1:")?;
+    assert!(rt; are_fit(&names, &axioms));
+    match verdict(alloc, axioms, &names, &bare(alloc)?, 0)? {
+        Verdict::Consistent(model) => assert_eq!(rt; model.interp().size(), 500),
+        _ => assert!(rt; false, "a model"),
     }
     Ok(())
 }

@@ -10,7 +10,7 @@ loop-place-preserved c =
     each_more (fits c.args.names.now) (claims_of c.args.axioms.now) c.loop-place.place (claim_of c.get.result.now) c.get.ensures c.loop-place.invariant (sym c.fits.ensures ∙ c.if-not-fits.false)
 
 pub returns-clause-over : goal.returns-clause-over
-returns-clause-over c yes = all_over c.args.names.now (claims_of c.args.axioms.now) c.loop-place.place (omega arith) c.loop-place.invariant
+returns-clause-over c fit = all_over c.args.names.now (claims_of c.args.axioms.now) c.loop-place.place (omega arith) c.loop-place.invariant
 
 pub returns-clause-plain : goal.returns-clause-plain
-returns-clause-plain c yes = all_plain c.args.names.now (claims_of c.args.axioms.now) c.loop-place.place (omega arith) c.loop-place.invariant
+returns-clause-plain c fit = all_plain c.args.names.now (claims_of c.args.axioms.now) c.loop-place.place (omega arith) c.loop-place.invariant

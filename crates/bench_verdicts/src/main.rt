@@ -153,11 +153,19 @@ fn judged(
     }
 }
 
-// How many elements a verdict's model has, and 0 where it has none.
-fn size(verdict: &Verdict) -> u64 {
+// The model of a consistent verdict.
+fn model_of(verdict: Verdict) -> Result<CheckedModel, Fault> {
     match verdict {
-        Verdict::Consistent(model) => model.interp().size(),
-        _ => 0,
+        Verdict::Consistent(model) => Ok(model),
+        Verdict::Inconsistent(_) => Err(Fault::Axioms),
+        Verdict::Spent(_) => Err(Fault::Axioms),
+    }
+}
+
+fn is_spent(verdict: &Verdict) -> bool {
+    match verdict {
+        Verdict::Spent(_) => true,
+        _ => false,
     }
 }
 
@@ -166,25 +174,23 @@ fn main(rt: HostRuntime) -> Result<(), Fault> {
     let timed = env::args(&rt)?.count() > 1;
     let (sentences, steps) = if timed { (2_000, 424) } else { (200, 245) };
     let none = bare(alloc)?;
-    if !timed {
-        let early = size(&judged(alloc, sentences, &none, steps - 1)?);
-        println!(rt; "{early} elements one application earlier")?;
-    }
+    let early = judged(alloc, sentences, &none, steps - 1)?;
+    let early = is_spent(&early);
+    println!(rt; "spent one application earlier: {early}")?;
     let start = rt.thread_cpu_time()?;
-    let found = judged(alloc, sentences, &none, steps)?;
+    let model = model_of(judged(alloc, sentences, &none, steps)?)?;
     let searched = rt.thread_cpu_time()?.saturating_sub(start);
-    let elements = size(&found);
+    let elements = model.interp().size();
     println!(rt; "{elements} elements after {steps} applications")?;
-    if let Verdict::Consistent(model) = found {
-        let start = rt.thread_cpu_time()?;
-        let again = size(&judged(alloc, sentences, &model, 0)?);
-        let kept = rt.thread_cpu_time()?.saturating_sub(start);
-        println!(rt; "{again} elements with the model kept")?;
-        if timed {
-            let searched = searched.as_micros();
-            let kept = kept.as_micros();
-            println!(rt; "{searched} microseconds with a search, {kept} microseconds without")?;
-        }
+    let start = rt.thread_cpu_time()?;
+    let again = model_of(judged(alloc, sentences, &model, 0)?)?;
+    let kept = rt.thread_cpu_time()?.saturating_sub(start);
+    let elements = again.interp().size();
+    println!(rt; "{elements} elements with the model kept")?;
+    if timed {
+        let searched = searched.as_micros();
+        let kept = kept.as_micros();
+        println!(rt; "{searched} microseconds with a search, {kept} microseconds without")?;
     }
     Ok(())
 }

@@ -285,3 +285,7 @@ pub tried_here : (xs : List Tried) (i : ℕ) (x : Tried) → i < length xs → x
 tried_here [] i x lt is = absurd (omega arith)
 tried_here (y ∷ ys) zero x lt is = inl (sym is)
 tried_here (y ∷ ys) (suc i) x lt is = inr (tried_here ys i x (omega arith) is)
+
+-- before the first token that is tried
+pub none_tried : (g : GrammarParts) (l : Listed) (tokens : List (List ℕ)) (tried : List Tried) → tried ≡ [] → AreTried g l tokens tried
+none_tried g l tokens tried e one o = absurd (subst (λ xs. OneOf xs one) e o)

@@ -43,19 +43,20 @@ stated_from_known g words (s ∷ ss) (m ∷ ms) mean = by_status s.status m mean
 pub stated_append : (g : GrammarParts) (words : Listed) (xs ys : List Sentence) (cs ds : List Claim)
     → AreStated g words xs cs → AreStated g words ys ds → AreStated g words (xs ++ ys) (cs ++ ds)
 stated_append g words [] ys cs ds first second = subst (λ es. AreStated g words ys (es ++ ds)) (sym first) second
-stated_append g words (x ∷ xs) ys cs ds first second = by_test (is_asserted x.status) first
+stated_append g words (x ∷ xs) ys cs ds first second = by_test (is_asserted x.status) (λ es more. stated_append g words xs ys es ds more second) first
   where
     by_test : (b : Bool)
+        → ((es : List Claim) → AreStated g words xs es → AreStated g words (xs ++ ys) (es ++ ds))
         → MatchBool b (StatesFirst g words x.tokens (AreStated g words xs) cs) (AreStated g words xs cs)
         → MatchBool b (StatesFirst g words x.tokens (AreStated g words (xs ++ ys)) (cs ++ ds)) (AreStated g words (xs ++ ys) (cs ++ ds))
-    by_test true states = record {
+    by_test true behind states = record {
       own = states.own;
       rest = states.rest ++ ds;
       means = states.means;
-      follow = stated_append g words xs ys states.rest ds states.follow second;
+      follow = behind states.rest states.follow;
       joined = ap (λ es. es ++ ds) states.joined ∙ append_assoc states.own states.rest ds;
     }
-    by_test false stated = stated_append g words xs ys cs ds stated second
+    by_test false behind stated = behind cs stated
 
 -- what a wiki knows is what is known in its articles
 pub knows_from_known : (g : GrammarParts) (words : Listed) (articles : List Article) (senses : List (List Sense))

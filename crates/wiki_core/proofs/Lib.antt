@@ -7,6 +7,7 @@ pub mod MeaningLemmas
 pub mod MentionLemmas
 pub mod MenuLemmas
 pub mod NameLemmas
+pub mod PassingLemmas
 pub mod UnwordLemmas
 pub mod UseLemmas
 pub mod VerdictLemmas

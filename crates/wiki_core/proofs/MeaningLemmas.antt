@@ -21,17 +21,18 @@ stating_same cs ds e = cc
 -- sentences state at most one list of axioms
 pub stated_one : (g : GrammarParts) (words : Listed) (sentences : List Sentence) (one other : List Claim) → AreStated g words sentences one → AreStated g words sentences other → one ≡ other
 stated_one g words [] one other a b = a ∙ sym b
-stated_one g words (sentence ∷ sentences) one other a b = by (is_asserted sentence.status) a b
+stated_one g words (sentence ∷ sentences) one other a b = by (is_asserted sentence.status) (λ cs ds x y. stated_one g words sentences cs ds x y) a b
   where
     by : (asserted : Bool)
+        → ((cs ds : List Claim) → AreStated g words sentences cs → AreStated g words sentences ds → cs ≡ ds)
         → MatchBool asserted (StatesFirst g words sentence.tokens (AreStated g words sentences) one) (AreStated g words sentences one)
         → MatchBool asserted (StatesFirst g words sentence.tokens (AreStated g words sentences) other) (AreStated g words sentences other)
         → one ≡ other
-    by true x y =
+    by true behind x y =
         let own : x.own ≡ y.own = stating_same x.own y.own (means_one g words sentence.tokens (stating x.own) (stating y.own) x.means y.means) in
-        let rest : x.rest ≡ y.rest = stated_one g words sentences x.rest y.rest x.follow y.follow in
+        let rest : x.rest ≡ y.rest = behind x.rest y.rest x.follow y.follow in
         x.joined ∙ ap (λ cs. cs ++ x.rest) own ∙ ap (λ cs. y.own ++ cs) rest ∙ sym y.joined
-    by false x y = stated_one g words sentences one other x y
+    by false behind x y = behind one other x y
 
 -- a wiki knows at most one list of axioms
 pub knows_one : (state : State) (one other : List Claim) → Knows state one → Knows state other → one ≡ other

@@ -65,5 +65,5 @@ rises_on n (m ∷ ns) up = (and_parts (nat_lt n.0 m.0) (names_above m ns) up).1
 
 -- names that rise are in order of number
 pub rise_pairs : (ns : List WordId) → names_rise ns ≡ true → AllPairs (λ n later. n.0 < later.0) ns
-rise_pairs [] up i j d lt within = absurd (omega arith)
+rise_pairs [] up = λ i j d lt within. absurd (omega arith)
 rise_pairs (n ∷ ns) up = AllPairs-cons (λ (n later : WordId). n.0 < later.0) n ns (above_all n ns up) (rise_pairs ns (rises_on n ns up))

@@ -153,11 +153,11 @@ module _ (test : WordId → Bool) where
 
   term_passes : (names : List (ℕ × WordId)) (p : ℕ) → words_pass names ≡ true → thing_passes test (term_at names p) ≡ true
   term_passes [] p h = refl
-  term_passes (n ∷ ns) p h = by (n.0 == p)
+  term_passes (n ∷ ns) p h = by (n.0 == p) (term_passes ns p (and_r (test n.1) (words_pass ns) h))
     where
-      by : (b : Bool) → thing_passes test (cond b (Name n.1) (term_at ns p)) ≡ true
-      by true = and_l (test n.1) (words_pass ns) h
-      by false = term_passes ns p (and_r (test n.1) (words_pass ns) h)
+      by : (b : Bool) → thing_passes test (term_at ns p) ≡ true → thing_passes test (cond b (Name n.1) (term_at ns p)) ≡ true
+      by true later = and_l (test n.1) (words_pass ns) h
+      by false later = later
 
   first_passes : (xs ys : List (ℕ × WordId)) → words_pass (xs ++ ys) ≡ true → words_pass xs ≡ true
   first_passes xs ys h = and_l (words_pass xs) (words_pass ys) (sym (list_all-append (λ n. test n.1) xs ys) ∙ h)
@@ -178,12 +178,13 @@ module _ (test : WordId → Bool) where
     -- the children that are no marks, whose names pass
     nth_passes : (sks : List Skeleton) (i : ℕ) → EachPasses sks → words_pass (flat_map (names_of g) sks) ≡ true → Passing (option_map_or (meaning_in g names) (slice_get (filter (λ c. is_meant g (out-Skeleton c).rule) sks) i) nothing)
     nth_passes [] i each h = passing_nothing
-    nth_passes (sk ∷ sks) i each h = by (is_meant g (out-Skeleton sk).rule) i
+    nth_passes (sk ∷ sks) i each h = by (λ j. nth_passes sks j each.1 (second_passes (names_of g sk) (flat_map (names_of g) sks) h)) (is_meant g (out-Skeleton sk).rule) i
       where
-        by : (b : Bool) (i : ℕ) → Passing (option_map_or (meaning_in g names) (slice_get (cond b (sk ∷ filter (λ c. is_meant g (out-Skeleton c).rule) sks) (filter (λ c. is_meant g (out-Skeleton c).rule) sks)) i) nothing)
-        by true zero = each.0 (first_passes (names_of g sk) (flat_map (names_of g) sks) h)
-        by true (suc i) = nth_passes sks i each.1 (second_passes (names_of g sk) (flat_map (names_of g) sks) h)
-        by false i = nth_passes sks i each.1 (second_passes (names_of g sk) (flat_map (names_of g) sks) h)
+        by : ((j : ℕ) → Passing (option_map_or (meaning_in g names) (slice_get (filter (λ c. is_meant g (out-Skeleton c).rule) sks) j) nothing))
+            → (b : Bool) (i : ℕ) → Passing (option_map_or (meaning_in g names) (slice_get (cond b (sk ∷ filter (λ c. is_meant g (out-Skeleton c).rule) sks) (filter (λ c. is_meant g (out-Skeleton c).rule) sks)) i) nothing)
+        by later true zero = each.0 (first_passes (names_of g sk) (flat_map (names_of g) sks) h)
+        by later true (suc i) = later i
+        by later false i = later i
 
     -- a skeleton whose children pass does so
     pub node_passes : (sk : Skeleton) → EachPasses (out-Skeleton sk).children → PassesIn sk
@@ -230,12 +231,13 @@ module _ (test : WordId → Bool) where
     over [] k each later = each
     over (Terminal t ∷ es) k each later = over es (sketch_on s (Terminal t) k) each later
     over (Preterminal c ∷ es) k each later = over es (sketch_on s (Preterminal c) k) each later
-    over (Sub c ∷ es) k each later = by k.left later
+    over (Sub c ∷ es) k each later = by (λ (k : Sketch) (e : Each k.children) (l : Later k.left). over es k e l) k.left later
       where
-        by : (left : List (ℕ → Skeleton)) → Later left → Each (sketch_over s es (sketch_child left k)).children
-        by [] unit = over es k each later
-        by (child ∷ left) rest =
-            over es (record { place = (out-Skeleton (child k.place)).end; words = k.words; children = k.children ++ child k.place ∷ []; left = left })
+        by : ((k : Sketch) → Each k.children → Later k.left → Each (sketch_over s es k).children)
+            → (left : List (ℕ → Skeleton)) → Later left → Each (sketch_over s es (sketch_child left k)).children
+        by on [] unit = on k each later
+        by on (child ∷ left) rest =
+            on (record { place = (out-Skeleton (child k.place)).end; words = k.words; children = k.children ++ child k.place ∷ []; left = left })
               (appended k.children (child k.place) each (rest.0 k.place)) rest.1
     over (Position x ∷ es) k each later = over es k each later
     over (Opener ∷ es) k each later = over es k each later

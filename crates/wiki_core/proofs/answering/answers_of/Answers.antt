@@ -13,8 +13,8 @@ cut_off claims names budget concept unknown all k d within =
     record { knowledge = one.knowledge; absorbed = one.absorbed; longer = one.longer }
 
 -- names that are in one list are not in another
-apart_each : (yes unknown : List WordId) → ((n : WordId) → Contains yes n → ¬ Contains unknown n) → All (λ name. ¬ Contains unknown name) yes
-apart_each yes unknown apart k d within = apart (get_or yes k d) (k, within, refl)
+apart_each : (sure unsure : List WordId) → ((n : WordId) → Contains sure n → ¬ Contains unsure n) → All (λ name. ¬ Contains unsure name) sure
+apart_each sure unsure apart k d within = apart (get_or sure k d) (k, within, refl)
 
 pub returns : goal.returns
 returns c =

@@ -1,4 +1,5 @@
 use Rattle.std.proofs.Common.{◌≡◌, ℕ, ◌<◌, List, length, get_or, All, Contains, refl}
+use Rattle.std.proofs.lemmas.List.Elements.{All-contains_itself}
 use Rattle.wiki_base.specs.declared.numbers.WordId.{WordId}
 use Rattle.logic_terms.specs.Concept.{Concept, Claim}
 use Rattle.answers.specs.Answered.{denied, IsUnknown}
@@ -14,7 +15,7 @@ cut_off claims names budget concept unknown all k d within =
 
 -- names that are in one list are not in another
 apart_each : (sure unsure : List WordId) → ((n : WordId) → Contains sure n → ¬ Contains unsure n) → All (λ name. ¬ Contains unsure name) sure
-apart_each sure unsure apart k d within = apart (get_or sure k d) (k, within, refl)
+apart_each sure unsure apart k d within = apart (get_or sure k d) (All-contains_itself sure k d within)
 
 pub returns : goal.returns
 returns c =

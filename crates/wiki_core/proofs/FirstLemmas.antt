@@ -1,11 +1,10 @@
 -- The first of causes in a row, and that none of them stands.
 use Rattle.std.proofs.Common.{◌≡◌, List, [], ◌∷◌, ◌++◌, ◌⊎◌, inl, inr}
 use Rattle.wiki_talk.specs.declared.refusals.Refusal.{Refusal}
+use Rattle.wiki_core.specs.declared.faults.Fault.{Fault}
+use Rattle.wiki_core.specs.declared.faults.Fault.TheVariants.{Refused, Memory}
+use Rattle.wiki_core.specs.Faults.{IsFault, IsAbsent}
 use Rattle.wiki_core.specs.Refusing.{FirstOf}
-
--- a cause doesn't stand, whatever would be told of it
-abbrev pub IsAbsent : (Refusal → Type 0) → Type 0
-IsAbsent cause = (refusal : Refusal) → ¬ cause refusal
 
 -- the second of two causes stands alone
 pub first_of_two : (a b : Refusal → Type 0) (others : List (Refusal → Type 0)) (refusal : Refusal) → IsAbsent a → b refusal → FirstOf (a ∷ b ∷ others) refusal
@@ -23,3 +22,12 @@ none_stands a others no_a none refusal (inr later) = none refusal later.1
 -- no causes at all
 pub nothing_stands : IsAbsent (FirstOf [])
 nothing_stands refusal h = h
+
+-- a fault of the first cause is one of all, and so is a fault of the others behind a cause that doesn't stand
+pub fault_first : (a : Refusal → Type 0) (others : List (Refusal → Type 0)) (fault : Fault) → IsFault a fault → IsFault (FirstOf (a ∷ others)) fault
+fault_first a others (Refused refusal) is = inl is
+fault_first a others Memory is = tt
+
+pub fault_behind : (a : Refusal → Type 0) (others : List (Refusal → Type 0)) (fault : Fault) → IsAbsent a → IsFault (FirstOf others) fault → IsFault (FirstOf (a ∷ others)) fault
+fault_behind a others (Refused refusal) no_a first = inr (no_a, first)
+fault_behind a others Memory no_a first = tt

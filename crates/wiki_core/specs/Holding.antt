@@ -12,11 +12,10 @@ use Rattle.wiki_core.specs.State.{State, IsSound, first_state}
 use Rattle.wiki_core.specs.Meanings.{Meaning, stating, outside, asking, asking_outside, Means}
 use Rattle.wiki_core.specs.Knowledge.{sentences_in, Knows}
 
--- a wiki: its state, and the interpretation and the axioms of the model that it keeps
+-- a wiki: its state, and the interpretation that it keeps
 pub record Holding : Type 0 where
   pub state : State
   pub interpretation : Interpretation
-  pub claims : List Claim
 
 -- the interpretation of one element, in which nothing holds
 abbrev pub first_interpretation : Interpretation
@@ -24,7 +23,7 @@ first_interpretation = record { size = 1; names = []; classes = []; relations = 
 
 -- the wiki without words, which knows nothing
 abbrev pub first_holding : GrammarParts → ℕ → Holding
-first_holding grammar budget = record { state = first_state grammar budget; interpretation = first_interpretation; claims = [] }
+first_holding grammar budget = record { state = first_state grammar budget; interpretation = first_interpretation }
 
 -- the status is one that a sentence of this meaning may have
 abbrev pub FitsMeaning : Status → Meaning → Type 0
@@ -44,9 +43,10 @@ pub record IsStored (state : State) (sentence : Sentence) : Type 0 where
   pub fits : FitsMeaning sentence.status meaning
   pub few : length sentence.tokens ≤ MOST_TOKENS
 
--- each sentence is stored rightly, and the kept model is a finite model of exactly what the wiki knows
+-- each sentence is stored rightly, and the kept interpretation is a finite model of exactly what the wiki knows
 pub record IsKept (wiki : Holding) : Type 0 where
   pub sound : IsSound wiki.state
   pub stored : All (IsStored wiki.state) (sentences_in wiki.state.articles)
-  pub known : Knows wiki.state wiki.claims
-  pub model : IsFiniteModel wiki.interpretation wiki.claims
+  pub claims : List Claim
+  pub known : Knows wiki.state claims
+  pub model : IsFiniteModel wiki.interpretation claims

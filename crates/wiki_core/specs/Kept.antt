@@ -1,14 +1,20 @@
 -- What the program keeps of all sentences. Only private calls speak of it.
-use Rattle.std.specs.Prelude.{◌≡◌, ℕ, ◌++◌, List, [], ◌∷◌, map, take, drop, if◌then◌else◌}
+use Rattle.std.specs.Prelude.{◌≡◌, ◌≤◌, ℕ, ◌++◌, List, [], ◌∷◌, ◌+◌, length, map, take, drop, slice_get, unwrap_or, Some, All, if◌then◌else◌}
 use Rattle.std.specs.List.{flat_map}
+use Rattle.std.specs.Option.{option_map_or}
+use Rattle.wiki_base.specs.declared.tokens.TheConstants.{MOST_TOKENS}
 use Rattle.codeco_terms.specs.GrammarParts.{GrammarParts}
 use Rattle.lexicon.specs.Words.{Listed}
 use Rattle.logic_terms.specs.Concept.{Claim}
+use Rattle.owl_eval.specs.declared.checked.CheckedModel.{CheckedModel}
+use Rattle.owl_eval.specs.Checked.{kept_claims}
+use Rattle.wiki_talk.specs.declared.limits.TheConstants.{MOST_SENTENCES}
 use Rattle.articles.specs.declared.sentences.Sentence.{Sentence}
 use Rattle.articles.specs.declared.article.Article.{Article}
 use Rattle.wiki_core.specs.declared.meanings.Sense.{Sense}
 use Rattle.wiki_core.specs.Meanings.{Meaning, stating, outside, asking, asking_outside, Means}
 use Rattle.wiki_core.specs.Knowledge.{is_asserted, sentences_in}
+use Rattle.wiki_core.specs.State.{State, IsSound}
 use Rattle.wiki_core.specs.Holding.{FitsMeaning}
 use Rattle.wiki_core.specs.Found.{meaning_shown}
 
@@ -51,3 +57,37 @@ abbrev pub known_in : List Article → List (List Sense) → List Claim
 known_in [] senses = []
 known_in (article ∷ articles) [] = []
 known_in (article ∷ articles) (senses ∷ others) = known_of article.sentences (meanings_in senses) ++ known_in articles others
+
+-- the sentences of the article at a place, and the meanings that are kept of them
+abbrev pub sentences_of : List Article → ℕ → List Sentence
+sentences_of articles place = option_map_or (λ article. article.sentences) (slice_get articles place) []
+
+abbrev pub senses_of : List (List Sense) → ℕ → List Sense
+senses_of senses place = unwrap_or (slice_get senses place) []
+
+-- What is known with these axioms in place of those of some sentences of the article at a place: the ones from a place of it to
+-- before another.
+abbrev pub known_around : List Article → List (List Sense) → ℕ → ℕ → List Claim → ℕ → List Claim
+known_around articles senses place from own to =
+    known_in (take place articles) (take place senses) ++ known_of (take from (sentences_of articles place)) (meanings_in (take from (senses_of senses place)))
+    ++ own ++ known_of (drop to (sentences_of articles place)) (meanings_in (drop to (senses_of senses place)))
+    ++ known_in (drop (place + 1) articles) (drop (place + 1) senses)
+
+-- there is an article at the place, as many meanings are kept of it as it has sentences, and it has those places
+pub record IsAround (articles : List Article) (senses : List (List Sense)) (place from to : ℕ) : Type 0 where
+  pub article : Article
+  pub here : slice_get articles place ≡ Some article
+  pub own : List Sense
+  pub meant : slice_get senses place ≡ Some own
+  pub many : length own ≡ length article.sentences
+  pub rises : from ≤ to
+  pub within : to ≤ length article.sentences
+
+-- What the program keeps beside a state: the meaning of each sentence, and a model of the axioms that are known. Each sentence
+-- is one of so many tokens at most, and there are so many sentences at most.
+pub record IsKeeping (state : State) (senses : List (List Sense)) (model : CheckedModel) : Type 0 where
+  pub sound : IsSound state
+  pub mean : MeanInEach state.grammar state.words state.articles senses
+  pub known : kept_claims model ≡ known_in state.articles senses
+  pub short : All (λ sentence. length sentence.tokens ≤ MOST_TOKENS) (sentences_in state.articles)
+  pub few : length (sentences_in state.articles) ≤ MOST_SENTENCES

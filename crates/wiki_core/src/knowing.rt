@@ -1,7 +1,7 @@
 // The axioms that are known, from what is kept of the sentences.
-ghost use Rattle.std.specs.Prelude.{◌≡◌, ◌++◌, [], OnOk, if◌then◌else◌};
+ghost use Rattle.std.specs.Prelude.{◌≡◌, ◌++◌, [], IfOk, OnOk, if◌then◌else◌};
 ghost use Rattle.logic_terms.specs.Shown.{claims_of};
-ghost use Rattle.wiki_core.specs.Kept.{stated_by, known_of, known_in, meanings_in};
+ghost use Rattle.wiki_core.specs.Kept.{stated_by, known_of, known_in, known_around, meanings_in, IsAround};
 ghost use Rattle.wiki_core.specs.Knowledge.{is_asserted};
 ghost use Rattle.wiki_core.specs.Found.{meaning_shown};
 
@@ -15,6 +15,35 @@ use wiki_talk::Status;
 
 // What is kept of the sentences of an article, in order.
 pub(crate) type Senses = List<Sense>;
+
+// The axioms that are known with these in place of those of some sentences of an article, from a place to before another.
+pub(crate) fn known_around(
+    alloc: Global,
+    articles: &[Article],
+    senses: &[Senses],
+    place: usize,
+    from: usize,
+    own: &Axioms,
+    to: usize,
+) -> Result<Axioms, Memory>
+    requires { IsAround articles.now senses.now place from to }
+    ensures { IfOk result (λ axioms. claims_of axioms ≡ known_around articles.now senses.now place from (claims_of own.now) to) }
+{
+    let sentences = articles[place].sentences.as_slice();
+    let meant = senses[place].as_slice();
+    let mut known = Axioms::new(alloc);
+    push_articles(alloc, &mut known, &articles[..place], &senses[..place])?;
+    push_sentences(alloc, &mut known, &sentences[..from], &meant[..from])?;
+    push_all(alloc, &mut known, own)?;
+    push_sentences(alloc, &mut known, &sentences[to..], &meant[to..])?;
+    push_articles(
+        alloc,
+        &mut known,
+        &articles[place + 1..],
+        &senses[place + 1..],
+    )?;
+    Ok(known)
+}
 
 // Adds the axioms of the asserted sentences of articles.
 pub(crate) fn push_articles(

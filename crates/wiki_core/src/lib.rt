@@ -2,6 +2,7 @@
 #![tactic(auto)]
 
 mod answering;
+mod causes;
 mod faults;
 mod judging;
 mod keeping;
@@ -10,6 +11,8 @@ mod meanings;
 mod meant;
 mod names;
 mod parsing;
+mod removing;
+mod telling;
 #[cfg(test)]
 mod tests;
 mod told;

@@ -1,11 +1,16 @@
 // The wiki and its step.
-ghost use Rattle.std.specs.Prelude.{◌≡◌, ◌≤◌, ◌<◌, ◌+◌, ℕ, List, length, find, All, IsTrue, IsSome, IfOk, IfSome, IfNone, OnErr, Some, option_copied, option_map};
+ghost use Rattle.std.specs.Prelude.{◌≡◌, ◌≤◌, ◌<◌, ◌+◌, ◌++◌, ◌∷◌, [], ℕ, List, None, IfErr, OnOk, length, find, All, IsTrue, IsSome, IfOk, IfSome, IfNone, OnErr, Some, option_copied, option_map};
 ghost use Rattle.wiki_base.specs.declared.tokens.TheConstants.{MOST_TOKENS};
 ghost use Rattle.lexicon.specs.declared.words.TheConstants.{LAST_NUMBER};
 ghost use Rattle.wiki_talk.specs.declared.refusals.Refusal.{Refusal as TheRefusal};
-ghost use Rattle.wiki_core.specs.Words.{word_refusal};
+ghost use Rattle.wiki_core.specs.Words.{word_refusal, forms_given};
+ghost use Rattle.wiki_core.specs.Faults.{IsCause, Tells};
+ghost use Rattle.articles.specs.Articles.{new_article};
+ghost use Rattle.lexicon.specs.Words.{with_word, add_refusal};
 
 use crate::faults::Fault;
+use crate::keeping::first_model;
+use crate::knowing::Senses;
 use crate::parsing::{no_sentence, told_code, too_many_tokens};
 use crate::told::{told_text, told_word, told_words};
 use crate::uses::first_use;
@@ -15,39 +20,52 @@ use codeco_checked::CheckedGrammar;
 use derivations::{Cut, cut, plain_least};
 use lexicon::{Forms, Kind, Lexicon, MOST_WORDS};
 use lists::Copied;
+use owl_eval::CheckedModel;
 use std::alloc::Global;
 use std::marker::Model;
 use wiki_base::{Memory, Place, Text8, Tokens, WordId};
 use wiki_talk::{Refusal, Reply, Request};
 
-/// A wiki. It is seen as its state: the grammar, the budget of a search, the live words and their articles.
+/// A wiki. It is seen as its state, which is the grammar, the budget of a search, the live words and their articles, and the
+/// interpretation that it keeps.
 #[derive(Drop)]
 pub struct Wiki {
-    alloc: Global,
-    grammar: CheckedGrammar,
-    budget: u64,
-    lexicon: Lexicon,
-    articles: Articles,
+    pub(crate) alloc: Global,
+    pub(crate) grammar: CheckedGrammar,
+    pub(crate) budget: u64,
+    pub(crate) lexicon: Lexicon,
+    pub(crate) articles: Articles,
+    // What the sentences of each article mean.
+    pub(crate) senses: Vec<Senses>,
+    // A model of what is known.
+    pub(crate) kept: CheckedModel,
     // The last number that was given to a word.
-    last: u32,
+    pub(crate) last: u32,
 }
 
 impl Model for Wiki {
     ghost use Rattle.std.specs.Prelude.{◌≡◌};
-    ghost use Rattle.wiki_core.specs.State.{State, IsSound};
+    ghost use Rattle.wiki_core.specs.Holding.{Holding};
 
-    ghost Value = { State };
+    ghost Value = { Holding };
 
-    ghost view = { λ w. record { grammar = w.grammar; budget = w.budget; words = w.lexicon; articles = w.articles } };
+    ghost use Rattle.owl_eval.specs.Checked.{kept_interp};
+    ghost use Rattle.wiki_core.specs.Kept.{IsKeeping};
 
-    ghost invariant = { λ w. IsSound (record { grammar = w.grammar; budget = w.budget; words = w.lexicon; articles = w.articles }) × (w.last ≡ w.lexicon.last) };
+    ghost view = { λ w. record { state = record { grammar = w.grammar; budget = w.budget; words = w.lexicon; articles = w.articles }; interpretation = kept_interp w.kept } };
+
+    ghost invariant = { λ w. IsKeeping (record { grammar = w.grammar; budget = w.budget; words = w.lexicon; articles = w.articles }) w.senses.items w.kept × (w.last ≡ w.lexicon.last) };
 }
 
 impl Wiki {
     ghost use Rattle.codeco_checked.specs.Sound.{is_labelled};
-    ghost use Rattle.wiki_core.specs.State.{first_state};
+    ghost use Rattle.wiki_core.specs.Holding.{first_holding, IsKept};
+    ghost use Rattle.wiki_core.specs.Spending.{SpendsBeyondKept};
     ghost use Rattle.wiki_core.specs.Parsing.{tokens_of};
-    ghost use Rattle.wiki_core.specs.Step.{Step};
+    ghost use Rattle.wiki_core.specs.Step.{Step, Refuses};
+    ghost use Rattle.wiki_core.specs.Faults.{IsFault};
+    ghost use Rattle.articles.specs.Articles.{HasArticle};
+    ghost use Rattle.articles.specs.Places.{IsPlaceOf};
     ghost use Rattle.lexicon.specs.declared.kinds.Forms.{Forms as TheForms};
     ghost use Rattle.lexicon.specs.Words.{forms_of};
     ghost use Rattle.wiki_core.specs.Places.{all_placed, told_place};
@@ -57,23 +75,28 @@ impl Wiki {
     /// A wiki without words, over a grammar in which each rule has a label. A search may take `budget` steps.
     pub fn new(alloc: Global, grammar: CheckedGrammar, budget: u64) -> Result<Wiki, Memory>
         requires { IsTrue (is_labelled grammar) }
-        ensures { IfOk result (λ wiki. wiki ≡ first_state grammar budget) }
+        ensures { IfOk result (λ wiki. wiki ≡ first_holding grammar budget) }
     {
         let lexicon = Lexicon::new(alloc, grammar.grammar())?;
         let articles = Articles::new(alloc)?;
+        let kept = first_model(alloc)?;
         Ok(Wiki {
             alloc,
             grammar,
             budget,
             lexicon,
             articles,
+            senses: Vec::new(alloc),
+            kept,
             last: 0,
         })
     }
 
     /// Does one request, or refuses it, which changes nothing.
     pub fn step(&mut self, request: &Request) -> Result<Reply, Memory>
-        ensures step { IfOk result (λ reply. Step self.old request.now reply self.new) }
+        ensures step { IfOk result (λ reply. Step self.old.state request.now reply self.new.state) }
+        ensures spent { IfOk result (SpendsBeyondKept self.old request.now) }
+        ensures kept { IsKept self.new }
         ensures memory { OnErr result (self.new ≡ self.old) }
     {
         match request {
@@ -82,28 +105,38 @@ impl Wiki {
             Request::Words => self.words(),
             Request::Parse { text } => self.parse(text),
             Request::Unword { word } => self.unword(word),
-            // The others wait for the calls that tell a sentence's meaning and verdict.
+            Request::Remove { article, at } => told(self.remove(article, *at)),
+            Request::Retract { article, at } => told(self.retract(article, *at)),
+            Request::Axioms { article, at } => told(self.axioms(article, *at)),
+            // The others wait for the calls that judge a sentence.
             _ => Err(Memory),
         }
     }
 
-    // Adds a word, with an empty article. The article comes first, since it can be taken out again.
+    // Adds a word, with an empty article.
     fn add(&mut self, kind: Kind, forms: &[Text8]) -> Result<Reply, Memory>
-        ensures step { IfOk result (λ reply. Step self.old (Request.Word kind forms.now) reply self.new) }
+        ensures step { IfOk result (λ reply. Step self.old.state (Request.Word kind forms.now) reply self.new.state) }
         ensures memory { OnErr result (self.new ≡ self.old) }
     {
         let Some(number) = self.next_number() else {
             return refuse_word(self.alloc, &mut self.lexicon, kind, forms);
         };
         let word = WordId(number);
-        self.articles.begin(word)?;
-        match add_word(self.alloc, &mut self.lexicon, kind, forms) {
+        self.senses.push(Senses::new(self.alloc))?;
+        match enter_word(
+            self.alloc,
+            &mut self.articles,
+            &mut self.lexicon,
+            word,
+            kind,
+            forms,
+        ) {
             Ok(()) => {
                 self.last = number;
                 Ok(Reply::Word)
             }
             Err(fault) => {
-                self.articles.end(word);
+                let _ = self.senses.pop();
                 refused(fault)
             }
         }
@@ -111,8 +144,8 @@ impl Wiki {
 
     // The number that the next word gets; none where all are given. It is above those of all articles.
     fn next_number(&self) -> Option<u32>
-        ensures next { IfSome result (λ next. (next ≡ self.now.words.last + 1) × All (λ article. article.word.0 < next) self.now.articles) }
-        ensures none { IfNone result (self.now.words.last ≡ LAST_NUMBER) }
+        ensures next { IfSome result (λ next. (next ≡ self.now.state.words.last + 1) × All (λ article. article.word.0 < next) self.now.state.articles) }
+        ensures none { IfNone result (self.now.state.words.last ≡ LAST_NUMBER) }
     {
         prove!(self.lexicon.len() <= MOST_WORDS);
         self.last.checked_add(1)
@@ -120,7 +153,7 @@ impl Wiki {
 
     // Takes a word out, with its empty article.
     fn unword(&mut self, text: &Text8) -> Result<Reply, Memory>
-        ensures step { IfOk result (λ reply. Step self.old (Request.Unword text.now) reply self.new) }
+        ensures step { IfOk result (λ reply. Step self.old.state (Request.Unword text.now) reply self.new.state) }
         ensures memory { OnErr result (self.new ≡ self.old) }
     {
         let Some(word) = self.lexicon.find(text.as_str()) else {
@@ -129,6 +162,8 @@ impl Wiki {
         match self.use_of(word) {
             Some(place) => Ok(Reply::Refused(self.in_use(place)?)),
             None => {
+                let place = self.place(word);
+                let _ = self.senses.remove(place);
                 self.articles.end(word);
                 let _ = self.lexicon.remove(word);
                 Ok(Reply::Unword)
@@ -136,10 +171,21 @@ impl Wiki {
         }
     }
 
+    // Where the article of a live word stands.
+    pub(crate) fn place(&self, word: WordId) -> usize
+        requires { HasArticle self.now.state.articles word }
+        ensures { IsPlaceOf self.now.state.articles word result }
+    {
+        match self.articles.place_of(word) {
+            Some(place) => place,
+            None => unreachable!(),
+        }
+    }
+
     // The first place that needs a live word.
     fn use_of(&self, word: WordId) -> Option<Place>
-        ensures { (forms : TheForms) → forms_of self.now.words.live word ≡ Some forms
-            → result ≡ option_map told_place (find (uses_word word forms) (all_placed self.now.articles)) }
+        ensures { (forms : TheForms) → forms_of self.now.state.words.live word ≡ Some forms
+            → result ≡ option_map told_place (find (uses_word word forms) (all_placed self.now.state.articles)) }
     {
         match self.lexicon.word(word) {
             Some(forms) => first_use(self.articles.as_slice(), word, forms),
@@ -149,8 +195,8 @@ impl Wiki {
 
     // Tells a place that needs a word.
     fn in_use(&self, place: Place) -> Result<Refusal, Memory>
-        requires { IsSome (forms_of self.now.words.live place.article) }
-        ensures { IfOk result (TellsPlace self.now (λ form place. Refusal.InUse form place) place.article place.at) }
+        requires { IsSome (forms_of self.now.state.words.live place.article) }
+        ensures { IfOk result (TellsPlace self.now.state (λ form place. Refusal.InUse form place) place.article place.at) }
     {
         match self.lexicon.word(place.article) {
             Some(forms) => Ok(Refusal::InUse {
@@ -163,7 +209,7 @@ impl Wiki {
 
     // Tells the word that has this form.
     fn find(&self, word: &Text8) -> Result<Reply, Memory>
-        ensures { IfOk result (λ reply. Step self.now (Request.Find word.now) reply self.now) }
+        ensures { IfOk result (λ reply. Step self.now.state (Request.Find word.now) reply self.now.state) }
     {
         match self.found(word.as_str()) {
             Some(forms) => Ok(Reply::Find {
@@ -175,14 +221,14 @@ impl Wiki {
 
     // The forms of the word that has this one.
     fn found(&self, form: &str) -> Option<&Forms>
-        ensures { option_copied result ≡ word_with self.now.words form.now }
+        ensures { option_copied result ≡ word_with self.now.state.words form.now }
     {
         self.lexicon.find(form).and_then(|id| self.lexicon.word(id))
     }
 
     // Tells all words.
     fn words(&self) -> Result<Reply, Memory>
-        ensures { IfOk result (λ reply. Step self.now Request.Words reply self.now) }
+        ensures { IfOk result (λ reply. Step self.now.state Request.Words reply self.now.state) }
     {
         Ok(Reply::Words {
             words: told_words(self.alloc, &self.lexicon)?,
@@ -191,7 +237,7 @@ impl Wiki {
 
     // Tells the code of a text.
     fn parse(&self, text: &Text8) -> Result<Reply, Memory>
-        ensures { IfOk result (λ reply. Step self.now (Request.Parse text.now) reply self.now) }
+        ensures { IfOk result (λ reply. Step self.now.state (Request.Parse text.now) reply self.now.state) }
     {
         match cut(self.alloc, self.grammar.grammar(), text.as_str())? {
             Cut::TooMany => Ok(Reply::Refused(too_many_tokens())),
@@ -202,8 +248,8 @@ impl Wiki {
     // Tells the code of tokens.
     fn parse_tokens(&self, tokens: &Tokens) -> Result<Reply, Memory>
         requires { length tokens.now ≤ MOST_TOKENS }
-        ensures { IfOk result (λ reply. (text : List ℕ) → tokens_of self.now text ≡ tokens.now
-            → Step self.now (Request.Parse text) reply self.now) }
+        ensures { IfOk result (λ reply. (text : List ℕ) → tokens_of self.now.state text ≡ tokens.now
+            → Step self.now.state (Request.Parse text) reply self.now.state) }
     {
         match plain_least(self.alloc, &self.grammar, &self.lexicon, tokens)? {
             Some(least) => Ok(Reply::Parse {
@@ -216,6 +262,44 @@ impl Wiki {
                 tokens,
             )?)),
         }
+    }
+}
+
+// Adds a word with an empty article. The article comes first, since it can be taken out again.
+fn enter_word(
+    alloc: Global,
+    articles: &mut Articles,
+    lexicon: &mut Lexicon,
+    word: WordId,
+    kind: Kind,
+    forms: &[Text8],
+) -> Result<(), Fault>
+    requires { All (λ other. other.word.0 < word.0) articles.old }
+    ensures article { OnOk result (articles.new ≡ articles.old ++ new_article word ∷ []) }
+    ensures added { OnOk result (lexicon.new ≡ with_word lexicon.old (forms_given kind forms.now)) }
+    ensures accepted { OnOk result (word_refusal lexicon.old kind forms.now ≡ None) }
+    ensures free { OnOk result (add_refusal lexicon.old (forms_given kind forms.now) ≡ None) }
+    ensures refused { IfErr result (IsCause (word_refusal lexicon.old kind forms.now)) }
+    ensures articles { OnErr result (articles.new ≡ articles.old) }
+    ensures lexicon { OnErr result (lexicon.new ≡ lexicon.old) }
+{
+    articles.begin(word)?;
+    match add_word(alloc, lexicon, kind, forms) {
+        Ok(()) => Ok(()),
+        Err(fault) => {
+            articles.end(word);
+            Err(fault)
+        }
+    }
+}
+
+// The reply to a request that is done or refused.
+fn told(done: Result<Reply, Fault>) -> Result<Reply, Memory>
+    ensures { IfOk result (λ reply. Tells done reply) }
+{
+    match done {
+        Ok(reply) => Ok(reply),
+        Err(fault) => refused(fault),
     }
 }
 

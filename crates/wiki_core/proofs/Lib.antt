@@ -2,6 +2,7 @@ pub mod AddLemmas
 pub mod CauseLemmas
 pub mod FirstLemmas
 pub mod FullLemmas
+pub mod KeepingLemmas
 pub mod KnownLemmas
 pub mod MeaningLemmas
 pub mod MentionLemmas

@@ -3,17 +3,20 @@ use Rattle.std.specs.Prelude.{◌≡◌, ◌≤◌, ℕ, ◌++◌, List, [], ◌
 use Rattle.std.specs.List.{flat_map}
 use Rattle.std.specs.Option.{option_map_or}
 use Rattle.wiki_base.specs.declared.tokens.TheConstants.{MOST_TOKENS}
+use Rattle.wiki_base.specs.declared.numbers.WordId.{WordId}
 use Rattle.codeco_terms.specs.GrammarParts.{GrammarParts}
 use Rattle.lexicon.specs.Words.{Listed}
 use Rattle.logic_terms.specs.Concept.{Claim}
 use Rattle.owl_eval.specs.declared.checked.CheckedModel.{CheckedModel}
 use Rattle.owl_eval.specs.Checked.{kept_claims}
 use Rattle.wiki_talk.specs.declared.limits.TheConstants.{MOST_SENTENCES}
+use Rattle.wiki_talk.specs.declared.statuses.Status.{Status}
+use Rattle.wiki_talk.specs.declared.statuses.Status.TheVariants.{Asserted, Outside, Question, QuestionOutside}
 use Rattle.articles.specs.declared.sentences.Sentence.{Sentence}
 use Rattle.articles.specs.declared.article.Article.{Article}
 use Rattle.wiki_core.specs.declared.meanings.Sense.{Sense}
 use Rattle.wiki_core.specs.Meanings.{Meaning, stating, outside, asking, asking_outside, Means}
-use Rattle.wiki_core.specs.Knowledge.{is_asserted, sentences_in}
+use Rattle.wiki_core.specs.Knowledge.{is_asserted, sentences_in, IsAllowed}
 use Rattle.wiki_core.specs.State.{State, IsSound}
 use Rattle.wiki_core.specs.Holding.{FitsMeaning}
 use Rattle.wiki_core.specs.Found.{meaning_shown}
@@ -82,6 +85,14 @@ pub record IsAround (articles : List Article) (senses : List (List Sense)) (plac
   pub many : length own ≡ length article.sentences
   pub rises : from ≤ to
   pub within : to ≤ length article.sentences
+
+-- The status of a sentence with this meaning, where these are all axioms, its own among them.
+abbrev pub Stands : List Claim → List WordId → ℕ → Meaning → Status → Type 0
+Stands claims names budget (stating []) status = status ≡ Asserted
+Stands claims names budget (stating (claim ∷ own)) status = IsAllowed claims names budget status
+Stands claims names budget (outside cause) status = status ≡ Outside cause
+Stands claims names budget (asking concept) status = status ≡ Question
+Stands claims names budget (asking_outside cause) status = status ≡ QuestionOutside cause
 
 -- What the program keeps beside a state: the meaning of each sentence, and a model of the axioms that are known. Each sentence
 -- is one of so many tokens at most, and there are so many sentences at most.

@@ -1,6 +1,7 @@
 //! The wiki: its state, and one step of it for each request.
 #![tactic(auto)]
 
+mod adding;
 mod answering;
 mod causes;
 mod faults;

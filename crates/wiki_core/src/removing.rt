@@ -33,7 +33,7 @@ impl Wiki {
             &self.senses,
             &self.kept,
             place,
-            at as usize,
+            at,
         )?;
         let _ = self.articles.take(word, at);
         let _ = self.senses[place].remove(at as usize);
@@ -55,7 +55,7 @@ impl Wiki {
             &self.senses,
             &self.kept,
             place,
-            at as usize,
+            at,
         )?;
         let status = Status::Retracted;
         self.articles.mark(word, at, status);
@@ -102,13 +102,14 @@ fn model_without(
     senses: &[Senses],
     kept: &CheckedModel,
     place: usize,
-    at: usize,
+    at: u32,
 ) -> Result<CheckedModel, Memory>
     requires around { IsAround articles.now senses.now place at (at + 1) }
     requires known { kept_claims kept.now ≡ known_in articles.now senses.now }
     ensures interp { IfOk result (λ model. kept_interp model ≡ kept_interp kept.now) }
     ensures claims { IfOk result (λ model. kept_claims model ≡ known_around articles.now senses.now place at [] (at + 1)) }
 {
+    let at = at as usize;
     let none = Axioms::new(alloc);
     let known = known_around(alloc, articles, senses, place, at, &none, at + 1)?;
     match CheckedModel::new(kept.interp().copy()?, known) {

@@ -99,16 +99,35 @@ impl Wiki {
         ensures kept { IsKept self.new }
         ensures memory { OnErr result (self.new ≡ self.old) }
     {
+        let reply = self.carry_out(request);
+        self.is_kept();
+        reply
+    }
+
+    // What the wiki keeps fits its state.
+    fn is_kept(&self)
+        ensures { IsKept self.now }
+    {
+        let _ = self.kept.interp();
+    }
+
+    // Does one request, or refuses it.
+    fn carry_out(&mut self, request: &Request) -> Result<Reply, Memory>
+        ensures step { IfOk result (λ reply. Step self.old.state request.now reply self.new.state) }
+        ensures spent { IfOk result (SpendsBeyondKept self.old request.now) }
+        ensures memory { OnErr result (self.new ≡ self.old) }
+    {
         match request {
             Request::Word { kind, forms } => self.add(*kind, forms.as_slice()),
             Request::Find { word } => self.find(word),
             Request::Words => self.words(),
             Request::Parse { text } => self.parse(text),
             Request::Unword { word } => self.unword(word),
+            Request::Add { article, at, text } => told(self.add_sentence(article, *at, text)),
             Request::Remove { article, at } => told(self.remove(article, *at)),
             Request::Retract { article, at } => told(self.retract(article, *at)),
             Request::Axioms { article, at } => told(self.axioms(article, *at)),
-            // The others wait for the calls that judge a sentence.
+            // The others wait for the calls that judge a sentence in place of another.
             _ => Err(Memory),
         }
     }

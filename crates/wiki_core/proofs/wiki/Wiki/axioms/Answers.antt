@@ -1,0 +1,8 @@
+use Rattle.wiki_core.proofs.KeepingLemmas.{has_derivation}
+use Rattle.wiki_core.proofs.wiki.Wiki.axioms.Goals as goal
+
+pub sense_of-requires-clause-few : goal.sense_of-requires-clause-few
+sense_of-requires-clause-few c = c.in_ok-sentence.ensures.stored.few
+
+pub unreachable-requires : goal.unreachable-requires
+unreachable-requires c = ?

@@ -20,7 +20,7 @@ use Rattle.wiki_talk.specs.declared.limits.TheConstants.{MOST_SENTENCES}
 use Rattle.wiki_talk.specs.declared.statuses.Status.TheVariants.{Retracted}
 use Rattle.articles.specs.declared.sentences.Sentence.{Sentence}
 use Rattle.articles.specs.declared.article.Article.{Article}
-use Rattle.articles.specs.Articles.{is_of, article_of, with_change, with_status}
+use Rattle.articles.specs.Articles.{AreInOrder, is_of, article_of, with_change, with_status}
 use Rattle.articles.specs.Places.{IsPlaceOf}
 use Rattle.wiki_core.specs.declared.meanings.Sense.{Sense}
 use Rattle.wiki_core.specs.State.{State}
@@ -120,39 +120,6 @@ stored_there state senses model keeping text article named at sentence here =
 -- a stored sentence has a derivation
 pub has_derivation : (state : State) (sentence : Sentence) → IsStored state sentence → IsSentence state.grammar state.words sentence.tokens
 has_derivation state sentence stored = let least = stored.means.is_least in (least.tree, least.derives)
-
--- ---- without a sentence
-
--- a model of a list of axioms is one of its parts
-pub parts_hold : (i : Interpretation) (first middle last : List Claim) → IsModel i (first ++ middle ++ last) → IsModel i (first ++ last)
-parts_hold i first middle last model =
-    let outer = all_parts (Holds i) first (middle ++ last) model in
-    All-append (Holds i) first last outer.0 (all_parts (Holds i) middle last outer.1).1
-
--- what is known in lists that are cut at the same place
-pub known_in-append : (articles others : List Article) (senses more : List (List Sense)) → length senses ≡ length articles
-    → known_in (articles ++ others) (senses ++ more) ≡ known_in articles senses ++ known_in others more
-known_in-append [] others [] more same = refl
-known_in-append [] others (own ∷ senses) more same = omega (arith, same)
-known_in-append (a ∷ articles) others [] more same = omega (arith, same)
-known_in-append (a ∷ articles) others (own ∷ senses) more same =
-    ap (λ (cs : List Claim). known_of a.sentences (meanings_in own) ++ cs) (known_in-append articles others senses more (omega (arith, same)))
-    ∙ sym (append_assoc (known_of a.sentences (meanings_in own)) (known_in articles senses) (known_in others more))
-
--- a model of all that is known is one of what is known without some sentences of an article
-pub model_around : (i : Interpretation) (articles : List Article) (senses : List (List Sense)) (place from to : ℕ) → IsAround articles senses place from to
-    → IsModel i (known_in articles senses) → IsModel i (known_around articles senses place from [] to)
-model_around i articles senses place from to around model = ?
-
--- what is known where the sentence at a place is taken out, or isn't asserted
-pub known_taken : (articles : List Article) (senses : List (List Sense)) (word : WordId) (place at : ℕ) → IsPlaceOf articles word place → IsAround articles senses place at (at + 1)
-    → known_in (with_change articles word (λ sentences. remove sentences at)) (slice_set senses place (remove (senses_of senses place) at))
-    ≡ known_around articles senses place at [] (at + 1)
-known_taken articles senses word place at here around = ?
-
-pub known_retracted : (articles : List Article) (senses : List (List Sense)) (word : WordId) (place at : ℕ) → IsPlaceOf articles word place → IsAround articles senses place at (at + 1)
-    → known_in (with_change articles word (λ sentences. with_status sentences at Retracted)) senses ≡ known_around articles senses place at [] (at + 1)
-known_retracted articles senses word place at here around = ?
 
 -- ---- other words
 

@@ -1,4 +1,5 @@
 pub mod AddLemmas
+pub mod AroundLemmas
 pub mod CauseLemmas
 pub mod FirstLemmas
 pub mod FullLemmas

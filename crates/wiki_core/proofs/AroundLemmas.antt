@@ -1,26 +1,28 @@
 -- What is known around a place of an article.
-use Rattle.std.proofs.Common.{◌≡◌, ℕ, suc, min, ◌+◌, ◌<◌, ◌≤◌, Bool, true, false, cond, List, [], ◌∷◌, ◌++◌, length, take, drop, get_or, set, map, All, Option, Some, None, unwrap_or, refl, sym, ap, subst, ◌∙◌, append_assoc, arith}
+use Rattle.std.proofs.Common.{◌≡◌, ℕ, zero, suc, min, ◌+◌, ◌<◌, ◌≤◌, Bool, true, false, cond, List, [], ◌∷◌, ◌++◌, length, take, drop, get_or, set, map, All, Option, Some, None, unwrap_or, refl, sym, ap, subst, ◌∙◌, append_assoc, arith}
 use Rattle.std.specs.List.{slice_get, remove}
-use Rattle.std.proofs.lemmas.List.{drop_more, take-set, drop-set, take-append-drop, length-take}
+use Rattle.std.proofs.lemmas.List.{drop_more, take-set, drop-set, take-append-drop, length-take, length-take-le, length-map}
 use Rattle.std.proofs.lemmas.List.Elements.{All-append}
-use Rattle.std.proofs.lemmas.Option.{get_or_from_slice_get}
-use Rattle.std.specs.Option.{option_map_or}
+use Rattle.std.proofs.lemmas.Option.{none-some, get_or_from_slice_get, slice_get_within, slice_get-get_or}
+use Rattle.std.specs.Option.{option_map_or, IsSomeAnd}
 use Rattle.wiki_base.specs.declared.numbers.WordId.{WordId}
 use Rattle.wiki_talk.specs.declared.statuses.Status.TheVariants.{Retracted}
+use Rattle.codeco_terms.specs.GrammarParts.{GrammarParts}
+use Rattle.lexicon.specs.Words.{Listed}
 use Rattle.logic_terms.specs.Concept.{Claim}
 use Rattle.logic_terms.specs.Interpretation.{Interpretation}
 use Rattle.logic_terms.specs.Reading.{Holds, IsModel}
 use Rattle.articles.specs.declared.sentences.Sentence.{Sentence}
 use Rattle.articles.specs.declared.article.Article.{Article}
-use Rattle.articles.specs.Articles.{AreInOrder, changed, with_change, with_status}
+use Rattle.articles.specs.Articles.{AreInOrder, HasSentence, article_of, changed, with_change, with_status}
 use Rattle.articles.specs.Places.{IsPlaceOf}
-use Rattle.articles.proofs.PlaceLemmas.{with_change-set}
+use Rattle.articles.proofs.PlaceLemmas.{article_at, with_change-set}
 use Rattle.wiki_core.specs.declared.meanings.Sense.{Sense}
 use Rattle.wiki_core.specs.Knowledge.{is_asserted}
 use Rattle.wiki_core.specs.Found.{meaning_shown}
-use Rattle.wiki_core.specs.Kept.{stated_by, meanings_in, known_of, known_in, known_around, senses_of, IsAround}
+use Rattle.wiki_core.specs.Kept.{stated_by, meanings_in, known_of, known_in, known_around, senses_of, IsAround, MeanEach, MeanInEach}
 use Rattle.wiki_core.proofs.KnownLemmas.{known_of-step}
-use Rattle.wiki_core.proofs.KeepingLemmas.{all_parts}
+use Rattle.wiki_core.proofs.KeepingLemmas.{all_parts, as_many, as_many_lists}
 
 -- what is known of lists that are cut at the same place
 pub known_of-append : (ss ts : List Sentence) (ms ns : List Sense) → length ms ≡ length ss → known_of (ss ++ ts) (meanings_in (ms ++ ns)) ≡ known_of ss (meanings_in ms) ++ known_of ts (meanings_in ns)
@@ -114,13 +116,74 @@ known_taken articles senses word place at ordered same here around =
     (append_assoc (known_of (take at a.sentences) (meanings_in (take at around.own))) (known_of (drop (at + 1) a.sentences) (meanings_in (drop (at + 1) around.own))) (known_in (drop (place + 1) articles) (drop (place + 1) senses)))
     ∙ sym (known_around-is articles senses place at (at + 1) [] a around.own around.here around.meant)
 
+-- the item at a place
+item : {X : Type 0} (xs : List X) (i : ℕ) → i < length xs → (x : X) × (slice_get xs i ≡ Some x)
+item [] i in_range = absurd (omega (arith, in_range))
+item (x ∷ xs) i in_range = (get_or (x ∷ xs) i x, slice_get-get_or (x ∷ xs) i x in_range)
+
+-- a list by the item at a place
+parts_at : {X : Type 0} (xs : List X) (i : ℕ) (x : X) → slice_get xs i ≡ Some x → xs ≡ take i xs ++ x ∷ drop (i + 1) xs
+parts_at {X} xs i x here =
+    sym (take-append-drop i xs)
+    ∙ ap (λ (back : List X). take i xs ++ back) (drop_more xs i x (slice_get_within xs i x here) ∙ ap (λ (y : X). y ∷ drop (i + 1) xs) (get_or_from_slice_get xs i x x here))
+
+-- what is known, by what is known of the article at a place
+known_in-parts : (articles : List Article) (senses : List (List Sense)) (place : ℕ) (a : Article) (own : List Sense) → slice_get articles place ≡ Some a → slice_get senses place ≡ Some own
+    → known_in articles senses ≡ known_in (take place articles) (take place senses) ++ known_of a.sentences (meanings_in own) ++ known_in (drop (place + 1) articles) (drop (place + 1) senses)
+known_in-parts articles senses place a own here meant =
+    let in_articles = slice_get_within articles place a here in
+    let in_senses = slice_get_within senses place own meant in
+    ap (λ (xs : List Article). known_in xs senses) (parts_at articles place a here)
+    ∙ ap (λ (ms : List (List Sense)). known_in (take place articles ++ a ∷ drop (place + 1) articles) ms) (parts_at senses place own meant)
+    ∙ known_in-append (take place articles) (a ∷ drop (place + 1) articles) (take place senses) (own ∷ drop (place + 1) senses)
+    (length-take-le place senses (omega (arith, in_senses)) ∙ sym (length-take-le place articles (omega (arith, in_articles))))
+
+-- a model of all that is known is one of what is known without the sentence at a place
+pub model_without : (i : Interpretation) (articles : List Article) (senses : List (List Sense)) (place at : ℕ) → IsAround articles senses place at (at + 1)
+    → IsModel i (known_in articles senses) → IsModel i (known_around articles senses place at [] (at + 1))
+model_without i articles senses place at around model =
+    let a = around.article in
+    let within = around.within in
+    let many = around.many in
+    let in_range : at < length a.sentences = omega (arith, within) in
+    let in_own : at < length around.own = omega (arith, within, many) in
+    let s = item a.sentences at in_range in
+    let m = item around.own at in_own in
+    let front = known_in (take place articles) (take place senses) in
+    let back = known_in (drop (place + 1) articles) (drop (place + 1) senses) in
+    let split : known_in articles senses ≡ front ++ (known_of (take at a.sentences) (meanings_in (take at around.own)) ++ (cond (is_asserted s.0.status) (stated_by (meaning_shown m.0)) [] ++ known_of (drop (at + 1) a.sentences) (meanings_in (drop (at + 1) around.own)))) ++ back =
+    known_in-parts articles senses place a around.own around.here around.meant
+    ∙ ap (λ (cs : List Claim). front ++ cs ++ back)
+    (known_of-parts a.sentences around.own at s.0 m.0 around.many in_range (sym (get_or_from_slice_get a.sentences at s.0 s.0 s.1)) (sym (get_or_from_slice_get around.own at m.0 m.0 m.1))) in
+    subst (IsModel i) (sym (known_around-is articles senses place at (at + 1) [] a around.own around.here around.meant))
+    (without_middle i front (known_of (take at a.sentences) (meanings_in (take at around.own))) (cond (is_asserted s.0.status) (stated_by (meaning_shown m.0)) [])
+    (known_of (drop (at + 1) a.sentences) (meanings_in (drop (at + 1) around.own))) back (subst (IsModel i) split model))
+
 -- what is known where the sentence at a place isn't asserted any more
 pub known_retracted : (articles : List Article) (senses : List (List Sense)) (word : WordId) (place at : ℕ) → AreInOrder articles → length senses ≡ length articles → IsPlaceOf articles word place
     → IsAround articles senses place at (at + 1)
     → known_in (with_change articles word (λ sentences. with_status sentences at Retracted)) senses ≡ known_around articles senses place at [] (at + 1)
 known_retracted articles senses word place at ordered same here around = ?
 
--- a model of all that is known is one of what is known without the sentence at a place
-pub model_without : (i : Interpretation) (articles : List Article) (senses : List (List Sense)) (place at : ℕ) → IsAround articles senses place at (at + 1)
-    → IsModel i (known_in articles senses) → IsModel i (known_around articles senses place at [] (at + 1))
-model_without i articles senses place at around model = ?
+-- what is kept of the article at a place is the meanings of its sentences
+mean_at : (g : GrammarParts) (words : Listed) (articles : List Article) (senses : List (List Sense)) (place : ℕ) (a : Article) (own : List Sense) → MeanInEach g words articles senses
+    → slice_get articles place ≡ Some a → slice_get senses place ≡ Some own → MeanEach g words a.sentences (meanings_in own)
+mean_at g words [] senses place a own mean here meant = absurd (none-some a here)
+mean_at g words (b ∷ articles) [] place a own mean here meant = absurd mean
+mean_at g words (b ∷ articles) (others ∷ senses) zero a own mean here meant =
+    subst (λ (c : Article). MeanEach g words c.sentences (meanings_in own)) (ap (λ (o : Option Article). unwrap_or o b) here)
+    (subst (λ (ms : List Sense). MeanEach g words b.sentences (meanings_in ms)) (ap (λ (o : Option (List Sense)). unwrap_or o others) meant) mean.0)
+mean_at g words (b ∷ articles) (others ∷ senses) (suc place) a own mean here meant = mean_at g words articles senses place a own mean.1 here meant
+
+-- the place of an article's sentence, with what is kept of the article
+pub around_there : (g : GrammarParts) (words : Listed) (articles : List Article) (senses : List (List Sense)) → MeanInEach g words articles senses → AreInOrder articles
+    → (word : WordId) (place : ℕ) → IsPlaceOf articles word place → (at : ℕ) → HasSentence articles word at → IsAround articles senses place at (at + 1)
+around_there g words articles senses mean ordered word place is at there =
+    let lists = as_many_lists g words articles senses mean in
+    let in_range = is.in_range in
+    let a = item articles place in_range in
+    let own = item senses place (omega (arith, in_range, lists)) in
+    let many : length (meanings_in own.0) ≡ length a.0.sentences = as_many g words a.0.sentences (meanings_in own.0) (mean_at g words articles senses place a.0 own.0 mean a.1 own.1) in
+    let found : article_of articles word ≡ Some a.0 = article_at articles ordered word place a.0 is ∙ ap Some (get_or_from_slice_get articles place a.0 a.0 a.1) in
+    let within : at < length a.0.sentences = subst (λ (o : Option Article). IsSomeAnd o (λ b. at < length b.sentences)) found there in
+    record { article = a.0; here = a.1; own = own.0; meant = own.1; many = sym (length-map own.0 meaning_shown) ∙ many; rises = omega arith; within = omega (arith, within) }

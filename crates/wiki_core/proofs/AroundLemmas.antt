@@ -163,7 +163,36 @@ model_without i articles senses place at around model =
 pub known_retracted : (articles : List Article) (senses : List (List Sense)) (word : WordId) (place at : ℕ) → AreInOrder articles → length senses ≡ length articles → IsPlaceOf articles word place
     → IsAround articles senses place at (at + 1)
     → known_in (with_change articles word (λ sentences. with_status sentences at Retracted)) senses ≡ known_around articles senses place at [] (at + 1)
-known_retracted articles senses word place at ordered same here around = ?
+known_retracted articles senses word place at ordered same here around =
+    let a = around.article in
+    let within = around.within in
+    let many = around.many in
+    let in_range : at < length a.sentences = omega (arith, within) in
+    let in_own : at < length around.own = omega (arith, within, many) in
+    let s = item a.sentences at in_range in
+    let m = item around.own at in_own in
+    let old : Sentence = s.0 in
+    let new : Sentence = record old { status = Retracted } in
+    let front = known_in (take place articles) (take place senses) in
+    let back = known_in (drop (place + 1) articles) (drop (place + 1) senses) in
+    let before = known_of (take at a.sentences) (meanings_in (take at around.own)) in
+    let behind = known_of (drop (at + 1) a.sentences) (meanings_in (drop (at + 1) around.own)) in
+    let marked : with_status a.sentences at Retracted ≡ set a.sentences at new =
+    ap (λ (o : Option Sentence). option_map_or (λ (t : Sentence). set a.sentences at (record t { status = Retracted })) o a.sentences) s.1 in
+    let left : known_of (with_status a.sentences at Retracted) (meanings_in around.own) ≡ before ++ behind =
+    ap (λ (xs : List Sentence). known_of xs (meanings_in around.own)) (marked ∙ set_parts a.sentences at new in_range)
+    ∙ ap (λ (ms : List Sense). known_of (take at a.sentences ++ new ∷ drop (at + 1) a.sentences) (meanings_in ms)) (parts_at around.own at m.0 m.1)
+    ∙ known_of-append (take at a.sentences) (new ∷ drop (at + 1) a.sentences) (take at around.own) (m.0 ∷ drop (at + 1) around.own) (same_take at a.sentences around.own many) in
+    let at_place : get_or articles place a ≡ a = get_or_from_slice_get articles place a a around.here in
+    let changed_to : Article = changed (λ sentences. with_status sentences at Retracted) a in
+    ap (λ (xs : List Article). known_in xs senses)
+    (with_change-set articles ordered word place here (λ sentences. with_status sentences at Retracted) a ∙ ap (λ (b : Article). set articles place (changed (λ sentences. with_status sentences at Retracted) b)) at_place)
+    ∙ ap (λ (ms : List (List Sense)). known_in (set articles place changed_to) ms)
+    (parts_at senses place around.own around.meant ∙ sym (set_parts senses place around.own (slice_get_within senses place around.own around.meant)))
+    ∙ known_in-set articles senses place changed_to around.own here.in_range same
+    ∙ ap (λ (cs : List Claim). front ++ cs ++ back) left
+    ∙ ap (λ (cs : List Claim). front ++ cs) (append_assoc before behind back)
+    ∙ sym (known_around-is articles senses place at (at + 1) [] a around.own around.here around.meant)
 
 -- what is kept of the article at a place is the meanings of its sentences
 mean_at : (g : GrammarParts) (words : Listed) (articles : List Article) (senses : List (List Sense)) (place : ℕ) (a : Article) (own : List Sense) → MeanInEach g words articles senses

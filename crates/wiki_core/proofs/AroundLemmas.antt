@@ -54,7 +54,7 @@ set_parts {X} xs i x in_range =
 -- what is known with another article, and other meanings, at a place
 pub known_in-set : (articles : List Article) (senses : List (List Sense)) (place : ℕ) (a : Article) (own : List Sense) → place < length articles → length senses ≡ length articles
     → known_in (set articles place a) (set senses place own)
-    ≡ known_in (take place articles) (take place senses) ++ known_of a.sentences (meanings_in own) ++ known_in (drop (place + 1) articles) (drop (place + 1) senses)
+    ≡ known_in (take place articles) (take place senses) ++ (known_of a.sentences (meanings_in own) ++ known_in (drop (place + 1) articles) (drop (place + 1) senses))
 known_in-set articles senses place a own in_range same =
     ap (λ (xs : List Article). known_in xs (set senses place own)) (set_parts articles place a in_range)
     ∙ ap (λ (ms : List (List Sense)). known_in (take place articles ++ a ∷ drop (place + 1) articles) ms) (set_parts senses place own (omega (arith, in_range, same)))
@@ -70,7 +70,7 @@ known_of-remove ss ms at same =
 -- what is known of the sentences of an article, by the one at a place
 pub known_of-parts : (ss : List Sentence) (ms : List Sense) (at : ℕ) (s : Sentence) (m : Sense) → length ms ≡ length ss → at < length ss → s ≡ get_or ss at s → m ≡ get_or ms at m
     → known_of ss (meanings_in ms)
-    ≡ known_of (take at ss) (meanings_in (take at ms)) ++ cond (is_asserted s.status) (stated_by (meaning_shown m)) [] ++ known_of (drop (at + 1) ss) (meanings_in (drop (at + 1) ms))
+    ≡ known_of (take at ss) (meanings_in (take at ms)) ++ (cond (is_asserted s.status) (stated_by (meaning_shown m)) [] ++ known_of (drop (at + 1) ss) (meanings_in (drop (at + 1) ms)))
 known_of-parts ss ms at s m same in_range here meant =
     ap (λ (xs : List Sentence). known_of xs (meanings_in ms)) (sym (take-append-drop at ss))
     ∙ ap (λ (xs : List Sense). known_of (take at ss ++ drop at ss) (meanings_in xs)) (sym (take-append-drop at ms))
@@ -78,23 +78,29 @@ known_of-parts ss ms at s m same in_range here meant =
     ∙ ap (λ (cs : List Claim). known_of (take at ss) (meanings_in (take at ms)) ++ cs) (known_of-step ss ms at s m in_range (omega (arith, in_range, same)) here meant)
 
 -- a model of five lists of axioms, one after another, is one without the middle one
-pub without_middle : (i : Interpretation) (a b middle c d : List Claim) → IsModel i (a ++ (b ++ (middle ++ c)) ++ d) → IsModel i (a ++ b ++ c ++ d)
+pub without_middle : (i : Interpretation) (a b middle c d : List Claim) → IsModel i (a ++ ((b ++ (middle ++ c)) ++ d)) → IsModel i (a ++ (b ++ (c ++ d)))
 without_middle i a b middle c d model =
     let outer = all_parts (Holds i) a ((b ++ (middle ++ c)) ++ d) model in
     let inner = all_parts (Holds i) (b ++ (middle ++ c)) d outer.1 in
     let front = all_parts (Holds i) b (middle ++ c) inner.0 in
     let back = all_parts (Holds i) middle c front.1 in
-    All-append (Holds i) a (b ++ c ++ d) outer.0 (All-append (Holds i) b (c ++ d) front.0 (All-append (Holds i) c d back.1 inner.1))
+    All-append (Holds i) a (b ++ (c ++ d)) outer.0 (All-append (Holds i) b (c ++ d) front.0 (All-append (Holds i) c d back.1 inner.1))
+
+-- five lists, one after another
+five : {X : Type 0} (a b m c d : List X) → a ++ b ++ m ++ c ++ d ≡ a ++ (b ++ (m ++ (c ++ d)))
+five a b m c d = append_assoc (a ++ b ++ m) c d ∙ append_assoc (a ++ b) m (c ++ d) ∙ append_assoc a b (m ++ (c ++ d))
 
 -- the axioms that are known around places of an article, by that article and what is kept of it
 known_around-is : (articles : List Article) (senses : List (List Sense)) (place from to : ℕ) (own : List Claim) (a : Article) (kept : List Sense)
     → slice_get articles place ≡ Some a → slice_get senses place ≡ Some kept
     → known_around articles senses place from own to
-    ≡ known_in (take place articles) (take place senses) ++ known_of (take from a.sentences) (meanings_in (take from kept))
-    ++ own ++ known_of (drop to a.sentences) (meanings_in (drop to kept)) ++ known_in (drop (place + 1) articles) (drop (place + 1) senses)
+    ≡ known_in (take place articles) (take place senses) ++ (known_of (take from a.sentences) (meanings_in (take from kept))
+    ++ (own ++ (known_of (drop to a.sentences) (meanings_in (drop to kept)) ++ known_in (drop (place + 1) articles) (drop (place + 1) senses))))
 known_around-is articles senses place from to own a kept here meant =
     ap (λ (o : Option Article). around (option_map_or (λ (b : Article). b.sentences) o []) (senses_of senses place)) here
     ∙ ap (λ (o : Option (List Sense)). around a.sentences (unwrap_or o [])) meant
+    ∙ five (known_in (take place articles) (take place senses)) (known_of (take from a.sentences) (meanings_in (take from kept))) own
+    (known_of (drop to a.sentences) (meanings_in (drop to kept))) (known_in (drop (place + 1) articles) (drop (place + 1) senses))
   where
     around : List Sentence → List Sense → List Claim
     around ss ms =
@@ -111,7 +117,7 @@ known_taken articles senses word place at ordered same here around =
     ap (λ (xs : List Article). known_in xs (set senses place (remove around.own at)))
     (with_change-set articles ordered word place here (λ sentences. remove sentences at) a ∙ ap (λ (b : Article). set articles place (changed (λ sentences. remove sentences at) b)) at_place)
     ∙ known_in-set articles senses place (changed (λ sentences. remove sentences at) a) (remove around.own at) here.in_range same
-    ∙ ap (λ (cs : List Claim). known_in (take place articles) (take place senses) ++ cs ++ known_in (drop (place + 1) articles) (drop (place + 1) senses)) (known_of-remove a.sentences around.own at around.many)
+    ∙ ap (λ (cs : List Claim). known_in (take place articles) (take place senses) ++ (cs ++ known_in (drop (place + 1) articles) (drop (place + 1) senses))) (known_of-remove a.sentences around.own at around.many)
     ∙ ap (λ (cs : List Claim). known_in (take place articles) (take place senses) ++ cs)
     (append_assoc (known_of (take at a.sentences) (meanings_in (take at around.own))) (known_of (drop (at + 1) a.sentences) (meanings_in (drop (at + 1) around.own))) (known_in (drop (place + 1) articles) (drop (place + 1) senses)))
     ∙ sym (known_around-is articles senses place at (at + 1) [] a around.own around.here around.meant)
@@ -129,7 +135,7 @@ parts_at {X} xs i x here =
 
 -- what is known, by what is known of the article at a place
 known_in-parts : (articles : List Article) (senses : List (List Sense)) (place : ℕ) (a : Article) (own : List Sense) → slice_get articles place ≡ Some a → slice_get senses place ≡ Some own
-    → known_in articles senses ≡ known_in (take place articles) (take place senses) ++ known_of a.sentences (meanings_in own) ++ known_in (drop (place + 1) articles) (drop (place + 1) senses)
+    → known_in articles senses ≡ known_in (take place articles) (take place senses) ++ (known_of a.sentences (meanings_in own) ++ known_in (drop (place + 1) articles) (drop (place + 1) senses))
 known_in-parts articles senses place a own here meant =
     let in_articles = slice_get_within articles place a here in
     let in_senses = slice_get_within senses place own meant in
@@ -151,9 +157,9 @@ model_without i articles senses place at around model =
     let m = item around.own at in_own in
     let front = known_in (take place articles) (take place senses) in
     let back = known_in (drop (place + 1) articles) (drop (place + 1) senses) in
-    let split : known_in articles senses ≡ front ++ (known_of (take at a.sentences) (meanings_in (take at around.own)) ++ (cond (is_asserted s.0.status) (stated_by (meaning_shown m.0)) [] ++ known_of (drop (at + 1) a.sentences) (meanings_in (drop (at + 1) around.own)))) ++ back =
+    let split : known_in articles senses ≡ front ++ ((known_of (take at a.sentences) (meanings_in (take at around.own)) ++ (cond (is_asserted s.0.status) (stated_by (meaning_shown m.0)) [] ++ known_of (drop (at + 1) a.sentences) (meanings_in (drop (at + 1) around.own)))) ++ back) =
     known_in-parts articles senses place a around.own around.here around.meant
-    ∙ ap (λ (cs : List Claim). front ++ cs ++ back)
+    ∙ ap (λ (cs : List Claim). front ++ (cs ++ back))
     (known_of-parts a.sentences around.own at s.0 m.0 around.many in_range (sym (get_or_from_slice_get a.sentences at s.0 s.0 s.1)) (sym (get_or_from_slice_get around.own at m.0 m.0 m.1))) in
     subst (IsModel i) (sym (known_around-is articles senses place at (at + 1) [] a around.own around.here around.meant))
     (without_middle i front (known_of (take at a.sentences) (meanings_in (take at around.own))) (cond (is_asserted s.0.status) (stated_by (meaning_shown m.0)) [])
@@ -190,7 +196,7 @@ known_retracted articles senses word place at ordered same here around =
     ∙ ap (λ (ms : List (List Sense)). known_in (set articles place changed_to) ms)
     (parts_at senses place around.own around.meant ∙ sym (set_parts senses place around.own (slice_get_within senses place around.own around.meant)))
     ∙ known_in-set articles senses place changed_to around.own here.in_range same
-    ∙ ap (λ (cs : List Claim). front ++ cs ++ back) left
+    ∙ ap (λ (cs : List Claim). front ++ (cs ++ back)) left
     ∙ ap (λ (cs : List Claim). front ++ cs) (append_assoc before behind back)
     ∙ sym (known_around-is articles senses place at (at + 1) [] a around.own around.here around.meant)
 

@@ -64,8 +64,9 @@ known_in-set articles senses place a own in_range same =
 pub known_of-remove : (ss : List Sentence) (ms : List Sense) (at : ℕ) → length ms ≡ length ss
     → known_of (remove ss at) (meanings_in (remove ms at)) ≡ known_of (take at ss) (meanings_in (take at ms)) ++ known_of (drop (at + 1) ss) (meanings_in (drop (at + 1) ms))
 known_of-remove ss ms at same =
+    let next : suc at ≡ at + 1 = omega arith in
     known_of-append (take at ss) (drop (suc at) ss) (take at ms) (drop (suc at) ms) (same_take at ss ms same)
-    ∙ ap (λ (n : ℕ). known_of (take at ss) (meanings_in (take at ms)) ++ known_of (drop n ss) (meanings_in (drop n ms))) (omega arith)
+    ∙ ap (λ (n : ℕ). known_of (take at ss) (meanings_in (take at ms)) ++ known_of (drop n ss) (meanings_in (drop n ms))) next
 
 -- what is known of the sentences of an article, by the one at a place
 pub known_of-parts : (ss : List Sentence) (ms : List Sense) (at : ℕ) (s : Sentence) (m : Sense) → length ms ≡ length ss → at < length ss → s ≡ get_or ss at s → m ≡ get_or ms at m

@@ -3,6 +3,7 @@ pub mod CauseLemmas
 pub mod FirstLemmas
 pub mod FullLemmas
 pub mod KnownLemmas
+pub mod LiveNames
 pub mod MeaningLemmas
 pub mod MentionLemmas
 pub mod MenuLemmas

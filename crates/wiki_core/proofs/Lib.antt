@@ -8,6 +8,7 @@ pub mod MeaningLemmas
 pub mod MentionLemmas
 pub mod MenuLemmas
 pub mod NameLemmas
+pub mod OverLemmas
 pub mod PassingLemmas
 pub mod UnwordLemmas
 pub mod UseLemmas

@@ -1,6 +1,6 @@
 -- What sentences state and ask is over the live names, and plain: the conditions of verdicts and answers.
 use Rattle.std.proofs.Common.{◌≡◌, ℕ, ◌&&◌, ◌||◌, Bool, true, false, cond, List, [], ◌∷◌, ◌++◌, Option, Some, None, MatchBool, AllPairs, refl, sym, ap, subst, ◌∙◌}
-use Rattle.std.specs.Prelude.{Result, Ok, Err}
+use Rattle.std.specs.Prelude.{IsTrue, Result, Ok, Err}
 use Rattle.std.specs.List.{list_all}
 use Rattle.std.proofs.lemmas.List.Folds.{list_all-append}
 use Rattle.wiki_base.specs.declared.numbers.WordId.{WordId}
@@ -172,3 +172,21 @@ knows_over state claims sound apart knows =
 
 pub knows_plain : (state : State) (claims : List Claim) → Knows state claims → are_plain claims ≡ true
 knows_plain state claims knows = are_stated_pass state.grammar state.words is_plain_claim (stated_plain state.grammar state.words) (sentences_in state.articles) claims knows
+
+-- The conditions of `judged` and of `answers_of`, where the names are the live ones and the axioms those that are kept.
+module _ (g : GrammarParts) (words : Listed) (articles : List Article) (senses : List (List Sense)) (sound : IsSound g) (apart : AllPairs SharesNoForm words.live) (mean : MeanInEach g words articles senses)
+    (names : List WordId) (claims : List Claim) (are_names : names ≡ live_names words) (are_known : claims ≡ known_in articles senses) where
+  pub verdict_over : IsTrue (are_over names claims)
+  verdict_over = ap (λ ns. are_over ns claims) are_names ∙ ap (are_over (live_names words)) are_known ∙ known_over g words articles senses sound apart mean
+
+  pub verdict_plain : IsTrue (are_plain claims)
+  verdict_plain = ap are_plain are_known ∙ known_plain g words articles senses mean
+
+  module _ (tokens : List (List ℕ)) (concept : Concept) (means : Means g words tokens (asking concept)) where
+    pub answers_over : IsTrue (are_over names claims && list_all (is_among names) (names_in concept))
+    answers_over =
+        both (are_over names claims) (list_all (is_among names) (names_in concept)) verdict_over
+        (ap (λ ns. list_all (is_among ns) (names_in concept)) are_names ∙ asked_over g sound words apart tokens concept means)
+
+    pub answers_plain : IsTrue (are_plain claims && is_plain concept)
+    answers_plain = both (are_plain claims) (is_plain concept) verdict_plain (asked_plain g words tokens concept means)

@@ -1,6 +1,6 @@
 -- The names in a derivation are live: each word that its skeleton introduces as a name passes a test that each live name passes.
-use Rattle.std.proofs.Common.{◌≡◌, ℕ, zero, suc, ◌+◌, ◌-◌, ◌<◌, ◌&&◌, ◌||◌, Bool, true, false, cond, List, [], ◌∷◌, ◌++◌, length, get_or, map, filter, take, Option, Some, None, MatchBool, AllPairs, inl, inr, refl, sym, ap, subst, ◌∙◌, arith, append-nil}
-use Rattle.std.specs.Prelude.{◌==◌, flat_map, slice_get, slice_index_or, option_and_then, Result, Ok, Err}
+use Rattle.std.proofs.Common.{◌≡◌, ℕ, zero, suc, ◌+◌, ◌-◌, ◌<◌, ◌&&◌, ◌||◌, Bool, true, false, cond, List, [], ◌∷◌, ◌++◌, length, get_or, map, filter, take, Option, Some, None, AllPairs, inl, inr, refl, sym, ap, subst, ◌∙◌, arith, append-nil}
+use Rattle.std.specs.Prelude.{◌==◌, count_by, flat_map, slice_get, slice_index_or, option_and_then}
 use Rattle.std.specs.Option.{option_map_or}
 use Rattle.std.specs.Str.{bytes_eq}
 use Rattle.std.specs.List.{list_all, list_any}
@@ -24,7 +24,6 @@ use Rattle.codeco_checked.specs.declared.labels.Words.TheVariants as words
 use Rattle.codeco_checked.specs.declared.fault.GrammarFault.TheVariants.{LabelKind}
 use Rattle.codeco_checked.specs.Labels.{label_row, child_kinds, word_names, head_fits, children_fit, words_fit, fits_row, fits_label, FitKinds, is_introduction, is_reference, introduces_behind_tokens, one_if}
 use Rattle.codeco_checked.specs.Sound.{IsSound}
-use Rattle.std.specs.Prelude.{count_by}
 use Rattle.scopes.specs.declared.tests.Test.{Test}
 use Rattle.scopes.specs.Resolution.{Finding, has_value, agrees, is_agreeing, closest_finding}
 use Rattle.lexicon.specs.declared.kinds.Kind.{Kind}
@@ -33,14 +32,14 @@ use Rattle.lexicon.specs.declared.words.Word.{Word}
 use Rattle.lexicon.specs.Words.{Listed, has_form, SharesNoForm}
 use Rattle.lexicon.specs.Words.{is_among as is_form}
 use Rattle.lexicon.specs.Readings.{reading, readings_from, readings_of_word, readings_of}
-use Rattle.derivation_trees.specs.declared.skeletons.Skeleton.{Skeleton, out-Skeleton}
+use Rattle.derivation_trees.specs.declared.skeletons.Skeleton.{Skeleton}
 use Rattle.derivation_trees.specs.declared.skeletons.Skeleton.TheViews.{out-roll-Skeleton}
 use Rattle.derivation_trees.specs.Trees.{Node, Nodes, node, none, more}
 use Rattle.derivation_trees.specs.Settings.{Setting, matches_terminal, matches_preterminal}
 use Rattle.derivation_trees.specs.Sentences.{setting_of}
 use Rattle.derivation_trees.specs.Instances.{value_under, under, tests_under}
 use Rattle.derivation_trees.specs.Derives.{At, Stand, moved, pass, pass_token, pass_child, pass_finding, is_found, reference_tests, run, phrase, phrase_of, phrases_of, rule_with, text_category, IsDerivation}
-use Rattle.derivation_trees.specs.Skeletons.{word_among, word_in, word_at, word_here, child_here, met, start, end_place, skeleton, skeleton_at, skeletons_at, skeleton_of, IsLeastSkeleton}
+use Rattle.derivation_trees.specs.Skeletons.{word_among, word_in, word_at, word_here, child_here, met, start, end_place, skeleton, skeleton_at, skeletons_at, skeleton_of}
 use Rattle.derivation_trees.specs.Stands.{is_sub}
 use Rattle.derivations.proofs.Members.{either_of_or, some_same}
 use Rattle.derivations.proofs.ListingLemmas.{Parts, phrase_parts}

@@ -63,16 +63,19 @@ pairs_tail : {X : Type 0} (R : X → X → Type 0) (x : X) (xs : List X) → All
 pairs_tail R x xs pairs i j d before in_range = pairs (suc i) (suc j) d (omega arith) (omega arith)
 
 -- a token that is none of the forms has no readings
-readings_from_none : (kind : Kind) (id : WordId) (token : List ℕ) (place : ℕ) (forms : List (List ℕ)) → is_form forms token ≡ false → readings_from kind id token place forms ≡ []
+readings_from_none : (kind : Kind) (id : WordId) (token : List ℕ) (place : ℕ) (forms : List (List ℕ)) → is_form forms token ≡ false
+    → readings_from kind id token place forms ≡ []
 readings_from_none kind id token place [] lacks = refl
 readings_from_none kind id token place (form ∷ forms) lacks = by (bytes_eq token form) lacks (readings_from_none kind id token (place + 1) forms)
   where
-    by : (b : Bool) → (b || is_form forms token) ≡ false → (is_form forms token ≡ false → readings_from kind id token (place + 1) forms ≡ []) → cond b (reading kind id place form ∷ readings_from kind id token (place + 1) forms) (readings_from kind id token (place + 1) forms) ≡ []
+    by : (b : Bool) → (b || is_form forms token) ≡ false → (is_form forms token ≡ false → readings_from kind id token (place + 1) forms ≡ [])
+        → cond b (reading kind id place form ∷ readings_from kind id token (place + 1) forms) (readings_from kind id token (place + 1) forms) ≡ []
     by true lacks rest = absurd cc
     by false lacks rest = rest lacks
 
 -- a token that no word has has no readings
-readings_none : (live : List Word) (token : List ℕ) → ((k : ℕ) (d : Word) → k < length live → has_form token (get_or live k d) ≡ false) → readings_of live token ≡ []
+readings_none : (live : List Word) (token : List ℕ) → ((k : ℕ) (d : Word) → k < length live → has_form token (get_or live k d) ≡ false)
+    → readings_of live token ≡ []
 readings_none [] token lacks = refl
 readings_none (word ∷ live) token lacks = rw (readings_from_none word.forms.kind word.id token 0 word.forms.texts (lacks zero word (omega arith))) (readings_none live token (λ k d in_range. lacks (suc k) d (omega arith)))
 
@@ -80,7 +83,8 @@ not_name : (n : ℕ) (b : Bool) (asked : Test) → asked.name ≡ 0 → 0 < n �
 not_name n b asked named positive h = let e : n ≡ asked.name = eq_true n asked.name (and_l (n == asked.name) b h) in omega arith
 
 -- only a name has a reading as $name
-reading_name : (kind : Kind) (id : WordId) (place : ℕ) (form : List ℕ) (asked : Test) → asked.name ≡ 0 → agrees (reading kind id place form) asked ≡ true → is_name kind ≡ true
+reading_name : (kind : Kind) (id : WordId) (place : ℕ) (form : List ℕ) (asked : Test) → asked.name ≡ 0 → agrees (reading kind id place form) asked ≡ true
+    → is_name kind ≡ true
 reading_name Name id place form asked named h = refl
 reading_name Noun id place form asked named h = absurd (not_name 1 (list_all (has_value (reading Noun id place form).vals) asked.values) asked named (omega arith) h)
 reading_name Of id place form asked named h = absurd (not_name 2 (list_all (has_value (reading Of id place form).vals) asked.values) asked named (omega arith) h)
@@ -90,7 +94,8 @@ reading_name Adjective id place form asked named h = absurd (not_name 4 (list_al
 abbrev reads_as : Test → List Ground → Bool
 reads_as asked readings = list_any (λ reading. agrees reading asked) readings
 
-from_name : (kind : Kind) (id : WordId) (token : List ℕ) (place : ℕ) (forms : List (List ℕ)) (asked : Test) → asked.name ≡ 0 → reads_as asked (readings_from kind id token place forms) ≡ true → is_name kind ≡ true
+from_name : (kind : Kind) (id : WordId) (token : List ℕ) (place : ℕ) (forms : List (List ℕ)) (asked : Test) → asked.name ≡ 0
+    → reads_as asked (readings_from kind id token place forms) ≡ true → is_name kind ≡ true
 from_name kind id token place [] asked named h = absurd cc
 from_name kind id token place (form ∷ forms) asked named h = by (from_name kind id token (place + 1) forms asked named) (bytes_eq token form) h
   where
@@ -111,7 +116,8 @@ word_of_reading Verb id place form = refl
 word_of_reading Adjective id place form = refl
 
 -- the word of a token that is one of the forms
-first_word : (kind : Kind) (id : WordId) (token : List ℕ) (place : ℕ) (forms : List (List ℕ)) (others : List Ground) → is_form forms token ≡ true → word_in (readings_from kind id token place forms ++ others) ≡ id
+first_word : (kind : Kind) (id : WordId) (token : List ℕ) (place : ℕ) (forms : List (List ℕ)) (others : List Ground) → is_form forms token ≡ true
+    → word_in (readings_from kind id token place forms ++ others) ≡ id
 first_word kind id token place [] others h = absurd cc
 first_word kind id token place (form ∷ forms) others h = by (first_word kind id token (place + 1) forms others) (bytes_eq token form) h
   where
@@ -150,7 +156,8 @@ row_names kinds row r naming h =
     words_by row.words kinds r.body naming (both_true (heads && children) fit here.0).1
 
 -- in a sound grammar the rule of a label that names has the one preterminal $name
-pub naming_body : (g : GrammarParts) (n : ℕ) (r : Rule) (l : Label) → IsSound g → Found g n r → r.label ≡ Some l → is_name_word (label_row l).words ≡ true → names_once r.body ≡ true
+pub naming_body : (g : GrammarParts) (n : ℕ) (r : Rule) (l : Label) → IsSound g → Found g n r → r.label ≡ Some l → is_name_word (label_row l).words ≡ true
+    → names_once r.body ≡ true
 naming_body g n r l sound at is naming = by (names_once r.body) refl
   where
     fitting : (kinds : ℕ → PhraseKind) → FitKinds g.rules n kinds → names_once r.body ≡ true
@@ -180,12 +187,15 @@ module _ (test : WordId → Bool) where
   tail_passes : (w : Word) (ws : List Word) → list_all test (names_among (w ∷ ws)) ≡ true → list_all test (names_among ws) ≡ true
   tail_passes w ws all = by (is_name w.forms.kind) all
     where
-      by : (b : Bool) → list_all test (map (λ (word : Word). word.id) (cond b (w ∷ filter (λ word. is_name word.forms.kind) ws) (filter (λ word. is_name word.forms.kind) ws))) ≡ true → list_all test (names_among ws) ≡ true
+      by : (b : Bool)
+          → list_all test (map (λ (word : Word). word.id) (cond b (w ∷ filter (λ word. is_name word.forms.kind) ws) (filter (λ word. is_name word.forms.kind) ws))) ≡ true
+          → list_all test (names_among ws) ≡ true
       by true k = and_r (test w.id) (list_all test (names_among ws)) k
       by false k = k
 
   -- a token that reads as $name is a form of a live name
-  token_passes : (asked : Test) → asked.name ≡ 0 → (token : List ℕ) (live : List Word) → AllPairs SharesNoForm live → list_all test (names_among live) ≡ true → reads_as asked (readings_of live token) ≡ true → test (word_in (readings_of live token)) ≡ true
+  token_passes : (asked : Test) → asked.name ≡ 0 → (token : List ℕ) (live : List Word) → AllPairs SharesNoForm live → list_all test (names_among live) ≡ true
+      → reads_as asked (readings_of live token) ≡ true → test (word_in (readings_of live token)) ≡ true
   token_passes asked named token [] apart all h = absurd cc
   token_passes asked named token (w ∷ ws) apart all h =
       by (token_passes asked named token ws (pairs_tail SharesNoForm w ws apart) (tail_passes w ws all)) (has_form token w) refl
@@ -202,7 +212,9 @@ module _ (test : WordId → Bool) where
           let same : readings_of_word token w ++ readings_of ws token ≡ readings_of ws token = ap (λ rs. rs ++ readings_of ws token) (readings_from_none w.forms.kind w.id token 0 w.forms.texts e) in
           ap (λ rs. test (word_in rs)) same ∙ later (sym (ap (reads_as asked) same) ∙ h)
 
-  place_passes : (asked : Test) → asked.name ≡ 0 → (live : List Word) → AllPairs SharesNoForm live → list_all test (names_among live) ≡ true → (tokens : List (List ℕ)) (place : ℕ) → option_map_or (reads_as asked) (slice_get (map (readings_of live) tokens) place) false ≡ true → test (option_map_or word_in (slice_get (map (readings_of live) tokens) place) no_word) ≡ true
+  place_passes : (asked : Test) → asked.name ≡ 0 → (live : List Word) → AllPairs SharesNoForm live → list_all test (names_among live) ≡ true
+      → (tokens : List (List ℕ)) (place : ℕ) → option_map_or (reads_as asked) (slice_get (map (readings_of live) tokens) place) false ≡ true
+      → test (option_map_or word_in (slice_get (map (readings_of live) tokens) place) no_word) ≡ true
   place_passes asked named live apart all [] place h = absurd cc
   place_passes asked named live apart all (token ∷ tokens) zero h = token_passes asked named token live apart all h
   place_passes asked named live apart all (token ∷ tokens) (suc place) h = place_passes asked named live apart all tokens place h
@@ -218,14 +230,16 @@ module _ (test : WordId → Bool) where
     IsLive sk = words_pass test (names_of g sk) ≡ true
 
     -- the first word of a body with the one preterminal $name
-    word_passes : (values : List (ℕ × Value)) (es : List Element) (stand after : Stand) → names_once es ≡ true → run s values es stand ≡ Some after → test (slice_index_or (met (word_here s) s values es stand) 0 no_word) ≡ true
+    word_passes : (values : List (ℕ × Value)) (es : List Element) (stand after : Stand) → names_once es ≡ true → run s values es stand ≡ Some after
+        → test (slice_index_or (met (word_here s) s values es stand) 0 no_word) ≡ true
     word_passes values [] stand after once h = absurd cc
     word_passes values (Preterminal c ∷ es) stand after once h = by (matches_preterminal s (under values c) stand.at.place) refl h
       where
         named : c.name ≡ 0
         named = eq_true c.name 0 (and_l (c.name == 0) (same_bytes (word_names es) []) once)
 
-        by : (b : Bool) → matches_preterminal s (under values c) stand.at.place ≡ b → option_and_then (run s values es) (pass_token b stand) ≡ Some after → test (word_at s stand.at.place) ≡ true
+        by : (b : Bool) → matches_preterminal s (under values c) stand.at.place ≡ b → option_and_then (run s values es) (pass_token b stand) ≡ Some after
+            → test (word_at s stand.at.place) ≡ true
         by true e k = place_passes (under values c) named lexicon.live apart all tokens stand.at.place e
         by false e k = absurd cc
     word_passes values (e ∷ es) stand after once h = by (λ mid k. word_passes values es mid after once k) (pass s values e stand) h
@@ -247,12 +261,14 @@ module _ (test : WordId → Bool) where
     of_no_test true stand mid h = absurd cc
     of_no_test false stand mid h = of_some stand stand mid refl h
 
-    of_finding : (values : List (ℕ × Value)) (positive : List Pattern) (finding : Option Finding) (positions : List ℕ) (stand mid : Stand) → pass_finding values positive finding positions stand ≡ Some mid → mid.children ≡ stand.children
+    of_finding : (values : List (ℕ × Value)) (positive : List Pattern) (finding : Option Finding) (positions : List ℕ) (stand mid : Stand)
+        → pass_finding values positive finding positions stand ≡ Some mid → mid.children ≡ stand.children
     of_finding values positive finding [] stand mid h = absurd cc
     of_finding values positive finding (pos ∷ rest) stand mid h =
         of_test (is_found values positive pos finding) stand (record { at = stand.at; found = rest; own = stand.own; children = stand.children }) mid refl h
 
-    children_kept : (values : List (ℕ × Value)) (e : Element) (stand mid : Stand) → is_sub e ≡ false → pass s values e stand ≡ Some mid → mid.children ≡ stand.children
+    children_kept : (values : List (ℕ × Value)) (e : Element) (stand mid : Stand) → is_sub e ≡ false → pass s values e stand ≡ Some mid
+        → mid.children ≡ stand.children
     children_kept values (Terminal t) stand mid plain h = of_test (matches_terminal s t stand.at.place) stand (moved stand (stand.at.place + 1) stand.at.list) mid refl h
     children_kept values (Preterminal c) stand mid plain h = of_test (matches_preterminal s (under values c) stand.at.place) stand (moved stand (stand.at.place + 1) stand.at.list) mid refl h
     children_kept values (Sub c) stand mid plain h = absurd cc
@@ -277,7 +293,8 @@ module _ (test : WordId → Bool) where
     no_kids none = refl
     no_kids (more n ns) = refl
 
-    walk_children : (values : List (ℕ × Value)) (es : List Element) (ns : Nodes) (stand after : Stand) → LiveNodes ns → stand.children ≡ phrases_of s ns → run s values es stand ≡ Some after → kids_pass ns (met child_here s values es stand) ≡ true
+    walk_children : (values : List (ℕ × Value)) (es : List Element) (ns : Nodes) (stand after : Stand) → LiveNodes ns → stand.children ≡ phrases_of s ns
+        → run s values es stand ≡ Some after → kids_pass ns (met child_here s values es stand) ≡ true
     walk_children values [] ns stand after live children h = no_kids ns
     walk_children values (Sub c ∷ es) none stand after live children h = refl
     walk_children values (Sub c ∷ es) (more n ns) stand after live children h =
@@ -302,10 +319,12 @@ module _ (test : WordId → Bool) where
         by later None w k = absurd cc
         by later (Some mid) w k = later mid (children_kept values e stand mid refl w ∙ children) k
 
-    own_passes : (number first : ℕ) (given : List WordId) (ends : List ℕ) → (is_naming (label_of g number) ≡ true → test (slice_index_or given 0 no_word) ≡ true) → words_pass test (own_name g number first given ends) ≡ true
+    own_passes : (number first : ℕ) (given : List WordId) (ends : List ℕ)
+        → (is_naming (label_of g number) ≡ true → test (slice_index_or given 0 no_word) ≡ true) → words_pass test (own_name g number first given ends) ≡ true
     own_passes number first given ends passes = by (is_naming (label_of g number)) refl
       where
-        by : (b : Bool) → is_naming (label_of g number) ≡ b → words_pass test (cond b ((introduced_at (body_of g number) first ends, slice_index_or given 0 no_word) ∷ []) []) ≡ true
+        by : (b : Bool) → is_naming (label_of g number) ≡ b
+            → words_pass test (cond b ((introduced_at (body_of g number) first ends, slice_index_or given 0 no_word) ∷ []) []) ≡ true
         by true e = both (test (slice_index_or given 0 no_word)) true (passes e) refl
         by false e = refl
 
@@ -317,7 +336,9 @@ module _ (test : WordId → Bool) where
         ∙ ap (λ layer. words_pass test (own_name g layer.rule layer.start layer.words (ends_of layer.children) ++ flat_map (names_of g) layer.children)) out
         ∙ joined_words (own_name g number first given (ends_of kids)) (flat_map (names_of g) kids) (own_passes number first given (ends_of kids) passes) each
 
-    node_live : (number : ℕ) (values : List (ℕ × Value)) (positions : List ℕ) (children : Nodes) (asked : Test) (at after : At) (rule : Rule) → LiveNodes children → rule_with g number ≡ Some rule → phrase s rule values positions (phrases_of s children) asked at ≡ Some after → IsLive (skeleton_at s (node number values positions children) at)
+    node_live : (number : ℕ) (values : List (ℕ × Value)) (positions : List ℕ) (children : Nodes) (asked : Test) (at after : At) (rule : Rule)
+        → LiveNodes children → rule_with g number ≡ Some rule → phrase s rule values positions (phrases_of s children) asked at ≡ Some after
+        → IsLive (skeleton_at s (node number values positions children) at)
     node_live number values positions children asked at after rule live h k =
         let parts : Parts s rule values positions (phrases_of s children) asked at after = phrase_parts s rule values positions (phrases_of s children) asked at after k in
         let first : Stand = start rule values positions (phrases_of s children) at in
@@ -333,7 +354,9 @@ module _ (test : WordId → Bool) where
       pub each_live : (n : Node) → LiveNode n
       each_live (node number values positions children) asked at after h = by (all_live children) (rule_with g number) refl h
         where
-          by : LiveNodes children → (o : Option Rule) → rule_with g number ≡ o → option_and_then (λ r. phrase s r values positions (phrases_of s children) asked at) o ≡ Some after → IsLive (skeleton_at s (node number values positions children) at)
+          by : LiveNodes children → (o : Option Rule) → rule_with g number ≡ o
+              → option_and_then (λ r. phrase s r values positions (phrases_of s children) asked at) o ≡ Some after
+              → IsLive (skeleton_at s (node number values positions children) at)
           by live None w k = absurd cc
           by live (Some rule) w k = node_live number values positions children asked at after rule live w k
 

@@ -56,7 +56,8 @@ of_class : (p : Claim → Bool) (r : Result Concept Cause) → list_all p (state
 of_class p (Ok c) = refl
 of_class p (Err cause) = refl
 
-of_axioms : (p : Claim → Bool) (r : Result (List Claim) Cause) → ((claims : List Claim) → r ≡ Ok claims → list_all p claims ≡ true) → list_all p (stated_by (statement_by r)) ≡ true
+of_axioms : (p : Claim → Bool) (r : Result (List Claim) Cause) → ((claims : List Claim) → r ≡ Ok claims → list_all p claims ≡ true)
+    → list_all p (stated_by (statement_by r)) ≡ true
 of_axioms p (Ok claims) h = h claims refl
 of_axioms p (Err cause) h = refl
 
@@ -133,7 +134,8 @@ module _ (g : GrammarParts) (words : Listed) (p : Claim → Bool) (each : (token
   joined : (cs ds : List Claim) → list_all p cs ≡ true → list_all p ds ≡ true → list_all p (cs ++ ds) ≡ true
   joined cs ds h k = list_all-append p cs ds ∙ both (list_all p cs) (list_all p ds) h k
 
-  pub known_of_pass : (sentences : List Sentence) (meanings : List Meaning) → MeanEach g words sentences meanings → list_all p (known_of sentences meanings) ≡ true
+  pub known_of_pass : (sentences : List Sentence) (meanings : List Meaning) → MeanEach g words sentences meanings
+      → list_all p (known_of sentences meanings) ≡ true
   known_of_pass [] meanings mean = refl
   known_of_pass (s ∷ ss) [] mean = refl
   known_of_pass (s ∷ ss) (m ∷ ms) mean = joined (cond (is_asserted s.status) (stated_by m) []) (known_of ss ms) (by (is_asserted s.status)) (known_of_pass ss ms mean.1)
@@ -158,15 +160,18 @@ module _ (g : GrammarParts) (words : Listed) (p : Claim → Bool) (each : (token
       by later false x = later claims x
 
 -- what is kept of all sentences is over the live names, and plain
-pub known_over : (g : GrammarParts) (words : Listed) (articles : List Article) (senses : List (List Sense)) → IsSound g → AllPairs SharesNoForm words.live → MeanInEach g words articles senses → are_over (live_names words) (known_in articles senses) ≡ true
+pub known_over : (g : GrammarParts) (words : Listed) (articles : List Article) (senses : List (List Sense)) → IsSound g → AllPairs SharesNoForm words.live
+    → MeanInEach g words articles senses → are_over (live_names words) (known_in articles senses) ≡ true
 known_over g words articles senses sound apart mean =
     known_in_pass g words (λ claim. list_all (is_among (live_names words)) (names_in_claim claim)) (stated_over g sound words apart) articles senses mean
 
-pub known_plain : (g : GrammarParts) (words : Listed) (articles : List Article) (senses : List (List Sense)) → MeanInEach g words articles senses → are_plain (known_in articles senses) ≡ true
+pub known_plain : (g : GrammarParts) (words : Listed) (articles : List Article) (senses : List (List Sense)) → MeanInEach g words articles senses
+    → are_plain (known_in articles senses) ≡ true
 known_plain g words articles senses mean = known_in_pass g words is_plain_claim (stated_plain g words) articles senses mean
 
 -- what a wiki knows is over its live names, and plain
-pub knows_over : (state : State) (claims : List Claim) → IsSound state.grammar → AllPairs SharesNoForm state.words.live → Knows state claims → are_over (live_names state.words) claims ≡ true
+pub knows_over : (state : State) (claims : List Claim) → IsSound state.grammar → AllPairs SharesNoForm state.words.live → Knows state claims
+    → are_over (live_names state.words) claims ≡ true
 knows_over state claims sound apart knows =
     are_stated_pass state.grammar state.words (λ claim. list_all (is_among (live_names state.words)) (names_in_claim claim)) (stated_over state.grammar sound state.words apart) (sentences_in state.articles) claims knows
 

@@ -6,11 +6,15 @@ mod limits;
 mod refusals;
 mod replies;
 mod requests;
+mod statuses;
 #[cfg(test)]
 mod tests;
 
 pub use kinds::{kind_name, kind_named};
-pub use limits::Limit;
+pub use limits::{Limit, MOST_SENTENCES};
 pub use refusals::{BAD_REQUEST, Refusal, Title};
-pub use replies::{MenuView, Numbers, Reply, WordView, WordViews};
+pub use replies::{
+    Meant, MenuView, Numbers, Reply, SentenceView, SentenceViews, WordView, WordViews,
+};
 pub use requests::Request;
+pub use statuses::{Status, cause_name};

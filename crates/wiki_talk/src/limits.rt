@@ -4,14 +4,19 @@ ghost use Rattle.std.specs.Prelude.{◌≡◌};
 use lexicon::{LAST_NUMBER, MOST_WORDS};
 use wiki_base::MOST_TOKENS;
 
+/// The greatest number of sentences in all articles.
+pub const MOST_SENTENCES: u32 = 2_000;
+
 /// What a limit bounds.
 #[derive(Clone, Copy, Debug, PartialEq, Eq)]
 pub enum Limit {
     /// The live words.
     Words,
+    /// The sentences in all articles.
+    Sentences,
     /// The tokens of a sentence.
     Tokens,
-    /// The numbers that are given.
+    /// The numbers that are given, and the changes of an article.
     Numbers,
 }
 
@@ -24,6 +29,7 @@ impl Limit {
     {
         match self {
             Limit::Words => MOST_WORDS as u32,
+            Limit::Sentences => MOST_SENTENCES,
             Limit::Tokens => MOST_TOKENS as u32,
             Limit::Numbers => LAST_NUMBER,
         }
@@ -35,6 +41,7 @@ impl Limit {
     {
         match self {
             Limit::Words => "words",
+            Limit::Sentences => "sentences",
             Limit::Tokens => "tokens",
             Limit::Numbers => "numbers",
         }

@@ -4,6 +4,8 @@
 mod line;
 mod read;
 mod refusals;
+mod sentences;
+mod statuses;
 #[cfg(test)]
 mod tests;
 mod values;

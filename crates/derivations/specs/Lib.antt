@@ -3,3 +3,4 @@ pub mod Enumeration
 pub mod Choices
 pub mod Paths
 pub mod Listed
+pub mod Typing

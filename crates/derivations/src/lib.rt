@@ -5,9 +5,11 @@ mod choices;
 mod least;
 mod listing;
 mod paths;
+mod typing;
 mod values;
 
 pub use derivation_trees::{
     Binds, Cut, Group, Menu, Places, Skeleton, Skeletons, Tree, Trees, Words, check_tree, cut, show,
 };
 pub use least::plain_least;
+pub use typing::{plain_menu, typeable_count};

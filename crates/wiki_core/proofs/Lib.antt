@@ -1,3 +1,2 @@
 pub mod CauseLemmas
 pub mod MenuLemmas
-pub mod TypeableLemmas

@@ -8,10 +8,10 @@ use Rattle.derivation_trees.specs.declared.menus.Group.TheVariants.{Function, Na
 use Rattle.derivation_trees.specs.declared.skeletons.Skeleton.{Skeleton}
 use Rattle.derivation_trees.specs.Cutting.{cut_of}
 use Rattle.derivation_trees.specs.Sentences.{IsSentence}
-use Rattle.derivation_trees.specs.Partial.{IsTypeable}
-use Rattle.derivation_trees.specs.Menus.{group_number, IsMenu}
+use Rattle.derivation_trees.specs.Menus.{group_number}
 use Rattle.derivation_trees.specs.Codes.{skeleton_code}
 use Rattle.derivation_trees.specs.Skeletons.{IsLeastSkeleton}
+use Rattle.derivations.specs.Typing.{IsTextMenu, IsTypeableCount}
 use Rattle.wiki_talk.specs.declared.limits.Limit.TheVariants as limits
 use Rattle.wiki_talk.specs.declared.refusals.Refusal.{Refusal}
 use Rattle.wiki_talk.specs.declared.refusals.Refusal.TheVariants.{NotSentence}
@@ -40,19 +40,13 @@ told_menu menu = record {
   verb = of_group Verb menu;
 }
 
--- The first `count` of the tokens can be typed, and no more. Where not even no tokens can, the count is 0.
-pub record IsTypeableUpTo (g : GrammarParts) (words : Listed) (tokens : List (List ℕ)) (count : ℕ) : Type 0 where
-  pub within : count ≤ length tokens
-  pub typeable : (count ≡ 0) ⊎ IsTypeable g words (take count tokens)
-  pub most : (more : ℕ) → more ≤ length tokens → IsTypeable g words (take more tokens) → more ≤ count
-
 -- the tokens have no derivation, and the refusal tells how many of them can be typed, and their menu
 pub record IsNoSentence (g : GrammarParts) (words : Listed) (tokens : List (List ℕ)) (refusal : Refusal) : Type 0 where
   pub none : ¬ IsSentence g words tokens
   pub count : ℕ
-  pub typeable : IsTypeableUpTo g words tokens count
+  pub typeable : IsTypeableCount g words tokens count
   pub menu : List (Group × List ℕ)
-  pub follows : IsMenu g words (take count tokens) menu
+  pub follows : IsTextMenu g words (take count tokens) menu
   pub told : refusal ≡ NotSentence count (told_menu menu)
 
 -- the text has too many tokens, or has no derivation

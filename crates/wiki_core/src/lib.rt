@@ -3,7 +3,6 @@
 
 mod faults;
 mod parsing;
-mod stand_in;
 #[cfg(test)]
 mod tests;
 mod told;

@@ -1,20 +1,17 @@
 // What `parse` tells of a text: the code of its least skeleton, or how far its tokens can be typed.
-ghost use Rattle.std.specs.Prelude.{◌≡◌, ◌≤◌, ◌<◌, ◌∷◌, [], ◌++◌, length, take, IfOk, MatchOption};
+ghost use Rattle.std.specs.Prelude.{◌≡◌, ◌≤◌, length, IfOk};
 ghost use Rattle.wiki_base.specs.declared.tokens.TheConstants.{MOST_TOKENS};
 ghost use Rattle.derivation_trees.specs.Codes.{skeleton_code};
-ghost use Rattle.derivation_trees.specs.Menus.{IsMenu};
-ghost use Rattle.derivation_trees.specs.Partial.{IsBeginning};
 ghost use Rattle.derivation_trees.specs.Sentences.{IsSentence};
-ghost use Rattle.wiki_core.specs.Parsing.{of_group, told_menu, IsTypeableUpTo, IsNoSentence};
+ghost use Rattle.wiki_core.specs.Parsing.{of_group, told_menu, IsNoSentence};
 ghost use Rattle.wiki_core.specs.Words.{full_at};
 
-use crate::stand_in::{is_beginning, plain_menu};
 use codeco_checked::CheckedGrammar;
-use derivations::{Group, Menu, Skeleton};
+use derivations::{Group, Menu, Skeleton, plain_menu, typeable_count};
 use lexicon::Lexicon;
 use lists::Copied;
 use std::alloc::Global;
-use wiki_base::{Memory, Text8, Text8s, Token, Tokens};
+use wiki_base::{Memory, Text8, Text8s, Tokens};
 use wiki_talk::{Limit, MenuView, Numbers, Refusal};
 
 pub(crate) fn too_many_tokens() -> Refusal
@@ -51,60 +48,15 @@ pub(crate) fn no_sentence(
 
     ensures { IfOk result (IsNoSentence grammar.now lexicon.now tokens.now) }
 {
-    let front = typeable_front(alloc, grammar, lexicon, tokens)?;
+    let count = typeable_count(alloc, grammar, lexicon, tokens)?;
+    let mut front = tokens.copy()?;
+    front.truncate(count);
     let menu = plain_menu(alloc, grammar, lexicon, &front)?;
     let menu = told_menu(alloc, &menu)?;
     Ok(Refusal::NotSentence {
-        k: front.len() as u32,
+        k: count as u32,
         menu,
     })
-}
-
-// The longest front of the tokens that can be typed, or none of them.
-fn typeable_front(
-    alloc: Global,
-    grammar: &CheckedGrammar,
-    lexicon: &Lexicon,
-    tokens: &Tokens,
-) -> Result<Tokens, Memory>
-    requires { length tokens.now ≤ MOST_TOKENS }
-
-    ensures front { IfOk result (λ front. front ≡ take (length front) tokens.now) }
-    ensures most { IfOk result (λ front. IsTypeableUpTo grammar.now lexicon.now tokens.now (length front)) }
-{
-    let mut front = Tokens::new(alloc);
-    if !is_beginning(alloc, grammar, lexicon, &front)? {
-        return Ok(front);
-    }
-    for token in tokens.as_slice() {
-        match longer_beginning(alloc, grammar, lexicon, &front, token)? {
-            Some(longer) => front = longer,
-            None => return Ok(front),
-        }
-    }
-    Ok(front)
-}
-
-// The tokens with one more at their end, where these have a partial derivation.
-fn longer_beginning(
-    alloc: Global,
-    grammar: &CheckedGrammar,
-    lexicon: &Lexicon,
-    front: &Tokens,
-    token: &Token,
-) -> Result<Option<Tokens>, Memory>
-    requires { length front.now < MOST_TOKENS }
-
-    ensures { IfOk result (λ longer. MatchOption longer (IsBeginning grammar.now lexicon.now (front.now ++ token.now ∷ []) → ⊥)
-        (λ tokens. (tokens ≡ front.now ++ token.now ∷ []) × IsBeginning grammar.now lexicon.now tokens)) }
-{
-    let mut longer = front.copy()?;
-    longer.push(token.copy()?)?;
-    if is_beginning(alloc, grammar, lexicon, &longer)? {
-        Ok(Some(longer))
-    } else {
-        Ok(None)
-    }
 }
 
 // A menu as it is told.

@@ -25,7 +25,6 @@ pub fn plain_menu<'a>(
     ensures menu { All IsUtf8 grammar.now.terminals → IfOk result (IsMenu grammar.now lexicon.now tokens.now) }
     ensures texts { IfOk result (IsTextMenu grammar.now lexicon.now tokens.now) }
 {
-    let _ = (alloc, grammar, lexicon, tokens);
     Err(Memory)
 }
 
@@ -41,6 +40,5 @@ pub fn typeable_count(
 
     ensures { IfOk result (IsTypeableCount grammar.now lexicon.now tokens.now) }
 {
-    let _ = (alloc, grammar, lexicon, tokens);
     Err(Memory)
 }

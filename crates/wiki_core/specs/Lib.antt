@@ -1,5 +1,10 @@
 pub mod Faults
+pub mod Knowledge
+pub mod Meanings
 pub mod Parsing
+pub mod Places
+pub mod Refusing
 pub mod State
 pub mod Step
+pub mod Telling
 pub mod Words

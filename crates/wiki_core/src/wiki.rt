@@ -1,27 +1,35 @@
 // The wiki and its step.
-ghost use Rattle.std.specs.Prelude.{◌≡◌, ◌≤◌, ℕ, List, length, IsTrue, IfOk, OnErr, option_copied};
+ghost use Rattle.std.specs.Prelude.{◌≡◌, ◌≤◌, ℕ, List, length, IsTrue, IfOk, OnErr, Some, option_copied};
 ghost use Rattle.wiki_base.specs.declared.tokens.TheConstants.{MOST_TOKENS};
+
+ghost use Rattle.lexicon.specs.declared.words.TheConstants.{LAST_NUMBER};
+ghost use Rattle.wiki_talk.specs.declared.refusals.Refusal.{Refusal as TheRefusal};
+ghost use Rattle.wiki_core.specs.Words.{word_refusal};
 
 use crate::faults::Fault;
 use crate::parsing::{no_sentence, told_code, too_many_tokens};
 use crate::told::{told_word, told_words};
 use crate::words::add_word;
+use articles::Articles;
 use codeco_checked::CheckedGrammar;
 use derivations::{Cut, cut, plain_least};
 use lexicon::{Forms, Kind, Lexicon};
 use lists::Copied;
 use std::alloc::Global;
 use std::marker::Model;
-use wiki_base::{Memory, Text8, Tokens};
+use wiki_base::{Memory, Text8, Tokens, WordId};
 use wiki_talk::{Refusal, Reply, Request};
 
-/// A wiki. It is seen as its state: the grammar, the budget of a search, and the live words.
+/// A wiki. It is seen as its state: the grammar, the budget of a search, the live words and their articles.
 #[derive(Drop)]
 pub struct Wiki {
     alloc: Global,
     grammar: CheckedGrammar,
     budget: u64,
     lexicon: Lexicon,
+    articles: Articles,
+    // The last number that was given to a word.
+    last: u32,
 }
 
 impl Model for Wiki {
@@ -29,9 +37,9 @@ impl Model for Wiki {
 
     ghost Value = { State };
 
-    ghost view = { λ w. record { grammar = w.grammar; budget = w.budget; words = w.lexicon } };
+    ghost view = { λ w. record { grammar = w.grammar; budget = w.budget; words = w.lexicon; articles = w.articles } };
 
-    ghost invariant = { λ w. IsSound (record { grammar = w.grammar; budget = w.budget; words = w.lexicon }) };
+    ghost invariant = { λ w. IsSound (record { grammar = w.grammar; budget = w.budget; words = w.lexicon; articles = w.articles }) × (w.last ≡ w.lexicon.last) };
 }
 
 impl Wiki {
@@ -47,11 +55,14 @@ impl Wiki {
         ensures { IfOk result (λ wiki. wiki ≡ first_state grammar budget) }
     {
         let lexicon = Lexicon::new(alloc, grammar.grammar())?;
+        let articles = Articles::new(alloc)?;
         Ok(Wiki {
             alloc,
             grammar,
             budget,
             lexicon,
+            articles,
+            last: 0,
         })
     }
 
@@ -65,18 +76,30 @@ impl Wiki {
             Request::Find { word } => self.find(word),
             Request::Words => self.words(),
             Request::Parse { text } => self.parse(text),
+            // The others wait for the calls that tell a sentence's meaning and verdict.
+            _ => Err(Memory),
         }
     }
 
-    // Adds a word.
+    // Adds a word, with an empty article. The article comes first, since it can be taken out again.
     fn add(&mut self, kind: Kind, forms: &[Text8]) -> Result<Reply, Memory>
         ensures step { IfOk result (λ reply. Step self.old (Request.Word kind forms.now) reply self.new) }
         ensures memory { OnErr result (self.new ≡ self.old) }
     {
+        let Some(number) = self.last.checked_add(1) else {
+            return refuse_word(self.alloc, &mut self.lexicon, kind, forms);
+        };
+        let word = WordId(number);
+        self.articles.begin(word)?;
         match add_word(self.alloc, &mut self.lexicon, kind, forms) {
-            Ok(()) => Ok(Reply::Word),
-            Err(Fault::Refused(refusal)) => Ok(Reply::Refused(refusal)),
-            Err(Fault::Memory) => Err(Memory),
+            Ok(()) => {
+                self.last = number;
+                Ok(Reply::Word)
+            }
+            Err(fault) => {
+                self.articles.end(word);
+                refused(fault)
+            }
         }
     }
 
@@ -134,5 +157,27 @@ impl Wiki {
                 tokens,
             )?)),
         }
+    }
+}
+
+// The reply that tells why a request changes nothing.
+fn refused(fault: Fault) -> Result<Reply, Memory>
+    ensures { IfOk result (λ reply. (refusal : TheRefusal) × (fault ≡ Fault.Refused refusal) × (reply ≡ Reply.Refused refusal)) }
+{
+    match fault {
+        Fault::Refused(refusal) => Ok(Reply::Refused(refusal)),
+        Fault::Memory => Err(Memory),
+    }
+}
+
+// Refuses a word where all numbers are given.
+fn refuse_word(alloc: Global, lexicon: &mut Lexicon, kind: Kind, forms: &[Text8]) -> Result<Reply, Memory>
+    requires { lexicon.old.last ≡ LAST_NUMBER }
+    ensures refused { IfOk result (λ reply. (refusal : TheRefusal) × (word_refusal lexicon.old kind forms.now ≡ Some refusal) × (reply ≡ Reply.Refused refusal)) }
+    ensures words { lexicon.new ≡ lexicon.old }
+{
+    match add_word(alloc, lexicon, kind, forms) {
+        Ok(()) => unreachable!(),
+        Err(fault) => refused(fault),
     }
 }

@@ -16,7 +16,7 @@ use Rattle.tableau_rules.specs.Searching.{IsLonger}
 use Rattle.wiki_talk.specs.declared.statuses.Status.{Status}
 use Rattle.wiki_talk.specs.declared.statuses.Status.TheVariants.{Asserted, Retracted, RedContradiction, RedBudget, Outside, Question, QuestionOutside}
 use Rattle.articles.specs.declared.sentences.Sentence.{Sentence}
-use Rattle.articles.specs.declared.articles.Article.{Article}
+use Rattle.articles.specs.declared.article.Article.{Article}
 use Rattle.wiki_core.specs.State.{State}
 use Rattle.wiki_core.specs.Meanings.{Meaning, stating, outside, asking, asking_outside, Means}
 

@@ -4,7 +4,7 @@ use Rattle.std.specs.List.{flat_map, enumerate_from}
 use Rattle.wiki_base.specs.declared.numbers.WordId.{WordId}
 use Rattle.lexicon.specs.Words.{owner}
 use Rattle.articles.specs.declared.sentences.Sentence.{Sentence}
-use Rattle.articles.specs.declared.articles.Article.{Article}
+use Rattle.articles.specs.declared.article.Article.{Article}
 use Rattle.articles.specs.Articles.{article_of}
 use Rattle.wiki_core.specs.State.{State}
 
@@ -14,7 +14,7 @@ word_named state text = owner state.words.live text
 
 -- the article of the live word that has the form
 abbrev pub article_named : State → List ℕ → Option Article
-article_named state text = option_and_then (λ word. article_of word state.articles) (word_named state text)
+article_named state text = option_and_then (article_of state.articles) (word_named state text)
 
 -- the sentence at a place of that article
 abbrev pub sentence_named : State → List ℕ → ℕ → Option Sentence

@@ -6,7 +6,6 @@ use Rattle.wiki_base.specs.declared.numbers.WordId.{WordId}
 use Rattle.codeco_terms.specs.GrammarParts.{GrammarParts}
 use Rattle.lexicon.specs.declared.kinds.Kind.{Kind}
 use Rattle.lexicon.specs.declared.kinds.Forms.{Forms}
-use Rattle.lexicon.specs.declared.words.TheConstants.{LAST_NUMBER}
 use Rattle.lexicon.specs.Words.{Listed, is_among, forms_of, canonical_form_of, with_forms, reword_refusal}
 use Rattle.wiki_talk.specs.declared.limits.TheConstants.{MOST_SENTENCES}
 use Rattle.wiki_talk.specs.declared.limits.Limit.TheVariants as limits
@@ -15,7 +14,8 @@ use Rattle.wiki_talk.specs.declared.refusals.Refusal.TheVariants.{NoWord, NoPlac
 use Rattle.wiki_talk.specs.declared.statuses.Status.{Status}
 use Rattle.wiki_talk.specs.declared.statuses.Status.TheVariants.{Asserted, Retracted, RedContradiction, RedBudget, Outside, Question, QuestionOutside}
 use Rattle.articles.specs.declared.sentences.Sentence.{Sentence}
-use Rattle.articles.specs.declared.articles.Article.{Article}
+use Rattle.articles.specs.declared.article.Article.{Article}
+use Rattle.articles.specs.declared.article.TheConstants.{LAST_REVISION}
 use Rattle.wiki_core.specs.State.{State}
 use Rattle.wiki_core.specs.Words.{word_with, bad_text, bad_count, lexicon_refusal, forms_given, full_at}
 use Rattle.wiki_core.specs.Places.{word_named, article_named, sentence_named, Placed, all_placed, IsFirstPlaced}
@@ -121,7 +121,7 @@ pub record HasTooManyTokens (state : State) (text : List ℕ) (refusal : Refusal
 pub record IsAtLastRevision (state : State) (text : List ℕ) (refusal : Refusal) : Type 0 where
   pub article : Article
   pub named : article_named state text ≡ Some article
-  pub last : article.revision.0 ≡ LAST_NUMBER
+  pub last : article.revision.0 ≡ LAST_REVISION
   pub told : refusal ≡ full_at limits.Numbers
 
 -- the text has no derivation

@@ -3,7 +3,7 @@ use Rattle.std.specs.Prelude.{◌≡◌, ℕ, List, [], map, IsTrue}
 use Rattle.codeco_terms.specs.GrammarParts.{GrammarParts}
 use Rattle.codeco_checked.specs.Sound.{is_labelled}
 use Rattle.lexicon.specs.Words.{Listed}
-use Rattle.articles.specs.declared.articles.Article.{Article}
+use Rattle.articles.specs.declared.article.Article.{Article}
 
 pub record State : Type 0 where
   pub grammar : GrammarParts

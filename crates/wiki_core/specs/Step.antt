@@ -1,5 +1,5 @@
 -- The plain wiki: one step of it for each request.
-use Rattle.std.specs.Prelude.{◌≡◌, ℕ, List, [], ◌∷◌, ◌++◌, length, unwrap_or, Option, Some, None, option_map}
+use Rattle.std.specs.Prelude.{◌≡◌, ℕ, List, [], ◌∷◌, ◌++◌, length, insert, remove, slice_set, unwrap_or, Option, Some, None, option_map}
 use Rattle.wiki_base.specs.declared.numbers.WordId.{WordId}
 use Rattle.lexicon.specs.declared.kinds.Kind.{Kind}
 use Rattle.lexicon.specs.declared.kinds.Forms.{Forms}
@@ -13,8 +13,8 @@ use Rattle.wiki_talk.specs.declared.replies.Reply.TheVariants as replies
 use Rattle.wiki_talk.specs.declared.requests.Request.{Request}
 use Rattle.wiki_talk.specs.declared.requests.Request.TheVariants as requests
 use Rattle.articles.specs.declared.sentences.Sentence.{Sentence}
-use Rattle.articles.specs.declared.articles.Article.{Article}
-use Rattle.articles.specs.Articles.{new_article, without_article, with_inserted, with_replaced, with_taken, with_marked}
+use Rattle.articles.specs.declared.article.Article.{Article}
+use Rattle.articles.specs.Articles.{new_article, without_article, with_change, with_status}
 use Rattle.wiki_core.specs.State.{State}
 use Rattle.wiki_core.specs.Words.{word_with, told_word, told_words, forms_given, word_refusal}
 use Rattle.wiki_core.specs.Places.{word_named, article_named, sentence_named}
@@ -91,9 +91,25 @@ pub record RemovesWord (old : State) (text : List ℕ) (reply : Reply) (new : St
   pub word : WordId
   pub named : word_named old text ≡ Some word
   pub answer : reply ≡ replies.Unword
-  pub after : new ≡ record old { words = without_word old.words word; articles = without_article word old.articles }
+  pub after : new ≡ record old { words = without_word old.words word; articles = without_article old.articles word }
 
 -- ---- what a request does to sentences
+
+-- the wiki with a sentence at a place of an article, before the one that is there
+abbrev pub with_inserted : State → WordId → ℕ → Sentence → State
+with_inserted old word place sentence = record old { articles = with_change old.articles word (λ sentences. insert sentences place sentence) }
+
+-- the wiki with a sentence in place of the one at a place of an article
+abbrev pub with_replaced : State → WordId → ℕ → Sentence → State
+with_replaced old word place sentence = record old { articles = with_change old.articles word (λ sentences. slice_set sentences place sentence) }
+
+-- the wiki without the sentence at a place of an article
+abbrev pub with_taken : State → WordId → ℕ → State
+with_taken old word place = record old { articles = with_change old.articles word (λ sentences. remove sentences place) }
+
+-- the wiki with another status for the sentence at a place of an article
+abbrev pub with_marked : State → WordId → ℕ → Status → State
+with_marked old word place status = record old { articles = with_change old.articles word (λ sentences. with_status sentences place status) }
 
 -- the tokens of a text as a sentence with a status
 abbrev pub sentence_with : State → List ℕ → Status → Sentence
@@ -110,32 +126,32 @@ pub record AddsSentence (old : State) (article : List ℕ) (given : Option ℕ) 
   pub place : ℕ
   pub at_place : place_for old article given ≡ Some place
   pub status : Status
-  pub gets : GetStatus (record old { articles = with_inserted word place (sentence_with old text Asserted) old.articles }) (tokens_of old text) status
+  pub gets : GetStatus (with_inserted old word place (sentence_with old text Asserted)) (tokens_of old text) status
   pub answer : reply ≡ replies.Add status
-  pub after : new ≡ record old { articles = with_inserted word place (sentence_with old text status) old.articles }
+  pub after : new ≡ with_inserted old word place (sentence_with old text status)
 
 -- a sentence is put in place of another, with the status that it gets there, where the other one has left the knowledge
 pub record EditsSentence (old : State) (article : List ℕ) (place : ℕ) (text : List ℕ) (reply : Reply) (new : State) : Type 0 where
   pub word : WordId
   pub named : word_named old article ≡ Some word
   pub status : Status
-  pub gets : GetStatus (record old { articles = with_replaced word place (sentence_with old text Asserted) old.articles }) (tokens_of old text) status
+  pub gets : GetStatus (with_replaced old word place (sentence_with old text Asserted)) (tokens_of old text) status
   pub answer : reply ≡ replies.Edit status
-  pub after : new ≡ record old { articles = with_replaced word place (sentence_with old text status) old.articles }
+  pub after : new ≡ with_replaced old word place (sentence_with old text status)
 
 -- the sentence at the place is taken out
 pub record RemovesSentence (old : State) (article : List ℕ) (place : ℕ) (reply : Reply) (new : State) : Type 0 where
   pub word : WordId
   pub named : word_named old article ≡ Some word
   pub answer : reply ≡ replies.Remove
-  pub after : new ≡ record old { articles = with_taken word place old.articles }
+  pub after : new ≡ with_taken old word place
 
 -- the sentence at the place becomes a retracted one
 pub record RetractsSentence (old : State) (article : List ℕ) (place : ℕ) (reply : Reply) (new : State) : Type 0 where
   pub word : WordId
   pub named : word_named old article ≡ Some word
   pub answer : reply ≡ replies.Retract Retracted
-  pub after : new ≡ record old { articles = with_marked word place Retracted old.articles }
+  pub after : new ≡ with_marked old word place Retracted
 
 -- the sentence at the place gets the status that it gets as a new one
 pub record ReassertsSentence (old : State) (article : List ℕ) (place : ℕ) (reply : Reply) (new : State) : Type 0 where
@@ -144,9 +160,9 @@ pub record ReassertsSentence (old : State) (article : List ℕ) (place : ℕ) (r
   pub sentence : Sentence
   pub here : sentence_named old article place ≡ Some sentence
   pub status : Status
-  pub gets : GetStatus (record old { articles = with_marked word place Asserted old.articles }) sentence.tokens status
+  pub gets : GetStatus (with_marked old word place Asserted) sentence.tokens status
   pub answer : reply ≡ replies.Reassert status
-  pub after : new ≡ record old { articles = with_marked word place status old.articles }
+  pub after : new ≡ with_marked old word place status
 
 -- ---- what is told of sentences
 

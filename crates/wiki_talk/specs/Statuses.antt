@@ -1,11 +1,11 @@
--- The names of statuses, and of what they carry.
+-- The names of statuses and of causes.
 use Rattle.std.specs.Prelude.{ℕ, List, codes, Bool, true, false, Option, Some, None}
 use Rattle.logic_terms.specs.declared.cause.Cause.{Cause}
-use Rattle.logic_terms.specs.declared.cause.Cause.TheVariants as causes
+use Rattle.logic_terms.specs.declared.cause.Cause.TheVariants.{Shared, Cycle, NoRoot, Equality, Free}
 use Rattle.wiki_talk.specs.declared.statuses.Status.{Status}
 use Rattle.wiki_talk.specs.declared.statuses.Status.TheVariants.{Asserted, Retracted, RedContradiction, RedBudget, Outside, Question, QuestionOutside}
 
--- the name that lines and pages tell
+-- the name that lines and pages tell of a status
 abbrev pub status_name : Status → List ℕ
 status_name Asserted = codes "asserted"
 status_name Retracted = codes "retracted"
@@ -15,23 +15,23 @@ status_name (Outside cause) = codes "outside"
 status_name Question = codes "question"
 status_name (QuestionOutside cause) = codes "question-outside"
 
--- the name of a cause
-abbrev pub cause_name : Cause → List ℕ
-cause_name causes.Shared = codes "shared"
-cause_name causes.Cycle = codes "cycle"
-cause_name causes.NoRoot = codes "noroot"
-cause_name causes.Equality = codes "equality"
-cause_name causes.Free = codes "free"
+-- why a sentence has no axioms and asks for no class, where its status says so
+abbrev pub cause_in : Status → Option Cause
+cause_in Asserted = None
+cause_in Retracted = None
+cause_in RedContradiction = None
+cause_in RedBudget = None
+cause_in (Outside cause) = Some cause
+cause_in Question = None
+cause_in (QuestionOutside cause) = Some cause
 
--- why a sentence is outside, if it is
-abbrev pub cause_of : Status → Option Cause
-cause_of Asserted = None
-cause_of Retracted = None
-cause_of RedContradiction = None
-cause_of RedBudget = None
-cause_of (Outside cause) = Some cause
-cause_of Question = None
-cause_of (QuestionOutside cause) = Some cause
+-- the name that lines and pages tell of a cause
+abbrev pub cause_name : Cause → List ℕ
+cause_name Shared = codes "shared"
+cause_name Cycle = codes "cycle"
+cause_name NoRoot = codes "noroot"
+cause_name Equality = codes "equality"
+cause_name Free = codes "free"
 
 -- a question that asks for a class
 abbrev pub is_question : Status → Bool

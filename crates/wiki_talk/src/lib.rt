@@ -1,6 +1,7 @@
 //! What is asked of the wiki, and what it answers.
 #![tactic(auto)]
 
+mod causes;
 mod kinds;
 mod limits;
 mod refusals;
@@ -10,6 +11,7 @@ mod statuses;
 #[cfg(test)]
 mod tests;
 
+pub use causes::cause_name;
 pub use kinds::{kind_name, kind_named};
 pub use limits::{Limit, MOST_SENTENCES};
 pub use refusals::{BAD_REQUEST, Refusal, Title};
@@ -17,4 +19,4 @@ pub use replies::{
     Meant, MenuView, Numbers, Reply, SentenceView, SentenceViews, WordView, WordViews,
 };
 pub use requests::Request;
-pub use statuses::{Status, cause_name};
+pub use statuses::Status;

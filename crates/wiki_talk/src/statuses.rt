@@ -1,19 +1,18 @@
 // What became of a sentence.
 ghost use Rattle.std.specs.Prelude.{◌≡◌};
-ghost use Rattle.wiki_talk.specs.Statuses.{status_name, cause_name, cause_of, is_question};
 
 use logic_terms::Cause;
 
 /// What became of a sentence.
 #[derive(Clone, Copy, Debug, PartialEq, Eq)]
 pub enum Status {
-    /// Its axioms are in the knowledge.
+    /// A statement whose axioms are in the knowledge.
     Asserted,
-    /// It was taken out of the knowledge by a user.
+    /// A statement that a user took out of the knowledge.
     Retracted,
-    /// It contradicts the other sentences.
+    /// A statement that contradicts the knowledge.
     RedContradiction,
-    /// Whether it fits the other sentences was not found out within the budget.
+    /// A statement of which the budget was spent before it was found whether it fits the knowledge.
     RedBudget,
     /// A statement that has no axioms.
     Outside(Cause),
@@ -24,6 +23,8 @@ pub enum Status {
 }
 
 impl Status {
+    ghost use Rattle.wiki_talk.specs.Statuses.{status_name, cause_in, is_question};
+
     /// The name that lines and pages tell.
     pub fn name(self) -> &'static str
         ensures { result.now ≡ status_name self }
@@ -46,26 +47,13 @@ impl Status {
         matches!(self, Status::Question)
     }
 
-    /// Why it is outside, if it is.
+    /// Why the sentence has no axioms and asks for no class, if that is so.
     pub fn cause(self) -> Option<Cause>
-        ensures { result ≡ cause_of self }
+        ensures { result ≡ cause_in self }
     {
         match self {
             Status::Outside(cause) | Status::QuestionOutside(cause) => Some(cause),
             _ => None,
         }
-    }
-}
-
-/// The name of a cause that lines and pages tell.
-pub fn cause_name(cause: Cause) -> &'static str
-    ensures { result.now ≡ cause_name cause }
-{
-    match cause {
-        Cause::Shared => "shared",
-        Cause::Cycle => "cycle",
-        Cause::NoRoot => "noroot",
-        Cause::Equality => "equality",
-        Cause::Free => "free",
     }
 }

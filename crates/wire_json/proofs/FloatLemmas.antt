@@ -16,7 +16,7 @@ use Rattle.wiki_talk.specs.declared.replies.Meant.{Meant}
 use Rattle.wiki_talk.specs.declared.replies.Meant.TheVariants as meanings
 use Rattle.wiki_talk.specs.declared.statuses.Status.{Status}
 use Rattle.logic_terms.specs.declared.cause.Cause.{Cause}
-use Rattle.wiki_talk.specs.Statuses.{cause_of, is_question}
+use Rattle.wiki_talk.specs.Statuses.{cause_in, is_question}
 use Rattle.wire_json.specs.Values.{texts_items, numbers_items, menu_value, word_value, words_items, with_cause, statement_value, question_value, sentence_value, sentences_items}
 use Rattle.wire_json.specs.Replies.{reply_value, refusal_value, status_value, meant_value}
 use Rattle.wire_json.specs.Requests.{request_value, with_place}
@@ -45,7 +45,7 @@ has_float-place None members none = none
 has_float-place (Some place) members none = none
 
 has_float-status : (name : List ℕ) (status : Status) → has_float (status_value name status) ≡ false
-has_float-status name status = has_float-cause (cause_of status) _ refl
+has_float-status name status = has_float-cause (cause_in status) _ refl
 
 has_float-meant : (meant : Meant) → has_float (meant_value meant) ≡ false
 has_float-meant (meanings.Axioms axioms) = rw (has_float-texts axioms) refl
@@ -54,7 +54,7 @@ has_float-meant (meanings.Outside cause) = refl
 
 has_float-either : (asks : Bool) (s : SentenceView) → has_float (if asks then question_value s else statement_value s) ≡ false
 has_float-either true s = rw (has_float-texts s.answers, has_float-texts s.unknown) refl
-has_float-either false s = has_float-cause (cause_of s.status) _ refl
+has_float-either false s = has_float-cause (cause_in s.status) _ refl
 
 has_float-sentences : (sentences : List SentenceView) → items_have_float (sentences_items sentences) ≡ false
 has_float-sentences [] = refl

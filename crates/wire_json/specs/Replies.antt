@@ -8,7 +8,7 @@ use Rattle.wiki_talk.specs.declared.refusals.Refusal.TheVariants.{NoWord, BadFor
 use Rattle.wiki_talk.specs.declared.replies.Meant.{Meant}
 use Rattle.wiki_talk.specs.declared.replies.Meant.TheVariants as meanings
 use Rattle.wiki_talk.specs.declared.statuses.Status.{Status}
-use Rattle.wiki_talk.specs.Statuses.{status_name, cause_name, cause_of}
+use Rattle.wiki_talk.specs.Statuses.{status_name, cause_name, cause_in}
 use Rattle.wiki_talk.specs.Limits.{name_of}
 use Rattle.wiki_talk.specs.Refusals.{title_of, bad_request}
 use Rattle.wire_json.specs.Values.{line_text, texts_items, numbers_items, menu_value, word_value, words_items, with_cause, sentences_items}
@@ -44,7 +44,7 @@ done_value name = object (member (codes "done") (string name) no_members)
 
 -- what is done under this name, with a status
 abbrev pub status_value : List ℕ → Status → Data
-status_value name status = object (with_cause (cause_of status)
+status_value name status = object (with_cause (cause_in status)
     (member (codes "done") (string name)
     (member (codes "status") (string (status_name status)) no_members)))
 

@@ -8,7 +8,7 @@ use Rattle.wiki_talk.specs.declared.replies.MenuView.{MenuView}
 use Rattle.wiki_talk.specs.declared.replies.SentenceView.{SentenceView}
 use Rattle.logic_terms.specs.declared.cause.Cause.{Cause}
 use Rattle.wiki_talk.specs.Kinds.{kind_name}
-use Rattle.wiki_talk.specs.Statuses.{status_name, cause_name, cause_of, is_question}
+use Rattle.wiki_talk.specs.Statuses.{status_name, cause_name, cause_in, is_question}
 
 -- the value as JSON with no space, and a newline
 unfoldable pub line_text : Data → List ℕ
@@ -49,7 +49,7 @@ with_cause (Some cause) members = member (codes "cause") (string (cause_name cau
 
 -- a sentence that isn't a question for a class
 abbrev pub statement_value : SentenceView → Data
-statement_value sentence = object (with_cause (cause_of sentence.status)
+statement_value sentence = object (with_cause (cause_in sentence.status)
     (member (codes "status") (string (status_name sentence.status))
     (member (codes "text") (string sentence.text) no_members)))
 

@@ -1,3 +1,4 @@
 pub mod CauseLemmas
 pub mod MenuLemmas
+pub mod UseLemmas
 pub mod WordLemmas

@@ -40,6 +40,10 @@ question_meaning says asked (Some referent) = asking_outside Free
 
 -- the meaning of a skeleton, by its structure
 abbrev pub skeleton_meaning : GrammarParts → Skeleton → Meaning
+-- It waits for the crate `drs_build`, with its `meaning_of` and `is_question`:
+--   skeleton_meaning g sk =
+--       if is_question g sk then question_meaning (meaning_of g sk).says (meaning_of g sk).referent (free_in [] (meaning_of g sk).says)
+--       else statement_meaning (meaning_of g sk).says (free_in [] (meaning_of g sk).says)
 skeleton_meaning g sk = ?
 
 -- the tokens have this meaning: that of their least skeleton

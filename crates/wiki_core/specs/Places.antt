@@ -1,11 +1,11 @@
 -- The articles and sentences that texts and places name, and the first of the sentences with a property.
-use Rattle.std.specs.Prelude.{◌≡◌, ℕ, List, length, take, map, slice_get, All, Option, Some, option_map, option_and_then}
-use Rattle.std.specs.List.{flat_map, enumerate_from}
+use Rattle.std.specs.Prelude.{◌≡◌, ℕ, ◌+◌, List, [], ◌∷◌, take, slice_get, All, Option, Some, option_and_then}
+use Rattle.std.specs.List.{flat_map}
 use Rattle.wiki_base.specs.declared.numbers.WordId.{WordId}
 use Rattle.lexicon.specs.Words.{owner}
 use Rattle.articles.specs.declared.sentences.Sentence.{Sentence}
 use Rattle.articles.specs.declared.article.Article.{Article}
-use Rattle.articles.specs.Articles.{article_of}
+use Rattle.articles.specs.Articles.{article_of, sentence_at}
 use Rattle.wiki_core.specs.State.{State}
 
 -- the live word that has the form
@@ -18,7 +18,7 @@ article_named state text = option_and_then (article_of state.articles) (word_nam
 
 -- the sentence at a place of that article
 abbrev pub sentence_named : State → List ℕ → ℕ → Option Sentence
-sentence_named state text place = option_and_then (λ article. slice_get article.sentences place) (article_named state text)
+sentence_named state text place = option_and_then (λ word. sentence_at state.articles word place) (word_named state text)
 
 -- a sentence, the word of its article, and its place in it
 pub record Placed : Type 0 where
@@ -26,9 +26,14 @@ pub record Placed : Type 0 where
   pub place : ℕ
   pub sentence : Sentence
 
+-- sentences of a word's article, of which the first stands at the place
+abbrev pub placed_from : WordId → ℕ → List Sentence → List Placed
+placed_from word place [] = []
+placed_from word place (sentence ∷ sentences) = record { word = word; place = place; sentence = sentence } ∷ placed_from word (place + 1) sentences
+
 -- the sentences of an article, in order
 abbrev pub placed_in : Article → List Placed
-placed_in article = map (λ entry. record { word = article.word; place = entry.0; sentence = entry.1 }) (enumerate_from 0 article.sentences)
+placed_in article = placed_from article.word 0 article.sentences
 
 -- all sentences: articles in order of word number, sentences in order
 abbrev pub all_placed : List Article → List Placed

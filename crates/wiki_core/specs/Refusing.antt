@@ -1,5 +1,6 @@
 -- Why requests on words, articles and sentences are refused: each cause as what it refuses with where it stands.
-use Rattle.std.specs.Prelude.{◌≡◌, ℕ, ◌≤◌, ◌<◌, ◌⊎◌, Bool, true, false, List, [], ◌∷◌, length, Contains, IsTrue, Option, Some, None}
+use Rattle.std.specs.Prelude.{◌≡◌, ℕ, ◌≤◌, ◌<◌, ◌⊎◌, ◌==◌, ◌||◌, Bool, true, false, List, [], ◌∷◌, length, find, Option, Some, None}
+use Rattle.std.specs.List.{list_any}
 use Rattle.std.specs.Option.{option_or}
 use Rattle.wiki_base.specs.declared.tokens.TheConstants.{MOST_TOKENS}
 use Rattle.wiki_base.specs.declared.numbers.WordId.{WordId}
@@ -60,8 +61,8 @@ abbrev pub IsBroken : State → WordId → Forms → Placed → Type 0
 IsBroken state word forms placed = ¬ KeepsMeaning state.grammar state.words (with_forms state.words word forms) placed.sentence.tokens
 
 -- the sentence stands in the word's article, or has a form of the word
-abbrev pub UsesWord : WordId → Forms → Placed → Type 0
-UsesWord word forms placed = (placed.word.0 ≡ word.0) ⊎ ((token : List ℕ) × Contains placed.sentence.tokens token × IsTrue (is_among forms.texts token))
+abbrev pub uses_word : WordId → Forms → Placed → Bool
+uses_word word forms placed = (placed.word.0 == word.0) || list_any (is_among forms.texts) placed.sentence.tokens
 
 -- a place is told by the canonical form of its article's word
 pub record TellsPlace (state : State) (tell : List ℕ → ℕ → Refusal) (placed : Placed) (refusal : Refusal) : Type 0 where
@@ -86,7 +87,7 @@ pub record IsInUse (state : State) (text : List ℕ) (refusal : Refusal) : Type 
   pub forms : Forms
   pub of_word : forms_of state.words.live word ≡ Some forms
   pub first : Placed
-  pub uses : IsFirstPlaced (UsesWord word forms) (all_placed state.articles) first
+  pub uses : find (uses_word word forms) (all_placed state.articles) ≡ Some first
   pub told : TellsPlace state InUse first refusal
 
 -- ---- places and limits

@@ -1,14 +1,14 @@
 // The wiki and its step.
-ghost use Rattle.std.specs.Prelude.{◌≡◌, ◌≤◌, ℕ, List, length, IsTrue, IfOk, OnErr, Some, option_copied};
+ghost use Rattle.std.specs.Prelude.{◌≡◌, ◌≤◌, ◌<◌, ◌^◌, ℕ, List, length, find, IsTrue, IsSome, IfOk, IfSome, OnErr, Some, option_copied, option_map};
 ghost use Rattle.wiki_base.specs.declared.tokens.TheConstants.{MOST_TOKENS};
-
 ghost use Rattle.lexicon.specs.declared.words.TheConstants.{LAST_NUMBER};
 ghost use Rattle.wiki_talk.specs.declared.refusals.Refusal.{Refusal as TheRefusal};
 ghost use Rattle.wiki_core.specs.Words.{word_refusal};
 
 use crate::faults::Fault;
 use crate::parsing::{no_sentence, told_code, too_many_tokens};
-use crate::told::{told_word, told_words};
+use crate::told::{told_text, told_word, told_words};
+use crate::uses::first_use;
 use crate::words::add_word;
 use articles::Articles;
 use codeco_checked::CheckedGrammar;
@@ -47,6 +47,10 @@ impl Wiki {
     ghost use Rattle.wiki_core.specs.State.{first_state};
     ghost use Rattle.wiki_core.specs.Parsing.{tokens_of};
     ghost use Rattle.wiki_core.specs.Step.{Step};
+    ghost use Rattle.lexicon.specs.declared.kinds.Forms.{Forms as TheForms};
+    ghost use Rattle.lexicon.specs.Words.{forms_of, canonical_form_of};
+    ghost use Rattle.wiki_core.specs.Places.{all_placed};
+    ghost use Rattle.wiki_core.specs.Refusing.{uses_word};
     ghost use Rattle.wiki_core.specs.Words.{word_with};
 
     /// A wiki without words, over a grammar in which each rule has a label. A search may take `budget` steps.
@@ -76,6 +80,7 @@ impl Wiki {
             Request::Find { word } => self.find(word),
             Request::Words => self.words(),
             Request::Parse { text } => self.parse(text),
+            Request::Unword { word } => self.unword(word),
             // The others wait for the calls that tell a sentence's meaning and verdict.
             _ => Err(Memory),
         }
@@ -100,6 +105,50 @@ impl Wiki {
                 self.articles.end(word);
                 refused(fault)
             }
+        }
+    }
+
+    // Takes a word out, with its empty article.
+    fn unword(&mut self, text: &Text8) -> Result<Reply, Memory>
+        ensures step { IfOk result (λ reply. Step self.old (Request.Unword text.now) reply self.new) }
+        ensures memory { OnErr result (self.new ≡ self.old) }
+    {
+        let Some(word) = self.lexicon.find(text.as_str()) else {
+            return Ok(Reply::Refused(Refusal::NoWord { text: text.copy()? }));
+        };
+        match self.use_of(word) {
+            Some((article, at)) => Ok(Reply::Refused(self.in_use(article, at)?)),
+            None => {
+                self.articles.end(word);
+                let _ = self.lexicon.remove(word);
+                Ok(Reply::Unword)
+            }
+        }
+    }
+
+    // The first place that needs a live word.
+    fn use_of(&self, word: WordId) -> Option<(WordId, usize)>
+        ensures { (forms : TheForms) → forms_of self.now.words.live word ≡ Some forms
+            → result ≡ option_map (λ placed. (placed.word, placed.place)) (find (uses_word word forms) (all_placed self.now.articles)) }
+    {
+        match self.lexicon.word(word) {
+            Some(forms) => first_use(self.articles.as_slice(), word, forms),
+            None => None,
+        }
+    }
+
+    // Tells a place that needs a word.
+    fn in_use(&self, article: WordId, at: usize) -> Result<Refusal, Memory>
+        requires fits { at < 2 ^ 32 }
+        requires lives { IsSome (forms_of self.now.words.live article) }
+        ensures { IfOk result (λ refusal. IfSome (canonical_form_of self.now.words.live article) (λ form. refusal ≡ Refusal.InUse form at)) }
+    {
+        match self.lexicon.word(article) {
+            Some(forms) => Ok(Refusal::InUse {
+                article: told_text(self.alloc, forms.canonical())?,
+                at: at as u32,
+            }),
+            None => unreachable!(),
         }
     }
 
@@ -171,7 +220,12 @@ fn refused(fault: Fault) -> Result<Reply, Memory>
 }
 
 // Refuses a word where all numbers are given.
-fn refuse_word(alloc: Global, lexicon: &mut Lexicon, kind: Kind, forms: &[Text8]) -> Result<Reply, Memory>
+fn refuse_word(
+    alloc: Global,
+    lexicon: &mut Lexicon,
+    kind: Kind,
+    forms: &[Text8],
+) -> Result<Reply, Memory>
     requires { lexicon.old.last ≡ LAST_NUMBER }
     ensures refused { IfOk result (λ reply. (refusal : TheRefusal) × (word_refusal lexicon.old kind forms.now ≡ Some refusal) × (reply ≡ Reply.Refused refusal)) }
     ensures words { lexicon.new ≡ lexicon.old }

@@ -1,4 +1,6 @@
 pub mod CauseLemmas
+pub mod FullLemmas
 pub mod MenuLemmas
+pub mod UnwordLemmas
 pub mod UseLemmas
 pub mod WordLemmas

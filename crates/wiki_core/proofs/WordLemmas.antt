@@ -1,5 +1,5 @@
 -- Words that come and go leave the meaning of tokens that have none of their forms.
-use Rattle.std.proofs.Common.{◌≡◌, ℕ, ◌+◌, Bool, true, false, not, ◌&&◌, ◌||◌, cond, List, [], ◌∷◌, ◌++◌, map, filter, refl, sym, ap, subst, ◌∙◌, append-nil}
+use Rattle.std.proofs.Common.{◌≡◌, ℕ, ◌+◌, Bool, true, false, not, ◌&&◌, ◌||◌, cond, List, [], ◌∷◌, ◌++◌, map, MatchBool, refl, sym, ap, subst, ◌∙◌, append-nil}
 use Rattle.std.specs.List.{flat_map, list_any, list_all}
 use Rattle.std.specs.Str.{bytes_eq}
 use Rattle.std.proofs.lemmas.Bool.{false≢true}
@@ -15,7 +15,10 @@ use Rattle.lexicon.specs.Readings.{reading, readings_from, readings_of_word, rea
 use Rattle.derivation_trees.specs.Settings.{Setting}
 use Rattle.derivation_trees.specs.Sentences.{setting_of}
 use Rattle.derivation_trees.specs.Skeletons.{IsLeast}
-use Rattle.wiki_core.specs.Meanings.{Meaning, Means}
+use Rattle.logic_terms.specs.Concept.{Claim}
+use Rattle.articles.specs.declared.sentences.Sentence.{Sentence}
+use Rattle.wiki_core.specs.Meanings.{Meaning, stating, Means}
+use Rattle.wiki_core.specs.Knowledge.{is_asserted, StatesFirst, AreStated}
 
 -- a token that is none of the texts has no reading by them
 readings-none : (kind : Kind) (id : WordId) (token : List ℕ) (place : ℕ) (texts : List (List ℕ)) → list_any (bytes_eq token) texts ≡ false → readings_from kind id token place texts ≡ []
@@ -96,3 +99,26 @@ means-without_word g words id tokens meaning none =
     means-same g words (without_word words id) tokens meaning
     (readings-same words.live (without_word words id).live (λ token. list_all (is_no_form_of id token) words.live)
     (λ token passed. readings-without words.live id token passed) tokens none)
+
+-- each token of each sentence reads the same
+abbrev pub ReadTheSame : List Word → List Word → List Sentence → Type 0
+ReadTheSame old new [] = Unit {0}
+ReadTheSame old new (sentence ∷ sentences) = (map (readings_of new) sentence.tokens ≡ map (readings_of old) sentence.tokens) × ReadTheSame old new sentences
+
+-- so the asserted sentences state the same axioms
+pub stated-same : (g : GrammarParts) (old new : Listed) (sentences : List Sentence) (claims : List Claim) → ReadTheSame old.live new.live sentences
+    → AreStated g old sentences claims → AreStated g new sentences claims
+stated-same g old new [] claims same stated = stated
+stated-same g old new (sentence ∷ sentences) claims same stated = by_status (is_asserted sentence.status) (λ rest. stated-same g old new sentences rest same.1) stated
+  where
+    by_status : (b : Bool) → ((rest : List Claim) → AreStated g old sentences rest → AreStated g new sentences rest)
+        → MatchBool b (StatesFirst g old sentence.tokens (AreStated g old sentences) claims) (AreStated g old sentences claims)
+        → MatchBool b (StatesFirst g new sentence.tokens (AreStated g new sentences) claims) (AreStated g new sentences claims)
+    by_status true follows first = record {
+      own = first.own;
+      rest = first.rest;
+      means = means-same g old new sentence.tokens (stating first.own) same.0 first.means;
+      follow = follows first.rest first.follow;
+      joined = first.joined;
+    }
+    by_status false follows rest = follows claims rest

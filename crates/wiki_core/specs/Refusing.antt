@@ -65,10 +65,10 @@ abbrev pub uses_word : WordId → Forms → Placed → Bool
 uses_word word forms placed = (placed.word.0 == word.0) || list_any (is_among forms.texts) placed.sentence.tokens
 
 -- a place is told by the canonical form of its article's word
-pub record TellsPlace (state : State) (tell : List ℕ → ℕ → Refusal) (placed : Placed) (refusal : Refusal) : Type 0 where
+pub record TellsPlace (state : State) (tell : List ℕ → ℕ → Refusal) (word : WordId) (place : ℕ) (refusal : Refusal) : Type 0 where
   pub form : List ℕ
-  pub spelled : canonical_form_of state.words.live placed.word ≡ Some form
-  pub told : refusal ≡ tell form placed.place
+  pub spelled : canonical_form_of state.words.live word ≡ Some form
+  pub told : refusal ≡ tell form place
 
 -- the other forms break a sentence: the first one is told
 pub record BreaksSentence (state : State) (text : List ℕ) (texts : List (List ℕ)) (refusal : Refusal) : Type 0 where
@@ -78,7 +78,7 @@ pub record BreaksSentence (state : State) (text : List ℕ) (texts : List (List 
   pub of_word : forms_of state.words.live word ≡ Some old
   pub first : Placed
   pub breaks : IsFirstPlaced (IsBroken state word (forms_given old.kind texts)) (all_placed state.articles) first
-  pub told : TellsPlace state Breaks first refusal
+  pub told : TellsPlace state Breaks first.word first.place refusal
 
 -- a sentence needs the word: the first one is told
 pub record IsInUse (state : State) (text : List ℕ) (refusal : Refusal) : Type 0 where
@@ -88,7 +88,7 @@ pub record IsInUse (state : State) (text : List ℕ) (refusal : Refusal) : Type 
   pub of_word : forms_of state.words.live word ≡ Some forms
   pub first : Placed
   pub uses : find (uses_word word forms) (all_placed state.articles) ≡ Some first
-  pub told : TellsPlace state InUse first refusal
+  pub told : TellsPlace state InUse first.word first.place refusal
 
 -- ---- places and limits
 

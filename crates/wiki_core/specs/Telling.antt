@@ -1,5 +1,6 @@
 -- What is told of sentences.
-use Rattle.std.specs.Prelude.{◌≡◌, ℕ, List, [], ◌∷◌, map, MatchBool}
+use Rattle.std.specs.Prelude.{◌≡◌, ℕ, List, [], map, MatchBool}
+use Rattle.std.specs.List.{AllZip}
 use Rattle.std.specs.Option.{option_map_or}
 use Rattle.wiki_base.specs.declared.numbers.WordId.{WordId}
 use Rattle.lexicon.specs.Words.{Listed, canonical_form_of}
@@ -50,7 +51,4 @@ pub record TellsSentence (state : State) (sentence : Sentence) (view : SentenceV
 
 -- sentences as they are told, one after another
 abbrev pub TellsSentences : State → List Sentence → List SentenceView → Type 0
-TellsSentences state [] [] = Unit {0}
-TellsSentences state [] (view ∷ views) = ⊥
-TellsSentences state (sentence ∷ sentences) [] = ⊥
-TellsSentences state (sentence ∷ sentences) (view ∷ views) = TellsSentence state sentence view × TellsSentences state sentences views
+TellsSentences state sentences views = AllZip (TellsSentence state) sentences views

@@ -18,8 +18,9 @@ pub(crate) fn first_use(
     ensures { result ≡ option_map (λ placed. (placed.word, placed.place)) (find (uses_word word forms.now) (all_placed articles.now)) }
 {
     for article in articles {
-        if let Some(place) = use_in(article, word, forms) {
-            return Some((article.word, place));
+        match use_in(article, word, forms) {
+            Some(place) => return Some((article.word, place)),
+            None => {}
         }
     }
     None

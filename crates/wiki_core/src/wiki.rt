@@ -1,5 +1,5 @@
 // The wiki and its step.
-ghost use Rattle.std.specs.Prelude.{◌≡◌, ◌≤◌, ◌<◌, ◌^◌, ℕ, List, length, find, IsTrue, IsSome, IfOk, IfSome, OnErr, Some, option_copied, option_map};
+ghost use Rattle.std.specs.Prelude.{◌≡◌, ◌≤◌, ◌<◌, ◌^◌, ℕ, List, length, find, IsTrue, IsSome, IfOk, OnErr, Some, option_copied, option_map};
 ghost use Rattle.wiki_base.specs.declared.tokens.TheConstants.{MOST_TOKENS};
 ghost use Rattle.lexicon.specs.declared.words.TheConstants.{LAST_NUMBER};
 ghost use Rattle.wiki_talk.specs.declared.refusals.Refusal.{Refusal as TheRefusal};
@@ -33,6 +33,7 @@ pub struct Wiki {
 }
 
 impl Model for Wiki {
+    ghost use Rattle.std.specs.Prelude.{◌≡◌};
     ghost use Rattle.wiki_core.specs.State.{State, IsSound};
 
     ghost Value = { State };
@@ -48,9 +49,9 @@ impl Wiki {
     ghost use Rattle.wiki_core.specs.Parsing.{tokens_of};
     ghost use Rattle.wiki_core.specs.Step.{Step};
     ghost use Rattle.lexicon.specs.declared.kinds.Forms.{Forms as TheForms};
-    ghost use Rattle.lexicon.specs.Words.{forms_of, canonical_form_of};
+    ghost use Rattle.lexicon.specs.Words.{forms_of};
     ghost use Rattle.wiki_core.specs.Places.{all_placed};
-    ghost use Rattle.wiki_core.specs.Refusing.{uses_word};
+    ghost use Rattle.wiki_core.specs.Refusing.{uses_word, TellsPlace};
     ghost use Rattle.wiki_core.specs.Words.{word_with};
 
     /// A wiki without words, over a grammar in which each rule has a label. A search may take `budget` steps.
@@ -141,7 +142,7 @@ impl Wiki {
     fn in_use(&self, article: WordId, at: usize) -> Result<Refusal, Memory>
         requires fits { at < 2 ^ 32 }
         requires lives { IsSome (forms_of self.now.words.live article) }
-        ensures { IfOk result (λ refusal. IfSome (canonical_form_of self.now.words.live article) (λ form. refusal ≡ Refusal.InUse form at)) }
+        ensures { IfOk result (TellsPlace self.now (λ form place. Refusal.InUse form place) article at) }
     {
         match self.lexicon.word(article) {
             Some(forms) => Ok(Refusal::InUse {

@@ -22,6 +22,7 @@ pub(crate) fn add_word(
 ) -> Result<(), Fault>
     ensures added { OnOk result (lexicon.new ≡ with_word lexicon.old (record { kind = kind; texts = form_texts kind given.now })) }
     ensures accepted { OnOk result (word_refusal lexicon.old kind given.now ≡ None) }
+    ensures free { OnOk result (add_refusal lexicon.old (record { kind = kind; texts = form_texts kind given.now }) ≡ None) }
     ensures refused { IfErr result (IsCause (word_refusal lexicon.old kind given.now)) }
     ensures err { OnErr result (lexicon.new ≡ lexicon.old) }
 {
@@ -76,6 +77,7 @@ fn enter(alloc: Global, lexicon: &mut Lexicon, forms: &Forms) -> Result<(), Faul
     requires { IsComplete forms.now }
     ensures added { OnOk result (lexicon.new ≡ with_word lexicon.old forms.now) }
     ensures accepted { OnOk result (lexicon_refusal lexicon.old (add_refusal lexicon.old forms.now) ≡ None) }
+    ensures free { OnOk result (add_refusal lexicon.old forms.now ≡ None) }
     ensures refused { IfErr result (IsCause (lexicon_refusal lexicon.old (add_refusal lexicon.old forms.now))) }
     ensures err { OnErr result (lexicon.new ≡ lexicon.old) }
 {

@@ -79,7 +79,9 @@ fn place_value(alloc: Global, title: Title, article: &Text8, at: u32) -> Result<
         (member (codes "at") (number (unsigned at)) (told title.number title.name.now no_members)))) }
 {
     let article = article.as_str();
-    Ok(json!(in alloc; {"article": article, "at": at, "name": title.name, "refused": title.number})?)
+    Ok(
+        json!(in alloc; {"article": article, "at": at, "name": title.name, "refused": title.number})?,
+    )
 }
 
 fn status_value(alloc: Global, title: Title, status: Status) -> Result<Value, Memory>

@@ -93,7 +93,11 @@ fn parse_reply_value(alloc: Global, code: &[u32]) -> Result<Value, Memory>
     Ok(json!(in alloc; {"code": code, "done": "parse"})?)
 }
 
-fn read_reply_value(alloc: Global, revision: u32, sentences: &[SentenceView]) -> Result<Value, Memory>
+fn read_reply_value(
+    alloc: Global,
+    revision: u32,
+    sentences: &[SentenceView],
+) -> Result<Value, Memory>
     ensures { IfOk result (λ value. (form : List ℕ) → view value ≡ reply_value (Reply.Read form revision sentences.now)) }
 {
     let sentences = sentences_value(alloc, sentences)?;
@@ -148,7 +152,12 @@ fn reword_request_value(alloc: Global, word: &Text8, forms: &[Text8]) -> Result<
     Ok(json!(in alloc; {"do": "reword", "forms": forms, "word": word})?)
 }
 
-fn add_request_value(alloc: Global, article: &Text8, at: Option<u32>, text: &Text8) -> Result<Value, Memory>
+fn add_request_value(
+    alloc: Global,
+    article: &Text8,
+    at: Option<u32>,
+    text: &Text8,
+) -> Result<Value, Memory>
     ensures { IfOk result (λ value. view value ≡ request_value (Request.Add article.now at text.now)) }
 {
     let article = article.as_str();
@@ -159,7 +168,12 @@ fn add_request_value(alloc: Global, article: &Text8, at: Option<u32>, text: &Tex
     }
 }
 
-fn edit_request_value(alloc: Global, article: &Text8, at: u32, text: &Text8) -> Result<Value, Memory>
+fn edit_request_value(
+    alloc: Global,
+    article: &Text8,
+    at: u32,
+    text: &Text8,
+) -> Result<Value, Memory>
     ensures { IfOk result (λ value. view value ≡ request_value (Request.Edit article.now at text.now)) }
 {
     let article = article.as_str();

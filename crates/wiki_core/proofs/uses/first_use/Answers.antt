@@ -1,0 +1,26 @@
+use Rattle.std.proofs.Common.{◌≡◌, ◌+◌, sym, ap, ◌∙◌, option_map, find, drop}
+use Rattle.std.specs.Option.{option_or}
+use Rattle.articles.specs.declared.article.Article.{Article}
+use Rattle.wiki_core.specs.Places.{placed_in, all_placed}
+use Rattle.wiki_core.specs.Refusing.{uses_word}
+use Rattle.wiki_core.proofs.UseLemmas.{told_place, found-word, find-next, first-found, second-found}
+use Rattle.wiki_core.proofs.uses.first_use.Goals as goal
+
+pub returns-in-Some : goal.returns-in-Some
+returns-in-Some c =
+    let test = uses_word c.args.word c.args.forms.now in
+    let articles = c.args.articles.now in
+    let i = c.loop-article.article-index in
+    let here = c.article-item.result in
+    let told = found-word test here.word 0 here.sentences ∙ ap (option_map (λ p. (here.word, p))) (sym c.use_in.ensures ∙ c.in-Some.is) in
+    let next = find-next test articles i here c.loop-article-test.true ∙ ap (λ (a : Article). option_or (find test (placed_in a)) (find test (all_placed (drop (i + 1) articles)))) (sym c.article-item.is) in
+    sym (ap (option_map told_place) (c.loop-article.invariant ∙ next) ∙ first-found (find test (placed_in here)) _ _ told)
+
+pub loop-article-preserved : goal.loop-article-preserved
+loop-article-preserved c =
+    let test = uses_word c.args.word c.args.forms.now in
+    let articles = c.args.articles.now in
+    let i = c.loop-article.article-index in
+    let here = c.article-item.result in
+    let next = find-next test articles i here c.loop-article-test.true ∙ ap (λ (a : Article). option_or (find test (placed_in a)) (find test (all_placed (drop (i + 1) articles)))) (sym c.article-item.is) in
+    c.loop-article.invariant ∙ next ∙ second-found (find test (placed_in here)) _ (sym c.use_in.ensures ∙ c.in-None.is)

@@ -16,8 +16,8 @@ use scopes::{Access, Test};
 use std::alloc::Global;
 use wiki_base::Memory;
 
-// The rule with the number, from 1.
-pub(crate) fn rule_with(grammar: &Grammar, number: u16) -> Option<&Rule>
+/// The rule with the number, from 1.
+pub fn rule_with(grammar: &Grammar, number: u16) -> Option<&Rule>
     ensures { option_copied result ≡ derives.rule_with grammar.now number }
 {
     if number == 0 {

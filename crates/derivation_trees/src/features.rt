@@ -35,9 +35,9 @@ fn place_for(numbers: &[u16], number: u16) -> Option<usize>
     Some(numbers.len())
 }
 
-// The features of a category, in order of number.
+/// The features of a category, in order of number.
 #[tactic(auto, using(crate::proofs::PutLemmas::put_all_append))]
-pub(crate) fn features_of(alloc: Global, grammar: &Grammar, name: u16) -> Result<Vec<u16>, Memory>
+pub fn features_of(alloc: Global, grammar: &Grammar, name: u16) -> Result<Vec<u16>, Memory>
     ensures { IfOk result (λ features. features.items ≡ instances.features_of grammar.now name) }
 {
     let mut features = Vec::new(alloc);

@@ -19,8 +19,8 @@ pub fn value_under(values: &[(u8, Value)], variable: u8) -> Value
     Value::Atom(0)
 }
 
-// What the term stands for.
-pub(crate) fn term_value(values: &[(u8, Value)], term: Term) -> Value
+/// What the term stands for.
+pub fn term_value(values: &[(u8, Value)], term: Term) -> Value
     ensures { result ≡ instances.term_value values.now term }
 {
     match term {

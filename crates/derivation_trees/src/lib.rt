@@ -24,13 +24,16 @@ mod variables;
 pub use check::{check_tree, readings_of};
 pub use cuts::Cut;
 pub use cutting::cut;
-pub use derive::{closed, fits};
-pub use instances::{tests_under, under, value_under};
+pub use derive::{closed, fits, rule_with};
+pub use features::features_of;
+pub use instances::{term_value, tests_under, under, value_under};
 pub use menus::{Group, Menu};
 pub use setting::Setting;
 pub use showing::show;
 pub use skeletons::{Skeleton, Skeletons, Words};
 pub use sketch::sketch_of;
-pub use stand::{Progress, pass};
+pub use stand::{Progress, pass, takes, written};
 pub use trees::{Binds, Places, Tree, Trees};
-pub use variables::{own_values, push_own_features, written_variables};
+pub use variables::{
+    is_instance, own_values, push_own_features, rule_own_features, variables_of, written_variables,
+};

@@ -38,8 +38,8 @@ impl<'a> Model for Setting<'a> {
 }
 
 impl Setting<'_> {
-    // The place after a token that is the terminal.
-    pub(crate) fn after_terminal(&self, terminal: u16, place: u16) -> Option<u16>
+    /// The place after a token that is the terminal.
+    pub fn after_terminal(&self, terminal: u16, place: u16) -> Option<u16>
         ensures { result ≡ (if settings.matches_terminal self.now terminal place then Some (place + 1) else None) }
     {
         if (place as usize) < self.tokens.len() && self.matches_terminal(terminal, place as usize) {
@@ -49,8 +49,8 @@ impl Setting<'_> {
         }
     }
 
-    // The place after a token that reads as the category.
-    pub(crate) fn after_preterminal(&self, asked: &Test, place: u16) -> Option<u16>
+    /// The place after a token that reads as the category.
+    pub fn after_preterminal(&self, asked: &Test, place: u16) -> Option<u16>
         ensures { result ≡ (if settings.matches_preterminal self.now asked.now place then Some (place + 1) else None) }
     {
         if (place as usize) < self.readings.len()
@@ -92,8 +92,8 @@ impl Setting<'_> {
         some_have_word(self.readings, word)
     }
 
-    // Whether the value is one of those that are declared.
-    pub(crate) fn is_value(&self, declared: &Declared, value: Value) -> bool
+    /// Whether the value is one of those that are declared.
+    pub fn is_value(&self, declared: &Declared, value: Value) -> bool
         ensures { result ≡ settings.is_value self.now declared.now value }
     {
         match declared {
@@ -113,8 +113,8 @@ impl Setting<'_> {
         }
     }
 
-    // Whether the value is one of the feature with the number.
-    pub(crate) fn fits_feature(&self, feature: u16, value: Value) -> bool
+    /// Whether the value is one of the feature with the number.
+    pub fn fits_feature(&self, feature: u16, value: Value) -> bool
         ensures { result ≡ settings.fits_feature self.now feature value }
     {
         match self.grammar.features().as_slice().get(feature as usize) {

@@ -245,8 +245,8 @@ fn fill<'a>(
     }
 }
 
-// The term that is written for the feature.
-fn written(feats: &[(u16, Term)], feature: u16) -> Option<Term>
+/// The term that is written for the feature.
+pub fn written(feats: &[(u16, Term)], feature: u16) -> Option<Term>
     ensures { result ≡ looked_up feats.now feature }
 {
     for (other, term) in feats {
@@ -280,8 +280,8 @@ fn fill_all<'a>(
     (vals, left)
 }
 
-// Whether the marked variables of the pattern have the values of the referent.
-fn takes(values: &[(u8, Value)], referent: &Ground, pattern: Option<&Pattern>) -> bool
+/// Whether the marked variables of the pattern have the values of the referent.
+pub fn takes(values: &[(u8, Value)], referent: &Ground, pattern: Option<&Pattern>) -> bool
     ensures { result ≡ derives.takes values.now referent.now (option_map (λ p. p.now) pattern.entry) }
 {
     match pattern {

@@ -14,8 +14,8 @@ use codeco_terms::{Category, Element, Grammar, Pattern, Rule, Term, Value};
 use std::alloc::Global;
 use wiki_base::Memory;
 
-// Whether the values are an instance of the rule at the setting.
-pub(crate) fn is_instance(
+/// Whether the values are an instance of the rule at the setting.
+pub fn is_instance(
     alloc: Global,
     setting: &Setting<'_>,
     rule: &Rule,
@@ -80,9 +80,9 @@ fn after(values: &[(u8, Value)], count: usize) -> &[(u8, Value)]
     }
 }
 
-// The numbers of the written variables, and of so many own ones.
+/// The numbers of the written variables, and of so many own ones.
 #[tactic(auto, using(crate::proofs::InstanceLemmas::range_more))]
-fn variables_of(alloc: Global, rule: &Rule, own: usize) -> Result<Vec<usize>, Memory>
+pub fn variables_of(alloc: Global, rule: &Rule, own: usize) -> Result<Vec<usize>, Memory>
     ensures { IfOk result
         (λ numbers. numbers.items ≡ instances.written_variables rule.now ++ range_with_len 16 own) }
 {
@@ -140,8 +140,12 @@ fn have_numbers(values: &[(u8, Value)], numbers: &[usize]) -> bool
     values.len() == numbers.len()
 }
 
-// The features of the rule's own variables.
-fn rule_own_features(alloc: Global, grammar: &Grammar, body: &[Element]) -> Result<Vec<u16>, Memory>
+/// The features of the rule's own variables.
+pub fn rule_own_features(
+    alloc: Global,
+    grammar: &Grammar,
+    body: &[Element],
+) -> Result<Vec<u16>, Memory>
     ensures { IfOk result
         (λ own. own.items ≡ flat_map (instances.own_features grammar.now) body.now) }
 {

@@ -43,7 +43,8 @@ fn is_within(label: &[Class], other: &[Class]) -> bool
     true
 }
 
-pub(crate) fn same_set(label: &[Class], other: &[Class]) -> bool
+/// Whether two labels have the same set of classes, in whatever order and however often. It takes no memory.
+pub fn same_set(label: &[Class], other: &[Class]) -> bool
     ensures { result ≡ same_classes (map concept_of label.now) (map concept_of other.now) }
 {
     is_within(label, other) && is_within(other, label)

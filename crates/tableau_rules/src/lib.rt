@@ -21,6 +21,7 @@ pub use branch::{Branch, Edge, Node};
 pub use changes::{apply, choices};
 pub use clashes::{clash, is_clash};
 pub use finder::{applicable, applies};
+pub use label::same_set;
 pub use names::{node_of, root_count};
 pub use neighbour::{is_neighbour, makes_neighbour};
 pub use starting::start;

@@ -7,6 +7,7 @@ pub mod Keeps
 pub mod Labels
 pub mod MadeLemmas
 pub mod Passed
+pub mod PlainLemmas
 pub mod RollMeaning
 pub mod RollTruth
 pub mod RollingLemmas

@@ -1,6 +1,7 @@
 // The mapping of statements and questions.
-ghost use Rattle.std.specs.Prelude.{◌≡◌, IfOk};
+ghost use Rattle.std.specs.Prelude.{◌≡◌, true, IfOk};
 ghost use Rattle.logic_terms.specs.Shown.{structure_of};
+ghost use Rattle.logic_terms.specs.Plain.{is_plain, are_plain};
 ghost use Rattle.ace_to_owl.specs.Answers.{mapped, asked};
 ghost use Rattle.ace_to_owl.specs.Mapping.{axioms_stated, class_asked};
 ghost use Rattle.ace_to_owl.specs.Truths.{SameTruth, SameReading, AnswersTruly, AnswersByReading};
@@ -27,11 +28,13 @@ pub enum Asked {
 }
 
 /// Maps a statement's structure to axioms: those of the mapping, or its first cause. Where each referent is introduced
-/// once, the structure is true exactly where all the axioms are, in every finite interpretation.
+/// once, the structure is true exactly where all the axioms are, in every finite interpretation. Each class in them is in
+/// negation normal form, with at least two members in each `And` and `Or`.
 pub fn map_statement(alloc: Global, drs: &Drs) -> Result<Mapped, Memory>
     ensures exact { IfOk result (λ answer. mapped answer ≡ axioms_stated (structure_of drs.now)) }
     ensures truth { IfOk result (λ answer. IfOk (mapped answer) (SameTruth (structure_of drs.now))) }
     ensures reading { IfOk result (λ answer. IfOk (mapped answer) (SameReading (structure_of drs.now))) }
+    ensures plain { IfOk result (λ answer. IfOk (mapped answer) (λ claims. are_plain claims ≡ true)) }
 {
     match axioms_stated(alloc, drs) {
         Ok(axioms) => Ok(Mapped::Axioms(axioms)),
@@ -42,11 +45,12 @@ pub fn map_statement(alloc: Global, drs: &Drs) -> Result<Mapped, Memory>
 
 /// Maps a question's structure, which asks for one of its referents, to a class: that of the mapping, or its first cause.
 /// Where each referent is introduced once, an element is in the class exactly where the structure without that referent is
-/// true with the element for it.
+/// true with the element for it. The class is in negation normal form, with at least two members in each `And` and `Or`.
 pub fn map_question(alloc: Global, drs: &Drs, referent: u16) -> Result<Asked, Memory>
     ensures exact { IfOk result (λ answer. asked answer ≡ class_asked (structure_of drs.now) referent) }
     ensures truth { IfOk result (λ answer. IfOk (asked answer) (AnswersTruly (structure_of drs.now) referent)) }
     ensures reading { IfOk result (λ answer. IfOk (asked answer) (AnswersByReading (structure_of drs.now) referent)) }
+    ensures plain { IfOk result (λ answer. IfOk (asked answer) (λ class. is_plain class ≡ true)) }
 {
     match class_asked(alloc, drs, referent) {
         Ok(class) => Ok(Asked::Class(class)),

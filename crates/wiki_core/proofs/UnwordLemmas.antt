@@ -8,6 +8,7 @@ use Rattle.std.proofs.lemmas.List.Elements.{All-filter}
 use Rattle.std.proofs.lemmas.List.Folds.{find-append}
 use Rattle.std.proofs.lemmas.Option.{none-some, slice_get_within, get_or_from_slice_get, slice_get-map}
 use Rattle.wiki_base.specs.declared.numbers.WordId.{WordId}
+use Rattle.wiki_base.specs.declared.numbers.Place.{Place}
 use Rattle.lexicon.specs.declared.kinds.Forms.{Forms}
 use Rattle.lexicon.specs.declared.words.Word.{Word}
 use Rattle.lexicon.specs.Words.{Listed, has_number, forms_of, others, without_word}
@@ -17,8 +18,8 @@ use Rattle.articles.specs.declared.article.Article.{Article}
 use Rattle.articles.specs.Articles.{is_of, article_of, without_article, IsEmptyArticle}
 use Rattle.wiki_core.specs.State.{State, IsSound}
 use Rattle.wiki_core.specs.Refusing.{uses_word}
-use Rattle.wiki_core.specs.Places.{Placed, placed_from, placed_in, all_placed}
-use Rattle.wiki_core.proofs.UseLemmas.{told_place, lives-article, empty-unused}
+use Rattle.wiki_core.specs.Places.{Placed, placed_from, placed_in, all_placed, told_place}
+use Rattle.wiki_core.proofs.UseLemmas.{lives-article, empty-unused}
 
 -- something that is there
 pub some_of : {X : Type 0} (o : Option X) → IsSome o → (x : X) × (o ≡ Some x)
@@ -82,13 +83,6 @@ module _ (state : State) (sound : IsSound state) (test : Placed → Bool) (found
   at_last : FoundAt state.articles found
   at_last = found-at test state.articles found is
 
-  -- its place is a small number
-  pub place-fits : found.place < 4294967296
-  place-fits =
-      let few = sound.few at_last.at_place at_last.article (slice_get_within state.articles at_last.at_place at_last.article at_last.here) in
-      let bound : length at_last.article.sentences ≤ MOST_SENTENCES = subst (λ (a : Article). length a.sentences ≤ MOST_SENTENCES) (get_or_from_slice_get state.articles at_last.at_place at_last.article at_last.article at_last.here) few in
-      omega (arith, bound, at_last.place)
-
   -- the word of its article lives
   pub word-lives : IsSome (forms_of state.words.live found.word)
   word-lives =
@@ -96,20 +90,14 @@ module _ (state : State) (sound : IsSound state) (test : Placed → Bool) (found
       subst (λ (w : WordId). IsSome (forms_of state.words.live w)) (sym at_last.word) (lives-at state.words.live at_last.article.word at_last.at_place here)
 
 -- what is told of a place that is found
-pub record Told (o : Option Placed) (article : WordId) (place : ℕ) : Type 0 where
+pub record Told (o : Option Placed) (place : Place) : Type 0 where
   pub found : Placed
   pub is : o ≡ Some found
-  pub word : found.word ≡ article
-  pub at_place : found.place ≡ place
+  pub told : told_place found ≡ place
 
-pub told-found : (o : Option Placed) (article : WordId) (place : ℕ) → option_map told_place o ≡ Some (article, place) → Told o article place
-told-found None article place is = absurd (none-some (article, place) is)
-told-found (Some found) article place is = record {
-  found = found;
-  is = refl;
-  word = ap (λ (o : Option (WordId × ℕ)). option_map_or (λ (t : WordId × ℕ). t.0) o article) is;
-  at_place = ap (λ (o : Option (WordId × ℕ)). option_map_or (λ (t : WordId × ℕ). t.1) o place) is;
-}
+pub told-found : (o : Option Placed) (place : Place) → option_map told_place o ≡ Some place → Told o place
+told-found None place is = absurd (none-some place is)
+told-found (Some found) place is = record { found = found; is = refl; told = ap (λ (o : Option Place). option_map_or (λ (t : Place). t) o place) is }
 
 -- nothing is told where nothing is found
 pub none-found : (o : Option Placed) → option_map told_place o ≡ None → o ≡ None

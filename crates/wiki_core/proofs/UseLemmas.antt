@@ -8,6 +8,7 @@ use Rattle.std.specs.Option.{option_map_or, option_or}
 use Rattle.std.proofs.lemmas.List.{drop_more}
 use Rattle.std.proofs.lemmas.List.Folds.{find-append}
 use Rattle.wiki_base.specs.declared.numbers.WordId.{WordId}
+use Rattle.wiki_base.specs.declared.numbers.Place.{Place}
 use Rattle.lexicon.specs.declared.kinds.Forms.{Forms}
 use Rattle.lexicon.specs.declared.words.Word.{Word}
 use Rattle.lexicon.specs.Words.{is_among, has_number, forms_of}
@@ -15,21 +16,21 @@ use Rattle.articles.specs.declared.sentences.Sentence.{Sentence}
 use Rattle.articles.specs.declared.article.Article.{Article}
 use Rattle.articles.specs.Articles.{is_of, article_of}
 use Rattle.wiki_core.specs.Refusing.{uses_word}
-use Rattle.wiki_core.specs.Places.{Placed, placed_from, placed_in, all_placed}
+use Rattle.wiki_core.specs.Places.{Placed, placed_from, placed_in, all_placed, told_place}
 
--- a place in an article, as it is told
-abbrev pub told_place : Placed → WordId × ℕ
-told_place placed = (placed.word, placed.place)
+-- a place in the article of a word
+abbrev pub place_in : WordId → ℕ → Place
+place_in word p = record { article = word; at = p }
 
 -- what is found in an article is told by its word
 pub found-word : (test : Placed → Bool) (word : WordId) (place : ℕ) (sentences : List Sentence)
-    → option_map told_place (find test (placed_from word place sentences)) ≡ option_map (λ (p : ℕ). (word, p)) (option_map (λ (placed : Placed). placed.place) (find test (placed_from word place sentences)))
+    → option_map told_place (find test (placed_from word place sentences)) ≡ option_map (λ (p : ℕ). place_in word p) (option_map (λ (placed : Placed). placed.place) (find test (placed_from word place sentences)))
 found-word test word place [] = refl
 found-word test word place (sentence ∷ sentences) = by_test (test (record { word = word; place = place; sentence = sentence })) (found-word test word (place + 1) sentences)
   where
-    by_test : (b : Bool) → option_map told_place (find test (placed_from word (place + 1) sentences)) ≡ option_map (λ (p : ℕ). (word, p)) (option_map (λ (placed : Placed). placed.place) (find test (placed_from word (place + 1) sentences)))
+    by_test : (b : Bool) → option_map told_place (find test (placed_from word (place + 1) sentences)) ≡ option_map (λ (p : ℕ). place_in word p) (option_map (λ (placed : Placed). placed.place) (find test (placed_from word (place + 1) sentences)))
         → option_map told_place (cond b (Some (record { word = word; place = place; sentence = sentence })) (find test (placed_from word (place + 1) sentences)))
-        ≡ option_map (λ (p : ℕ). (word, p)) (option_map (λ (placed : Placed). placed.place) (cond b (Some (record { word = word; place = place; sentence = sentence })) (find test (placed_from word (place + 1) sentences))))
+        ≡ option_map (λ (p : ℕ). place_in word p) (option_map (λ (placed : Placed). placed.place) (cond b (Some (record { word = word; place = place; sentence = sentence })) (find test (placed_from word (place + 1) sentences))))
     by_test true rest = refl
     by_test false rest = rest
 
@@ -58,7 +59,7 @@ find-past test word sentences i sentence at fails =
     ∙ ap (λ (b : Bool). cond b (Some (record { word = word; place = i; sentence = sentence })) (find test (placed_from word (i + 1) (drop (i + 1) sentences)))) fails
 
 -- the first of two that may be there, where the first is
-pub first-found : (o q : Option Placed) (told : WordId × ℕ) → option_map told_place o ≡ Some told → option_map told_place (option_or o q) ≡ Some told
+pub first-found : (o q : Option Placed) (told : Place) → option_map told_place o ≡ Some told → option_map told_place (option_or o q) ≡ Some told
 first-found None q told is = absurd (none-some told is)
 first-found (Some x) q told is = is
 

@@ -1,5 +1,5 @@
 -- What a wiki knows, which verdicts that allows, and which names answer a question.
-use Rattle.std.specs.Prelude.{◌≡◌, ℕ, ◌<◌, ◌++◌, Bool, true, false, List, [], ◌∷◌, map, filter, All, AllPairs, Contains, IsTrue, MatchBool, Option}
+use Rattle.std.specs.Prelude.{◌≡◌, ℕ, ◌<◌, ◌++◌, Bool, true, false, List, [], ◌∷◌, map, filter, All, AllPairs, Contains, MatchBool}
 use Rattle.std.specs.List.{flat_map}
 use Rattle.wiki_base.specs.declared.numbers.WordId.{WordId}
 use Rattle.codeco_terms.specs.GrammarParts.{GrammarParts}
@@ -8,9 +8,10 @@ use Rattle.lexicon.specs.declared.kinds.Kind.TheVariants as kinds
 use Rattle.lexicon.specs.Words.{Listed}
 use Rattle.logic_terms.specs.Concept.{Concept, Claim, ClassAssertion}
 use Rattle.logic_terms.specs.Complement.{complement}
-use Rattle.logic_terms.specs.Interpretation.{Interpretation, is_interpretation, element_of}
-use Rattle.logic_terms.specs.Reading.{IsModel, IsIn}
+use Rattle.logic_terms.specs.Interpretation.{Interpretation, element_of}
+use Rattle.logic_terms.specs.Reading.{IsIn}
 use Rattle.logic_terms.specs.Theory.{Theory}
+use Rattle.reasoner.specs.Verdicts.{IsFiniteModel, HaveNoModel}
 use Rattle.absorb.specs.Absorbed.{IsAbsorbed}
 use Rattle.tableau_rules.specs.Searching.{IsLonger}
 use Rattle.wiki_talk.specs.declared.statuses.Status.{Status}
@@ -58,14 +59,9 @@ live_names words = map (λ word. word.id) (filter (λ word. is_name word.forms.k
 
 -- ---- verdicts
 
--- a finite interpretation is a model of the axioms
-pub record IsFiniteModel (claims : List Claim) (i : Interpretation) : Type 0 where
-  pub is_one : IsTrue (is_interpretation i)
-  pub is_model : IsModel i claims
-
 -- the axioms have a finite model
 abbrev pub HaveModel : List Claim → Type 0
-HaveModel claims = (i : Interpretation) × IsFiniteModel claims i
+HaveModel claims = (i : Interpretation) × IsFiniteModel i claims
 
 -- the systematic search over the axioms, absorbed with these names, has not ended after so many rule applications
 pub record IsCutOff (claims : List Claim) (names : List WordId) (budget : ℕ) : Type 0 where
@@ -77,7 +73,7 @@ pub record IsCutOff (claims : List Claim) (names : List WordId) (budget : ℕ) :
 -- model; it is in contradiction only where they have none; and it waits for budget only where the search was cut off.
 abbrev pub IsAllowed : List Claim → List WordId → ℕ → Status → Type 0
 IsAllowed claims names budget Asserted = HaveModel claims
-IsAllowed claims names budget RedContradiction = ¬ HaveModel claims
+IsAllowed claims names budget RedContradiction = HaveNoModel claims
 IsAllowed claims names budget RedBudget = IsCutOff claims names budget
 IsAllowed claims names budget other = ⊥
 
@@ -106,12 +102,12 @@ pub record GetStatus (asserted : State) (tokens : List (List ℕ)) (status : Sta
 
 -- the element of the name is in the class in each finite model of the axioms
 abbrev pub IsAlwaysIn : List Claim → Concept → WordId → Type 0
-IsAlwaysIn claims concept name = (i : Interpretation) → IsFiniteModel claims i → IsIn i concept (element_of i name)
+IsAlwaysIn claims concept name = (i : Interpretation) → IsFiniteModel i claims → IsIn i concept (element_of i name)
 
 -- the element of the name is outside of the class in some finite model of the axioms
 pub record IsOnceOutside (claims : List Claim) (concept : Concept) (name : WordId) : Type 0 where
   pub model : Interpretation
-  pub is_model : IsFiniteModel claims model
+  pub is_model : IsFiniteModel model claims
   pub is_outside : ¬ IsIn model concept (element_of model name)
 
 -- some of the names, in order of number, each once

@@ -1,4 +1,5 @@
 pub mod Faults
+pub mod Found
 pub mod Knowledge
 pub mod Meanings
 pub mod Parsing

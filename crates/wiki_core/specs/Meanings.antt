@@ -10,6 +10,8 @@ use Rattle.logic_terms.specs.Concept.{Concept, Claim}
 use Rattle.logic_terms.specs.Structure.{Structure}
 use Rattle.logic_terms.specs.Free.{free_in}
 use Rattle.ace_to_owl.specs.Mapping.{axioms_stated, class_asked}
+use Rattle.drs_build.specs.Nodes.{meaning_of}
+use Rattle.drs_build.specs.Built.{is_question}
 
 -- A statement states axioms, and a question asks for a class; or it is outside of what is mapped, for a cause.
 pub data Meaning : Type 0 where
@@ -40,11 +42,9 @@ question_meaning says asked (Some referent) = asking_outside Free
 
 -- the meaning of a skeleton, by its structure
 abbrev pub skeleton_meaning : GrammarParts → Skeleton → Meaning
--- It waits for the crate `drs_build`, with its `meaning_of` and `is_question`:
---   skeleton_meaning g sk =
---       if is_question g sk then question_meaning (meaning_of g sk).says (meaning_of g sk).referent (free_in [] (meaning_of g sk).says)
---       else statement_meaning (meaning_of g sk).says (free_in [] (meaning_of g sk).says)
-skeleton_meaning g sk = ?
+skeleton_meaning g sk =
+    if is_question g sk then question_meaning (meaning_of g sk).says (meaning_of g sk).referent (free_in [] (meaning_of g sk).says)
+    else statement_meaning (meaning_of g sk).says (free_in [] (meaning_of g sk).says)
 
 -- the tokens have this meaning: that of their least skeleton
 pub record Means (g : GrammarParts) (words : Listed) (tokens : List (List ℕ)) (meaning : Meaning) : Type 0 where

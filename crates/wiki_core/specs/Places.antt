@@ -2,6 +2,7 @@
 use Rattle.std.specs.Prelude.{◌≡◌, ℕ, ◌+◌, List, [], ◌∷◌, take, slice_get, All, Option, Some, option_and_then}
 use Rattle.std.specs.List.{flat_map}
 use Rattle.wiki_base.specs.declared.numbers.WordId.{WordId}
+use Rattle.wiki_base.specs.declared.numbers.Place.{Place}
 use Rattle.lexicon.specs.Words.{owner}
 use Rattle.articles.specs.declared.sentences.Sentence.{Sentence}
 use Rattle.articles.specs.declared.article.Article.{Article}
@@ -38,6 +39,10 @@ placed_in article = placed_from article.word 0 article.sentences
 -- all sentences: articles in order of word number, sentences in order
 abbrev pub all_placed : List Article → List Placed
 all_placed articles = flat_map placed_in articles
+
+-- a place as it is told
+abbrev pub told_place : Placed → Place
+told_place placed = record { article = placed.word; at = placed.place }
 
 -- the first of these sentences that has the property
 pub record IsFirstPlaced (P : Placed → Type 0) (sentences : List Placed) (found : Placed) : Type 0 where

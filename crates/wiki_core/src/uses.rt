@@ -1,25 +1,28 @@
 // Which sentences need a word.
-ghost use Rattle.std.specs.Prelude.{◌≡◌, ◌==◌, ◌||◌, option_map, find};
+ghost use Rattle.std.specs.Prelude.{◌≡◌, ◌≤◌, ◌==◌, ◌||◌, All, length, option_map, find};
 ghost use Rattle.std.specs.List.{list_any};
 ghost use Rattle.lexicon.specs.Words.{is_among};
-ghost use Rattle.wiki_core.specs.Places.{placed_in, all_placed};
+ghost use Rattle.wiki_core.specs.Places.{placed_in, all_placed, told_place};
+ghost use Rattle.wiki_talk.specs.declared.limits.TheConstants.{MOST_SENTENCES};
 ghost use Rattle.wiki_core.specs.Refusing.{uses_word};
 
 use articles::{Article, Sentence};
 use lexicon::Forms;
-use wiki_base::WordId;
+use wiki_base::{Place, WordId};
 
-// The article and the place of the first sentence that needs the word with these forms.
-pub(crate) fn first_use(
-    articles: &[Article],
-    word: WordId,
-    forms: &Forms,
-) -> Option<(WordId, usize)>
-    ensures { result ≡ option_map (λ placed. (placed.word, placed.place)) (find (uses_word word forms.now) (all_placed articles.now)) }
+// The place of the first sentence that needs the word with these forms.
+pub(crate) fn first_use(articles: &[Article], word: WordId, forms: &Forms) -> Option<Place>
+    requires { All (λ article. length article.sentences ≤ MOST_SENTENCES) articles.now }
+    ensures { result ≡ option_map told_place (find (uses_word word forms.now) (all_placed articles.now)) }
 {
     for article in articles {
         match use_in(article, word, forms) {
-            Some(place) => return Some((article.word, place)),
+            Some(at) => {
+                return Some(Place {
+                    article: article.word,
+                    at,
+                });
+            }
             None => {}
         }
     }
@@ -27,12 +30,13 @@ pub(crate) fn first_use(
 }
 
 // The place of the first sentence of an article that needs the word.
-fn use_in(article: &Article, word: WordId, forms: &Forms) -> Option<usize>
+fn use_in(article: &Article, word: WordId, forms: &Forms) -> Option<u32>
+    requires { length article.now.sentences ≤ MOST_SENTENCES }
     ensures { result ≡ option_map (λ placed. placed.place) (find (uses_word word forms.now) (placed_in article.now)) }
 {
     for place in 0..article.sentences.len() {
         if needs(article, article.sentences.get(place), word, forms) {
-            return Some(place);
+            return Some(place as u32);
         }
     }
     None

@@ -17,7 +17,7 @@ use lexicon::{Forms, Kind, Lexicon};
 use lists::Copied;
 use std::alloc::Global;
 use std::marker::Model;
-use wiki_base::{Memory, Text8, Tokens, WordId};
+use wiki_base::{Memory, Place, Text8, Tokens, WordId};
 use wiki_talk::{Refusal, Reply, Request};
 
 /// A wiki. It is seen as its state: the grammar, the budget of a search, the live words and their articles.
@@ -50,7 +50,7 @@ impl Wiki {
     ghost use Rattle.wiki_core.specs.Step.{Step};
     ghost use Rattle.lexicon.specs.declared.kinds.Forms.{Forms as TheForms};
     ghost use Rattle.lexicon.specs.Words.{forms_of};
-    ghost use Rattle.wiki_core.specs.Places.{all_placed};
+    ghost use Rattle.wiki_core.specs.Places.{all_placed, told_place};
     ghost use Rattle.wiki_core.specs.Refusing.{uses_word, TellsPlace};
     ghost use Rattle.wiki_core.specs.Words.{word_with};
 
@@ -118,7 +118,7 @@ impl Wiki {
             return Ok(Reply::Refused(Refusal::NoWord { text: text.copy()? }));
         };
         match self.use_of(word) {
-            Some((article, at)) => Ok(Reply::Refused(self.in_use(article, at)?)),
+            Some(place) => Ok(Reply::Refused(self.in_use(place)?)),
             None => {
                 self.articles.end(word);
                 let _ = self.lexicon.remove(word);
@@ -128,9 +128,9 @@ impl Wiki {
     }
 
     // The first place that needs a live word.
-    fn use_of(&self, word: WordId) -> Option<(WordId, usize)>
+    fn use_of(&self, word: WordId) -> Option<Place>
         ensures { (forms : TheForms) → forms_of self.now.words.live word ≡ Some forms
-            → result ≡ option_map (λ placed. (placed.word, placed.place)) (find (uses_word word forms) (all_placed self.now.articles)) }
+            → result ≡ option_map told_place (find (uses_word word forms) (all_placed self.now.articles)) }
     {
         match self.lexicon.word(word) {
             Some(forms) => first_use(self.articles.as_slice(), word, forms),
@@ -139,15 +139,14 @@ impl Wiki {
     }
 
     // Tells a place that needs a word.
-    fn in_use(&self, article: WordId, at: usize) -> Result<Refusal, Memory>
-        requires fits { at < 2 ^ 32 }
-        requires lives { IsSome (forms_of self.now.words.live article) }
-        ensures { IfOk result (TellsPlace self.now (λ form place. Refusal.InUse form place) article at) }
+    fn in_use(&self, place: Place) -> Result<Refusal, Memory>
+        requires { IsSome (forms_of self.now.words.live place.article) }
+        ensures { IfOk result (TellsPlace self.now (λ form place. Refusal.InUse form place) place.article place.at) }
     {
-        match self.lexicon.word(article) {
+        match self.lexicon.word(place.article) {
             Some(forms) => Ok(Refusal::InUse {
                 article: told_text(self.alloc, forms.canonical())?,
-                at: at as u32,
+                at: place.at,
             }),
             None => unreachable!(),
         }

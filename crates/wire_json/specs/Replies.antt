@@ -5,6 +5,7 @@ use Rattle.wiki_talk.specs.declared.replies.Reply.{Reply}
 use Rattle.wiki_talk.specs.declared.replies.Reply.TheVariants as replies
 use Rattle.wiki_talk.specs.declared.refusals.Refusal.{Refusal}
 use Rattle.wiki_talk.specs.declared.refusals.Refusal.TheVariants.{NoWord, BadForm, Taken, Reserved, NoPlace, Full, NotSentence, InUse, Breaks, BadStatus}
+use Rattle.wiki_talk.specs.declared.replies.SentenceView.{SentenceView}
 use Rattle.wiki_talk.specs.declared.replies.Meant.{Meant}
 use Rattle.wiki_talk.specs.declared.replies.Meant.TheVariants as meanings
 use Rattle.wiki_talk.specs.declared.statuses.Status.{Status}
@@ -48,6 +49,13 @@ status_value name status = object (with_cause (cause_in status)
     (member (codes "done") (string name)
     (member (codes "status") (string (status_name status)) no_members)))
 
+-- an article
+abbrev pub read_value : ℕ → List SentenceView → Data
+read_value revision sentences = object
+    (member (codes "done") (string (codes "read"))
+    (member (codes "revision") (number (unsigned revision))
+    (member (codes "sentences") (array (sentences_items sentences)) no_members)))
+
 -- what a sentence means
 abbrev pub meant_value : Meant → Data
 meant_value (meanings.Axioms axioms) = object
@@ -79,10 +87,7 @@ reply_value (replies.Edit status) = status_value (codes "edit") status
 reply_value replies.Remove = done_value (codes "remove")
 reply_value (replies.Retract status) = status_value (codes "retract") status
 reply_value (replies.Reassert status) = status_value (codes "reassert") status
-reply_value (replies.Read form revision sentences) = object
-    (member (codes "done") (string (codes "read"))
-    (member (codes "revision") (number (unsigned revision))
-    (member (codes "sentences") (array (sentences_items sentences)) no_members)))
+reply_value (replies.Read form revision sentences) = read_value revision sentences
 reply_value (replies.Axioms meant) = meant_value meant
 reply_value (replies.Refused refusal) = refusal_value refusal
 

@@ -1,7 +1,7 @@
 // The lines of requests and replies.
-ghost use Rattle.std.specs.Prelude.{◌≡◌, ℕ, List, IfOk};
+ghost use Rattle.std.specs.Prelude.{◌≡◌, IfOk};
 ghost use Rattle.serde_json.specs.View.{view};
-ghost use Rattle.wire_json.specs.Replies.{reply_value, done_value, reply_line, bad_request_value, bad_request_line};
+ghost use Rattle.wire_json.specs.Replies.{reply_value, done_value, read_value, reply_line, bad_request_value, bad_request_line};
 ghost use Rattle.wire_json.specs.Requests.{request_value, request_line, place_value};
 
 use crate::line::line_of;
@@ -98,7 +98,7 @@ fn read_reply_value(
     revision: u32,
     sentences: &[SentenceView],
 ) -> Result<Value, Memory>
-    ensures { IfOk result (λ value. (form : List ℕ) → view value ≡ reply_value (Reply.Read form revision sentences.now)) }
+    ensures { IfOk result (λ value. view value ≡ read_value revision sentences.now) }
 {
     let sentences = sentences_value(alloc, sentences)?;
     Ok(json!(in alloc; {"done": "read", "revision": revision, "sentences": sentences})?)

@@ -1,3 +1,4 @@
+pub mod AddLemmas
 pub mod CauseLemmas
 pub mod FullLemmas
 pub mod MenuLemmas

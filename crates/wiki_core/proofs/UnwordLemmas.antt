@@ -1,7 +1,7 @@
 -- What taking a word out asks of the sentences and articles, and what it leaves.
-use Rattle.std.proofs.Common.{◌≡◌, ℕ, zero, suc, ◌+◌, ◌<◌, ◌≤◌, ◌==◌, Bool, true, false, not, cond, List, [], ◌∷◌, ◌++◌, length, map, filter, find, All, Option, Some, None, IsSome, refl, sym, ap, subst, ◌∙◌, arith, option_map}
+use Rattle.std.proofs.Common.{◌≡◌, ℕ, zero, suc, ◌+◌, ◌<◌, ◌≤◌, ◌==◌, Bool, true, false, not, cond, List, [], ◌∷◌, ◌++◌, length, map, filter, find, All, Option, Some, None, IsSome, is_some, Result, Ok, Err, OnOk, IfErr, refl, sym, ap, subst, ◌∙◌, arith, option_map, inl, inr}
 use Rattle.std.specs.List.{slice_get}
-use Rattle.std.specs.Option.{option_map_or, option_or, IsSomeAnd}
+use Rattle.std.specs.Option.{option_map_or, option_or, option_and_then, IsSomeAnd}
 use Rattle.std.proofs.lemmas.Bool.{false≢true}
 use Rattle.std.proofs.lemmas.Bool.Decides.{nat_tests}
 use Rattle.std.proofs.lemmas.List.Elements.{All-filter}
@@ -11,13 +11,18 @@ use Rattle.wiki_base.specs.declared.numbers.WordId.{WordId}
 use Rattle.wiki_base.specs.declared.numbers.Place.{Place}
 use Rattle.lexicon.specs.declared.kinds.Forms.{Forms}
 use Rattle.lexicon.specs.declared.words.Word.{Word}
-use Rattle.lexicon.specs.Words.{Listed, has_number, forms_of, others, without_word}
+use Rattle.lexicon.specs.Words.{Listed, owner, has_number, forms_of, others, without_word}
+use Rattle.lexicon.specs.declared.words.LexFault.{LexFault}
+use Rattle.lexicon.specs.declared.words.LexFault.TheVariants.{NoWord}
+use Rattle.wiki_talk.specs.declared.refusals.Refusal.{Refusal}
+use Rattle.wiki_talk.specs.declared.refusals.Refusal.TheVariants.{InUse}
 use Rattle.wiki_talk.specs.declared.limits.TheConstants.{MOST_SENTENCES}
 use Rattle.articles.specs.declared.sentences.Sentence.{Sentence}
 use Rattle.articles.specs.declared.article.Article.{Article}
 use Rattle.articles.specs.Articles.{is_of, article_of, without_article, IsEmptyArticle}
 use Rattle.wiki_core.specs.State.{State, IsSound}
-use Rattle.wiki_core.specs.Refusing.{uses_word}
+use Rattle.wiki_core.specs.Words.{word_with}
+use Rattle.wiki_core.specs.Refusing.{uses_word, FirstOf, NamesNoWord, IsInUse, TellsPlace}
 use Rattle.wiki_core.specs.Places.{Placed, placed_from, placed_in, all_placed, told_place}
 use Rattle.wiki_core.proofs.UseLemmas.{lives-article, empty-unused}
 
@@ -134,3 +139,23 @@ sound-without state sound word = record {
   articles = numbers-without (λ (a : Article). a.word) word state.articles ∙ ap (filter (λ (w : WordId). not (w.0 == word.0))) sound.articles ∙ sym (numbers-without (λ (w : Word). w.id) word state.words.live);
   few = All-filter (λ (a : Article). not (is_of word a)) (λ (a : Article). length a.sentences ≤ MOST_SENTENCES) state.articles sound.few;
 }
+
+-- a word that has the form lives
+names-word : (state : State) (text : List ℕ) (word : WordId) (forms : Forms) → owner state.words.live text ≡ Some word → forms_of state.words.live word ≡ Some forms
+    → word_with state.words text ≡ Some forms
+names-word state text word forms named of_word = ap (option_and_then (forms_of state.words.live)) named ∙ of_word
+
+-- a word that a sentence needs is refused
+pub unword-refuses : (state : State) (text : List ℕ) (word : WordId) (forms : Forms) → owner state.words.live text ≡ Some word → forms_of state.words.live word ≡ Some forms
+    → (found : Placed) → find (uses_word word forms) (all_placed state.articles) ≡ Some found → (refusal : Refusal) → TellsPlace state (λ form place. InUse form place) found.word found.place refusal
+    → FirstOf (NamesNoWord state text ∷ IsInUse state text ∷ []) refusal
+unword-refuses state text word forms named of_word found is refusal told =
+    inr (
+      λ other none. none-some forms (sym none.none ∙ names-word state text word forms named of_word),
+      inl (record { word = word; named = named; forms = forms; of_word = of_word; first = found; uses = is; told = told }),
+    )
+
+-- taking out a word that lives is no fault
+pub removed-there : {P : Type 0} (result : Result (Unit {0}) LexFault) (word : WordId) (forms : Option Forms) → OnOk result P → IfErr result (λ fault. (fault ≡ NoWord word) × (forms ≡ None)) → IsSome forms → P
+removed-there (Ok u) word forms removed refused lives = removed
+removed-there (Err fault) word forms removed refused lives = absurd (false≢true (sym (ap is_some refused.1) ∙ lives))

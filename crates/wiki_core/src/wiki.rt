@@ -1,5 +1,5 @@
 // The wiki and its step.
-ghost use Rattle.std.specs.Prelude.{◌≡◌, ◌≤◌, ◌<◌, ◌^◌, ℕ, List, length, find, IsTrue, IsSome, IfOk, OnErr, Some, option_copied, option_map};
+ghost use Rattle.std.specs.Prelude.{◌≡◌, ◌≤◌, ◌<◌, ◌+◌, ℕ, List, length, find, All, IsTrue, IsSome, IfOk, IfSome, IfNone, OnErr, Some, option_copied, option_map};
 ghost use Rattle.wiki_base.specs.declared.tokens.TheConstants.{MOST_TOKENS};
 ghost use Rattle.lexicon.specs.declared.words.TheConstants.{LAST_NUMBER};
 ghost use Rattle.wiki_talk.specs.declared.refusals.Refusal.{Refusal as TheRefusal};
@@ -13,7 +13,7 @@ use crate::words::add_word;
 use articles::Articles;
 use codeco_checked::CheckedGrammar;
 use derivations::{Cut, cut, plain_least};
-use lexicon::{Forms, Kind, Lexicon};
+use lexicon::{Forms, Kind, Lexicon, MOST_WORDS};
 use lists::Copied;
 use std::alloc::Global;
 use std::marker::Model;
@@ -92,7 +92,7 @@ impl Wiki {
         ensures step { IfOk result (λ reply. Step self.old (Request.Word kind forms.now) reply self.new) }
         ensures memory { OnErr result (self.new ≡ self.old) }
     {
-        let Some(number) = self.last.checked_add(1) else {
+        let Some(number) = self.next_number() else {
             return refuse_word(self.alloc, &mut self.lexicon, kind, forms);
         };
         let word = WordId(number);
@@ -107,6 +107,15 @@ impl Wiki {
                 refused(fault)
             }
         }
+    }
+
+    // The number that the next word gets; none where all are given. It is above those of all articles.
+    fn next_number(&self) -> Option<u32>
+        ensures next { IfSome result (λ next. (next ≡ self.now.words.last + 1) × All (λ article. article.word.0 < next) self.now.articles) }
+        ensures none { IfNone result (self.now.words.last ≡ LAST_NUMBER) }
+    {
+        prove!(self.lexicon.len() <= MOST_WORDS);
+        self.last.checked_add(1)
     }
 
     // Takes a word out, with its empty article.

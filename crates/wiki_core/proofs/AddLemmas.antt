@@ -1,7 +1,7 @@
 -- What adding a word with its article asks, and what it leaves.
-use Rattle.std.proofs.Common.{◌≡◌, ℕ, zero, suc, ◌+◌, ◌<◌, ◌≤◌, ◌==◌, Bool, true, false, not, cond, List, [], ◌∷◌, ◌++◌, length, map, filter, find, get_or, All, Option, Some, None, Result, Ok, Err, OnErr, IfOk, refl, sym, ap, subst, ◌∙◌, arith, option_map, unwrap_or}
+use Rattle.std.proofs.Common.{◌≡◌, ℕ, zero, suc, ◌+◌, ◌<◌, ◌≤◌, ◌==◌, Bool, true, false, not, cond, List, [], ◌∷◌, ◌++◌, length, map, filter, find, get_or, All, Option, Some, None, Result, Ok, Err, OnErr, IfOk, IfSome, refl, sym, ap, subst, ◌∙◌, arith, option_map, unwrap_or}
 use Rattle.std.specs.List.{slice_get}
-use Rattle.std.specs.Option.{option_or, IsSomeAnd}
+use Rattle.std.specs.Option.{IsSomeAnd, SomeIff}
 use Rattle.std.proofs.lemmas.Bool.{false≢true}
 use Rattle.std.proofs.lemmas.Bool.Decides.{nat_tests}
 use Rattle.std.proofs.lemmas.Option.{none-some, slice_get-get_or, get_or_from_slice_get, slice_get_within, slice_get-map}
@@ -91,3 +91,11 @@ refused-step (Err fault) other old new kind texts told cause same = tt
 pub kept-on-error : {T E : Type 0} {P : Type 0} (result : Result T E) → P → OnErr result P
 kept-on-error (Ok value) same = tt
 kept-on-error (Err fault) same = same
+
+-- the number after the last one given, where there is one, is above those of all articles
+pub next-is : (state : State) → IsSound state → IsLexicon state.words → (last : ℕ) → last ≡ state.words.last → (o : Option ℕ) → SomeIff o (last + 1 < 4294967296) (last + 1)
+    → IfSome o (λ next. (next ≡ state.words.last + 1) × All (λ article. article.word.0 < next) state.articles)
+next-is state sound lexicon last same None none = tt
+next-is state sound lexicon last same (Some next) some =
+    let is : next ≡ state.words.last + 1 = some.1 ∙ ap (λ (n : ℕ). n + 1) same in
+    (is, subst (λ (n : ℕ). All (λ article. article.word.0 < n) state.articles) (sym is) (articles-below state sound lexicon))

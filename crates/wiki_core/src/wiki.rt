@@ -188,6 +188,7 @@ impl Wiki {
             words: told_words(self.alloc, &self.lexicon)?,
         })
     }
+
     // Tells the code of a text.
     fn parse(&self, text: &Text8) -> Result<Reply, Memory>
         ensures { IfOk result (λ reply. Step self.now (Request.Parse text.now) reply self.now) }

@@ -44,6 +44,5 @@ returns-in_ok-in_use-in-Some-use_of-clause-step c =
     let named : owner state.words.live c.args.text.now ≡ Some word =
     ap (owner state.words.live) (sym c.as_str.ensures.value) ∙ ap (λ (s : State). owner s.words.live c.as_str.result.now) (sym c.self.view_is) ∙ sym c.find.ensures.owner ∙ c.in-Some.is in
     let refusal = c.in_ok-in_use-in-Some-use_of.field-0 in
-    let here = subst (λ (s : State). TellsPlace s (λ form place. InUse form place) c.in-Some-use_of.place.article c.in-Some-use_of.place.at refusal) c.self.view_is c.in_ok-in_use-in-Some-use_of.ensures in
-    let place = subst (λ (p : Place). TellsPlace state (λ form place. InUse form place) p.article p.at refusal) (sym told.told) here in
-    (unword-refuses state c.args.text.now word forms.0 named forms.1 told.found told.is refusal place, c.self.view_is)
+    let place = subst (λ (p : Place). TellsPlace state (λ form place. InUse form place) p.article p.at refusal) (sym told.told) c.in_ok-in_use-in-Some-use_of.ensures in
+    (unword-refuses state c.args.text.now word forms.0 named forms.1 told.found told.is refusal place, refl)

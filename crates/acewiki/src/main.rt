@@ -20,11 +20,5 @@ fn main(rt: HostRuntime) -> ExitCode {
     let mut output = WriteSink::new(rt.stdout());
     let mut errors = WriteSink::new(rt.stderr());
     let line = ProcessLine::new(&rt);
-    ExitCode::from(program(
-        rt.alloc(),
-        &line,
-        &mut input,
-        &mut output,
-        &mut errors,
-    ))
+    ExitCode::from(program(rt.alloc(), &line, &mut input, &mut output, &mut errors))
 }

@@ -1,5 +1,5 @@
 // The words of the command line.
-ghost use Rattle.std.specs.Prelude.{◌≡◌, ℕ, List, Option, IfOk, IfSome, slice_get};
+ghost use Rattle.std.specs.Prelude.{◌≡◌, ℕ, List, Option, None, IfOk, IfSome, slice_get};
 
 use std::alloc::Global;
 use std::env::{Env, FillError};
@@ -30,6 +30,7 @@ pub fn words<C: CommandLine>(alloc: Global, line: &C) -> Result<Vec<Arg>, Memory
 }
 
 /// The command line of the process: the edge that is trusted. It tells nothing.
+#[derive(Drop)]
 pub struct ProcessLine<'a, R> {
     env: &'a R,
 }

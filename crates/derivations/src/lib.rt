@@ -1,7 +1,9 @@
 //! Derivations: what `derivation_trees` has, and beside it the least skeleton and the menu of tokens, by listing trees.
 #![tactic(auto)]
 
+mod beginnings;
 mod choices;
+mod entries;
 mod least;
 mod listing;
 mod paths;

@@ -13,7 +13,7 @@ mod tests;
 
 pub use causes::cause_name;
 pub use kinds::{kind_name, kind_named};
-pub use limits::{Limit, MOST_SENTENCES};
+pub use limits::{Limit, MOST_SENTENCES, MOST_SESSIONS};
 pub use refusals::{BAD_REQUEST, Refusal, Title};
 pub use replies::{
     Meant, MenuView, Numbers, Reply, SentenceView, SentenceViews, WordView, WordViews,

@@ -100,6 +100,34 @@ pub enum Reply {
     Axioms {
         meant: Meant,
     },
+    /// The number of the session that was opened.
+    Begin {
+        session: u32,
+    },
+    /// How many tokens the session has now.
+    Put {
+        tokens: u32,
+    },
+    /// How many tokens the session has now.
+    Back {
+        tokens: u32,
+    },
+    /// What may follow a session's tokens, whether these are a sentence already, and what shows them.
+    Menu {
+        menu: MenuView,
+        whole: bool,
+        shown: Text8,
+    },
+    /// The sentence was added to this article, named by the canonical form of its word, with this status; what shows it.
+    Commit {
+        article: Text8,
+        status: Status,
+        shown: Text8,
+    },
+    /// The session has taken note of its article's changes.
+    Refresh,
+    /// The session is gone.
+    Drop,
     /// The request was refused, and nothing has changed.
     Refused(Refusal),
 }

@@ -65,4 +65,33 @@ pub enum Request {
         article: Text8,
         at: u32,
     },
+    /// A new session on the article of a word: the request `open`.
+    Begin {
+        article: Text8,
+    },
+    /// One token more, or some, for a session: the request `type`.
+    Put {
+        session: u32,
+        text: Text8,
+    },
+    /// One token fewer in a session.
+    Back {
+        session: u32,
+    },
+    /// What may follow a session's tokens.
+    Menu {
+        session: u32,
+    },
+    /// A session's tokens as a sentence at the end of its article.
+    Commit {
+        session: u32,
+    },
+    /// A session that takes note of the changes of its article.
+    Refresh {
+        session: u32,
+    },
+    /// A session that is to end.
+    Drop {
+        session: u32,
+    },
 }

@@ -10,7 +10,7 @@ use Rattle.wiki_talk.specs.declared.replies.Reply.TheVariants as replies
 use Rattle.wiki_talk.specs.declared.requests.Request.{Request}
 use Rattle.wiki_talk.specs.declared.requests.Request.TheVariants as requests
 use Rattle.wiki_talk.specs.declared.refusals.Refusal.{Refusal}
-use Rattle.wiki_talk.specs.declared.refusals.Refusal.TheVariants.{NoWord, BadForm, Taken, Reserved, NoPlace, Full, NotSentence, InUse, Breaks, BadStatus}
+use Rattle.wiki_talk.specs.declared.refusals.Refusal.TheVariants.{NoWord, BadForm, Taken, Reserved, NoPlace, NoSession, Full, Stale, NotOffered, Nothing, Unfinished, NotSentence, InUse, Breaks, BadStatus}
 use Rattle.wiki_talk.specs.declared.replies.SentenceView.{SentenceView}
 use Rattle.wiki_talk.specs.declared.replies.Meant.{Meant}
 use Rattle.wiki_talk.specs.declared.replies.Meant.TheVariants as meanings
@@ -18,7 +18,7 @@ use Rattle.wiki_talk.specs.declared.statuses.Status.{Status}
 use Rattle.logic_terms.specs.declared.cause.Cause.{Cause}
 use Rattle.wiki_talk.specs.Statuses.{cause_in, is_question}
 use Rattle.wire_json.specs.Values.{texts_items, numbers_items, menu_value, word_value, words_items, with_cause, statement_value, question_value, sentence_value, sentences_items}
-use Rattle.wire_json.specs.Replies.{reply_value, refusal_value, status_value, meant_value}
+use Rattle.wire_json.specs.Replies.{reply_value, refusal_value, status_value, meant_value, commit_value}
 use Rattle.wire_json.specs.Requests.{request_value, with_place}
 
 has_float-texts : (texts : List (List ℕ)) → items_have_float (texts_items texts) ≡ false
@@ -47,6 +47,9 @@ has_float-place (Some place) members none = none
 has_float-status : (name : List ℕ) (status : Status) → has_float (status_value name status) ≡ false
 has_float-status name status = has_float-cause (cause_in status) _ refl
 
+has_float-commit : (article : List ℕ) (status : Status) → has_float (commit_value article status) ≡ false
+has_float-commit article status = has_float-cause (cause_in status) _ refl
+
 has_float-meant : (meant : Meant) → has_float (meant_value meant) ≡ false
 has_float-meant (meanings.Axioms axioms) = rw (has_float-texts axioms) refl
 has_float-meant (meanings.Class text) = refl
@@ -68,6 +71,11 @@ has_float-refusal (Reserved text) = refl
 has_float-refusal (Full which limit) = refl
 has_float-refusal (NotSentence k menu) = rw (has_float-menu menu) refl
 has_float-refusal (NoPlace length) = refl
+has_float-refusal (NoSession session) = refl
+has_float-refusal (Stale revision) = refl
+has_float-refusal (NotOffered text) = refl
+has_float-refusal Nothing = refl
+has_float-refusal (Unfinished menu) = rw (has_float-menu menu) refl
 has_float-refusal (InUse article place) = refl
 has_float-refusal (Breaks article place) = refl
 has_float-refusal (BadStatus status) = refl
@@ -86,6 +94,13 @@ has_float-reply (replies.Retract status) = has_float-status _ status
 has_float-reply (replies.Reassert status) = has_float-status _ status
 has_float-reply (replies.Read form revision sentences) = rw (has_float-sentences sentences) refl
 has_float-reply (replies.Axioms meant) = has_float-meant meant
+has_float-reply (replies.Begin session) = refl
+has_float-reply (replies.Put tokens) = refl
+has_float-reply (replies.Back tokens) = refl
+has_float-reply (replies.Menu menu whole shown) = rw (has_float-menu menu) refl
+has_float-reply (replies.Commit article status shown) = has_float-commit article status
+has_float-reply replies.Refresh = refl
+has_float-reply replies.Drop = refl
 has_float-reply (replies.Refused refusal) = has_float-refusal refusal
 
 pub has_float-request : (request : Request) → has_float (request_value request) ≡ false
@@ -102,3 +117,10 @@ has_float-request (requests.Retract article place) = refl
 has_float-request (requests.Reassert article place) = refl
 has_float-request (requests.Read article) = refl
 has_float-request (requests.Axioms article place) = refl
+has_float-request (requests.Begin article) = refl
+has_float-request (requests.Put session text) = refl
+has_float-request (requests.Back session) = refl
+has_float-request (requests.Menu session) = refl
+has_float-request (requests.Commit session) = refl
+has_float-request (requests.Refresh session) = refl
+has_float-request (requests.Drop session) = refl

@@ -1,10 +1,10 @@
 -- Replies as lines of JSON.
 use Rattle.std.specs.Prelude.{ℕ, List, codes}
-use Rattle.serde_json.specs.Data.{Data, Members, string, number, unsigned, array, object, no_members, member}
+use Rattle.serde_json.specs.Data.{Data, Members, boolean, string, number, unsigned, array, object, no_members, member}
 use Rattle.wiki_talk.specs.declared.replies.Reply.{Reply}
 use Rattle.wiki_talk.specs.declared.replies.Reply.TheVariants as replies
 use Rattle.wiki_talk.specs.declared.refusals.Refusal.{Refusal}
-use Rattle.wiki_talk.specs.declared.refusals.Refusal.TheVariants.{NoWord, BadForm, Taken, Reserved, NoPlace, Full, NotSentence, InUse, Breaks, BadStatus}
+use Rattle.wiki_talk.specs.declared.refusals.Refusal.TheVariants.{NoWord, BadForm, Taken, Reserved, NoPlace, NoSession, Full, Stale, NotOffered, Nothing, Unfinished, NotSentence, InUse, Breaks, BadStatus}
 use Rattle.wiki_talk.specs.declared.replies.Meant.{Meant}
 use Rattle.wiki_talk.specs.declared.replies.Meant.TheVariants as meanings
 use Rattle.wiki_talk.specs.declared.statuses.Status.{Status}
@@ -25,6 +25,11 @@ refusal_members (Taken text word) titled = titled (member (codes "text") (string
 refusal_members (Reserved text) titled = titled (member (codes "text") (string text) no_members)
 refusal_members (Full which limit) titled =
     member (codes "limit") (number (unsigned limit)) (titled (member (codes "which") (string (name_of which)) no_members))
+refusal_members (NoSession session) titled = titled (member (codes "session") (number (unsigned session)) no_members)
+refusal_members (Stale revision) titled = titled (member (codes "revision") (number (unsigned revision)) no_members)
+refusal_members (NotOffered text) titled = titled (member (codes "text") (string text) no_members)
+refusal_members Nothing titled = titled no_members
+refusal_members (Unfinished menu) titled = member (codes "menu") (menu_value menu) (titled no_members)
 refusal_members (NotSentence k menu) titled =
     member (codes "k") (number (unsigned k)) (member (codes "menu") (menu_value menu) (titled no_members))
 refusal_members (NoPlace length) titled = member (codes "length") (number (unsigned length)) (titled no_members)
@@ -47,6 +52,20 @@ abbrev pub status_value : List ℕ → Status → Data
 status_value name status = object (with_cause (cause_in status)
     (member (codes "done") (string name)
     (member (codes "status") (string (status_name status)) no_members)))
+
+-- what is done under this name, with the number of a session's tokens
+abbrev pub tokens_value : List ℕ → ℕ → Data
+tokens_value name tokens = object
+    (member (codes "done") (string name)
+    (member (codes "tokens") (number (unsigned tokens)) no_members))
+
+-- the sentence that was added to an article, with its status
+abbrev pub commit_value : List ℕ → Status → Data
+commit_value article status = object
+    (member (codes "article") (string article)
+    (with_cause (cause_in status)
+    (member (codes "done") (string (codes "commit"))
+    (member (codes "status") (string (status_name status)) no_members))))
 
 -- what a sentence means
 abbrev pub meant_value : Meant → Data
@@ -84,6 +103,18 @@ reply_value (replies.Read form revision sentences) = object
     (member (codes "revision") (number (unsigned revision))
     (member (codes "sentences") (array (sentences_items sentences)) no_members)))
 reply_value (replies.Axioms meant) = meant_value meant
+reply_value (replies.Begin session) = object
+    (member (codes "done") (string (codes "open"))
+    (member (codes "session") (number (unsigned session)) no_members))
+reply_value (replies.Put tokens) = tokens_value (codes "type") tokens
+reply_value (replies.Back tokens) = tokens_value (codes "back") tokens
+reply_value (replies.Menu menu whole shown) = object
+    (member (codes "done") (string (codes "menu"))
+    (member (codes "menu") (menu_value menu)
+    (member (codes "whole") (boolean whole) no_members)))
+reply_value (replies.Commit article status shown) = commit_value article status
+reply_value replies.Refresh = done_value (codes "refresh")
+reply_value replies.Drop = done_value (codes "drop")
 reply_value (replies.Refused refusal) = refusal_value refusal
 
 abbrev pub reply_line : Reply → List ℕ

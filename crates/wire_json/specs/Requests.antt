@@ -92,6 +92,30 @@ axioms_in value = option_map (λ place. requests.Axioms place.0 place.1) (place_
 unfoldable pub read_in : Data → Option Request
 read_in value = option_map requests.Read (text_at (codes "article") value)
 
+-- a new session on an article: `article`
+unfoldable pub open_in : Data → Option Request
+open_in value = option_map requests.Begin (text_at (codes "article") value)
+
+-- a token for a session: `session` and `text`
+unfoldable pub type_in : Data → Option Request
+type_in value = option_and_then (λ session. option_map (requests.Put session) (text_at (codes "text") value)) (number_at (codes "session") value)
+
+-- one token fewer, what may follow, the sentence of a session, a session that takes note of changes, and one that is to end: its number
+abbrev pub back_in : Data → Option Request
+back_in value = option_map requests.Back (number_at (codes "session") value)
+
+abbrev pub menu_in : Data → Option Request
+menu_in value = option_map requests.Menu (number_at (codes "session") value)
+
+abbrev pub commit_in : Data → Option Request
+commit_in value = option_map requests.Commit (number_at (codes "session") value)
+
+abbrev pub refresh_in : Data → Option Request
+refresh_in value = option_map requests.Refresh (number_at (codes "session") value)
+
+abbrev pub drop_in : Data → Option Request
+drop_in value = option_map requests.Drop (number_at (codes "session") value)
+
 -- a name, and what an object that has it in `do` asks
 pub record Row : Type 0 where
   pub name : List ℕ
@@ -113,6 +137,13 @@ rows =
     ∷ record { name = codes "reassert"; request = reassert_in }
     ∷ record { name = codes "read"; request = read_in }
     ∷ record { name = codes "axioms"; request = axioms_in }
+    ∷ record { name = codes "open"; request = open_in }
+    ∷ record { name = codes "type"; request = type_in }
+    ∷ record { name = codes "back"; request = back_in }
+    ∷ record { name = codes "menu"; request = menu_in }
+    ∷ record { name = codes "commit"; request = commit_in }
+    ∷ record { name = codes "refresh"; request = refresh_in }
+    ∷ record { name = codes "drop"; request = drop_in }
     ∷ []
 
 -- the request of this name that an object describes
@@ -144,6 +175,12 @@ place_value name article place = object
     (member (codes "article") (string article)
     (member (codes "at") (number (unsigned place))
     (member (codes "do") (string name) no_members)))
+
+-- the line of a request with this name for a session
+abbrev pub session_value : List ℕ → ℕ → Data
+session_value name session = object
+    (member (codes "do") (string name)
+    (member (codes "session") (number (unsigned session)) no_members))
 
 abbrev pub request_value : Request → Data
 request_value (requests.Word kind forms) = object
@@ -181,6 +218,18 @@ request_value (requests.Read article) = object
     (member (codes "article") (string article)
     (member (codes "do") (string (codes "read")) no_members))
 request_value (requests.Axioms article place) = place_value (codes "axioms") article place
+request_value (requests.Begin article) = object
+    (member (codes "article") (string article)
+    (member (codes "do") (string (codes "open")) no_members))
+request_value (requests.Put session text) = object
+    (member (codes "do") (string (codes "type"))
+    (member (codes "session") (number (unsigned session))
+    (member (codes "text") (string text) no_members)))
+request_value (requests.Back session) = session_value (codes "back") session
+request_value (requests.Menu session) = session_value (codes "menu") session
+request_value (requests.Commit session) = session_value (codes "commit") session
+request_value (requests.Refresh session) = session_value (codes "refresh") session
+request_value (requests.Drop session) = session_value (codes "drop") session
 
 abbrev pub request_line : Request → List ℕ
 request_line request = line_text (request_value request)

@@ -5,6 +5,7 @@ mod line;
 mod read;
 mod refusals;
 mod sentences;
+mod sessions;
 mod statuses;
 #[cfg(test)]
 mod tests;

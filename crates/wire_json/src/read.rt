@@ -6,6 +6,9 @@ ghost use Rattle.wire_json.specs.Requests.{text_at, texts_at, texts_in, word_in,
 use crate::sentences::{
     add_from, axioms_from, edit_from, read_from, reassert_from, remove_from, retract_from,
 };
+use crate::sessions::{
+    back_from, commit_from, drop_from, menu_from, open_from, refresh_from, type_from,
+};
 use serde_json::Value;
 use std::alloc::Global;
 use wiki_base::{Memory, Text8, Text8s};
@@ -56,6 +59,13 @@ fn request_named(alloc: Global, value: &Value, name: &str) -> Result<Option<Requ
         "reassert" => reassert_from(alloc, value),
         "read" => read_from(alloc, value),
         "axioms" => axioms_from(alloc, value),
+        "open" => open_from(alloc, value),
+        "type" => type_from(alloc, value),
+        "back" => Ok(back_from(value)),
+        "menu" => Ok(menu_from(value)),
+        "commit" => Ok(commit_from(value)),
+        "refresh" => Ok(refresh_from(value)),
+        "drop" => Ok(drop_from(value)),
         _ => Ok(None),
     }
 }

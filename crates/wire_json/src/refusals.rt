@@ -18,7 +18,13 @@ pub(crate) fn refusal_value(alloc: Global, refusal: &Refusal) -> Result<Value, M
 {
     let title = refusal.title();
     match refusal {
-        Refusal::NoWord { text } | Refusal::Reserved { text } => text_value(alloc, title, text),
+        Refusal::NoWord { text } | Refusal::Reserved { text } | Refusal::NotOffered { text } => {
+            text_value(alloc, title, text)
+        }
+        Refusal::NoSession { session } => session_value(alloc, title, *session),
+        Refusal::Stale { revision } => stale_value(alloc, title, *revision),
+        Refusal::Nothing => nothing_value(alloc, title),
+        Refusal::Unfinished { menu } => unfinished_value(alloc, title, menu),
         Refusal::BadForm { which } => which_value(alloc, title, *which),
         Refusal::Taken { text, word } => taken_value(alloc, title, text, word),
         Refusal::NotSentence { k, menu } => not_sentence_value(alloc, title, *k, menu),
@@ -79,7 +85,9 @@ fn place_value(alloc: Global, title: Title, article: &Text8, at: u32) -> Result<
         (member (codes "at") (number (unsigned at)) (told title.number title.name.now no_members)))) }
 {
     let article = article.as_str();
-    Ok(json!(in alloc; {"article": article, "at": at, "name": title.name, "refused": title.number})?)
+    Ok(
+        json!(in alloc; {"article": article, "at": at, "name": title.name, "refused": title.number})?,
+    )
 }
 
 fn status_value(alloc: Global, title: Title, status: Status) -> Result<Value, Memory>
@@ -87,4 +95,29 @@ fn status_value(alloc: Global, title: Title, status: Status) -> Result<Value, Me
 {
     let status = status.name();
     Ok(json!(in alloc; {"name": title.name, "refused": title.number, "status": status})?)
+}
+
+fn session_value(alloc: Global, title: Title, session: u32) -> Result<Value, Memory>
+    ensures { IfOk result (λ value. view value ≡ object (told title.number title.name.now (member (codes "session") (number (unsigned session)) no_members))) }
+{
+    Ok(json!(in alloc; {"name": title.name, "refused": title.number, "session": session})?)
+}
+
+fn stale_value(alloc: Global, title: Title, revision: u32) -> Result<Value, Memory>
+    ensures { IfOk result (λ value. view value ≡ object (told title.number title.name.now (member (codes "revision") (number (unsigned revision)) no_members))) }
+{
+    Ok(json!(in alloc; {"name": title.name, "refused": title.number, "revision": revision})?)
+}
+
+fn nothing_value(alloc: Global, title: Title) -> Result<Value, Memory>
+    ensures { IfOk result (λ value. view value ≡ object (told title.number title.name.now no_members)) }
+{
+    Ok(json!(in alloc; {"name": title.name, "refused": title.number})?)
+}
+
+fn unfinished_value(alloc: Global, title: Title, menu: &MenuView) -> Result<Value, Memory>
+    ensures { IfOk result (λ value. view value ≡ object (member (codes "menu") (menu_value menu.now) (told title.number title.name.now no_members))) }
+{
+    let menu = menu_value(alloc, menu)?;
+    Ok(json!(in alloc; {"menu": menu, "name": title.name, "refused": title.number})?)
 }

@@ -109,7 +109,7 @@ fn place_from(alloc: Global, value: &Value) -> Result<Option<(Text8, u32)>, Memo
 }
 
 // The number at a key, if there is one.
-fn number_at(value: &Value, key: &str) -> Option<u32>
+pub(crate) fn number_at(value: &Value, key: &str) -> Option<u32>
     ensures { result ≡ number_at key.now (view value.now) }
 {
     match value.get(key) {

@@ -2,7 +2,7 @@
 ghost use Rattle.std.specs.Prelude.{◌≡◌, IfOk};
 ghost use Rattle.serde_json.specs.View.{view};
 ghost use Rattle.serde_json.specs.Data.{array};
-ghost use Rattle.wire_json.specs.Replies.{status_value, meant_value};
+ghost use Rattle.wire_json.specs.Replies.{commit_value, status_value, meant_value};
 ghost use Rattle.wire_json.specs.Values.{statement_value, question_value, sentence_value, sentences_items};
 
 use crate::values::texts_value;
@@ -22,6 +22,22 @@ pub(crate) fn status_value(alloc: Global, name: &str, status: Status) -> Result<
             Ok(json!(in alloc; {"cause": cause, "done": name, "status": told})?)
         }
         None => Ok(json!(in alloc; {"done": name, "status": told})?),
+    }
+}
+
+// The reply of a session's sentence that was added to an article.
+pub(crate) fn commit_value(alloc: Global, article: &str, status: Status) -> Result<Value, Memory>
+    ensures { IfOk result (λ value. view value ≡ commit_value article.now status) }
+{
+    let told = status.name();
+    match status.cause() {
+        Some(cause) => {
+            let cause = cause_name(cause);
+            Ok(
+                json!(in alloc; {"article": article, "cause": cause, "done": "commit", "status": told})?,
+            )
+        }
+        None => Ok(json!(in alloc; {"article": article, "done": "commit", "status": told})?),
     }
 }
 

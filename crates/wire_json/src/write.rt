@@ -1,18 +1,18 @@
 // The lines of requests and replies.
 ghost use Rattle.std.specs.Prelude.{◌≡◌, ℕ, List, IfOk};
 ghost use Rattle.serde_json.specs.View.{view};
-ghost use Rattle.wire_json.specs.Replies.{reply_value, done_value, reply_line, bad_request_value, bad_request_line};
-ghost use Rattle.wire_json.specs.Requests.{request_value, request_line, place_value};
+ghost use Rattle.wire_json.specs.Replies.{reply_value, done_value, tokens_value, reply_line, bad_request_value, bad_request_line};
+ghost use Rattle.wire_json.specs.Requests.{request_value, request_line, place_value, session_value};
 
 use crate::line::line_of;
 use crate::refusals::refusal_value;
-use crate::statuses::{meant_value, sentences_value, status_value};
-use crate::values::{numbers_value, texts_value, word_value, words_value};
+use crate::statuses::{commit_value, meant_value, sentences_value, status_value};
+use crate::values::{menu_value, numbers_value, texts_value, word_value, words_value};
 use lexicon::Kind;
 use serde_json::{Value, json};
 use std::alloc::Global;
 use wiki_base::{Memory, Text8};
-use wiki_talk::{BAD_REQUEST, Reply, Request, SentenceView, WordView, kind_name};
+use wiki_talk::{BAD_REQUEST, MenuView, Reply, Request, SentenceView, WordView, kind_name};
 
 /// The line of a reply, with its newline.
 pub fn reply_line(alloc: Global, reply: &Reply) -> Result<Text8, Memory>
@@ -62,6 +62,17 @@ fn reply_value(alloc: Global, reply: &Reply) -> Result<Value, Memory>
             ..
         } => read_reply_value(alloc, *revision, sentences.as_slice()),
         Reply::Axioms { meant } => meant_value(alloc, meant),
+        Reply::Begin { session } => { Ok(json!(in alloc; {"done": "open", "session": *session})?) }
+        Reply::Put { tokens } => tokens_value(alloc, "type", *tokens),
+        Reply::Back { tokens } => tokens_value(alloc, "back", *tokens),
+        Reply::Menu { menu, whole, .. } => menu_reply_value(alloc, menu, *whole),
+        Reply::Commit {
+            article,
+            status,
+            ..
+        } => commit_value(alloc, article.as_str(), *status),
+        Reply::Refresh => done_value(alloc, "refresh"),
+        Reply::Drop => done_value(alloc, "drop"),
         Reply::Refused(refusal) => refusal_value(alloc, refusal),
     }
 }
@@ -93,11 +104,29 @@ fn parse_reply_value(alloc: Global, code: &[u32]) -> Result<Value, Memory>
     Ok(json!(in alloc; {"code": code, "done": "parse"})?)
 }
 
-fn read_reply_value(alloc: Global, revision: u32, sentences: &[SentenceView]) -> Result<Value, Memory>
+fn read_reply_value(
+    alloc: Global,
+    revision: u32,
+    sentences: &[SentenceView],
+) -> Result<Value, Memory>
     ensures { IfOk result (λ value. (form : List ℕ) → view value ≡ reply_value (Reply.Read form revision sentences.now)) }
 {
     let sentences = sentences_value(alloc, sentences)?;
     Ok(json!(in alloc; {"done": "read", "revision": revision, "sentences": sentences})?)
+}
+
+fn menu_reply_value(alloc: Global, menu: &MenuView, whole: bool) -> Result<Value, Memory>
+    ensures { IfOk result (λ value. (shown : List ℕ) → view value ≡ reply_value (Reply.Menu menu.now whole shown)) }
+{
+    let menu = menu_value(alloc, menu)?;
+    Ok(json!(in alloc; {"done": "menu", "menu": menu, "whole": whole})?)
+}
+
+// A reply that tells the number of a session's tokens.
+fn tokens_value(alloc: Global, name: &str, tokens: u32) -> Result<Value, Memory>
+    ensures { IfOk result (λ value. view value ≡ tokens_value name.now tokens) }
+{
+    Ok(json!(in alloc; {"done": name, "tokens": tokens})?)
 }
 
 fn request_value(alloc: Global, request: &Request) -> Result<Value, Memory>
@@ -129,6 +158,16 @@ fn request_value(alloc: Global, request: &Request) -> Result<Value, Memory>
             Ok(json!(in alloc; {"article": article, "do": "read"})?)
         }
         Request::Axioms { article, at } => place_value(alloc, "axioms", article, *at),
+        Request::Begin { article } => {
+            let article = article.as_str();
+            Ok(json!(in alloc; {"article": article, "do": "open"})?)
+        }
+        Request::Put { session, text } => type_request_value(alloc, *session, text),
+        Request::Back { session } => session_value(alloc, "back", *session),
+        Request::Menu { session } => session_value(alloc, "menu", *session),
+        Request::Commit { session } => session_value(alloc, "commit", *session),
+        Request::Refresh { session } => session_value(alloc, "refresh", *session),
+        Request::Drop { session } => session_value(alloc, "drop", *session),
     }
 }
 
@@ -148,7 +187,12 @@ fn reword_request_value(alloc: Global, word: &Text8, forms: &[Text8]) -> Result<
     Ok(json!(in alloc; {"do": "reword", "forms": forms, "word": word})?)
 }
 
-fn add_request_value(alloc: Global, article: &Text8, at: Option<u32>, text: &Text8) -> Result<Value, Memory>
+fn add_request_value(
+    alloc: Global,
+    article: &Text8,
+    at: Option<u32>,
+    text: &Text8,
+) -> Result<Value, Memory>
     ensures { IfOk result (λ value. view value ≡ request_value (Request.Add article.now at text.now)) }
 {
     let article = article.as_str();
@@ -159,12 +203,31 @@ fn add_request_value(alloc: Global, article: &Text8, at: Option<u32>, text: &Tex
     }
 }
 
-fn edit_request_value(alloc: Global, article: &Text8, at: u32, text: &Text8) -> Result<Value, Memory>
+fn edit_request_value(
+    alloc: Global,
+    article: &Text8,
+    at: u32,
+    text: &Text8,
+) -> Result<Value, Memory>
     ensures { IfOk result (λ value. view value ≡ request_value (Request.Edit article.now at text.now)) }
 {
     let article = article.as_str();
     let text = text.as_str();
     Ok(json!(in alloc; {"article": article, "at": at, "do": "edit", "text": text})?)
+}
+
+fn type_request_value(alloc: Global, session: u32, text: &Text8) -> Result<Value, Memory>
+    ensures { IfOk result (λ value. view value ≡ request_value (Request.Put session text.now)) }
+{
+    let text = text.as_str();
+    Ok(json!(in alloc; {"do": "type", "session": session, "text": text})?)
+}
+
+// The line of a request for a session.
+fn session_value(alloc: Global, name: &str, session: u32) -> Result<Value, Memory>
+    ensures { IfOk result (λ value. view value ≡ session_value name.now session) }
+{
+    Ok(json!(in alloc; {"do": name, "session": session})?)
 }
 
 // The line of a request for a place.

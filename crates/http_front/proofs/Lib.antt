@@ -1,2 +1,5 @@
-pub mod PieceLemmas
+pub mod ExceedLemmas
+pub mod FieldLemmas
+pub mod HeadLemmas
 pub mod NumberLemmas
+pub mod PieceLemmas

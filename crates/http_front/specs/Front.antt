@@ -1,5 +1,6 @@
 -- The request of a connection's bytes (RFC 9112, with one request a connection and no transfer coding).
-use Rattle.std.specs.Prelude.{◌≡◌, ◌≤◌, ◌⊎◌, ℕ, Bool, true, false, List, [], length, map, take, drop, if◌then◌else◌, nat_lt, Option, Some, None}
+use Rattle.std.specs.Prelude.{◌≡◌, ◌==◌, ◌≤◌, ◌+◌, ◌⊎◌, ◌||◌, ℕ, Bool, true, false, List, [], ◌∷◌, length, map, take, drop, if◌then◌else◌, nat_lt, Option, Some, None}
+use Rattle.std.specs.List.{count_by}
 use Rattle.std.specs.Option.{option_map_or}
 use Rattle.std.specs.Str.{bytes_eq}
 use Rattle.httparse.specs.Grammar.{RequestHead, print_request, ReadsRequest, HasNoRequest, NeverHasRequest, MayBecomeRequest}
@@ -69,9 +70,26 @@ begun_of method target minor fields start =
 abbrev pub head_part : List ℕ → List ℕ
 head_part bytes = take MOST_HEAD bytes
 
+-- how many of these bytes are newlines
+abbrev pub newlines : List ℕ → ℕ
+newlines bytes = count_by (λ b. b == 10) bytes
+
+-- the byte is a carriage return or a newline
+abbrev pub is_line_end : ℕ → Bool
+is_line_end b = b == 13 || b == 10
+
+-- these bytes from the first that is neither a carriage return nor a newline
+abbrev pub after_blank : List ℕ → List ℕ
+after_blank [] = []
+after_blank (b ∷ bytes) = if is_line_end b then after_blank bytes else b ∷ bytes
+
+-- these bytes begin a head that has too many fields
+abbrev pub HasTooManyFields : List ℕ → Type 0
+HasTooManyFields bytes = RequestExceeds MOST_FIELDS bytes × (MOST_FIELDS + 2 ≤ newlines (after_blank bytes))
+
 -- however they go on, these bytes begin with no head, or a head that they begin has too many fields
 abbrev pub IsNoHead : List ℕ → Type 0
-IsNoHead bytes = NeverHasRequest bytes ⊎ RequestExceeds MOST_FIELDS bytes
+IsNoHead bytes = NeverHasRequest bytes ⊎ HasTooManyFields bytes
 
 -- these bytes begin with no head yet, but may when they go on
 abbrev pub IsHalfHead : List ℕ → Type 0

@@ -1,5 +1,6 @@
 -- The paths of the wiki, each with its one method.
 use Rattle.std.specs.Prelude.{ℕ, ◌==◌, List, [], ◌∷◌, codes, drop, fold, Option, Some, None, option_map, Result, Ok, Err}
+use Rattle.std.specs.Borrow.{Bor}
 use Rattle.std.specs.List.{before_first}
 use Rattle.matchit.specs.Rows.{RowsOf}
 use Rattle.matchit.specs.Order.{placed}
@@ -36,6 +37,10 @@ routes =
     ∷ (codes "/session/{n}/drop", Session in_session.Drop)
     ∷ (codes "/api", Line)
     ∷ []
+
+-- a row of a table, as a path and what it is for
+abbrev pub route_shown : Bor (List ℕ) × Goal → List ℕ × Goal
+route_shown row = (row.0.now, row.1)
 
 -- pages are got, and all else is posted
 abbrev pub verb_of : Goal → Verb

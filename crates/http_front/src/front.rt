@@ -1,5 +1,5 @@
 // The front of the wiki: the request of a connection's bytes.
-ghost use Rattle.std.specs.Prelude.{◌≡◌, ◌≤◌, IfOk, All, length, map, IsUtf8};
+ghost use Rattle.std.specs.Prelude.{◌≡◌, ◌≤◌, ◌++◌, List, ℕ, IfOk, All, length, map, IsUtf8};
 ghost use Rattle.httparse.specs.Spans.{IsHeaderWithin, header_bytes};
 ghost use Rattle.http_front.specs.Routes.{table, path_of};
 ghost use Rattle.http_front.specs.Front.{refused, half_begun, word_in, session_in, begun_for, begun_by, begun_at, begun_with, begun_of, head_part, Begins, seen_of, seen_after, Sees, is_line};
@@ -44,7 +44,7 @@ impl Front {
                 allow,
                 bad_line: false,
             }),
-            Begun::Head(head) => self.request_after(&head, bytes),
+            Begun::Head(head) => self.seen_after(&head, bytes),
         }
     }
 
@@ -73,9 +73,16 @@ impl Front {
         }
     }
 
-    /// What the bytes of a connection are, whose head was parsed before.
-    #[tactic(auto, unfolding(crate::specs::Front::seen_after))]
+    /// What the bytes of a connection are, whose head was parsed before: the same as without it.
     pub fn request_after(&self, head: &Head, bytes: &[u8]) -> Result<Seen, Memory>
+        ensures value { IfOk result (λ seen. seen ≡ seen_after head.now bytes.now) }
+        ensures same { IfOk result (λ seen. (before more : List ℕ) → Begins before (Begun.Head head.now) → bytes.now ≡ before ++ more → Sees bytes.now seen) }
+    {
+        self.seen_after(head, bytes)
+    }
+
+    #[tactic(auto, unfolding(crate::specs::Front::seen_after))]
+    fn seen_after(&self, head: &Head, bytes: &[u8]) -> Result<Seen, Memory>
         ensures { IfOk result (λ seen. seen ≡ seen_after head.now bytes.now) }
     {
         if bytes.len() < head.start {
@@ -117,6 +124,9 @@ impl Front {
         if is_bad_host(bytes, fields, minor) {
             return Ok(refused(400));
         }
+        let Ok(target) = from_utf8(target) else {
+            unreachable!();
+        };
         self.begun_with(method, path_of(target), start, body_length(bytes, fields))
     }
 
@@ -124,11 +134,10 @@ impl Front {
     fn begun_with(
         &self,
         method: &[u8],
-        path: &[u8],
+        path: &str,
         start: usize,
         told: Option<u64>,
     ) -> Result<Begun, Memory>
-        requires text { IsUtf8 path.now }
         ensures { IfOk result (λ begun. begun ≡ begun_with method.now path.now start told) }
     {
         match told {
@@ -142,18 +151,14 @@ impl Front {
     fn begun_at(
         &self,
         method: &[u8],
-        path: &[u8],
+        path: &str,
         start: usize,
         length: usize,
     ) -> Result<Begun, Memory>
-        requires text { IsUtf8 path.now }
         ensures { IfOk result (λ begun. begun ≡ begun_at method.now path.now start length) }
     {
-        let Ok(text) = from_utf8(path) else {
-            unreachable!();
-        };
-        match goal_at(&self.router, text) {
-            Some(goal) => begun_by(self.alloc, goal, method, path, start, length),
+        match goal_at(&self.router, path) {
+            Some(goal) => begun_by(self.alloc, goal, method, path.as_bytes(), start, length),
             None => Ok(refused(404)),
         }
     }

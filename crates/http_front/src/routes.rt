@@ -1,7 +1,8 @@
 // The paths of the wiki.
-ghost use Rattle.std.specs.Prelude.{◌≡◌, IfOk, List, ℕ, map, option_map, IsUtf8};
+ghost use Rattle.std.specs.Prelude.{◌≡◌, IfOk, ◌==◌, map, option_map};
+ghost use Rattle.std.specs.List.{before_first};
 ghost use Rattle.matchit.specs.Seek.{first};
-ghost use Rattle.http_front.specs.Routes.{routes, table, goal_at, path_of, segment_of};
+ghost use Rattle.http_front.specs.Routes.{route_shown, routes, table, goal_at, path_of, segment_of};
 
 use crate::goals::{Goal, InSession, OnArticle};
 use matchit::{InsertError, Router};
@@ -10,7 +11,7 @@ use wiki_base::Memory;
 
 // The paths, and what each is for.
 fn routes() -> &'static [(&'static str, Goal)]
-    ensures { map (λ route. (route.0.now, route.1)) result.now ≡ routes }
+    ensures { map route_shown result.now ≡ routes }
 {
     &[
         ("/", Goal::Index),
@@ -41,10 +42,11 @@ pub fn router(alloc: Global) -> Result<Router<Goal>, Memory>
     ensures { IfOk result (λ router. router ≡ table) }
 {
     let mut router = Router::new(alloc);
-    for route in routes() {
-        if router.insert(route.0, route.1).is_err() {
+    let rows = routes();
+    for row in rows {
+        let Ok(()) = router.insert(row.0, row.1) else {
             return Err(Memory);
-        }
+        };
     }
     Ok(router)
 }
@@ -62,11 +64,11 @@ pub fn goal_at(router: &Router<Goal>, path: &str) -> Option<Goal>
 
 /// The path of a request's target.
 #[tactic(auto, unfolding(crate::specs::Routes::path_of))]
-pub fn path_of(target: &[u8]) -> &[u8]
+pub fn path_of(target: &str) -> &str
     ensures { result.now ≡ path_of target.now }
 {
-    match target.iter().position(|byte| *byte == b'?') {
-        Some(end) => &target[..end],
+    match target.split_once('?') {
+        Some((path, _)) => path,
         None => target,
     }
 }
@@ -76,11 +78,18 @@ pub fn path_of(target: &[u8]) -> &[u8]
 pub fn segment_of(path: &[u8]) -> &[u8]
     ensures { result.now ≡ segment_of path.now }
 {
-    let Some(behind) = path.get(9..) else {
+    if path.len() < 9 {
         return &[];
-    };
-    match behind.iter().position(|byte| *byte == b'/') {
-        Some(end) => &behind[..end],
-        None => behind,
+    }
+    before_slash(&path[9..])
+}
+
+// The bytes before the first slash, or all where there is none.
+fn before_slash(bytes: &[u8]) -> &[u8]
+    ensures { result.now ≡ before_first (λ b. b == 47) bytes.now }
+{
+    match bytes.iter().position(|byte| *byte == b'/') {
+        Some(end) => &bytes[..end],
+        None => bytes,
     }
 }

@@ -1,5 +1,5 @@
 -- What the fields of a head tell: each is a name, and a value without the white space around it.
-use Rattle.std.specs.Prelude.{ℕ, ◌==◌, ◌||◌, ◌&&◌, Bool, true, false, List, [], ◌∷◌, map, filter, codes, Option, Some, None, if◌then◌else◌, nat_lt, nat_eq}
+use Rattle.std.specs.Prelude.{ℕ, ◌==◌, ◌||◌, ◌&&◌, Bool, true, false, List, [], ◌∷◌, map, filter, codes, Option, Some, None, option_and_then, unwrap_or, if◌then◌else◌, nat_lt, nat_eq}
 use Rattle.std.specs.List.{count_by, list_all}
 use Rattle.std.specs.Char.{to_ascii_lowercase}
 use Rattle.std.specs.Str.{bytes_eq}
@@ -40,3 +40,17 @@ lengths_told fields = map (λ field. number_of 19 field.1) (filter (is_named (co
 -- the length of the body, if all fields that tell it tell one and the same
 abbrev pub body_length : List (List ℕ × List ℕ) → Option ℕ
 body_length fields = common (lengths_told fields)
+
+-- a number that was told before, and one that is told now, if they are one and the same
+abbrev pub agreed : Option ℕ → ℕ → Option (Option ℕ)
+agreed None n = Some (Some n)
+agreed (Some m) n = if m == n then Some (Some n) else None
+
+-- what was told before, and what a field tells
+unfoldable pub with_field : Option ℕ → List ℕ × List ℕ → Option (Option ℕ)
+with_field found field = if is_named (codes "Content-Length") field then option_and_then (agreed found) (number_of 19 field.1) else Some found
+
+-- the length that fields tell, one after another, where one was told before
+abbrev pub told_after : Option ℕ → List (List ℕ × List ℕ) → Option ℕ
+told_after found [] = Some (unwrap_or found 0)
+told_after found (field ∷ fields) = option_and_then (λ next. told_after next fields) (with_field found field)

@@ -1,6 +1,5 @@
 -- The request of a connection's bytes (RFC 9112, with one request a connection and no transfer coding).
 use Rattle.std.specs.Prelude.{◌≡◌, ◌==◌, ◌≤◌, ◌+◌, ◌⊎◌, ◌||◌, ℕ, Bool, true, false, List, [], ◌∷◌, length, map, take, drop, if◌then◌else◌, nat_lt, Option, Some, None}
-use Rattle.std.specs.List.{count_by}
 use Rattle.std.specs.Option.{option_map_or}
 use Rattle.std.specs.Str.{bytes_eq}
 use Rattle.httparse.specs.Grammar.{RequestHead, print_request, ReadsRequest, HasNoRequest, NeverHasRequest, MayBecomeRequest}
@@ -72,7 +71,8 @@ head_part bytes = take MOST_HEAD bytes
 
 -- how many of these bytes are newlines
 abbrev pub newlines : List ℕ → ℕ
-newlines bytes = count_by (λ b. b == 10) bytes
+newlines [] = 0
+newlines (b ∷ bytes) = (if b == 10 then 1 else 0) + newlines bytes
 
 -- the byte is a carriage return or a newline
 abbrev pub is_line_end : ℕ → Bool

@@ -1,5 +1,5 @@
 -- Numbers in decimal digits.
-use Rattle.std.specs.Prelude.{ℕ, Bool, List, length, Option, Some, None, option_and_then, if◌then◌else◌, ◌&&◌, nat_lt, nat_le}
+use Rattle.std.specs.Prelude.{ℕ, Bool, List, length, Option, Some, None, option_and_then, if◌then◌else◌, ◌&&◌, ◌==◌, not, nat_le}
 use Rattle.std.specs.List.{list_all}
 use Rattle.std.specs.Char.{is_ascii_digit}
 use Rattle.std.specs.Str.Parse.{digits_value}
@@ -7,7 +7,7 @@ use Rattle.lexicon.specs.declared.words.TheConstants.{LAST_NUMBER}
 
 -- these bytes are digits, at least one and at most so many
 abbrev pub are_digits : ℕ → List ℕ → Bool
-are_digits most bytes = nat_lt 0 (length bytes) && (nat_le (length bytes) most && list_all is_ascii_digit bytes)
+are_digits most bytes = not (length bytes == 0) && (nat_le (length bytes) most && list_all is_ascii_digit bytes)
 
 -- the number that at most so many digits write; leading zeros count as digits
 unfoldable pub number_of : ℕ → List ℕ → Option ℕ

@@ -19,7 +19,7 @@ pub fn decoded(alloc: Global, bytes: &[u8]) -> Result<Text8, Memory>
 }
 
 /// The value of the first field of this name in a form.
-#[tactic(auto, unfolding(crate::specs::Forms::field))]
+#[tactic(auto, using(crate::proofs::FormLemmas::value_start, crate::proofs::FormLemmas::value_end, crate::proofs::FormLemmas::value_hit, crate::proofs::FormLemmas::value_miss))]
 pub fn field(alloc: Global, body: &[u8], name: &str) -> Result<Option<Text8>, Memory>
     ensures { IfOk result (λ value. value ≡ field name.now body.now) }
 {

@@ -21,6 +21,7 @@ use std::str::from_utf8;
 use wiki_base::{Memory, Text8};
 
 /// The routes of the wiki.
+#[derive(Drop)]
 pub struct Front {
     alloc: Global,
     router: Router<Goal>,
@@ -34,6 +35,7 @@ impl Front {
     }
 
     /// What the bytes that have come over a connection since its opening are: no whole request yet, a refusal or a request.
+    #[tactic(auto, using(crate::proofs::HeadLemmas::sees_wait, crate::proofs::HeadLemmas::sees_refusal, crate::proofs::HeadLemmas::sees_head))]
     pub fn request_of(&self, bytes: &[u8]) -> Result<Seen, Memory>
         ensures { IfOk result (λ seen. Sees bytes.now seen) }
     {
@@ -49,6 +51,7 @@ impl Front {
     }
 
     /// What the bytes of a connection are, as a head alone.
+    #[tactic(auto, using(crate::proofs::HeadLemmas::begins_whole, crate::proofs::HeadLemmas::begins_half, crate::proofs::HeadLemmas::begins_never, crate::proofs::HeadLemmas::begins_exceeds, crate::proofs::HeadLemmas::target_text))]
     pub fn head_of(&self, bytes: &[u8]) -> Result<Begun, Memory>
         ensures { IfOk result (λ begun. Begins bytes.now begun) }
     {
@@ -58,14 +61,9 @@ impl Front {
             Ok(Status::Complete(head)) => {
                 let method = head.method.of(part);
                 let target = head.path.of(part);
-                self.begun_of(
-                    part,
-                    method,
-                    target,
-                    head.version,
-                    &fields[..head.headers],
-                    head.len,
-                )
+                let told = &fields[..head.headers];
+                let begun = self.begun_of(part, method, target, head.version, told, head.len)?;
+                Ok(begun)
             }
             Ok(Status::Partial) => Ok(half_begun(bytes.len())),
             Err(Error::TooManyHeaders) => Ok(refused(400)),
@@ -74,11 +72,13 @@ impl Front {
     }
 
     /// What the bytes of a connection are, whose head was parsed before: the same as without it.
+    #[tactic(auto, using(crate::proofs::HeadLemmas::sees_same))]
     pub fn request_after(&self, head: &Head, bytes: &[u8]) -> Result<Seen, Memory>
         ensures value { IfOk result (λ seen. seen ≡ seen_after head.now bytes.now) }
         ensures same { IfOk result (λ seen. (before more : List ℕ) → Begins before (Begun.Head head.now) → bytes.now ≡ before ++ more → Sees bytes.now seen) }
     {
-        self.seen_after(head, bytes)
+        let seen = self.seen_after(head, bytes)?;
+        Ok(seen)
     }
 
     #[tactic(auto, unfolding(crate::specs::Front::seen_after))]
@@ -165,10 +165,15 @@ impl Front {
 }
 
 // The bytes in which the head must end.
+#[tactic(auto, using(crate::proofs::HeadLemmas::short_part))]
 fn head_part(bytes: &[u8]) -> &[u8]
     ensures { result.now ≡ head_part bytes.now }
 {
-    &bytes[..bytes.len().min(MOST_HEAD)]
+    if bytes.len() > MOST_HEAD {
+        &bytes[..MOST_HEAD]
+    } else {
+        bytes
+    }
 }
 
 fn half_begun(come: usize) -> Begun

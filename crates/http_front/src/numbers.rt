@@ -10,7 +10,7 @@ use std::str::from_utf8;
 fn are_digits(bytes: &[u8], most: usize) -> bool
     ensures { result ≡ are_digits most bytes.now }
 {
-    !bytes.is_empty() && bytes.len() <= most && all_digits(bytes)
+    !bytes.is_empty() && (bytes.len() <= most && all_digits(bytes))
 }
 
 fn all_digits(bytes: &[u8]) -> bool
@@ -25,7 +25,7 @@ fn all_digits(bytes: &[u8]) -> bool
 }
 
 /// The number that at most so many digits write.
-#[tactic(auto, unfolding(crate::specs::Numbers::number_of))]
+#[tactic(auto, unfolding(crate::specs::Numbers::number_of), using(crate::proofs::NumberLemmas::parsed, crate::proofs::NumberLemmas::digits_are_utf8))]
 pub fn number_of(bytes: &[u8], most: usize) -> Option<u64>
     requires { most ≤ 19 }
     ensures { result ≡ number_of most bytes.now }

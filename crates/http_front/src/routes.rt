@@ -1,8 +1,8 @@
 // The paths of the wiki.
-ghost use Rattle.std.specs.Prelude.{◌≡◌, IfOk, ◌==◌, map, option_map};
+ghost use Rattle.std.specs.Prelude.{◌≡◌, IfOk, OnOk, ◌==◌, map, option_map, MatchOption};
 ghost use Rattle.std.specs.List.{before_first};
 ghost use Rattle.matchit.specs.Seek.{first};
-ghost use Rattle.http_front.specs.Routes.{route_shown, routes, table, goal_at, path_of, segment_of};
+ghost use Rattle.http_front.specs.Routes.{route_shown, routes, with_route, table, goal_at, path_of, segment_of};
 
 use crate::goals::{Goal, InSession, OnArticle};
 use matchit::{InsertError, Router};
@@ -44,11 +44,19 @@ pub fn router(alloc: Global) -> Result<Router<Goal>, Memory>
     let mut router = Router::new(alloc);
     let rows = routes();
     for row in rows {
-        let Ok(()) = router.insert(row.0, row.1) else {
-            return Err(Memory);
-        };
+        insert(&mut router, row.0, row.1)?;
     }
     Ok(router)
+}
+
+#[tactic(auto, using(crate::proofs::RouteLemmas::inserted))]
+fn insert(router: &mut Router<Goal>, path: &str, goal: Goal) -> Result<(), Memory>
+    ensures { OnOk result (router.new ≡ with_route router.old (path.now, goal)) }
+{
+    match router.insert(path, goal) {
+        Ok(()) => Ok(()),
+        Err(_) => Err(Memory),
+    }
 }
 
 /// What a path is for.
@@ -67,14 +75,21 @@ pub fn goal_at(router: &Router<Goal>, path: &str) -> Option<Goal>
 pub fn path_of(target: &str) -> &str
     ensures { result.now ≡ path_of target.now }
 {
-    match target.split_once('?') {
+    match cut(target) {
         Some((path, _)) => path,
         None => target,
     }
 }
 
+// What stands before the first question mark and what after it, where there is one.
+fn cut(target: &str) -> Option<(&str, &str)>
+    ensures { MatchOption result (before_first (λ b. b == 63) target.now ≡ target.now) (λ parts. parts.0.now ≡ before_first (λ b. b == 63) target.now) }
+{
+    target.split_once('?')
+}
+
 /// The segment behind `/article/` or `/session/`.
-#[tactic(auto, unfolding(crate::specs::Routes::segment_of))]
+#[tactic(auto, unfolding(crate::specs::Routes::segment_of), using(crate::proofs::RouteLemmas::short_segment))]
 pub fn segment_of(path: &[u8]) -> &[u8]
     ensures { result.now ≡ segment_of path.now }
 {

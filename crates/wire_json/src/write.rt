@@ -62,7 +62,10 @@ fn reply_value(alloc: Global, reply: &Reply) -> Result<Value, Memory>
             ..
         } => read_reply_value(alloc, *revision, sentences.as_slice()),
         Reply::Axioms { meant } => meant_value(alloc, meant),
-        Reply::Begin { session } => { Ok(json!(in alloc; {"done": "open", "session": *session})?) }
+        Reply::Begin { session } => {
+            let session = *session;
+            Ok(json!(in alloc; {"done": "open", "session": session})?)
+        }
         Reply::Put { tokens } => tokens_value(alloc, "type", *tokens),
         Reply::Back { tokens } => tokens_value(alloc, "back", *tokens),
         Reply::Menu { menu, whole, .. } => menu_reply_value(alloc, menu, *whole),

@@ -1,5 +1,5 @@
 -- What is known of a head that was read, and that it is read again in what comes later.
-use Rattle.std.proofs.Common.{◌≡◌, ◌⊎◌, ℕ, zero, suc, ◌≤◌, List, [], ◌∷◌, ◌++◌, Bool, true, false, length, take, drop, map, refl, sym, ap, ◌∙◌, subst, arith, inl, inr, Option, take_all}
+use Rattle.std.proofs.Common.{◌≡◌, ◌⊎◌, ℕ, zero, suc, ◌≤◌, List, [], ◌∷◌, ◌++◌, Bool, true, false, length, take, drop, map, refl, sym, ap, ◌∙◌, subst, arith, inl, inr, Option, Ok, take_all}
 use Rattle.std.proofs.lemmas.List.{length-map, length-take-le}
 use Rattle.matchit.proofs.ConflictLemmas.{head-of, tail-of}
 use Rattle.std.specs.Prelude.{if◌then◌else◌, nat_lt, IsUtf8}
@@ -7,6 +7,9 @@ use Rattle.httparse.specs.declared.spans.HeaderSpan.{HeaderSpan}
 use Rattle.httparse.specs.declared.spans.RequestSpans.{RequestSpans}
 use Rattle.httparse.specs.Grammar.{RequestHead, print_request, ReadsRequest, HasNoRequest, NeverHasRequest, MayBecomeRequest}
 use Rattle.httparse.specs.Spans.{span_bytes, header_bytes, name_and_value, IsRequestWithin, IsRequestAt, IsRequestOf, RequestExceeds}
+use Rattle.httparse.specs.declared.Status.{Status}
+use Rattle.httparse.specs.declared.Status.TheVariants.{Complete}
+use Rattle.httparse.specs.Outcome.{IfComplete}
 use Rattle.http_front.specs.declared.seen.Head.{Head}
 use Rattle.http_front.specs.declared.goals.Verb.{Verb}
 use Rattle.http_front.specs.declared.seen.Seen.{Seen}
@@ -55,6 +58,10 @@ begins_whole bytes part method target headers spans r begun is room cut by at wi
     ∙ ap (λ x. begun_of (span_bytes part r.method) x r.version (map (header_bytes part) spans) r.len) at
     ∙ ap (λ x. begun_of (span_bytes part r.method) (span_bytes part r.path) r.version (map (header_bytes part) x) r.len) cut in
     whole_by bytes part headers r begun is room within whole (told ∙ same ∙ begun_same part headers r whole.0 whole.1)
+
+-- what holds of an answer that is complete
+pub of_complete : {A : Type 0} (E : Type 0) (P : A → Type 0) (s : Status A) (x : A) → s ≡ Complete x → IfComplete {A = A} {E = E} (Ok s) P → P x
+of_complete {A} E P s x is h = subst (λ t. IfComplete {A = A} {E = E} (Ok t) P) is h
 
 -- a target that was read is a text
 pub target_text : (part target : List ℕ) (headers : List HeaderSpan) (r : RequestSpans) → target ≡ span_bytes part r.path → IsRequestOf part headers r → IsUtf8 target

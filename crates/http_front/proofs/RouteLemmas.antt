@@ -31,17 +31,3 @@ pub cut_cases : (text : List ℕ) (r : Option (Bor (List ℕ) × Bor (List ℕ))
     → MatchOption r (before_first (λ b. b == 63) text ≡ text) (λ x. x.0.now ≡ before_first (λ b. b == 63) text)
 cut_cases text None h = ap (λ n. take n text) h ∙ take_all (length text) text (omega arith)
 cut_cases text (Some x) h = h.1
-
--- what stands before the first question mark
-pub cut_cases : (text : List ℕ) (r : Option (Bor (List ℕ) × Bor (List ℕ))) → MatchOption r (position_or_len (λ b. b == 63) text ≡ length text)
-    (λ x. (position_or_len (λ b. b == 63) text < length text) × (x.0.now ≡ before_first (λ b. b == 63) text) × (x.1.now ≡ after_first (λ b. b == 63) text))
-    → MatchOption r (before_first (λ b. b == 63) text ≡ text) (λ x. x.0.now ≡ before_first (λ b. b == 63) text)
-cut_cases text None h = ap (λ n. take n text) h ∙ take_all (length text) text (omega arith)
-cut_cases text (Some x) h = h.1
-
--- one row more of the table is in the router
-pub table_step : (rows : List (Bor (List ℕ) × Goal)) (i : ℕ) (row : Bor (List ℕ) × Goal) (old new : RowsOf (RouteOf Goal)) (u : Unit {0}) → drop i rows ≡ row ∷ drop (i + 1) rows
-    → InsertsRead (parse_route row.0.now) row.1 old new (Ok u) → fold with_route old (map route_shown (drop i rows)) ≡ table → fold with_route new (map route_shown (drop (i + 1) rows)) ≡ table
-table_step rows i row old new u cut inserts invariant =
-    ap (λ r. fold with_route r (map route_shown (drop (i + 1) rows))) (sym (inserted row.0.now row.1 old new u inserts))
-    ∙ ap (λ left. fold with_route old (map route_shown left)) (sym cut) ∙ invariant

@@ -3,6 +3,7 @@ use Rattle.std.specs.Prelude.{ℕ, List, codes, Option, Some, None, option_map, 
 use Rattle.wiki_talk.specs.Kinds.{kind_named}
 use Rattle.wiki_talk.specs.declared.requests.Request.{Request}
 use Rattle.wiki_talk.specs.declared.requests.Request.TheVariants as requests
+use Rattle.wire_json.specs.Requests.{request_of}
 use Rattle.http_front.specs.declared.goals.Goal.{Goal}
 use Rattle.http_front.specs.declared.goals.Goal.TheVariants.{Index, NewWord, Line, Article, Session}
 use Rattle.http_front.specs.declared.goals.OnArticle.{OnArticle}
@@ -58,7 +59,7 @@ session_asked in_session.Drop session body = Some (requests.Drop session, answer
 
 -- what is asked by one line of JSON
 unfoldable pub line_asked : List ℕ → Option (Request × Then)
-line_asked body = None
+line_asked body = option_map (λ request. (request, answers.Line)) (request_of body)
 
 -- what a body asks at a path, of the word and the session that the path names
 abbrev pub asked : Goal → List ℕ → ℕ → List ℕ → Option (Request × Then)

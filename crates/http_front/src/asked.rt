@@ -9,6 +9,7 @@ use crate::seen::Then;
 use std::alloc::Global;
 use wiki_base::{Memory, Text8};
 use wiki_talk::{Request, kind_named};
+use wire_json::read_request;
 
 // A request, and the response when it is done.
 pub(crate) type Asked = Option<(Request, Then)>;
@@ -36,7 +37,10 @@ pub(crate) fn asked(
 fn line_asked(alloc: Global, body: &[u8]) -> Result<Asked, Memory>
     ensures { IfOk result (λ found. found ≡ line_asked body.now) }
 {
-    Ok(None)
+    match read_request(alloc, body)? {
+        Some(request) => Ok(Some((request, Then::Line))),
+        None => Ok(None),
+    }
 }
 
 #[tactic(auto, unfolding(crate::specs::Asked::word_asked))]

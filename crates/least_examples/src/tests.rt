@@ -235,15 +235,20 @@ fn a_reference_is_offered_where_it_finds_a_referent(rt: HostRuntime) -> Result<(
         (Group::Function, "something"),
         (Group::Name, "Mary"),
     ];
-    has_menu(&rt, rt.alloc(), &grammar, &PETS, "Mary sees", &without)?;
-    let noun = [(Group::Noun, "cat")];
+    has_menu(&rt, rt.alloc(), &grammar, &PETS, "Mary sees", &without)
+}
+
+#[test]
+fn the_is_followed_by_a_noun_that_was_introduced(rt: HostRuntime) -> Result<(), Fail> {
+    let grammar = built_in(rt.alloc())?;
+    let menu = [(Group::Noun, "cat")];
     has_menu(
         &rt,
         rt.alloc(),
         &grammar,
         &PETS,
         "If Mary sees a cat then the",
-        &noun,
+        &menu,
     )
 }
 

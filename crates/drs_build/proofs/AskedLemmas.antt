@@ -1,6 +1,6 @@
 -- A noun bar and a question introduce their referent, whatever kinds fit the grammar.
-use Rattle.std.proofs.Common.{◌≡◌, ℕ, zero, suc, ◌<◌, ◌+◌, Bool, true, false, cond, List, [], ◌∷◌, ◌++◌, length, map, refl, sym, ap, subst, ◌∙◌, arith, eq-eqb, Option, Some, None}
-use Rattle.std.specs.Prelude.{◌==◌, ◌&&◌, ◌||◌, not, filter, slice_get, slice_index_or, Contains, option_and_then}
+use Rattle.std.proofs.Common.{◌≡◌, ℕ, suc, Bool, true, false, cond, List, [], ◌∷◌, ◌++◌, refl, sym, ap, subst, ◌∙◌, arith, eq-eqb, Some}
+use Rattle.std.specs.Prelude.{◌==◌, ◌||◌, not, filter, slice_get, Contains, option_and_then}
 use Rattle.std.specs.Option.{option_map_or}
 use Rattle.std.specs.List.{list_any}
 use Rattle.wiki_base.specs.declared.numbers.WordId.{WordId}
@@ -20,7 +20,7 @@ use Rattle.logic_terms.specs.Structure.{Condition, Structure, structure, referen
 use Rattle.logic_terms.specs.Free.{is_bound}
 use Rattle.drs_build.specs.Joining.{◌⊕◌, only, introduced}
 use Rattle.drs_build.specs.Meanings.{Meaning, nothing, Made, meaning}
-use Rattle.drs_build.specs.Nodes.{is_meant, meaning_in, meant_children, child_meaning, made_in, label_of}
+use Rattle.drs_build.specs.Nodes.{is_meant, meaning_in, meant_children, made_in, label_of}
 use Rattle.drs_build.proofs.OrderLemmas.{both_true, eq_true}
 use Rattle.drs_build.proofs.NodeLemmas.{meaning_by}
 

@@ -14,10 +14,10 @@ use Rattle.derivation_trees.specs.Trees.{Node, Nodes, node, none, more}
 use Rattle.derivation_trees.specs.Settings.{Setting}
 use Rattle.derivation_trees.specs.Sentences.{setting_of}
 use Rattle.derivation_trees.specs.Skeletons.{word_at, skeleton}
-use Rattle.derivation_trees.specs.Sketches.{Sketch, Later, sketch_over, sketch_from, sketch_of, sketches_of, body_of}
+use Rattle.derivation_trees.specs.Sketches.{Sketch, sketch_over, sketch_from, sketch_of, sketches_of, body_of}
 use Rattle.derivations.proofs.SkeletonLemmas.{skeleton_of_is}
 use Rattle.drs_build.specs.Built.{IsDerived}
-use Rattle.drs_build.specs.Order.{Span, leads, is_in_order, span_of}
+use Rattle.drs_build.specs.Order.{leads, is_in_order, span_of}
 use Rattle.drs_build.proofs.OrderLemmas.{in_order_is, leads_up}
 use Rattle.codeco_checked.specs.Sound.{IsSound}
 use Rattle.lexicon.specs.Words.{Listed}

@@ -1,5 +1,5 @@
 -- In a sound grammar a rule whose label introduces a referent introduces one, behind a token.
-use Rattle.std.proofs.Common.{◌≡◌, ℕ, zero, suc, ◌+◌, ◌-◌, ◌<◌, ◌≤◌, Bool, true, false, List, [], ◌∷◌, take, refl, sym, ap, ◌∙◌, arith, inr, Option, Some, None}
+use Rattle.std.proofs.Common.{◌≡◌, ℕ, zero, suc, ◌-◌, ◌<◌, Bool, true, false, List, [], ◌∷◌, take, refl, sym, ap, ◌∙◌, arith, inr, Option, Some, None}
 use Rattle.std.specs.Prelude.{◌&&◌, ◌==◌, slice_get, count_by, if◌then◌else◌, option_and_then}
 use Rattle.std.specs.Option.{option_map_or}
 use Rattle.std.specs.List.{list_all}
@@ -11,7 +11,7 @@ use Rattle.codeco_terms.specs.GrammarParts.{GrammarParts}
 use Rattle.codeco_checked.specs.declared.labels.Kind.{Kind}
 use Rattle.codeco_checked.specs.declared.fault.GrammarFault.TheVariants.{LabelKind}
 use Rattle.codeco_checked.specs.declared.labels.LabelRow.{LabelRow}
-use Rattle.codeco_checked.specs.Labels.{label_row, child_kinds, head_fits, children_fit, words_fit, fits_row, fits_label, FitKinds, IsMisfit, is_introduction, is_reference, introduces_behind_tokens, one_if}
+use Rattle.codeco_checked.specs.Labels.{label_row, child_kinds, head_fits, children_fit, words_fit, fits_row, fits_label, FitKinds, is_introduction, is_reference, introduces_behind_tokens, one_if}
 use Rattle.codeco_checked.specs.Sound.{IsSound}
 use Rattle.derivation_trees.specs.Derives.{rule_with}
 use Rattle.derivation_trees.specs.Sketches.{body_of}

@@ -1,12 +1,12 @@
 -- What a phrase means introduces no referent more often than its parts do, and its own once.
-use Rattle.std.proofs.Common.{◌≡◌, ℕ, ◌+◌, ◌≤◌, cond, List, arith}
+use Rattle.std.proofs.Common.{ℕ, ◌+◌, ◌≤◌, cond, arith}
 use Rattle.std.specs.Prelude.{◌==◌}
 use Rattle.codeco_terms.specs.declared.rules.Label.{Label}
 use Rattle.codeco_terms.specs.declared.rules.Label.TheVariants as label
 use Rattle.codeco_checked.specs.Labels.{label_row}
 use Rattle.logic_terms.specs.declared.structures.Thing.{Thing}
 use Rattle.logic_terms.specs.declared.structures.Thing.TheVariants.{Ref}
-use Rattle.logic_terms.specs.Structure.{Structure, IsA, AreRelated, AreSame, Negation, Implication, Disjunction}
+use Rattle.logic_terms.specs.Structure.{Structure, IsA, AreRelated, AreSame, Negation, Implication}
 use Rattle.drs_build.specs.Joining.{◌⊕◌, only, introduced}
 use Rattle.drs_build.specs.Meanings.{Meaning, nothing, saying, bar, verb_phrase, noun_phrase, Made, meaning}
 use Rattle.drs_build.proofs.CountLemmas.{one, count_in, joined_count, negation_count, implication_count, disjunction_count}

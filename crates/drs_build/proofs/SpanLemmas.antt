@@ -1,5 +1,5 @@
 -- What a phrase means introduces only referents that lie in its span, each once.
-use Rattle.std.proofs.Common.{◌≡◌, ℕ, zero, suc, ◌+◌, ◌-◌, ◌≤◌, Bool, true, false, cond, List, [], ◌∷◌, map, refl, sym, ap, subst, ◌∙◌, arith, Option, Some, None}
+use Rattle.std.proofs.Common.{◌≡◌, ℕ, zero, suc, ◌+◌, ◌≤◌, Bool, true, false, cond, List, [], ◌∷◌, map, refl, sym, ap, subst, arith, Option, Some, None}
 use Rattle.std.specs.Prelude.{◌==◌, filter, slice_get, count_by}
 use Rattle.std.specs.Option.{option_map_or}
 use Rattle.wiki_base.specs.declared.numbers.WordId.{WordId}
@@ -8,9 +8,9 @@ use Rattle.codeco_terms.specs.GrammarParts.{GrammarParts}
 use Rattle.codeco_checked.specs.Labels.{label_row, is_introduction}
 use Rattle.derivation_trees.specs.declared.skeletons.Skeleton.{Skeleton, out-Skeleton}
 use Rattle.derivation_trees.specs.Sketches.{body_of}
-use Rattle.drs_build.specs.Meanings.{Meaning, nothing, Made, meaning}
-use Rattle.drs_build.specs.Nodes.{label_of, is_meant, introduced_at, ends_of, position_in, meaning_in, meant_children, child_meaning, made_in}
-use Rattle.drs_build.specs.Order.{Span, span_of, is_in_order, leads}
+use Rattle.drs_build.specs.Meanings.{nothing, meaning}
+use Rattle.drs_build.specs.Nodes.{label_of, is_meant, introduced_at, ends_of, position_in, meaning_in, meant_children, made_in}
+use Rattle.drs_build.specs.Order.{span_of, is_in_order}
 use Rattle.drs_build.proofs.OrderLemmas.{body_leads}
 use Rattle.drs_build.proofs.NodeLemmas.{meaning_by, meaning_none}
 use Rattle.drs_build.proofs.CountLemmas.{one}

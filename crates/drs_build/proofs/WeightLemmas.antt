@@ -1,13 +1,13 @@
 -- How often the places of a body's parts have a referent: together at most as often as its span.
-use Rattle.std.proofs.Common.{◌≡◌, ℕ, suc, ◌+◌, ◌-◌, ◌≤◌, Bool, true, false, cond, List, [], ◌∷◌, map, refl, sym, ap, ◌∙◌, arith}
-use Rattle.std.specs.Prelude.{◌&&◌, ◌||◌, ◌==◌, nat_le, nat_lt, not, count_by}
+use Rattle.std.proofs.Common.{◌≡◌, ℕ, ◌+◌, ◌-◌, ◌≤◌, Bool, true, false, cond, List, [], ◌∷◌, map, ap, arith}
+use Rattle.std.specs.Prelude.{◌&&◌, ◌==◌, nat_le, nat_lt, count_by}
 use Rattle.std.proofs.lemmas.Bool.Decides.{nat_tests}
 use Rattle.codeco_terms.specs.declared.elements.Element.{Element}
 use Rattle.codeco_terms.specs.declared.elements.Element.TheVariants.{Terminal, Preterminal, Sub, Position, Opener, Forward, Strong, Back, NoBack}
-use Rattle.codeco_checked.specs.Labels.{is_introduction, ends_with_token, introduces_behind_tokens}
+use Rattle.codeco_checked.specs.Labels.{is_introduction, introduces_behind_tokens}
 use Rattle.drs_build.specs.Nodes.{introduced_at}
 use Rattle.drs_build.specs.Order.{Span, leads}
-use Rattle.drs_build.proofs.OrderLemmas.{both_true, le_true, eq_true, leads_up}
+use Rattle.drs_build.proofs.OrderLemmas.{both_true, le_true, eq_true}
 use Rattle.drs_build.proofs.CountLemmas.{one}
 
 -- the referent lies behind the place

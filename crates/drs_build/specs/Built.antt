@@ -38,7 +38,8 @@ is_question g sk = option_map_or is_ask (label_of g (out-Skeleton sk).rule) fals
 -- free referent.
 abbrev pub Builds : GrammarParts → Skeleton → Built → Type 0
 Builds g sk (Statement drs) = (is_question g sk ≡ false) × (structure_of drs ≡ (meaning_of g sk).says) × IsClosed (meaning_of g sk).says
-Builds g sk (Question drs referent) = (is_question g sk ≡ true) × (structure_of drs ≡ (meaning_of g sk).says) × (referent ≡ (meaning_of g sk).referent) × IsClosed (meaning_of g sk).says
+Builds g sk (Question drs referent) =
+    (is_question g sk ≡ true) × (structure_of drs ≡ (meaning_of g sk).says) × (referent ≡ (meaning_of g sk).referent) × IsClosed (meaning_of g sk).says
 Builds g sk (Free referent) = free_in [] (meaning_of g sk).says ≡ Some referent
 
 -- no referent of what is built is free

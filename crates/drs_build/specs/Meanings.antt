@@ -60,7 +60,8 @@ meaning label.Done m = verb_phrase (λ x. m.first.around (only (AreRelated m.wor
 meaning label.Class m = verb_phrase (λ x. only (IsA m.word x) ⊕ m.first.on x)
 meaning label.Top m = verb_phrase (λ x. empty)
 meaning label.Same m = verb_phrase (λ x. m.first.around (only (AreSame x m.first.term)))
-meaning label.Only m = verb_phrase (λ x. only (Implication (introduced m.here ⊕ only (AreRelated m.word x (Ref m.here))) (only (IsA m.other_word (Ref m.here)))))
+meaning label.Only m =
+    verb_phrase (λ x. only (Implication (introduced m.here ⊕ only (AreRelated m.word x (Ref m.here))) (only (IsA m.other_word (Ref m.here)))))
 meaning label.Gap m = verb_phrase (λ x. m.first.around (only (AreRelated m.word m.first.term x)))
 meaning label.Name m = noun_phrase (Name m.word) (λ k. k)
 meaning label.Refer m = noun_phrase m.found (λ k. k)

@@ -1,5 +1,5 @@
 -- The structure of a skeleton, by recursion on it.
-use Rattle.std.specs.Prelude.{ℕ, ◌+◌, ◌==◌, Bool, true, false, not, List, [], ◌∷◌, ◌++◌, map, filter, flat_map, slice_index, slice_index_or, slice_get, Option, Some, None, option_and_then, unwrap_or, if◌then◌else◌}
+use Rattle.std.specs.Prelude.{ℕ, ◌+◌, ◌==◌, Bool, true, false, not, List, [], ◌∷◌, ◌++◌, map, filter, flat_map, slice_index, slice_index_or, slice_get, Option, option_and_then, if◌then◌else◌}
 use Rattle.std.specs.Option.{option_map_or}
 use Rattle.wiki_base.specs.declared.numbers.WordId.{WordId}
 use Rattle.codeco_terms.specs.declared.elements.Element.{Element}
@@ -137,9 +137,17 @@ ends_of children = map (λ c. (out-Skeleton c).end) children
 abbrev pub position_in : GrammarParts → Skeleton → ℕ
 position_in g sk = introduced_at (body_of g (out-Skeleton sk).rule) (out-Skeleton sk).start (ends_of (out-Skeleton sk).children)
 
+-- the name that a skeleton's own rule introduces, with its position
+abbrev pub own_name_in : GrammarParts → Skeleton → List (ℕ × WordId)
+own_name_in g sk = own_name g (out-Skeleton sk).rule (out-Skeleton sk).start (out-Skeleton sk).words (ends_of (out-Skeleton sk).children)
+
+-- those of the skeletons that are no marks
+abbrev pub meant_among : GrammarParts → List Skeleton → List Skeleton
+meant_among g sks = filter (λ c. is_meant g (out-Skeleton c).rule) sks
+
 -- the children that are no marks
 abbrev pub meant_children : GrammarParts → Skeleton → List Skeleton
-meant_children g sk = filter (λ c. is_meant g (out-Skeleton c).rule) (out-Skeleton sk).children
+meant_children g sk = meant_among g (out-Skeleton sk).children
 
 -- the meaning of the child of this number among those that are no marks
 abbrev pub child_meaning : GrammarParts → List (ℕ × WordId) → Skeleton → ℕ → Meaning

@@ -374,7 +374,8 @@ fn thing_said(text: &Text<'_>, node: &Skeleton) -> Result<Parts, Memory>
 #[cycle(meanings)]
 fn around_by(text: &Text<'_>, node: &Skeleton, label: Label, inner: Parts) -> Result<Parts, Memory>
     requires { IsTrue (is_in_order text.now.grammar.now node.now) }
-    ensures { IfOk result (λ parts. structure_in parts ≡ (meaning label (made_in text.now.grammar.now text.now.names.now node.now)).around (structure_in inner)) }
+    ensures { IfOk result (λ parts. structure_in parts
+        ≡ (meaning label (made_in text.now.grammar.now text.now.names.now node.now)).around (structure_in inner)) }
 {
     match label {
         Label::Statement | Label::Ask | Label::Pass => child_around(text, node, 0, inner),

@@ -1,7 +1,6 @@
 // The names of a skeleton, with the positions at which they are introduced.
 ghost use Rattle.std.specs.Prelude.{◌≡◌, ◌++◌, IfOk, OnOk, IsTrue};
 ghost use Rattle.codeco_checked.specs.Labels as labels;
-ghost use Rattle.derivation_trees.specs.declared.skeletons.Skeleton.{out-Skeleton};
 ghost use Rattle.drs_build.specs.Nodes as nodes;
 ghost use Rattle.drs_build.specs.Order.{is_in_order};
 
@@ -36,7 +35,7 @@ fn push_own(
     skeleton: &Skeleton,
 ) -> Result<(), Memory>
     requires { IsTrue (is_in_order grammar.now skeleton.now) }
-    ensures { OnOk result (names.new ≡ names.old ++ nodes.own_name grammar.now (out-Skeleton skeleton.now).rule (out-Skeleton skeleton.now).start (out-Skeleton skeleton.now).words (nodes.ends_of (out-Skeleton skeleton.now).children)) }
+    ensures { OnOk result (names.new ≡ names.old ++ nodes.own_name_in grammar.now skeleton.now) }
 {
     if is_naming(label_of(grammar, skeleton.rule)) {
         names.push((

@@ -1,5 +1,5 @@
 // Nodes of skeletons: their labels, their children, their words and the position of what they introduce.
-ghost use Rattle.std.specs.Prelude.{◌≡◌, ◌<◌, ◌+◌, Option, None, Some, filter, slice_get, slice_index, slice_index_or, length, map, IsTrue, MatchOption};
+ghost use Rattle.std.specs.Prelude.{◌≡◌, ◌<◌, None, Some, slice_get, slice_index, slice_index_or, length, map, IsTrue, MatchOption};
 ghost use Rattle.std.specs.Option.{option_copied};
 ghost use Rattle.derivation_trees.specs.declared.skeletons.Skeleton.{out-Skeleton};
 ghost use Rattle.derivation_trees.specs.declared.skeletons.Skeleton.TheViews.{size-Skeleton};
@@ -65,8 +65,8 @@ fn is_meant(grammar: &Grammar, number: u16) -> bool
 // The place of the child of this number among those that are no marks.
 fn child_place(grammar: &Grammar, children: &[Skeleton], number: usize) -> Option<usize>
     ensures { MatchOption result
-        (slice_get (filter (λ c. nodes.is_meant grammar.now (out-Skeleton c).rule) children.now) number ≡ None)
-        (λ place. (place < length children.now) × (slice_get (filter (λ c. nodes.is_meant grammar.now (out-Skeleton c).rule) children.now) number ≡ slice_get children.now place)) }
+        (slice_get (nodes.meant_among grammar.now children.now) number ≡ None)
+        (λ place. (place < length children.now) × (slice_get (nodes.meant_among grammar.now children.now) number ≡ slice_get children.now place)) }
 {
     let mut left = number;
     for (place, child) in children.iter().enumerate() {

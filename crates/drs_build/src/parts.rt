@@ -27,7 +27,8 @@ fn joined_referents(mut one: Vec<u16>, mut other: Vec<u16>) -> Result<Vec<u16>, 
 
 #[tactic(auto, using(crate::proofs::JoinLemmas::conditions_joined))]
 fn joined_conditions(mut one: Vec<Cond>, mut other: Vec<Cond>) -> Result<Vec<Cond>, Memory>
-    ensures { IfOk result (λ all. conditions_from (map condition_of all.items) ≡ both (conditions_from (map condition_of one.items)) (conditions_from (map condition_of other.items))) }
+    ensures { IfOk result (λ all. conditions_from (map condition_of all.items)
+        ≡ both (conditions_from (map condition_of one.items)) (conditions_from (map condition_of other.items))) }
 {
     one.append(&mut other)?;
     Ok(one)

@@ -1,7 +1,7 @@
-use Rattle.std.proofs.Common.{◌≡◌, ℕ, ◌≤◌, ◌++◌, List, length, IfOk, Some, sym, ap, ◌∙◌, subst, arith}
-use Rattle.logic_terms.specs.Structure.{conditions_from, conditions_in, referents_in}
+use Rattle.std.proofs.Common.{◌≡◌, ◌≤◌, ◌++◌, length, IfOk, sym, ap, ◌∙◌, subst, arith}
+use Rattle.logic_terms.specs.Structure.{conditions_from, referents_in}
 use Rattle.logic_terms.specs.Shown.{structure_of, condition_of, conditions_of}
-use Rattle.logic_terms.specs.Free.{free_in, free_in_all}
+use Rattle.logic_terms.specs.Free.{free_in_all}
 use Rattle.drs_build.proofs.FreeLemmas.{free_in_is, here_free, later_free, none_free}
 use Rattle.drs_build.proofs.free.+free.Goals as goal
 

@@ -1,10 +1,5 @@
-use Rattle.std.proofs.Common.{◌≡◌, IfOk, sym, ap, subst, ◌∙◌, rules, arith}
-use Rattle.derivation_trees.specs.declared.skeletons.Skeleton.{Skeleton}
-use Rattle.logic_terms.specs.declared.structures.Thing.{Thing}
-use Rattle.logic_terms.specs.Structure.{Structure}
+use Rattle.std.proofs.Common.{sym, ap, ◌∙◌, arith}
 use Rattle.drs_build.specs.Meanings.{Meaning}
-use Rattle.drs_build.specs.Made.{structure_in}
-use Rattle.drs_build.specs.declared.parts.Parts.{Parts}
 use Rattle.drs_build.proofs.NodeLemmas.{meaning_by, meaning_none, child_meant}
 use Rattle.drs_build.proofs.meanings.+terms.Goals as goal
 

@@ -1,6 +1,6 @@
-use Rattle.std.proofs.Common.{◌≡◌, ◌<◌, ◌+◌, ℕ, List, map, refl, sym, ap, ◌∙◌, rules, arith}
+use Rattle.std.proofs.Common.{◌+◌, map, arith}
 use Rattle.drs_build.specs.Order.{span_of}
-use Rattle.drs_build.proofs.OrderLemmas.{leads_up, terminal_leads, preterminal_leads, child_leads, childless_leads, position_leads, opener_leads, reference_leads, absence_leads, ended}
+use Rattle.drs_build.proofs.OrderLemmas.{leads_up, terminal_leads, preterminal_leads, child_leads, childless_leads, position_leads, opener_leads, reference_leads, absence_leads}
 use Rattle.drs_build.proofs.nodes.+introduced_at.Goals as goal
 
 pub overflow_add-place : goal.overflow_add-place

@@ -1,4 +1,4 @@
-use Rattle.std.proofs.Common.{◌≡◌, map, sym, ap, ◌∙◌}
+use Rattle.std.proofs.Common.{map, ap, ◌∙◌}
 use Rattle.derivation_trees.specs.declared.skeletons.Skeleton.{out-Skeleton}
 use Rattle.derivation_trees.specs.Sketches.{body_of}
 use Rattle.drs_build.specs.Order.{leads, span_of}

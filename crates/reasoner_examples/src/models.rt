@@ -7,7 +7,7 @@ use std::alloc::Global;
 use std::test::Fail;
 use wiki_base::WordId;
 
-const MOST_INTERPRETATIONS: u64 = 5_000;
+const MOST_INTERPRETATIONS: u64 = 1_000_000;
 
 /// Whether axioms have a model with at most three elements, or at most two where there are too many with three. The text is
 /// that of the axioms: its signs are the words that an interpretation gives something.

@@ -149,11 +149,11 @@ fn no_small_model_is_overlooked(rt: HostRuntime) -> Result<(), Fail> {
 #[test]
 fn each_of_many_names_is_an_element(rt: HostRuntime) -> Result<(), Fail> {
     let alloc = rt.alloc();
-    let names = first_names(alloc, 500)?;
+    let names = first_names(alloc, 5_000)?;
     let axioms = read(alloc, "A1:")?;
     assert!(rt; are_fit(&names, &axioms));
     match verdict(alloc, axioms, &names, &bare(alloc)?, 0)? {
-        Verdict::Consistent(model) => assert_eq!(rt; model.interp().size(), 500),
+        Verdict::Consistent(model) => assert_eq!(rt; model.interp().size(), 5_000),
         _ => assert!(rt; false, "a model"),
     }
     Ok(())

@@ -2,6 +2,7 @@
 #![tactic(auto)]
 
 mod faults;
+mod parsing;
 #[cfg(test)]
 mod tests;
 mod told;

@@ -12,5 +12,5 @@ mod tests;
 pub use kinds::{kind_name, kind_named};
 pub use limits::Limit;
 pub use refusals::{BAD_REQUEST, Refusal, Title};
-pub use replies::{Reply, WordView, WordViews};
+pub use replies::{MenuView, Numbers, Reply, WordView, WordViews};
 pub use requests::Request;

@@ -1,0 +1,12 @@
+pub mod JoinLemmas
+pub mod FreeLemmas
+pub mod NodeLemmas
+pub mod OrderLemmas
+pub mod CountLemmas
+pub mod LightLemmas
+pub mod WeightLemmas
+pub mod GrammarLemmas
+pub mod SpanLemmas
+pub mod AskedLemmas
+pub mod QuestionLemmas
+pub mod DerivedLemmas

@@ -6,6 +6,7 @@ mod parsing;
 #[cfg(test)]
 mod tests;
 mod told;
+mod typing;
 mod wiki;
 mod words;
 

@@ -6,8 +6,9 @@ ghost use Rattle.derivation_trees.specs.Sentences.{IsSentence};
 ghost use Rattle.wiki_core.specs.Parsing.{of_group, told_menu, IsNoSentence};
 ghost use Rattle.wiki_core.specs.Words.{full_at};
 
+use crate::typing::{menu, typeable_count};
 use codeco_checked::CheckedGrammar;
-use derivations::{Group, Menu, Skeleton, plain_menu, typeable_count};
+use derivations::{Group, Menu, Skeleton};
 use lexicon::Lexicon;
 use lists::Copied;
 use std::alloc::Global;
@@ -51,7 +52,7 @@ pub(crate) fn no_sentence(
     let count = typeable_count(alloc, grammar, lexicon, tokens)?;
     let mut front = tokens.copy()?;
     front.truncate(count);
-    let menu = plain_menu(alloc, grammar, lexicon, &front)?;
+    let menu = menu(alloc, grammar, lexicon, &front)?;
     let menu = told_menu(alloc, &menu)?;
     Ok(Refusal::NotSentence {
         k: count as u32,

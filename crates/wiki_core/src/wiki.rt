@@ -5,9 +5,10 @@ ghost use Rattle.wiki_base.specs.declared.tokens.TheConstants.{MOST_TOKENS};
 use crate::faults::Fault;
 use crate::parsing::{no_sentence, told_code, too_many_tokens};
 use crate::told::{told_word, told_words};
+use crate::typing::least;
 use crate::words::add_word;
 use codeco_checked::CheckedGrammar;
-use derivations::{Cut, cut, plain_least};
+use derivations::{Cut, cut};
 use lexicon::{Forms, Kind, Lexicon};
 use lists::Copied;
 use std::alloc::Global;
@@ -123,7 +124,7 @@ impl Wiki {
         ensures { IfOk result (λ reply. (text : List ℕ) → tokens_of self.now text ≡ tokens.now
             → Step self.now (Request.Parse text) reply self.now) }
     {
-        match plain_least(self.alloc, &self.grammar, &self.lexicon, tokens)? {
+        match least(self.alloc, &self.grammar, &self.lexicon, tokens)? {
             Some(least) => Ok(Reply::Parse {
                 code: told_code(self.alloc, &least)?,
             }),

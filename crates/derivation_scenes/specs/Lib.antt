@@ -1,1 +1,2 @@
 pub mod TokenElements
+pub mod Starts

@@ -6,7 +6,9 @@ mod elements;
 mod fitting;
 mod instances;
 mod scene;
+mod starts;
 
 pub use elements::pass;
 pub use instances::is_instance;
 pub use scene::Scene;
+pub use starts::may_start;

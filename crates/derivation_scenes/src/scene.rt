@@ -75,7 +75,7 @@ impl<'a> Scene<'a> {
     }
 
     // Whether the token at the place is the terminal with the number.
-    fn matches_terminal(&self, terminal: u16, place: usize) -> bool
+    pub(crate) fn matches_terminal(&self, terminal: u16, place: usize) -> bool
         ensures { result ≡ settings.matches_terminal self.now terminal place }
     {
         let Some(token) = self.tokens.get(place) else {

@@ -1,5 +1,5 @@
 -- Lists only grow along paths.
-use Rattle.std.proofs.Common.{◌≡◌, ℕ, zero, suc, ◌+◌, List, [], ◌∷◌, ◌++◌, map, take, drop, length, Bool, true, false, ◌⊎◌, inl, inr, Option, Some, None, refl, sym, ap, subst, ◌∙◌, append-nil}
+use Rattle.std.proofs.Common.{◌≡◌, ℕ, zero, suc, ◌+◌, List, [], ◌∷◌, ◌++◌, map, take, drop, length, Bool, true, false, ◌&&◌, ◌⊎◌, inl, inr, Option, Some, None, refl, sym, ap, subst, ◌∙◌, append-nil}
 use Rattle.std.specs.Prelude.{if◌then◌else◌, ◌==◌}
 use Rattle.std.specs.Option.{option_map_or}
 use Rattle.std.specs.List.{flat_map}
@@ -15,6 +15,7 @@ use Rattle.derivation_trees.specs.Instances.{under}
 use Rattle.derivation_trees.specs.Derives.{At, Stand, pass, fits, list_after}
 use Rattle.derivation_trees.specs.Stands.{Begins, is_sub}
 use Rattle.derivation_trees.proofs.StandLemmas.{Begins-refl, Begins-trans, pass_begins}
+use Rattle.derivation_scenes.specs.Starts.{may_start}
 use Rattle.derivations.specs.Enumeration.{Path, Outcome, found_at, passed, joined, steps, all_steps, opened, ended_path, instances, may_begin, instance_trees, rule_trees, rules_trees, trees_of}
 use Rattle.derivations.proofs.Members.{Among}
 
@@ -91,7 +92,7 @@ instance_grows s trees grows wanted at number rule values = by (may_begin s rule
     by true = each_map (PathBegins at.list) (OutcomeBegins at.list) (ended_path number rule values at.list) (λ path h. after_begins rule.closing at.list path.at.list h) (all_steps s trees values rule.body (opened rule values at ∷ [])) (all_grow s trees grows values at.list rule.body (opened rule values at ∷ []) (Begins-refl at.list, tt))
 
 rule_grows : (s : Setting) (trees : Test → At → List Outcome) → Grows trees → (wanted : Test) (at : At) (number : ℕ) (rule : Rule) → Each (OutcomeBegins at.list) (rule_trees s trees wanted at number rule)
-rule_grows s trees grows wanted at number rule = by (rule.head.name == wanted.name)
+rule_grows s trees grows wanted at number rule = by ((rule.head.name == wanted.name) && may_start s at.place rule.body)
   where
     by : (b : Bool) → Each (OutcomeBegins at.list) (if b then flat_map (instance_trees s trees wanted at number rule) (instances s rule wanted) else [])
     by false = tt

@@ -3,6 +3,7 @@ pub mod ValueLemmas
 pub mod TermLemmas
 pub mod ChoiceLemmas
 pub mod StepLemmas
+pub mod StartLemmas
 pub mod ListingLemmas
 pub mod GrowLemmas
 pub mod DepthLemmas

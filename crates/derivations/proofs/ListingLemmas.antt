@@ -14,6 +14,7 @@ use Rattle.derivation_trees.specs.Derives.{At, Stand, Phrase, run, fits, begun, 
 use Rattle.derivations.specs.Enumeration.{Path, Outcome, opened, ended_path, all_steps, instances, instance_trees, rule_trees, rules_trees, trees_of}
 use Rattle.derivations.proofs.Members.{Among, among_left, among_right, among_map, among_flat_map, first_of_and, second_of_and, some_same}
 use Rattle.derivations.proofs.ChoiceLemmas.{instance_has}
+use Rattle.derivations.proofs.StartLemmas.{run_starts}
 use Rattle.derivations.proofs.StepLemmas.{stand_of, Goes, Knows, all_goes}
 
 -- nodes as a list
@@ -105,7 +106,7 @@ instance_tree_has s trees wanted at after number rule values found children know
     let listed : Among (map (ended_path number rule values at.list) (all_steps s trees values rule.body (start ∷ []))) (record { tree = node number values found children; at = after }) = subst (Among (map (ended_path number rule values at.list) (all_steps s trees values rule.body (start ∷ [])))) same (among_map (ended_path number rule values at.list) (all_steps s trees values rule.body (start ∷ [])) goes.next goes.among) in
     let of_instance : Among (instance_trees s trees wanted at number rule values) (record { tree = node number values found children; at = after }) = subst (λ b. Among (if b then map (ended_path number rule values at.list) (all_steps s trees values rule.body (start ∷ [])) else []) (record { tree = node number values found children; at = after })) (sym (both_true parts.fit parts.instance)) listed in
     let all : Among (flat_map (instance_trees s trees wanted at number rule) (instances s rule wanted)) (record { tree = node number values found children; at = after }) = among_flat_map (instance_trees s trees wanted at number rule) (instances s rule wanted) values (record { tree = node number values found children; at = after }) (instance_has s rule wanted values parts.instance parts.fit) of_instance in
-    subst (λ b. Among (if b then flat_map (instance_trees s trees wanted at number rule) (instances s rule wanted) else []) (record { tree = node number values found children; at = after })) (sym (first_of_and (rule.head.name == wanted.name) _ parts.fit)) all
+    subst (λ b. Among (if b then flat_map (instance_trees s trees wanted at number rule) (instances s rule wanted) else []) (record { tree = node number values found children; at = after })) (sym (both_true (first_of_and (rule.head.name == wanted.name) _ parts.fit) (run_starts s values rule.body (record { at = at; found = found; own = own_values rule values; children = phrases_of s children }) parts.stand parts.ran))) all
 
 rules_has : (s : Setting) (trees : Test → At → List Outcome) (wanted : Test) (at : At) (first : ℕ) (rules : List Rule) (k : ℕ) (rule : Rule) (o : Outcome) → slice_get rules k ≡ Some rule → Among (rule_trees s trees wanted at (first + k) rule) o → Among (rules_trees s trees wanted at first rules) o
 rules_has s trees wanted at first [] k rule o h m = cc

@@ -1,5 +1,5 @@
 -- One step of a loop.
-use Rattle.std.proofs.Common.{◌≡◌, ℕ, zero, suc, ◌+◌, ◌-◌, ◌<◌, List, [], ◌∷◌, ◌++◌, map, length, take, drop, get_or, All, Bool, true, false, ◌||◌, Option, Some, None, refl, sym, ap, subst, ◌∙◌, append_assoc, append-nil, arith}
+use Rattle.std.proofs.Common.{◌≡◌, ℕ, zero, suc, ◌+◌, ◌-◌, ◌<◌, List, [], ◌∷◌, ◌++◌, map, length, take, drop, get_or, All, Bool, true, false, ◌&&◌, ◌||◌, Option, Some, None, refl, sym, ap, subst, ◌∙◌, append_assoc, append-nil, arith}
 use Rattle.std.proofs.lemmas.List.{take_more, drop_more}
 use Rattle.std.proofs.lemmas.Grind.{flat_map-append}
 use Rattle.std.specs.Prelude.{if◌then◌else◌, ◌==◌, slice_get}
@@ -118,3 +118,13 @@ cut_deeper s zero wanted at h = absurd (h refl)
 cut_deeper s (suc depth) wanted at h =
     let less : suc depth - 1 ≡ depth = omega arith in
     ap (λ d. list_any (rule_cut s (enumeration.trees_of s d) (cut_of s d) wanted at) s.grammar.rules) less
+
+-- where nothing comes to be
+
+pub no_more_where : {X : Type 0} (a b : Bool) (old more : List X) → a ≡ false → old ≡ old ++ (if a && b then more else [])
+no_more_where a b old more h = sym (append-nil old) ∙ ap (λ x. old ++ (if x && b then more else [])) (sym h)
+
+pub nothing_ended : {X : Type 0} (b : Bool) (old : List X) (f : enumeration.Path → X) (paths : List Path) → length paths ≡ 0 → old ≡ old ++ (if b then map f (map path_of paths) else [])
+nothing_ended true old f [] h = sym (append-nil old)
+nothing_ended false old f [] h = sym (append-nil old)
+nothing_ended b old f (p ∷ ps) h = absurd (omega (arith, h))

@@ -20,6 +20,7 @@ use Rattle.derivation_trees.specs.Trees.{Node, Nodes, node, none, more, nodes_fr
 use Rattle.derivation_trees.specs.Settings.{Setting, matches_terminal, matches_preterminal}
 use Rattle.derivation_trees.specs.Instances.{value_under, under, tests_under, is_instance, own_values}
 use Rattle.derivation_trees.specs.Derives.{At, Stand, Phrase, pass, pass_token, pass_child, pass_finding, run, begun, ended, phrase, phrase_of, phrases_of, rule_with, fits, is_found, is_none_left, list_after, reference_tests}
+use Rattle.derivation_scenes.specs.Starts.{may_start}
 use Rattle.derivations.specs.Enumeration.{Path, Outcome, found_at, passed, joined, steps, all_steps, opened, ended_path, instances, may_begin, instance_trees, rule_trees, rules_trees, trees_of}
 use Rattle.derivations.proofs.Members.{Among, first_of_and, second_of_and, some_same, true_is_false}
 use Rattle.derivations.proofs.StepLemmas.{stand_of, token_commutes, test_commutes, no_test_commutes, refit, Commutes}
@@ -199,7 +200,7 @@ instance_sound s trees wanted at number rule values o sound there h = by (may_be
         ap (λ x. phrase_of s x.tree wanted at) one.is ∙ ap (option_and_then (λ r. phrase s r values one.from.found (phrases_of s (nodes_from one.from.children)) wanted at)) there ∙ led ∙ ap (λ x. Some x.at) (sym one.is)
 
 rule_sound : (s : Setting) (trees : Test → At → List Outcome) (wanted : Test) (at : At) (number : ℕ) (rule : Rule) (o : Outcome) → Sound s trees → rule_with s.grammar number ≡ Some rule → Among (rule_trees s trees wanted at number rule) o → phrase_of s o.tree wanted at ≡ Some o.at
-rule_sound s trees wanted at number rule o sound there h = by (rule.head.name == wanted.name) h
+rule_sound s trees wanted at number rule o sound there h = by ((rule.head.name == wanted.name) && may_start s at.place rule.body) h
   where
     by : (b : Bool) → Among (if b then flat_map (instance_trees s trees wanted at number rule) (instances s rule wanted) else []) o → phrase_of s o.tree wanted at ≡ Some o.at
     by false k = absurd k

@@ -26,6 +26,7 @@ use Rattle.derivation_trees.specs.Trees.{Node, node, nodes_from}
 use Rattle.derivation_trees.specs.Settings.{Setting}
 use Rattle.derivation_trees.specs.Instances.{under, written_variables, rule_own_features, own_values, is_instance}
 use Rattle.derivation_trees.specs.Derives.{At, pass, reference_tests, fits, list_after}
+use Rattle.derivation_scenes.specs.Starts.{may_start}
 
 -- A node of which some elements are passed: the positions that its references have found, its own variables to come, its
 -- children, and the place and the list where it stands.
@@ -250,10 +251,10 @@ instance_trees s trees wanted at number rule values =
     then map (ended_path number rule values at.list) (all_steps s trees values rule.body (opened rule values at ∷ []))
     else []
 
--- the trees with a rule
+-- the trees with a rule, of which the first element that takes tokens may stand at the place
 abbrev pub rule_trees : Setting → (Test → At → List Outcome) → Test → At → ℕ → Rule → List Outcome
 rule_trees s trees wanted at number rule =
-    if rule.head.name == wanted.name then flat_map (instance_trees s trees wanted at number rule) (instances s rule wanted) else []
+    if (rule.head.name == wanted.name) && may_start s at.place rule.body then flat_map (instance_trees s trees wanted at number rule) (instances s rule wanted) else []
 
 -- the trees with any of the rules, of which the first has the number
 abbrev pub rules_trees : Setting → (Test → At → List Outcome) → Test → At → ℕ → List Rule → List Outcome

@@ -1,5 +1,5 @@
 // The trees for a category at a place and a list.
-ghost use Rattle.std.specs.Prelude.{◌≡◌, ◌≤◌, ◌+◌, ◌∷◌, [], ◌++◌, All, IfOk, OnOk, map};
+ghost use Rattle.std.specs.Prelude.{◌≡◌, ◌≤◌, ◌+◌, ◌∷◌, [], ◌++◌, if◌then◌else◌, All, IfOk, OnOk, map};
 ghost use Rattle.std.specs.List.{flat_map};
 ghost use Rattle.derivation_trees.specs.Stands.{Begins, IsLimited, IsWithin, at_of};
 ghost use Rattle.derivations.specs.Enumeration as enumeration;
@@ -8,7 +8,7 @@ ghost use Rattle.derivations.specs.Paths.{path_of, outcome_of};
 use crate::choices::{Bound, instances};
 use crate::paths::{Outcome, Path, copy_found, copy_pairs, joined, push_passed};
 use codeco_terms::{Element, Rule, Value};
-use derivation_scenes::{Scene, is_instance};
+use derivation_scenes::{Scene, is_instance, may_start};
 use derivation_trees::{Binds, Places, Tree, Trees, closed, fits, own_values, under};
 use lists::List;
 use scopes::{Access, Test};
@@ -214,7 +214,31 @@ pub(crate) fn may_begin(
     is_instance(alloc, setting, rule, values)
 }
 
+// Adds the trees at the ends of the paths, where the values are an instance whose head fits.
+#[tactic(auto, using(crate::proofs::LoopLemmas::nothing_ended))]
+fn push_instance_ends(
+    alloc: Global,
+    setting: &Scene<'_>,
+    wanted: &Test,
+    number: u16,
+    rule: &Rule,
+    values: &[(u8, Value)],
+    begun: &Access,
+    paths: &[Path],
+    out: &mut List<Outcome>,
+) -> Result<(), Memory>
+    requires { All (λ path. Begins begun.now path.list) paths.now }
+    ensures { OnOk result (map outcome_of out.new ≡ map outcome_of out.old ++ (if enumeration.may_begin setting.now rule.now wanted.now values.now
+        then map (enumeration.ended_path number rule.now values.now begun.now) (map path_of paths.now) else [])) }
+{
+    if paths.len() == 0 || !may_begin(alloc, setting, rule, wanted, values)? {
+        return Ok(());
+    }
+    push_ends(alloc, number, rule, values, begun, paths, out)
+}
+
 // Adds the trees with the rule and the instance.
+#[tactic(auto, using(crate::proofs::LoopLemmas::no_more_where))]
 #[cycle(listing)]
 fn push_instance_trees(
     alloc: Global,
@@ -234,12 +258,23 @@ fn push_instance_trees(
     ensures { OnOk result (map outcome_of out.new ≡ map outcome_of out.old
         ++ enumeration.instance_trees setting.now (enumeration.trees_of setting.now depth) wanted.now (at_of (place, list.now)) number rule.now values.now) }
 {
-    if !may_begin(alloc, setting, rule, wanted, values)? {
+    let head = under(alloc, values, &rule.head)?;
+    if !fits(&head, wanted) {
         return Ok(());
     }
     let start = opened(alloc, rule, values, place, list)?;
     let paths = run_all(alloc, setting, depth, values, rule.body.as_slice(), start)?;
-    push_ends(alloc, number, rule, values, list, paths.as_slice(), out)
+    push_instance_ends(
+        alloc,
+        setting,
+        wanted,
+        number,
+        rule,
+        values,
+        list,
+        paths.as_slice(),
+        out,
+    )
 }
 
 // Adds the trees with the rule.
@@ -261,7 +296,7 @@ fn push_rule_trees(
     ensures { OnOk result (map outcome_of out.new ≡ map outcome_of out.old
         ++ enumeration.rule_trees setting.now (enumeration.trees_of setting.now depth) wanted.now (at_of (place, list.now)) number rule.now) }
 {
-    if rule.head.name != wanted.name {
+    if rule.head.name != wanted.name || !may_start(setting, place, rule.body.as_slice()) {
         return Ok(());
     }
     let made = instances(alloc, setting, rule, wanted)?;

@@ -12,8 +12,8 @@ push_all_instances-loop-values-preserved t c =
     let F = enumeration.instance_trees s (enumeration.trees_of s c.args.depth) c.args.wanted.now (at_of (c.args.place, c.args.list.now)) c.args.number c.args.rule.now in
     flat_more F c.args.made.now c.loop-values.values-index c.values-item.result (map outcome_of c.args.out.now) (map outcome_of c.loop-values.out) (map outcome_of c.push_instance_trees.new.out) (search rules) c.values-item.is c.loop-values.invariant (c.in_ok-push_instance_trees.ensures ∙ ap (λ v. map outcome_of c.loop-values.out ++ F v) c.as_slice.ensures)
 
-pub push_instance_trees-push_ends-requires : goal.push_instance_trees-push_ends-requires
-push_instance_trees-push_ends-requires t c =
+pub push_instance_trees-push_instance_ends-requires : goal.push_instance_trees-push_instance_ends-requires
+push_instance_trees-push_instance_ends-requires t c =
     let s = c.args.setting.now in
     paths_begin s c.args.depth c.args.values.now c.args.rule.now.body c.args.list.now c.in_ok-start.start c.as_slice-2.result.now (ap (λ p. p.at.list) c.in_ok-start.ensures) (ap (map path_of) c.as_slice-2.ensures ∙ c.in_ok-paths.ensures ∙ ap (λ body. enumeration.all_steps s (enumeration.trees_of s c.args.depth) c.args.values.now body (path_of c.in_ok-start.start ∷ [])) c.as_slice.ensures)
 

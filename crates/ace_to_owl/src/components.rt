@@ -2,7 +2,7 @@
 ghost use Rattle.std.specs.Prelude.{◌≡◌, ◌==◌, ◌<◌, ℕ, List, map, length, IfOk, OnOk};
 ghost use Rattle.std.specs.List.{list_any, filter};
 ghost use Rattle.logic_terms.specs.Shown.{condition_of, conditions_of};
-ghost use Rattle.ace_to_owl.specs.Moves.{moved_by, gathered};
+ghost use Rattle.ace_to_owl.specs.Moves.{moved, moved_by, gathered};
 ghost use Rattle.ace_to_owl.specs.Mapping.{own_terms, joined};
 
 use crate::graph::label;
@@ -58,8 +58,19 @@ fn join(moves: &mut List<(u32, u32)>, group: &[u16]) -> Result<(), Memory>
     let target = label(moves.as_slice(), *first as u32);
     for referent in group {
         let old = label(moves.as_slice(), *referent as u32);
-        moves.push((old, target))?;
+        move_label(moves, old, target)?;
     }
+    Ok(())
+}
+
+// Moves a label to another, where they differ.
+fn move_label(moves: &mut List<(u32, u32)>, from: u32, to: u32) -> Result<(), Memory>
+    ensures { OnOk result ((n : ℕ) → moved_by moves.new n ≡ moved from to (moved_by moves.old n)) }
+{
+    if from == to {
+        return Ok(());
+    }
+    moves.push((from, to))?;
     Ok(())
 }
 

@@ -14,8 +14,7 @@ loop-referent-preserved c n =
     let target = c.label-target.result in
     let old : c.label-old.result ≡ gathered_to start target (take k group) q =
     c.label-old.ensures ∙ ap (λ ms. moved_by ms q) c.as_slice-in-loop-referent.ensures ∙ c.loop-referent.invariant q in
-    ap (λ ms. moved_by ms n) c.in_ok-push.ensures.ok
-    ∙ moved_by-append c.loop-referent.moves c.label-old.result target n
+    c.in_ok-move_label.ensures n
     ∙ (λ j. moved (old j) target (c.loop-referent.invariant n j))
     ∙ gathered_more start target (take k group) q n
     ∙ ap (λ qs. gathered_to start target qs n) (sym (take_more group k 0 c.loop-referent-test.true))

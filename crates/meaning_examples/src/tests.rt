@@ -25,6 +25,20 @@ fn mean(rt: &impl Abort, alloc: Global, rows: &[Row]) -> Result<(), Fail> {
     Ok(())
 }
 
+fn have_structures(rt: &impl Abort, alloc: Global, rows: &[Row]) -> Result<(), Fail> {
+    let grammar = built_in(alloc)?;
+    let lexicon = words(alloc, &grammar)?;
+    for (text, expected) in rows {
+        let meant = built(alloc, &grammar, &lexicon, text)?;
+        assert_eq!(rt;
+            shown(alloc, &lexicon, &meant)?.as_str(),
+            *expected,
+            "{text}"
+        );
+    }
+    Ok(())
+}
+
 // The structures and the axioms of the rows are true in the same interpretations.
 fn say_the_same(rt: &impl Abort, alloc: Global, rows: &[Row]) -> Result<(), Fail> {
     let grammar = built_in(alloc)?;
@@ -39,18 +53,7 @@ fn say_the_same(rt: &impl Abort, alloc: Global, rows: &[Row]) -> Result<(), Fail
 
 #[test]
 fn each_label_gives_its_structure(rt: HostRuntime) -> Result<(), Fail> {
-    let alloc = rt.alloc();
-    let grammar = built_in(alloc)?;
-    let lexicon = words(alloc, &grammar)?;
-    for (text, expected) in STRUCTURES {
-        let meant = built(alloc, &grammar, &lexicon, text)?;
-        assert_eq!(rt;
-            shown(alloc, &lexicon, &meant)?.as_str(),
-            expected,
-            "{text}"
-        );
-    }
-    Ok(())
+    have_structures(&rt, rt.alloc(), STRUCTURES.as_slice())
 }
 
 #[test]
@@ -69,30 +72,56 @@ fn mary_owns_a_dog_where_she_is_a_dog_that_owns_itself(rt: HostRuntime) -> Resul
 }
 
 #[test]
-fn sentences_have_their_axioms(rt: HostRuntime) -> Result<(), Fail> {
-    for rows in [
-        OF_NAMES.as_slice(),
-        OF_SOMETHING.as_slice(),
-        OF_EVERYTHING.as_slice(),
-        CONDITIONALS.as_slice(),
-        QUESTIONS.as_slice(),
-        OUTSIDE.as_slice(),
-    ] {
-        mean(&rt, rt.alloc(), rows)?;
-    }
-    Ok(())
+fn statements_on_names_have_their_axioms(rt: HostRuntime) -> Result<(), Fail> {
+    mean(&rt, rt.alloc(), OF_NAMES.as_slice())
 }
 
 #[test]
-fn structures_and_axioms_have_the_same_truth(rt: HostRuntime) -> Result<(), Fail> {
-    for rows in [
-        OF_NAMES.as_slice(),
-        OF_SOMETHING.as_slice(),
-        OF_EVERYTHING.as_slice(),
-        CONDITIONALS.as_slice(),
-        QUESTIONS.as_slice(),
-    ] {
-        say_the_same(&rt, rt.alloc(), rows)?;
-    }
-    Ok(())
+fn statements_on_something_have_their_axioms(rt: HostRuntime) -> Result<(), Fail> {
+    mean(&rt, rt.alloc(), OF_SOMETHING.as_slice())
+}
+
+#[test]
+fn statements_on_everything_have_their_axioms(rt: HostRuntime) -> Result<(), Fail> {
+    mean(&rt, rt.alloc(), OF_EVERYTHING.as_slice())
+}
+
+#[test]
+fn conditionals_have_their_axioms(rt: HostRuntime) -> Result<(), Fail> {
+    mean(&rt, rt.alloc(), CONDITIONALS.as_slice())
+}
+
+#[test]
+fn questions_have_their_classes(rt: HostRuntime) -> Result<(), Fail> {
+    mean(&rt, rt.alloc(), QUESTIONS.as_slice())
+}
+
+#[test]
+fn sentences_outside_have_their_causes(rt: HostRuntime) -> Result<(), Fail> {
+    mean(&rt, rt.alloc(), OUTSIDE.as_slice())
+}
+
+#[test]
+fn statements_on_names_keep_their_truth(rt: HostRuntime) -> Result<(), Fail> {
+    say_the_same(&rt, rt.alloc(), OF_NAMES.as_slice())
+}
+
+#[test]
+fn statements_on_something_keep_their_truth(rt: HostRuntime) -> Result<(), Fail> {
+    say_the_same(&rt, rt.alloc(), OF_SOMETHING.as_slice())
+}
+
+#[test]
+fn statements_on_everything_keep_their_truth(rt: HostRuntime) -> Result<(), Fail> {
+    say_the_same(&rt, rt.alloc(), OF_EVERYTHING.as_slice())
+}
+
+#[test]
+fn conditionals_keep_their_truth(rt: HostRuntime) -> Result<(), Fail> {
+    say_the_same(&rt, rt.alloc(), CONDITIONALS.as_slice())
+}
+
+#[test]
+fn questions_keep_their_truth(rt: HostRuntime) -> Result<(), Fail> {
+    say_the_same(&rt, rt.alloc(), QUESTIONS.as_slice())
 }

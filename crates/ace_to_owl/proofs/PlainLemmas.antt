@@ -1,5 +1,5 @@
 -- What is mapped is in negation normal form, with at least two members in each intersection and union.
-use Rattle.std.proofs.Common.{◌≡◌, ℕ, zero, suc, ◌==◌, ◌&&◌, ◌||◌, Bool, true, false, List, [], ◌∷◌, ◌++◌, length, map, Option, Some, None, Result, Ok, Err, refl, sym, ap, ◌∙◌, subst}
+use Rattle.std.proofs.Common.{◌≡◌, ℕ, zero, suc, ◌==◌, ◌&&◌, ◌||◌, Bool, true, false, List, [], ◌∷◌, ◌++◌, length, map, Option, Some, None, Result, Ok, Err, refl, sym, ap, ◌∙◌}
 use Rattle.std.specs.Prelude.{not, if◌then◌else◌}
 use Rattle.std.specs.List.{list_any, list_all, filter_map, cons_option}
 use Rattle.std.proofs.lemmas.List.Folds.{list_all-append}
@@ -8,8 +8,8 @@ use Rattle.logic_terms.specs.declared.structures.Thing.{Thing}
 use Rattle.logic_terms.specs.declared.structures.Thing.TheVariants.{Ref, Name}
 use Rattle.logic_terms.specs.declared.expressions.Role.{Role}
 use Rattle.logic_terms.specs.declared.cause.Cause.{Cause}
-use Rattle.logic_terms.specs.declared.cause.Cause.TheVariants.{Shared, Cycle, NoRoot, Equality}
-use Rattle.logic_terms.specs.Concept.{Concept, Concepts, Everything, Atomic, UnionOf, SomeValuesFrom, HasValue, no_concept, also_concept, concepts_from, Claim, SubClassOf, SubPropertyOf, ClassAssertion}
+use Rattle.logic_terms.specs.declared.cause.Cause.TheVariants.{Shared, Cycle, NoRoot}
+use Rattle.logic_terms.specs.Concept.{Concept, Everything, Atomic, UnionOf, SomeValuesFrom, HasValue, no_concept, also_concept, concepts_from, Claim, SubClassOf, SubPropertyOf, ClassAssertion}
 use Rattle.logic_terms.specs.Complement.{complement, is_normal, each_normal, is_wide, each_wide}
 use Rattle.logic_terms.specs.Plain.{is_plain, is_plain_claim, are_plain}
 use Rattle.logic_terms.specs.Structure.{Condition, Conditions, Structure, IsA, AreRelated, AreSame, Negation, Implication, Disjunction, no_condition, also_condition, structure, conditions_from, condition_list, referents_in}
@@ -17,7 +17,7 @@ use Rattle.logic_terms.proofs.ComplementLemmas.{is_normal-complement, is_wide-co
 use Rattle.ace_to_owl.specs.Outcomes.{next}
 use Rattle.ace_to_owl.specs.Terms.{open_terms, terms_in, terms_in_all, terms_in_condition, first_name, referents_among}
 use Rattle.ace_to_owl.specs.Parts.{Part, At, Edge, straight, inverse, intersection, leads, part_at, class_at, tree_fault, class_of_tree}
-use Rattle.ace_to_owl.specs.Rolling.{member, is_foreign, noun_part, value_part, edge_part, relation_part, same_part, holder, held, negated_class, either_class, negation_part, roll, roll_with, parts, part_of}
+use Rattle.ace_to_owl.specs.Rolling.{member, is_foreign, value_part, edge_part, holder, held, negated_class, either_class, negation_part, roll, roll_with, parts, part_of}
 use Rattle.ace_to_owl.specs.Mapping.{without, class_asked, subclass_claim, member_claim, only_condition, only_fact, denied_claim, is_pair, role_claim, plain_claim, alone, other_claim, leading_claim, nameless_claim, named_claim, used_claim, compound_claim, claim_alone, own_terms, together, referents_with, conditions_with, claim_together, claim_at, claims_after, axioms_stated}
 use Rattle.ace_to_owl.proofs.Labels.{and_true}
 use Rattle.ace_to_owl.proofs.Forest.{and_l, and_r, both}

@@ -12,7 +12,7 @@ use Rattle.logic_terms.specs.Truth.{giving, thing_in, is_true}
 use Rattle.logic_terms.specs.Reading.{IsIn, IsModel, IsTrueUnder}
 use Rattle.ace_to_owl.specs.Mapping.{without}
 
--- an element stands for a root: it is what the root has; a root that occurs nowhere has any
+-- an element is what a root has, by its name or by the assignment; a root that occurs nowhere has any
 abbrev pub Stands : Interpretation → (ℕ → ℕ) → Option Thing → ℕ → Type 0
 Stands i f None x = Unit {0}
 Stands i f (Some t) x = thing_in i f t ≡ x
@@ -23,12 +23,14 @@ is_outside None k = true
 is_outside (Some (Ref q)) k = not (is_bound (introduced_in k) q)
 is_outside (Some (Name name)) k = true
 
--- an element is in a class exactly where the structure is true with it for the root
+-- where each referent is introduced once, and the root nowhere: an element is in the class exactly where the structure is
+-- true with it for the root, in every finite interpretation and under every assignment
 abbrev pub RollsTruly : Option Thing → Structure → Concept → Type 0
 RollsTruly root k c =
     IntroducesOnce k → is_outside root k ≡ true → (i : Interpretation) (f : ℕ → ℕ) (x : ℕ) → Stands i f root x → is_in i c x ≡ is_true i k f
 
--- a structure is true exactly where all these axioms are
+-- where each referent is introduced once: the structure is true exactly where all these axioms are, in every finite
+-- interpretation and under every assignment
 abbrev pub SameTruth : Structure → List Claim → Type 0
 SameTruth k claims =
     IntroducesOnce k → (i : Interpretation) → is_interpretation i ≡ true → (f : ℕ → ℕ) → is_true i k f ≡ all_hold i claims
@@ -38,7 +40,8 @@ abbrev pub SameReading : Structure → List Claim → Type 0
 SameReading k claims =
     IntroducesOnce k → (i : Interpretation) → is_interpretation i ≡ true → (f : ℕ → ℕ) → IsTrueUnder i k f ↔ IsModel i claims
 
--- an element is in a class exactly where the structure without the referent that is asked for is true with it for that one
+-- where each referent is introduced once: an element is in the class exactly where the structure without the referent that
+-- is asked for, one of its own, is true with the element for that referent
 abbrev pub AnswersTruly : Structure → ℕ → Concept → Type 0
 AnswersTruly k asked c =
     IntroducesOnce k → Contains (referents_in k) asked → (i : Interpretation) (f : ℕ → ℕ) (x : ℕ) → is_in i c x ≡ is_true i (without asked k) (giving f asked x)

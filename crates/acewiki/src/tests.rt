@@ -1,9 +1,13 @@
 // Whole runs over bytes in memory.
-use crate::run;
+ghost use Rattle.std.specs.Prelude.{Some};
+
+use crate::words::CommandLine;
+use crate::{program, run};
+use lists::Copied;
 use std::alloc::Global;
 use std::process::Abort;
 use std::test::Fail;
-use wiki_base::Arg;
+use wiki_base::{Arg, Memory};
 use wiki_io::{MemorySink, MemorySource};
 
 const BAD_REQUEST: &str = "{\"name\":\"BadRequest\",\"refused\":0}\n";
@@ -374,5 +378,43 @@ fn the_word_after_5000_is_refused(rt: HostRuntime) -> Result<(), Fail> {
     let bytes = ran.output.bytes();
     assert!(rt; bytes.ends_with(last.as_bytes()));
     assert_eq!(rt; bytes.len(), 5000 * 16 + last.len());
+    Ok(())
+}
+
+// A command line that tells its words.
+#[derive(Drop)]
+struct ToldLine {
+    words: Vec<Arg>,
+}
+
+impl CommandLine for ToldLine {
+    ghost words = { λ line. Some line.words.items };
+
+    fn word(&self, _alloc: Global, place: usize) -> Result<Option<Arg>, Memory> {
+        if place >= self.words.len() {
+            return Ok(None);
+        }
+        Ok(Some(self.words[place].copy()?))
+    }
+}
+
+#[test]
+fn the_words_of_the_command_line_are_run(rt: HostRuntime) -> Result<(), Fail> {
+    let alloc = rt.alloc();
+    for (words, status) in [("replay", 0), ("replay now", 2), ("replayed", 2), ("", 2)] {
+        let mut line = ToldLine {
+            words: Vec::new(alloc),
+        };
+        for word in words.split(' ') {
+            line.words.push(arg(alloc, word)?)?;
+        }
+        let mut input = MemorySource::new(Vec::new(alloc), Vec::new(alloc));
+        let mut output = MemorySink::new(alloc, Vec::new(alloc));
+        let mut errors = MemorySink::new(alloc, Vec::new(alloc));
+        assert_eq!(rt;
+            program(alloc, &line, &mut input, &mut output, &mut errors),
+            status
+        );
+    }
     Ok(())
 }

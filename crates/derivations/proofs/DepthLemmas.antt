@@ -115,7 +115,7 @@ got_contained (x ∷ xs) zero r h = (0, omega arith, some_same x r h)
 got_contained (x ∷ xs) (suc k) r h = (suc (got_contained xs k r h).0, omega (arith, (got_contained xs k r h).1), (got_contained xs k r h).2)
 
 -- the rule with a number is one of the grammar's
-rule_contained : (g : GrammarParts) (number : ℕ) (rule : Rule) → rule_with g number ≡ Some rule → Contains g.rules rule
+pub rule_contained : (g : GrammarParts) (number : ℕ) (rule : Rule) → rule_with g number ≡ Some rule → Contains g.rules rule
 rule_contained g number rule h = by (number == 0) h
   where
     by : (b : Bool) → (if b then None else slice_get g.rules (number - 1)) ≡ Some rule → Contains g.rules rule
@@ -142,7 +142,7 @@ mutual
 pub weight : ℕ → ℕ → ℕ
 weight left k = left * k
 
-weight_more : (a b k : ℕ) → b + 1 ≤ a → weight b k + k ≤ weight a k
+pub weight_more : (a b k : ℕ) → b + 1 ≤ a → weight b k + k ≤ weight a k
 unfolding weight
 weight_more a b k h =
     let more : (b + 1) * k ≤ a * k = mul-le-mul_right k h in
@@ -166,7 +166,7 @@ shorter x (y ∷ ys) = by (shorter x ys) (x == y)
 number_turns : (a b : ℕ) → a ≡ b → (a == b) ≡ true
 number_turns a b e = grind (arith, nat_tests)
 
-shorter_with : (x : ℕ) (ys : List ℕ) → Among ys x → length (without x ys) + 1 ≤ length ys
+pub shorter_with : (x : ℕ) (ys : List ℕ) → Among ys x → length (without x ys) + 1 ≤ length ys
 shorter_with x [] h = absurd h
 shorter_with x (y ∷ ys) h = by (shorter_with x ys) (x == y) refl h
   where
@@ -204,10 +204,10 @@ leads_on g from (c ∷ cs) to next h step = (h.0, leads_on g c cs to next h.1 st
 circle : (g : GrammarParts) → Ordered g → (name : ℕ) → IsHead g name → Reaches g name name → ⊥
 circle g ordered name head h = ordered.no_circle head.0 head.1 (subst (IsRecursive g) (sym head.2) h)
 
-asked_free : (g : GrammarParts) → Ordered g → (names : List ℕ) (asked : ℕ) → Free g names asked → IsHead g asked → Among names asked
+pub asked_free : (g : GrammarParts) → Ordered g → (names : List ℕ) (asked : ℕ) → Free g names asked → IsHead g asked → Among names asked
 asked_free g ordered names asked free head = elim (free asked head) [ inl k ↦ k | inr r ↦ absurd (circle g ordered asked head r) ]
 
-free_on : (g : GrammarParts) (names : List ℕ) (asked next : ℕ) → Free g names asked → StepsTo g asked next → Free g (without asked names) next
+pub free_on : (g : GrammarParts) (names : List ℕ) (asked next : ℕ) → Free g names asked → StepsTo g asked next → Free g (without asked names) next
 free_on g names asked next free step name head = by (asked == name) refl (free name head)
   where
     by : (b : Bool) → (asked == name) ≡ b → Among names name ⊎ Reaches g name asked → Among (without asked names) name ⊎ Reaches g name next
@@ -228,11 +228,11 @@ contains_among rules r h = at rules h.0 h.1 h.2
     at (x ∷ xs) zero lt e = inl (ap (λ y. y.head.name) (sym e))
     at (x ∷ xs) (suc k) lt e = inr (at xs k (omega (arith, lt)) e)
 
-all_free : (g : GrammarParts) (asked : ℕ) → Free g (heads g) asked
+pub all_free : (g : GrammarParts) (asked : ℕ) → Free g (heads g) asked
 all_free g asked name head = inl (subst (Among (heads g)) head.2 (contains_among g.rules head.0 head.1))
 
 -- the children of a node, on the way over its elements
-walk : (s : Setting) → Ordered s.grammar → (values : List (ℕ × Value)) (depth last begun : ℕ) (step : ℕ → Type 0) → ((n : Node) (c : Category) (at after : At) → phrase_of s n (under values c) at ≡ Some after → after.place ≤ last → ((at.place ≡ begun) × step c.name) ⊎ (begun + 1 ≤ at.place) → Within depth n) → (es : List Element) (nodes : List Node) (stand after : Stand) → stand.children ≡ map (phrase_of s) nodes → Each Consumes stand.children → run s values es stand ≡ Some after → is_none_left after.children ≡ true → after.at.place ≤ last → ((stand.at.place ≡ begun) × ((c : ℕ) → first_category es ≡ Some c → step c)) ⊎ (begun + 1 ≤ stand.at.place) → Each (Within depth) nodes
+pub walk : (s : Setting) → Ordered s.grammar → (values : List (ℕ × Value)) (depth last begun : ℕ) (step : ℕ → Type 0) → ((n : Node) (c : Category) (at after : At) → phrase_of s n (under values c) at ≡ Some after → after.place ≤ last → ((at.place ≡ begun) × step c.name) ⊎ (begun + 1 ≤ at.place) → Within depth n) → (es : List Element) (nodes : List Node) (stand after : Stand) → stand.children ≡ map (phrase_of s) nodes → Each Consumes stand.children → run s values es stand ≡ Some after → is_none_left after.children ≡ true → after.at.place ≤ last → ((stand.at.place ≡ begun) × ((c : ℕ) → first_category es ≡ Some c → step c)) ⊎ (begun + 1 ≤ stand.at.place) → Each (Within depth) nodes
 walk s ordered values depth last begun step deep [] [] stand after children all h empty le mode = tt
 walk s ordered values depth last begun step deep [] (n ∷ ns) stand after children all h empty le mode =
     true_is_false (sym empty ∙ ap (λ x. is_none_left x.children) (sym (some_same stand after h)) ∙ ap is_none_left children)
@@ -264,12 +264,12 @@ walk s ordered values depth last begun step deep (e ∷ es) nodes stand after ch
         let one : Moves e stand mid = pass_moves s values e stand mid all w in
         later mid (one.children refl ∙ children) one.rest k (next mid one (is_phrase e) refl)
 
-each_within : (depth : ℕ) (ns : Nodes) → Each (Within depth) (node_list ns) → AllWithin depth ns
+pub each_within : (depth : ℕ) (ns : Nodes) → Each (Within depth) (node_list ns) → AllWithin depth ns
 each_within depth none h = tt
 each_within depth (more n ns) h = (h.0, each_within depth ns h.1)
 
 -- a phrase is no deeper than the tokens and the categories that are left allow
-deep : (s : Setting) → Ordered s.grammar → (last depth : ℕ) (n : Node) (asked : Test) (at after : At) (names : List ℕ) → phrase_of s n asked at ≡ Some after → after.place ≤ last → Free s.grammar names asked.name → weight (last - at.place) (length (heads s.grammar) + 1) + length names + 1 ≤ depth → Within depth n
+pub deep : (s : Setting) → Ordered s.grammar → (last depth : ℕ) (n : Node) (asked : Test) (at after : At) (names : List ℕ) → phrase_of s n asked at ≡ Some after → after.place ≤ last → Free s.grammar names asked.name → weight (last - at.place) (length (heads s.grammar) + 1) + length names + 1 ≤ depth → Within depth n
 deep s ordered last zero (node number values found children) asked at after names h le free low = absurd (omega (arith, low))
 deep s ordered last (suc depth) (node number values found children) asked at after names h le free low =
     by (λ short m c start end w under_last mode. child m (λ c' start' end' names' w' l' free' low'. deep s ordered last depth m (under values c') start' end' names' w' l' free' low') short c start end w under_last mode) (rule_with s.grammar number) refl h

@@ -15,7 +15,7 @@ use Rattle.derivation_trees.specs.Instances.{under}
 use Rattle.derivation_trees.specs.Derives.{At, Stand, pass, fits, list_after}
 use Rattle.derivation_trees.specs.Stands.{Begins, is_sub}
 use Rattle.derivation_trees.proofs.StandLemmas.{Begins-refl, Begins-trans, pass_begins}
-use Rattle.derivations.specs.Enumeration.{Path, Outcome, found_at, passed, joined, steps, all_steps, opened, ended_path, instances, instance_trees, rule_trees, rules_trees, trees_of}
+use Rattle.derivations.specs.Enumeration.{Path, Outcome, found_at, passed, joined, steps, all_steps, opened, ended_path, instances, may_begin, instance_trees, rule_trees, rules_trees, trees_of}
 use Rattle.derivations.proofs.Members.{Among}
 
 -- what the members of a list have
@@ -84,7 +84,7 @@ after_begins true begun list h = record { added = closed (drop (length begun) li
 after_begins false begun list h = h
 
 instance_grows : (s : Setting) (trees : Test → At → List Outcome) → Grows trees → (wanted : Test) (at : At) (number : ℕ) (rule : Rule) (values : List (ℕ × Value)) → Each (OutcomeBegins at.list) (instance_trees s trees wanted at number rule values)
-instance_grows s trees grows wanted at number rule values = by (fits (under values rule.head) wanted)
+instance_grows s trees grows wanted at number rule values = by (may_begin s rule wanted values)
   where
     by : (b : Bool) → Each (OutcomeBegins at.list) (if b then map (ended_path number rule values at.list) (all_steps s trees values rule.body (opened rule values at ∷ [])) else [])
     by false = tt

@@ -6,6 +6,13 @@ pub mod StepLemmas
 pub mod ListingLemmas
 pub mod GrowLemmas
 pub mod DepthLemmas
+pub mod SoundLemmas
+pub mod CutLemmas
+pub mod CutDepthLemmas
+pub mod TokenLemmas
+pub mod EntryLemmas
+pub mod TypingLemmas
 pub mod LoopLemmas
 pub mod SkeletonLemmas
+pub mod UniqueLemmas
 pub mod LeastLemmas

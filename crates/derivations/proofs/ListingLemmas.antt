@@ -41,7 +41,7 @@ abbrev mutual
   AllWithin depth none = Unit {0}
   AllWithin depth (more n ns) = Within depth n × AllWithin depth ns
 
-within_among : (depth : ℕ) (ns : Nodes) (n : Node) → AllWithin depth ns → Among (node_list ns) n → Within depth n
+pub within_among : (depth : ℕ) (ns : Nodes) (n : Node) → AllWithin depth ns → Among (node_list ns) n → Within depth n
 within_among depth none n h k = absurd k
 within_among depth (more m ms) n h (inl e) = subst (Within depth) (sym e) h.0
 within_among depth (more m ms) n h (inr k) = within_among depth ms n h.1 k
@@ -79,13 +79,16 @@ phrase_parts s rule values found children asked at after h = by (fits (under val
     by false e k = cc
     by true e k = led e (run s values rule.body (record { at = at; found = found; own = own_values rule values; children = children })) refl k
 
-none_left_nil : {X : Type 0} (xs : List X) → is_none_left xs ≡ true → xs ≡ []
+pub none_left_nil : {X : Type 0} (xs : List X) → is_none_left xs ≡ true → xs ≡ []
 none_left_nil [] h = refl
 none_left_nil (x ∷ xs) h = cc
 
-none_mapped : {X Y : Type 0} (f : X → Y) (xs : List X) → is_none_left (map f xs) ≡ true → xs ≡ []
+pub none_mapped : {X Y : Type 0} (f : X → Y) (xs : List X) → is_none_left (map f xs) ≡ true → xs ≡ []
 none_mapped f [] h = refl
 none_mapped f (x ∷ xs) h = cc
+
+pub both_true : {a b : Bool} → a ≡ true → b ≡ true → (a && b) ≡ true
+both_true {a} {b} h k = ap (λ x. x && b) h ∙ k
 
 -- a tree with an instance is listed
 instance_tree_has : (s : Setting) (trees : Test → At → List Outcome) (wanted : Test) (at after : At) (number : ℕ) (rule : Rule) (values : List (ℕ × Value)) (found : List ℕ) (children : Nodes) → Knows s trees (node_list children) → phrase s rule values found (phrases_of s children) wanted at ≡ Some after → Among (rule_trees s trees wanted at number rule) (record { tree = node number values found children; at = after })
@@ -100,7 +103,7 @@ instance_tree_has s trees wanted at after number rule values found children know
     let children_is : goes.next.children ≡ node_list children = sym (append-nil goes.next.children) ∙ ap (λ xs. goes.next.children ++ xs) (sym rest) ∙ goes.children_is in
     let same : ended_path number rule values at.list goes.next ≡ record { tree = node number values found children; at = after } = ap (λ fs. record { tree = node number values fs (nodes_from goes.next.children); at = record { place = goes.next.at.place; list = list_after rule.closing at.list goes.next.at.list } }) found_is ∙ ap (λ ns. record { tree = node number values found ns; at = record { place = goes.next.at.place; list = list_after rule.closing at.list goes.next.at.list } }) (ap nodes_from children_is ∙ nodes_again children) ∙ ap (λ x. record { tree = node number values found children; at = record { place = x.at.place; list = list_after rule.closing at.list x.at.list } }) (sym goes.stands) ∙ ap (λ a. record { tree = node number values found children; at = a }) (sym parts.ends) in
     let listed : Among (map (ended_path number rule values at.list) (all_steps s trees values rule.body (start ∷ []))) (record { tree = node number values found children; at = after }) = subst (Among (map (ended_path number rule values at.list) (all_steps s trees values rule.body (start ∷ [])))) same (among_map (ended_path number rule values at.list) (all_steps s trees values rule.body (start ∷ [])) goes.next goes.among) in
-    let of_instance : Among (instance_trees s trees wanted at number rule values) (record { tree = node number values found children; at = after }) = subst (λ b. Among (if b then map (ended_path number rule values at.list) (all_steps s trees values rule.body (start ∷ [])) else []) (record { tree = node number values found children; at = after })) (sym parts.fit) listed in
+    let of_instance : Among (instance_trees s trees wanted at number rule values) (record { tree = node number values found children; at = after }) = subst (λ b. Among (if b then map (ended_path number rule values at.list) (all_steps s trees values rule.body (start ∷ [])) else []) (record { tree = node number values found children; at = after })) (sym (both_true parts.fit parts.instance)) listed in
     let all : Among (flat_map (instance_trees s trees wanted at number rule) (instances s rule wanted)) (record { tree = node number values found children; at = after }) = among_flat_map (instance_trees s trees wanted at number rule) (instances s rule wanted) values (record { tree = node number values found children; at = after }) (instance_has s rule wanted values parts.instance parts.fit) of_instance in
     subst (λ b. Among (if b then flat_map (instance_trees s trees wanted at number rule) (instances s rule wanted) else []) (record { tree = node number values found children; at = after })) (sym (first_of_and (rule.head.name == wanted.name) _ parts.fit)) all
 

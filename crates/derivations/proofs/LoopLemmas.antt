@@ -1,5 +1,5 @@
 -- One step of a loop.
-use Rattle.std.proofs.Common.{◌≡◌, ℕ, zero, suc, ◌+◌, ◌-◌, ◌<◌, List, [], ◌∷◌, ◌++◌, map, length, take, drop, get_or, All, Bool, true, false, Option, Some, None, refl, sym, ap, subst, ◌∙◌, append_assoc, append-nil, arith}
+use Rattle.std.proofs.Common.{◌≡◌, ℕ, zero, suc, ◌+◌, ◌-◌, ◌<◌, List, [], ◌∷◌, ◌++◌, map, length, take, drop, get_or, All, Bool, true, false, ◌||◌, Option, Some, None, refl, sym, ap, subst, ◌∙◌, append_assoc, append-nil, arith}
 use Rattle.std.proofs.lemmas.List.{take_more, drop_more}
 use Rattle.std.proofs.lemmas.Grind.{flat_map-append}
 use Rattle.std.specs.Prelude.{if◌then◌else◌, ◌==◌, slice_get}
@@ -10,7 +10,7 @@ use Rattle.derivation_trees.specs.Derives.{At, rule_with}
 use Rattle.derivation_trees.specs.Stands.{Begins, IsWithin, IsLimited}
 use Rattle.derivation_trees.proofs.StandLemmas.{Begins-same}
 use Rattle.derivations.proofs.GrowLemmas.{Each, PathBegins, all_grow, trees_grow}
-use Rattle.std.specs.List.{flat_map, range_with_len}
+use Rattle.std.specs.List.{flat_map, list_any, range_with_len}
 use Rattle.codeco_terms.specs.declared.elements.Element.{Element}
 use Rattle.scopes.specs.declared.entries.Entry.{Entry}
 use Rattle.scopes.specs.declared.tests.Test.{Test}
@@ -21,6 +21,7 @@ use Rattle.derivation_trees.proofs.InstanceLemmas.{range_more}
 use Rattle.derivations.specs.declared.choices.Choice.{Choice}
 use Rattle.derivations.specs.declared.paths.Path.{Path}
 use Rattle.derivations.specs.declared.paths.Outcome.{Outcome}
+use Rattle.derivations.specs.Beginnings.{is_at_end, enters, goes_from, rule_cut, cut_of}
 use Rattle.derivations.specs.Enumeration as enumeration
 use Rattle.derivations.specs.Choices.{choice_of}
 use Rattle.derivations.specs.Paths.{path_of, outcome_of}
@@ -69,7 +70,7 @@ flat_more F xs i x before now next lt is h step =
     let whole : flat_map F (take (i + 1) xs) ≡ flat_map F (take i xs) ++ F x = ap (flat_map F) (take_more xs i x lt ∙ ap (λ y. take i xs ++ y ∷ []) (sym is)) ∙ flat_map-append F (take i xs) (x ∷ []) ∙ ap (λ ys. flat_map F (take i xs) ++ ys) (append-nil (F x)) in
     step ∙ ap (λ ys. ys ++ F x) h ∙ append_assoc before (flat_map F (take i xs)) (F x) ∙ ap (λ ys. before ++ ys) (sym whole)
 
-next_in : {X : Type 0} (xs : List X) (i : ℕ) (x : X) → i < length xs → x ≡ get_or xs i x → drop i xs ≡ x ∷ drop (i + 1) xs
+pub next_in : {X : Type 0} (xs : List X) (i : ℕ) (x : X) → i < length xs → x ≡ get_or xs i x → drop i xs ≡ x ∷ drop (i + 1) xs
 next_in xs i x lt is = drop_more xs i x lt ∙ ap (λ y. y ∷ drop (i + 1) xs) (sym is)
 
 pub rules_more : (s : Setting) (trees : Test → At → List enumeration.Outcome) (wanted : Test) (at : At) (rules : List Rule) (i number after : ℕ) (rule : Rule) (now next r : List enumeration.Outcome) → i < length rules → rule ≡ get_or rules i rule → after ≡ number + 1 → next ≡ now ++ enumeration.rule_trees s trees wanted at number rule → now ++ enumeration.rules_trees s trees wanted at number (drop i rules) ≡ r → next ++ enumeration.rules_trees s trees wanted at after (drop (i + 1) rules) ≡ r
@@ -89,3 +90,31 @@ each_at list (p ∷ ps) h (suc k) d lt = each_at list ps h.1 k d (omega (arith, 
 pub paths_begin : (s : Setting) (depth : ℕ) (values : List (ℕ × Value)) (body : List Element) (list : List Entry) (start : Path) (paths : List Path) → start.list ≡ list → map path_of paths ≡ enumeration.all_steps s (enumeration.trees_of s depth) values body (path_of start ∷ []) → (k : ℕ) (d : Path) → k < length paths → Begins list (get_or paths k d).list
 paths_begin s depth values body list start paths same h k d lt =
     each_at list paths (subst (Each (PathBegins list)) (sym h) (all_grow s (enumeration.trees_of s depth) (trees_grow s depth) values list body (path_of start ∷ []) (Begins-same list start.list same, tt))) k d lt
+
+-- tests of lists, one by one
+
+pub any_hit : {X : Type 0} (p : X → Bool) (xs : List X) (i : ℕ) (x : X) → i < length xs → x ≡ get_or xs i x → p x ≡ true → true ≡ list_any p (drop i xs)
+any_hit p xs i x lt is h = sym (ap (list_any p) (next_in xs i x lt is) ∙ ap (λ b. b || list_any p (drop (i + 1) xs)) h)
+
+pub any_miss : {X : Type 0} (p : X → Bool) (xs : List X) (i : ℕ) (x : X) → i < length xs → x ≡ get_or xs i x → p x ≡ false → list_any p (drop (i + 1) xs) ≡ list_any p (drop i xs)
+any_miss p xs i x lt is h = sym (ap (list_any p) (next_in xs i x lt is) ∙ ap (λ b. b || list_any p (drop (i + 1) xs)) h)
+
+or_true : (a b : Bool) → b ≡ true → (a || b) ≡ true
+or_true true b h = refl
+or_true false b h = h
+
+-- going on over elements
+
+pub goes_entered : (s : Setting) (trees : Test → At → List enumeration.Outcome) (cuts : Test → At → Bool) (values : List (ℕ × Value)) (body : List Element) (i : ℕ) (e : Element) (paths : List enumeration.Path) → i < length body → e ≡ get_or body i e → list_any (enters cuts values e) paths ≡ true → true ≡ goes_from s trees cuts values (drop i body) paths
+goes_entered s trees cuts values body i e paths lt is h =
+    sym (ap (λ es. goes_from s trees cuts values es paths) (next_in body i e lt is) ∙ or_true (list_any (is_at_end s) paths) _ (ap (λ b. b || goes_from s trees cuts values (drop (i + 1) body) (flat_map (enumeration.steps s trees values e) paths)) h))
+
+pub goes_further : (s : Setting) (trees : Test → At → List enumeration.Outcome) (cuts : Test → At → Bool) (values : List (ℕ × Value)) (body : List Element) (i : ℕ) (e : Element) (paths next : List enumeration.Path) → i < length body → e ≡ get_or body i e → list_any (is_at_end s) paths ≡ false → list_any (enters cuts values e) paths ≡ false → next ≡ flat_map (enumeration.steps s trees values e) paths → goes_from s trees cuts values (drop (i + 1) body) next ≡ goes_from s trees cuts values (drop i body) paths
+goes_further s trees cuts values body i e paths next lt is h k step =
+    ap (goes_from s trees cuts values (drop (i + 1) body)) step ∙ sym (ap (λ es. goes_from s trees cuts values es paths) (next_in body i e lt is) ∙ ap (λ b. b || (list_any (enters cuts values e) paths || goes_from s trees cuts values (drop (i + 1) body) (flat_map (enumeration.steps s trees values e) paths))) h ∙ ap (λ b. b || goes_from s trees cuts values (drop (i + 1) body) (flat_map (enumeration.steps s trees values e) paths)) k)
+
+pub cut_deeper : (s : Setting) (depth : ℕ) (wanted : Test) (at : At) → (depth ≡ 0 → ⊥) → list_any (rule_cut s (enumeration.trees_of s (depth - 1)) (cut_of s (depth - 1)) wanted at) s.grammar.rules ≡ cut_of s depth wanted at
+cut_deeper s zero wanted at h = absurd (h refl)
+cut_deeper s (suc depth) wanted at h =
+    let less : suc depth - 1 ≡ depth = omega arith in
+    ap (λ d. list_any (rule_cut s (enumeration.trees_of s d) (cut_of s d) wanted at) s.grammar.rules) less

@@ -37,22 +37,22 @@ pub record Goes (s : Setting) (out : List Path) (path : Path) (found : List ℕ)
   pub later : (n : Node) → Among rest n → Among nodes n
 
 -- the stand with other found positions and children to come
-abbrev refit : List ℕ → List Phrase → Stand → Stand
+abbrev pub refit : List ℕ → List Phrase → Stand → Stand
 refit found children stand = record { at = stand.at; found = found; own = stand.own; children = children }
 
 -- what an element does that has to do with neither found positions nor children
-abbrev Commutes : Option Stand → Option Stand → List ℕ → List Phrase → Type 0
+abbrev pub Commutes : Option Stand → Option Stand → List ℕ → List Phrase → Type 0
 Commutes whole alone found children = whole ≡ option_map (refit found children) alone
 
-token_commutes : (b : Bool) (at : At) (own : List (ℕ × Value)) (found : List ℕ) (children : List Phrase) → Commutes (pass_token b (record { at = at; found = found; own = own; children = children })) (pass_token b (record { at = at; found = []; own = own; children = [] })) found children
+pub token_commutes : (b : Bool) (at : At) (own : List (ℕ × Value)) (found : List ℕ) (children : List Phrase) → Commutes (pass_token b (record { at = at; found = found; own = own; children = children })) (pass_token b (record { at = at; found = []; own = own; children = [] })) found children
 token_commutes true at own found children = refl
 token_commutes false at own found children = refl
 
-test_commutes : (b : Bool) (at : At) (own : List (ℕ × Value)) (found : List ℕ) (children : List Phrase) → Commutes (if b then Some (record { at = at; found = found; own = own; children = children }) else None) (if b then Some (record { at = at; found = []; own = own; children = [] }) else None) found children
+pub test_commutes : (b : Bool) (at : At) (own : List (ℕ × Value)) (found : List ℕ) (children : List Phrase) → Commutes (if b then Some (record { at = at; found = found; own = own; children = children }) else None) (if b then Some (record { at = at; found = []; own = own; children = [] }) else None) found children
 test_commutes true at own found children = refl
 test_commutes false at own found children = refl
 
-no_test_commutes : (b : Bool) (at : At) (own : List (ℕ × Value)) (found : List ℕ) (children : List Phrase) → Commutes (if b then None else Some (record { at = at; found = found; own = own; children = children })) (if b then None else Some (record { at = at; found = []; own = own; children = [] })) found children
+pub no_test_commutes : (b : Bool) (at : At) (own : List (ℕ × Value)) (found : List ℕ) (children : List Phrase) → Commutes (if b then None else Some (record { at = at; found = found; own = own; children = children })) (if b then None else Some (record { at = at; found = []; own = own; children = [] })) found children
 no_test_commutes true at own found children = refl
 no_test_commutes false at own found children = refl
 

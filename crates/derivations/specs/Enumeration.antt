@@ -24,7 +24,7 @@ use Rattle.codeco_checked.specs.Faults.{values_of}
 use Rattle.codeco_checked.specs.Numbering.{has}
 use Rattle.derivation_trees.specs.Trees.{Node, node, nodes_from}
 use Rattle.derivation_trees.specs.Settings.{Setting}
-use Rattle.derivation_trees.specs.Instances.{under, written_variables, rule_own_features, own_values}
+use Rattle.derivation_trees.specs.Instances.{under, written_variables, rule_own_features, own_values, is_instance}
 use Rattle.derivation_trees.specs.Derives.{At, pass, reference_tests, fits, list_after}
 
 -- A node of which some elements are passed: the positions that its references have found, its own variables to come, its
@@ -239,10 +239,14 @@ ended_path number rule values begun path = record {
   at = record { place = path.at.place; list = list_after rule.closing begun path.at.list };
 }
 
+-- a node with the rule and these values may begin: they are an instance, and the head fits the category
+abbrev pub may_begin : Setting → Rule → Test → List (ℕ × Value) → Bool
+may_begin s rule wanted values = fits (under values rule.head) wanted && is_instance s rule values
+
 -- the trees with a rule and an instance
 abbrev pub instance_trees : Setting → (Test → At → List Outcome) → Test → At → ℕ → Rule → List (ℕ × Value) → List Outcome
 instance_trees s trees wanted at number rule values =
-    if fits (under values rule.head) wanted
+    if may_begin s rule wanted values
     then map (ended_path number rule values at.list) (all_steps s trees values rule.body (opened rule values at ∷ []))
     else []
 

@@ -2,4 +2,8 @@ pub mod Among
 pub mod Enumeration
 pub mod Choices
 pub mod Paths
+pub mod Beginnings
 pub mod Listed
+pub mod Entries
+pub mod Typing
+pub mod Laws

@@ -8,11 +8,13 @@ ghost use Rattle.derivation_trees.specs.Skeletons.{IsBelow, IsLeast, IsLeastSkel
 ghost use Rattle.derivation_trees.specs.Stands.{IsLimited};
 ghost use Rattle.derivations.specs.Enumeration as enumeration;
 ghost use Rattle.derivations.specs.Paths.{outcome_of};
+ghost use Rattle.derivations.specs.Laws.{CodesTell, IsOnlyLeast};
 ghost use Rattle.derivations.specs.Listed.{listed, LeastOf, IsLesser};
 
 use crate::listing::trees_of;
 use crate::paths::Outcome;
 use codeco_checked::CheckedGrammar;
+use derivation_scenes::Scene;
 use derivation_trees::{Setting, Skeleton, Tree, check_tree, readings_of, sketch_of};
 use lexicon::Lexicon;
 use lists::List;
@@ -106,7 +108,7 @@ fn least_of(
 }
 
 // How deep derivations are at most.
-fn depth_for(tokens: usize, rules: usize) -> Result<usize, Memory>
+pub(crate) fn depth_for(tokens: usize, rules: usize) -> Result<usize, Memory>
     ensures { IfOk result (λ depth. depth ≡ (tokens + 1) * (rules + 1)) }
 {
     let places = tokens.checked_add(1).ok_or(Memory)?;
@@ -114,30 +116,36 @@ fn depth_for(tokens: usize, rules: usize) -> Result<usize, Memory>
     places.checked_mul(names).ok_or(Memory)
 }
 
-fn token_count(setting: &Setting<'_>) -> usize
-    ensures { result ≡ length setting.now.tokens }
+pub(crate) fn token_count(scene: &Scene<'_>) -> usize
+    ensures { result ≡ length scene.now.tokens }
 {
-    setting.tokens.len()
+    scene.tokens.len()
 }
 
-fn rule_count(setting: &Setting<'_>) -> usize
-    ensures { result ≡ length setting.now.grammar.rules }
+pub(crate) fn rule_count(scene: &Scene<'_>) -> usize
+    ensures { result ≡ length scene.now.grammar.rules }
 {
-    setting.grammar.rules().len()
+    scene.grammar.rules().len()
+}
+
+// The category of sentences, without features.
+pub(crate) fn text(alloc: Global) -> Test
+    ensures { result ≡ text_category }
+{
+    Test {
+        name: TEXT,
+        values: TestValues::new(alloc),
+    }
 }
 
 // All trees for `text` from place 0 and the empty list.
-fn all_trees(alloc: Global, setting: &Setting<'_>, depth: usize) -> Result<List<Outcome>, Memory>
-    requires { IsLimited setting.now.grammar }
+fn all_trees(alloc: Global, scene: &Scene<'_>, depth: usize) -> Result<List<Outcome>, Memory>
+    requires { IsLimited scene.now.grammar }
     ensures { IfOk result (λ outcomes. map outcome_of outcomes
-        ≡ enumeration.trees_of setting.now depth text_category (record { place = 0; list = [] })) }
+        ≡ enumeration.trees_of scene.now depth text_category (record { place = 0; list = [] })) }
 {
-    let wanted = Test {
-        name: TEXT,
-        values: TestValues::new(alloc),
-    };
     let list = Access::empty(alloc);
-    trees_of(alloc, setting, depth, &wanted, 0, &list)
+    trees_of(alloc, scene, depth, &text(alloc), 0, &list)
 }
 
 // The least skeleton of the setting's tokens.
@@ -147,17 +155,19 @@ fn least_in(
     lexicon: &Lexicon,
     tokens: &Tokens,
     setting: &Setting<'_>,
+    scene: &Scene<'_>,
 ) -> Result<Option<Skeleton>, Memory>
     requires few { length tokens.now ≤ 40 }
     requires same { setting.now ≡ setting_of grammar.now lexicon.now tokens.now }
+    requires alike { scene.now ≡ setting.now }
     requires sound { IsSound setting.now.grammar }
     requires limited { IsLimited setting.now.grammar }
 
     ensures least { IfOk result (λ least. IfSome least (IsLeast setting.now)) }
     ensures none { IfOk result (λ least. IfNone least ((tree : Node) → IsDerivation setting.now tree → ⊥)) }
 {
-    let depth = depth_for(token_count(setting), rule_count(setting))?;
-    let outcomes = all_trees(alloc, setting, depth)?;
+    let depth = depth_for(token_count(scene), rule_count(scene))?;
+    let outcomes = all_trees(alloc, scene, depth)?;
     least_of(
         alloc,
         grammar,
@@ -169,8 +179,8 @@ fn least_in(
 }
 
 /// The least skeleton of the tokens, of which there are at most 40, by the grammar with the words of the lexicon: that of
-/// the derivation whose code is first in lexicographic order. `None` exactly where the tokens have no derivation. It lists
-/// all derivations, of which there may be very many.
+/// the derivation whose code is first in lexicographic order; there is no other. `None` exactly where the tokens have no
+/// derivation. It lists all derivations, of which there may be very many.
 pub fn plain_least(
     alloc: Global,
     grammar: &CheckedGrammar,
@@ -181,6 +191,8 @@ pub fn plain_least(
 
     ensures least { IfOk result (λ least. IfSome least (IsLeastSkeleton grammar.now lexicon.now tokens.now)) }
     ensures none { IfOk result (λ least. IfNone least (IsSentence grammar.now lexicon.now tokens.now → ⊥)) }
+    ensures unique { IfOk result (λ least. IfSome least (IsOnlyLeast grammar.now lexicon.now tokens.now)) }
+    ensures codes { CodesTell grammar.now }
 {
     let readings = readings_of(alloc, lexicon, tokens.as_slice())?;
     let setting = Setting {
@@ -188,5 +200,10 @@ pub fn plain_least(
         tokens: tokens.as_slice(),
         readings: readings.as_slice(),
     };
-    least_in(alloc, grammar, lexicon, tokens, &setting)
+    let scene = Scene {
+        grammar: grammar.grammar(),
+        tokens: tokens.as_slice(),
+        readings: readings.as_slice(),
+    };
+    least_in(alloc, grammar, lexicon, tokens, &setting, &scene)
 }

@@ -8,7 +8,8 @@ ghost use Rattle.derivations.specs.Paths.{path_of, outcome_of};
 use crate::choices::{Bound, instances};
 use crate::paths::{Outcome, Path, copy_found, copy_pairs, joined, push_passed};
 use codeco_terms::{Element, Rule, Value};
-use derivation_trees::{Binds, Places, Setting, Tree, Trees, closed, fits, own_values, under};
+use derivation_scenes::{Scene, is_instance};
+use derivation_trees::{Binds, Places, Tree, Trees, closed, fits, own_values, under};
 use lists::List;
 use scopes::{Access, Test};
 use std::alloc::Global;
@@ -36,7 +37,7 @@ fn push_children(
 #[cycle(listing)]
 fn push_steps(
     alloc: Global,
-    setting: &Setting<'_>,
+    setting: &Scene<'_>,
     depth: usize,
     values: &[(u8, Value)],
     element: &Element,
@@ -61,9 +62,9 @@ fn push_steps(
 
 // The paths after one element, from each of these.
 #[cycle(listing)]
-fn step_all(
+pub(crate) fn step_all(
     alloc: Global,
-    setting: &Setting<'_>,
+    setting: &Scene<'_>,
     depth: usize,
     values: &[(u8, Value)],
     element: &Element,
@@ -83,7 +84,7 @@ fn step_all(
 }
 
 // The path at the start of a node.
-fn opened(
+pub(crate) fn opened(
     alloc: Global,
     rule: &Rule,
     values: &[(u8, Value)],
@@ -106,7 +107,7 @@ fn opened(
 #[cycle(listing)]
 fn run_all(
     alloc: Global,
-    setting: &Setting<'_>,
+    setting: &Scene<'_>,
     depth: usize,
     values: &[(u8, Value)],
     body: &[Element],
@@ -196,11 +197,28 @@ fn push_ends(
     Ok(())
 }
 
+// Whether the values are an instance of the rule whose head fits the category.
+pub(crate) fn may_begin(
+    alloc: Global,
+    setting: &Scene<'_>,
+    rule: &Rule,
+    wanted: &Test,
+    values: &[(u8, Value)],
+) -> Result<bool, Memory>
+    ensures { IfOk result (λ yes. yes ≡ enumeration.may_begin setting.now rule.now wanted.now values.now) }
+{
+    let head = under(alloc, values, &rule.head)?;
+    if !fits(&head, wanted) {
+        return Ok(false);
+    }
+    is_instance(alloc, setting, rule, values)
+}
+
 // Adds the trees with the rule and the instance.
 #[cycle(listing)]
 fn push_instance_trees(
     alloc: Global,
-    setting: &Setting<'_>,
+    setting: &Scene<'_>,
     depth: usize,
     wanted: &Test,
     place: u16,
@@ -216,8 +234,7 @@ fn push_instance_trees(
     ensures { OnOk result (map outcome_of out.new ≡ map outcome_of out.old
         ++ enumeration.instance_trees setting.now (enumeration.trees_of setting.now depth) wanted.now (at_of (place, list.now)) number rule.now values.now) }
 {
-    let head = under(alloc, values, &rule.head)?;
-    if !fits(&head, wanted) {
+    if !may_begin(alloc, setting, rule, wanted, values)? {
         return Ok(());
     }
     let start = opened(alloc, rule, values, place, list)?;
@@ -229,7 +246,7 @@ fn push_instance_trees(
 #[cycle(listing)]
 fn push_rule_trees(
     alloc: Global,
-    setting: &Setting<'_>,
+    setting: &Scene<'_>,
     depth: usize,
     wanted: &Test,
     place: u16,
@@ -266,7 +283,7 @@ fn push_rule_trees(
 #[cycle(listing)]
 fn push_all_instances(
     alloc: Global,
-    setting: &Setting<'_>,
+    setting: &Scene<'_>,
     depth: usize,
     wanted: &Test,
     place: u16,
@@ -310,7 +327,7 @@ fn next_number(number: u16) -> Result<u16, Memory>
 #[cycle(listing)]
 fn push_rules(
     alloc: Global,
-    setting: &Setting<'_>,
+    setting: &Scene<'_>,
     depth: usize,
     wanted: &Test,
     place: u16,
@@ -339,7 +356,7 @@ fn push_rules(
 #[cycle(listing)]
 pub(crate) fn trees_of(
     alloc: Global,
-    setting: &Setting<'_>,
+    setting: &Scene<'_>,
     depth: usize,
     wanted: &Test,
     place: u16,

@@ -1,4 +1,5 @@
 pub mod Faults
+pub mod Parsing
 pub mod State
 pub mod Step
 pub mod Words

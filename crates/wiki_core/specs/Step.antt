@@ -10,6 +10,7 @@ use Rattle.wiki_talk.specs.declared.replies.Reply.TheVariants as replies
 use Rattle.wiki_talk.specs.declared.requests.Request.{Request}
 use Rattle.wiki_talk.specs.declared.requests.Request.TheVariants as requests
 use Rattle.wiki_core.specs.State.{State}
+use Rattle.wiki_core.specs.Parsing.{RefusesText, TellsCode}
 use Rattle.wiki_core.specs.Words.{word_with, told_word, told_words, forms_given, word_refusal}
 
 -- ---- why a request is refused
@@ -24,6 +25,7 @@ abbrev pub Refuses : State → Request → Refusal → Type 0
 Refuses state (requests.Word kind texts) refusal = word_refusal state.words kind texts ≡ Some refusal
 Refuses state (requests.Find text) refusal = NamesNoWord state text refusal
 Refuses state requests.Words refusal = ⊥
+Refuses state (requests.Parse text) refusal = RefusesText state text refusal
 
 -- nothing stands against the request
 abbrev pub IsFree : State → Request → Type 0
@@ -52,6 +54,7 @@ abbrev pub Does : State → Request → Reply → State → Type 0
 Does old (requests.Word kind texts) reply new = AddsWord old kind texts reply new
 Does old (requests.Find text) reply new = TellsWord old text reply new
 Does old requests.Words reply new = TellsWords old reply new
+Does old (requests.Parse text) reply new = TellsCode old text reply new
 
 -- One step of the wiki: the first cause that stands against a request is told, and changes nothing; a request against
 -- which nothing stands is done.

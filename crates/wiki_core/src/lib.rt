@@ -2,9 +2,11 @@
 #![tactic(auto)]
 
 mod faults;
+mod parsing;
 #[cfg(test)]
 mod tests;
 mod told;
+mod typing;
 mod wiki;
 mod words;
 

@@ -1,15 +1,19 @@
 // The wiki and its step.
-ghost use Rattle.std.specs.Prelude.{◌≡◌, IsTrue, IfOk, OnErr, option_copied};
+ghost use Rattle.std.specs.Prelude.{◌≡◌, ◌≤◌, ℕ, List, length, IsTrue, IfOk, OnErr, option_copied};
+ghost use Rattle.wiki_base.specs.declared.tokens.TheConstants.{MOST_TOKENS};
 
 use crate::faults::Fault;
+use crate::parsing::{no_sentence, told_code, too_many_tokens};
 use crate::told::{told_word, told_words};
+use crate::typing::least;
 use crate::words::add_word;
 use codeco_checked::CheckedGrammar;
+use derivations::{Cut, cut};
 use lexicon::{Forms, Kind, Lexicon};
 use lists::Copied;
 use std::alloc::Global;
 use std::marker::Model;
-use wiki_base::{Memory, Text8};
+use wiki_base::{Memory, Text8, Tokens};
 use wiki_talk::{Refusal, Reply, Request};
 
 /// A wiki. It is seen as its state: the grammar, the budget of a search, and the live words.
@@ -34,6 +38,7 @@ impl Model for Wiki {
 impl Wiki {
     ghost use Rattle.codeco_checked.specs.Sound.{is_labelled};
     ghost use Rattle.wiki_core.specs.State.{first_state};
+    ghost use Rattle.wiki_core.specs.Parsing.{tokens_of};
     ghost use Rattle.wiki_core.specs.Step.{Step};
     ghost use Rattle.wiki_core.specs.Words.{word_with};
 
@@ -60,6 +65,7 @@ impl Wiki {
             Request::Word { kind, forms } => self.add(*kind, forms.as_slice()),
             Request::Find { word } => self.find(word),
             Request::Words => self.words(),
+            Request::Parse { text } => self.parse(text),
         }
     }
 
@@ -101,5 +107,33 @@ impl Wiki {
         Ok(Reply::Words {
             words: told_words(self.alloc, &self.lexicon)?,
         })
+    }
+    // Tells the code of a text.
+    fn parse(&self, text: &Text8) -> Result<Reply, Memory>
+        ensures { IfOk result (λ reply. Step self.now (Request.Parse text.now) reply self.now) }
+    {
+        match cut(self.alloc, self.grammar.grammar(), text.as_str())? {
+            Cut::TooMany => Ok(Reply::Refused(too_many_tokens())),
+            Cut::Tokens(tokens) => self.parse_tokens(&tokens),
+        }
+    }
+
+    // Tells the code of tokens.
+    fn parse_tokens(&self, tokens: &Tokens) -> Result<Reply, Memory>
+        requires { length tokens.now ≤ MOST_TOKENS }
+        ensures { IfOk result (λ reply. (text : List ℕ) → tokens_of self.now text ≡ tokens.now
+            → Step self.now (Request.Parse text) reply self.now) }
+    {
+        match least(self.alloc, &self.grammar, &self.lexicon, tokens)? {
+            Some(least) => Ok(Reply::Parse {
+                code: told_code(self.alloc, &least)?,
+            }),
+            None => Ok(Reply::Refused(no_sentence(
+                self.alloc,
+                &self.grammar,
+                &self.lexicon,
+                tokens,
+            )?)),
+        }
     }
 }

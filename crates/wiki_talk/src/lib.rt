@@ -1,16 +1,20 @@
 //! What is asked of the wiki, and what it answers.
 #![tactic(auto)]
 
+mod causes;
 mod kinds;
 mod limits;
 mod refusals;
 mod replies;
 mod requests;
+mod statuses;
 #[cfg(test)]
 mod tests;
 
+pub use causes::cause_name;
 pub use kinds::{kind_name, kind_named};
 pub use limits::Limit;
 pub use refusals::{BAD_REQUEST, Refusal, Title};
-pub use replies::{Reply, WordView, WordViews};
+pub use replies::{MenuView, Numbers, Reply, WordView, WordViews};
 pub use requests::Request;
+pub use statuses::Status;

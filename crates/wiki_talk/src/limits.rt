@@ -2,12 +2,15 @@
 ghost use Rattle.std.specs.Prelude.{◌≡◌};
 
 use lexicon::{LAST_NUMBER, MOST_WORDS};
+use wiki_base::MOST_TOKENS;
 
 /// What a limit bounds.
 #[derive(Clone, Copy, Debug, PartialEq, Eq)]
 pub enum Limit {
     /// The live words.
     Words,
+    /// The tokens of a sentence.
+    Tokens,
     /// The numbers that are given.
     Numbers,
 }
@@ -21,6 +24,7 @@ impl Limit {
     {
         match self {
             Limit::Words => MOST_WORDS as u32,
+            Limit::Tokens => MOST_TOKENS as u32,
             Limit::Numbers => LAST_NUMBER,
         }
     }
@@ -31,6 +35,7 @@ impl Limit {
     {
         match self {
             Limit::Words => "words",
+            Limit::Tokens => "tokens",
             Limit::Numbers => "numbers",
         }
     }

@@ -2,6 +2,7 @@
 ghost use Rattle.std.specs.Prelude.{◌≡◌};
 
 use crate::limits::Limit;
+use crate::replies::MenuView;
 use wiki_base::Text8;
 
 /// Why a request was refused.
@@ -17,6 +18,8 @@ pub enum Refusal {
     Reserved { text: Text8 },
     /// The limit is reached.
     Full { which: Limit, limit: u32 },
+    /// The tokens have no derivation. Of them the first `k` can be typed and no more, and the menu is theirs.
+    NotSentence { k: u32, menu: MenuView },
 }
 
 /// The number and the name by which a refusal is told.
@@ -46,6 +49,7 @@ impl Refusal {
             Refusal::Taken { .. } => (3, "Taken"),
             Refusal::Reserved { .. } => (4, "Reserved"),
             Refusal::Full { .. } => (7, "Full"),
+            Refusal::NotSentence { .. } => (12, "NotSentence"),
         };
         Title { number, name }
     }

@@ -14,6 +14,20 @@ pub struct WordView {
 /// A list of words as they are told.
 pub type WordViews = List<WordView>;
 
+/// A list of numbers.
+pub type Numbers = List<u32>;
+
+/// The tokens that may follow, by their groups, each group in order of bytes.
+#[derive(Drop)]
+pub struct MenuView {
+    pub adjective: Text8s,
+    pub function: Text8s,
+    pub name: Text8s,
+    pub noun: Text8s,
+    pub of: Text8s,
+    pub verb: Text8s,
+}
+
 /// The answer to one request.
 #[derive(Drop)]
 pub enum Reply {
@@ -23,6 +37,8 @@ pub enum Reply {
     Find { word: WordView },
     /// All live words, in order of number.
     Words { words: WordViews },
+    /// The code of the least skeleton.
+    Parse { code: Numbers },
     /// The request was refused, and nothing has changed.
     Refused(Refusal),
 }

@@ -11,4 +11,6 @@ pub enum Request {
     Find { word: Text8 },
     /// All live words.
     Words,
+    /// The code of the least skeleton of this text.
+    Parse { text: Text8 },
 }

@@ -4,10 +4,10 @@ use Rattle.serde_json.specs.Data.{Data, Members, string, number, unsigned, array
 use Rattle.wiki_talk.specs.declared.replies.Reply.{Reply}
 use Rattle.wiki_talk.specs.declared.replies.Reply.TheVariants as replies
 use Rattle.wiki_talk.specs.declared.refusals.Refusal.{Refusal}
-use Rattle.wiki_talk.specs.declared.refusals.Refusal.TheVariants.{NoWord, BadForm, Taken, Reserved, Full}
+use Rattle.wiki_talk.specs.declared.refusals.Refusal.TheVariants.{NoWord, BadForm, Taken, Reserved, Full, NotSentence}
 use Rattle.wiki_talk.specs.Limits.{name_of}
 use Rattle.wiki_talk.specs.Refusals.{title_of, bad_request}
-use Rattle.wire_json.specs.Values.{line_text, word_value, words_items}
+use Rattle.wire_json.specs.Values.{line_text, numbers_items, menu_value, word_value, words_items}
 
 -- the members that tell the name and the number of a refusal, before others
 abbrev pub told : ℕ → List ℕ → Members → Members
@@ -21,6 +21,8 @@ refusal_members (Taken text word) titled = titled (member (codes "text") (string
 refusal_members (Reserved text) titled = titled (member (codes "text") (string text) no_members)
 refusal_members (Full which limit) titled =
     member (codes "limit") (number (unsigned limit)) (titled (member (codes "which") (string (name_of which)) no_members))
+refusal_members (NotSentence k menu) titled =
+    member (codes "k") (number (unsigned k)) (member (codes "menu") (menu_value menu) (titled no_members))
 
 abbrev pub refusal_value : Refusal → Data
 refusal_value refusal = object (refusal_members refusal (told (title_of refusal).number (title_of refusal).name))
@@ -34,6 +36,9 @@ reply_value (replies.Find word) = object
 reply_value (replies.Words words) = object
     (member (codes "done") (string (codes "words"))
     (member (codes "words") (array (words_items words)) no_members))
+reply_value (replies.Parse code) = object
+    (member (codes "code") (array (numbers_items code))
+    (member (codes "done") (string (codes "parse")) no_members))
 reply_value (replies.Refused refusal) = refusal_value refusal
 
 abbrev pub reply_line : Reply → List ℕ

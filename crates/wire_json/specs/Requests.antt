@@ -37,6 +37,10 @@ find_in value = option_map requests.Find (text_at (codes "word") value)
 abbrev pub words_in : Data → Option Request
 words_in value = Some requests.Words
 
+-- the code of a text: `text`
+unfoldable pub parse_in : Data → Option Request
+parse_in value = option_map requests.Parse (text_at (codes "text") value)
+
 -- a name, and what an object that has it in `do` asks
 pub record Row : Type 0 where
   pub name : List ℕ
@@ -48,6 +52,7 @@ rows =
     record { name = codes "word"; request = word_in }
     ∷ record { name = codes "find"; request = find_in }
     ∷ record { name = codes "words"; request = words_in }
+    ∷ record { name = codes "parse"; request = parse_in }
     ∷ []
 
 -- the request of this name that an object describes
@@ -77,6 +82,9 @@ request_value (requests.Find word) = object
     (member (codes "do") (string (codes "find"))
     (member (codes "word") (string word) no_members))
 request_value requests.Words = object (member (codes "do") (string (codes "words")) no_members)
+request_value (requests.Parse text) = object
+    (member (codes "do") (string (codes "parse"))
+    (member (codes "text") (string text) no_members))
 
 abbrev pub request_line : Request → List ℕ
 request_line request = line_text (request_value request)

@@ -1,9 +1,10 @@
 -- What stands in many lines, as JSON.
 use Rattle.std.specs.Prelude.{ℕ, List, [], ◌∷◌, ◌++◌, codes, map}
-use Rattle.serde_json.specs.Data.{Data, string, array, object, Items, no_members, member}
+use Rattle.serde_json.specs.Data.{Data, string, number, unsigned, array, object, Items, no_members, member}
 use Rattle.serde_json.specs.View.{items_of}
 use Rattle.serde_json.specs.Written.{compact_text}
 use Rattle.wiki_talk.specs.declared.replies.WordView.{WordView}
+use Rattle.wiki_talk.specs.declared.replies.MenuView.{MenuView}
 use Rattle.wiki_talk.specs.Kinds.{kind_name}
 
 -- the value as JSON with no space, and a newline
@@ -19,6 +20,20 @@ abbrev pub word_value : WordView → Data
 word_value word = object
     (member (codes "forms") (array (texts_items word.forms))
     (member (codes "kind") (string (kind_name word.kind)) no_members))
+
+-- a list of numbers
+abbrev pub numbers_items : List ℕ → Items
+numbers_items numbers = items_of (map (λ n. number (unsigned n)) numbers)
+
+-- a menu: a list of texts for each group
+abbrev pub menu_value : MenuView → Data
+menu_value menu = object
+    (member (codes "adjective") (array (texts_items menu.adjective))
+    (member (codes "function") (array (texts_items menu.function))
+    (member (codes "name") (array (texts_items menu.name))
+    (member (codes "noun") (array (texts_items menu.noun))
+    (member (codes "of") (array (texts_items menu.of))
+    (member (codes "verb") (array (texts_items menu.verb)) no_members))))))
 
 -- a list of words
 abbrev pub words_items : List WordView → Items

@@ -1,7 +1,7 @@
 // The request of a line.
 ghost use Rattle.std.specs.Prelude.{◌≡◌, IfOk, option_map};
 ghost use Rattle.serde_json.specs.View.{view, items_view};
-ghost use Rattle.wire_json.specs.Requests.{text_at, texts_at, texts_in, word_in, find_in, words_in, request_named, request_in, request_of};
+ghost use Rattle.wire_json.specs.Requests.{text_at, texts_at, texts_in, word_in, find_in, words_in, parse_in, request_named, request_in, request_of};
 
 use serde_json::Value;
 use std::alloc::Global;
@@ -43,6 +43,7 @@ fn request_named(alloc: Global, value: &Value, name: &str) -> Result<Option<Requ
         "word" => word_from(alloc, value),
         "find" => find_from(alloc, value),
         "words" => Ok(Some(Request::Words)),
+        "parse" => parse_from(alloc, value),
         _ => Ok(None),
     }
 }
@@ -73,6 +74,18 @@ fn find_from(alloc: Global, value: &Value) -> Result<Option<Request>, Memory>
     match text_of(value, "word") {
         Some(word) => Ok(Some(Request::Find {
             word: Text8::from_str(alloc, word)?,
+        })),
+        None => Ok(None),
+    }
+}
+
+#[tactic(auto, unfolding(crate::specs::Requests::parse_in))]
+fn parse_from(alloc: Global, value: &Value) -> Result<Option<Request>, Memory>
+    ensures { IfOk result (λ request. request ≡ parse_in (view value.now)) }
+{
+    match text_of(value, "text") {
+        Some(text) => Ok(Some(Request::Parse {
+            text: Text8::from_str(alloc, text)?,
         })),
         None => Ok(None),
     }

@@ -4,11 +4,13 @@ ghost use Rattle.serde_json.specs.View.{view};
 ghost use Rattle.serde_json.specs.Data.{string, number, unsigned, object, member, no_members};
 ghost use Rattle.wire_json.specs.Replies.{told, refusal_value};
 ghost use Rattle.wiki_talk.specs.Limits.{name_of};
+ghost use Rattle.wire_json.specs.Values.{menu_value};
 
+use crate::values::menu_value;
 use serde_json::{Value, json};
 use std::alloc::Global;
 use wiki_base::{Memory, Text8};
-use wiki_talk::{Limit, Refusal, Title};
+use wiki_talk::{Limit, MenuView, Refusal, Title};
 
 pub(crate) fn refusal_value(alloc: Global, refusal: &Refusal) -> Result<Value, Memory>
     ensures { IfOk result (λ value. view value ≡ refusal_value refusal.now) }
@@ -18,6 +20,7 @@ pub(crate) fn refusal_value(alloc: Global, refusal: &Refusal) -> Result<Value, M
         Refusal::NoWord { text } | Refusal::Reserved { text } => text_value(alloc, title, text),
         Refusal::BadForm { which } => which_value(alloc, title, *which),
         Refusal::Taken { text, word } => taken_value(alloc, title, text, word),
+        Refusal::NotSentence { k, menu } => not_sentence_value(alloc, title, *k, menu),
         Refusal::Full { which, limit } => full_value(alloc, title, *which, *limit),
     }
 }
@@ -50,4 +53,11 @@ fn full_value(alloc: Global, title: Title, which: Limit, limit: u32) -> Result<V
     Ok(
         json!(in alloc; {"limit": limit, "name": title.name, "refused": title.number, "which": which})?,
     )
+}
+
+fn not_sentence_value(alloc: Global, title: Title, k: u32, menu: &MenuView) -> Result<Value, Memory>
+    ensures { IfOk result (λ value. view value ≡ object (member (codes "k") (number (unsigned k)) (member (codes "menu") (menu_value menu.now) (told title.number title.name.now no_members)))) }
+{
+    let menu = menu_value(alloc, menu)?;
+    Ok(json!(in alloc; {"k": k, "menu": menu, "name": title.name, "refused": title.number})?)
 }

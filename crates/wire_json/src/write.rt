@@ -6,7 +6,7 @@ ghost use Rattle.wire_json.specs.Requests.{request_value, request_line};
 
 use crate::line::line_of;
 use crate::refusals::refusal_value;
-use crate::values::{texts_value, word_value, words_value};
+use crate::values::{numbers_value, texts_value, word_value, words_value};
 use lexicon::Kind;
 use serde_json::{Value, json};
 use std::alloc::Global;
@@ -47,6 +47,7 @@ fn reply_value(alloc: Global, reply: &Reply) -> Result<Value, Memory>
         Reply::Word => Ok(json!(in alloc; {"done": "word"})?),
         Reply::Find { word } => find_reply_value(alloc, word),
         Reply::Words { words } => words_reply_value(alloc, words.as_slice()),
+        Reply::Parse { code } => parse_reply_value(alloc, code.as_slice()),
         Reply::Refused(refusal) => refusal_value(alloc, refusal),
     }
 }
@@ -65,6 +66,13 @@ fn words_reply_value(alloc: Global, words: &[WordView]) -> Result<Value, Memory>
     Ok(json!(in alloc; {"done": "words", "words": words})?)
 }
 
+fn parse_reply_value(alloc: Global, code: &[u32]) -> Result<Value, Memory>
+    ensures { IfOk result (λ value. view value ≡ reply_value (Reply.Parse code.now)) }
+{
+    let code = numbers_value(alloc, code)?;
+    Ok(json!(in alloc; {"code": code, "done": "parse"})?)
+}
+
 fn request_value(alloc: Global, request: &Request) -> Result<Value, Memory>
     ensures { IfOk result (λ value. view value ≡ request_value request.now) }
 {
@@ -75,6 +83,10 @@ fn request_value(alloc: Global, request: &Request) -> Result<Value, Memory>
             Ok(json!(in alloc; {"do": "find", "word": word})?)
         }
         Request::Words => Ok(json!(in alloc; {"do": "words"})?),
+        Request::Parse { text } => {
+            let text = text.as_str();
+            Ok(json!(in alloc; {"do": "parse", "text": text})?)
+        }
     }
 }
 

@@ -12,7 +12,7 @@ returns-in-Some-request-clause-reply c =
       | in-None w ↦ rw (w.in-None.is, w.request-is) refl
     ] in
     IfOk-weaker c.reply_to.result _ (RepliesTo c.args.wiki.now (line_handed c.args.line) c.reply_to.new.wiki)
-    (λ (bytes : List ℕ) stepped. RepliesTo-step c.args.wiki.now (line_handed c.args.line) c.reply_to.new.wiki c.in-Some-request.request bytes (sym c.in-Some-request.is ∙ is_asked) stepped) c.reply_to.ensures.reply
+    (λ (bytes : List ℕ) stepped. RepliesTo-step _ _ _ _ bytes (sym c.in-Some-request.is ∙ is_asked) stepped) c.reply_to.ensures.reply
 
 pub returns-in-Some-request-clause-memory : goal.returns-in-Some-request-clause-memory
 returns-in-Some-request-clause-memory c =

@@ -3,7 +3,7 @@ use Rattle.wiki_io.specs.Lines.{text}
 use Rattle.wiki_io.specs.Reading.{answered}
 use Rattle.wiki_io.specs.declared.reader.Line.{Line}
 use Rattle.acewiki.specs.Lines.{line_handed}
-use Rattle.acewiki.proofs.RunLemmas.{Running-first, Running-line, at_end-call, within-call, within-end, Replays-end, Replays-fault, Replays-too_large, Replays-cut}
+use Rattle.acewiki.proofs.RunLemmas.{Running-first, Running-line, at_end-call, within-call, within-end, Replays-end, Replays-fault, Replays-too_large, Replays-cut, Rose-later}
 use Rattle.acewiki.proofs.replay.answer_lines.Goals as goal
 use Rattle.acewiki.proofs.replay.answer_lines.Goals.{in-Text, in-TooLong}
 
@@ -24,6 +24,9 @@ returns-in-ReadFault-clause-replays g c =
     let end = at_end-call (g.S.Source.left c.lines.input) (g.S.Source.left c.next_line.new.source) c.lines.reader c.next_line.new.self c.lines.invariant.at_end call.nothing_left (λ was. ap g.S.Source.left (call.ended was).1) in
     Replays-fault _ _ _ _ _ _ _ _ _ _ _ c.lines.invariant _ _ _ call.lines end (ap (λ (said : Line). answered said c.next_line.new.self.line) c.in-ReadFault.is) (call.given c.in-ReadFault.is)
 
+pub returns-in-ReadFault-clause-read_fault : goal.returns-in-ReadFault-clause-read_fault
+returns-in-ReadFault-clause-read_fault g c = λ _. Rose-later _ _ _ c.lines.invariant.input_faults (c.next_line.ensures.read_fault c.in-ReadFault.is)
+
 pub returns-in-TooMuch-clause-replays : goal.returns-in-TooMuch-clause-replays
 returns-in-TooMuch-clause-replays g c =
     let call = c.next_line.ensures in
@@ -38,7 +41,7 @@ returns-in-Err-clause-replays g c =
       | in-Text w ↦ rw (w.in-Text.is, w.line-is) (ap (λ (line : List ℕ). text line ∷ []) (sym w.line.ensures))
       | in-TooLong w ↦ rw (w.in-TooLong.is, w.line-is) refl
     ] in
-    Replays-cut _ _ _ _ _ _ _ _ _ _ _ c.lines.invariant _ _ _ call.lines end _ gives c.in-Err.outcome c.answer_line.new.wiki (g.K.Sink.taken c.answer_line.new.output) c.in-Err.ensures.cut
+    Replays-cut _ _ _ _ _ _ _ _ _ _ _ c.lines.invariant _ _ _ call.lines end _ gives _ _ _ c.in-Err.ensures.cut
 
 pub lines-preserved : goal.lines-preserved
 lines-preserved g c =

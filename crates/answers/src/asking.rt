@@ -1,0 +1,92 @@
+// Answers to the question which names are in a class.
+ghost use Rattle.std.specs.Prelude.{◌≡◌, ◌∷◌, [], ◌++◌, ◌&&◌, true, All, Contains, IfOk, IsTrue};
+ghost use Rattle.std.specs.List.{list_all};
+ghost use Rattle.logic_terms.specs.Shown.{concept_of};
+ghost use Rattle.logic_terms.specs.Interpretation.{Interpretation, element_of};
+ghost use Rattle.logic_terms.specs.Plain.{is_plain, are_plain};
+ghost use Rattle.logic_terms.specs.Reading.{IsIn, IsModel};
+ghost use Rattle.wiki_base.specs.declared.numbers.WordId.{WordId};
+ghost use Rattle.absorb.specs.Mentioned.{names_in, is_among, are_over};
+ghost use Rattle.owl_eval.specs.Checked.{kept_interp, kept_claims};
+ghost use Rattle.answers.specs.Answered.{IsInAll, IsOutsideSome, IsUnknown};
+ghost use Rattle.answers.specs.Single.{Answered};
+
+use logic_terms::{Axiom, Axioms, Class, Names, negated};
+use owl_eval::{CheckedModel, axiom_true};
+use reasoner::{Verdict, verdict};
+use std::alloc::Global;
+use wiki_base::{Memory, WordId};
+
+/// The names in a class, and those of which it is not known, each in order of number.
+#[derive(Drop)]
+pub struct Answers {
+    /// In the class in every finite model of the axioms.
+    pub yes: Names,
+    /// The budget was spent before it was decided.
+    pub unknown: Names,
+}
+
+/// The given names that are in a class in every finite model of the kept axioms. A name that is outside the class in the
+/// kept interpretation is no answer; for each other name the verdict on the axioms with its membership in the complement
+/// decides, within `budget` rule applications.
+pub fn ask(
+    alloc: Global,
+    class: &Class,
+    kept: &CheckedModel,
+    names: &Names,
+    budget: u64,
+) -> Result<Answers, Memory>
+    requires over { IsTrue (are_over names.now (kept_claims kept.now) && list_all (is_among names.now) (names_in (concept_of class.now))) }
+    requires plain { IsTrue (are_plain (kept_claims kept.now) && is_plain (concept_of class.now)) }
+    ensures yes { IfOk result (λ a. All (IsInAll (kept_claims kept.now) (concept_of class.now)) a.yes) }
+    ensures unknown { IfOk result (λ a. All (IsUnknown (kept_claims kept.now) names.now budget (concept_of class.now)) a.unknown) }
+    ensures kept_has_unknown { IfOk result (λ a. All (λ n. IsIn (kept_interp kept.now) (concept_of class.now) (element_of (kept_interp kept.now) n)) a.unknown) }
+    ensures others { IfOk result (λ a. (n : WordId) → Contains names.now n → ¬ Contains a.yes n → ¬ Contains a.unknown n → IsOutsideSome (kept_claims kept.now) (concept_of class.now) n) }
+    ensures given { IfOk result (λ a. All (Contains names.now) a.yes × All (Contains names.now) a.unknown) }
+    ensures apart { IfOk result (λ a. (n : WordId) → Contains a.yes n → ¬ Contains a.unknown n) }
+{
+    let mut yes = Names::new(alloc);
+    let mut unknown = Names::new(alloc);
+    for name in names.as_slice() {
+        match decided(alloc, class, kept, names, *name, budget)? {
+            Asked::Yes => yes.push(*name)?,
+            Asked::Unknown => unknown.push(*name)?,
+            Asked::No => {}
+        }
+    }
+    Ok(Answers { yes, unknown })
+}
+
+// Whether one name is in the class.
+#[derive(Drop)]
+pub(crate) enum Asked {
+    Yes,
+    Unknown,
+    No,
+}
+
+fn decided(
+    alloc: Global,
+    class: &Class,
+    kept: &CheckedModel,
+    names: &Names,
+    name: WordId,
+    budget: u64,
+) -> Result<Asked, Memory>
+    requires over { IsTrue (are_over names.now (kept_claims kept.now) && list_all (is_among names.now) (names_in (concept_of class.now))) }
+    requires plain { IsTrue (are_plain (kept_claims kept.now) && is_plain (concept_of class.now)) }
+    requires given { IsTrue (is_among names.now name) }
+    ensures { IfOk result (λ a. Answered (kept_interp kept.now) (kept_claims kept.now) names.now budget (concept_of class.now) name a) }
+{
+    let denial = Axiom::Member(negated(alloc, class)?, name);
+    if axiom_true(kept.interp(), &denial) {
+        return Ok(Asked::No);
+    }
+    let mut axioms = kept.axioms().copy()?;
+    axioms.push(denial)?;
+    match verdict(alloc, axioms, names, kept, budget)? {
+        Verdict::Consistent(_) => Ok(Asked::No),
+        Verdict::Inconsistent(_) => Ok(Asked::Yes),
+        Verdict::Spent(_) => Ok(Asked::Unknown),
+    }
+}

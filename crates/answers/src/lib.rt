@@ -1,0 +1,6 @@
+//! Answers to questions: the names that are in a class in every model.
+#![tactic(auto)]
+
+mod asking;
+
+pub use asking::{Answers, ask};

@@ -1,0 +1,2 @@
+pub mod Articles
+pub mod Places

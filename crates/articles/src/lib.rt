@@ -1,0 +1,12 @@
+//! The articles of a wiki: for each word the list of its sentences, and how often it was changed.
+#![tactic(auto)]
+
+mod article;
+mod articles;
+mod sentences;
+#[cfg(test)]
+mod tests;
+
+pub use article::{Article, LAST_REVISION};
+pub use articles::Articles;
+pub use sentences::{Sentence, Sentences};

@@ -1,0 +1,14 @@
+pub mod Climb
+pub mod EntriesLemmas
+pub mod ExtentsLemmas
+pub mod Labels
+pub mod Made
+pub mod ModelOf
+pub mod Pictured
+pub mod Placing
+pub mod Putting
+pub mod Rest
+pub mod Same
+pub mod Sound
+pub mod Start
+pub mod Truth

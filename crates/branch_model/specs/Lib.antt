@@ -1,0 +1,4 @@
+pub mod Elements
+pub mod Entries
+pub mod Extents
+pub mod Named

@@ -1,0 +1,124 @@
+// What a branch's model gives to class words, relation words and names.
+ghost use Rattle.std.specs.Prelude.{◌≡◌, [], map, OnOk, IfOk};
+ghost use Rattle.logic_terms.specs.Known.{theory_of};
+ghost use Rattle.logic_terms.specs.Shown.{concept_of};
+ghost use Rattle.owl_eval.specs.Given.{lists_in};
+ghost use Rattle.tableau_rules.specs.Shown.{graph_of};
+ghost use Rattle.branch_model.specs.Extents.{labelled, extents, paired, paired_above, stand_of, linked, links};
+
+use crate::entries::put;
+use logic_terms::{Class, Knowledge, Role};
+use std::alloc::Global;
+use tableau_rules::{Branch, Edge};
+use wiki_base::{Memory, WordId};
+
+// The elements of each class word.
+pub(crate) fn class_extents(
+    alloc: Global,
+    b: &Branch,
+    owners: &[u64],
+) -> Result<Vec<(WordId, Vec<u64>)>, Memory>
+    ensures { IfOk result (λ made. lists_in made.items ≡ extents (graph_of b.now) 0 owners.now []) }
+{
+    let mut made = Vec::new(alloc);
+    let mut element = 0;
+    for owner in owners {
+        add_label(alloc, &mut made, element, b.label(*owner))?;
+        element += 1;
+    }
+    Ok(made)
+}
+
+fn add_label(
+    alloc: Global,
+    made: &mut Vec<(WordId, Vec<u64>)>,
+    element: u64,
+    label: &[Class],
+) -> Result<(), Memory>
+    ensures { OnOk result (lists_in made.new.items ≡ labelled element (map concept_of label.now) (lists_in made.old.items)) }
+{
+    for class in label {
+        if let Some(word) = class.word() {
+            put(alloc, made, word, element)?;
+        }
+    }
+    Ok(())
+}
+
+// The pairs of each relation word.
+pub(crate) fn role_pairs(
+    alloc: Global,
+    k: &Knowledge,
+    b: &Branch,
+    stands: &[Option<u64>],
+) -> Result<Vec<(WordId, Vec<(u64, u64)>)>, Memory>
+    ensures { IfOk result (λ made. lists_in made.items ≡ links (theory_of k.now) stands.now (graph_of b.now).edges []) }
+{
+    let mut made = Vec::new(alloc);
+    for edge in b.edges() {
+        add_edge(alloc, &mut made, k, stands, *edge)?;
+    }
+    Ok(made)
+}
+
+fn add_edge(
+    alloc: Global,
+    made: &mut Vec<(WordId, Vec<(u64, u64)>)>,
+    k: &Knowledge,
+    stands: &[Option<u64>],
+    edge: Edge,
+) -> Result<(), Memory>
+    ensures { OnOk result (lists_in made.new.items ≡ linked (theory_of k.now) stands.now edge (lists_in made.old.items)) }
+{
+    let Some(from) = stand(stands, edge.from) else {
+        return Ok(());
+    };
+    let Some(to) = stand(stands, edge.to) else {
+        return Ok(());
+    };
+    add_pair(alloc, made, edge.role, from, to)?;
+    add_above(alloc, made, k.hierarchy(), edge.role, from, to)
+}
+
+fn add_above(
+    alloc: Global,
+    made: &mut Vec<(WordId, Vec<(u64, u64)>)>,
+    hierarchy: &[(Role, Role)],
+    role: Role,
+    from: u64,
+    to: u64,
+) -> Result<(), Memory>
+    ensures { OnOk result (lists_in made.new.items ≡ paired_above hierarchy.now role from to (lists_in made.old.items)) }
+{
+    for pair in hierarchy {
+        if pair.0.is_same(role) {
+            add_pair(alloc, made, pair.1, from, to)?;
+        }
+    }
+    Ok(())
+}
+
+fn add_pair(
+    alloc: Global,
+    made: &mut Vec<(WordId, Vec<(u64, u64)>)>,
+    role: Role,
+    from: u64,
+    to: u64,
+) -> Result<(), Memory>
+    ensures { OnOk result (lists_in made.new.items ≡ paired role from to (lists_in made.old.items)) }
+{
+    if role.inverted {
+        put(alloc, made, role.id, (to, from))
+    } else {
+        put(alloc, made, role.id, (from, to))
+    }
+}
+
+pub(crate) fn stand(stands: &[Option<u64>], node: u64) -> Option<u64>
+    ensures { result ≡ stand_of stands.now node }
+{
+    match stands.get(node as usize) {
+        Some(stand) => *stand,
+        None => None,
+    }
+}

@@ -1,0 +1,9 @@
+//! Models of finished branches.
+#![tactic(auto)]
+
+mod elements;
+mod entries;
+mod extents;
+mod making;
+
+pub use making::model;

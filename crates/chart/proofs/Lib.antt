@@ -1,0 +1,5 @@
+pub mod ChartLemmas
+pub mod TurnedLemmas
+pub mod TurnedTrees
+pub mod SwapLemmas
+pub mod FollowLemmas

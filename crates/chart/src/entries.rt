@@ -1,0 +1,64 @@
+// The entries of a menu as they are gathered, in order.
+ghost use Rattle.std.specs.Prelude.{◌≡◌, ◌≤◌, ◌∷◌, [], IfOk, OnOk, length, map};
+ghost use Rattle.derivation_trees.specs.Menus.{entry_cmp};
+ghost use Rattle.derivations.specs.Entries.{shown, with_entry, IsInOrder, IsPlaceFor};
+
+use derivation_trees::{Group, Menu};
+use std::alloc::Global;
+use std::cmp::Ordering;
+use wiki_base::Memory;
+
+// A group and a token.
+pub(crate) type Entry<'a> = (Group, &'a str);
+
+// How the one stands to the other: by their groups, and in a group by their bytes.
+fn order(one: &Entry<'_>, other: &Entry<'_>) -> Ordering
+    ensures { result ≡ entry_cmp (shown one.now) (shown other.now) }
+{
+    one.0
+        .number()
+        .cmp(&other.0.number())
+        .then(one.1.cmp(other.1))
+}
+
+// How many of the entries, which stand in order, are before the entry.
+fn place_for(entries: &[Entry<'_>], entry: &Entry<'_>) -> usize
+    requires { IsInOrder (map shown entries.now) }
+    ensures { IsPlaceFor (map shown entries.now) (shown entry.now) result }
+{
+    let mut low = 0;
+    let mut high = entries.len();
+    while low < high {
+        let middle = low + (high - low) / 2;
+        if order(&entries[middle], entry) == Ordering::Less {
+            low = middle + 1;
+        } else {
+            high = middle;
+        }
+    }
+    low
+}
+
+// Puts the entry among the entries, which stand in order, where it isn't there yet.
+pub(crate) fn put<'a>(entries: &mut Vec<Entry<'a>>, entry: Entry<'a>) -> Result<(), Memory>
+    requires { IsInOrder (map shown entries.old.items) }
+    ensures { OnOk result (map shown entries.new.items ≡ with_entry (shown entry.entry) (map shown entries.old.items)) }
+{
+    let place = place_for(entries.as_slice(), &entry);
+    if place < entries.len() && order(&entries[place], &entry) == Ordering::Equal {
+        return Ok(());
+    }
+    entries.insert(place, entry)?;
+    Ok(())
+}
+
+// The entries as a menu.
+pub(crate) fn menu_of<'a>(alloc: Global, entries: &[Entry<'a>]) -> Result<Menu<'a>, Memory>
+    ensures { IfOk result (λ menu. menu ≡ map shown entries.now) }
+{
+    let mut menu = Menu::new(alloc);
+    for (group, text) in entries {
+        menu.push(*group, *text)?;
+    }
+    Ok(menu)
+}

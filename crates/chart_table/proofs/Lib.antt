@@ -1,0 +1,13 @@
+pub mod Loops
+pub mod PassLemmas
+pub mod OpenerLemmas
+pub mod BranchLemmas
+pub mod StepLemmas
+pub mod ChoiceLemmas
+pub mod EndLemmas
+pub mod TurnLemmas
+pub mod TableLemmas
+pub mod CycleLemmas
+pub mod SentenceLemmas
+pub mod CutLemmas
+pub mod HeadLemmas

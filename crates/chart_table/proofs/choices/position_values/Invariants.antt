@@ -1,0 +1,7 @@
+use Rattle.std.proofs.Common.{◌≡◌, take, drop, map, ◌++◌, ◌∷◌, []}
+use Rattle.std.specs.List.{flat_map, range_with_len}
+use Rattle.codeco_terms.specs.declared.values.Value.TheVariants.{Pos}
+use Rattle.chart_table.proofs.choices.position_values.Given as goal
+
+abbrev pub invariant-loop-place : goal.invariant-loop-place
+invariant-loop-place l = l.values ≡ map Pos (range_with_len 0 l.place)

@@ -1,0 +1,7 @@
+use Rattle.std.proofs.Common.{◌≡◌, take, drop, map, ◌++◌, ◌∷◌, []}
+use Rattle.std.specs.List.{flat_map, range_with_len}
+use Rattle.chart_table.specs.Choices.{pattern_terms}
+use Rattle.chart_table.proofs.choices.push_patterns.Given as goal
+
+abbrev pub invariant-loop-pattern : goal.invariant-loop-pattern
+invariant-loop-pattern l = l.out ≡ l.fn.out ++ flat_map pattern_terms (take l.pattern-index l.patterns)

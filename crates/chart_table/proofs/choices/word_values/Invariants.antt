@@ -1,0 +1,7 @@
+use Rattle.std.proofs.Common.{◌≡◌, take, drop, map, ◌++◌, ◌∷◌, []}
+use Rattle.std.specs.List.{flat_map, range_with_len}
+use Rattle.chart_table.specs.Choices.{words_of, no_word}
+use Rattle.chart_table.proofs.choices.word_values.Given as goal
+
+abbrev pub invariant-loop-readings : goal.invariant-loop-readings
+invariant-loop-readings l = l.values ≡ no_word ∷ flat_map words_of (take l.readings-index l.setting.readings)

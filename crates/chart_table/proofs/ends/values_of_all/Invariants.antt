@@ -1,0 +1,8 @@
+use Rattle.std.proofs.Common.{◌≡◌, take, drop, map, ◌++◌, ◌∷◌, [], length, ◌≤◌, ◌-◌}
+use Rattle.chart_table.specs.Ends.{as_terms, values_of_all, finished_one}
+use Rattle.std.specs.List.{flat_map}
+use Rattle.scopes.specs.AccessList.{closed, strong_referents}
+use Rattle.chart_table.proofs.ends.values_of_all.Given as goal
+
+abbrev pub invariant-loop-number : goal.invariant-loop-number
+invariant-loop-number l = l.values ≡ values_of_all l.bound (take l.number-index l.numbers)

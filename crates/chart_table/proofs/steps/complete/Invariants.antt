@@ -1,0 +1,6 @@
+use Rattle.std.proofs.Common.{◌≡◌, take, drop, map, ◌++◌, ◌∷◌, [], length, ◌≤◌}
+use Rattle.chart_table.specs.Steps.{placed, read_all, completed, introduced_state, refer, refer_none, sub_steps}
+use Rattle.chart_table.proofs.steps.complete.Given as goal
+
+abbrev pub invariant-loop-feature : goal.invariant-loop-feature
+invariant-loop-feature l = l.out ++ completed l.feats (drop l.feature-index l.features) l.next ≡ completed l.feats l.features l.fn.number

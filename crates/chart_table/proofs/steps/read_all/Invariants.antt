@@ -1,0 +1,6 @@
+use Rattle.std.proofs.Common.{◌≡◌, take, drop, map, ◌++◌, ◌∷◌, [], length, ◌≤◌}
+use Rattle.chart_table.specs.Steps.{placed, read_all, completed, introduced_state, refer, refer_none, sub_steps}
+use Rattle.chart_table.proofs.steps.read_all.Given as goal
+
+abbrev pub invariant-loop-reading : goal.invariant-loop-reading
+invariant-loop-reading l = l.out ≡ read_all l.category l.bound (take l.reading-index l.readings)

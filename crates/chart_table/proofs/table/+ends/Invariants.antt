@@ -1,0 +1,53 @@
+use Rattle.std.proofs.Common.{◌≡◌, ℕ, List, take, drop, map, ◌++◌, ◌+◌, ◌*◌, ◌∷◌, [], length, ◌≤◌, ◌-◌}
+use Rattle.chart_table.specs.Ends.{HasEndsUpTo, AreSteps}
+use Rattle.chart_table.specs.Cuts.{AreAfter, HasHeads, CutBefore, Among, Enters, HasCutsUpTo}
+use Rattle.chart_table.specs.Table.{AreRows}
+use Rattle.chart_table.proofs.table.+ends.Given as goal
+
+abbrev pub decreases-row_of : goal.decreases-row_of
+decreases-row_of l = 8 * l.depth + 8
+
+abbrev pub decreases-category_ends : goal.decreases-category_ends
+decreases-category_ends l = 8 * l.depth + 7
+
+abbrev pub decreases-push_named : goal.decreases-push_named
+decreases-push_named l = 8 * l.depth + 6
+
+abbrev pub decreases-push_rule : goal.decreases-push_rule
+decreases-push_rule l = 8 * l.depth + 5
+
+abbrev pub decreases-last_states : goal.decreases-last_states
+decreases-last_states l = 8 * l.depth + 4
+
+abbrev pub decreases-next_states : goal.decreases-next_states
+decreases-next_states l = 8 * l.depth + 3
+
+abbrev pub decreases-push_state : goal.decreases-push_state
+decreases-push_state l = 8 * l.depth + 2
+
+abbrev pub decreases-push_category : goal.decreases-push_category
+decreases-push_category l = 8 * l.depth + 1
+
+abbrev pub invariant-category_ends-loop-rule : goal.invariant-category_ends-loop-rule
+invariant-category_ends-loop-rule l =
+    record {
+      rows : AreRows l.setting l.rows;
+      ends : HasEndsUpTo l.setting l.name l.known (record { place = l.place; list = l.start }) l.rule-index l.ends;
+      cuts : HasCutsUpTo l.setting l.name l.known (record { place = l.place; list = l.start }) l.rule-index l.cuts;
+    }
+
+abbrev pub invariant-last_states-loop-element : goal.invariant-last_states-loop-element
+invariant-last_states-loop-element l =
+    record {
+      rows : AreRows l.setting l.rows;
+      after : AreAfter l.setting l.rule l.fn.starts l.number l.element-index l.states;
+      cuts : HasHeads l.setting l.rule (CutBefore l.setting l.rule l.fn.starts l.element-index) l.fn.cuts l.cuts;
+    }
+
+abbrev pub invariant-next_states-loop-state : goal.invariant-next_states-loop-state
+invariant-next_states-loop-state l =
+    record {
+      rows : AreRows l.setting l.rows;
+      steps : AreSteps l.setting l.rule l.number l.element (take l.state-index l.states) l.news;
+      cuts : HasHeads l.setting l.rule (λ v. Among (Enters l.setting l.element v) (take l.state-index l.states)) l.fn.cuts l.cuts;
+    }

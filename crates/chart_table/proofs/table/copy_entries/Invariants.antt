@@ -1,0 +1,5 @@
+use Rattle.std.proofs.Common.{◌≡◌, ℕ, List, take, drop, map, ◌++◌, ◌+◌, ◌*◌, ◌∷◌, [], length, ◌≤◌, ◌-◌}
+use Rattle.chart_table.proofs.table.copy_entries.Given as goal
+
+abbrev pub invariant-loop-entry : goal.invariant-loop-entry
+invariant-loop-entry l = l.copied ≡ take l.entry-index l.entries

@@ -1,0 +1,15 @@
+use Rattle.std.proofs.Common.{◌≡◌}
+use Rattle.chart_table.specs.Cuts.{HasHeads, Among, IsExtended}
+use Rattle.chart_table.proofs.HeadLemmas.{among_none, heads_turn, heads_done}
+use Rattle.chart_table.proofs.table.push_cuts.Goals as goal
+
+pub loop-state-init : goal.loop-state-init
+loop-state-init c = among_none c.args.setting.now c.args.rule.now IsExtended c.args.cuts.now
+
+pub loop-state-preserved : goal.loop-state-preserved
+loop-state-preserved c =
+    heads_turn c.args.setting.now c.args.rule.now IsExtended c.args.states.now c.loop-state.state-index c.state-item.result c.args.cuts.now c.loop-state.cuts c.push_cut.new.cuts c.loop-state-test.true c.state-item.is c.loop-state.invariant c.in_ok-push_cut.ensures
+
+pub returns : goal.returns
+returns c =
+    heads_done c.args.setting.now c.args.rule.now IsExtended c.args.states.now c.loop-state.state-index c.args.cuts.now c.loop-state.cuts c.loop-state-test.false c.loop-state.invariant

@@ -1,0 +1,6 @@
+use Rattle.std.proofs.Common.{◌≡◌, ℕ, List, take, drop, map, ◌++◌, ◌+◌, ◌*◌, ◌∷◌, [], length, ◌≤◌, ◌-◌}
+use Rattle.chart_table.specs.Ends.{HasFinished}
+use Rattle.chart_table.proofs.table.push_finished.Given as goal
+
+abbrev pub invariant-loop-state : goal.invariant-loop-state
+invariant-loop-state l = HasFinished l.setting l.rule l.before (take l.state-index l.states) l.fn.out l.out

@@ -1,0 +1,6 @@
+use Rattle.std.proofs.Common.{◌≡◌, ℕ, List, take, drop, map, ◌++◌, ◌+◌, ◌*◌, ◌∷◌, [], length, ◌≤◌, ◌-◌}
+use Rattle.chart_table.specs.Leading.{referents}
+use Rattle.chart_table.proofs.table.referents_of.Given as goal
+
+abbrev pub invariant-loop-place : goal.invariant-loop-place
+invariant-loop-place l = l.entries ≡ referents (take l.place l.list)

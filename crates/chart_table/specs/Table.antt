@@ -1,0 +1,38 @@
+-- The table of ends.
+use Rattle.std.specs.Prelude.{◌≡◌, ℕ, ◌<◌, List, length, slice_get, Option, Some, None, All}
+use Rattle.codeco_terms.specs.declared.values.Value.{Value}
+use Rattle.scopes.specs.declared.entries.Entry.{Entry}
+use Rattle.derivation_trees.specs.Settings.{Setting}
+use Rattle.derivation_trees.specs.Derives.{At}
+use Rattle.chart_table.specs.declared.table.Row.{Row}
+use Rattle.chart_table.specs.Ends.{IsEnds}
+use Rattle.chart_table.specs.Cuts.{AreCuts}
+
+-- the place and the list of a row
+abbrev pub row_at : Row → At
+row_at row = record { place = row.place; list = row.list }
+
+-- the row has the ends of its category, and what is cut off
+pub record IsRow (s : Setting) (row : Row) : Type 0 where
+  pub ends : IsEnds s row.name row.known (row_at row) row.ends
+  pub cuts : AreCuts s row.name row.known (row_at row) row.cuts
+
+-- each row of the table has the ends of its category, and what is cut off
+pub record AreRows (s : Setting) (rows : List Row) : Type 0 where
+  pub all : All (IsRow s) rows
+
+-- the row with this number has the ends of the category from the place and the list, and what is cut off
+pub record HasRow (s : Setting) (rows : List Row) (number name : ℕ) (known : List (ℕ × Value)) (at : At) : Type 0 where
+  pub row : Row
+  pub is : slice_get rows number ≡ Some row
+  pub ends : IsEnds s name known at row.ends
+  pub cuts : AreCuts s name known at row.cuts
+
+-- the row with this number is that of the category, the known values, the place and the list
+pub record IsFound (rows : List Row) (number name : ℕ) (known : List (ℕ × Value)) (place : ℕ) (list : List Entry) : Type 0 where
+  pub row : Row
+  pub is : slice_get rows number ≡ Some row
+  pub name_is : row.name ≡ name
+  pub known_is : row.known ≡ known
+  pub place_is : row.place ≡ place
+  pub list_is : row.list ≡ list

@@ -1,0 +1,282 @@
+// The ways in which variables of a rule can be given values.
+ghost use Rattle.std.specs.Prelude.{◌≡◌, ◌==◌, [], ◌∷◌, ◌++◌, if◌then◌else◌, Some, None, IfOk, OnOk};
+ghost use Rattle.std.specs.List.{filter_map, cons_option};
+ghost use Rattle.derivation_trees.specs.Instances.{looked_up};
+ghost use Rattle.chart_table.specs.Branches as branches;
+
+use crate::states::{Bound, Feat};
+use codeco_terms::{Category, Ground, Pattern, Term, Value};
+use lists::List;
+use std::alloc::Global;
+use wiki_base::Memory;
+
+// The value that the variable has, if it has one.
+pub(crate) fn value_of(bound: &[(u8, Value)], variable: u8) -> Option<Value>
+    ensures { result ≡ looked_up bound.now variable }
+{
+    for (other, value) in bound {
+        if *other == variable {
+            return Some(*value);
+        }
+    }
+    None
+}
+
+pub(crate) fn copy_bound(alloc: Global, bound: &[(u8, Value)]) -> Result<Bound, Memory>
+    ensures { IfOk result (λ copied. copied ≡ bound.now) }
+{
+    let mut copied = List::new(alloc);
+    for pair in bound {
+        copied.push(*pair)?;
+    }
+    Ok(copied)
+}
+
+fn copy_if(alloc: Global, yes: bool, bound: &[(u8, Value)]) -> Result<Option<Bound>, Memory>
+    ensures { IfOk result (λ copied. copied ≡ (if yes then Some bound.now else None)) }
+{
+    if yes {
+        let copied = copy_bound(alloc, bound)?;
+        Ok(Some(copied))
+    } else {
+        Ok(None)
+    }
+}
+
+fn with_value(
+    alloc: Global,
+    bound: &[(u8, Value)],
+    variable: u8,
+    value: Value,
+) -> Result<Bound, Memory>
+    ensures { IfOk result (λ more. more ≡ bound.now ++ (variable, value) ∷ []) }
+{
+    let mut more = copy_bound(alloc, bound)?;
+    more.push((variable, value))?;
+    Ok(more)
+}
+
+fn bind_at(
+    alloc: Global,
+    bound: &[(u8, Value)],
+    variable: u8,
+    value: Value,
+    known: Option<Value>,
+) -> Result<Option<Bound>, Memory>
+    ensures { IfOk result (λ more. more ≡ branches.bound_at bound.now variable value known) }
+{
+    match known {
+        None => {
+            let more = with_value(alloc, bound, variable, value)?;
+            Ok(Some(more))
+        }
+        Some(known) => copy_if(alloc, known.is(value), bound),
+    }
+}
+
+// The assignment under which the term has the value, if there is one.
+fn bind_term(
+    alloc: Global,
+    bound: &[(u8, Value)],
+    term: Term,
+    value: Value,
+) -> Result<Option<Bound>, Memory>
+    ensures { IfOk result (λ more. more ≡ branches.bound_term bound.now term value) }
+{
+    match term {
+        Term::Val(known) => copy_if(alloc, known.is(value), bound),
+        Term::Var(variable) => bind_at(alloc, bound, variable, value, value_of(bound, variable)),
+    }
+}
+
+fn push_some(one: Option<Bound>, out: &mut List<Bound>) -> Result<(), Memory>
+    ensures { OnOk result (out.new ≡ out.old ++ cons_option one []) }
+{
+    match one {
+        None => Ok(()),
+        Some(bound) => out.push(bound),
+    }
+}
+
+// Adds the assignments under which the term has one of the values.
+fn push_restricted(
+    alloc: Global,
+    bound: &[(u8, Value)],
+    term: Term,
+    values: &[Value],
+    out: &mut List<Bound>,
+) -> Result<(), Memory>
+    ensures { OnOk result (out.new ≡ out.old ++ filter_map (branches.bound_term bound.now term) values.now) }
+{
+    for value in values {
+        let one = bind_term(alloc, bound, term, *value)?;
+        push_some(one, out)?;
+    }
+    Ok(())
+}
+
+// The assignments under which the term has one of the values.
+pub(crate) fn restrict(
+    alloc: Global,
+    term: Term,
+    values: &[Value],
+    bounds: &[Bound],
+) -> Result<List<Bound>, Memory>
+    ensures { IfOk result (λ out. out ≡ branches.restricted term values.now bounds.now) }
+{
+    let mut out = List::new(alloc);
+    for bound in bounds {
+        push_restricted(alloc, bound.as_slice(), term, values, &mut out)?;
+    }
+    Ok(out)
+}
+
+// The one assignment alone.
+pub(crate) fn alone(alloc: Global, bound: &[(u8, Value)]) -> Result<List<Bound>, Memory>
+    ensures { IfOk result (λ out. out ≡ bound.now ∷ []) }
+{
+    let mut out = List::new(alloc);
+    let same = copy_bound(alloc, bound)?;
+    out.push(same)?;
+    Ok(out)
+}
+
+// The values that are given for a feature.
+pub(crate) fn values_at(
+    alloc: Global,
+    vals: &[(u16, Value)],
+    feature: u16,
+) -> Result<List<Value>, Memory>
+    ensures { IfOk result (λ out. out ≡ branches.values_at vals.now feature) }
+{
+    let mut out = List::new(alloc);
+    for (other, value) in vals {
+        if *other == feature {
+            out.push(*value)?;
+        }
+    }
+    Ok(out)
+}
+
+// The assignments under which each feature has a value that is given for it.
+pub(crate) fn have(
+    alloc: Global,
+    vals: &[(u16, Value)],
+    feats: &[Feat],
+    bounds: List<Bound>,
+) -> Result<List<Bound>, Memory>
+    ensures { IfOk result (λ out. out ≡ branches.having vals.now feats.now bounds) }
+{
+    let mut all = bounds;
+    for feat in feats {
+        let values = values_at(alloc, vals, feat.0)?;
+        all = restrict(alloc, feat.1, values.as_slice(), all.as_slice())?;
+    }
+    Ok(all)
+}
+
+// The assignments under which the category reads so.
+pub(crate) fn read_as(
+    alloc: Global,
+    category: &Category,
+    bound: &[(u8, Value)],
+    reading: &Ground,
+) -> Result<List<Bound>, Memory>
+    ensures { IfOk result (λ out. out ≡ branches.read_as category.now bound.now reading.now) }
+{
+    if reading.name == category.name {
+        let one = alone(alloc, bound)?;
+        have(
+            alloc,
+            reading.vals.as_slice(),
+            category.feats.as_slice(),
+            one,
+        )
+    } else {
+        Ok(List::new(alloc))
+    }
+}
+
+fn one_value(alloc: Global, value: Value) -> Result<List<Value>, Memory>
+    ensures { IfOk result (λ out. out ≡ value ∷ []) }
+{
+    let mut out = List::new(alloc);
+    out.push(value)?;
+    Ok(out)
+}
+
+// The assignments under which the feature, if it is that of the value, has the value.
+fn meet_at(
+    alloc: Global,
+    pair: (u16, Value),
+    feat: Feat,
+    bounds: List<Bound>,
+) -> Result<List<Bound>, Memory>
+    ensures { IfOk result
+        (λ out. out ≡ (if pair.0 == feat.0 then branches.restricted feat.1 (pair.1 ∷ []) bounds else bounds)) }
+{
+    if pair.0 == feat.0 {
+        let values = one_value(alloc, pair.1)?;
+        restrict(alloc, feat.1, values.as_slice(), bounds.as_slice())
+    } else {
+        Ok(bounds)
+    }
+}
+
+fn meet_one(
+    alloc: Global,
+    pair: (u16, Value),
+    feats: &[Feat],
+    bounds: List<Bound>,
+) -> Result<List<Bound>, Memory>
+    ensures { IfOk result (λ out. out ≡ branches.meeting_one pair feats.now bounds) }
+{
+    let mut all = bounds;
+    for feat in feats {
+        all = meet_at(alloc, pair, *feat, all)?;
+    }
+    Ok(all)
+}
+
+// The assignments under which each feature that is written in both has the value that is given.
+pub(crate) fn meet(
+    alloc: Global,
+    vals: &[(u16, Value)],
+    feats: &[Feat],
+    bounds: List<Bound>,
+) -> Result<List<Bound>, Memory>
+    ensures { IfOk result (λ out. out ≡ branches.meeting vals.now feats.now bounds) }
+{
+    let mut all = bounds;
+    for pair in vals {
+        all = meet_one(alloc, *pair, feats, all)?;
+    }
+    Ok(all)
+}
+
+// The value of the term, where it is known.
+fn known_value(bound: &[(u8, Value)], term: Term) -> Option<Value>
+    ensures { result ≡ branches.known_value bound.now term }
+{
+    match term {
+        Term::Val(value) => Some(value),
+        Term::Var(variable) => value_of(bound, variable),
+    }
+}
+
+// The features whose values are known.
+pub(crate) fn known_features(
+    alloc: Global,
+    bound: &[(u8, Value)],
+    feats: &[Feat],
+) -> Result<List<(u16, Value)>, Memory>
+    ensures { IfOk result (λ out. out ≡ branches.known_features bound.now feats.now) }
+{
+    let mut out = List::new(alloc);
+    for feat in feats {
+        if let Some(value) = known_value(bound, feat.1) {
+            out.push((feat.0, value))?;
+        }
+    }
+    Ok(out)
+}

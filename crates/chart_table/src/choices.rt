@@ -1,0 +1,308 @@
+// The values that a variable of a rule can have at the tokens.
+ghost use Rattle.std.specs.Prelude.{◌≡◌, ◌+◌, ◌-◌, [], ◌∷◌, ◌++◌, map, Some, None, option_map, slice_get, IfOk, OnOk};
+ghost use Rattle.std.specs.List.{flat_map, range_with_len};
+ghost use Rattle.codeco_checked.specs.Numbering.{has};
+ghost use Rattle.codeco_checked.specs.Occurrences.{positions};
+ghost use Rattle.derivation_trees.specs.Instances as instances;
+ghost use Rattle.chart_table.specs.Branches.{marked};
+ghost use Rattle.chart_table.specs.Choices as choosing;
+
+use crate::branches::values_at;
+use crate::states::Feat;
+use codeco_terms::{Declared, Element, Ground, Pattern, Rule, Term, Value};
+use derivation_trees::{Setting, rule_own_features};
+use lists::List;
+use std::alloc::Global;
+use wiki_base::{Memory, WordId};
+
+/// The feature of preterminals that holds the word.
+const WORD_FEATURE: u16 = 3;
+
+// What a rule writes: its features with their terms, the variables of `#`, and the features of its own variables.
+#[derive(Drop)]
+pub(crate) struct Plan {
+    pub(crate) terms: List<Feat>,
+    pub(crate) places: List<u8>,
+    pub(crate) own: List<u16>,
+}
+
+fn push_feats(feats: &[Feat], out: &mut List<Feat>) -> Result<(), Memory>
+    ensures { OnOk result (out.new ≡ out.old ++ feats.now) }
+{
+    for feat in feats {
+        out.push(*feat)?;
+    }
+    Ok(())
+}
+
+fn push_taken(taken: &[(u16, u8)], out: &mut List<Feat>) -> Result<(), Memory>
+    ensures { OnOk result (out.new ≡ out.old ++ map marked taken.now) }
+{
+    for (feature, variable) in taken {
+        out.push((*feature, Term::Var(*variable)))?;
+    }
+    Ok(())
+}
+
+fn push_pattern(pattern: &Pattern, out: &mut List<Feat>) -> Result<(), Memory>
+    ensures { OnOk result (out.new ≡ out.old ++ choosing.pattern_terms pattern.now) }
+{
+    push_feats(pattern.cat.feats.as_slice(), out)?;
+    push_taken(pattern.taken.as_slice(), out)
+}
+
+fn push_patterns(patterns: &[Pattern], out: &mut List<Feat>) -> Result<(), Memory>
+    ensures { OnOk result (out.new ≡ out.old ++ flat_map choosing.pattern_terms patterns.now) }
+{
+    for pattern in patterns {
+        push_pattern(pattern, out)?;
+    }
+    Ok(())
+}
+
+fn push_element(element: &Element, out: &mut List<Feat>) -> Result<(), Memory>
+    ensures { OnOk result (out.new ≡ out.old ++ choosing.element_terms element.now) }
+{
+    match element {
+        Element::Preterminal(category)
+        | Element::Sub(category)
+        | Element::Forward(category)
+        | Element::Strong(category) => push_feats(category.feats.as_slice(), out),
+        Element::Back(positive, negative) => {
+            push_patterns(positive.as_slice(), out)?;
+            push_patterns(negative.as_slice(), out)
+        }
+        Element::NoBack(patterns) => push_patterns(patterns.as_slice(), out),
+        Element::Terminal(_) | Element::Position(_) | Element::Opener => Ok(()),
+    }
+}
+
+fn push_body(body: &[Element], out: &mut List<Feat>) -> Result<(), Memory>
+    ensures { OnOk result (out.new ≡ out.old ++ flat_map choosing.element_terms body.now) }
+{
+    for element in body {
+        push_element(element, out)?;
+    }
+    Ok(())
+}
+
+fn terms_of(alloc: Global, rule: &Rule) -> Result<List<Feat>, Memory>
+    ensures { IfOk result (λ terms. terms ≡ choosing.terms_of rule.now) }
+{
+    let mut terms = List::new(alloc);
+    push_feats(rule.head.feats.as_slice(), &mut terms)?;
+    push_body(rule.body.as_slice(), &mut terms)?;
+    Ok(terms)
+}
+
+fn push_position(element: &Element, out: &mut List<u8>) -> Result<(), Memory>
+    ensures { OnOk result (out.new ≡ out.old ++ positions element.now) }
+{
+    match element {
+        Element::Position(variable) => out.push(*variable),
+        _ => Ok(()),
+    }
+}
+
+fn places_of(alloc: Global, body: &[Element]) -> Result<List<u8>, Memory>
+    ensures { IfOk result (λ places. places ≡ flat_map positions body.now) }
+{
+    let mut places = List::new(alloc);
+    for element in body {
+        push_position(element, &mut places)?;
+    }
+    Ok(places)
+}
+
+// What the rule writes.
+pub(crate) fn plan_of(alloc: Global, setting: &Setting<'_>, rule: &Rule) -> Result<Plan, Memory>
+    ensures terms { IfOk result (λ plan. plan.terms ≡ choosing.terms_of rule.now) }
+    ensures places { IfOk result (λ plan. plan.places ≡ flat_map positions rule.now.body) }
+    ensures own { IfOk result (λ plan. plan.own ≡ instances.rule_own_features setting.now.grammar rule.now) }
+{
+    let own = rule_own_features(alloc, setting.grammar, rule.body.as_slice())?;
+    Ok(Plan {
+        terms: terms_of(alloc, rule)?,
+        places: places_of(alloc, rule.body.as_slice())?,
+        own: List::from_vec(own),
+    })
+}
+
+// Adds the words of readings.
+fn push_words(alloc: Global, readings: &[Ground], out: &mut List<Value>) -> Result<(), Memory>
+    ensures { OnOk result (out.new ≡ out.old ++ choosing.words_of readings.now) }
+{
+    for reading in readings {
+        let words = values_at(alloc, reading.vals.as_slice(), WORD_FEATURE)?;
+        out.append(words)?;
+    }
+    Ok(())
+}
+
+// Word 0 and the words with a form among the tokens.
+fn word_values(alloc: Global, setting: &Setting<'_>) -> Result<List<Value>, Memory>
+    ensures { IfOk result
+        (λ values. values ≡ choosing.no_word ∷ flat_map choosing.words_of setting.now.readings) }
+{
+    let mut values = List::new(alloc);
+    values.push(Value::Word(WordId(0)))?;
+    for readings in setting.readings {
+        push_words(alloc, readings.as_slice(), &mut values)?;
+    }
+    Ok(values)
+}
+
+// The positions 0 to the number of tokens.
+#[tactic(auto, using(crate::proofs::Loops::positions_more))]
+fn position_values(alloc: Global, setting: &Setting<'_>) -> Result<List<Value>, Memory>
+    ensures { IfOk result (λ values. values ≡ choosing.all_positions setting.now) }
+{
+    let mut values = List::new(alloc);
+    let count = setting.tokens.len() as u16 + 1;
+    for place in 0..count {
+        values.push(Value::Pos(place))?;
+    }
+    Ok(values)
+}
+
+fn atom_values(alloc: Global, atoms: &[u16]) -> Result<List<Value>, Memory>
+    ensures { IfOk result (λ values. values ≡ map choosing.atom_value atoms.now) }
+{
+    let mut values = List::new(alloc);
+    for atom in atoms {
+        values.push(Value::Atom(*atom))?;
+    }
+    Ok(values)
+}
+
+// The values that are declared so.
+fn declared_values(
+    alloc: Global,
+    setting: &Setting<'_>,
+    declared: &Declared,
+) -> Result<List<Value>, Memory>
+    ensures { IfOk result (λ values. values ≡ choosing.declared_values setting.now declared.now) }
+{
+    match declared {
+        Declared::Undeclared => Ok(List::new(alloc)),
+        Declared::Words => word_values(alloc, setting),
+        Declared::Positions => position_values(alloc, setting),
+        Declared::Atoms(atoms) => atom_values(alloc, atoms.as_slice()),
+    }
+}
+
+// The values of the feature with the number.
+fn feature_values(alloc: Global, setting: &Setting<'_>, feature: u16) -> Result<List<Value>, Memory>
+    ensures { IfOk result (λ values. values ≡ choosing.feature_values setting.now feature) }
+{
+    match setting.grammar.features().as_slice().get(feature as usize) {
+        None => Ok(List::new(alloc)),
+        Some(feature) => declared_values(alloc, setting, &feature.declared),
+    }
+}
+
+fn stands_for(term: Term, variable: u8) -> bool
+    ensures { result ≡ choosing.stands_for term variable }
+{
+    match term {
+        Term::Val(_) => false,
+        Term::Var(other) => other == variable,
+    }
+}
+
+// The first feature for which the variable stands.
+fn first_feature(terms: &[Feat], variable: u8) -> Option<u16>
+    ensures { result ≡ choosing.first_feature terms.now variable }
+{
+    for (feature, term) in terms {
+        if stands_for(*term, variable) {
+            return Some(*feature);
+        }
+    }
+    None
+}
+
+fn has_place(places: &[u8], variable: u8) -> bool
+    ensures { result ≡ has places.now variable }
+{
+    places.iter().any(|other| variable == *other)
+}
+
+fn one_value(alloc: Global, value: Value) -> Result<List<Value>, Memory>
+    ensures { IfOk result (λ values. values ≡ value ∷ []) }
+{
+    let mut values = List::new(alloc);
+    values.push(value)?;
+    Ok(values)
+}
+
+fn own_choices(
+    alloc: Global,
+    setting: &Setting<'_>,
+    feature: Option<u16>,
+) -> Result<List<Value>, Memory>
+    ensures { IfOk result (λ values. values ≡ choosing.own_choices setting.now feature) }
+{
+    match feature {
+        None => one_value(alloc, Value::Atom(0)),
+        Some(feature) => feature_values(alloc, setting, feature),
+    }
+}
+
+fn own_feature(own: &[u16], place: usize) -> Option<u16>
+    ensures { result ≡ slice_get own.now place }
+{
+    own.get(place).copied()
+}
+
+fn variable_choices(
+    alloc: Global,
+    setting: &Setting<'_>,
+    own: &[u16],
+    variable: u8,
+    feature: Option<u16>,
+    at_position: bool,
+) -> Result<List<Value>, Memory>
+    ensures { IfOk result (λ values. values
+        ≡ choosing.variable_choices setting.now own.now variable feature at_position) }
+{
+    if let Some(feature) = feature {
+        return feature_values(alloc, setting, feature);
+    }
+    if at_position {
+        return position_values(alloc, setting);
+    }
+    if variable < 16 {
+        one_value(alloc, Value::Atom(0))
+    } else {
+        let feature = own_feature(own, variable as usize - 16);
+        own_choices(alloc, setting, feature)
+    }
+}
+
+// The values that the term can have.
+pub(crate) fn choices(
+    alloc: Global,
+    setting: &Setting<'_>,
+    plan: &Plan,
+    term: Term,
+) -> Result<List<Value>, Memory>
+    ensures { IfOk result
+        (λ values. values ≡ choosing.choices setting.now plan.now.terms plan.now.places plan.now.own term) }
+{
+    match term {
+        Term::Val(value) => one_value(alloc, value),
+        Term::Var(variable) => {
+            let feature = first_feature(plan.terms.as_slice(), variable);
+            let at_position = has_place(plan.places.as_slice(), variable);
+            variable_choices(
+                alloc,
+                setting,
+                plan.own.as_slice(),
+                variable,
+                feature,
+                at_position,
+            )
+        }
+    }
+}

@@ -1,0 +1,230 @@
+// Where the phrases of categories end: a table of ends, filled from the top.
+ghost use Rattle.std.specs.Prelude.{◌≡◌, ◌+◌, ◌≤◌, ◌<◌, ◌∷◌, [], ◌++◌, map, drop, length, ℕ, List, Some, All, IfOk, IfSome, OnOk, true, slice_get, ◌&&◌, if◌then◌else◌, IsTrue};
+ghost use Rattle.std.specs.List.{list_all, flat_map};
+ghost use Rattle.codeco_checked.specs.Occurrences.{positions};
+ghost use Rattle.codeco_terms.specs.Values.{same_value};
+ghost use Rattle.scopes.specs.declared.entries.Entry.{Entry as OneEntry};
+ghost use Rattle.scopes.specs.AccessList as access;
+ghost use Rattle.derivation_trees.specs.Instances as instances;
+ghost use Rattle.derivation_trees.specs.Derives as derives;
+ghost use Rattle.chart_table.specs.Leading.{referents};
+ghost use Rattle.chart_table.specs.Branches as branches;
+ghost use Rattle.chart_table.specs.Choices as choosing;
+ghost use Rattle.chart_table.specs.Steps as steps;
+ghost use Rattle.chart_table.specs.Ends as ending;
+
+use crate::branches::{alone, known_features, meet};
+use crate::choices::{Plan, plan_of};
+use crate::states::{Bound, End, Feat, State};
+use crate::steps::{close, extended, push_ends, push_plain};
+use codeco_terms::{Category, Element, Ground, Rule, Term, Value};
+use derivation_trees::{Setting, is_instance, rule_own_features, under, value_under, variables_of};
+use lists::List;
+use scopes::{Access, Entry};
+use std::alloc::Global;
+use wiki_base::Memory;
+
+// The variable with the number.
+fn variable_with(number: usize) -> Result<u8, Memory>
+    ensures { IfOk result (λ variable. variable ≡ number) }
+{
+    match u8::try_from(number) {
+        Ok(variable) => Ok(variable),
+        Err(_) => Err(Memory),
+    }
+}
+
+fn as_terms(alloc: Global, numbers: &[usize]) -> Result<List<Feat>, Memory>
+    ensures { IfOk result (λ terms. terms ≡ ending.as_terms numbers.now) }
+{
+    let mut terms = List::new(alloc);
+    for number in numbers {
+        terms.push((0, Term::Var(variable_with(*number)?)))?;
+    }
+    Ok(terms)
+}
+
+// The values of all variables of a rule under an assignment.
+fn values_of_all(
+    alloc: Global,
+    bound: &[(u8, Value)],
+    numbers: &[usize],
+) -> Result<List<(u8, Value)>, Memory>
+    ensures { IfOk result (λ values. values ≡ ending.values_of_all bound.now numbers.now) }
+{
+    let mut values = List::new(alloc);
+    for number in numbers {
+        let variable = variable_with(*number)?;
+        values.push((variable, value_under(bound, variable)))?;
+    }
+    Ok(values)
+}
+
+fn has_values(values: &[(u8, Value)], bound: &[(u8, Value)]) -> bool
+    ensures { result ≡ ending.has_values values.now bound.now }
+{
+    bound.iter().all(|p| value_under(values, p.0).is(p.1))
+}
+
+fn push_strong(entry: &Entry, out: &mut List<Entry>) -> Result<(), Memory>
+    ensures { OnOk result (out.new ≡ out.old ++ access.strong_referents (entry.now ∷ [])) }
+{
+    match entry {
+        Entry::Strong(..) => out.push(entry.copy()),
+        _ => Ok(()),
+    }
+}
+
+fn push_strong_all(entries: &[Entry], out: &mut List<Entry>) -> Result<(), Memory>
+    ensures { OnOk result (out.new ≡ out.old ++ access.strong_referents entries.now) }
+{
+    for entry in entries {
+        push_strong(entry, out)?;
+    }
+    Ok(())
+}
+
+// The entries that closing leaves of these.
+fn closed(alloc: Global, entries: &[Entry]) -> Result<List<Entry>, Memory>
+    ensures { IfOk result (λ left. left ≡ access.closed entries.now) }
+{
+    let mut left = List::new(alloc);
+    let mut rest = entries;
+    while let [entry, later @ ..] = rest {
+        rest = later;
+        if let Entry::Opener = entry {
+            push_strong_all(later, &mut left)?;
+            return Ok(left);
+        }
+        left.push(entry.copy())?;
+    }
+    Ok(left)
+}
+
+// The entries after so many.
+fn entries_from(alloc: Global, list: &Access, first: usize) -> Result<List<Entry>, Memory>
+    ensures { IfOk result (λ entries. entries ≡ drop first list.now) }
+{
+    let mut entries = List::new(alloc);
+    for place in first..list.len() {
+        entries.push(list.get(place).copy())?;
+    }
+    Ok(entries)
+}
+
+// What is left of what a phrase of the rule has added to the list.
+fn tail_of(
+    alloc: Global,
+    rule: &Rule,
+    before: &Access,
+    list: &Access,
+) -> Result<List<Entry>, Memory>
+    ensures { IfOk result (λ tail. tail ≡ ending.left_of rule.now (drop (length before.now) list.now)) }
+{
+    let added = entries_from(alloc, list, before.len())?;
+    if rule.closing {
+        closed(alloc, added.as_slice())
+    } else {
+        Ok(added)
+    }
+}
+
+fn end_with(
+    alloc: Global,
+    rule: &Rule,
+    before: &Access,
+    state: &State,
+    values: &[(u8, Value)],
+) -> Result<End, Memory>
+    ensures { IfOk result (λ end. end ≡ ending.end_with rule.now before.now state.now values.now) }
+{
+    let head = under(alloc, values, &rule.head)?;
+    Ok(End {
+        values: head.values,
+        place: state.place,
+        tail: tail_of(alloc, rule, before, &state.list)?,
+    })
+}
+
+// The end in an assignment of all variables, if that is an instance.
+fn finished_one(
+    alloc: Global,
+    setting: &Setting<'_>,
+    rule: &Rule,
+    before: &Access,
+    state: &State,
+    numbers: &[usize],
+    bound: &[(u8, Value)],
+) -> Result<List<End>, Memory>
+    ensures { IfOk result (λ ends. ends
+        ≡ ending.finished_one setting.now rule.now before.now state.now numbers.now bound.now) }
+{
+    let mut ends = List::new(alloc);
+    let values = values_of_all(alloc, bound, numbers)?;
+    if is_instance(alloc, setting, rule, values.as_slice())?
+        && has_values(values.as_slice(), bound)
+    {
+        let end = end_with(alloc, rule, before, state, values.as_slice())?;
+        ends.push(end)?;
+    }
+    Ok(ends)
+}
+
+// The ends in these assignments of all variables, where they are instances.
+fn finished_all(
+    alloc: Global,
+    setting: &Setting<'_>,
+    rule: &Rule,
+    before: &Access,
+    state: &State,
+    numbers: &[usize],
+    bounds: &[Bound],
+) -> Result<List<End>, Memory>
+    ensures { IfOk result (λ ends. ends
+        ≡ flat_map (ending.finished_one setting.now rule.now before.now state.now numbers.now) bounds.now) }
+{
+    let mut ends = List::new(alloc);
+    for bound in bounds {
+        let more = finished_one(
+            alloc,
+            setting,
+            rule,
+            before,
+            state,
+            numbers,
+            bound.as_slice(),
+        )?;
+        ends.append(more)?;
+    }
+    Ok(ends)
+}
+
+// The ends of phrases of the rule that stand so after the last element.
+pub(crate) fn finished(
+    alloc: Global,
+    setting: &Setting<'_>,
+    rule: &Rule,
+    plan: &Plan,
+    before: &Access,
+    state: &State,
+) -> Result<List<End>, Memory>
+    requires terms { plan.now.terms ≡ choosing.terms_of rule.now }
+    requires places { plan.now.places ≡ flat_map positions rule.now.body }
+    requires own { plan.now.own ≡ instances.rule_own_features setting.now.grammar rule.now }
+    ensures { IfOk result (λ ends. ends ≡ ending.finished setting.now rule.now before.now state.now) }
+{
+    let variables = variables_of(alloc, rule, plan.own.len())?;
+    let numbers = List::from_vec(variables);
+    let terms = as_terms(alloc, numbers.as_slice())?;
+    let one = alone(alloc, state.binds.as_slice())?;
+    let bounds = close(alloc, setting, plan, terms.as_slice(), one)?;
+    finished_all(
+        alloc,
+        setting,
+        rule,
+        before,
+        state,
+        numbers.as_slice(),
+        bounds.as_slice(),
+    )
+}

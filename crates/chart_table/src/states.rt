@@ -1,0 +1,31 @@
+// Where a node may stand after some of its elements, and where phrases end.
+ghost use Rattle.std.specs.Prelude.{◌≡◌, IfOk};
+
+use codeco_terms::{Term, Value};
+use lists::List;
+use scopes::{Access, Entry, TestValues};
+use std::alloc::Global;
+use wiki_base::Memory;
+
+/// Variables of a rule with their values: a partial instance.
+pub(crate) type Bound = List<(u8, Value)>;
+
+/// A feature with what is written for it.
+pub(crate) type Feat = (u16, Term);
+
+// A partial instance of a rule, with the place and the list after some of the rule's elements.
+#[derive(Drop)]
+pub(crate) struct State {
+    pub(crate) binds: Bound,
+    pub(crate) place: u16,
+    pub(crate) list: Access,
+}
+
+// An end of phrases: the values of the features that the head writes, the place after the phrase, and what the phrase
+// adds to the list.
+#[derive(Drop)]
+pub(crate) struct End {
+    pub(crate) values: TestValues,
+    pub(crate) place: u16,
+    pub(crate) tail: List<Entry>,
+}

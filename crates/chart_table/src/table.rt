@@ -1,0 +1,692 @@
+// The table of ends: a row for each category with known values, place and list that was asked for.
+ghost use Rattle.std.specs.Prelude.{◌≡◌, ◌+◌, ◌≤◌, ◌<◌, ◌∷◌, [], ◌++◌, map, drop, length, ℕ, List, Some, All, IfOk, IfSome, OnOk, true, false, slice_get, flat_map};
+ghost use Rattle.codeco_checked.specs.Occurrences.{positions};
+ghost use Rattle.scopes.specs.declared.entries.Entry.{Entry as OneEntry};
+ghost use Rattle.derivation_trees.specs.Instances as instances;
+ghost use Rattle.derivation_trees.specs.Stands.{is_sub};
+ghost use Rattle.chart_table.specs.Leading.{referents};
+ghost use Rattle.chart_table.specs.Branches as branches;
+ghost use Rattle.chart_table.specs.Choices as choosing;
+ghost use Rattle.chart_table.specs.Steps as steps;
+ghost use Rattle.chart_table.specs.Ends as ending;
+ghost use Rattle.chart_table.specs.Cuts as cutting;
+ghost use Rattle.chart_table.specs.Table as tables;
+ghost use Rattle.codeco_terms.specs.declared.elements.Element.{Element as OneElement};
+ghost use Rattle.codeco_terms.specs.declared.elements.Element.TheVariants.{Sub};
+ghost use Rattle.chart_table.specs.declared.states.State.{State as OneState};
+ghost use Rattle.chart_table.specs.declared.table.Row.{Row as OneRow};
+
+use crate::branches::{known_features, meet};
+use crate::choices::{Plan, plan_of};
+use crate::ends::finished;
+use crate::sameness::{same_end, same_entries, same_values};
+use crate::states::{Bound, End, Feat, State};
+use crate::steps::{extended, push_ends, push_placed, push_plain};
+use codeco_terms::{Category, Element, Grammar, Rule, Value};
+use derivation_trees::{Setting, push_own_features};
+use lists::List;
+use scopes::{Access, Entry, TestValues};
+use std::alloc::Global;
+use wiki_base::Memory;
+
+// The phrases of a category with known values, from a place and a list without openers: where they end, and those that
+// are cut off where the tokens end.
+#[derive(Drop)]
+pub(crate) struct Row {
+    pub(crate) name: u16,
+    pub(crate) known: List<(u16, Value)>,
+    pub(crate) place: u16,
+    pub(crate) list: List<Entry>,
+    pub(crate) ends: List<End>,
+    pub(crate) cuts: List<End>,
+}
+
+fn is_row(row: &Row, name: u16, known: &[(u16, Value)], place: u16, list: &[Entry]) -> bool
+    ensures name { result ≡ true → row.now.name ≡ name }
+    ensures known { result ≡ true → row.now.known ≡ known.now }
+    ensures place { result ≡ true → row.now.place ≡ place }
+    ensures list { result ≡ true → row.now.list ≡ list.now }
+{
+    row.name == name
+        && row.place == place
+        && same_values(row.known.as_slice(), known)
+        && same_entries(row.list.as_slice(), list)
+}
+
+// The number of the row, if it is there.
+fn find(
+    rows: &[Row],
+    name: u16,
+    known: &[(u16, Value)],
+    place: u16,
+    list: &[Entry],
+) -> Option<usize>
+    ensures { IfSome result (λ number. tables.IsFound rows.now number name known.now place list.now) }
+{
+    for (number, row) in rows.iter().enumerate() {
+        if is_row(row, name, known, place, list) {
+            return Some(number);
+        }
+    }
+    None
+}
+
+fn has_end(ends: &[End], end: &End) -> bool
+    ensures { result ≡ true → ending.HasMore ends.now ends.now (end.now ∷ []) }
+{
+    for other in ends {
+        if same_end(other, end) {
+            return true;
+        }
+    }
+    false
+}
+
+// Adds the end, where it isn't there yet.
+fn push_new(end: End, out: &mut List<End>) -> Result<(), Memory>
+    ensures { OnOk result (ending.HasMore out.old out.new (end ∷ [])) }
+{
+    if has_end(out.as_slice(), &end) {
+        Ok(())
+    } else {
+        out.push(end)?;
+        Ok(())
+    }
+}
+
+fn copy_end(alloc: Global, end: &End) -> Result<End, Memory>
+    ensures { IfOk result (λ copied. copied ≡ end.now) }
+{
+    Ok(End {
+        values: copy_values(alloc, end.values.as_slice())?,
+        place: end.place,
+        tail: copy_entries(alloc, end.tail.as_slice())?,
+    })
+}
+
+fn copy_values(alloc: Global, values: &[(u16, Value)]) -> Result<TestValues, Memory>
+    ensures { IfOk result (λ copied. copied ≡ values.now) }
+{
+    let mut copied = TestValues::new(alloc);
+    for value in values {
+        copied.push(*value)?;
+    }
+    Ok(copied)
+}
+
+fn copy_entries(alloc: Global, entries: &[Entry]) -> Result<List<Entry>, Memory>
+    ensures { IfOk result (λ copied. copied ≡ entries.now) }
+{
+    let mut copied = List::new(alloc);
+    for entry in entries {
+        copied.push(entry.copy())?;
+    }
+    Ok(copied)
+}
+
+// Adds those of the ends that aren't there yet.
+fn push_all_new(alloc: Global, ends: &[End], out: &mut List<End>) -> Result<(), Memory>
+    ensures { OnOk result (ending.HasMore out.old out.new ends.now) }
+{
+    for end in ends {
+        push_new(copy_end(alloc, end)?, out)?;
+    }
+    Ok(())
+}
+
+// Adds the ends of phrases of the rule that stand in these states after the last element.
+fn push_finished(
+    alloc: Global,
+    setting: &Setting<'_>,
+    rule: &Rule,
+    plan: &Plan,
+    before: &Access,
+    states: &[State],
+    out: &mut List<End>,
+) -> Result<(), Memory>
+    requires terms { plan.now.terms ≡ choosing.terms_of rule.now }
+    requires places { plan.now.places ≡ flat_map positions rule.now.body }
+    requires own { plan.now.own ≡ instances.rule_own_features setting.now.grammar rule.now }
+    ensures { OnOk result (ending.HasFinished setting.now rule.now before.now states.now out.old out.new) }
+{
+    for state in states {
+        let ends = finished(alloc, setting, rule, plan, before, state)?;
+        push_all_new(alloc, ends.as_slice(), out)?;
+    }
+    Ok(())
+}
+
+// How many own variables the element has.
+fn own_count_of(alloc: Global, grammar: &Grammar, element: &Element) -> Result<usize, Memory>
+    ensures { IfOk result (λ count. count ≡ length (instances.own_features grammar.now element.now)) }
+{
+    let mut features = Vec::new(alloc);
+    push_own_features(alloc, grammar, element, &mut features)?;
+    let own = List::from_vec(features);
+    Ok(own.len())
+}
+
+fn own_count(alloc: Global, setting: &Setting<'_>, element: &Element) -> Result<usize, Memory>
+    ensures { IfOk result (λ count. count ≡ length (instances.own_features setting.now.grammar element.now)) }
+{
+    own_count_of(alloc, setting.grammar, element)
+}
+
+fn add_count(number: u16, count: usize) -> Result<u16, Memory>
+    ensures { IfOk result (λ next. next ≡ number + count) }
+{
+    match u16::try_from(count) {
+        Ok(count) => number.checked_add(count).ok_or(Memory),
+        Err(_) => Err(Memory),
+    }
+}
+
+fn push_referent(entry: &Entry, out: &mut List<Entry>) -> Result<(), Memory>
+    ensures { OnOk result (out.new ≡ out.old ++ referents (entry.now ∷ [])) }
+{
+    match entry {
+        Entry::Opener => Ok(()),
+        _ => out.push(entry.copy()),
+    }
+}
+
+// The entries of the list that are no openers.
+fn referents_of(alloc: Global, list: &Access) -> Result<List<Entry>, Memory>
+    ensures { IfOk result (λ entries. entries ≡ referents list.now) }
+{
+    let mut entries = List::new(alloc);
+    for place in 0..list.len() {
+        push_referent(list.get(place), &mut entries)?;
+    }
+    Ok(entries)
+}
+
+// The states at the start of a rule.
+fn start_states(
+    alloc: Global,
+    known: &[(u16, Value)],
+    feats: &[Feat],
+    place: u16,
+    list: &Access,
+) -> Result<List<State>, Memory>
+    ensures { IfOk result (λ states. states ≡ steps.starting known.now feats.now place list.now) }
+{
+    let mut none: List<Bound> = List::new(alloc);
+    none.push(List::new(alloc))?;
+    let bounds = meet(alloc, known, feats, none)?;
+    let mut states = List::new(alloc);
+    push_placed(place, list, bounds.as_slice(), alloc, &mut states)?;
+    Ok(states)
+}
+
+// The list of the entries.
+fn access_of(alloc: Global, entries: &[Entry]) -> Result<Access, Memory>
+    ensures { IfOk result (λ access. access ≡ entries.now) }
+{
+    let empty = Access::empty(alloc);
+    extended(&empty, entries)
+}
+
+// Adds the row, and gives its number.
+fn push_new_row(rows: &mut List<Row>, row: Row) -> Result<usize, Memory>
+    ensures rows { OnOk result (rows.new ≡ rows.old ++ row ∷ []) }
+    ensures number { IfOk result (λ number. number ≡ length rows.old) }
+{
+    let number = rows.len();
+    rows.push(row)?;
+    Ok(number)
+}
+
+// Adds, for a state, the phrases of the rule that are cut off there.
+fn push_cut(
+    alloc: Global,
+    setting: &Setting<'_>,
+    rule: &Rule,
+    plan: &Plan,
+    state: &State,
+    cuts: &mut List<End>,
+) -> Result<(), Memory>
+    requires terms { plan.now.terms ≡ choosing.terms_of rule.now }
+    requires places { plan.now.places ≡ flat_map positions rule.now.body }
+    requires own { plan.now.own ≡ instances.rule_own_features setting.now.grammar rule.now }
+    ensures { OnOk result (cutting.HasHeads setting.now rule.now (λ v. branches.Extends v state.now.binds) cuts.old cuts.new) }
+{
+    let ends = finished(alloc, setting, rule, plan, &state.list, state)?;
+    push_all_new(alloc, ends.as_slice(), cuts)?;
+    Ok(())
+}
+
+// Adds the phrases of the rule that are cut off in these states.
+fn push_cuts(
+    alloc: Global,
+    setting: &Setting<'_>,
+    rule: &Rule,
+    plan: &Plan,
+    states: &[State],
+    cuts: &mut List<End>,
+) -> Result<(), Memory>
+    requires terms { plan.now.terms ≡ choosing.terms_of rule.now }
+    requires places { plan.now.places ≡ flat_map positions rule.now.body }
+    requires own { plan.now.own ≡ instances.rule_own_features setting.now.grammar rule.now }
+    ensures { OnOk result (cutting.HasHeads setting.now rule.now (λ v. cutting.Among (cutting.IsExtended v) states.now) cuts.old cuts.new) }
+{
+    for state in states {
+        push_cut(alloc, setting, rule, plan, state, cuts)?;
+    }
+    Ok(())
+}
+
+// How many tokens there are.
+pub(crate) fn token_count(setting: &Setting<'_>) -> usize
+    ensures { result ≡ length setting.now.tokens }
+{
+    setting.tokens.len()
+}
+
+// Adds the phrases of the rule that are cut off in a state where the tokens end.
+fn push_cut_here(
+    alloc: Global,
+    setting: &Setting<'_>,
+    rule: &Rule,
+    plan: &Plan,
+    state: &State,
+    cuts: &mut List<End>,
+) -> Result<(), Memory>
+    requires terms { plan.now.terms ≡ choosing.terms_of rule.now }
+    requires places { plan.now.places ≡ flat_map positions rule.now.body }
+    requires own { plan.now.own ≡ instances.rule_own_features setting.now.grammar rule.now }
+    ensures { OnOk result (cutting.HasHeads setting.now rule.now (λ v. cutting.Halts setting.now v state.now) cuts.old cuts.new) }
+{
+    let end = token_count(setting);
+    if state.place as usize == end {
+        push_cut(alloc, setting, rule, plan, state, cuts)?;
+        return Ok(());
+    }
+    Ok(())
+}
+
+// Adds the phrases of the rule that are cut off in those of the states where the tokens end.
+fn push_cuts_here(
+    alloc: Global,
+    setting: &Setting<'_>,
+    rule: &Rule,
+    plan: &Plan,
+    states: &[State],
+    cuts: &mut List<End>,
+) -> Result<(), Memory>
+    requires terms { plan.now.terms ≡ choosing.terms_of rule.now }
+    requires places { plan.now.places ≡ flat_map positions rule.now.body }
+    requires own { plan.now.own ≡ instances.rule_own_features setting.now.grammar rule.now }
+    ensures { OnOk result (cutting.HasHeads setting.now rule.now (λ v. cutting.Among (cutting.Halts setting.now v) states.now) cuts.old cuts.new) }
+{
+    for state in states {
+        push_cut_here(alloc, setting, rule, plan, state, cuts)?;
+    }
+    Ok(())
+}
+
+// Adds the phrases of the rule whose next element, a category, is cut off itself.
+fn push_cuts_within(
+    alloc: Global,
+    setting: &Setting<'_>,
+    rule: &Rule,
+    plan: &Plan,
+    category: &Category,
+    state: &State,
+    within: &[End],
+    cuts: &mut List<End>,
+) -> Result<(), Memory>
+    requires terms { plan.now.terms ≡ choosing.terms_of rule.now }
+    requires places { plan.now.places ≡ flat_map positions rule.now.body }
+    requires own { plan.now.own ≡ instances.rule_own_features setting.now.grammar rule.now }
+    ensures { OnOk result (cutting.HasHeads setting.now rule.now
+        (λ v. cutting.Among (cutting.IsExtended v) (steps.sub_steps category.now state.now within.now)) cuts.old cuts.new) }
+{
+    let mut states = List::new(alloc);
+    push_ends(alloc, category, state, within, &mut states)?;
+    push_cuts(alloc, setting, rule, plan, states.as_slice(), cuts)?;
+    Ok(())
+}
+
+// The number of the row of the category, which is made where it isn't there yet.
+#[cycle(ends)]
+pub(crate) fn row_of(
+    alloc: Global,
+    setting: &Setting<'_>,
+    rows: &mut List<Row>,
+    depth: u32,
+    name: u16,
+    known: List<(u16, Value)>,
+    place: u16,
+    list: List<Entry>,
+) -> Result<usize, Memory>
+    requires { tables.AreRows setting.now rows.old }
+    ensures rows { OnOk result (tables.AreRows setting.now rows.new) }
+    ensures row { IfOk result (λ number. tables.HasRow setting.now rows.new number name known (record { place = place; list = list })) }
+{
+    if let Some(number) = find(
+        rows.as_slice(),
+        name,
+        known.as_slice(),
+        place,
+        list.as_slice(),
+    ) {
+        return Ok(number);
+    }
+    let start = access_of(alloc, list.as_slice())?;
+    let mut cuts = List::new(alloc);
+    let ends = category_ends(
+        alloc,
+        setting,
+        rows,
+        depth,
+        name,
+        known.as_slice(),
+        place,
+        &start,
+        &mut cuts,
+    )?;
+    let row = Row {
+        name,
+        known,
+        place,
+        list,
+        ends,
+        cuts,
+    };
+    let number = push_new_row(rows, row)?;
+    Ok(number)
+}
+
+// The ends of the category, by all its rules. What is cut off is added, to a list that has been empty.
+#[cycle(ends)]
+fn category_ends(
+    alloc: Global,
+    setting: &Setting<'_>,
+    rows: &mut List<Row>,
+    depth: u32,
+    name: u16,
+    known: &[(u16, Value)],
+    place: u16,
+    start: &Access,
+    cuts: &mut List<End>,
+) -> Result<List<End>, Memory>
+    requires rows { tables.AreRows setting.now rows.old }
+    requires none { cuts.old ≡ [] }
+    ensures rows { OnOk result (tables.AreRows setting.now rows.new) }
+    ensures ends { IfOk result (λ ends. ending.IsEnds setting.now name known.now (record { place = place; list = start.now }) ends) }
+    ensures cuts { OnOk result (cutting.AreCuts setting.now name known.now (record { place = place; list = start.now }) cuts.new) }
+{
+    let mut ends = List::new(alloc);
+    for rule in setting.grammar.rules().as_slice() {
+        push_named(
+            alloc, setting, rows, depth, name, rule, known, place, start, &mut ends, cuts,
+        )?;
+    }
+    Ok(ends)
+}
+
+// Adds the ends of the rule and what is cut off, if it has the name.
+#[cycle(ends)]
+fn push_named(
+    alloc: Global,
+    setting: &Setting<'_>,
+    rows: &mut List<Row>,
+    depth: u32,
+    name: u16,
+    rule: &Rule,
+    known: &[(u16, Value)],
+    place: u16,
+    start: &Access,
+    ends: &mut List<End>,
+    cuts: &mut List<End>,
+) -> Result<(), Memory>
+    requires { tables.AreRows setting.now rows.old }
+    ensures rows { OnOk result (tables.AreRows setting.now rows.new) }
+    ensures ends { OnOk result (ending.HasEndsIfNamed setting.now rule.now name known.now (record { place = place; list = start.now }) ends.old ends.new) }
+    ensures cuts { OnOk result (cutting.HasCutsIfNamed setting.now rule.now name known.now (record { place = place; list = start.now }) cuts.old cuts.new) }
+{
+    if rule.head.name == name {
+        push_rule(
+            alloc, setting, rows, depth, rule, known, place, start, ends, cuts,
+        )?;
+        return Ok(());
+    }
+    Ok(())
+}
+
+// Adds the ends of the rule and what is cut off.
+#[cycle(ends)]
+fn push_rule(
+    alloc: Global,
+    setting: &Setting<'_>,
+    rows: &mut List<Row>,
+    depth: u32,
+    rule: &Rule,
+    known: &[(u16, Value)],
+    place: u16,
+    start: &Access,
+    ends: &mut List<End>,
+    cuts: &mut List<End>,
+) -> Result<(), Memory>
+    requires { tables.AreRows setting.now rows.old }
+    ensures rows { OnOk result (tables.AreRows setting.now rows.new) }
+    ensures ends { OnOk result (ending.HasEndsOfRule setting.now rule.now known.now (record { place = place; list = start.now }) ends.old ends.new) }
+    ensures cuts { OnOk result (cutting.HasCutsOfRule setting.now rule.now known.now (record { place = place; list = start.now }) cuts.old cuts.new) }
+{
+    let plan = plan_of(alloc, setting, rule)?;
+    let starts = start_states(alloc, known, rule.head.feats.as_slice(), place, start)?;
+    let states = last_states(alloc, setting, rows, depth, rule, &plan, starts, cuts)?;
+    push_cuts_here(alloc, setting, rule, &plan, states.as_slice(), cuts)?;
+    push_finished(alloc, setting, rule, &plan, start, states.as_slice(), ends)?;
+    Ok(())
+}
+
+// The states after the last element. What is cut off before is added.
+#[cycle(ends)]
+fn last_states(
+    alloc: Global,
+    setting: &Setting<'_>,
+    rows: &mut List<Row>,
+    depth: u32,
+    rule: &Rule,
+    plan: &Plan,
+    starts: List<State>,
+    cuts: &mut List<End>,
+) -> Result<List<State>, Memory>
+    requires rows { tables.AreRows setting.now rows.old }
+    requires terms { plan.now.terms ≡ choosing.terms_of rule.now }
+    requires places { plan.now.places ≡ flat_map positions rule.now.body }
+    requires own { plan.now.own ≡ instances.rule_own_features setting.now.grammar rule.now }
+    ensures rows { OnOk result (tables.AreRows setting.now rows.new) }
+    ensures last { IfOk result (λ states. cutting.AreAllAfter setting.now rule.now starts states) }
+    ensures cuts { OnOk result (cutting.HasHeads setting.now rule.now (cutting.CutBefore setting.now rule.now starts (length rule.now.body)) cuts.old cuts.new) }
+{
+    let body = rule.body.as_slice();
+    let mut states = starts;
+    let mut number: u16 = 16;
+    for element in body {
+        push_cuts_here(alloc, setting, rule, plan, states.as_slice(), cuts)?;
+        states = next_states(
+            alloc,
+            setting,
+            rows,
+            depth,
+            rule,
+            plan,
+            number,
+            element,
+            states.as_slice(),
+            cuts,
+        )?;
+        let count = own_count(alloc, setting, element)?;
+        number = add_count(number, count)?;
+    }
+    Ok(states)
+}
+
+// The states after an element. What is cut off within it is added.
+#[cycle(ends)]
+fn next_states(
+    alloc: Global,
+    setting: &Setting<'_>,
+    rows: &mut List<Row>,
+    depth: u32,
+    rule: &Rule,
+    plan: &Plan,
+    number: u16,
+    element: &Element,
+    states: &[State],
+    cuts: &mut List<End>,
+) -> Result<List<State>, Memory>
+    requires rows { tables.AreRows setting.now rows.old }
+    requires terms { plan.now.terms ≡ choosing.terms_of rule.now }
+    requires places { plan.now.places ≡ flat_map positions rule.now.body }
+    requires own { plan.now.own ≡ instances.rule_own_features setting.now.grammar rule.now }
+    ensures rows { OnOk result (tables.AreRows setting.now rows.new) }
+    ensures steps { IfOk result (λ news. ending.AreSteps setting.now rule.now number element.now states.now news) }
+    ensures cuts { OnOk result (cutting.HasHeads setting.now rule.now (λ v. cutting.Among (cutting.Enters setting.now element.now v) states.now) cuts.old cuts.new) }
+{
+    let mut news = List::new(alloc);
+    for state in states {
+        push_state(
+            alloc, setting, rows, depth, rule, plan, number, element, state, &mut news, cuts,
+        )?;
+    }
+    Ok(news)
+}
+
+// Adds the states after an element from one state, and what is cut off within it.
+#[cycle(ends)]
+fn push_state(
+    alloc: Global,
+    setting: &Setting<'_>,
+    rows: &mut List<Row>,
+    depth: u32,
+    rule: &Rule,
+    plan: &Plan,
+    number: u16,
+    element: &Element,
+    state: &State,
+    out: &mut List<State>,
+    cuts: &mut List<End>,
+) -> Result<(), Memory>
+    requires rows { tables.AreRows setting.now rows.old }
+    requires terms { plan.now.terms ≡ choosing.terms_of rule.now }
+    requires places { plan.now.places ≡ flat_map positions rule.now.body }
+    requires own { plan.now.own ≡ instances.rule_own_features setting.now.grammar rule.now }
+    ensures rows { OnOk result (tables.AreRows setting.now rows.new) }
+    ensures step { OnOk result ((news : List OneState) × (out.new ≡ out.old ++ news) × ending.IsStep setting.now rule.now number element.now state.now news) }
+    ensures cuts { OnOk result (cutting.HasHeads setting.now rule.now (λ v. cutting.Enters setting.now element.now v state.now) cuts.old cuts.new) }
+{
+    match element {
+        Element::Sub(category) => {
+            push_category(
+                alloc, setting, rows, depth, rule, plan, number, category, state, out, cuts,
+            )?;
+            Ok(())
+        }
+        _ => {
+            push_plain(alloc, setting, plan, number, element, state, out)?;
+            Ok(())
+        }
+    }
+}
+
+// Adds the states after a category from one state, and what is cut off within it. Calls are nested as deep as categories
+// are, which the grammar bounds.
+#[cycle(ends)]
+fn push_category(
+    alloc: Global,
+    setting: &Setting<'_>,
+    rows: &mut List<Row>,
+    depth: u32,
+    rule: &Rule,
+    plan: &Plan,
+    number: u16,
+    category: &Category,
+    state: &State,
+    out: &mut List<State>,
+    cuts: &mut List<End>,
+) -> Result<(), Memory>
+    requires rows { tables.AreRows setting.now rows.old }
+    requires terms { plan.now.terms ≡ choosing.terms_of rule.now }
+    requires places { plan.now.places ≡ flat_map positions rule.now.body }
+    requires own { plan.now.own ≡ instances.rule_own_features setting.now.grammar rule.now }
+    ensures rows { OnOk result (tables.AreRows setting.now rows.new) }
+    ensures step { OnOk result ((news : List OneState) × (out.new ≡ out.old ++ news) × ending.IsStep setting.now rule.now number (Sub category.now) state.now news) }
+    ensures cuts { OnOk result (cutting.HasHeads setting.now rule.now (λ v. cutting.Enters setting.now (Sub category.now) v state.now) cuts.old cuts.new) }
+{
+    let deeper = depth.checked_sub(1).ok_or(Memory)?;
+    let known = known_features(alloc, state.binds.as_slice(), category.feats.as_slice())?;
+    let list = referents_of(alloc, &state.list)?;
+    let row = row_of(
+        alloc,
+        setting,
+        rows,
+        deeper,
+        category.name,
+        known,
+        state.place,
+        list,
+    )?;
+    push_row(alloc, category, state, rows.as_slice(), row, out)?;
+    push_row_cuts(
+        alloc,
+        setting,
+        rule,
+        plan,
+        category,
+        state,
+        rows.as_slice(),
+        row,
+        cuts,
+    )?;
+    Ok(())
+}
+
+// Adds the states after a category, by a row.
+fn push_row(
+    alloc: Global,
+    category: &Category,
+    state: &State,
+    rows: &[Row],
+    number: usize,
+    out: &mut List<State>,
+) -> Result<(), Memory>
+    requires { number < length rows.now }
+    ensures { OnOk result ((row : OneRow) → slice_get rows.now number ≡ Some row → out.new ≡ out.old ++ steps.sub_steps category.now state.now row.ends) }
+{
+    push_ends(alloc, category, state, rows[number].ends.as_slice(), out)
+}
+
+// Adds what is cut off within a category, by a row.
+fn push_row_cuts(
+    alloc: Global,
+    setting: &Setting<'_>,
+    rule: &Rule,
+    plan: &Plan,
+    category: &Category,
+    state: &State,
+    rows: &[Row],
+    number: usize,
+    cuts: &mut List<End>,
+) -> Result<(), Memory>
+    requires number { number < length rows.now }
+    requires terms { plan.now.terms ≡ choosing.terms_of rule.now }
+    requires places { plan.now.places ≡ flat_map positions rule.now.body }
+    requires own { plan.now.own ≡ instances.rule_own_features setting.now.grammar rule.now }
+    ensures { OnOk result ((row : OneRow) → slice_get rows.now number ≡ Some row → cutting.HasHeads setting.now rule.now
+        (λ v. cutting.Among (cutting.IsExtended v) (steps.sub_steps category.now state.now row.cuts)) cuts.old cuts.new) }
+{
+    push_cuts_within(
+        alloc,
+        setting,
+        rule,
+        plan,
+        category,
+        state,
+        rows[number].cuts.as_slice(),
+        cuts,
+    )
+}

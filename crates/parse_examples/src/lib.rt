@@ -1,0 +1,5 @@
+//! Tests alone: the replies to `parse`.
+#![tactic(auto)]
+
+#[cfg(test)]
+mod tests;

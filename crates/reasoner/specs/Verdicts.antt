@@ -1,0 +1,52 @@
+-- What verdicts say.
+use Rattle.std.specs.Prelude.{ℕ, List, IsTrue}
+use Rattle.wiki_base.specs.declared.numbers.WordId.{WordId}
+use Rattle.logic_terms.specs.Concept.{Claim}
+use Rattle.logic_terms.specs.Interpretation.{Interpretation, is_interpretation}
+use Rattle.logic_terms.specs.Reading.{IsModel}
+use Rattle.logic_terms.specs.Theory.{Theory}
+use Rattle.absorb.specs.Absorbed.{IsAbsorbed}
+use Rattle.owl_eval.specs.declared.checked.CheckedModel.{CheckedModel}
+use Rattle.tableau_rules.specs.declared.branch.Branch.{Branch}
+use Rattle.tableau_rules.specs.declared.step.Closed.{Closed}
+use Rattle.tableau_rules.specs.Graph.{Graph}
+use Rattle.tableau_rules.specs.Trees.{Tree, is_closed}
+use Rattle.tableau.specs.Ends.{IsCutAt}
+use Rattle.reasoner.specs.declared.answer.Verdict.{Verdict}
+use Rattle.reasoner.specs.declared.answer.Verdict.TheVariants.{Consistent, Inconsistent, Spent}
+
+-- facts of what one kind of verdict carries
+abbrev pub IfConsistent : Verdict → (CheckedModel → Type 0) → Type 0
+IfConsistent (Consistent checked) P = P checked
+IfConsistent (Inconsistent tree) P = Unit {0}
+IfConsistent (Spent b) P = Unit {0}
+
+abbrev pub IfInconsistent : Verdict → (Closed → Type 0) → Type 0
+IfInconsistent (Consistent checked) P = Unit {0}
+IfInconsistent (Inconsistent tree) P = P tree
+IfInconsistent (Spent b) P = Unit {0}
+
+abbrev pub IfSpent : Verdict → (Branch → Type 0) → Type 0
+IfSpent (Consistent checked) P = Unit {0}
+IfSpent (Inconsistent tree) P = Unit {0}
+IfSpent (Spent b) P = P b
+
+-- a finite interpretation is a model of these axioms, and no finite interpretation is
+abbrev pub IsFiniteModel : Interpretation → List Claim → Type 0
+IsFiniteModel i claims = IsTrue (is_interpretation i) × IsModel i claims
+
+abbrev pub HaveNoModel : List Claim → Type 0
+HaveNoModel claims = (i : Interpretation) → ¬ IsFiniteModel i claims
+
+-- the tree is a closed one of the absorbed knowledge of these axioms and names
+pub record ClosesAll (claims : List Claim) (names : List WordId) (tree : Tree) : Type 0 where
+  pub knowledge : Theory
+  pub absorbed : IsAbsorbed claims names knowledge
+  pub closed : IsTrue (is_closed knowledge tree)
+
+-- the search over the absorbed knowledge of these axioms and names has not ended after `budget` rule applications, the
+-- last of which made this branch
+pub record SpendsAll (claims : List Claim) (names : List WordId) (budget : ℕ) (g : Graph) : Type 0 where
+  pub knowledge : Theory
+  pub absorbed : IsAbsorbed claims names knowledge
+  pub cut : IsCutAt knowledge budget g

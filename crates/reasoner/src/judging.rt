@@ -1,0 +1,62 @@
+// Verdicts on axioms.
+ghost use Rattle.std.specs.Prelude.{◌≡◌, true, IfOk, IsTrue};
+ghost use Rattle.logic_terms.specs.Shown.{claims_of};
+ghost use Rattle.logic_terms.specs.Known.{theory_of};
+ghost use Rattle.logic_terms.specs.Plain.{are_plain};
+ghost use Rattle.logic_terms.specs.Reading.{IsModel};
+ghost use Rattle.absorb.specs.Mentioned.{are_over};
+ghost use Rattle.owl_eval.specs.Checked.{kept_interp, kept_claims};
+ghost use Rattle.tableau_rules.specs.Shown.{graph_of};
+ghost use Rattle.tableau_rules.specs.Trees.{tree_of};
+ghost use Rattle.reasoner.specs.Verdicts.{IfConsistent, IfInconsistent, IfSpent, IsFiniteModel, HaveNoModel, ClosesAll, SpendsAll};
+
+use crate::answer::Verdict;
+use absorb::absorb;
+use branch_model::model;
+use logic_terms::{Axioms, Names};
+use owl_eval::{CheckedModel, Interp, is_model};
+use std::alloc::Global;
+use tableau::{Outcome, search};
+use wiki_base::Memory;
+
+/// Whether axioms over these names have a finite model. The kept interpretation is tried first: where it is a model, no
+/// search is made. Else the systematic search over the absorbed knowledge decides, within `budget` rule applications.
+pub fn verdict(
+    alloc: Global,
+    axioms: Axioms,
+    names: &Names,
+    kept: &CheckedModel,
+    budget: u64,
+) -> Result<Verdict, Memory>
+    requires over { IsTrue (are_over names.now (claims_of axioms)) }
+    requires plain { IsTrue (are_plain (claims_of axioms)) }
+    ensures consistent { IfOk result (λ v. IfConsistent v (λ m. kept_claims m ≡ claims_of axioms)) }
+    ensures model { IfOk result (λ v. IfConsistent v (λ m. IsFiniteModel (kept_interp m) (claims_of axioms))) }
+    ensures inconsistent { IfOk result (λ v. IfInconsistent v (λ tree. ClosesAll (claims_of axioms) names.now (tree_of tree))) }
+    ensures impossible { IfOk result (λ v. IfInconsistent v (λ _. HaveNoModel (claims_of axioms))) }
+    ensures spent { IfOk result (λ v. IfSpent v (λ b. SpendsAll (claims_of axioms) names.now budget (graph_of b))) }
+    ensures not_kept { IfOk result (λ v. IfSpent v (λ _. ¬ IsModel (kept_interp kept.now) (claims_of axioms))) }
+{
+    if is_model(kept.interp(), &axioms) {
+        let interp = kept.interp().copy()?;
+        return Ok(Verdict::Consistent(checked(interp, axioms)));
+    }
+    let k = absorb(alloc, &axioms, names)?;
+    match search(alloc, &k, budget)? {
+        Outcome::Finished(b) => {
+            let interp = model(alloc, &k, &b)?;
+            Ok(Verdict::Consistent(checked(interp, axioms)))
+        }
+        Outcome::Closed(tree) => Ok(Verdict::Inconsistent(tree)),
+        Outcome::Spent(b) => Ok(Verdict::Spent(b)),
+    }
+}
+
+// The checked model of an interpretation and axioms that it is a model of.
+fn checked(interp: Interp, axioms: Axioms) -> CheckedModel
+    requires { IsModel interp (claims_of axioms) }
+    ensures interp { kept_interp result ≡ interp }
+    ensures axioms { kept_claims result ≡ claims_of axioms }
+{
+    CheckedModel::new(interp, axioms).unwrap()
+}

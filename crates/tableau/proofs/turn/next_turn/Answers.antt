@@ -1,0 +1,21 @@
+use Rattle.std.proofs.Common.{◌≡◌, false, map, length, Some, sym, ap, subst, ◌∙◌}
+use Rattle.std.proofs.lemmas.Result.{IfOk-weaker}
+use Rattle.logic_terms.specs.Known.{theory_of}
+use Rattle.tableau_rules.specs.Clashes.{has_clash}
+use Rattle.tableau_rules.specs.Rules.{first_step, choices}
+use Rattle.tableau_rules.specs.Trees.{tree_of}
+use Rattle.tableau.specs.Ways.{reached, CloseEach}
+use Rattle.tableau.proofs.WayLemmas.{closes_step, waits_at_none, turns_back}
+use Rattle.tableau.proofs.turn.next_turn.Goals as goal
+
+pub returns-in-Some-applicable : goal.returns-in-Some-applicable
+returns-in-Some-applicable c =
+    let k = theory_of c.args.k.now in
+    let s = reached k c.args.way.now in
+    let step = c.in-Some-applicable.step in
+    let calm : has_clash k s.graph ≡ false = ap (has_clash k) (sym c.requires.here) ∙ sym c.in-None.ensures.exact in
+    let first : first_step k s.graph ≡ Some step = ap (first_step k) (sym c.requires.here) ∙ sym c.in-Some-applicable.ensures in
+    let none : choices s.graph step ≡ 0 = ap (λ g. choices g step) (sym c.requires.here) ∙ (sym c.choices.ensures ∙ c.if-choices-eq0.true) in
+    let each : CloseEach k s.graph step 0 (map tree_of c.new.result) = subst (λ ts. CloseEach k s.graph step 0 (map tree_of ts)) (sym c.new.ensures) tt in
+    let shut = closes_step k s.graph step c.new.result first (ap length c.new.ensures ∙ sym none) each in
+    IfOk-weaker c.back-in-Some-applicable.result _ _ (λ t back. turns_back k s _ t (waits_at_none k s step calm first none) (back k c.requires.leads shut)) c.back-in-Some-applicable.ensures

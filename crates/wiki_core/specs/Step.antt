@@ -26,6 +26,7 @@ Refuses state (requests.Word kind texts) refusal = word_refusal state.words kind
 Refuses state (requests.Find text) refusal = NamesNoWord state text refusal
 Refuses state requests.Words refusal = ⊥
 Refuses state (requests.Parse text) refusal = RefusesText state text refusal
+Refuses state request refusal = ⊥
 
 -- nothing stands against the request
 abbrev pub IsFree : State → Request → Type 0
@@ -55,6 +56,7 @@ Does old (requests.Word kind texts) reply new = AddsWord old kind texts reply ne
 Does old (requests.Find text) reply new = TellsWord old text reply new
 Does old requests.Words reply new = TellsWords old reply new
 Does old (requests.Parse text) reply new = TellsCode old text reply new
+Does old request reply new = ⊥
 
 -- One step of the wiki: the first cause that stands against a request is told, and changes nothing; a request against
 -- which nothing stands is done.

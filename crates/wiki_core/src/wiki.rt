@@ -66,6 +66,7 @@ impl Wiki {
             Request::Find { word } => self.find(word),
             Request::Words => self.words(),
             Request::Parse { text } => self.parse(text),
+            _ => Err(Memory),
         }
     }
 

@@ -1,0 +1,4 @@
+pub mod AddLemmas
+pub mod AroundLemmas
+pub mod KeepingLemmas
+pub mod UnwordLemmas

@@ -1,0 +1,12 @@
+//! The words and sentences of a wiki: their state, and one step for each request on them.
+#![tactic(auto)]
+
+mod adding;
+mod causes;
+mod removing;
+mod store;
+mod telling;
+#[cfg(test)]
+mod tests;
+
+pub use store::Store;

@@ -1,5 +1,5 @@
 // Trees with where they lead, of which the lowest is kept for each end.
-ghost use Rattle.std.specs.Prelude.{◌≡◌, ◌≢◌, ◌×◌, ◌<◌, ◌∷◌, [], ◌++◌, ℕ, IsTrue, IfOk, OnOk, Some, length, slice_get};
+ghost use Rattle.std.specs.Prelude.{◌≡◌, ◌≢◌, ◌<◌, ◌∷◌, [], ◌++◌, ℕ, IsTrue, IfOk, OnOk, Some, length, slice_get};
 ghost use Rattle.derivation_trees.specs.Trees.{node_of, nodes_of, node, nodes_from};
 ghost use Rattle.chart_trees.specs.Order.{Lower, AtMost};
 ghost use Rattle.chart_trees.specs.Outcomes as ends;

@@ -1,5 +1,5 @@
 // The table of least trees: a row for each category with its values, place and list without openers that was asked for.
-ghost use Rattle.std.specs.Prelude.{◌≡◌, ◌×◌, ◌+◌, ◌≤◌, ◌<◌, ◌∷◌, [], ◌++◌, map, length, ℕ, List, Some, All, IfOk, IfSome, OnOk, IsTrue, slice_get};
+ghost use Rattle.std.specs.Prelude.{◌≡◌, ◌+◌, ◌≤◌, ◌<◌, ◌∷◌, [], ◌++◌, map, length, ℕ, List, Some, All, IfOk, IfSome, OnOk, IsTrue, slice_get};
 ghost use Rattle.codeco_terms.specs.declared.elements.Element.TheVariants.{Sub};
 ghost use Rattle.derivation_trees.specs.Derives.{rule_with};
 ghost use Rattle.derivation_trees.specs.Stands.{IsLimited, IsWithin};

@@ -372,6 +372,7 @@ up_to_done s asked at i rules outcomes same le h = record { sound = h.sound; lea
     by number values found children end None e led k = none_some k
     by number values found children end (Some rule) e led k =
         let le_rules = rule_number s number rule e in
+        let le_all = all in
         let below : number ≤ i = omega arith in
         h.least number (node number values found children) end below (values, (found, children, refl)) led
 

@@ -37,7 +37,7 @@ fitting_is s asked at n o h = by (phrase_of s n asked at) refl h
     by : (r : Option At) → phrase_of s n asked at ≡ r → Among (option_map_or (λ after. record { tree = n; at = after } ∷ []) r []) o → phrase_of s o.tree asked at ≡ Some o.at
     by None e k = absurd k
     by (Some after) e (inr k) = absurd k
-    by (Some after) e (inl k) = subst (λ (x : Outcome). phrase_of s x.tree asked at ≡ Some x.at) k e
+    by (Some after) e (inl k) = subst (λ (x : Outcome). phrase_of s x.tree asked at ≡ Some x.at) (sym k) e
 
 pub fitting_sound : (s : Setting) (ns : List Node) → Sound s (fitting_all s ns)
 fitting_sound s ns asked at o h =
@@ -46,8 +46,9 @@ fitting_sound s ns asked at o h =
 
 pub fitting_knows : (s : Setting) (ns : List Node) → Knows s (fitting_all s ns) ns
 fitting_knows s ns n asked start at among led =
-    let here : Among (fitting s asked start n) (record { tree = n; at = at }) = subst (λ r. Among (option_map_or (λ after. record { tree = n; at = after } ∷ []) r []) (record { tree = n; at = at })) (sym led) (inl refl) in
-    among_flat_map (fitting s asked start) ns n (record { tree = n; at = at }) among here
+    let o : Outcome = record { tree = n; at = at } in
+    let here : Among (fitting s asked start n) o = subst (λ (r : Option At). Among {X = Outcome} (option_map_or (λ (after : At). record { tree = n; at = after } ∷ []) r []) o) (sym led) (inl refl) in
+    among_flat_map (fitting s asked start) ns n o among here
 
 -- ways
 
@@ -105,15 +106,15 @@ way_of s asked at after rule values found children h =
       fit = parts.fit;
       instance = parts.instance;
       last = goes.next;
-      steps = only_start from.path from.among from.steps;
+      steps = only_start goes.next from.path from.among from.steps;
       found_is = sym (append-nil goes.next.found) ∙ ap (λ xs. goes.next.found ++ xs) (sym left) ∙ goes.found_is;
       children_is = ap nodes_from children_list ∙ nodes_again children;
       ends = parts.ends ∙ ap (λ x. record { place = x.at.place; list = list_after rule.closing at.list x.at.list }) goes.stands;
     }
   where
-    only_start : {q : Path} (p : Path) → Among (opened rule values at ∷ []) p → Steps s values rule.body p q → Steps s values rule.body (opened rule values at) q
-    only_start {q} p (inl e) k = subst (λ x. Steps s values rule.body x q) (sym e) k
-    only_start {q} p (inr m) k = absurd m
+    only_start : (q p : Path) → Among (opened rule values at ∷ []) p → Steps s values rule.body p q → Steps s values rule.body (opened rule values at) q
+    only_start q p (inl e) k = subst (λ x. Steps s values rule.body x q) e k
+    only_start q p (inr m) k = absurd m
 
 -- the tree of a way is a phrase
 pub way_leads : (s : Setting) (asked : Test) (at : At) (number : ℕ) (rule : Rule) (values : List (ℕ × Value)) (last : Path) → rule_with s.grammar number ≡ Some rule → may_begin s rule asked values ≡ true → Steps s values rule.body (opened rule values at) last → phrase_of s (node number values last.found (nodes_from last.children)) asked at ≡ Some (record { place = last.at.place; list = list_after rule.closing at.list last.at.list })
@@ -136,7 +137,7 @@ passed_no_later found found' more children children' None x order h = absurd h
 passed_no_later found found' more children children' (Some stand) x order (inr h) = absurd h
 passed_no_later found found' more children children' (Some stand) x order (inl h) =
     let y : Path = record { found = found ++ more; own = stand.own; children = children; at = stand.at } in
-    (y, inl refl, subst (IsNoLater y) h (record { at = refl; own = refl; order = by order }))
+    (y, inl refl, subst (IsNoLater y) (sym h) (record { at = refl; own = refl; order = by order }))
   where
     by : Lower found found' ⊎ ((found ≡ found') × AtMost (codes children) (codes children')) → Lower (found ++ more) (found' ++ more) ⊎ ((found ++ more ≡ found' ++ more) × AtMost (codes children) (codes children'))
     by (inl l) = inl (lower_append found found' more more l)
@@ -206,7 +207,7 @@ steps_then s values e paths p before more a b = record { sound = λ x h. sound x
     least : (r q x : Path) → Among paths r ⊎ Among (p ∷ []) r → IsNoLater r q → StepTo s values e q x → (y : Path) × Among (before ++ more) y × IsNoLater y x
     least r q x (inl m) less h = let one = a.least r q x m less h in (one.0, among_left before more one.0 one.1, one.2)
     least r q x (inr (inl m)) less h =
-        let one = b.least q x (subst (λ z. IsNoLater z q) (sym m) less) h in (one.0, among_right before more one.0 one.1, one.2)
+        let one = b.least q x (subst (λ z. IsNoLater z q) m less) h in (one.0, among_right before more one.0 one.1, one.2)
     least r q x (inr (inr m)) less h = absurd m
 
 pub steps_turn : (s : Setting) (values : List (ℕ × Value)) (e : Element) (paths : List HeldPath) (i : ℕ) (p : HeldPath) (before after : List Path) → i < length paths → p ≡ get_or paths i p → AreStepsOf s values e (map path_of (take i paths)) before → HasSteps s values e (path_of p) before after → AreStepsOf s values e (map path_of (take (i + 1) paths)) after
@@ -229,7 +230,7 @@ pub reached_first : (s : Setting) (values : List (ℕ × Value)) (first : Path) 
 reached_first s values first = record { sound = sound; least = λ x h. (first, inl refl, subst (IsNoLater first) h (no_later_same first)) }
   where
     sound : (x : Path) → Among (first ∷ []) x → Steps s values [] first x
-    sound x (inl h) = h
+    sound x (inl h) = sym h
     sound x (inr h) = absurd h
 
 reached_then : (s : Setting) (values : List (ℕ × Value)) (es : List Element) (e : Element) (first : Path) (paths news : List Path) → AreReached s values es first paths → AreStepsOf s values e paths news → AreReached s values (es ++ e ∷ []) first news

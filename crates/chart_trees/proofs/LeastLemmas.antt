@@ -1,6 +1,6 @@
 -- The least of the derivations among the least trees for `text` is the least of all.
-use Rattle.std.proofs.Common.{◌≡◌, ℕ, zero, suc, ◌+◌, ◌<◌, ◌≤◌, List, [], ◌∷◌, ◌++◌, map, take, length, get_or, ◌⊎◌, inl, inr, Option, Some, None, refl, sym, ap, subst, ◌∙◌, arith}
-use Rattle.std.specs.Prelude.{IfSome, IfNone, slice_get, unwrap_or}
+use Rattle.std.proofs.Common.{◌≡◌, ℕ, zero, suc, ◌+◌, ◌<◌, ◌≤◌, List, [], ◌∷◌, ◌++◌, map, take, length, get_or, inl, inr, Option, Some, None, refl, sym, ap, subst, ◌∙◌, arith}
+use Rattle.std.specs.Prelude.{IfSome, IfNone, slice_get}
 use Rattle.std.proofs.lemmas.List.{take_more}
 use Rattle.std.specs.declared.cmp.Ordering.{Ordering}
 use Rattle.std.specs.declared.cmp.Ordering.TheVariants.{Less}
@@ -9,17 +9,15 @@ use Rattle.std.specs.Cmp.Lexicographic.{slice_cmp, nat_list_cmp_total}
 use Rattle.derivation_trees.specs.declared.skeletons.Skeleton.{Skeleton}
 use Rattle.derivation_trees.specs.Trees.{Node, node_of}
 use Rattle.derivation_trees.specs.Settings.{Setting}
-use Rattle.derivation_trees.specs.Derives.{At, phrase_of, text_category, IsDerivation}
+use Rattle.derivation_trees.specs.Derives.{At, text_category, IsDerivation}
 use Rattle.derivation_trees.specs.Codes.{skeleton_code}
 use Rattle.derivation_trees.specs.Skeletons.{skeleton_of, IsBelow, IsLeast}
 use Rattle.derivation_trees.specs.Sketches.{sketch_of}
-use Rattle.derivations.specs.Listed.{LeastOf, IsLesser}
+use Rattle.derivations.specs.Listed.{LeastOf}
 use Rattle.derivations.proofs.Members.{Among, among_map, map_of, some_same}
 use Rattle.derivations.proofs.SkeletonLemmas.{skeleton_of_is}
-use Rattle.derivations.proofs.LeastLemmas.{least_of_same, least_of_more}
 use Rattle.chart_trees.specs.declared.outcomes.Outcome.{Outcome}
-use Rattle.chart_trees.specs.Order.{Lower, AtMost, node_code}
-use Rattle.chart_trees.specs.Paths.{end_from}
+use Rattle.chart_trees.specs.Order.{AtMost, node_code}
 use Rattle.chart_trees.specs.Outcomes.{IsOutcome, Covers, IsBest}
 use Rattle.chart_trees.specs.declared.table.Best.{Best}
 use Rattle.chart_trees.specs.Tables.{HasBest}

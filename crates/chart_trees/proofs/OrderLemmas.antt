@@ -1,15 +1,13 @@
 -- Which of two codes is lower.
-use Rattle.std.proofs.Common.{◌≡◌, ℕ, zero, suc, ◌+◌, ◌<◌, ◌≤◌, List, [], ◌∷◌, ◌++◌, length, take, drop, get_or, Bool, true, false, ◌⊎◌, inl, inr, refl, sym, ap, subst, ◌∙◌, arith, append_assoc, append-nil, add-one, nat_lt, cond}
-use Rattle.std.specs.Prelude.{◌==◌, slice_get, Option, Some, None, IsTrue}
-use Rattle.std.specs.List.{flat_map}
+use Rattle.std.proofs.Common.{◌≡◌, ℕ, zero, suc, ◌+◌, ◌<◌, ◌≤◌, List, [], ◌∷◌, ◌++◌, length, take, get_or, true, false, inl, inr, refl, sym, ap, subst, ◌∙◌, arith, append_assoc, append-nil, nat_lt, cond}
+use Rattle.std.specs.Prelude.{◌==◌, slice_get, Some, IsTrue}
 use Rattle.std.proofs.lemmas.Grind.{flat_map-append}
 use Rattle.std.proofs.lemmas.Bool.Decides.{nat_tests}
-use Rattle.std.specs.declared.cmp.Ordering.{Ordering}
 use Rattle.std.specs.declared.cmp.Ordering.TheVariants.{Less, Equal, Greater}
 use Rattle.std.specs.Ordering.{nat_cmp, ordering_then}
 use Rattle.std.specs.Cmp.Lexicographic.{slice_cmp}
 use Rattle.codeco_terms.specs.declared.values.Value.{Value}
-use Rattle.derivation_trees.specs.Trees.{Node, Nodes, node, none, more, nodes_from}
+use Rattle.derivation_trees.specs.Trees.{Node, node, nodes_from}
 use Rattle.derivation_trees.proofs.CodeLemmas.{take_next}
 use Rattle.chart_trees.specs.Order.{node_code, nodes_code, codes, Lower, AtMost}
 

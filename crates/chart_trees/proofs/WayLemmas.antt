@@ -1,5 +1,5 @@
 -- Ways over elements: they are runs, runs are ways, and each step from a path that is no later leads to one that is no later.
-use Rattle.std.proofs.Common.{◌≡◌, ℕ, zero, suc, ◌+◌, ◌<◌, ◌≤◌, List, [], ◌∷◌, ◌++◌, map, take, length, get_or, Bool, true, false, ◌&&◌, ◌⊎◌, inl, inr, Option, Some, None, refl, sym, ap, subst, ◌∙◌, arith, append_assoc, append-nil}
+use Rattle.std.proofs.Common.{◌≡◌, ℕ, zero, suc, ◌+◌, ◌<◌, ◌≤◌, List, [], ◌∷◌, ◌++◌, map, take, length, get_or, true, false, ◌⊎◌, inl, inr, Option, Some, None, refl, sym, ap, subst, ◌∙◌, arith, append-nil}
 use Rattle.std.specs.Prelude.{if◌then◌else◌, option_and_then}
 use Rattle.std.specs.Option.{option_map_or}
 use Rattle.std.specs.List.{flat_map}
@@ -9,7 +9,6 @@ use Rattle.codeco_terms.specs.declared.categories.Category.{Category}
 use Rattle.codeco_terms.specs.declared.elements.Element.{Element}
 use Rattle.codeco_terms.specs.declared.elements.Element.TheVariants.{Terminal, Preterminal, Sub, Position, Opener, Forward, Strong, Back, NoBack}
 use Rattle.codeco_terms.specs.declared.rules.Rule.{Rule}
-use Rattle.scopes.specs.declared.entries.Entry.{Entry}
 use Rattle.scopes.specs.declared.tests.Test.{Test}
 use Rattle.derivation_trees.specs.Trees.{Node, Nodes, node, nodes_from}
 use Rattle.derivation_trees.specs.Settings.{Setting}
@@ -20,14 +19,14 @@ use Rattle.derivations.specs.Enumeration.{Path, Outcome, found_at, passed, joine
 use Rattle.derivations.proofs.Members.{Among, among_left, among_right, among_map, among_flat_map, map_of}
 use Rattle.derivations.proofs.StepLemmas.{stand_of, Goes, Knows, all_goes}
 use Rattle.derivations.proofs.SoundLemmas.{Mapped, from_map, Flattened, from_flat_map, either_among, Leads, Sound, step_leads, leads_nowhere, leads_on, whole_run}
-use Rattle.derivations.proofs.ListingLemmas.{node_list, nodes_again, phrases_of-list, Parts, phrase_parts, none_left_nil, none_mapped, both_true}
+use Rattle.derivations.proofs.ListingLemmas.{node_list, nodes_again, phrases_of-list, Parts, phrase_parts, none_left_nil, none_mapped}
 use Rattle.chart_trees.specs.declared.paths.Path.{Path as HeldPath}
 use Rattle.chart_trees.specs.declared.outcomes.Outcome.{Outcome as HeldOutcome}
 use Rattle.chart_trees.specs.Order.{Lower, AtMost, node_code, codes}
-use Rattle.chart_trees.specs.Paths.{path_of, end_from, outcome_at}
+use Rattle.chart_trees.specs.Paths.{path_of, outcome_at}
 use Rattle.chart_trees.specs.Ways.{fitting, fitting_all, StepTo, Steps, IsNoLater, IsStepOf, HasSteps, AreStepsOf, AreReached}
-use Rattle.chart_trees.specs.Outcomes.{Covers, IsOutcome, IsBest}
-use Rattle.chart_trees.proofs.OrderLemmas.{lower_append, at_most_append, at_most_trans, codes_push}
+use Rattle.chart_trees.specs.Outcomes.{Covers, IsBest}
+use Rattle.chart_trees.proofs.OrderLemmas.{lower_append, at_most_append, codes_push}
 
 -- the trees that lead somewhere
 

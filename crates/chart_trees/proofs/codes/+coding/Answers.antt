@@ -1,9 +1,8 @@
-use Rattle.std.proofs.Common.{◌≡◌, ◌++◌, ◌∷◌, [], take, length, ap, sym, ◌∙◌, append_assoc, arith}
+use Rattle.std.proofs.Common.{arith}
 use Rattle.derivation_trees.specs.Trees.{node_of, nodes_of}
 use Rattle.derivation_trees.specs.declared.trees.Tree.{out-Tree}
 use Rattle.derivation_trees.specs.Stands.{values_in, found_in}
 use Rattle.derivation_trees.proofs.StandLemmas.{node_of_is}
-use Rattle.chart_trees.specs.Order.{codes, node_code}
 use Rattle.chart_trees.proofs.OrderLemmas.{code_whole, codes_next, codes_done}
 use Rattle.chart_trees.proofs.codes.+coding.Goals as goal
 

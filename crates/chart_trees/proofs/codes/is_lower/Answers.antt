@@ -1,4 +1,3 @@
-use Rattle.std.proofs.Common.{◌≡◌, IsTrue, rules}
 use Rattle.chart_trees.proofs.OrderLemmas.{lower_tested}
 use Rattle.chart_trees.proofs.codes.is_lower.Goals as goal
 

@@ -1,4 +1,4 @@
-use Rattle.std.proofs.Common.{◌≡◌, length, rules, sym, subst, ◌∙◌, arith}
+use Rattle.std.proofs.Common.{length, subst, arith}
 use Rattle.derivation_trees.specs.Trees.{node_of}
 use Rattle.derivations.specs.Listed.{IsLesser}
 use Rattle.derivations.proofs.LeastLemmas.{least_of_same, least_of_more}

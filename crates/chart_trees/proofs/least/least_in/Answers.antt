@@ -1,6 +1,4 @@
-use Rattle.std.proofs.Common.{◌≡◌, ap, ◌∙◌, sym, subst}
 use Rattle.std.proofs.lemmas.Result.{IfOk-weaker}
-use Rattle.derivation_trees.specs.Derives.{text_category}
 use Rattle.chart_trees.proofs.LeastLemmas.{told, best_in}
 use Rattle.chart_trees.proofs.TableLemmas.{tables_none, row_below}
 use Rattle.chart_trees.proofs.least.least_in.Goals as goal

@@ -1,4 +1,3 @@
-use Rattle.std.proofs.Common.{◌≡◌}
 use Rattle.chart_trees.proofs.OutcomeLemmas.{put_taken, put_at, put_free}
 use Rattle.chart_trees.proofs.outcomes.put.Goals as goal
 

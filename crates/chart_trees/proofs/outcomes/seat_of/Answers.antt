@@ -1,4 +1,4 @@
-use Rattle.std.proofs.Common.{◌≡◌, rules}
+use Rattle.std.proofs.Common.{rules}
 use Rattle.chart_trees.proofs.OutcomeLemmas.{holds_at, seat_at}
 use Rattle.chart_trees.proofs.outcomes.seat_of.Goals as goal
 

@@ -1,7 +1,5 @@
-use Rattle.std.proofs.Common.{◌≡◌, ℕ, ◌+◌, ◌<◌, ◌≤◌, ◌++◌, ◌∷◌, [], false, length, map, ap, ◌∙◌, sym, refl, subst, arith, rules}
+use Rattle.std.proofs.Common.{◌<◌, ◌++◌, ◌∷◌, [], length, map, ap, ◌∙◌, sym, subst, arith, rules}
 use Rattle.derivation_trees.proofs.StandLemmas.{not_sub}
-use Rattle.derivation_trees.specs.Instances.{under}
-use Rattle.derivations.specs.Enumeration.{opened}
 use Rattle.chart_trees.specs.Paths.{path_of}
 use Rattle.chart_trees.specs.Ways.{AreReached, AreStepsOf}
 use Rattle.chart_trees.specs.Outcomes.{HasEnded}

@@ -1,20 +1,23 @@
 // The command `replay`: one reply line for each line of the input.
-ghost use Rattle.std.specs.Prelude.{◌≡◌, IfOk};
+ghost use Rattle.std.specs.Prelude.{◌≡◌};
 ghost use Rattle.wiki_io.specs.Faults.{Rose};
 ghost use Rattle.wiki_io.specs.Reading.{unread};
 ghost use Rattle.acewiki.specs.Replay.{ace_wiki, Replays};
 
-use crate::command::{DEFAULT_BUDGET, Outcome};
+use crate::command::Outcome;
 use crate::lines::answer_line;
-use ace_grammar::built_in;
+use crate::wiki::AceWiki;
 use std::alloc::Global;
-use wiki_base::Memory;
-use wiki_core::Wiki;
 use wiki_io::{Line, LineReader, Sink, Source};
 
 /// Answers each line of the input by one line on the output, before it reads the next.
-pub fn replay<S: Source, K: Sink>(alloc: Global, input: &mut S, output: &mut K) -> Outcome
-    ensures replays { Replays ace_wiki (S.left input.old) (K.taken output.old) result (S.left input.new) (K.taken output.new) }
+pub fn replay<S: Source, K: Sink>(
+    alloc: Global,
+    budget: u64,
+    input: &mut S,
+    output: &mut K,
+) -> Outcome
+    ensures replays { Replays (ace_wiki budget) (S.left input.old) (K.taken output.old) result (S.left input.new) (K.taken output.new) }
     ensures read_fault { result ≡ Outcome.ReadFault → Rose (S.faults input.old) (S.faults input.new) }
     ensures write_fault { result ≡ Outcome.WriteFault → Rose (K.faults output.old) (K.faults output.new) }
     ensures usage { result ≡ Outcome.Usage → ⊥ }
@@ -22,7 +25,7 @@ pub fn replay<S: Source, K: Sink>(alloc: Global, input: &mut S, output: &mut K) 
     let Ok(mut reader) = LineReader::new(alloc) else {
         return Outcome::Memory;
     };
-    let Ok(mut wiki) = ace_wiki(alloc) else {
+    let Ok(mut wiki) = AceWiki::new(alloc, budget) else {
         return Outcome::Memory;
     };
     answer_lines(alloc, &mut reader, &mut wiki, input, output)
@@ -32,7 +35,7 @@ pub fn replay<S: Source, K: Sink>(alloc: Global, input: &mut S, output: &mut K) 
 fn answer_lines<S: Source, K: Sink>(
     alloc: Global,
     reader: &mut LineReader,
-    wiki: &mut Wiki,
+    wiki: &mut AceWiki,
     input: &mut S,
     output: &mut K,
 ) -> Outcome
@@ -54,11 +57,4 @@ fn answer_lines<S: Source, K: Sink>(
             return outcome;
         }
     }
-}
-
-// The wiki that the program begins with.
-fn ace_wiki(alloc: Global) -> Result<Wiki, Memory>
-    ensures { IfOk result (λ wiki. wiki ≡ ace_wiki) }
-{
-    Wiki::new(alloc, built_in(alloc)?, DEFAULT_BUDGET)
 }

@@ -1,0 +1,2 @@
+pub mod DeliverLemmas
+pub mod EventLemmas

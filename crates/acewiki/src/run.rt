@@ -70,18 +70,23 @@ pub fn run<S: Source, K: Sink, E: Sink, L: Link>(
     // The status is one of those, and its words were written. A write that fails there changes no status.
     ensures words { EndsWith result (E.taken errors.old) (E.faults errors.old) (E.taken errors.new) (E.faults errors.new) }
 {
-    let outcome = match Command::from_words(words) {
-        Some(Command::Replay { budget }) => replay(alloc, budget, input, output),
+    match Command::from_words(words) {
+        Some(Command::Replay { budget }) => {
+            let outcome = replay(alloc, budget, input, output);
+            end(outcome, errors)
+        }
         Some(
             Command::Serve {
                 address,
                 budget,
                 events,
             },
-        ) => serve(alloc, address, budget, events, input, output, link),
-        None => Outcome::Usage,
-    };
-    end(outcome, errors)
+        ) => {
+            let outcome = serve(alloc, address, budget, events, input, output, link);
+            end(outcome, errors)
+        }
+        None => end(Outcome::Usage, errors),
+    }
 }
 
 /// Runs the command that the words of the command line are, as `run` does. Where there was no memory for the words, the

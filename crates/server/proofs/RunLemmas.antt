@@ -46,13 +46,13 @@ own-opened m old new turn own free takes keeps = elim (cases_lt (length old) MOS
 
 own-piece : (m : ℕ) (piece : List ℕ) (old : List Kept) (turn : Turn) (own : ℕ → List ℕ) → is_among (numbers old) m ≡ true
     → KeepsOwn old own → KeepsOwn (kept_after m piece turn old) (λ n. own_after n (own n) (Piece m piece))
-own-piece m piece old turns.Wait own among_m keeps n among = by_number m n (bytes_of n (with_piece m piece old) ≡ own_after n (own n) (Piece m piece))
+own-piece m piece old turns.Wait own among_m keeps = λ n among. by_number m n (bytes_of n (with_piece m piece old) ≡ own_after n (own n) (Piece m piece))
     (λ this.
     let is : m ≡ n = eqb-true m n this in
     rw this (subst (λ k. bytes_of k (with_piece m piece old) ≡ own k ++ piece) is (bytes_of-piece m piece old among_m ∙ ap (λ bs. bs ++ piece) (keeps m among_m))))
     (λ other. rw other (bytes_of-other_piece n m piece old other ∙ keeps n (sym (ap (λ ns. is_among ns n) (numbers-piece m piece old)) ∙ among)))
 own-piece m piece old (turns.Refuse k response) own among_m keeps = own-closed m old own (λ n. own_after n (own n) (Piece m piece)) (λ n other. rw other refl) keeps
-own-piece m piece old (turns.Ask k request then) own among_m keeps = own-closed m old own (λ n. own_after n (own n) (Piece m piece)) (λ n other. rw other refl) keeps
+own-piece m piece old (turns.Ask k request answer) own among_m keeps = own-closed m old own (λ n. own_after n (own n) (Piece m piece)) (λ n other. rw other refl) keeps
 
 own-event : (old : List Kept) (event : Event) (turn : Turn) (new : List Kept) (own : ℕ → List ℕ) → IsTrue (can_come (numbers old) event) → Takes old event turn new
     → KeepsOwn old own → KeepsOwn new (λ n. own_after n (own n) event)
@@ -76,14 +76,14 @@ own_after_all-push n bytes (e ∷ events) event = own_after_all-push n (own_afte
 
 -- at a piece the turn is what came over its own connection
 pub take_apart : (kept : List Kept) (event : Event) (turn : Turn) (new : List Kept) → IsTrue (can_come (numbers kept) event) → Takes kept event turn new → IsApart kept event turn
-take_apart kept (Opened n) turn new comes takes events turns run = tt
-take_apart kept (Piece n piece) turn new comes takes events turns run =
+take_apart kept (Opened n) turn new comes takes = λ events turns run. tt
+take_apart kept (Piece n piece) turn new comes takes = λ events turns run.
     let own = own-all [] events turns kept (λ n. []) run (λ n among. absurd (false≢true among)) n comes in
     let same : (n == n) ≡ true = eq-eqb n n refl in
     let is : bytes_of n kept ++ piece ≡ own_bytes n (events ++ Piece n piece ∷ []) =
     ap (λ bs. bs ++ piece) own ∙ sym (own_after_all-push n [] events (Piece n piece) ∙ (rw same refl)) in
     record { seen = takes.seen; sees = subst (λ bs. Sees bs takes.seen) is takes.sees; turn_is = takes.turn_is }
-take_apart kept (Ended n) turn new comes takes events turns run = tt
+take_apart kept (Ended n) turn new comes takes = λ events turns run. tt
 
 -- one event more
 pub TakesAll-push : (first : List Kept) (events : List Event) (turns : List Turn) (event : Event) (turn : Turn) (before last : List Kept) → TakesAll first events turns before

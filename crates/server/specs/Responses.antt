@@ -58,7 +58,7 @@ refusal_status refusal = 409
 -- a refusal of the wiki: its page, or its line where a line was sent
 abbrev pub refused_response : Then → Refusal → List ℕ
 refused_response answers.Line refusal = line_response (refusal_status refusal) (reply_line (replies.Refused refusal))
-refused_response then refusal = page_response (refusal_status refusal) (refusal_page (title_of refusal).number (title_of refusal).name)
+refused_response answer refusal = page_response (refusal_status refusal) (refusal_page (title_of refusal).number (title_of refusal).name)
 
 -- the session that a reply opened; 0 where it opened none
 abbrev pub session_opened : Reply → ℕ
@@ -80,8 +80,8 @@ done_response answers.GoArticle reply = way_response (article_path (article_grow
 
 -- the response that a reply has
 abbrev pub response_of : Then → Reply → List ℕ
-response_of then (replies.Refused refusal) = refused_response then refusal
-response_of then reply = done_response then reply
+response_of answer (replies.Refused refusal) = refused_response answer refusal
+response_of answer reply = done_response answer reply
 
 -- ---- the response where the wiki isn't asked
 

@@ -20,7 +20,7 @@ pub record TakesOpening (old : List Kept) (n : ℕ) (turn : Turn) (new : List Ke
 abbrev pub turn_of : ℕ → Seen → Turn
 turn_of n seen.Wait = turns.Wait
 turn_of n (seen.Refuse status allow bad_line) = turns.Refuse n (status_response status allow bad_line)
-turn_of n (seen.Ask request then) = turns.Ask n request then
+turn_of n (seen.Ask request answer) = turns.Ask n request answer
 
 -- the connections that are kept after a piece: all where more is waited for, else all but that with the response
 abbrev pub kept_after : ℕ → List ℕ → Turn → List Kept → List Kept

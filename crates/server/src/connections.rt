@@ -50,16 +50,28 @@ impl Connection {
         let before = self.bytes.len();
         self.bytes.extend(piece)?;
         match self.reading(alloc, front) {
-            Ok(reading) => {
-                if let Some(head) = reading.head {
-                    self.head = Some(head);
-                }
-                Ok(reading.turn)
+            Ok(Reading { turn, head }) => {
+                self.note(head);
+                Ok(turn)
             }
             Err(Memory) => {
                 self.bytes.truncate(before);
                 Err(Memory)
             }
+        }
+    }
+
+    // Keeps a head that was read now.
+    fn note(&mut self, head: Option<Head>)
+        requires before { IsRead self.old }
+        requires now { IfSome head (λ read. Begins self.old.bytes (Begun.Head read)) }
+        ensures read { IsRead self.new }
+        ensures number { self.new.number ≡ self.old.number }
+        ensures bytes { self.new.bytes ≡ self.old.bytes }
+    {
+        match head {
+            Some(head) => self.head = Some(head),
+            None => {}
         }
     }
 

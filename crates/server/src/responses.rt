@@ -3,6 +3,7 @@ ghost use Rattle.std.specs.Prelude.{◌≡◌, ◌++◌, [], codes, IfOk};
 ghost use Rattle.std.specs.String.{string_bytes};
 ghost use Rattle.form_urlencoded.specs.Form.{byte_serialize};
 ghost use Rattle.http_front.specs.Forms.{article_path, session_path};
+ghost use Rattle.wire_json.specs.Replies.{reply_line};
 ghost use Rattle.server.specs.Responses.{phrase_of, html, json, response_bytes, page_response, line_response, way_response, refusal_status, refused_response, session_opened, article_grown, done_response, response_of, allow_line, status_page, status_response, busy_response};
 
 use form_urlencoded::byte_serialize;
@@ -192,7 +193,10 @@ fn phrase_of(status: u16) -> &'static str
     ensures { result.now ≡ phrase_of status }
 {
     match StatusCode::from_u16(status) {
-        Ok(code) => code.canonical_reason().unwrap_or(""),
+        Ok(code) => match code.canonical_reason() {
+            Some(phrase) => phrase,
+            None => "",
+        },
         Err(_) => "",
     }
 }

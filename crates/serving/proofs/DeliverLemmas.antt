@@ -2,7 +2,7 @@
 use Rattle.std.proofs.Common.{◌≡◌, ◌⊎◌, ℕ, ◌+◌, ◌-◌, ◌^◌, ◌<◌, ◌≤◌, min, ◌==◌, Bool, true, false, if◌then◌else◌, List, [], ◌∷◌, ◌++◌, length, map, take, drop, Option, Some, None, refl, sym, ap, subst, ◌∙◌, append_assoc, append-nil, take-append-drop, arith, inl, inr}
 use Rattle.std.proofs.lemmas.Bool.{cases_lt}
 use Rattle.std.proofs.lemmas.Grind.{flat_map-append}
-use Rattle.std.proofs.lemmas.List.{map_push, map-append}
+use Rattle.std.proofs.lemmas.List.{map_push, map-append, take_rest}
 use Rattle.std.specs.List.{flat_map}
 use Rattle.wiki_io.specs.Faults.{Rose}
 use Rattle.wiki_io.specs.Link.{with_more, sent_on}
@@ -69,36 +69,43 @@ pub record Sending (n : ℕ) (bytes rest : List ℕ) (sent : Option (List (ℕ �
 pub Sending-first : (n : ℕ) (bytes rest : List ℕ) (sent : Option (List (ℕ × List ℕ))) (faults : ℕ) → rest ≡ bytes → Sending n bytes rest sent faults sent faults
 Sending-first n bytes rest sent faults is = record { pieces = []; front = sym is; taken = sym (with_more-nil sent); kept = omega arith }
 
-pub Sending-more : (n size : ℕ) (bytes rest next : List ℕ) (sent : Option (List (ℕ × List ℕ))) (faults : ℕ) (sent_now : Option (List (ℕ × List ℕ))) (faults_now : ℕ) (sent_after : Option (List (ℕ × List ℕ))) (faults_after : ℕ)
-    → Sending n bytes rest sent faults sent_now faults_now → next ≡ drop size rest → sent_after ≡ with_more sent_now ((n, take size rest) ∷ []) → faults_now ≤ faults_after
-    → Sending n bytes next sent faults sent_after faults_after
-Sending-more n size bytes rest next sent faults sent_now faults_now sent_after faults_after so_far is taken kept = record {
-  pieces = so_far.pieces ++ take size rest ∷ [];
-  front = so_far.front ∙ ap (λ bs. joined so_far.pieces ++ bs) (sym (take-append-drop size rest)) ∙ sym (append_assoc (joined so_far.pieces) (take size rest) (drop size rest))
-      ∙ ap (λ bs. bs ++ drop size rest) (ap (λ bs. joined so_far.pieces ++ bs) (sym (append-nil (take size rest))) ∙ sym (flat_map-append (λ (p : List ℕ). p) so_far.pieces (take size rest ∷ [])))
-      ∙ ap (λ bs. joined (so_far.pieces ++ take size rest ∷ []) ++ bs) (sym is);
-  taken = taken ∙ ap (λ told. with_more told ((n, take size rest) ∷ [])) so_far.taken ∙ with_more-append sent (map (on_connection n) so_far.pieces) ((n, take size rest) ∷ [])
-      ∙ ap (with_more sent) (sym (map_push (on_connection n) so_far.pieces (take size rest)));
-  kept = omega (arith, so_far.kept);
-}
+pub Sending-more : (n size : ℕ) (bytes rest : List ℕ) (sent : Option (List (ℕ × List ℕ))) (faults : ℕ) (sent_now : Option (List (ℕ × List ℕ))) (faults_now : ℕ) (sent_after : Option (List (ℕ × List ℕ))) (faults_after : ℕ)
+    → Sending n bytes rest sent faults sent_now faults_now → sent_after ≡ with_more sent_now ((n, take size rest) ∷ []) → faults_now ≤ faults_after
+    → Sending n bytes (take (length rest - size) (drop size rest)) sent faults sent_after faults_after
+Sending-more n size bytes rest sent faults sent_now faults_now sent_after faults_after so_far taken kept =
+    let pieces_after = so_far.pieces ++ take size rest ∷ [] in
+    let joined_after : joined pieces_after ≡ joined so_far.pieces ++ take size rest =
+    flat_map-append (λ (p : List ℕ). p) so_far.pieces (take size rest ∷ []) ∙ ap (λ bs. joined so_far.pieces ++ bs) (append-nil (take size rest)) in
+    record {
+      pieces = pieces_after;
+      front = so_far.front ∙ ap (λ bs. joined so_far.pieces ++ bs) (sym (take-append-drop size rest)) ∙ sym (append_assoc (joined so_far.pieces) (take size rest) (drop size rest))
+          ∙ ap (λ bs. bs ++ drop size rest) (sym joined_after) ∙ ap (λ bs. joined pieces_after ++ bs) (sym (take_rest rest size));
+      taken = taken ∙ ap (λ told. with_more told ((n, take size rest) ∷ [])) so_far.taken ∙ with_more-append sent (map (on_connection n) so_far.pieces) ((n, take size rest) ∷ [])
+          ∙ ap (with_more sent) (sym (map_push (on_connection n) so_far.pieces (take size rest)));
+      kept = omega (arith, so_far.kept);
+    }
+
+-- a piece, where the connection is the one that is asked for, and nothing of it otherwise
+abbrev of_piece : Bool → List ℕ → List ℕ
+of_piece b p = if b then p else []
+
+sent_on-each : (n m : ℕ) (pieces : List (List ℕ)) → sent_on m (map (on_connection n) pieces) ≡ flat_map (of_piece (n == m)) pieces
+sent_on-each n m [] = refl
+sent_on-each n m (p ∷ pieces) = ap (λ bs. of_piece (n == m) p ++ bs) (sent_on-each n m pieces)
+
+of_no_piece : (pieces : List (List ℕ)) → flat_map (of_piece false) pieces ≡ []
+of_no_piece [] = refl
+of_no_piece (p ∷ pieces) = of_no_piece pieces
 
 -- what was sent in pieces on one connection
 sent_on-pieces : (n m : ℕ) (pieces : List (List ℕ)) → sent_on m (map (on_connection n) pieces) ≡ sent_on m ((n, joined pieces) ∷ [])
 sent_on-pieces n m pieces =
-    let Claim : Bool → Type 0 = λ b. flat_map (λ (p : List ℕ). if b then p else []) pieces ≡ (if b then joined pieces else []) ++ [] in
+    let Claim : Bool → Type 0 = λ b. flat_map (of_piece b) pieces ≡ of_piece b (joined pieces) ++ [] in
     let cases : (b : Bool) → Claim b = λ b. elim b as Claim [
       | true ↦ sym (append-nil (joined pieces))
-      | false ↦ none pieces
+      | false ↦ of_no_piece pieces
     ] in
-    on_all pieces ∙ cases (n == m)
-  where
-    on_all : (pieces : List (List ℕ)) → sent_on m (map (on_connection n) pieces) ≡ flat_map (λ (p : List ℕ). if n == m then p else []) pieces
-    on_all [] = refl
-    on_all (p ∷ pieces) = ap (λ bs. (if n == m then p else []) ++ bs) (on_all pieces)
-
-    none : (pieces : List (List ℕ)) → flat_map (λ (p : List ℕ). []) pieces ≡ []
-    none [] = refl
-    none (p ∷ pieces) = none pieces
+    sent_on-each n m pieces ∙ cases (n == m)
 
 lacking-one : (bytes : List ℕ) → lacking bytes ≤ 1
 lacking-one [] = omega arith

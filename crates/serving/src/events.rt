@@ -42,13 +42,13 @@ pub fn event<W: Machine, K: Sink, L: Link>(
     link: &mut L,
 ) -> Handled
     requires comes { IsTrue (can_come (numbers server.old) event.now) }
-    requires open { L.connections link.old ≡ connections_after (numbers server.old) event.now }
+    requires connections { L.connections link.old ≡ connections_after (numbers server.old) event.now }
 
     // It was handled whole: a run of this one event.
     ensures done { result ≡ Handled.Done → RunsEvents W.Steps machine.old server.old
         (record { journal = K.taken journal.old; sent = L.sent link.old; send_faults = L.send_faults link.old }) (event.now ∷ [])
         machine.new server.new (record { journal = K.taken journal.new; sent = L.sent link.new; send_faults = L.send_faults link.new }) }
-    ensures open { result ≡ Handled.Done → L.connections link.new ≡ numbers server.new }
+    ensures connections { result ≡ Handled.Done → L.connections link.new ≡ numbers server.new }
 
     // A write to the journal failed, and nothing was sent.
     ensures journal_fault { result ≡ Handled.JournalFault → Rose (K.faults journal.old) (K.faults journal.new) }

@@ -50,7 +50,7 @@ pub fn serve<W: Machine, K: Sink, L: Link>(
     let Ok(mut server) = Server::new(alloc) else {
         return Served::Memory;
     };
-    'events: for _ in 0..most {
+    'events: for _handled in 0..most {
         let come = match next_event(alloc, link, &mut buffer) {
             Come::Event(come) => come,
             Come::Over => return Served::Done,

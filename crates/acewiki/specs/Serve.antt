@@ -17,7 +17,7 @@ use Rattle.serving.specs.declared.serving.Served.{Served}
 use Rattle.serving.specs.declared.serving.Served.TheVariants as served
 use Rattle.serving.specs.Handling.{Handling, turn_in, exchange_in, journal_in, response_in}
 use Rattle.serving.specs.Delivering.{Delivers}
-use Rattle.serving.specs.Events.{Outside, EndsServing}
+use Rattle.serving.specs.Events.{Outside, EndsServing, Ended}
 use Rattle.acewiki.specs.declared.command.Outcome.{Outcome}
 use Rattle.acewiki.specs.declared.command.Outcome.TheVariants as outcomes
 use Rattle.acewiki.specs.Lines.{asked}
@@ -49,6 +49,12 @@ pub record ServesEvents (first : State) (most : ℕ) (left : Option (List ℕ)) 
   pub served_so : Served
   pub outcome_is : outcome ≡ outcome_of served_so
   pub ends : EndsServing Step input.last most outside events served_so coming_after outside_after
+
+-- the link could not listen, and nothing was handed in, written or sent; or serving ended so
+abbrev pub ServesLink : State → ℕ → Outside → Option (List Event) → Outcome → Outside → Option (List Event) → Option (List Event) → Type 0
+ServesLink first most outside handed outcome outside_after handed_after coming_after =
+    ((outcome ≡ outcomes.LinkFault) × (outside_after ≡ outside) × (handed_after ≡ handed))
+    ⊎ ((served_so : Served) × (outcome ≡ outcome_of served_so) × Ended Step first outside handed most handed_after served_so coming_after outside_after)
 
 -- What `serve` has done when it ends with this outcome. `left` is what the input has left, `handed` and `coming` are the
 -- events that the link has handed in and those that are left, where they tell it.

@@ -47,12 +47,17 @@ pub fn step_line(alloc: Global, wiki: &mut AceWiki, line: Option<&[u8]>) -> Resu
         None => None,
     };
     match request {
-        Some(request) => {
-            let _reply = wiki.step(&request)?;
-            Ok(())
-        }
+        Some(request) => step_request(wiki, &request),
         None => Ok(()),
     }
+}
+
+// Steps through a request.
+fn step_request(wiki: &mut AceWiki, request: &Request) -> Result<(), Memory>
+    ensures { OnOk result ((reply : Reply) × Step wiki.old request.now reply wiki.new) }
+{
+    let _reply = wiki.step(request)?;
+    Ok(())
 }
 
 // The reply line to a line.

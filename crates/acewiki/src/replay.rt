@@ -8,6 +8,7 @@ use crate::command::Outcome;
 use crate::lines::answer_line;
 use crate::wiki::AceWiki;
 use std::alloc::Global;
+use wiki_base::Memory;
 use wiki_io::{Line, LineReader, Sink, Source};
 
 /// Answers each line of the input by one line on the output, before it reads the next.
@@ -20,15 +21,30 @@ pub fn replay<S: Source, K: Sink>(
     ensures replays { Replays (ace_wiki budget) (S.left input.old) (K.taken output.old) result (S.left input.new) (K.taken output.new) }
     ensures read_fault { result ≡ Outcome.ReadFault → Rose (S.faults input.old) (S.faults input.new) }
     ensures write_fault { result ≡ Outcome.WriteFault → Rose (K.faults output.old) (K.faults output.new) }
-    ensures usage { result ≡ Outcome.Usage → ⊥ }
+    ensures usage { (result ≡ Outcome.Usage → ⊥) × (result ≡ Outcome.LinkFault → ⊥) }
 {
-    let Ok(mut reader) = LineReader::new(alloc) else {
-        return Outcome::Memory;
-    };
-    let Ok(mut wiki) = AceWiki::new(alloc, budget) else {
-        return Outcome::Memory;
-    };
-    answer_lines(alloc, &mut reader, &mut wiki, input, output)
+    match AceWiki::new(alloc, budget) {
+        Ok(mut wiki) => answer_input(alloc, &mut wiki, input, output),
+        Err(Memory) => Outcome::Memory,
+    }
+}
+
+// Answers each line of the input.
+fn answer_input<S: Source, K: Sink>(
+    alloc: Global,
+    wiki: &mut AceWiki,
+    input: &mut S,
+    output: &mut K,
+) -> Outcome
+    ensures replays { Replays wiki.old (S.left input.old) (K.taken output.old) result (S.left input.new) (K.taken output.new) }
+    ensures read_fault { result ≡ Outcome.ReadFault → Rose (S.faults input.old) (S.faults input.new) }
+    ensures write_fault { result ≡ Outcome.WriteFault → Rose (K.faults output.old) (K.faults output.new) }
+    ensures usage { (result ≡ Outcome.Usage → ⊥) × (result ≡ Outcome.LinkFault → ⊥) }
+{
+    match LineReader::new(alloc) {
+        Ok(mut reader) => answer_lines(alloc, &mut reader, wiki, input, output),
+        Err(Memory) => Outcome::Memory,
+    }
 }
 
 // Answers each line that a fresh reader gives.
@@ -43,7 +59,7 @@ fn answer_lines<S: Source, K: Sink>(
     ensures replays { Replays wiki.old (S.left input.old) (K.taken output.old) result (S.left input.new) (K.taken output.new) }
     ensures read_fault { result ≡ Outcome.ReadFault → Rose (S.faults input.old) (S.faults input.new) }
     ensures write_fault { result ≡ Outcome.WriteFault → Rose (K.faults output.old) (K.faults output.new) }
-    ensures usage { result ≡ Outcome.Usage → ⊥ }
+    ensures usage { (result ≡ Outcome.Usage → ⊥) × (result ≡ Outcome.LinkFault → ⊥) }
 {
     'lines: loop {
         let line = match reader.next_line(input) {

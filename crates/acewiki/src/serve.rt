@@ -1,15 +1,16 @@
 // The command `serve`: the lines of the input, and then connections.
-ghost use Rattle.std.specs.Prelude.{◌≡◌, [], OnOk};
+ghost use Rattle.std.specs.Prelude.{◌≡◌, []};
 ghost use Rattle.wiki_io.specs.Faults.{Rose};
 ghost use Rattle.wiki_io.specs.Reading.{unread};
 ghost use Rattle.acewiki.specs.Replay.{ace_wiki, StepsInputTo};
-ghost use Rattle.acewiki.specs.Serve.{Serves, outcome_of};
+ghost use Rattle.acewiki.specs.Serve.{Serves, ServesLink, outcome_of};
 
 use crate::command::Outcome;
 use crate::lines::step_line;
 use crate::wiki::AceWiki;
 use serving::Served;
 use std::alloc::Global;
+use wiki_base::Memory;
 use wiki_io::{Line, LineReader, Link, Listen, Sink, Source};
 
 /// Steps through the lines of the input, then listens at the address and handles the events of the link, at most so many.
@@ -33,18 +34,60 @@ pub fn serve<S: Source, K: Sink, L: Link>(
     ensures link_fault { result ≡ Outcome.LinkFault → Rose (L.faults link.old) (L.faults link.new) }
     ensures usage { result ≡ Outcome.Usage → ⊥ }
 {
-    let Ok(mut reader) = LineReader::new(alloc) else {
-        return Outcome::Memory;
-    };
-    let Ok(mut wiki) = AceWiki::new(alloc, budget) else {
-        return Outcome::Memory;
-    };
-    match step_lines(alloc, &mut reader, &mut wiki, input) {
-        Outcome::Done => {}
-        outcome => return outcome,
+    match AceWiki::new(alloc, budget) {
+        Ok(mut wiki) => serve_wiki(alloc, &mut wiki, address, events, input, output, link),
+        Err(Memory) => Outcome::Memory,
     }
+}
+
+// Steps the wiki through the lines of the input, and then serves it.
+fn serve_wiki<S: Source, K: Sink, L: Link>(
+    alloc: Global,
+    wiki: &mut AceWiki,
+    address: &str,
+    events: u64,
+    input: &mut S,
+    output: &mut K,
+    link: &mut L,
+) -> Outcome
+    requires { L.connections link.old ≡ [] }
+    ensures serves { Serves wiki.old events (S.left input.old)
+        (record { journal = K.taken output.old; sent = L.sent link.old; send_faults = L.send_faults link.old }) (L.handed link.old)
+        result (S.left input.new)
+        (record { journal = K.taken output.new; sent = L.sent link.new; send_faults = L.send_faults link.new }) (L.handed link.new) (L.left link.new) }
+    ensures read_fault { result ≡ Outcome.ReadFault → Rose (S.faults input.old) (S.faults input.new) }
+    ensures write_fault { result ≡ Outcome.WriteFault → Rose (K.faults output.old) (K.faults output.new) }
+    ensures link_fault { result ≡ Outcome.LinkFault → Rose (L.faults link.old) (L.faults link.new) }
+    ensures usage { result ≡ Outcome.Usage → ⊥ }
+{
+    match step_input(alloc, wiki, input) {
+        Outcome::Done => serve_link(alloc, wiki, address, events, output, link),
+        outcome => outcome,
+    }
+}
+
+// Listens, and serves the wiki.
+fn serve_link<K: Sink, L: Link>(
+    alloc: Global,
+    wiki: &mut AceWiki,
+    address: &str,
+    events: u64,
+    output: &mut K,
+    link: &mut L,
+) -> Outcome
+    requires { L.connections link.old ≡ [] }
+    ensures serves { ServesLink wiki.old events
+        (record { journal = K.taken output.old; sent = L.sent link.old; send_faults = L.send_faults link.old }) (L.handed link.old)
+        result (record { journal = K.taken output.new; sent = L.sent link.new; send_faults = L.send_faults link.new }) (L.handed link.new) (L.left link.new) }
+    ensures write_fault { result ≡ Outcome.WriteFault → Rose (K.faults output.old) (K.faults output.new) }
+    ensures link_fault { result ≡ Outcome.LinkFault → Rose (L.faults link.old) (L.faults link.new) }
+    ensures others { (result ≡ Outcome.Usage → ⊥) × (result ≡ Outcome.ReadFault → ⊥) }
+{
     match link.listen(address) {
-        Listen::Ready => ended(serving::serve(alloc, &mut wiki, events, output, link)),
+        Listen::Ready => {
+            let served = serving::serve(alloc, wiki, events, output, link);
+            ended(served)
+        }
         Listen::Failed => Outcome::LinkFault,
     }
 }
@@ -58,6 +101,18 @@ fn ended(served: Served) -> Outcome
         Served::LinkFault => Outcome::LinkFault,
         Served::JournalFault => Outcome::WriteFault,
         Served::Memory => Outcome::Memory,
+    }
+}
+
+// Steps the wiki through the lines of the input.
+fn step_input<S: Source>(alloc: Global, wiki: &mut AceWiki, input: &mut S) -> Outcome
+    ensures steps { StepsInputTo wiki.old (S.left input.old) result (S.left input.new) wiki.new }
+    ensures read_fault { result ≡ Outcome.ReadFault → Rose (S.faults input.old) (S.faults input.new) }
+    ensures others { (result ≡ Outcome.Usage → ⊥) × (result ≡ Outcome.WriteFault → ⊥) × (result ≡ Outcome.LinkFault → ⊥) }
+{
+    match LineReader::new(alloc) {
+        Ok(mut reader) => step_lines(alloc, &mut reader, wiki, input),
+        Err(Memory) => Outcome::Memory,
     }
 }
 
@@ -81,8 +136,9 @@ fn step_lines<S: Source>(
             Line::ReadFault => return Outcome::ReadFault,
             Line::TooMuch => return Outcome::TooMuch,
         };
-        if step_line(alloc, wiki, line).is_err() {
-            return Outcome::Memory;
+        match step_line(alloc, wiki, line) {
+            Ok(()) => {}
+            Err(Memory) => return Outcome::Memory,
         }
     }
 }

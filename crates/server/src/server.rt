@@ -51,7 +51,6 @@ impl Server {
     }
 
     /// Takes note of an event, and tells what it comes to. For want of memory it takes no note.
-    #[tactic(auto, using(crate::proofs::RunLemmas::take_apart))]
     pub fn take(&mut self, event: &Event) -> Result<Turn, Memory>
         requires { IsTrue (can_come (numbers self.old) event.now) }
         ensures turn { IfOk result (λ turn. Takes self.old event.now turn self.new) }

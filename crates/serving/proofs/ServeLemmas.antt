@@ -8,7 +8,10 @@ use Rattle.wiki_talk.specs.declared.replies.Reply.{Reply}
 use Rattle.server.specs.Kept.{Kept, numbers}
 use Rattle.serving.specs.declared.serving.Served.{Served}
 use Rattle.serving.specs.declared.serving.Served.TheVariants as served
-use Rattle.serving.specs.Events.{Outside, RunsEvents, RunsAll, RunsUntilJournal, RunsUntilMemory, CutsJournal, WasHandled, EndsServing}
+use Rattle.serving.specs.declared.serving.Come.{Come}
+use Rattle.serving.specs.declared.serving.Come.TheVariants as come
+use Rattle.serving.specs.Coming.{AreCome}
+use Rattle.serving.specs.Events.{Outside, RunsEvents, RunsAll, RunsUntilJournal, RunsUntilMemory, CutsJournal, WasHandled, EndsServing, Ended}
 use Rattle.serving.proofs.DeliverLemmas.{with_more-nil, with_more-append}
 use Rattle.serving.proofs.EventLemmas.{RunsEvents-none, RunsEvents-append}
 
@@ -35,6 +38,10 @@ pub told_same : (journal : Option (List ℕ)) (sent sent_then : Option (List (�
     → let told_then : Outside = record { journal = journal; sent = sent_then; send_faults = faults_then } in let before : Outside = record { journal = journal; sent = sent; send_faults = faults } in told_then ≡ before
 told_same journal sent sent_then faults faults_then same_sent same_faults = rw (same_sent, same_faults) refl
 
+pub told_all : (journal journal_then : Option (List ℕ)) (sent sent_then : Option (List (ℕ × List ℕ))) (faults faults_then : ℕ) → journal_then ≡ journal → sent_then ≡ sent → faults_then ≡ faults
+    → let told_then : Outside = record { journal = journal_then; sent = sent_then; send_faults = faults_then } in let before : Outside = record { journal = journal; sent = sent; send_faults = faults } in told_then ≡ before
+told_all journal journal_then sent sent_then faults faults_then same_journal same_sent same_faults = rw (same_journal, same_sent, same_faults) refl
+
 module _ {S : Type 0} (step : S → Request → Reply → S → Type 0) (first : S) (outside : Outside) (handed_first : Option (List Event)) where
   pub Serving-first : (machine : S) (kept : List Kept) (connections : List ℕ) (journal link : ℕ) → machine ≡ first → kept ≡ [] → connections ≡ []
       → Serving step first outside handed_first machine kept outside handed_first connections 0 journal journal link link
@@ -47,11 +54,6 @@ module _ {S : Type 0} (step : S → Request → Reply → S → Type 0) (first :
     journal_faults = omega arith;
     link_faults = omega arith;
   }
-
-  -- what was served up to an end
-  pub Ended : ℕ → Option (List Event) → Served → Option (List Event) → Outside → Type 0
-  Ended most handed served_so left outside_after = (events : List Event) × (handed ≡ with_more handed_first events) × (length events ≤ most)
-      × EndsServing step first most outside events served_so left outside_after
 
   module _ (machine : S) (kept : List Kept) (told : Outside) (handed : Option (List Event)) (connections : List ℕ) (count journal_first journal link_first link : ℕ)
       (s : Serving step first outside handed_first machine kept told handed connections count journal_first journal link_first link)
@@ -85,22 +87,18 @@ module _ {S : Type 0} (step : S → Request → Reply → S → Type 0) (first :
     all_run : RunsAll step first outside s.events told_then
     all_run = record { last = machine; kept = kept; run = run_then }
 
-    pub ended_over : (most : ℕ) (handed_then left : Option (List Event)) → handed_then ≡ with_more handed [] → IsOver left → count ≤ most → Ended most handed_then served.Done left told_then
-    unfolding Ended
+    pub ended_over : (most : ℕ) (handed_then left : Option (List Event)) → handed_then ≡ with_more handed [] → IsOver left → count ≤ most → Ended step first outside handed_first most handed_then served.Done left told_then
     ended_over most handed_then left is over few = (s.events, handed_same handed_then is, omega (arith, s.counted), (all_run, inl over))
 
-    pub ended_full : (most : ℕ) (left : Option (List Event)) → count ≡ most → Ended most handed served.Done left told_then
-    unfolding Ended
+    pub ended_full : (most : ℕ) (left : Option (List Event)) → count ≡ most → Ended step first outside handed_first most handed served.Done left told_then
     ended_full most left full = (s.events, s.are_handed, omega (arith, s.counted), (all_run, inr (s.counted ∙ full)))
 
-    pub ended_failed : (most : ℕ) (handed_then left : Option (List Event)) → handed_then ≡ with_more handed [] → count ≤ most → Ended most handed_then served.LinkFault left told_then
-    unfolding Ended
+    pub ended_failed : (most : ℕ) (handed_then left : Option (List Event)) → handed_then ≡ with_more handed [] → count ≤ most → Ended step first outside handed_first most handed_then served.LinkFault left told_then
     ended_failed most handed_then left is few = (s.events, handed_same handed_then is, omega (arith, s.counted), all_run)
 
     -- an event for which there was no memory
     pub ended_memory : (most : ℕ) (event : Event) (handed_then left : Option (List Event)) (machine_after : S) → handed_then ≡ with_more handed (event ∷ []) → WasHandled step machine kept event machine_after
-        → count < most → Ended most handed_then served.Memory left told_then
-    unfolding Ended
+        → count < most → Ended step first outside handed_first most handed_then served.Memory left told_then
     ended_memory most event handed_then left machine_after is was room = (
       s.events ++ event ∷ [],
       handed_more (event ∷ []) handed_then is,
@@ -119,8 +117,7 @@ module _ {S : Type 0} (step : S → Request → Reply → S → Type 0) (first :
 
     -- an event whose line the journal cut off
     pub ended_journal : (most : ℕ) (event : Event) (handed_then left : Option (List Event)) (machine_after : S) (kept_after : List Kept) (told_after : Outside) → handed_then ≡ with_more handed (event ∷ [])
-        → CutsJournal step machine kept event told_then.journal machine_after kept_after told_after.journal → told_after.sent ≡ told_then.sent → count < most → Ended most handed_then served.JournalFault left told_after
-    unfolding Ended
+        → CutsJournal step machine kept event told_then.journal machine_after kept_after told_after.journal → told_after.sent ≡ told_then.sent → count < most → Ended step first outside handed_first most handed_then served.JournalFault left told_after
     ended_journal most event handed_then left machine_after kept_after told_after is cuts unsent room = (
       s.events ++ event ∷ [],
       handed_more (event ∷ []) handed_then is,
@@ -142,5 +139,21 @@ module _ {S : Type 0} (step : S → Request → Reply → S → Type 0) (first :
 
 -- nothing was handed in, for want of memory
 pub Ended-none : {S : Type 0} (step : S → Request → Reply → S → Type 0) (first : S) (outside : Outside) (handed left : Option (List Event)) (most : ℕ) → Ended step first outside handed most handed served.Memory left outside
-unfolding Ended
 Ended-none step first outside handed left most = ([], sym (with_more-nil handed), omega arith, inl (record { last = first; kept = []; run = RunsEvents-none step first [] outside }))
+
+-- ---- what a link hands in
+
+pub come_event : (c : Come) (before after : Option (List Event)) (event : Event) → (events : List Event) × (after ≡ with_more before events) × AreCome c events → c ≡ come.Event event → after ≡ with_more before (event ∷ [])
+come_event c before after event handed is = handed.1 ∙ ap (with_more before) (subst (λ x. AreCome x handed.0) is handed.2)
+
+pub come_over : (c : Come) (before after : Option (List Event)) → (events : List Event) × (after ≡ with_more before events) × AreCome c events → c ≡ come.Over → after ≡ with_more before []
+come_over c before after handed is = handed.1 ∙ ap (with_more before) (subst (λ x. AreCome x handed.0) is handed.2)
+
+pub come_failed : (c : Come) (before after : Option (List Event)) → (events : List Event) × (after ≡ with_more before events) × AreCome c events → c ≡ come.Failed → after ≡ with_more before []
+come_failed c before after handed is = handed.1 ∙ ap (with_more before) (subst (λ x. AreCome x handed.0) is handed.2)
+
+pub come_unread : (c : Come) (before after : Option (List Event)) → (events : List Event) × (after ≡ with_more before events) × AreCome c events → c ≡ come.Unread
+    → (event : Event) × (after ≡ with_more before (event ∷ []))
+come_unread c before after handed is =
+    let come_one = subst (λ x. AreCome x handed.0) is handed.2 in
+    (come_one.0, handed.1 ∙ ap (with_more before) come_one.1)

@@ -9,4 +9,4 @@ abbrev pub AreCome : Come → List Event → Type 0
 AreCome (come.Event event) events = events ≡ event ∷ []
 AreCome come.Over events = events ≡ []
 AreCome come.Failed events = events ≡ []
-AreCome come.Memory events = (event : Event) × (events ≡ event ∷ [])
+AreCome come.Unread events = (event : Event) × (events ≡ event ∷ [])

@@ -87,3 +87,8 @@ EndsServing step first most outside events served.Done left outside_after = Runs
 EndsServing step first most outside events served.LinkFault left outside_after = RunsAll step first outside events outside_after
 EndsServing step first most outside events served.JournalFault left outside_after = RunsUntilJournal step first outside events outside_after
 EndsServing step first most outside events served.Memory left outside_after = RunsAll step first outside events outside_after ⊎ RunsUntilMemory step first outside events outside_after
+
+-- What was served up to an end, from a first state on: the events that were handed in, at most so many, and that end.
+abbrev pub Ended : {S : Type 0} → (S → Request → Reply → S → Type 0) → S → Outside → Option (List Event) → ℕ → Option (List Event) → Served → Option (List Event) → Outside → Type 0
+Ended step first outside handed_first most handed ended_so left outside_after =
+    (events : List Event) × (handed ≡ with_more handed_first events) × (length events ≤ most) × EndsServing step first most outside events ended_so left outside_after

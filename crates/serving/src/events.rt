@@ -113,11 +113,13 @@ fn ask<W: Machine, K: Sink, L: Link>(
     let Ok(told) = reply_to(alloc, machine, request, then) else {
         return Handled::Memory;
     };
-    if !put(journal, told.line.as_bytes()) {
-        return Handled::JournalFault;
+    let line = told.line.as_bytes();
+    let response = told.response.as_bytes();
+    if put(journal, line) {
+        answer(link, connection, response);
+        return Handled::Done;
     }
-    answer(link, connection, told.response.as_bytes());
-    Handled::Done
+    Handled::JournalFault
 }
 
 // Asks the machine, and tells what its reply leaves to be written and to be sent.

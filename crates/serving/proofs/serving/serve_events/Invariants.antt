@@ -1,6 +1,6 @@
 use Rattle.serving.proofs.ServeLemmas.{Serving}
 use Rattle.serving.specs.Events.{Outside}
-use Rattle.serving.proofs.serving.serve.Given as goal
+use Rattle.serving.proofs.serving.serve_events.Given as goal
 
 -- the events handed in so far were handled
 abbrev pub invariant-events : goal.invariant-events

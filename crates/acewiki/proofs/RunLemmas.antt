@@ -141,6 +141,12 @@ module _ (start : State) (first taken_first left : Option (List ℕ)) (old : Rea
       (λ _. (at_end, omega (arith, called.count, within), sym (none_given none) ∙ HasGiven-end called.bytes (run.given ++ answered said new.line) new called.lines pending))
       (λ is. absurd (cc is)) (λ is. absurd (cc is)) taken (Appends-nil taken)
 
+  -- and leaves the wiki as it is
+  pub Replays-end_last : (none : answered said new.line ≡ []) (pending : new.pending ≡ []) (within : new.count ≤ MAX_INPUT) (at_end : IsAtEnd left_after)
+      → (Replays-end none pending within at_end).input.last ≡ wiki
+  unfolding Replays-end Replays-answered
+  Replays-end_last none pending within at_end = refl
+
   pub Replays-fault : answered said new.line ≡ [] → HasNoLine new → Replays start first taken_first ReadFault left_after taken
   Replays-fault none no_line = Replays-answered ReadFault (λ is. absurd (cc is))
       (λ _. subst (AreReadLines called.bytes) (none_given none) (HasGiven-fault called.bytes (run.given ++ answered said new.line) new called.lines no_line))

@@ -11,13 +11,12 @@ use Rattle.wiki_core.specs.State.{State, first_state}
 use Rattle.ace_grammar.specs.Grammar.{ace_grammar}
 use Rattle.acewiki.specs.declared.command.Outcome.{Outcome}
 use Rattle.acewiki.specs.declared.command.Outcome.TheVariants.{Done, ReadFault, WriteFault, TooMuch, Memory}
-use Rattle.acewiki.specs.declared.command.TheConstants.{DEFAULT_BUDGET}
 use Rattle.acewiki.specs.Command.{status_of, words_of}
 use Rattle.acewiki.specs.Lines.{StepsLines, reply_lines}
 
--- the wiki that the program begins with
-abbrev pub ace_wiki : State
-ace_wiki = first_state ace_grammar DEFAULT_BUDGET
+-- the wiki that the program begins with, in which a search may take so many steps
+abbrev pub ace_wiki : ℕ → State
+ace_wiki budget = first_state ace_grammar budget
 
 -- What a command has done with the lines of its input when it ends with this outcome: of what the input had left it read
 -- some bytes, and from the wiki `first` on it stepped lines that are known from those.
@@ -35,6 +34,11 @@ pub record StepsInput (first : State) (left : Option (List ℕ)) (outcome : Outc
   pub read_fault : outcome ≡ ReadFault → AreReadLines read lines
   -- The input was too large only where more than `MAX_INPUT` bytes of it were read.
   pub too_large : outcome ≡ TooMuch → MAX_INPUT < length read
+
+-- the same, with the state in which it leaves the wiki where it is done
+pub record StepsInputTo (first : State) (left : Option (List ℕ)) (outcome : Outcome) (left_after : Option (List ℕ)) (last : State) : Type 0 where
+  pub steps : StepsInput first left outcome left_after
+  pub last_is : outcome ≡ Done → steps.last ≡ last
 
 -- all turns but the last
 abbrev pub but_last : List (Exchange Request Reply) → List (Exchange Request Reply)

@@ -90,16 +90,16 @@ no_half : (b : Bool) (head : Head) → begun.Head head ≡ (if b then begun.Wait
 no_half true head h = cc
 no_half false head h = cc
 
-begins_on_by : (bytes more : List ℕ) (head : Head) → Begins bytes (begun.Head head) → Begins (bytes ++ more) (begun.Head head)
-begins_on_by bytes more head (inl refuses) = cc
-begins_on_by bytes more head (inr (inl half)) = absurd (no_half (nat_lt (length bytes) MOST_HEAD) head half.1)
-begins_on_by bytes more head (inr (inr whole)) =
+pub begins_on : (bytes more : List ℕ) (head : Head) → Begins bytes (begun.Head head) → Begins (bytes ++ more) (begun.Head head)
+begins_on bytes more head (inl refuses) = cc
+begins_on bytes more head (inr (inl half)) = absurd (no_half (nat_lt (length bytes) MOST_HEAD) head half.1)
+begins_on bytes more head (inr (inr whole)) =
     let h = whole.0 in
     inr (inr (h, ((whole.1.0.0, prefix_stays MOST_HEAD bytes more (print_request h) _ whole.1.0.1), whole.1.1), whole.2))
 
 -- with a head that was read before, the bytes of a connection are what they are without
 pub sees_on : (bytes more : List ℕ) (head : Head) → Begins bytes (begun.Head head) → Sees (bytes ++ more) (seen_after head (bytes ++ more))
-sees_on bytes more head begins = (begun.Head head, begins_on_by bytes more head begins, refl)
+sees_on bytes more head begins = (begun.Head head, begins_on bytes more head begins, refl)
 
 pub sees_same : (before more bytes : List ℕ) (head : Head) (seen : Seen) → Begins before (begun.Head head) → bytes ≡ before ++ more → seen ≡ seen_after head bytes → Sees bytes seen
 sees_same before more bytes head seen begins is told =

@@ -14,4 +14,5 @@ mod seen;
 pub use front::Front;
 pub use goals::{Goal, InSession, OnArticle, Verb};
 pub use limits::{MOST_BODY, MOST_FIELDS, MOST_HEAD};
+pub use numbers::number_of;
 pub use seen::{Begun, Head, Seen, Then};

@@ -1,7 +1,9 @@
 // The lines of requests and replies.
-ghost use Rattle.std.specs.Prelude.{◌≡◌, ℕ, List, IfOk};
+ghost use Rattle.std.specs.Prelude.{◌≡◌, IfOk, codes};
+ghost use Rattle.serde_json.specs.Data.{boolean, string, number, unsigned, array, object, no_members, member};
 ghost use Rattle.serde_json.specs.View.{view};
 ghost use Rattle.wire_json.specs.Replies.{reply_value, done_value, tokens_value, reply_line, bad_request_value, bad_request_line};
+ghost use Rattle.wire_json.specs.Values.{menu_value, sentences_items};
 ghost use Rattle.wire_json.specs.Requests.{request_value, request_line, place_value, session_value};
 
 use crate::line::line_of;
@@ -112,14 +114,16 @@ fn read_reply_value(
     revision: u32,
     sentences: &[SentenceView],
 ) -> Result<Value, Memory>
-    ensures { IfOk result (λ value. (form : List ℕ) → view value ≡ reply_value (Reply.Read form revision sentences.now)) }
+    ensures { IfOk result (λ value. view value ≡ object (member (codes "done") (string (codes "read"))
+        (member (codes "revision") (number (unsigned revision)) (member (codes "sentences") (array (sentences_items sentences.now)) no_members)))) }
 {
     let sentences = sentences_value(alloc, sentences)?;
     Ok(json!(in alloc; {"done": "read", "revision": revision, "sentences": sentences})?)
 }
 
 fn menu_reply_value(alloc: Global, menu: &MenuView, whole: bool) -> Result<Value, Memory>
-    ensures { IfOk result (λ value. (shown : List ℕ) → view value ≡ reply_value (Reply.Menu menu.now whole shown)) }
+    ensures { IfOk result (λ value. view value ≡ object (member (codes "done") (string (codes "menu"))
+        (member (codes "menu") (menu_value menu.now) (member (codes "whole") (boolean whole) no_members)))) }
 {
     let menu = menu_value(alloc, menu)?;
     Ok(json!(in alloc; {"done": "menu", "menu": menu, "whole": whole})?)
@@ -156,15 +160,9 @@ fn request_value(alloc: Global, request: &Request) -> Result<Value, Memory>
         Request::Remove { article, at } => place_value(alloc, "remove", article, *at),
         Request::Retract { article, at } => place_value(alloc, "retract", article, *at),
         Request::Reassert { article, at } => place_value(alloc, "reassert", article, *at),
-        Request::Read { article } => {
-            let article = article.as_str();
-            Ok(json!(in alloc; {"article": article, "do": "read"})?)
-        }
+        Request::Read { article } => article_value(alloc, "read", article),
         Request::Axioms { article, at } => place_value(alloc, "axioms", article, *at),
-        Request::Begin { article } => {
-            let article = article.as_str();
-            Ok(json!(in alloc; {"article": article, "do": "open"})?)
-        }
+        Request::Begin { article } => article_value(alloc, "open", article),
         Request::Put { session, text } => type_request_value(alloc, *session, text),
         Request::Back { session } => session_value(alloc, "back", *session),
         Request::Menu { session } => session_value(alloc, "menu", *session),
@@ -231,6 +229,14 @@ fn session_value(alloc: Global, name: &str, session: u32) -> Result<Value, Memor
     ensures { IfOk result (λ value. view value ≡ session_value name.now session) }
 {
     Ok(json!(in alloc; {"do": name, "session": session})?)
+}
+
+// The line of a request for an article.
+fn article_value(alloc: Global, name: &str, article: &Text8) -> Result<Value, Memory>
+    ensures { IfOk result (λ value. view value ≡ object (member (codes "article") (string article.now) (member (codes "do") (string name.now) no_members))) }
+{
+    let article = article.as_str();
+    Ok(json!(in alloc; {"article": article, "do": name})?)
 }
 
 // The line of a request for a place.

@@ -2,4 +2,5 @@ pub mod AddLemmas
 pub mod AroundLemmas
 pub mod ChangeLemmas
 pub mod KeepingLemmas
+pub mod ReadLemmas
 pub mod UnwordLemmas

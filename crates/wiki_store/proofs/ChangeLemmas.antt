@@ -27,6 +27,7 @@ use Rattle.wiki_parts.specs.Holding.{FitsMeaning}
 use Rattle.wiki_parts.specs.Kept.{meanings_in, known_in, known_around, IsAround, MeanEach, MeanInEach, IsKeeping}
 use Rattle.wiki_parts.specs.Knowledge.{sentences_in}
 use Rattle.wiki_parts.specs.Meanings.{Meaning, stating, outside, asking, asking_outside, Means}
+use Rattle.wiki_parts.specs.Places.{word_named, sentence_named}
 use Rattle.wiki_parts.specs.Refusing.{may_retract}
 use Rattle.wiki_parts.specs.State.{State, IsSound}
 use Rattle.wiki_store.proofs.KeepingLemmas.{all_parts, as_many_lists}
@@ -260,3 +261,10 @@ module _ (state : State) (senses : List (List Sense)) (model : CheckedModel) (ke
       marked None here may = absurd may
       marked (Some s) here may =
           mean_of-marked state.grammar state.words statuses.Retracted around.article.sentences (meanings_in around.own) at s own-mean here (λ m fits. retracted-fits s.status m may fits)
+
+-- a sentence that may be retracted, by the word of its article
+pub may-there : (state : State) (form : List ℕ) (at : ℕ) (word : WordId) (s : Sentence) → word_named state form ≡ Some word → sentence_named state form at ≡ Some s → may_retract s.status ≡ true
+    → IsSomeAnd (sentence_at state.articles word at) (λ sentence. may_retract sentence.status ≡ true)
+may-there state form at word s named here may =
+    let there : sentence_at state.articles word at ≡ Some s = sym (ap (option_and_then (λ (w : WordId). sentence_at state.articles w at)) named) ∙ here in
+    subst (λ (o : Option Sentence). IsSomeAnd o (λ sentence. may_retract sentence.status ≡ true)) (sym there) may

@@ -2,3 +2,5 @@ pub mod AddLemmas
 pub mod AroundLemmas
 pub mod KeepingLemmas
 pub mod UnwordLemmas
+pub mod PassedLemmas
+pub mod OtherWords

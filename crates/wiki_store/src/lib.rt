@@ -3,6 +3,7 @@
 
 mod adding;
 mod causes;
+mod reading;
 mod removing;
 mod store;
 mod telling;

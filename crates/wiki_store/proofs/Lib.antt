@@ -5,3 +5,5 @@ pub mod KeepingLemmas
 pub mod UnwordLemmas
 pub mod PassedLemmas
 pub mod OtherWords
+pub mod SameMeanings
+pub mod WordKeeping

@@ -4,3 +4,9 @@ pub mod ChangeLemmas
 pub mod KeepingLemmas
 pub mod ReadLemmas
 pub mod UnwordLemmas
+pub mod PassedLemmas
+pub mod OtherWords
+pub mod SameMeanings
+pub mod WordKeeping
+pub mod FindLemmas
+pub mod RewordLemmas

@@ -1,2 +1,4 @@
 pub mod Spending
 pub mod Step
+pub mod Rewording
+pub mod Sameness

@@ -3,11 +3,15 @@
 
 mod adding;
 mod causes;
+mod lending;
 mod reading;
 mod removing;
+mod rewording;
+mod sameness;
 mod store;
 mod telling;
 #[cfg(test)]
 mod tests;
+mod unwording;
 
 pub use store::Store;

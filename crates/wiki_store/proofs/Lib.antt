@@ -1,6 +1,7 @@
 pub mod AddLemmas
 pub mod AroundLemmas
 pub mod ChangeLemmas
+pub mod JudgeLemmas
 pub mod KeepingLemmas
 pub mod ReadLemmas
 pub mod UnwordLemmas

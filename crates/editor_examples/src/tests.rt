@@ -40,20 +40,21 @@ fn typed(
     }
 }
 
-// Types the texts, each of which is offered.
+// Types the texts, each of which is offered or none.
 fn type_all(
     rt: &impl Abort,
     editor: &mut Editor,
     grammar: &CheckedGrammar,
     lexicon: &Lexicon,
     texts: &[&str],
+    offered: bool,
 ) -> Result<(), Fail>
     requires { editor.old ≡ setting_of grammar.now lexicon.now editor.old.tokens }
     ensures { OnOk result (editor.new ≡ setting_of grammar.now lexicon.now editor.new.tokens) }
 {
     for text in texts {
-        let offered = typed(rt, editor, grammar, lexicon, text)?;
-        assert!(rt; offered, "{text}");
+        let yes = typed(rt, editor, grammar, lexicon, text)?;
+        assert!(rt; yes == offered, "{text}");
     }
     Ok(())
 }
@@ -85,21 +86,25 @@ fn a_first_token_may_be_raised(rt: HostRuntime) -> Result<(), Fail> {
     let grammar = built_in(alloc)?;
     let lexicon = four_words(alloc, &grammar)?;
     let mut editor = started(alloc, &grammar, &lexicon)?;
-    for text in ["", "a cat", "cat", "EVERY", "It"] {
-        assert!(rt;
-            !typed(&rt, &mut editor, &grammar, &lexicon, text)?,
-            "{text}"
-        );
-    }
+    let refused = ["", "a cat", "cat", "EVERY", "It"];
+    type_all(&rt, &mut editor, &grammar, &lexicon, &refused, false)?;
     type_all(
         &rt,
         &mut editor,
         &grammar,
         &lexicon,
         &["Every", "cat", "sees"],
+        true,
     )?;
-    assert!(rt; !typed(&rt, &mut editor, &grammar, &lexicon, "A")?);
-    type_all(&rt, &mut editor, &grammar, &lexicon, &["a", "dog", "."])?;
+    type_all(&rt, &mut editor, &grammar, &lexicon, &["A"], false)?;
+    type_all(
+        &rt,
+        &mut editor,
+        &grammar,
+        &lexicon,
+        &["a", "dog", "."],
+        true,
+    )?;
     assert_eq!(rt; editor.tokens().len(), 6);
     assert!(rt; editor.complete());
     assert!(rt; editor.back());
@@ -115,13 +120,13 @@ fn references_are_offered_where_they_find_something(rt: HostRuntime) -> Result<(
     let grammar = built_in(alloc)?;
     let lexicon = four_words(alloc, &grammar)?;
     let mut editor = started(alloc, &grammar, &lexicon)?;
-    type_all(&rt, &mut editor, &grammar, &lexicon, &["Mary"])?;
+    type_all(&rt, &mut editor, &grammar, &lexicon, &["Mary"], true)?;
     let menu = editor.menu(&grammar, &lexicon)?;
     assert_eq!(rt;
         listed(alloc, &menu)?.as_str(),
         "function: does is verb: sees "
     );
-    type_all(&rt, &mut editor, &grammar, &lexicon, &["sees"])?;
+    type_all(&rt, &mut editor, &grammar, &lexicon, &["sees"], true)?;
     let menu = editor.menu(&grammar, &lexicon)?;
     assert_eq!(rt;
         listed(alloc, &menu)?.as_str(),
@@ -140,7 +145,7 @@ fn a_closed_scope_is_left_out(rt: HostRuntime) -> Result<(), Fail> {
         "If", "Mary", "sees", "a", "cat", "then", "Mary", "sees", "every", "dog", "and", "sees",
         "the",
     ];
-    type_all(&rt, &mut editor, &grammar, &lexicon, &texts)?;
+    type_all(&rt, &mut editor, &grammar, &lexicon, &texts, true)?;
     let menu = editor.menu(&grammar, &lexicon)?;
     assert_eq!(rt; listed(alloc, &menu)?.as_str(), "noun: cat ");
     Ok(())
@@ -153,7 +158,7 @@ fn the_longest_typeable_prefix_stays(rt: HostRuntime) -> Result<(), Fail> {
     let mut lexicon = four_words(alloc, &grammar)?;
     let mut editor = started(alloc, &grammar, &lexicon)?;
     let texts = ["If", "Mary", "sees", "a", "cat", "then", "Mary"];
-    type_all(&rt, &mut editor, &grammar, &lexicon, &texts)?;
+    type_all(&rt, &mut editor, &grammar, &lexicon, &texts, true)?;
     let (mut same, left_out) = editor.rebase(&grammar, &lexicon)?;
     assert_eq!(rt; left_out, 0);
     assert_eq!(rt; same.tokens().len(), 7);

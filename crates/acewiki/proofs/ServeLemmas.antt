@@ -34,7 +34,7 @@ pub StepsInput-none : (start : State) (left : Option (List ℕ)) → StepsInput 
 StepsInput-none start left = (Replays-none start left None).input
 
 -- what was read up to the end of the input is all of it
-read_all : (bytes read : List ℕ) (left : Option (List ℕ)) → Consumes (Some bytes) left read → IsAtEnd left → read ≡ bytes
+pub read_all : (bytes read : List ℕ) (left : Option (List ℕ)) → Consumes (Some bytes) left read → IsAtEnd left → read ≡ bytes
 read_all bytes read None consumes at_end = absurd consumes
 read_all bytes read (Some rest) consumes at_end = sym (append-nil read) ∙ ap (λ bs. read ++ bs) (sym at_end) ∙ sym consumes
 

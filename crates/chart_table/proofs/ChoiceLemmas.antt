@@ -1,9 +1,9 @@
 -- An instance gives each variable one of its choices, and is what it gives to the rule's variables.
-use Rattle.std.proofs.Common.{◌≡◌, ℕ, suc, zero, ◌+◌, ◌-◌, ◌<◌, ◌≤◌, List, [], ◌∷◌, ◌++◌, Bool, true, false, ◌&&◌, ◌||◌, map, filter, length, drop, Option, Some, None, refl, sym, ap, ◌∙◌, subst, arith, cond, ◌⊎◌, inl, inr, append_assoc, rules, nat_lt, nat_le, add-zero, add-one, length-append, length-drop}
+use Rattle.std.proofs.Common.{◌≡◌, ℕ, suc, zero, ◌+◌, ◌-◌, ◌<◌, ◌≤◌, List, [], ◌∷◌, ◌++◌, Bool, true, false, ◌&&◌, ◌||◌, map, filter, length, drop, Option, Some, None, refl, sym, ap, ◌∙◌, subst, arith, cond, ◌⊎◌, inl, inr, append_assoc, nat_lt, nat_le, length-append, length-drop}
 use Rattle.std.proofs.lemmas.List.{length-map}
 use Rattle.std.proofs.Math.Seq.{drop-nil}
-use Rattle.std.specs.Prelude.{if◌then◌else◌, ◌==◌, not, option_map, unwrap_or, slice_get}
-use Rattle.std.specs.List.{list_any, list_all, filter_map, flat_map, cons_option, range_with_len}
+use Rattle.std.specs.Prelude.{if◌then◌else◌, ◌==◌, not, unwrap_or, slice_get}
+use Rattle.std.specs.List.{list_any, list_all, flat_map, range_with_len}
 use Rattle.std.proofs.lemmas.Bool.Decides.{nat_tests}
 use Rattle.codeco_terms.specs.declared.values.Value.{Value}
 use Rattle.codeco_terms.specs.declared.values.Value.TheVariants.{Atom, Word, Pos}
@@ -17,19 +17,18 @@ use Rattle.codeco_terms.specs.declared.declarations.Declared.TheVariants as decl
 use Rattle.codeco_terms.specs.declared.elements.Element.{Element}
 use Rattle.codeco_terms.specs.declared.elements.Element.TheVariants.{Terminal, Preterminal, Sub, Position, Opener, Forward, Strong, Back, NoBack}
 use Rattle.codeco_terms.specs.declared.rules.Rule.{Rule}
-use Rattle.codeco_terms.specs.Values.{same_value}
 use Rattle.codeco_checked.specs.Numbering.{has}
 use Rattle.codeco_checked.specs.Faults.{values_of}
 use Rattle.codeco_checked.specs.Occurrences.{positions, mentions, whole, with_taken, rule_features, rule_variables, category_variables, element_variables, term_variables}
 use Rattle.scopes.specs.Resolution.{has_value}
 use Rattle.derivation_trees.specs.Settings.{Setting, has_word, is_value, fits_feature}
-use Rattle.derivation_trees.specs.Instances.{looked_up, value_under, term_value, same_numbers, term_fits, own_fit, own_values, written_variables, variables_of, rule_own_features, is_instance}
+use Rattle.derivation_trees.specs.Instances.{looked_up, value_under, same_numbers, term_fits, own_fit, own_values, written_variables, variables_of, rule_own_features, is_instance}
 use Rattle.derivation_trees.specs.Derives.{first_value}
-use Rattle.derivation_trees.proofs.OccurrenceLemmas.{all_append, with_taken_all, with_taken_has, has_append, has_flat_map_cons}
+use Rattle.derivation_trees.proofs.OccurrenceLemmas.{all_append, with_taken_all, has_append, has_flat_map_cons}
 use Rattle.chart_table.specs.Branches.{OneOf, values_at, marked}
-use Rattle.chart_table.specs.Choices.{pattern_terms, element_terms, terms_of, stands_for, first_feature, words_of, all_positions, declared_values, feature_values, atom_value, own_choices, variable_choices, choices, choices_in}
-use Rattle.chart_table.proofs.PassLemmas.{both_true, and_both, same_value_is, same_number}
-use Rattle.chart_table.proofs.BranchLemmas.{Binds, either, Chosen, values_at_to, number_is}
+use Rattle.chart_table.specs.Choices.{pattern_terms, element_terms, terms_of, stands_for, first_feature, words_of, all_positions, declared_values, feature_values, atom_value, own_choices, variable_choices, choices_in}
+use Rattle.chart_table.proofs.PassLemmas.{both_true, same_number}
+use Rattle.chart_table.proofs.BranchLemmas.{Binds, Chosen, values_at_to, number_is}
 use Rattle.chart_table.specs.Ends.{OwnFrom, values_of_all}
 
 -- values of features

@@ -9,18 +9,17 @@ use Rattle.codeco_terms.specs.declared.elements.Element.{Element}
 use Rattle.codeco_terms.specs.declared.rules.Rule.{Rule}
 use Rattle.scopes.specs.declared.entries.Entry.{Entry}
 use Rattle.scopes.specs.declared.tests.Test.{Test}
-use Rattle.derivation_trees.specs.Trees.{Node, Nodes}
+use Rattle.derivation_trees.specs.Trees.{Nodes}
 use Rattle.derivation_trees.specs.Settings.{Setting}
 use Rattle.derivation_trees.specs.Instances.{under, feats_under, own_values, own_features, is_instance}
-use Rattle.derivation_trees.specs.Derives.{At, Stand, Phrase, run, begun, rule_with, fits, phrases_of, is_none_left}
+use Rattle.derivation_trees.specs.Derives.{At, Stand, run, begun, rule_with, fits, phrases_of, is_none_left}
 use Rattle.derivation_trees.specs.Partial.{CutNode, stopped, entered, used_up, front, next_category, front_of, cut_end}
 use Rattle.chart_table.specs.declared.states.State.{State}
 use Rattle.chart_table.specs.Leading.{Path, ElementLeads, own_past, referents}
-use Rattle.chart_table.specs.Branches.{OneOf, Extends}
 use Rattle.chart_table.specs.Steps.{at_of, Covers}
 use Rattle.chart_table.specs.declared.states.End.{End}
-use Rattle.chart_table.specs.Ends.{CoversPath, LeadsFrom, AreSteps, Agrees, end_head}
-use Rattle.chart_table.specs.Cuts.{CutLeads, RuleCut, AreCuts, own_after, Stops, AreAfter, IsRuleCut, IsCutOf, HasRuleCuts, HasCutsUpTo}
+use Rattle.chart_table.specs.Ends.{CoversPath, LeadsFrom, AreSteps}
+use Rattle.chart_table.specs.Cuts.{CutLeads, RuleCut, AreCuts, own_after, AreAfter, HasCutsUpTo}
 use Rattle.chart_table.proofs.BranchLemmas.{Binds}
 use Rattle.chart_table.proofs.EndLemmas.{drop_further, own_at, fits_name, agrees_known}
 use Rattle.chart_table.proofs.PassLemmas.{if_some, if_true, both_true, and_both, stand_at, run_path, path_runs}

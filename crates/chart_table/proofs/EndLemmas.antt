@@ -1,7 +1,7 @@
 -- The ends of categories, by the ends of rules, and the states after a category, by its ends.
-use Rattle.std.proofs.Common.{◌≡◌, ℕ, suc, zero, ◌+◌, ◌-◌, ◌<◌, ◌≤◌, List, [], ◌∷◌, ◌++◌, Bool, true, false, ◌&&◌, ◌||◌, map, length, drop, Option, Some, None, refl, sym, ap, ◌∙◌, subst, arith, ◌⊎◌, inl, inr, append_assoc, nat_lt}
+use Rattle.std.proofs.Common.{◌≡◌, ℕ, suc, zero, ◌+◌, ◌-◌, ◌<◌, ◌≤◌, List, [], ◌∷◌, ◌++◌, Bool, true, false, ◌&&◌, ◌||◌, length, drop, Option, Some, None, refl, sym, ap, ◌∙◌, subst, arith, ◌⊎◌, inl, inr, append_assoc, nat_lt}
 use Rattle.std.specs.Prelude.{if◌then◌else◌, ◌==◌, not, option_map, unwrap_or, slice_get}
-use Rattle.std.specs.List.{list_any, list_all, filter_map, cons_option, flat_map}
+use Rattle.std.specs.List.{list_all, cons_option, flat_map}
 use Rattle.std.proofs.lemmas.Bool.Decides.{nat_tests}
 use Rattle.std.proofs.lemmas.Option.{same_Some}
 use Rattle.codeco_terms.specs.declared.values.Value.{Value}
@@ -18,18 +18,18 @@ use Rattle.scopes.specs.declared.entries.Entry.TheVariants as entry
 use Rattle.scopes.specs.declared.tests.Test.{Test}
 use Rattle.scopes.specs.AccessList.{closed, introduced}
 use Rattle.derivation_trees.specs.Settings.{Setting}
-use Rattle.derivation_trees.specs.Instances.{looked_up, value_under, term_value, under, feats_under, is_instance, own_values, own_features, variables_of}
+use Rattle.derivation_trees.specs.Instances.{value_under, term_value, under, feats_under, is_instance, own_values, own_features, variables_of}
 use Rattle.derivation_trees.specs.Derives.{At, fits, same_where_both, rule_with, list_after, referent}
 use Rattle.chart_table.specs.declared.states.State.{State}
 use Rattle.chart_table.specs.declared.states.End.{End}
-use Rattle.chart_table.specs.Leading.{Leads, ElementLeads, Path, RuleLeads, own_past, closed_at, referents, moved_on, entered}
-use Rattle.chart_table.specs.Branches.{OneOf, Extends, AnyExtends, meeting, closing, known_value, known_feature, known_features}
+use Rattle.chart_table.specs.Leading.{Leads, ElementLeads, Path, own_past, closed_at, referents}
+use Rattle.chart_table.specs.Branches.{OneOf, Extends, AnyExtends, meeting, closing, known_value, known_features}
 use Rattle.chart_table.specs.Steps.{at_of, Covers, placed, sub_steps, starting, plain_steps}
 use Rattle.chart_table.specs.Choices.{choices_in}
-use Rattle.chart_table.specs.Ends.{end_at, end_head, IsEnds, left_of, EndsAt, Agrees, IsRuleEnd, HasRuleEnds, IsEndOf, HasEndsTo, CoversPath, LeadsFrom, values_of_all, as_terms, has_values, end_with, finished_one, finished, HasMore, OwnFrom, IsStep, AreSteps, AreReached, AreLast, HasFinished, HasEndsOfRule, HasEndsUpTo}
-use Rattle.chart_table.proofs.PassLemmas.{both_true, and_both, same_value_is, same_value-refl, same_number, if_some, SomeRule, rule_of_leads, leads_of_rule}
+use Rattle.chart_table.specs.Ends.{end_at, end_head, IsEnds, left_of, EndsAt, Agrees, HasRuleEnds, IsEndOf, HasEndsTo, CoversPath, LeadsFrom, values_of_all, as_terms, has_values, end_with, finished_one, finished, HasMore, OwnFrom, IsStep, AreSteps, AreReached, AreLast, HasFinished, HasEndsOfRule, HasEndsUpTo}
+use Rattle.chart_table.proofs.PassLemmas.{both_true, and_both, same_value_is, same_value-refl, same_number, rule_of_leads, leads_of_rule}
 use Rattle.chart_table.proofs.OpenerLemmas.{leads_alike, referents-twice}
-use Rattle.chart_table.proofs.BranchLemmas.{Binds, either, Each, KnownAll, Known, closing_known, closing_to, closing_from, Chosen, meeting_to, meeting_from, single, extends_lookup, number_is, known_same}
+use Rattle.chart_table.proofs.BranchLemmas.{Binds, either, Each, KnownAll, closing_known, closing_to, closing_from, meeting_to, meeting_from, single, number_is, known_same}
 use Rattle.derivation_trees.specs.Stands.{is_sub}
 use Rattle.std.proofs.Math.Seq.{drop-nil}
 use Rattle.chart_table.proofs.StepLemmas.{covers_left, covers_right, covers_append, placed_to, placed_from, plain_to, plain_from}
@@ -149,7 +149,7 @@ slice_below [] i x h = absurd (cc)
 slice_below (y ∷ ys) zero x h = omega arith
 slice_below (y ∷ ys) (suc i) x h = let lt = slice_below ys i x h in omega arith
 
-rule_number : (s : Setting) (number : ℕ) (rule : Rule) → rule_with s.grammar number ≡ Some rule → number ≤ length s.grammar.rules
+pub rule_number : (s : Setting) (number : ℕ) (rule : Rule) → rule_with s.grammar number ≡ Some rule → number ≤ length s.grammar.rules
 rule_number s zero rule h = omega arith
 rule_number s (suc n) rule h = by_none (suc n == 0) refl h
   where
@@ -359,7 +359,7 @@ starts_from s rule v known place list last h =
     let at = placed_from v place list r.0 (meeting known rule.head.feats ([] ∷ [])) r.1 in
     subst (λ a. Path s v (own_values rule v) rule.body a last) at.1 r.2
 
-starts_to : (s : Setting) (rule : Rule) (v : Binds) (known : Binds) (place : ℕ) (list : List Entry) (last : At) → Agrees known rule v → Path s v (own_values rule v) rule.body (record { place = place; list = list }) last → CoversPath s v (own_values rule v) rule.body last (starting known rule.head.feats place list)
+pub starts_to : (s : Setting) (rule : Rule) (v : Binds) (known : Binds) (place : ℕ) (list : List Entry) (last : At) → Agrees known rule v → Path s v (own_values rule v) rule.body (record { place = place; list = list }) last → CoversPath s v (own_values rule v) rule.body last (starting known rule.head.feats place list)
 starts_to s rule v known place list last agrees path =
     path_to s v (own_values rule v) rule.body last (record { place = place; list = list }) (starting known rule.head.feats place list) (placed_to v place list (record { place = place; list = list }) (meeting known rule.head.feats ([] ∷ [])) (meeting_to v known rule.head.feats ([] ∷ []) (inl tt) agrees) refl) path
 

@@ -1,33 +1,32 @@
 -- What is cut off in the states of a rule, and in all rules.
-use Rattle.std.proofs.Common.{◌≡◌, ℕ, suc, zero, ◌+◌, ◌-◌, ◌<◌, ◌≤◌, get_or, List, [], ◌∷◌, ◌++◌, Bool, true, false, ◌&&◌, length, take, drop, Option, Some, None, refl, sym, ap, ◌∙◌, subst, arith, ◌⊎◌, inl, inr, nat_lt, nat_eq}
-use Rattle.std.specs.Prelude.{if◌then◌else◌, ◌==◌, option_and_then, option_map, slice_get}
+use Rattle.std.proofs.Common.{◌≡◌, ℕ, suc, zero, ◌+◌, ◌-◌, ◌<◌, ◌≤◌, get_or, List, [], ◌∷◌, ◌++◌, Bool, true, false, length, take, drop, Option, Some, None, refl, sym, ap, ◌∙◌, subst, arith, ◌⊎◌, inl, inr, nat_lt, nat_eq}
+use Rattle.std.specs.Prelude.{◌==◌, option_and_then, slice_get}
 use Rattle.std.specs.List.{list_all}
 use Rattle.std.proofs.lemmas.Bool.Decides.{nat_tests}
 use Rattle.std.proofs.lemmas.Option.{same_Some, slice_get-get_or}
 use Rattle.std.proofs.lemmas.List.{take_more}
-use Rattle.codeco_terms.specs.declared.values.Value.{Value}
 use Rattle.codeco_terms.specs.declared.categories.Category.{Category}
 use Rattle.codeco_terms.specs.declared.elements.Element.{Element}
 use Rattle.codeco_terms.specs.declared.elements.Element.TheVariants.{Sub}
 use Rattle.codeco_terms.specs.declared.rules.Rule.{Rule}
 use Rattle.scopes.specs.declared.entries.Entry.{Entry}
 use Rattle.derivation_trees.specs.Settings.{Setting}
-use Rattle.derivation_trees.specs.Instances.{under, feats_under, own_values, own_features, is_instance}
+use Rattle.derivation_trees.specs.Instances.{under, feats_under, own_values, is_instance}
 use Rattle.derivation_trees.specs.Derives.{At, rule_with, same_where_both}
-use Rattle.derivation_trees.specs.Partial.{next_category, sub_of}
+use Rattle.derivation_trees.specs.Partial.{sub_of}
 use Rattle.chart_table.specs.declared.states.State.{State}
 use Rattle.chart_table.specs.declared.states.End.{End}
 use Rattle.chart_table.specs.Leading.{Path, referents}
 use Rattle.chart_table.specs.Branches.{OneOf, Extends, known_features, meeting}
 use Rattle.chart_table.specs.Steps.{at_of, Covers, sub_steps, starting}
-use Rattle.chart_table.specs.Ends.{CoversPath, Agrees, AreSteps, AreLast, HasMore, finished, end_with, end_head}
-use Rattle.chart_table.specs.Cuts.{CutLeads, Stops, AreCuts, AreAfter, AreAllAfter, Among, IsExtended, Halts, Enters, CutBefore, HasHeads, IsRuleCut, HasRuleCuts, HasCutsOfRule, HasCutsIfNamed, IsCutOf, HasCutsUpTo}
+use Rattle.chart_table.specs.Ends.{CoversPath, Agrees, AreLast, HasMore, finished, end_with}
+use Rattle.chart_table.specs.Cuts.{CutLeads, Stops, AreCuts, AreAfter, AreAllAfter, Among, IsExtended, Halts, Enters, CutBefore, HasHeads, HasRuleCuts, HasCutsOfRule, HasCutsIfNamed, HasCutsUpTo}
 use Rattle.chart_table.proofs.PassLemmas.{and_both, same_number}
-use Rattle.chart_table.proofs.BranchLemmas.{Binds, either, meeting_to, meeting_from}
+use Rattle.chart_table.proofs.BranchLemmas.{Binds, either, meeting_to}
 use Rattle.chart_table.proofs.OpenerLemmas.{referents-twice}
 use Rattle.chart_table.proofs.StepLemmas.{placed_to, placed_from}
 use Rattle.chart_table.proofs.EndLemmas.{stripped, shows_finished, finished_shows, known_in_feats, fits_all, sub_covers, sub_from, path_to, path_from, rule_at, number_of}
-use Rattle.chart_table.proofs.CutLemmas.{cut_alike, after_none, after_more, covers_nil, nil_covers}
+use Rattle.chart_table.proofs.CutLemmas.{cut_alike, covers_nil, nil_covers}
 
 -- lists of heads
 

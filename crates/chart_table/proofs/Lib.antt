@@ -11,3 +11,4 @@ pub mod CycleLemmas
 pub mod SentenceLemmas
 pub mod CutLemmas
 pub mod HeadLemmas
+pub mod InstanceLemmas

@@ -1,12 +1,12 @@
 -- A phrase never looks at the openers of the list that it starts with: it takes a place and a list to that list followed by
 -- others exactly where it takes the place and the list without openers to this followed by the same others.
-use Rattle.std.proofs.Common.{◌≡◌, ℕ, suc, zero, ◌+◌, List, [], ◌∷◌, ◌++◌, Bool, true, false, ◌&&◌, ◌||◌, map, length, drop, Option, Some, None, refl, sym, ap, ◌∙◌, subst, arith, cond, append_assoc}
-use Rattle.std.specs.Prelude.{if◌then◌else◌, ◌==◌, not, option_and_then, slice_get}
+use Rattle.std.proofs.Common.{◌≡◌, ℕ, List, [], ◌∷◌, ◌++◌, Bool, true, false, ◌&&◌, ◌||◌, length, drop, Some, refl, sym, ap, ◌∙◌, subst, append_assoc}
+use Rattle.std.specs.Prelude.{if◌then◌else◌, option_and_then}
 use Rattle.std.specs.List.{list_any, filter_map, cons_option}
 use Rattle.std.proofs.lemmas.List.{append-nil}
 use Rattle.std.proofs.lemmas.Option.{option_and_then_some, same_Some}
 use Rattle.codeco_terms.specs.declared.values.Value.{Value}
-use Rattle.codeco_terms.specs.declared.values.Value.TheVariants.{Atom, Word, Pos}
+use Rattle.codeco_terms.specs.declared.values.Value.TheVariants.{Pos}
 use Rattle.codeco_terms.specs.declared.categories.Category.{Category}
 use Rattle.codeco_terms.specs.declared.categories.Pattern.{Pattern}
 use Rattle.codeco_terms.specs.declared.elements.Element.{Element}
@@ -18,13 +18,13 @@ use Rattle.scopes.specs.declared.entries.Entry.TheVariants as entry
 use Rattle.scopes.specs.declared.tests.Test.{Test}
 use Rattle.scopes.specs.declared.tests.Tests.{Tests}
 use Rattle.scopes.specs.AccessList.{closed, introduced}
-use Rattle.scopes.specs.Resolution.{Finding, finding, finding_at, is_agreeing, closest_finding, last_of}
+use Rattle.scopes.specs.Resolution.{finding, finding_at, is_agreeing, closest_finding, last_of}
 use Rattle.derivation_trees.specs.Trees.{Node, Nodes, node, none, more}
 use Rattle.derivation_trees.specs.Settings.{Setting, matches_terminal, matches_preterminal}
 use Rattle.derivation_trees.specs.Instances.{value_under, under, tests_under, is_instance, own_values}
-use Rattle.derivation_trees.specs.Derives.{At, Stand, Phrase, pass, run, pass_child, pass_token, pass_finding, is_found, moved, referent, own_rest, reference_tests, phrase_of, phrases_of, phrase, begun, ended, is_none_left, rule_with, fits, list_after}
+use Rattle.derivation_trees.specs.Derives.{At, Stand, Phrase, pass, run, pass_child, pass_finding, is_found, moved, referent, reference_tests, phrase_of, phrases_of, phrase, begun, ended, is_none_left, rule_with, fits, list_after}
 use Rattle.chart_table.specs.Leading.{Leads, referents}
-use Rattle.chart_table.proofs.PassLemmas.{if_some, unless_some, if_true, if_false, both_true}
+use Rattle.chart_table.proofs.PassLemmas.{if_some, unless_some, if_true, if_false}
 
 pub referents-append : (xs ys : List Entry) → referents (xs ++ ys) ≡ referents xs ++ referents ys
 referents-append [] ys = refl

@@ -1,5 +1,5 @@
 -- Elements of a tree, and where they lead.
-use Rattle.std.proofs.Common.{◌≡◌, ℕ, suc, zero, ◌+◌, ◌<◌, List, [], ◌∷◌, ◌++◌, Bool, true, false, ◌&&◌, ◌||◌, map, filter, length, drop, Option, Some, None, refl, sym, ap, ◌∙◌, subst, arith, cond}
+use Rattle.std.proofs.Common.{◌≡◌, ℕ, suc, zero, List, [], ◌∷◌, Bool, true, false, ◌&&◌, ◌||◌, map, filter, length, drop, Option, Some, None, refl, sym, ap, ◌∙◌, arith, cond}
 use Rattle.std.specs.Prelude.{if◌then◌else◌, ◌==◌, not, option_and_then, slice_get}
 use Rattle.std.specs.List.{list_any}
 use Rattle.std.proofs.lemmas.Bool.Decides.{nat_tests}
@@ -15,14 +15,13 @@ use Rattle.codeco_terms.specs.declared.rules.Rule.{Rule}
 use Rattle.codeco_terms.specs.Values.{same_value}
 use Rattle.codeco_checked.specs.Numbering.{has}
 use Rattle.scopes.specs.declared.entries.Entry.{Entry}
-use Rattle.scopes.specs.declared.entries.Entry.TheVariants as entry
 use Rattle.scopes.specs.declared.tests.Test.{Test}
 use Rattle.scopes.specs.Resolution.{Finding, is_agreeing, closest_finding}
-use Rattle.derivation_trees.specs.Trees.{Node, Nodes, node, none, more}
+use Rattle.derivation_trees.specs.Trees.{Nodes, node, none, more}
 use Rattle.derivation_trees.specs.Settings.{Setting, matches_terminal, matches_preterminal}
-use Rattle.derivation_trees.specs.Instances.{looked_up, value_under, under, tests_under, is_instance, own_values, own_features, left_out, features_of}
-use Rattle.derivation_trees.specs.Derives.{At, Stand, Phrase, pass, run, pass_child, pass_finding, is_found, takes, moved, own_after, own_rest, reference_tests, phrase_of, phrases_of, phrase, begun, ended, is_none_left, rule_with, fits, list_after}
-use Rattle.chart_table.specs.Leading.{Leads, ElementLeads, Path, RuleLeads, Finds, own_past, closed_at}
+use Rattle.derivation_trees.specs.Instances.{looked_up, value_under, under, tests_under, is_instance, own_values, features_of}
+use Rattle.derivation_trees.specs.Derives.{At, Stand, pass, run, pass_child, pass_finding, is_found, takes, own_after, own_rest, reference_tests, phrase_of, phrases_of, phrase, begun, ended, is_none_left, rule_with, fits}
+use Rattle.chart_table.specs.Leading.{Leads, ElementLeads, Path, RuleLeads, own_past, closed_at}
 
 -- what holds where a choice gives something
 pub if_some : {X P : Type 0} (b : Bool) (x y : X) → (if b then Some x else None) ≡ Some y → (b ≡ true → x ≡ y → P) → P

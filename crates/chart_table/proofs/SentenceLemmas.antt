@@ -1,5 +1,5 @@
 -- Sentences, by the ends of `text`.
-use Rattle.std.proofs.Common.{◌≡◌, ℕ, suc, zero, List, [], ◌∷◌, ◌++◌, Bool, true, false, ◌&&◌, ◌||◌, length, Option, Some, None, refl, sym, ap, ◌∙◌, subst, arith, ◌⊎◌, inl, inr, IsTrue, ◌↔◌}
+use Rattle.std.proofs.Common.{◌≡◌, ℕ, List, [], ◌∷◌, Bool, true, false, ◌||◌, length, Some, refl, sym, ap, ◌∙◌, subst, inl, inr, IsTrue, ◌↔◌}
 use Rattle.std.specs.Prelude.{◌==◌, not, slice_get}
 use Rattle.std.proofs.lemmas.Option.{same_Some}
 use Rattle.chart_table.specs.declared.table.Row.{Row}
@@ -7,15 +7,13 @@ use Rattle.chart_table.specs.Table.{HasRow}
 use Rattle.std.specs.List.{list_any, list_all}
 use Rattle.codeco_terms.specs.declared.values.Value.{Value}
 use Rattle.scopes.specs.declared.entries.Entry.{Entry}
-use Rattle.scopes.specs.declared.tests.Test.{Test}
 use Rattle.derivation_trees.specs.Trees.{Node}
 use Rattle.derivation_trees.specs.Settings.{Setting}
 use Rattle.derivation_trees.specs.Derives.{At, fits, same_where_both, text_category, IsDerivation}
 use Rattle.chart_table.specs.declared.states.End.{End}
-use Rattle.chart_table.specs.Leading.{Leads}
 use Rattle.chart_table.specs.Branches.{OneOf}
 use Rattle.derivation_trees.specs.Partial.{CutNode, IsPartialDerivation}
-use Rattle.chart_table.specs.Ends.{end_at, end_head, IsEnds}
+use Rattle.chart_table.specs.Ends.{end_head, IsEnds}
 use Rattle.chart_table.specs.Cuts.{AreCuts}
 use Rattle.chart_table.proofs.PassLemmas.{same_number}
 use Rattle.chart_table.proofs.BranchLemmas.{number_is}

@@ -1,23 +1,20 @@
 -- The states after an element cover exactly where the element leads.
-use Rattle.std.proofs.Common.{◌≡◌, ℕ, suc, zero, ◌+◌, List, [], ◌∷◌, ◌++◌, Bool, true, false, ◌&&◌, ◌||◌, map, filter, length, drop, Option, Some, None, refl, sym, ap, ◌∙◌, subst, arith, cond, ◌⊎◌, inl, inr, append_assoc, rules}
-use Rattle.std.specs.Prelude.{if◌then◌else◌, ◌==◌, not, option_map, unwrap_or, slice_get}
+use Rattle.std.proofs.Common.{◌≡◌, ℕ, suc, zero, ◌+◌, List, [], ◌∷◌, ◌++◌, Bool, true, false, ◌&&◌, ◌||◌, map, drop, Option, Some, None, refl, sym, ap, ◌∙◌, subst, arith, ◌⊎◌, inl, inr}
+use Rattle.std.specs.Prelude.{if◌then◌else◌, unwrap_or, slice_get}
 use Rattle.std.specs.Option.{option_map_or}
-use Rattle.std.specs.List.{list_any, list_all, filter_map, cons_option}
-use Rattle.std.proofs.lemmas.Bool.Decides.{nat_tests}
+use Rattle.std.specs.List.{list_any, list_all}
 use Rattle.codeco_terms.specs.declared.values.Value.{Value}
-use Rattle.codeco_terms.specs.declared.values.Value.TheVariants.{Atom, Word, Pos}
+use Rattle.codeco_terms.specs.declared.values.Value.TheVariants.{Pos}
 use Rattle.codeco_terms.specs.declared.values.Term.{Term}
-use Rattle.codeco_terms.specs.declared.values.Term.TheVariants.{Val, Var}
+use Rattle.codeco_terms.specs.declared.values.Term.TheVariants.{Var}
 use Rattle.codeco_terms.specs.declared.categories.Category.{Category}
 use Rattle.codeco_terms.specs.declared.categories.Pattern.{Pattern}
 use Rattle.codeco_terms.specs.declared.categories.Ground.{Ground}
 use Rattle.codeco_terms.specs.declared.elements.Element.{Element}
 use Rattle.codeco_terms.specs.declared.elements.Element.TheVariants.{Terminal, Preterminal, Sub, Position, Opener, Forward, Strong, Back, NoBack}
-use Rattle.codeco_terms.specs.Values.{same_value}
 use Rattle.scopes.specs.declared.entries.Entry.{Entry}
 use Rattle.scopes.specs.declared.entries.Entry.TheVariants as entry
 use Rattle.scopes.specs.declared.tests.Test.{Test}
-use Rattle.scopes.specs.declared.tests.Tests.{Tests}
 use Rattle.scopes.specs.AccessList.{introduced}
 use Rattle.scopes.specs.Resolution.{has_value, agrees, Finding, is_agreeing, closest_finding}
 use Rattle.derivation_trees.specs.Settings.{Setting, matches_terminal, matches_preterminal}
@@ -25,11 +22,10 @@ use Rattle.derivation_trees.specs.Instances.{looked_up, value_under, term_value,
 use Rattle.derivation_trees.specs.Derives.{At, referent, filled, filled_value, first_value, own_after, takes, reference_tests}
 use Rattle.derivation_trees.specs.Stands.{is_sub}
 use Rattle.chart_table.specs.declared.states.State.{State}
-use Rattle.chart_table.specs.Leading.{ElementLeads, Finds, moved_on, entered}
-use Rattle.chart_table.specs.Branches.{OneOf, Extends, AnyExtends, restricted, having, read_as, closing, closing_patterns, marked}
+use Rattle.chart_table.specs.Leading.{ElementLeads, Finds, entered}
+use Rattle.chart_table.specs.Branches.{OneOf, Extends, AnyExtends, restricted, read_as, closing, closing_patterns, marked}
 use Rattle.chart_table.specs.Steps.{at_of, Covers, placed, readings_at, read_all, completed_term, number_after, completed, introduced_state, introducing, taking, finding_binds, refer, refer_none, plain_steps}
 use Rattle.chart_table.specs.Ends.{OwnFrom}
-use Rattle.chart_table.proofs.PassLemmas.{both_true, and_both, same_value_is}
 use Rattle.chart_table.proofs.BranchLemmas.{Binds, either, any_left, any_right, any_append, restricted_to, restricted_from, having_to, having_from, read_to, read_from, Chosen, closing_to, closing_from, closing_patterns_to, closing_patterns_from, KnownAll, KnownPatterns, Each, closing_known, closing_patterns_known, closing_patterns_keeps, patterns_stay, each_both, feats_same, tests_same, single}
 
 pub covers_left : (v : Binds) (at : At) (xs ys : List State) → Covers v at xs → Covers v at (xs ++ ys)

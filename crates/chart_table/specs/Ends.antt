@@ -1,9 +1,9 @@
 -- Where the phrases of a category end, as a list of ends.
-use Rattle.std.specs.Prelude.{◌≡◌, ℕ, ◌+◌, ◌-◌, ◌≤◌, ◌==◌, ◌&&◌, flat_map, if◌then◌else◌, Bool, true, false, List, [], ◌∷◌, ◌++◌, length, map, drop, slice_get, Option, Some, None, ◌⊎◌}
+use Rattle.std.specs.Prelude.{◌≡◌, ℕ, ◌+◌, ◌-◌, ◌≤◌, ◌&&◌, flat_map, if◌then◌else◌, Bool, true, List, [], ◌∷◌, ◌++◌, length, map, drop, Some, ◌⊎◌}
 use Rattle.std.specs.List.{list_all}
 use Rattle.codeco_terms.specs.declared.values.Value.{Value}
 use Rattle.codeco_terms.specs.declared.values.Term.{Term}
-use Rattle.codeco_terms.specs.declared.values.Term.TheVariants.{Val, Var}
+use Rattle.codeco_terms.specs.declared.values.Term.TheVariants.{Var}
 use Rattle.codeco_terms.specs.declared.elements.Element.{Element}
 use Rattle.codeco_terms.specs.declared.rules.Rule.{Rule}
 use Rattle.scopes.specs.declared.entries.Entry.{Entry}
@@ -11,12 +11,12 @@ use Rattle.scopes.specs.declared.tests.Test.{Test}
 use Rattle.scopes.specs.AccessList.{closed}
 use Rattle.derivation_trees.specs.Settings.{Setting}
 use Rattle.codeco_terms.specs.Values.{same_value}
-use Rattle.derivation_trees.specs.Instances.{value_under, feats_under, own_values, is_instance, own_features, variables_of}
+use Rattle.derivation_trees.specs.Instances.{value_under, feats_under, own_values, is_instance, variables_of}
 use Rattle.derivation_trees.specs.Derives.{At, fits, same_where_both, rule_with, first_value}
 use Rattle.chart_table.specs.declared.states.State.{State}
 use Rattle.chart_table.specs.declared.states.End.{End}
-use Rattle.chart_table.specs.Leading.{Leads, ElementLeads, Path, RuleLeads, own_past, closed_at}
-use Rattle.chart_table.specs.Branches.{OneOf, Extends, closing, known_features, meeting}
+use Rattle.chart_table.specs.Leading.{Leads, ElementLeads, Path}
+use Rattle.chart_table.specs.Branches.{OneOf, Extends, closing}
 use Rattle.chart_table.specs.Choices.{choices_in}
 use Rattle.chart_table.specs.Steps.{at_of, Covers}
 

@@ -1,5 +1,5 @@
 -- Where phrases and elements lead, whatever tree shows it.
-use Rattle.std.specs.Prelude.{◌≡◌, ℕ, ◌+◌, Bool, true, false, List, [], ◌∷◌, ◌++◌, length, drop, slice_get, Option, Some, None}
+use Rattle.std.specs.Prelude.{◌≡◌, ℕ, ◌+◌, true, false, List, [], ◌∷◌, ◌++◌, length, drop, slice_get, Some}
 use Rattle.std.specs.List.{list_any}
 use Rattle.codeco_terms.specs.declared.values.Value.{Value}
 use Rattle.codeco_terms.specs.declared.values.Value.TheVariants.{Pos}
@@ -14,7 +14,7 @@ use Rattle.scopes.specs.Resolution.{Finding, is_agreeing, closest_finding}
 use Rattle.derivation_trees.specs.Trees.{Node}
 use Rattle.derivation_trees.specs.Settings.{Setting, matches_terminal, matches_preterminal}
 use Rattle.derivation_trees.specs.Instances.{value_under, under, tests_under, is_instance, own_values, own_features}
-use Rattle.derivation_trees.specs.Derives.{At, phrase_of, rule_with, fits, referent, takes, reference_tests, list_after}
+use Rattle.derivation_trees.specs.Derives.{At, phrase_of, fits, referent, takes, reference_tests, list_after}
 
 -- some tree leads, as a phrase for the category, from a place and a list to a place and a list
 abbrev pub Leads : Setting → Test → At → At → Type 0

@@ -5,3 +5,4 @@ pub mod Choices
 pub mod Ends
 pub mod Table
 pub mod Cuts
+pub mod Instances

@@ -1,10 +1,10 @@
 -- Where a node may stand after one more element, as a list of states.
-use Rattle.std.specs.Prelude.{◌≡◌, ℕ, ◌+◌, ◌==◌, if◌then◌else◌, Bool, true, false, List, [], ◌∷◌, ◌++◌, length, map, slice_get, Option, Some, None, ◌⊎◌, flat_map, unwrap_or}
+use Rattle.std.specs.Prelude.{◌≡◌, ℕ, ◌+◌, if◌then◌else◌, Bool, true, false, List, [], ◌∷◌, ◌++◌, map, slice_get, Option, Some, None, ◌⊎◌, flat_map, unwrap_or}
 use Rattle.std.specs.List.{list_any}
 use Rattle.codeco_terms.specs.declared.values.Value.{Value}
-use Rattle.codeco_terms.specs.declared.values.Value.TheVariants.{Atom, Word, Pos}
+use Rattle.codeco_terms.specs.declared.values.Value.TheVariants.{Pos}
 use Rattle.codeco_terms.specs.declared.values.Term.{Term}
-use Rattle.codeco_terms.specs.declared.values.Term.TheVariants.{Val, Var}
+use Rattle.codeco_terms.specs.declared.values.Term.TheVariants.{Var}
 use Rattle.codeco_terms.specs.declared.categories.Category.{Category}
 use Rattle.codeco_terms.specs.declared.categories.Pattern.{Pattern}
 use Rattle.codeco_terms.specs.declared.categories.Ground.{Ground}

@@ -34,7 +34,7 @@ fn variable_with(number: usize) -> Result<u8, Memory>
     }
 }
 
-fn as_terms(alloc: Global, numbers: &[usize]) -> Result<List<Feat>, Memory>
+pub(crate) fn as_terms(alloc: Global, numbers: &[usize]) -> Result<List<Feat>, Memory>
     ensures { IfOk result (λ terms. terms ≡ ending.as_terms numbers.now) }
 {
     let mut terms = List::new(alloc);
@@ -45,7 +45,7 @@ fn as_terms(alloc: Global, numbers: &[usize]) -> Result<List<Feat>, Memory>
 }
 
 // The values of all variables of a rule under an assignment.
-fn values_of_all(
+pub(crate) fn values_of_all(
     alloc: Global,
     bound: &[(u8, Value)],
     numbers: &[usize],
@@ -112,8 +112,8 @@ fn entries_from(alloc: Global, list: &Access, first: usize) -> Result<List<Entry
     Ok(entries)
 }
 
-// What is left of what a phrase of the rule has added to the list.
-fn tail_of(
+/// What is left of what a phrase of the rule has added to the list.
+pub fn tail_of(
     alloc: Global,
     rule: &Rule,
     before: &Access,

@@ -4,10 +4,16 @@
 mod branches;
 mod choices;
 mod ends;
+mod instances;
 mod sameness;
 mod sentences;
 mod states;
 mod steps;
 mod table;
 
+pub use ends::tail_of;
+pub use instances::leading_instances;
+pub use sameness::{same_entries, same_values};
 pub use sentences::{Standing, begins, has_derivation, standing_of};
+pub use steps::extended;
+pub use table::{Row, access_of, referents_of};

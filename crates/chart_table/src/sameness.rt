@@ -12,8 +12,8 @@ fn same_pair(one: (u16, Value), other: (u16, Value)) -> bool
     one.0 == other.0 && one.1 == other.1
 }
 
-// Whether the values are the same, in the same order.
-pub(crate) fn same_values(values: &[(u16, Value)], others: &[(u16, Value)]) -> bool
+/// Whether the values are the same, in the same order.
+pub fn same_values(values: &[(u16, Value)], others: &[(u16, Value)]) -> bool
     ensures { IsTrue result → values.now ≡ others.now }
 {
     if values.len() != others.len() {
@@ -70,8 +70,8 @@ fn same_entry(one: &Entry, other: &Entry) -> bool
     }
 }
 
-// Whether the entries are the same, in the same order.
-pub(crate) fn same_entries(entries: &[Entry], others: &[Entry]) -> bool
+/// Whether the entries are the same, in the same order.
+pub fn same_entries(entries: &[Entry], others: &[Entry]) -> bool
     ensures { IsTrue result → entries.now ≡ others.now }
 {
     if entries.len() != others.len() {

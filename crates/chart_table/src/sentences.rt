@@ -21,7 +21,7 @@ use wiki_base::{Memory, Tokens};
 const TEXT: u16 = 5;
 
 /// How deep categories may be nested before memory is wanting: more than any grammar does.
-const DEEPEST: u32 = u32::MAX;
+pub(crate) const DEEPEST: u32 = u32::MAX;
 
 /// Whether tokens have a partial derivation, and whether they have a derivation.
 #[derive(Drop)]

@@ -539,8 +539,8 @@ fn push_entry(list: &Access, entry: &Entry) -> Result<Access, Memory>
     }
 }
 
-// The list with the entries at its end.
-pub(crate) fn extended(list: &Access, entries: &[Entry]) -> Result<Access, Memory>
+/// The list with the entries at its end.
+pub fn extended(list: &Access, entries: &[Entry]) -> Result<Access, Memory>
     ensures { IfOk result (λ after. after ≡ list.now ++ entries.now) }
 {
     let mut after = list.share()?;

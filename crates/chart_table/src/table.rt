@@ -29,10 +29,10 @@ use scopes::{Access, Entry, TestValues};
 use std::alloc::Global;
 use wiki_base::Memory;
 
-// The phrases of a category with known values, from a place and a list without openers: where they end, and those that
-// are cut off where the tokens end.
+/// The phrases of a category with known values, from a place and a list without openers: where they end, and those that
+/// are cut off where the tokens end.
 #[derive(Drop)]
-pub(crate) struct Row {
+pub struct Row {
     pub(crate) name: u16,
     pub(crate) known: List<(u16, Value)>,
     pub(crate) place: u16,
@@ -190,8 +190,8 @@ fn push_referent(entry: &Entry, out: &mut List<Entry>) -> Result<(), Memory>
     }
 }
 
-// The entries of the list that are no openers.
-fn referents_of(alloc: Global, list: &Access) -> Result<List<Entry>, Memory>
+/// The entries of the list that are no openers.
+pub fn referents_of(alloc: Global, list: &Access) -> Result<List<Entry>, Memory>
     ensures { IfOk result (λ entries. entries ≡ referents list.now) }
 {
     let mut entries = List::new(alloc);
@@ -202,7 +202,7 @@ fn referents_of(alloc: Global, list: &Access) -> Result<List<Entry>, Memory>
 }
 
 // The states at the start of a rule.
-fn start_states(
+pub(crate) fn start_states(
     alloc: Global,
     known: &[(u16, Value)],
     feats: &[Feat],
@@ -219,8 +219,8 @@ fn start_states(
     Ok(states)
 }
 
-// The list of the entries.
-fn access_of(alloc: Global, entries: &[Entry]) -> Result<Access, Memory>
+/// The list of the entries.
+pub fn access_of(alloc: Global, entries: &[Entry]) -> Result<Access, Memory>
     ensures { IfOk result (λ access. access ≡ entries.now) }
 {
     let empty = Access::empty(alloc);
@@ -484,7 +484,7 @@ fn push_rule(
 
 // The states after the last element. What is cut off before is added.
 #[cycle(ends)]
-fn last_states(
+pub(crate) fn last_states(
     alloc: Global,
     setting: &Setting<'_>,
     rows: &mut List<Row>,

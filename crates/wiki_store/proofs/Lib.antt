@@ -1,4 +1,13 @@
 pub mod AddLemmas
 pub mod AroundLemmas
+pub mod ChangeLemmas
+pub mod JudgeLemmas
 pub mod KeepingLemmas
+pub mod ReadLemmas
 pub mod UnwordLemmas
+pub mod PassedLemmas
+pub mod OtherWords
+pub mod SameMeanings
+pub mod WordKeeping
+pub mod FindLemmas
+pub mod RewordLemmas

@@ -1,4 +1,4 @@
-use Rattle.std.proofs.Common.{◌≡◌, take, drop, ◌++◌}
+use Rattle.std.proofs.Common.{◌≡◌, take}
 use Rattle.chart_table.proofs.branches.copy_bound.Given as goal
 
 abbrev pub invariant-loop-pair : goal.invariant-loop-pair

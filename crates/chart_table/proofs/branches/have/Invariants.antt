@@ -1,4 +1,4 @@
-use Rattle.std.proofs.Common.{◌≡◌, take, drop, ◌++◌}
+use Rattle.std.proofs.Common.{◌≡◌, drop}
 use Rattle.chart_table.specs.Branches.{having}
 use Rattle.chart_table.proofs.branches.have.Given as goal
 

@@ -1,4 +1,4 @@
-use Rattle.std.proofs.Common.{◌≡◌, take, drop, ◌++◌}
+use Rattle.std.proofs.Common.{◌≡◌, take}
 use Rattle.chart_table.specs.Branches.{known_features}
 use Rattle.chart_table.proofs.branches.known_features.Given as goal
 

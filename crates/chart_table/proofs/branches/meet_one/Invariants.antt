@@ -1,4 +1,4 @@
-use Rattle.std.proofs.Common.{◌≡◌, take, drop, ◌++◌}
+use Rattle.std.proofs.Common.{◌≡◌, drop}
 use Rattle.chart_table.specs.Branches.{meeting_one}
 use Rattle.chart_table.proofs.branches.meet_one.Given as goal
 

@@ -1,4 +1,4 @@
-use Rattle.std.proofs.Common.{◌≡◌, take, drop, ◌++◌}
+use Rattle.std.proofs.Common.{◌≡◌, take, ◌++◌}
 use Rattle.std.specs.List.{filter_map}
 use Rattle.chart_table.specs.Branches.{bound_term}
 use Rattle.chart_table.proofs.branches.push_restricted.Given as goal

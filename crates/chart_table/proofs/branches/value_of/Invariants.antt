@@ -1,4 +1,4 @@
-use Rattle.std.proofs.Common.{◌≡◌, take, drop, ◌++◌}
+use Rattle.std.proofs.Common.{◌≡◌, drop}
 use Rattle.derivation_trees.specs.Instances.{looked_up}
 use Rattle.chart_table.proofs.branches.value_of.Given as goal
 

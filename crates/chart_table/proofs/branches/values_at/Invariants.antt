@@ -1,4 +1,4 @@
-use Rattle.std.proofs.Common.{◌≡◌, take, drop, ◌++◌}
+use Rattle.std.proofs.Common.{◌≡◌, take}
 use Rattle.chart_table.specs.Branches.{values_at}
 use Rattle.chart_table.proofs.branches.values_at.Given as goal
 

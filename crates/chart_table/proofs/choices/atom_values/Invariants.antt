@@ -1,4 +1,4 @@
-use Rattle.std.proofs.Common.{◌≡◌, take, drop, map, ◌++◌, ◌∷◌, []}
+use Rattle.std.proofs.Common.{◌≡◌, take, map}
 use Rattle.chart_table.specs.Choices.{atom_value}
 use Rattle.chart_table.proofs.choices.atom_values.Given as goal
 

@@ -1,4 +1,4 @@
-use Rattle.std.proofs.Common.{◌≡◌, take, drop, map, ◌++◌, ◌∷◌, []}
+use Rattle.std.proofs.Common.{◌≡◌, drop}
 use Rattle.chart_table.specs.Choices.{first_feature}
 use Rattle.chart_table.proofs.choices.first_feature.Given as goal
 

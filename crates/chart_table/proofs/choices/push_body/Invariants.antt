@@ -1,5 +1,5 @@
-use Rattle.std.proofs.Common.{◌≡◌, take, drop, map, ◌++◌, ◌∷◌, []}
-use Rattle.std.specs.List.{flat_map, range_with_len}
+use Rattle.std.proofs.Common.{◌≡◌, take, ◌++◌}
+use Rattle.std.specs.List.{flat_map}
 use Rattle.chart_table.specs.Choices.{element_terms}
 use Rattle.chart_table.proofs.choices.push_body.Given as goal
 

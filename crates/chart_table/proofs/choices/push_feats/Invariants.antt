@@ -1,4 +1,4 @@
-use Rattle.std.proofs.Common.{◌≡◌, take, drop, map, ◌++◌, ◌∷◌, []}
+use Rattle.std.proofs.Common.{◌≡◌, take, ◌++◌}
 use Rattle.chart_table.proofs.choices.push_feats.Given as goal
 
 abbrev pub invariant-loop-feat : goal.invariant-loop-feat

@@ -1,4 +1,4 @@
-use Rattle.std.proofs.Common.{◌≡◌, take, drop, map, ◌++◌, ◌∷◌, []}
+use Rattle.std.proofs.Common.{◌≡◌, take, map, ◌++◌}
 use Rattle.chart_table.specs.Branches.{marked}
 use Rattle.chart_table.proofs.choices.push_taken.Given as goal
 

@@ -1,4 +1,4 @@
-use Rattle.std.proofs.Common.{◌≡◌, take, drop, map, ◌++◌, ◌∷◌, []}
+use Rattle.std.proofs.Common.{◌≡◌, take, ◌++◌}
 use Rattle.chart_table.specs.Choices.{words_of}
 use Rattle.chart_table.proofs.choices.push_words.Given as goal
 

@@ -1,4 +1,4 @@
-use Rattle.std.proofs.Common.{◌≡◌, ◌++◌, ◌∷◌, [], ◌<◌, ◌≤◌, length, ap, ◌∙◌, arith}
+use Rattle.std.proofs.Common.{◌++◌, ◌∷◌, [], ◌<◌, ◌≤◌, length, ap, ◌∙◌, arith}
 use Rattle.chart_table.proofs.TurnLemmas.{entries_turn}
 use Rattle.chart_table.proofs.ends.entries_from.Goals as goal
 

@@ -1,7 +1,4 @@
-use Rattle.std.proofs.Common.{◌≡◌, take, drop, map, ◌++◌, ◌∷◌, [], length, ◌≤◌, ◌-◌}
-use Rattle.chart_table.specs.Ends.{as_terms, values_of_all, finished_one}
-use Rattle.std.specs.List.{flat_map}
-use Rattle.scopes.specs.AccessList.{closed, strong_referents}
+use Rattle.std.proofs.Common.{◌≡◌, take, drop, ◌-◌}
 use Rattle.chart_table.proofs.ends.entries_from.Given as goal
 
 abbrev pub invariant-loop-place : goal.invariant-loop-place

@@ -1,7 +1,6 @@
-use Rattle.std.proofs.Common.{◌≡◌, ◌∷◌, [], ◌∙◌, ap, sym, subst}
+use Rattle.std.proofs.Common.{◌≡◌, ◌∷◌, [], ◌∙◌, ap, subst}
 use Rattle.std.specs.Prelude.{IfOk}
 use Rattle.chart_table.specs.Ends.{as_terms}
-use Rattle.chart_table.specs.Branches.{closing}
 use Rattle.chart_table.proofs.TurnLemmas.{finished_is}
 use Rattle.chart_table.proofs.ends.finished.Goals as goal
 

@@ -1,7 +1,6 @@
-use Rattle.std.proofs.Common.{◌≡◌, take, drop, map, ◌++◌, ◌∷◌, [], length, ◌≤◌, ◌-◌}
-use Rattle.chart_table.specs.Ends.{as_terms, values_of_all, finished_one}
+use Rattle.std.proofs.Common.{◌≡◌, take}
+use Rattle.chart_table.specs.Ends.{finished_one}
 use Rattle.std.specs.List.{flat_map}
-use Rattle.scopes.specs.AccessList.{closed, strong_referents}
 use Rattle.chart_table.proofs.ends.finished_all.Given as goal
 
 abbrev pub invariant-loop-bound : goal.invariant-loop-bound

@@ -1,7 +1,5 @@
-use Rattle.std.proofs.Common.{◌≡◌, take, drop, map, ◌++◌, ◌∷◌, [], length, ◌≤◌, ◌-◌}
-use Rattle.chart_table.specs.Ends.{as_terms, values_of_all, finished_one}
-use Rattle.std.specs.List.{flat_map}
-use Rattle.scopes.specs.AccessList.{closed, strong_referents}
+use Rattle.std.proofs.Common.{◌≡◌, take}
+use Rattle.chart_table.specs.Ends.{values_of_all}
 use Rattle.chart_table.proofs.ends.values_of_all.Given as goal
 
 abbrev pub invariant-loop-number : goal.invariant-loop-number

@@ -1,4 +1,4 @@
-use Rattle.std.proofs.Common.{◌≡◌, take, drop, map, ◌++◌, ◌∷◌, [], length, ◌≤◌, ◌-◌}
+use Rattle.std.proofs.Common.{◌≡◌, take}
 use Rattle.chart_table.proofs.sameness.same_values.Given as goal
 
 abbrev pub invariant-loop-place : goal.invariant-loop-place

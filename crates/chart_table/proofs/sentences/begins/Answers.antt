@@ -1,8 +1,7 @@
-use Rattle.std.proofs.Common.{◌≡◌, map, ap, ◌∙◌, subst, IsTrue, ◌↔◌, sym}
+use Rattle.std.proofs.Common.{◌≡◌, map, ap, ◌∙◌, subst, IsTrue, ◌↔◌}
 use Rattle.std.specs.Prelude.{IfOk}
 use Rattle.lexicon.specs.Readings.{readings_of}
 use Rattle.derivation_trees.specs.Partial.{CutNode, IsPartialDerivation}
-use Rattle.derivation_trees.specs.Settings.{Setting}
 use Rattle.derivation_trees.specs.Sentences.{setting_of}
 use Rattle.chart_table.proofs.sentences.begins.Goals as goal
 

@@ -1,4 +1,3 @@
-use Rattle.std.proofs.Common.{◌≡◌, ◌<◌}
 use Rattle.chart_table.proofs.TableLemmas.{row_below}
 use Rattle.chart_table.proofs.SentenceLemmas.{told, begun}
 use Rattle.chart_table.proofs.sentences.standing_of.Goals as goal

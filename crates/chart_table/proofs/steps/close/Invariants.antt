@@ -1,5 +1,5 @@
-use Rattle.std.proofs.Common.{◌≡◌, take, drop, map, ◌++◌, ◌∷◌, [], length, ◌≤◌}
-use Rattle.chart_table.specs.Branches.{closing, closing_patterns, marked}
+use Rattle.std.proofs.Common.{◌≡◌, drop}
+use Rattle.chart_table.specs.Branches.{closing}
 use Rattle.chart_table.specs.Choices.{choices}
 use Rattle.chart_table.proofs.steps.close.Given as goal
 

@@ -1,4 +1,4 @@
-use Rattle.std.proofs.Common.{◌≡◌, take, drop, map, ◌++◌, ◌∷◌, [], length, ◌≤◌}
+use Rattle.std.proofs.Common.{◌≡◌, take, ◌++◌}
 use Rattle.chart_table.proofs.steps.extended.Given as goal
 
 abbrev pub invariant-loop-entry : goal.invariant-loop-entry

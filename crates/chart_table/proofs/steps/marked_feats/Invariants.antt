@@ -1,6 +1,5 @@
-use Rattle.std.proofs.Common.{◌≡◌, take, drop, map, ◌++◌, ◌∷◌, [], length, ◌≤◌}
-use Rattle.chart_table.specs.Branches.{closing, closing_patterns, marked}
-use Rattle.chart_table.specs.Choices.{choices}
+use Rattle.std.proofs.Common.{◌≡◌, take, map}
+use Rattle.chart_table.specs.Branches.{marked}
 use Rattle.chart_table.proofs.steps.marked_feats.Given as goal
 
 abbrev pub invariant-loop-feature : goal.invariant-loop-feature

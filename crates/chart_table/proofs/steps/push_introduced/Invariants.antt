@@ -1,5 +1,5 @@
-use Rattle.std.proofs.Common.{◌≡◌, take, drop, map, ◌++◌, ◌∷◌, [], length, ◌≤◌}
-use Rattle.chart_table.specs.Steps.{placed, read_all, completed, introduced_state, refer, refer_none, sub_steps}
+use Rattle.std.proofs.Common.{◌≡◌, take, map, ◌++◌}
+use Rattle.chart_table.specs.Steps.{introduced_state}
 use Rattle.chart_table.proofs.steps.push_introduced.Given as goal
 
 abbrev pub invariant-loop-bound : goal.invariant-loop-bound

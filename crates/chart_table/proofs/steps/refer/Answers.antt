@@ -1,4 +1,4 @@
-use Rattle.std.proofs.Common.{◌≡◌, ◌++◌, ap, ◌∙◌}
+use Rattle.std.proofs.Common.{◌++◌, ap, ◌∙◌}
 use Rattle.chart_table.specs.Steps.{refer_one}
 use Rattle.chart_table.proofs.Loops.{flat_more}
 use Rattle.chart_table.proofs.steps.refer.Goals as goal

@@ -1,5 +1,5 @@
-use Rattle.std.proofs.Common.{◌≡◌, take, drop, map, ◌++◌, ◌∷◌, [], length, ◌≤◌}
-use Rattle.chart_table.specs.Steps.{placed, read_all, completed, introduced_state, refer, refer_none, sub_steps}
+use Rattle.std.proofs.Common.{◌≡◌, take}
+use Rattle.chart_table.specs.Steps.{refer_none}
 use Rattle.chart_table.proofs.steps.refer_none.Given as goal
 
 abbrev pub invariant-loop-bound : goal.invariant-loop-bound

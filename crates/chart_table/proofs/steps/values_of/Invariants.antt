@@ -1,4 +1,4 @@
-use Rattle.std.proofs.Common.{◌≡◌, take, drop, map, ◌++◌, ◌∷◌, [], length, ◌≤◌}
+use Rattle.std.proofs.Common.{◌≡◌, take, length}
 use Rattle.derivation_trees.specs.Instances.{feats_under}
 use Rattle.chart_table.proofs.steps.values_of.Given as goal
 

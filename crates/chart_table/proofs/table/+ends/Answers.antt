@@ -1,12 +1,10 @@
-use Rattle.std.proofs.Common.{◌≡◌, ℕ, ◌+◌, ◌<◌, ◌≤◌, ◌++◌, ◌∷◌, [], false, length, ap, ◌∙◌, sym, refl, subst, arith, rules}
+use Rattle.std.proofs.Common.{◌<◌, length, ap, ◌∙◌, sym, subst, arith, rules}
 use Rattle.derivation_trees.proofs.StandLemmas.{not_sub}
-use Rattle.chart_table.proofs.EndLemmas.{steps_none}
 use Rattle.chart_table.proofs.TurnLemmas.{steps_turn, steps_done}
-use Rattle.chart_table.proofs.TableLemmas.{found_row, row_below}
+use Rattle.chart_table.proofs.TableLemmas.{row_below}
 use Rattle.chart_table.proofs.CutLemmas.{after_none}
-use Rattle.chart_table.proofs.HeadLemmas.{cut_before_none, heads_turn, heads_done, among_none, halts_here, enters_not, all_after_last, rule_cut, cut_rule_turn, named_cuts, other_cuts, start_cuts}
-use Rattle.chart_table.proofs.CycleLemmas.{row_found, row_returned, rows_returned, finished_same, start_steps, start_rules, rule_turn, rules_done, cuts_done, named_ends, other_ends, rule_pushed, after_turn, after_done, cut_turn, cut_done, plain_state, category_returned, category_cut, step_same, heads_same, not_category}
-use Rattle.codeco_terms.specs.declared.elements.Element.TheVariants.{Sub}
+use Rattle.chart_table.proofs.HeadLemmas.{cut_before_none, heads_turn, heads_done, among_none, enters_not, all_after_last, rule_cut, cut_rule_turn, start_cuts}
+use Rattle.chart_table.proofs.CycleLemmas.{row_found, row_returned, rows_returned, finished_same, start_steps, start_rules, rule_turn, rules_done, cuts_done, rule_pushed, after_turn, after_done, cut_turn, cut_done, plain_state, category_returned, category_cut, not_category}
 use Rattle.chart_table.specs.Steps.{starting}
 use Rattle.chart_table.specs.Branches.{known_features}
 use Rattle.chart_table.specs.Cuts.{HasHeads, Among, Halts, Enters}

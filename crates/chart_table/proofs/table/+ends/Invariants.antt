@@ -1,4 +1,4 @@
-use Rattle.std.proofs.Common.{◌≡◌, ℕ, List, take, drop, map, ◌++◌, ◌+◌, ◌*◌, ◌∷◌, [], length, ◌≤◌, ◌-◌}
+use Rattle.std.proofs.Common.{take, ◌+◌, ◌*◌}
 use Rattle.chart_table.specs.Ends.{HasEndsUpTo, AreSteps}
 use Rattle.chart_table.specs.Cuts.{AreAfter, HasHeads, CutBefore, Among, Enters, HasCutsUpTo}
 use Rattle.chart_table.specs.Table.{AreRows}

@@ -1,4 +1,4 @@
-use Rattle.std.proofs.Common.{◌≡◌, ℕ, List, take, drop, map, ◌++◌, ◌+◌, ◌*◌, ◌∷◌, [], length, ◌≤◌, ◌-◌}
+use Rattle.std.proofs.Common.{◌≡◌, take}
 use Rattle.chart_table.proofs.table.copy_values.Given as goal
 
 abbrev pub invariant-loop-value : goal.invariant-loop-value

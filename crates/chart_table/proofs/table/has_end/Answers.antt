@@ -1,4 +1,4 @@
-use Rattle.std.proofs.Common.{◌≡◌, rules}
+use Rattle.std.proofs.Common.{rules}
 use Rattle.chart_table.proofs.TurnLemmas.{end_here}
 use Rattle.chart_table.proofs.table.has_end.Goals as goal
 

@@ -1,4 +1,4 @@
-use Rattle.std.proofs.Common.{◌≡◌, ℕ, List, take, drop, map, ◌++◌, ◌+◌, ◌*◌, ◌∷◌, [], length, ◌≤◌, ◌-◌}
+use Rattle.std.proofs.Common.{take}
 use Rattle.chart_table.specs.Ends.{HasMore}
 use Rattle.chart_table.proofs.table.push_all_new.Given as goal
 

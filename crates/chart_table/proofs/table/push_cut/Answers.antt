@@ -1,4 +1,4 @@
-use Rattle.std.proofs.Common.{◌≡◌, ◌∙◌, subst}
+use Rattle.std.proofs.Common.{◌∙◌, subst}
 use Rattle.chart_table.specs.Ends.{HasMore}
 use Rattle.chart_table.proofs.HeadLemmas.{heads_more}
 use Rattle.chart_table.proofs.table.push_cut.Goals as goal

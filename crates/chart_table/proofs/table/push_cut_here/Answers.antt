@@ -1,4 +1,4 @@
-use Rattle.std.proofs.Common.{◌≡◌, arith}
+use Rattle.std.proofs.Common.{arith}
 use Rattle.chart_table.proofs.HeadLemmas.{halts_here, halts_not}
 use Rattle.chart_table.proofs.table.push_cut_here.Goals as goal
 

@@ -1,5 +1,4 @@
-use Rattle.std.proofs.Common.{◌≡◌}
-use Rattle.chart_table.specs.Cuts.{HasHeads, Among, Halts}
+use Rattle.chart_table.specs.Cuts.{Halts}
 use Rattle.chart_table.proofs.HeadLemmas.{among_none, heads_turn, heads_done}
 use Rattle.chart_table.proofs.table.push_cuts_here.Goals as goal
 

@@ -1,4 +1,4 @@
-use Rattle.std.proofs.Common.{◌≡◌, ◌∙◌, ◌++◌, ap, subst}
+use Rattle.std.proofs.Common.{◌∙◌, ◌++◌, ap, subst}
 use Rattle.chart_table.specs.Steps.{sub_steps}
 use Rattle.chart_table.specs.Cuts.{HasHeads, Among, IsExtended}
 use Rattle.chart_table.proofs.table.push_cuts_within.Goals as goal

@@ -1,4 +1,4 @@
-use Rattle.std.proofs.Common.{◌≡◌, ◌∙◌, subst}
+use Rattle.std.proofs.Common.{◌∙◌, subst}
 use Rattle.chart_table.specs.Ends.{HasMore}
 use Rattle.chart_table.proofs.EndLemmas.{finished_none}
 use Rattle.chart_table.proofs.TurnLemmas.{finished_turn, finished_done}

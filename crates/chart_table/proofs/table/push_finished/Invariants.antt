@@ -1,4 +1,4 @@
-use Rattle.std.proofs.Common.{◌≡◌, ℕ, List, take, drop, map, ◌++◌, ◌+◌, ◌*◌, ◌∷◌, [], length, ◌≤◌, ◌-◌}
+use Rattle.std.proofs.Common.{take}
 use Rattle.chart_table.specs.Ends.{HasFinished}
 use Rattle.chart_table.proofs.table.push_finished.Given as goal
 

@@ -1,4 +1,3 @@
-use Rattle.std.proofs.Common.{◌≡◌}
 use Rattle.chart_table.proofs.EndLemmas.{more_push}
 use Rattle.chart_table.proofs.TurnLemmas.{more_seen}
 use Rattle.chart_table.proofs.table.push_new.Goals as goal

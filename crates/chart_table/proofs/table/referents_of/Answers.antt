@@ -1,4 +1,4 @@
-use Rattle.std.proofs.Common.{◌≡◌, ◌<◌, length, arith}
+use Rattle.std.proofs.Common.{◌<◌, length, arith}
 use Rattle.chart_table.proofs.TurnLemmas.{referents_turn}
 use Rattle.chart_table.proofs.table.referents_of.Goals as goal
 

@@ -1,0 +1,157 @@
+// The instances of a rule that lead somewhere.
+ghost use Rattle.std.specs.Prelude.{◌≡◌, ◌+◌, ◌<◌, ◌∷◌, [], ◌++◌, map, ℕ, List, Some, IfOk, OnOk, IsTrue, take, flat_map};
+ghost use Rattle.codeco_checked.specs.Occurrences.{positions};
+ghost use Rattle.derivation_trees.specs.Instances as instances;
+ghost use Rattle.chart_table.specs.Choices as choosing;
+ghost use Rattle.chart_table.specs.Ends as ending;
+ghost use Rattle.chart_table.specs.Instances as finding;
+ghost use Rattle.chart_table.specs.Table as tables;
+
+use crate::branches::alone;
+use crate::choices::{Plan, plan_of};
+use crate::ends::{as_terms, values_of_all};
+use crate::sentences::DEEPEST;
+use crate::states::{Bound, State};
+use crate::steps::close;
+use crate::table::{Row, last_states, start_states};
+use codeco_terms::{Rule, Value};
+use derivation_trees::{Setting, variables_of};
+use lists::List;
+use scopes::Access;
+use std::alloc::Global;
+use wiki_base::Memory;
+
+fn same_value(one: (u8, Value), other: (u8, Value)) -> bool
+    ensures { IsTrue result → one ≡ other }
+{
+    one.0 == other.0 && one.1 == other.1
+}
+
+fn same_bound(values: &[(u8, Value)], others: &[(u8, Value)]) -> bool
+    ensures { IsTrue result → values.now ≡ others.now }
+{
+    if values.len() != others.len() {
+        return false;
+    }
+    for (place, value) in values.iter().enumerate() {
+        if !same_value(*value, others[place]) {
+            return false;
+        }
+    }
+    true
+}
+
+fn has_bound(bounds: &[Bound], bound: &[(u8, Value)]) -> bool
+    ensures { IsTrue result → finding.HasMore bounds.now bounds.now (bound.now ∷ []) }
+{
+    for other in bounds {
+        if same_bound(other.as_slice(), bound) {
+            return true;
+        }
+    }
+    false
+}
+
+// Adds the values, where they aren't there yet.
+fn push_new(bound: Bound, out: &mut List<Bound>) -> Result<(), Memory>
+    ensures { OnOk result (finding.HasMore out.old out.new (bound ∷ [])) }
+{
+    if has_bound(out.as_slice(), bound.as_slice()) {
+        Ok(())
+    } else {
+        out.push(bound)?;
+        Ok(())
+    }
+}
+
+// Adds the values of all variables in each of the assignments.
+fn push_bounds(
+    alloc: Global,
+    bounds: &[Bound],
+    numbers: &[usize],
+    out: &mut List<Bound>,
+) -> Result<(), Memory>
+    ensures { OnOk result (finding.HasMore out.old out.new (map (λ b. ending.values_of_all b numbers.now) bounds.now)) }
+{
+    for bound in bounds {
+        let values = values_of_all(alloc, bound.as_slice(), numbers)?;
+        push_new(values, out)?;
+    }
+    Ok(())
+}
+
+// Adds the values of all variables in a state, in each way.
+fn push_state(
+    alloc: Global,
+    setting: &Setting<'_>,
+    rule: &Rule,
+    plan: &Plan,
+    state: &State,
+    out: &mut List<Bound>,
+) -> Result<(), Memory>
+    requires terms { plan.now.terms ≡ choosing.terms_of rule.now }
+    requires places { plan.now.places ≡ flat_map positions rule.now.body }
+    requires own { plan.now.own ≡ instances.rule_own_features setting.now.grammar rule.now }
+    ensures { OnOk result (finding.HasMore out.old out.new (finding.closed_values setting.now rule.now state.now)) }
+{
+    let variables = variables_of(alloc, rule, plan.own.len())?;
+    let numbers = List::from_vec(variables);
+    let terms = as_terms(alloc, numbers.as_slice())?;
+    let one = alone(alloc, state.binds.as_slice())?;
+    let bounds = close(alloc, setting, plan, terms.as_slice(), one)?;
+    push_bounds(alloc, bounds.as_slice(), numbers.as_slice(), out)
+}
+
+// Adds the values of all variables in each of the states.
+fn push_states(
+    alloc: Global,
+    setting: &Setting<'_>,
+    rule: &Rule,
+    plan: &Plan,
+    states: &[State],
+    out: &mut List<Bound>,
+) -> Result<(), Memory>
+    requires terms { plan.now.terms ≡ choosing.terms_of rule.now }
+    requires places { plan.now.places ≡ flat_map positions rule.now.body }
+    requires own { plan.now.own ≡ instances.rule_own_features setting.now.grammar rule.now }
+    ensures { OnOk result (finding.HasStates setting.now rule.now states.now out.old out.new) }
+{
+    for state in states {
+        push_state(alloc, setting, rule, plan, state, out)?;
+    }
+    Ok(())
+}
+
+/// Values for all variables of a rule: among them is each instance that agrees with the known values of features and by
+/// which the rule's elements lead somewhere from the place and the list. The rows are those of the table so far, of which
+/// more may be made.
+pub fn leading_instances(
+    alloc: Global,
+    setting: &Setting<'_>,
+    rows: &mut List<Row>,
+    rule: &Rule,
+    known: &[(u16, Value)],
+    place: u16,
+    list: &Access,
+) -> Result<List<List<(u8, Value)>>, Memory>
+    requires { tables.AreRows setting.now rows.old }
+    ensures rows { OnOk result (tables.AreRows setting.now rows.new) }
+    ensures instances { IfOk result (finding.HasInstances setting.now rule.now known.now (record { place = place; list = list.now })) }
+{
+    let plan = plan_of(alloc, setting, rule)?;
+    let starts = start_states(alloc, known, rule.head.feats.as_slice(), place, list)?;
+    let mut cuts = List::new(alloc);
+    let states = last_states(
+        alloc, setting, rows, DEEPEST, rule, &plan, starts, &mut cuts,
+    )?;
+    let mut instances = List::new(alloc);
+    push_states(
+        alloc,
+        setting,
+        rule,
+        &plan,
+        states.as_slice(),
+        &mut instances,
+    )?;
+    Ok(instances)
+}

@@ -1,0 +1,7 @@
+pub mod OrderLemmas
+pub mod PathLemmas
+pub mod WayLemmas
+pub mod OutcomeLemmas
+pub mod TableLemmas
+pub mod CodeLemmas
+pub mod LeastLemmas

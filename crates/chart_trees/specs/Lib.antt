@@ -1,0 +1,5 @@
+pub mod Order
+pub mod Paths
+pub mod Ways
+pub mod Outcomes
+pub mod Tables

@@ -6,7 +6,7 @@ use Rattle.std.specs.Io.KnownBytes.{Consumes, Appends, IsAtEnd}
 use Rattle.wiki_io.specs.declared.limits.TheConstants.{MAX_INPUT}
 use Rattle.wiki_io.specs.Lines.{InputLine, input_lines}
 use Rattle.wiki_io.specs.declared.links.Event.{Event}
-use Rattle.wiki_core.specs.State.{State}
+use Rattle.acewiki.specs.Wiki.{Holding}
 use Rattle.serving.specs.declared.serving.Served.{Served}
 use Rattle.serving.specs.declared.serving.Served.TheVariants as served
 use Rattle.serving.specs.Events.{Outside}
@@ -79,7 +79,7 @@ usage_of result outcome command asked status no_usage is = ((λ two. absurd (not
 
 -- ---- what was done
 
-pub answers_done : (first : State) (left taken : Option (List ℕ)) (left_after taken_after : Option (List ℕ)) (bytes : List ℕ) → left ≡ Some bytes → Replays first left taken outcomes.Done left_after taken_after
+pub answers_done : (first : Holding) (left taken : Option (List ℕ)) (left_after taken_after : Option (List ℕ)) (bytes : List ℕ) → left ≡ Some bytes → Replays first left taken outcomes.Done left_after taken_after
     → AnswersLines first (input_lines bytes) taken taken_after
 answers_done first left taken left_after taken_after bytes told replays =
     let input = replays.input in
@@ -94,7 +94,7 @@ answers_done first left taken left_after taken_after bytes told replays =
     }
 
 -- the input isn't too large where it is told to be within the bound
-pub not_too_large : (first : State) (left : Option (List ℕ)) (outcome : Outcome) (left_after : Option (List ℕ)) → StepsInput first left outcome left_after → IsWithin left → outcome ≡ outcomes.TooMuch → ⊥
+pub not_too_large : (first : Holding) (left : Option (List ℕ)) (outcome : Outcome) (left_after : Option (List ℕ)) → StepsInput first left outcome left_after → IsWithin left → outcome ≡ outcomes.TooMuch → ⊥
 not_too_large first left outcome left_after input within is =
     let large = input.too_large is in
     let source : Consumes (Some within.0) left_after input.read = subst (λ l. Consumes l left_after input.read) within.1 input.source in
@@ -110,7 +110,7 @@ outcome_large served.LinkFault is = cc
 outcome_large served.JournalFault is = cc
 outcome_large served.Memory is = cc
 
-pub serves_not_too_large : (first : State) (most : ℕ) (left : Option (List ℕ)) (outside : Outside) (handed : Option (List Event)) (outcome : Outcome) (left_after : Option (List ℕ)) (outside_after : Outside) (handed_after coming_after : Option (List Event))
+pub serves_not_too_large : (first : Holding) (most : ℕ) (left : Option (List ℕ)) (outside : Outside) (handed : Option (List Event)) (outcome : Outcome) (left_after : Option (List ℕ)) (outside_after : Outside) (handed_after coming_after : Option (List Event))
     → Serves first most left outside handed outcome left_after outside_after handed_after coming_after → IsWithin left → outcome ≡ outcomes.TooMuch → ⊥
 serves_not_too_large first most left outside handed outcome left_after outside_after handed_after coming_after (inl nothing) within is = elim nothing.why [
   | inl stopped ↦ not_too_large first left nothing.stepped left_after nothing.input within (stopped.0 ∙ is)

@@ -5,7 +5,8 @@ ghost use Rattle.wiki_io.specs.Faults.{Rose};
 ghost use Rattle.wiki_io.specs.Lines.{input_lines};
 ghost use Rattle.wiki_io.specs.Link.{with_more};
 ghost use Rattle.acewiki.specs.Command.{Asked, replay, serve, command_of, status_of, words_of};
-ghost use Rattle.acewiki.specs.Replay.{ace_wiki, AnswersLines, Replays, IsWithin, Tells, EndsWith};
+ghost use Rattle.acewiki.specs.Replay.{AnswersLines, Replays, IsWithin, Tells, EndsWith};
+ghost use Rattle.acewiki.specs.Wiki.{ace_wiki};
 ghost use Rattle.acewiki.specs.Serve.{Serves, AnswersAsPlainWiki};
 ghost use Rattle.acewiki.specs.declared.command.Outcome.{Outcome};
 

@@ -1,7 +1,8 @@
 use Rattle.std.proofs.Common.{◌≡◌, ℕ, List, refl, sym, subst}
-use Rattle.wiki_core.specs.State.{State}
+use Rattle.acewiki.specs.Wiki.{Holding}
 use Rattle.acewiki.specs.declared.command.Command.TheVariants as commands
-use Rattle.acewiki.specs.Replay.{ace_wiki, Replays}
+use Rattle.acewiki.specs.Replay.{Replays}
+use Rattle.acewiki.specs.Wiki.{ace_wiki}
 use Rattle.acewiki.specs.Serve.{Serves}
 use Rattle.acewiki.proofs.StatusLemmas.{is_replay, is_serve, is_none, same_replay, same_budget, same_most, no_serve, no_command, not_too_large, serves_not_too_large}
 use Rattle.acewiki.proofs.run.perform.Goals as goal

@@ -2,7 +2,8 @@ use Rattle.std.proofs.Common.{◌≡◌, List, ℕ, sym, subst, ap, ◌∙◌}
 use Rattle.acewiki.specs.declared.command.Outcome.{Outcome}
 use Rattle.acewiki.specs.declared.command.Outcome.TheVariants as outcomes
 use Rattle.acewiki.specs.Command.{command_of}
-use Rattle.acewiki.specs.Replay.{ace_wiki, Replays}
+use Rattle.acewiki.specs.Replay.{Replays}
+use Rattle.acewiki.specs.Wiki.{ace_wiki}
 use Rattle.acewiki.proofs.RunLemmas.{Replays-none}
 use Rattle.acewiki.proofs.StatusLemmas.{outcome_is, told_words}
 use Rattle.acewiki.proofs.run.program.Goals as goal

@@ -2,7 +2,8 @@ use Rattle.std.proofs.Common.{◌≡◌, ℕ, List, refl, sym, subst, ap, ◌∙
 use Rattle.acewiki.specs.declared.command.Outcome.{Outcome}
 use Rattle.acewiki.specs.declared.command.Outcome.TheVariants as outcomes
 use Rattle.acewiki.specs.Command.{status_of}
-use Rattle.acewiki.specs.Replay.{ace_wiki, Replays}
+use Rattle.acewiki.specs.Replay.{Replays}
+use Rattle.acewiki.specs.Wiki.{ace_wiki}
 use Rattle.acewiki.specs.Serve.{Serves}
 use Rattle.acewiki.proofs.ServeLemmas.{headline_of}
 use Rattle.acewiki.proofs.StatusLemmas.{outcome_is, answers_done, completes}

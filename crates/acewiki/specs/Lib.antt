@@ -1,3 +1,4 @@
+pub mod Wiki
 pub mod Command
 pub mod Lines
 pub mod Replay

@@ -5,7 +5,7 @@ ghost use Rattle.acewiki.specs.Lines.{line_handed, StepsLine, RepliesTo, WasStep
 ghost use Rattle.wiki_talk.specs.declared.requests.Request.{Request};
 ghost use Rattle.wiki_talk.specs.Turns.{Exchange};
 ghost use Rattle.wiki_talk.specs.declared.replies.Reply.{Reply};
-ghost use Rattle.wiki_core.specs.Step.{Step};
+ghost use Rattle.acewiki.specs.Wiki.{KeptStep};
 ghost use Rattle.wire_json.specs.Replies.{reply_line};
 
 use crate::command::Outcome;
@@ -54,7 +54,7 @@ pub fn step_line(alloc: Global, wiki: &mut AceWiki, line: Option<&[u8]>) -> Resu
 
 // Steps through a request.
 fn step_request(wiki: &mut AceWiki, request: &Request) -> Result<(), Memory>
-    ensures { OnOk result ((reply : Reply) × Step wiki.old request.now reply wiki.new) }
+    ensures { OnOk result ((reply : Reply) × KeptStep wiki.old request.now reply wiki.new) }
 {
     let _reply = wiki.step(request)?;
     Ok(())
@@ -77,8 +77,8 @@ fn answer(alloc: Global, wiki: &mut AceWiki, line: Option<&[u8]>) -> Result<Text
 
 // The reply line to a request.
 fn reply_to(alloc: Global, wiki: &mut AceWiki, request: &Request) -> Result<Text8, Memory>
-    ensures reply { IfOk result (λ line. (reply : Reply) × Step wiki.old request.now reply wiki.new × (line ≡ reply_line reply)) }
-    ensures memory { OnErr result ((wiki.new ≡ wiki.old) ⊎ ((reply : Reply) × Step wiki.old request.now reply wiki.new)) }
+    ensures reply { IfOk result (λ line. (reply : Reply) × KeptStep wiki.old request.now reply wiki.new × (line ≡ reply_line reply)) }
+    ensures memory { OnErr result ((wiki.new ≡ wiki.old) ⊎ ((reply : Reply) × KeptStep wiki.old request.now reply wiki.new)) }
 {
     let reply = wiki.step(request)?;
     reply_line(alloc, &reply)

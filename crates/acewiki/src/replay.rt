@@ -2,7 +2,8 @@
 ghost use Rattle.std.specs.Prelude.{◌≡◌};
 ghost use Rattle.wiki_io.specs.Faults.{Rose};
 ghost use Rattle.wiki_io.specs.Reading.{unread};
-ghost use Rattle.acewiki.specs.Replay.{ace_wiki, Replays};
+ghost use Rattle.acewiki.specs.Replay.{Replays};
+ghost use Rattle.acewiki.specs.Wiki.{ace_wiki};
 
 use crate::command::Outcome;
 use crate::lines::answer_line;

@@ -5,7 +5,8 @@ ghost use Rattle.wiki_io.specs.Faults.{Rose};
 ghost use Rattle.wiki_io.specs.Lines.{input_lines};
 ghost use Rattle.wiki_io.specs.Link.{with_more};
 ghost use Rattle.acewiki.specs.Command.{Asked, replay, serve, command_of, status_of, words_of};
-ghost use Rattle.acewiki.specs.Replay.{ace_wiki, AnswersLines, Replays, IsWithin, Tells, EndsWith};
+ghost use Rattle.acewiki.specs.Replay.{AnswersLines, Replays, IsWithin, Tells, EndsWith};
+ghost use Rattle.acewiki.specs.Wiki.{ace_wiki};
 ghost use Rattle.acewiki.specs.Serve.{Serves, AnswersAsPlainWiki};
 ghost use Rattle.acewiki.specs.declared.command.Outcome.{Outcome};
 
@@ -70,22 +71,43 @@ pub fn run<S: Source, K: Sink, E: Sink, L: Link>(
     // The status is one of those, and its words were written. A write that fails there changes no status.
     ensures words { EndsWith result (E.taken errors.old) (E.faults errors.old) (E.taken errors.new) (E.faults errors.new) }
 {
+    let outcome = perform(alloc, words, input, output, link);
+    end(outcome, errors)
+}
+
+// Runs the command that the words are, and tells how it ended.
+fn perform<S: Source, K: Sink, L: Link>(
+    alloc: Global,
+    words: &[Arg],
+    input: &mut S,
+    output: &mut K,
+    link: &mut L,
+) -> Outcome
+    requires { L.connections link.old ≡ [] }
+    ensures usage { (result ≡ Outcome.Usage) ↔ (command_of words.now ≡ None) }
+    ensures idle { result ≡ Outcome.Usage → (input.new ≡ input.old) × (output.new ≡ output.old) × (link.new ≡ link.old) }
+    ensures replays { (budget : ℕ) → command_of words.now ≡ Some (replay budget)
+        → Replays (ace_wiki budget) (S.left input.old) (K.taken output.old) result (S.left input.new) (K.taken output.new) }
+    ensures serves { (address : List ℕ) (budget most : ℕ) → command_of words.now ≡ Some (serve address budget most)
+        → Serves (ace_wiki budget) most (S.left input.old)
+        (record { journal = K.taken output.old; sent = L.sent link.old; send_faults = L.send_faults link.old }) (L.handed link.old) result (S.left input.new)
+        (record { journal = K.taken output.new; sent = L.sent link.new; send_faults = L.send_faults link.new }) (L.handed link.new) (L.left link.new) }
+    ensures read_fault { result ≡ Outcome.ReadFault → Rose (S.faults input.old) (S.faults input.new) }
+    ensures write_fault { result ≡ Outcome.WriteFault → Rose (K.faults output.old) (K.faults output.new) }
+    ensures link_fault { result ≡ Outcome.LinkFault → Rose (L.faults link.old) (L.faults link.new) }
+    ensures no_link { (budget : ℕ) → command_of words.now ≡ Some (replay budget) → (link.new ≡ link.old) × (result ≡ Outcome.LinkFault → ⊥) }
+    ensures large { IsWithin (S.left input.old) → result ≡ Outcome.TooMuch → ⊥ }
+{
     match Command::from_words(words) {
-        Some(Command::Replay { budget }) => {
-            let outcome = replay(alloc, budget, input, output);
-            end(outcome, errors)
-        }
+        Some(Command::Replay { budget }) => replay(alloc, budget, input, output),
         Some(
             Command::Serve {
                 address,
                 budget,
                 events,
             },
-        ) => {
-            let outcome = serve(alloc, address, budget, events, input, output, link);
-            end(outcome, errors)
-        }
-        None => end(Outcome::Usage, errors),
+        ) => serve(alloc, address, budget, events, input, output, link),
+        None => Outcome::Usage,
     }
 }
 

@@ -2,7 +2,8 @@
 ghost use Rattle.std.specs.Prelude.{◌≡◌, []};
 ghost use Rattle.wiki_io.specs.Faults.{Rose};
 ghost use Rattle.wiki_io.specs.Reading.{unread};
-ghost use Rattle.acewiki.specs.Replay.{ace_wiki, StepsInputTo};
+ghost use Rattle.acewiki.specs.Replay.{StepsInputTo};
+ghost use Rattle.acewiki.specs.Wiki.{ace_wiki};
 ghost use Rattle.acewiki.specs.Serve.{Serves, ServesLink, outcome_of};
 
 use crate::command::Outcome;

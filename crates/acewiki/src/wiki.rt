@@ -1,7 +1,6 @@
 // The wiki that the program begins with.
 ghost use Rattle.std.specs.Prelude.{◌≡◌, IfOk, OnErr};
-ghost use Rattle.wiki_core.specs.Step.{Step};
-ghost use Rattle.acewiki.specs.Replay.{ace_wiki};
+ghost use Rattle.acewiki.specs.Wiki.{KeptStep, ace_wiki};
 
 use ace_grammar::built_in;
 use serving::Machine;
@@ -18,9 +17,9 @@ pub struct AceWiki {
 }
 
 impl Model for AceWiki {
-    ghost use Rattle.wiki_core.specs.State.{State};
+    ghost use Rattle.acewiki.specs.Wiki.{Holding};
 
-    ghost Value = { State };
+    ghost Value = { Holding };
 
     ghost view = { λ w. w.wiki };
 }
@@ -36,12 +35,13 @@ impl AceWiki {
 }
 
 impl Machine for AceWiki {
-    ghost Steps = { Step };
+    ghost Steps = { KeptStep };
 
     fn step(&mut self, request: &Request) -> Result<Reply, Memory>
-        ensures step { IfOk result (λ reply. Step self.old request.now reply self.new) }
+        ensures step { IfOk result (λ reply. KeptStep self.old request.now reply self.new) }
         ensures memory { OnErr result (self.new ≡ self.old) }
     {
-        self.wiki.step(request)
+        let reply = self.wiki.step(request)?;
+        Ok(reply)
     }
 }

@@ -79,7 +79,7 @@ done_response answers.GoSession reply = way_response (session_path (session_open
 done_response answers.GoArticle reply = way_response (article_path (article_grown reply))
 
 -- the response that a reply has
-abbrev pub response_of : Then → Reply → List ℕ
+unfoldable pub response_of : Then → Reply → List ℕ
 response_of answer (replies.Refused refusal) = refused_response answer refusal
 response_of answer reply = done_response answer reply
 

@@ -20,6 +20,7 @@ const HTML: &str = "text/html; charset=utf-8";
 const JSON: &str = "application/json";
 
 /// The bytes of the response to a reply: its page, its line, or the way to what shows it; of a refusal its page or its line.
+#[tactic(auto, unfolding(crate::specs::Responses::response_of))]
 pub fn response(alloc: Global, then: &Then, reply: &Reply) -> Result<Text8, Memory>
     ensures { IfOk result (λ response. response ≡ response_of then.now reply.now) }
 {

@@ -1,7 +1,8 @@
 -- Serving, event by event.
-use Rattle.std.proofs.Common.{◌≡◌, ◌⊎◌, ℕ, ◌+◌, ◌≤◌, ◌<◌, List, [], ◌∷◌, ◌++◌, length, Option, refl, sym, ap, subst, ◌∙◌, Bool, true, false, IsTrue, if◌then◌else◌, arith, inl, inr}
+use Rattle.std.proofs.Common.{◌≡◌, ◌⊎◌, ℕ, ◌+◌, ◌≤◌, ◌<◌, ◌-◌, take, List, [], ◌∷◌, ◌++◌, length, Option, refl, sym, ap, subst, ◌∙◌, Bool, true, false, IsTrue, if◌then◌else◌, arith, inl, inr}
 use Rattle.std.proofs.lemmas.List.{length-append}
 use Rattle.wiki_io.specs.declared.links.Event.{Event}
+use Rattle.wiki_io.specs.declared.links.Event.TheVariants.{Piece}
 use Rattle.wiki_io.specs.Link.{with_more, can_come, can_all_come, connections_after, IsOver}
 use Rattle.wiki_talk.specs.declared.requests.Request.{Request}
 use Rattle.wiki_talk.specs.declared.replies.Reply.{Reply}
@@ -10,7 +11,7 @@ use Rattle.serving.specs.declared.serving.Served.{Served}
 use Rattle.serving.specs.declared.serving.Served.TheVariants as served
 use Rattle.serving.specs.declared.serving.Come.{Come}
 use Rattle.serving.specs.declared.serving.Come.TheVariants as come
-use Rattle.serving.specs.Coming.{AreCome}
+use Rattle.serving.specs.Coming.{AreCome, IsPieceCome}
 use Rattle.serving.specs.Events.{Outside, RunsEvents, RunsAll, RunsUntilJournal, RunsUntilMemory, CutsJournal, WasHandled, EndsServing, Ended}
 use Rattle.serving.proofs.DeliverLemmas.{with_more-nil, with_more-append}
 use Rattle.serving.proofs.EventLemmas.{RunsEvents-none, RunsEvents-append}
@@ -157,3 +158,38 @@ pub come_unread : (c : Come) (before after : Option (List Event)) → (events : 
 come_unread c before after handed is =
     let come_one = subst (λ x. AreCome x handed.0) is handed.2 in
     (come_one.0, handed.1 ∙ ap (with_more before) come_one.1)
+
+came : (a b : Event) → come.Event a ≡ come.Event b → a ≡ b
+came a b same = cc
+
+-- the event that came could come
+pub comes_so : (connections : List ℕ) (a : Event) (b : Event) → IsTrue (can_all_come connections (a ∷ [])) → come.Event a ≡ come.Event b → IsTrue (can_come connections b)
+comes_so connections a b all same = subst (λ (e : Event). IsTrue (can_come connections e)) (came a b same) (comes-one connections a all)
+
+pub connections_so : (connections after : List ℕ) (a : Event) (b : Event) → after ≡ connections_after connections a → come.Event a ≡ come.Event b → after ≡ connections_after connections b
+connections_so connections after a b is same = is ∙ ap (connections_after connections) (came a b same)
+
+module _ (n size : ℕ) (buffer : List ℕ) (answer : Come) (is_piece : IsPieceCome n (take (size - 0) buffer) answer) where
+  same_piece : take (size - 0) buffer ≡ take size buffer
+  same_piece =
+      let same : size - 0 ≡ size = omega arith in
+      ap (λ (k : ℕ). take k buffer) same
+
+  -- the piece came
+  pub piece_came : AreCome answer (Piece n (take size buffer) ∷ [])
+  piece_came = elim is_piece [
+    | inl read ↦ subst (λ (c : Come). AreCome c (Piece n (take size buffer) ∷ [])) (sym read) (ap (λ (bs : List ℕ). Piece n bs ∷ []) (sym same_piece))
+    | inr unread ↦ subst (λ (c : Come). AreCome c (Piece n (take size buffer) ∷ [])) (sym unread) (Piece n (take size buffer), refl)
+  ]
+
+  pub piece_is : (event : Event) → answer ≡ come.Event event → come.Event (Piece n (take size buffer)) ≡ come.Event event
+  piece_is event is = elim is_piece [
+    | inl read ↦ ap (λ (bs : List ℕ). come.Event (Piece n bs)) (sym same_piece) ∙ sym read ∙ is
+    | inr unread ↦ absurd (cc (unread, is))
+  ]
+
+  pub piece_not_over : answer ≡ come.Over → ⊥
+  piece_not_over is = elim is_piece [ inl read ↦ cc (read, is) | inr unread ↦ cc (unread, is) ]
+
+  pub piece_not_failed : answer ≡ come.Failed → ⊥
+  piece_not_failed is = elim is_piece [ inl read ↦ cc (read, is) | inr unread ↦ cc (unread, is) ]

@@ -19,7 +19,7 @@ is_change (requests.Reassert article place) = true
 is_change request = false
 
 -- the line of an accepted change: of a session's sentence, that it is added to its article; of anything else none
-abbrev pub journal_line : Request → Reply → List ℕ
+unfoldable pub journal_line : Request → Reply → List ℕ
 journal_line request (replies.Refused refusal) = []
 journal_line request (replies.Commit article status shown) = request_line (requests.Add article None shown)
 journal_line request reply = if is_change request then request_line request else []

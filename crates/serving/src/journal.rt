@@ -10,6 +10,7 @@ use wiki_talk::{Reply, Request};
 use wire_json::request_line;
 
 /// The journal's line for a request with its reply; the empty text where the reply tells of no accepted change.
+#[tactic(auto, unfolding(crate::specs::Journal::journal_line))]
 pub(crate) fn journal_line(alloc: Global, request: &Request, reply: &Reply) -> Result<Text8, Memory>
     ensures { IfOk result (λ line. line ≡ journal_line request.now reply.now) }
 {

@@ -4,7 +4,7 @@ ghost use Rattle.wiki_io.specs.Faults.{Rose};
 ghost use Rattle.wiki_io.specs.Link.{with_more, can_come, connections_after, IsOver};
 ghost use Rattle.wiki_io.specs.declared.links.Event.{Event};
 ghost use Rattle.serving.specs.Events.{Ended};
-ghost use Rattle.serving.specs.Coming.{AreCome};
+ghost use Rattle.serving.specs.Coming.{AreCome, IsPieceCome};
 
 use crate::events::{Handled, event};
 use crate::machine::Machine;
@@ -136,12 +136,19 @@ fn next_event<L: Link>(alloc: Global, link: &mut L, buffer: &mut [u8]) -> Come
 {
     match link.next(buffer) {
         Next::Opened(connection) => Come::Event(Event::Opened(connection)),
-        Next::Bytes(connection, size) => match Bytes::from_slice(alloc, &buffer[..size]) {
-            Ok(piece) => Come::Event(Event::Piece(connection, piece)),
-            Err(Memory) => Come::Unread,
-        },
+        Next::Bytes(connection, size) => piece_come(alloc, connection, &buffer[..size]),
         Next::Ended(connection) => Come::Event(Event::Ended(connection)),
         Next::Over => Come::Over,
         Next::Failed => Come::Failed,
+    }
+}
+
+// A piece that came on a connection, where there is memory for it.
+fn piece_come(alloc: Global, connection: u32, piece: &[u8]) -> Come
+    ensures { IsPieceCome connection piece.now result }
+{
+    match Bytes::from_slice(alloc, piece) {
+        Ok(piece) => Come::Event(Event::Piece(connection, piece)),
+        Err(Memory) => Come::Unread,
     }
 }

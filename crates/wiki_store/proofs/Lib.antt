@@ -1,7 +1,9 @@
 pub mod AddLemmas
 pub mod AroundLemmas
 pub mod ChangeLemmas
+pub mod JudgeLemmas
 pub mod KeepingLemmas
+pub mod ReadLemmas
 pub mod UnwordLemmas
 pub mod PassedLemmas
 pub mod OtherWords

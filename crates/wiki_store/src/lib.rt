@@ -2,12 +2,15 @@
 #![tactic(auto)]
 
 mod adding;
+mod appending;
 mod causes;
+mod changing;
 mod lending;
 mod reading;
 mod removing;
 mod rewording;
 mod sameness;
+mod standing;
 mod store;
 mod telling;
 #[cfg(test)]

@@ -126,12 +126,19 @@ impl Store {
             Request::Reword { word, forms } => told(self.reword(word, forms.as_slice())),
             Request::Unword { word } => told(self.unword(word)),
             Request::Add { article, at, text } => told(self.add_sentence(article, *at, text)),
+            Request::Edit { article, at, text } => told(self.edit(article, *at, text)),
             Request::Remove { article, at } => told(self.remove(article, *at)),
             Request::Retract { article, at } => told(self.retract(article, *at)),
+            Request::Reassert { article, at } => told(self.reassert(article, *at)),
             Request::Read { article } => told(self.read(article)),
             Request::Axioms { article, at } => told(self.axioms(article, *at)),
-            // The others wait for the calls that judge a sentence in place of another.
-            _ => Err(Memory),
+            Request::Begin { .. }
+            | Request::Put { .. }
+            | Request::Back { .. }
+            | Request::Menu { .. }
+            | Request::Commit { .. }
+            | Request::Refresh { .. }
+            | Request::Drop { .. } => unreachable!(),
         }
     }
 

@@ -5,6 +5,7 @@ mod adding;
 mod causes;
 mod removing;
 mod store;
+mod stubs;
 mod telling;
 #[cfg(test)]
 mod tests;

@@ -1,0 +1,35 @@
+-- What a step says of the model that was kept before it: no budget is told as spent where that model decides.
+use Rattle.std.specs.Prelude.{◌≡◌, List, IfSome, Option, Some, None, option_map, option_and_then}
+use Rattle.logic_terms.specs.Concept.{Claim}
+use Rattle.logic_terms.specs.Reading.{IsModel}
+use Rattle.wiki_talk.specs.declared.statuses.Status.{Status}
+use Rattle.wiki_talk.specs.declared.statuses.Status.TheVariants.{Asserted, RedBudget}
+use Rattle.wiki_talk.specs.declared.replies.Reply.{Reply}
+use Rattle.wiki_talk.specs.declared.replies.Reply.TheVariants as replies
+use Rattle.wiki_talk.specs.declared.requests.Request.{Request}
+use Rattle.wiki_talk.specs.declared.requests.Request.TheVariants as requests
+use Rattle.articles.specs.Articles.{article_of}
+use Rattle.wiki_parts.specs.State as parts
+use Rattle.wiki_parts.specs.Knowledge.{Knows}
+use Rattle.wiki_store.specs.Spending as store
+use Rattle.wiki_core.specs.State.{State}
+use Rattle.wiki_core.specs.Causes.{session_numbered}
+use Rattle.wiki_core.specs.Step.{with_last}
+use Rattle.wiki_core.specs.Holding.{Holding}
+
+-- the words and sentences, with the sentence of a request taken as asserted, for the requests that judge one
+abbrev pub taken_by : State → Request → Option parts.State
+taken_by old (requests.Commit number) =
+    option_and_then (λ session. option_map (λ article. with_last old.pages session.article article session.tokens Asserted)
+    (article_of old.pages.articles session.article)) (session_numbered old number)
+taken_by old request = store.taken_by old.pages request
+
+-- the status that a reply tells of a sentence that was judged
+abbrev pub status_told : Reply → Option Status
+status_told (replies.Commit article status text) = Some status
+status_told reply = store.status_told reply
+
+-- a new sentence is red for the budget only where the kept interpretation is no model of what is known with it
+abbrev pub SpendsBeyondKept : Holding → Request → Reply → Type 0
+SpendsBeyondKept old request reply =
+    status_told reply ≡ Some RedBudget → IfSome (taken_by old.state request) (λ taken. (claims : List Claim) → Knows taken claims → ¬ IsModel old.interpretation claims)

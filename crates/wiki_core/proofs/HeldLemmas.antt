@@ -1,0 +1,129 @@
+-- What is kept of sessions, over each change of them.
+use Rattle.std.proofs.Common.{◌≡◌, ℕ, ◌+◌, ◌<◌, ◌≤◌, ◌==◌, Bool, true, false, not, cond, List, [], ◌∷◌, ◌++◌, length, map, filter, take, min, All, Option, Some, None, refl, sym, ap, subst, ◌∙◌, arith}
+use Rattle.std.proofs.lemmas.List.{length-take}
+use Rattle.std.proofs.lemmas.List.Elements.{All-nil, All-cons, All-head, All-tail, All-weaker, All-append}
+use Rattle.wiki_base.specs.declared.numbers.WordId.{WordId}
+use Rattle.wiki_base.specs.declared.numbers.Rev.{Rev}
+use Rattle.wiki_base.specs.declared.numbers.SessionId.{SessionId}
+use Rattle.wiki_base.specs.declared.tokens.TheConstants.{MOST_TOKENS}
+use Rattle.codeco_terms.specs.GrammarParts.{GrammarParts}
+use Rattle.lexicon.specs.Words.{Listed}
+use Rattle.articles.specs.declared.article.Article.{Article}
+use Rattle.articles.specs.Articles.{article_of, without_article as without}
+use Rattle.editor.specs.Rebasing.{IsRebased}
+use Rattle.sessions.specs.declared.session.Session.{Session}
+use Rattle.sessions.specs.Sessions.{PlainSession, plain, all_plain, session_of, new_session, with_change, without_session, without_article, is_on, AreInOrder, AreRebased, IsRebasedSession, IsKept, AreKept}
+use Rattle.wiki_parts.specs.State as parts
+use Rattle.wiki_core.specs.State.{IsOnArticle}
+use Rattle.wiki_core.specs.Keeping.{AreHeld}
+use Rattle.wiki_core.proofs.KeyLaws.{only_one, all_changed, all_filtered}
+use Rattle.wiki_core.proofs.PagesLemmas.{GoOn, KeepsWords, go_on_ended}
+
+-- a session is short, on an article that is there, and has a number that was given
+pub record Fits (articles : List Article) (last : ℕ) (session : PlainSession) : Type 0 where
+  pub short : length session.tokens ≤ MOST_TOKENS
+  pub on : IsOnArticle articles session
+  pub numbered : session.number.0 ≤ last
+
+-- what is held is that the editors keep the readings, and that each session fits
+pub fits_each : (pages : parts.State) (sessions : List Session) (last : ℕ) → AreHeld pages sessions last → All (Fits pages.articles last) (all_plain sessions)
+fits_each pages sessions last held = together (all_plain sessions) held.short held.on held.numbered
+  where
+    together : (list : List PlainSession) → All (λ session. length session.tokens ≤ MOST_TOKENS) list → All (IsOnArticle pages.articles) list
+        → All (λ session. session.number.0 ≤ last) list → All (Fits pages.articles last) list
+    together [] short on numbered = All-nil (Fits pages.articles last)
+    together (s ∷ list) short on numbered = All-cons (Fits pages.articles last) s list
+        (record { short = All-head (λ (t : PlainSession). length t.tokens ≤ MOST_TOKENS) s list short; on = All-head (IsOnArticle pages.articles) s list on; numbered = All-head (λ (t : PlainSession). t.number.0 ≤ last) s list numbered })
+        (together list (All-tail (λ (t : PlainSession). length t.tokens ≤ MOST_TOKENS) s list short) (All-tail (IsOnArticle pages.articles) s list on) (All-tail (λ (t : PlainSession). t.number.0 ≤ last) s list numbered))
+
+pub held_by : (pages : parts.State) (sessions : List Session) (last : ℕ) → AreKept pages.grammar pages.words sessions → All (Fits pages.articles last) (all_plain sessions) → AreHeld pages sessions last
+held_by pages sessions last kept fit = record {
+  kept = kept;
+  short = All-weaker (Fits pages.articles last) (λ s. length s.tokens ≤ MOST_TOKENS) (λ s f. f.short) (all_plain sessions) fit;
+  on = All-weaker (Fits pages.articles last) (IsOnArticle pages.articles) (λ s f. f.on) (all_plain sessions) fit;
+  numbered = All-weaker (Fits pages.articles last) (λ s. s.number.0 ≤ last) (λ s f. f.numbered) (all_plain sessions) fit;
+}
+
+-- where no words change, and each article goes on
+pub held_over : (old new : parts.State) (sessions : List Session) (last : ℕ) → AreHeld old sessions last → KeepsWords old new → AreHeld new sessions last
+held_over old new sessions last held keeps = held_by new sessions last
+    (let to_grammar = subst (λ (g : GrammarParts). AreKept g old.words sessions) (sym keeps.grammar) held.kept in
+    subst (λ (words : Listed). AreKept new.grammar words sessions) (sym keeps.words) to_grammar)
+    (All-weaker (Fits old.articles last) (Fits new.articles last) (λ s f. record { short = f.short; on = keeps.on s f.on; numbered = f.numbered }) (all_plain sessions) (fits_each old sessions last held))
+
+-- where a session is opened
+pub held_opened : (pages : parts.State) (old new : List Session) (last : ℕ) (number : SessionId) (word : WordId) (revision : Rev) (article : Article)
+    → AreHeld pages old last → number.0 ≡ last + 1 → article_of pages.articles word ≡ Some article → article.revision ≡ revision
+    → all_plain new ≡ all_plain old ++ new_session number word revision ∷ [] → AreKept pages.grammar pages.words new → AreHeld pages new number.0
+held_opened pages old new last number word revision article held is_next there at opened kept = held_by pages new number.0 kept
+    (subst (All (Fits pages.articles number.0)) (sym opened)
+    (All-append (Fits pages.articles number.0) (all_plain old) (new_session number word revision ∷ [])
+    (All-weaker (Fits pages.articles last) (Fits pages.articles number.0)
+    (λ s f. record { short = f.short; on = f.on; numbered = (let below = f.numbered in omega (arith, below, is_next)) }) (all_plain old) (fits_each pages old last held))
+    (All-cons (Fits pages.articles number.0) (new_session number word revision) [] fresh (All-nil (Fits pages.articles number.0)))))
+  where
+    same : revision.0 ≡ article.revision.0
+    same = ap (λ (r : Rev). r.0) (sym at)
+
+    fresh : Fits pages.articles number.0 (new_session number word revision)
+    fresh = record { short = omega arith; on = record { article = article; there = there; seen = omega (arith, same) }; numbered = omega arith }
+
+-- where one session changes, and each article goes on
+pub held_changed : (pages after : parts.State) (old new : List Session) (last : ℕ) (number : SessionId) (change : PlainSession → PlainSession) (found : PlainSession)
+    → AreHeld pages old last → AreInOrder (all_plain old) → session_of (all_plain old) number ≡ Some found → GoOn pages.articles after.articles
+    → AreKept after.grammar after.words new → all_plain new ≡ with_change (all_plain old) number change → Fits after.articles last (change found)
+    → AreHeld after new last
+held_changed pages after old new last number change found held in_order is_found goes_on kept is_changed fits = held_by after new last kept
+    (subst (All (Fits after.articles last)) (sym is_changed)
+    (all_changed (Fits pages.articles last) (Fits after.articles last) (λ (s : PlainSession). s.number.0) number.0 change found
+    (λ s f. record { short = f.short; on = goes_on s f.on; numbered = f.numbered }) fits (all_plain old) (fits_each pages old last held)
+    (only_one (λ (s : PlainSession). s.number.0) number.0 (all_plain old) in_order found is_found)))
+
+-- where a session ends
+pub held_without : (pages : parts.State) (old new : List Session) (last : ℕ) (number : SessionId) → AreHeld pages old last
+    → AreKept pages.grammar pages.words new → all_plain new ≡ without_session (all_plain old) number → AreHeld pages new last
+held_without pages old new last number held kept ended = held_by pages new last kept
+    (subst (All (Fits pages.articles last)) (sym ended) (all_filtered (Fits pages.articles last) (Fits pages.articles last) (λ (s : PlainSession). not (s.number.0 == number.0)) (λ s passes f. f) (all_plain old) (fits_each pages old last held)))
+
+-- rebased sessions fit as they did
+pub fits_rebased : (g : GrammarParts) (words : Listed) (articles : List Article) (last : ℕ) (old new : List PlainSession) → AreRebased g words old new
+    → All (Fits articles last) old → All (Fits articles last) new
+fits_rebased g words articles last [] [] rebased fit = fit
+fits_rebased g words articles last [] (n ∷ new) rebased fit = absurd rebased
+fits_rebased g words articles last (o ∷ old) [] rebased fit = absurd rebased
+fits_rebased g words articles last (o ∷ old) (n ∷ new) rebased fit =
+    All-cons (Fits articles last) n new (fits rebased.0 (All-head (Fits articles last) o old fit)) (fits_rebased g words articles last old new rebased.1 (All-tail (Fits articles last) o old fit))
+  where
+    fits : IsRebasedSession g words o n → Fits articles last o → Fits articles last n
+    fits is f =
+        let shorter : min (length n.tokens) (length o.tokens) ≡ length n.tokens = sym (length-take (length n.tokens) o.tokens) ∙ ap (λ (ts : List (List ℕ)). length ts) is.tokens.prefix in
+        let was = f.short in
+        let seen : n.revision.0 ≤ f.on.article.revision.0 = subst (λ (r : Rev). r.0 ≤ f.on.article.revision.0) (sym is.revision) f.on.seen in
+        record {
+          short = omega (arith, shorter, was);
+          on = record { article = f.on.article; there = ap (article_of articles) is.article ∙ f.on.there; seen = seen };
+          numbered = subst (λ (i : SessionId). i.0 ≤ last) (sym is.number) f.numbered;
+        }
+
+-- where words get other forms
+pub held_rebased : (pages : parts.State) (words : Listed) (old new : List Session) (last : ℕ) → AreHeld pages old last → AreKept pages.grammar words new
+    → AreRebased pages.grammar words (all_plain old) (all_plain new) → AreHeld (record pages { words = words }) new last
+held_rebased pages words old new last held kept rebased =
+    held_by (record pages { words = words }) new last kept (fits_rebased pages.grammar words pages.articles last (all_plain old) (all_plain new) rebased (fits_each pages old last held))
+
+-- where a word goes with its article, and the sessions on it end
+pub held_ended : (pages : parts.State) (words : Listed) (word : WordId) (old new : List Session) (rebased : List PlainSession) (last : ℕ) → AreHeld pages old last
+    → AreKept pages.grammar words new → AreRebased pages.grammar words (all_plain old) rebased → all_plain new ≡ without_article rebased word
+    → AreHeld (record pages { words = words; articles = without pages.articles word }) new last
+held_ended pages words word old new rebased last held kept is_rebased ended =
+    held_by (record pages { words = words; articles = without pages.articles word }) new last kept
+    (subst (All (Fits (without pages.articles word) last)) (sym ended)
+    (all_filtered (Fits pages.articles last) (Fits (without pages.articles word) last) (λ (s : PlainSession). not (is_on word s)) stays rebased
+    (fits_rebased pages.grammar words pages.articles last (all_plain old) rebased is_rebased (fits_each pages old last held))))
+  where
+    not_true : (b : Bool) → not b ≡ true → b ≡ false
+    not_true true is = sym is
+    not_true false is = refl
+
+    stays : (s : PlainSession) → not (is_on word s) ≡ true → Fits pages.articles last s → Fits (without pages.articles word) last s
+    stays s passes f = record { short = f.short; on = go_on_ended pages.articles word s (not_true (is_on word s) passes) f.on; numbered = f.numbered }

@@ -43,11 +43,11 @@ known_in-append (a ∷ articles) others (own ∷ senses) more same =
     ∙ sym (append_assoc (known_of a.sentences (meanings_in own)) (known_in articles senses) (known_in others more))
 
 -- the fronts of lists of one length have one length
-same_take : {X Y : Type 0} (n : ℕ) (xs : List X) (ys : List Y) → length ys ≡ length xs → length (take n ys) ≡ length (take n xs)
+pub same_take : {X Y : Type 0} (n : ℕ) (xs : List X) (ys : List Y) → length ys ≡ length xs → length (take n ys) ≡ length (take n xs)
 same_take n xs ys same = length-take n ys ∙ ap (min n) same ∙ sym (length-take n xs)
 
 -- a list with another item at a place
-set_parts : {X : Type 0} (xs : List X) (i : ℕ) (x : X) → i < length xs → set xs i x ≡ take i xs ++ x ∷ drop (i + 1) xs
+pub set_parts : {X : Type 0} (xs : List X) (i : ℕ) (x : X) → i < length xs → set xs i x ≡ take i xs ++ x ∷ drop (i + 1) xs
 set_parts {X} xs i x in_range =
     sym (take-append-drop i (set xs i x)) ∙ ap (λ (front : List X). front ++ drop i (set xs i x)) (take-set xs i x) ∙ ap (λ (back : List X). take i xs ++ back) (drop-set xs i x in_range)
 
@@ -88,11 +88,11 @@ without_middle i a b middle c d model =
     All-append (Holds i) a (b ++ (c ++ d)) outer.0 (All-append (Holds i) b (c ++ d) front.0 (All-append (Holds i) c d back.1 inner.1))
 
 -- five lists, one after another
-five : {X : Type 0} (a b m c d : List X) → a ++ b ++ m ++ c ++ d ≡ a ++ (b ++ (m ++ (c ++ d)))
+pub five : {X : Type 0} (a b m c d : List X) → a ++ b ++ m ++ c ++ d ≡ a ++ (b ++ (m ++ (c ++ d)))
 five a b m c d = append_assoc (a ++ b ++ m) c d ∙ append_assoc (a ++ b) m (c ++ d) ∙ append_assoc a b (m ++ (c ++ d))
 
 -- the axioms that are known around places of an article, by that article and what is kept of it
-known_around-is : (articles : List Article) (senses : List (List Sense)) (place from to : ℕ) (own : List Claim) (a : Article) (kept : List Sense)
+pub known_around-is : (articles : List Article) (senses : List (List Sense)) (place from to : ℕ) (own : List Claim) (a : Article) (kept : List Sense)
     → slice_get articles place ≡ Some a → slice_get senses place ≡ Some kept
     → known_around articles senses place from own to
     ≡ known_in (take place articles) (take place senses) ++ (known_of (take from a.sentences) (meanings_in (take from kept))
@@ -124,18 +124,18 @@ known_taken articles senses word place at ordered same here around =
     ∙ sym (known_around-is articles senses place at (at + 1) [] a around.own around.here around.meant)
 
 -- the item at a place
-item : {X : Type 0} (xs : List X) (i : ℕ) → i < length xs → (x : X) × (slice_get xs i ≡ Some x)
+pub item : {X : Type 0} (xs : List X) (i : ℕ) → i < length xs → (x : X) × (slice_get xs i ≡ Some x)
 item [] i in_range = absurd (omega (arith, in_range))
 item (x ∷ xs) i in_range = (get_or (x ∷ xs) i x, slice_get-get_or (x ∷ xs) i x in_range)
 
 -- a list by the item at a place
-parts_at : {X : Type 0} (xs : List X) (i : ℕ) (x : X) → slice_get xs i ≡ Some x → xs ≡ take i xs ++ x ∷ drop (i + 1) xs
+pub parts_at : {X : Type 0} (xs : List X) (i : ℕ) (x : X) → slice_get xs i ≡ Some x → xs ≡ take i xs ++ x ∷ drop (i + 1) xs
 parts_at {X} xs i x here =
     sym (take-append-drop i xs)
     ∙ ap (λ (back : List X). take i xs ++ back) (drop_more xs i x (slice_get_within xs i x here) ∙ ap (λ (y : X). y ∷ drop (i + 1) xs) (get_or_from_slice_get xs i x x here))
 
 -- what is known, by what is known of the article at a place
-known_in-parts : (articles : List Article) (senses : List (List Sense)) (place : ℕ) (a : Article) (own : List Sense) → slice_get articles place ≡ Some a → slice_get senses place ≡ Some own
+pub known_in-parts : (articles : List Article) (senses : List (List Sense)) (place : ℕ) (a : Article) (own : List Sense) → slice_get articles place ≡ Some a → slice_get senses place ≡ Some own
     → known_in articles senses ≡ known_in (take place articles) (take place senses) ++ (known_of a.sentences (meanings_in own) ++ known_in (drop (place + 1) articles) (drop (place + 1) senses))
 known_in-parts articles senses place a own here meant =
     let in_articles = slice_get_within articles place a here in
@@ -202,7 +202,7 @@ known_retracted articles senses word place at ordered same here around =
     ∙ sym (known_around-is articles senses place at (at + 1) [] a around.own around.here around.meant)
 
 -- what is kept of the article at a place is the meanings of its sentences
-mean_at : (g : GrammarParts) (words : Listed) (articles : List Article) (senses : List (List Sense)) (place : ℕ) (a : Article) (own : List Sense) → MeanInEach g words articles senses
+pub mean_at : (g : GrammarParts) (words : Listed) (articles : List Article) (senses : List (List Sense)) (place : ℕ) (a : Article) (own : List Sense) → MeanInEach g words articles senses
     → slice_get articles place ≡ Some a → slice_get senses place ≡ Some own → MeanEach g words a.sentences (meanings_in own)
 mean_at g words [] senses place a own mean here meant = absurd (none-some a here)
 mean_at g words (b ∷ articles) [] place a own mean here meant = absurd mean

@@ -1,4 +1,5 @@
 pub mod AddLemmas
 pub mod AroundLemmas
+pub mod JudgeLemmas
 pub mod KeepingLemmas
 pub mod UnwordLemmas

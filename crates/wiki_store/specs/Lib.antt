@@ -1,3 +1,4 @@
+pub mod Appending
 pub mod Spending
 pub mod Step
 pub mod Ends

@@ -1,31 +1,24 @@
-// New sentences.
-ghost use Rattle.std.specs.Prelude.{◌≡◌, ◌≤◌, ◌<◌, List, [], length, Some, unwrap_or, if◌then◌else◌, IsTrue, IfOk, IfErr, OnOk, OnErr};
+// Sentences that are added.
+ghost use Rattle.std.specs.Prelude.{◌≡◌, ◌≤◌, ◌<◌, List, length, Some, IfOk, IfErr, OnOk, OnErr};
 ghost use Rattle.wiki_base.specs.declared.tokens.TheConstants.{MOST_TOKENS};
-ghost use Rattle.absorb.specs.Mentioned.{are_over};
 ghost use Rattle.logic_terms.specs.Concept.{Claim};
-ghost use Rattle.logic_terms.specs.Plain.{are_plain};
 ghost use Rattle.logic_terms.specs.Reading.{IsModel};
-ghost use Rattle.owl_eval.specs.Checked.{kept_interp, kept_claims};
 ghost use Rattle.wiki_talk.specs.declared.limits.TheConstants.{MOST_SENTENCES};
 ghost use Rattle.articles.specs.Articles.{CanChange, HasPlace};
 ghost use Rattle.wiki_parts.specs.Faults.{IsFault, IsAbsent};
 ghost use Rattle.wiki_parts.specs.Found.{meaning_shown};
-ghost use Rattle.wiki_parts.specs.Judgements.{status_in, model_in};
-ghost use Rattle.wiki_parts.specs.Kept.{stated_by, known_in, known_around, IsAround, Stands};
-ghost use Rattle.wiki_parts.specs.Knowledge.{is_asserted, live_names, IsStatusOf, Knows, sentences_in};
+ghost use Rattle.wiki_parts.specs.Knowledge.{IsStatusOf, Knows, sentences_in};
 ghost use Rattle.wiki_parts.specs.Meanings.{Means};
 ghost use Rattle.wiki_parts.specs.Parsing.{tokens_of};
 ghost use Rattle.wiki_parts.specs.Places.{word_named};
 ghost use Rattle.wiki_store.specs.Spending.{SpendsBeyondKept};
 ghost use Rattle.wiki_store.specs.Step.{Step, Refuses, place_for, with_inserted};
 
+use crate::standing::standing;
 use crate::store::Store;
-use articles::{Article, Sentence};
-use lexicon::Lexicon;
-use owl_eval::CheckedModel;
-use std::alloc::Global;
+use articles::Sentence;
 use wiki_base::{Memory, Text8, Tokens, WordId};
-use wiki_parts::{Fault, Judgement, Sense, Senses, judged, known_around, live_names};
+use wiki_parts::{Fault, Sense};
 use wiki_talk::{Reply, Request, Status};
 
 // A sentence that is to be stored: where, its tokens and what they mean.
@@ -61,6 +54,7 @@ impl Store {
         ensures at { IfOk result (λ fresh. place_for self.now.state form.now given ≡ Some fresh.at) }
         ensures open { IfOk result (λ fresh. CanChange self.now.state.articles fresh.word) }
         ensures place { IfOk result (λ fresh. HasPlace self.now.state.articles fresh.word fresh.at) }
+        ensures room { OnOk result (length (sentences_in self.now.state.articles) < MOST_SENTENCES) }
         ensures tokens { IfOk result (λ fresh. fresh.tokens ≡ tokens_of self.now.state text.now) }
         ensures few { IfOk result (λ fresh. length fresh.tokens ≤ MOST_TOKENS) }
         ensures means { IfOk result (λ fresh. Means self.now.state.grammar self.now.state.words fresh.tokens (meaning_shown fresh.sense)) }
@@ -83,7 +77,7 @@ impl Store {
     }
 
     // Stores a new sentence with the status that it gets.
-    fn insert(&mut self, fresh: Fresh) -> Result<Status, Memory>
+    pub(crate) fn insert(&mut self, fresh: Fresh) -> Result<Status, Memory>
         requires open { CanChange self.old.state.articles fresh.word }
         requires place { HasPlace self.old.state.articles fresh.word fresh.at }
         requires few { length fresh.tokens ≤ MOST_TOKENS }
@@ -105,6 +99,7 @@ impl Store {
             self.budget,
             place,
             at,
+            at,
             &fresh.sense,
         )?;
         self.senses[place].insert(at, fresh.sense)?;
@@ -124,53 +119,5 @@ impl Store {
                 Err(fault)
             }
         }
-    }
-}
-
-// The status of a sentence of this meaning before the one at a place of an article, and the model of all axioms with its own
-// ones, where that is another one than the kept one.
-fn standing(
-    alloc: Global,
-    lexicon: &Lexicon,
-    articles: &[Article],
-    senses: &[Senses],
-    kept: &CheckedModel,
-    budget: u64,
-    place: usize,
-    at: usize,
-    sense: &Sense,
-) -> Result<(Status, Option<CheckedModel>), Memory>
-    requires around { IsAround articles.now senses.now place at at }
-    requires known { kept_claims kept.now ≡ known_in articles.now senses.now }
-    requires over { IsTrue (are_over (live_names lexicon.now) (known_around articles.now senses.now place at (stated_by (meaning_shown sense.now)) at)) }
-    requires plain { IsTrue (are_plain (known_around articles.now senses.now place at (stated_by (meaning_shown sense.now)) at)) }
-    ensures status { IfOk result (λ made. Stands (known_around articles.now senses.now place at (stated_by (meaning_shown sense.now)) at) (live_names lexicon.now) budget (meaning_shown sense.now) made.0) }
-    ensures model { IfOk result (λ made. kept_claims (unwrap_or made.1 kept.now) ≡ known_around articles.now senses.now place at (if is_asserted made.0 then stated_by (meaning_shown sense.now) else []) at) }
-    ensures spent { IfOk result (λ made. made.0 ≡ Status.RedBudget → IsModel (kept_interp kept.now) (known_around articles.now senses.now place at (stated_by (meaning_shown sense.now)) at) → ⊥) }
-{
-    match sense {
-        Sense::Stating(own) => {
-            if own.is_empty() {
-                return Ok((Status::Asserted, None));
-            }
-            let known = known_around(alloc, articles, senses, place, at, own, at)?;
-            let names = live_names(alloc, lexicon)?;
-            Ok(standing_by(judged(alloc, known, &names, kept, budget)?))
-        }
-        Sense::Outside(cause) => Ok((Status::Outside(*cause), None)),
-        Sense::Asking(_) => Ok((Status::Question, None)),
-        Sense::AskingOutside(cause) => Ok((Status::QuestionOutside(*cause), None)),
-    }
-}
-
-// The status that a judgement gives, and its model.
-fn standing_by(judgement: Judgement) -> (Status, Option<CheckedModel>)
-    ensures status { result.0 ≡ status_in judgement }
-    ensures model { result.1 ≡ model_in judgement }
-{
-    match judgement {
-        Judgement::Taken(model) => (Status::Asserted, Some(model)),
-        Judgement::Contradiction => (Status::RedContradiction, None),
-        Judgement::Spent => (Status::RedBudget, None),
     }
 }

@@ -2,8 +2,11 @@
 #![tactic(auto)]
 
 mod adding;
+mod appending;
 mod causes;
+mod changing;
 mod removing;
+mod standing;
 mod store;
 mod stubs;
 mod telling;

@@ -95,7 +95,7 @@ impl Store {
 }
 
 // The kept interpretation as a model of what is known without a sentence.
-fn model_without(
+pub(crate) fn model_without(
     alloc: Global,
     articles: &[Article],
     senses: &[Senses],

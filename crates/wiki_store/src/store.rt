@@ -123,8 +123,10 @@ impl Store {
             Request::Parse { text } => self.parse(text),
             Request::Unword { word } => self.unword(word),
             Request::Add { article, at, text } => told(self.add_sentence(article, *at, text)),
+            Request::Edit { article, at, text } => told(self.edit(article, *at, text)),
             Request::Remove { article, at } => told(self.remove(article, *at)),
             Request::Retract { article, at } => told(self.retract(article, *at)),
+            Request::Reassert { article, at } => told(self.reassert(article, *at)),
             Request::Axioms { article, at } => told(self.axioms(article, *at)),
             // The others wait for the calls that judge a sentence in place of another.
             _ => Err(Memory),

@@ -30,17 +30,17 @@ pub struct Editor {
 
 impl Model for Editor {
     ghost use Rattle.derivation_trees.specs.Settings as settings;
-    ghost use Rattle.editor.specs.Editing.{IsTypeableAsKept};
+    ghost use Rattle.editor.specs.Editing.{IsEdited};
 
     ghost Value = { settings.Setting };
 
     ghost view = { λ e. e.chart };
 
-    ghost invariant = { λ e. IsTypeableAsKept e.chart };
+    ghost invariant = { λ e. IsEdited e.chart };
 }
 
 impl Editor {
-    ghost use Rattle.editor.specs.Editing.{IsTypeableAsKept, typed, IsInMenu};
+    ghost use Rattle.editor.specs.Editing.{IsEdited, typed, IsInMenu};
 
     /// The editor of no tokens, which keeps a copy of the grammar.
     pub fn new(alloc: Global, grammar: &CheckedGrammar) -> Result<Editor, Memory>
@@ -53,7 +53,7 @@ impl Editor {
     /// The tokens.
     pub fn tokens(&self) -> &Tokens
         ensures tokens { result.now ≡ self.now.tokens }
-        ensures typeable { IsTypeableAsKept self.now }
+        ensures edited { IsEdited self.now }
     {
         self.chart.tokens()
     }
@@ -159,14 +159,29 @@ impl Editor {
         ensures left_out { IfOk result (λ rebased. length rebased.0.tokens + rebased.1 ≡ length self.now.tokens) }
     {
         let tokens = self.chart.tokens();
-        let mut chart = Chart::new(tokens.allocator(), grammar)?;
-        for token in tokens.as_slice() {
-            if !chart.advance(grammar, lexicon, token)? {
-                chart.back();
-                break;
-            }
-        }
+        let chart = longest(tokens.allocator(), grammar, lexicon, tokens.as_slice())?;
         let left_out = tokens.len() - chart.tokens().len();
         Ok((Editor { chart }, left_out as u32))
     }
+}
+
+// A chart of the longest prefix of the tokens that is typeable.
+fn longest(
+    alloc: Global,
+    grammar: &CheckedGrammar,
+    lexicon: &Lexicon,
+    tokens: &[Token],
+) -> Result<Chart, Memory>
+    requires { length tokens.now ≤ MOST_TOKENS }
+    ensures kept { IfOk result (λ chart. chart ≡ setting_of grammar.now lexicon.now chart.tokens) }
+    ensures tokens { IfOk result (λ chart. IsRebased grammar.now lexicon.now tokens.now chart.tokens) }
+{
+    let mut chart = Chart::new(alloc, grammar)?;
+    for token in tokens {
+        if !chart.advance(grammar, lexicon, token)? {
+            chart.back();
+            return Ok(chart);
+        }
+    }
+    Ok(chart)
 }

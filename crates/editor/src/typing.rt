@@ -71,5 +71,8 @@ pub(crate) fn is_known(grammar: &CheckedGrammar, lexicon: &Lexicon, text: &str) 
     ensures known { IsTrue result ↔ ((group : Group) × IsOfGroup grammar.now lexicon.now group text.now) }
     ensures token { result ≡ true → IsToken text.now }
 {
-    is_terminal(grammar.grammar().terminals(), text.as_bytes()) || lexicon.find(text).is_some()
+    if is_terminal(grammar.grammar().terminals(), text.as_bytes()) {
+        return true;
+    }
+    lexicon.find(text).is_some()
 }

@@ -7,7 +7,7 @@ use Rattle.codeco_terms.specs.GrammarParts.{GrammarParts}
 use Rattle.lexicon.specs.Words.{Listed}
 use Rattle.derivation_trees.specs.Partial.{IsTypeable}
 use Rattle.derivation_trees.specs.Sentences.{setting_of}
-use Rattle.editor.specs.Editing.{IsTypeableAsKept}
+use Rattle.editor.specs.Editing.{IsEdited}
 use Rattle.editor.specs.Rebasing.{IsRebased}
 use Rattle.sessions.specs.declared.session.Session.{Session}
 use Rattle.sessions.specs.declared.sessions.TheConstants.{MOST_SESSIONS}
@@ -44,7 +44,7 @@ abbrev pub HasSession : List PlainSession → SessionId → Type 0
 HasSession sessions number = IsSomeAnd (session_of sessions number) (λ _. Unit {0})
 
 -- the sessions stand in order of their numbers, one for each number
-abbrev pub AreInOrder : List PlainSession → Type 0
+abbrev pub AreInOrder : List Session → Type 0
 AreInOrder sessions = AllPairs (λ session later. session.number.0 < later.number.0) sessions
 
 -- a session on an article at a revision, without tokens
@@ -106,6 +106,6 @@ AreKeptOn old new = (g : GrammarParts) (lexicon : Listed) → AreKept g lexicon 
 -- At most `MOST_SESSIONS` sessions, in order of their numbers. By the grammar and the readings that its editor keeps, the
 -- tokens of each are typeable.
 pub record AreSessions (sessions : List Session) : Type 0 where
-  pub in_order : AreInOrder (all_plain sessions)
+  pub in_order : AreInOrder sessions
   pub few : length sessions ≤ MOST_SESSIONS
-  pub typeable : All (λ session. IsTypeableAsKept session.editor) sessions
+  pub edited : All (λ session. IsEdited session.editor) sessions

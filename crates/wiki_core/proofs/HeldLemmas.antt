@@ -1,7 +1,8 @@
 -- What is kept of sessions, over each change of them.
-use Rattle.std.proofs.Common.{◌≡◌, ℕ, ◌+◌, ◌<◌, ◌≤◌, ◌==◌, Bool, true, false, not, cond, List, [], ◌∷◌, ◌++◌, length, map, filter, take, min, All, Option, Some, None, refl, sym, ap, subst, ◌∙◌, arith}
-use Rattle.std.proofs.lemmas.List.{length-take}
-use Rattle.std.proofs.lemmas.List.Elements.{All-nil, All-cons, All-head, All-tail, All-weaker, All-append}
+use Rattle.std.proofs.Common.{◌≡◌, ℕ, ◌+◌, ◌<◌, ◌≤◌, ◌==◌, Bool, true, false, not, cond, List, [], ◌∷◌, ◌++◌, length, map, filter, take, min, All, AllPairs, Option, Some, None, refl, sym, ap, subst, ◌∙◌, arith}
+use Rattle.std.proofs.lemmas.List.{length-map}
+use Rattle.std.proofs.lemmas.List.Kept.{AllPairs-cons}
+use Rattle.std.proofs.lemmas.List.Elements.{All-nil, All-cons, All-head, All-tail, All-weaker, All-append, All-map}
 use Rattle.wiki_base.specs.declared.numbers.WordId.{WordId}
 use Rattle.wiki_base.specs.declared.numbers.Rev.{Rev}
 use Rattle.wiki_base.specs.declared.numbers.SessionId.{SessionId}
@@ -12,34 +13,37 @@ use Rattle.articles.specs.declared.article.Article.{Article}
 use Rattle.articles.specs.Articles.{article_of, without_article as without}
 use Rattle.editor.specs.Rebasing.{IsRebased}
 use Rattle.sessions.specs.declared.session.Session.{Session}
-use Rattle.sessions.specs.Sessions.{PlainSession, plain, all_plain, session_of, new_session, with_change, without_session, without_article, is_on, AreInOrder, AreRebased, IsRebasedSession, IsKept, AreKept}
+use Rattle.sessions.specs.Sessions.{PlainSession, plain, all_plain, session_of, new_session, with_change, without_session, without_article, is_on, AreSessions, AreRebased, IsRebasedSession, IsKept, AreKept}
 use Rattle.wiki_parts.specs.State as parts
-use Rattle.wiki_core.specs.State.{IsOnArticle}
+use Rattle.logic_terms.specs.Interpretation.{Interpretation}
+use Rattle.derivation_trees.specs.Partial.{IsTypeable}
+use Rattle.sessions.proofs.KeepingLaws.{kept_typeable}
+use Rattle.wiki_parts.specs.Holding as holding
+use Rattle.wiki_core.specs.State.{State, IsOnArticle, AreInOrder}
+use Rattle.wiki_core.specs.Holding.{Holding, IsKeptSession, IsKept as IsKeptWiki}
 use Rattle.wiki_core.specs.Keeping.{AreHeld}
-use Rattle.wiki_core.proofs.KeyLaws.{only_one, all_changed, all_filtered}
+use Rattle.wiki_core.proofs.KeyLaws.{only_one, all_changed, all_filtered, pairs_head, pairs_tail}
 use Rattle.wiki_core.proofs.PagesLemmas.{GoOn, KeepsWords, go_on_ended}
 
--- a session is short, on an article that is there, and has a number that was given
+-- a session is on an article that is there, and has a number that was given
 pub record Fits (articles : List Article) (last : ℕ) (session : PlainSession) : Type 0 where
-  pub short : length session.tokens ≤ MOST_TOKENS
   pub on : IsOnArticle articles session
   pub numbered : session.number.0 ≤ last
 
 -- what is held is that the editors keep the readings, and that each session fits
 pub fits_each : (pages : parts.State) (sessions : List Session) (last : ℕ) → AreHeld pages sessions last → All (Fits pages.articles last) (all_plain sessions)
-fits_each pages sessions last held = together (all_plain sessions) held.short held.on held.numbered
+fits_each pages sessions last held = together (all_plain sessions) held.on held.numbered
   where
-    together : (list : List PlainSession) → All (λ session. length session.tokens ≤ MOST_TOKENS) list → All (IsOnArticle pages.articles) list
+    together : (list : List PlainSession) → All (IsOnArticle pages.articles) list
         → All (λ session. session.number.0 ≤ last) list → All (Fits pages.articles last) list
-    together [] short on numbered = All-nil (Fits pages.articles last)
-    together (s ∷ list) short on numbered = All-cons (Fits pages.articles last) s list
-        (record { short = All-head (λ (t : PlainSession). length t.tokens ≤ MOST_TOKENS) s list short; on = All-head (IsOnArticle pages.articles) s list on; numbered = All-head (λ (t : PlainSession). t.number.0 ≤ last) s list numbered })
-        (together list (All-tail (λ (t : PlainSession). length t.tokens ≤ MOST_TOKENS) s list short) (All-tail (IsOnArticle pages.articles) s list on) (All-tail (λ (t : PlainSession). t.number.0 ≤ last) s list numbered))
+    together [] on numbered = All-nil (Fits pages.articles last)
+    together (s ∷ list) on numbered = All-cons (Fits pages.articles last) s list
+        (record { on = All-head (IsOnArticle pages.articles) s list on; numbered = All-head (λ (t : PlainSession). t.number.0 ≤ last) s list numbered })
+        (together list (All-tail (IsOnArticle pages.articles) s list on) (All-tail (λ (t : PlainSession). t.number.0 ≤ last) s list numbered))
 
 pub held_by : (pages : parts.State) (sessions : List Session) (last : ℕ) → AreKept pages.grammar pages.words sessions → All (Fits pages.articles last) (all_plain sessions) → AreHeld pages sessions last
 held_by pages sessions last kept fit = record {
   kept = kept;
-  short = All-weaker (Fits pages.articles last) (λ s. length s.tokens ≤ MOST_TOKENS) (λ s f. f.short) (all_plain sessions) fit;
   on = All-weaker (Fits pages.articles last) (IsOnArticle pages.articles) (λ s f. f.on) (all_plain sessions) fit;
   numbered = All-weaker (Fits pages.articles last) (λ s. s.number.0 ≤ last) (λ s f. f.numbered) (all_plain sessions) fit;
 }
@@ -49,7 +53,7 @@ pub held_over : (old new : parts.State) (sessions : List Session) (last : ℕ) �
 held_over old new sessions last held keeps = held_by new sessions last
     (let to_grammar = subst (λ (g : GrammarParts). AreKept g old.words sessions) (sym keeps.grammar) held.kept in
     subst (λ (words : Listed). AreKept new.grammar words sessions) (sym keeps.words) to_grammar)
-    (All-weaker (Fits old.articles last) (Fits new.articles last) (λ s f. record { short = f.short; on = keeps.on s f.on; numbered = f.numbered }) (all_plain sessions) (fits_each old sessions last held))
+    (All-weaker (Fits old.articles last) (Fits new.articles last) (λ s f. record { on = keeps.on s f.on; numbered = f.numbered }) (all_plain sessions) (fits_each old sessions last held))
 
 -- where a session is opened
 pub held_opened : (pages : parts.State) (old new : List Session) (last : ℕ) (number : SessionId) (word : WordId) (revision : Rev) (article : Article)
@@ -59,14 +63,14 @@ held_opened pages old new last number word revision article held is_next there a
     (subst (All (Fits pages.articles number.0)) (sym opened)
     (All-append (Fits pages.articles number.0) (all_plain old) (new_session number word revision ∷ [])
     (All-weaker (Fits pages.articles last) (Fits pages.articles number.0)
-    (λ s f. record { short = f.short; on = f.on; numbered = (let below = f.numbered in omega (arith, below, is_next)) }) (all_plain old) (fits_each pages old last held))
+    (λ s f. record { on = f.on; numbered = (let below = f.numbered in omega (arith, below, is_next)) }) (all_plain old) (fits_each pages old last held))
     (All-cons (Fits pages.articles number.0) (new_session number word revision) [] fresh (All-nil (Fits pages.articles number.0)))))
   where
     same : revision.0 ≡ article.revision.0
     same = ap (λ (r : Rev). r.0) (sym at)
 
     fresh : Fits pages.articles number.0 (new_session number word revision)
-    fresh = record { short = omega arith; on = record { article = article; there = there; seen = omega (arith, same) }; numbered = omega arith }
+    fresh = record { on = record { article = article; there = there; seen = omega (arith, same) }; numbered = omega arith }
 
 -- where one session changes, and each article goes on
 pub held_changed : (pages after : parts.State) (old new : List Session) (last : ℕ) (number : SessionId) (change : PlainSession → PlainSession) (found : PlainSession)
@@ -76,7 +80,7 @@ pub held_changed : (pages after : parts.State) (old new : List Session) (last : 
 held_changed pages after old new last number change found held in_order is_found goes_on kept is_changed fits = held_by after new last kept
     (subst (All (Fits after.articles last)) (sym is_changed)
     (all_changed (Fits pages.articles last) (Fits after.articles last) (λ (s : PlainSession). s.number.0) number.0 change found
-    (λ s f. record { short = f.short; on = goes_on s f.on; numbered = f.numbered }) fits (all_plain old) (fits_each pages old last held)
+    (λ s f. record { on = goes_on s f.on; numbered = f.numbered }) fits (all_plain old) (fits_each pages old last held)
     (only_one (λ (s : PlainSession). s.number.0) number.0 (all_plain old) in_order found is_found)))
 
 -- where a session ends
@@ -96,11 +100,8 @@ fits_rebased g words articles last (o ∷ old) (n ∷ new) rebased fit =
   where
     fits : IsRebasedSession g words o n → Fits articles last o → Fits articles last n
     fits is f =
-        let shorter : min (length n.tokens) (length o.tokens) ≡ length n.tokens = sym (length-take (length n.tokens) o.tokens) ∙ ap (λ (ts : List (List ℕ)). length ts) is.tokens.prefix in
-        let was = f.short in
         let seen : n.revision.0 ≤ f.on.article.revision.0 = subst (λ (r : Rev). r.0 ≤ f.on.article.revision.0) (sym is.revision) f.on.seen in
         record {
-          short = omega (arith, shorter, was);
           on = record { article = f.on.article; there = ap (article_of articles) is.article ∙ f.on.there; seen = seen };
           numbered = subst (λ (i : SessionId). i.0 ≤ last) (sym is.number) f.numbered;
         }
@@ -126,4 +127,41 @@ held_ended pages words word old new rebased last held kept is_rebased ended =
     not_true false is = refl
 
     stays : (s : PlainSession) → not (is_on word s) ≡ true → Fits pages.articles last s → Fits (without pages.articles word) last s
-    stays s passes f = record { short = f.short; on = go_on_ended pages.articles word s (not_true (is_on word s) passes) f.on; numbered = f.numbered }
+    stays s passes f = record { on = go_on_ended pages.articles word s (not_true (is_on word s) passes) f.on; numbered = f.numbered }
+
+-- sessions in order are so without their editors
+pub plain_in_order : (sessions : List Session) → AllPairs (λ session later. session.number.0 < later.number.0) sessions → AreInOrder (all_plain sessions)
+plain_in_order [] in_order = λ i j d before in_range. absurd (omega (arith, in_range))
+plain_in_order (s ∷ sessions) in_order =
+    AllPairs-cons (λ session later. session.number.0 < later.number.0) (plain s) (all_plain sessions)
+    (All-map (λ (later : PlainSession). s.number.0 < later.number.0) plain sessions (pairs_head (λ (session later : Session). session.number.0 < later.number.0) s sessions in_order))
+    (plain_in_order sessions (pairs_tail (λ (session later : Session). session.number.0 < later.number.0) s sessions in_order))
+
+-- what the program keeps of each session is what the wiki promises of it
+kept_each : (state : State) (list : List PlainSession) → All (λ session. IsTypeable state.pages.grammar state.pages.words session.tokens) list
+    → All (λ session. length session.tokens ≤ MOST_TOKENS) list → All (IsOnArticle state.pages.articles) list → All (IsKeptSession state) list
+kept_each state [] typeable short on = All-nil (IsKeptSession state)
+kept_each state (s ∷ list) typeable short on =
+    All-cons (IsKeptSession state) s list
+    (record {
+      typeable = All-head (λ (t : PlainSession). IsTypeable state.pages.grammar state.pages.words t.tokens) s list typeable;
+      short = All-head (λ (t : PlainSession). length t.tokens ≤ MOST_TOKENS) s list short;
+      on = All-head (IsOnArticle state.pages.articles) s list on;
+    })
+    (kept_each state list (All-tail (λ (t : PlainSession). IsTypeable state.pages.grammar state.pages.words t.tokens) s list typeable)
+    (All-tail (λ (t : PlainSession). length t.tokens ≤ MOST_TOKENS) s list short) (All-tail (IsOnArticle state.pages.articles) s list on))
+
+-- what the program keeps is what the wiki promises
+pub is_kept : (pages : parts.State) (interpretation : Interpretation) (sessions : List Session) (last : ℕ)
+    → holding.IsKept (record { state = pages; interpretation = interpretation }) → AreSessions sessions → AreHeld pages sessions last
+    → IsKeptWiki (record { state = record { pages = pages; sessions = all_plain sessions; last = last }; interpretation = interpretation })
+is_kept pages interpretation sessions last pages_kept are held = record {
+  pages = pages_kept;
+  sessions =
+      kept_each (record { pages = pages; sessions = all_plain sessions; last = last }) (all_plain sessions)
+      (kept_typeable pages.grammar pages.words sessions are held.kept)
+      (All-map (λ (t : PlainSession). length t.tokens ≤ MOST_TOKENS) plain sessions (λ k d bound. (are.edited k d bound).few)) held.on;
+  in_order = plain_in_order sessions are.in_order;
+  numbered = held.numbered;
+  few = (let few = are.few in let same : length (all_plain sessions) ≡ length sessions = length-map plain sessions in omega (arith, few, same));
+}

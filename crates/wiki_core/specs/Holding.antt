@@ -5,9 +5,9 @@ use Rattle.codeco_terms.specs.GrammarParts.{GrammarParts}
 use Rattle.derivation_trees.specs.Partial.{IsTypeable}
 use Rattle.logic_terms.specs.Interpretation.{Interpretation}
 use Rattle.sessions.specs.declared.sessions.TheConstants.{MOST_SESSIONS}
-use Rattle.sessions.specs.Sessions.{PlainSession, AreInOrder}
+use Rattle.sessions.specs.Sessions.{PlainSession}
 use Rattle.wiki_parts.specs.Holding as parts
-use Rattle.wiki_core.specs.State.{State, first_state, IsOnArticle}
+use Rattle.wiki_core.specs.State.{State, first_state, IsOnArticle, AreInOrder}
 
 -- a wiki: its state, and the interpretation that it keeps
 pub record Holding : Type 0 where

@@ -1,6 +1,5 @@
 -- What the program keeps of sessions. Only private calls speak of it.
-use Rattle.std.specs.Prelude.{◌≤◌, ℕ, Bool, true, false, List, All, length}
-use Rattle.wiki_base.specs.declared.tokens.TheConstants.{MOST_TOKENS}
+use Rattle.std.specs.Prelude.{◌≤◌, ℕ, Bool, true, false, List, All}
 use Rattle.wiki_talk.specs.declared.requests.Request.{Request}
 use Rattle.wiki_talk.specs.declared.requests.Request.TheVariants as requests
 use Rattle.sessions.specs.declared.session.Session.{Session}
@@ -8,11 +7,10 @@ use Rattle.sessions.specs.Sessions.{all_plain, AreKept}
 use Rattle.wiki_parts.specs.State as parts
 use Rattle.wiki_core.specs.State.{IsOnArticle}
 
--- The editors keep the present grammar and the readings by the present words, of so many tokens at most. Each session is on an
--- article that is there, and its number is at most the last that was given.
+-- The editors keep the present grammar and the readings by the present words. Each session is on an article that is there, and
+-- its number is at most the last that was given.
 pub record AreHeld (pages : parts.State) (sessions : List Session) (last : ℕ) : Type 0 where
   pub kept : AreKept pages.grammar pages.words sessions
-  pub short : All (λ session. length session.tokens ≤ MOST_TOKENS) (all_plain sessions)
   pub on : All (IsOnArticle pages.articles) (all_plain sessions)
   pub numbered : All (λ session. session.number.0 ≤ last) (all_plain sessions)
 

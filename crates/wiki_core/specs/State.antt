@@ -1,5 +1,5 @@
 -- The state of a whole wiki: what is stored, and who edits.
-use Rattle.std.specs.Prelude.{◌≡◌, ◌≤◌, ℕ, List, [], Some}
+use Rattle.std.specs.Prelude.{◌≡◌, ◌<◌, ◌≤◌, ℕ, List, [], AllPairs, Some}
 use Rattle.codeco_terms.specs.GrammarParts.{GrammarParts}
 use Rattle.articles.specs.declared.article.Article.{Article}
 use Rattle.articles.specs.Articles.{article_of}
@@ -23,3 +23,7 @@ pub record IsOnArticle (articles : List Article) (session : PlainSession) : Type
   pub article : Article
   pub there : article_of articles session.article ≡ Some article
   pub seen : session.revision.0 ≤ article.revision.0
+
+-- the sessions stand in order of their numbers, one for each number
+abbrev pub AreInOrder : List PlainSession → Type 0
+AreInOrder sessions = AllPairs (λ session later. session.number.0 < later.number.0) sessions

@@ -43,7 +43,6 @@ impl Wiki {
     pub(crate) fn session(&self, number: u32) -> Result<&Session, Fault>
         ensures found { IfOk result (λ session. session_numbered self.now.state number ≡ Some (plain session.now)) }
         ensures kept { IfOk result (λ session. IsKeptEditor self.now.state.pages.grammar self.now.state.pages.words session.now) }
-        ensures short { IfOk result (λ session. length session.now.editor.tokens ≤ most_tokens) }
         ensures absent { OnOk result (IsAbsent (NamesNoSession self.now.state number)) }
         ensures refused { IfErr result (IsFault (NamesNoSession self.now.state number)) }
     {

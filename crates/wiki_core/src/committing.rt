@@ -1,6 +1,5 @@
 // Tokens that become a sentence.
 ghost use Rattle.std.specs.Prelude.{◌≡◌, ◌+◌, ◌<◌, ◌≤◌, length, Some, IfOk, IfErr, OnOk, OnErr, IsSome};
-ghost use Rattle.wiki_base.specs.declared.tokens.TheConstants.{MOST_TOKENS};
 ghost use Rattle.wiki_talk.specs.declared.limits.TheConstants.{MOST_SENTENCES};
 ghost use Rattle.articles.specs.declared.article.TheConstants.{LAST_REVISION};
 ghost use Rattle.derivation_trees.specs.Sentences.{IsSentence};
@@ -76,7 +75,6 @@ impl Wiki {
         requires on { article_of self.now.state.pages.articles session.now.article ≡ Some article.now }
         requires open { article.now.revision.0 < LAST_REVISION }
         requires room { length (sentences_in self.now.state.pages.articles) < MOST_SENTENCES }
-        requires short { length session.now.editor.tokens ≤ MOST_TOKENS }
         requires sentence { IsSentence self.now.state.pages.grammar self.now.state.pages.words session.now.editor.tokens }
         ensures { IfOk result (IsDraftOf self.now.state number) }
     {

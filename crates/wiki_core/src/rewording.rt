@@ -21,6 +21,7 @@ impl Wiki {
         requires no_words { changes_words request.now ≡ false }
         ensures step { IfOk result (λ reply. StepsPages self.old.state request.now reply self.new.state) }
         ensures spent { IfOk result (store_spending.SpendsBeyondKept (pages_held self.old) request.now) }
+        ensures unknown { IfOk result (store_spending.KeptHasEachUnknown (pages_held self.old) request.now) }
         ensures memory { OnErr result (self.new ≡ self.old) }
     {
         self.store.step(request)

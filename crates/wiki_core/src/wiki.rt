@@ -41,10 +41,10 @@ impl Model for Wiki {
 impl Wiki {
     ghost use Rattle.codeco_checked.specs.Sound.{is_labelled};
     ghost use Rattle.wiki_core.specs.Apart.{MenuIsOwn, TokensAreOwn};
-    ghost use Rattle.wiki_core.specs.Holding.{first_holding, IsKept};
+    ghost use Rattle.wiki_core.specs.Holding.{first_holding, pages_held, IsKept};
     ghost use Rattle.wiki_core.specs.Spending.{SpendsBeyondKept};
     ghost use Rattle.wiki_core.specs.Step.{Step, StepsSession};
-    ghost use Rattle.wiki_store.specs.Step.{asks_store};
+    ghost use Rattle.wiki_store.specs.Spending.{KeptHasEachUnknown};
 
     /// A wiki without words and sessions, over a grammar in which each rule has a label. A search may take `budget` steps.
     pub fn new(alloc: Global, grammar: CheckedGrammar, budget: u64) -> Result<Wiki, Memory>
@@ -64,6 +64,7 @@ impl Wiki {
     pub fn step(&mut self, request: &Request) -> Result<Reply, Memory>
         ensures step { IfOk result (λ reply. Step self.old.state request.now reply self.new.state) }
         ensures spent { IfOk result (SpendsBeyondKept self.old request.now) }
+        ensures unknown { IfOk result (KeptHasEachUnknown (pages_held self.old) request.now) }
         ensures kept { IsKept self.new }
         ensures menu { IfOk result (MenuIsOwn self.old.state request.now) }
         ensures memory { OnErr result (self.new ≡ self.old) }
@@ -77,7 +78,7 @@ impl Wiki {
     fn is_kept(&self)
         ensures { IsKept self.now }
     {
-        let _ = self.store.lexicon();
+        self.store.is_kept();
         let _ = self.sessions.as_slice();
     }
 
@@ -85,6 +86,7 @@ impl Wiki {
     fn carry_out(&mut self, request: &Request) -> Result<Reply, Memory>
         ensures step { IfOk result (λ reply. Step self.old.state request.now reply self.new.state) }
         ensures spent { IfOk result (SpendsBeyondKept self.old request.now) }
+        ensures unknown { IfOk result (KeptHasEachUnknown (pages_held self.old) request.now) }
         ensures memory { OnErr result (self.new ≡ self.old) }
     {
         match request {

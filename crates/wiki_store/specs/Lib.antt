@@ -1,4 +1,3 @@
 pub mod Appending
 pub mod Spending
 pub mod Step
-pub mod Ends

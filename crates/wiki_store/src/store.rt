@@ -103,8 +103,8 @@ impl Store {
         reply
     }
 
-    // What the wiki keeps fits its state.
-    fn is_kept(&self)
+    /// What the store keeps fits its state.
+    pub fn is_kept(&self)
         ensures { IsKept self.now }
     {
         let _ = self.kept.interp();

@@ -1,25 +1,19 @@
 // Calls that the whole wiki uses. (Stand-ins until their owners' files come.)
-ghost use Rattle.std.specs.Prelude.{◌≡◌, ◌<◌, ◌≤◌, ℕ, List, length, option_copied, Some, IfOk, IfErr, OnErr};
-ghost use Rattle.wiki_base.specs.declared.tokens.TheConstants.{MOST_TOKENS};
-ghost use Rattle.derivation_trees.specs.Sentences.{IsSentence};
-ghost use Rattle.logic_terms.specs.Concept.{Claim};
-ghost use Rattle.logic_terms.specs.Reading.{IsModel};
-ghost use Rattle.wiki_talk.specs.declared.limits.TheConstants.{MOST_SENTENCES};
-ghost use Rattle.articles.specs.Articles.{CanChange, article_of, without_article};
+ghost use Rattle.std.specs.Prelude.{◌≡◌, ℕ, List, length, option_copied, Some, IfOk, IfErr};
+ghost use Rattle.articles.specs.Articles.{article_of, without_article};
 ghost use Rattle.wiki_parts.specs.Faults.{IsFault};
-ghost use Rattle.wiki_parts.specs.Knowledge.{sentences_in, GetStatus, Knows};
+ghost use Rattle.wiki_parts.specs.Knowledge.{sentences_in};
 ghost use Rattle.wiki_parts.specs.Places.{word_named};
 ghost use Rattle.wiki_parts.specs.State.{IsSound};
-ghost use Rattle.wiki_store.specs.Step.{Step, Refuses, with_inserted};
-ghost use Rattle.wiki_store.specs.Ends.{end_of};
+ghost use Rattle.wiki_store.specs.Step.{Step, Refuses};
 
 use crate::store::Store;
 use articles::Article;
 use codeco_checked::CheckedGrammar;
 use lexicon::Lexicon;
-use wiki_base::{Memory, Text8, Tokens, WordId};
+use wiki_base::{Text8, WordId};
 use wiki_parts::Fault;
-use wiki_talk::{Reply, Request, Status};
+use wiki_talk::{Reply, Request};
 
 impl Store {
     /// The grammar.
@@ -91,24 +85,5 @@ impl Store {
     {
         self.articles.end(word);
         self.lexicon = lexicon;
-    }
-
-    /// Stores the tokens as the last sentence of the article of a word, with the status that it gets.
-    pub fn append(&mut self, word: WordId, tokens: &Tokens) -> Result<Status, Memory>
-        requires open { CanChange self.old.state.articles word }
-        requires room { length (sentences_in self.old.state.articles) < MOST_SENTENCES }
-        requires few { length tokens.now ≤ MOST_TOKENS }
-        requires sentence { IsSentence self.old.state.grammar self.old.state.words tokens.now }
-        ensures status { IfOk result (GetStatus (with_inserted self.old.state word (end_of self.old.state.articles word)
-            (record { tokens = tokens.now; status = Status.Asserted })) tokens.now) }
-        ensures after { IfOk result (λ status. self.new.state ≡ with_inserted self.old.state word (end_of self.old.state.articles word)
-            (record { tokens = tokens.now; status = status })) }
-        ensures spent { IfOk result (λ status. status ≡ Status.RedBudget → (claims : List Claim)
-            → Knows (with_inserted self.old.state word (end_of self.old.state.articles word) (record { tokens = tokens.now; status = Status.Asserted })) claims
-            → ¬ IsModel self.old.interpretation claims) }
-        ensures memory { OnErr result (self.new ≡ self.old) }
-    {
-        let _ = (word, tokens, &self.kept);
-        Err(Memory)
     }
 }

@@ -141,10 +141,10 @@ kept_filtered p sessions g l h = All-filter p (IsKept g l) sessions h
 
 -- A session added
 
-pub opened_sessions : (sessions : List Session) (s : Session) → AreSessions sessions → length sessions < MOST_SESSIONS → All (λ other. other.number.0 < s.number.0) (all_plain sessions) → IsEdited s.editor → AreSessions (sessions ++ s ∷ [])
+pub opened_sessions : (sessions : List Session) (s : Session) → AreSessions sessions → length (all_plain sessions) < MOST_SESSIONS → All (λ other. other.number.0 < s.number.0) (all_plain sessions) → IsEdited s.editor → AreSessions (sessions ++ s ∷ [])
 opened_sessions sessions s are room below edited = record {
   in_order = pairs_push Rising sessions s are.in_order (λ k d bound. subst (λ (x : PlainSession). x.number.0 < s.number.0) (mapped sessions k d) (below k (plain d) (let long = length-map plain sessions in omega (arith, long, bound))));
-  few = let long = length-append sessions (s ∷ []) in omega (arith, long, room);
+  few = let long = length-append sessions (s ∷ []) in let shown = length-map plain sessions in omega (arith, long, room, shown);
   edited = All-append (λ session. IsEdited session.editor) sessions (s ∷ []) are.edited (one_holds (λ (session : Session). IsEdited session.editor) s edited);
 }
   where

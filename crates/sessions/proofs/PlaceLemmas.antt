@@ -1,5 +1,5 @@
 -- Sessions in order of their numbers: where one stands, and what a change of one makes of the list.
-use Rattle.std.proofs.Common.{◌≡◌, ℕ, zero, suc, ◌+◌, ◌<◌, ◌≤◌, eqb, List, [], ◌∷◌, ◌++◌, length, map, filter, find, All, get_or, set, Option, Some, None, Result, Ok, Err, MatchOption, IsSomeAnd, Bool, true, false, not, cond, ◌⊎◌, inl, inr, refl, sym, ap, subst, ◌∙◌, arith}
+use Rattle.std.proofs.Common.{◌≡◌, ℕ, zero, suc, ◌+◌, ◌<◌, ◌≤◌, eqb, List, [], ◌∷◌, ◌++◌, length, map, filter, find, All, get_or, set, Option, Some, None, option_map, Result, Ok, Err, MatchOption, IsSomeAnd, Bool, true, false, not, cond, ◌⊎◌, inl, inr, refl, sym, ap, subst, ◌∙◌, arith}
 use Rattle.std.specs.List.{remove, slice_get}
 use Rattle.std.specs.List.Sorted.{IsSearchInRange, IsBinarySearchResult, IsNonDecreasingBy}
 use Rattle.std.specs.Ordering.{nat_cmp, ordering_index}
@@ -22,19 +22,19 @@ abbrev pub is_numbered : SessionId → Session → Bool
 is_numbered number session = eqb session.number.0 number.0
 
 -- a session is found in the list as it is where it is found among the plain ones
-found_plain : (number : SessionId) (sessions : List Session) (o : Option Session) → find (is_numbered number) sessions ≡ o → session_of (all_plain sessions) number ≡ (λ (x : Option Session). elim x as (λ _. Option PlainSession) [ None ↦ None | Some s ↦ Some (plain s) ]) o
-found_plain number [] o h = ap (λ (x : Option Session). elim x as (λ _. Option PlainSession) [ None ↦ None | Some s ↦ Some (plain s) ]) h
-found_plain number (s ∷ ss) o h = by (eqb s.number.0 number.0) h (found_plain number ss)
+session_plain : (number : SessionId) (sessions : List Session) → session_of (all_plain sessions) number ≡ option_map plain (find (is_numbered number) sessions)
+session_plain number [] = refl
+session_plain number (s ∷ ss) = by (eqb s.number.0 number.0) (session_plain number ss)
   where
-    by : (b : Bool) → cond b (Some s) (find (is_numbered number) ss) ≡ o → ((p : Option Session) → find (is_numbered number) ss ≡ p → session_of (all_plain ss) number ≡ (λ (x : Option Session). elim x as (λ _. Option PlainSession) [ None ↦ None | Some t ↦ Some (plain t) ]) p) → cond b (Some (plain s)) (session_of (all_plain ss) number) ≡ (λ (x : Option Session). elim x as (λ _. Option PlainSession) [ None ↦ None | Some t ↦ Some (plain t) ]) o
-    by true here later = ap (λ (x : Option Session). elim x as (λ _. Option PlainSession) [ None ↦ None | Some t ↦ Some (plain t) ]) here
-    by false there later = later o there
+    by : (b : Bool) → session_of (all_plain ss) number ≡ option_map plain (find (is_numbered number) ss) → cond b (Some (plain s)) (session_of (all_plain ss) number) ≡ option_map plain (cond b (Some s) (find (is_numbered number) ss))
+    by true later = refl
+    by false later = later
 
 pub plain_none : (number : SessionId) (sessions : List Session) → find (is_numbered number) sessions ≡ None → session_of (all_plain sessions) number ≡ None
-plain_none number sessions h = found_plain number sessions None h
+plain_none number sessions h = session_plain number sessions ∙ ap (option_map plain) h
 
 pub plain_some : (number : SessionId) (sessions : List Session) (s : Session) → find (is_numbered number) sessions ≡ Some s → session_of (all_plain sessions) number ≡ Some (plain s)
-plain_some number sessions s h = found_plain number sessions (Some s) h
+plain_some number sessions s h = session_plain number sessions ∙ ap (option_map plain) h
 
 module _ (sessions : List Session) (in_order : AreInOrder sessions) (number : SessionId) where
   -- the numbers rise along the list, as a binary search asks

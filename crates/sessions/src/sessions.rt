@@ -3,7 +3,7 @@ ghost use Rattle.std.specs.Prelude.{◌≡◌, ◌+◌, ◌-◌, ◌<◌, ◌≤
 ghost use Rattle.wiki_base.specs.declared.tokens.TheConstants.{MOST_TOKENS};
 ghost use Rattle.codeco_terms.specs.GrammarParts.{GrammarParts};
 ghost use Rattle.lexicon.specs.Words.{Listed};
-ghost use Rattle.editor.specs.Editing.{typed, IsInMenu};
+ghost use Rattle.editor.specs.Editing.{typed, IsEdited, IsInMenu};
 
 use crate::session::Session;
 use codeco_checked::CheckedGrammar;
@@ -67,7 +67,8 @@ impl Sessions {
 
     /// Whether there are as many as there can be.
     pub fn is_full(&self) -> bool
-        ensures { IsTrue result ↔ (length self.now ≡ MOST_SESSIONS) }
+        ensures full { IsTrue result ↔ (length (all_plain self.now) ≡ MOST_SESSIONS) }
+        ensures room { result ≡ false → length (all_plain self.now) < MOST_SESSIONS }
     {
         self.sessions.len() == MOST_SESSIONS
     }
@@ -92,6 +93,7 @@ impl Sessions {
     pub fn session(&self, number: SessionId) -> Option<&Session>
         ensures found { option_map (λ session. plain session.now) result ≡ session_of (all_plain self.now) number }
         ensures kept { (g : GrammarParts) (lexicon : Listed) → AreKept g lexicon self.now → IfSome result (λ session. IsKept g lexicon session.now) }
+        ensures edited { IfSome result (λ session. IsEdited session.now.editor) }
     {
         match self.place_of(number) {
             Some(place) => Some(&self.sessions[place]),
@@ -108,7 +110,7 @@ impl Sessions {
         revision: Rev,
     ) -> Result<(), Memory>
         requires next { All (λ other. other.number.0 < number.0) (all_plain self.old) }
-        requires room { length self.old < MOST_SESSIONS }
+        requires room { length (all_plain self.old) < MOST_SESSIONS }
         ensures opened { OnOk result (all_plain self.new ≡ all_plain self.old ++ new_session number article revision ∷ []) }
         ensures kept { OnOk result ((lexicon : Listed) → AreKept grammar.now lexicon self.old → AreKept grammar.now lexicon self.new) }
         ensures unchanged { OnErr result (self.new ≡ self.old) }

@@ -3,4 +3,5 @@ pub mod AroundLemmas
 pub mod JudgeLemmas
 pub mod ChangeLemmas
 pub mod KeepingLemmas
+pub mod ReadLemmas
 pub mod UnwordLemmas

@@ -163,5 +163,5 @@ is_kept pages interpretation sessions last pages_kept are held = record {
       (All-map (λ (t : PlainSession). length t.tokens ≤ MOST_TOKENS) plain sessions (λ k d bound. (are.edited k d bound).few)) held.on;
   in_order = plain_in_order sessions are.in_order;
   numbered = held.numbered;
-  few = (let few = are.few in let same : length (all_plain sessions) ≡ length sessions = length-map plain sessions in omega (arith, few, same));
+  few = (let few = are.few in let same : length (all_plain sessions) ≡ length sessions = length-map sessions plain in omega (arith, few, same));
 }

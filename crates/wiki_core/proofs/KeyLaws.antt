@@ -16,6 +16,13 @@ eq_is a b is = grind (arith, nat_tests)
 pub eq_not : (a b : ℕ) → (a == b) ≡ false → a ≡ b → ⊥
 eq_not a b other is = false≢true (sym other ∙ eq_same a b is)
 
+pub eq_other : (a b : ℕ) → (a ≡ b → ⊥) → (a == b) ≡ false
+eq_other a b apart = by_test (a == b) (eq_is a b)
+  where
+    by_test : (t : Bool) → (t ≡ true → a ≡ b) → t ≡ false
+    by_test true same = absurd (apart (same refl))
+    by_test false same = refl
+
 -- what is there is one thing
 pub some_is : {X : Type 0} (x y : X) → Some x ≡ Some y → x ≡ y
 some_is {X} x y same = ap (λ (o : Option X). option_map_or (λ z. z) o x) same

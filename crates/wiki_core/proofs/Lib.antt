@@ -1,3 +1,7 @@
+pub mod ApartLemmas
+pub mod HearLemmas
 pub mod HeldLemmas
 pub mod KeyLaws
 pub mod PagesLemmas
+pub mod RunLemmas
+pub mod SeenLemmas

@@ -1,6 +1,7 @@
 -- What users learn of one another by their sessions: nothing but what they share.
-use Rattle.std.specs.Prelude.{◌≡◌, ◌==◌, ℕ, List, [], ◌∷◌, ◌++◌, if◌then◌else◌, Option, Some, option_map}
+use Rattle.std.specs.Prelude.{◌≡◌, ◌==◌, ℕ, List, [], ◌∷◌, ◌++◌, if◌then◌else◌, Option, Some, None, option_map}
 use Rattle.std.specs.List.{flat_map}
+use Rattle.std.specs.Option.{option_map_or}
 use Rattle.codeco_terms.specs.GrammarParts.{GrammarParts}
 use Rattle.wiki_talk.specs.declared.replies.Reply.{Reply}
 use Rattle.wiki_talk.specs.declared.replies.Reply.TheVariants as replies
@@ -60,13 +61,17 @@ heard_open number (answered (requests.Drop session) reply) = if session == numbe
 heard_open number (answered (requests.Commit session) (replies.Commit article status text)) = if session == number then committed ∷ [] else []
 heard_open number exchange = heard_of_words exchange
 
+-- the form of the article on which the exchange opens the session with the number, if it does
+abbrev pub opened_by : ℕ → Exchange Request Reply → Option (List ℕ)
+opened_by number (answered (requests.Begin form) (replies.Begin session)) = if session == number then Some form else None
+opened_by number exchange = None
+
 -- What the session with the number hears in all: changes of words, then that it was opened, and from there on what it hears while it
 -- is open.
 abbrev pub heard_by : ℕ → List (Exchange Request Reply) → List Heard
 heard_by number [] = []
-heard_by number (answered (requests.Begin form) (replies.Begin session) ∷ exchanges) =
-    if session == number then opened form ∷ flat_map (heard_open number) exchanges else heard_by number exchanges
-heard_by number (exchange ∷ exchanges) = heard_of_words exchange ++ heard_by number exchanges
+heard_by number (exchange ∷ exchanges) =
+    option_map_or (λ form. opened form ∷ flat_map (heard_open number) exchanges) (opened_by number exchange) (heard_of_words exchange ++ heard_by number exchanges)
 
 -- A session's tokens are a function of the grammar and of what the session heard: in any two runs over the grammar, whatever the
 -- budgets are and whatever else was asked, two sessions that heard the same have the same tokens.

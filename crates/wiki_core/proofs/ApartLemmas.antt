@@ -18,7 +18,7 @@ use Rattle.wiki_core.specs.State.{State, first_state}
 use Rattle.wiki_core.specs.Causes.{session_numbered}
 use Rattle.wiki_core.specs.Step.{StepsSession, Step}
 use Rattle.wiki_core.specs.Apart as apart
-use Rattle.wiki_core.proofs.KeyLaws.{eq_is, eq_other}
+use Rattle.wiki_core.proofs.KeyLaws.{eq_is, eq_other, some_is}
 use Rattle.wiki_core.proofs.SeenLemmas.{Own, own, own_of, RebasesOwn, ended}
 use Rattle.wiki_core.proofs.HearLemmas.{Seen, Follows, follows_one, follows_append}
 use Rattle.wiki_core.proofs.RunLemmas.{seen, IsApt, Shows, shows_same, session_told, tells_commit, tells_begin, word_shows, reword_shows, unword_shows, other_shows, put_shows, back_shows, drop_shows, commit_shows, put_other, back_other, drop_other, commit_other, commit_refused, menu_shows, refresh_shows, begin_other, begin_shows}
@@ -152,10 +152,76 @@ none_follows g old new (requests.Reword form forms) replies.Reword follows none 
 none_follows g old new (requests.Unword form) replies.Unword follows none =
     let changes = follows.1.1 in
     ap (λ (s : Seen). s.own) follows.2 ∙ changes.4 ∙ ap (ended changes.0) (rebases_none g follows.0.words old.own changes.1 none changes.3)
-none_follows g old new (requests.Word kind forms) reply follows none = ?
-none_follows g old new request reply follows none = ?
+none_follows g old new request reply follows none = ap (λ (s : Seen). s.own) follows ∙ none
 
--- an exchange that opens the session is a request for one, with its number
-opens_by : (number : ℕ) (request : Request) (reply : Reply) (form : List ℕ) → apart.opened_by number (answered request reply) ≡ Some form → (request ≡ requests.Begin form) × (reply ≡ replies.Begin number)
-opens_by number (requests.Begin form) (replies.Begin session) of is = ?
-opens_by number request reply form is = ?
+-- an exchange that opens the session is a request for one, which is told its number
+pub record Opens (number : ℕ) (request : Request) (reply : Reply) (form : List ℕ) : Type 0 where
+  pub asked : request ≡ requests.Begin form
+  pub told : reply ≡ replies.Begin number
+
+opens_by : (number : ℕ) (request : Request) (reply : Reply) (form : List ℕ) → apart.opened_by number (answered request reply) ≡ Some form → Opens number request reply form
+opens_by number (requests.Begin article) (replies.Begin session) form is = by_test (session == number) (eq_is session number) is
+  where
+    by_test : (b : Bool) → (b ≡ true → session ≡ number) → cond b (Some article) None ≡ Some form → Opens number (requests.Begin article) (replies.Begin session) form
+    by_test true same is = record { asked = ap requests.Begin (some_is article form is); told = ap replies.Begin (same refl) }
+    by_test false same is = absurd (none-some form is)
+opens_by number request reply form is = absurd (none-some form is)
+
+-- ---- runs
+
+-- all turns while the session is open
+run_open : (g : GrammarParts) (number : ℕ) (exchanges : List (Exchange Request Reply)) (old last : State) → old.pages.grammar ≡ g → IsApt old → number ≤ old.last → Turns Step old exchanges last
+    → Follows g (seen old number) (flat_map (apart.heard_open number) exchanges) (seen last number)
+run_open g number [] old last over apt below turns = ap (λ (s : State). seen s number) turns
+run_open g number (no_request ∷ exchanges) old last over apt below (next, same, rest) =
+    subst (λ (s : State). Follows g (seen s number) (flat_map (apart.heard_open number) exchanges) (seen last number)) same
+    (run_open g number exchanges next last (ap (λ (s : State). s.pages.grammar) same ∙ over) (subst IsApt (sym same) apt) (subst (λ (s : State). number ≤ s.last) (sym same) below) rest)
+run_open g number (answered request reply ∷ exchanges) old last over apt below (next, step, rest) =
+    let shows = open_step g old next number over apt below request reply step in
+    let later = shows.later in
+    follows_append g (seen old number) (apart.heard_open number (answered request reply)) (seen next number) (flat_map (apart.heard_open number) exchanges) (seen last number) shows.follows
+    (run_open g number exchanges next last shows.grammar shows.apt (omega (arith, below, later)) rest)
+
+-- all turns from before the session is open
+run_before : (g : GrammarParts) (number : ℕ) (exchanges : List (Exchange Request Reply)) (old last : State) → old.pages.grammar ≡ g → IsApt old → session_numbered old number ≡ None
+    → Turns Step old exchanges last → Follows g (seen old number) (apart.heard_by number exchanges) (seen last number)
+run_before g number [] old last over apt none turns = ap (λ (s : State). seen s number) turns
+run_before g number (no_request ∷ exchanges) old last over apt none (next, same, rest) =
+    subst (λ (s : State). Follows g (seen s number) (apart.heard_by number exchanges) (seen last number)) same
+    (run_before g number exchanges next last (ap (λ (s : State). s.pages.grammar) same ∙ over) (subst IsApt (sym same) apt) (subst (λ (s : State). session_numbered s number ≡ None) (sym same) none) rest)
+run_before g number (answered request reply ∷ exchanges) old last over apt none (next, step, rest) =
+    by_case (apart.opened_by number (answered request reply)) refl (run_before g number exchanges next last)
+  where
+    by_case : (o : Option (List ℕ)) → apart.opened_by number (answered request reply) ≡ o
+        → (next.pages.grammar ≡ g → IsApt next → session_numbered next number ≡ None → Turns Step next exchanges last → Follows g (seen next number) (apart.heard_by number exchanges) (seen last number))
+        → Follows g (seen old number)
+        (option_map_or (λ form. apart.opened form ∷ flat_map (apart.heard_open number) exchanges) o (apart.heard_of_words (answered request reply) ++ apart.heard_by number exchanges)) (seen last number)
+    by_case None is going_on =
+        let shows = before_step g old next number over apt none request reply is step in
+        let still = none_seen (session_numbered next number) (none_follows g (seen old number) (seen next number) request reply shows.follows (ap (option_map own) none)) in
+        follows_append g (seen old number) (apart.heard_of_words (answered request reply)) (seen next number) (apart.heard_by number exchanges) (seen last number) shows.follows
+        (going_on shows.grammar shows.apt still rest)
+    by_case (Some form) is going_on =
+        let opens = opens_by number request reply form is in
+        let step_on : StepsSession old (requests.Begin form) (replies.Begin number) next =
+        subst (λ (r : Reply). Step old (requests.Begin form) r next) opens.told (subst (λ (q : Request). Step old q reply next) opens.asked step) in
+        let shows = begin_shows g old next number over apt form none step_on in
+        follows_append g (seen old number) (apart.opened form ∷ []) (seen next number) (flat_map (apart.heard_open number) exchanges) (seen last number) shows.0.follows
+        (run_open g number exchanges next last shows.0.grammar shows.0.apt shows.1 rest)
+
+-- the tokens are seen
+tokens_seen : (state : State) (number : ℕ) → apart.tokens_in state number ≡ option_map (λ (o : Own). o.tokens) (seen state number).own
+tokens_seen state number = by_case (session_numbered state number)
+  where
+    by_case : (o : Option PlainSession) → option_map (λ (s : PlainSession). s.tokens) o ≡ option_map (λ (o : Own). o.tokens) (option_map own o)
+    by_case None = refl
+    by_case (Some s) = refl
+
+-- a session's tokens are a function of the grammar and of what the session heard
+pub tokens_own : (g : GrammarParts) → apart.TokensAreOwn g
+tokens_own g budget its_budget one other end its_end number its_number turns its_turns same =
+    let follows = run_before g number one (first_state g budget) end refl (omega arith) refl turns in
+    let its_follows = run_before g its_number other (first_state g its_budget) its_end refl (omega arith) refl its_turns in
+    let seen_same = follows_one g (seen (first_state g budget) number) (apart.heard_by number one) (seen end number) (seen its_end its_number) follows
+    (subst (λ (heard : List apart.Heard). Follows g (seen (first_state g budget) number) heard (seen its_end its_number)) (sym same) its_follows) in
+    tokens_seen end number ∙ ap (λ (s : Seen). option_map (λ (o : Own). o.tokens) s.own) (sym seen_same) ∙ sym (tokens_seen its_end its_number)

@@ -1,5 +1,5 @@
 -- The plain wiki: one step for each request.
-use Rattle.std.specs.Prelude.{◌≡◌, ℕ, ◌+◌, ◌-◌, ◌↔◌, Bool, IsTrue, List, [], ◌∷◌, ◌++◌, length, take, Option, Some, None, MatchBool}
+use Rattle.std.specs.Prelude.{◌≡◌, ℕ, ◌+◌, ◌-◌, ◌↔◌, Bool, IsTrue, IsUtf8, All, List, [], ◌∷◌, ◌++◌, length, take, Option, Some, None, MatchBool}
 use Rattle.wiki_base.specs.declared.numbers.WordId.{WordId}
 use Rattle.wiki_base.specs.declared.numbers.Rev.{Rev}
 use Rattle.wiki_base.specs.declared.numbers.SessionId.{SessionId}
@@ -110,10 +110,12 @@ pub record DropsToken (old : State) (number : ℕ) (reply : Reply) (new : State)
     sessions = with_change old.sessions (numbered number) (with_tokens (λ tokens. take (length tokens - 1) tokens));
   }
 
--- what is told of tokens by the grammar and the words: their menu, whether they have a derivation, and what shows them
+-- what is told of tokens by the grammar and the words: their menu, whose texts are in UTF-8, whether they have a derivation, and what
+-- shows them
 pub record TellsMenu (g : GrammarParts) (words : Listed) (tokens : List (List ℕ)) (reply : Reply) : Type 0 where
   pub menu : List (Group × List ℕ)
   pub follows : IsTextMenu g words tokens menu
+  pub texts : All (λ entry. IsUtf8 entry.1) menu
   pub whole : Bool
   pub is_whole : IsTrue whole ↔ IsSentence g words tokens
   pub answer : reply ≡ replies.Menu (told_menu menu) whole (shown g.terminals tokens)

@@ -1,9 +1,9 @@
 // Tokens that are typed and dropped, and what may follow them.
-ghost use Rattle.std.specs.Prelude.{◌≡◌, ◌<◌, length, Some, IfOk, IfErr, OnOk, OnErr};
+ghost use Rattle.std.specs.Prelude.{◌≡◌, ◌<◌, length, true, All, IsUtf8, Some, IfOk, IfErr, OnOk, OnErr};
 ghost use Rattle.wiki_base.specs.declared.tokens.TheConstants.{MOST_TOKENS};
 
 use crate::wiki::Wiki;
-use derivations::show;
+use derivations::{Menu, show};
 use editor::TypeFault;
 use lists::Copied;
 use wiki_base::{Memory, SessionId, Text8};
@@ -62,10 +62,22 @@ impl Wiki {
     {
         let editor = &self.session(number)?.editor;
         let menu = editor.menu(self.store.grammar(), self.store.lexicon())?;
+        prove!(are_texts(&menu));
         Ok(Reply::Menu {
             menu: told_menu(self.alloc, &menu)?,
             whole: editor.complete(),
             shown: show(self.alloc, self.store.grammar().grammar(), editor.tokens())?,
         })
     }
+}
+
+// Whether each text of a menu is in UTF-8, as it always is.
+fn are_texts(menu: &Menu<'_>) -> bool
+    ensures yes { result ≡ true }
+    ensures texts { All (λ entry. IsUtf8 entry.1) menu.now }
+{
+    for place in 0..menu.len() {
+        let _ = menu.get(place);
+    }
+    true
 }

@@ -5,3 +5,7 @@ pub mod ChangeLemmas
 pub mod KeepingLemmas
 pub mod ReadLemmas
 pub mod UnwordLemmas
+pub mod PassedLemmas
+pub mod OtherWords
+pub mod SameMeanings
+pub mod WordKeeping

@@ -122,11 +122,7 @@ impl Store {
         ensures absent { OnOk result (IsAbsent (IsFullOfSentences self.now.state)) }
         ensures refused { IfErr result (IsFault (IsFullOfSentences self.now.state)) }
     {
-        let mut count = 0;
-        for article in self.articles.as_slice() {
-            count += article.sentences.len();
-        }
-        if count >= MOST_SENTENCES as usize {
+        if self.sentence_count() >= MOST_SENTENCES as usize {
             Err(Fault::Refused(full(Limit::Sentences)))
         } else {
             Ok(())

@@ -123,7 +123,8 @@ impl Store {
             Request::Find { word } => self.find(word),
             Request::Words => self.words(),
             Request::Parse { text } => self.parse(text),
-            Request::Unword { word } => self.unword(word),
+            Request::Reword { word, forms } => told(self.reword(word, forms.as_slice())),
+            Request::Unword { word } => told(self.unword(word)),
             Request::Add { article, at, text } => told(self.add_sentence(article, *at, text)),
             Request::Edit { article, at, text } => told(self.edit(article, *at, text)),
             Request::Remove { article, at } => told(self.remove(article, *at)),
@@ -174,26 +175,6 @@ impl Store {
         self.last.checked_add(1)
     }
 
-    // Takes a word out, with its empty article.
-    fn unword(&mut self, text: &Text8) -> Result<Reply, Memory>
-        ensures step { IfOk result (λ reply. Step self.old.state (Request.Unword text.now) reply self.new.state) }
-        ensures memory { OnErr result (self.new ≡ self.old) }
-    {
-        let Some(word) = self.lexicon.find(text.as_str()) else {
-            return Ok(Reply::Refused(Refusal::NoWord { text: text.copy()? }));
-        };
-        match self.use_of(word) {
-            Some(place) => Ok(Reply::Refused(self.in_use(place)?)),
-            None => {
-                let place = self.place(word);
-                let _ = self.senses.remove(place);
-                self.articles.end(word);
-                let _ = self.lexicon.remove(word);
-                Ok(Reply::Unword)
-            }
-        }
-    }
-
     // Where the article of a live word stands.
     pub(crate) fn place(&self, word: WordId) -> usize
         requires { HasArticle self.now.state.articles word }
@@ -206,7 +187,7 @@ impl Store {
     }
 
     // The first place that needs a live word.
-    fn use_of(&self, word: WordId) -> Option<Place>
+    pub(crate) fn use_of(&self, word: WordId) -> Option<Place>
         ensures { (forms : TheForms) → forms_of self.now.state.words.live word ≡ Some forms
             → result ≡ option_map told_place (find (uses_word word forms) (all_placed self.now.state.articles)) }
     {
@@ -217,7 +198,7 @@ impl Store {
     }
 
     // Tells a place that needs a word.
-    fn in_use(&self, place: Place) -> Result<Refusal, Memory>
+    pub(crate) fn in_use(&self, place: Place) -> Result<Refusal, Memory>
         requires { IsSome (forms_of self.now.state.words.live place.article) }
         ensures { IfOk result (TellsPlace self.now.state (λ form place. Refusal.InUse form place) place.article place.at) }
     {

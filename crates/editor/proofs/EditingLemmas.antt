@@ -81,7 +81,7 @@ no_lexicon = record { live = []; terminals = []; last = 0 }
 
 pub nothing_edited : (g : GrammarParts) (s : Setting) → IsSound g → s ≡ record { grammar = g; tokens = []; readings = [] } → IsEdited s
 nothing_edited g s sound e =
-    subst IsEdited (sym e) (record { few = omega arith; typeable = typeable_as_kept g no_lexicon [] (nothing_typeable g no_lexicon sound) })
+    subst IsEdited (sym e) (record { few = omega arith; read = refl; typeable = typeable_as_kept g no_lexicon [] (nothing_typeable g no_lexicon sound) })
 
 -- one more token
 pub one_typeable_more : (g : GrammarParts) (l : Listed) (tokens : List (List ℕ)) (token : List ℕ) → IsTypeable g l tokens → IsBeginning g l (tokens ++ token ∷ []) → IsTypeable g l (tokens ++ token ∷ [])
@@ -98,6 +98,7 @@ pub edited_more : (g : GrammarParts) (l : Listed) (old new : Setting) (token : L
 edited_more g l old new token kept room edited e begins =
     subst IsEdited (sym e) (record {
       few = omega (arith, length-append old.tokens (token ∷ []));
+      read = length-map (readings_of l.live) (old.tokens ++ token ∷ []);
       typeable = typeable_as_kept g l (old.tokens ++ token ∷ []) (one_typeable_more g l old.tokens token (typeable_by g l old kept edited.typeable) begins);
     })
 
@@ -115,7 +116,49 @@ typeable_less s n h count le =
 
 pub edited_less : (old new : Setting) (n : ℕ) → IsEdited old → new ≡ first_of old n → IsEdited new
 edited_less old new n edited e =
-    subst IsEdited (sym e) (record { few = let few = edited.few in let short = take_short n old.tokens in omega (arith, few, short); typeable = typeable_less old n edited.typeable })
+    subst IsEdited (sym e) (record {
+      few = let few = edited.few in let short = take_short n old.tokens in omega (arith, few, short);
+      read = take_as_long n old.readings old.tokens edited.read;
+      typeable = typeable_less old n edited.typeable;
+    })
+  where
+    take_as_long : {X Y : Type 0} (m : ℕ) (xs : List X) (ys : List Y) → length xs ≡ length ys → length (take m xs) ≡ length (take m ys)
+    take_as_long zero xs ys same = refl
+    take_as_long (suc m) [] [] same = refl
+    take_as_long (suc m) [] (y ∷ ys) same = absurd (omega (arith, same))
+    take_as_long (suc m) (x ∷ xs) [] same = absurd (omega (arith, same))
+    take_as_long (suc m) (x ∷ xs) (y ∷ ys) same = let rest = take_as_long m xs ys (omega (arith, same)) in omega (arith, rest)
+
+-- The tokens that are left are the first of those that there were.
+pub record IsFront (old new : Setting) : Type 0 where
+  pub is : new ≡ first_of old (length new.tokens)
+  pub within : length new.tokens ≤ length old.tokens
+
+pub front_all : (s : Setting) → length s.readings ≡ length s.tokens → IsFront s s
+front_all s read = record {
+  is = sym (ap (λ t. setting s.grammar t (take (length s.tokens) s.readings)) (take_whole (length s.tokens) s.tokens (omega arith)) ∙ ap (setting s.grammar s.tokens) (take_whole (length s.tokens) s.readings (omega (arith, read))));
+  within = omega arith;
+}
+
+pub front_less : (old mid new : Setting) → IsFront old mid → 0 < length mid.tokens → new ≡ first_of mid (length mid.tokens - 1) → IsFront old new × (length new.tokens < length mid.tokens)
+front_less old mid new front some e =
+    let n = length mid.tokens in
+    let long : length (take (n - 1) mid.tokens) ≡ n - 1 = length-take-le (n - 1) mid.tokens (omega arith) in
+    let count : length new.tokens ≡ n - 1 = ap (λ x. length x.tokens) e ∙ long in
+    let less : n - 1 ≤ n = omega arith in
+    let first : first_of (first_of old n) (n - 1) ≡ first_of old (n - 1) =
+    ap (λ t. setting old.grammar t (take (n - 1) (take n old.readings))) (take_less (n - 1) n old.tokens less) ∙ ap (setting old.grammar (take (n - 1) old.tokens)) (take_less (n - 1) n old.readings less)
+    in
+    let within = front.within in (
+      record {
+        is = e ∙ ap (λ s. first_of s (n - 1)) front.is ∙ first ∙ ap (first_of old) (sym count);
+        within = omega (arith, count, within);
+      },
+      omega (arith, count, some),
+    )
+
+pub front_none : (old new : Setting) → IsFront old new → new.tokens ≡ [] → new ≡ record { grammar = old.grammar; tokens = []; readings = [] }
+front_none old new front none = front.is ∙ ap (λ (t : List (List ℕ)). first_of old (length t)) none
 
 -- a token that is added and dropped again
 pub dropped_again : (g : GrammarParts) (l : Listed) (old added new : Setting) (token : List ℕ) → old ≡ setting_of g l old.tokens → added ≡ setting_of g l (old.tokens ++ token ∷ []) → new ≡ first_of added (length added.tokens - 1) → new ≡ old
@@ -131,6 +174,16 @@ not_empty g l tokens token added more none =
     let long = length-append tokens (token ∷ []) in
     let same : length (tokens ++ token ∷ []) ≡ 0 = ap length (sym (ap (λ x. x.tokens) more) ∙ none) in
     absurd (omega (arith, long, same))
+
+-- What is kept
+
+-- the first tokens are kept by what the tokens are kept by
+pub front_kept : (g : GrammarParts) (l : Listed) (old new : Setting) (n : ℕ) → old ≡ setting_of g l old.tokens → new ≡ first_of old n → new ≡ setting_of g l new.tokens
+front_kept g l old new n kept e = kept_on g l new (take n old.tokens) (e ∙ ap (λ s. first_of s n) kept ∙ first_set g l old.tokens n)
+
+-- and so are no tokens
+pub nothing_kept : (g : GrammarParts) (l : Listed) (old new : Setting) → old ≡ setting_of g l old.tokens → new ≡ record { grammar = old.grammar; tokens = []; readings = [] } → new ≡ setting_of g l new.tokens
+nothing_kept g l old new kept e = front_kept g l old new 0 kept e
 
 -- Rebased tokens
 
@@ -168,4 +221,4 @@ rebased_short g l tokens rebased h =
 pub rebased_edited : (g : GrammarParts) (l : Listed) (tokens : List (List ℕ)) (s : Setting) → length tokens ≤ MOST_TOKENS → s ≡ setting_of g l s.tokens → IsRebased g l tokens s.tokens → IsEdited s
 rebased_edited g l tokens s few kept h =
     let short = rebased_short g l tokens s.tokens h in
-    record { few = omega (arith, few, short); typeable = subst IsTypeableAsKept (sym kept) (typeable_as_kept g l s.tokens h.typeable) }
+    record { few = omega (arith, few, short); read = ap (λ x. length x.readings) kept ∙ length-map (readings_of l.live) s.tokens; typeable = subst IsTypeableAsKept (sym kept) (typeable_as_kept g l s.tokens h.typeable) }

@@ -116,8 +116,8 @@ no_fault_in : (test : Rule → Bool) (rules : List Rule) (r : Rule) → Among ru
 no_fault_in test rules r h nowhere =
     let at = place_of rules r h in
     let here : at_rule test rules (1 + at.0) ≡ test r =
-        ap (λ b. b && option_map_or test (slice_get rules (1 + at.0 - 1)) false) (is_positive at.0) ∙ ap (λ k. option_map_or test (slice_get rules k) false) (one_less at.0)
-        ∙ ap (λ o. option_map_or test o false) at.1
+    ap (λ b. b && option_map_or test (slice_get rules (1 + at.0 - 1)) false) (is_positive at.0) ∙ ap (λ k. option_map_or test (slice_get rules k) false) (one_less at.0)
+    ∙ ap (λ o. option_map_or test o false) at.1
     in
     false_from (test r) (λ t. nowhere (1 + at.0) (here ∙ t))
 
@@ -216,7 +216,7 @@ some_value declared.Undeclared = Atom 0
 some_value declared.Words = Word (record { 0 = 0 })
 some_value declared.Positions = Pos 0
 some_value (declared.Atoms []) = Atom 0
-some_value (declared.Atoms (a ∷ as)) = Atom a
+some_value (declared.Atoms (a ∷ bs)) = Atom a
 
 zero_within : (n : ℕ) → nat_le 0 n ≡ true
 zero_within n = grind (arith, nat_tests)
@@ -227,7 +227,7 @@ some_value_fits s declared.Undeclared h k = h
 some_value_fits s declared.Words h k = refl
 some_value_fits s declared.Positions h k = zero_within (length s.tokens)
 some_value_fits s (declared.Atoms []) h k = k
-some_value_fits s (declared.Atoms (a ∷ as)) h k = among_has (a ∷ as) a (inl refl)
+some_value_fits s (declared.Atoms (a ∷ bs)) h k = among_has (a ∷ bs) a (inl refl)
 
 -- it is one of the same values
 some_value_fits_same : (s : Setting) (d e : Declared) → same_values d e ≡ true → is_declared d ≡ true → has_values d ≡ true → is_value s e (some_value d) ≡ true
@@ -242,11 +242,11 @@ some_value_fits_same s declared.Positions declared.Words same h k = same
 some_value_fits_same s declared.Positions declared.Positions same h k = zero_within (length s.tokens)
 some_value_fits_same s declared.Positions (declared.Atoms ys) same h k = same
 some_value_fits_same s (declared.Atoms []) e same h k = true_is_false (sym k)
-some_value_fits_same s (declared.Atoms (a ∷ as)) declared.Undeclared same h k = same
-some_value_fits_same s (declared.Atoms (a ∷ as)) declared.Words same h k = same
-some_value_fits_same s (declared.Atoms (a ∷ as)) declared.Positions same h k = same
-some_value_fits_same s (declared.Atoms (a ∷ as)) (declared.Atoms ys) same h k =
-    first_of_and (has ys a) (list_all (has ys) as) (first_of_and (list_all (has ys) (a ∷ as)) (list_all (has (a ∷ as)) ys) same)
+some_value_fits_same s (declared.Atoms (a ∷ bs)) declared.Undeclared same h k = same
+some_value_fits_same s (declared.Atoms (a ∷ bs)) declared.Words same h k = same
+some_value_fits_same s (declared.Atoms (a ∷ bs)) declared.Positions same h k = same
+some_value_fits_same s (declared.Atoms (a ∷ bs)) (declared.Atoms ys) same h k =
+    first_of_and (has ys a) (list_all (has ys) bs) (first_of_and (list_all (has ys) (a ∷ bs)) (list_all (has (a ∷ bs)) ys) same)
 
 -- An instance
 
@@ -300,13 +300,13 @@ chosen_fits g sound r h s same f x k = by (feature_at x (rule_features r)) (firs
     by None no = true_is_false (sym (number_is_same x) ∙ no (f, Var x) k)
     by (Some n) yes =
         let one : list_any (λ (w : ℕ × Term). same_variable yes.0 w.1 && not (same_values (values_of g n) (values_of g w.0))) (rule_features r) ≡ false =
-            none_passes (λ (v : ℕ × Term). list_any (λ (w : ℕ × Term). same_variable v.1 w.1 && not (same_values (values_of g v.0) (values_of g w.0))) (rule_features r)) (rule_features r) (n, yes.0) (is_unmixed g sound r h) yes.1
+        none_passes (λ (v : ℕ × Term). list_any (λ (w : ℕ × Term). same_variable v.1 w.1 && not (same_values (values_of g v.0) (values_of g w.0))) (rule_features r)) (rule_features r) (n, yes.0) (is_unmixed g sound r h) yes.1
         in
         let two : (same_variable yes.0 (Var x) && not (same_values (values_of g n) (values_of g f))) ≡ false =
-            none_passes (λ (w : ℕ × Term). same_variable yes.0 w.1 && not (same_values (values_of g n) (values_of g w.0))) (rule_features r) (f, Var x) one k
+        none_passes (λ (w : ℕ × Term). same_variable yes.0 w.1 && not (same_values (values_of g n) (values_of g w.0))) (rule_features r) (f, Var x) one k
         in
         let alike : same_values (values_of g n) (values_of g f) ≡ true =
-            not_false (same_values (values_of g n) (values_of g f)) (sym (ap (λ b. b && not (same_values (values_of g n) (values_of g f))) (same_as_variable x yes.0 yes.2)) ∙ two)
+        not_false (same_values (values_of g n) (values_of g f)) (sym (ap (λ b. b && not (same_values (values_of g n) (values_of g f))) (same_as_variable x yes.0 yes.2)) ∙ two)
         in
         some_value_fits_same s (values_of g n) (values_of g f) alike (is_declared_in g sound r h (n, yes.0) yes.1) (is_valued g sound n)
 
@@ -318,13 +318,13 @@ chosen_position g sound r h s x k = by (feature_at x (rule_features r)) (first_a
     by None no = zero_within (length s.tokens)
     by (Some n) yes =
         let one : list_any (λ (w : ℕ × Term). has (term_variables w.1) x && not (same_values (values_of g w.0) declared.Positions)) (rule_features r) ≡ false =
-            none_passes (λ y. list_any (λ (w : ℕ × Term). has (term_variables w.1) y && not (same_values (values_of g w.0) declared.Positions)) (rule_features r)) (flat_map positions r.body) x (is_well_placed g sound r h) k
+        none_passes (λ y. list_any (λ (w : ℕ × Term). has (term_variables w.1) y && not (same_values (values_of g w.0) declared.Positions)) (rule_features r)) (flat_map positions r.body) x (is_well_placed g sound r h) k
         in
         let two : (has (term_variables yes.0) x && not (same_values (values_of g n) declared.Positions)) ≡ false =
-            none_passes (λ (w : ℕ × Term). has (term_variables w.1) x && not (same_values (values_of g w.0) declared.Positions)) (rule_features r) (n, yes.0) one yes.1
+        none_passes (λ (w : ℕ × Term). has (term_variables w.1) x && not (same_values (values_of g w.0) declared.Positions)) (rule_features r) (n, yes.0) one yes.1
         in
         let alike : same_values (values_of g n) declared.Positions ≡ true =
-            not_false (same_values (values_of g n) declared.Positions) (sym (ap (λ b. b && not (same_values (values_of g n) declared.Positions)) (among_has (term_variables yes.0) x (variable_among x yes.0 yes.2))) ∙ two)
+        not_false (same_values (values_of g n) declared.Positions) (sym (ap (λ b. b && not (same_values (values_of g n) declared.Positions)) (among_has (term_variables yes.0) x (variable_among x yes.0 yes.2))) ∙ two)
         in
         some_value_fits_same s (values_of g n) declared.Positions alike (is_declared_in g sound r h (n, yes.0) yes.1) (is_valued g sound n)
 
@@ -381,10 +381,10 @@ put_all_from sorted (x ∷ xs) f h = elim (put_all_from (put x sorted) xs f h) [
 written_is_declared : (g : GrammarParts) → IsSound g → (name f : ℕ) → Among (features_written g name) f → is_declared (values_of g f) ≡ true
 written_is_declared g sound name f h =
     let rule : Flattened (λ (r : Rule). flat_map (λ (c : Category). if c.name == name then map (λ (p : ℕ × Term). p.0) c.feats else []) (rule_mentions r)) g.rules f =
-        from_flat_map (λ (r : Rule). flat_map (λ (c : Category). if c.name == name then map (λ (p : ℕ × Term). p.0) c.feats else []) (rule_mentions r)) g.rules f h
+    from_flat_map (λ (r : Rule). flat_map (λ (c : Category). if c.name == name then map (λ (p : ℕ × Term). p.0) c.feats else []) (rule_mentions r)) g.rules f h
     in
     let category : Flattened (λ (c : Category). if c.name == name then map (λ (p : ℕ × Term). p.0) c.feats else []) (rule_mentions rule.from) f =
-        from_flat_map (λ (c : Category). if c.name == name then map (λ (p : ℕ × Term). p.0) c.feats else []) (rule_mentions rule.from) f rule.is
+    from_flat_map (λ (c : Category). if c.name == name then map (λ (p : ℕ × Term). p.0) c.feats else []) (rule_mentions rule.from) f rule.is
     in
     let written : Mapped (λ (p : ℕ × Term). p.0) category.from.feats f = from_map (λ (p : ℕ × Term). p.0) category.from.feats f (of_name (category.from.name == name) category.from category.is) in
     subst (λ n. is_declared (values_of g n) ≡ true) (sym written.is)
@@ -425,17 +425,17 @@ chosen_instance s sound r h =
     let fs = rule_features r in
     let values = chosen_values g r in
     let chosen : (x : ℕ) → Among (rule_variables r) x → value_under values x ≡ chosen_value g fs x =
-        λ x k. value_is_chosen g fs (written_variables r) (own_paired g 16 (rule_own_features g r)) x (is_written g sound r h x k)
+    λ x k. value_is_chosen g fs (written_variables r) (own_paired g 16 (rule_own_features g r)) x (is_written g sound r h x k)
     in
     let numbers : same_numbers (map (λ (p : ℕ × Value). p.0) values) (variables_of g r) ≡ true = ap (λ ns. same_numbers ns (variables_of g r)) (chosen_numbers g r) ∙ numbers_same (variables_of g r) in
     let terms : list_all (term_fits s values) fs ≡ true = all_from (term_fits s values) fs (λ p k. term_at chosen p.0 p.1 k) in
     let places : list_all (λ x. is_value s declared.Positions (value_under values x)) (flat_map positions r.body) ≡ true =
-        all_from (λ x. is_value s declared.Positions (value_under values x)) (flat_map positions r.body)
-        (λ x k. ap (is_value s declared.Positions) (chosen x (variable_of_position r x k)) ∙ chosen_position g sound r h s x k)
+    all_from (λ x. is_value s declared.Positions (value_under values x)) (flat_map positions r.body)
+    (λ x k. ap (is_value s declared.Positions) (chosen x (variable_of_position r x k)) ∙ chosen_position g sound r h s x k)
     in
     let own : own_fit s (rule_own_features g r) (own_values r values) ≡ true =
-        ap (own_fit s (rule_own_features g r)) (paired_dropped g fs (written_variables r) (own_paired g 16 (rule_own_features g r)))
-        ∙ own_paired_fit s 16 (rule_own_features g r) (λ f k. own_at f (from_flat_map (own_features g) r.body f k))
+    ap (own_fit s (rule_own_features g r)) (paired_dropped g fs (written_variables r) (own_paired g 16 (rule_own_features g r)))
+    ∙ own_paired_fit s 16 (rule_own_features g r) (λ f k. own_at f (from_flat_map (own_features g) r.body f k))
     in
     both _ _ (both _ _ (both _ _ numbers terms) places) own
   where

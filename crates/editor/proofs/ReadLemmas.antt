@@ -198,6 +198,6 @@ beginning_readable g l tokens h token k =
         inl (terminal_at g.terminals terminal.0 token (sym (ap (λ o. option_map_or (λ (t : List ℕ). option_map_or (bytes_eq t) (slice_get g.terminals terminal.0) false) o false) at) ∙ terminal.1))
     by n at (inr asked) =
         let reads : list_any (λ reading. agrees reading asked.0) (readings_of l.live token) ≡ true =
-            sym (ap (λ o. option_map_or (λ (readings : List Ground). list_any (λ reading. agrees reading asked.0) readings) o false) (mapped_place (readings_of l.live) tokens n token at)) ∙ asked.1
+        sym (ap (λ o. option_map_or (λ (readings : List Ground). list_any (λ reading. agrees reading asked.0) readings) o false) (mapped_place (readings_of l.live) tokens n token at)) ∙ asked.1
         in
         inr (λ empty. true_is_false (sym reads ∙ ap (λ (readings : List Ground). list_any (λ reading. agrees reading asked.0) readings) empty))

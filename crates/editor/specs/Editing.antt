@@ -1,5 +1,5 @@
 -- What an editor holds, and what typing does to its tokens.
-use Rattle.std.specs.Prelude.{ℕ, ◌≤◌, List, [], ◌∷◌, length}
+use Rattle.std.specs.Prelude.{◌≡◌, ℕ, ◌≤◌, List, [], ◌∷◌, length}
 use Rattle.wiki_base.specs.declared.tokens.TheConstants.{MOST_TOKENS}
 use Rattle.codeco_terms.specs.GrammarParts.{GrammarParts}
 use Rattle.lexicon.specs.Words.{Listed}
@@ -14,9 +14,10 @@ use Rattle.chart.specs.Charts.{first_of}
 abbrev pub IsTypeableAsKept : Setting → Type 0
 IsTypeableAsKept s = (count : ℕ) → count ≤ length s.tokens → (cut : CutNode) × IsPartialDerivation (first_of s count) cut
 
--- at most 40 tokens, which are typeable by the grammar and the readings that are kept
+-- at most 40 tokens, each with its readings, which are typeable by the grammar and the readings that are kept
 pub record IsEdited (s : Setting) : Type 0 where
   pub few : length s.tokens ≤ MOST_TOKENS
+  pub read : length s.readings ≡ length s.tokens
   pub typeable : IsTypeableAsKept s
 
 -- the token that a text is typed as: a first one is read as at the start of a sentence, where a terminal may stand with its

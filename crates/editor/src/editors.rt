@@ -44,9 +44,11 @@ impl Editor {
 
     /// The editor of no tokens, which keeps a copy of the grammar.
     pub fn new(alloc: Global, grammar: &CheckedGrammar) -> Result<Editor, Memory>
-        ensures { IfOk result (λ editor. editor ≡ record { grammar = grammar.now; tokens = []; readings = [] }) }
+        ensures empty { IfOk result (λ editor. editor ≡ record { grammar = grammar.now; tokens = []; readings = [] }) }
+        ensures edited { IfOk result IsEdited }
     {
         let chart = Chart::new(alloc, grammar)?;
+        let _ = grammar.grammar();
         Ok(Editor { chart })
     }
 
@@ -108,9 +110,7 @@ impl Editor {
     pub fn clear(&mut self)
         ensures { self.new ≡ record { grammar = self.old.grammar; tokens = []; readings = [] } }
     {
-        for _ in 0..self.chart.tokens().len() {
-            self.chart.back();
-        }
+        empty(&mut self.chart);
     }
 
     /// The menu of the tokens: each token that may follow, with its group, in order of groups and bytes, each once. A
@@ -157,12 +157,21 @@ impl Editor {
         ensures kept { IfOk result (λ rebased. rebased.0 ≡ setting_of grammar.now lexicon.now rebased.0.tokens) }
         ensures tokens { IfOk result (λ rebased. IsRebased grammar.now lexicon.now self.now.tokens rebased.0.tokens) }
         ensures left_out { IfOk result (λ rebased. length rebased.0.tokens + rebased.1 ≡ length self.now.tokens) }
+        ensures edited { IfOk result (λ rebased. IsEdited rebased.0) }
     {
         let tokens = self.chart.tokens();
         let chart = longest(tokens.allocator(), grammar, lexicon, tokens.as_slice())?;
         let left_out = tokens.len() - chart.tokens().len();
         Ok((Editor { chart }, left_out as u32))
     }
+}
+
+// Drops all tokens of the chart.
+fn empty(chart: &mut Chart)
+    requires { length chart.old.readings ≡ length chart.old.tokens }
+    ensures { chart.new ≡ record { grammar = chart.old.grammar; tokens = []; readings = [] } }
+{
+    while chart.back() {}
 }
 
 // A chart of the longest prefix of the tokens that is typeable.
@@ -177,6 +186,7 @@ fn longest(
     ensures tokens { IfOk result (λ chart. IsRebased grammar.now lexicon.now tokens.now chart.tokens) }
 {
     let mut chart = Chart::new(alloc, grammar)?;
+    let _ = grammar.grammar();
     for token in tokens {
         if !chart.advance(grammar, lexicon, token)? {
             chart.back();

@@ -70,7 +70,10 @@ fn a_sentence_begins_with_these_tokens(rt: HostRuntime) -> Result<(), Fail> {
         "function: X Y Z a an every everything if no nothing something what which who name: Mary "
     );
     let kept = Editor::filter(alloc, &menu, "ev")?;
-    assert_eq!(rt; listed(alloc, &kept)?.as_str(), "function: every everything ");
+    assert_eq!(rt;
+        listed(alloc, &kept)?.as_str(),
+        "function: every everything "
+    );
     assert!(rt; !editor.complete());
     assert!(rt; !editor.back());
     Ok(())
@@ -83,9 +86,18 @@ fn a_first_token_may_be_raised(rt: HostRuntime) -> Result<(), Fail> {
     let lexicon = four_words(alloc, &grammar)?;
     let mut editor = started(alloc, &grammar, &lexicon)?;
     for text in ["", "a cat", "cat", "EVERY", "It"] {
-        assert!(rt; !typed(&rt, &mut editor, &grammar, &lexicon, text)?, "{text}");
+        assert!(rt;
+            !typed(&rt, &mut editor, &grammar, &lexicon, text)?,
+            "{text}"
+        );
     }
-    type_all(&rt, &mut editor, &grammar, &lexicon, &["Every", "cat", "sees"])?;
+    type_all(
+        &rt,
+        &mut editor,
+        &grammar,
+        &lexicon,
+        &["Every", "cat", "sees"],
+    )?;
     assert!(rt; !typed(&rt, &mut editor, &grammar, &lexicon, "A")?);
     type_all(&rt, &mut editor, &grammar, &lexicon, &["a", "dog", "."])?;
     assert_eq!(rt; editor.tokens().len(), 6);
@@ -105,7 +117,10 @@ fn references_are_offered_where_they_find_something(rt: HostRuntime) -> Result<(
     let mut editor = started(alloc, &grammar, &lexicon)?;
     type_all(&rt, &mut editor, &grammar, &lexicon, &["Mary"])?;
     let menu = editor.menu(&grammar, &lexicon)?;
-    assert_eq!(rt; listed(alloc, &menu)?.as_str(), "function: does is verb: sees ");
+    assert_eq!(rt;
+        listed(alloc, &menu)?.as_str(),
+        "function: does is verb: sees "
+    );
     type_all(&rt, &mut editor, &grammar, &lexicon, &["sees"])?;
     let menu = editor.menu(&grammar, &lexicon)?;
     assert_eq!(rt;
@@ -122,7 +137,8 @@ fn a_closed_scope_is_left_out(rt: HostRuntime) -> Result<(), Fail> {
     let lexicon = four_words(alloc, &grammar)?;
     let mut editor = started(alloc, &grammar, &lexicon)?;
     let texts = [
-        "If", "Mary", "sees", "a", "cat", "then", "Mary", "sees", "every", "dog", "and", "sees", "the",
+        "If", "Mary", "sees", "a", "cat", "then", "Mary", "sees", "every", "dog", "and", "sees",
+        "the",
     ];
     type_all(&rt, &mut editor, &grammar, &lexicon, &texts)?;
     let menu = editor.menu(&grammar, &lexicon)?;

@@ -7,12 +7,13 @@ use Rattle.wiki_base.specs.declared.numbers.SessionId.{SessionId}
 use Rattle.wiki_base.specs.declared.numbers.WordId.{WordId}
 use Rattle.codeco_terms.specs.GrammarParts.{GrammarParts}
 use Rattle.lexicon.specs.Words.{Listed}
+use Rattle.derivation_trees.specs.Settings.{Setting}
 use Rattle.editor.specs.Editing.{IsEdited}
 use Rattle.sessions.proofs.OrderLaws.{pairs_tail, pairs_head}
 use Rattle.sessions.proofs.PlaceLemmas.{session_at, with_change-set, without_session-remove}
 use Rattle.sessions.specs.declared.session.Session.{Session}
 use Rattle.sessions.specs.declared.sessions.TheConstants.{MOST_SESSIONS}
-use Rattle.sessions.specs.Sessions.{PlainSession, plain, all_plain, is_on, session_of, AreInOrder, with_change, without_session, without_article, IsRebasedSession, AreRebased, IsKept, AreKept, AreKeptOn, AreSessions}
+use Rattle.sessions.specs.Sessions.{PlainSession, plain, all_plain, is_on, session_of, with_tokens, AreInOrder, with_change, without_session, without_article, IsRebasedSession, AreRebased, IsKept, AreKept, AreKeptOn, AreSessions}
 use Rattle.sessions.specs.Places.{IsPlaceOf}
 
 abbrev Rising : Session → Session → Type 0
@@ -61,6 +62,11 @@ all_remove P (x ∷ xs) (suc place) h = by (all_remove P xs place (λ k d bound.
     by : All P (remove xs place) → All P (x ∷ remove xs place)
     by rest zero d bound = h zero d (omega arith)
     by rest (suc k) d bound = rest k d (omega (arith, bound))
+
+-- The session with another editor
+
+pub plain_edited : (found : Session) (edited : Setting) (change : List (List ℕ) → List (List ℕ)) → edited.tokens ≡ change found.editor.tokens → plain (record found { editor = edited }) ≡ with_tokens change (plain found)
+plain_edited found edited change e = ap (λ (t : List (List ℕ)). with_tokens (λ _. t) (plain found)) e
 
 -- The list as it is kept, and the session that stands at the place of the one with the number
 

@@ -6,3 +6,4 @@ pub mod MenuLemmas
 pub mod PagesLemmas
 pub mod RunLemmas
 pub mod SeenLemmas
+pub mod ToldLemmas

@@ -49,7 +49,8 @@ impl Wiki {
     /// A wiki without words and sessions, over a grammar in which each rule has a label. A search may take `budget` steps.
     pub fn new(alloc: Global, grammar: CheckedGrammar, budget: u64) -> Result<Wiki, Memory>
         requires { IsTrue (is_labelled grammar) }
-        ensures { IfOk result (λ wiki. wiki ≡ first_holding grammar budget) }
+        ensures first { IfOk result (λ wiki. wiki ≡ first_holding grammar budget) }
+        ensures apart { TokensAreOwn grammar }
     {
         let store = Store::new(alloc, grammar, budget)?;
         Ok(Wiki {

@@ -9,3 +9,5 @@ pub mod PassedLemmas
 pub mod OtherWords
 pub mod SameMeanings
 pub mod WordKeeping
+pub mod FindLemmas
+pub mod RewordLemmas

@@ -78,7 +78,7 @@ impl Store {
     // Whether each sentence keeps its meaning by other words, where those without the old forms of a word do.
     fn unbroken(&self, forms: &Forms, lexicon: &Lexicon) -> Result<(), Fault>
         requires { KeepsOthers self.now.state.grammar self.now.state.words lexicon.now forms.now.texts }
-        ensures keep { OnOk result (All (λ sentence. KeepsMeaning self.now.state.grammar self.now.state.words lexicon.now sentence.tokens) (sentences_in self.now.state.articles)) }
+        ensures keep { OnOk result (All (λ placed. KeepsMeaning self.now.state.grammar self.now.state.words lexicon.now placed.sentence.tokens) (all_placed self.now.state.articles)) }
         ensures refused { IfErr result (IsFault (IsBroken self.now.state lexicon.now)) }
     {
         let found = first_broken(

@@ -38,6 +38,8 @@ impl Store {
         requires { IsGone self.old.state word lexicon }
         ensures { self.new ≡ record self.old { state = record self.old.state { words = lexicon; articles = without_article self.old.state.articles word } } }
     {
+        let _ = self.lexicon.len();
+        let _ = self.articles.len();
         let place = self.place(word);
         let _ = self.senses.remove(place);
         self.articles.end(word);

@@ -1,6 +1,6 @@
 -- Tokens that are typeable as they are kept, as they come and go.
-use Rattle.std.proofs.Common.{◌≡◌, ℕ, zero, suc, ◌+◌, ◌-◌, ◌<◌, ◌≤◌, List, [], ◌∷◌, ◌++◌, map, length, take, length-append, ◌⊎◌, inl, inr, refl, sym, ap, subst, ◌∙◌, arith}
-use Rattle.std.proofs.lemmas.List.{take-map, length-take-le, length-map}
+use Rattle.std.proofs.Common.{◌≡◌, ℕ, zero, suc, ◌+◌, ◌-◌, ◌<◌, ◌≤◌, List, [], ◌∷◌, ◌++◌, Bool, true, false, map, length, take, get_or, length-append, ◌⊎◌, inl, inr, refl, sym, ap, subst, ◌∙◌, arith, IsTrue, ◌↔◌, Result, Ok, Err, OnOk, OnErr}
+use Rattle.std.proofs.lemmas.List.{take-map, take_more, length-take-le, length-map}
 use Rattle.std.proofs.lemmas.Bool.{cases_lt}
 use Rattle.wiki_base.specs.declared.tokens.TheConstants.{MOST_TOKENS}
 use Rattle.codeco_terms.specs.declared.categories.Ground.{Ground}
@@ -12,8 +12,9 @@ use Rattle.derivation_trees.specs.Settings.{Setting}
 use Rattle.derivation_trees.specs.Partial.{CutNode, IsPartialDerivation, IsBeginning, IsTypeable}
 use Rattle.derivation_trees.specs.Sentences.{setting_of}
 use Rattle.chart.specs.Charts.{first_of}
-use Rattle.editor.specs.Editing.{IsTypeableAsKept, IsEdited}
+use Rattle.editor.specs.Editing.{IsTypeableAsKept, IsEdited, IsInMenu}
 use Rattle.editor.specs.Rebasing.{IsRebased}
+use Rattle.derivations.proofs.Members.{true_is_false}
 use Rattle.editor.proofs.NothingLemmas.{begins_with_nothing}
 
 abbrev HasBeginning : Setting → Type 0
@@ -98,7 +99,7 @@ pub edited_more : (g : GrammarParts) (l : Listed) (old new : Setting) (token : L
 edited_more g l old new token kept room edited e begins =
     subst IsEdited (sym e) (record {
       few = omega (arith, length-append old.tokens (token ∷ []));
-      read = length-map (readings_of l.live) (old.tokens ++ token ∷ []);
+      read = length-map (old.tokens ++ token ∷ []) (readings_of l.live);
       typeable = typeable_as_kept g l (old.tokens ++ token ∷ []) (one_typeable_more g l old.tokens token (typeable_by g l old kept edited.typeable) begins);
     })
 
@@ -128,6 +129,11 @@ edited_less old new n edited e =
     take_as_long (suc m) [] (y ∷ ys) same = absurd (omega (arith, same))
     take_as_long (suc m) (x ∷ xs) [] same = absurd (omega (arith, same))
     take_as_long (suc m) (x ∷ xs) (y ∷ ys) same = let rest = take_as_long m xs ys (omega (arith, same)) in omega (arith, rest)
+
+-- the last token is dropped, if there is one
+pub edited_back : (old new : Setting) (dropped : Bool) → IsEdited old → (dropped ≡ false → (old.tokens ≡ []) × (new ≡ old)) → (dropped ≡ true → (0 < length old.tokens) × (new ≡ first_of old (length old.tokens - 1))) → IsEdited new
+edited_back old new true edited none last = edited_less old new (length old.tokens - 1) edited (last refl).1
+edited_back old new false edited none last = subst IsEdited (sym (none refl).1) edited
 
 -- The tokens that are left are the first of those that there were.
 pub record IsFront (old new : Setting) : Type 0 where
@@ -175,6 +181,12 @@ not_empty g l tokens token added more none =
     let same : length (tokens ++ token ∷ []) ≡ 0 = ap length (sym (ap (λ x. x.tokens) more) ∙ none) in
     absurd (omega (arith, long, same))
 
+-- a token that is added and then dropped, as far as it is dropped
+pub undone : (g : GrammarParts) (l : Listed) (old added new : Setting) (token : List ℕ) (dropped : Bool) → old ≡ setting_of g l old.tokens → added ≡ setting_of g l (old.tokens ++ token ∷ [])
+    → (dropped ≡ false → (added.tokens ≡ []) × (new ≡ added)) → (dropped ≡ true → (0 < length added.tokens) × (new ≡ first_of added (length added.tokens - 1))) → new ≡ old
+undone g l old added new token true kept more none last = dropped_again g l old added new token kept more (last refl).1
+undone g l old added new token false kept more none last = absurd (not_empty g l old.tokens token added more (none refl).0)
+
 -- What is kept
 
 -- the first tokens are kept by what the tokens are kept by
@@ -221,4 +233,50 @@ rebased_short g l tokens rebased h =
 pub rebased_edited : (g : GrammarParts) (l : Listed) (tokens : List (List ℕ)) (s : Setting) → length tokens ≤ MOST_TOKENS → s ≡ setting_of g l s.tokens → IsRebased g l tokens s.tokens → IsEdited s
 rebased_edited g l tokens s few kept h =
     let short = rebased_short g l tokens s.tokens h in
-    record { few = omega (arith, few, short); read = ap (λ x. length x.readings) kept ∙ length-map (readings_of l.live) s.tokens; typeable = subst IsTypeableAsKept (sym kept) (typeable_as_kept g l s.tokens h.typeable) }
+    record { few = omega (arith, few, short); read = ap (λ x. length x.readings) kept ∙ length-map s.tokens (readings_of l.live); typeable = subst IsTypeableAsKept (sym kept) (typeable_as_kept g l s.tokens h.typeable) }
+
+-- The tokens that are taken one after another
+
+step_is : (g : GrammarParts) (l : Listed) (tokens : List (List ℕ)) (i : ℕ) (chart : Setting) (token : List ℕ) → i < length tokens → token ≡ get_or tokens i token → chart ≡ setting_of g l (take i tokens) → chart.tokens ++ token ∷ [] ≡ take (i + 1) tokens
+step_is g l tokens i chart token lt at e =
+    ap (λ x. x.tokens ++ token ∷ []) e ∙ ap (λ (t : List ℕ). take i tokens ++ t ∷ []) at ∙ sym (take_more tokens i token lt)
+
+-- one more of them goes on
+pub longest_more : (g : GrammarParts) (l : Listed) (tokens : List (List ℕ)) (i : ℕ) (chart new : Setting) (token : List ℕ) (goes_on : Bool) → i < length tokens → token ≡ get_or tokens i token → chart ≡ setting_of g l (take i tokens) → IsTypeable g l (take i tokens)
+    → new ≡ setting_of g l (chart.tokens ++ token ∷ []) → IsTrue goes_on ↔ IsBeginning g l (chart.tokens ++ token ∷ []) → goes_on ≡ true → (new ≡ setting_of g l (take (i + 1) tokens)) × IsTypeable g l (take (i + 1) tokens)
+longest_more g l tokens i chart new token goes_on lt at e typeable more begins is =
+    let step = step_is g l tokens i chart token lt at e in
+    let own : take i tokens ++ token ∷ [] ≡ chart.tokens ++ token ∷ [] = ap (λ x. x.tokens ++ token ∷ []) (sym e) in
+    (more ∙ ap (setting_of g l) step, subst (IsTypeable g l) (own ∙ step) (one_typeable_more g l (take i tokens) token typeable (subst (IsBeginning g l) (sym own) (begins.0 is))))
+
+-- or it doesn't, and is dropped again
+pub longest_stops : (g : GrammarParts) (l : Listed) (tokens : List (List ℕ)) (i : ℕ) (chart added new : Setting) (token : List ℕ) (goes_on dropped : Bool) → i < length tokens → token ≡ get_or tokens i token → chart ≡ setting_of g l (take i tokens) → IsTypeable g l (take i tokens)
+    → added ≡ setting_of g l (chart.tokens ++ token ∷ []) → IsTrue goes_on ↔ IsBeginning g l (chart.tokens ++ token ∷ []) → goes_on ≡ false
+    → (dropped ≡ false → (added.tokens ≡ []) × (new ≡ added)) → (dropped ≡ true → (0 < length added.tokens) × (new ≡ first_of added (length added.tokens - 1))) → IsRebased g l tokens new.tokens
+longest_stops g l tokens i chart added new token goes_on dropped lt at e typeable more begins is none last =
+    let back : new ≡ chart = undone g l chart added new token dropped (kept_on g l chart (take i tokens) e) more none last in
+    let step = step_is g l tokens i chart token lt at e in
+    rebased_before g l tokens new.tokens i lt (ap (λ x. x.tokens) (back ∙ e)) typeable (λ h. true_is_false (sym (begins.1 (subst (IsBeginning g l) (sym step) h)) ∙ is))
+
+-- What is known of an editor, as it is kept
+
+pub view_kept : (g : GrammarParts) (l : Listed) (inside s : Setting) → inside ≡ s → s ≡ setting_of g l s.tokens → inside ≡ setting_of g l inside.tokens
+view_kept g l inside s view kept = subst (λ x. x ≡ setting_of g l x.tokens) (sym view) kept
+
+pub view_room : (inside s : Setting) → inside ≡ s → length s.tokens < MOST_TOKENS → length inside.tokens < MOST_TOKENS
+view_room inside s view room = subst (λ x. length x.tokens < MOST_TOKENS) (sym view) room
+
+-- An editor after a text was typed or not, and after its last token was dropped or not
+
+pub typed_edited : {X Y : Type 0} (r : Result X Y) (g : GrammarParts) (l : Listed) (old new : Setting) (token : List ℕ) → old ≡ setting_of g l old.tokens → length old.tokens < MOST_TOKENS → IsEdited old
+    → OnOk r (new ≡ setting_of g l (old.tokens ++ token ∷ [])) → OnOk r (IsInMenu g l old.tokens token) → OnErr r (new ≡ old) → IsEdited new
+typed_edited (Ok x) g l old new token kept room edited added offered unchanged = edited_more g l old new token kept room edited added offered.1.goes_on
+typed_edited (Err y) g l old new token kept room edited added offered unchanged = subst IsEdited (sym unchanged) edited
+
+pub typed_kept : {X Y : Type 0} (r : Result X Y) (g : GrammarParts) (l : Listed) (old new : Setting) (tokens : List (List ℕ)) → old ≡ setting_of g l old.tokens → OnOk r (new ≡ setting_of g l tokens) → OnErr r (new ≡ old) → new ≡ setting_of g l new.tokens
+typed_kept (Ok x) g l old new tokens kept added unchanged = kept_on g l new tokens added
+typed_kept (Err y) g l old new tokens kept added unchanged = subst (λ s. s ≡ setting_of g l s.tokens) (sym unchanged) kept
+
+pub back_kept : (g : GrammarParts) (l : Listed) (old new : Setting) (dropped : Bool) → old ≡ setting_of g l old.tokens → (dropped ≡ false → (old.tokens ≡ []) × (new ≡ old)) → (dropped ≡ true → (0 < length old.tokens) × (new ≡ first_of old (length old.tokens - 1))) → new ≡ setting_of g l new.tokens
+back_kept g l old new true kept none last = front_kept g l old new (length old.tokens - 1) kept (last refl).1
+back_kept g l old new false kept none last = subst (λ s. s ≡ setting_of g l s.tokens) (sym (none refl).1) kept

@@ -1,8 +1,9 @@
 -- Texts that are terminals or forms of live words.
-use Rattle.std.proofs.Common.{◌≡◌, ℕ, List, [], ◌∷◌, Bool, true, false, ◌⊎◌, inl, inr, Option, Some, None, find, option_map, is_some, refl, sym, ap, subst, ◌∙◌, All, Contains, IsTrue, All-contains}
+use Rattle.std.proofs.Common.{◌≡◌, ℕ, List, [], ◌∷◌, Bool, true, false, ◌⊎◌, inl, inr, Option, Some, None, find, option_map, is_some, refl, sym, ap, subst, ◌∙◌, All, Contains, IsTrue, ◌↔◌}
 use Rattle.std.specs.Prelude.{if◌then◌else◌}
 use Rattle.std.specs.Str.{IsUtf8, bytes_eq}
 use Rattle.std.specs.List.{list_any, list_all}
+use Rattle.std.proofs.lemmas.List.Elements.{All-contains}
 use Rattle.std.proofs.lemmas.Slice.Eq.{bytes_eq-Decides}
 use Rattle.wiki_base.specs.declared.numbers.WordId.{WordId}
 use Rattle.wiki_base.specs.Text.{IsText}
@@ -85,7 +86,7 @@ nothing_known g l text terminal none h = by h.0 h.1
 
 -- Tokens
 
-terminal_is_token : (g : GrammarParts) (text : List ℕ) → IsSound g → is_terminal g.terminals text ≡ true → IsToken text
+pub terminal_is_token : (g : GrammarParts) (text : List ℕ) → IsSound g → is_terminal g.terminals text ≡ true → IsToken text
 terminal_is_token g text sound h =
     let one : Passing (bytes_eq text) g.terminals = any_passes (bytes_eq text) g.terminals h in
     let same : text ≡ one.one = (bytes_eq-Decides text one.one).0 one.passes in
@@ -96,8 +97,8 @@ form_is_token l text group is utf8 h =
     let word : Word = h.0 in
     let one : Passing (bytes_eq text) word.forms.texts = any_passes (bytes_eq text) word.forms.texts h.3 in
     let same : text ≡ one.one = (bytes_eq-Decides text one.one).0 one.passes in
-    let spelled : All IsText word.forms.texts = All-contains l.live word is.spelled h.1 in
-    text_token text utf8 (subst IsText (sym same) (All-contains word.forms.texts one.one spelled (among_contains word.forms.texts one.one one.among)))
+    let spelled : All IsText word.forms.texts = All-contains (λ (w : Word). All IsText w.forms.texts) l.live word is.spelled h.1 in
+    text_token text utf8 (subst IsText (sym same) (All-contains IsText word.forms.texts one.one spelled (among_contains word.forms.texts one.one one.among)))
 
 pub known_is_token : (g : GrammarParts) (l : Listed) (text : List ℕ) → IsSound g → IsLexicon l → IsUtf8 text → IsKnown g l text → IsToken text
 known_is_token g l text sound is utf8 h = by h.0 h.1
@@ -109,3 +110,19 @@ known_is_token g l text sound is utf8 h = by h.0 h.1
     by Of k = form_is_token l text Of is utf8 k
     by Verb k = form_is_token l text Verb is utf8 k
     by Adjective k = form_is_token l text Adjective is utf8 k
+
+-- A text that is no terminal, by what is found of it
+
+pub known_by_owner : (g : GrammarParts) (l : Listed) (text : List ℕ) (o : Option WordId) (b : Bool) → is_terminal g.terminals text ≡ false → o ≡ owner l.live text → b ≡ is_some o → IsTrue b ↔ IsKnown g l text
+known_by_owner g l text None b terminal e test = (λ t. true_is_false (sym t ∙ test), λ k. absurd (nothing_known g l text terminal (sym e) k))
+known_by_owner g l text (Some id) b terminal e test = (λ t. owner_known g l text id (sym e), λ k. test)
+
+pub token_by_owner : (l : Listed) (text : List ℕ) (o : Option WordId) (b : Bool) → IsLexicon l → IsUtf8 text → o ≡ owner l.live text → b ≡ is_some o → b ≡ true → IsToken text
+token_by_owner l text None b is utf8 e test t = true_is_false (sym t ∙ test)
+token_by_owner l text (Some id) b is utf8 e test t = by (find (has_form text) l.live) refl (sym e)
+  where
+    by : (word : Option Word) → find (has_form text) l.live ≡ word → option_map (λ w. w.id) word ≡ Some id → IsToken text
+    by None found h = cc
+    by (Some word) found h =
+        let one = found_word (has_form text) l.live word found in
+        form_is_token l text (group_of word.forms.kind) is utf8 (word, among_contains l.live word one.0, refl, one.1)

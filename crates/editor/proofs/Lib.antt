@@ -3,3 +3,4 @@ pub mod EditingLemmas
 pub mod KnownLemmas
 pub mod ReadLemmas
 pub mod WordLemmas
+pub mod FilterLemmas

@@ -275,8 +275,8 @@ first_at [] x = λ p k. absurd k
 first_at (p ∷ fs) x = by (is_variable x p.1) refl (feature_at x fs) (first_at fs x)
   where
     later : (o : Option ℕ) → is_variable x p.1 ≡ false → IsFirstAt fs x o → IsFirstAt (p ∷ fs) x o
-    later None no rest = λ q k. elim k [ inl e ↦ ap (λ (w : ℕ × Term). is_variable x w.1) e ∙ no | inr m ↦ rest q m ]
-    later (Some f) no rest = (rest.0, inr rest.1, rest.2)
+    later None other rest = λ q k. elim k [ inl e ↦ ap (λ (w : ℕ × Term). is_variable x w.1) e ∙ other | inr m ↦ rest q m ]
+    later (Some f) other rest = (rest.0, inr rest.1, rest.2)
 
     by : (b : Bool) → is_variable x p.1 ≡ b → (o : Option ℕ) → IsFirstAt fs x o → IsFirstAt (p ∷ fs) x (if b then Some p.0 else o)
     by true e o rest = (p.1, inl refl, e)
@@ -297,36 +297,36 @@ unfolding chosen_value
 chosen_fits g sound r h s same f x k = by (feature_at x (rule_features r)) (first_at (rule_features r) x)
   where
     by : (o : Option ℕ) → IsFirstAt (rule_features r) x o → is_value s (values_of g f) (option_map_or (λ n. some_value (values_of g n)) o (Pos 0)) ≡ true
-    by None no = true_is_false (sym (number_is_same x) ∙ no (f, Var x) k)
-    by (Some n) yes =
-        let one : list_any (λ (w : ℕ × Term). same_variable yes.0 w.1 && not (same_values (values_of g n) (values_of g w.0))) (rule_features r) ≡ false =
-        none_passes (λ (v : ℕ × Term). list_any (λ (w : ℕ × Term). same_variable v.1 w.1 && not (same_values (values_of g v.0) (values_of g w.0))) (rule_features r)) (rule_features r) (n, yes.0) (is_unmixed g sound r h) yes.1
+    by None unwritten = true_is_false (sym (number_is_same x) ∙ unwritten (f, Var x) k)
+    by (Some n) written =
+        let one : list_any (λ (w : ℕ × Term). same_variable written.0 w.1 && not (same_values (values_of g n) (values_of g w.0))) (rule_features r) ≡ false =
+        none_passes (λ (v : ℕ × Term). list_any (λ (w : ℕ × Term). same_variable v.1 w.1 && not (same_values (values_of g v.0) (values_of g w.0))) (rule_features r)) (rule_features r) (n, written.0) (is_unmixed g sound r h) written.1
         in
-        let two : (same_variable yes.0 (Var x) && not (same_values (values_of g n) (values_of g f))) ≡ false =
-        none_passes (λ (w : ℕ × Term). same_variable yes.0 w.1 && not (same_values (values_of g n) (values_of g w.0))) (rule_features r) (f, Var x) one k
+        let two : (same_variable written.0 (Var x) && not (same_values (values_of g n) (values_of g f))) ≡ false =
+        none_passes (λ (w : ℕ × Term). same_variable written.0 w.1 && not (same_values (values_of g n) (values_of g w.0))) (rule_features r) (f, Var x) one k
         in
         let alike : same_values (values_of g n) (values_of g f) ≡ true =
-        not_false (same_values (values_of g n) (values_of g f)) (sym (ap (λ b. b && not (same_values (values_of g n) (values_of g f))) (same_as_variable x yes.0 yes.2)) ∙ two)
+        not_false (same_values (values_of g n) (values_of g f)) (sym (ap (λ b. b && not (same_values (values_of g n) (values_of g f))) (same_as_variable x written.0 written.2)) ∙ two)
         in
-        some_value_fits_same s (values_of g n) (values_of g f) alike (is_declared_in g sound r h (n, yes.0) yes.1) (is_valued g sound n)
+        some_value_fits_same s (values_of g n) (values_of g f) alike (is_declared_in g sound r h (n, written.0) written.1) (is_valued g sound n)
 
 chosen_position : (g : GrammarParts) → IsSound g → (r : Rule) → Among g.rules r → (s : Setting) → (x : ℕ) → Among (flat_map positions r.body) x → is_value s declared.Positions (chosen_value g (rule_features r) x) ≡ true
 unfolding chosen_value
 chosen_position g sound r h s x k = by (feature_at x (rule_features r)) (first_at (rule_features r) x)
   where
     by : (o : Option ℕ) → IsFirstAt (rule_features r) x o → is_value s declared.Positions (option_map_or (λ n. some_value (values_of g n)) o (Pos 0)) ≡ true
-    by None no = zero_within (length s.tokens)
-    by (Some n) yes =
+    by None unwritten = zero_within (length s.tokens)
+    by (Some n) written =
         let one : list_any (λ (w : ℕ × Term). has (term_variables w.1) x && not (same_values (values_of g w.0) declared.Positions)) (rule_features r) ≡ false =
         none_passes (λ y. list_any (λ (w : ℕ × Term). has (term_variables w.1) y && not (same_values (values_of g w.0) declared.Positions)) (rule_features r)) (flat_map positions r.body) x (is_well_placed g sound r h) k
         in
-        let two : (has (term_variables yes.0) x && not (same_values (values_of g n) declared.Positions)) ≡ false =
-        none_passes (λ (w : ℕ × Term). has (term_variables w.1) x && not (same_values (values_of g w.0) declared.Positions)) (rule_features r) (n, yes.0) one yes.1
+        let two : (has (term_variables written.0) x && not (same_values (values_of g n) declared.Positions)) ≡ false =
+        none_passes (λ (w : ℕ × Term). has (term_variables w.1) x && not (same_values (values_of g w.0) declared.Positions)) (rule_features r) (n, written.0) one written.1
         in
         let alike : same_values (values_of g n) declared.Positions ≡ true =
-        not_false (same_values (values_of g n) declared.Positions) (sym (ap (λ b. b && not (same_values (values_of g n) declared.Positions)) (among_has (term_variables yes.0) x (variable_among x yes.0 yes.2))) ∙ two)
+        not_false (same_values (values_of g n) declared.Positions) (sym (ap (λ b. b && not (same_values (values_of g n) declared.Positions)) (among_has (term_variables written.0) x (variable_among x written.0 written.2))) ∙ two)
         in
-        some_value_fits_same s (values_of g n) declared.Positions alike (is_declared_in g sound r h (n, yes.0) yes.1) (is_valued g sound n)
+        some_value_fits_same s (values_of g n) declared.Positions alike (is_declared_in g sound r h (n, written.0) written.1) (is_valued g sound n)
 
 -- a written variable has its chosen value
 value_is_chosen : (g : GrammarParts) (fs : List (ℕ × Term)) (xs : List ℕ) (more : List (ℕ × Value)) (x : ℕ) → Among xs x → value_under (paired g fs xs ++ more) x ≡ chosen_value g fs x
@@ -460,5 +460,5 @@ begins_with_nothing g lexicon sound =
     let rule : Passing (λ (r : Rule). r.head.name == 5) g.rules = any_passes (λ (r : Rule). r.head.name == 5) g.rules starts in
     let place = place_of g.rules rule.one rule.among in
     let values = chosen_values g rule.one in
-    let fit : fits (under values rule.one.head) text_category ≡ true = both _ _ rule.passes (all_from (λ p. list_all (same_where_both p) []) _ (λ p k. refl)) in
+    let fit : fits (under values rule.one.head) text_category ≡ true = both _ _ rule.passes (all_from (λ p. list_all (same_where_both p) []) (under values rule.one.head).values (λ p k. refl)) in
     (stopped (1 + place.0) values [] none 0, cut_at_once (setting_of g lexicon []) (1 + place.0) rule.one values (rule_numbered g place.0 rule.one place.1) fit (chosen_instance (setting_of g lexicon []) sound rule.one rule.among))

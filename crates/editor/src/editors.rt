@@ -91,7 +91,8 @@ impl Editor {
             return Err(TypeFault::NotOffered);
         }
         let token = Token::from_str(alloc, text.as_str())?;
-        if self.chart.advance(grammar, lexicon, &token)? {
+        let offered = self.chart.advance(grammar, lexicon, &token)?;
+        if offered {
             return Ok(());
         }
         self.chart.back();
@@ -140,7 +141,7 @@ impl Editor {
         let mut kept = Menu::new(alloc);
         for place in 0..menu.len() {
             let (group, text) = menu.get(place);
-            if text.starts_with(prefix) {
+            if text.as_bytes().starts_with(prefix.as_bytes()) {
                 kept.push(group, text)?;
             }
         }
@@ -188,7 +189,8 @@ fn longest(
     let mut chart = Chart::new(alloc, grammar)?;
     let _ = grammar.grammar();
     for token in tokens {
-        if !chart.advance(grammar, lexicon, token)? {
+        let goes_on = chart.advance(grammar, lexicon, token)?;
+        if !goes_on {
             chart.back();
             return Ok(chart);
         }

@@ -2,7 +2,7 @@
 use Rattle.std.proofs.Common.{◌≡◌, ℕ, zero, suc, ◌+◌, ◌<◌, ◌≤◌, eqb, List, [], ◌∷◌, ◌++◌, length, length-append, map, filter, take, All, AllPairs, get_or, set, Option, Some, IsSomeAnd, Bool, true, false, not, cond, ◌⊎◌, inl, inr, refl, sym, ap, subst, ◌∙◌, arith}
 use Rattle.std.specs.List.{remove}
 use Rattle.std.proofs.lemmas.List.Elements.{All-append, All-set, All-filter}
-use Rattle.std.proofs.lemmas.List.{length-map, length-set, map-append}
+use Rattle.std.proofs.lemmas.List.{length-map, length-set, set-get_or, map-append}
 use Rattle.wiki_base.specs.declared.numbers.SessionId.{SessionId}
 use Rattle.wiki_base.specs.declared.numbers.WordId.{WordId}
 use Rattle.codeco_terms.specs.GrammarParts.{GrammarParts}
@@ -107,6 +107,11 @@ module _ (kept sessions : List Session) (same : kept ≡ sessions) (are : AreSes
   pub kept_after : (g : GrammarParts) (l : Listed) (after : Session) → AreKept g l sessions → IsKept g l after → AreKept g l (set kept place after)
   kept_after g l after h k = All-set (IsKept g l) kept place after k (subst (AreKept g l) (sym same) h)
 
+  -- and where nothing of it is changed, nothing is
+  pub same_after : (edited : Setting) → edited ≡ found.editor → set kept place (record found { editor = edited }) ≡ sessions
+  same_after edited e =
+      ap (λ (x : Setting). set kept place (record found { editor = x })) e ∙ ap (set kept place) at ∙ set-get_or kept place found ∙ same
+
   pub still_sessions : (after : Session) → after.number ≡ found.number → IsEdited after.editor → AreSessions (set kept place after)
   still_sessions after numbered edited = record {
     in_order = in_order_same kept (set kept place after) (let long = length-set kept place after in omega (arith, long)) (number_set kept place after there (numbered ∙ ap (λ (s : Session). s.number) at ∙ default_alike)) are.in_order;
@@ -149,8 +154,8 @@ kept_filtered p sessions g l h = All-filter p (IsKept g l) sessions h
 
 pub opened_sessions : (sessions : List Session) (s : Session) → AreSessions sessions → length (all_plain sessions) < MOST_SESSIONS → All (λ other. other.number.0 < s.number.0) (all_plain sessions) → IsEdited s.editor → AreSessions (sessions ++ s ∷ [])
 opened_sessions sessions s are room below edited = record {
-  in_order = pairs_push Rising sessions s are.in_order (λ k d bound. subst (λ (x : PlainSession). x.number.0 < s.number.0) (mapped sessions k d) (below k (plain d) (let long = length-map plain sessions in omega (arith, long, bound))));
-  few = let long = length-append sessions (s ∷ []) in let shown = length-map plain sessions in omega (arith, long, room, shown);
+  in_order = pairs_push Rising sessions s are.in_order (λ k d bound. subst (λ (x : PlainSession). x.number.0 < s.number.0) (mapped sessions k d) (below k (plain d) (let long = length-map sessions plain in omega (arith, long, bound))));
+  few = let long = length-append sessions (s ∷ []) in let shown = length-map sessions plain in omega (arith, long, room, shown);
   edited = All-append (λ session. IsEdited session.editor) sessions (s ∷ []) are.edited (one_holds (λ (session : Session). IsEdited session.editor) s edited);
 }
   where

@@ -62,7 +62,7 @@ Goes g old apart.committed new = (new.words ≡ old.words) × (new.own ≡ optio
 Goes g old apart.dropped new = (new.words ≡ old.words) × (new.own ≡ None)
 Goes g old (apart.changed request) new = WordsChange old.words request new.words × OwnChanges g old.words request new.words old.own new.own
 
-seen_is : (a b : Seen) → a.words ≡ b.words → a.own ≡ b.own → a ≡ b
+pub seen_is : (a b : Seen) → a.words ≡ b.words → a.own ≡ b.own → a ≡ b
 seen_is a b same_words same_own = ap (λ (words : Listed). record { words = words; own = a.own }) same_words ∙ ap (λ (own : Option Own). record { words = b.words; own = own }) same_own
 
 -- rebased tokens are one
@@ -114,7 +114,7 @@ typed_one g words text (Some own) one other (inr (free, is)) (inr (its_free, its
 
 -- after what is heard the same is seen
 pub goes_one : (g : GrammarParts) (old : Seen) (heard : apart.Heard) (one other : Seen) → Goes g old heard one → Goes g old heard other → other ≡ one
-goes_one g old (apart.opened form) one other (same, word, named, is) (its_same, its_word, its_named, its) =
+goes_one g old (apart.opened form) one other (same, (word, named, is)) (its_same, (its_word, its_named, its)) =
     let same_word : its_word ≡ word = some_is its_word word (sym its_named ∙ named) in
     seen_is other one (its_same ∙ sym same) (its ∙ ap (λ (w : WordId). Some (record { article = w; tokens = [] })) same_word ∙ sym is)
 goes_one g old (apart.typed text) one other is its = seen_is other one (its.0 ∙ sym is.0) (typed_one g old.words text old.own one.own other.own is.1 its.1)

@@ -78,8 +78,8 @@ not_before_itself entry before = less_greater (sym before ∙ entry_total.antisy
 -- the truth of a test is one
 same_test : (a b : Bool) → (IsTrue a → IsTrue b) → (IsTrue b → IsTrue a) → b ≡ a
 same_test true true there back = refl
-same_test true false there back = sym (there refl)
-same_test false true there back = back refl
+same_test true false there back = there refl
+same_test false true there back = sym (back refl)
 same_test false false there back = refl
 
 -- what is told of tokens is one reply

@@ -50,7 +50,7 @@ pub record Shows (g : GrammarParts) (old new : State) (number : ℕ) (heard : Li
   pub follows : Follows g (seen old number) heard (seen new number)
 
 -- nothing changes
-shows_same : (g : GrammarParts) (old new : State) (number : ℕ) → old.pages.grammar ≡ g → IsApt old → new ≡ old → Shows g old new number []
+pub shows_same : (g : GrammarParts) (old new : State) (number : ℕ) → old.pages.grammar ≡ g → IsApt old → new ≡ old → Shows g old new number []
 shows_same g old new number over apt same = subst (λ (s : State). Shows g old s number []) (sym same) (record { grammar = over; apt = apt; later = omega arith; follows = refl })
 
 -- no words and no sessions change
@@ -234,9 +234,9 @@ module _ (g : GrammarParts) (old new : State) (number : ℕ) (over : old.pages.g
           ap (λ (tokens : List (List ℕ)). Some (record { article = s.article; tokens = tokens })) (empty ∙ ap (λ (tokens : List (List ℕ)). take (length tokens - 1) tokens) (sym empty))
       by_case (Some s) is (inr (there, inr (some, never))) = absurd never
 
-  mapped_twice : {f : PlainSession → PlainSession} {h : Own → Own} → ((s : PlainSession) → own (f s) ≡ h (own s)) → (o : Option PlainSession) → option_map own (option_map f o) ≡ option_map h (option_map own o)
-  mapped_twice same None = refl
-  mapped_twice same (Some s) = ap Some (same s)
+  mapped_twice : (f : PlainSession → PlainSession) (h : Own → Own) → ((s : PlainSession) → own (f s) ≡ h (own s)) → (o : Option PlainSession) → option_map own (option_map f o) ≡ option_map h (option_map own o)
+  mapped_twice f h same None = refl
+  mapped_twice f h same (Some s) = ap Some (same s)
 
   pub back_shows : (reply : Reply) → StepsSession old (requests.Back number) reply new → Shows g old new number (apart.stepped_back ∷ [])
   back_shows (replies.Refused refusal) step =
@@ -247,7 +247,7 @@ module _ (g : GrammarParts) (old new : State) (number : ℕ) (over : old.pages.g
       let sessions = with_change old.sessions (record { 0 = number }) change in
       stays sessions (rise_changed number change (λ s. refl) 0 old.last old.sessions apt) step.1.after (apart.stepped_back ∷ [])
       (one apart.stepped_back (record { words = old.pages.words; own = own_of sessions number })
-      (refl, ap (option_map own) (changed_own old.sessions number change (λ s. refl)) ∙ mapped_twice {f = change} {h = own_back} (λ s. refl) (session_of old.sessions (record { 0 = number }))))
+      (refl, ap (option_map own) (changed_own old.sessions number change (λ s. refl)) ∙ mapped_twice change own_back (λ s. refl) (session_of old.sessions (record { 0 = number }))))
 
   pub drop_shows : (reply : Reply) → StepsSession old (requests.Drop number) reply new → Shows g old new number (apart.dropped ∷ [])
   drop_shows (replies.Refused refusal) step =
@@ -268,7 +268,7 @@ module _ (g : GrammarParts) (old new : State) (number : ℕ) (over : old.pages.g
         apt = rise_changed number change (λ s. refl) 0 old.last old.sessions apt;
         later = omega arith;
         follows = one apart.committed (record { words = old.pages.words; own = own_of sessions number })
-            (refl, ap (option_map own) (changed_own old.sessions number change (λ s. refl)) ∙ mapped_twice {f = change} {h = own_emptied} (λ s. refl) (session_of old.sessions (record { 0 = number })));
+            (refl, ap (option_map own) (changed_own old.sessions number change (λ s. refl)) ∙ mapped_twice change own_emptied (λ s. refl) (session_of old.sessions (record { 0 = number })));
       })
 
   -- ---- requests on other sessions, and those that leave tokens
@@ -311,8 +311,8 @@ module _ (g : GrammarParts) (old new : State) (number : ℕ) (over : old.pages.g
       })
 
   pub commit_refused : (n : ℕ) (reply : Reply) → tells_commit reply ≡ false → StepsSession old (requests.Commit n) reply new → Shows g old new number []
-  commit_refused n (replies.Refused refusal) no step = shows_same g old new number over apt step.1
-  commit_refused n reply no step = absurd (false≢true (sym no ∙ ap tells_commit step.1.answer))
+  commit_refused n (replies.Refused refusal) not_told step = shows_same g old new number over apt step.1
+  commit_refused n reply not_told step = absurd (false≢true (sym not_told ∙ ap tells_commit step.1.answer))
 
   pub menu_shows : (n : ℕ) (reply : Reply) → StepsSession old (requests.Menu n) reply new → Shows g old new number []
   menu_shows n (replies.Refused refusal) step = shows_same g old new number over apt step.1

@@ -1,7 +1,7 @@
 pub mod AddLemmas
 pub mod AroundLemmas
-pub mod JudgeLemmas
 pub mod ChangeLemmas
+pub mod JudgeLemmas
 pub mod KeepingLemmas
 pub mod ReadLemmas
 pub mod UnwordLemmas

@@ -132,8 +132,13 @@ impl Store {
             Request::Reassert { article, at } => told(self.reassert(article, *at)),
             Request::Read { article } => told(self.read(article)),
             Request::Axioms { article, at } => told(self.axioms(article, *at)),
-            // The others wait for the calls that judge a sentence in place of another.
-            _ => Err(Memory),
+            Request::Begin { .. }
+            | Request::Put { .. }
+            | Request::Back { .. }
+            | Request::Menu { .. }
+            | Request::Commit { .. }
+            | Request::Refresh { .. }
+            | Request::Drop { .. } => unreachable!(),
         }
     }
 

@@ -1,4 +1,4 @@
-use Rattle.std.proofs.Common.{◌≡◌, ◌+◌, ◌<◌, [], List, length, set, sym, ap, subst, ◌∙◌}
+use Rattle.std.proofs.Common.{◌≡◌, ℕ, ◌+◌, ◌<◌, [], List, length, set, sym, ap, subst, ◌∙◌}
 use Rattle.std.specs.List.{remove}
 use Rattle.std.proofs.lemmas.Option.{slice_get_within}
 use Rattle.articles.specs.declared.article.Article.{Article}
@@ -33,7 +33,7 @@ index_mut-requires c =
     let around : IsAround inside.articles senses place at (at + 1) =
     around-within inside (kept_interp c.self.inside.kept) c.args.self.now c.self.view_is senses c.self.inside.kept c.self.invariant.0 c.as_slice.ensures.in_order word place c.place-place.ensures at
     c.in_ok-word.ensures.place in
-    slice_get_within senses place around.own around.meant
+    subst (λ (n : ℕ). place < n) (sym c.self.inside.senses.ok.0) (slice_get_within senses place around.own around.meant)
 
 pub remove-requires : goal.remove-requires
 remove-requires c =

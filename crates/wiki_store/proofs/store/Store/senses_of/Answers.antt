@@ -13,7 +13,7 @@ use Rattle.wiki_store.proofs.store.Store.senses_of.Goals as goal
 pub prove-unreachable-requires : goal.prove-unreachable-requires
 prove-unreachable-requires c =
     let lists = as_many_lists c.self.inside.grammar c.self.inside.lexicon c.self.inside.articles c.self.inside.senses.items c.self.invariant.0.mean in
-    c.if-prove.true (c.len.ensures.count ∙ sym lists ∙ sym c.len-2.ensures)
+    c.if-prove.true (c.len.ensures.count ∙ sym lists ∙ sym c.self.inside.senses.ok.0 ∙ sym c.len-2.ensures)
 
 pub returns : goal.returns
 returns c = λ article found.

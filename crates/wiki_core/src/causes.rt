@@ -1,5 +1,5 @@
 // What stands against a request on a session, each cause in a call of its own.
-ghost use Rattle.std.specs.Prelude.{◌≡◌, ◌≤◌, ◌<◌, length, Some, IfOk, IfErr, OnOk, IsSome};
+ghost use Rattle.std.specs.Prelude.{◌≡◌, ◌+◌, ◌≤◌, ◌<◌, length, Some, IfOk, IfErr, OnOk, IsSome};
 ghost use Rattle.wiki_base.specs.declared.tokens.TheConstants.{MOST_TOKENS as most_tokens};
 ghost use Rattle.wiki_talk.specs.declared.limits.TheConstants.{MOST_SENTENCES as most_sentences};
 ghost use Rattle.articles.specs.declared.article.TheConstants.{LAST_REVISION as the_last};

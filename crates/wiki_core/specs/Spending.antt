@@ -1,5 +1,5 @@
 -- What a step says of the model that was kept before it: no budget is told as spent where that model decides.
-use Rattle.std.specs.Prelude.{◌≡◌, List, IfSome, Option, Some, None, option_map, option_and_then}
+use Rattle.std.specs.Prelude.{◌≡◌, ℕ, List, IfSome, Option, Some, None, option_map, option_and_then}
 use Rattle.logic_terms.specs.Concept.{Claim}
 use Rattle.logic_terms.specs.Reading.{IsModel}
 use Rattle.wiki_talk.specs.declared.statuses.Status.{Status}
@@ -15,21 +15,25 @@ use Rattle.wiki_store.specs.Spending as store
 use Rattle.wiki_core.specs.State.{State}
 use Rattle.wiki_core.specs.Causes.{session_numbered}
 use Rattle.wiki_core.specs.Step.{with_last}
-use Rattle.wiki_core.specs.Holding.{Holding}
+use Rattle.wiki_core.specs.Holding.{Holding, pages_held}
 
--- the words and sentences, with the sentence of a request taken as asserted, for the requests that judge one
-abbrev pub taken_by : State → Request → Option parts.State
-taken_by old (requests.Commit number) =
+-- the words and sentences, with the tokens of a session taken as an asserted sentence at the end of its article
+abbrev pub taken_by_commit : State → ℕ → Option parts.State
+taken_by_commit old number =
     option_and_then (λ session. option_map (λ article. with_last old.pages session.article article session.tokens Asserted)
     (article_of old.pages.articles session.article)) (session_numbered old number)
-taken_by old request = store.taken_by old.pages request
 
--- the status that a reply tells of a sentence that was judged
-abbrev pub status_told : Reply → Option Status
-status_told (replies.Commit article status text) = Some status
-status_told reply = store.status_told reply
+-- the status that a reply tells of a session's tokens
+abbrev pub status_committed : Reply → Option Status
+status_committed (replies.Commit article status text) = Some status
+status_committed reply = None
+
+-- a session's tokens are red for the budget only where the kept interpretation is no model of what is known with them
+abbrev pub CommitSpendsBeyondKept : Holding → ℕ → Reply → Type 0
+CommitSpendsBeyondKept old number reply =
+    status_committed reply ≡ Some RedBudget → IfSome (taken_by_commit old.state number) (λ taken. (claims : List Claim) → Knows taken claims → ¬ IsModel old.interpretation claims)
 
 -- a new sentence is red for the budget only where the kept interpretation is no model of what is known with it
 abbrev pub SpendsBeyondKept : Holding → Request → Reply → Type 0
-SpendsBeyondKept old request reply =
-    status_told reply ≡ Some RedBudget → IfSome (taken_by old.state request) (λ taken. (claims : List Claim) → Knows taken claims → ¬ IsModel old.interpretation claims)
+SpendsBeyondKept old (requests.Commit number) reply = CommitSpendsBeyondKept old number reply
+SpendsBeyondKept old request reply = store.SpendsBeyondKept (pages_held old) request reply

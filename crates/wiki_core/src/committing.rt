@@ -32,13 +32,13 @@ impl Wiki {
     ghost use Rattle.wiki_parts.specs.Knowledge.{sentences_in};
     ghost use Rattle.wiki_core.specs.Causes.{session_numbered};
     ghost use Rattle.wiki_core.specs.Drafts.{IsDraftOf};
-    ghost use Rattle.wiki_core.specs.Spending.{SpendsBeyondKept};
+    ghost use Rattle.wiki_core.specs.Spending.{CommitSpendsBeyondKept};
     ghost use Rattle.wiki_core.specs.Step.{StepsSession, Refuses};
 
     // Makes the tokens of a session the last sentence of its article.
     pub(crate) fn commit(&mut self, number: u32) -> Result<Reply, Fault>
         ensures step { IfOk result (λ reply. StepsSession self.old.state (Request.Commit number) reply self.new.state) }
-        ensures spent { IfOk result (SpendsBeyondKept self.old (Request.Commit number)) }
+        ensures spent { IfOk result (CommitSpendsBeyondKept self.old number) }
         ensures refused { IfErr result (IsFault (Refuses self.old.state (Request.Commit number))) }
         ensures kept { OnErr result (self.new ≡ self.old) }
     {

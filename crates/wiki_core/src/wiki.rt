@@ -101,16 +101,16 @@ impl Wiki {
             Request::Word { .. } => self.add_word(request),
             Request::Reword { word, forms } => told(self.reword(word, forms.as_slice())),
             Request::Unword { word } => told(self.unword(word)),
-            Request::Find { .. }
-            | Request::Words
-            | Request::Parse { .. }
-            | Request::Add { .. }
-            | Request::Edit { .. }
-            | Request::Remove { .. }
-            | Request::Retract { .. }
-            | Request::Reassert { .. }
-            | Request::Read { .. }
-            | Request::Axioms { .. } => self.step_pages(request),
+            Request::Find { .. } => self.step_pages(request),
+            Request::Words => self.step_pages(request),
+            Request::Parse { .. } => self.step_pages(request),
+            Request::Add { .. } => self.step_pages(request),
+            Request::Edit { .. } => self.step_pages(request),
+            Request::Remove { .. } => self.step_pages(request),
+            Request::Retract { .. } => self.step_pages(request),
+            Request::Reassert { .. } => self.step_pages(request),
+            Request::Read { .. } => self.step_pages(request),
+            Request::Axioms { .. } => self.step_pages(request),
         }
     }
 }

@@ -4,6 +4,7 @@ pub mod ChangeLemmas
 pub mod JudgeLemmas
 pub mod KeepingLemmas
 pub mod ReadLemmas
+pub mod ToldLemmas
 pub mod UnwordLemmas
 pub mod PassedLemmas
 pub mod OtherWords

@@ -1,8 +1,7 @@
 -- Texts that are terminals or forms of live words.
-use Rattle.std.proofs.Common.{◌≡◌, ℕ, List, [], ◌∷◌, Bool, true, false, ◌⊎◌, inl, inr, Option, Some, None, find, option_map, is_some, refl, sym, ap, subst, ◌∙◌, All, Contains, IsTrue, ◌↔◌}
+use Rattle.std.proofs.Common.{◌≡◌, ℕ, List, [], ◌∷◌, Bool, true, false, inl, inr, Option, Some, None, find, option_map, is_some, refl, sym, ap, subst, ◌∙◌, All, IsTrue, ◌↔◌}
 use Rattle.std.specs.Prelude.{if◌then◌else◌}
 use Rattle.std.specs.Str.{IsUtf8, bytes_eq}
-use Rattle.std.specs.List.{list_any, list_all}
 use Rattle.std.proofs.lemmas.List.Elements.{All-contains}
 use Rattle.std.proofs.lemmas.Slice.Eq.{bytes_eq-Decides}
 use Rattle.wiki_base.specs.declared.numbers.WordId.{WordId}
@@ -20,7 +19,7 @@ use Rattle.derivation_trees.specs.declared.menus.Group.TheVariants.{Function, Na
 use Rattle.derivation_trees.specs.Cutting.{is_terminal}
 use Rattle.derivation_trees.specs.Menus.{group_of, IsFormIn, IsOfGroup}
 use Rattle.derivations.proofs.Members.{Among, all_among, true_is_false}
-use Rattle.derivations.proofs.CutLemmas.{Passing, any_passes, passes_any}
+use Rattle.derivations.proofs.CutLemmas.{Passing, any_passes}
 use Rattle.derivations.proofs.EntryLemmas.{contains_among, among_contains}
 use Rattle.derivations.proofs.TokenLemmas.{terminal_token, text_token}
 

@@ -1,10 +1,9 @@
 -- No tokens have a partial derivation by any checked grammar: a rule for `text` has an instance, and is cut off at once.
-use Rattle.std.proofs.Common.{◌≡◌, ℕ, zero, suc, ◌+◌, ◌-◌, ◌<◌, ◌≤◌, List, [], ◌∷◌, ◌++◌, map, filter, length, take, drop, Bool, true, false, not, ◌&&◌, ◌||◌, ◌⊎◌, inl, inr, Option, Some, None, IsTrue, refl, sym, ap, subst, ◌∙◌, arith, nat_lt, nat_le}
+use Rattle.std.proofs.Common.{◌≡◌, ℕ, zero, suc, ◌+◌, ◌-◌, ◌<◌, ◌≤◌, List, [], ◌∷◌, ◌++◌, map, filter, length, drop, Bool, true, false, not, ◌&&◌, ◌||◌, ◌⊎◌, inl, inr, Option, Some, None, refl, sym, ap, subst, ◌∙◌, arith, nat_lt, nat_le}
 use Rattle.std.specs.Prelude.{if◌then◌else◌, ◌==◌, option_and_then, option_map, slice_get, unwrap_or}
 use Rattle.std.specs.List.{flat_map, list_all, list_any, range_with_len}
 use Rattle.std.specs.Option.{option_map_or}
 use Rattle.std.proofs.lemmas.Bool.Decides.{nat_tests}
-use Rattle.wiki_base.specs.declared.numbers.WordId.{WordId}
 use Rattle.codeco_terms.specs.declared.values.Value.{Value}
 use Rattle.codeco_terms.specs.declared.values.Value.TheVariants.{Atom, Word, Pos}
 use Rattle.codeco_terms.specs.declared.values.Term.{Term}
@@ -18,16 +17,16 @@ use Rattle.codeco_terms.specs.declared.elements.Element.TheVariants.{Terminal, P
 use Rattle.codeco_terms.specs.declared.rules.Rule.{Rule}
 use Rattle.codeco_terms.specs.GrammarParts.{GrammarParts}
 use Rattle.codeco_checked.specs.declared.fault.GrammarFault.TheVariants.{TooLarge, Undeclared, BadValue, NoStart}
-use Rattle.codeco_checked.specs.Numbering.{has, counts_up, count_different, is_declared, declared_atoms, variables_count_up}
+use Rattle.codeco_checked.specs.Numbering.{has, counts_up, count_different, is_declared, variables_count_up}
 use Rattle.codeco_checked.specs.Occurrences.{mentions, rule_mentions, rule_features, rule_variables, term_variables, category_variables, element_variables, positions}
-use Rattle.codeco_checked.specs.Faults.{values_of, features_written, is_large_rule, is_too_large, at_rule, is_undeclared_rule, same_values, same_variable, has_mixed_variable, has_wrong_position, is_bad_rule, is_bad_value, has_start}
-use Rattle.codeco_checked.specs.Sound.{IsSound, has_values, is_empty}
+use Rattle.codeco_checked.specs.Faults.{values_of, features_written, is_large_rule, at_rule, is_undeclared_rule, same_values, same_variable, has_mixed_variable, has_wrong_position, is_bad_rule, has_start}
+use Rattle.codeco_checked.specs.Sound.{IsSound, has_values}
 use Rattle.lexicon.specs.Words.{Listed}
 use Rattle.derivation_trees.specs.Trees.{none}
 use Rattle.derivation_trees.specs.Settings.{Setting, is_value, fits_feature}
 use Rattle.derivation_trees.specs.Instances.{looked_up, value_under, under, put, put_all, features_of, left_out, own_features, rule_own_features, written_variables, variables_of, same_numbers, term_fits, own_fit, own_values, is_instance}
-use Rattle.derivation_trees.specs.Derives.{At, Stand, fits, begun, run, same_where_both, rule_with, text_category}
-use Rattle.derivation_trees.specs.Partial.{CutNode, stopped, used_up, front, cut_end, IsBeginning}
+use Rattle.derivation_trees.specs.Derives.{Stand, fits, run, same_where_both, rule_with, text_category}
+use Rattle.derivation_trees.specs.Partial.{stopped, used_up, front, cut_end, IsBeginning}
 use Rattle.derivation_trees.specs.Sentences.{setting_of}
 use Rattle.derivations.specs.Enumeration.{is_variable, feature_at}
 use Rattle.derivations.proofs.Members.{Among, among_left, among_right, among_flat_map, all_among, map_of, first_of_and, second_of_and, true_is_false}

@@ -1,7 +1,7 @@
 -- A word that is added gives no token that is typed another reading.
-use Rattle.std.proofs.Common.{◌≡◌, ℕ, suc, ◌+◌, ◌≤◌, List, [], ◌∷◌, ◌++◌, map, length, take, Bool, true, false, ◌||◌, ◌⊎◌, inl, inr, Option, Some, None, find, option_map, refl, sym, ap, subst, ◌∙◌, arith, append-nil}
+use Rattle.std.proofs.Common.{◌≡◌, ℕ, ◌+◌, List, [], ◌∷◌, ◌++◌, map, Bool, true, false, ◌||◌, inl, inr, Option, Some, None, find, option_map, refl, sym, ap, ◌∙◌}
 use Rattle.std.specs.Prelude.{if◌then◌else◌}
-use Rattle.std.specs.List.{flat_map, list_any}
+use Rattle.std.specs.List.{flat_map}
 use Rattle.std.specs.Option.{option_or}
 use Rattle.std.specs.Str.{bytes_eq}
 use Rattle.std.proofs.lemmas.Slice.Eq.{bytes_eq-Decides}
@@ -14,11 +14,10 @@ use Rattle.lexicon.specs.declared.words.Word.{Word}
 use Rattle.lexicon.specs.declared.words.LexFault.{LexFault}
 use Rattle.lexicon.specs.declared.words.LexFault.TheVariants.{Taken, Reserved}
 use Rattle.lexicon.specs.Words.{Listed, is_among, has_form, owner, next_word, with_word, first_taken, first_reserved, fullness, forms_refusal, add_refusal}
-use Rattle.lexicon.specs.Terminals.{is_reserved, is_spelling_of, matches_terminal, raised}
+use Rattle.lexicon.specs.Terminals.{is_reserved, raised}
 use Rattle.lexicon.specs.Readings.{reading, readings_from, readings_of_word, readings_of}
 use Rattle.derivation_trees.specs.Settings.{Setting}
 use Rattle.derivation_trees.specs.Cutting.{is_terminal}
-use Rattle.derivation_trees.specs.Partial.{IsTypeable}
 use Rattle.derivation_trees.specs.Sentences.{setting_of}
 use Rattle.derivations.proofs.Members.{Among, true_is_false}
 use Rattle.editor.specs.Editing.{IsTypeableAsKept}

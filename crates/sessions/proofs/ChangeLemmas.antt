@@ -1,7 +1,10 @@
 -- What a change of one session leaves of the list, and what is known of the sessions after it.
-use Rattle.std.proofs.Common.{◌≡◌, ℕ, zero, suc, ◌+◌, ◌<◌, ◌≤◌, eqb, List, [], ◌∷◌, ◌++◌, length, length-append, map, filter, take, All, AllPairs, get_or, set, Option, Some, IsSomeAnd, Bool, true, false, not, cond, ◌⊎◌, inl, inr, refl, sym, ap, subst, ◌∙◌, arith}
+use Rattle.std.proofs.Common.{◌≡◌, ℕ, zero, suc, ◌<◌, ◌≤◌, eqb, List, [], ◌∷◌, ◌++◌, length, length-append, filter, take, All, AllPairs, get_or, set, Option, Some, IsSomeAnd, Bool, true, false, not, cond, refl, sym, ap, subst, ◌∙◌, arith}
 use Rattle.std.specs.List.{remove}
 use Rattle.std.proofs.lemmas.List.Elements.{All-append, All-set, All-filter}
+use Rattle.std.proofs.lemmas.List.Kept.{AllPairs-filter}
+use Rattle.std.proofs.lemmas.List.Quantifiers.{all_pairs_remove}
+use Rattle.std.proofs.lemmas.List.Edits.{length-remove}
 use Rattle.std.proofs.lemmas.List.{length-map, length-set, set-get_or, map-append}
 use Rattle.wiki_base.specs.declared.numbers.SessionId.{SessionId}
 use Rattle.wiki_base.specs.declared.numbers.WordId.{WordId}
@@ -13,7 +16,7 @@ use Rattle.sessions.proofs.OrderLaws.{pairs_tail, pairs_head}
 use Rattle.sessions.proofs.PlaceLemmas.{session_at, with_change-set, without_session-remove}
 use Rattle.sessions.specs.declared.session.Session.{Session}
 use Rattle.sessions.specs.declared.sessions.TheConstants.{MOST_SESSIONS}
-use Rattle.sessions.specs.Sessions.{PlainSession, plain, all_plain, is_on, session_of, with_tokens, AreInOrder, with_change, without_session, without_article, IsRebasedSession, AreRebased, IsKept, AreKept, AreKeptOn, AreSessions}
+use Rattle.sessions.specs.Sessions.{PlainSession, plain, all_plain, session_of, with_tokens, AreInOrder, with_change, without_session, without_article, IsRebasedSession, AreRebased, IsKept, AreKept, AreKeptOn, AreSessions}
 use Rattle.sessions.specs.Places.{IsPlaceOf}
 
 abbrev Rising : Session → Session → Type 0
@@ -37,25 +40,22 @@ number_set (x ∷ xs) zero y lt same (suc k) d = refl
 number_set (x ∷ xs) (suc i) y lt same zero d = refl
 number_set (x ∷ xs) (suc i) y lt same (suc k) d = number_set xs i y (omega arith) same k d
 
-pairs_push : {X : Type 0} (R : X → X → Type 0) (xs : List X) (y : X) → AllPairs R xs → All (λ x. R x y) xs → AllPairs R (xs ++ y ∷ [])
-pairs_push R [] y pairs below i j d lt in_range = absurd (omega (arith, lt, in_range))
-pairs_push R (x ∷ xs) y pairs below zero zero d lt in_range = absurd (omega arith)
-pairs_push R (x ∷ xs) y pairs below zero (suc j) d lt in_range =
-    All-append (R x) xs (y ∷ []) (pairs_head R x xs pairs) (only y (below zero x (omega arith))) j d (omega (arith, in_range))
-  where
-    only : {P : _ → Type 0} (z : _) → P z → All P (z ∷ [])
-    only z h zero e bound = h
-    only z h (suc k) e bound = absurd (omega (arith, bound))
-pairs_push R (x ∷ xs) y pairs below (suc i) zero d lt in_range = absurd (omega arith)
-pairs_push R (x ∷ xs) y pairs below (suc i) (suc j) d lt in_range =
-    pairs_push R xs y (pairs_tail R x xs pairs) (λ k e bound. below (suc k) e (omega (arith, bound))) i j d (omega (arith, lt)) (omega (arith, in_range))
-
 one_holds : {X : Type 0} (P : X → Type 0) (x : X) → P x → All P (x ∷ [])
 one_holds P x h zero d bound = h
 one_holds P x h (suc k) d bound = absurd (omega (arith, bound))
 
+pairs_push : {X : Type 0} (R : X → X → Type 0) (xs : List X) (y : X) → AllPairs R xs → All (λ x. R x y) xs → AllPairs R (xs ++ y ∷ [])
+pairs_push R [] y pairs below i j d lt in_range = absurd (omega (arith, lt, in_range))
+pairs_push R (x ∷ xs) y pairs below zero zero d lt in_range = absurd (omega arith)
+pairs_push R (x ∷ xs) y pairs below zero (suc j) d lt in_range =
+    All-append (R x) xs (y ∷ []) (pairs_head R x xs pairs) (one_holds (R x) y (below zero x (omega arith))) j d (omega (arith, in_range))
+pairs_push R (x ∷ xs) y pairs below (suc i) zero d lt in_range = absurd (omega arith)
+pairs_push R (x ∷ xs) y pairs below (suc i) (suc j) d lt in_range =
+    pairs_push R xs y (pairs_tail R x xs pairs) (λ k e bound. below (suc k) e (omega (arith, bound))) i j d (omega (arith, lt)) (omega (arith, in_range))
+
 all_remove : {X : Type 0} (P : X → Type 0) (xs : List X) (place : ℕ) → All P xs → All P (remove xs place)
-all_remove P [] place h = h
+all_remove P [] zero h = h
+all_remove P [] (suc place) h = h
 all_remove P (x ∷ xs) zero h = λ k d bound. h (suc k) d (omega (arith, bound))
 all_remove P (x ∷ xs) (suc place) h = by (all_remove P xs place (λ k d bound. h (suc k) d (omega (arith, bound))))
   where
@@ -136,7 +136,31 @@ removed_is kept sessions same are number place is =
 pub kept_removed : (kept sessions : List Session) → kept ≡ sessions → (place : ℕ) → AreKeptOn sessions (remove kept place)
 kept_removed kept sessions same place g l h = all_remove (IsKept g l) kept place (subst (AreKept g l) (sym same) h)
 
+pub removed_sessions : (kept sessions : List Session) → kept ≡ sessions → AreSessions kept → (number : SessionId) (place : ℕ) → IsPlaceOf sessions number place → AreSessions (remove kept place)
+removed_sessions kept sessions same are number place is =
+    let there : place < length kept = subst (λ (xs : List Session). place < length xs) (sym same) is.in_range in
+    record {
+      in_order = all_pairs_remove Rising kept place there are.in_order;
+      few = let long = length-remove kept place there in let few = are.few in omega (arith, long, few);
+      edited = all_remove (λ (session : Session). IsEdited session.editor) kept place are.edited;
+    }
+
 -- Sessions on an article taken out
+
+filter_short : {X : Type 0} (p : X → Bool) (xs : List X) → length (filter p xs) ≤ length xs
+filter_short p [] = omega arith
+filter_short p (x ∷ xs) = by (p x) (filter_short p xs)
+  where
+    by : (b : Bool) → length (filter p xs) ≤ length xs → length (cond b (x ∷ filter p xs) (filter p xs)) ≤ length (x ∷ xs)
+    by true rest = omega (arith, rest)
+    by false rest = omega (arith, rest)
+
+pub filtered_sessions : (p : Session → Bool) (sessions : List Session) → AreSessions sessions → AreSessions (filter p sessions)
+filtered_sessions p sessions are = record {
+  in_order = AllPairs-filter Rising p sessions are.in_order;
+  few = let short = filter_short p sessions in let few = are.few in omega (arith, short, few);
+  edited = All-filter p (λ (session : Session). IsEdited session.editor) sessions are.edited;
+}
 
 pub filtered_is : (sessions : List Session) (article : WordId) → all_plain (filter (λ session. not (eqb session.article.0 article.0)) sessions) ≡ without_article (all_plain sessions) article
 filtered_is [] article = refl
@@ -167,6 +191,9 @@ opened_sessions sessions s are room below edited = record {
 pub opened_kept : (g : GrammarParts) (l : Listed) (sessions : List Session) (s : Session) → AreKept g l sessions → IsKept g l s → AreKept g l (sessions ++ s ∷ [])
 opened_kept g l sessions s h k = All-append (IsKept g l) sessions (s ∷ []) h (one_holds (IsKept g l) s k)
 
+pub opened_edited : (sessions : List Session) (s : Session) → All (λ session. IsEdited session.editor) sessions → IsEdited s.editor → All (λ session. IsEdited session.editor) (sessions ++ s ∷ [])
+opened_edited sessions s h k = All-append (λ (session : Session). IsEdited session.editor) sessions (s ∷ []) h (one_holds (λ (session : Session). IsEdited session.editor) s k)
+
 pub opened_plain : (sessions : List Session) (s : Session) → all_plain (sessions ++ s ∷ []) ≡ all_plain sessions ++ plain s ∷ []
 opened_plain sessions s = map-append plain sessions (s ∷ [])
 
@@ -182,6 +209,16 @@ rebased_push g l (z ∷ xs) (w ∷ ys) x y h one = (h.0, rebased_push g l xs ys 
 pub rebased_more : (g : GrammarParts) (l : Listed) (old new : List Session) (s : Session) (front : List Session) → front ≡ old ++ s ∷ [] → (r : Session) → AreRebased g l (all_plain old) (all_plain new) → IsRebasedSession g l (plain s) (plain r) → AreRebased g l (all_plain front) (all_plain (new ++ r ∷ []))
 rebased_more g l old new s front e r h one =
     subst (λ (xs : List PlainSession). AreRebased g l xs (all_plain (new ++ r ∷ []))) (sym (ap all_plain e ∙ opened_plain old s)) (subst (AreRebased g l (all_plain old ++ plain s ∷ [])) (sym (opened_plain new r)) (rebased_push g l (all_plain old) (all_plain new) (plain s) (plain r) h one))
+
+-- when all are rebased
+pub rebased_whole : (g : GrammarParts) (l : Listed) (items old new : List Session) (i : ℕ) → length items ≤ i → items ≡ old → AreRebased g l (all_plain (take i items)) (all_plain new) → AreRebased g l (all_plain old) (all_plain new)
+rebased_whole g l items old new i all same h = subst (λ (xs : List Session). AreRebased g l (all_plain xs) (all_plain new)) (take_whole items i all ∙ same) h
+  where
+    take_whole : (xs : List Session) (n : ℕ) → length xs ≤ n → take n xs ≡ xs
+    take_whole [] zero le = refl
+    take_whole [] (suc n) le = refl
+    take_whole (x ∷ xs) zero le = absurd (omega (arith, le))
+    take_whole (x ∷ xs) (suc n) le = ap (λ (ys : List Session). x ∷ ys) (take_whole xs n (omega (arith, le)))
 
 rebased_long : (g : GrammarParts) (l : Listed) (old new : List Session) → AreRebased g l (all_plain old) (all_plain new) → length new ≡ length old
 rebased_long g l [] [] h = refl

@@ -23,7 +23,7 @@ returns-clause-some c = λ yes.
 pub returns-clause-last : goal.returns-clause-last
 returns-clause-last c = λ yes.
     change_is _ _ c.self.view_is c.self.invariant _ _ c.place_there-place.ensures _ c.index_mut.ensures.value (with_tokens (λ tokens. take (length tokens - 1) tokens)) _
-    (plain_edited _ _ (λ (tokens : List (List ℕ)). take (length tokens - 1) tokens) (ap (λ (s : Setting). s.tokens) (c.back.ensures.last yes).1))
+    (plain_edited c.index_mut.result.now c.back.new.self (λ (tokens : List (List ℕ)). take (length tokens - 1) tokens) (ap (λ (s : Setting). s.tokens) (c.back.ensures.last yes).1))
 
 pub returns-clause-kept : goal.returns-clause-kept
 returns-clause-kept c = λ g l h.

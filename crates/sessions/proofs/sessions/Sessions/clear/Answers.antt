@@ -1,4 +1,4 @@
-use Rattle.std.proofs.Common.{◌≡◌, List, [], refl, ap}
+use Rattle.std.proofs.Common.{[], refl, ap}
 use Rattle.derivation_trees.specs.Settings.{Setting}
 use Rattle.editor.proofs.EditingLemmas.{edited_less, nothing_kept}
 use Rattle.sessions.specs.Sessions.{with_tokens}
@@ -13,7 +13,7 @@ invariant_of-self c =
 pub returns-clause-cleared : goal.returns-clause-cleared
 returns-clause-cleared c =
     change_is _ _ c.self.view_is c.self.invariant _ _ c.place_there-place.ensures _ c.index_mut.ensures.value (with_tokens (λ _. [])) _
-    (plain_edited _ _ (λ _. []) (ap (λ (s : Setting). s.tokens) c.clear.ensures))
+    (plain_edited c.index_mut.result.now c.clear.new.self (λ _. []) (ap (λ (s : Setting). s.tokens) c.clear.ensures))
 
 pub returns-clause-kept : goal.returns-clause-kept
 returns-clause-kept c = λ g l h.

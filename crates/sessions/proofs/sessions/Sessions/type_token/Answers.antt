@@ -1,4 +1,4 @@
-use Rattle.std.proofs.Common.{◌≡◌, ℕ, ◌<◌, List, [], ◌∷◌, ◌++◌, length, refl, ap}
+use Rattle.std.proofs.Common.{ℕ, ◌<◌, List, [], ◌∷◌, ◌++◌, length, refl, ap}
 use Rattle.std.proofs.lemmas.Result.{on_ok_weaker, on_err_weaker}
 use Rattle.wiki_base.specs.declared.tokens.TheConstants.{MOST_TOKENS}
 use Rattle.derivation_trees.specs.Settings.{Setting}
@@ -28,7 +28,7 @@ pub returns-clause-typed : goal.returns-clause-typed
 returns-clause-typed c =
     let change : List (List ℕ) → List (List ℕ) = λ tokens. tokens ++ typed c.args.grammar.now.terminals tokens c.args.text.now ∷ [] in
     on_ok_weaker c.type_token.result (λ added.
-    change_is _ _ c.self.view_is c.self.invariant _ _ c.place_there-place.ensures _ c.index_mut.ensures.value (with_tokens change) _ (plain_edited _ _ change (ap (λ (s : Setting). s.tokens) added))) c.type_token.ensures.added
+    change_is _ _ c.self.view_is c.self.invariant _ _ c.place_there-place.ensures _ c.index_mut.ensures.value (with_tokens change) _ (plain_edited c.index_mut.result.now c.type_token.new.self change (ap (λ (s : Setting). s.tokens) added))) c.type_token.ensures.added
 
 pub returns-clause-offered : goal.returns-clause-offered
 returns-clause-offered c =

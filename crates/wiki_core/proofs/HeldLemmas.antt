@@ -1,19 +1,22 @@
 -- What is kept of sessions, over each change of them.
-use Rattle.std.proofs.Common.{◌≡◌, ℕ, ◌+◌, ◌<◌, ◌≤◌, ◌==◌, Bool, true, false, not, cond, List, [], ◌∷◌, ◌++◌, length, map, filter, take, min, All, AllPairs, Option, Some, None, refl, sym, ap, subst, ◌∙◌, arith}
+use Rattle.std.proofs.Common.{◌≡◌, ℕ, ◌+◌, ◌<◌, ◌≤◌, ◌==◌, Bool, true, false, not, cond, List, [], ◌∷◌, ◌++◌, length, map, filter, take, min, find, All, AllPairs, Option, Some, None, option_map, is_some, Result, Ok, Err, OnOk, OnErr, refl, sym, ap, subst, ◌∙◌, arith}
 use Rattle.std.proofs.lemmas.List.{length-map}
 use Rattle.std.proofs.lemmas.List.Kept.{AllPairs-cons}
+use Rattle.std.specs.Option.{IsSomeAnd}
 use Rattle.std.proofs.lemmas.List.Elements.{All-nil, All-cons, All-head, All-tail, All-weaker, All-append, All-map}
 use Rattle.wiki_base.specs.declared.numbers.WordId.{WordId}
 use Rattle.wiki_base.specs.declared.numbers.Rev.{Rev}
 use Rattle.wiki_base.specs.declared.numbers.SessionId.{SessionId}
 use Rattle.wiki_base.specs.declared.tokens.TheConstants.{MOST_TOKENS}
 use Rattle.codeco_terms.specs.GrammarParts.{GrammarParts}
-use Rattle.lexicon.specs.Words.{Listed}
+use Rattle.lexicon.specs.declared.words.Word.{Word}
+use Rattle.lexicon.specs.Words.{Listed, forms_of}
+use Rattle.editor.specs.declared.faults.TypeFault.{TypeFault}
 use Rattle.articles.specs.declared.article.Article.{Article}
 use Rattle.articles.specs.Articles.{article_of, without_article as without}
 use Rattle.editor.specs.Rebasing.{IsRebased}
 use Rattle.sessions.specs.declared.session.Session.{Session}
-use Rattle.sessions.specs.Sessions.{PlainSession, plain, all_plain, session_of, new_session, with_change, without_session, without_article, is_on, AreSessions, AreRebased, IsRebasedSession, IsKept, AreKept}
+use Rattle.sessions.specs.Sessions.{PlainSession, plain, all_plain, session_of, new_session, with_change, with_tokens, without_session, without_article, is_on, has_number, HasSession, AreSessions, AreRebased, IsRebasedSession, IsKept, AreKept}
 use Rattle.wiki_parts.specs.State as parts
 use Rattle.logic_terms.specs.Interpretation.{Interpretation}
 use Rattle.derivation_trees.specs.Partial.{IsTypeable}
@@ -22,8 +25,17 @@ use Rattle.wiki_parts.specs.Holding as holding
 use Rattle.wiki_core.specs.State.{State, IsOnArticle, AreInOrder}
 use Rattle.wiki_core.specs.Holding.{Holding, IsKeptSession, IsKept as IsKeptWiki}
 use Rattle.wiki_core.specs.Keeping.{AreHeld}
-use Rattle.wiki_core.proofs.KeyLaws.{only_one, all_changed, all_filtered, pairs_head, pairs_tail}
+use Rattle.wiki_core.proofs.KeyLaws.{changed_at, find_changed, found_has, only_one, all_changed, all_filtered, pairs_head, pairs_tail}
 use Rattle.wiki_core.proofs.PagesLemmas.{GoOn, KeepsWords, go_on_ended}
+
+-- the first of some numbers, and the numbers behind it
+abbrev first_number : List WordId → ℕ
+first_number [] = 0
+first_number (id ∷ ids) = id.0
+
+abbrev behind_first : List WordId → List WordId
+behind_first [] = []
+behind_first (id ∷ ids) = ids
 
 -- a session is on an article that is there, and has a number that was given
 pub record Fits (articles : List Article) (last : ℕ) (session : PlainSession) : Type 0 where
@@ -165,3 +177,63 @@ is_kept pages interpretation sessions last pages_kept are held = record {
   numbered = held.numbered;
   few = (let few = are.few in let same : length (all_plain sessions) ≡ length sessions = length-map sessions plain in omega (arith, few, same));
 }
+
+-- where one session's tokens change, whichever they are
+pub held_tokens : (pages : parts.State) (old new : List Session) (last : ℕ) (number : SessionId) (change : List (List ℕ) → List (List ℕ)) → AreHeld pages old last
+    → AreKept pages.grammar pages.words new → all_plain new ≡ with_change (all_plain old) number (with_tokens change) → AreHeld pages new last
+held_tokens pages old new last number change held kept is_changed = held_by pages new last kept
+    (subst (All (Fits pages.articles last)) (sym is_changed) (each (all_plain old) (fits_each pages old last held)))
+  where
+    by_test : (s : PlainSession) (b : Bool) → Fits pages.articles last s → Fits pages.articles last (cond b (with_tokens change s) s)
+    by_test s true f = record { on = record { article = f.on.article; there = f.on.there; seen = f.on.seen }; numbered = f.numbered }
+    by_test s false f = f
+
+    each : (list : List PlainSession) → All (Fits pages.articles last) list → All (Fits pages.articles last) (with_change list number (with_tokens change))
+    each [] fit = All-nil (Fits pages.articles last)
+    each (s ∷ list) fit =
+        All-cons (Fits pages.articles last) (cond (s.number.0 == number.0) (with_tokens change s) s) (with_change list number (with_tokens change))
+        (by_test s (s.number.0 == number.0) (All-head (Fits pages.articles last) s list fit)) (each list (All-tail (Fits pages.articles last) s list fit))
+
+-- where a text is typed or not
+pub held_typed : (pages : parts.State) (old new : List Session) (last : ℕ) (number : SessionId) (change : List (List ℕ) → List (List ℕ)) (result : Result (Unit {0}) TypeFault) → AreHeld pages old last
+    → AreKept pages.grammar pages.words new → OnOk result (all_plain new ≡ with_change (all_plain old) number (with_tokens change)) → OnErr result (new ≡ old) → AreHeld pages new last
+held_typed pages old new last number change (Ok done) held kept is_changed same = held_tokens pages old new last number change held kept is_changed
+held_typed pages old new last number change (Err fault) held kept is_changed same = subst (λ (list : List Session). AreHeld pages list last) (sym same) held
+
+-- where a token is dropped or there was none
+pub held_back : {P : Type 0} (pages : parts.State) (old new : List Session) (last : ℕ) (number : SessionId) (change : List (List ℕ) → List (List ℕ)) (result : Bool) → AreHeld pages old last
+    → AreKept pages.grammar pages.words new → (result ≡ true → all_plain new ≡ with_change (all_plain old) number (with_tokens change)) → (result ≡ false → P × (new ≡ old)) → AreHeld pages new last
+held_back pages old new last number change true held kept is_changed same = held_tokens pages old new last number change held kept (is_changed refl)
+held_back pages old new last number change false held kept is_changed same = subst (λ (list : List Session). AreHeld pages list last) (sym (same refl).1) held
+
+-- the article that a session is on is there
+pub on_there : (pages : parts.State) (sessions : List Session) (last : ℕ) (number : SessionId) (session : PlainSession) → AreHeld pages sessions last → session_of (all_plain sessions) number ≡ Some session
+    → Fits pages.articles last session
+on_there pages sessions last number session held found = found_has (Fits pages.articles last) (has_number number) (all_plain sessions) session (fits_each pages sessions last held) found
+
+-- the word of an article lives
+pub lives_with_article : (articles : List Article) (live : List Word) (word : WordId) → map (λ article. article.word) articles ≡ map (λ w. w.id) live → is_some (article_of articles word) ≡ is_some (forms_of live word)
+lives_with_article [] [] word same = refl
+lives_with_article [] (w ∷ live) word same = let short = ap (λ (ids : List WordId). length ids) same in absurd (omega (arith, short))
+lives_with_article (a ∷ articles) [] word same = let short = ap (λ (ids : List WordId). length ids) same in absurd (omega (arith, short))
+lives_with_article (a ∷ articles) (w ∷ live) word same =
+    ap (λ (n : ℕ). is_some (cond (n == word.0) (Some a) (article_of articles word))) (ap (λ (ids : List WordId). first_number ids) same)
+    ∙ by_test (w.id.0 == word.0) (lives_with_article articles live word (ap behind_first same))
+  where
+    by_test : (b : Bool) → is_some (article_of articles word) ≡ is_some (forms_of live word)
+        → is_some (cond b (Some a) (article_of articles word)) ≡ is_some (option_map (λ (v : Word). v.forms) (cond b (Some w) (find (λ (v : Word). v.id.0 == word.0) live)))
+    by_test true rest = refl
+    by_test false rest = rest
+
+-- a session is there after a change of it
+pub has_changed : (sessions : List PlainSession) (number : SessionId) (change : PlainSession → PlainSession) → ((s : PlainSession) → (change s).number.0 ≡ s.number.0) → HasSession sessions number
+    → HasSession (with_change sessions number change) number
+has_changed sessions number change keeps there =
+    subst (λ (o : Option PlainSession). IsSomeAnd o (λ _. Unit {0})) (sym (find_changed (λ (s : PlainSession). s.number.0) number.0 number.0 change keeps sessions)) (by_case (session_of sessions number) there)
+  where
+    by_case : (o : Option PlainSession) → IsSomeAnd o (λ _. Unit {0}) → IsSomeAnd (option_map (changed_at (λ (s : PlainSession). s.number.0) number.0 change) o) (λ _. Unit {0})
+    by_case None there = there
+    by_case (Some s) there = tt
+
+pub has_found : (sessions : List PlainSession) (number : SessionId) (session : PlainSession) → session_of sessions number ≡ Some session → HasSession sessions number
+has_found sessions number session found = subst (λ (o : Option PlainSession). IsSomeAnd o (λ _. Unit {0})) (sym found) tt

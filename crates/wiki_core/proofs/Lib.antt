@@ -1,4 +1,5 @@
 pub mod ApartLemmas
+pub mod CommitLemmas
 pub mod HearLemmas
 pub mod HeldLemmas
 pub mod KeyLaws
@@ -7,3 +8,4 @@ pub mod PagesLemmas
 pub mod RunLemmas
 pub mod SeenLemmas
 pub mod ToldLemmas
+pub mod WordLemmas

@@ -1,5 +1,5 @@
 -- What a step says of the model that was kept before it: no budget is told as spent where that model decides.
-use Rattle.std.specs.Prelude.{◌≡◌, ℕ, List, IfSome, Option, Some, None, option_map, option_and_then}
+use Rattle.std.specs.Prelude.{◌≡◌, ℕ, List, IfSome, Option, Some, None, option_map}
 use Rattle.logic_terms.specs.Concept.{Claim}
 use Rattle.logic_terms.specs.Reading.{IsModel}
 use Rattle.wiki_talk.specs.declared.statuses.Status.{Status}
@@ -8,20 +8,18 @@ use Rattle.wiki_talk.specs.declared.replies.Reply.{Reply}
 use Rattle.wiki_talk.specs.declared.replies.Reply.TheVariants as replies
 use Rattle.wiki_talk.specs.declared.requests.Request.{Request}
 use Rattle.wiki_talk.specs.declared.requests.Request.TheVariants as requests
-use Rattle.articles.specs.Articles.{article_of}
 use Rattle.wiki_parts.specs.State as parts
 use Rattle.wiki_parts.specs.Knowledge.{Knows}
+use Rattle.wiki_store.specs.Appending.{with_appended}
 use Rattle.wiki_store.specs.Spending as store
 use Rattle.wiki_core.specs.State.{State}
 use Rattle.wiki_core.specs.Causes.{session_numbered}
-use Rattle.wiki_core.specs.Step.{with_last}
 use Rattle.wiki_core.specs.Holding.{Holding, pages_held}
 
 -- the words and sentences, with the tokens of a session taken as an asserted sentence at the end of its article
 abbrev pub taken_by_commit : State → ℕ → Option parts.State
 taken_by_commit old number =
-    option_and_then (λ session. option_map (λ article. with_last old.pages session.article article session.tokens Asserted)
-    (article_of old.pages.articles session.article)) (session_numbered old number)
+    option_map (λ session. with_appended old.pages session.article session.tokens Asserted) (session_numbered old number)
 
 -- the status that a reply tells of a session's tokens
 abbrev pub status_committed : Reply → Option Status

@@ -16,7 +16,6 @@ use Rattle.wiki_talk.specs.declared.replies.Reply.{Reply}
 use Rattle.wiki_talk.specs.declared.replies.Reply.TheVariants as replies
 use Rattle.wiki_talk.specs.declared.requests.Request.{Request}
 use Rattle.wiki_talk.specs.declared.requests.Request.TheVariants as requests
-use Rattle.articles.specs.declared.sentences.Sentence.{Sentence}
 use Rattle.articles.specs.declared.article.Article.{Article}
 use Rattle.articles.specs.Articles.{article_of}
 use Rattle.editor.specs.Editing.{typed}
@@ -27,6 +26,7 @@ use Rattle.wiki_parts.specs.Parsing.{told_menu}
 use Rattle.wiki_parts.specs.Places.{word_named}
 use Rattle.wiki_parts.specs.Refusing.{FirstOf, NamesNoWord, IsFullOfSentences}
 use Rattle.wiki_store.specs.Step as store
+use Rattle.wiki_store.specs.Appending.{with_appended}
 use Rattle.wiki_core.specs.State.{State}
 use Rattle.wiki_core.specs.Causes.{session_numbered, NamesNoSession, IsFullOfSessions, IsOutOfNumbers, IsFullOfTokens, IsNotOffered, HasNoToken, IsAtLastChange, IsStale, IsUnfinished}
 
@@ -127,10 +127,6 @@ pub record TellsSession (old : State) (number : ℕ) (reply : Reply) (new : Stat
   pub tells : TellsMenu old.pages.grammar old.pages.words session.tokens reply
   pub after : new ≡ old
 
--- the wiki's words and sentences with these tokens as a sentence behind the last one of the word's article
-abbrev pub with_last : parts.State → WordId → Article → List (List ℕ) → Status → parts.State
-with_last pages word article tokens status = store.with_inserted pages word (length article.sentences) (record { tokens = tokens; status = status })
-
 -- the session begins its next sentence, at the next revision of its article
 abbrev pub begun_again : Article → PlainSession → PlainSession
 begun_again article session = with_revision (record { 0 = article.revision.0 + 1 }) (with_tokens (λ tokens. []) session)
@@ -145,10 +141,10 @@ pub record CommitsSession (old : State) (number : ℕ) (reply : Reply) (new : St
   pub form : List ℕ
   pub spelled : canonical_form_of old.pages.words.live session.article ≡ Some form
   pub status : Status
-  pub gets : GetStatus (with_last old.pages session.article article session.tokens Asserted) session.tokens status
+  pub gets : GetStatus (with_appended old.pages session.article session.tokens Asserted) session.tokens status
   pub answer : reply ≡ replies.Commit form status (shown old.pages.grammar.terminals session.tokens)
   pub after : new ≡ record {
-    pages = with_last old.pages session.article article session.tokens status;
+    pages = with_appended old.pages session.article session.tokens status;
     sessions = with_change old.sessions (numbered number) (begun_again article);
     last = old.last;
   }

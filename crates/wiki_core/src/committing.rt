@@ -1,14 +1,15 @@
 // Tokens that become a sentence.
-ghost use Rattle.std.specs.Prelude.{◌≡◌, ◌+◌, ◌<◌, ◌≤◌, length, Some, IfOk, IfErr, OnOk, OnErr, IsSome};
+ghost use Rattle.std.specs.Prelude.{◌≡◌, ◌+◌, ◌<◌, ◌≤◌, [], length, Some, IfOk, IfErr, OnOk, OnErr, IsSome};
 ghost use Rattle.wiki_talk.specs.declared.limits.TheConstants.{MOST_SENTENCES};
 ghost use Rattle.articles.specs.declared.article.TheConstants.{LAST_REVISION};
 ghost use Rattle.derivation_trees.specs.Sentences.{IsSentence};
+ghost use Rattle.sessions.specs.Sessions.{all_plain, with_change, with_revision, with_tokens, HasSession, AreKeptOn};
 
 use crate::wiki::Wiki;
 use articles::Article;
 use derivations::show;
 use lists::Copied;
-use sessions::Session;
+use sessions::{Session, Sessions};
 use wiki_base::{Memory, Rev, SessionId, Text8, Tokens, WordId};
 use wiki_parts::{Fault, told_text};
 use wiki_talk::{Reply, Request};
@@ -42,11 +43,11 @@ impl Wiki {
         ensures refused { IfErr result (IsFault (Refuses self.old.state (Request.Commit number))) }
         ensures kept { OnErr result (self.new ≡ self.old) }
     {
+        let _ = self.sessions.len();
         let draft = self.draft(number)?;
         let status = self.store.append(draft.word, &draft.tokens)?;
-        self.sessions.clear(SessionId(number));
         let revision = Rev(draft.revision.0 + 1);
-        self.sessions.set_revision(SessionId(number), revision);
+        begin_again(&mut self.sessions, SessionId(number), revision);
         Ok(Reply::Commit {
             article: draft.form,
             status,
@@ -99,4 +100,14 @@ impl Wiki {
             None => unreachable!(),
         }
     }
+}
+
+// Empties a session, which is at this revision of its article then.
+fn begin_again(sessions: &mut Sessions, number: SessionId, revision: Rev)
+    requires { HasSession (all_plain sessions.old) number }
+    ensures changed { all_plain sessions.new ≡ with_change (all_plain sessions.old) number (λ session. with_revision revision (with_tokens (λ _. []) session)) }
+    ensures kept { AreKeptOn sessions.old sessions.new }
+{
+    sessions.clear(number);
+    sessions.set_revision(number, revision);
 }

@@ -32,6 +32,7 @@ impl Wiki {
         ensures refused { IfErr result (IsFault (Refuses self.old.state (Request.Refresh number))) }
         ensures kept { OnErr result (self.new ≡ self.old) }
     {
+        let _ = self.sessions.len();
         let session = self.session(number)?;
         let revision = self.article_edited(session, number).revision;
         self.sessions.set_revision(SessionId(number), revision);

@@ -32,8 +32,11 @@ impl Wiki {
         requires { IsTrue (is_word request.now) }
         ensures step { IfOk result (λ reply. StepsPages self.old.state request.now reply self.new.state) }
         ensures spent { IfOk result (store_spending.SpendsBeyondKept (pages_held self.old) request.now) }
+        ensures unknown { IfOk result (store_spending.KeptHasEachUnknown (pages_held self.old) request.now) }
         ensures memory { OnErr result (self.new ≡ self.old) }
     {
+        let _ = self.sessions.len();
+        self.store.is_kept();
         self.store.step(request)
     }
 
@@ -56,10 +59,10 @@ impl Wiki {
         ensures refused { IfErr result (IsFault (store_steps.Refuses self.old.state.pages (Request.Unword form.now))) }
         ensures kept { OnErr result (self.new ≡ self.old) }
     {
-        let (word, lexicon) = self.store.unwording(form)?;
-        let mut sessions = self.sessions.rebased(self.store.grammar(), &lexicon)?;
-        sessions.end_on(word);
-        self.store.unworded(word, lexicon);
+        let gone = self.store.unwording(form)?;
+        let mut sessions = self.sessions.rebased(self.store.grammar(), &gone.1)?;
+        sessions.end_on(gone.0);
+        self.store.unworded(gone.0, gone.1);
         self.sessions = sessions;
         Ok(Reply::Unword)
     }

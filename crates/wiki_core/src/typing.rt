@@ -1,5 +1,5 @@
 // Tokens that are typed and dropped, and what may follow them.
-ghost use Rattle.std.specs.Prelude.{◌≡◌, ◌<◌, length, true, All, IsUtf8, Some, IfOk, IfErr, OnOk, OnErr};
+ghost use Rattle.std.specs.Prelude.{◌≡◌, ◌<◌, length, true, All, IsUtf8, IsSomeAnd, IfOk, IfErr, OnOk, OnErr};
 ghost use Rattle.wiki_base.specs.declared.tokens.TheConstants.{MOST_TOKENS};
 
 use crate::wiki::Wiki;
@@ -11,9 +11,9 @@ use wiki_parts::{Fault, told_menu};
 use wiki_talk::{Refusal, Reply, Request};
 
 impl Wiki {
-    ghost use Rattle.sessions.specs.Sessions.{plain, PlainSession};
     ghost use Rattle.wiki_parts.specs.Faults.{IsFault, IsAbsent};
-    ghost use Rattle.wiki_core.specs.Causes.{session_numbered, NamesNoSession, IsFullOfTokens};
+    ghost use Rattle.wiki_core.specs.Causes.{session_numbered, IsNotOffered};
+    ghost use Rattle.wiki_core.specs.Drafts.{with_typed};
     ghost use Rattle.wiki_core.specs.Step.{StepsSession, Refuses};
 
     // Types one token more.
@@ -24,6 +24,18 @@ impl Wiki {
     {
         let session = self.session(number)?;
         let count = self.has_place(session, number)?;
+        self.put(number, text)?;
+        Ok(Reply::Put { tokens: count + 1 })
+    }
+
+    // Adds the text as a token, if the menu of the session's tokens has it.
+    fn put(&mut self, number: u32, text: &Text8) -> Result<(), Fault>
+        requires { IsSomeAnd (session_numbered self.old.state number) (λ session. length session.tokens < MOST_TOKENS) }
+        ensures typed { OnOk result (self.new ≡ with_typed self.old number text.now) }
+        ensures absent { OnOk result (IsAbsent (IsNotOffered self.old.state number text.now)) }
+        ensures refused { IfErr result (IsFault (IsNotOffered self.old.state number text.now)) }
+        ensures kept { OnErr result (self.new ≡ self.old) }
+    {
         let typed = self.sessions.type_token(
             self.store.grammar(),
             self.store.lexicon(),
@@ -31,7 +43,7 @@ impl Wiki {
             text.as_str(),
         );
         match typed {
-            Ok(()) => Ok(Reply::Put { tokens: count + 1 }),
+            Ok(()) => Ok(()),
             Err(TypeFault::NotOffered) => Err(Fault::Refused(Refusal::NotOffered {
                 text: text.copy()?,
             })),

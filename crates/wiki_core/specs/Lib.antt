@@ -6,3 +6,4 @@ pub mod Keeping
 pub mod Spending
 pub mod State
 pub mod Step
+pub mod Stepping

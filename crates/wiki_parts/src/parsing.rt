@@ -61,8 +61,8 @@ pub fn no_sentence(
     })
 }
 
-// A menu as it is told.
-fn told_menu(alloc: Global, menu: &Menu<'_>) -> Result<MenuView, Memory>
+/// A menu as it is told.
+pub fn told_menu(alloc: Global, menu: &Menu<'_>) -> Result<MenuView, Memory>
     ensures { IfOk result (λ told. told ≡ told_menu menu.now) }
 {
     Ok(MenuView {

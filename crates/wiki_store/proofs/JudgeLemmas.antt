@@ -37,6 +37,7 @@ use Rattle.wiki_parts.proofs.KnownLemmas.{knows_from_known}
 use Rattle.wiki_parts.proofs.MeaningLemmas.{knows_one}
 use Rattle.wiki_parts.proofs.OverLemmas.{verdict_over, verdict_plain}
 use Rattle.wiki_store.proofs.KeepingLemmas.{all_parts, as_many_lists}
+use Rattle.wiki_store.proofs.ChangeLemmas.{mean_of-append, mean_of-take, mean_of-drop, mean_in-set}
 use Rattle.wiki_store.proofs.AroundLemmas.{known_of-append, known_in-set, known_around-is, same_take, set_parts, mean_at}
 
 -- ---- lists
@@ -86,46 +87,17 @@ known-spliced articles senses place from to around b s m same is =
     ∙ ap (λ (cs : List Claim). front ++ cs) (append_assoc before (middle ++ behind) back ∙ ap (λ (cs : List Claim). before ++ cs) (append_assoc middle behind back))
     ∙ sym (known_around-is articles senses place from to middle a around.own around.here around.meant)
 
-each-append : (g : GrammarParts) (words : Listed) (ss ts : List Sentence) (ms ns : List Sense) → MeanEach g words ss (meanings_in ms) → MeanEach g words ts (meanings_in ns)
-    → MeanEach g words (ss ++ ts) (meanings_in (ms ++ ns))
-each-append g words [] ts [] ns one other = other
-each-append g words [] ts (m ∷ ms) ns one other = absurd one
-each-append g words (s ∷ ss) ts [] ns one other = absurd one
-each-append g words (s ∷ ss) ts (m ∷ ms) ns one other = (one.0, each-append g words ss ts ms ns one.1 other)
-
-each-take : (g : GrammarParts) (words : Listed) (n : ℕ) (ss : List Sentence) (ms : List Sense) → MeanEach g words ss (meanings_in ms) → MeanEach g words (take n ss) (meanings_in (take n ms))
-each-take g words zero ss ms mean = tt
-each-take g words (suc n) [] [] mean = tt
-each-take g words (suc n) [] (m ∷ ms) mean = absurd mean
-each-take g words (suc n) (s ∷ ss) [] mean = absurd mean
-each-take g words (suc n) (s ∷ ss) (m ∷ ms) mean = (mean.0, each-take g words n ss ms mean.1)
-
-each-drop : (g : GrammarParts) (words : Listed) (n : ℕ) (ss : List Sentence) (ms : List Sense) → MeanEach g words ss (meanings_in ms) → MeanEach g words (drop n ss) (meanings_in (drop n ms))
-each-drop g words zero ss ms mean = mean
-each-drop g words (suc n) [] [] mean = tt
-each-drop g words (suc n) [] (m ∷ ms) mean = absurd mean
-each-drop g words (suc n) (s ∷ ss) [] mean = absurd mean
-each-drop g words (suc n) (s ∷ ss) (m ∷ ms) mean = each-drop g words n ss ms mean.1
-
 each-spliced : (g : GrammarParts) (words : Listed) (ss : List Sentence) (ms : List Sense) (from to : ℕ) (s : Sentence) (m : Sense) → MeanEach g words ss (meanings_in ms)
     → Means g words s.tokens (meaning_shown m) × FitsMeaning s.status (meaning_shown m) → MeanEach g words (spliced ss from to s) (meanings_in (spliced ms from to m))
 each-spliced g words ss ms from to s m mean here =
-    each-append g words (take from ss) (s ∷ drop to ss) (take from ms) (m ∷ drop to ms) (each-take g words from ss ms mean) (here, each-drop g words to ss ms mean)
-
-in-each-set : (g : GrammarParts) (words : Listed) (articles : List Article) (senses : List (List Sense)) (place : ℕ) (b : Article) (own : List Sense) → MeanInEach g words articles senses
-    → MeanEach g words b.sentences (meanings_in own) → MeanInEach g words (set articles place b) (set senses place own)
-in-each-set g words [] [] place b own mean each = tt
-in-each-set g words [] (kept ∷ senses) place b own mean each = absurd mean
-in-each-set g words (a ∷ articles) [] place b own mean each = absurd mean
-in-each-set g words (a ∷ articles) (kept ∷ senses) zero b own mean each = (each, mean.1)
-in-each-set g words (a ∷ articles) (kept ∷ senses) (suc place) b own mean each = (mean.0, in-each-set g words articles senses place b own mean.1 each)
+    mean_of-append g words (take from ss) (s ∷ drop to ss) (take from ms) (m ∷ drop to ms) (mean_of-take g words from ss ms mean) (here, mean_of-drop g words to ss ms mean)
 
 -- each sentence has its meaning, the one that comes too
 pub mean-spliced : (g : GrammarParts) (words : Listed) (articles : List Article) (senses : List (List Sense)) (place from to : ℕ) (around : IsAround articles senses place from to) (b : Article) (s : Sentence)
     (m : Sense) → MeanInEach g words articles senses → b.sentences ≡ spliced around.article.sentences from to s → Means g words s.tokens (meaning_shown m) → FitsMeaning s.status (meaning_shown m)
     → MeanInEach g words (set articles place b) (set senses place (spliced around.own from to m))
 mean-spliced g words articles senses place from to around b s m mean is means fits =
-    in-each-set g words articles senses place b (spliced around.own from to m) mean
+    mean_in-set g words articles senses place b (spliced around.own from to m) mean
     (subst (λ (ss : List Sentence). MeanEach g words ss (meanings_in (spliced around.own from to m))) (sym is)
     (each-spliced g words around.article.sentences around.own from to s m (mean_at g words articles senses place around.article around.own mean around.here around.meant) (means, fits)))
 

@@ -1,5 +1,6 @@
 -- What a step says of the model that was kept before it: no budget is told as spent where that model decides.
-use Rattle.std.specs.Prelude.{◌≡◌, ℕ, List, All, IfSome, Option, Some, None, option_map, option_and_then}
+use Rattle.std.specs.Prelude.{◌≡◌, ℕ, List, All, IfSome, MatchBool, Option, Some, None, option_map, option_and_then}
+use Rattle.std.specs.List.{AllZip}
 use Rattle.wiki_base.specs.declared.numbers.WordId.{WordId}
 use Rattle.logic_terms.specs.Concept.{Concept, Claim}
 use Rattle.logic_terms.specs.Interpretation.{element_of}
@@ -13,10 +14,10 @@ use Rattle.wiki_talk.specs.declared.requests.Request.{Request}
 use Rattle.wiki_talk.specs.declared.requests.Request.TheVariants as requests
 use Rattle.articles.specs.declared.sentences.Sentence.{Sentence}
 use Rattle.wiki_parts.specs.State.{State}
-use Rattle.wiki_parts.specs.Places.{word_named}
+use Rattle.wiki_parts.specs.Places.{word_named, article_named}
 use Rattle.wiki_parts.specs.Meanings.{asking, Means}
 use Rattle.wiki_parts.specs.Knowledge.{Knows}
-use Rattle.wiki_parts.specs.Telling.{spelled}
+use Rattle.wiki_parts.specs.Telling.{spelled, is_question}
 use Rattle.wiki_store.specs.Step.{with_inserted, with_replaced, with_marked, sentence_with, place_for}
 use Rattle.wiki_parts.specs.Holding.{Holding}
 
@@ -40,10 +41,20 @@ abbrev pub SpendsBeyondKept : Holding → Request → Reply → Type 0
 SpendsBeyondKept old request reply =
     status_told reply ≡ Some RedBudget → IfSome (taken_by old.state request) (λ taken. (claims : List Claim) → Knows taken claims → ¬ IsModel old.interpretation claims)
 
--- the names that are told as unknown of a question are in its class in the kept interpretation
-pub record KeptHasUnknown (old : Holding) (sentence : Sentence) (view : SentenceView) : Type 0 where
+-- the names that are told as unknown of the question that the tokens are, are in its class in the kept interpretation
+pub record KeptHasDoubts (old : Holding) (tokens unknown : List (List ℕ)) : Type 0 where
   pub concept : Concept
-  pub means : Means old.state.grammar old.state.words sentence.tokens (asking concept)
+  pub means : Means old.state.grammar old.state.words tokens (asking concept)
   pub doubtful : List WordId
-  pub told : view.unknown ≡ spelled old.state.words doubtful
+  pub told : unknown ≡ spelled old.state.words doubtful
   pub there : All (λ name. IsIn old.interpretation concept (element_of old.interpretation name)) doubtful
+
+-- where the sentence is a question that asks for a class, the names that are told as unknown are in it in the kept interpretation
+abbrev pub KeptHasUnknown : Holding → Sentence → SentenceView → Type 0
+KeptHasUnknown old sentence view = MatchBool (is_question sentence.status) (KeptHasDoubts old sentence.tokens view.unknown) (Unit {0})
+
+-- so is each question of an article that is told
+abbrev pub KeptHasEachUnknown : Holding → Request → Reply → Type 0
+KeptHasEachUnknown old (requests.Read text) (replies.Read form revision views) =
+    IfSome (article_named old.state text) (λ article. AllZip (KeptHasUnknown old) article.sentences views)
+KeptHasEachUnknown old request reply = Unit {0}

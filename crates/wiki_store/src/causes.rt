@@ -126,7 +126,7 @@ impl Store {
         for article in self.articles.as_slice() {
             count += article.sentences.len();
         }
-        if count >= MOST_SENTENCES {
+        if count >= MOST_SENTENCES as usize {
             Err(Fault::Refused(full(Limit::Sentences)))
         } else {
             Ok(())

@@ -5,6 +5,7 @@ mod adding;
 mod appending;
 mod causes;
 mod changing;
+mod reading;
 mod removing;
 mod standing;
 mod store;

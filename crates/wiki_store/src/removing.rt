@@ -1,10 +1,11 @@
 // Sentences that leave what is known.
-ghost use Rattle.std.specs.Prelude.{◌≡◌, ◌+◌, [], Some, IfOk, IfErr, OnOk, OnErr};
-ghost use Rattle.articles.specs.Articles.{CanChange, HasSentence};
+ghost use Rattle.std.specs.Prelude.{◌≡◌, ◌+◌, [], true, Some, IfOk, IfErr, OnOk, OnErr, IsSomeAnd};
+ghost use Rattle.articles.specs.Articles.{CanChange, HasSentence, sentence_at};
 ghost use Rattle.owl_eval.specs.Checked.{kept_interp, kept_claims};
 ghost use Rattle.wiki_parts.specs.Faults.{IsFault, IsAbsent};
 ghost use Rattle.wiki_parts.specs.Kept.{known_around, known_in, IsAround};
 ghost use Rattle.wiki_parts.specs.Places.{word_named};
+ghost use Rattle.wiki_parts.specs.Refusing.{may_retract};
 ghost use Rattle.wiki_store.specs.Step.{Step, Refuses};
 
 use crate::store::Store;
@@ -82,6 +83,7 @@ impl Store {
         ensures named { IfOk result (λ word. word_named self.now.state form.now ≡ Some word) }
         ensures open { IfOk result (CanChange self.now.state.articles) }
         ensures place { IfOk result (λ word. HasSentence self.now.state.articles word at) }
+        ensures may { IfOk result (λ word. IsSomeAnd (sentence_at self.now.state.articles word at) (λ sentence. may_retract sentence.status ≡ true)) }
         ensures free { OnOk result (IsAbsent (Refuses self.now.state (Request.Retract form.now at))) }
         ensures refused { IfErr result (IsFault (Refuses self.now.state (Request.Retract form.now at))) }
     {

@@ -57,7 +57,7 @@ impl Model for Store {
 impl Store {
     ghost use Rattle.codeco_checked.specs.Sound.{is_labelled};
     ghost use Rattle.wiki_parts.specs.Holding.{first_holding, IsKept};
-    ghost use Rattle.wiki_store.specs.Spending.{SpendsBeyondKept};
+    ghost use Rattle.wiki_store.specs.Spending.{SpendsBeyondKept, KeptHasEachUnknown};
     ghost use Rattle.wiki_parts.specs.Parsing.{tokens_of};
     ghost use Rattle.wiki_store.specs.Step.{Step, Refuses, asks_store};
     ghost use Rattle.wiki_parts.specs.Faults.{IsFault};
@@ -94,6 +94,7 @@ impl Store {
         requires { IsTrue (asks_store request.now) }
         ensures step { IfOk result (λ reply. Step self.old.state request.now reply self.new.state) }
         ensures spent { IfOk result (SpendsBeyondKept self.old request.now) }
+        ensures unknown { IfOk result (KeptHasEachUnknown self.old request.now) }
         ensures kept { IsKept self.new }
         ensures memory { OnErr result (self.new ≡ self.old) }
     {
@@ -114,6 +115,7 @@ impl Store {
         requires { IsTrue (asks_store request.now) }
         ensures step { IfOk result (λ reply. Step self.old.state request.now reply self.new.state) }
         ensures spent { IfOk result (SpendsBeyondKept self.old request.now) }
+        ensures unknown { IfOk result (KeptHasEachUnknown self.old request.now) }
         ensures memory { OnErr result (self.new ≡ self.old) }
     {
         match request {
@@ -127,6 +129,7 @@ impl Store {
             Request::Remove { article, at } => told(self.remove(article, *at)),
             Request::Retract { article, at } => told(self.retract(article, *at)),
             Request::Reassert { article, at } => told(self.reassert(article, *at)),
+            Request::Read { article } => told(self.read(article)),
             Request::Axioms { article, at } => told(self.axioms(article, *at)),
             // The others wait for the calls that judge a sentence in place of another.
             _ => Err(Memory),

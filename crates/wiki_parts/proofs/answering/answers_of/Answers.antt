@@ -5,7 +5,7 @@ use Rattle.logic_terms.specs.Concept.{Concept, Claim}
 use Rattle.answers.specs.Answered.{denied, IsUnknown}
 use Rattle.wiki_parts.specs.Knowledge.{IsCutOff, AreSomeOf}
 use Rattle.wiki_parts.proofs.NameLemmas.{rise_pairs}
-use Rattle.wiki_store.proofs.answering.answers_of.Goals as goal
+use Rattle.wiki_parts.proofs.answering.answers_of.Goals as goal
 
 -- a name of which it isn't known is one whose search was cut off
 cut_off : (claims : List Claim) (names : List WordId) (budget : ℕ) (concept : Concept) (unknown : List WordId) → All (IsUnknown claims names budget concept) unknown → All (λ name. IsCutOff (denied claims concept name) names budget) unknown
@@ -17,8 +17,8 @@ cut_off claims names budget concept unknown all k d within =
 apart_each : (sure unsure : List WordId) → ((n : WordId) → Contains sure n → ¬ Contains unsure n) → All (λ name. ¬ Contains unsure name) sure
 apart_each sure unsure apart k d within = apart (get_or sure k d) (All-contains_itself sure k d within)
 
-pub returns : goal.returns
-returns c =
+pub returns-clause-answer : goal.returns-clause-answer
+returns-clause-answer c =
     let answers = c.in_ok-answers.answers in
     record {
       answers = record { in_order = rise_pairs answers.yes c.as_slice.ensures.rising; among = c.in_ok-answers.ensures.given.0 };

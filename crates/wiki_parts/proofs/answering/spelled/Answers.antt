@@ -3,7 +3,7 @@ use Rattle.std.specs.Option.{option_map_or, option_copied}
 use Rattle.wiki_base.specs.declared.numbers.WordId.{WordId}
 use Rattle.lexicon.specs.Words.{canonical_form_of}
 use Rattle.wiki_parts.proofs.NameLemmas.{mapped_more}
-use Rattle.wiki_store.proofs.answering.spelled.Goals as goal
+use Rattle.wiki_parts.proofs.answering.spelled.Goals as goal
 
 -- a form, or the empty one
 form_or_none : (o : Option (Bor (List ℕ))) (other : Bor (List ℕ)) → other.now ≡ [] → (unwrap_or o other).now ≡ option_map_or (λ form. form) (option_copied o) []

@@ -1,6 +1,6 @@
 use Rattle.std.proofs.Common.{◌≡◌, take}
 use Rattle.wiki_parts.specs.Telling.{spelled}
-use Rattle.wiki_store.proofs.answering.spelled.Given as goal
+use Rattle.wiki_parts.proofs.answering.spelled.Given as goal
 
 -- the forms of the words so far
 abbrev pub invariant-loop-place : goal.invariant-loop-place

@@ -1,7 +1,7 @@
 use Rattle.std.proofs.Common.{◌≡◌, ◌++◌, [], ◌∷◌, ap, ◌∙◌}
 use Rattle.logic_terms.specs.Shown.{claims_of, claim_of}
 use Rattle.wiki_parts.proofs.KnownLemmas.{taken_more}
-use Rattle.wiki_store.proofs.knowing.push_all.Goals as goal
+use Rattle.wiki_parts.proofs.knowing.push_all.Goals as goal
 
 pub loop-place-preserved : goal.loop-place-preserved
 loop-place-preserved c =

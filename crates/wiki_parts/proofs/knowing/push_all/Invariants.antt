@@ -1,6 +1,6 @@
 use Rattle.std.proofs.Common.{◌≡◌, ◌++◌, take}
 use Rattle.logic_terms.specs.Shown.{claims_of}
-use Rattle.wiki_store.proofs.knowing.push_all.Given as goal
+use Rattle.wiki_parts.proofs.knowing.push_all.Given as goal
 
 -- the axioms so far were added
 abbrev pub invariant-loop-place : goal.invariant-loop-place

@@ -1,7 +1,7 @@
 use Rattle.std.proofs.Common.{◌≡◌, ◌++◌, drop}
 use Rattle.logic_terms.specs.Shown.{claims_of}
 use Rattle.wiki_parts.specs.Kept.{known_in}
-use Rattle.wiki_store.proofs.knowing.push_articles.Given as goal
+use Rattle.wiki_parts.proofs.knowing.push_articles.Given as goal
 
 -- what was added, and what the articles that are left add, is what all add
 abbrev pub invariant-loop-place : goal.invariant-loop-place

@@ -1,7 +1,7 @@
 use Rattle.std.proofs.Common.{◌≡◌, ◌≤◌, min, ◌++◌, length, append-nil, sym, ap, ◌∙◌, arith}
 use Rattle.logic_terms.specs.Shown.{claims_of}
 use Rattle.wiki_parts.proofs.KnownLemmas.{known_of-past}
-use Rattle.wiki_store.proofs.knowing.push_sentences.Goals as goal
+use Rattle.wiki_parts.proofs.knowing.push_sentences.Goals as goal
 
 pub returns : goal.returns
 returns c =

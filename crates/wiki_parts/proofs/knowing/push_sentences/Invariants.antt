@@ -1,7 +1,7 @@
 use Rattle.std.proofs.Common.{◌≡◌, ◌++◌, drop}
 use Rattle.logic_terms.specs.Shown.{claims_of}
 use Rattle.wiki_parts.specs.Kept.{known_of, meanings_in}
-use Rattle.wiki_store.proofs.knowing.push_sentences.Given as goal
+use Rattle.wiki_parts.proofs.knowing.push_sentences.Given as goal
 
 -- what was added, and what the sentences that are left add, is what all add
 abbrev pub invariant-loop-place : goal.invariant-loop-place

@@ -3,7 +3,7 @@ use Rattle.lexicon.specs.Words.{canonical_form_of}
 use Rattle.logic_terms.specs.Shown.{claims_of, claim_of}
 use Rattle.owl_text.specs.Texts.{claim_text}
 use Rattle.wiki_parts.proofs.NameLemmas.{mapped_more}
-use Rattle.wiki_store.proofs.meant.told_axioms.Goals as goal
+use Rattle.wiki_parts.proofs.meant.told_axioms.Goals as goal
 
 pub loop-place-preserved : goal.loop-place-preserved
 loop-place-preserved c =

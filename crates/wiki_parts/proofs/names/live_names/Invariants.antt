@@ -1,6 +1,6 @@
 use Rattle.std.proofs.Common.{◌≡◌, take}
 use Rattle.wiki_parts.proofs.NameLemmas.{names_among}
-use Rattle.wiki_store.proofs.names.live_names.Given as goal
+use Rattle.wiki_parts.proofs.names.live_names.Given as goal
 
 -- the names among the words so far
 abbrev pub invariant-loop-place : goal.invariant-loop-place

@@ -1,7 +1,7 @@
 use Rattle.std.proofs.Common.{sym, ◌∙◌}
 use Rattle.wiki_parts.proofs.MenuLemmas.{of_group-kept, of_group-left}
-use Rattle.wiki_store.proofs.parsing.of_group.Goals as goal
-use Rattle.wiki_store.proofs.parsing.of_group.Goals.{then-number+in_ok-from_str+in_ok-push, else-number}
+use Rattle.wiki_parts.proofs.parsing.of_group.Goals as goal
+use Rattle.wiki_parts.proofs.parsing.of_group.Goals.{then-number+in_ok-from_str+in_ok-push, else-number}
 
 pub loop-place-preserved : goal.loop-place-preserved
 loop-place-preserved c = elim c.if-number.branch [

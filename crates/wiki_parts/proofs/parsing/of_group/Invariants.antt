@@ -1,6 +1,6 @@
 use Rattle.std.proofs.Common.{◌≡◌, take}
 use Rattle.wiki_parts.specs.Parsing.{of_group}
-use Rattle.wiki_store.proofs.parsing.of_group.Given as goal
+use Rattle.wiki_parts.proofs.parsing.of_group.Given as goal
 
 -- the tokens so far
 abbrev pub invariant-loop-place : goal.invariant-loop-place

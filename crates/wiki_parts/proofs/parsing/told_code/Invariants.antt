@@ -1,5 +1,5 @@
 use Rattle.std.proofs.Common.{◌≡◌, take}
-use Rattle.wiki_store.proofs.parsing.told_code.Given as goal
+use Rattle.wiki_parts.proofs.parsing.told_code.Given as goal
 
 -- the numbers so far
 abbrev pub invariant-loop-number : goal.invariant-loop-number

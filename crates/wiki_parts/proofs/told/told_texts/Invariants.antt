@@ -1,5 +1,5 @@
 use Rattle.std.proofs.Common.{◌≡◌, take}
-use Rattle.wiki_store.proofs.told.told_texts.Given as goal
+use Rattle.wiki_parts.proofs.told.told_texts.Given as goal
 
 -- the texts so far
 abbrev pub invariant-loop-text : goal.invariant-loop-text

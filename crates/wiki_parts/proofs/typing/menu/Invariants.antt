@@ -1,6 +1,6 @@
 use Rattle.std.proofs.Common.{◌≡◌, take, length}
 use Rattle.derivation_trees.specs.Sentences.{setting_of}
-use Rattle.wiki_store.proofs.typing.menu.Given as goal
+use Rattle.wiki_parts.proofs.typing.menu.Given as goal
 
 -- what the chart holds are the tokens that it has taken
 abbrev pub invariant-loop-token : goal.invariant-loop-token

@@ -2,7 +2,7 @@ use Rattle.std.proofs.Common.{◌≡◌, ◌+◌, ◌-◌, ◌<◌, ◌≤◌, l
 use Rattle.derivation_trees.specs.Partial.{IsBeginning}
 use Rattle.derivations.proofs.Members.{true_is_false}
 use Rattle.derivations.proofs.TypingLemmas.{AreBeginnings, count_stops, count_all, one_beginning_more}
-use Rattle.wiki_store.proofs.typing.typeable_count.Goals as goal
+use Rattle.wiki_parts.proofs.typing.typeable_count.Goals as goal
 
 pub loop-longer-preserved : goal.loop-longer-preserved
 loop-longer-preserved c =

@@ -5,7 +5,7 @@ use Rattle.articles.specs.declared.article.Article.{Article}
 use Rattle.wiki_parts.specs.Places.{placed_in, all_placed, told_place}
 use Rattle.wiki_parts.specs.Refusing.{uses_word}
 use Rattle.wiki_parts.proofs.UseLemmas.{place_in, found-word, find-next, first-found, second-found}
-use Rattle.wiki_store.proofs.uses.first_use.Goals as goal
+use Rattle.wiki_parts.proofs.uses.first_use.Goals as goal
 
 pub returns-in-Some : goal.returns-in-Some
 returns-in-Some c =

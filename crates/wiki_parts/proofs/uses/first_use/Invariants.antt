@@ -1,7 +1,7 @@
 use Rattle.std.proofs.Common.{◌≡◌, drop, find}
 use Rattle.wiki_parts.specs.Places.{all_placed}
 use Rattle.wiki_parts.specs.Refusing.{uses_word}
-use Rattle.wiki_store.proofs.uses.first_use.Given as goal
+use Rattle.wiki_parts.proofs.uses.first_use.Given as goal
 
 -- the first use is the first of what is left
 abbrev pub invariant-loop-article : goal.invariant-loop-article

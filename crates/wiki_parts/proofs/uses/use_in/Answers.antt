@@ -2,7 +2,7 @@ use Rattle.std.proofs.Common.{sym, ap, ◌∙◌, option_map}
 use Rattle.wiki_parts.specs.Places.{Placed}
 use Rattle.wiki_parts.specs.Refusing.{uses_word}
 use Rattle.wiki_parts.proofs.UseLemmas.{find-here, find-past}
-use Rattle.wiki_store.proofs.uses.use_in.Goals as goal
+use Rattle.wiki_parts.proofs.uses.use_in.Goals as goal
 
 pub returns-then-needs : goal.returns-then-needs
 returns-then-needs c =

@@ -1,7 +1,7 @@
 use Rattle.std.proofs.Common.{◌≡◌, ◌≤◌, length, drop, find}
 use Rattle.wiki_parts.specs.Places.{placed_in, placed_from}
 use Rattle.wiki_parts.specs.Refusing.{uses_word}
-use Rattle.wiki_store.proofs.uses.use_in.Given as goal
+use Rattle.wiki_parts.proofs.uses.use_in.Given as goal
 
 -- the first use is the first of what is left
 abbrev pub invariant-loop-place : goal.invariant-loop-place

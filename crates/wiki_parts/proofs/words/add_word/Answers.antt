@@ -4,7 +4,7 @@ use Rattle.lexicon.specs.declared.kinds.Forms.{Forms}
 use Rattle.lexicon.specs.Suggest.{form_texts}
 use Rattle.wiki_parts.specs.Words.{word_refusal}
 use Rattle.wiki_parts.proofs.CauseLemmas.{IsCause-first, IsCause-next}
-use Rattle.wiki_store.proofs.words.add_word.Goals as goal
+use Rattle.wiki_parts.proofs.words.add_word.Goals as goal
 
 pub returns-in_err-texts-clause-refused : goal.returns-in_err-texts-clause-refused
 unfolding word_refusal

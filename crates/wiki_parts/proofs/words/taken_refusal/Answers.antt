@@ -1,7 +1,7 @@
 use Rattle.std.proofs.Common.{ap, ◌∙◌, is_some}
 use Rattle.std.proofs.lemmas.Bool.{false≢true}
 use Rattle.lexicon.proofs.Owners.{owner_lives}
-use Rattle.wiki_store.proofs.words.taken_refusal.Goals as goal
+use Rattle.wiki_parts.proofs.words.taken_refusal.Goals as goal
 
 pub unreachable-requires : goal.unreachable-requires
 unreachable-requires c =

@@ -1,7 +1,7 @@
 use Rattle.std.proofs.Common.{◌≡◌, take, drop, is_some}
 use Rattle.std.specs.List.{position_from}
 use Rattle.wiki_base.specs.Text.{fault_of}
-use Rattle.wiki_store.proofs.words.texts_read.Given as goal
+use Rattle.wiki_parts.proofs.words.texts_read.Given as goal
 
 -- the texts so far were read, and the first bad text is the first of those that are left
 abbrev pub invariant-loop-place : goal.invariant-loop-place

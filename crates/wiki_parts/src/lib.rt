@@ -26,5 +26,5 @@ pub use names::live_names;
 pub use parsing::{no_sentence, told_code, told_menu, too_many_tokens};
 pub use told::{told_text, told_word, told_words};
 pub use typing::{least, menu, typeable_count};
-pub use uses::first_use;
-pub use words::add_word;
+pub use uses::{first_use, has_form};
+pub use words::{add_word, forms_given, texts_read};

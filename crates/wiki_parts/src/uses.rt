@@ -49,8 +49,8 @@ fn needs(article: &Article, sentence: &Sentence, word: WordId, forms: &Forms) ->
     article.word.0 == word.0 || has_form(sentence, forms)
 }
 
-// Whether a token of the sentence is one of the forms.
-fn has_form(sentence: &Sentence, forms: &Forms) -> bool
+/// Whether a token of the sentence is one of the forms.
+pub fn has_form(sentence: &Sentence, forms: &Forms) -> bool
     ensures { result ≡ list_any (is_among forms.now.texts) sentence.now.tokens }
 {
     sentence

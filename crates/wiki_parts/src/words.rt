@@ -31,8 +31,8 @@ pub fn add_word(
     enter(alloc, lexicon, &forms)
 }
 
-// The texts that can be forms.
-fn texts_read(alloc: Global, given: &[Text8]) -> Result<Vec<Text>, Fault>
+/// The texts that can be forms.
+pub fn texts_read(alloc: Global, given: &[Text8]) -> Result<Vec<Text>, Fault>
     ensures texts { IfOk result (λ texts. texts.items ≡ given.now) }
     ensures accepted { OnOk result (bad_text given.now ≡ None) }
     ensures refused { IfErr result (IsCause (bad_text given.now)) }
@@ -56,8 +56,8 @@ fn bad_form(place: usize) -> Fault
     })
 }
 
-// The forms of a word for which these texts are given.
-fn forms_given(alloc: Global, kind: Kind, texts: &[Text]) -> Result<Forms, Fault>
+/// The forms of a word for which these texts are given.
+pub fn forms_given(alloc: Global, kind: Kind, texts: &[Text]) -> Result<Forms, Fault>
     ensures forms { IfOk result (λ forms. forms ≡ record { kind = kind; texts = form_texts kind texts.now }) }
     ensures complete { IfOk result IsComplete }
     ensures accepted { OnOk result (bad_count kind texts.now ≡ None) }

@@ -11,6 +11,7 @@ use Rattle.wiki_base.specs.declared.tokens.TheConstants.{MOST_TOKENS}
 use Rattle.codeco_terms.specs.GrammarParts.{GrammarParts}
 use Rattle.lexicon.specs.declared.words.Word.{Word}
 use Rattle.lexicon.specs.Words.{Listed}
+use Rattle.logic_terms.specs.Interpretation.{Interpretation}
 use Rattle.owl_eval.specs.declared.checked.CheckedModel.{CheckedModel}
 use Rattle.owl_eval.specs.Checked.{kept_claims}
 use Rattle.wiki_talk.specs.declared.limits.TheConstants.{MOST_SENTENCES}
@@ -18,19 +19,20 @@ use Rattle.wiki_talk.specs.declared.statuses.Status.{Status}
 use Rattle.wiki_talk.specs.declared.statuses.Status.TheVariants as statuses
 use Rattle.articles.specs.declared.sentences.Sentence.{Sentence}
 use Rattle.articles.specs.declared.article.Article.{Article}
-use Rattle.articles.specs.Articles.{AreInOrder, is_of, article_of, sentence_at, changed, with_change, with_status}
+use Rattle.articles.specs.Articles.{AreInOrder, HasSentence, is_of, article_of, sentence_at, changed, with_change, with_status}
 use Rattle.articles.specs.Places.{IsPlaceOf}
 use Rattle.articles.proofs.PlaceLemmas.{article_at, with_change-set}
 use Rattle.wiki_parts.specs.declared.meanings.Sense.{Sense}
 use Rattle.wiki_parts.specs.Found.{meaning_shown}
-use Rattle.wiki_parts.specs.Holding.{FitsMeaning}
+use Rattle.wiki_parts.specs.Holding.{FitsMeaning, Holding}
 use Rattle.wiki_parts.specs.Kept.{meanings_in, known_in, known_around, IsAround, MeanEach, MeanInEach, IsKeeping}
 use Rattle.wiki_parts.specs.Knowledge.{sentences_in}
 use Rattle.wiki_parts.specs.Meanings.{Meaning, stating, outside, asking, asking_outside, Means}
+use Rattle.wiki_parts.specs.Places.{word_named, sentence_named}
 use Rattle.wiki_parts.specs.Refusing.{may_retract}
 use Rattle.wiki_parts.specs.State.{State, IsSound}
 use Rattle.wiki_store.proofs.KeepingLemmas.{all_parts, as_many_lists}
-use Rattle.wiki_store.proofs.AroundLemmas.{known_taken, known_retracted, mean_at}
+use Rattle.wiki_store.proofs.AroundLemmas.{known_taken, known_retracted, mean_at, around_there}
 
 -- ---- the articles
 
@@ -260,3 +262,42 @@ module _ (state : State) (senses : List (List Sense)) (model : CheckedModel) (ke
       marked None here may = absurd may
       marked (Some s) here may =
           mean_of-marked state.grammar state.words statuses.Retracted around.article.sentences (meanings_in around.own) at s own-mean here (λ m fits. retracted-fits s.status m may fits)
+
+-- a sentence that may be retracted, by the word of its article
+pub may-there : (state : State) (form : List ℕ) (at : ℕ) (word : WordId) (s : Sentence) → word_named state form ≡ Some word → sentence_named state form at ≡ Some s → may_retract s.status ≡ true
+    → IsSomeAnd (sentence_at state.articles word at) (λ sentence. may_retract sentence.status ≡ true)
+may-there state form at word s named here may =
+    let there : sentence_at state.articles word at ≡ Some s = sym (ap (option_and_then (λ (w : WordId). sentence_at state.articles w at)) named) ∙ here in
+    subst (λ (o : Option Sentence). IsSomeAnd o (λ sentence. may_retract sentence.status ≡ true)) (sym there) may
+
+-- ---- a wiki as it is seen, whose parts are kept
+
+module _ (state : State) (interpretation : Interpretation) (wiki : Holding) (seen : record { state = state; interpretation = interpretation } ≡ wiki) (senses : List (List Sense)) (model : CheckedModel)
+    (keeping : IsKeeping state senses model) (ordered : AreInOrder state.articles) (word : WordId) (place : ℕ) (is : IsPlaceOf wiki.state.articles word place) where
+  -- the place of its article
+  pub place-within : IsPlaceOf state.articles word place
+  place-within = subst (λ (h : Holding). IsPlaceOf h.state.articles word place) (sym seen) is
+
+  -- as many lists of meanings are kept as there are articles
+  pub below-within : place < length senses
+  below-within =
+      let lists = as_many_lists state.grammar state.words state.articles senses keeping.mean in
+      let within = place-within.in_range in
+      omega (arith, lists, within)
+
+  -- a sentence of the article, with what is kept of the article
+  pub around-within : (at : ℕ) → HasSentence wiki.state.articles word at → IsAround state.articles senses place at (at + 1)
+  around-within at there =
+      around_there state.grammar state.words state.articles senses keeping.mean ordered word place place-within at (subst (λ (h : Holding). HasSentence h.state.articles word at) (sym seen) there)
+
+-- what is found at the place of an article is what is kept of it
+pub own-found : (articles : List Article) (senses : List (List Sense)) (place at : ℕ) (around : IsAround articles senses place at (at + 1)) (found : List Sense) → found ≡ get_or senses place found
+    → found ≡ around.own
+own-found articles senses place at around found is = is ∙ get_or_from_slice_get senses place around.own found around.meant
+
+-- the sentence is one of those of which a meaning is kept
+pub below-own : (articles : List Article) (senses : List (List Sense)) (place at : ℕ) (around : IsAround articles senses place at (at + 1)) → at < length around.own
+below-own articles senses place at around =
+    let many = around.many in
+    let within = around.within in
+    omega (arith, many, within)

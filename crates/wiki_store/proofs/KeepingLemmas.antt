@@ -120,15 +120,3 @@ stored_there state senses model keeping text article named at sentence here =
 -- a stored sentence has a derivation
 pub has_derivation : (state : State) (sentence : Sentence) → IsStored state sentence → IsSentence state.grammar state.words sentence.tokens
 has_derivation state sentence stored = let least = stored.means.is_least in (least.tree, least.derives)
-
--- ---- other words
-
--- a sentence keeps its meaning where a word is added that it has no form of, since each of its tokens has a reading already
-pub means-with_word : (g : GrammarParts) (words : Listed) (forms : Forms) (tokens : List (List ℕ)) (meaning : Meaning) → add_refusal words forms ≡ None
-    → Means g words tokens meaning → Means g (with_word words forms) tokens meaning
-means-with_word g words forms tokens meaning free means = ?
-
--- a sentence keeps its meaning where a word is taken out that it has no form of
-pub means-without_word : (g : GrammarParts) (words : Listed) (word : WordId) (forms : Forms) (tokens : List (List ℕ)) (meaning : Meaning) → forms_of words.live word ≡ Some forms
-    → list_any (is_among forms.texts) tokens ≡ false → Means g words tokens meaning → Means g (without_word words word) tokens meaning
-means-without_word g words word forms tokens meaning of_word unused means = ?

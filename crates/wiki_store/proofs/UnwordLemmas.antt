@@ -65,7 +65,7 @@ found-at test (first ∷ articles) found is =
     by_case (Some q) here rest is = let h = here is in record { at_place = 0; article = first; here = refl; word = h.0; place = omega (arith, h.1) }
 
 -- a number of a live word is that of a word that lives
-lives-at : (live : List Word) (id : WordId) (k : ℕ) → slice_get (map (λ (word : Word). word.id) live) k ≡ Some id → IsSome (forms_of live id)
+pub lives-at : (live : List Word) (id : WordId) (k : ℕ) → slice_get (map (λ (word : Word). word.id) live) k ≡ Some id → IsSome (forms_of live id)
 lives-at [] id k here = absurd (none-some id here)
 lives-at (word ∷ live) id zero here = by_test (word.id.0 == id.0) same
   where

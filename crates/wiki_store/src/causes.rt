@@ -15,7 +15,7 @@ use wiki_parts::{Fault, Sense, no_sentence, sense_of, too_many_tokens};
 use wiki_talk::{Limit, MOST_SENTENCES, Refusal, Status};
 
 impl Store {
-    ghost use Rattle.lexicon.specs.Words.{forms_of};
+    ghost use Rattle.lexicon.specs.Words.{IsLexicon, forms_of};
     ghost use Rattle.articles.specs.Articles.{article_of};
     ghost use Rattle.wiki_parts.specs.Faults.{IsFault, IsAbsent};
     ghost use Rattle.wiki_parts.specs.Places.{word_named, article_named, sentence_named};
@@ -30,6 +30,7 @@ impl Store {
     pub(crate) fn named(&self, form: &Text8) -> Result<WordId, Fault>
         ensures ok { IfOk result (λ word. word_named self.now.state form.now ≡ Some word) }
         ensures lives { IfOk result (λ word. IsSome (forms_of self.now.state.words.live word)) }
+        ensures lexicon { IsLexicon self.now.state.words }
         ensures absent { OnOk result (IsAbsent (NamesNoWord self.now.state form.now)) }
         ensures refused { IfErr result (IsFault (NamesNoWord self.now.state form.now)) }
     {
@@ -122,11 +123,7 @@ impl Store {
         ensures absent { OnOk result (IsAbsent (IsFullOfSentences self.now.state)) }
         ensures refused { IfErr result (IsFault (IsFullOfSentences self.now.state)) }
     {
-        let mut count = 0;
-        for article in self.articles.as_slice() {
-            count += article.sentences.len();
-        }
-        if count >= MOST_SENTENCES as usize {
+        if self.sentence_count() >= MOST_SENTENCES as usize {
             Err(Fault::Refused(full(Limit::Sentences)))
         } else {
             Ok(())

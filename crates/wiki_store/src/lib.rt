@@ -5,12 +5,16 @@ mod adding;
 mod appending;
 mod causes;
 mod changing;
+mod lending;
 mod reading;
 mod removing;
+mod rewording;
+mod sameness;
 mod standing;
 mod store;
 mod telling;
 #[cfg(test)]
 mod tests;
+mod unwording;
 
 pub use store::Store;

@@ -18,6 +18,7 @@ ghost use Rattle.wiki_store.specs.Step.{Step, Refuses};
 use crate::store::Store;
 use articles::Sentence;
 use derivation_trees::show;
+use lexicon::MOST_WORDS;
 use logic_terms::{Class, Names};
 use wiki_base::{Memory, Text8, Text8s, WordId};
 use wiki_parts::{Fault, Sense, Senses, answers_of, live_names, spelled, told_text};
@@ -111,7 +112,7 @@ impl Store {
         ensures tells { IfOk result (TellsSentence self.now.state sentence.now) }
         ensures unknown { IfOk result (KeptHasUnknown self.now sentence.now) }
     {
-        prove!(self.lexicon.len() <= lexicon::MOST_WORDS);
+        prove!(self.lexicon.len() <= MOST_WORDS);
         let grammar = self.grammar.grammar();
         let answers = answers_of(self.alloc, class, &self.kept, names, self.budget)?;
         Ok(SentenceView {

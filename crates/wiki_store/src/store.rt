@@ -1,5 +1,5 @@
 // The store and its step.
-ghost use Rattle.std.specs.Prelude.{◌≡◌, ◌≤◌, ◌<◌, ◌+◌, ◌++◌, ◌∷◌, [], ℕ, List, None, IfErr, OnOk, length, find, All, IsTrue, IsSome, IfOk, IfSome, IfNone, OnErr, Some, option_copied, option_map};
+ghost use Rattle.std.specs.Prelude.{◌≡◌, ◌≤◌, ◌<◌, ◌+◌, ◌++◌, ◌∷◌, [], ℕ, List, None, Err, IfErr, OnOk, length, find, All, IsTrue, IsSome, IfOk, IfSome, IfNone, OnErr, Some, option_copied, option_map};
 ghost use Rattle.wiki_base.specs.declared.tokens.TheConstants.{MOST_TOKENS};
 ghost use Rattle.lexicon.specs.declared.words.TheConstants.{LAST_NUMBER};
 ghost use Rattle.wiki_talk.specs.declared.refusals.Refusal.{Refusal as TheRefusal};
@@ -103,8 +103,8 @@ impl Store {
         reply
     }
 
-    // What the wiki keeps fits its state.
-    fn is_kept(&self)
+    /// What the store keeps fits its state.
+    pub fn is_kept(&self)
         ensures { IsKept self.now }
     {
         let _ = self.kept.interp();
@@ -123,7 +123,8 @@ impl Store {
             Request::Find { word } => self.find(word),
             Request::Words => self.words(),
             Request::Parse { text } => self.parse(text),
-            Request::Unword { word } => self.unword(word),
+            Request::Reword { word, forms } => told(self.reword(word, forms.as_slice())),
+            Request::Unword { word } => told(self.unword(word)),
             Request::Add { article, at, text } => told(self.add_sentence(article, *at, text)),
             Request::Edit { article, at, text } => told(self.edit(article, *at, text)),
             Request::Remove { article, at } => told(self.remove(article, *at)),
@@ -131,8 +132,13 @@ impl Store {
             Request::Reassert { article, at } => told(self.reassert(article, *at)),
             Request::Read { article } => told(self.read(article)),
             Request::Axioms { article, at } => told(self.axioms(article, *at)),
-            // The others wait for the calls that judge a sentence in place of another.
-            _ => Err(Memory),
+            Request::Begin { .. }
+            | Request::Put { .. }
+            | Request::Back { .. }
+            | Request::Menu { .. }
+            | Request::Commit { .. }
+            | Request::Refresh { .. }
+            | Request::Drop { .. } => unreachable!(),
         }
     }
 
@@ -174,26 +180,6 @@ impl Store {
         self.last.checked_add(1)
     }
 
-    // Takes a word out, with its empty article.
-    fn unword(&mut self, text: &Text8) -> Result<Reply, Memory>
-        ensures step { IfOk result (λ reply. Step self.old.state (Request.Unword text.now) reply self.new.state) }
-        ensures memory { OnErr result (self.new ≡ self.old) }
-    {
-        let Some(word) = self.lexicon.find(text.as_str()) else {
-            return Ok(Reply::Refused(Refusal::NoWord { text: text.copy()? }));
-        };
-        match self.use_of(word) {
-            Some(place) => Ok(Reply::Refused(self.in_use(place)?)),
-            None => {
-                let place = self.place(word);
-                let _ = self.senses.remove(place);
-                self.articles.end(word);
-                let _ = self.lexicon.remove(word);
-                Ok(Reply::Unword)
-            }
-        }
-    }
-
     // Where the article of a live word stands.
     pub(crate) fn place(&self, word: WordId) -> usize
         requires { HasArticle self.now.state.articles word }
@@ -206,7 +192,7 @@ impl Store {
     }
 
     // The first place that needs a live word.
-    fn use_of(&self, word: WordId) -> Option<Place>
+    pub(crate) fn use_of(&self, word: WordId) -> Option<Place>
         ensures { (forms : TheForms) → forms_of self.now.state.words.live word ≡ Some forms
             → result ≡ option_map told_place (find (uses_word word forms) (all_placed self.now.state.articles)) }
     {
@@ -217,7 +203,7 @@ impl Store {
     }
 
     // Tells a place that needs a word.
-    fn in_use(&self, place: Place) -> Result<Refusal, Memory>
+    pub(crate) fn in_use(&self, place: Place) -> Result<Refusal, Memory>
         requires { IsSome (forms_of self.now.state.words.live place.article) }
         ensures { IfOk result (TellsPlace self.now.state (λ form place. Refusal.InUse form place) place.article place.at) }
     {
@@ -318,7 +304,8 @@ fn enter_word(
 
 // The reply to a request that is done or refused.
 fn told(done: Result<Reply, Fault>) -> Result<Reply, Memory>
-    ensures { IfOk result (λ reply. Tells done reply) }
+    ensures told { IfOk result (λ reply. Tells done reply) }
+    ensures memory { OnErr result (done ≡ Err Fault.Memory) }
 {
     match done {
         Ok(reply) => Ok(reply),
@@ -328,7 +315,8 @@ fn told(done: Result<Reply, Fault>) -> Result<Reply, Memory>
 
 // The reply that tells why a request changes nothing.
 fn refused(fault: Fault) -> Result<Reply, Memory>
-    ensures { IfOk result (λ reply. (refusal : TheRefusal) × (fault ≡ Fault.Refused refusal) × (reply ≡ Reply.Refused refusal)) }
+    ensures told { IfOk result (λ reply. (refusal : TheRefusal) × (fault ≡ Fault.Refused refusal) × (reply ≡ Reply.Refused refusal)) }
+    ensures memory { OnErr result (fault ≡ Fault.Memory) }
 {
     match fault {
         Fault::Refused(refusal) => Ok(Reply::Refused(refusal)),

@@ -20,6 +20,6 @@ told-step old new request given is (Err fault) (Ok reply) told step refused kept
     (subst (λ (r : Reply). Step old.state given r new.state) (sym told.2) (subst (IsFault (Refuses old.state given)) told.1 refused, ap (λ (h : Holding). h.state) kept))
 
 -- what stays where a request isn't done stays where nothing is told
-pub told-keeps : {E P : Type 0} (done : Result Reply Fault) (told : Result Reply E) → OnErr told (done ≡ Err faults.Memory) → OnErr done P → OnErr told P
-told-keeps done (Ok reply) is kept = tt
-told-keeps {E} {P} done (Err none) is kept = subst (λ (d : Result Reply Fault). OnErr d P) is kept
+pub told-keeps : {E : Type 0} (P : Type 0) (done : Result Reply Fault) (told : Result Reply E) → OnErr told (done ≡ Err faults.Memory) → OnErr done P → OnErr told P
+told-keeps P done (Ok reply) is kept = tt
+told-keeps P done (Err none) is kept = subst (λ (d : Result Reply Fault). OnErr d P) is kept

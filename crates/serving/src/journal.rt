@@ -1,7 +1,6 @@
 // The lines of the journal.
-ghost use Rattle.std.specs.Prelude.{◌≡◌, [], None, IfOk, if◌then◌else◌};
-ghost use Rattle.wire_json.specs.Requests.{request_line};
-ghost use Rattle.serving.specs.Journal.{is_change, journal_line};
+ghost use Rattle.std.specs.Prelude.{◌≡◌, None, IfOk};
+ghost use Rattle.serving.specs.Journal.{is_change, line_written, change_line, journal_line};
 
 use lists::Copied;
 use std::alloc::Global;
@@ -17,44 +16,54 @@ pub(crate) fn journal_line(alloc: Global, request: &Request, reply: &Reply) -> R
     match reply {
         Reply::Refused(_) => Ok(Text8::new(alloc)),
         Reply::Commit { article, shown, .. } => added_line(alloc, article, shown),
-        _ => changed_line(alloc, request),
+        _ => change_line(alloc, request),
     }
 }
 
 fn added_line(alloc: Global, article: &Text8, text: &Text8) -> Result<Text8, Memory>
-    ensures { IfOk result (λ line. line ≡ request_line (Request.Add article.now None text.now)) }
+    ensures { IfOk result (λ line. line ≡ line_written (Request.Add article.now None text.now)) }
 {
     let added = Request::Add {
         article: article.copy()?,
         at: None,
         text: text.copy()?,
     };
-    request_line(alloc, &added)
+    line_written(alloc, &added)
 }
 
-fn changed_line(alloc: Global, request: &Request) -> Result<Text8, Memory>
-    ensures { IfOk result (λ line. line ≡ (if is_change request.now then request_line request.now else [])) }
+#[tactic(auto, unfolding(crate::specs::Journal::change_line))]
+fn change_line(alloc: Global, request: &Request) -> Result<Text8, Memory>
+    ensures { IfOk result (λ line. line ≡ change_line request.now) }
 {
     if is_change(request) {
-        request_line(alloc, request)
+        line_written(alloc, request)
     } else {
         Ok(Text8::new(alloc))
     }
 }
 
+// A request as it is written.
+#[tactic(auto, unfolding(crate::specs::Journal::line_written))]
+fn line_written(alloc: Global, request: &Request) -> Result<Text8, Memory>
+    ensures { IfOk result (λ line. line ≡ line_written request.now) }
+{
+    request_line(alloc, request)
+}
+
 // The request changes words or sentences.
+#[tactic(auto, unfolding(crate::specs::Journal::is_change))]
 fn is_change(request: &Request) -> bool
     ensures { result ≡ is_change request.now }
 {
-    matches!(
-        request,
-        Request::Word { .. }
-            | Request::Reword { .. }
-            | Request::Unword { .. }
-            | Request::Add { .. }
-            | Request::Edit { .. }
-            | Request::Remove { .. }
-            | Request::Retract { .. }
-            | Request::Reassert { .. }
-    )
+    match request {
+        Request::Word { .. } => true,
+        Request::Reword { .. } => true,
+        Request::Unword { .. } => true,
+        Request::Add { .. } => true,
+        Request::Edit { .. } => true,
+        Request::Remove { .. } => true,
+        Request::Retract { .. } => true,
+        Request::Reassert { .. } => true,
+        _ => false,
+    }
 }

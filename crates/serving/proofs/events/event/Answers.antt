@@ -29,8 +29,8 @@ returns-in-Refuse-clause-connections g c =
     λ _. open_after c.args.server.now c.args.event.now c.in-Ok.turn c.take.new.self c.in-Refuse.connection (g.L.Link.connections c.args.link.now) _ c.requires.comes c.in-Ok.ensures.turn
     (subst (IsOn c.in-Refuse.connection) (sym c.in-Refuse.is) (on_refusal c.in-Refuse.connection c.in-Refuse.response)) c.requires.connections c.answer.ensures.connections
 
-pub ask-requires : goal.ask-requires
-ask-requires g c =
+pub ask-handled-requires : goal.ask-handled-requires
+ask-handled-requires g c =
     open_on c.args.server.now c.args.event.now c.in-Ok.turn c.take.new.self c.in-Ask.connection (g.L.Link.connections c.args.link.now) c.requires.comes c.in-Ok.ensures.turn
     (subst (IsOn c.in-Ask.connection) (sym c.in-Ask.is) (on_request c.in-Ask.connection c.in-Ask.request c.in-Ask.then)) c.requires.connections
 

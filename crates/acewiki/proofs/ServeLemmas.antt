@@ -9,6 +9,8 @@ use Rattle.wiki_io.specs.Reading.{Reading, answered, ReadsLine, HasNoLine}
 use Rattle.wiki_talk.specs.declared.requests.Request.{Request}
 use Rattle.wiki_talk.specs.declared.replies.Reply.{Reply}
 use Rattle.wiki_talk.specs.Turns.{Exchange, answered as answered_by, no_request}
+use Rattle.wire_json.specs.Replies.{reply_line}
+use Rattle.std.specs.Prelude.{Result, Ok, Err, IfOk, OnErr}
 use Rattle.wiki_io.specs.Link.{with_more}
 use Rattle.wiki_io.specs.Lines.{InputLine, input_lines}
 use Rattle.acewiki.specs.Wiki.{Holding, KeptStep}
@@ -184,3 +186,15 @@ Serves-link first last most left outside handed stepped outcome left_after outsi
       outcome_is = serving.1;
       ends = subst (λ (s : Holding). EndsServing KeptStep s most outside ended.0 serving.0 coming_after outside_after) (sym (done_steps.last_is refl)) ended.3;
     })
+
+-- ---- a reply and its line
+
+pub with_line : {E : Type 0} (old : Holding) (request : Request) (new : Holding) (reply : Reply) (r : Result (List ℕ) E) → KeptStep old request reply new → IfOk r (λ line. line ≡ reply_line reply)
+    → IfOk r (λ line. (told : Reply) × KeptStep old request told new × (line ≡ reply_line told))
+with_line old request new reply (Ok line) stepped is = (reply, stepped, is)
+with_line old request new reply (Err e) stepped is = tt
+
+-- what holds anyway holds where there is an error
+pub err_with : {A E P : Type 0} (r : Result A E) → P → OnErr r P
+err_with (Ok a) holds = tt
+err_with (Err e) holds = holds

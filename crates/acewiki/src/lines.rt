@@ -47,7 +47,11 @@ pub fn step_line(alloc: Global, wiki: &mut AceWiki, line: Option<&[u8]>) -> Resu
         None => None,
     };
     match request {
-        Some(request) => step_request(wiki, &request),
+        Some(request) => {
+            let done = step_request(wiki, &request);
+            drop(request);
+            done
+        }
         None => Ok(()),
     }
 }
@@ -56,7 +60,8 @@ pub fn step_line(alloc: Global, wiki: &mut AceWiki, line: Option<&[u8]>) -> Resu
 fn step_request(wiki: &mut AceWiki, request: &Request) -> Result<(), Memory>
     ensures { OnOk result ((reply : Reply) × KeptStep wiki.old request.now reply wiki.new) }
 {
-    let _reply = wiki.step(request)?;
+    let told = wiki.step(request)?;
+    drop(told);
     Ok(())
 }
 
@@ -70,7 +75,11 @@ fn answer(alloc: Global, wiki: &mut AceWiki, line: Option<&[u8]>) -> Result<Text
         None => None,
     };
     match request {
-        Some(request) => reply_to(alloc, wiki, &request),
+        Some(request) => {
+            let line = reply_to(alloc, wiki, &request);
+            drop(request);
+            line
+        }
         None => bad_request_line(alloc),
     }
 }
@@ -81,5 +90,7 @@ fn reply_to(alloc: Global, wiki: &mut AceWiki, request: &Request) -> Result<Text
     ensures memory { OnErr result ((wiki.new ≡ wiki.old) ⊎ ((reply : Reply) × KeptStep wiki.old request.now reply wiki.new)) }
 {
     let reply = wiki.step(request)?;
-    reply_line(alloc, &reply)
+    let line = reply_line(alloc, &reply);
+    drop(reply);
+    line
 }

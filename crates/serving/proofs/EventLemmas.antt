@@ -4,6 +4,7 @@ use Rattle.std.proofs.lemmas.Grind.{flat_map-append}
 use Rattle.std.proofs.lemmas.List.{map-append}
 use Rattle.std.specs.List.{flat_map}
 use Rattle.std.specs.Bool.{OnTrue}
+use Rattle.std.specs.Prelude.{Result, Ok, Err, IfOk, OnErr}
 use Rattle.std.specs.Io.KnownBytes.{Appends}
 use Rattle.wiki_io.specs.declared.links.Event.{Event}
 use Rattle.wiki_io.specs.Link.{can_come}
@@ -142,3 +143,14 @@ pub same_response : (n : ℕ) (bytes response target : List ℕ) (sent sent_afte
     → Delivers ((n, bytes) ∷ []) sent faults sent_after faults_after → Delivers ((n, target) ∷ []) sent faults sent_after faults_after
 same_response n bytes response target sent sent_after faults faults_after same is delivers =
     subst (λ (l : List ℕ). Delivers ((n, l) ∷ []) sent faults sent_after faults_after) (same ∙ is) delivers
+
+-- what a step's reply leaves
+pub with_reply : {A E : Type 0} (P Q : A → Reply → Type 0) (steps : Reply → Type 0) (r : Result A E) (reply : Reply) → steps reply → IfOk r (λ a. P a reply × Q a reply)
+    → IfOk r (λ a. (told : Reply) × steps told × P a told × Q a told)
+with_reply P Q steps (Ok a) reply stepped is = (reply, stepped, is.0, is.1)
+with_reply P Q steps (Err e) reply stepped is = tt
+
+-- what holds anyway holds where there is an error
+pub err_with : {A E P : Type 0} (r : Result A E) → P → OnErr r P
+err_with (Ok a) holds = tt
+err_with (Err e) holds = holds

@@ -169,22 +169,17 @@ comes_so connections a b all same = subst (λ (e : Event). IsTrue (can_come conn
 pub connections_so : (connections after : List ℕ) (a : Event) (b : Event) → after ≡ connections_after connections a → come.Event a ≡ come.Event b → after ≡ connections_after connections b
 connections_so connections after a b is same = is ∙ ap (connections_after connections) (came a b same)
 
-module _ (n size : ℕ) (buffer : List ℕ) (answer : Come) (is_piece : IsPieceCome n (take (size - 0) buffer) answer) where
-  same_piece : take (size - 0) buffer ≡ take size buffer
-  same_piece =
-      let same : size - 0 ≡ size = omega arith in
-      ap (λ (k : ℕ). take k buffer) same
-
+module _ (n size : ℕ) (buffer : List ℕ) (answer : Come) (is_piece : IsPieceCome n (take size buffer) answer) where
   -- the piece came
   pub piece_came : AreCome answer (Piece n (take size buffer) ∷ [])
   piece_came = elim is_piece [
-    | inl read ↦ subst (λ (c : Come). AreCome c (Piece n (take size buffer) ∷ [])) (sym read) (ap (λ (bs : List ℕ). Piece n bs ∷ []) (sym same_piece))
+    | inl read ↦ subst (λ (c : Come). AreCome c (Piece n (take size buffer) ∷ [])) (sym read) refl
     | inr unread ↦ subst (λ (c : Come). AreCome c (Piece n (take size buffer) ∷ [])) (sym unread) (Piece n (take size buffer), refl)
   ]
 
   pub piece_is : (event : Event) → answer ≡ come.Event event → come.Event (Piece n (take size buffer)) ≡ come.Event event
   piece_is event is = elim is_piece [
-    | inl read ↦ ap (λ (bs : List ℕ). come.Event (Piece n bs)) (sym same_piece) ∙ sym read ∙ is
+    | inl read ↦ sym read ∙ is
     | inr unread ↦ absurd (cc (unread, is))
   ]
 

@@ -18,7 +18,7 @@ use server::{Server, Turn, response};
 use std::alloc::Global;
 use wiki_base::{Memory, Text8};
 use wiki_io::{Event, Link, Sink, put};
-use wiki_talk::Request;
+use wiki_talk::{Reply, Request};
 
 /// What became of an event.
 #[derive(Clone, Copy, Debug, PartialEq, Eq)]
@@ -73,7 +73,10 @@ pub fn event<W: Machine, K: Sink, L: Link>(
             Handled::Done
         }
         Turn::Ask(connection, request, then) => {
-            ask(alloc, machine, connection, &request, &then, journal, link)
+            let handled = ask(alloc, machine, connection, &request, &then, journal, link);
+            drop(request);
+            drop(then);
+            handled
         }
     }
 }
@@ -134,8 +137,16 @@ fn reply_to<W: Machine>(
     ensures memory { OnErr result ((machine.new ≡ machine.old) ⊎ ((reply : Reply) × W.Steps machine.old request.now reply machine.new)) }
 {
     let reply = machine.step(request)?;
-    Ok(Answer {
-        line: journal_line(alloc, request, &reply)?,
-        response: response(alloc, then, &reply)?,
-    })
+    let answer = answer_to(alloc, request, then, &reply);
+    drop(reply);
+    answer
+}
+
+// What a reply leaves to be written and to be sent.
+fn answer_to(alloc: Global, request: &Request, then: &Then, reply: &Reply) -> Result<Answer, Memory>
+    ensures { IfOk result (λ answer. (answer.line ≡ journal_line request.now reply.now) × (answer.response ≡ response_of then.now reply.now)) }
+{
+    let line = journal_line(alloc, request, reply)?;
+    let response = response(alloc, then, reply)?;
+    Ok(Answer { line, response })
 }

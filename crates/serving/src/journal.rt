@@ -28,7 +28,9 @@ fn added_line(alloc: Global, article: &Text8, text: &Text8) -> Result<Text8, Mem
         at: None,
         text: text.copy()?,
     };
-    line_written(alloc, &added)
+    let line = line_written(alloc, &added);
+    drop(added);
+    line
 }
 
 #[tactic(auto, unfolding(crate::specs::Journal::change_line))]

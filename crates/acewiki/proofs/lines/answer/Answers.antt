@@ -11,8 +11,8 @@ returns-in-Some-request-clause-reply c =
       | in-Some+in_ok-request-in-Some w ↦ rw (w.in-Some.is, w.request-is) w.in_ok-request-in-Some.ensures
       | in-None w ↦ rw (w.in-None.is, w.request-is) refl
     ] in
-    IfOk-weaker c.reply_to.result _ (RepliesTo c.args.wiki.now (line_handed c.args.line) c.reply_to.new.wiki)
-    (λ (bytes : List ℕ) stepped. RepliesTo-step _ _ _ _ bytes (sym c.in-Some-request.is ∙ is_asked) stepped) c.reply_to.ensures.reply
+    IfOk-weaker c.reply_to-line.result _ (RepliesTo c.args.wiki.now (line_handed c.args.line) c.reply_to-line.new.wiki)
+    (λ (bytes : List ℕ) stepped. RepliesTo-step _ _ _ _ bytes (sym c.in-Some-request.is ∙ is_asked) stepped) c.reply_to-line.ensures.reply
 
 pub returns-in-Some-request-clause-memory : goal.returns-in-Some-request-clause-memory
 returns-in-Some-request-clause-memory c =
@@ -20,4 +20,4 @@ returns-in-Some-request-clause-memory c =
       | in-Some+in_ok-request-in-Some w ↦ rw (w.in-Some.is, w.request-is) w.in_ok-request-in-Some.ensures
       | in-None w ↦ rw (w.in-None.is, w.request-is) refl
     ] in
-    on_err_weaker c.reply_to.result (λ stepped. WasStepped-step c.args.wiki.now (line_handed c.args.line) c.reply_to.new.wiki c.in-Some-request.request (sym c.in-Some-request.is ∙ is_asked) stepped) c.reply_to.ensures.memory
+    on_err_weaker c.reply_to-line.result (λ stepped. WasStepped-step c.args.wiki.now (line_handed c.args.line) c.reply_to-line.new.wiki c.in-Some-request.request (sym c.in-Some-request.is ∙ is_asked) stepped) c.reply_to-line.ensures.memory

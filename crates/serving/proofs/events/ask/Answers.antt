@@ -2,8 +2,8 @@ use Rattle.std.proofs.Common.{refl}
 use Rattle.serving.proofs.EventLemmas.{front_of_line, whole_line, same_response}
 use Rattle.serving.proofs.events.ask.Goals as goal
 
-pub returns-then-clause-done : goal.returns-then-clause-done
-returns-then-clause-done g c =
+pub returns-then-put-clause-done : goal.returns-then-put-clause-done
+returns-then-put-clause-done g c =
     let told = c.in-Ok.ensures.answer in
     λ _. (
       told.0,

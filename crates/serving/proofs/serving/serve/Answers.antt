@@ -2,4 +2,4 @@ use Rattle.serving.proofs.ServeLemmas.{Ended-none}
 use Rattle.serving.proofs.serving.serve.Goals as goal
 
 pub returns-in-Err-clause-serves : goal.returns-in-Err-clause-serves
-returns-in-Err-clause-serves g c = Ended-none g.W.Machine.Steps _ _ _ _ _
+returns-in-Err-clause-serves g c = Ended-none g.W.Machine.Steps _ _ _ (g.L.Link.left c.args.link.now) _

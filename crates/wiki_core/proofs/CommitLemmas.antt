@@ -42,6 +42,10 @@ pub none_of_five : (a b c d e : Refusal → Type 0) → IsAbsent a → IsAbsent 
 none_of_five a b c d e no_a no_b no_c no_d no_e =
     none_stands a (b ∷ c ∷ d ∷ e ∷ []) no_a (none_stands b (c ∷ d ∷ e ∷ []) no_b (none_stands c (d ∷ e ∷ []) no_c (none_stands d (e ∷ []) no_d (none_stands e [] no_e nothing_stands))))
 
+-- none of three causes stands where none of them does
+pub none_of_three : (a b c : Refusal → Type 0) → IsAbsent a → IsAbsent b → IsAbsent c → IsAbsent (FirstOf (a ∷ b ∷ c ∷ []))
+none_of_three a b c no_a no_b no_c = none_stands a (b ∷ c ∷ []) no_a (none_stands b (c ∷ []) no_b (none_stands c [] no_c nothing_stands))
+
 -- a state of these parts
 abbrev pub state_of : parts.State → List PlainSession → ℕ → State
 state_of pages sessions last = record { pages = pages; sessions = sessions; last = last }

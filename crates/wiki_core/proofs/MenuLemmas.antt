@@ -1,5 +1,5 @@
 -- What is told of tokens is one thing.
-use Rattle.std.proofs.Common.{◌≡◌, ℕ, zero, suc, ◌<◌, ◌⊎◌, Bool, true, false, List, [], ◌∷◌, ◌++◌, length, All, AllPairs, Option, Some, None, option_map, IsTrue, refl, sym, ap, subst, ◌∙◌, arith, inl, inr}
+use Rattle.std.proofs.Common.{◌≡◌, ℕ, zero, suc, ◌<◌, ◌⊎◌, Bool, true, false, List, [], ◌∷◌, ◌++◌, length, All, AllPairs, Option, Some, None, option_map, IsTrue, ◌↔◌, refl, sym, ap, subst, ◌∙◌, arith, inl, inr}
 use Rattle.std.specs.List.{Contains}
 use Rattle.std.specs.Str.{IsUtf8}
 use Rattle.std.specs.Ordering.{ordering_reverse}
@@ -14,7 +14,12 @@ use Rattle.derivation_trees.specs.Cutting.{shown}
 use Rattle.derivation_trees.specs.Menus.{entry_cmp}
 use Rattle.derivation_trees.specs.Sentences.{IsSentence}
 use Rattle.derivations.proofs.EntryLemmas.{entry_total, entry_trans}
-use Rattle.sessions.specs.Sessions.{PlainSession}
+use Rattle.derivation_trees.specs.Trees.{Node}
+use Rattle.derivation_trees.specs.Settings.{Setting}
+use Rattle.derivation_trees.specs.Derives.{IsDerivation}
+use Rattle.derivations.specs.Typing.{IsTextMenu}
+use Rattle.sessions.specs.declared.session.Session.{Session}
+use Rattle.sessions.specs.Sessions.{PlainSession, plain, IsKept}
 use Rattle.wiki_talk.specs.declared.replies.MenuView.{MenuView}
 use Rattle.wiki_talk.specs.declared.replies.Reply.{Reply}
 use Rattle.wiki_talk.specs.declared.replies.Reply.TheVariants as replies
@@ -23,7 +28,7 @@ use Rattle.wiki_talk.specs.declared.requests.Request.TheVariants as requests
 use Rattle.wiki_parts.specs.Parsing.{told_menu}
 use Rattle.wiki_core.specs.State.{State}
 use Rattle.wiki_core.specs.Causes.{session_numbered}
-use Rattle.wiki_core.specs.Step.{Step, StepsSession, TellsMenu}
+use Rattle.wiki_core.specs.Step.{Step, StepsSession, TellsMenu, TellsSession}
 use Rattle.wiki_core.specs.Apart.{tokens_in, AreAlike, MenuIsOwn}
 use Rattle.wiki_core.proofs.KeyLaws.{some_is, pairs_head, pairs_tail}
 
@@ -111,3 +116,24 @@ menu_own state new (requests.Menu number) reply step = λ other its_number said 
     let by_words = subst (λ (words : Listed). TellsMenu state.pages.grammar words alike.tokens said) alike.words by_grammar in
     tells_one state.pages.grammar state.pages.words alike.tokens reply said (told_of state new number alike.tokens reply alike.own step) by_words
 menu_own state new request reply step = tt
+
+-- what an editor tells of a session is what is told of its tokens
+pub menu_told : (state : State) (number : ℕ) (session : Session) (g h : GrammarParts) (words : Listed) (tokens : List (List ℕ)) (menu : List (Group × List ℕ)) (view : MenuView) (whole : Bool) (text : List ℕ)
+    → g ≡ state.pages.grammar → h ≡ state.pages.grammar → words ≡ state.pages.words → tokens ≡ session.editor.tokens → session_numbered state number ≡ Some (plain session)
+    → IsKept state.pages.grammar state.pages.words session → IsTextMenu g words session.editor.tokens menu → All (λ entry. IsUtf8 entry.1) menu → view ≡ told_menu menu
+    → (IsTrue whole ↔ ((tree : Node) × IsDerivation session.editor tree)) → text ≡ shown h.terminals tokens → TellsSession state number (replies.Menu view whole text) state
+menu_told state number session g h words tokens menu view whole text same_g same_h same_words same_tokens named kept follows texts told is_whole shows = record {
+  session = plain session;
+  named = named;
+  tells = record {
+    menu = menu;
+    follows = subst (λ (p : GrammarParts). IsTextMenu p state.pages.words session.editor.tokens menu) same_g (subst (λ (w : Listed). IsTextMenu g w session.editor.tokens menu) same_words follows);
+    texts = texts;
+    whole = whole;
+    is_whole = subst (λ (s : Setting). IsTrue whole ↔ ((tree : Node) × IsDerivation s tree)) kept is_whole;
+    answer = ap (λ (v : MenuView). replies.Menu v whole text) told
+        ∙ ap (λ (t : List ℕ). replies.Menu (told_menu menu) whole t)
+        (shows ∙ ap (λ (p : GrammarParts). shown p.terminals tokens) same_h ∙ ap (λ (ts : List (List ℕ)). shown state.pages.grammar.terminals ts) same_tokens);
+  };
+  after = refl;
+}

@@ -13,7 +13,8 @@ use Rattle.lexicon.specs.declared.words.LexFault.{LexFault}
 use Rattle.lexicon.specs.declared.words.LexFault.TheVariants as faults
 use Rattle.lexicon.specs.declared.words.LexLimit.TheVariants as bounds
 use Rattle.lexicon.specs.declared.words.TheConstants.{MOST_WORDS, LAST_NUMBER}
-use Rattle.lexicon.specs.Words.{Listed, owner, forms_of, with_word, next_word, is_reserved, first_taken, first_reserved, fullness, forms_refusal, add_refusal}
+use Rattle.lexicon.specs.Terminals.{is_reserved}
+use Rattle.lexicon.specs.Words.{Listed, owner, forms_of, with_word, next_word, first_taken, first_reserved, fullness, forms_refusal, add_refusal}
 use Rattle.lexicon.proofs.Owners.{owner_lives, owner-add_refusal, add_refusal_names_none}
 use Rattle.derivation_trees.specs.Partial.{IsTypeable}
 use Rattle.editor.specs.Rebasing.{IsRebased}
@@ -83,29 +84,28 @@ second_none : {X : Type 0} (a b : Option X) → option_or a b ≡ None → b ≡
 second_none None b none = none
 second_none (Some x) b none = absurd (none-some x (sym none))
 
+-- a word that is told as the owner of a form lives
+told_taken : (text : List ℕ) (o : Option Forms) → IsSome o → option_map (λ (f : Forms). refusals.Taken text (canonical f)) o ≡ None → ⊥
+told_taken text None lives none = false≢true lives
+told_taken text (Some f) lives none = false≢true (ap is_some (sym none))
+
+-- what no refusal tells doesn't stand against the forms
+free_by : (words : Listed) (forms : Forms) (o : Option LexFault) → add_refusal words forms ≡ o → lexicon_refusal words o ≡ None → add_refusal words forms ≡ None
+free_by words forms None is none = is
+free_by words forms (Some (faults.Taken text id)) is none =
+    absurd (told_taken text (forms_of words.live id) (owner_lives words.live text id (owner-add_refusal words forms text id is)) none)
+free_by words forms (Some (faults.Reserved text)) is none = absurd (false≢true (ap is_some (sym none)))
+free_by words forms (Some (faults.Full limit)) is none = absurd (false≢true (ap is_some (sym none)))
+free_by words forms (Some (faults.NoWord id)) is none = absurd (add_refusal_names_none words forms id is)
+free_by words forms (Some faults.Memory) is none = absurd (never_memory words forms is)
+
 -- where nothing stands against a new word, nothing stands against its forms
 free_of : (words : Listed) (kind : Kind) (texts : List (List ℕ)) → word_refusal words kind texts ≡ None → add_refusal words (forms_given kind texts) ≡ None
 unfolding word_refusal
-free_of words kind texts none = by_fault (add_refusal words (forms_given kind texts)) refl lexicon_none
-  where
-    lexicon_none : lexicon_refusal words (add_refusal words (forms_given kind texts)) ≡ None
-    lexicon_none = second_none (bad_count kind texts) (lexicon_refusal words (add_refusal words (forms_given kind texts)))
-        (second_none (bad_text texts) (option_or (bad_count kind texts) (lexicon_refusal words (add_refusal words (forms_given kind texts)))) none)
-
-    by_fault : (o : Option LexFault) → add_refusal words (forms_given kind texts) ≡ o → lexicon_refusal words (add_refusal words (forms_given kind texts)) ≡ None → add_refusal words (forms_given kind texts) ≡ None
-    by_fault None is none = is
-    by_fault (Some (faults.Taken text id)) is none =
-        let told = ap (λ (o : Option LexFault). option_and_then (told_fault words) o) (sym is) ∙ none in
-        let lives = owner_lives words.live text id (owner-add_refusal words (forms_given kind texts) text id is) in
-        absurd (gone (forms_of words.live id) lives told)
-      where
-        gone : (o : Option Forms) → IsSome o → option_map (λ (f : Forms). refusals.Taken text (canonical f)) o ≡ None → ⊥
-        gone None lives none = false≢true lives
-        gone (Some f) lives none = false≢true (ap is_some (sym none))
-    by_fault (Some (faults.Reserved text)) is none = absurd (false≢true (ap is_some (sym none ∙ ap (λ (o : Option LexFault). option_and_then (told_fault words) o) is)))
-    by_fault (Some (faults.Full limit)) is none = absurd (false≢true (ap is_some (sym none ∙ ap (λ (o : Option LexFault). option_and_then (told_fault words) o) is)))
-    by_fault (Some (faults.NoWord id)) is none = absurd (add_refusal_names_none words (forms_given kind texts) id is)
-    by_fault (Some faults.Memory) is none = absurd (never_memory words (forms_given kind texts) is)
+free_of words kind texts none =
+    free_by words (forms_given kind texts) (add_refusal words (forms_given kind texts)) refl
+    (second_none (bad_count kind texts) (lexicon_refusal words (add_refusal words (forms_given kind texts)))
+    (second_none (bad_text texts) (option_or (bad_count kind texts) (lexicon_refusal words (add_refusal words (forms_given kind texts)))) none))
 
 none_of : {X : Type 0} (o : Option X) → ((x : X) → o ≡ Some x → ⊥) → o ≡ None
 none_of None never = refl

@@ -89,7 +89,8 @@ fn are_texts(menu: &Menu<'_>) -> bool
     ensures texts { All (λ entry. IsUtf8 entry.1) menu.now }
 {
     for place in 0..menu.len() {
-        let _ = menu.get(place);
+        let (_, text) = menu.get(place);
+        let _ = text.as_bytes();
     }
     true
 }

@@ -1,5 +1,5 @@
 // The wiki and its step.
-ghost use Rattle.std.specs.Prelude.{◌≡◌, IsTrue, IfOk, OnErr};
+ghost use Rattle.std.specs.Prelude.{◌≡◌, Err, IsTrue, IfOk, OnErr};
 ghost use Rattle.wiki_talk.specs.declared.refusals.Refusal.{Refusal as TheRefusal};
 ghost use Rattle.wiki_parts.specs.Faults.{Tells};
 
@@ -117,7 +117,8 @@ impl Wiki {
 
 // The reply to a request that is done or refused.
 pub(crate) fn told(done: Result<Reply, Fault>) -> Result<Reply, Memory>
-    ensures { IfOk result (λ reply. Tells done reply) }
+    ensures told { IfOk result (λ reply. Tells done reply) }
+    ensures memory { OnErr result (done ≡ Err Fault.Memory) }
 {
     match done {
         Ok(reply) => Ok(reply),

@@ -12,3 +12,6 @@ pub returns-clause-changed : goal.returns-clause-changed
 returns-clause-changed c =
     c.set_revision.ensures.set ∙ ap (λ (list : List PlainSession). with_change list c.args.number (with_revision c.args.revision)) c.clear.ensures.cleared
     ∙ changed_twice (λ (s : PlainSession). s.number.0) c.args.number.0 (with_tokens (λ _. [])) (with_revision c.args.revision) (λ s. refl) (all_plain c.args.sessions.now)
+
+pub returns-clause-kept : goal.returns-clause-kept
+returns-clause-kept c = λ g words kept. c.set_revision.ensures.kept g words (c.clear.ensures.kept g words kept)

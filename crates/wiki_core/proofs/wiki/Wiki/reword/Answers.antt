@@ -1,4 +1,5 @@
 use Rattle.std.proofs.Common.{◌≡◌, refl, sym, ap, subst}
+use Rattle.std.proofs.lemmas.Result.{err_from_is_err_and}
 use Rattle.codeco_terms.specs.GrammarParts.{GrammarParts}
 use Rattle.sessions.specs.Sessions.{all_plain, AreKept, AreRebased}
 use Rattle.wiki_talk.specs.declared.requests.Request.TheVariants as requests
@@ -11,7 +12,9 @@ use Rattle.wiki_core.proofs.HeldLemmas.{held_rebased}
 use Rattle.wiki_core.proofs.wiki.Wiki.reword.Goals as goal
 
 pub returns-in_err-lexicon-clause-refused : goal.returns-in_err-lexicon-clause-refused
-returns-in_err-lexicon-clause-refused c = rw (sym c.self.view_is) c.in_err-lexicon.ensures.refused
+returns-in_err-lexicon-clause-refused c =
+    let p = err_from_is_err_and c.from_residual.result c.from_residual.ensures.1 in
+    rw (p.1, p.2) (rw (sym c.self.view_is) c.in_err-lexicon.ensures.refused)
 
 pub invariant_of-self : goal.invariant_of-self
 invariant_of-self c =

@@ -3,7 +3,6 @@ pub mod AroundLemmas
 pub mod InsideLemmas
 pub mod JudgeLemmas
 pub mod ChangeLemmas
-pub mod JudgedLemmas
 pub mod KeepingLemmas
 pub mod StepLemmas
 pub mod ReadLemmas

@@ -16,8 +16,8 @@ use Rattle.wiki_parts.specs.Holding.{Holding}
 use Rattle.wiki_parts.specs.Found.{meaning_shown}
 use Rattle.wiki_parts.specs.Knowledge.{is_asserted, live_names, sentences_in}
 use Rattle.wiki_parts.specs.Kept.{stated_by, known_around, Stands, IsKeeping}
+use Rattle.wiki_store.specs.Step.{with_inserted}
 use Rattle.wiki_store.proofs.InsideLemmas.{item-is, set-there, undone, moved, gap, gap_known, over_inside, plain_inside, status_outside, spends_outside, keeps_inside}
-use Rattle.wiki_store.proofs.JudgedLemmas.{inserted-after}
 use Rattle.wiki_store.proofs.store.Store.insert.Goals as goal
 
 pub standing-requires-clause-around : goal.standing-requires-clause-around
@@ -209,11 +209,11 @@ returns-in_default-clause-spent c =
 pub returns-in-Some-clause-after : goal.returns-in-Some-clause-after
 returns-in-Some-clause-after c =
     let inside : State = record { grammar = c.self.inside.grammar; budget = c.self.inside.budget; words = c.self.inside.lexicon; articles = c.self.inside.articles } in
-    inserted-after inside (kept_interp c.self.inside.kept) c.args.self.now c.self.view_is c.args.fresh.word c.args.fresh.at (record { tokens = c.args.fresh.tokens; status = c.in_ok-status.status })
-    c.insert-2.new.self c.in-Ok.ensures.ok
+    ap (λ (xs : List Article). record inside { articles = xs }) c.in-Ok.ensures.ok
+    ∙ ap (λ (h : Holding). with_inserted h.state c.args.fresh.word c.args.fresh.at (record { tokens = c.args.fresh.tokens; status = c.in_ok-status.status })) c.self.view_is
 
 pub returns-in_default-clause-after : goal.returns-in_default-clause-after
 returns-in_default-clause-after c =
     let inside : State = record { grammar = c.self.inside.grammar; budget = c.self.inside.budget; words = c.self.inside.lexicon; articles = c.self.inside.articles } in
-    inserted-after inside (kept_interp c.self.inside.kept) c.args.self.now c.self.view_is c.args.fresh.word c.args.fresh.at (record { tokens = c.args.fresh.tokens; status = c.in_ok-status.status })
-    c.insert-2.new.self c.in-Ok.ensures.ok
+    ap (λ (xs : List Article). record inside { articles = xs }) c.in-Ok.ensures.ok
+    ∙ ap (λ (h : Holding). with_inserted h.state c.args.fresh.word c.args.fresh.at (record { tokens = c.args.fresh.tokens; status = c.in_ok-status.status })) c.self.view_is

@@ -16,6 +16,7 @@ use Rattle.wiki_parts.specs.Holding.{Holding}
 use Rattle.wiki_parts.specs.Found.{meaning_shown}
 use Rattle.wiki_parts.specs.Knowledge.{is_asserted, live_names, sentences_in}
 use Rattle.wiki_parts.specs.Kept.{stated_by, known_around, Stands, IsKeeping}
+use Rattle.wiki_store.specs.Step.{with_inserted}
 use Rattle.wiki_store.proofs.InsideLemmas.{item-is, set-there, undone, moved, gap, gap_known, over_inside, plain_inside, status_outside, spends_outside, keeps_inside}
 use Rattle.wiki_store.proofs.store.Store.insert.Goals as goal
 
@@ -204,3 +205,15 @@ returns-in_default-clause-spent c =
     spends_outside inside c.self.inside.senses.items c.self.inside.kept c.args.self.now c.self.view_is c.self.invariant.0 ordered c.args.fresh.word c.place-place.result c.place-place.ensures c.args.fresh.at c.args.fresh.at around c.args.fresh.tokens c.args.fresh.sense c.requires.means put (λ st. refl) c.in_ok-status.status stands red
     (moved (λ (xs : List Article) (ms : List (List Sense)). IsModel (kept_interp c.self.inside.kept) (known_around xs ms c.place-place.result c.args.fresh.at (stated_by (meaning_shown c.args.fresh.sense)) c.args.fresh.at) → ⊥)
     c.as_slice.result.now c.self.inside.articles c.deref.result.now c.self.inside.senses.items c.as_slice.ensures.articles c.deref.ensures.value (c.in_ok-status.ensures.spent red))
+
+pub returns-in-Some-clause-after : goal.returns-in-Some-clause-after
+returns-in-Some-clause-after c =
+    let inside : State = record { grammar = c.self.inside.grammar; budget = c.self.inside.budget; words = c.self.inside.lexicon; articles = c.self.inside.articles } in
+    ap (λ (xs : List Article). record inside { articles = xs }) c.in-Ok.ensures.ok
+    ∙ ap (λ (h : Holding). with_inserted h.state c.args.fresh.word c.args.fresh.at (record { tokens = c.args.fresh.tokens; status = c.in_ok-status.status })) c.self.view_is
+
+pub returns-in_default-clause-after : goal.returns-in_default-clause-after
+returns-in_default-clause-after c =
+    let inside : State = record { grammar = c.self.inside.grammar; budget = c.self.inside.budget; words = c.self.inside.lexicon; articles = c.self.inside.articles } in
+    ap (λ (xs : List Article). record inside { articles = xs }) c.in-Ok.ensures.ok
+    ∙ ap (λ (h : Holding). with_inserted h.state c.args.fresh.word c.args.fresh.at (record { tokens = c.args.fresh.tokens; status = c.in_ok-status.status })) c.self.view_is

@@ -1,5 +1,5 @@
 -- What a change of one session leaves of the list, and what is known of the sessions after it.
-use Rattle.std.proofs.Common.{◌≡◌, ℕ, zero, suc, ◌+◌, ◌<◌, ◌≤◌, eqb, List, [], ◌∷◌, ◌++◌, length, length-append, map, filter, take, All, AllPairs, get_or, set, Option, Some, IsSomeAnd, Bool, true, false, not, cond, ◌⊎◌, inl, inr, refl, sym, ap, subst, ◌∙◌, arith}
+use Rattle.std.proofs.Common.{◌≡◌, ℕ, zero, suc, ◌<◌, ◌≤◌, eqb, List, [], ◌∷◌, ◌++◌, length, length-append, filter, take, All, AllPairs, get_or, set, Option, Some, IsSomeAnd, Bool, true, false, not, cond, refl, sym, ap, subst, ◌∙◌, arith}
 use Rattle.std.specs.List.{remove}
 use Rattle.std.proofs.lemmas.List.Elements.{All-append, All-set, All-filter}
 use Rattle.std.proofs.lemmas.List.Kept.{AllPairs-filter}
@@ -16,7 +16,7 @@ use Rattle.sessions.proofs.OrderLaws.{pairs_tail, pairs_head}
 use Rattle.sessions.proofs.PlaceLemmas.{session_at, with_change-set, without_session-remove}
 use Rattle.sessions.specs.declared.session.Session.{Session}
 use Rattle.sessions.specs.declared.sessions.TheConstants.{MOST_SESSIONS}
-use Rattle.sessions.specs.Sessions.{PlainSession, plain, all_plain, is_on, session_of, with_tokens, AreInOrder, with_change, without_session, without_article, IsRebasedSession, AreRebased, IsKept, AreKept, AreKeptOn, AreSessions}
+use Rattle.sessions.specs.Sessions.{PlainSession, plain, all_plain, session_of, with_tokens, AreInOrder, with_change, without_session, without_article, IsRebasedSession, AreRebased, IsKept, AreKept, AreKeptOn, AreSessions}
 use Rattle.sessions.specs.Places.{IsPlaceOf}
 
 abbrev Rising : Session → Session → Type 0

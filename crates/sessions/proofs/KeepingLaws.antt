@@ -1,6 +1,6 @@
 -- Sessions whose editors keep a grammar and the readings by a lexicon: they are typeable by these, and a word that is added
 -- changes nothing.
-use Rattle.std.proofs.Common.{◌≡◌, ℕ, zero, suc, ◌<◌, List, [], ◌∷◌, length, map, All, get_or, Option, None, refl, sym, ap, subst, arith}
+use Rattle.std.proofs.Common.{◌≡◌, List, get_or, None}
 use Rattle.std.proofs.lemmas.List.Elements.{All-map}
 use Rattle.codeco_terms.specs.GrammarParts.{GrammarParts}
 use Rattle.lexicon.specs.declared.kinds.Forms.{Forms}
@@ -9,7 +9,7 @@ use Rattle.derivation_trees.specs.Partial.{IsTypeable}
 use Rattle.editor.proofs.EditingLemmas.{typeable_by}
 use Rattle.editor.proofs.WordLemmas.{kept_with_word}
 use Rattle.sessions.specs.declared.session.Session.{Session}
-use Rattle.sessions.specs.Sessions.{PlainSession, plain, all_plain, IsKept, AreKept, AreTypeable, AreSessions}
+use Rattle.sessions.specs.Sessions.{PlainSession, plain, all_plain, AreKept, AreTypeable, AreSessions}
 
 -- each session's tokens are typeable by the grammar and the lexicon that are kept
 pub kept_typeable : (g : GrammarParts) (l : Listed) (sessions : List Session) → AreSessions sessions → AreKept g l sessions → AreTypeable g l (all_plain sessions)

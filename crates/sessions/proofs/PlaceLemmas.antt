@@ -1,20 +1,16 @@
 -- Sessions in order of their numbers: where one stands, and what a change of one makes of the list.
-use Rattle.std.proofs.Common.{◌≡◌, ℕ, zero, suc, ◌+◌, ◌<◌, ◌≤◌, eqb, List, [], ◌∷◌, ◌++◌, length, map, filter, find, All, get_or, set, Option, Some, None, option_map, Result, Ok, Err, MatchOption, IsSomeAnd, Bool, true, false, not, cond, ◌⊎◌, inl, inr, refl, sym, ap, subst, ◌∙◌, arith}
-use Rattle.std.specs.List.{remove, slice_get}
+use Rattle.std.proofs.Common.{◌≡◌, ℕ, zero, suc, ◌<◌, ◌≤◌, eqb, List, [], ◌∷◌, length, find, get_or, set, Some, None, option_map, Result, Ok, Err, MatchOption, Bool, true, false, not, cond, ◌⊎◌, inl, inr, refl, sym, ap, ◌∙◌, arith}
+use Rattle.std.specs.List.{remove}
 use Rattle.std.specs.List.Sorted.{IsSearchInRange, IsBinarySearchResult, IsNonDecreasingBy}
 use Rattle.std.specs.Ordering.{nat_cmp, ordering_index}
 use Rattle.std.specs.Result.{result_ok}
 use Rattle.std.proofs.lemmas.Cmp.{ranked}
 use Rattle.std.proofs.lemmas.Bool.{cases_lt, false≢true}
 use Rattle.std.proofs.lemmas.Bool.Decides.{nat_tests}
-use Rattle.std.proofs.lemmas.List.{length-map}
 use Rattle.wiki_base.specs.declared.numbers.SessionId.{SessionId}
-use Rattle.wiki_base.specs.declared.numbers.WordId.{WordId}
-use Rattle.codeco_terms.specs.GrammarParts.{GrammarParts}
-use Rattle.lexicon.specs.Words.{Listed}
 use Rattle.sessions.proofs.OrderLaws.{find_none, find_first, pairs_tail, pairs_head}
 use Rattle.sessions.specs.declared.session.Session.{Session}
-use Rattle.sessions.specs.Sessions.{PlainSession, plain, all_plain, has_number, session_of, AreInOrder, with_change, without_session, HasSession, IsKept, AreKept}
+use Rattle.sessions.specs.Sessions.{PlainSession, plain, all_plain, session_of, AreInOrder, with_change, without_session}
 use Rattle.sessions.specs.Places.{IsPlaceOf}
 
 -- the session has the number, as it is held

@@ -2,7 +2,8 @@
 ghost use Rattle.std.specs.Prelude.{◌≡◌, ◌+◌, ◌-◌, ◌<◌, ◌≤◌, ◌↔◌, [], ◌∷◌, ◌++◌, length, take, true, false, slice_get, option_map, IsTrue, IsSomeAnd, IfOk, IfSome, OnOk, OnErr, MatchOption, None, Some, Err, All};
 ghost use Rattle.wiki_base.specs.declared.tokens.TheConstants.{MOST_TOKENS};
 ghost use Rattle.codeco_terms.specs.GrammarParts.{GrammarParts};
-ghost use Rattle.lexicon.specs.Words.{Listed};
+ghost use Rattle.lexicon.specs.declared.kinds.Forms.{Forms};
+ghost use Rattle.lexicon.specs.Words.{Listed, with_word, add_refusal};
 ghost use Rattle.editor.specs.Editing.{typed, IsEdited, IsInMenu};
 
 use crate::session::Session;
@@ -38,7 +39,7 @@ impl Model for Sessions {
 }
 
 impl Sessions {
-    ghost use Rattle.sessions.specs.Sessions.{all_plain, plain, session_of, new_session, with_change, with_tokens, with_revision, without_session, without_article, HasSession, AreSessions, AreRebased, IsKept, AreKept, AreKeptOn};
+    ghost use Rattle.sessions.specs.Sessions.{all_plain, plain, session_of, new_session, with_change, with_tokens, with_revision, without_session, without_article, HasSession, AreSessions, AreRebased, AreTypeable, IsKept, AreKept, AreKeptOn};
     ghost use Rattle.sessions.specs.Places.{IsPlaceOf};
 
     /// No sessions. Takes no memory.
@@ -81,10 +82,15 @@ impl Sessions {
         &self.sessions[place]
     }
 
-    /// All of them, in order.
+    /// All of them, in order. By the grammar and the lexicon that their editors keep, their tokens are typeable; and where a
+    /// word is added to the lexicon, they keep that one too, since no token that is typed gets another reading.
     pub fn as_slice(&self) -> &[Session]
         ensures sessions { result.now ≡ self.now }
         ensures order { AreSessions self.now }
+
+        ensures typeable { (g : GrammarParts) (lexicon : Listed) → AreKept g lexicon self.now → AreTypeable g lexicon (all_plain self.now) }
+        ensures word { (g : GrammarParts) (lexicon : Listed) (forms : Forms) → lexicon.terminals ≡ g.terminals → add_refusal lexicon forms ≡ None
+            → AreKept g lexicon self.now → AreKept g (with_word lexicon forms) self.now }
     {
         self.sessions.as_slice()
     }

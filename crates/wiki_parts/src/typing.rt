@@ -1,4 +1,4 @@
-// What tokens are to the grammar, by the table of the chart: how many of them can be typed, what may follow them, and the
+// What tokens are to the grammar, by the tables of the chart: how many of them can be typed, what may follow them, and the
 // least skeleton.
 ghost use Rattle.std.specs.Prelude.{◌≡◌, ◌≤◌, ◌↔◌, ℕ, length, IfOk, IfSome, IfNone};
 ghost use Rattle.wiki_base.specs.declared.tokens.TheConstants.{MOST_TOKENS};
@@ -6,10 +6,11 @@ ghost use Rattle.derivation_trees.specs.Sentences.{IsSentence};
 ghost use Rattle.derivation_trees.specs.Skeletons.{IsLeastSkeleton};
 ghost use Rattle.derivations.specs.Typing.{IsTextMenu, IsTypeableCount};
 
-use chart::{Chart, has_derivation};
+use chart::Chart;
 use chart_table::begins;
+use chart_trees::least_of;
 use codeco_checked::CheckedGrammar;
-use derivations::{Menu, Skeleton, plain_least, plain_menu};
+use derivations::{Menu, Skeleton, plain_menu};
 use lexicon::Lexicon;
 use lists::Copied;
 use std::alloc::Global;
@@ -57,7 +58,7 @@ pub fn menu<'a>(
     chart.menu(grammar, lexicon)
 }
 
-/// The least skeleton of the tokens, if they have a derivation: trees are listed only where there is one.
+/// The least skeleton of the tokens, if they have a derivation.
 pub fn least(
     alloc: Global,
     grammar: &CheckedGrammar,
@@ -68,8 +69,5 @@ pub fn least(
     ensures least { IfOk result (λ found. IfSome found (IsLeastSkeleton grammar.now lexicon.now tokens.now)) }
     ensures none { IfOk result (λ found. IfNone found (IsSentence grammar.now lexicon.now tokens.now → ⊥)) }
 {
-    if !has_derivation(alloc, grammar, lexicon, tokens)? {
-        return Ok(None);
-    }
-    plain_least(alloc, grammar, lexicon, tokens)
+    least_of(alloc, grammar, lexicon, tokens)
 }

@@ -1,29 +1,35 @@
 -- The first sentence that lacks a property, and whether a sentence keeps its meaning.
-use Rattle.std.proofs.Common.{◌≡◌, ℕ, zero, suc, ◌+◌, ◌<◌, ◌≤◌, ◌⊎◌, Bool, true, false, List, [], ◌∷◌, ◌++◌, length, take, drop, map, All, MatchBool, Option, Some, None, IsSome, inl, inr, refl, sym, ap, subst, ◌∙◌, arith, option_map}
+use Rattle.std.proofs.Common.{◌≡◌, ℕ, zero, suc, ◌+◌, ◌<◌, ◌≤◌, ◌⊎◌, Bool, true, false, List, [], ◌∷◌, ◌++◌, length, take, drop, get_or, map, All, MatchBool, Option, Some, None, IsSome, is_some, inl, inr, refl, sym, ap, subst, ◌∙◌, arith, option_map}
 use Rattle.std.specs.List.{slice_get}
 use Rattle.std.proofs.lemmas.Bool.{false≢true}
+use Rattle.std.proofs.lemmas.List.{length-map}
 use Rattle.std.proofs.lemmas.List.Elements.{All-nil, All-cons}
-use Rattle.std.proofs.lemmas.Option.{none-some}
+use Rattle.std.proofs.lemmas.Option.{none-some, slice_get-get_or}
 use Rattle.wiki_base.specs.declared.numbers.WordId.{WordId}
+use Rattle.wiki_base.specs.declared.numbers.Place.{Place}
 use Rattle.codeco_terms.specs.GrammarParts.{GrammarParts}
 use Rattle.lexicon.specs.Words.{Listed, forms_of}
 use Rattle.derivation_trees.specs.Sentences.{IsSentence}
 use Rattle.derivations.proofs.Members.{some_same}
 use Rattle.logic_terms.proofs.Walks.{drop_get, left_none}
+use Rattle.wiki_talk.specs.declared.refusals.Refusal.{Refusal}
+use Rattle.wiki_talk.specs.declared.refusals.Refusal.TheVariants.{Breaks}
 use Rattle.articles.specs.declared.sentences.Sentence.{Sentence}
 use Rattle.articles.specs.declared.article.Article.{Article}
 use Rattle.wiki_parts.specs.declared.meanings.Sense.{Sense}
 use Rattle.wiki_parts.specs.Found.{meaning_shown}
 use Rattle.wiki_parts.specs.Kept.{MeanEach, MeanInEach, meanings_in}
+use Rattle.wiki_parts.specs.Knowledge.{sentences_in}
 use Rattle.wiki_parts.specs.Meanings.{Meaning, Means}
 use Rattle.wiki_parts.specs.Places.{Placed, placed_from, placed_in, all_placed, IsFirstPlaced}
-use Rattle.wiki_parts.specs.Refusing.{KeepsMeaning}
+use Rattle.wiki_parts.specs.Refusing.{KeepsMeaning, TellsPlace}
 use Rattle.wiki_parts.specs.State.{State, IsSound}
 use Rattle.wiki_parts.proofs.MeaningLemmas.{means_one}
-use Rattle.wiki_store.specs.Rewording.{Finds}
+use Rattle.wiki_store.specs.Rewording.{Finds, FindsPlace, IsBroken}
 use Rattle.wiki_store.specs.Sameness.{same_meaning}
+use Rattle.wiki_store.proofs.KeepingLemmas.{all_parts, as_many}
 use Rattle.wiki_store.proofs.SameMeanings.{meaning_equal, meaning_self}
-use Rattle.wiki_store.proofs.UnwordLemmas.{lives-at}
+use Rattle.wiki_store.proofs.UnwordLemmas.{lives-at, told-found, none-found}
 
 module _ (P : Placed → Type 0) where
   -- where none is found, all have the property
@@ -143,6 +149,42 @@ module _ (P : Placed → Type 0) where
       let at = article_word state.articles found h in
       lives-at state.words.live found.word at.0 (ap (λ (ids : List WordId). slice_get ids at.0) (sym sound.articles) ∙ at.1)
 
+  -- ---- the place that is told
+
+  -- where no place is told, none is found
+  pub passed_place : (xs : List Placed) (place : Option Place) → is_some place ≡ false → FindsPlace P xs place → Finds P xs None
+  passed_place xs None none f = subst (Finds P xs) (none-found f.found f.told) f.finds
+  passed_place xs (Some place) none f = absurd (false≢true (sym none))
+
+  -- a place in an article, before which none was found
+  pub found_place : (articles : List Article) (i : ℕ) (a : Article) (place : Option Place) → slice_get articles i ≡ Some a → is_some place ≡ true → FindsPlace P (placed_in a) place
+      → ((found : Option Placed) → Finds P (all_placed (drop i articles)) found → Finds P (all_placed articles) found) → FindsPlace P (all_placed articles) place
+  found_place articles i a None here some f rest = absurd (false≢true some)
+  found_place articles i a (Some place) here some f rest =
+      let t = told-found f.found place f.told in
+      record { found = Some t.found; told = ap Some t.told; finds = rest (Some t.found) (next_found articles i a t.found here (subst (Finds P (placed_in a)) t.is f.finds)) }
+
+  pub no_place : (xs : List Placed) → Finds P xs None → FindsPlace P xs None
+  no_place xs finds = record { found = None; told = refl; finds = finds }
+
+  -- the word of the place that is told lives
+  pub place_lives : (state : State) → IsSound state → (place : Place) → FindsPlace P (all_placed state.articles) (Some place) → IsSome (forms_of state.words.live place.article)
+  place_lives state sound place f =
+      let t = told-found f.found place f.told in
+      subst (λ (p : Place). IsSome (forms_of state.words.live p.article)) t.told (found_lives state sound t.found (subst (Finds P (all_placed state.articles)) t.is f.finds))
+
+-- the sentence at the place that is told is the first one that is broken
+pub broken_place : (state : State) (new : Listed) (place : Place) → FindsPlace (λ placed. KeepsMeaning state.grammar state.words new placed.sentence.tokens) (all_placed state.articles) (Some place)
+    → (refusal : Refusal) → TellsPlace state (λ form place. Breaks form place) place.article place.at refusal → IsBroken state new refusal
+broken_place state new place f refusal told =
+    let t = told-found f.found place f.told in
+    record {
+      first = t.found;
+      breaks = finds_first (λ placed. KeepsMeaning state.grammar state.words new placed.sentence.tokens) (all_placed state.articles) t.found
+          (subst (Finds (λ placed. KeepsMeaning state.grammar state.words new placed.sentence.tokens) (all_placed state.articles)) t.is f.finds);
+      told = subst (λ (p : Place). TellsPlace state (λ form place. Breaks form place) p.article p.at refusal) (sym t.told) told;
+    }
+
 -- ---- whether a sentence keeps its meaning
 
 pub told_kept : (g : GrammarParts) (words new : Listed) (tokens : List (List ℕ)) (kept found : Meaning) (b : Bool) → b ≡ same_meaning found kept → Means g words tokens kept → Means g new tokens found
@@ -164,3 +206,41 @@ mean_each-at g words (t ∷ ts) [] at s m mean here meant = absurd mean
 mean_each-at g words (t ∷ ts) (n ∷ ns) zero s m mean here meant =
     subst (λ (u : Sentence). Means g words u.tokens (meaning_shown m)) (some_same t s here) (subst (λ (k : Sense). Means g words t.tokens (meaning_shown k)) (some_same n m meant) mean.0.0)
 mean_each-at g words (t ∷ ts) (n ∷ ns) (suc at) s m mean here meant = mean_each-at g words ts ns at s m mean.1 here meant
+
+-- the item that stands at a place
+pub item_at : {X : Type 0} (xs : List X) (i : ℕ) (x : X) → i < length xs → x ≡ get_or xs i x → slice_get xs i ≡ Some x
+item_at xs i x within is = slice_get-get_or xs i x within ∙ ap Some (sym is)
+
+-- what is true of all sentences is true of those of the article at a place
+pub all_at : (P : Sentence → Type 0) (articles : List Article) (i : ℕ) (a : Article) → slice_get articles i ≡ Some a → All P (sentences_in articles) → All P a.sentences
+all_at P [] i a here all = absurd (none-some a here)
+all_at P (b ∷ articles) zero a here all = subst (λ (c : Article). All P c.sentences) (some_same b a here) (all_parts P b.sentences (sentences_in articles) all).0
+all_at P (b ∷ articles) (suc i) a here all = all_at P articles i a here (all_parts P b.sentences (sentences_in articles) all).1
+
+module _ (g : GrammarParts) (words new : Listed) (article : Article) (senses : List Sense) (at : ℕ) (s : Sentence) (m : Sense) (kept : Bool)
+    (here : slice_get article.sentences at ≡ Some s) (meant : slice_get senses at ≡ Some m) (mean : MeanEach g words article.sentences (meanings_in senses))
+    (told : Means g words s.tokens (meaning_shown m) → MatchBool kept (KeepsMeaning g words new s.tokens) (KeepsMeaning g words new s.tokens → ⊥)) where
+  -- the sentence at the place is the first one of the article that is broken
+  pub told_broken : kept ≡ false
+      → ((found : Option Placed) → Finds (λ placed. KeepsMeaning g words new placed.sentence.tokens) (placed_from article.word at (drop at article.sentences)) found
+      → Finds (λ placed. KeepsMeaning g words new placed.sentence.tokens) (placed_in article) found)
+      → FindsPlace (λ placed. KeepsMeaning g words new placed.sentence.tokens) (placed_in article) (Some (record { article = article.word; at = at }))
+  told_broken is rest =
+      let lacks = subst (λ (b : Bool). MatchBool b (KeepsMeaning g words new s.tokens) (KeepsMeaning g words new s.tokens → ⊥)) is (told (mean_each-at g words article.sentences senses at s m mean here meant)) in
+      record {
+        found = Some (record { word = article.word; place = at; sentence = s });
+        told = refl;
+        finds = rest (Some (record { word = article.word; place = at; sentence = s })) (next_broken (λ placed. KeepsMeaning g words new placed.sentence.tokens) article.word article.sentences at s here lacks);
+      }
+
+  -- or the first one is behind it
+  pub still_kept : kept ≡ true → (found : Option Placed)
+      → Finds (λ placed. KeepsMeaning g words new placed.sentence.tokens) (placed_from article.word (at + 1) (drop (at + 1) article.sentences)) found
+      → Finds (λ placed. KeepsMeaning g words new placed.sentence.tokens) (placed_from article.word at (drop at article.sentences)) found
+  still_kept is found rest =
+      let holds = subst (λ (b : Bool). MatchBool b (KeepsMeaning g words new s.tokens) (KeepsMeaning g words new s.tokens → ⊥)) is (told (mean_each-at g words article.sentences senses at s m mean here meant)) in
+      next_kept (λ placed. KeepsMeaning g words new placed.sentence.tokens) article.word article.sentences at s found here holds rest
+
+-- as many meanings are kept as there are sentences
+pub as_many_sense : (g : GrammarParts) (words : Listed) (sentences : List Sentence) (senses : List Sense) → MeanEach g words sentences (meanings_in senses) → length senses ≡ length sentences
+as_many_sense g words sentences senses mean = sym (length-map senses meaning_shown) ∙ as_many g words sentences (meanings_in senses) mean

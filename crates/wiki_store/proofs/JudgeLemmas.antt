@@ -1,9 +1,11 @@
 -- What is kept where a sentence comes into an article, in place of those from a place to before another.
-use Rattle.std.proofs.Common.{◌≡◌, ℕ, zero, suc, ◌+◌, ◌<◌, ◌≤◌, Bool, true, false, cond, List, [], ◌∷◌, ◌++◌, length, take, drop, set, insert, map, All, AllPairs, Option, Some, unwrap_or, refl, sym, ap, subst, ◌∙◌, append_assoc, length-append, length-drop, arith}
+use Rattle.std.proofs.Common.{◌≡◌, ℕ, zero, suc, ◌+◌, ◌<◌, ◌≤◌, Bool, true, false, cond, List, [], ◌∷◌, ◌++◌, length, take, drop, set, map, All, AllPairs, Option, Some, unwrap_or, refl, sym, ap, subst, ◌∙◌, append_assoc, length-append, length-drop, arith}
 use Rattle.std.specs.Prelude.{IsTrue}
 use Rattle.std.specs.List.{slice_get}
-use Rattle.std.specs.Option.{option_map_or}
-use Rattle.std.proofs.lemmas.List.{length-take-le, map-set_same}
+use Rattle.std.specs.Option.{option_map_or, IsSomeAnd}
+use Rattle.std.proofs.lemmas.Bool.{false≢true}
+use Rattle.std.proofs.lemmas.List.{length-take-le, length-map, take-append-drop}
+use Rattle.std.proofs.Math.Seq.{map-set_same}
 use Rattle.std.proofs.lemmas.List.Elements.{All-append, All-cons, All-take, All-drop, All-set}
 use Rattle.std.proofs.lemmas.Option.{none-some, get_or_from_slice_get, slice_get_within}
 use Rattle.wiki_base.specs.declared.numbers.WordId.{WordId}
@@ -23,21 +25,23 @@ use Rattle.wiki_talk.specs.declared.statuses.Status.{Status}
 use Rattle.wiki_talk.specs.declared.statuses.Status.TheVariants.{Asserted, Retracted, RedContradiction, RedBudget, Outside, Question, QuestionOutside}
 use Rattle.articles.specs.declared.sentences.Sentence.{Sentence}
 use Rattle.articles.specs.declared.article.Article.{Article}
-use Rattle.articles.specs.Articles.{AreInOrder, changed, with_change, with_status}
+use Rattle.articles.specs.Articles.{AreInOrder, HasPlace, article_of, changed, with_change, with_status}
 use Rattle.articles.specs.Places.{IsPlaceOf}
-use Rattle.articles.proofs.PlaceLemmas.{with_change-set}
+use Rattle.articles.proofs.PlaceLemmas.{article_at, with_change-set}
 use Rattle.wiki_parts.specs.declared.meanings.Sense.{Sense}
 use Rattle.wiki_parts.specs.State.{State, IsSound}
 use Rattle.wiki_parts.specs.Meanings.{Meaning, stating, outside, asking, asking_outside, Means}
 use Rattle.wiki_parts.specs.Knowledge.{is_asserted, sentences_in, Knows, live_names, IsAllowed, IsStatusOf}
 use Rattle.wiki_parts.specs.Holding.{FitsMeaning}
 use Rattle.wiki_parts.specs.Found.{meaning_shown}
+use Rattle.wiki_parts.specs.Refusing.{may_reassert}
 use Rattle.wiki_parts.specs.Kept.{stated_by, meanings_in, known_of, known_in, known_around, IsAround, MeanEach, MeanInEach, Stands, IsKeeping}
 use Rattle.wiki_parts.proofs.KnownLemmas.{knows_from_known}
 use Rattle.wiki_parts.proofs.MeaningLemmas.{knows_one}
 use Rattle.wiki_parts.proofs.OverLemmas.{verdict_over, verdict_plain}
-use Rattle.wiki_store.proofs.KeepingLemmas.{all_parts, as_many_lists}
-use Rattle.wiki_store.proofs.AroundLemmas.{known_of-append, known_in-set, known_around-is, same_take, set_parts, mean_at}
+use Rattle.wiki_store.proofs.KeepingLemmas.{all_parts, as_many, as_many_lists}
+use Rattle.wiki_store.proofs.ChangeLemmas.{mean_of-append, mean_of-take, mean_of-drop, mean_in-set}
+use Rattle.wiki_store.proofs.AroundLemmas.{known_of-append, known_of-parts, known_in-set, known_in-parts, known_around-is, same_take, set_parts, item, mean_at}
 
 -- ---- lists
 
@@ -86,46 +90,17 @@ known-spliced articles senses place from to around b s m same is =
     ∙ ap (λ (cs : List Claim). front ++ cs) (append_assoc before (middle ++ behind) back ∙ ap (λ (cs : List Claim). before ++ cs) (append_assoc middle behind back))
     ∙ sym (known_around-is articles senses place from to middle a around.own around.here around.meant)
 
-each-append : (g : GrammarParts) (words : Listed) (ss ts : List Sentence) (ms ns : List Sense) → MeanEach g words ss (meanings_in ms) → MeanEach g words ts (meanings_in ns)
-    → MeanEach g words (ss ++ ts) (meanings_in (ms ++ ns))
-each-append g words [] ts [] ns one other = other
-each-append g words [] ts (m ∷ ms) ns one other = absurd one
-each-append g words (s ∷ ss) ts [] ns one other = absurd one
-each-append g words (s ∷ ss) ts (m ∷ ms) ns one other = (one.0, each-append g words ss ts ms ns one.1 other)
-
-each-take : (g : GrammarParts) (words : Listed) (n : ℕ) (ss : List Sentence) (ms : List Sense) → MeanEach g words ss (meanings_in ms) → MeanEach g words (take n ss) (meanings_in (take n ms))
-each-take g words zero ss ms mean = tt
-each-take g words (suc n) [] [] mean = tt
-each-take g words (suc n) [] (m ∷ ms) mean = absurd mean
-each-take g words (suc n) (s ∷ ss) [] mean = absurd mean
-each-take g words (suc n) (s ∷ ss) (m ∷ ms) mean = (mean.0, each-take g words n ss ms mean.1)
-
-each-drop : (g : GrammarParts) (words : Listed) (n : ℕ) (ss : List Sentence) (ms : List Sense) → MeanEach g words ss (meanings_in ms) → MeanEach g words (drop n ss) (meanings_in (drop n ms))
-each-drop g words zero ss ms mean = mean
-each-drop g words (suc n) [] [] mean = tt
-each-drop g words (suc n) [] (m ∷ ms) mean = absurd mean
-each-drop g words (suc n) (s ∷ ss) [] mean = absurd mean
-each-drop g words (suc n) (s ∷ ss) (m ∷ ms) mean = each-drop g words n ss ms mean.1
-
 each-spliced : (g : GrammarParts) (words : Listed) (ss : List Sentence) (ms : List Sense) (from to : ℕ) (s : Sentence) (m : Sense) → MeanEach g words ss (meanings_in ms)
     → Means g words s.tokens (meaning_shown m) × FitsMeaning s.status (meaning_shown m) → MeanEach g words (spliced ss from to s) (meanings_in (spliced ms from to m))
 each-spliced g words ss ms from to s m mean here =
-    each-append g words (take from ss) (s ∷ drop to ss) (take from ms) (m ∷ drop to ms) (each-take g words from ss ms mean) (here, each-drop g words to ss ms mean)
-
-in-each-set : (g : GrammarParts) (words : Listed) (articles : List Article) (senses : List (List Sense)) (place : ℕ) (b : Article) (own : List Sense) → MeanInEach g words articles senses
-    → MeanEach g words b.sentences (meanings_in own) → MeanInEach g words (set articles place b) (set senses place own)
-in-each-set g words [] [] place b own mean each = tt
-in-each-set g words [] (kept ∷ senses) place b own mean each = absurd mean
-in-each-set g words (a ∷ articles) [] place b own mean each = absurd mean
-in-each-set g words (a ∷ articles) (kept ∷ senses) zero b own mean each = (each, mean.1)
-in-each-set g words (a ∷ articles) (kept ∷ senses) (suc place) b own mean each = (mean.0, in-each-set g words articles senses place b own mean.1 each)
+    mean_of-append g words (take from ss) (s ∷ drop to ss) (take from ms) (m ∷ drop to ms) (mean_of-take g words from ss ms mean) (here, mean_of-drop g words to ss ms mean)
 
 -- each sentence has its meaning, the one that comes too
 pub mean-spliced : (g : GrammarParts) (words : Listed) (articles : List Article) (senses : List (List Sense)) (place from to : ℕ) (around : IsAround articles senses place from to) (b : Article) (s : Sentence)
     (m : Sense) → MeanInEach g words articles senses → b.sentences ≡ spliced around.article.sentences from to s → Means g words s.tokens (meaning_shown m) → FitsMeaning s.status (meaning_shown m)
     → MeanInEach g words (set articles place b) (set senses place (spliced around.own from to m))
 mean-spliced g words articles senses place from to around b s m mean is means fits =
-    in-each-set g words articles senses place b (spliced around.own from to m) mean
+    mean_in-set g words articles senses place b (spliced around.own from to m) mean
     (subst (λ (ss : List Sentence). MeanEach g words ss (meanings_in (spliced around.own from to m))) (sym is)
     (each-spliced g words around.article.sentences around.own from to s m (mean_at g words articles senses place around.article around.own mean around.here around.meant) (means, fits)))
 
@@ -138,7 +113,7 @@ all-in-set P (a ∷ articles) (suc place) b all own =
     All-append P a.sentences (sentences_in (set articles place b)) (all_parts P a.sentences (sentences_in articles) all).0
     (all-in-set P articles place b (all_parts P a.sentences (sentences_in articles) all).1 own)
 
-all-in-at : (P : Sentence → Type 0) (articles : List Article) (place : ℕ) (a : Article) → slice_get articles place ≡ Some a → All P (sentences_in articles) → All P a.sentences
+pub all-in-at : (P : Sentence → Type 0) (articles : List Article) (place : ℕ) (a : Article) → slice_get articles place ≡ Some a → All P (sentences_in articles) → All P a.sentences
 all-in-at P [] place a here all = absurd (none-some a here)
 all-in-at P (b ∷ articles) zero a here all =
     subst (λ (c : Article). All P c.sentences) (ap (λ (o : Option Article). unwrap_or o b) here) (all_parts P b.sentences (sentences_in articles) all).0
@@ -231,6 +206,80 @@ keeps-changed state senses model word place from to ordered here around change s
     subst (λ (articles : List Article). IsKeeping (record state { articles = articles }) (set senses place (spliced around.own from to m)) after)
     (sym (change-is state.articles senses word place from to ordered here around change))
     (keeps-set state senses model place from to around (changed change around.article) s m after keeping refl is means fits short room known)
+
+-- ---- what is known without the sentence
+
+known_of-split : (ss : List Sentence) (ms : List Sense) (at : ℕ) → length ms ≡ length ss
+    → known_of ss (meanings_in ms) ≡ known_of (take at ss) (meanings_in (take at ms)) ++ known_of (drop at ss) (meanings_in (drop at ms))
+known_of-split ss ms at same =
+    ap (λ (xs : List Sentence). known_of xs (meanings_in ms)) (sym (take-append-drop at ss))
+    ∙ ap (λ (xs : List Sense). known_of (take at ss ++ drop at ss) (meanings_in xs)) (sym (take-append-drop at ms))
+    ∙ known_of-append (take at ss) (drop at ss) (take at ms) (drop at ms) (same_take at ss ms same)
+
+-- what is known is what is known around a place between two sentences
+pub known_in-gap : (articles : List Article) (senses : List (List Sense)) (place at : ℕ) → IsAround articles senses place at at → known_in articles senses ≡ known_around articles senses place at [] at
+known_in-gap articles senses place at around =
+    let a = around.article in
+    let front = known_in (take place articles) (take place senses) in
+    let back = known_in (drop (place + 1) articles) (drop (place + 1) senses) in
+    let before = known_of (take at a.sentences) (meanings_in (take at around.own)) in
+    let behind = known_of (drop at a.sentences) (meanings_in (drop at around.own)) in
+    known_in-parts articles senses place a around.own around.here around.meant
+    ∙ ap (λ (cs : List Claim). front ++ (cs ++ back)) (known_of-split a.sentences around.own at around.many)
+    ∙ ap (λ (cs : List Claim). front ++ cs) (append_assoc before behind back)
+    ∙ sym (known_around-is articles senses place at at [] a around.own around.here around.meant)
+
+-- what is known is what is known around a sentence that isn't asserted
+pub known_in-unasserted : (articles : List Article) (senses : List (List Sense)) (place at : ℕ) (around : IsAround articles senses place at (at + 1)) (s : Sentence)
+    → slice_get around.article.sentences at ≡ Some s → is_asserted s.status ≡ false → known_in articles senses ≡ known_around articles senses place at [] (at + 1)
+known_in-unasserted articles senses place at around s here isnt =
+    let a = around.article in
+    let many = around.many in
+    let in_range = slice_get_within a.sentences at s here in
+    let m = item around.own at (omega (arith, in_range, many)) in
+    let front = known_in (take place articles) (take place senses) in
+    let back = known_in (drop (place + 1) articles) (drop (place + 1) senses) in
+    let before = known_of (take at a.sentences) (meanings_in (take at around.own)) in
+    let behind = known_of (drop (at + 1) a.sentences) (meanings_in (drop (at + 1) around.own)) in
+    known_in-parts articles senses place a around.own around.here around.meant
+    ∙ ap (λ (cs : List Claim). front ++ (cs ++ back))
+    (known_of-parts a.sentences around.own at s m.0 many in_range (sym (get_or_from_slice_get a.sentences at s s here)) (sym (get_or_from_slice_get around.own at m.0 m.0 m.1))
+    ∙ ap (λ (b : Bool). before ++ (cond b (stated_by (meaning_shown m.0)) [] ++ behind)) isnt)
+    ∙ ap (λ (cs : List Claim). front ++ cs) (append_assoc before behind back)
+    ∙ sym (known_around-is articles senses place at (at + 1) [] a around.own around.here around.meant)
+
+-- a sentence that may be taken up again isn't asserted
+pub unasserted : (status : Status) → may_reassert status ≡ true → is_asserted status ≡ false
+unasserted Asserted may = absurd (false≢true may)
+unasserted Retracted may = refl
+unasserted RedContradiction may = refl
+unasserted RedBudget may = refl
+unasserted (Outside cause) may = refl
+unasserted Question may = refl
+unasserted (QuestionOutside cause) may = refl
+
+-- what the sentence at a place means
+pub means-at : (g : GrammarParts) (words : Listed) (ss : List Sentence) (ms : List Sense) (at : ℕ) (s : Sentence) (m : Sense) → MeanEach g words ss (meanings_in ms)
+    → slice_get ss at ≡ Some s → slice_get ms at ≡ Some m → Means g words s.tokens (meaning_shown m)
+means-at g words [] ms at s m mean here meant = absurd (none-some s here)
+means-at g words (t ∷ ss) [] at s m mean here meant = absurd mean
+means-at g words (t ∷ ss) (n ∷ ms) zero s m mean here meant =
+    subst (λ (u : Sentence). Means g words u.tokens (meaning_shown m)) (ap (λ (o : Option Sentence). unwrap_or o t) here)
+    (subst (λ (k : Sense). Means g words t.tokens (meaning_shown k)) (ap (λ (o : Option Sense). unwrap_or o n) meant) mean.0.0)
+means-at g words (t ∷ ss) (n ∷ ms) (suc at) s m mean here meant = means-at g words ss ms at s m mean.1 here meant
+
+-- a place of an article between two sentences, with what is kept of the article
+pub around_place : (g : GrammarParts) (words : Listed) (articles : List Article) (senses : List (List Sense)) → MeanInEach g words articles senses → AreInOrder articles
+    → (word : WordId) (place : ℕ) → IsPlaceOf articles word place → (at : ℕ) → HasPlace articles word at → IsAround articles senses place at at
+around_place g words articles senses mean ordered word place is at there =
+    let lists = as_many_lists g words articles senses mean in
+    let in_range = is.in_range in
+    let a = item articles place in_range in
+    let own = item senses place (omega (arith, in_range, lists)) in
+    let many : length (meanings_in own.0) ≡ length a.0.sentences = as_many g words a.0.sentences (meanings_in own.0) (mean_at g words articles senses place a.0 own.0 mean a.1 own.1) in
+    let found : article_of articles word ≡ Some a.0 = article_at articles ordered word place a.0 is ∙ ap Some (get_or_from_slice_get articles place a.0 a.0 a.1) in
+    let within : at ≤ length a.0.sentences = subst (λ (o : Option Article). IsSomeAnd o (λ b. at ≤ length b.sentences)) found there in
+    record { article = a.0; here = a.1; own = own.0; meant = own.1; many = sym (length-map own.0 meaning_shown) ∙ many; rises = omega arith; within = within }
 
 -- ---- the status
 

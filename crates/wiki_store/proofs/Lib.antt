@@ -1,9 +1,12 @@
 pub mod AddLemmas
 pub mod AroundLemmas
-pub mod ChangeLemmas
+pub mod InsideLemmas
 pub mod JudgeLemmas
+pub mod ChangeLemmas
 pub mod KeepingLemmas
+pub mod StepLemmas
 pub mod ReadLemmas
+pub mod ToldLemmas
 pub mod UnwordLemmas
 pub mod PassedLemmas
 pub mod OtherWords

@@ -251,9 +251,9 @@ none_passes {X} p (y ∷ ys) k x fails here = by_test (p y) refl fails k here (n
   where
     by_test : (b : Bool) → p y ≡ b → (b || list_any p ys) ≡ false → (n : ℕ) → slice_get (y ∷ ys) n ≡ Some x
         → ((n : ℕ) (z : X) → list_any p ys ≡ false → slice_get ys n ≡ Some z → p z ≡ false) → p x ≡ false
-    by_test true is no n at rest = absurd (false≢true (sym no))
-    by_test false is no zero at rest = ap p (sym (some_same y x at)) ∙ is
-    by_test false is no (suc n) at rest = rest n x no at
+    by_test true is none n at rest = absurd (false≢true (sym none))
+    by_test false is none zero at rest = ap p (sym (some_same y x at)) ∙ is
+    by_test false is none (suc n) at rest = rest n x none at
 
 -- a sentence that has no form of the word keeps its meaning without it
 pub means-without_word : (g : GrammarParts) (words : Listed) (id : WordId) (forms : Forms) (tokens : List (List ℕ)) (meaning : Meaning) → AllPairs rises words.live → forms_of words.live id ≡ Some forms

@@ -1,7 +1,7 @@
 -- When a word gets other forms, and when not.
-use Rattle.std.proofs.Common.{◌≡◌, ℕ, zero, suc, ◌+◌, ◌<◌, Bool, true, false, cond, List, [], ◌∷◌, ◌++◌, length, map, find, get_or, take, All, AllPairs, Option, Some, None, IsSome, is_some, inl, inr, refl, sym, ap, subst, ◌∙◌, arith, option_map}
+use Rattle.std.proofs.Common.{◌≡◌, ℕ, zero, suc, ◌+◌, ◌<◌, Bool, true, false, not, cond, List, [], ◌∷◌, ◌++◌, length, map, find, get_or, take, All, AllPairs, Option, Some, None, IsSome, is_some, inl, inr, refl, sym, ap, subst, ◌∙◌, arith, option_map}
 use Rattle.std.specs.List.{slice_get, list_any}
-use Rattle.std.specs.Option.{option_map_or, option_or, option_and_then}
+use Rattle.std.specs.Option.{option_map_or, option_or, option_and_then, IsSomeAnd}
 use Rattle.std.proofs.lemmas.Bool.{false≢true}
 use Rattle.std.proofs.lemmas.List.Elements.{All-nil, All-cons, All-head, All-tail, All-append}
 use Rattle.std.proofs.lemmas.Option.{none-some, slice_get_within, get_or_from_slice_get}
@@ -20,7 +20,10 @@ use Rattle.wiki_talk.specs.declared.refusals.Refusal.{Refusal}
 use Rattle.wiki_talk.specs.declared.refusals.Refusal.TheVariants.{Breaks}
 use Rattle.articles.specs.declared.sentences.Sentence.{Sentence}
 use Rattle.articles.specs.declared.article.Article.{Article}
-use Rattle.wiki_parts.specs.Faults.{IsAbsent}
+use Rattle.articles.specs.Articles.{article_of, HasArticle}
+use Rattle.wiki_parts.specs.declared.faults.Fault.{Fault}
+use Rattle.wiki_parts.specs.declared.faults.Fault.TheVariants.{Refused, Memory}
+use Rattle.wiki_parts.specs.Faults.{IsAbsent, IsCause, IsFault}
 use Rattle.wiki_parts.specs.Knowledge.{sentences_in}
 use Rattle.wiki_parts.specs.Meanings.{Meaning, Means}
 use Rattle.wiki_parts.specs.Places.{word_named, Placed, placed_from, placed_in, all_placed, IsFirstPlaced}
@@ -28,6 +31,7 @@ use Rattle.wiki_parts.specs.Refusing.{FirstOf, NamesNoWord, IsBadReword, BreaksS
 use Rattle.wiki_parts.specs.State.{State, IsSound}
 use Rattle.wiki_parts.specs.Words.{forms_given, word_with}
 use Rattle.wiki_parts.proofs.FirstLemmas.{none_stands, nothing_stands}
+use Rattle.wiki_parts.proofs.UseLemmas.{lives-article}
 use Rattle.wiki_store.specs.Rewording.{KeepsSentences, KeepsOthers, IsBroken}
 use Rattle.wiki_store.proofs.OtherWords.{means-with_forms}
 
@@ -38,7 +42,7 @@ forms-others : (live : List Word) (id other : WordId) → IsSome (forms_of (othe
 forms-others [] id other lives = lives
 forms-others (word ∷ live) id other lives = by_tests (has_number id word) (has_number other word) refl lives (forms-others live id other)
   where
-    by_tests : (b d : Bool) → has_number other word ≡ d → IsSome (forms_of (cond b (others live id) (word ∷ others live id)) other) → (IsSome (forms_of (others live id) other) → IsSome (forms_of live other))
+    by_tests : (b d : Bool) → has_number other word ≡ d → IsSome (forms_of (cond (not b) (word ∷ others live id) (others live id)) other) → (IsSome (forms_of (others live id) other) → IsSome (forms_of live other))
         → IsSome (option_map (λ (w : Word). w.forms) (cond d (Some word) (find (has_number other) live)))
     by_tests b true is there rest = refl
     by_tests true false is there rest = rest there
@@ -235,3 +239,26 @@ module _ (state : State) (text : List ℕ) (texts : List (List ℕ)) (word : Wor
   pub unword_free : find (uses_word word old) (all_placed state.articles) ≡ None → IsAbsent (FirstOf (NamesNoWord state text ∷ IsInUse state text ∷ []))
   unword_free none =
       none_stands (NamesNoWord state text) (IsInUse state text ∷ []) is_named (none_stands (IsInUse state text) [] (none_uses none) nothing_stands)
+
+-- ---- faults
+
+-- a fault of a cause is one of what the cause is told as
+pub cause_fault : (cause : Option Refusal) (told : Refusal → Type 0) (fault : Fault) → IsCause cause fault → ((refusal : Refusal) → cause ≡ Some refusal → told refusal) → IsFault told fault
+cause_fault cause told (Refused refusal) is tells = tells refusal is
+cause_fault cause told Memory is tells = tt
+
+pub fault_told : (one told : Refusal → Type 0) (fault : Fault) → IsFault one fault → ((refusal : Refusal) → one refusal → told refusal) → IsFault told fault
+fault_told one told (Refused refusal) is tells = tells refusal is
+fault_told one told Memory is tells = tt
+
+-- a word with forms lives
+pub lives_by : (o : Option Forms) (forms : Forms) → o ≡ Some forms → IsSome o
+lives_by o forms is = subst (λ (q : Option Forms). IsSome q) (sym is) refl
+
+-- a live word has an article
+pub has_article : (state : State) → IsSound state → (word : WordId) → IsSome (forms_of state.words.live word) → HasArticle state.articles word
+has_article state sound word lives = by (article_of state.articles word) (lives-article state.articles state.words.live word sound.articles lives)
+  where
+    by : (o : Option Article) → IsSome o → IsSomeAnd o (λ _. Unit {0})
+    by None there = absurd (false≢true there)
+    by (Some article) there = tt

@@ -1,6 +1,8 @@
 // Sentences that are added.
-ghost use Rattle.std.specs.Prelude.{◌≡◌, ◌≤◌, ◌<◌, List, length, Some, IfOk, IfErr, OnOk, OnErr};
+ghost use Rattle.std.specs.Prelude.{◌≡◌, ◌≤◌, ◌<◌, List, length, Some, AllPairs, IfOk, IfErr, OnOk, OnErr};
 ghost use Rattle.wiki_base.specs.declared.tokens.TheConstants.{MOST_TOKENS};
+ghost use Rattle.codeco_checked.specs.Sound.{IsSound};
+ghost use Rattle.lexicon.specs.Words.{SharesNoForm};
 ghost use Rattle.logic_terms.specs.Concept.{Claim};
 ghost use Rattle.logic_terms.specs.Reading.{IsModel};
 ghost use Rattle.wiki_talk.specs.declared.limits.TheConstants.{MOST_SENTENCES};
@@ -88,6 +90,7 @@ impl Store {
         ensures spent { IfOk result (λ status. status ≡ Status.RedBudget → (claims : List Claim) → Knows (with_inserted self.old.state fresh.word fresh.at (record { tokens = fresh.tokens; status = Status.Asserted })) claims → ¬ IsModel self.old.interpretation claims) }
         ensures memory { OnErr result (self.new ≡ self.old) }
     {
+        self.are_apart();
         let place = self.place(fresh.word);
         let at = fresh.at as usize;
         let (status, model) = standing(
@@ -119,5 +122,13 @@ impl Store {
                 Err(fault)
             }
         }
+    }
+    // The grammar is sound, and no two words share a form.
+    pub(crate) fn are_apart(&self)
+        ensures sound { IsSound self.now.state.grammar }
+        ensures apart { AllPairs SharesNoForm self.now.state.words.live }
+    {
+        let _ = self.grammar.grammar();
+        let _ = self.lexicon.len();
     }
 }

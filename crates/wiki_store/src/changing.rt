@@ -74,6 +74,7 @@ impl Store {
         ensures spent { IfOk result (λ status. status ≡ Status.RedBudget → (claims : List Claim) → Knows (with_replaced self.old.state fresh.word fresh.at (record { tokens = fresh.tokens; status = Status.Asserted })) claims → ¬ IsModel self.old.interpretation claims) }
         ensures memory { OnErr result (self.new ≡ self.old) }
     {
+        self.are_apart();
         let place = self.place(fresh.word);
         let at = fresh.at as usize;
         let without = model_without(
@@ -160,6 +161,7 @@ impl Store {
         ensures spent { IfOk result (λ status. status ≡ Status.RedBudget → (claims : List Claim) → Knows (with_marked self.old.state word at Status.Asserted) claims → ¬ IsModel self.old.interpretation claims) }
         ensures memory { OnErr result (self.new ≡ self.old) }
     {
+        self.are_apart();
         let place = self.place(word);
         let here = at as usize;
         let (status, model) = standing(

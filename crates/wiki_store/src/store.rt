@@ -1,5 +1,5 @@
 // The store and its step.
-ghost use Rattle.std.specs.Prelude.{◌≡◌, ◌≤◌, ◌<◌, ◌+◌, ◌++◌, ◌∷◌, [], ℕ, List, None, IfErr, OnOk, length, find, All, IsTrue, IsSome, IfOk, IfSome, IfNone, OnErr, Some, option_copied, option_map};
+ghost use Rattle.std.specs.Prelude.{◌≡◌, ◌≤◌, ◌<◌, ◌+◌, ◌++◌, ◌∷◌, [], ℕ, List, None, Err, IfErr, OnOk, length, find, All, IsTrue, IsSome, IfOk, IfSome, IfNone, OnErr, Some, option_copied, option_map};
 ghost use Rattle.wiki_base.specs.declared.tokens.TheConstants.{MOST_TOKENS};
 ghost use Rattle.lexicon.specs.declared.words.TheConstants.{LAST_NUMBER};
 ghost use Rattle.wiki_talk.specs.declared.refusals.Refusal.{Refusal as TheRefusal};
@@ -304,7 +304,8 @@ fn enter_word(
 
 // The reply to a request that is done or refused.
 fn told(done: Result<Reply, Fault>) -> Result<Reply, Memory>
-    ensures { IfOk result (λ reply. Tells done reply) }
+    ensures told { IfOk result (λ reply. Tells done reply) }
+    ensures memory { OnErr result (done ≡ Err Fault.Memory) }
 {
     match done {
         Ok(reply) => Ok(reply),
@@ -314,7 +315,8 @@ fn told(done: Result<Reply, Fault>) -> Result<Reply, Memory>
 
 // The reply that tells why a request changes nothing.
 fn refused(fault: Fault) -> Result<Reply, Memory>
-    ensures { IfOk result (λ reply. (refusal : TheRefusal) × (fault ≡ Fault.Refused refusal) × (reply ≡ Reply.Refused refusal)) }
+    ensures told { IfOk result (λ reply. (refusal : TheRefusal) × (fault ≡ Fault.Refused refusal) × (reply ≡ Reply.Refused refusal)) }
+    ensures memory { OnErr result (fault ≡ Fault.Memory) }
 {
     match fault {
         Fault::Refused(refusal) => Ok(Reply::Refused(refusal)),

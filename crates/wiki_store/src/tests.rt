@@ -1,4 +1,7 @@
 // Requests that are done and refused.
+ghost use Rattle.std.specs.Prelude.{IfOk, IsTrue};
+ghost use Rattle.wiki_store.specs.Step.{asks_store};
+
 use super::*;
 use ace_grammar::built_in;
 use lexicon::Kind;
@@ -7,7 +10,9 @@ use std::test::Fail;
 use wiki_base::{Memory, Text8, Text8s};
 use wiki_talk::{Reply, Request};
 
-fn noun(alloc: Global, text: &str) -> Result<Request, Memory> {
+fn noun(alloc: Global, text: &str) -> Result<Request, Memory>
+    ensures { IfOk result (λ request. IsTrue (asks_store request)) }
+{
     let mut forms = Text8s::new(alloc);
     forms.push(Text8::from_str(alloc, text)?)?;
     Ok(Request::Word {

@@ -1,4 +1,4 @@
-use Rattle.std.proofs.Common.{◌≡◌, List, [], refl, ap}
+use Rattle.std.proofs.Common.{[], refl, ap}
 use Rattle.derivation_trees.specs.Settings.{Setting}
 use Rattle.editor.proofs.EditingLemmas.{edited_less, nothing_kept}
 use Rattle.sessions.specs.Sessions.{with_tokens}

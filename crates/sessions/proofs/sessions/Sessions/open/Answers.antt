@@ -1,4 +1,4 @@
-use Rattle.std.proofs.Common.{◌≡◌, ℕ, ◌<◌, List, [], length, All, subst, sym}
+use Rattle.std.proofs.Common.{◌<◌, List, [], length, All, subst, sym}
 use Rattle.editor.proofs.EditingLemmas.{kept_on}
 use Rattle.sessions.specs.declared.session.Session.{Session}
 use Rattle.sessions.specs.declared.sessions.TheConstants.{MOST_SESSIONS}

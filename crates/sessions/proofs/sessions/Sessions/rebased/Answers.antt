@@ -1,4 +1,4 @@
-use Rattle.std.proofs.Common.{◌≡◌, ◌∙◌, ◌+◌, List, [], ◌∷◌, ◌++◌, take, get_or, All, refl, ap, subst, sym}
+use Rattle.std.proofs.Common.{◌≡◌, ◌∙◌, ◌+◌, List, [], ◌∷◌, ◌++◌, take, All, refl, ap, subst, sym}
 use Rattle.std.proofs.lemmas.List.{take_more}
 use Rattle.editor.specs.Editing.{IsEdited}
 use Rattle.sessions.specs.declared.session.Session.{Session}

@@ -1,4 +1,4 @@
-use Rattle.std.proofs.Common.{◌≡◌, take, All}
+use Rattle.std.proofs.Common.{take, All}
 use Rattle.editor.specs.Editing.{IsEdited}
 use Rattle.sessions.specs.declared.session.Session.{Session}
 use Rattle.sessions.specs.Sessions.{all_plain, AreRebased, AreKept}

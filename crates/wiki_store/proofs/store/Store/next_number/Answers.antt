@@ -2,10 +2,6 @@ use Rattle.std.proofs.Common.{◌≡◌, ◌+◌, ◌<◌, All, IfSome, subst}
 use Rattle.wiki_parts.specs.State.{State}
 use Rattle.wiki_parts.specs.Holding.{Holding}
 use Rattle.wiki_store.proofs.AddLemmas.{next-is}
-use Rattle.wiki_store.proofs.WordKeeping.{keeps_added, keeps_without, keeps_reworded}
-use Rattle.wiki_store.proofs.FindLemmas.{told_kept}
-use Rattle.wiki_store.proofs.RewordLemmas.{unword_free}
-use Rattle.wiki_store.proofs.SameMeanings.{meaning_equal, meaning_self}
 use Rattle.wiki_store.proofs.store.Store.next_number.Goals as goal
 
 pub returns-clause-next : goal.returns-clause-next

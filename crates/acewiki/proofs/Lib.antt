@@ -2,3 +2,4 @@ pub mod CommandLemmas
 pub mod RunLemmas
 pub mod ServeLemmas
 pub mod StatusLemmas
+pub mod OptionLemmas

@@ -6,7 +6,7 @@ use Rattle.std.specs.Io.KnownBytes.{Consumes, Appends, IsAtEnd}
 use Rattle.wiki_io.specs.declared.limits.TheConstants.{MAX_INPUT}
 use Rattle.wiki_io.specs.Lines.{InputLine, input_lines}
 use Rattle.wiki_io.specs.declared.links.Event.{Event}
-use Rattle.acewiki.specs.Wiki.{Holding}
+use Rattle.acewiki.specs.Wiki.{Holding, ace_wiki}
 use Rattle.serving.specs.declared.serving.Served.{Served}
 use Rattle.serving.specs.declared.serving.Served.TheVariants as served
 use Rattle.serving.specs.Events.{Outside}
@@ -136,3 +136,25 @@ told_words None items words same is = absurd (none_or_some is)
     none_or_some : None ≡ Some words → ⊥
     none_or_some h = cc
 told_words (Some t) items words same is = same ∙ some-same t words is
+
+-- ---- the same with another budget, number of events or outcome
+
+pub with_budget_of : (a b : ℕ) (left taken : Option (List ℕ)) (outcome : Outcome) (left_after taken_after : Option (List ℕ)) → a ≡ b → Replays (ace_wiki a) left taken outcome left_after taken_after
+    → Replays (ace_wiki b) left taken outcome left_after taken_after
+with_budget_of a b left taken outcome left_after taken_after same replays = subst (λ (n : ℕ). Replays (ace_wiki n) left taken outcome left_after taken_after) same replays
+
+pub with_outcome : (first : Holding) (left taken : Option (List ℕ)) (outcome other : Outcome) (left_after taken_after : Option (List ℕ)) → outcome ≡ other → Replays first left taken outcome left_after taken_after
+    → Replays first left taken other left_after taken_after
+with_outcome first left taken outcome other left_after taken_after same replays = subst (λ (o : Outcome). Replays first left taken o left_after taken_after) same replays
+
+pub with_numbers : (a b m n : ℕ) (left : Option (List ℕ)) (outside : Outside) (handed : Option (List Event)) (outcome : Outcome) (left_after : Option (List ℕ)) (outside_after : Outside) (handed_after coming_after : Option (List Event))
+    → a ≡ b → m ≡ n → Serves (ace_wiki a) m left outside handed outcome left_after outside_after handed_after coming_after
+    → Serves (ace_wiki b) n left outside handed outcome left_after outside_after handed_after coming_after
+with_numbers a b m n left outside handed outcome left_after outside_after handed_after coming_after same_a same_m serves =
+    subst (λ (k : ℕ). Serves (ace_wiki k) n left outside handed outcome left_after outside_after handed_after coming_after) same_a
+    (subst (λ (k : ℕ). Serves (ace_wiki a) k left outside handed outcome left_after outside_after handed_after coming_after) same_m serves)
+
+pub serves_outcome : (first : Holding) (most : ℕ) (left : Option (List ℕ)) (outside : Outside) (handed : Option (List Event)) (outcome other : Outcome) (left_after : Option (List ℕ)) (outside_after : Outside) (handed_after coming_after : Option (List Event))
+    → outcome ≡ other → Serves first most left outside handed outcome left_after outside_after handed_after coming_after → Serves first most left outside handed other left_after outside_after handed_after coming_after
+serves_outcome first most left outside handed outcome other left_after outside_after handed_after coming_after same serves =
+    subst (λ (o : Outcome). Serves first most left outside handed o left_after outside_after handed_after coming_after) same serves

@@ -1,6 +1,6 @@
 // The command line: which words are a command, and how the program ends.
 ghost use Rattle.std.specs.Prelude.{◌≡◌, None, Some, option_map, if◌then◌else◌};
-ghost use Rattle.acewiki.specs.Command.{asked_by, command_of, replay_with, serve_of, is_address, status_of, words_of};
+ghost use Rattle.acewiki.specs.Command.{asked_by, command_of, replay_with, serve_of, is_address, begins_with_hyphen, status_of, words_of};
 ghost use Rattle.acewiki.specs.declared.command.Outcome.TheVariants.{Memory as out_of_memory};
 
 use crate::options::{DEFAULT_BUDGET, MOST_EVENTS, Options};
@@ -66,10 +66,22 @@ fn serve_of(words: &[Arg]) -> Option<Command<'_>>
 fn address_of(word: &[u8]) -> Option<&str>
     ensures { option_map (λ address. address.now) result ≡ (if is_address word.now then Some word.now else None) }
 {
-    if word.first() == Some(&b'-') {
+    if begins_with_hyphen(word) {
         return None;
     }
-    from_utf8(word).ok()
+    match from_utf8(word) {
+        Ok(address) => Some(address),
+        Err(_) => None,
+    }
+}
+
+fn begins_with_hyphen(word: &[u8]) -> bool
+    ensures { result ≡ begins_with_hyphen word.now }
+{
+    match word {
+        [first, ..] => *first == b'-',
+        [] => false,
+    }
 }
 
 /// How the program ends.

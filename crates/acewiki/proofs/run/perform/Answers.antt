@@ -4,7 +4,7 @@ use Rattle.acewiki.specs.declared.command.Command.TheVariants as commands
 use Rattle.acewiki.specs.Replay.{Replays}
 use Rattle.acewiki.specs.Wiki.{ace_wiki}
 use Rattle.acewiki.specs.Serve.{Serves}
-use Rattle.acewiki.proofs.StatusLemmas.{is_replay, is_serve, is_none, same_replay, same_budget, same_most, no_serve, no_command, not_too_large, serves_not_too_large}
+use Rattle.acewiki.proofs.StatusLemmas.{is_replay, is_serve, is_none, same_replay, same_budget, same_most, no_serve, no_command, with_budget_of, with_numbers, not_too_large, serves_not_too_large}
 use Rattle.acewiki.proofs.run.perform.Goals as goal
 
 pub returns-in-Some-Replay-clause-usage : goal.returns-in-Some-Replay-clause-usage
@@ -19,7 +19,7 @@ pub returns-in-Some-Replay-clause-replays : goal.returns-in-Some-Replay-clause-r
 returns-in-Some-Replay-clause-replays g c =
     λ budget given.
     let command = is_replay _ _ _ _ c.from_words.ensures c.in-Some-Replay.is c.in-Some-Replay.field-0-is in
-    subst (λ (b : ℕ). Replays (ace_wiki b) _ _ _ _ _) (same_replay _ c.in-Some-Replay.budget budget command given) c.replay.ensures.replays
+    with_budget_of _ _ _ _ _ _ _ (same_replay _ c.in-Some-Replay.budget budget command given) c.replay.ensures.replays
 
 pub returns-in-Some-Replay-clause-serves : goal.returns-in-Some-Replay-clause-serves
 returns-in-Some-Replay-clause-serves g c =
@@ -54,8 +54,8 @@ pub returns-in-Some-Serve-clause-serves : goal.returns-in-Some-Serve-clause-serv
 returns-in-Some-Serve-clause-serves g c =
     λ address budget most given.
     let command = is_serve _ _ _ _ c.from_words.ensures c.in-Some-Serve.is c.in-Some-Serve.field-0-is in
-    subst (λ (m : ℕ). Serves (ace_wiki budget) m _ _ _ _ _ _ _ _) (same_most _ _ address _ budget c.in-Some-Serve.events most command given)
-    (subst (λ (b : ℕ). Serves (ace_wiki b) c.in-Some-Serve.events _ _ _ _ _ _ _ _) (same_budget _ _ address c.in-Some-Serve.budget budget _ most command given) c.serve.ensures.serves)
+    with_numbers _ _ _ _ _ _ _ _ _ _ _ _ (same_budget _ _ address c.in-Some-Serve.budget budget c.in-Some-Serve.events most command given)
+    (same_most _ _ address c.in-Some-Serve.budget budget c.in-Some-Serve.events most command given) c.serve.ensures.serves
 
 pub returns-in-Some-Serve-clause-no_link : goal.returns-in-Some-Serve-clause-no_link
 returns-in-Some-Serve-clause-no_link g c =

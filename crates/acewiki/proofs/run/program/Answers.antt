@@ -5,7 +5,7 @@ use Rattle.acewiki.specs.Command.{command_of}
 use Rattle.acewiki.specs.Replay.{Replays}
 use Rattle.acewiki.specs.Wiki.{ace_wiki}
 use Rattle.acewiki.proofs.RunLemmas.{Replays-none}
-use Rattle.acewiki.proofs.StatusLemmas.{outcome_is, told_words}
+use Rattle.acewiki.proofs.StatusLemmas.{outcome_is, told_words, with_outcome}
 use Rattle.acewiki.proofs.run.program.Goals as goal
 
 pub returns-in-Ok-clause-done : goal.returns-in-Ok-clause-done
@@ -23,4 +23,4 @@ returns-in-Ok-clause-headline g c =
 pub returns-in-Err-clause-replays : goal.returns-in-Err-clause-replays
 returns-in-Err-clause-replays g c =
     λ words budget outcome told given is.
-    subst (λ (o : Outcome). Replays (ace_wiki budget) _ _ o _ _) (outcome_is _ outcome outcomes.Memory is c.end.ensures.status) (Replays-none (ace_wiki budget) _ _)
+    with_outcome (ace_wiki budget) _ _ outcomes.Memory outcome _ _ (outcome_is _ outcome outcomes.Memory is c.end.ensures.status) (Replays-none (ace_wiki budget) _ _)

@@ -6,7 +6,7 @@ use Rattle.acewiki.specs.Replay.{Replays}
 use Rattle.acewiki.specs.Wiki.{ace_wiki}
 use Rattle.acewiki.specs.Serve.{Serves}
 use Rattle.acewiki.proofs.ServeLemmas.{headline_of}
-use Rattle.acewiki.proofs.StatusLemmas.{outcome_is, answers_done, completes}
+use Rattle.acewiki.proofs.StatusLemmas.{outcome_is, answers_done, completes, with_outcome, serves_outcome}
 use Rattle.acewiki.proofs.run.run.Goals as goal
 
 pub returns-clause-usage : goal.returns-clause-usage
@@ -23,23 +23,23 @@ pub returns-clause-done : goal.returns-clause-done
 returns-clause-done g c =
     λ budget given zero bytes told.
     let done = sym (outcome_is _ _ outcomes.Done c.end.ensures.status zero) in
-    answers_done (ace_wiki budget) _ _ _ _ bytes told (subst (λ (o : Outcome). Replays (ace_wiki budget) _ _ o _ _) done (c.perform-outcome.ensures.replays budget given))
+    answers_done (ace_wiki budget) _ _ _ _ bytes told (with_outcome _ _ _ _ _ _ _ done (c.perform-outcome.ensures.replays budget given))
 
 pub returns-clause-replays : goal.returns-clause-replays
 returns-clause-replays g c =
     λ budget outcome given status.
-    subst (λ (o : Outcome). Replays (ace_wiki budget) _ _ o _ _) (sym (outcome_is _ _ outcome c.end.ensures.status status)) (c.perform-outcome.ensures.replays budget given)
+    with_outcome _ _ _ _ outcome _ _ (sym (outcome_is _ _ outcome c.end.ensures.status status)) (c.perform-outcome.ensures.replays budget given)
 
 pub returns-clause-headline : goal.returns-clause-headline
 returns-clause-headline g c =
     λ address budget most given zero bytes told.
     let done = sym (outcome_is _ _ outcomes.Done c.end.ensures.status zero) in
-    headline_of (ace_wiki budget) most _ _ _ _ _ _ _ (subst (λ (o : Outcome). Serves (ace_wiki budget) most _ _ _ o _ _ _ _) done (c.perform-outcome.ensures.serves address budget most given)) bytes told
+    headline_of (ace_wiki budget) most _ _ _ _ _ _ (g.L.Link.left c.perform-outcome.new.link) (serves_outcome _ _ _ _ _ _ _ _ _ _ (g.L.Link.left c.perform-outcome.new.link) done (c.perform-outcome.ensures.serves address budget most given)) bytes told
 
 pub returns-clause-serves : goal.returns-clause-serves
 returns-clause-serves g c =
     λ address budget most outcome given status.
-    subst (λ (o : Outcome). Serves (ace_wiki budget) most _ _ _ o _ _ _ _) (sym (outcome_is _ _ outcome c.end.ensures.status status)) (c.perform-outcome.ensures.serves address budget most given)
+    serves_outcome _ _ _ _ _ _ outcome _ _ _ (g.L.Link.left c.perform-outcome.new.link) (sym (outcome_is _ _ outcome c.end.ensures.status status)) (c.perform-outcome.ensures.serves address budget most given)
 
 pub returns-clause-read_fault : goal.returns-clause-read_fault
 returns-clause-read_fault g c = λ is. c.perform-outcome.ensures.read_fault (sym (outcome_is _ _ outcomes.ReadFault c.end.ensures.status is))

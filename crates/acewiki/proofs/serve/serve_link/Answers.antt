@@ -4,8 +4,16 @@ use Rattle.acewiki.proofs.serve.serve_link.Goals as goal
 
 pub returns-in-Ready-clause-serves : goal.returns-in-Ready-clause-serves
 returns-in-Ready-clause-serves g c =
-    let told = served_same _ _ _ _ _ c.listen.ensures.sent c.listen.ensures.send_faults c.listen.ensures.handed c.serve-served.ensures.serves in
-    inr (c.serve-served.result, c.ended.ensures, told)
+    let link = g.L.Link in
+    let sink = g.K.Sink in
+    inr (
+      c.serve-served.result,
+      c.ended.ensures,
+      served_same c.args.wiki.now c.args.events (sink.taken c.args.output.now) (link.sent c.args.link.now) (link.sent c.listen.new.self) (link.send_faults c.args.link.now) (link.send_faults c.listen.new.self)
+          (link.handed c.args.link.now) (link.handed c.listen.new.self) (link.handed c.serve-served.new.link) c.serve-served.result (link.left c.serve-served.new.link)
+          (record { journal = sink.taken c.serve-served.new.journal; sent = link.sent c.serve-served.new.link; send_faults = link.send_faults c.serve-served.new.link })
+          c.listen.ensures.sent c.listen.ensures.send_faults c.listen.ensures.handed c.serve-served.ensures.serves,
+    )
 
 pub returns-in-Ready-clause-write_fault : goal.returns-in-Ready-clause-write_fault
 returns-in-Ready-clause-write_fault g c = λ is. c.serve-served.ensures.journal_fault (fault_of_journal c.serve-served.result (sym is ∙ c.ended.ensures))

@@ -535,7 +535,7 @@ fn what_the_input_says_is_there_when_it_is_served(rt: HostRuntime) -> Result<(),
     let mut script = VecDeque::new(alloc);
     script.push_back(Event::Opened(1))?;
     let request =
-        "POST /api HTTP/1.0\r\nContent-Length: 28\r\n\r\n{\"do\":\"find\",\"word\":\"Bern\"}";
+        "POST /api HTTP/1.0\r\nContent-Length: 27\r\n\r\n{\"do\":\"find\",\"word\":\"Bern\"}";
     script.push_back(Event::Piece(1, Bytes::from_slice(alloc, request.as_bytes())?))?;
     let input = "{\"do\":\"word\",\"kind\":\"name\",\"forms\":[\"Bern\"]}\n";
     let (ran, link) = served(

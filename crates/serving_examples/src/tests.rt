@@ -18,7 +18,7 @@ struct Example {
 }
 
 impl Machine for Example {
-    ghost Steps = { λ old request reply new. Step old.wiki request reply new.wiki };
+    ghost Steps = { λ old request reply new. Step old.wiki.state request reply new.wiki.state };
 
     fn step(&mut self, request: &Request) -> Result<Reply, Memory> {
         self.wiki.step(request)

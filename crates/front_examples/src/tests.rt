@@ -125,9 +125,9 @@ fn a_request_that_is_cut_anywhere_is_waited_for(rt: HostRuntime) -> Result<(), F
     for come in 0..request.len() {
         assert_eq!(rt; status(&front, &request[..come])?, WAITS);
     }
-    match front.request_of(request)? {
+    match &front.request_of(request)? {
         Seen::Ask(Request::Put { session, text }, Then::Go(path)) => {
-            assert_eq!(rt; session, 7);
+            assert_eq!(rt; *session, 7);
             assert_eq!(rt; text.as_str(), "b c.");
             assert_eq!(rt; path.as_str(), "/session/7");
             Ok(())
@@ -158,7 +158,7 @@ fn a_new_word_has_its_forms_between_spaces(rt: HostRuntime) -> Result<(), Fail> 
     let front = Front::new(rt.alloc())?;
     let request =
         b"POST /word HTTP/1.0\r\nContent-Length: 44\r\n\r\nforms=city++cities&kind=noun&forms=x&kind=of".as_slice();
-    match front.request_of(request)? {
+    match &front.request_of(request)? {
         Seen::Ask(Request::Word { forms, .. }, Then::Go(path)) => {
             assert_eq!(rt; forms.as_slice().len(), 2);
             assert_eq!(rt; path.as_str(), "/");
@@ -176,10 +176,10 @@ fn a_head_that_was_read_before_gives_the_same_request(rt: HostRuntime) -> Result
     let Begun::Head(head) = front.head_of(&request[..request.len() - 8])? else {
         return Err(Fail::new("a head"));
     };
-    match front.request_after(&head, request)? {
+    match &front.request_after(&head, request)? {
         Seen::Ask(Request::Add { article, at, text }, Then::Go(path)) => {
             assert_eq!(rt; article.as_str(), "B\u{e9}");
-            assert_eq!(rt; at, None);
+            assert_eq!(rt; *at, None);
             assert_eq!(rt; text.as_str(), "x .");
             assert_eq!(rt; path.as_str(), "/article/B%C3%A9");
             Ok(())

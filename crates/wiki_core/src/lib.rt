@@ -5,8 +5,6 @@ mod causes;
 mod committing;
 mod opening;
 mod rewording;
-#[cfg(test)]
-mod tests;
 mod typing;
 mod wiki;
 

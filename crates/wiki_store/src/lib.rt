@@ -13,8 +13,6 @@ mod sameness;
 mod standing;
 mod store;
 mod telling;
-#[cfg(test)]
-mod tests;
 mod unwording;
 
 pub use store::Store;

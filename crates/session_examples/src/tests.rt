@@ -3,11 +3,31 @@ use ace_grammar::built_in;
 use std::alloc::Global;
 use std::process::Abort;
 use std::test::Fail;
+use wiki_base::Text8;
 use wiki_core::Wiki;
+use wiki_talk::{Reply, Request};
 use wire_json::{read_request, reply_line};
 
 fn wiki(alloc: Global) -> Result<Wiki, Fail> {
     Ok(Wiki::new(alloc, built_in(alloc)?, 1_000_000)?)
+}
+
+fn request_in(alloc: Global, line: &str) -> Result<Request, Fail> {
+    match read_request(alloc, line.as_bytes())? {
+        Some(request) => Ok(request),
+        None => Err(Fail::new("no request")),
+    }
+}
+
+fn told(alloc: Global, reply: &Reply) -> Result<Text8, Fail> {
+    Ok(reply_line(alloc, reply)?)
+}
+
+// The line that answers a line.
+fn answer(alloc: Global, wiki: &mut Wiki, line: &str) -> Result<Text8, Fail> {
+    let request = request_in(alloc, line)?;
+    let reply = wiki.step(&request)?;
+    told(alloc, &reply)
 }
 
 // Asserts that these lines, sent one after another, have these replies.
@@ -18,12 +38,8 @@ fn assert_replies(
     exchange: &[(&str, &str)],
 ) -> Result<(), Fail> {
     for (line, reply) in exchange {
-        let request = read_request(alloc, line.as_bytes())?.ok_or("no request")?;
-        let told = wiki.step(&request)?;
-        let told = reply_line(alloc, &told)?;
-        let mut want = String::from_str(alloc, reply)?;
-        want.push('\n')?;
-        assert_eq!(rt; told.as_str(), want.as_str());
+        let told = answer(alloc, wiki, line)?;
+        assert_eq!(rt; told.as_str().strip_suffix("\n"), Some(*reply));
     }
     Ok(())
 }

@@ -13,7 +13,7 @@ work="$(mktemp -d)"
 wiki=18651 web=18652
 trap 'kill $(jobs -p) 2>/dev/null; [ ! -f "$work/nginx.pid" ] || kill "$(cat "$work/nginx.pid")"; rm -rf "$work"' EXIT
 
-awk 'BEGIN { for (n = 0; n < 100; n++) printf "{\"do\":\"word\",\"kind\":\"name\",\"forms\":[\"Name%02d\"]}\n", n }' >"$work/words"
+awk 'BEGIN { for (n = 0; n < 100; n++) printf "{\"do\":\"word\",\"kind\":\"name\",\"forms\":[\"Name%c%c\"]}\n", 97 + n / 10, 97 + n % 10 }' >"$work/words"
 "$program" serve "127.0.0.1:$wiki" <"$work/words" >"$work/journal" &
 server=$!
 for _ in $(seq 100); do curl -sf -o "$work/index.html" "http://127.0.0.1:$wiki/" && break; sleep 0.1; done
@@ -47,7 +47,7 @@ printf '%-44s %8d\n' 'the same beside 60 idle connections' "$(rate $wiki 5000 1)
 kill $idle
 python3 - "$wiki" <<'PY'
 import socket, sys, time
-body = b'{"do":"find","word":"Name01","x":"' + b"a" * 70000
+body = b'{"do":"find","word":"Nameab","x":"' + b"a" * 70000
 head = b"POST /api HTTP/1.1\r\nHost: a\r\nContent-Length: 65400\r\n\r\n"
 data = head + body[:65398] + b'"}'
 data = data[: len(head) + 65400]

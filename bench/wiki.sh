@@ -1,7 +1,7 @@
 #!/usr/bin/env bash
 # How fast `acewiki replay` adds sentences and answers questions, on the proved program: 50 words and 2,000 drawn sentences
 # (names in relations and classes, chains of classes, universal restrictions, and questions), one request after the other
-# through a pipe, then each article is read, and a word that stands in some 100 sentences is renamed.
+# through a pipe, then each article is read, and a word that stands in some 100 sentences gets its forms anew.
 set -eu
 root="$(cd "$(dirname "${BASH_SOURCE[0]}")/.." && pwd)"
 program="$root/crates/acewiki/out/acewiki"
@@ -47,9 +47,9 @@ def ask(**request):
 
 
 whole = time.perf_counter()
-for kind, words in [("noun", nouns), ("name", names), ("verb", verbs)]:
-    for word in words:
-        assert ask(do="word", kind=kind, forms=[word])[0] == {"done": "word"}
+for kind, words in [("noun", [[x, x + "s"] for x in nouns]), ("name", [[x] for x in names]), ("verb", [[x + "s", x, x + "ed"] for x in verbs])]:
+    for forms in words:
+        assert ask(do="word", kind=kind, forms=forms)[0] == {"done": "word"}
 adds, statuses = [], {}
 for n in range(count):
     article, text = sentence(n)
@@ -63,7 +63,7 @@ for word in nouns + names + verbs:
     answers += sum(len(s.get("answers", [])) for s in reply["sentences"])
     unknown += sum(len(s.get("unknown", [])) for s in reply["sentences"])
 whole = time.perf_counter() - whole
-reply, reword = ask(do="reword", word="noune", forms=["thing", "things"])
+reply, reword = ask(do="reword", word="noune", forms=["noune", "nounes"])
 print(f"{'sentences':32} {count:10} {statuses}, {answers} answers, {unknown} unknown")
 print(f"{'all requests, s':32} {whole:10.2f}")
 print(f"{'an add, median and worst, ms':32} {statistics.median(adds):10.2f} {max(adds):10.2f}")

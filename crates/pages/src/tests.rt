@@ -9,7 +9,7 @@ fn the_index_of_no_words(rt: HostRuntime) -> Result<(), Fail> {
         words: List::new(rt.alloc()),
     };
     let Some(index) = page(rt.alloc(), 0, &words)? else {
-        return Err(Fail);
+        return Err(Fail::new("no page"));
     };
     assert_eq!(rt; index.as_str().len(), 274);
     Ok(())

@@ -1,5 +1,0 @@
-//! Tests alone: the replies to `parse`.
-#![tactic(auto)]
-
-#[cfg(test)]
-mod tests;

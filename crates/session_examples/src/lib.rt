@@ -1,5 +1,0 @@
-//! Tests alone: the wiki's replies on editing sessions.
-#![tactic(auto)]
-
-#[cfg(test)]
-mod tests;

@@ -8,8 +8,6 @@ mod options;
 mod replay;
 mod run;
 mod serve;
-#[cfg(test)]
-mod tests;
 mod wiki;
 mod words;
 

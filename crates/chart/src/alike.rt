@@ -176,7 +176,7 @@ fn try_token(
     tokens: &Tokens,
     text: &str,
 ) -> Result<bool, Memory>
-    requires few { length tokens.now < MOST_TOKENS }
+    requires few { length tokens.now ≤ MOST_TOKENS }
     requires token { IsToken text.now }
     ensures { IfOk result (λ follows. IsTrue follows ↔ IsBeginning grammar.now lexicon.now (tokens.now ++ text.now ∷ [])) }
 {
@@ -210,7 +210,7 @@ pub(crate) fn follows(
     text: &str,
     tried: &mut List<Tried>,
 ) -> Result<bool, Memory>
-    requires few { length tokens.now < MOST_TOKENS }
+    requires few { length tokens.now ≤ MOST_TOKENS }
     requires token { IsToken text.now }
     requires readings { readings.now ≡ map (lexical.readings_of lexicon.now.live) tokens.now }
     requires tried { trying.AreTried grammar.now lexicon.now tokens.now tried.old }

@@ -13,7 +13,8 @@ ghost use Rattle.chart.specs.Charts as charting;
 use crate::menus::menu_for;
 use chart_table::standing_of;
 use codeco_checked::CheckedGrammar;
-use derivation_trees::{Menu, Setting, readings_of};
+use derivation_scenes::Scene;
+use derivation_trees::{Menu, readings_of};
 use lexicon::{Lexicon, Readings};
 use lists::List;
 use std::alloc::Global;
@@ -98,7 +99,6 @@ impl Chart {
         lexicon: &'a Lexicon,
     ) -> Result<Menu<'a>, Memory>
         requires kept { self.now ≡ setting_of grammar.now lexicon.now self.now.tokens }
-        requires room { length self.now.tokens < MOST_TOKENS }
         ensures menu { All IsUtf8 grammar.now.terminals → IfOk result (IsMenu grammar.now lexicon.now self.now.tokens) }
         ensures texts { IfOk result (IsTextMenu grammar.now lexicon.now self.now.tokens) }
     {
@@ -140,7 +140,7 @@ fn derives_nothing(alloc: Global, grammar: &CheckedGrammar) -> Result<bool, Memo
     ensures { IfOk result
         (λ yes. IsTrue yes ↔ ((tree : Node) × IsDerivation (record { grammar = grammar.now; tokens = []; readings = [] }) tree)) }
 {
-    let setting = Setting {
+    let setting = Scene {
         grammar: grammar.grammar(),
         tokens: &[],
         readings: &[],
@@ -173,7 +173,7 @@ fn step_to(grammar: &CheckedGrammar, lexicon: &Lexicon, tokens: &Tokens) -> Resu
 {
     let alloc = tokens.allocator();
     let readings = List::from_vec(readings_of(alloc, lexicon, tokens.as_slice())?);
-    let setting = Setting {
+    let setting = Scene {
         grammar: grammar.grammar(),
         tokens: tokens.as_slice(),
         readings: readings.as_slice(),

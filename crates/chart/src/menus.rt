@@ -31,7 +31,7 @@ fn consider<'a>(
     tried: &mut List<Tried>,
     entries: &mut Vec<Entry<'a>>,
 ) -> Result<(), Memory>
-    requires few { length tokens.now < MOST_TOKENS }
+    requires few { length tokens.now ≤ MOST_TOKENS }
     requires token { IsToken text.now }
     requires readings { readings.now ≡ map (lexical.readings_of lexicon.now.live) tokens.now }
     requires tried { AreTried grammar.now lexicon.now tokens.now tried.old }
@@ -75,7 +75,7 @@ fn try_terminals<'a>(
     tried: &mut List<Tried>,
     entries: &mut Vec<Entry<'a>>,
 ) -> Result<(), Memory>
-    requires few { length tokens.now < MOST_TOKENS }
+    requires few { length tokens.now ≤ MOST_TOKENS }
     requires readings { readings.now ≡ map (lexical.readings_of lexicon.now.live) tokens.now }
     requires tried { AreTried grammar.now lexicon.now tokens.now tried.old }
     requires tokens { All IsToken (texts_of texts.now) }
@@ -112,7 +112,7 @@ fn try_word<'a>(
     tried: &mut List<Tried>,
     entries: &mut Vec<Entry<'a>>,
 ) -> Result<(), Memory>
-    requires few { length tokens.now < MOST_TOKENS }
+    requires few { length tokens.now ≤ MOST_TOKENS }
     requires readings { readings.now ≡ map (lexical.readings_of lexicon.now.live) tokens.now }
     requires tried { AreTried grammar.now lexicon.now tokens.now tried.old }
     requires ordered { IsInOrder (map shown entries.old.items) }
@@ -148,7 +148,7 @@ fn try_words<'a>(
     tried: &mut List<Tried>,
     entries: &mut Vec<Entry<'a>>,
 ) -> Result<(), Memory>
-    requires few { length tokens.now < MOST_TOKENS }
+    requires few { length tokens.now ≤ MOST_TOKENS }
     requires readings { readings.now ≡ map (lexical.readings_of lexicon.now.live) tokens.now }
     requires tried { AreTried grammar.now lexicon.now tokens.now tried.old }
     requires ordered { IsInOrder (map shown entries.old.items) }
@@ -180,7 +180,7 @@ pub(crate) fn menu_for<'a>(
     tokens: &Tokens,
     readings: &[Readings],
 ) -> Result<Menu<'a>, Memory>
-    requires few { length tokens.now < MOST_TOKENS }
+    requires few { length tokens.now ≤ MOST_TOKENS }
     requires readings { readings.now ≡ map (lexical.readings_of lexicon.now.live) tokens.now }
 
     ensures menu { All IsUtf8 grammar.now.terminals → IfOk result (IsMenu grammar.now lexicon.now tokens.now) }

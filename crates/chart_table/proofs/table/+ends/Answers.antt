@@ -124,3 +124,9 @@ pub push_category-push_row_cuts-requires-clause-number : goal.push_category-push
 push_category-push_row_cuts-requires-clause-number t c =
     let has = c.in_ok-row.ensures.row in
     subst (λ l. c.in_ok-row.row < length l) (sym c.as_slice-4.ensures) (row_below c.row_of.new.rows c.in_ok-row.row has.row has.is)
+
+pub push_rule-returns-then-not-may_go-clause-ends : goal.push_rule-returns-then-not-may_go-clause-ends
+push_rule-returns-then-not-may_go-clause-ends t c = ?
+
+pub push_rule-returns-then-not-may_go-clause-cuts : goal.push_rule-returns-then-not-may_go-clause-cuts
+push_rule-returns-then-not-may_go-clause-cuts t c = ?

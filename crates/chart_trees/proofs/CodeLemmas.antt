@@ -1,13 +1,9 @@
 -- The code of a derivation is that of its skeleton.
-use Rattle.std.proofs.Common.{◌≡◌, ℕ, zero, suc, ◌+◌, List, [], ◌∷◌, ◌++◌, length, Bool, true, false, ◌&&◌, Option, Some, None, refl, sym, ap, subst, ◌∙◌, append_assoc, append-nil}
-use Rattle.std.specs.Prelude.{if◌then◌else◌, option_and_then, IfSome}
+use Rattle.std.proofs.Common.{◌≡◌, ℕ, zero, suc, ◌+◌, List, [], ◌∷◌, ◌++◌, length, Bool, true, false, Option, Some, None, refl, sym, ap, subst, ◌∙◌, append_assoc, append-nil}
+use Rattle.std.specs.Prelude.{if◌then◌else◌, option_and_then}
 use Rattle.std.specs.Option.{option_map_or}
 use Rattle.std.specs.List.{list_any, flat_map}
 use Rattle.std.proofs.lemmas.Grind.{flat_map-append}
-use Rattle.std.specs.declared.cmp.Ordering.{Ordering}
-use Rattle.std.specs.declared.cmp.Ordering.TheVariants.{Less, Equal, Greater}
-use Rattle.std.specs.Ordering.{nat_cmp, ordering_reverse, is_eq}
-use Rattle.std.specs.Cmp.Lexicographic.{slice_cmp, nat_list_cmp_total, texts_ties, same_text}
 use Rattle.codeco_terms.specs.declared.values.Value.{Value}
 use Rattle.codeco_terms.specs.declared.values.Value.TheVariants.{Pos}
 use Rattle.codeco_terms.specs.declared.categories.Pattern.{Pattern}
@@ -25,13 +21,12 @@ use Rattle.derivation_trees.specs.Trees.{Node, Nodes, node, none, more}
 use Rattle.derivation_trees.specs.Settings.{Setting, matches_terminal, matches_preterminal}
 use Rattle.derivation_trees.specs.Instances.{value_under, under, tests_under, own_values}
 use Rattle.derivation_trees.specs.Stands.{is_sub}
-use Rattle.derivation_trees.specs.Derives.{At, Stand, Phrase, pass, pass_token, pass_child, pass_finding, run, phrase, phrase_of, phrases_of, rule_with, is_found, is_none_left, reference_tests, text_category, IsDerivation}
+use Rattle.derivation_trees.specs.Derives.{At, Stand, pass, pass_token, pass_child, pass_finding, run, phrase, phrase_of, phrases_of, rule_with, is_found, is_none_left, reference_tests, text_category, IsDerivation}
 use Rattle.derivation_trees.specs.Codes.{skeleton_code}
-use Rattle.derivation_trees.specs.Sentences.{setting_of}
-use Rattle.derivation_trees.specs.Skeletons.{skeleton_of, IsBelow, IsLeast}
+use Rattle.derivation_trees.specs.Skeletons.{skeleton_of}
 use Rattle.derivation_trees.specs.Sketches.{Sketch, sketch_child, sketch_on, sketch_over, sketched, sketch_from, sketch_of, sketches_of, body_of}
 use Rattle.derivation_trees.proofs.CodeLemmas.{skeleton_code_is}
-use Rattle.derivations.proofs.Members.{first_of_and, second_of_and, some_same, true_is_false}
+use Rattle.derivations.proofs.Members.{some_same, true_is_false}
 use Rattle.derivations.proofs.ListingLemmas.{Parts, phrase_parts}
 use Rattle.derivations.proofs.SkeletonLemmas.{skeleton_of_is}
 use Rattle.chart_trees.specs.Order.{node_code, nodes_code}

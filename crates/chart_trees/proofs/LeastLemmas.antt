@@ -1,6 +1,6 @@
 -- The least of the derivations among the least trees for `text` is the least of all.
-use Rattle.std.proofs.Common.{◌≡◌, ℕ, zero, suc, ◌+◌, ◌<◌, ◌≤◌, List, [], ◌∷◌, ◌++◌, map, take, length, get_or, ◌⊎◌, inl, inr, Option, Some, None, refl, sym, ap, subst, ◌∙◌, arith}
-use Rattle.std.specs.Prelude.{IfSome, IfNone, slice_get, unwrap_or}
+use Rattle.std.proofs.Common.{◌≡◌, ℕ, zero, suc, ◌+◌, ◌<◌, ◌≤◌, List, [], ◌∷◌, ◌++◌, map, take, length, get_or, inl, inr, Option, Some, None, refl, sym, ap, subst, ◌∙◌, arith}
+use Rattle.std.specs.Prelude.{IfSome, IfNone, slice_get}
 use Rattle.std.proofs.lemmas.List.{take_more}
 use Rattle.std.specs.declared.cmp.Ordering.{Ordering}
 use Rattle.std.specs.declared.cmp.Ordering.TheVariants.{Less}
@@ -9,18 +9,20 @@ use Rattle.std.specs.Cmp.Lexicographic.{slice_cmp, nat_list_cmp_total}
 use Rattle.derivation_trees.specs.declared.skeletons.Skeleton.{Skeleton}
 use Rattle.derivation_trees.specs.Trees.{Node, node_of}
 use Rattle.derivation_trees.specs.Settings.{Setting}
-use Rattle.derivation_trees.specs.Derives.{At, phrase_of, text_category, IsDerivation}
+use Rattle.derivation_trees.specs.Derives.{At, text_category, IsDerivation}
 use Rattle.derivation_trees.specs.Codes.{skeleton_code}
 use Rattle.derivation_trees.specs.Skeletons.{skeleton_of, IsBelow, IsLeast}
 use Rattle.derivation_trees.specs.Sketches.{sketch_of}
-use Rattle.derivations.specs.Listed.{LeastOf, IsLesser}
+use Rattle.derivations.specs.Listed.{LeastOf}
 use Rattle.derivations.proofs.Members.{Among, among_map, map_of, some_same}
 use Rattle.derivations.proofs.SkeletonLemmas.{skeleton_of_is}
-use Rattle.derivations.proofs.LeastLemmas.{least_of_same, least_of_more}
 use Rattle.chart_trees.specs.declared.outcomes.Outcome.{Outcome}
-use Rattle.chart_trees.specs.Order.{Lower, AtMost, node_code}
-use Rattle.chart_trees.specs.Paths.{end_from}
+use Rattle.chart_trees.specs.Order.{AtMost, node_code}
 use Rattle.chart_trees.specs.Outcomes.{IsOutcome, Covers, IsBest}
+use Rattle.chart_trees.specs.declared.table.Best.{Best}
+use Rattle.chart_trees.specs.Tables.{HasBest}
+use Rattle.scopes.specs.declared.entries.Entry.{Entry}
+use Rattle.scopes.specs.declared.tests.Test.{Test}
 use Rattle.chart_trees.proofs.OrderLemmas.{lower_less}
 use Rattle.chart_trees.proofs.CodeLemmas.{code_is, sketch_code_is}
 
@@ -128,3 +130,14 @@ told s outcomes least best of = by least (least_is s outcomes least best of) (le
     by : (o : Option Skeleton) → ((sk : Skeleton) → o ≡ Some sk → IsLeast s sk) → (o ≡ None → (tree : Node) → IsDerivation s tree → ⊥) → Told s o
     by None f g = record { some = tt; none = g refl }
     by (Some sk) f g = record { some = f sk refl; none = tt }
+
+-- a place that is not the number of tokens
+pub not_here : (place count n : ℕ) → count ≡ n → (place ≡ count → ⊥) → place ≡ n → ⊥
+not_here place count n e not h = not (h ∙ sym e)
+
+-- the least trees of the row for `text`
+pub best_in : (s : Setting) (rows : List Best) (number : ℕ) (asked : Test) (list : List Entry) (row : Best) (outcomes : List Outcome) → asked ≡ text_category → list ≡ [] → HasBest s rows number asked (record { place = 0; list = list }) → slice_get rows number ≡ Some row → outcomes ≡ row.outcomes → IsBest s text_category (record { place = 0; list = [] }) outcomes
+best_in s rows number asked list row outcomes a l has at is =
+    let same : has.row ≡ row = some_same has.row row (sym has.is ∙ at) in
+    let one : IsBest s asked (record { place = 0; list = list }) outcomes = subst (IsBest s asked (record { place = 0; list = list })) (ap (λ (r : Best). r.outcomes) same ∙ sym is) has.best in
+    subst (λ x. IsBest s text_category (record { place = 0; list = x }) outcomes) l (subst (λ t. IsBest s t (record { place = 0; list = list }) outcomes) a one)

@@ -1,15 +1,13 @@
 -- Which of two codes is lower.
-use Rattle.std.proofs.Common.{◌≡◌, ℕ, zero, suc, ◌+◌, ◌<◌, ◌≤◌, List, [], ◌∷◌, ◌++◌, length, take, drop, get_or, Bool, true, false, ◌⊎◌, inl, inr, refl, sym, ap, subst, ◌∙◌, arith, append_assoc, append-nil, add-one, nat_lt, cond}
-use Rattle.std.specs.Prelude.{◌==◌, slice_get, Option, Some, None}
-use Rattle.std.specs.List.{flat_map}
+use Rattle.std.proofs.Common.{◌≡◌, ℕ, zero, suc, ◌+◌, ◌<◌, ◌≤◌, List, [], ◌∷◌, ◌++◌, length, take, get_or, true, false, inl, inr, refl, sym, ap, subst, ◌∙◌, arith, append_assoc, append-nil, nat_lt, cond}
+use Rattle.std.specs.Prelude.{◌==◌, slice_get, Some, IsTrue}
 use Rattle.std.proofs.lemmas.Grind.{flat_map-append}
 use Rattle.std.proofs.lemmas.Bool.Decides.{nat_tests}
-use Rattle.std.specs.declared.cmp.Ordering.{Ordering}
 use Rattle.std.specs.declared.cmp.Ordering.TheVariants.{Less, Equal, Greater}
 use Rattle.std.specs.Ordering.{nat_cmp, ordering_then}
 use Rattle.std.specs.Cmp.Lexicographic.{slice_cmp}
 use Rattle.codeco_terms.specs.declared.values.Value.{Value}
-use Rattle.derivation_trees.specs.Trees.{Node, Nodes, node, none, more, nodes_from}
+use Rattle.derivation_trees.specs.Trees.{Node, node, nodes_from}
 use Rattle.derivation_trees.proofs.CodeLemmas.{take_next}
 use Rattle.chart_trees.specs.Order.{node_code, nodes_code, codes, Lower, AtMost}
 
@@ -46,26 +44,25 @@ at_most_append xs ys us ws (inr h) k = inr (lower_append xs ys us ws h)
 -- where two first differ
 
 -- the symbols before a place are the same
-pub lower_at : (i : ℕ) (xs ys : List ℕ) (x y : ℕ) → take i xs ≡ take i ys → i < length xs → i < length ys → x ≡ get_or xs i x → y ≡ get_or ys i y → x < y → Lower xs ys
-lower_at i [] ys x y same lt le xi yi less = absurd (omega arith)
-lower_at i (a ∷ xs) [] x y same lt le xi yi less = absurd (omega arith)
-lower_at zero (a ∷ xs) (b ∷ ys) x y same lt le xi yi less = inl (omega arith)
-lower_at (suc i) (a ∷ xs) (b ∷ ys) x y same lt le xi yi less =
-    inr (heads a b (take i xs) (take i ys) same, lower_at i xs ys x y (tails a b (take i xs) (take i ys) same) (omega arith) (omega arith) xi yi less)
+pub lower_at : (i : ℕ) (xs ys : List ℕ) → take i xs ≡ take i ys → i < length xs → i < length ys → get_or xs i 0 < get_or ys i 0 → Lower xs ys
+lower_at i [] ys same lt le less = absurd (omega arith)
+lower_at i (a ∷ xs) [] same lt le less = absurd (omega arith)
+lower_at zero (a ∷ xs) (b ∷ ys) same lt le less = inl less
+lower_at (suc i) (a ∷ xs) (b ∷ ys) same lt le less =
+    inr (heads a b (take i xs) (take i ys) same, lower_at i xs ys (tails a b (take i xs) (take i ys) same) (omega arith) (omega arith) less)
   where
-    first_or : ℕ → List ℕ → ℕ
-    first_or d [] = d
-    first_or d (z ∷ zs) = z
-
-    rest_of : List ℕ → List ℕ
-    rest_of [] = []
-    rest_of (z ∷ zs) = zs
-
     heads : (a b : ℕ) (us ws : List ℕ) → a ∷ us ≡ b ∷ ws → a ≡ b
     heads a b us ws h = cc
 
     tails : (a b : ℕ) (us ws : List ℕ) → a ∷ us ≡ b ∷ ws → us ≡ ws
     tails a b us ws h = cc
+
+-- as the program tests it
+pub lower_tested : (i : ℕ) (xs ys : List ℕ) → take i xs ≡ take i ys → i < length xs → i < length ys → IsTrue (nat_lt (get_or xs i 0) (get_or ys i 0)) → Lower xs ys
+lower_tested i xs ys same lt le t = lower_at i xs ys same lt le (tested (get_or xs i 0) (get_or ys i 0) t)
+  where
+    tested : (x y : ℕ) → IsTrue (nat_lt x y) → x < y
+    tested x y t = grind (arith, nat_tests)
 
 -- lower where the two first differ is less in lexicographic order
 pub lower_less : (xs ys : List ℕ) → Lower xs ys → slice_cmp nat_cmp xs ys ≡ Less

@@ -1,8 +1,8 @@
 -- Least trees for each end.
-use Rattle.std.proofs.Common.{◌≡◌, ℕ, zero, suc, ◌+◌, ◌-◌, ◌<◌, ◌≤◌, List, [], ◌∷◌, ◌++◌, map, take, drop, length, get_or, Bool, true, false, ◌&&◌, ◌⊎◌, inl, inr, Option, Some, None, refl, sym, ap, subst, ◌∙◌, arith, nat_lt}
-use Rattle.std.specs.Prelude.{if◌then◌else◌, ◌==◌, option_and_then, slice_get, slice_set}
+use Rattle.std.proofs.Common.{◌≡◌, ℕ, zero, suc, ◌+◌, ◌<◌, ◌≤◌, List, [], ◌∷◌, ◌++◌, map, take, drop, length, get_or, Bool, true, false, ◌⊎◌, inl, inr, Option, Some, None, refl, sym, ap, subst, ◌∙◌, arith, nat_lt}
+use Rattle.std.specs.Prelude.{if◌then◌else◌, option_and_then, slice_get, slice_set}
 use Rattle.std.proofs.lemmas.List.{take_more}
-use Rattle.std.proofs.lemmas.Option.{same_Some, slice_get-get_or, option_and_then_some}
+use Rattle.std.proofs.lemmas.Option.{same_Some, slice_get-get_or}
 use Rattle.std.proofs.lemmas.Bool.Decides.{nat_tests}
 use Rattle.codeco_terms.specs.declared.values.Value.{Value}
 use Rattle.codeco_terms.specs.declared.rules.Rule.{Rule}
@@ -11,8 +11,8 @@ use Rattle.scopes.specs.declared.tests.Test.{Test}
 use Rattle.scopes.specs.AccessList.{closed}
 use Rattle.derivation_trees.specs.Trees.{Node, Nodes, node, node_of, nodes_from}
 use Rattle.derivation_trees.specs.Settings.{Setting}
-use Rattle.derivation_trees.specs.Instances.{under, is_instance, own_values}
-use Rattle.derivation_trees.specs.Derives.{At, phrase, phrase_of, phrases_of, rule_with, list_after, fits}
+use Rattle.derivation_trees.specs.Instances.{under}
+use Rattle.derivation_trees.specs.Derives.{At, phrase, phrase_of, phrases_of, rule_with, list_after}
 use Rattle.derivations.specs.Enumeration.{opened, may_begin}
 use Rattle.derivations.specs.Enumeration as enumeration
 use Rattle.derivations.proofs.Members.{Among, among_left, among_right, among_map}
@@ -372,6 +372,7 @@ up_to_done s asked at i rules outcomes same le h = record { sound = h.sound; lea
     by number values found children end None e led k = none_some k
     by number values found children end (Some rule) e led k =
         let le_rules = rule_number s number rule e in
+        let le_all = all in
         let below : number ≤ i = omega arith in
         h.least number (node number values found children) end below (values, (found, children, refl)) led
 

@@ -1,5 +1,5 @@
 -- Rows of the table of least trees.
-use Rattle.std.proofs.Common.{◌≡◌, ℕ, zero, suc, ◌+◌, ◌<◌, ◌≤◌, List, [], ◌∷◌, ◌++◌, map, length, get_or, false, Option, Some, None, refl, sym, ap, ◌∙◌, subst, arith}
+use Rattle.std.proofs.Common.{◌≡◌, ℕ, zero, suc, ◌<◌, List, [], ◌∷◌, ◌++◌, map, length, get_or, false, Some, refl, sym, ap, ◌∙◌, subst, arith}
 use Rattle.std.specs.Prelude.{slice_get, All}
 use Rattle.std.proofs.lemmas.Option.{same_Some, slice_get-get_or}
 use Rattle.std.proofs.lemmas.List.Elements.{All-nil, All-push, All-head, All-tail}
@@ -11,19 +11,16 @@ use Rattle.scopes.specs.declared.entries.Entry.{Entry}
 use Rattle.scopes.specs.declared.tests.Test.{Test}
 use Rattle.derivation_trees.specs.Settings.{Setting}
 use Rattle.derivation_trees.specs.Instances.{under}
-use Rattle.derivation_trees.specs.Derives.{At}
 use Rattle.derivation_trees.specs.Stands.{is_sub}
 use Rattle.derivations.specs.Enumeration as enumeration
-use Rattle.chart_table.specs.declared.table.Row.{Row}
 use Rattle.chart_table.specs.Leading.{referents}
-use Rattle.chart_table.specs.Table.{AreRows, IsRow as IsEndsRow}
+use Rattle.chart_table.specs.Table.{IsRow as IsEndsRow}
 use Rattle.chart_table.proofs.OpenerLemmas.{referents-twice}
 use Rattle.chart_trees.specs.declared.table.Best.{Best}
 use Rattle.chart_trees.specs.declared.table.Tables.{Tables}
 use Rattle.chart_trees.specs.declared.paths.Path.{Path}
-use Rattle.chart_trees.specs.declared.outcomes.Outcome.{Outcome}
 use Rattle.chart_trees.specs.Paths.{path_of, outcome_at}
-use Rattle.chart_trees.specs.Ways.{IsStepOf, HasSteps}
+use Rattle.chart_trees.specs.Ways.{HasSteps}
 use Rattle.chart_trees.specs.Outcomes.{IsBest}
 use Rattle.chart_trees.specs.Tables.{row_at, IsRow, AreTables, HasBest, IsFound}
 use Rattle.chart_trees.proofs.WayLemmas.{plain_steps, child_steps}

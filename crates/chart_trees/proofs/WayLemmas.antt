@@ -1,5 +1,5 @@
 -- Ways over elements: they are runs, runs are ways, and each step from a path that is no later leads to one that is no later.
-use Rattle.std.proofs.Common.{◌≡◌, ℕ, zero, suc, ◌+◌, ◌<◌, ◌≤◌, List, [], ◌∷◌, ◌++◌, map, take, length, get_or, Bool, true, false, ◌&&◌, ◌⊎◌, inl, inr, Option, Some, None, refl, sym, ap, subst, ◌∙◌, arith, append_assoc, append-nil}
+use Rattle.std.proofs.Common.{◌≡◌, ℕ, zero, suc, ◌+◌, ◌<◌, ◌≤◌, List, [], ◌∷◌, ◌++◌, map, take, length, get_or, true, false, ◌⊎◌, inl, inr, Option, Some, None, refl, sym, ap, subst, ◌∙◌, arith, append-nil}
 use Rattle.std.specs.Prelude.{if◌then◌else◌, option_and_then}
 use Rattle.std.specs.Option.{option_map_or}
 use Rattle.std.specs.List.{flat_map}
@@ -9,7 +9,6 @@ use Rattle.codeco_terms.specs.declared.categories.Category.{Category}
 use Rattle.codeco_terms.specs.declared.elements.Element.{Element}
 use Rattle.codeco_terms.specs.declared.elements.Element.TheVariants.{Terminal, Preterminal, Sub, Position, Opener, Forward, Strong, Back, NoBack}
 use Rattle.codeco_terms.specs.declared.rules.Rule.{Rule}
-use Rattle.scopes.specs.declared.entries.Entry.{Entry}
 use Rattle.scopes.specs.declared.tests.Test.{Test}
 use Rattle.derivation_trees.specs.Trees.{Node, Nodes, node, nodes_from}
 use Rattle.derivation_trees.specs.Settings.{Setting}
@@ -20,14 +19,14 @@ use Rattle.derivations.specs.Enumeration.{Path, Outcome, found_at, passed, joine
 use Rattle.derivations.proofs.Members.{Among, among_left, among_right, among_map, among_flat_map, map_of}
 use Rattle.derivations.proofs.StepLemmas.{stand_of, Goes, Knows, all_goes}
 use Rattle.derivations.proofs.SoundLemmas.{Mapped, from_map, Flattened, from_flat_map, either_among, Leads, Sound, step_leads, leads_nowhere, leads_on, whole_run}
-use Rattle.derivations.proofs.ListingLemmas.{node_list, nodes_again, phrases_of-list, Parts, phrase_parts, none_left_nil, none_mapped, both_true}
+use Rattle.derivations.proofs.ListingLemmas.{node_list, nodes_again, phrases_of-list, Parts, phrase_parts, none_left_nil, none_mapped}
 use Rattle.chart_trees.specs.declared.paths.Path.{Path as HeldPath}
 use Rattle.chart_trees.specs.declared.outcomes.Outcome.{Outcome as HeldOutcome}
 use Rattle.chart_trees.specs.Order.{Lower, AtMost, node_code, codes}
-use Rattle.chart_trees.specs.Paths.{path_of, end_from, outcome_at}
+use Rattle.chart_trees.specs.Paths.{path_of, outcome_at}
 use Rattle.chart_trees.specs.Ways.{fitting, fitting_all, StepTo, Steps, IsNoLater, IsStepOf, HasSteps, AreStepsOf, AreReached}
-use Rattle.chart_trees.specs.Outcomes.{Covers, IsOutcome, IsBest}
-use Rattle.chart_trees.proofs.OrderLemmas.{lower_append, at_most_append, at_most_trans, codes_push}
+use Rattle.chart_trees.specs.Outcomes.{Covers, IsBest}
+use Rattle.chart_trees.proofs.OrderLemmas.{lower_append, at_most_append, codes_push}
 
 -- the trees that lead somewhere
 
@@ -37,7 +36,7 @@ fitting_is s asked at n o h = by (phrase_of s n asked at) refl h
     by : (r : Option At) → phrase_of s n asked at ≡ r → Among (option_map_or (λ after. record { tree = n; at = after } ∷ []) r []) o → phrase_of s o.tree asked at ≡ Some o.at
     by None e k = absurd k
     by (Some after) e (inr k) = absurd k
-    by (Some after) e (inl k) = subst (λ (x : Outcome). phrase_of s x.tree asked at ≡ Some x.at) k e
+    by (Some after) e (inl k) = subst (λ (x : Outcome). phrase_of s x.tree asked at ≡ Some x.at) (sym k) e
 
 pub fitting_sound : (s : Setting) (ns : List Node) → Sound s (fitting_all s ns)
 fitting_sound s ns asked at o h =
@@ -46,8 +45,9 @@ fitting_sound s ns asked at o h =
 
 pub fitting_knows : (s : Setting) (ns : List Node) → Knows s (fitting_all s ns) ns
 fitting_knows s ns n asked start at among led =
-    let here : Among (fitting s asked start n) (record { tree = n; at = at }) = subst (λ r. Among (option_map_or (λ after. record { tree = n; at = after } ∷ []) r []) (record { tree = n; at = at })) (sym led) (inl refl) in
-    among_flat_map (fitting s asked start) ns n (record { tree = n; at = at }) among here
+    let o : Outcome = record { tree = n; at = at } in
+    let here : Among (fitting s asked start n) o = subst (λ (r : Option At). Among {X = Outcome} (option_map_or (λ (after : At). record { tree = n; at = after } ∷ []) r []) o) (sym led) (inl refl) in
+    among_flat_map (fitting s asked start) ns n o among here
 
 -- ways
 
@@ -105,15 +105,15 @@ way_of s asked at after rule values found children h =
       fit = parts.fit;
       instance = parts.instance;
       last = goes.next;
-      steps = only_start from.path from.among from.steps;
+      steps = only_start goes.next from.path from.among from.steps;
       found_is = sym (append-nil goes.next.found) ∙ ap (λ xs. goes.next.found ++ xs) (sym left) ∙ goes.found_is;
       children_is = ap nodes_from children_list ∙ nodes_again children;
       ends = parts.ends ∙ ap (λ x. record { place = x.at.place; list = list_after rule.closing at.list x.at.list }) goes.stands;
     }
   where
-    only_start : {q : Path} (p : Path) → Among (opened rule values at ∷ []) p → Steps s values rule.body p q → Steps s values rule.body (opened rule values at) q
-    only_start {q} p (inl e) k = subst (λ x. Steps s values rule.body x q) (sym e) k
-    only_start {q} p (inr m) k = absurd m
+    only_start : (q p : Path) → Among (opened rule values at ∷ []) p → Steps s values rule.body p q → Steps s values rule.body (opened rule values at) q
+    only_start q p (inl e) k = subst (λ x. Steps s values rule.body x q) e k
+    only_start q p (inr m) k = absurd m
 
 -- the tree of a way is a phrase
 pub way_leads : (s : Setting) (asked : Test) (at : At) (number : ℕ) (rule : Rule) (values : List (ℕ × Value)) (last : Path) → rule_with s.grammar number ≡ Some rule → may_begin s rule asked values ≡ true → Steps s values rule.body (opened rule values at) last → phrase_of s (node number values last.found (nodes_from last.children)) asked at ≡ Some (record { place = last.at.place; list = list_after rule.closing at.list last.at.list })
@@ -136,7 +136,7 @@ passed_no_later found found' more children children' None x order h = absurd h
 passed_no_later found found' more children children' (Some stand) x order (inr h) = absurd h
 passed_no_later found found' more children children' (Some stand) x order (inl h) =
     let y : Path = record { found = found ++ more; own = stand.own; children = children; at = stand.at } in
-    (y, inl refl, subst (IsNoLater y) h (record { at = refl; own = refl; order = by order }))
+    (y, inl refl, subst (IsNoLater y) (sym h) (record { at = refl; own = refl; order = by order }))
   where
     by : Lower found found' ⊎ ((found ≡ found') × AtMost (codes children) (codes children')) → Lower (found ++ more) (found' ++ more) ⊎ ((found ++ more ≡ found' ++ more) × AtMost (codes children) (codes children'))
     by (inl l) = inl (lower_append found found' more more l)
@@ -206,7 +206,7 @@ steps_then s values e paths p before more a b = record { sound = λ x h. sound x
     least : (r q x : Path) → Among paths r ⊎ Among (p ∷ []) r → IsNoLater r q → StepTo s values e q x → (y : Path) × Among (before ++ more) y × IsNoLater y x
     least r q x (inl m) less h = let one = a.least r q x m less h in (one.0, among_left before more one.0 one.1, one.2)
     least r q x (inr (inl m)) less h =
-        let one = b.least q x (subst (λ z. IsNoLater z q) (sym m) less) h in (one.0, among_right before more one.0 one.1, one.2)
+        let one = b.least q x (subst (λ z. IsNoLater z q) m less) h in (one.0, among_right before more one.0 one.1, one.2)
     least r q x (inr (inr m)) less h = absurd m
 
 pub steps_turn : (s : Setting) (values : List (ℕ × Value)) (e : Element) (paths : List HeldPath) (i : ℕ) (p : HeldPath) (before after : List Path) → i < length paths → p ≡ get_or paths i p → AreStepsOf s values e (map path_of (take i paths)) before → HasSteps s values e (path_of p) before after → AreStepsOf s values e (map path_of (take (i + 1) paths)) after
@@ -229,7 +229,7 @@ pub reached_first : (s : Setting) (values : List (ℕ × Value)) (first : Path) 
 reached_first s values first = record { sound = sound; least = λ x h. (first, inl refl, subst (IsNoLater first) h (no_later_same first)) }
   where
     sound : (x : Path) → Among (first ∷ []) x → Steps s values [] first x
-    sound x (inl h) = h
+    sound x (inl h) = sym h
     sound x (inr h) = absurd h
 
 reached_then : (s : Setting) (values : List (ℕ × Value)) (es : List Element) (e : Element) (first : Path) (paths news : List Path) → AreReached s values es first paths → AreStepsOf s values e paths news → AreReached s values (es ++ e ∷ []) first news

@@ -1,12 +1,12 @@
 -- The least trees for each end.
-use Rattle.std.specs.Prelude.{◌≡◌, ℕ, ◌+◌, ◌<◌, ◌≤◌, List, [], ◌∷◌, ◌++◌, length, drop, slice_get, Option, Some, None, ◌⊎◌}
+use Rattle.std.specs.Prelude.{◌≡◌, ℕ, ◌≤◌, List, length, drop, slice_get, Some, ◌⊎◌}
 use Rattle.codeco_terms.specs.declared.values.Value.{Value}
 use Rattle.codeco_terms.specs.declared.rules.Rule.{Rule}
 use Rattle.scopes.specs.declared.entries.Entry.{Entry}
 use Rattle.scopes.specs.declared.tests.Test.{Test}
 use Rattle.derivation_trees.specs.Trees.{Node, Nodes, node, node_of, nodes_from}
 use Rattle.derivation_trees.specs.Settings.{Setting}
-use Rattle.derivation_trees.specs.Derives.{At, phrase_of, rule_with}
+use Rattle.derivation_trees.specs.Derives.{At, phrase_of}
 use Rattle.derivations.specs.Among.{Among}
 use Rattle.derivations.specs.Enumeration as enumeration
 use Rattle.chart_table.specs.Branches.{OneOf}
@@ -15,7 +15,7 @@ use Rattle.chart_trees.specs.declared.outcomes.Outcome.{Outcome}
 use Rattle.chart_trees.specs.declared.outcomes.Seat.{Seat}
 use Rattle.chart_trees.specs.declared.outcomes.Seat.TheVariants as seat
 use Rattle.chart_trees.specs.declared.paths.Path.{Path}
-use Rattle.chart_trees.specs.Order.{Lower, AtMost, node_code}
+use Rattle.chart_trees.specs.Order.{AtMost, node_code}
 use Rattle.chart_trees.specs.Paths.{path_of, end_from}
 
 -- the tree leads there as a phrase for the category, and the code is its code

@@ -1,5 +1,5 @@
 -- Paths and outcomes as the program holds them.
-use Rattle.std.specs.Prelude.{ℕ, List, ◌++◌}
+use Rattle.std.specs.Prelude.{List, ◌++◌}
 use Rattle.scopes.specs.declared.entries.Entry.{Entry}
 use Rattle.derivation_trees.specs.Trees.{node_of, nodes_of}
 use Rattle.derivation_trees.specs.Derives.{At}

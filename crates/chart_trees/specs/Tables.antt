@@ -1,5 +1,5 @@
 -- The table of least trees.
-use Rattle.std.specs.Prelude.{◌≡◌, ℕ, List, slice_get, Option, Some, All}
+use Rattle.std.specs.Prelude.{◌≡◌, ℕ, List, slice_get, Some, All}
 use Rattle.scopes.specs.declared.entries.Entry.{Entry}
 use Rattle.scopes.specs.declared.tests.Test.{Test}
 use Rattle.derivation_trees.specs.Settings.{Setting}

@@ -1,5 +1,3 @@
-use Rattle.std.proofs.Common.{◌≡◌, rules}
-use Rattle.derivations.proofs.LeastLemmas.{least_of_none}
 use Rattle.chart_trees.proofs.LeastLemmas.{among_next, listed_next, listed_done, trees_in}
 use Rattle.std.proofs.Common.{take}
 use Rattle.chart_trees.proofs.least.least_among.Goals as goal

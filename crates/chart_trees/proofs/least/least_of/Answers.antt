@@ -9,8 +9,8 @@ use Rattle.derivations.proofs.LeastLemmas.{none_told}
 use Rattle.derivations.proofs.UniqueLemmas.{codes_tell, unique_told}
 use Rattle.chart_trees.proofs.least.least_of.Goals as goal
 
-pub least_in-requires-clause-limited : goal.least_in-requires-clause-limited
-least_in-requires-clause-limited c =
+pub least_in-requires : goal.least_in-requires
+least_in-requires c =
     IsLimited-from_sound c.grammar.result.now (subst IsSound (sym c.grammar.ensures.grammar) c.grammar.ensures.sound)
 
 pub returns-clause-none : goal.returns-clause-none

@@ -1,4 +1,3 @@
-use Rattle.std.proofs.Common.{◌≡◌}
 use Rattle.chart_trees.proofs.OutcomeLemmas.{ended_none, ended_turn, ended_done}
 use Rattle.chart_trees.proofs.outcomes.push_ended.Goals as goal
 

@@ -1,9 +1,10 @@
-use Rattle.std.proofs.Common.{◌≡◌, ℕ, ◌+◌, ◌<◌, ◌≤◌, ◌++◌, ◌∷◌, [], false, length, map, ap, ◌∙◌, sym, refl, subst, arith, rules}
+use Rattle.std.proofs.Common.{◌<◌, ◌++◌, ◌∷◌, [], length, map, ap, ◌∙◌, sym, subst, arith, rules}
 use Rattle.derivation_trees.proofs.StandLemmas.{not_sub}
-use Rattle.derivation_trees.specs.Instances.{under}
-use Rattle.derivations.specs.Enumeration.{opened}
 use Rattle.chart_trees.specs.Paths.{path_of}
 use Rattle.chart_trees.specs.Ways.{AreReached, AreStepsOf}
+use Rattle.chart_trees.specs.Outcomes.{HasEnded}
+use Rattle.codeco_terms.specs.declared.elements.Element.TheVariants.{Sub}
+use Rattle.derivation_trees.specs.Derives.{At}
 use Rattle.chart_trees.proofs.WayLemmas.{steps_none, steps_turn, steps_done, reached_first, reached_turn, reached_done}
 use Rattle.chart_trees.proofs.OutcomeLemmas.{instance_trees, no_trees, trees_none, trees_turn, trees_done, rule_trees, other_trees, up_to_none, up_to_turn, up_to_done}
 use Rattle.chart_trees.proofs.TableLemmas.{row_found, tables_more, row_new, row_below, plain_pushed, steps_same, child_pushed}
@@ -14,10 +15,12 @@ best_of-returns-in-Some-clause-row t c =
     row_found c.args.setting.now c.args.tables.now c.as_slice.result.now c.in-Some.number c.args.asked c.args.place c.args.list c.as_slice-2.result.now c.as_slice.ensures c.as_slice-2.ensures c.requires.tables c.in-Some.ensures
 
 pub best_of-returns-clause-tables : goal.best_of-returns-clause-tables
-best_of-returns-clause-tables t c = ?
+best_of-returns-clause-tables t c =
+    tables_more c.args.setting.now c.all_outcomes.new.tables c.push_new_row.new.rows (record { asked = c.args.asked; place = c.args.place; list = c.args.list; outcomes = c.in_ok-outcomes.outcomes }) c.in_ok-start.start c.in_ok-number.ensures.rows (c.in_ok-start.ensures ∙ c.as_slice-3.ensures) c.in_ok-outcomes.ensures.tables c.in_ok-outcomes.ensures.best
 
 pub best_of-returns-clause-row : goal.best_of-returns-clause-row
-best_of-returns-clause-row t c = ?
+best_of-returns-clause-row t c =
+    row_new c.args.setting.now c.all_outcomes.new.tables.rows c.push_new_row.new.rows (record { asked = c.args.asked; place = c.args.place; list = c.args.list; outcomes = c.in_ok-outcomes.outcomes }) c.in_ok-number.number c.in_ok-start.start c.in_ok-number.ensures.rows c.in_ok-number.ensures.number (c.in_ok-start.ensures ∙ c.as_slice-3.ensures) c.in_ok-outcomes.ensures.best
 
 pub all_outcomes-loop-rule-init : goal.all_outcomes-loop-rule-init
 all_outcomes-loop-rule-init t c = record {
@@ -62,16 +65,21 @@ push_instances-returns-clause-trees t c =
     trees_done c.args.setting.now c.args.asked.now (record { place = c.args.place; list = c.args.start.now }) c.args.number c.args.instances.now c.loop-values.values-index c.args.out.now c.loop-values.out c.loop-values-test.false c.loop-values.invariant.trees
 
 pub push_instance-returns-then-not-branch-clause-trees : goal.push_instance-returns-then-not-branch-clause-trees
-push_instance-returns-then-not-branch-clause-trees t c = ?
+push_instance-returns-then-not-branch-clause-trees t c =
+    no_trees c.args.setting.now c.args.asked.now (record { place = c.args.place; list = c.args.start.now }) c.args.number c.args.rule.now c.args.values.now c.args.out.now c.requires.has (sym c.in_ok-may_begin.ensures ∙ c.if-not-branch.true)
 
 pub push_instance-returns-clause-trees : goal.push_instance-returns-clause-trees
-push_instance-returns-clause-trees t c = ?
-
-pub push_instance-run_all-requires-clause-within : goal.push_instance-run_all-requires-clause-within
-push_instance-run_all-requires-clause-within t c = ?
+push_instance-returns-clause-trees t c =
+    let s = c.args.setting.now in
+    let at : At = record { place = c.args.place; list = c.args.start.now } in
+    let reached = subst (λ f. AreReached s c.args.values.now c.args.rule.now.body f (map path_of c.in_ok-paths.paths)) c.in_ok-first.ensures (subst (λ b. AreReached s c.args.values.now b (path_of c.in_ok-first.first) (map path_of c.in_ok-paths.paths)) c.as_slice.ensures c.in_ok-paths.ensures.paths) in
+    instance_trees s c.args.asked.now at c.args.number c.args.rule.now c.args.values.now c.in_ok-paths.paths c.args.out.now c.push_ended.new.out c.requires.has (sym c.in_ok-may_begin.ensures ∙ c.if-not-branch.false) reached (subst (λ l. HasEnded c.args.number c.args.rule.now c.args.values.now c.args.start.now l c.args.out.now c.push_ended.new.out) c.as_slice-2.ensures c.in_ok-push_ended.ensures)
 
 pub run_all-loop-element-init : goal.run_all-loop-element-init
-run_all-loop-element-init t c = record { tables = c.requires.tables; paths = ? }
+run_all-loop-element-init t c = record {
+  tables = c.requires.tables;
+  paths = subst (λ l. AreReached c.args.setting.now c.args.values.now [] (path_of c.args.first) (map path_of l)) (sym (c.in_ok-push.ensures.ok ∙ ap (λ l. l ++ c.args.first ∷ []) c.new-paths.ensures)) (reached_first c.args.setting.now c.args.values.now (path_of c.args.first));
+}
 
 pub run_all-loop-element-preserved : goal.run_all-loop-element-preserved
 run_all-loop-element-preserved t c = record {
@@ -100,7 +108,10 @@ step_all-returns-clause-steps t c =
     steps_done c.args.setting.now c.args.values.now c.args.element.now c.args.paths.now c.loop-path.path-index (map path_of c.loop-path.out) c.loop-path-test.false c.loop-path.invariant.steps
 
 pub push_steps-returns-in_ok-push_child-in-Sub : goal.push_steps-returns-in_ok-push_child-in-Sub
-push_steps-returns-in_ok-push_child-in-Sub t c = ?
+push_steps-returns-in_ok-push_child-in-Sub t c = record {
+  tables = c.in_ok-push_child-in-Sub.ensures.tables;
+  steps = steps_same c.args.setting.now c.args.values.now c.args.element.now (Sub c.in-Sub.category) (path_of c.args.path.now) (map path_of c.args.out.now) (map path_of c.push_child.new.out) c.in-Sub.is c.in_ok-push_child-in-Sub.ensures.steps;
+}
 
 pub push_steps-returns-in_ok-push_passed-in_default : goal.push_steps-returns-in_ok-push_passed-in_default
 push_steps-returns-in_ok-push_passed-in_default t c =

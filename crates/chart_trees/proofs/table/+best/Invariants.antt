@@ -1,4 +1,4 @@
-use Rattle.std.proofs.Common.{◌≡◌, ℕ, List, take, map, ◌+◌, ◌*◌, ◌∷◌, [], length}
+use Rattle.std.proofs.Common.{◌≡◌, take, map, ◌+◌, ◌*◌}
 use Rattle.chart_trees.specs.Paths.{path_of}
 use Rattle.chart_trees.specs.Ways.{AreReached, AreStepsOf}
 use Rattle.chart_trees.specs.Outcomes.{HasTrees, HasTreesUpTo, IsOfInstances}

@@ -6,14 +6,15 @@ ghost use Rattle.derivation_trees.specs.Sentences.{IsSentence};
 ghost use Rattle.derivation_trees.specs.Skeletons.{IsLeastSkeleton};
 ghost use Rattle.derivations.specs.Typing.{IsTextMenu, IsTypeableCount};
 
-use chart::{Chart, has_derivation};
+use chart::Chart;
 use chart_table::begins;
+use chart_trees::least_of;
 use codeco_checked::CheckedGrammar;
-use derivations::{Menu, Skeleton, plain_least, plain_menu};
+use derivations::{Menu, Skeleton};
 use lexicon::Lexicon;
 use lists::Copied;
 use std::alloc::Global;
-use wiki_base::{MOST_TOKENS, Memory, Tokens};
+use wiki_base::{Memory, Tokens};
 
 // How many of the tokens are typeable, from the first on.
 pub(crate) fn typeable_count(
@@ -37,7 +38,7 @@ pub(crate) fn typeable_count(
     Ok(count)
 }
 
-// The menu of the tokens: by the chart, which holds up to 40 tokens, with the one that may follow.
+// The menu of the tokens, by the chart.
 pub(crate) fn menu<'a>(
     alloc: Global,
     grammar: &'a CheckedGrammar,
@@ -47,9 +48,6 @@ pub(crate) fn menu<'a>(
     requires { length tokens.now ≤ MOST_TOKENS }
     ensures { IfOk result (IsTextMenu grammar.now lexicon.now tokens.now) }
 {
-    if tokens.len() >= MOST_TOKENS {
-        return plain_menu(alloc, grammar, lexicon, tokens);
-    }
     let mut chart = Chart::new(alloc, grammar)?;
     for token in tokens.as_slice() {
         chart.advance(grammar, lexicon, token)?;
@@ -57,7 +55,7 @@ pub(crate) fn menu<'a>(
     chart.menu(grammar, lexicon)
 }
 
-// The least skeleton of the tokens, if they have a derivation: trees are listed only where there is one.
+// The least skeleton of the tokens, if they have a derivation.
 pub(crate) fn least(
     alloc: Global,
     grammar: &CheckedGrammar,
@@ -68,8 +66,5 @@ pub(crate) fn least(
     ensures least { IfOk result (λ found. IfSome found (IsLeastSkeleton grammar.now lexicon.now tokens.now)) }
     ensures none { IfOk result (λ found. IfNone found (IsSentence grammar.now lexicon.now tokens.now → ⊥)) }
 {
-    if !has_derivation(alloc, grammar, lexicon, tokens)? {
-        return Ok(None);
-    }
-    plain_least(alloc, grammar, lexicon, tokens)
+    least_of(alloc, grammar, lexicon, tokens)
 }

@@ -433,7 +433,10 @@ fn category_ends(
 fn may_go(setting: &Scene<'_>, rule: &Rule, place: u16) -> bool
     ensures { result ≡ false → cutting.IsIdle setting.now rule.now place }
 {
-    place as usize == token_count(setting) || may_start(setting, place, rule.body.as_slice())
+    if place as usize == token_count(setting) {
+        return true;
+    }
+    may_start(setting, place, rule.body.as_slice())
 }
 
 // Adds the ends of the rule and what is cut off, if it has the name.

@@ -19,7 +19,7 @@ use std::{env, io};
 use wiki_base::{MOST_TOKENS, Memory, Text, Token, Tokens};
 
 /// How many words there are beside those of the sentences.
-const MORE_WORDS: u32 = 20;
+const MORE_WORDS: u32 = 4998;
 
 #[derive(Debug, Drop)]
 enum Fault {
@@ -122,30 +122,27 @@ fn started(alloc: Global, grammar: &CheckedGrammar, lexicon: &Lexicon) -> Result
     Ok(chart)
 }
 
-// Takes the token into the chart.
+// Takes the token into the chart, and tells whether the longer list has a partial derivation.
 fn taken(
     chart: &mut Chart,
     grammar: &CheckedGrammar,
     lexicon: &Lexicon,
     token: &Token,
-) -> Result<(), Fault>
+) -> Result<bool, Fault>
     requires { chart.old ≡ setting_of grammar.now lexicon.now chart.old.tokens }
     ensures { OnOk result (chart.new ≡ setting_of grammar.now lexicon.now chart.new.tokens) }
 {
     if chart.tokens().len() >= MOST_TOKENS {
         return Err(Fault::Words);
     }
-    let _ = chart.advance(grammar, lexicon, token)?;
-    Ok(())
+    let begins = chart.advance(grammar, lexicon, token)?;
+    Ok(begins)
 }
 
 // How many entries the menu has.
 fn menu_size(chart: &Chart, grammar: &CheckedGrammar, lexicon: &Lexicon) -> Result<usize, Fault>
     requires { chart.now ≡ setting_of grammar.now lexicon.now chart.now.tokens }
 {
-    if chart.tokens().len() >= MOST_TOKENS {
-        return Err(Fault::Words);
-    }
     let menu = chart.menu(grammar, lexicon)?;
     Ok(menu.len())
 }
@@ -171,7 +168,7 @@ fn type_in(
             }
         }
         let start = rt.thread_cpu_time()?;
-        taken(&mut chart, grammar, lexicon, token)?;
+        let _ = taken(&mut chart, grammar, lexicon, token)?;
         let took = rt.thread_cpu_time()?.saturating_sub(start);
         if timed && place + 1 == count {
             tell(rt, "last token", took)?;
@@ -211,7 +208,7 @@ fn main(rt: HostRuntime) -> Result<(), Fault> {
     let timed = env::args(&rt)?.count() > 1;
     let grammar = built_in(rt.alloc())?;
     let lexicon = words(rt.alloc(), &grammar)?;
-    for clauses in [1, 3] {
+    for clauses in [1, 4, 11] {
         run(&rt, &grammar, &lexicon, clauses, timed)?;
     }
     Ok(())

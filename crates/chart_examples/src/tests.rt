@@ -227,7 +227,6 @@ fn offers(
     for token in tokens.as_slice() {
         let _ = taken(rt, &mut chart, grammar, &lexicon, token)?;
     }
-    assert!(rt; chart.tokens().len() < MOST_TOKENS);
     let menu = chart.menu(grammar, &lexicon)?;
     Ok(has_entries(&menu, entries))
 }
@@ -265,6 +264,15 @@ fn menus_have_what_may_follow(rt: HostRuntime) -> Result<(), Fail> {
             "{text} by {grammar}"
         );
     }
+    Ok(())
+}
+
+#[test]
+fn forty_tokens_have_a_menu(rt: HostRuntime) -> Result<(), Fail> {
+    let alloc = rt.alloc();
+    let grammar = read_grammar(alloc, "text --> a text. text --> a. a --> [x].")?;
+    let text = "x x x x x x x x x x x x x x x x x x x x x x x x x x x x x x x x x x x x x x x x";
+    assert!(rt; offers(&rt, alloc, &grammar, text, &[(Group::Function, "x")])?);
     Ok(())
 }
 

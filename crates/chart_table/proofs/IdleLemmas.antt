@@ -31,11 +31,11 @@ or_right false b h = h
 
 some_named : (readings : List Ground) (asked : Test) → list_any (λ reading. agrees reading asked) readings ≡ true → list_any (λ reading. reading.name == asked.name) readings ≡ true
 some_named [] asked h = h
-some_named (r ∷ rs) asked h = by (agrees r asked) refl h
+some_named (r ∷ rs) asked h = by (λ k. some_named rs asked k) (agrees r asked) refl h
   where
-    by : (b : Bool) → agrees r asked ≡ b → (b || list_any (λ reading. agrees reading asked) rs) ≡ true → list_any (λ reading. reading.name == asked.name) (r ∷ rs) ≡ true
-    by true e k = both_true (r.name == asked.name) (list_all (has_value r.vals) asked.values) e (λ n _. ap (λ b. b || list_any (λ reading. reading.name == asked.name) rs) n)
-    by false e k = or_right (r.name == asked.name) _ (some_named rs asked k)
+    by : (list_any (λ reading. agrees reading asked) rs ≡ true → list_any (λ reading. reading.name == asked.name) rs ≡ true) → (b : Bool) → agrees r asked ≡ b → (b || list_any (λ reading. agrees reading asked) rs) ≡ true → list_any (λ reading. reading.name == asked.name) (r ∷ rs) ≡ true
+    by later true e k = both_true (r.name == asked.name) (list_all (has_value r.vals) asked.values) e (λ n _. ap (λ b. b || list_any (λ reading. reading.name == asked.name) rs) n)
+    by later false e k = or_right (r.name == asked.name) _ (later k)
 
 kind_there : (s : Setting) (asked : Test) (place : ℕ) → matches_preterminal s asked place ≡ true → has_kind s asked.name place ≡ true
 kind_there s asked place h = by (slice_get s.readings place) h
@@ -124,7 +124,7 @@ idle_cuts s rule known at cuts idle = record {
 
 -- as the program tests it
 pub idle_is : (s : Setting) (rule : Rule) (place count : ℕ) (body : List Element) (b : Bool) → count ≡ length s.tokens → body ≡ rule.body → (place ≡ count → ⊥) → b ≡ may_start s place body → b ≡ false → IsIdle s rule place
-idle_is s rule place count body b c e not is no = record {
+idle_is s rule place count body b c e not is off = record {
   before = λ h. not (h ∙ sym c);
-  not = ap (may_start s place) (sym e) ∙ sym is ∙ no;
+  not = ap (may_start s place) (sym e) ∙ sym is ∙ off;
 }

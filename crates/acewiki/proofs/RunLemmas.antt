@@ -17,8 +17,7 @@ use Rattle.wiki_talk.specs.declared.replies.Reply.{Reply}
 use Rattle.wiki_talk.specs.Turns.{Exchange, answered as answered_by, request_in}
 use Rattle.wire_json.specs.Replies.{reply_line}
 use Rattle.wiki_talk.proofs.TurnLemmas.{Turns-push}
-use Rattle.wiki_core.specs.State.{State}
-use Rattle.wiki_core.specs.Step.{Step}
+use Rattle.acewiki.specs.Wiki.{Holding, KeptStep}
 use Rattle.acewiki.specs.declared.command.Outcome.{Outcome}
 use Rattle.acewiki.specs.declared.command.Outcome.TheVariants.{Done, ReadFault, WriteFault, TooMuch, Memory}
 use Rattle.acewiki.specs.Lines.{asked, told, reply_lines, StepsLine, StepsLines, RepliesTo, WasStepped, AnswersLine, BeginsAnswer, GivesUpLine, CutsLine}
@@ -27,27 +26,27 @@ use Rattle.acewiki.specs.Replay.{StepsInput, but_last, Replays}
 -- ---- one line
 
 -- what a step on the request of a line is to the line
-pub RepliesTo-step : (old : State) (line : InputLine) (new : State) (request : Request) (bytes : List ℕ) → Some request ≡ asked line → (reply : Reply) × Step old request reply new × (bytes ≡ reply_line reply) → RepliesTo old line new bytes
+pub RepliesTo-step : (old : Holding) (line : InputLine) (new : Holding) (request : Request) (bytes : List ℕ) → Some request ≡ asked line → (reply : Reply) × KeptStep old request reply new × (bytes ≡ reply_line reply) → RepliesTo old line new bytes
 RepliesTo-step old line new request bytes is_asked stepped = record {
   exchange = answered_by request stepped.0;
   steps = record { asked_now = is_asked; turn = stepped.1 };
   is_told = stepped.2;
 }
 
-pub WasStepped-step : (old : State) (line : InputLine) (new : State) (request : Request) → Some request ≡ asked line → (new ≡ old) ⊎ ((reply : Reply) × Step old request reply new) → WasStepped old line new
+pub WasStepped-step : (old : Holding) (line : InputLine) (new : Holding) (request : Request) → Some request ≡ asked line → (new ≡ old) ⊎ ((reply : Reply) × KeptStep old request reply new) → WasStepped old line new
 WasStepped-step old line new request is_asked (inl same) = inl same
 WasStepped-step old line new request is_asked (inr stepped) = inr (answered_by request stepped.0, record { asked_now = is_asked; turn = stepped.1 })
 
 -- ---- one more line
 
-StepsLines-none : (first : State) → StepsLines first [] [] first
+StepsLines-none : (first : Holding) → StepsLines first [] [] first
 StepsLines-none first = record { asked_then = refl; turns = refl }
 
-StepsLines-push : (first : State) (lines : List InputLine) (line : InputLine) (exchanges : List (Exchange Request Reply)) (exchange : Exchange Request Reply) (before last : State)
+StepsLines-push : (first : Holding) (lines : List InputLine) (line : InputLine) (exchanges : List (Exchange Request Reply)) (exchange : Exchange Request Reply) (before last : Holding)
     → StepsLines first lines exchanges before → StepsLine before line exchange last → StepsLines first (lines ++ line ∷ []) (exchanges ++ exchange ∷ []) last
 StepsLines-push first lines line exchanges exchange before last steps one = record {
   asked_then = map_push request_in exchanges exchange ∙ ap (λ l. l ++ request_in exchange ∷ []) steps.asked_then ∙ ap (λ o. map asked lines ++ o ∷ []) one.asked_now ∙ sym (map_push asked lines line);
-  turns = Turns-push Step first exchanges exchange before last steps.turns one.turn;
+  turns = Turns-push KeptStep first exchanges exchange before last steps.turns one.turn;
 }
 
 reply_lines-push : (exchanges : List (Exchange Request Reply)) (exchange : Exchange Request Reply) → reply_lines (exchanges ++ exchange ∷ []) ≡ reply_lines exchanges ++ told exchange
@@ -71,7 +70,7 @@ Begins-refl l = ([], sym (append-nil l))
 
 -- The lines that were given so far were stepped and answered, at a moment at which the input has `left` left and the
 -- reader stands so. The counts of faults have not fallen.
-pub record Running (start : State) (first taken_first : Option (List ℕ)) (left : Option (List ℕ)) (reader : Reading) (wiki : State) (taken : Option (List ℕ)) (input_first input output_first output : ℕ) : Type 0 where
+pub record Running (start : Holding) (first taken_first : Option (List ℕ)) (left : Option (List ℕ)) (reader : Reading) (wiki : Holding) (taken : Option (List ℕ)) (input_first input output_first output : ℕ) : Type 0 where
   pub given : List InputLine
   pub lines : HasGivenFrom first given reader left
   pub at_end : IsTrue reader.ended → IsAtEnd left
@@ -82,7 +81,7 @@ pub record Running (start : State) (first taken_first : Option (List ℕ)) (left
   pub input_faults : input_first ≤ input
   pub output_faults : output_first ≤ output
 
-pub Running-first : (start : State) (first taken : Option (List ℕ)) (reader : Reading) (wiki : State) (input output : ℕ) → reader ≡ unread → wiki ≡ start → Running start first taken first reader wiki taken input input output output
+pub Running-first : (start : Holding) (first taken : Option (List ℕ)) (reader : Reading) (wiki : Holding) (input output : ℕ) → reader ≡ unread → wiki ≡ start → Running start first taken first reader wiki taken input input output output
 Running-first start first taken reader wiki input output fresh is_start =
     subst (λ r. Running start first taken first r wiki taken input input output output) (sym fresh)
     (subst (λ w. Running start first taken first unread w taken input input output output) (sym is_start) (record {
@@ -99,7 +98,7 @@ Running-first start first taken reader wiki input output fresh is_start =
 
 -- ---- one call of the reader further
 
-module _ (start : State) (first taken_first left : Option (List ℕ)) (old : Reading) (wiki : State) (taken : Option (List ℕ)) (input_first input output_first output : ℕ)
+module _ (start : Holding) (first taken_first left : Option (List ℕ)) (old : Reading) (wiki : Holding) (taken : Option (List ℕ)) (input_first input output_first output : ℕ)
     (run : Running start first taken_first left old wiki taken input_first input output_first output)
     (said : Line) (new : Reading) (left_after : Option (List ℕ)) (call : ReadsLine left old said new left_after)
     (end : IsTrue new.ended → IsAtEnd left_after) where
@@ -141,6 +140,12 @@ module _ (start : State) (first taken_first left : Option (List ℕ)) (old : Rea
       (λ _. (at_end, omega (arith, called.count, within), sym (none_given none) ∙ HasGiven-end called.bytes (run.given ++ answered said new.line) new called.lines pending))
       (λ is. absurd (cc is)) (λ is. absurd (cc is)) taken (Appends-nil taken)
 
+  -- and leaves the wiki as it is
+  pub Replays-end_last : (none : answered said new.line ≡ []) (pending : new.pending ≡ []) (within : new.count ≤ MAX_INPUT) (at_end : IsAtEnd left_after)
+      → (Replays-end none pending within at_end).input.last ≡ wiki
+  unfolding Replays-end Replays-answered
+  Replays-end_last none pending within at_end = refl
+
   pub Replays-fault : answered said new.line ≡ [] → HasNoLine new → Replays start first taken_first ReadFault left_after taken
   Replays-fault none no_line = Replays-answered ReadFault (λ is. absurd (cc is))
       (λ _. subst (AreReadLines called.bytes) (none_given none) (HasGiven-fault called.bytes (run.given ++ answered said new.line) new called.lines no_line))
@@ -154,7 +159,7 @@ module _ (start : State) (first taken_first left : Option (List ℕ)) (old : Rea
     more_given = ap (λ (more : List InputLine). run.given ++ more) gives
 
     -- a reply that was cut
-    Replays-begun : (wiki_after : State) (taken_after : Option (List ℕ)) → BeginsAnswer wiki line taken wiki_after taken_after → Replays start first taken_first WriteFault left_after taken_after
+    Replays-begun : (wiki_after : Holding) (taken_after : Option (List ℕ)) → BeginsAnswer wiki line taken wiki_after taken_after → Replays start first taken_first WriteFault left_after taken_after
     Replays-begun wiki_after taken_after begun =
         let exchange = begun.replies.exchange in
         let part = take begun.count begun.reply in
@@ -183,7 +188,7 @@ module _ (start : State) (first taken_first left : Option (List ℕ)) (old : Rea
         }
 
     -- the line had no whole reply
-    pub Replays-cut : (outcome : Outcome) (wiki_after : State) (taken_after : Option (List ℕ)) → CutsLine outcome wiki line taken wiki_after taken_after → Replays start first taken_first outcome left_after taken_after
+    pub Replays-cut : (outcome : Outcome) (wiki_after : Holding) (taken_after : Option (List ℕ)) → CutsLine outcome wiki line taken wiki_after taken_after → Replays start first taken_first outcome left_after taken_after
     Replays-cut WriteFault wiki_after taken_after cut = Replays-begun wiki_after taken_after cut
     Replays-cut Memory wiki_after taken_after cut = Replays-answered Memory (λ is. absurd (cc is)) (λ is. absurd (cc is)) (λ is. absurd (cc is)) taken_after (Appends-none taken taken_after cut.written)
       where
@@ -197,7 +202,7 @@ module _ (start : State) (first taken_first left : Option (List ℕ)) (old : Rea
     Replays-cut outcome wiki_after taken_after cut = absurd cut
 
     -- a reply that was written whole
-    pub Running-line : (wiki_after : State) (taken_after : Option (List ℕ)) (input_after output_after : ℕ) → new.count ≤ MAX_INPUT → AnswersLine wiki line taken wiki_after taken_after
+    pub Running-line : (wiki_after : Holding) (taken_after : Option (List ℕ)) (input_after output_after : ℕ) → new.count ≤ MAX_INPUT → AnswersLine wiki line taken wiki_after taken_after
         → input ≤ input_after → output ≤ output_after → Running start first taken_first left_after new wiki_after taken_after input_first input_after output_first output_after
     Running-line wiki_after taken_after input_after output_after within answers input_kept output_kept =
         let exchange = answers.replies.exchange in
@@ -220,7 +225,7 @@ pub at_end-call : (left left_after : Option (List ℕ)) (old new : Reading) → 
 at_end-call left left_after old new before nothing same ended = elim (nothing ended) [ inl was ↦ subst IsAtEnd (sym (same was)) (before was) | inr end ↦ end ]
 
 -- nothing was read or written yet
-pub Replays-none : (start : State) (left taken : Option (List ℕ)) → Replays start left taken Memory left taken
+pub Replays-none : (start : Holding) (left taken : Option (List ℕ)) → Replays start left taken Memory left taken
 Replays-none start left taken = record {
   input = record {
     read = [];

@@ -1,16 +1,82 @@
 -- The command line: which words are a command, and how the program ends.
-use Rattle.std.specs.Prelude.{ℕ, List, [], ◌∷◌, ◌++◌, codes, if◌then◌else◌, Option, Some, None}
-use Rattle.std.specs.Str.{bytes_eq}
+use Rattle.std.specs.Prelude.{ℕ, ◌==◌, ◌&&◌, not, Bool, true, false, List, [], ◌∷◌, ◌++◌, codes, if◌then◌else◌, nat_le, Option, Some, None, is_some, unwrap_or, option_map, option_and_then}
+use Rattle.std.specs.Str.{bytes_eq, is_utf8}
+use Rattle.http_front.specs.Numbers.{number_of}
 use Rattle.acewiki.specs.declared.command.Command.{Command}
-use Rattle.acewiki.specs.declared.command.Command.TheVariants.{Replay}
+use Rattle.acewiki.specs.declared.command.Command.TheVariants as commands
+use Rattle.acewiki.specs.declared.options.Options.{Options}
+use Rattle.acewiki.specs.declared.options.TheConstants.{MOST_BUDGET, MOST_EVENTS, DEFAULT_BUDGET}
 use Rattle.acewiki.specs.declared.command.Outcome.{Outcome}
-use Rattle.acewiki.specs.declared.command.Outcome.TheVariants.{Done, Usage, ReadFault, WriteFault, TooMuch, Memory}
+use Rattle.acewiki.specs.declared.command.Outcome.TheVariants.{Done, Usage, ReadFault, WriteFault, LinkFault, TooMuch, Memory}
 
--- the command that the words are: the single word `replay` is the only one
-abbrev pub command_of : List (List ℕ) → Option Command
+-- a command: `replay` with the budget of a search, or `serve` with its address, the budget, and how many events it handles
+pub data Asked : Type 0 where
+  replay : ℕ → Asked
+  serve : List ℕ → ℕ → ℕ → Asked
+
+-- a command of the program as what is asked
+abbrev pub asked_by : Command → Asked
+asked_by (commands.Replay budget) = replay budget
+asked_by (commands.Serve address budget events) = serve address.now budget events
+
+-- ---- options
+
+-- the number that a word of 1 to 19 digits writes, if it stands between these two
+abbrev pub number_within : ℕ → ℕ → List ℕ → Option ℕ
+number_within least most word = option_and_then (λ n. if nat_le least n && nat_le n most then Some n else None) (number_of 19 word)
+
+-- an option that wasn't given yet
+abbrev pub with_budget : Options → List ℕ → Option Options
+with_budget given value = if is_some given.budget then None else option_map (λ n. record given { budget = Some n }) (number_within 0 MOST_BUDGET value)
+
+abbrev pub with_events : Options → List ℕ → Option Options
+with_events given value = if is_some given.events then None else option_map (λ n. record given { events = Some n }) (number_within 1 MOST_EVENTS value)
+
+unfoldable pub with_option : Options → List ℕ → List ℕ → Option Options
+with_option given name value =
+    if bytes_eq name (codes "--budget") then with_budget given value else (
+    if bytes_eq name (codes "--events") then with_events given value else None)
+
+-- the options that words tell, each in two words, beside those that were given
+abbrev pub options_after : Options → List (List ℕ) → Option Options
+options_after given [] = Some given
+options_after given (name ∷ []) = None
+options_after given (name ∷ value ∷ words) = option_and_then (λ more. options_after more words) (with_option given name value)
+
+-- none was given
+abbrev pub no_options : Options
+no_options = record { budget = None; events = None }
+
+-- ---- commands
+
+-- `replay [--budget N]`
+abbrev pub replay_with : Options → Option Asked
+replay_with options = if is_some options.events then None else Some (replay (unwrap_or options.budget DEFAULT_BUDGET))
+
+-- a word that is a text and begins with no hyphen
+abbrev pub begins_with_hyphen : List ℕ → Bool
+begins_with_hyphen [] = false
+begins_with_hyphen (b ∷ word) = b == 45
+
+abbrev pub is_address : List ℕ → Bool
+is_address word = not (begins_with_hyphen word) && is_utf8 word
+
+-- `serve ADDRESS [--budget N] [--events N]`
+abbrev pub serve_with : List ℕ → Options → Asked
+serve_with address options = serve address (unwrap_or options.budget DEFAULT_BUDGET) (unwrap_or options.events MOST_EVENTS)
+
+abbrev pub serve_of : List (List ℕ) → Option Asked
+serve_of [] = None
+serve_of (address ∷ words) = if is_address address then option_map (serve_with address) (options_after no_options words) else None
+
+-- the command that the words are
+abbrev pub command_of : List (List ℕ) → Option Asked
 command_of [] = None
-command_of (word ∷ []) = if bytes_eq word (codes "replay") then Some Replay else None
-command_of (word ∷ other ∷ words) = None
+command_of (name ∷ words) =
+    if bytes_eq name (codes "replay") then option_and_then replay_with (options_after no_options words) else (
+    if bytes_eq name (codes "serve") then serve_of words else None)
+
+-- ---- the end
 
 -- the status of the process
 abbrev pub status_of : Outcome → ℕ
@@ -18,6 +84,7 @@ status_of Done = 0
 status_of Usage = 2
 status_of ReadFault = 3
 status_of WriteFault = 4
+status_of LinkFault = 5
 status_of TooMuch = 6
 status_of Memory = 9
 
@@ -27,5 +94,6 @@ words_of Done = []
 words_of Usage = codes "usage: acewiki replay|serve|make|help" ++ 10 ∷ []
 words_of ReadFault = codes "read fault" ++ 10 ∷ []
 words_of WriteFault = codes "write fault" ++ 10 ∷ []
+words_of LinkFault = codes "link fault" ++ 10 ∷ []
 words_of TooMuch = codes "input too large" ++ 10 ∷ []
 words_of Memory = codes "out of memory" ++ 10 ∷ []

@@ -1,3 +1,5 @@
+pub mod Wiki
 pub mod Command
 pub mod Lines
 pub mod Replay
+pub mod Serve

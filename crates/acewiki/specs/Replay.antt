@@ -7,27 +7,21 @@ use Rattle.wiki_io.specs.Faults.{Rose}
 use Rattle.wiki_talk.specs.declared.requests.Request.{Request}
 use Rattle.wiki_talk.specs.declared.replies.Reply.{Reply}
 use Rattle.wiki_talk.specs.Turns.{Exchange}
-use Rattle.wiki_core.specs.State.{State, first_state}
-use Rattle.ace_grammar.specs.Grammar.{ace_grammar}
+use Rattle.acewiki.specs.Wiki.{Holding}
 use Rattle.acewiki.specs.declared.command.Outcome.{Outcome}
 use Rattle.acewiki.specs.declared.command.Outcome.TheVariants.{Done, ReadFault, WriteFault, TooMuch, Memory}
-use Rattle.acewiki.specs.declared.command.TheConstants.{DEFAULT_BUDGET}
 use Rattle.acewiki.specs.Command.{status_of, words_of}
 use Rattle.acewiki.specs.Lines.{StepsLines, reply_lines}
 
--- the wiki that the program begins with
-abbrev pub ace_wiki : State
-ace_wiki = first_state ace_grammar DEFAULT_BUDGET
-
 -- What a command has done with the lines of its input when it ends with this outcome: of what the input had left it read
 -- some bytes, and from the wiki `first` on it stepped lines that are known from those.
-pub record StepsInput (first : State) (left : Option (List ℕ)) (outcome : Outcome) (left_after : Option (List ℕ)) : Type 0 where
+pub record StepsInput (first : Holding) (left : Option (List ℕ)) (outcome : Outcome) (left_after : Option (List ℕ)) : Type 0 where
   pub read : List ℕ
   pub source : Consumes left left_after read
   pub lines : List InputLine
   pub known : AreKnown read left_after lines
   pub exchanges : List (Exchange Request Reply)
-  pub last : State
+  pub last : Holding
   pub steps : StepsLines first lines exchanges last
   -- Where it is done, the input is at its end and in size, and all of its lines were stepped.
   pub done : outcome ≡ Done → IsAtEnd left_after × (length read ≤ MAX_INPUT) × (lines ≡ input_lines read)
@@ -36,13 +30,18 @@ pub record StepsInput (first : State) (left : Option (List ℕ)) (outcome : Outc
   -- The input was too large only where more than `MAX_INPUT` bytes of it were read.
   pub too_large : outcome ≡ TooMuch → MAX_INPUT < length read
 
+-- the same, with the state in which it leaves the wiki where it is done
+pub record StepsInputTo (first : Holding) (left : Option (List ℕ)) (outcome : Outcome) (left_after : Option (List ℕ)) (last : Holding) : Type 0 where
+  pub steps : StepsInput first left outcome left_after
+  pub last_is : outcome ≡ Done → steps.last ≡ last
+
 -- all turns but the last
 abbrev pub but_last : List (Exchange Request Reply) → List (Exchange Request Reply)
 but_last exchanges = take (length exchanges - 1) exchanges
 
 -- What `replay` has read and written when it ends with this outcome. `left` is what the input has left, and `taken` what
 -- the output has taken, where they tell it.
-pub record Replays (first : State) (left taken : Option (List ℕ)) (outcome : Outcome) (left_after taken_after : Option (List ℕ)) : Type 0 where
+pub record Replays (first : Holding) (left taken : Option (List ℕ)) (outcome : Outcome) (left_after taken_after : Option (List ℕ)) : Type 0 where
   pub input : StepsInput first left outcome left_after
   pub written : List ℕ
   pub sink : Appends taken taken_after written
@@ -53,9 +52,9 @@ pub record Replays (first : State) (left taken : Option (List ℕ)) (outcome : O
   pub all : outcome ≢ WriteFault → outcome ≢ Memory → written ≡ reply_lines input.exchanges
 
 -- lines were stepped in one run from the wiki `first` on, and their reply lines were written
-pub record AnswersLines (first : State) (lines : List InputLine) (taken taken_after : Option (List ℕ)) : Type 0 where
+pub record AnswersLines (first : Holding) (lines : List InputLine) (taken taken_after : Option (List ℕ)) : Type 0 where
   pub exchanges : List (Exchange Request Reply)
-  pub last : State
+  pub last : Holding
   pub steps : StepsLines first lines exchanges last
   pub sink : Appends taken taken_after (reply_lines exchanges)
 

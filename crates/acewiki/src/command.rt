@@ -1,31 +1,75 @@
 // The command line: which words are a command, and how the program ends.
-ghost use Rattle.std.specs.Prelude.{◌≡◌};
+ghost use Rattle.std.specs.Prelude.{◌≡◌, None, Some, option_map, if◌then◌else◌};
+ghost use Rattle.acewiki.specs.Command.{asked_by, command_of, replay_with, serve_of, is_address, status_of, words_of};
 ghost use Rattle.acewiki.specs.declared.command.Outcome.TheVariants.{Memory as out_of_memory};
 
+use crate::options::{DEFAULT_BUDGET, MOST_EVENTS, Options};
+use std::str::from_utf8;
 use wiki_base::{Arg, Memory};
 
-/// How many steps a search may take where the command says nothing else.
-pub const DEFAULT_BUDGET: u64 = 1_000_000;
-
 /// What the program is asked to do.
-#[derive(Clone, Copy, Debug, PartialEq, Eq)]
-pub enum Command {
-    /// Answers each line of the input.
-    Replay,
+#[derive(Clone, Copy, Debug)]
+pub enum Command<'a> {
+    /// Answers each line of the input. A search may take `budget` steps.
+    Replay {
+        budget: u64,
+    },
+    /// Steps through the lines of the input, and then serves connections to the address until so many events were handled.
+    Serve {
+        address: &'a str,
+        budget: u64,
+        events: u64,
+    },
 }
 
-impl Command {
-    ghost use Rattle.acewiki.specs.Command.{command_of};
-
+impl Command<'_> {
     /// The command that the words are, if they are one.
-    pub fn from_words(words: &[Arg]) -> Option<Command>
-        ensures { result ≡ command_of words.now }
+    pub fn from_words(words: &[Arg]) -> Option<Command<'_>>
+        ensures { option_map asked_by result ≡ command_of words.now }
     {
-        match words {
-            [word] if word.as_slice() == b"replay".as_slice() => Some(Command::Replay),
-            _ => None,
+        let (name, words) = words.split_first()?;
+        if name.as_slice() == b"replay".as_slice() {
+            return replay_with(Options::from_words(words)?);
         }
+        if name.as_slice() == b"serve".as_slice() {
+            return serve_of(words);
+        }
+        None
     }
+}
+
+fn replay_with<'a>(options: Options) -> Option<Command<'a>>
+    ensures { option_map asked_by result ≡ replay_with options }
+{
+    if options.events.is_some() {
+        return None;
+    }
+    Some(Command::Replay {
+        budget: options.budget.unwrap_or(DEFAULT_BUDGET),
+    })
+}
+
+fn serve_of(words: &[Arg]) -> Option<Command<'_>>
+    ensures { option_map asked_by result ≡ serve_of words.now }
+{
+    let (address, words) = words.split_first()?;
+    let address = address_of(address.as_slice())?;
+    let options = Options::from_words(words)?;
+    Some(Command::Serve {
+        address,
+        budget: options.budget.unwrap_or(DEFAULT_BUDGET),
+        events: options.events.unwrap_or(MOST_EVENTS),
+    })
+}
+
+// The address that a word is, if it is one.
+fn address_of(word: &[u8]) -> Option<&str>
+    ensures { option_map (λ address. address.now) result ≡ (if is_address word.now then Some word.now else None) }
+{
+    if word.first() == Some(&b'-') {
+        return None;
+    }
+    from_utf8(word).ok()
 }
 
 /// How the program ends.
@@ -39,6 +83,8 @@ pub enum Outcome {
     ReadFault,
     /// A write of the output failed.
     WriteFault,
+    /// The link failed.
+    LinkFault,
     /// The input is larger than 4,294,967,296 bytes.
     TooMuch,
     /// There was no memory.
@@ -54,8 +100,6 @@ impl From<Memory> for Outcome {
 }
 
 impl Outcome {
-    ghost use Rattle.acewiki.specs.Command.{status_of, words_of};
-
     /// The status of the process.
     pub fn status(self) -> u8
         ensures { result ≡ status_of self }
@@ -65,6 +109,7 @@ impl Outcome {
             Outcome::Usage => 2,
             Outcome::ReadFault => 3,
             Outcome::WriteFault => 4,
+            Outcome::LinkFault => 5,
             Outcome::TooMuch => 6,
             Outcome::Memory => 9,
         }
@@ -79,6 +124,7 @@ impl Outcome {
             Outcome::Usage => "usage: acewiki replay|serve|make|help\n",
             Outcome::ReadFault => "read fault\n",
             Outcome::WriteFault => "write fault\n",
+            Outcome::LinkFault => "link fault\n",
             Outcome::TooMuch => "input too large\n",
             Outcome::Memory => "out of memory\n",
         }

@@ -1,15 +1,18 @@
 // One line of the input.
 ghost use Rattle.std.specs.Prelude.{◌≡◌, ◌⊎◌, ◌≤◌, IfOk, IfErr, OnOk, OnErr, IsErrOf};
 ghost use Rattle.wiki_io.specs.Faults.{Rose};
-ghost use Rattle.acewiki.specs.Lines.{line_handed, RepliesTo, WasStepped, AnswersLine, CutsLine};
+ghost use Rattle.acewiki.specs.Lines.{line_handed, StepsLine, RepliesTo, WasStepped, AnswersLine, CutsLine};
+ghost use Rattle.wiki_talk.specs.declared.requests.Request.{Request};
+ghost use Rattle.wiki_talk.specs.Turns.{Exchange};
 ghost use Rattle.wiki_talk.specs.declared.replies.Reply.{Reply};
-ghost use Rattle.wiki_core.specs.Step.{Step};
+ghost use Rattle.acewiki.specs.Wiki.{KeptStep};
 ghost use Rattle.wire_json.specs.Replies.{reply_line};
 
 use crate::command::Outcome;
+use crate::wiki::AceWiki;
+use serving::Machine;
 use std::alloc::Global;
 use wiki_base::{Memory, Text8};
-use wiki_core::Wiki;
 use wiki_io::{Sink, put};
 use wiki_talk::Request;
 use wire_json::{bad_request_line, read_request, reply_line};
@@ -18,7 +21,7 @@ use wire_json::{bad_request_line, read_request, reply_line};
 /// whole reply line is written, so whoever reads the next line after that has answered this one.
 pub fn answer_line<K: Sink>(
     alloc: Global,
-    wiki: &mut Wiki,
+    wiki: &mut AceWiki,
     line: Option<&[u8]>,
     output: &mut K,
 ) -> Result<(), Outcome>
@@ -35,8 +38,30 @@ pub fn answer_line<K: Sink>(
     }
 }
 
+/// Steps through one line, where none is one that is too long, and writes nothing.
+pub fn step_line(alloc: Global, wiki: &mut AceWiki, line: Option<&[u8]>) -> Result<(), Memory>
+    ensures { OnOk result ((exchange : Exchange Request Reply) × StepsLine wiki.old (line_handed line.entry) exchange wiki.new) }
+{
+    let request = match line {
+        Some(line) => read_request(alloc, line)?,
+        None => None,
+    };
+    match request {
+        Some(request) => step_request(wiki, &request),
+        None => Ok(()),
+    }
+}
+
+// Steps through a request.
+fn step_request(wiki: &mut AceWiki, request: &Request) -> Result<(), Memory>
+    ensures { OnOk result ((reply : Reply) × KeptStep wiki.old request.now reply wiki.new) }
+{
+    let _reply = wiki.step(request)?;
+    Ok(())
+}
+
 // The reply line to a line.
-fn answer(alloc: Global, wiki: &mut Wiki, line: Option<&[u8]>) -> Result<Text8, Memory>
+fn answer(alloc: Global, wiki: &mut AceWiki, line: Option<&[u8]>) -> Result<Text8, Memory>
     ensures reply { IfOk result (RepliesTo wiki.old (line_handed line.entry) wiki.new) }
     ensures memory { OnErr result (WasStepped wiki.old (line_handed line.entry) wiki.new) }
 {
@@ -51,9 +76,9 @@ fn answer(alloc: Global, wiki: &mut Wiki, line: Option<&[u8]>) -> Result<Text8, 
 }
 
 // The reply line to a request.
-fn reply_to(alloc: Global, wiki: &mut Wiki, request: &Request) -> Result<Text8, Memory>
-    ensures reply { IfOk result (λ line. (reply : Reply) × Step wiki.old request.now reply wiki.new × (line ≡ reply_line reply)) }
-    ensures memory { OnErr result ((wiki.new ≡ wiki.old) ⊎ ((reply : Reply) × Step wiki.old request.now reply wiki.new)) }
+fn reply_to(alloc: Global, wiki: &mut AceWiki, request: &Request) -> Result<Text8, Memory>
+    ensures reply { IfOk result (λ line. (reply : Reply) × KeptStep wiki.old request.now reply wiki.new × (line ≡ reply_line reply)) }
+    ensures memory { OnErr result ((wiki.new ≡ wiki.old) ⊎ ((reply : Reply) × KeptStep wiki.old request.now reply wiki.new)) }
 {
     let reply = wiki.step(request)?;
     reply_line(alloc, &reply)

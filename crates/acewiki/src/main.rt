@@ -1,24 +1,50 @@
-//! AceWiki: a controlled-English wiki. `acewiki replay` answers one reply line to each request line of its input.
+//! AceWiki: a controlled-English wiki. `acewiki replay` answers one reply line to each request line of its input, and
+//! `acewiki serve ADDRESS` serves it to browsers.
 #![tactic(auto)]
 
 mod command;
 mod lines;
+mod options;
 mod replay;
 mod run;
+mod serve;
 #[cfg(test)]
 mod tests;
+mod wiki;
 mod words;
 
+use command::Outcome;
 pub use lines::answer_line;
+use run::end;
 pub use run::{program, run};
+use socket_link::SocketLink;
 use std::process::ExitCode;
+use std::time::Duration;
 use wiki_io::{ReadSource, WriteSink};
 use words::ProcessLine;
+
+// How long a connection may send nothing.
+const IDLE_SECONDS: u64 = 60;
+
+// How long the link may take to write what was sent, when all else is done.
+const FINISH_SECONDS: u64 = 2;
 
 fn main(rt: HostRuntime) -> ExitCode {
     let mut input = ReadSource::new(rt.stdin());
     let mut output = WriteSink::new(rt.stdout());
     let mut errors = WriteSink::new(rt.stderr());
     let line = ProcessLine::new(&rt);
-    ExitCode::from(program(rt.alloc(), &line, &mut input, &mut output, &mut errors))
+    let Ok(mut link) = SocketLink::new(rt.alloc(), &rt, Duration::from_secs(IDLE_SECONDS)) else {
+        return ExitCode::from(end(Outcome::Memory, &mut errors));
+    };
+    let status = program(
+        rt.alloc(),
+        &line,
+        &mut input,
+        &mut output,
+        &mut errors,
+        &mut link,
+    );
+    link.finish(Duration::from_secs(FINISH_SECONDS));
+    ExitCode::from(status)
 }

@@ -1,38 +1,58 @@
 // The command `replay`: one reply line for each line of the input.
-ghost use Rattle.std.specs.Prelude.{◌≡◌, IfOk};
+ghost use Rattle.std.specs.Prelude.{◌≡◌};
 ghost use Rattle.wiki_io.specs.Faults.{Rose};
 ghost use Rattle.wiki_io.specs.Reading.{unread};
-ghost use Rattle.acewiki.specs.Replay.{ace_wiki, Replays};
+ghost use Rattle.acewiki.specs.Replay.{Replays};
+ghost use Rattle.acewiki.specs.Wiki.{ace_wiki};
 
-use crate::command::{DEFAULT_BUDGET, Outcome};
+use crate::command::Outcome;
 use crate::lines::answer_line;
-use ace_grammar::built_in;
+use crate::wiki::AceWiki;
 use std::alloc::Global;
 use wiki_base::Memory;
-use wiki_core::Wiki;
 use wiki_io::{Line, LineReader, Sink, Source};
 
 /// Answers each line of the input by one line on the output, before it reads the next.
-pub fn replay<S: Source, K: Sink>(alloc: Global, input: &mut S, output: &mut K) -> Outcome
-    ensures replays { Replays ace_wiki (S.left input.old) (K.taken output.old) result (S.left input.new) (K.taken output.new) }
+pub fn replay<S: Source, K: Sink>(
+    alloc: Global,
+    budget: u64,
+    input: &mut S,
+    output: &mut K,
+) -> Outcome
+    ensures replays { Replays (ace_wiki budget) (S.left input.old) (K.taken output.old) result (S.left input.new) (K.taken output.new) }
     ensures read_fault { result ≡ Outcome.ReadFault → Rose (S.faults input.old) (S.faults input.new) }
     ensures write_fault { result ≡ Outcome.WriteFault → Rose (K.faults output.old) (K.faults output.new) }
-    ensures usage { result ≡ Outcome.Usage → ⊥ }
+    ensures usage { (result ≡ Outcome.Usage → ⊥) × (result ≡ Outcome.LinkFault → ⊥) }
 {
-    let Ok(mut reader) = LineReader::new(alloc) else {
-        return Outcome::Memory;
-    };
-    let Ok(mut wiki) = ace_wiki(alloc) else {
-        return Outcome::Memory;
-    };
-    answer_lines(alloc, &mut reader, &mut wiki, input, output)
+    match AceWiki::new(alloc, budget) {
+        Ok(mut wiki) => answer_input(alloc, &mut wiki, input, output),
+        Err(Memory) => Outcome::Memory,
+    }
+}
+
+// Answers each line of the input.
+fn answer_input<S: Source, K: Sink>(
+    alloc: Global,
+    wiki: &mut AceWiki,
+    input: &mut S,
+    output: &mut K,
+) -> Outcome
+    ensures replays { Replays wiki.old (S.left input.old) (K.taken output.old) result (S.left input.new) (K.taken output.new) }
+    ensures read_fault { result ≡ Outcome.ReadFault → Rose (S.faults input.old) (S.faults input.new) }
+    ensures write_fault { result ≡ Outcome.WriteFault → Rose (K.faults output.old) (K.faults output.new) }
+    ensures usage { (result ≡ Outcome.Usage → ⊥) × (result ≡ Outcome.LinkFault → ⊥) }
+{
+    match LineReader::new(alloc) {
+        Ok(mut reader) => answer_lines(alloc, &mut reader, wiki, input, output),
+        Err(Memory) => Outcome::Memory,
+    }
 }
 
 // Answers each line that a fresh reader gives.
 fn answer_lines<S: Source, K: Sink>(
     alloc: Global,
     reader: &mut LineReader,
-    wiki: &mut Wiki,
+    wiki: &mut AceWiki,
     input: &mut S,
     output: &mut K,
 ) -> Outcome
@@ -40,7 +60,7 @@ fn answer_lines<S: Source, K: Sink>(
     ensures replays { Replays wiki.old (S.left input.old) (K.taken output.old) result (S.left input.new) (K.taken output.new) }
     ensures read_fault { result ≡ Outcome.ReadFault → Rose (S.faults input.old) (S.faults input.new) }
     ensures write_fault { result ≡ Outcome.WriteFault → Rose (K.faults output.old) (K.faults output.new) }
-    ensures usage { result ≡ Outcome.Usage → ⊥ }
+    ensures usage { (result ≡ Outcome.Usage → ⊥) × (result ≡ Outcome.LinkFault → ⊥) }
 {
     'lines: loop {
         let line = match reader.next_line(input) {
@@ -54,11 +74,4 @@ fn answer_lines<S: Source, K: Sink>(
             return outcome;
         }
     }
-}
-
-// The wiki that the program begins with.
-fn ace_wiki(alloc: Global) -> Result<Wiki, Memory>
-    ensures { IfOk result (λ wiki. wiki ≡ ace_wiki) }
-{
-    Wiki::new(alloc, built_in(alloc)?, DEFAULT_BUDGET)
 }

@@ -5,10 +5,11 @@ use crate::words::CommandLine;
 use crate::{program, run};
 use lists::Copied;
 use std::alloc::Global;
+use std::collections::VecDeque;
 use std::process::Abort;
 use std::test::Fail;
-use wiki_base::{Arg, Memory};
-use wiki_io::{MemorySink, MemorySource};
+use wiki_base::{Arg, Bytes, Memory};
+use wiki_io::{Event, Fails, MemoryLink, MemorySink, MemorySource};
 
 const BAD_REQUEST: &str = "{\"name\":\"BadRequest\",\"refused\":0}\n";
 
@@ -22,6 +23,11 @@ struct Ran {
 
 fn arg(alloc: Global, word: &str) -> Result<Arg, Fail> {
     Ok(Arg::from_vec(word.as_bytes().to_vec(alloc)?))
+}
+
+// A link on which nothing happens.
+fn no_events(alloc: Global) -> MemoryLink {
+    MemoryLink::new(alloc, VecDeque::new(alloc), Fails::none(alloc))
 }
 
 fn replayed(alloc: Global, input: &[u8]) -> Result<Ran, Fail> {
@@ -41,7 +47,15 @@ fn replayed_with(
     let mut input = MemorySource::in_pieces(input.to_vec(alloc)?, fails, largest.max(1));
     let mut output = MemorySink::new(alloc, vec![in alloc; write]?);
     let mut errors = MemorySink::new(alloc, Vec::new(alloc));
-    let status = run(alloc, &words, &mut input, &mut output, &mut errors);
+    let mut link = no_events(alloc);
+    let status = run(
+        alloc,
+        &words,
+        &mut input,
+        &mut output,
+        &mut errors,
+        &mut link,
+    );
     Ok(Ran {
         status,
         output,
@@ -349,11 +363,33 @@ fn other_words_are_refused(rt: HostRuntime) -> Result<(), Fail> {
         let mut output = MemorySink::new(alloc, Vec::new(alloc));
         // The words on errors can't be written, which changes nothing.
         let mut errors = MemorySink::new(alloc, vec![in alloc; 1]?);
-        assert_eq!(rt; run(alloc, &args, &mut input, &mut output, &mut errors), 2);
+        let mut link = no_events(alloc);
+        assert_eq!(rt;
+            run(
+                alloc,
+                &args,
+                &mut input,
+                &mut output,
+                &mut errors,
+                &mut link
+            ),
+            2
+        );
         assert_eq!(rt; input.unread(), FLIES);
         assert!(rt; output.bytes().is_empty());
         let mut errors = MemorySink::new(alloc, Vec::new(alloc));
-        assert_eq!(rt; run(alloc, &args, &mut input, &mut output, &mut errors), 2);
+        let mut link = no_events(alloc);
+        assert_eq!(rt;
+            run(
+                alloc,
+                &args,
+                &mut input,
+                &mut output,
+                &mut errors,
+                &mut link
+            ),
+            2
+        );
         assert_eq!(rt;
             errors.bytes(),
             b"usage: acewiki replay|serve|make|help\n".as_slice()
@@ -401,20 +437,117 @@ impl CommandLine for ToldLine {
 #[test]
 fn the_words_of_the_command_line_are_run(rt: HostRuntime) -> Result<(), Fail> {
     let alloc = rt.alloc();
-    for (words, status) in [("replay", 0), ("replay now", 2), ("replayed", 2), ("", 2)] {
+    for (words, status) in [
+        ("replay", 0),
+        ("replay --budget 0", 0),
+        ("replay --budget 1000000001", 2),
+        ("replay --budget 1 --budget 1", 2),
+        ("replay --events 1", 2),
+        ("replay --budget", 2),
+        ("replay now", 2),
+        ("replayed", 2),
+        ("serve", 2),
+        ("serve -x", 2),
+        ("serve x", 0),
+        ("serve x --events 1 --budget 2", 0),
+        ("serve x --events 0", 2),
+        ("serve x --events 00000000000000000001", 2),
+        ("", 2),
+    ] {
         let mut line = ToldLine {
             words: Vec::new(alloc),
         };
         for word in words.split(' ') {
             line.words.push(arg(alloc, word)?)?;
         }
+        let mut link = no_events(alloc);
         let mut input = MemorySource::new(Vec::new(alloc), Vec::new(alloc));
         let mut output = MemorySink::new(alloc, Vec::new(alloc));
         let mut errors = MemorySink::new(alloc, Vec::new(alloc));
         assert_eq!(rt;
-            program(alloc, &line, &mut input, &mut output, &mut errors),
+            program(
+                alloc,
+                &line,
+                &mut input,
+                &mut output,
+                &mut errors,
+                &mut link
+            ),
             status
         );
     }
+    Ok(())
+}
+
+// A run of `serve` with these options, over these events and the input.
+fn served(
+    alloc: Global,
+    options: &[&str],
+    input: &[u8],
+    script: VecDeque<Event>,
+) -> Result<(Ran, MemoryLink), Fail> {
+    let mut words = Vec::new(alloc);
+    for word in ["serve", "x"] {
+        words.push(arg(alloc, word)?)?;
+    }
+    for word in options {
+        words.push(arg(alloc, word)?)?;
+    }
+    let mut input = MemorySource::new(input.to_vec(alloc)?, Vec::new(alloc));
+    let mut output = MemorySink::new(alloc, Vec::new(alloc));
+    let mut errors = MemorySink::new(alloc, Vec::new(alloc));
+    let mut link = MemoryLink::new(alloc, script, Fails::none(alloc));
+    let status = run(
+        alloc,
+        &words,
+        &mut input,
+        &mut output,
+        &mut errors,
+        &mut link,
+    );
+    Ok((
+        Ran {
+            status,
+            output,
+            errors,
+        },
+        link,
+    ))
+}
+
+#[test]
+fn an_opening_alone_gets_nothing(rt: HostRuntime) -> Result<(), Fail> {
+    let alloc = rt.alloc();
+    for options in [["--events", "1"].as_slice(), [].as_slice()] {
+        let mut script = VecDeque::new(alloc);
+        script.push_back(Event::Opened(1))?;
+        let (ran, link) = served(alloc, options, b"", script)?;
+        assert_eq!(rt; ran.status, 0);
+        assert!(rt; link.sent().is_empty());
+        assert!(rt; ran.output.bytes().is_empty());
+    }
+    Ok(())
+}
+
+#[test]
+fn what_the_input_says_is_there_when_it_is_served(rt: HostRuntime) -> Result<(), Fail> {
+    let alloc = rt.alloc();
+    let mut script = VecDeque::new(alloc);
+    script.push_back(Event::Opened(1))?;
+    let request =
+        "POST /api HTTP/1.0\r\nContent-Length: 28\r\n\r\n{\"do\":\"find\",\"word\":\"Bern\"}";
+    script.push_back(Event::Piece(1, Bytes::from_slice(alloc, request.as_bytes())?))?;
+    let input = "{\"do\":\"word\",\"kind\":\"name\",\"forms\":[\"Bern\"]}\n";
+    let (ran, link) = served(
+        alloc,
+        ["--budget", "007"].as_slice(),
+        input.as_bytes(),
+        script,
+    )?;
+    assert_eq!(rt; ran.status, 0);
+    assert!(rt; ran.output.bytes().is_empty());
+    assert_eq!(rt; link.sent().len(), 1);
+    let line = "{\"done\":\"find\",\"word\":{\"forms\":[\"Bern\"],\"kind\":\"name\"}}\n";
+    assert!(rt; link.sent()[0].1.as_slice().ends_with(line.as_bytes()));
     Ok(())
 }

@@ -1,4 +1,4 @@
--- Where an article stands. Only private calls speak of it.
+-- Where an article stands in the list.
 use Rattle.std.specs.Prelude.{◌≡◌, ◌<◌, ℕ, List, length}
 use Rattle.std.specs.List.{HoldsAt}
 use Rattle.wiki_base.specs.declared.numbers.WordId.{WordId}

@@ -163,8 +163,8 @@ impl Articles {
         self.articles[place].mark(at as usize, status);
     }
 
-    // Where the word's article stands.
-    fn place_of(&self, word: WordId) -> Option<usize>
+    /// Where the article of a word stands in the list, if it has one.
+    pub fn place_of(&self, word: WordId) -> Option<usize>
         ensures { MatchOption result (article_of self.now word ≡ None) (IsPlaceOf self.now word) }
     {
         self.articles

@@ -1,2 +1,11 @@
-pub mod CauseLemmas
+pub mod ApartLemmas
+pub mod CommitLemmas
+pub mod HearLemmas
+pub mod HeldLemmas
+pub mod KeyLaws
 pub mod MenuLemmas
+pub mod PagesLemmas
+pub mod RunLemmas
+pub mod SeenLemmas
+pub mod ToldLemmas
+pub mod WordLemmas

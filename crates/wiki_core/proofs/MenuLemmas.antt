@@ -1,35 +1,113 @@
--- The tokens of a group, one more entry at a time.
-use Rattle.std.proofs.Common.{◌≡◌, ℕ, ◌+◌, List, [], ◌∷◌, ◌++◌, map, filter, take, Option, Some, Bool, true, false, ◌==◌, if◌then◌else◌, refl, sym, ap, ◌∙◌, append-nil, arith}
-use Rattle.std.specs.List.{slice_get}
-use Rattle.std.proofs.lemmas.Bool.{ne_eqb}
-use Rattle.std.proofs.lemmas.Bool.Decides.{nat_tests}
-use Rattle.std.proofs.lemmas.List.{map-append}
-use Rattle.std.proofs.lemmas.List.Elements.{filter-append}
+-- What is told of tokens is one thing.
+use Rattle.std.proofs.Common.{◌≡◌, ℕ, zero, suc, ◌<◌, ◌⊎◌, Bool, true, false, List, [], ◌∷◌, ◌++◌, length, All, AllPairs, Option, Some, None, option_map, IsTrue, refl, sym, ap, subst, ◌∙◌, arith, inl, inr}
+use Rattle.std.specs.List.{Contains}
+use Rattle.std.specs.Str.{IsUtf8}
+use Rattle.std.specs.Ordering.{ordering_reverse}
+use Rattle.std.specs.declared.cmp.Ordering.TheVariants.{Less, Greater}
+use Rattle.std.proofs.lemmas.Bool.{false≢true}
+use Rattle.std.proofs.lemmas.Option.{none-some}
+use Rattle.std.proofs.lemmas.List.Elements.{All-head, All-tail, All-contains, All-contains_itself}
+use Rattle.codeco_terms.specs.GrammarParts.{GrammarParts}
+use Rattle.lexicon.specs.Words.{Listed}
 use Rattle.derivation_trees.specs.declared.menus.Group.{Group}
-use Rattle.derivation_trees.specs.Menus.{group_number}
-use Rattle.derivation_trees.proofs.CodeLemmas.{take_next}
-use Rattle.wiki_core.specs.Parsing.{of_group}
+use Rattle.derivation_trees.specs.Cutting.{shown}
+use Rattle.derivation_trees.specs.Menus.{entry_cmp}
+use Rattle.derivation_trees.specs.Sentences.{IsSentence}
+use Rattle.derivations.proofs.EntryLemmas.{entry_total, entry_trans}
+use Rattle.sessions.specs.Sessions.{PlainSession}
+use Rattle.wiki_talk.specs.declared.replies.MenuView.{MenuView}
+use Rattle.wiki_talk.specs.declared.replies.Reply.{Reply}
+use Rattle.wiki_talk.specs.declared.replies.Reply.TheVariants as replies
+use Rattle.wiki_talk.specs.declared.requests.Request.{Request}
+use Rattle.wiki_talk.specs.declared.requests.Request.TheVariants as requests
+use Rattle.wiki_parts.specs.Parsing.{told_menu}
+use Rattle.wiki_core.specs.State.{State}
+use Rattle.wiki_core.specs.Causes.{session_numbered}
+use Rattle.wiki_core.specs.Step.{Step, StepsSession, TellsMenu}
+use Rattle.wiki_core.specs.Apart.{tokens_in, AreAlike, MenuIsOwn}
+use Rattle.wiki_core.proofs.KeyLaws.{some_is, pairs_head, pairs_tail}
 
--- numbers that are equal pass the test
-eqb_from : {a b : ℕ} → a ≡ b → (a == b) ≡ true
-eqb_from {a} {b} same = grind (arith, nat_tests)
+-- what is in a list is its head, or in its tail
+head_or_later : {X : Type 0} (y : X) (ys : List X) (x : X) → Contains (y ∷ ys) x → (y ≡ x) ⊎ Contains ys x
+head_or_later y ys x (zero, within, is) = inl is
+head_or_later y ys x (suc k, within, is) = inr (k, omega (arith, within), is)
 
-of_group-append : (group : Group) (xs ys : List (Group × List ℕ)) → of_group group (xs ++ ys) ≡ of_group group xs ++ of_group group ys
-of_group-append group xs ys =
-    ap (map (λ (entry : Group × List ℕ). entry.1)) (filter-append (λ (entry : Group × List ℕ). group_number entry.0 == group_number group) xs ys)
-    ∙ map-append (λ (entry : Group × List ℕ). entry.1) _ _
+head_there : {X : Type 0} (x : X) (xs : List X) → Contains (x ∷ xs) x
+head_there x xs = (zero, omega arith, refl)
 
--- an entry of the group is told after those before it
-pub of_group-kept : (group : Group) (menu : List (Group × List ℕ)) (i : ℕ) (other : Group) (text : List ℕ) → slice_get menu i ≡ Some (other, text)
-    → group_number other ≡ group_number group → of_group group (take (i + 1) menu) ≡ of_group group (take i menu) ++ text ∷ []
-of_group-kept group menu i other text at same =
-    ap (of_group group) (take_next menu i (other, text) at) ∙ of_group-append group (take i menu) ((other, text) ∷ [])
-    ∙ ap (λ (b : Bool). of_group group (take i menu) ++ map (λ (e : Group × List ℕ). e.1) (if b then (other, text) ∷ [] else [])) (eqb_from same)
+later_there : {X : Type 0} (y : X) (ys : List X) (x : X) → Contains ys x → Contains (y ∷ ys) x
+later_there y ys x (k, within, is) = (suc k, omega (arith, within), is)
 
--- an entry of another group adds nothing
-pub of_group-left : (group : Group) (menu : List (Group × List ℕ)) (i : ℕ) (other : Group) (text : List ℕ) → slice_get menu i ≡ Some (other, text)
-    → (group_number other ≡ group_number group → ⊥) → of_group group (take (i + 1) menu) ≡ of_group group (take i menu)
-of_group-left group menu i other text at differs =
-    ap (of_group group) (take_next menu i (other, text) at) ∙ of_group-append group (take i menu) ((other, text) ∷ [])
-    ∙ ap (λ (b : Bool). of_group group (take i menu) ++ map (λ (e : Group × List ℕ). e.1) (if b then (other, text) ∷ [] else [])) (ne_eqb _ _ differs)
-    ∙ append-nil _
+-- two lists in a strict order with the same elements are one
+module _ {X : Type 0} (R : X → X → Type 0) (never : (x : X) → R x x → ⊥) (trans : (x y z : X) → R x y → R y z → R x z) where
+  same_head : (x y : X) (xs ys : List X) → AllPairs R (x ∷ xs) → AllPairs R (y ∷ ys) → Contains (y ∷ ys) x → Contains (x ∷ xs) y → y ≡ x
+  same_head x y xs ys rise its_rise there its_there = by_cases (head_or_later y ys x there) (head_or_later x xs y its_there)
+    where
+      by_cases : (y ≡ x) ⊎ Contains ys x → (x ≡ y) ⊎ Contains xs y → y ≡ x
+      by_cases (inl same) other = same
+      by_cases (inr later) (inl same) = sym same
+      by_cases (inr later) (inr its_later) =
+          absurd (never x (trans x y x (All-contains (R x) xs y (pairs_head R x xs rise) its_later) (All-contains (R y) ys x (pairs_head R y ys its_rise) later)))
+
+  rest_there : (x : X) (xs ys : List X) → AllPairs R (x ∷ xs) → ((e : X) → Contains (x ∷ xs) e → Contains (x ∷ ys) e) → (e : X) → Contains xs e → Contains ys e
+  rest_there x xs ys rise there e within = by_case (head_or_later x ys e (there e (later_there x xs e within)))
+    where
+      by_case : (x ≡ e) ⊎ Contains ys e → Contains ys e
+      by_case (inl same) = absurd (never x (subst (R x) (sym same) (All-contains (R x) xs e (pairs_head R x xs rise) within)))
+      by_case (inr later) = later
+
+  pub ordered_one : (xs ys : List X) → AllPairs R xs → AllPairs R ys → ((e : X) → Contains xs e → Contains ys e) → ((e : X) → Contains ys e → Contains xs e) → ys ≡ xs
+  ordered_one [] [] rise its_rise there its_there = refl
+  ordered_one [] (y ∷ ys) rise its_rise there its_there = let none = its_there y (head_there y ys) in absurd (omega (arith, none.1))
+  ordered_one (x ∷ xs) [] rise its_rise there its_there = let none = there x (head_there x xs) in absurd (omega (arith, none.1))
+  ordered_one (x ∷ xs) (y ∷ ys) rise its_rise there its_there =
+      let same = same_head x y xs ys rise its_rise (there x (head_there x xs)) (its_there y (head_there y ys)) in
+      let its_rise_x = subst (λ (h : X). AllPairs R (h ∷ ys)) same its_rise in
+      let there_x = subst (λ (h : X). (e : X) → Contains (x ∷ xs) e → Contains (h ∷ ys) e) same there in
+      let its_there_x = subst (λ (h : X). (e : X) → Contains (h ∷ ys) e → Contains (x ∷ xs) e) same its_there in
+      let rest = ordered_one xs ys (pairs_tail R x xs rise) (pairs_tail R x ys its_rise_x) (rest_there x xs ys rise there_x) (rest_there x ys xs its_rise_x its_there_x) in
+      ap (λ (h : X). h ∷ ys) same ∙ ap (λ (t : List X). x ∷ t) rest
+
+less_greater : Less ≡ Greater → ⊥
+less_greater same = cc
+
+-- no entry stands before itself
+not_before_itself : (entry : Group × List ℕ) → entry_cmp entry entry ≡ Less → ⊥
+not_before_itself entry before = less_greater (sym before ∙ entry_total.antisymm entry entry ∙ ap ordering_reverse before)
+
+-- the truth of a test is one
+same_test : (a b : Bool) → (IsTrue a → IsTrue b) → (IsTrue b → IsTrue a) → b ≡ a
+same_test true true there back = refl
+same_test true false there back = there refl
+same_test false true there back = sym (back refl)
+same_test false false there back = refl
+
+-- what is told of tokens is one reply
+tells_one : (g : GrammarParts) (words : Listed) (tokens : List (List ℕ)) (one other : Reply) → TellsMenu g words tokens one → TellsMenu g words tokens other → other ≡ one
+tells_one g words tokens one other tells its =
+    let same = ordered_one (λ entry later. entry_cmp entry later ≡ Less) not_before_itself entry_trans tells.menu its.menu tells.follows.in_order its.follows.in_order
+    (λ e there. its.follows.whole e (All-contains (λ entry. IsUtf8 entry.1) tells.menu e tells.texts there) (tells.follows.offered e there))
+    (λ e there. tells.follows.whole e (All-contains (λ entry. IsUtf8 entry.1) its.menu e its.texts there) (its.follows.offered e there)) in
+    let same_whole = same_test tells.whole its.whole (λ is. its.is_whole.1 (tells.is_whole.0 is)) (λ is. tells.is_whole.1 (its.is_whole.0 is)) in
+    its.answer
+    ∙ ap (λ (menu : List (Group × List ℕ)). replies.Menu (told_menu menu) its.whole (shown g.terminals tokens)) same
+    ∙ ap (λ (whole : Bool). replies.Menu (told_menu tells.menu) whole (shown g.terminals tokens)) same_whole
+    ∙ sym tells.answer
+
+-- the reply to `menu` of a session that is there tells of its tokens
+told_of : (state new : State) (number : ℕ) (tokens : List (List ℕ)) (reply : Reply) → tokens_in state number ≡ Some tokens → StepsSession state (requests.Menu number) reply new
+    → TellsMenu state.pages.grammar state.pages.words tokens reply
+told_of state new number tokens (replies.Refused refusal) there step =
+    absurd (none-some tokens (ap (option_map (λ (s : PlainSession). s.tokens)) (sym step.0.none) ∙ there))
+told_of state new number tokens reply there step =
+    let same : step.1.session.tokens ≡ tokens = some_is step.1.session.tokens tokens (ap (option_map (λ (s : PlainSession). s.tokens)) (sym step.1.named) ∙ there) in
+    subst (λ (ts : List (List ℕ)). TellsMenu state.pages.grammar state.pages.words ts reply) same step.1.tells
+
+-- so it is a function of the grammar, the words and the tokens
+pub menu_own : (state new : State) (request : Request) (reply : Reply) → Step state request reply new → MenuIsOwn state request reply
+menu_own state new (requests.Menu number) reply step = λ other its_number said after alike its_step.
+    let its = told_of other after its_number alike.tokens said alike.its its_step in
+    let by_grammar = subst (λ (g : GrammarParts). TellsMenu g other.pages.words alike.tokens said) alike.grammar its in
+    let by_words = subst (λ (words : Listed). TellsMenu state.pages.grammar words alike.tokens said) alike.words by_grammar in
+    tells_one state.pages.grammar state.pages.words alike.tokens reply said (told_of state new number alike.tokens reply alike.own step) by_words
+menu_own state new request reply step = tt

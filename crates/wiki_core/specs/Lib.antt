@@ -1,5 +1,9 @@
-pub mod Faults
-pub mod Parsing
+pub mod Apart
+pub mod Causes
+pub mod Drafts
+pub mod Holding
+pub mod Keeping
+pub mod Spending
 pub mod State
 pub mod Step
-pub mod Words
+pub mod Stepping

@@ -1,21 +1,29 @@
--- The state of a wiki.
-use Rattle.std.specs.Prelude.{◌≡◌, ℕ, [], IsTrue}
+-- The state of a whole wiki: what is stored, and who edits.
+use Rattle.std.specs.Prelude.{◌≡◌, ◌<◌, ◌≤◌, ℕ, List, [], AllPairs, Some}
 use Rattle.codeco_terms.specs.GrammarParts.{GrammarParts}
-use Rattle.codeco_checked.specs.Sound.{is_labelled}
-use Rattle.lexicon.specs.Words.{Listed}
+use Rattle.articles.specs.declared.article.Article.{Article}
+use Rattle.articles.specs.Articles.{article_of}
+use Rattle.sessions.specs.Sessions.{PlainSession}
+use Rattle.wiki_parts.specs.State as parts
 
 pub record State : Type 0 where
-  pub grammar : GrammarParts
-  -- how many steps a search may take
-  pub budget : ℕ
-  -- the live words, beside the terminals of the grammar, and the last number that was given to a word
-  pub words : Listed
+  -- the grammar, the budget, the words and the articles
+  pub pages : parts.State
+  -- the sessions, in order of their numbers
+  pub sessions : List PlainSession
+  -- the last number that was given to a session
+  pub last : ℕ
 
--- the wiki without words
+-- the wiki without words and sessions
 abbrev pub first_state : GrammarParts → ℕ → State
-first_state grammar budget = record { grammar = grammar; budget = budget; words = record { live = []; terminals = grammar.terminals; last = 0 } }
+first_state grammar budget = record { pages = parts.first_state grammar budget; sessions = []; last = 0 }
 
--- each rule has a label, and the words stand beside the grammar's own terminals
-pub record IsSound (state : State) : Type 0 where
-  pub labelled : IsTrue (is_labelled state.grammar)
-  pub terminals : state.words.terminals ≡ state.grammar.terminals
+-- the session is on an article that is there, at a revision that the article has had
+pub record IsOnArticle (articles : List Article) (session : PlainSession) : Type 0 where
+  pub article : Article
+  pub there : article_of articles session.article ≡ Some article
+  pub seen : session.revision.0 ≤ article.revision.0
+
+-- the sessions stand in order of their numbers, one for each number
+abbrev pub AreInOrder : List PlainSession → Type 0
+AreInOrder sessions = AllPairs (λ session later. session.number.0 < later.number.0) sessions

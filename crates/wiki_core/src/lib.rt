@@ -1,13 +1,13 @@
 //! The wiki: its state, and one step of it for each request.
 #![tactic(auto)]
 
-mod faults;
-mod parsing;
+mod causes;
+mod committing;
+mod opening;
+mod rewording;
 #[cfg(test)]
 mod tests;
-mod told;
 mod typing;
 mod wiki;
-mod words;
 
 pub use wiki::Wiki;

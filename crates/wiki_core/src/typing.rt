@@ -1,70 +1,95 @@
-// What tokens are to the grammar, by the table of the chart: how many of them can be typed, what may follow them, and the
-// least skeleton.
-ghost use Rattle.std.specs.Prelude.{◌≡◌, ◌≤◌, ◌↔◌, ℕ, length, IfOk, IfSome, IfNone};
+// Tokens that are typed and dropped, and what may follow them.
+ghost use Rattle.std.specs.Prelude.{◌≡◌, ◌<◌, length, true, All, IsUtf8, IsSomeAnd, IfOk, IfErr, OnOk, OnErr};
 ghost use Rattle.wiki_base.specs.declared.tokens.TheConstants.{MOST_TOKENS};
-ghost use Rattle.derivation_trees.specs.Sentences.{IsSentence};
-ghost use Rattle.derivation_trees.specs.Skeletons.{IsLeastSkeleton};
-ghost use Rattle.derivations.specs.Typing.{IsTextMenu, IsTypeableCount};
 
-use chart::Chart;
-use chart_table::begins;
-use chart_trees::least_of;
-use codeco_checked::CheckedGrammar;
-use derivations::{Menu, Skeleton};
-use lexicon::Lexicon;
+use crate::wiki::Wiki;
+use derivations::{Menu, show};
+use editor::TypeFault;
 use lists::Copied;
-use std::alloc::Global;
-use wiki_base::{Memory, Tokens};
+use wiki_base::{Memory, SessionId, Text8};
+use wiki_parts::{Fault, told_menu};
+use wiki_talk::{Refusal, Reply, Request};
 
-// How many of the tokens are typeable, from the first on.
-pub(crate) fn typeable_count(
-    alloc: Global,
-    grammar: &CheckedGrammar,
-    lexicon: &Lexicon,
-    tokens: &Tokens,
-) -> Result<usize, Memory>
-    requires { length tokens.now ≤ MOST_TOKENS }
-    ensures { IfOk result (IsTypeableCount grammar.now lexicon.now tokens.now) }
-{
-    let mut count = 0;
-    for longer in 0..tokens.len() + 1 {
-        let mut front = tokens.copy()?;
-        front.truncate(longer);
-        if !begins(alloc, grammar, lexicon, &front)? {
-            return Ok(count);
+impl Wiki {
+    ghost use Rattle.wiki_parts.specs.Faults.{IsFault, IsAbsent};
+    ghost use Rattle.wiki_core.specs.Causes.{session_numbered, IsNotOffered};
+    ghost use Rattle.wiki_core.specs.Drafts.{with_typed};
+    ghost use Rattle.wiki_core.specs.Step.{StepsSession, Refuses};
+
+    // Types one token more.
+    pub(crate) fn type_token(&mut self, number: u32, text: &Text8) -> Result<Reply, Fault>
+        ensures step { IfOk result (λ reply. StepsSession self.old.state (Request.Put number text.now) reply self.new.state) }
+        ensures refused { IfErr result (IsFault (Refuses self.old.state (Request.Put number text.now))) }
+        ensures kept { OnErr result (self.new ≡ self.old) }
+    {
+        let session = self.session(number)?;
+        let count = self.has_place(session, number)?;
+        self.put(number, text)?;
+        Ok(Reply::Put { tokens: count + 1 })
+    }
+
+    // Adds the text as a token, if the menu of the session's tokens has it.
+    fn put(&mut self, number: u32, text: &Text8) -> Result<(), Fault>
+        requires { IsSomeAnd (session_numbered self.old.state number) (λ session. length session.tokens < MOST_TOKENS) }
+        ensures typed { OnOk result (self.new ≡ with_typed self.old number text.now) }
+        ensures absent { OnOk result (IsAbsent (IsNotOffered self.old.state number text.now)) }
+        ensures refused { IfErr result (IsFault (IsNotOffered self.old.state number text.now)) }
+        ensures kept { OnErr result (self.new ≡ self.old) }
+    {
+        let typed = self.sessions.type_token(
+            self.store.grammar(),
+            self.store.lexicon(),
+            SessionId(number),
+            text.as_str(),
+        );
+        match typed {
+            Ok(()) => Ok(()),
+            Err(TypeFault::NotOffered) => Err(Fault::Refused(Refusal::NotOffered {
+                text: text.copy()?,
+            })),
+            Err(TypeFault::Memory) => Err(Fault::Memory),
         }
-        count = longer;
     }
-    Ok(count)
+
+    // Drops the last token.
+    pub(crate) fn back(&mut self, number: u32) -> Result<Reply, Fault>
+        ensures step { IfOk result (λ reply. StepsSession self.old.state (Request.Back number) reply self.new.state) }
+        ensures refused { IfErr result (IsFault (Refuses self.old.state (Request.Back number))) }
+        ensures kept { OnErr result (self.new ≡ self.old) }
+    {
+        let count = self.session(number)?.editor.tokens().len();
+        if self.sessions.back(SessionId(number)) {
+            Ok(Reply::Back {
+                tokens: count as u32 - 1,
+            })
+        } else {
+            Err(Fault::Refused(Refusal::Nothing))
+        }
+    }
+
+    // Tells what may follow the tokens.
+    pub(crate) fn menu(&self, number: u32) -> Result<Reply, Fault>
+        ensures step { IfOk result (λ reply. StepsSession self.now.state (Request.Menu number) reply self.now.state) }
+        ensures refused { IfErr result (IsFault (Refuses self.now.state (Request.Menu number))) }
+    {
+        let editor = &self.session(number)?.editor;
+        let menu = editor.menu(self.store.grammar(), self.store.lexicon())?;
+        prove!(are_texts(&menu));
+        Ok(Reply::Menu {
+            menu: told_menu(self.alloc, &menu)?,
+            whole: editor.complete(),
+            shown: show(self.alloc, self.store.grammar().grammar(), editor.tokens())?,
+        })
+    }
 }
 
-// The menu of the tokens, by the chart.
-pub(crate) fn menu<'a>(
-    alloc: Global,
-    grammar: &'a CheckedGrammar,
-    lexicon: &'a Lexicon,
-    tokens: &Tokens,
-) -> Result<Menu<'a>, Memory>
-    requires { length tokens.now ≤ MOST_TOKENS }
-    ensures { IfOk result (IsTextMenu grammar.now lexicon.now tokens.now) }
+// Whether each text of a menu is in UTF-8, as it always is.
+fn are_texts(menu: &Menu<'_>) -> bool
+    ensures yes { result ≡ true }
+    ensures texts { All (λ entry. IsUtf8 entry.1) menu.now }
 {
-    let mut chart = Chart::new(alloc, grammar)?;
-    for token in tokens.as_slice() {
-        chart.advance(grammar, lexicon, token)?;
+    for place in 0..menu.len() {
+        let _ = menu.get(place);
     }
-    chart.menu(grammar, lexicon)
-}
-
-// The least skeleton of the tokens, if they have a derivation.
-pub(crate) fn least(
-    alloc: Global,
-    grammar: &CheckedGrammar,
-    lexicon: &Lexicon,
-    tokens: &Tokens,
-) -> Result<Option<Skeleton>, Memory>
-    requires { length tokens.now ≤ MOST_TOKENS }
-    ensures least { IfOk result (λ found. IfSome found (IsLeastSkeleton grammar.now lexicon.now tokens.now)) }
-    ensures none { IfOk result (λ found. IfNone found (IsSentence grammar.now lexicon.now tokens.now → ⊥)) }
-{
-    least_of(alloc, grammar, lexicon, tokens)
+    true
 }

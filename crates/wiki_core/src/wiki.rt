@@ -1,139 +1,127 @@
 // The wiki and its step.
-ghost use Rattle.std.specs.Prelude.{◌≡◌, ◌≤◌, ℕ, List, length, IsTrue, IfOk, OnErr, option_copied};
-ghost use Rattle.wiki_base.specs.declared.tokens.TheConstants.{MOST_TOKENS};
+ghost use Rattle.std.specs.Prelude.{◌≡◌, IsTrue, IfOk, OnErr};
+ghost use Rattle.wiki_talk.specs.declared.refusals.Refusal.{Refusal as TheRefusal};
+ghost use Rattle.wiki_parts.specs.Faults.{Tells};
 
-use crate::faults::Fault;
-use crate::parsing::{no_sentence, told_code, too_many_tokens};
-use crate::told::{told_word, told_words};
-use crate::typing::least;
-use crate::words::add_word;
 use codeco_checked::CheckedGrammar;
-use derivations::{Cut, cut};
-use lexicon::{Forms, Kind, Lexicon};
-use lists::Copied;
+use sessions::Sessions;
 use std::alloc::Global;
 use std::marker::Model;
-use wiki_base::{Memory, Text8, Tokens};
-use wiki_talk::{Refusal, Reply, Request};
+use wiki_base::Memory;
+use wiki_parts::Fault;
+use wiki_store::Store;
+use wiki_talk::{Reply, Request};
 
-/// A wiki. It is seen as its state: the grammar, the budget of a search, and the live words.
+/// A wiki: words, articles and sentences, and the sessions in which sentences are typed. It is seen as its state, and the
+/// interpretation that it keeps of what it knows.
 #[derive(Drop)]
 pub struct Wiki {
-    alloc: Global,
-    grammar: CheckedGrammar,
-    budget: u64,
-    lexicon: Lexicon,
+    pub(crate) alloc: Global,
+    pub(crate) store: Store,
+    pub(crate) sessions: Sessions,
+    // The last number that was given to a session.
+    pub(crate) last: u32,
 }
 
 impl Model for Wiki {
-    ghost use Rattle.wiki_core.specs.State.{State, IsSound};
+    ghost use Rattle.sessions.specs.Sessions.{all_plain};
+    ghost use Rattle.wiki_core.specs.Holding.{Holding};
+    ghost use Rattle.wiki_core.specs.Keeping.{AreHeld};
 
-    ghost Value = { State };
+    ghost Value = { Holding };
 
-    ghost view = { λ w. record { grammar = w.grammar; budget = w.budget; words = w.lexicon } };
+    ghost view = { λ w. record {
+      state = record { pages = w.store.state; sessions = all_plain w.sessions; last = w.last };
+      interpretation = w.store.interpretation;
+    } };
 
-    ghost invariant = { λ w. IsSound (record { grammar = w.grammar; budget = w.budget; words = w.lexicon }) };
+    ghost invariant = { λ w. AreHeld w.store.state w.sessions w.last };
 }
 
 impl Wiki {
     ghost use Rattle.codeco_checked.specs.Sound.{is_labelled};
-    ghost use Rattle.wiki_core.specs.State.{first_state};
-    ghost use Rattle.wiki_core.specs.Parsing.{tokens_of};
-    ghost use Rattle.wiki_core.specs.Step.{Step};
-    ghost use Rattle.wiki_core.specs.Words.{word_with};
+    ghost use Rattle.wiki_core.specs.Apart.{MenuIsOwn, TokensAreOwn};
+    ghost use Rattle.wiki_core.specs.Holding.{first_holding, pages_held, IsKept};
+    ghost use Rattle.wiki_core.specs.Spending.{SpendsBeyondKept};
+    ghost use Rattle.wiki_core.specs.Step.{Step, StepsSession};
+    ghost use Rattle.wiki_store.specs.Spending.{KeptHasEachUnknown};
 
-    /// A wiki without words, over a grammar in which each rule has a label. A search may take `budget` steps.
+    /// A wiki without words and sessions, over a grammar in which each rule has a label. A search may take `budget` steps.
     pub fn new(alloc: Global, grammar: CheckedGrammar, budget: u64) -> Result<Wiki, Memory>
         requires { IsTrue (is_labelled grammar) }
-        ensures { IfOk result (λ wiki. wiki ≡ first_state grammar budget) }
+        ensures first { IfOk result (λ wiki. wiki ≡ first_holding grammar budget) }
+        ensures apart { TokensAreOwn grammar }
     {
-        let lexicon = Lexicon::new(alloc, grammar.grammar())?;
+        let store = Store::new(alloc, grammar, budget)?;
         Ok(Wiki {
             alloc,
-            grammar,
-            budget,
-            lexicon,
+            store,
+            sessions: Sessions::new(alloc),
+            last: 0,
         })
     }
 
     /// Does one request, or refuses it, which changes nothing.
     pub fn step(&mut self, request: &Request) -> Result<Reply, Memory>
-        ensures step { IfOk result (λ reply. Step self.old request.now reply self.new) }
+        ensures step { IfOk result (λ reply. Step self.old.state request.now reply self.new.state) }
+        ensures spent { IfOk result (SpendsBeyondKept self.old request.now) }
+        ensures unknown { IfOk result (KeptHasEachUnknown (pages_held self.old) request.now) }
+        ensures kept { IsKept self.new }
+        ensures menu { IfOk result (MenuIsOwn self.old.state request.now) }
+        ensures memory { OnErr result (self.new ≡ self.old) }
+    {
+        let reply = self.carry_out(request);
+        self.is_kept();
+        reply
+    }
+
+    // What the wiki keeps fits its state.
+    fn is_kept(&self)
+        ensures { IsKept self.now }
+    {
+        self.store.is_kept();
+        let _ = self.sessions.as_slice();
+    }
+
+    // Does one request, or refuses it.
+    fn carry_out(&mut self, request: &Request) -> Result<Reply, Memory>
+        ensures step { IfOk result (λ reply. Step self.old.state request.now reply self.new.state) }
+        ensures spent { IfOk result (SpendsBeyondKept self.old request.now) }
+        ensures unknown { IfOk result (KeptHasEachUnknown (pages_held self.old) request.now) }
         ensures memory { OnErr result (self.new ≡ self.old) }
     {
         match request {
-            Request::Word { kind, forms } => self.add(*kind, forms.as_slice()),
-            Request::Find { word } => self.find(word),
-            Request::Words => self.words(),
-            Request::Parse { text } => self.parse(text),
+            Request::Begin { article } => told(self.open(article)),
+            Request::Put { session, text } => told(self.type_token(*session, text)),
+            Request::Back { session } => told(self.back(*session)),
+            Request::Menu { session } => told(self.menu(*session)),
+            Request::Commit { session } => told(self.commit(*session)),
+            Request::Refresh { session } => told(self.refresh(*session)),
+            Request::Drop { session } => told(self.end(*session)),
+            Request::Word { .. } => self.add_word(request),
+            Request::Reword { word, forms } => told(self.reword(word, forms.as_slice())),
+            Request::Unword { word } => told(self.unword(word)),
+            Request::Find { .. } => self.step_pages(request),
+            Request::Words => self.step_pages(request),
+            Request::Parse { .. } => self.step_pages(request),
+            Request::Add { .. } => self.step_pages(request),
+            Request::Edit { .. } => self.step_pages(request),
+            Request::Remove { .. } => self.step_pages(request),
+            Request::Retract { .. } => self.step_pages(request),
+            Request::Reassert { .. } => self.step_pages(request),
+            Request::Read { .. } => self.step_pages(request),
+            Request::Axioms { .. } => self.step_pages(request),
         }
     }
+}
 
-    // Adds a word.
-    fn add(&mut self, kind: Kind, forms: &[Text8]) -> Result<Reply, Memory>
-        ensures step { IfOk result (λ reply. Step self.old (Request.Word kind forms.now) reply self.new) }
-        ensures memory { OnErr result (self.new ≡ self.old) }
-    {
-        match add_word(self.alloc, &mut self.lexicon, kind, forms) {
-            Ok(()) => Ok(Reply::Word),
-            Err(Fault::Refused(refusal)) => Ok(Reply::Refused(refusal)),
-            Err(Fault::Memory) => Err(Memory),
-        }
-    }
-
-    // Tells the word that has this form.
-    fn find(&self, word: &Text8) -> Result<Reply, Memory>
-        ensures { IfOk result (λ reply. Step self.now (Request.Find word.now) reply self.now) }
-    {
-        match self.found(word.as_str()) {
-            Some(forms) => Ok(Reply::Find {
-                word: told_word(self.alloc, forms)?,
-            }),
-            None => Ok(Reply::Refused(Refusal::NoWord { text: word.copy()? })),
-        }
-    }
-
-    // The forms of the word that has this one.
-    fn found(&self, form: &str) -> Option<&Forms>
-        ensures { option_copied result ≡ word_with self.now.words form.now }
-    {
-        self.lexicon.find(form).and_then(|id| self.lexicon.word(id))
-    }
-
-    // Tells all words.
-    fn words(&self) -> Result<Reply, Memory>
-        ensures { IfOk result (λ reply. Step self.now Request.Words reply self.now) }
-    {
-        Ok(Reply::Words {
-            words: told_words(self.alloc, &self.lexicon)?,
-        })
-    }
-    // Tells the code of a text.
-    fn parse(&self, text: &Text8) -> Result<Reply, Memory>
-        ensures { IfOk result (λ reply. Step self.now (Request.Parse text.now) reply self.now) }
-    {
-        match cut(self.alloc, self.grammar.grammar(), text.as_str())? {
-            Cut::TooMany => Ok(Reply::Refused(too_many_tokens())),
-            Cut::Tokens(tokens) => self.parse_tokens(&tokens),
-        }
-    }
-
-    // Tells the code of tokens.
-    fn parse_tokens(&self, tokens: &Tokens) -> Result<Reply, Memory>
-        requires { length tokens.now ≤ MOST_TOKENS }
-        ensures { IfOk result (λ reply. (text : List ℕ) → tokens_of self.now text ≡ tokens.now
-            → Step self.now (Request.Parse text) reply self.now) }
-    {
-        match least(self.alloc, &self.grammar, &self.lexicon, tokens)? {
-            Some(least) => Ok(Reply::Parse {
-                code: told_code(self.alloc, &least)?,
-            }),
-            None => Ok(Reply::Refused(no_sentence(
-                self.alloc,
-                &self.grammar,
-                &self.lexicon,
-                tokens,
-            )?)),
-        }
+// The reply to a request that is done or refused.
+pub(crate) fn told(done: Result<Reply, Fault>) -> Result<Reply, Memory>
+    ensures { IfOk result (λ reply. Tells done reply) }
+{
+    match done {
+        Ok(reply) => Ok(reply),
+        Err(Fault::Refused(refusal)) => Ok(Reply::Refused(refusal)),
+        Err(Fault::Memory) => Err(Memory),
     }
 }

@@ -1,5 +1,5 @@
 -- The names of statuses and of causes.
-use Rattle.std.specs.Prelude.{ℕ, List, codes, Option, Some, None}
+use Rattle.std.specs.Prelude.{ℕ, List, codes, Bool, true, false, Option, Some, None}
 use Rattle.logic_terms.specs.declared.cause.Cause.{Cause}
 use Rattle.logic_terms.specs.declared.cause.Cause.TheVariants.{Shared, Cycle, NoRoot, Equality, Free}
 use Rattle.wiki_talk.specs.declared.statuses.Status.{Status}
@@ -32,3 +32,8 @@ cause_name Cycle = codes "cycle"
 cause_name NoRoot = codes "noroot"
 cause_name Equality = codes "equality"
 cause_name Free = codes "free"
+
+-- a question that asks for a class
+abbrev pub is_question : Status → Bool
+is_question Question = true
+is_question other = false

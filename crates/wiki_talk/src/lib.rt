@@ -13,8 +13,10 @@ mod tests;
 
 pub use causes::cause_name;
 pub use kinds::{kind_name, kind_named};
-pub use limits::Limit;
+pub use limits::{Limit, MOST_SENTENCES, MOST_SESSIONS};
 pub use refusals::{BAD_REQUEST, Refusal, Title};
-pub use replies::{MenuView, Numbers, Reply, WordView, WordViews};
+pub use replies::{
+    Meant, MenuView, Numbers, Reply, SentenceView, SentenceViews, WordView, WordViews,
+};
 pub use requests::Request;
 pub use statuses::Status;

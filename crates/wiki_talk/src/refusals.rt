@@ -3,6 +3,7 @@ ghost use Rattle.std.specs.Prelude.{◌≡◌};
 
 use crate::limits::Limit;
 use crate::replies::MenuView;
+use crate::statuses::Status;
 use wiki_base::Text8;
 
 /// Why a request was refused.
@@ -16,10 +17,29 @@ pub enum Refusal {
     Taken { text: Text8, word: Text8 },
     /// The grammar has the text as a word of its own, or has it with a small first letter.
     Reserved { text: Text8 },
+    /// The article has no such place; it has so many sentences.
+    NoPlace { length: u32 },
+    /// No open session has the number.
+    NoSession { session: u32 },
     /// The limit is reached.
     Full { which: Limit, limit: u32 },
+    /// The article has changed since the session was opened or took note of it; it has this revision now.
+    Stale { revision: u32 },
+    /// The menu of the session's tokens doesn't have the text.
+    NotOffered { text: Text8 },
+    /// The session has no tokens.
+    Nothing,
+    /// The session's tokens are no sentence yet; the menu tells what may follow.
+    Unfinished { menu: MenuView },
     /// The tokens have no derivation. Of them the first `k` can be typed and no more, and the menu is theirs.
     NotSentence { k: u32, menu: MenuView },
+    /// This place, the first of those that stand against it, needs the word. The article is named by its canonical form.
+    InUse { article: Text8, at: u32 },
+    /// With the other forms the sentence of this place, the first such, would have no derivation or another meaning. The
+    /// article is named by its canonical form.
+    Breaks { article: Text8, at: u32 },
+    /// The sentence there has this status.
+    BadStatus { status: Status },
 }
 
 /// The number and the name by which a refusal is told.
@@ -48,8 +68,17 @@ impl Refusal {
             Refusal::BadForm { .. } => (2, "BadForm"),
             Refusal::Taken { .. } => (3, "Taken"),
             Refusal::Reserved { .. } => (4, "Reserved"),
+            Refusal::NoPlace { .. } => (5, "NoPlace"),
+            Refusal::NoSession { .. } => (6, "NoSession"),
             Refusal::Full { .. } => (7, "Full"),
+            Refusal::Stale { .. } => (8, "Stale"),
+            Refusal::NotOffered { .. } => (9, "NotOffered"),
+            Refusal::Nothing => (10, "Nothing"),
+            Refusal::Unfinished { .. } => (11, "Unfinished"),
             Refusal::NotSentence { .. } => (12, "NotSentence"),
+            Refusal::InUse { .. } => (13, "InUse"),
+            Refusal::Breaks { .. } => (14, "Breaks"),
+            Refusal::BadStatus { .. } => (15, "BadStatus"),
         };
         Title { number, name }
     }

@@ -1,8 +1,10 @@
 // What is answered.
 use crate::refusals::Refusal;
+use crate::statuses::Status;
 use lexicon::Kind;
 use lists::List;
-use wiki_base::Text8s;
+use logic_terms::Cause;
+use wiki_base::{Text8, Text8s};
 
 /// A word as it is told: its kind and its forms.
 #[derive(Drop)]
@@ -28,17 +30,104 @@ pub struct MenuView {
     pub verb: Text8s,
 }
 
+/// A sentence as it is told: its status, what shows it, and, where it is a question that asks for a class, the names that
+/// are in the class, and those of which that isn't known.
+#[derive(Drop)]
+pub struct SentenceView {
+    pub status: Status,
+    pub text: Text8,
+    pub answers: Text8s,
+    pub unknown: Text8s,
+}
+
+/// A list of sentences as they are told.
+pub type SentenceViews = List<SentenceView>;
+
+/// What a sentence means: its axioms, the class that it asks for, or why it has neither.
+#[derive(Drop)]
+pub enum Meant {
+    Axioms(Text8s),
+    Class(Text8),
+    Outside(Cause),
+}
+
 /// The answer to one request.
 #[derive(Drop)]
 pub enum Reply {
     /// The word was added.
     Word,
     /// The word that was found.
-    Find { word: WordView },
+    Find {
+        word: WordView,
+    },
     /// All live words, in order of number.
-    Words { words: WordViews },
+    Words {
+        words: WordViews,
+    },
     /// The code of the least skeleton.
-    Parse { code: Numbers },
+    Parse {
+        code: Numbers,
+    },
+    /// The word has its other forms.
+    Reword,
+    /// The word is gone.
+    Unword,
+    /// The sentence was added, with this status.
+    Add {
+        status: Status,
+    },
+    /// The other sentence is there, with this status.
+    Edit {
+        status: Status,
+    },
+    /// The sentence is gone.
+    Remove,
+    /// The sentence doesn't count, and has this status.
+    Retract {
+        status: Status,
+    },
+    /// The sentence was taken up again, with this status.
+    Reassert {
+        status: Status,
+    },
+    /// An article: the canonical form of its word, its revision and its sentences.
+    Read {
+        form: Text8,
+        revision: u32,
+        sentences: SentenceViews,
+    },
+    /// What a sentence means.
+    Axioms {
+        meant: Meant,
+    },
+    /// The number of the session that was opened.
+    Begin {
+        session: u32,
+    },
+    /// How many tokens the session has now.
+    Put {
+        tokens: u32,
+    },
+    /// How many tokens the session has now.
+    Back {
+        tokens: u32,
+    },
+    /// What may follow a session's tokens, whether these are a sentence already, and what shows them.
+    Menu {
+        menu: MenuView,
+        whole: bool,
+        shown: Text8,
+    },
+    /// The sentence was added to this article, named by the canonical form of its word, with this status; what shows it.
+    Commit {
+        article: Text8,
+        status: Status,
+        shown: Text8,
+    },
+    /// The session has taken note of its article's changes.
+    Refresh,
+    /// The session is gone.
+    Drop,
     /// The request was refused, and nothing has changed.
     Refused(Refusal),
 }

@@ -23,7 +23,7 @@ pub enum Status {
 }
 
 impl Status {
-    ghost use Rattle.wiki_talk.specs.Statuses.{status_name, cause_in};
+    ghost use Rattle.wiki_talk.specs.Statuses.{status_name, cause_in, is_question};
 
     /// The name that lines and pages tell.
     pub fn name(self) -> &'static str
@@ -38,6 +38,13 @@ impl Status {
             Status::Question => "question",
             Status::QuestionOutside(_) => "question-outside",
         }
+    }
+
+    /// Whether the sentence is a question that asks for a class.
+    pub fn is_question(self) -> bool
+        ensures { result ≡ is_question self }
+    {
+        matches!(self, Status::Question)
     }
 
     /// Why the sentence has no axioms and asks for no class, if that is so.

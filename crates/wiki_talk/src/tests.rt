@@ -1,5 +1,6 @@
 // The tables of names.
 use super::*;
+use logic_terms::Cause;
 
 #[test]
 fn a_refusal_is_told_by_its_number_and_name(rt: HostRuntime) {
@@ -8,4 +9,15 @@ fn a_refusal_is_told_by_its_number_and_name(rt: HostRuntime) {
     assert_eq!(rt; title.name, "BadForm");
     assert_eq!(rt; Limit::Words.name(), "words");
     assert_eq!(rt; Limit::Numbers.amount(), 4_294_967_295);
+}
+
+#[test]
+fn a_status_is_told_by_its_name_and_cause(rt: HostRuntime) {
+    assert_eq!(rt; Status::RedContradiction.name(), "contradiction");
+    assert_eq!(rt; Status::Asserted.cause(), None);
+    assert_eq!(rt;
+        Status::QuestionOutside(Cause::NoRoot).cause(),
+        Some(Cause::NoRoot)
+    );
+    assert_eq!(rt; cause_name(Cause::NoRoot), "noroot");
 }

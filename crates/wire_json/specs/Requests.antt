@@ -1,9 +1,11 @@
 -- Requests as lines of JSON: which lines are requests, and the line of a request.
-use Rattle.std.specs.Prelude.{ℕ, List, [], ◌∷◌, length, codes, if◌then◌else◌, nat_lt, Option, Some, None, find, option_map, option_and_then}
+use Rattle.std.specs.Prelude.{ℕ, List, [], ◌∷◌, length, codes, if◌then◌else◌, nat_lt, nat_le, Option, Some, None, find, option_map, option_and_then}
+use Rattle.std.specs.Option.{option_map_or}
 use Rattle.std.specs.Str.{is_utf8, bytes_eq}
-use Rattle.serde_json.specs.Data.{Data, string, array, object, Items, no_items, item, no_members, member}
+use Rattle.serde_json.specs.Data.{Data, string, number, unsigned, array, object, Items, no_items, item, Members, no_members, member}
 use Rattle.serde_json.specs.Read.{read}
-use Rattle.serde_json.specs.Find.{get, as_str, as_array}
+use Rattle.serde_json.specs.Find.{get, as_str, as_array, as_number, as_u64}
+use Rattle.lexicon.specs.declared.words.TheConstants.{LAST_NUMBER}
 use Rattle.wiki_talk.specs.declared.requests.Request.{Request}
 use Rattle.wiki_talk.specs.declared.requests.Request.TheVariants as requests
 use Rattle.wiki_talk.specs.Kinds.{kind_name, kind_named}
@@ -23,6 +25,18 @@ texts_in (item value rest) = option_and_then (λ text. option_map (λ texts. tex
 abbrev pub texts_at : List ℕ → Data → Option (List (List ℕ))
 texts_at key value = option_and_then texts_in (option_and_then as_array (get key value))
 
+-- the whole number that a value is, if it is none above 4294967295
+abbrev pub number_of : Data → Option ℕ
+number_of value = option_and_then (λ n. if nat_le n LAST_NUMBER then Some n else None) (option_and_then as_u64 (as_number value))
+
+-- the number at a key of an object
+abbrev pub number_at : List ℕ → Data → Option ℕ
+number_at key value = option_and_then number_of (get key value)
+
+-- the number at a key of an object that may lack the key
+abbrev pub number_if_at : List ℕ → Data → Option (Option ℕ)
+number_if_at key value = option_map_or (λ found. option_map Some (number_of found)) (get key value) (Some None)
+
 -- ---- what the members of an object ask
 
 -- a new word: `kind` and `forms`
@@ -41,6 +55,67 @@ words_in value = Some requests.Words
 unfoldable pub parse_in : Data → Option Request
 parse_in value = option_map requests.Parse (text_at (codes "text") value)
 
+-- other forms for a word: `word` and `forms`
+unfoldable pub reword_in : Data → Option Request
+reword_in value = option_and_then (λ word. option_map (requests.Reword word) (texts_at (codes "forms") value)) (text_at (codes "word") value)
+
+-- a word that is to go: `word`
+unfoldable pub unword_in : Data → Option Request
+unword_in value = option_map requests.Unword (text_at (codes "word") value)
+
+-- a new sentence: `article`, `text` and, if it isn't to stand at the end, `at`
+unfoldable pub add_in : Data → Option Request
+add_in value = option_and_then (λ article. option_and_then (λ place. option_map (requests.Add article place) (text_at (codes "text") value)) (number_if_at (codes "at") value)) (text_at (codes "article") value)
+
+-- an article and a place in it: `article` and `at`
+unfoldable pub place_in : Data → Option (List ℕ × ℕ)
+place_in value = option_and_then (λ article. option_map (λ place. (article, place)) (number_at (codes "at") value)) (text_at (codes "article") value)
+
+-- another sentence: `article`, `at` and `text`
+unfoldable pub edit_in : Data → Option Request
+edit_in value = option_and_then (λ place. option_map (requests.Edit place.0 place.1) (text_at (codes "text") value)) (place_in value)
+
+-- a sentence that is to go, to count no longer, or to be taken up again, and what a sentence means: its place
+abbrev pub remove_in : Data → Option Request
+remove_in value = option_map (λ place. requests.Remove place.0 place.1) (place_in value)
+
+abbrev pub retract_in : Data → Option Request
+retract_in value = option_map (λ place. requests.Retract place.0 place.1) (place_in value)
+
+abbrev pub reassert_in : Data → Option Request
+reassert_in value = option_map (λ place. requests.Reassert place.0 place.1) (place_in value)
+
+abbrev pub axioms_in : Data → Option Request
+axioms_in value = option_map (λ place. requests.Axioms place.0 place.1) (place_in value)
+
+-- an article: `article`
+unfoldable pub read_in : Data → Option Request
+read_in value = option_map requests.Read (text_at (codes "article") value)
+
+-- a new session on an article: `article`
+unfoldable pub open_in : Data → Option Request
+open_in value = option_map requests.Begin (text_at (codes "article") value)
+
+-- a token for a session: `session` and `text`
+unfoldable pub type_in : Data → Option Request
+type_in value = option_and_then (λ session. option_map (requests.Put session) (text_at (codes "text") value)) (number_at (codes "session") value)
+
+-- one token fewer, what may follow, the sentence of a session, a session that takes note of changes, and one that is to end: its number
+abbrev pub back_in : Data → Option Request
+back_in value = option_map requests.Back (number_at (codes "session") value)
+
+abbrev pub menu_in : Data → Option Request
+menu_in value = option_map requests.Menu (number_at (codes "session") value)
+
+abbrev pub commit_in : Data → Option Request
+commit_in value = option_map requests.Commit (number_at (codes "session") value)
+
+abbrev pub refresh_in : Data → Option Request
+refresh_in value = option_map requests.Refresh (number_at (codes "session") value)
+
+abbrev pub drop_in : Data → Option Request
+drop_in value = option_map requests.Drop (number_at (codes "session") value)
+
 -- a name, and what an object that has it in `do` asks
 pub record Row : Type 0 where
   pub name : List ℕ
@@ -53,6 +128,22 @@ rows =
     ∷ record { name = codes "find"; request = find_in }
     ∷ record { name = codes "words"; request = words_in }
     ∷ record { name = codes "parse"; request = parse_in }
+    ∷ record { name = codes "reword"; request = reword_in }
+    ∷ record { name = codes "unword"; request = unword_in }
+    ∷ record { name = codes "add"; request = add_in }
+    ∷ record { name = codes "edit"; request = edit_in }
+    ∷ record { name = codes "remove"; request = remove_in }
+    ∷ record { name = codes "retract"; request = retract_in }
+    ∷ record { name = codes "reassert"; request = reassert_in }
+    ∷ record { name = codes "read"; request = read_in }
+    ∷ record { name = codes "axioms"; request = axioms_in }
+    ∷ record { name = codes "open"; request = open_in }
+    ∷ record { name = codes "type"; request = type_in }
+    ∷ record { name = codes "back"; request = back_in }
+    ∷ record { name = codes "menu"; request = menu_in }
+    ∷ record { name = codes "commit"; request = commit_in }
+    ∷ record { name = codes "refresh"; request = refresh_in }
+    ∷ record { name = codes "drop"; request = drop_in }
     ∷ []
 
 -- the request of this name that an object describes
@@ -73,6 +164,24 @@ request_of line = if nat_lt (length line) TOO_LONG then option_and_then request_
 
 -- ---- the line of a request
 
+-- the member that tells a place, if there is one, before others
+abbrev pub with_place : Option ℕ → Members → Members
+with_place None members = members
+with_place (Some place) members = member (codes "at") (number (unsigned place)) members
+
+-- the line of a request with this name for a place
+abbrev pub place_value : List ℕ → List ℕ → ℕ → Data
+place_value name article place = object
+    (member (codes "article") (string article)
+    (member (codes "at") (number (unsigned place))
+    (member (codes "do") (string name) no_members)))
+
+-- the line of a request with this name for a session
+abbrev pub session_value : List ℕ → ℕ → Data
+session_value name session = object
+    (member (codes "do") (string name)
+    (member (codes "session") (number (unsigned session)) no_members))
+
 abbrev pub request_value : Request → Data
 request_value (requests.Word kind forms) = object
     (member (codes "do") (string (codes "word"))
@@ -85,6 +194,42 @@ request_value requests.Words = object (member (codes "do") (string (codes "words
 request_value (requests.Parse text) = object
     (member (codes "do") (string (codes "parse"))
     (member (codes "text") (string text) no_members))
+request_value (requests.Reword word forms) = object
+    (member (codes "do") (string (codes "reword"))
+    (member (codes "forms") (array (texts_items forms))
+    (member (codes "word") (string word) no_members)))
+request_value (requests.Unword word) = object
+    (member (codes "do") (string (codes "unword"))
+    (member (codes "word") (string word) no_members))
+request_value (requests.Add article place text) = object
+    (member (codes "article") (string article)
+    (with_place place
+    (member (codes "do") (string (codes "add"))
+    (member (codes "text") (string text) no_members))))
+request_value (requests.Edit article place text) = object
+    (member (codes "article") (string article)
+    (member (codes "at") (number (unsigned place))
+    (member (codes "do") (string (codes "edit"))
+    (member (codes "text") (string text) no_members))))
+request_value (requests.Remove article place) = place_value (codes "remove") article place
+request_value (requests.Retract article place) = place_value (codes "retract") article place
+request_value (requests.Reassert article place) = place_value (codes "reassert") article place
+request_value (requests.Read article) = object
+    (member (codes "article") (string article)
+    (member (codes "do") (string (codes "read")) no_members))
+request_value (requests.Axioms article place) = place_value (codes "axioms") article place
+request_value (requests.Begin article) = object
+    (member (codes "article") (string article)
+    (member (codes "do") (string (codes "open")) no_members))
+request_value (requests.Put session text) = object
+    (member (codes "do") (string (codes "type"))
+    (member (codes "session") (number (unsigned session))
+    (member (codes "text") (string text) no_members)))
+request_value (requests.Back session) = session_value (codes "back") session
+request_value (requests.Menu session) = session_value (codes "menu") session
+request_value (requests.Commit session) = session_value (codes "commit") session
+request_value (requests.Refresh session) = session_value (codes "refresh") session
+request_value (requests.Drop session) = session_value (codes "drop") session
 
 abbrev pub request_line : Request → List ℕ
 request_line request = line_text (request_value request)

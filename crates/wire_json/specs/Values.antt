@@ -1,11 +1,14 @@
 -- What stands in many lines, as JSON.
-use Rattle.std.specs.Prelude.{ℕ, List, [], ◌∷◌, ◌++◌, codes, map}
-use Rattle.serde_json.specs.Data.{Data, string, number, unsigned, array, object, Items, no_members, member}
+use Rattle.std.specs.Prelude.{ℕ, List, [], ◌∷◌, ◌++◌, codes, map, if◌then◌else◌, Option, Some, None}
+use Rattle.serde_json.specs.Data.{Data, string, number, unsigned, array, object, Items, Members, no_members, member}
 use Rattle.serde_json.specs.View.{items_of}
 use Rattle.serde_json.specs.Written.{compact_text}
 use Rattle.wiki_talk.specs.declared.replies.WordView.{WordView}
 use Rattle.wiki_talk.specs.declared.replies.MenuView.{MenuView}
+use Rattle.wiki_talk.specs.declared.replies.SentenceView.{SentenceView}
+use Rattle.logic_terms.specs.declared.cause.Cause.{Cause}
 use Rattle.wiki_talk.specs.Kinds.{kind_name}
+use Rattle.wiki_talk.specs.Statuses.{status_name, cause_name, cause_in, is_question}
 
 -- the value as JSON with no space, and a newline
 unfoldable pub line_text : Data → List ℕ
@@ -38,3 +41,30 @@ menu_value menu = object
 -- a list of words
 abbrev pub words_items : List WordView → Items
 words_items words = items_of (map word_value words)
+
+-- the member that tells a cause, if there is one, before others
+abbrev pub with_cause : Option Cause → Members → Members
+with_cause None members = members
+with_cause (Some cause) members = member (codes "cause") (string (cause_name cause)) members
+
+-- a sentence that isn't a question for a class
+abbrev pub statement_value : SentenceView → Data
+statement_value sentence = object (with_cause (cause_in sentence.status)
+    (member (codes "status") (string (status_name sentence.status))
+    (member (codes "text") (string sentence.text) no_members)))
+
+-- a question for a class, with the names that answer it
+abbrev pub question_value : SentenceView → Data
+question_value sentence = object
+    (member (codes "answers") (array (texts_items sentence.answers))
+    (member (codes "status") (string (status_name sentence.status))
+    (member (codes "text") (string sentence.text)
+    (member (codes "unknown") (array (texts_items sentence.unknown)) no_members))))
+
+-- a sentence
+abbrev pub sentence_value : SentenceView → Data
+sentence_value sentence = if is_question sentence.status then question_value sentence else statement_value sentence
+
+-- a list of sentences
+abbrev pub sentences_items : List SentenceView → Items
+sentences_items sentences = items_of (map sentence_value sentences)

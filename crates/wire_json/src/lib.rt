@@ -4,6 +4,9 @@
 mod line;
 mod read;
 mod refusals;
+mod sentences;
+mod sessions;
+mod statuses;
 #[cfg(test)]
 mod tests;
 mod values;

@@ -1,8 +1,14 @@
 // The request of a line.
 ghost use Rattle.std.specs.Prelude.{◌≡◌, IfOk, option_map};
 ghost use Rattle.serde_json.specs.View.{view, items_view};
-ghost use Rattle.wire_json.specs.Requests.{text_at, texts_at, texts_in, word_in, find_in, words_in, parse_in, request_named, request_in, request_of};
+ghost use Rattle.wire_json.specs.Requests.{text_at, texts_at, texts_in, word_in, find_in, words_in, parse_in, reword_in, unword_in, request_named, request_in, request_of};
 
+use crate::sentences::{
+    add_from, axioms_from, edit_from, read_from, reassert_from, remove_from, retract_from,
+};
+use crate::sessions::{
+    back_from, commit_from, drop_from, menu_from, open_from, refresh_from, type_from,
+};
 use serde_json::Value;
 use std::alloc::Global;
 use wiki_base::{Memory, Text8, Text8s};
@@ -44,6 +50,22 @@ fn request_named(alloc: Global, value: &Value, name: &str) -> Result<Option<Requ
         "find" => find_from(alloc, value),
         "words" => Ok(Some(Request::Words)),
         "parse" => parse_from(alloc, value),
+        "reword" => reword_from(alloc, value),
+        "unword" => unword_from(alloc, value),
+        "add" => add_from(alloc, value),
+        "edit" => edit_from(alloc, value),
+        "remove" => remove_from(alloc, value),
+        "retract" => retract_from(alloc, value),
+        "reassert" => reassert_from(alloc, value),
+        "read" => read_from(alloc, value),
+        "axioms" => axioms_from(alloc, value),
+        "open" => open_from(alloc, value),
+        "type" => type_from(alloc, value),
+        "back" => Ok(back_from(value)),
+        "menu" => Ok(menu_from(value)),
+        "commit" => Ok(commit_from(value)),
+        "refresh" => Ok(refresh_from(value)),
+        "drop" => Ok(drop_from(value)),
         _ => Ok(None),
     }
 }
@@ -91,8 +113,36 @@ fn parse_from(alloc: Global, value: &Value) -> Result<Option<Request>, Memory>
     }
 }
 
+#[tactic(auto, unfolding(crate::specs::Requests::reword_in))]
+fn reword_from(alloc: Global, value: &Value) -> Result<Option<Request>, Memory>
+    ensures { IfOk result (λ request. request ≡ reword_in (view value.now)) }
+{
+    let Some(word) = text_of(value, "word") else {
+        return Ok(None);
+    };
+    match texts_of(alloc, value, "forms")? {
+        Some(forms) => Ok(Some(Request::Reword {
+            word: Text8::from_str(alloc, word)?,
+            forms: Text8s::from_vec(forms),
+        })),
+        None => Ok(None),
+    }
+}
+
+#[tactic(auto, unfolding(crate::specs::Requests::unword_in))]
+fn unword_from(alloc: Global, value: &Value) -> Result<Option<Request>, Memory>
+    ensures { IfOk result (λ request. request ≡ unword_in (view value.now)) }
+{
+    match text_of(value, "word") {
+        Some(word) => Ok(Some(Request::Unword {
+            word: Text8::from_str(alloc, word)?,
+        })),
+        None => Ok(None),
+    }
+}
+
 // The text at a key, if there is one.
-fn text_of<'a>(value: &'a Value, key: &str) -> Option<&'a str>
+pub(crate) fn text_of<'a>(value: &'a Value, key: &str) -> Option<&'a str>
     ensures { option_map (λ text. text.now) result ≡ text_at key.now (view value.now) }
 {
     value.get(key).and_then(Value::as_str)

@@ -1,17 +1,20 @@
 // The lines of requests and replies.
-ghost use Rattle.std.specs.Prelude.{◌≡◌, IfOk};
+ghost use Rattle.std.specs.Prelude.{◌≡◌, IfOk, codes};
+ghost use Rattle.serde_json.specs.Data.{boolean, string, number, unsigned, array, object, no_members, member};
 ghost use Rattle.serde_json.specs.View.{view};
-ghost use Rattle.wire_json.specs.Replies.{reply_value, reply_line, bad_request_value, bad_request_line};
-ghost use Rattle.wire_json.specs.Requests.{request_value, request_line};
+ghost use Rattle.wire_json.specs.Replies.{reply_value, done_value, tokens_value, reply_line, bad_request_value, bad_request_line};
+ghost use Rattle.wire_json.specs.Values.{menu_value, sentences_items};
+ghost use Rattle.wire_json.specs.Requests.{request_value, request_line, place_value, session_value};
 
 use crate::line::line_of;
 use crate::refusals::refusal_value;
-use crate::values::{numbers_value, texts_value, word_value, words_value};
+use crate::statuses::{commit_value, meant_value, sentences_value, status_value};
+use crate::values::{menu_value, numbers_value, texts_value, word_value, words_value};
 use lexicon::Kind;
 use serde_json::{Value, json};
 use std::alloc::Global;
 use wiki_base::{Memory, Text8};
-use wiki_talk::{BAD_REQUEST, Reply, Request, WordView, kind_name};
+use wiki_talk::{BAD_REQUEST, MenuView, Reply, Request, SentenceView, WordView, kind_name};
 
 /// The line of a reply, with its newline.
 pub fn reply_line(alloc: Global, reply: &Reply) -> Result<Text8, Memory>
@@ -48,8 +51,41 @@ fn reply_value(alloc: Global, reply: &Reply) -> Result<Value, Memory>
         Reply::Find { word } => find_reply_value(alloc, word),
         Reply::Words { words } => words_reply_value(alloc, words.as_slice()),
         Reply::Parse { code } => parse_reply_value(alloc, code.as_slice()),
+        Reply::Reword => done_value(alloc, "reword"),
+        Reply::Unword => done_value(alloc, "unword"),
+        Reply::Add { status } => status_value(alloc, "add", *status),
+        Reply::Edit { status } => status_value(alloc, "edit", *status),
+        Reply::Remove => done_value(alloc, "remove"),
+        Reply::Retract { status } => status_value(alloc, "retract", *status),
+        Reply::Reassert { status } => status_value(alloc, "reassert", *status),
+        Reply::Read {
+            revision,
+            sentences,
+            ..
+        } => read_reply_value(alloc, *revision, sentences.as_slice()),
+        Reply::Axioms { meant } => meant_value(alloc, meant),
+        Reply::Begin { session } => {
+            let session = *session;
+            Ok(json!(in alloc; {"done": "open", "session": session})?)
+        }
+        Reply::Put { tokens } => tokens_value(alloc, "type", *tokens),
+        Reply::Back { tokens } => tokens_value(alloc, "back", *tokens),
+        Reply::Menu { menu, whole, .. } => menu_reply_value(alloc, menu, *whole),
+        Reply::Commit {
+            article,
+            status,
+            ..
+        } => commit_value(alloc, article.as_str(), *status),
+        Reply::Refresh => done_value(alloc, "refresh"),
+        Reply::Drop => done_value(alloc, "drop"),
         Reply::Refused(refusal) => refusal_value(alloc, refusal),
     }
+}
+
+fn done_value(alloc: Global, name: &str) -> Result<Value, Memory>
+    ensures { IfOk result (λ value. view value ≡ done_value name.now) }
+{
+    Ok(json!(in alloc; {"done": name})?)
 }
 
 fn find_reply_value(alloc: Global, word: &WordView) -> Result<Value, Memory>
@@ -73,6 +109,33 @@ fn parse_reply_value(alloc: Global, code: &[u32]) -> Result<Value, Memory>
     Ok(json!(in alloc; {"code": code, "done": "parse"})?)
 }
 
+fn read_reply_value(
+    alloc: Global,
+    revision: u32,
+    sentences: &[SentenceView],
+) -> Result<Value, Memory>
+    ensures { IfOk result (λ value. view value ≡ object (member (codes "done") (string (codes "read"))
+        (member (codes "revision") (number (unsigned revision)) (member (codes "sentences") (array (sentences_items sentences.now)) no_members)))) }
+{
+    let sentences = sentences_value(alloc, sentences)?;
+    Ok(json!(in alloc; {"done": "read", "revision": revision, "sentences": sentences})?)
+}
+
+fn menu_reply_value(alloc: Global, menu: &MenuView, whole: bool) -> Result<Value, Memory>
+    ensures { IfOk result (λ value. view value ≡ object (member (codes "done") (string (codes "menu"))
+        (member (codes "menu") (menu_value menu.now) (member (codes "whole") (boolean whole) no_members)))) }
+{
+    let menu = menu_value(alloc, menu)?;
+    Ok(json!(in alloc; {"done": "menu", "menu": menu, "whole": whole})?)
+}
+
+// A reply that tells the number of a session's tokens.
+fn tokens_value(alloc: Global, name: &str, tokens: u32) -> Result<Value, Memory>
+    ensures { IfOk result (λ value. view value ≡ tokens_value name.now tokens) }
+{
+    Ok(json!(in alloc; {"done": name, "tokens": tokens})?)
+}
+
 fn request_value(alloc: Global, request: &Request) -> Result<Value, Memory>
     ensures { IfOk result (λ value. view value ≡ request_value request.now) }
 {
@@ -87,6 +150,25 @@ fn request_value(alloc: Global, request: &Request) -> Result<Value, Memory>
             let text = text.as_str();
             Ok(json!(in alloc; {"do": "parse", "text": text})?)
         }
+        Request::Reword { word, forms } => reword_request_value(alloc, word, forms.as_slice()),
+        Request::Unword { word } => {
+            let word = word.as_str();
+            Ok(json!(in alloc; {"do": "unword", "word": word})?)
+        }
+        Request::Add { article, at, text } => add_request_value(alloc, article, *at, text),
+        Request::Edit { article, at, text } => edit_request_value(alloc, article, *at, text),
+        Request::Remove { article, at } => place_value(alloc, "remove", article, *at),
+        Request::Retract { article, at } => place_value(alloc, "retract", article, *at),
+        Request::Reassert { article, at } => place_value(alloc, "reassert", article, *at),
+        Request::Read { article } => article_value(alloc, "read", article),
+        Request::Axioms { article, at } => place_value(alloc, "axioms", article, *at),
+        Request::Begin { article } => article_value(alloc, "open", article),
+        Request::Put { session, text } => type_request_value(alloc, *session, text),
+        Request::Back { session } => session_value(alloc, "back", *session),
+        Request::Menu { session } => session_value(alloc, "menu", *session),
+        Request::Commit { session } => session_value(alloc, "commit", *session),
+        Request::Refresh { session } => session_value(alloc, "refresh", *session),
+        Request::Drop { session } => session_value(alloc, "drop", *session),
     }
 }
 
@@ -96,4 +178,71 @@ fn word_request_value(alloc: Global, kind: Kind, forms: &[Text8]) -> Result<Valu
     let forms = texts_value(alloc, forms)?;
     let kind = kind_name(kind);
     Ok(json!(in alloc; {"do": "word", "forms": forms, "kind": kind})?)
+}
+
+fn reword_request_value(alloc: Global, word: &Text8, forms: &[Text8]) -> Result<Value, Memory>
+    ensures { IfOk result (λ value. view value ≡ request_value (Request.Reword word.now forms.now)) }
+{
+    let forms = texts_value(alloc, forms)?;
+    let word = word.as_str();
+    Ok(json!(in alloc; {"do": "reword", "forms": forms, "word": word})?)
+}
+
+fn add_request_value(
+    alloc: Global,
+    article: &Text8,
+    at: Option<u32>,
+    text: &Text8,
+) -> Result<Value, Memory>
+    ensures { IfOk result (λ value. view value ≡ request_value (Request.Add article.now at text.now)) }
+{
+    let article = article.as_str();
+    let text = text.as_str();
+    match at {
+        Some(at) => Ok(json!(in alloc; {"article": article, "at": at, "do": "add", "text": text})?),
+        None => Ok(json!(in alloc; {"article": article, "do": "add", "text": text})?),
+    }
+}
+
+fn edit_request_value(
+    alloc: Global,
+    article: &Text8,
+    at: u32,
+    text: &Text8,
+) -> Result<Value, Memory>
+    ensures { IfOk result (λ value. view value ≡ request_value (Request.Edit article.now at text.now)) }
+{
+    let article = article.as_str();
+    let text = text.as_str();
+    Ok(json!(in alloc; {"article": article, "at": at, "do": "edit", "text": text})?)
+}
+
+fn type_request_value(alloc: Global, session: u32, text: &Text8) -> Result<Value, Memory>
+    ensures { IfOk result (λ value. view value ≡ request_value (Request.Put session text.now)) }
+{
+    let text = text.as_str();
+    Ok(json!(in alloc; {"do": "type", "session": session, "text": text})?)
+}
+
+// The line of a request for a session.
+fn session_value(alloc: Global, name: &str, session: u32) -> Result<Value, Memory>
+    ensures { IfOk result (λ value. view value ≡ session_value name.now session) }
+{
+    Ok(json!(in alloc; {"do": name, "session": session})?)
+}
+
+// The line of a request for an article.
+fn article_value(alloc: Global, name: &str, article: &Text8) -> Result<Value, Memory>
+    ensures { IfOk result (λ value. view value ≡ object (member (codes "article") (string article.now) (member (codes "do") (string name.now) no_members))) }
+{
+    let article = article.as_str();
+    Ok(json!(in alloc; {"article": article, "do": name})?)
+}
+
+// The line of a request for a place.
+fn place_value(alloc: Global, name: &str, article: &Text8, at: u32) -> Result<Value, Memory>
+    ensures { IfOk result (λ value. view value ≡ place_value name.now article.now at) }
+{
+    let article = article.as_str();
+    Ok(json!(in alloc; {"article": article, "at": at, "do": name})?)
 }

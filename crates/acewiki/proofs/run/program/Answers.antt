@@ -1,12 +1,26 @@
-use Rattle.std.proofs.Common.{◌≡◌, sym, subst, ◌∙◌}
+use Rattle.std.proofs.Common.{◌≡◌, List, ℕ, sym, subst, ap, ◌∙◌}
 use Rattle.acewiki.specs.declared.command.Outcome.{Outcome}
-use Rattle.acewiki.specs.declared.command.Outcome.TheVariants.{Memory}
-use Rattle.acewiki.specs.Replay.{ace_wiki, Replays}
-use Rattle.acewiki.proofs.CommandLemmas.{status_of-same}
+use Rattle.acewiki.specs.declared.command.Outcome.TheVariants as outcomes
+use Rattle.acewiki.specs.Command.{command_of}
+use Rattle.acewiki.specs.Replay.{Replays}
+use Rattle.acewiki.specs.Wiki.{ace_wiki}
 use Rattle.acewiki.proofs.RunLemmas.{Replays-none}
+use Rattle.acewiki.proofs.StatusLemmas.{outcome_is, told_words}
 use Rattle.acewiki.proofs.run.program.Goals as goal
 
+pub returns-in-Ok-clause-done : goal.returns-in-Ok-clause-done
+returns-in-Ok-clause-done g c =
+    λ words budget told given. c.run.ensures.done budget (ap command_of (c.deref.ensures.value ∙ told_words _ _ words c.in-Ok.ensures told) ∙ given)
+
+pub returns-in-Ok-clause-replays : goal.returns-in-Ok-clause-replays
+returns-in-Ok-clause-replays g c =
+    λ words budget outcome told given. c.run.ensures.replays budget outcome (ap command_of (c.deref.ensures.value ∙ told_words _ _ words c.in-Ok.ensures told) ∙ given)
+
+pub returns-in-Ok-clause-headline : goal.returns-in-Ok-clause-headline
+returns-in-Ok-clause-headline g c =
+    λ words address budget most told given. c.run.ensures.headline address budget most (ap command_of (c.deref.ensures.value ∙ told_words _ _ words c.in-Ok.ensures told) ∙ given)
+
 pub returns-in-Err-clause-replays : goal.returns-in-Err-clause-replays
-returns-in-Err-clause-replays g c = λ outcome is no_usage.
-    subst (λ (o : Outcome). Replays ace_wiki (g.S.Source.left c.args.input.now) (g.K.Sink.taken c.args.output.now) o (g.S.Source.left c.args.input.now) (g.K.Sink.taken c.args.output.now))
-    (sym (status_of-same outcome Memory (sym is ∙ c.end.ensures.status))) (Replays-none _ _ _)
+returns-in-Err-clause-replays g c =
+    λ words budget outcome told given is.
+    subst (λ (o : Outcome). Replays (ace_wiki budget) _ _ o _ _) (outcome_is _ outcome outcomes.Memory is c.end.ensures.status) (Replays-none (ace_wiki budget) _ _)

@@ -1,0 +1,72 @@
+#!/usr/bin/env bash
+# How fast `acewiki replay` adds sentences and answers questions, on the proved program: 50 words and 2,000 drawn sentences
+# (names in relations and classes, chains of classes, universal restrictions, and questions), one request after the other
+# through a pipe, then each article is read, and a word that stands in some 100 sentences is renamed.
+set -eu
+root="$(cd "$(dirname "${BASH_SOURCE[0]}")/.." && pwd)"
+program="$root/crates/acewiki/out/acewiki"
+[ -x "$program" ] || "$root/acewiki" replay </dev/null
+python3 - "$program" "${1:-2000}" "${2:-7}" <<'PY'
+import json, statistics, subprocess, sys, time
+
+program, count, seed = sys.argv[1], int(sys.argv[2]), int(sys.argv[3])
+letters = "abcdefghijklmnopqrst"
+nouns, names, verbs = ["noun" + x for x in letters], ["Name" + x for x in letters], ["verb" + x for x in letters[:10]]
+state = seed % 65537
+
+
+def draw():
+    global state
+    state = (state * 75 + 74) % 65537
+    return state
+
+
+def sentence(n):
+    a, b, c = draw(), draw(), draw()
+    if n % 5 == 0:
+        return names[a % 20], f"{names[a % 20]} {verbs[b % 10]}s {names[c % 20]}."
+    if n % 5 == 1:
+        i = a % 19
+        return nouns[i], f"Every {nouns[i]} is a {nouns[i + 1 + b % (19 - i)]}."
+    if n % 5 == 2:
+        return names[a % 20], f"{names[a % 20]} is a {nouns[b % 20]}."
+    if n % 5 == 3:
+        return nouns[a % 20], f"Every {nouns[a % 20]} {verbs[b % 10]}s only {nouns[c % 20]}s."
+    return nouns[a % 20], f"Which {nouns[a % 20]}s {verbs[b % 10]} {names[c % 20]}?"
+
+
+wiki = subprocess.Popen([program, "replay"], stdin=subprocess.PIPE, stdout=subprocess.PIPE)
+
+
+def ask(**request):
+    begun = time.perf_counter()
+    wiki.stdin.write(json.dumps(request).encode() + b"\n")
+    wiki.stdin.flush()
+    reply = json.loads(wiki.stdout.readline())
+    return reply, (time.perf_counter() - begun) * 1000
+
+
+whole = time.perf_counter()
+for kind, words in [("noun", nouns), ("name", names), ("verb", verbs)]:
+    for word in words:
+        assert ask(do="word", kind=kind, forms=[word])[0] == {"done": "word"}
+adds, statuses = [], {}
+for n in range(count):
+    article, text = sentence(n)
+    reply, took = ask(do="add", article=article, text=text)
+    adds.append(took)
+    statuses[reply.get("status")] = statuses.get(reply.get("status"), 0) + 1
+reads, answers, unknown = [], 0, 0
+for word in nouns + names + verbs:
+    reply, took = ask(do="read", article=word)
+    reads.append(took)
+    answers += sum(len(s.get("answers", [])) for s in reply["sentences"])
+    unknown += sum(len(s.get("unknown", [])) for s in reply["sentences"])
+whole = time.perf_counter() - whole
+reply, reword = ask(do="reword", word="noune", forms=["thing", "things"])
+print(f"{'sentences':32} {count:10} {statuses}, {answers} answers, {unknown} unknown")
+print(f"{'all requests, s':32} {whole:10.2f}")
+print(f"{'an add, median and worst, ms':32} {statistics.median(adds):10.2f} {max(adds):10.2f}")
+print(f"{'a read, median and worst, ms':32} {statistics.median(reads):10.2f} {max(reads):10.2f}")
+print(f"{'a reword, ms':32} {reword:10.2f} {reply}")
+PY

@@ -1,0 +1,79 @@
+use Rattle.std.proofs.Common.{◌≡◌, ℕ, List, refl, sym, subst}
+use Rattle.acewiki.specs.Wiki.{Holding}
+use Rattle.acewiki.specs.declared.command.Command.TheVariants as commands
+use Rattle.acewiki.specs.Replay.{Replays}
+use Rattle.acewiki.specs.Wiki.{ace_wiki}
+use Rattle.acewiki.specs.Serve.{Serves}
+use Rattle.acewiki.proofs.StatusLemmas.{is_replay, is_serve, is_none, same_replay, same_budget, same_most, no_serve, no_command, not_too_large, serves_not_too_large}
+use Rattle.acewiki.proofs.run.perform.Goals as goal
+
+pub returns-in-Some-Replay-clause-usage : goal.returns-in-Some-Replay-clause-usage
+returns-in-Some-Replay-clause-usage g c =
+    let command = is_replay _ _ _ _ c.from_words.ensures c.in-Some-Replay.is c.in-Some-Replay.field-0-is in
+    ((λ is. absurd (c.replay.ensures.usage.0 is)), λ none. no_command _ _ none command)
+
+pub returns-in-Some-Replay-clause-idle : goal.returns-in-Some-Replay-clause-idle
+returns-in-Some-Replay-clause-idle g c = λ is. absurd (c.replay.ensures.usage.0 is)
+
+pub returns-in-Some-Replay-clause-replays : goal.returns-in-Some-Replay-clause-replays
+returns-in-Some-Replay-clause-replays g c =
+    λ budget given.
+    let command = is_replay _ _ _ _ c.from_words.ensures c.in-Some-Replay.is c.in-Some-Replay.field-0-is in
+    subst (λ (b : ℕ). Replays (ace_wiki b) _ _ _ _ _) (same_replay _ c.in-Some-Replay.budget budget command given) c.replay.ensures.replays
+
+pub returns-in-Some-Replay-clause-serves : goal.returns-in-Some-Replay-clause-serves
+returns-in-Some-Replay-clause-serves g c =
+    λ address budget most given.
+    let command = is_replay _ _ _ _ c.from_words.ensures c.in-Some-Replay.is c.in-Some-Replay.field-0-is in
+    no_serve _ c.in-Some-Replay.budget budget most address command given
+
+pub returns-in-Some-Replay-clause-link_fault : goal.returns-in-Some-Replay-clause-link_fault
+returns-in-Some-Replay-clause-link_fault g c = λ is. absurd (c.replay.ensures.usage.1 is)
+
+pub returns-in-Some-Replay-clause-no_link : goal.returns-in-Some-Replay-clause-no_link
+returns-in-Some-Replay-clause-no_link g c = λ budget given. (refl, c.replay.ensures.usage.1)
+
+pub returns-in-Some-Replay-clause-large : goal.returns-in-Some-Replay-clause-large
+returns-in-Some-Replay-clause-large g c = λ within is. not_too_large _ _ _ _ c.replay.ensures.replays.input within is
+
+pub returns-in-Some-Serve-clause-usage : goal.returns-in-Some-Serve-clause-usage
+returns-in-Some-Serve-clause-usage g c =
+    let command = is_serve _ _ _ _ c.from_words.ensures c.in-Some-Serve.is c.in-Some-Serve.field-0-is in
+    ((λ is. absurd (c.serve.ensures.usage is)), λ none. no_command _ _ none command)
+
+pub returns-in-Some-Serve-clause-idle : goal.returns-in-Some-Serve-clause-idle
+returns-in-Some-Serve-clause-idle g c = λ is. absurd (c.serve.ensures.usage is)
+
+pub returns-in-Some-Serve-clause-replays : goal.returns-in-Some-Serve-clause-replays
+returns-in-Some-Serve-clause-replays g c =
+    λ budget given.
+    let command = is_serve _ _ _ _ c.from_words.ensures c.in-Some-Serve.is c.in-Some-Serve.field-0-is in
+    no_serve _ budget c.in-Some-Serve.budget c.in-Some-Serve.events _ given command
+
+pub returns-in-Some-Serve-clause-serves : goal.returns-in-Some-Serve-clause-serves
+returns-in-Some-Serve-clause-serves g c =
+    λ address budget most given.
+    let command = is_serve _ _ _ _ c.from_words.ensures c.in-Some-Serve.is c.in-Some-Serve.field-0-is in
+    subst (λ (m : ℕ). Serves (ace_wiki budget) m _ _ _ _ _ _ _ _) (same_most _ _ address _ budget c.in-Some-Serve.events most command given)
+    (subst (λ (b : ℕ). Serves (ace_wiki b) c.in-Some-Serve.events _ _ _ _ _ _ _ _) (same_budget _ _ address c.in-Some-Serve.budget budget _ most command given) c.serve.ensures.serves)
+
+pub returns-in-Some-Serve-clause-no_link : goal.returns-in-Some-Serve-clause-no_link
+returns-in-Some-Serve-clause-no_link g c =
+    λ budget given.
+    let command = is_serve _ _ _ _ c.from_words.ensures c.in-Some-Serve.is c.in-Some-Serve.field-0-is in
+    no_serve _ budget c.in-Some-Serve.budget c.in-Some-Serve.events _ given command
+
+pub returns-in-Some-Serve-clause-large : goal.returns-in-Some-Serve-clause-large
+returns-in-Some-Serve-clause-large g c = λ within is. serves_not_too_large _ _ _ _ _ _ _ _ _ _ c.serve.ensures.serves within is
+
+pub returns-in-None-clause-usage : goal.returns-in-None-clause-usage
+returns-in-None-clause-usage g c = ((λ _. is_none _ _ c.from_words.ensures c.in-None.is), λ _. refl)
+
+pub returns-in-None-clause-replays : goal.returns-in-None-clause-replays
+returns-in-None-clause-replays g c = λ budget given. no_command _ _ (is_none _ _ c.from_words.ensures c.in-None.is) given
+
+pub returns-in-None-clause-serves : goal.returns-in-None-clause-serves
+returns-in-None-clause-serves g c = λ address budget most given. no_command _ _ (is_none _ _ c.from_words.ensures c.in-None.is) given
+
+pub returns-in-None-clause-no_link : goal.returns-in-None-clause-no_link
+returns-in-None-clause-no_link g c = λ budget given. no_command _ _ (is_none _ _ c.from_words.ensures c.in-None.is) given

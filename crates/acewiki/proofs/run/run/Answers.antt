@@ -1,0 +1,66 @@
+use Rattle.std.proofs.Common.{◌≡◌, ℕ, List, refl, sym, subst, ap, ◌∙◌}
+use Rattle.acewiki.specs.declared.command.Outcome.{Outcome}
+use Rattle.acewiki.specs.declared.command.Outcome.TheVariants as outcomes
+use Rattle.acewiki.specs.Command.{status_of}
+use Rattle.acewiki.specs.Replay.{Replays}
+use Rattle.acewiki.specs.Wiki.{ace_wiki}
+use Rattle.acewiki.specs.Serve.{Serves}
+use Rattle.acewiki.proofs.ServeLemmas.{headline_of}
+use Rattle.acewiki.proofs.StatusLemmas.{outcome_is, answers_done, completes}
+use Rattle.acewiki.proofs.run.run.Goals as goal
+
+pub returns-clause-usage : goal.returns-clause-usage
+returns-clause-usage g c =
+    let ran = c.perform-outcome.ensures in (
+      (λ two. ran.usage.0 (sym (outcome_is _ _ outcomes.Usage c.end.ensures.status two))),
+      λ none. c.end.ensures.status ∙ ap status_of (ran.usage.1 none),
+    )
+
+pub returns-clause-idle : goal.returns-clause-idle
+returns-clause-idle g c = λ two. c.perform-outcome.ensures.idle (sym (outcome_is _ _ outcomes.Usage c.end.ensures.status two))
+
+pub returns-clause-done : goal.returns-clause-done
+returns-clause-done g c =
+    λ budget given zero bytes told.
+    let done = sym (outcome_is _ _ outcomes.Done c.end.ensures.status zero) in
+    answers_done (ace_wiki budget) _ _ _ _ bytes told (subst (λ (o : Outcome). Replays (ace_wiki budget) _ _ o _ _) done (c.perform-outcome.ensures.replays budget given))
+
+pub returns-clause-replays : goal.returns-clause-replays
+returns-clause-replays g c =
+    λ budget outcome given status.
+    subst (λ (o : Outcome). Replays (ace_wiki budget) _ _ o _ _) (sym (outcome_is _ _ outcome c.end.ensures.status status)) (c.perform-outcome.ensures.replays budget given)
+
+pub returns-clause-headline : goal.returns-clause-headline
+returns-clause-headline g c =
+    λ address budget most given zero bytes told.
+    let done = sym (outcome_is _ _ outcomes.Done c.end.ensures.status zero) in
+    headline_of (ace_wiki budget) most _ _ _ _ _ _ _ (subst (λ (o : Outcome). Serves (ace_wiki budget) most _ _ _ o _ _ _ _) done (c.perform-outcome.ensures.serves address budget most given)) bytes told
+
+pub returns-clause-serves : goal.returns-clause-serves
+returns-clause-serves g c =
+    λ address budget most outcome given status.
+    subst (λ (o : Outcome). Serves (ace_wiki budget) most _ _ _ o _ _ _ _) (sym (outcome_is _ _ outcome c.end.ensures.status status)) (c.perform-outcome.ensures.serves address budget most given)
+
+pub returns-clause-read_fault : goal.returns-clause-read_fault
+returns-clause-read_fault g c = λ is. c.perform-outcome.ensures.read_fault (sym (outcome_is _ _ outcomes.ReadFault c.end.ensures.status is))
+
+pub returns-clause-write_fault : goal.returns-clause-write_fault
+returns-clause-write_fault g c = λ is. c.perform-outcome.ensures.write_fault (sym (outcome_is _ _ outcomes.WriteFault c.end.ensures.status is))
+
+pub returns-clause-link_fault : goal.returns-clause-link_fault
+returns-clause-link_fault g c = λ is. c.perform-outcome.ensures.link_fault (sym (outcome_is _ _ outcomes.LinkFault c.end.ensures.status is))
+
+pub returns-clause-no_link : goal.returns-clause-no_link
+returns-clause-no_link g c =
+    λ budget given.
+    let none = c.perform-outcome.ensures.no_link budget given in
+    (none.0, λ five. none.1 (sym (outcome_is _ _ outcomes.LinkFault c.end.ensures.status five)))
+
+pub returns-clause-complete : goal.returns-clause-complete
+returns-clause-complete g c =
+    λ command read write link within.
+    let ran = c.perform-outcome.ensures in
+    completes _ _ c.end.ensures.status (λ is. command (ran.usage.0 is)) (λ is. read (ran.read_fault is)) (λ is. write (ran.write_fault is)) (λ is. link (ran.link_fault is)) (ran.large within)
+
+pub returns-clause-words : goal.returns-clause-words
+returns-clause-words g c = (c.perform-outcome.result, c.end.ensures.status, c.end.ensures.words)

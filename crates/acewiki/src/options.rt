@@ -1,0 +1,92 @@
+// The options of a command, each as two words.
+ghost use Rattle.std.specs.Prelude.{◌≡◌, ◌≤◌};
+ghost use Rattle.acewiki.specs.Command.{number_within, with_budget, with_events, with_option, options_after, no_options};
+
+use http_front::number_of;
+use wiki_base::Arg;
+
+/// The most steps that a search may be given.
+pub const MOST_BUDGET: u64 = 1_000_000_000;
+
+/// The most events that are handled, and how many are where the command says nothing else.
+pub const MOST_EVENTS: u64 = 1_000_000_000;
+
+/// How many steps a search may take where the command says nothing else.
+pub const DEFAULT_BUDGET: u64 = 1_000_000;
+
+/// The options, each where it is given.
+#[derive(Clone, Copy, Debug, PartialEq, Eq)]
+pub struct Options {
+    /// `--budget`: how many steps a search may take.
+    pub budget: Option<u64>,
+    /// `--events`: how many events are handled.
+    pub events: Option<u64>,
+}
+
+impl Options {
+    /// The options that the words are, if they are options, each at most once.
+    pub fn from_words(words: &[Arg]) -> Option<Options>
+        ensures { result ≡ options_after no_options words.now }
+    {
+        let mut given = Options {
+            budget: None,
+            events: None,
+        };
+        let mut rest = words;
+        'words: while let Some((name, behind)) = rest.split_first() {
+            let (value, others) = behind.split_first()?;
+            given = given.with_option(name.as_slice(), value.as_slice())?;
+            rest = others;
+        }
+        Some(given)
+    }
+
+    #[tactic(auto, unfolding(crate::specs::Command::with_option))]
+    fn with_option(self, name: &[u8], value: &[u8]) -> Option<Options>
+        ensures { result ≡ with_option self name.now value.now }
+    {
+        if name == b"--budget".as_slice() {
+            return self.with_budget(value);
+        }
+        if name == b"--events".as_slice() {
+            return self.with_events(value);
+        }
+        None
+    }
+
+    fn with_budget(self, value: &[u8]) -> Option<Options>
+        ensures { result ≡ with_budget self value.now }
+    {
+        if self.budget.is_some() {
+            return None;
+        }
+        let budget = number_within(0, MOST_BUDGET, value)?;
+        Some(Options {
+            budget: Some(budget),
+            events: self.events,
+        })
+    }
+
+    fn with_events(self, value: &[u8]) -> Option<Options>
+        ensures { result ≡ with_events self value.now }
+    {
+        if self.events.is_some() {
+            return None;
+        }
+        let events = number_within(1, MOST_EVENTS, value)?;
+        Some(Options {
+            budget: self.budget,
+            events: Some(events),
+        })
+    }
+}
+
+// The number that a word of 1 to 19 digits writes, if it stands between these two.
+fn number_within(least: u64, most: u64, word: &[u8]) -> Option<u64>
+    ensures { result ≡ number_within least most word.now }
+{
+    match number_of(word, 19) {
+        Some(number) if least <= number && number <= most => Some(number),
+        _ => None,
+    }
+}

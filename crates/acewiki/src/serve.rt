@@ -1,0 +1,145 @@
+// The command `serve`: the lines of the input, and then connections.
+ghost use Rattle.std.specs.Prelude.{◌≡◌, []};
+ghost use Rattle.wiki_io.specs.Faults.{Rose};
+ghost use Rattle.wiki_io.specs.Reading.{unread};
+ghost use Rattle.acewiki.specs.Replay.{StepsInputTo};
+ghost use Rattle.acewiki.specs.Wiki.{ace_wiki};
+ghost use Rattle.acewiki.specs.Serve.{Serves, ServesLink, outcome_of};
+
+use crate::command::Outcome;
+use crate::lines::step_line;
+use crate::wiki::AceWiki;
+use serving::Served;
+use std::alloc::Global;
+use wiki_base::Memory;
+use wiki_io::{Line, LineReader, Link, Listen, Sink, Source};
+
+/// Steps through the lines of the input, then listens at the address and handles the events of the link, at most so many.
+/// The accepted changes that came over connections are written to the output.
+pub fn serve<S: Source, K: Sink, L: Link>(
+    alloc: Global,
+    address: &str,
+    budget: u64,
+    events: u64,
+    input: &mut S,
+    output: &mut K,
+    link: &mut L,
+) -> Outcome
+    requires { L.connections link.old ≡ [] }
+    ensures serves { Serves (ace_wiki budget) events (S.left input.old)
+        (record { journal = K.taken output.old; sent = L.sent link.old; send_faults = L.send_faults link.old }) (L.handed link.old)
+        result (S.left input.new)
+        (record { journal = K.taken output.new; sent = L.sent link.new; send_faults = L.send_faults link.new }) (L.handed link.new) (L.left link.new) }
+    ensures read_fault { result ≡ Outcome.ReadFault → Rose (S.faults input.old) (S.faults input.new) }
+    ensures write_fault { result ≡ Outcome.WriteFault → Rose (K.faults output.old) (K.faults output.new) }
+    ensures link_fault { result ≡ Outcome.LinkFault → Rose (L.faults link.old) (L.faults link.new) }
+    ensures usage { result ≡ Outcome.Usage → ⊥ }
+{
+    match AceWiki::new(alloc, budget) {
+        Ok(mut wiki) => serve_wiki(alloc, &mut wiki, address, events, input, output, link),
+        Err(Memory) => Outcome::Memory,
+    }
+}
+
+// Steps the wiki through the lines of the input, and then serves it.
+fn serve_wiki<S: Source, K: Sink, L: Link>(
+    alloc: Global,
+    wiki: &mut AceWiki,
+    address: &str,
+    events: u64,
+    input: &mut S,
+    output: &mut K,
+    link: &mut L,
+) -> Outcome
+    requires { L.connections link.old ≡ [] }
+    ensures serves { Serves wiki.old events (S.left input.old)
+        (record { journal = K.taken output.old; sent = L.sent link.old; send_faults = L.send_faults link.old }) (L.handed link.old)
+        result (S.left input.new)
+        (record { journal = K.taken output.new; sent = L.sent link.new; send_faults = L.send_faults link.new }) (L.handed link.new) (L.left link.new) }
+    ensures read_fault { result ≡ Outcome.ReadFault → Rose (S.faults input.old) (S.faults input.new) }
+    ensures write_fault { result ≡ Outcome.WriteFault → Rose (K.faults output.old) (K.faults output.new) }
+    ensures link_fault { result ≡ Outcome.LinkFault → Rose (L.faults link.old) (L.faults link.new) }
+    ensures usage { result ≡ Outcome.Usage → ⊥ }
+{
+    match step_input(alloc, wiki, input) {
+        Outcome::Done => serve_link(alloc, wiki, address, events, output, link),
+        outcome => outcome,
+    }
+}
+
+// Listens, and serves the wiki.
+fn serve_link<K: Sink, L: Link>(
+    alloc: Global,
+    wiki: &mut AceWiki,
+    address: &str,
+    events: u64,
+    output: &mut K,
+    link: &mut L,
+) -> Outcome
+    requires { L.connections link.old ≡ [] }
+    ensures serves { ServesLink wiki.old events
+        (record { journal = K.taken output.old; sent = L.sent link.old; send_faults = L.send_faults link.old }) (L.handed link.old)
+        result (record { journal = K.taken output.new; sent = L.sent link.new; send_faults = L.send_faults link.new }) (L.handed link.new) (L.left link.new) }
+    ensures write_fault { result ≡ Outcome.WriteFault → Rose (K.faults output.old) (K.faults output.new) }
+    ensures link_fault { result ≡ Outcome.LinkFault → Rose (L.faults link.old) (L.faults link.new) }
+    ensures others { (result ≡ Outcome.Usage → ⊥) × (result ≡ Outcome.ReadFault → ⊥) }
+{
+    match link.listen(address) {
+        Listen::Ready => {
+            let served = serving::serve(alloc, wiki, events, output, link);
+            ended(served)
+        }
+        Listen::Failed => Outcome::LinkFault,
+    }
+}
+
+// How the program ends where serving ended so.
+fn ended(served: Served) -> Outcome
+    ensures { result ≡ outcome_of served }
+{
+    match served {
+        Served::Done => Outcome::Done,
+        Served::LinkFault => Outcome::LinkFault,
+        Served::JournalFault => Outcome::WriteFault,
+        Served::Memory => Outcome::Memory,
+    }
+}
+
+// Steps the wiki through the lines of the input.
+fn step_input<S: Source>(alloc: Global, wiki: &mut AceWiki, input: &mut S) -> Outcome
+    ensures steps { StepsInputTo wiki.old (S.left input.old) result (S.left input.new) wiki.new }
+    ensures read_fault { result ≡ Outcome.ReadFault → Rose (S.faults input.old) (S.faults input.new) }
+    ensures others { (result ≡ Outcome.Usage → ⊥) × (result ≡ Outcome.WriteFault → ⊥) × (result ≡ Outcome.LinkFault → ⊥) }
+{
+    match LineReader::new(alloc) {
+        Ok(mut reader) => step_lines(alloc, &mut reader, wiki, input),
+        Err(Memory) => Outcome::Memory,
+    }
+}
+
+// Steps through each line that a fresh reader gives.
+fn step_lines<S: Source>(
+    alloc: Global,
+    reader: &mut LineReader,
+    wiki: &mut AceWiki,
+    input: &mut S,
+) -> Outcome
+    requires { reader.old ≡ unread }
+    ensures steps { StepsInputTo wiki.old (S.left input.old) result (S.left input.new) wiki.new }
+    ensures read_fault { result ≡ Outcome.ReadFault → Rose (S.faults input.old) (S.faults input.new) }
+    ensures others { (result ≡ Outcome.Usage → ⊥) × (result ≡ Outcome.WriteFault → ⊥) × (result ≡ Outcome.LinkFault → ⊥) }
+{
+    'lines: loop {
+        let line = match reader.next_line(input) {
+            Line::Text => Some(reader.line()),
+            Line::TooLong => None,
+            Line::End => return Outcome::Done,
+            Line::ReadFault => return Outcome::ReadFault,
+            Line::TooMuch => return Outcome::TooMuch,
+        };
+        match step_line(alloc, wiki, line) {
+            Ok(()) => {}
+            Err(Memory) => return Outcome::Memory,
+        }
+    }
+}

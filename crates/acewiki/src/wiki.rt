@@ -1,0 +1,47 @@
+// The wiki that the program begins with.
+ghost use Rattle.std.specs.Prelude.{◌≡◌, IfOk, OnErr};
+ghost use Rattle.acewiki.specs.Wiki.{KeptStep, ace_wiki};
+
+use ace_grammar::built_in;
+use serving::Machine;
+use std::alloc::Global;
+use std::marker::Model;
+use wiki_base::Memory;
+use wiki_core::Wiki;
+use wiki_talk::{Reply, Request};
+
+/// A wiki over the built-in grammar, seen as the state of a plain wiki.
+#[derive(Drop)]
+pub struct AceWiki {
+    wiki: Wiki,
+}
+
+impl Model for AceWiki {
+    ghost use Rattle.acewiki.specs.Wiki.{Holding};
+
+    ghost Value = { Holding };
+
+    ghost view = { λ w. w.wiki };
+}
+
+impl AceWiki {
+    /// The wiki without words. A search may take `budget` steps.
+    pub fn new(alloc: Global, budget: u64) -> Result<AceWiki, Memory>
+        ensures { IfOk result (λ wiki. wiki ≡ ace_wiki budget) }
+    {
+        let wiki = Wiki::new(alloc, built_in(alloc)?, budget)?;
+        Ok(AceWiki { wiki })
+    }
+}
+
+impl Machine for AceWiki {
+    ghost Steps = { KeptStep };
+
+    fn step(&mut self, request: &Request) -> Result<Reply, Memory>
+        ensures step { IfOk result (λ reply. KeptStep self.old request.now reply self.new) }
+        ensures memory { OnErr result (self.new ≡ self.old) }
+    {
+        let reply = self.wiki.step(request)?;
+        Ok(reply)
+    }
+}

@@ -1,0 +1,5 @@
+//! Requests of the wiki in HTTP, whole, cut and refused: tests alone.
+#![tactic(auto)]
+
+#[cfg(test)]
+mod tests;

@@ -1,0 +1,8 @@
+use Rattle.std.proofs.Common.{◌≡◌, ◌++◌}
+use Rattle.std.specs.String.{string_bytes}
+use Rattle.form_urlencoded.specs.Form.{byte_serialize}
+use Rattle.form_urlencoded.specs.Serialize.{serialized_text}
+use Rattle.http_front.proofs.forms.coded.Given as goal
+
+abbrev pub invariant-loop-piece : goal.invariant-loop-piece
+invariant-loop-piece l = string_bytes l.coded ++ serialized_text l.piece-iterator ≡ byte_serialize l.text

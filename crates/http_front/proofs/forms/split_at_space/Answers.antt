@@ -1,0 +1,8 @@
+use Rattle.std.proofs.Common.{lit<}
+use Rattle.std.proofs.lemmas.Str.Pattern.{split_parts}
+use Rattle.http_front.proofs.PieceLemmas.{split_cases}
+use Rattle.http_front.proofs.forms.split_at_space.Goals as goal
+
+pub returns : goal.returns
+returns c =
+    split_cases c.args.text.now c.split_once.result (split_parts 32 c.args.text.now c.split_once.result c.split_once.ensures.cases (lit< tt))

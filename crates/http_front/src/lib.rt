@@ -1,0 +1,18 @@
+//! Requests of the wiki in HTTP.
+#![tactic(auto)]
+
+mod asked;
+mod fields;
+mod forms;
+mod front;
+mod goals;
+mod limits;
+mod numbers;
+mod routes;
+mod seen;
+
+pub use front::Front;
+pub use goals::{Goal, InSession, OnArticle, Verb};
+pub use limits::{MOST_BODY, MOST_FIELDS, MOST_HEAD};
+pub use numbers::number_of;
+pub use seen::{Begun, Head, Seen, Then};

@@ -1,0 +1,55 @@
+//! The pages of the wiki as HTML.
+#![tactic(auto)]
+
+mod article;
+mod html;
+mod index;
+mod session;
+#[cfg(test)]
+mod tests;
+
+ghost use Rattle.std.specs.Prelude.{◌≡◌, IfOk, option_map};
+ghost use Rattle.pages.specs.Pages.{page_of, refusal_body, refusal_page};
+ghost use Rattle.std.specs.String.{string_bytes};
+
+use article::article_page;
+use html::{escaped, framed};
+use index::index_page;
+use session::session_page;
+use std::alloc::Global;
+use wiki_base::{Memory, Text8};
+use wiki_talk::Reply;
+
+/// The page of a reply: the index of a done `words`, the article of a done `read`, the session of a done `menu`, whose
+/// number is `session`. `None` exactly for any other reply.
+pub fn page(alloc: Global, session: u32, reply: &Reply) -> Result<Option<Text8>, Memory>
+    ensures { IfOk result (λ page. page ≡ page_of session reply.now) }
+{
+    match reply {
+        Reply::Words { words } => Ok(Some(index_page(alloc, words.as_slice())?)),
+        Reply::Read {
+            form,
+            sentences,
+            ..
+        } => Ok(Some(article_page(alloc, form.as_str(), sentences.as_slice())?)),
+        Reply::Menu { menu, shown, .. } => {
+            Ok(Some(session_page(alloc, session, shown.as_str(), menu)?))
+        }
+        _ => Ok(None),
+    }
+}
+
+/// The page that tells a refusal by its number and name, or a status of HTTP by its number and phrase.
+pub fn refusal_page(alloc: Global, number: u32, name: &str) -> Result<Text8, Memory>
+    ensures { IfOk result (λ page. page ≡ refusal_page number name.now) }
+{
+    let body = refusal_body(alloc, number, name)?;
+    framed(alloc, "Refused", body.as_str())
+}
+
+fn refusal_body(alloc: Global, number: u32, name: &str) -> Result<String, Memory>
+    ensures { IfOk result (λ body. string_bytes body ≡ refusal_body number name.now) }
+{
+    let name = escaped(alloc, name)?;
+    Ok(format!(in alloc; "<p>{number} {name}</p>")?)
+}

@@ -1,0 +1,5 @@
+pub mod ReadLemmas
+pub mod KeptLemmas
+pub mod OwnLemmas
+pub mod RunLemmas
+pub mod StatusLemmas

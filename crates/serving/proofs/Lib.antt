@@ -1,0 +1,4 @@
+pub mod DeliverLemmas
+pub mod EventLemmas
+pub mod OpenLemmas
+pub mod ServeLemmas

@@ -1,0 +1,41 @@
+-- What one event on a connection comes to, at a server and a machine that answers requests.
+use Rattle.std.specs.Prelude.{ℕ, List, [], ◌∷◌}
+use Rattle.wiki_talk.specs.declared.requests.Request.{Request}
+use Rattle.wiki_talk.specs.declared.replies.Reply.{Reply}
+use Rattle.wiki_talk.specs.Turns.{Exchange, answered}
+use Rattle.http_front.specs.declared.seen.Then.{Then}
+use Rattle.server.specs.declared.turns.Turn.{Turn}
+use Rattle.server.specs.declared.turns.Turn.TheVariants as turns
+use Rattle.server.specs.Responses.{response_of}
+use Rattle.serving.specs.Journal.{journal_line}
+
+-- nothing; a response on a connection for which the machine isn't asked; or a request that came over a connection, with the
+-- machine's reply
+pub data Handling : Type 0 where
+  waited : Handling
+  refused : ℕ → List ℕ → Handling
+  replied : ℕ → Request → Then → Reply → Handling
+
+-- the turn of the server
+abbrev pub turn_in : Handling → Turn
+turn_in waited = turns.Wait
+turn_in (refused n response) = turns.Refuse n response
+turn_in (replied n request then reply) = turns.Ask n request then
+
+-- what the machine is asked, with its reply
+abbrev pub exchange_in : Handling → List (Exchange Request Reply)
+exchange_in waited = []
+exchange_in (refused n response) = []
+exchange_in (replied n request then reply) = answered request reply ∷ []
+
+-- what is written to the journal
+abbrev pub journal_in : Handling → List ℕ
+journal_in waited = []
+journal_in (refused n response) = []
+journal_in (replied n request then reply) = journal_line request reply
+
+-- the response, with the number of its connection
+abbrev pub response_in : Handling → List (ℕ × List ℕ)
+response_in waited = []
+response_in (refused n response) = (n, response) ∷ []
+response_in (replied n request then reply) = (n, response_of then reply) ∷ []

@@ -1,0 +1,69 @@
+// The lines of the journal.
+ghost use Rattle.std.specs.Prelude.{◌≡◌, None, IfOk};
+ghost use Rattle.serving.specs.Journal.{is_change, line_written, change_line, journal_line};
+
+use lists::Copied;
+use std::alloc::Global;
+use wiki_base::{Memory, Text8};
+use wiki_talk::{Reply, Request};
+use wire_json::request_line;
+
+/// The journal's line for a request with its reply; the empty text where the reply tells of no accepted change.
+#[tactic(auto, unfolding(crate::specs::Journal::journal_line))]
+pub(crate) fn journal_line(alloc: Global, request: &Request, reply: &Reply) -> Result<Text8, Memory>
+    ensures { IfOk result (λ line. line ≡ journal_line request.now reply.now) }
+{
+    match reply {
+        Reply::Refused(_) => Ok(Text8::new(alloc)),
+        Reply::Commit { article, shown, .. } => added_line(alloc, article, shown),
+        _ => change_line(alloc, request),
+    }
+}
+
+fn added_line(alloc: Global, article: &Text8, text: &Text8) -> Result<Text8, Memory>
+    ensures { IfOk result (λ line. line ≡ line_written (Request.Add article.now None text.now)) }
+{
+    let added = Request::Add {
+        article: article.copy()?,
+        at: None,
+        text: text.copy()?,
+    };
+    line_written(alloc, &added)
+}
+
+#[tactic(auto, unfolding(crate::specs::Journal::change_line))]
+fn change_line(alloc: Global, request: &Request) -> Result<Text8, Memory>
+    ensures { IfOk result (λ line. line ≡ change_line request.now) }
+{
+    if is_change(request) {
+        line_written(alloc, request)
+    } else {
+        Ok(Text8::new(alloc))
+    }
+}
+
+// A request as it is written.
+#[tactic(auto, unfolding(crate::specs::Journal::line_written))]
+fn line_written(alloc: Global, request: &Request) -> Result<Text8, Memory>
+    ensures { IfOk result (λ line. line ≡ line_written request.now) }
+{
+    request_line(alloc, request)
+}
+
+// The request changes words or sentences.
+#[tactic(auto, unfolding(crate::specs::Journal::is_change))]
+fn is_change(request: &Request) -> bool
+    ensures { result ≡ is_change request.now }
+{
+    match request {
+        Request::Word { .. } => true,
+        Request::Reword { .. } => true,
+        Request::Unword { .. } => true,
+        Request::Add { .. } => true,
+        Request::Edit { .. } => true,
+        Request::Remove { .. } => true,
+        Request::Retract { .. } => true,
+        Request::Reassert { .. } => true,
+        _ => false,
+    }
+}

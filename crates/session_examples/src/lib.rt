@@ -1,0 +1,5 @@
+//! Tests alone: the wiki's replies on editing sessions.
+#![tactic(auto)]
+
+#[cfg(test)]
+mod tests;

@@ -1,0 +1,4 @@
+pub mod OrderLaws
+pub mod PlaceLemmas
+pub mod ChangeLemmas
+pub mod KeepingLaws

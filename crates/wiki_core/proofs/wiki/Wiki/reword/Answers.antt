@@ -1,0 +1,37 @@
+use Rattle.std.proofs.Common.{◌≡◌, refl, sym, ap, subst}
+use Rattle.codeco_terms.specs.GrammarParts.{GrammarParts}
+use Rattle.sessions.specs.Sessions.{all_plain, AreKept, AreRebased}
+use Rattle.wiki_talk.specs.declared.requests.Request.TheVariants as requests
+use Rattle.wiki_talk.specs.declared.replies.Reply.TheVariants as replies
+use Rattle.wiki_parts.specs.Holding as holding
+use Rattle.wiki_core.specs.Holding.{Holding}
+use Rattle.wiki_core.specs.Step.{StepsPages}
+use Rattle.wiki_core.specs.Keeping.{AreHeld}
+use Rattle.wiki_core.proofs.HeldLemmas.{held_rebased}
+use Rattle.wiki_core.proofs.wiki.Wiki.reword.Goals as goal
+
+pub returns-in_err-lexicon-clause-refused : goal.returns-in_err-lexicon-clause-refused
+returns-in_err-lexicon-clause-refused c = rw (sym c.self.view_is) c.in_err-lexicon.ensures.refused
+
+pub invariant_of-self : goal.invariant_of-self
+invariant_of-self c =
+    let pages = c.self.inside.store.state in
+    let lexicon = c.in_ok-lexicon.lexicon in
+    let sessions = c.in_ok-sessions.sessions in
+    subst (λ (h : holding.Holding). AreHeld h.state sessions c.self.inside.last) (sym c.reworded.ensures)
+    (held_rebased pages lexicon c.self.inside.sessions sessions c.self.inside.last c.self.invariant
+    (subst (λ (g : GrammarParts). AreKept g lexicon sessions) c.grammar.ensures c.in_ok-sessions.ensures.kept)
+    (subst (λ (g : GrammarParts). AreRebased g lexicon (all_plain c.self.inside.sessions) (all_plain sessions)) c.grammar.ensures c.in_ok-sessions.ensures.rebased))
+
+pub returns-clause-step : goal.returns-clause-step
+returns-clause-step c =
+    let pages = c.self.inside.store.state in
+    let lexicon = c.in_ok-lexicon.lexicon in
+    let sessions = c.in_ok-sessions.sessions in
+    rw (sym c.self.view_is) (subst (λ (h : holding.Holding). StepsPages (record { pages = pages; sessions = all_plain c.self.inside.sessions; last = c.self.inside.last }) (requests.Reword c.args.form.now c.args.forms.now) replies.Reword
+    (record { pages = h.state; sessions = all_plain sessions; last = c.self.inside.last })) (sym c.reworded.ensures)
+    (record {
+      pages = c.in_ok-lexicon.ensures.step;
+      sessions = subst (λ (g : GrammarParts). AreRebased g lexicon (all_plain c.self.inside.sessions) (all_plain sessions)) c.grammar.ensures c.in_ok-sessions.ensures.rebased;
+      last = refl;
+    }))

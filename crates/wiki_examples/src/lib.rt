@@ -1,0 +1,5 @@
+//! Tests alone: the wiki's replies on words, articles and sentences.
+#![tactic(auto)]
+
+#[cfg(test)]
+mod tests;

@@ -1,0 +1,14 @@
+pub mod CauseLemmas
+pub mod FirstLemmas
+pub mod FullLemmas
+pub mod KnownLemmas
+pub mod LiveNames
+pub mod MeaningLemmas
+pub mod MentionLemmas
+pub mod MenuLemmas
+pub mod NameLemmas
+pub mod OverLemmas
+pub mod PassingLemmas
+pub mod UseLemmas
+pub mod VerdictLemmas
+pub mod WordLemmas

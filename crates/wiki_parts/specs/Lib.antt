@@ -1,0 +1,14 @@
+pub mod Faults
+pub mod Found
+pub mod Holding
+pub mod Judgements
+pub mod Kept
+pub mod Knowledge
+pub mod Meanings
+pub mod Mentions
+pub mod Parsing
+pub mod Places
+pub mod Refusing
+pub mod State
+pub mod Telling
+pub mod Words

@@ -1,0 +1,63 @@
+-- What `parse` tells of a text: the code of its least skeleton, or how far its tokens can be typed.
+use Rattle.std.specs.Prelude.{◌≡◌, ℕ, ◌≤◌, ◌<◌, ◌⊎◌, ◌==◌, List, length, take, map, filter}
+use Rattle.codeco_terms.specs.GrammarParts.{GrammarParts}
+use Rattle.lexicon.specs.Words.{Listed}
+use Rattle.wiki_base.specs.declared.tokens.TheConstants.{MOST_TOKENS}
+use Rattle.derivation_trees.specs.declared.menus.Group.{Group}
+use Rattle.derivation_trees.specs.declared.menus.Group.TheVariants.{Function, Name, Noun, Of, Verb, Adjective}
+use Rattle.derivation_trees.specs.declared.skeletons.Skeleton.{Skeleton}
+use Rattle.derivation_trees.specs.Cutting.{cut_of}
+use Rattle.derivation_trees.specs.Sentences.{IsSentence}
+use Rattle.derivation_trees.specs.Menus.{group_number}
+use Rattle.derivation_trees.specs.Codes.{skeleton_code}
+use Rattle.derivation_trees.specs.Skeletons.{IsLeastSkeleton}
+use Rattle.derivations.specs.Typing.{IsTextMenu, IsTypeableCount}
+use Rattle.wiki_talk.specs.declared.limits.Limit.TheVariants as limits
+use Rattle.wiki_talk.specs.declared.refusals.Refusal.{Refusal}
+use Rattle.wiki_talk.specs.declared.refusals.Refusal.TheVariants.{NotSentence}
+use Rattle.wiki_talk.specs.declared.replies.MenuView.{MenuView}
+use Rattle.wiki_talk.specs.declared.replies.Reply.{Reply}
+use Rattle.wiki_talk.specs.declared.replies.Reply.TheVariants as replies
+use Rattle.wiki_parts.specs.State.{State}
+use Rattle.wiki_parts.specs.Words.{full_at}
+
+-- the tokens of a text
+abbrev pub tokens_of : State → List ℕ → List (List ℕ)
+tokens_of state text = cut_of state.grammar.terminals text
+
+-- the tokens of a group
+abbrev pub of_group : Group → List (Group × List ℕ) → List (List ℕ)
+of_group group menu = map (λ entry. entry.1) (filter (λ entry. group_number entry.0 == group_number group) menu)
+
+-- a menu as it is told
+abbrev pub told_menu : List (Group × List ℕ) → MenuView
+told_menu menu = record {
+  adjective = of_group Adjective menu;
+  function = of_group Function menu;
+  name = of_group Name menu;
+  noun = of_group Noun menu;
+  of = of_group Of menu;
+  verb = of_group Verb menu;
+}
+
+-- the tokens have no derivation, and the refusal tells how many of them can be typed, and their menu
+pub record IsNoSentence (g : GrammarParts) (words : Listed) (tokens : List (List ℕ)) (refusal : Refusal) : Type 0 where
+  pub none : ¬ IsSentence g words tokens
+  pub count : ℕ
+  pub typeable : IsTypeableCount g words tokens count
+  pub menu : List (Group × List ℕ)
+  pub follows : IsTextMenu g words (take count tokens) menu
+  pub told : refusal ≡ NotSentence count (told_menu menu)
+
+-- the text has too many tokens, or has no derivation
+abbrev pub RefusesText : State → List ℕ → Refusal → Type 0
+RefusesText state text refusal =
+    ((MOST_TOKENS < length (tokens_of state text)) × (refusal ≡ full_at limits.Tokens))
+    ⊎ ((length (tokens_of state text) ≤ MOST_TOKENS) × IsNoSentence state.grammar state.words (tokens_of state text) refusal)
+
+-- the code of the least skeleton is told
+pub record TellsCode (old : State) (text : List ℕ) (reply : Reply) (new : State) : Type 0 where
+  pub least : Skeleton
+  pub is_least : IsLeastSkeleton old.grammar old.words (tokens_of old text) least
+  pub answer : reply ≡ replies.Parse (skeleton_code least)
+  pub after : new ≡ old

@@ -1,0 +1,16 @@
+pub mod AddLemmas
+pub mod AroundLemmas
+pub mod InsideLemmas
+pub mod JudgeLemmas
+pub mod ChangeLemmas
+pub mod KeepingLemmas
+pub mod StepLemmas
+pub mod ReadLemmas
+pub mod ToldLemmas
+pub mod UnwordLemmas
+pub mod PassedLemmas
+pub mod OtherWords
+pub mod SameMeanings
+pub mod WordKeeping
+pub mod FindLemmas
+pub mod RewordLemmas

@@ -1,0 +1,13 @@
+use Rattle.std.proofs.Common.{Option, drop}
+use Rattle.lexicon.specs.Words.{Listed}
+use Rattle.wiki_parts.specs.Kept.{MeanEach, meanings_in}
+use Rattle.wiki_parts.specs.Places.{Placed, placed_from, placed_in}
+use Rattle.wiki_parts.specs.Refusing.{KeepsMeaning}
+use Rattle.wiki_store.specs.Rewording.{KeepsOthers, Finds}
+use Rattle.wiki_store.proofs.rewording.broken_in.Given as goal
+
+-- the first one that is broken is the first of those that are left
+abbrev pub invariant-loop-at : goal.invariant-loop-at
+invariant-loop-at l = (words : Listed) → MeanEach l.grammar words l.article.sentences (meanings_in l.senses) → KeepsOthers l.grammar words l.lexicon l.forms.texts → (found : Option Placed)
+    → Finds (λ placed. KeepsMeaning l.grammar words l.lexicon placed.sentence.tokens) (placed_from l.article.word l.at (drop l.at l.article.sentences)) found
+    → Finds (λ placed. KeepsMeaning l.grammar words l.lexicon placed.sentence.tokens) (placed_in l.article) found

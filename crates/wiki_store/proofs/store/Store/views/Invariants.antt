@@ -1,0 +1,13 @@
+use Rattle.std.proofs.Common.{take}
+use Rattle.std.specs.List.{AllZip}
+use Rattle.wiki_parts.specs.Telling.{TellsSentence}
+use Rattle.wiki_store.specs.Spending.{KeptHasUnknown}
+use Rattle.wiki_store.proofs.store.Store.views.Given as goal
+
+-- the sentences so far are told
+abbrev pub invariant-loop-place : goal.invariant-loop-place
+invariant-loop-place l =
+    record {
+      tells : AllZip (TellsSentence l.self.state) (take l.place l.sentences) l.views;
+      unknown : AllZip (KeptHasUnknown l.self) (take l.place l.sentences) l.views;
+    }

@@ -1,0 +1,5 @@
+pub mod Appending
+pub mod Spending
+pub mod Step
+pub mod Rewording
+pub mod Sameness

@@ -1,0 +1,134 @@
+// Sentences that are added.
+ghost use Rattle.std.specs.Prelude.{◌≡◌, ◌≤◌, ◌<◌, List, length, Some, AllPairs, IfOk, IfErr, OnOk, OnErr};
+ghost use Rattle.wiki_base.specs.declared.tokens.TheConstants.{MOST_TOKENS};
+ghost use Rattle.codeco_checked.specs.Sound.{IsSound};
+ghost use Rattle.lexicon.specs.Words.{SharesNoForm};
+ghost use Rattle.logic_terms.specs.Concept.{Claim};
+ghost use Rattle.logic_terms.specs.Reading.{IsModel};
+ghost use Rattle.wiki_talk.specs.declared.limits.TheConstants.{MOST_SENTENCES};
+ghost use Rattle.articles.specs.Articles.{CanChange, HasPlace};
+ghost use Rattle.wiki_parts.specs.Faults.{IsFault, IsAbsent};
+ghost use Rattle.wiki_parts.specs.Found.{meaning_shown};
+ghost use Rattle.wiki_parts.specs.Knowledge.{IsStatusOf, Knows, sentences_in};
+ghost use Rattle.wiki_parts.specs.Meanings.{Means};
+ghost use Rattle.wiki_parts.specs.Parsing.{tokens_of};
+ghost use Rattle.wiki_parts.specs.Places.{word_named};
+ghost use Rattle.wiki_store.specs.Spending.{SpendsBeyondKept};
+ghost use Rattle.wiki_store.specs.Step.{Step, Refuses, place_for, with_inserted};
+
+use crate::standing::standing;
+use crate::store::Store;
+use articles::Sentence;
+use wiki_base::{Memory, Text8, Tokens, WordId};
+use wiki_parts::{Fault, Sense};
+use wiki_talk::{Reply, Request, Status};
+
+// A sentence that is to be stored: where, its tokens and what they mean.
+#[derive(Drop)]
+pub(crate) struct Fresh {
+    pub(crate) word: WordId,
+    pub(crate) at: u32,
+    pub(crate) tokens: Tokens,
+    pub(crate) sense: Sense,
+}
+
+impl Store {
+    // Inserts the sentence of a text at the place that is given, or at the end of the article.
+    pub(crate) fn add_sentence(
+        &mut self,
+        form: &Text8,
+        given: Option<u32>,
+        text: &Text8,
+    ) -> Result<Reply, Fault>
+        ensures step { IfOk result (λ reply. Step self.old.state (Request.Add form.now given text.now) reply self.new.state) }
+        ensures spent { IfOk result (SpendsBeyondKept self.old (Request.Add form.now given text.now)) }
+        ensures refused { IfErr result (IsFault (Refuses self.old.state (Request.Add form.now given text.now))) }
+        ensures kept { OnErr result (self.new ≡ self.old) }
+    {
+        let fresh = self.fresh(form, given, text)?;
+        let status = self.insert(fresh)?;
+        Ok(Reply::Add { status })
+    }
+
+    // The new sentence, if nothing stands against it.
+    fn fresh(&self, form: &Text8, given: Option<u32>, text: &Text8) -> Result<Fresh, Fault>
+        ensures named { IfOk result (λ fresh. word_named self.now.state form.now ≡ Some fresh.word) }
+        ensures at { IfOk result (λ fresh. place_for self.now.state form.now given ≡ Some fresh.at) }
+        ensures open { IfOk result (λ fresh. CanChange self.now.state.articles fresh.word) }
+        ensures place { IfOk result (λ fresh. HasPlace self.now.state.articles fresh.word fresh.at) }
+        ensures room { OnOk result (length (sentences_in self.now.state.articles) < MOST_SENTENCES) }
+        ensures tokens { IfOk result (λ fresh. fresh.tokens ≡ tokens_of self.now.state text.now) }
+        ensures few { IfOk result (λ fresh. length fresh.tokens ≤ MOST_TOKENS) }
+        ensures means { IfOk result (λ fresh. Means self.now.state.grammar self.now.state.words fresh.tokens (meaning_shown fresh.sense)) }
+        ensures free { OnOk result (IsAbsent (Refuses self.now.state (Request.Add form.now given text.now))) }
+        ensures refused { IfErr result (IsFault (Refuses self.now.state (Request.Add form.now given text.now))) }
+    {
+        let word = self.named(form)?;
+        let article = self.article(word);
+        let at = self.place_given(form, article, given)?;
+        self.has_room()?;
+        let tokens = self.tokens(text)?;
+        self.open(form, article)?;
+        let sense = self.sense(text, &tokens)?;
+        Ok(Fresh {
+            word,
+            at,
+            tokens,
+            sense,
+        })
+    }
+
+    // Stores a new sentence with the status that it gets.
+    pub(crate) fn insert(&mut self, fresh: Fresh) -> Result<Status, Memory>
+        requires open { CanChange self.old.state.articles fresh.word }
+        requires place { HasPlace self.old.state.articles fresh.word fresh.at }
+        requires few { length fresh.tokens ≤ MOST_TOKENS }
+        requires room { length (sentences_in self.old.state.articles) < MOST_SENTENCES }
+        requires means { Means self.old.state.grammar self.old.state.words fresh.tokens (meaning_shown fresh.sense) }
+        ensures status { IfOk result (λ status. IsStatusOf (with_inserted self.old.state fresh.word fresh.at (record { tokens = fresh.tokens; status = Status.Asserted })) (meaning_shown fresh.sense) status) }
+        ensures after { IfOk result (λ status. self.new.state ≡ with_inserted self.old.state fresh.word fresh.at (record { tokens = fresh.tokens; status = status })) }
+        ensures spent { IfOk result (λ status. status ≡ Status.RedBudget → (claims : List Claim) → Knows (with_inserted self.old.state fresh.word fresh.at (record { tokens = fresh.tokens; status = Status.Asserted })) claims → ¬ IsModel self.old.interpretation claims) }
+        ensures memory { OnErr result (self.new ≡ self.old) }
+    {
+        self.are_apart();
+        let place = self.place(fresh.word);
+        let at = fresh.at as usize;
+        let (status, model) = standing(
+            self.alloc,
+            &self.lexicon,
+            self.articles.as_slice(),
+            &self.senses,
+            &self.kept,
+            self.budget,
+            place,
+            at,
+            at,
+            &fresh.sense,
+        )?;
+        self.senses[place].insert(at, fresh.sense)?;
+        let tokens = fresh.tokens;
+        match self
+            .articles
+            .insert(fresh.word, fresh.at, Sentence { tokens, status })
+        {
+            Ok(()) => {
+                if let Some(model) = model {
+                    self.kept = model;
+                }
+                Ok(status)
+            }
+            Err(fault) => {
+                let _ = self.senses[place].remove(at);
+                Err(fault)
+            }
+        }
+    }
+    // The grammar is sound, and no two words share a form.
+    pub(crate) fn are_apart(&self)
+        ensures sound { IsSound self.now.state.grammar }
+        ensures apart { AllPairs SharesNoForm self.now.state.words.live }
+    {
+        let _ = self.grammar.grammar();
+        let _ = self.lexicon.len();
+    }
+}

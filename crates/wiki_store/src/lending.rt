@@ -1,0 +1,56 @@
+// What the store lends of itself.
+ghost use Rattle.std.specs.Prelude.{◌≡◌, ◌≤◌, length, option_copied};
+ghost use Rattle.wiki_talk.specs.declared.limits.TheConstants.{MOST_SENTENCES as most_sentences};
+ghost use Rattle.articles.specs.Articles.{article_of};
+ghost use Rattle.wiki_parts.specs.Knowledge.{sentences_in};
+ghost use Rattle.wiki_parts.specs.State.{IsSound};
+
+use crate::store::Store;
+use articles::Article;
+use codeco_checked::CheckedGrammar;
+use lexicon::Lexicon;
+use wiki_base::WordId;
+
+impl Store {
+    /// The grammar of sentences.
+    pub fn grammar(&self) -> &CheckedGrammar
+        ensures { result.now ≡ self.now.state.grammar }
+    {
+        &self.grammar
+    }
+
+    /// The live words.
+    pub fn lexicon(&self) -> &Lexicon
+        ensures { result.now ≡ self.now.state.words }
+    {
+        &self.lexicon
+    }
+
+    /// The article of a word.
+    pub fn article_of(&self, word: WordId) -> Option<&Article>
+        ensures found { option_copied result ≡ article_of self.now.state.articles word }
+        ensures sound { IsSound self.now.state }
+    {
+        self.articles.article(word)
+    }
+
+    /// How many sentences there are, at most `MOST_SENTENCES`.
+    pub fn sentence_count(&self) -> usize
+        ensures count { result ≡ length (sentences_in self.now.state.articles) }
+        ensures few { result ≤ most_sentences }
+    {
+        sentence_count(self.articles.as_slice())
+    }
+}
+
+// How many sentences the articles have.
+fn sentence_count(articles: &[Article]) -> usize
+    requires { length (sentences_in articles.now) ≤ most_sentences }
+    ensures { result ≡ length (sentences_in articles.now) }
+{
+    let mut count = 0;
+    for article in articles {
+        count += article.sentences.len();
+    }
+    count
+}

@@ -1,0 +1,20 @@
+//! The words and sentences of a wiki: their state, and one step for each request on them.
+#![tactic(auto)]
+
+mod adding;
+mod appending;
+mod causes;
+mod changing;
+mod lending;
+mod reading;
+mod removing;
+mod rewording;
+mod sameness;
+mod standing;
+mod store;
+mod telling;
+#[cfg(test)]
+mod tests;
+mod unwording;
+
+pub use store::Store;

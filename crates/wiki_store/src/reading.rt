@@ -1,0 +1,139 @@
+// An article as it is told, with the names that answer its questions as of now.
+ghost use Rattle.std.specs.Prelude.{◌≡◌, Bool, true, false, Some, IfOk, IfErr, IsSome};
+ghost use Rattle.std.specs.List.{AllZip};
+ghost use Rattle.articles.specs.declared.article.Article.{Article as TheArticle};
+ghost use Rattle.articles.specs.Articles.{article_of, HasArticle};
+ghost use Rattle.lexicon.specs.Words.{canonical_form_of, forms_of};
+ghost use Rattle.logic_terms.specs.Shown.{concept_of};
+ghost use Rattle.wiki_parts.specs.Faults.{IsFault};
+ghost use Rattle.wiki_parts.specs.Found.{meaning_shown};
+ghost use Rattle.wiki_parts.specs.Holding.{FitsMeaning};
+ghost use Rattle.wiki_parts.specs.Kept.{MeanEach, meanings_in};
+ghost use Rattle.wiki_parts.specs.Knowledge.{live_names};
+ghost use Rattle.wiki_parts.specs.Meanings.{asking, Means};
+ghost use Rattle.wiki_parts.specs.Telling.{is_question, TellsSentence, TellsSentences};
+ghost use Rattle.wiki_store.specs.Spending.{KeptHasUnknown, KeptHasEachUnknown};
+ghost use Rattle.wiki_store.specs.Step.{Step, Refuses};
+
+use crate::store::Store;
+use articles::Sentence;
+use derivation_trees::show;
+use lexicon::MOST_WORDS;
+use logic_terms::{Class, Names};
+use wiki_base::{Memory, Text8, Text8s, WordId};
+use wiki_parts::{Fault, Sense, Senses, answers_of, live_names, spelled, told_text};
+use wiki_talk::{Reply, Request, SentenceView, SentenceViews};
+
+impl Store {
+    // Tells the article of a word, with the answers to its questions.
+    pub(crate) fn read(&self, form: &Text8) -> Result<Reply, Fault>
+        ensures step { IfOk result (λ reply. Step self.now.state (Request.Read form.now) reply self.now.state) }
+        ensures unknown { IfOk result (KeptHasEachUnknown self.now (Request.Read form.now)) }
+        ensures refused { IfErr result (IsFault (Refuses self.now.state (Request.Read form.now))) }
+    {
+        let word = self.named(form)?;
+        let article = self.article(word);
+        let senses = self.senses_of(word);
+        let sentences = self.views(article.sentences.as_slice(), senses.as_slice())?;
+        Ok(Reply::Read {
+            form: self.canonical_form(word)?,
+            revision: article.revision.0,
+            sentences,
+        })
+    }
+
+    // The canonical form of a live word.
+    fn canonical_form(&self, word: WordId) -> Result<Text8, Memory>
+        requires { IsSome (forms_of self.now.state.words.live word) }
+        ensures { IfOk result (λ form. canonical_form_of self.now.state.words.live word ≡ Some form) }
+    {
+        match self.lexicon.word(word) {
+            Some(forms) => told_text(self.alloc, forms.canonical()),
+            None => unreachable!(),
+        }
+    }
+
+    // What the sentences of the article of a word mean.
+    fn senses_of(&self, word: WordId) -> &Senses
+        requires { HasArticle self.now.state.articles word }
+        ensures { (article : TheArticle) → article_of self.now.state.articles word ≡ Some article
+            → MeanEach self.now.state.grammar self.now.state.words article.sentences (meanings_in result.now) }
+    {
+        prove!(self.articles.len() == self.senses.len());
+        let place = self.place(word);
+        &self.senses[place]
+    }
+
+    // Sentences as they are told, each by what it means.
+    fn views(&self, sentences: &[Sentence], senses: &[Sense]) -> Result<SentenceViews, Memory>
+        requires { MeanEach self.now.state.grammar self.now.state.words sentences.now (meanings_in senses.now) }
+        ensures tells { IfOk result (TellsSentences self.now.state sentences.now) }
+        ensures unknown { IfOk result (AllZip (KeptHasUnknown self.now) sentences.now) }
+    {
+        let names = live_names(self.alloc, &self.lexicon)?;
+        let mut views = SentenceViews::new(self.alloc);
+        for place in 0..sentences.len() {
+            views.push(self.view(&names, &sentences[place], &senses[place])?)?;
+        }
+        Ok(views)
+    }
+
+    // A sentence as it is told, by what it means.
+    fn view(
+        &self,
+        names: &Names,
+        sentence: &Sentence,
+        sense: &Sense,
+    ) -> Result<SentenceView, Memory>
+        requires names { names.now ≡ live_names self.now.state.words }
+        requires means { Means self.now.state.grammar self.now.state.words sentence.now.tokens (meaning_shown sense.now) }
+        requires fits { FitsMeaning sentence.now.status (meaning_shown sense.now) }
+        ensures tells { IfOk result (TellsSentence self.now.state sentence.now) }
+        ensures unknown { IfOk result (KeptHasUnknown self.now sentence.now) }
+    {
+        match sense {
+            Sense::Asking(class) => self.question_view(names, sentence, class),
+            Sense::Stating(_) | Sense::Outside(_) | Sense::AskingOutside(_) => {
+                self.plain_view(sentence)
+            }
+        }
+    }
+
+    // A question that asks for a class as it is told.
+    fn question_view(
+        &self,
+        names: &Names,
+        sentence: &Sentence,
+        class: &Class,
+    ) -> Result<SentenceView, Memory>
+        requires names { names.now ≡ live_names self.now.state.words }
+        requires asks { is_question sentence.now.status ≡ true }
+        requires means { Means self.now.state.grammar self.now.state.words sentence.now.tokens (asking (concept_of class.now)) }
+        ensures tells { IfOk result (TellsSentence self.now.state sentence.now) }
+        ensures unknown { IfOk result (KeptHasUnknown self.now sentence.now) }
+    {
+        prove!(self.lexicon.len() <= MOST_WORDS);
+        let grammar = self.grammar.grammar();
+        let answers = answers_of(self.alloc, class, &self.kept, names, self.budget)?;
+        Ok(SentenceView {
+            status: sentence.status,
+            text: show(self.alloc, grammar, &sentence.tokens)?,
+            answers: spelled(self.alloc, &self.lexicon, &answers.yes)?,
+            unknown: spelled(self.alloc, &self.lexicon, &answers.unknown)?,
+        })
+    }
+
+    // Any other sentence as it is told.
+    fn plain_view(&self, sentence: &Sentence) -> Result<SentenceView, Memory>
+        requires { is_question sentence.now.status ≡ false }
+        ensures tells { IfOk result (TellsSentence self.now.state sentence.now) }
+        ensures unknown { IfOk result (KeptHasUnknown self.now sentence.now) }
+    {
+        Ok(SentenceView {
+            status: sentence.status,
+            text: show(self.alloc, self.grammar.grammar(), &sentence.tokens)?,
+            answers: Text8s::new(self.alloc),
+            unknown: Text8s::new(self.alloc),
+        })
+    }
+}

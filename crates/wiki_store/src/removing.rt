@@ -1,0 +1,120 @@
+// Sentences that leave what is known.
+ghost use Rattle.std.specs.Prelude.{◌≡◌, ◌+◌, [], true, Some, IfOk, IfErr, OnOk, OnErr, IsSomeAnd};
+ghost use Rattle.articles.specs.Articles.{CanChange, HasSentence, sentence_at};
+ghost use Rattle.owl_eval.specs.Checked.{kept_interp, kept_claims};
+ghost use Rattle.wiki_parts.specs.Faults.{IsFault, IsAbsent};
+ghost use Rattle.wiki_parts.specs.Kept.{known_around, known_in, IsAround};
+ghost use Rattle.wiki_parts.specs.Places.{word_named};
+ghost use Rattle.wiki_parts.specs.Refusing.{may_retract};
+ghost use Rattle.wiki_store.specs.Step.{Step, Refuses};
+
+use crate::store::Store;
+use articles::Article;
+use lists::Copied;
+use logic_terms::Axioms;
+use owl_eval::CheckedModel;
+use std::alloc::Global;
+use wiki_base::{Memory, Text8, WordId};
+use wiki_parts::{Fault, Senses, known_around};
+use wiki_talk::{Reply, Request, Status};
+
+impl Store {
+    // Takes the sentence at a place of an article out.
+    pub(crate) fn remove(&mut self, form: &Text8, at: u32) -> Result<Reply, Fault>
+        ensures step { IfOk result (λ reply. Step self.old.state (Request.Remove form.now at) reply self.new.state) }
+        ensures refused { IfErr result (IsFault (Refuses self.old.state (Request.Remove form.now at))) }
+        ensures kept { OnErr result (self.new ≡ self.old) }
+    {
+        let word = self.removable(form, at)?;
+        let place = self.place(word);
+        let kept = model_without(
+            self.alloc,
+            self.articles.as_slice(),
+            &self.senses,
+            &self.kept,
+            place,
+            at,
+        )?;
+        let _ = self.articles.take(word, at);
+        let _ = self.senses[place].remove(at as usize);
+        self.kept = kept;
+        Ok(Reply::Remove)
+    }
+
+    // Makes the sentence at a place of an article a retracted one.
+    pub(crate) fn retract(&mut self, form: &Text8, at: u32) -> Result<Reply, Fault>
+        ensures step { IfOk result (λ reply. Step self.old.state (Request.Retract form.now at) reply self.new.state) }
+        ensures refused { IfErr result (IsFault (Refuses self.old.state (Request.Retract form.now at))) }
+        ensures kept { OnErr result (self.new ≡ self.old) }
+    {
+        let word = self.retracted(form, at)?;
+        let place = self.place(word);
+        let kept = model_without(
+            self.alloc,
+            self.articles.as_slice(),
+            &self.senses,
+            &self.kept,
+            place,
+            at,
+        )?;
+        let status = Status::Retracted;
+        self.articles.mark(word, at, status);
+        self.kept = kept;
+        Ok(Reply::Retract { status })
+    }
+
+    // The word of the article, if nothing stands against taking the sentence out.
+    fn removable(&self, form: &Text8, at: u32) -> Result<WordId, Fault>
+        ensures named { IfOk result (λ word. word_named self.now.state form.now ≡ Some word) }
+        ensures open { IfOk result (CanChange self.now.state.articles) }
+        ensures place { IfOk result (λ word. HasSentence self.now.state.articles word at) }
+        ensures free { OnOk result (IsAbsent (Refuses self.now.state (Request.Remove form.now at))) }
+        ensures refused { IfErr result (IsFault (Refuses self.now.state (Request.Remove form.now at))) }
+    {
+        let word = self.named(form)?;
+        let article = self.article(word);
+        let _ = self.sentence(form, article, at)?;
+        self.open(form, article)?;
+        Ok(word)
+    }
+
+    // The word of the article, if nothing stands against retracting the sentence.
+    fn retracted(&self, form: &Text8, at: u32) -> Result<WordId, Fault>
+        ensures named { IfOk result (λ word. word_named self.now.state form.now ≡ Some word) }
+        ensures open { IfOk result (CanChange self.now.state.articles) }
+        ensures place { IfOk result (λ word. HasSentence self.now.state.articles word at) }
+        ensures may { IfOk result (λ word. IsSomeAnd (sentence_at self.now.state.articles word at) (λ sentence. may_retract sentence.status ≡ true)) }
+        ensures free { OnOk result (IsAbsent (Refuses self.now.state (Request.Retract form.now at))) }
+        ensures refused { IfErr result (IsFault (Refuses self.now.state (Request.Retract form.now at))) }
+    {
+        let word = self.named(form)?;
+        let article = self.article(word);
+        let sentence = self.sentence(form, article, at)?;
+        self.open(form, article)?;
+        self.retractable(form, at, sentence)?;
+        Ok(word)
+    }
+}
+
+// The kept interpretation as a model of what is known without a sentence.
+pub(crate) fn model_without(
+    alloc: Global,
+    articles: &[Article],
+    senses: &[Senses],
+    kept: &CheckedModel,
+    place: usize,
+    at: u32,
+) -> Result<CheckedModel, Memory>
+    requires around { IsAround articles.now senses.now place at (at + 1) }
+    requires known { kept_claims kept.now ≡ known_in articles.now senses.now }
+    ensures interp { IfOk result (λ model. kept_interp model ≡ kept_interp kept.now) }
+    ensures claims { IfOk result (λ model. kept_claims model ≡ known_around articles.now senses.now place at [] (at + 1)) }
+{
+    let at = at as usize;
+    let none = Axioms::new(alloc);
+    let known = known_around(alloc, articles, senses, place, at, &none, at + 1)?;
+    match CheckedModel::new(kept.interp().copy()?, known) {
+        Ok(model) => Ok(model),
+        Err(_) => unreachable!(),
+    }
+}

@@ -1,0 +1,59 @@
+// A word that goes.
+ghost use Rattle.std.specs.Prelude.{◌≡◌, Some, IfOk, IfErr, OnErr};
+ghost use Rattle.articles.specs.Articles.{without_article};
+ghost use Rattle.wiki_parts.specs.Faults.{IsFault};
+ghost use Rattle.wiki_parts.specs.Places.{word_named};
+ghost use Rattle.wiki_store.specs.Rewording.{IsGone};
+ghost use Rattle.wiki_store.specs.Step.{Step, Refuses};
+
+use crate::store::Store;
+use lexicon::Lexicon;
+use lists::Copied;
+use wiki_base::{Text8, WordId};
+use wiki_parts::Fault;
+use wiki_talk::{Reply, Request};
+
+impl Store {
+    /// The word that has this form, and the words without it, if no sentence needs it. Refused are, in this order, a form that
+    /// no word has, and a word that a sentence needs.
+    pub fn unwording(&self, form: &Text8) -> Result<(WordId, Lexicon), Fault>
+        ensures named { IfOk result (λ gone. word_named self.now.state form.now ≡ Some gone.0) }
+        ensures step { IfOk result (λ gone. Step self.now.state (Request.Unword form.now) Reply.Unword (record self.now.state { words = gone.1; articles = without_article self.now.state.articles gone.0 })) }
+        ensures gone { IfOk result (λ gone. IsGone self.now.state gone.0 gone.1) }
+        ensures refused { IfErr result (IsFault (Refuses self.now.state (Request.Unword form.now))) }
+    {
+        let word = self.named(form)?;
+        match self.use_of(word) {
+            Some(place) => Err(Fault::Refused(self.in_use(place)?)),
+            None => {
+                let mut lexicon = self.lexicon.copy()?;
+                let _ = lexicon.remove(word);
+                Ok((word, lexicon))
+            }
+        }
+    }
+
+    /// Takes in the words without one that no sentence needs, and takes out its empty article.
+    pub fn unworded(&mut self, word: WordId, lexicon: Lexicon)
+        requires { IsGone self.old.state word lexicon }
+        ensures { self.new ≡ record self.old { state = record self.old.state { words = lexicon; articles = without_article self.old.state.articles word } } }
+    {
+        let _ = self.lexicon.len();
+        let _ = self.articles.len();
+        let place = self.place(word);
+        let _ = self.senses.remove(place);
+        self.articles.end(word);
+        self.lexicon = lexicon;
+    }
+
+    // Takes a word out, with its empty article.
+    pub(crate) fn unword(&mut self, form: &Text8) -> Result<Reply, Fault>
+        ensures step { IfOk result (λ reply. Step self.old.state (Request.Unword form.now) reply self.new.state) }
+        ensures refused { IfErr result (IsFault (Refuses self.old.state (Request.Unword form.now))) }
+        ensures kept { OnErr result (self.new ≡ self.old) }
+    {
+        let (word, lexicon) = self.unwording(form)?;
+        self.unworded(word, lexicon);
+        Ok(Reply::Unword)
+    }
+}

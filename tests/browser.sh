@@ -10,5 +10,9 @@ if ! command -v chromedriver >/dev/null || ! command -v chromium >/dev/null; the
     echo "browser: not run, since this machine has no Chromium and can't install it"
     exit 0
 fi
+if ! timeout 60 chromium --headless=new --no-sandbox --disable-gpu --dump-dom about:blank >/dev/null 2>&1; then
+    echo "browser: not run, since Chromium doesn't start on this machine"
+    exit 0
+fi
 pictures="${2:-$(mktemp -d)}"
 exec python3 "$here/browser.py" "$1" "$pictures"

@@ -4,11 +4,13 @@
 set -u
 command -v curl >/dev/null || { echo "curl: not run, since this machine has no curl"; exit 0; }
 work="$(mktemp -d)"
-"$1" serve 127.0.0.1:8080 </dev/null >"$work/journal" &
+# The address that the document shows may be taken on this machine.
+address=127.0.0.1:18671
+"$1" serve "$address" </dev/null >"$work/journal" &
 wiki=$!
 trap 'kill $wiki 2>/dev/null; rm -rf "$work"' EXIT
-for _ in $(seq 100); do curl -s -o /dev/null http://127.0.0.1:8080/ && break; sleep 0.1; done
-awk '/^## /{inside = /^## With curl/} inside && /^```/ {block = !block; next} inside && block' "$2" >"$work/block"
+for _ in $(seq 100); do curl -s -o /dev/null "http://$address/" && break; sleep 0.1; done
+awk '/^## /{inside = /^## With curl/} inside && /^```/ {block = !block; next} inside && block' "$2" | sed "s/127\.0\.0\.1:8080/$address/g" >"$work/block"
 command='' count=0
 : >"$work/want"
 check() {

@@ -47,14 +47,22 @@ def find(n):
     return f"POST /api {HEAD}Content-Length: {len(body)}\r\n\r\n{body}".encode(), f'"forms":["{word}"]'
 
 
-def in_turn():
-    links, asked = [opened() for _ in range(64)], [find(n) for n in range(64)]
+def in_turn(count=64):
+    links, asked = [opened() for _ in range(count)], [find(n) for n in range(count)]
     for place in range(max(len(request) for request, _ in asked)):
         for link, (request, _) in zip(links, asked):
             if place < len(request):
                 link.send(request[place : place + 1])
     for link, (_, part) in zip(links, asked):
         expect("byte by byte in turn", answer(link), 200, part)
+
+
+def beside_idle():
+    idle = [opened() for _ in range(32)]
+    in_turn(32)
+    for link in idle:
+        link.sendall(CUT.encode())
+        expect("one that was idle", answer(link), 200, FOUND)
 
 
 def half_sent():
@@ -175,7 +183,7 @@ try:
             time.sleep(0.05)
     else:
         fail("the program doesn't listen")
-    for test in (in_turn, half_sent, too_many, cut_anywhere, gone, behind, odd, in_turn):
+    for test in (in_turn, beside_idle, half_sent, too_many, cut_anywhere, gone, behind, odd, in_turn):
         begun = time.time()
         test()
         if len(sys.argv) > 2:

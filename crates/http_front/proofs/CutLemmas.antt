@@ -1,5 +1,5 @@
 -- What is seen in bytes doesn't depend on the pieces in which they come.
-use Rattle.std.proofs.Common.{◌≡◌, ◌⊎◌, ℕ, ◌≤◌, List, [], ◌∷◌, ◌++◌, Bool, true, false, length, take, drop, refl, sym, ap, ◌∙◌, subst, arith, inl, inr, None, append_assoc, append-nil, length-append, length-drop}
+use Rattle.std.proofs.Common.{◌≡◌, ◌⊎◌, ℕ, ◌+◌, ◌≤◌, List, [], ◌∷◌, ◌++◌, Bool, true, false, length, take, drop, refl, sym, ap, ◌∙◌, subst, arith, inl, inr, None, append_assoc, append-nil, length-append, length-drop}
 use Rattle.std.specs.Prelude.{if◌then◌else◌, nat_lt}
 use Rattle.std.proofs.lemmas.Bool.Decides.{nat_tests}
 use Rattle.std.proofs.lemmas.List.{take-append-le, drop-append-le}
@@ -32,7 +32,7 @@ record Grows (before bytes : List ℕ) : Type 0 where
 grows : (before more bytes : List ℕ) → bytes ≡ before ++ more → Grows before bytes
 grows before more bytes e = record {
   come = drop (length (head_part before)) (head_part (before ++ more));
-  is = ap head_part e ∙ prefix_stays MOST_HEAD before more (head_part before) [] (append-nil (head_part before));
+  is = ap head_part e ∙ prefix_stays MOST_HEAD before more (head_part before) [] (sym (append-nil (head_part before)));
 }
 
 -- nothing comes behind them where they are all there
@@ -47,6 +47,10 @@ head_stays before more bytes e k begins =
     subst (λ bs. BeginsWith k (head_part bs)) (sym e) ((begins.0.0, stays), begins.1)
 
 -- ---- bytes with a head
+
+-- what stands behind a head in the bytes in which it must end
+abbrev behind_head : RequestHead → List ℕ → List ℕ
+behind_head h bytes = drop (length (print_request h)) (head_part bytes)
 
 no_head_against : (bytes come whole : List ℕ) (h : RequestHead) (rest : List ℕ) → whole ≡ bytes ++ come → ReadsRequest whole h rest → length h.fields ≤ MOST_FIELDS → IsNoHead bytes → ⊥
 no_head_against bytes come whole h rest is reads few (inl never) = never come h rest (subst (λ bs. ReadsRequest bs h rest) is reads)
@@ -76,7 +80,7 @@ part_begins before more bytes h b e begins (inl refuses) =
 part_begins before more bytes h b e begins (inr (inl half)) =
     elim (half_cases before b half.1) [
       | inl waits ↦ inl waits
-      | inr late ↦ absurd (half.0.0 h _ (subst (λ bs. ReadsRequest bs h _) (full_part before more bytes e late.1) begins.0))
+      | inr late ↦ absurd (half.0.0 h (behind_head h bytes) (subst (λ bs. ReadsRequest bs h (behind_head h bytes)) (full_part before more bytes e late.1) begins.0))
     ]
 part_begins before more bytes h b e begins (inr (inr whole)) =
     inr (whole.2 ∙ ap begun_by_head (same_head bytes h whole.0 begins (head_stays before more bytes e whole.0 whole.1)))
@@ -111,7 +115,7 @@ seen_more (begun.Head head) before more = after_more head before more
 
 now_is : (bytes : List ℕ) (h : RequestHead) (b : Begun) → BeginsWith h (head_part bytes) → Begins bytes b → b ≡ begun_by_head h
 now_is bytes h b begins (inl refuses) = absurd (no_head_against (head_part bytes) [] (head_part bytes) h _ (sym (append-nil (head_part bytes))) begins.0 begins.1 refuses.0)
-now_is bytes h b begins (inr (inl half)) = absurd (half.0.0 h _ begins.0)
+now_is bytes h b begins (inr (inl half)) = absurd (half.0.0 h (behind_head h bytes) begins.0)
 now_is bytes h b begins (inr (inr whole)) = whole.2 ∙ ap begun_by_head (same_head bytes h whole.0 begins whole.1)
 
 headed_by : (before more bytes : List ℕ) (b c : Begun) (now was : Seen) → bytes ≡ before ++ more → (b ≡ begun.Wait) ⊎ (b ≡ c) → was ≡ seen_by b before → now ≡ seen_by c bytes → IsWaitOr now was

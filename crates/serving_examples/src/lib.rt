@@ -1,4 +1,4 @@
-//! Tests of serving: events on connections, over a wiki and a link in memory.
+//! Tests of serving: events on connections, at a small machine and over a link in memory.
 #![tactic(auto)]
 
 #[cfg(test)]

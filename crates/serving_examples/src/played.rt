@@ -1,18 +1,16 @@
-// A script of events, and what serving them over a wiki without words leaves.
+// A script of events, and what serving them at a small machine leaves.
 ghost use Rattle.std.specs.Prelude.{IsTrue};
 ghost use Rattle.std.specs.List.{list_all};
-ghost use Rattle.wiki_core.specs.Step.{Step};
 ghost use Rattle.wiki_io.specs.MemoryLink.{is_whole};
 
-use ace_grammar::built_in;
+use lists::List;
 use serving::{Machine, Served, serve};
 use std::alloc::Global;
 use std::collections::VecDeque;
 use std::test::Fail;
 use wiki_base::{Bytes, Memory};
-use wiki_core::Wiki;
 use wiki_io::{Event, Fails, MemoryLink, MemorySink};
-use wiki_talk::{Reply, Request};
+use wiki_talk::{Refusal, Reply, Request};
 
 // How many bytes of a response the link takes at once.
 const LARGEST: usize = 100;
@@ -65,23 +63,30 @@ impl Script {
     }
 }
 
-// The wiki as a machine.
+// A machine that has no words. It takes one word, once, and refuses whatever else it is asked but its words.
 #[derive(Drop)]
-struct Example {
-    wiki: Wiki,
+struct Desk {
+    alloc: Global,
+    is_taken: bool,
 }
 
-impl Machine for Example {
-    ghost Steps = { λ old request reply new. Step old.wiki.state request reply new.wiki.state };
+impl Machine for Desk {
+    ghost use Rattle.std.specs.Prelude.{⊤};
+
+    ghost Steps = { λ old request reply new. ⊤ };
 
     fn step(&mut self, request: &Request) -> Result<Reply, Memory> {
-        self.wiki.step(request)
+        match request {
+            Request::Words => Ok(Reply::Words {
+                words: List::new(self.alloc),
+            }),
+            Request::Word { .. } if !self.is_taken => {
+                self.is_taken = true;
+                Ok(Reply::Word)
+            }
+            _ => Ok(Reply::Refused(Refusal::Nothing)),
+        }
     }
-}
-
-fn machine(alloc: Global) -> Result<Example, Memory> {
-    let wiki = Wiki::new(alloc, built_in(alloc)?, 1_000)?;
-    Ok(Example { wiki })
 }
 
 // What serving left.
@@ -98,11 +103,13 @@ pub(crate) fn played(script: Script, failing: &[u64], most: u64) -> Result<Playe
     let alloc = script.alloc;
     let mut fails = Fails::none(alloc);
     fails.send.extend_from_slice(failing)?;
-    let mut machine = machine(alloc)?;
+    let mut desk = Desk {
+        alloc,
+        is_taken: false,
+    };
     let mut journal = MemorySink::new(alloc, Vec::new(alloc));
     let mut link = MemoryLink::in_pieces(alloc, script.events, fails, LARGEST);
-    let served = serve(alloc, &mut machine, most, &mut journal, &mut link);
-    drop(machine);
+    let served = serve(alloc, &mut desk, most, &mut journal, &mut link);
     Ok(Played {
         served,
         journal,

@@ -62,7 +62,7 @@ fn what_is_refused_is_told_why(rt: HostRuntime) -> Result<(), Fail> {
         ),
         ("GET / HTTP/1.1\r\nHost: x\r\n\r", ""),
         (
-            "POST /word HTTP/1.0\r\nContent-Length: 18\r\n\r\nkind=name&forms=a-",
+            "GET /session/1 HTTP/1.0\r\n\r\n",
             "HTTP/1.1 409 Conflict\r\n",
         ),
     ];

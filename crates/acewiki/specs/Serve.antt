@@ -65,9 +65,12 @@ Serves first most left outside handed outcome left_after outside_after handed_af
 
 -- For every list of events, that is, for every interleaving of pieces that arrive on any connections, the bytes answered are
 -- a plain wiki's: there is one run of the plain wiki over what the lines of the input ask and then what the events ask, in
--- order. What a connection asks is told by its own bytes alone, however they were cut, and what a session holds by what that
--- session heard. The journal is the lines of the accepted changes. On each connection's number the responses to its replies
--- are sent, opening after opening, each whole where no send failed.
+-- order. By each of its steps every stored sentence has a derivation from the present words, every menu lists exactly the
+-- tokens that continue a partial derivation, the axioms of the asserted sentences are those that they mean and have the kept
+-- interpretation as a finite model, and a sentence that means axioms is red only where no finite interpretation is a model with
+-- them, or a budget is spent. What a connection asks is told by its own bytes alone, however they were cut, and what a session
+-- holds by what that session heard. The journal is the lines of the accepted changes. On each connection's number the
+-- responses to its replies are sent, opening after opening, each whole where no send failed.
 pub record AnswersAsPlainWiki (first : Holding) (lines : List InputLine) (outside : Outside) (events : List Event) (outside_after : Outside) : Type 0 where
   pub of_lines : List (Exchange Request Reply)
   pub asked_then : map request_in of_lines ≡ map asked lines

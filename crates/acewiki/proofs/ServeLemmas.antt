@@ -16,11 +16,13 @@ use Rattle.wiki_io.specs.Lines.{InputLine, input_lines}
 use Rattle.acewiki.specs.Wiki.{Holding, KeptStep}
 use Rattle.serving.specs.declared.serving.Served.{Served}
 use Rattle.serving.specs.declared.serving.Served.TheVariants as served
-use Rattle.serving.specs.Handling.{exchange_in, response_in}
+use Rattle.serving.specs.Handling.{turn_in, exchange_in, response_in}
 use Rattle.serving.specs.Events.{Outside, RunsAll, EndsServing, Ended}
 use Rattle.serving.proofs.ServeLemmas.{told_same}
 use Rattle.serving.proofs.DeliverLemmas.{Delivers-whole}
 use Rattle.serving.proofs.EventLemmas.{Turns-append}
+use Rattle.server.proofs.RunLemmas.{own_each}
+use Rattle.wiki_core.proofs.ApartLemmas.{tokens_own}
 use Rattle.acewiki.specs.declared.command.Outcome.{Outcome}
 use Rattle.acewiki.specs.declared.command.Outcome.TheVariants as outcomes
 use Rattle.acewiki.specs.Lines.{asked, told, StepsLine}
@@ -64,8 +66,10 @@ headline_events first most bytes outside handed left_after outside_after handed_
         handlings = all.handlings;
         kept = ends.0.kept;
         turns = all.turns;
+        own = own_each serves.events (map turn_in all.handlings) ends.0.kept all.turns;
         last = ends.0.last;
         run = Turns-append KeptStep first serves.input.exchanges (flat_map exchange_in all.handlings) serves.input.last ends.0.last serves.input.steps.turns all.steps;
+        tokens = tokens_own first.state.pages.grammar;
         journal = all.journal;
         responses = all.responses;
         whole = Delivers-whole (flat_map response_in all.handlings) outside.sent outside_after.sent outside.send_faults outside_after.send_faults all.responses;

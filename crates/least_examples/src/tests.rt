@@ -341,7 +341,8 @@ fn no_referent_agrees_where_none_is_introduced(rt: HostRuntime) -> Result<(), Fa
     has_typeable(&rt, rt.alloc(), &grammar, &[], "a b", 1)
 }
 
-const PLACES: &str = "feature id: position. text --> a(id: P) [u] b(id: P). a(id: P) --> [t] #P. b(id: P) --> #P [v]. \
+const PLACES: &str =
+    "feature id: position. text --> a(id: P) [u] b(id: P). a(id: P) --> [t] #P. b(id: P) --> #P [v]. \
      b(id: P) --> [w].";
 
 #[test]

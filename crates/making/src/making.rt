@@ -70,7 +70,8 @@ fn run_all<W: Machine>(
 ) -> Result<Summary, Memory>
     ensures { IfOk result (AddsUp W.Steps machine.old (generated.made_requests count seed) summing.nothing machine.new) }
 {
-    let words = ask_words(alloc, machine, Summary::new())?;
+    let none = Summary::new();
+    let words = ask_words(alloc, machine, none)?;
     let sentences = add_sentences(alloc, machine, count, (seed % 65_537) as u32, words)?;
     let all = read_articles(alloc, machine, sentences)?;
     Ok(all)
@@ -83,7 +84,8 @@ fn ask<W: Machine>(machine: &mut W, request: &Request, summary: Summary) -> Resu
     let reply = machine.step(request)?;
     let after = summary.with_reply(&reply);
     drop(reply);
-    after
+    let counted = after?;
+    Ok(counted)
 }
 
 fn ask_once<W: Machine>(
@@ -95,7 +97,8 @@ fn ask_once<W: Machine>(
 {
     let after = ask(machine, &request, summary);
     drop(request);
-    after
+    let counted = after?;
+    Ok(counted)
 }
 
 fn ask_words<W: Machine>(alloc: Global, machine: &mut W, before: Summary) -> Result<Summary, Memory>

@@ -3,7 +3,7 @@ use Rattle.logic_terms.specs.Known.{theory_of}
 use Rattle.tableau_rules.specs.Neighbours.{makes_neighbour}
 use Rattle.tableau_rules.specs.Shown.{graph_of}
 use Rattle.tableau_rules.proofs.Passing.{passes_any, passes_more}
-use Rattle.tableau_rules.proofs.clashes.edge_between.Goals as goal
+use Rattle.tableau_rules.proofs.clashes.first_edge_between.Goals as goal
 
 pub returns-then-is_made_by-clause-exact : goal.returns-then-is_made_by-clause-exact
 returns-then-is_made_by-clause-exact c =

@@ -3,38 +3,25 @@ use crate::concepts::{Concepts, Form};
 use logic_terms::{Knowledge, Role};
 use std::alloc::Global;
 use std::collections::{BTreeMap, BTreeSet};
-use tableau_rules::{Branch, Rule, root_count};
+use tableau_rules::{Branch, root_count};
 use wiki_base::Memory;
 
-// The rules in their order.
-pub(crate) static RULES: [Rule; 7] = [
-    Rule::And,
-    Rule::Unfold,
-    Rule::All,
-    Rule::Value,
-    Rule::Unit,
-    Rule::Or,
-    Rule::Some,
-];
+// The rules, in the order in which they are tried.
+#[derive(Clone, Copy, Debug, PartialEq, Eq, PartialOrd, Ord)]
+pub(crate) enum Rank {
+    And,
+    Unfold,
+    All,
+    Value,
+    Unit,
+    Or,
+    Some,
+}
 
-pub(crate) const AND: u8 = 0;
-
-pub(crate) const UNFOLD: u8 = 1;
-
-pub(crate) const ALL: u8 = 2;
-
-pub(crate) const VALUE: u8 = 3;
-
-pub(crate) const UNIT: u8 = 4;
-
-pub(crate) const OR: u8 = 5;
-
-pub(crate) const SOME: u8 = 6;
-
-// A rule by its place in the order, a node, and a place in its label: steps go in the order of these.
+// A rule, a node, and a place in its label: steps go in the order of these.
 #[derive(Clone, Copy, Debug, PartialEq, Eq, PartialOrd, Ord)]
 pub(crate) struct Candidate {
-    pub(crate) turn: u8,
+    pub(crate) rank: Rank,
     pub(crate) node: u64,
     pub(crate) place: u64,
 }
@@ -81,7 +68,12 @@ pub(crate) struct Graph {
     places: BTreeMap<(u64, u64), u64>,
     agenda: BTreeSet<Candidate>,
     trail: Vec<Change>,
+    // How often a class at a node was part of what closed a branch.
+    weights: BTreeMap<(u64, u64), u64>,
 }
+
+// How many unions are compared at most before one is split.
+const MOST_COMPARED: usize = 256;
 
 // A number of its own for each class, as far as it goes.
 fn spread(concept: u64) -> u64 {
@@ -102,6 +94,7 @@ impl Graph {
             places: BTreeMap::new(alloc),
             agenda: BTreeSet::new(alloc),
             trail: Vec::new(alloc),
+            weights: BTreeMap::new(alloc),
         };
         let labels = graph.numbered(k, first)?;
         for node in 0..labels.len() {
@@ -233,8 +226,8 @@ impl Graph {
             }
         }
         self.trail.push(Change::Edge)?;
-        self.put_turn(link.from, ALL)?;
-        self.put_turn(link.to, ALL)
+        self.put_rank(link.from, Rank::All)?;
+        self.put_rank(link.to, Rank::All)
     }
 
     pub(crate) fn add_node(&mut self, parent: Option<u64>) -> Result<(), Memory> {
@@ -319,6 +312,64 @@ impl Graph {
         }
     }
 
+    // Takes, in place of a union's step, that of the union which leaves the fewest choices for its weight.
+    pub(crate) fn pop_tightest(
+        &mut self,
+        k: &Knowledge,
+        first: Candidate,
+    ) -> Result<Candidate, Memory> {
+        let best = self.tightest(k, first);
+        if best != first {
+            if self.agenda.remove(&best) {
+                self.trail.push(Change::Took(best))?;
+            }
+            self.put(first)?;
+        }
+        Ok(best)
+    }
+
+    fn tightest(&self, k: &Knowledge, first: Candidate) -> Candidate {
+        let mut best = first;
+        let mut seen: usize = 0;
+        for candidate in self.agenda.iter() {
+            if candidate.rank != Rank::Or || seen >= MOST_COMPARED {
+                return best;
+            }
+            seen = seen.saturating_add(1);
+            if self.is_tighter(*candidate, best) && self.site(k, *candidate).is_some() {
+                best = *candidate;
+            }
+        }
+        best
+    }
+
+    fn is_tighter(&self, one: Candidate, other: Candidate) -> bool {
+        let (open, weight) = self.tightness(one);
+        let (others, their_weight) = self.tightness(other);
+        open.saturating_mul(their_weight) < others.saturating_mul(weight)
+    }
+
+    // How many choices are left, and the weight.
+    fn tightness(&self, candidate: Candidate) -> (u64, u64) {
+        match self.class(candidate.node, candidate.place) {
+            Some(concept) => {
+                let weight = self.weights.get(&(candidate.node, concept)).copied();
+                let open = self.open_count(candidate.node, concept);
+                (open, weight.unwrap_or(0).saturating_add(1))
+            }
+            None => (0, 1),
+        }
+    }
+
+    // A class at a node was part of what closed a branch.
+    pub(crate) fn weigh(&mut self, node: u64, concept: u64) -> Result<(), Memory> {
+        let weight = self.weights.get(&(node, concept)).copied().unwrap_or(0);
+        let _ = self
+            .weights
+            .insert((node, concept), weight.saturating_add(1))?;
+        Ok(())
+    }
+
     pub(crate) fn waiting(&self) -> usize {
         self.agenda.len()
     }
@@ -330,8 +381,8 @@ impl Graph {
         Ok(())
     }
 
-    fn put_at(&mut self, turn: u8, node: u64, place: u64) -> Result<(), Memory> {
-        self.put(Candidate { turn, node, place })
+    fn put_at(&mut self, rank: Rank, node: u64, place: u64) -> Result<(), Memory> {
+        self.put(Candidate { rank, node, place })
     }
 
     // Puts in the steps for a class of a label.
@@ -339,34 +390,34 @@ impl Graph {
         match self.concepts.form(concept) {
             Form::Named(_) => {
                 if self.concepts.part_count(concept) > 0 {
-                    self.put_at(UNFOLD, node, place)?;
+                    self.put_at(Rank::Unfold, node, place)?;
                 }
                 Ok(())
             }
-            Form::And(_) => self.put_at(AND, node, place),
+            Form::And(_) => self.put_at(Rank::And, node, place),
             Form::Or(_) => {
-                self.put_at(UNIT, node, place)?;
-                self.put_at(OR, node, place)
+                self.put_at(Rank::Unit, node, place)?;
+                self.put_at(Rank::Or, node, place)
             }
-            Form::Some(_, _, _) => self.put_at(SOME, node, place),
-            Form::All(_, _, _) => self.put_at(ALL, node, place),
-            Form::Value(_, _, _) => self.put_at(VALUE, node, place),
+            Form::Some(_, _, _) => self.put_at(Rank::Some, node, place),
+            Form::All(_, _, _) => self.put_at(Rank::All, node, place),
+            Form::Value(_, _, _) => self.put_at(Rank::Value, node, place),
             _ => Ok(()),
         }
     }
 
     // Puts in the steps by one rule at a node.
-    fn put_turn(&mut self, node: u64, turn: u8) -> Result<(), Memory> {
+    fn put_rank(&mut self, node: u64, rank: Rank) -> Result<(), Memory> {
         for place in 0..self.label_len(node) {
             if let Some(concept) = self.class(node, place) {
                 let fits = match self.concepts.form(concept) {
-                    Form::All(_, _, _) => turn == ALL,
-                    Form::Some(_, _, _) => turn == SOME,
-                    Form::Value(_, _, _) => turn == VALUE,
+                    Form::All(_, _, _) => rank == Rank::All,
+                    Form::Some(_, _, _) => rank == Rank::Some,
+                    Form::Value(_, _, _) => rank == Rank::Value,
                     _ => false,
                 };
                 if fits {
-                    self.put_at(turn, node, place)?;
+                    self.put_at(rank, node, place)?;
                 }
             }
         }
@@ -378,7 +429,7 @@ impl Graph {
         for place in 0..self.watcher_count(concept) {
             if let Some(union) = self.watcher(concept, place) {
                 if let Some(found) = self.place(node, union) {
-                    self.put_at(UNIT, node, found)?;
+                    self.put_at(Rank::Unit, node, found)?;
                 }
             }
         }
@@ -403,8 +454,8 @@ impl Graph {
     // it, and the nodes below.
     fn put_unblocked(&mut self, node: u64) -> Result<(), Memory> {
         if self.child_count(node) == 0 {
-            self.put_turn(node, VALUE)?;
-            return self.put_turn(node, SOME);
+            self.put_rank(node, Rank::Value)?;
+            return self.put_rank(node, Rank::Some);
         }
         let mut waiting = Vec::new(self.alloc);
         waiting.push(node)?;
@@ -435,8 +486,8 @@ impl Graph {
                 } else {
                     link.from
                 };
-                self.put_turn(other, ALL)?;
-                self.put_turn(other, SOME)?;
+                self.put_rank(other, Rank::All)?;
+                self.put_rank(other, Rank::Some)?;
             }
         }
         Ok(())

@@ -1,5 +1,5 @@
 // The quick search itself.
-use crate::graph::{Candidate, Graph, RULES};
+use crate::graph::{Candidate, Graph, Rank};
 use crate::taking::Found;
 use crate::writing::write;
 use lists::List;
@@ -27,10 +27,10 @@ pub(crate) enum Proof {
     Step(Split, List<Proof>),
 }
 
-// A step of such a tree: a rule by its place in the order, for a class at a node.
+// A step of such a tree: a rule for a class at a node.
 #[derive(Clone, Copy, Debug, PartialEq, Eq)]
 pub(crate) struct Split {
-    pub(crate) turn: u8,
+    pub(crate) rank: Rank,
     pub(crate) node: u64,
     pub(crate) concept: u64,
     pub(crate) other: u64,
@@ -68,8 +68,9 @@ struct Search {
 }
 
 /// Searches for a branch without clash to which no rule applies, or for a closed tree, with at most `budget` rule
-/// applications, from the first branch of the knowledge on. Steps and choices come in the order of the systematic search.
-/// Where it `leaps`, it leaves out the choices that a clash does not rest on.
+/// applications, from the first branch of the knowledge on. Steps and choices come in the order of the systematic search, and
+/// so it ends after as many applications. Where it `leaps`, it leaves out the choices that a clash does not rest on, and
+/// splits the union first that leaves the fewest choices and closed the most branches.
 pub fn hunt(
     alloc: Global,
     k: &Knowledge,
@@ -129,6 +130,10 @@ impl Search {
             match self.graph.pop()? {
                 Some(candidate) => {
                     if let Some(other) = self.graph.site(k, candidate) {
+                        if self.leaps && candidate.rank == Rank::Or {
+                            let tightest = self.graph.pop_tightest(k, candidate)?;
+                            return Ok(Some((tightest, other)));
+                        }
                         return Ok(Some((candidate, other)));
                     }
                 }
@@ -146,7 +151,7 @@ impl Search {
             return Ok(Turn::Ended(Proposal::Nothing));
         }
         let split = Split {
-            turn: candidate.turn,
+            rank: candidate.rank,
             node: candidate.node,
             concept: self
                 .graph
@@ -180,6 +185,9 @@ impl Search {
             let is_needed = needs.remove(&number);
             if is_needed || (taken.choices > 1 && !self.leaps) {
                 let mut last = taken;
+                if last.split.rank == Rank::Or || last.split.rank == Rank::Unit {
+                    self.graph.weigh(last.split.node, last.split.concept)?;
+                }
                 last.shut.push(proof)?;
                 last.needs.append(&mut needs)?;
                 if last.choice + 1 < last.choices {
@@ -240,16 +248,21 @@ fn add_all(needs: &mut BTreeSet<u64>, makers: &[u64]) -> Result<(), Memory> {
 
 pub(crate) fn step_of(candidate: Candidate, other: u64) -> Step {
     Step {
-        rule: rule_of(candidate.turn),
+        rule: rule_of(candidate.rank),
         node: candidate.node,
         class: candidate.place,
         other,
     }
 }
 
-fn rule_of(turn: u8) -> Rule {
-    match RULES.get(turn as usize) {
-        Some(rule) => *rule,
-        None => Rule::Some,
+fn rule_of(rank: Rank) -> Rule {
+    match rank {
+        Rank::And => Rule::And,
+        Rank::Unfold => Rule::Unfold,
+        Rank::All => Rule::All,
+        Rank::Value => Rule::Value,
+        Rank::Unit => Rule::Unit,
+        Rank::Or => Rule::Or,
+        Rank::Some => Rule::Some,
     }
 }

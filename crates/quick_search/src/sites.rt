@@ -1,6 +1,6 @@
 // Where a step applies.
 use crate::concepts::{Form, role_of};
-use crate::graph::{ALL, AND, Candidate, Graph, Link, OR, SOME, UNFOLD, UNIT, VALUE};
+use crate::graph::{Candidate, Graph, Link, Rank};
 use logic_terms::{Knowledge, Role};
 
 // The other end of an edge, where the edge makes it a neighbour by the role.
@@ -22,20 +22,20 @@ impl Graph {
         if self.is_shadowed(node) {
             return None;
         }
-        match (candidate.turn, self.concepts.form(concept)) {
-            (AND, Form::And(_)) => self.zero_where(self.lacks_some(node, concept)),
-            (UNFOLD, Form::Named(_)) => self.zero_where(self.lacks_some(node, concept)),
-            (ALL, Form::All(word, inverted, part)) => {
+        match (candidate.rank, self.concepts.form(concept)) {
+            (Rank::And, Form::And(_)) => self.zero_where(self.lacks_some(node, concept)),
+            (Rank::Unfold, Form::Named(_)) => self.zero_where(self.lacks_some(node, concept)),
+            (Rank::All, Form::All(word, inverted, part)) => {
                 self.least_in_need(k, role_of(word, inverted), node, part)
             }
-            (VALUE, Form::Value(word, inverted, _)) => {
+            (Rank::Value, Form::Value(word, inverted, _)) => {
                 self.value_site(k, role_of(word, inverted), node, concept)
             }
-            (UNIT, Form::Or(_)) => {
+            (Rank::Unit, Form::Or(_)) => {
                 self.zero_where(self.lacks_all(node, concept) && self.open_count(node, concept) < 2)
             }
-            (OR, Form::Or(_)) => self.zero_where(self.lacks_all(node, concept)),
-            (SOME, Form::Some(word, inverted, part)) => self.zero_where(
+            (Rank::Or, Form::Or(_)) => self.zero_where(self.lacks_all(node, concept)),
+            (Rank::Some, Form::Some(word, inverted, part)) => self.zero_where(
                 !self.is_blocked(node) && !self.is_served(k, role_of(word, inverted), node, part),
             ),
             _ => None,
@@ -80,7 +80,7 @@ impl Graph {
     }
 
     // How many members of a union a label does not deny.
-    fn open_count(&self, node: u64, concept: u64) -> u64 {
+    pub(crate) fn open_count(&self, node: u64, concept: u64) -> u64 {
         let mut open: u64 = 0;
         if let Some(found) = self.concepts.get(concept) {
             for denial in &found.denials {

@@ -1,6 +1,6 @@
 // Taking steps, and the clashes that they make.
 use crate::concepts::{Form, role_of};
-use crate::graph::{ALL, AND, Candidate, Graph, Link, OR, SOME, UNFOLD, UNIT, VALUE};
+use crate::graph::{Candidate, Graph, Link, Rank};
 use logic_terms::Knowledge;
 use tableau_rules::Clash;
 use wiki_base::Memory;
@@ -17,7 +17,7 @@ impl Graph {
     // How many choices a step leaves.
     pub(crate) fn choices(&self, candidate: Candidate) -> u64 {
         match self.class(candidate.node, candidate.place) {
-            Some(concept) if candidate.turn == OR => self.concepts.part_count(concept),
+            Some(concept) if candidate.rank == Rank::Or => self.concepts.part_count(concept),
             _ => 1,
         }
     }
@@ -35,24 +35,28 @@ impl Graph {
         let Some(concept) = self.class(node, candidate.place) else {
             return Ok(None);
         };
-        let grown = if candidate.turn == ALL { other } else { node };
+        let grown = if candidate.rank == Rank::All {
+            other
+        } else {
+            node
+        };
         let before = self.label_len(grown);
-        match (candidate.turn, self.concepts.form(concept)) {
-            (AND, _) => self.add_parts(node, concept, maker)?,
-            (UNFOLD, _) => self.add_parts(node, concept, maker)?,
-            (ALL, Form::All(_, _, part)) => {
+        match (candidate.rank, self.concepts.form(concept)) {
+            (Rank::And, _) => self.add_parts(node, concept, maker)?,
+            (Rank::Unfold, _) => self.add_parts(node, concept, maker)?,
+            (Rank::All, Form::All(_, _, part)) => {
                 self.add_class(other, part, maker)?;
                 self.put(candidate)?;
             }
-            (VALUE, Form::Value(word, inverted, _)) => {
+            (Rank::Value, Form::Value(word, inverted, _)) => {
                 return self.take_value(k, node, concept, word, inverted, maker);
             }
-            (UNIT, _) => {
+            (Rank::Unit, _) => {
                 let place = self.first_open(node, concept).unwrap_or(0);
                 self.add_part(node, concept, place, maker)?;
             }
-            (OR, _) => self.add_part(node, concept, choice, maker)?,
-            (SOME, Form::Some(word, inverted, part)) => {
+            (Rank::Or, _) => self.add_part(node, concept, choice, maker)?,
+            (Rank::Some, Form::Some(word, inverted, part)) => {
                 return self.take_some(k, node, word, inverted, part, maker);
             }
             _ => {}
@@ -140,13 +144,13 @@ impl Graph {
         let mut makers = Vec::new(self.alloc);
         makers.push(self.maker(node, candidate.place))?;
         if let Some(concept) = self.class(node, candidate.place) {
-            match (candidate.turn, self.concepts.form(concept)) {
-                (ALL, Form::All(word, inverted, _)) => {
+            match (candidate.rank, self.concepts.form(concept)) {
+                (Rank::All, Form::All(word, inverted, _)) => {
                     if let Some(place) = self.link(k, role_of(word, inverted), node, other) {
                         makers.push(self.link_maker(node, place))?;
                     }
                 }
-                (UNIT, _) => self.add_deniers(node, concept, &mut makers)?,
+                (Rank::Unit, _) => self.add_deniers(node, concept, &mut makers)?,
                 _ => {}
             }
         }

@@ -1,6 +1,6 @@
 // Writes a closed tree anew, without the steps that it does not need: nodes and places get other numbers.
 use crate::concepts::{Form, role_of};
-use crate::graph::{ALL, Candidate, Graph, OR, SOME};
+use crate::graph::{Candidate, Graph, Rank};
 use crate::hunting::{Proof, Split, step_of};
 use lists::List;
 use logic_terms::Knowledge;
@@ -140,11 +140,11 @@ fn found_again(
         return Ok(None);
     };
     let candidate = Candidate {
-        turn: split.turn,
+        rank: split.rank,
         node,
         place,
     };
-    let wanted = if split.turn == ALL {
+    let wanted = if split.rank == Rank::All {
         moved.now(split.other)
     } else {
         0
@@ -159,7 +159,7 @@ fn found_again(
         candidate,
         other: wanted,
         early,
-        only: if split.turn == OR || only.is_none() {
+        only: if split.rank == Rank::Or || only.is_none() {
             only
         } else {
             Some(0)
@@ -199,7 +199,7 @@ fn enter(
     choice: u64,
 ) -> Result<(), Memory> {
     if stand.only.is_none() {
-        if stand.split.turn == SOME {
+        if stand.split.rank == Rank::Some {
             moved
                 .nodes
                 .push((stand.split.made, graph.nodes.len() as u64))?;

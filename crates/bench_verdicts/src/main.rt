@@ -241,16 +241,16 @@ fn tell_all<R: Print + CpuClock>(rt: &R, alloc: Global, timed: bool) -> Result<(
     Ok(())
 }
 
-// Tells the verdicts on drawn colourings.
+// Tells the verdicts on drawn colourings. Those without a planted one may have none.
 fn tell_colourings<R: Print + CpuClock>(rt: &R, alloc: Global, timed: bool) -> Result<(), Fault> {
     let (vertices, edges, seeds) = if timed { (100, 230, 20) } else { (9, 14, 2) };
     for seed in 0..seeds {
         let base = drawn_colouring(alloc, vertices, edges, seed, true)?;
         tell(rt, alloc, "a planted colouring", base, timed)?;
-    }
-    for seed in 0..seeds {
-        let base = drawn_colouring(alloc, vertices, edges, seed, false)?;
-        tell(rt, alloc, "a drawn colouring", base, timed)?;
+        if timed {
+            let base = drawn_colouring(alloc, vertices, edges, seed, false)?;
+            tell(rt, alloc, "a drawn colouring", base, timed)?;
+        }
     }
     Ok(())
 }

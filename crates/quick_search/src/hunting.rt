@@ -181,7 +181,7 @@ impl Search {
         let mut needs = BTreeSet::new(alloc);
         add_all(&mut needs, found.makers.as_slice())?;
         while let Some(taken) = self.path.pop() {
-            let number = self.path.len() as u64 + 1;
+            let number = (self.path.len() as u64).saturating_add(1);
             let is_needed = needs.remove(&number);
             if is_needed || (taken.choices > 1 && !self.leaps) {
                 let mut last = taken;
@@ -190,7 +190,7 @@ impl Search {
                 }
                 last.shut.push(proof)?;
                 last.needs.append(&mut needs)?;
-                if last.choice + 1 < last.choices {
+                if last.choice.saturating_add(1) < last.choices {
                     return self.take_next(k, last);
                 }
                 add_all(&mut last.needs, last.premises.as_slice())?;

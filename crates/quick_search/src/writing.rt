@@ -50,7 +50,7 @@ fn written(
                 return Ok(None);
             };
             let mut trees = List::new(graph.alloc);
-            let mut choice = 0;
+            let mut choice: u64 = 0;
             for proof in proofs.as_slice() {
                 if stand.takes(choice) {
                     let mark = graph.mark();
@@ -64,7 +64,7 @@ fn written(
                         None => return Ok(None),
                     }
                 }
-                choice += 1;
+                choice = choice.saturating_add(1);
             }
             stand.wrapped(trees)
         }

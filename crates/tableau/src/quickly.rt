@@ -1,7 +1,7 @@
 // What the quick search proposes, tested.
 ghost use Rattle.std.specs.Prelude.{◌≡◌, ⊥, IfOk, IfSome, IsTrue};
 ghost use Rattle.logic_terms.specs.Known.{theory_of};
-ghost use Rattle.tableau_rules.specs.Branches.{IsBranch};
+ghost use Rattle.tableau_rules.specs.Branches.{IsBranch, is_finished};
 ghost use Rattle.tableau_rules.specs.Shown.{graph_of};
 ghost use Rattle.tableau_rules.specs.Trees.{tree_of, is_closed};
 ghost use Rattle.tableau.specs.Ends.{IfFinished, IfClosed, IfSpent, IsEnd};
@@ -43,12 +43,21 @@ fn finished(
     ensures closed { IfOk result (λ o. IfSome o (λ e. IfClosed e (λ tree. IsTrue (is_closed (theory_of k.now) (tree_of tree))))) }
     ensures not_spent { IfOk result (λ o. IfSome o (λ e. IfSpent e (λ _. ⊥))) }
 {
-    match replayed(k, first, steps.as_slice())? {
-        Some(b) if clash(k, &b).is_none() && applicable(k, &b).is_none() => {
-            Ok(Some(Outcome::Finished(b)))
-        }
-        _ => Ok(None),
+    let Some(b) = replayed(k, first, steps.as_slice())? else {
+        return Ok(None);
+    };
+    if is_finished(k, &b) {
+        Ok(Some(Outcome::Finished(b)))
+    } else {
+        Ok(None)
     }
+}
+
+// Whether a branch has no clash, and no step applies to it.
+fn is_finished(k: &Knowledge, b: &Branch) -> bool
+    ensures { result ≡ is_finished (theory_of k.now) (graph_of b.now) }
+{
+    clash(k, b).is_none() && applicable(k, b).is_none()
 }
 
 // The branch that these choices of steps make, if they are choices of steps that apply.

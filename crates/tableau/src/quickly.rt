@@ -1,5 +1,5 @@
 // What the quick search proposes, tested.
-ghost use Rattle.std.specs.Prelude.{◌≡◌, ⊥, IfOk, IfSome, IsTrue};
+ghost use Rattle.std.specs.Prelude.{◌≡◌, IfOk, IfSome, IsTrue};
 ghost use Rattle.logic_terms.specs.Known.{theory_of};
 ghost use Rattle.tableau_rules.specs.Branches.{IsBranch, is_finished};
 ghost use Rattle.tableau_rules.specs.Shown.{graph_of};

@@ -379,7 +379,7 @@ def hostile_lines(program, count, seed):
 
 def main():
     program, is_long, begun = os.path.abspath(sys.argv[1]), sys.argv[2:] == ["long"], time.time()
-    count = 100_000 if is_long else int(os.environ.get("COUNT", 3_000))
+    count = 100_000 if is_long else 1_000
     hostile_lines(program, count, 7)
     lines_done = time.time()
     given = b"".join(json.dumps(it).encode() + b"\n" for it in (full_wiki(5000, 2000) if is_long else full_wiki(100, 60)))

@@ -1,0 +1,114 @@
+"""Statuses: full disks, closed pipes, input that can't be read, addresses that can't be listened at, and words that are no command.
+
+faults.py PROGRAM: each status comes with its line on standard error, what was written is a front of what it would be, and no
+byte of a response is sent before its change stands in the journal.
+"""
+import json, os, socket, subprocess, sys, tempfile
+from running import Wiki, api, free_port, read_all
+
+WORDS = {0: "", 2: "usage: acewiki replay|serve|make|help\n", 3: "read fault\n", 4: "write fault\n", 5: "link fault\n"}
+LINES = b"".join(json.dumps(dict(do="word", kind="name", forms=["N" + chr(97 + n)])).encode() + b"\n" for n in range(20))
+HELP = b"acewiki replay [--budget N]\nacewiki serve ADDRESS [--budget N] [--events N]\nacewiki make COUNT SEED [--budget N]\nacewiki help\n"
+
+
+def ran(program, words, status, given=LINES, output=subprocess.PIPE, **more):
+    """Runs the program, and returns what it wrote. The script ends where its status or its words on errors are others."""
+    with tempfile.TemporaryFile() as lines:
+        lines.write(given)
+        lines.seek(0)
+        more.setdefault("stdin", lines)
+        done = subprocess.run([program, *words], stdout=output, stderr=more.pop("errors", subprocess.PIPE), timeout=60, **more)
+    told = WORDS[status] if done.stderr is None else done.stderr.decode()
+    if done.returncode != status or told != WORDS[status]:
+        raise SystemExit(f"faults: {words} ended with {done.returncode} and {done.stderr!r}, and not with {status}")
+    return done.stdout
+
+
+def closed_pipe():
+    """The end for writing of a pipe that nobody reads."""
+    reads, writes = os.pipe()
+    os.close(reads)
+    return writes
+
+
+def no_command(program):
+    for words in [[], ["fly"], ["replay", "x"], ["Replay"], ["help", "x"], ["serve"], ["serve", "-x"], ["replay", "--events", "1"],
+                  ["replay", "--budget"], ["replay", "--budget", "1000000001"], ["serve", "x", "--events", "0"], ["--help"], ["--version"],
+                  ["serve", "x", "--budget", "1", "--budget", "1"], ["replay", "--budget", "0" * 20], [b"\xff"], ["serve", b"a\xff"]]:
+        if ran(program, words, 2):
+            raise SystemExit(f"faults: {words} wrote something")
+
+
+def full(program):
+    """Output on a full device, and into a pipe that nobody reads."""
+    for words in (["replay"], ["help"]):
+        with open("/dev/full", "wb") as device:
+            ran(program, words, 4, output=device)
+        pipe = closed_pipe()
+        ran(program, words, 4, output=pipe)
+        os.close(pipe)
+    with open("/dev/full", "wb") as device:
+        # the line on standard error can't be written either, which changes no status
+        ran(program, ["replay"], 4, output=device, errors=device)
+        ran(program, ["fly"], 2, errors=device)
+        ran(program, ["replay"], 0, given=b"", output=device)
+
+
+def full_journal(program):
+    """A change that the journal doesn't take is answered by no byte, and the program ends with 4. What isn't a change is answered."""
+    for output in (open("/dev/full", "wb"), closed_pipe()):
+        wiki = Wiki(program, LINES, output)
+        if wiki.ask(do="find", word="Na").get("done") != "find":
+            raise SystemExit("faults: a request that changes nothing isn't answered")
+        with wiki.connect() as link:
+            link.sendall(api(dict(do="word", kind="name", forms=["Bern"])))
+            try:
+                got = read_all(link)
+            except ConnectionResetError:
+                got = b""
+        status, told = wiki.process.wait(20), wiki.process.stderr.read().decode()
+        if got or status != 4 or told != WORDS[4]:
+            raise SystemExit(f"faults: a change without a journal: {got!r}, status {status}, {told!r}")
+
+
+def unreadable(program):
+    """Input that can't be read: the replies to the whole lines that were read before stand."""
+    folder = os.open("/", os.O_RDONLY)
+    for words in (["replay"], ["serve", "127.0.0.1:1"]):
+        if ran(program, words, 3, stdin=folder):
+            raise SystemExit("faults: something was written")
+    os.close(folder)
+
+
+def deaf(program):
+    """Addresses that can't be listened at."""
+    with socket.socket() as taken:
+        taken.bind(("127.0.0.1", 0))
+        taken.listen()
+        for address in (f"127.0.0.1:{taken.getsockname()[1]}", "nowhere", "127.0.0.1:99999", "", "127.0.0.1"):
+            if ran(program, ["serve", address], 5):
+                raise SystemExit("faults: something was written")
+
+
+def done(program):
+    if ran(program, ["help"], 0) != HELP or ran(program, ["help"], 0, given=b"", stdin=os.open("/", os.O_RDONLY)) != HELP:
+        raise SystemExit("faults: help writes something else")
+    if ran(program, ["replay"], 0) != b'{"done":"word"}\n' * 20:
+        raise SystemExit("faults: other replies")
+    wiki = Wiki(program, LINES, options=["--events", "5"])
+    # the first connection opened and ended; the next one opens, brings its request, and is closed; the last one only opens
+    if wiki.page("/")[0] != 200:
+        raise SystemExit("faults: no page before the last event")
+    with wiki.connect():
+        if wiki.process.wait(20) or wiki.process.stderr.read():
+            raise SystemExit("faults: so many events were not the end")
+
+
+def main():
+    program = os.path.abspath(sys.argv[1])
+    for test in (no_command, full, full_journal, unreadable, deaf, done):
+        test(program)
+    print("faults: each status as it should be")
+
+
+main()

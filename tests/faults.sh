@@ -1,0 +1,5 @@
+#!/usr/bin/env bash
+# What the program says and leaves where the outside fails (faults.py says what must hold). $1 is the program.
+set -u
+here="$(cd "$(dirname "${BASH_SOURCE[0]}")" && pwd)"
+exec python3 "$here/faults.py" "$@"

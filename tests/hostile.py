@@ -1,0 +1,392 @@
+"""Hostile bytes: random, truncated, oversized and mixed requests and lines, with a checker of answers written from the documents.
+
+hostile.py PROGRAM [long]: each connection is answered as docs/HTTP.md says; of bytes that are no head by the strict grammar
+below 400, 413 or waiting is allowed. Each line to `replay` has one reply: `BadRequest` exactly where it is no request by
+docs/PROTOCOL.md, and else what was asked or a refusal. The program goes on serving, and once words and sentences are at their
+limits its memory doesn't grow.
+"""
+import json, multiprocessing, os, random, re, socket, subprocess, sys, tempfile, time
+from running import BAD_REQUEST, Closed, Wiki, parse_response, read_all, reset
+
+WAIT = 0
+U32 = 4294967295
+
+# ---- the checker of connections: which statuses may come for these bytes, or WAIT
+
+TOKEN = rb"[!#$%&'*+.^_`|~0-9A-Za-z-]+"
+HEAD = re.compile(rb"(?:\r?\n)*(" + TOKEN + rb") ([!-~]+) HTTP/1\.([01])\r?\n((?:" + TOKEN + rb":[ \t]*[ -~\x80-\xff\t]*\r?\n)*)\r?\n")
+FIELD = re.compile(rb"(" + TOKEN + rb"):[ \t]*([ -~\x80-\xff\t]*)\r?\n")
+ROUTES = [
+    (rb"/", b"GET", {200}), (rb"/word", b"POST", {303, 409}), (rb"/api", b"POST", {200, 404, 409}),
+    (rb"/article/[^/]+", b"GET", {200, 404}), (rb"/session/[^/]+", b"GET", {200, 404}),
+    (rb"/article/[^/]+/(?:add|edit|remove|retract|reassert)", b"POST", {303, 404, 409}),
+    (rb"/article/[^/]+/open", b"POST", {303, 404, 409}), (rb"/session/[^/]+/(?:type|back|commit|refresh|drop)", b"POST", {303, 404, 409}),
+]
+NEEDS = {b"word": [b"kind", b"forms"], b"add": [b"text"], b"edit": [b"at", b"text"], b"remove": [b"at"], b"retract": [b"at"],
+         b"reassert": [b"at"], b"type": [b"token"]}
+
+
+def expected(data):
+    """The statuses that may answer these bytes where they are all that comes; WAIT among them where more may be waited for."""
+    head = HEAD.match(data)
+    if head is None or head.end() > 16384:
+        strict = re.fullmatch(rb"(?:" + TOKEN + rb"(?: (?:[!-~]+(?: (?:H(?:T(?:T(?:P(?:/(?:1(?:\.(?:[01]\r?)?)?)?)?)?)?)?)?)?)?)?)?", data)
+        if strict is not None or is_front_of_fields(data):
+            return {413} if len(data) >= 16384 else {WAIT}
+        return {400, 413, WAIT}
+    return after_head(head, data[head.end():])
+
+
+def is_front_of_fields(data):
+    """A request line and whole fields, of which the last may be cut: the head goes on."""
+    line, found, rest = data.partition(b"\r\n")
+    if not found or re.fullmatch(TOKEN + rb" [!-~]+ HTTP/1\.[01]", line) is None or len(data) > 16384:
+        return False
+    *whole, last = rest.split(b"\r\n")
+    fields = all(re.fullmatch(TOKEN + rb":[ \t]*[ -~\t]*", it) for it in whole)
+    return fields and len(whole) < 64 and re.fullmatch(rb"(?:" + TOKEN + rb"(?::[ \t]*[ -~\t]*\r?)?)?", last) is not None
+
+
+def after_head(head, body):
+    method, target, version, lines = head[1], head[2], head[3], head[4]
+    fields = [(name.lower(), value.strip(b" \t")) for name, value in FIELD.findall(lines)]
+    if len(fields) > 64:
+        return {400}
+    if any(name == b"transfer-encoding" for name, _ in fields):
+        return {501}
+    hosts = sum(name == b"host" for name, _ in fields)
+    if hosts > 1 or (hosts == 0 and version == b"1"):
+        return {400}
+    lengths = [value for name, value in fields if name == b"content-length"]
+    if not all(re.fullmatch(rb"[0-9]{1,19}", it) for it in lengths) or len({int(it) for it in lengths}) > 1:
+        return {400}
+    length = int(lengths[0]) if lengths else 0
+    if length > 65536:
+        return {413}
+    path = target.partition(b"?")[0]
+    found = [(wanted, done) for route, wanted, done in ROUTES if re.fullmatch(route, path)]
+    if not found:
+        return {404}
+    if found[0][0] != method:
+        return {405}
+    segments = path.split(b"/")
+    if segments[1] == b"session" and not is_number(decoded(segments[2])):
+        return {400}
+    if len(body) < length:
+        return {WAIT}
+    return after_body(segments, body[:length], found[0][1])
+
+
+def after_body(segments, body, done):
+    if segments[1] == b"api":
+        request = None if len(body) > 65535 else request_in(body)
+        return {400} if request is None else done
+    form = {}
+    for pair in body.split(b"&"):
+        name, _, value = pair.partition(b"=")
+        form.setdefault(decoded(name), decoded(value))
+    needs = NEEDS.get(segments[-1], []) if segments[1] in (b"word",) or len(segments) > 3 else []
+    if any(name not in form for name in needs):
+        return {400}
+    if b"at" in needs and not is_number(form[b"at"]):
+        return {400}
+    if b"kind" in needs and form[b"kind"] not in (b"name", b"noun", b"of", b"verb", b"adjective"):
+        return {400}
+    return done
+
+
+def decoded(text):
+    return re.sub(rb"%([0-9A-Fa-f]{2})", lambda it: bytes([int(it[1], 16)]), text.replace(b"+", b" "))
+
+
+def is_number(text):
+    return re.fullmatch(rb"[0-9]{1,10}", text) is not None and int(text) <= U32
+
+
+# ---- the checker of lines
+
+TEXT, NUMBER, MAYBE, TEXTS, KIND = range(5)
+REQUESTS = {
+    "word": {"kind": KIND, "forms": TEXTS}, "reword": {"word": TEXT, "forms": TEXTS}, "unword": {"word": TEXT},
+    "find": {"word": TEXT}, "words": {}, "parse": {"text": TEXT}, "add": {"article": TEXT, "at": MAYBE, "text": TEXT},
+    "edit": {"article": TEXT, "at": NUMBER, "text": TEXT}, "remove": {"article": TEXT, "at": NUMBER},
+    "retract": {"article": TEXT, "at": NUMBER}, "reassert": {"article": TEXT, "at": NUMBER}, "read": {"article": TEXT},
+    "axioms": {"article": TEXT, "at": NUMBER}, "open": {"article": TEXT}, "type": {"session": NUMBER, "text": TEXT},
+    "back": {"session": NUMBER}, "menu": {"session": NUMBER}, "commit": {"session": NUMBER}, "refresh": {"session": NUMBER},
+    "drop": {"session": NUMBER}}
+
+
+class NoJson(ValueError):
+    pass
+
+
+def refuse(text):
+    raise NoJson(text)
+
+
+def whole(text):
+    # A sign makes a number that isn't whole here.
+    return float(text) if text.startswith("-") else int(text)
+
+
+def decimal(text):
+    number = float(text)
+    return refuse(text) if number in (float("inf"), float("-inf")) else number
+
+
+def request_in(line):
+    """The request of a line, or None where it is none."""
+    try:
+        text = line.decode()
+        if depth(text) > 127 or text.startswith("\ufeff"):
+            return None
+        value = json.loads(text, parse_int=whole, parse_float=decimal, parse_constant=refuse)
+        json.dumps(value, ensure_ascii=False).encode()
+    except (ValueError, RecursionError):
+        return None
+    members = REQUESTS.get(value.get("do")) if isinstance(value, dict) and isinstance(value.get("do"), str) else None
+    if members is None or not all(fits(kind, value, name) for name, kind in members.items()):
+        return None
+    return value["do"]
+
+
+def depth(text):
+    """The greatest nesting of arrays and objects outside of texts."""
+    now = most = 0
+    for mark in re.sub(r'"(?:[^"\\]|\\.)*"', "", text):
+        now += (mark in "[{") - (mark in "]}")
+        most = max(most, now)
+    return most
+
+
+def fits(kind, value, name):
+    if kind == MAYBE:
+        return name not in value or fits(NUMBER, value, name)
+    it = value.get(name)
+    if kind == NUMBER:
+        return type(it) is int and it <= U32
+    if kind == TEXTS:
+        return isinstance(it, list) and all(isinstance(one, str) for one in it)
+    return isinstance(it, str) and (kind != KIND or it in ("name", "noun", "of", "verb", "adjective"))
+
+
+# ---- what is sent
+
+WORDS = ["cat", "dog", "Ada", "Bob", "see", "no", "every", "is", "a", "Is", "fish", "<b>", "\u00e9lan", "a b", "-", "x" * 70]
+
+
+def some_request(draw):
+    """A request as an object; its members may be of wrong kinds or missing."""
+    do = draw.choice([*REQUESTS, "fly"])
+    request = {"do": do}
+    for name, kind in REQUESTS.get(do, {}).items():
+        if kind in (NUMBER, MAYBE):
+            request[name] = draw.choice([0, 0, 1, 2, 3, U32, U32 + 1, -1, 1.5, "0", None])
+        elif kind == TEXTS:
+            request[name] = draw.choice([[], ["cat"], [draw.choice(WORDS)], [draw.choice(WORDS), draw.choice(WORDS)], "cat", [1]])
+        elif kind == KIND:
+            request[name] = draw.choice(["noun", "name", "verb", "pronoun", 7])
+        else:
+            request[name] = draw.choice([draw.choice(WORDS), sentence(draw), sentence(draw), None])
+    if draw.randrange(8) == 0 and len(request) > 1:
+        del request[draw.choice(list(request))]
+    return request
+
+
+def sentence(draw):
+    return draw.choice(["Ada is a cat.", "No cat is a dog.", "Who is a cat?", "Every dog sees a cat.", "Ada sees every.", ". . .",
+                        " ".join(draw.choice(WORDS) for _ in range(draw.randrange(60))), "Every cat"])
+
+
+def some_line(draw):
+    kind = draw.randrange(10)
+    if kind < 5:
+        return json.dumps(some_request(draw)).encode()
+    if kind == 5:
+        return draw.randbytes(draw.randrange(80)).replace(b"\n", b" ")
+    line = bytearray(json.dumps(some_request(draw), ensure_ascii=False).encode())
+    if kind == 6:
+        return bytes(line[:draw.randrange(len(line))])
+    if kind == 7:
+        line[draw.randrange(len(line))] = draw.choice(b"{}[]\",:\\0-e. \x00\xff")
+        return bytes(line)
+    if kind == 8:
+        return draw.choice([b"", b"\r", b"null", b"[" * 128 + b"]" * 128, b'{"do":"words","x":' + b"[" * 126 + b"]" * 126 + b"}",
+                            b'{"do":"words","x":' + b"[" * 127 + b"]" * 127 + b"}", b'{"do":"words","x":1e999}', b'{"do":"find","word":"\\ud800"}',
+                            b'{"do":"fly","do":"words"}', b' {"do" : "words"}\r', b'{"do":"words"}{}', b'\xef\xbb\xbf{"do":"words"}', b'{"do":"words","x":NaN}'])
+    if draw.randrange(40):
+        return bytes(line)
+    return bytes(line) + b" " * (65535 - len(line) + draw.randrange(-1, 3))
+
+
+FORMS = [
+    ("/word", ["kind=noun&forms=cat", "kind=name&forms=Ada", "kind=verb&forms=see", "kind=noun", "forms=cat", "kind=pet&forms=cat", "kind=noun&kind=x&forms=a+b"]),
+    ("/article/cat/add", ["text=Ada+is+a+cat.", "text=Who+is+a+cat%3F", "text=", "txt=a", "text=%ff%00"]),
+    ("/article/Ada/edit", ["at=0&text=Ada+is+a+dog.", "at=x&text=a", "at=4294967296&text=a", "text=a"]),
+    ("/article/cat/remove", ["at=0", "at=00000000000", "at=", "", "a%74=0"]), ("/article/cat/retract", ["at=0", "at=9"]),
+    ("/article/dog/reassert", ["at=0", "at=-1"]), ("/article/cat/open", [""]), ("/article/x%2fy/open", [""]),
+    ("/session/1/type", ["token=no", "token=cat", "tok=en"]), ("/session/1/back", [""]), ("/session/2/commit", [""]),
+    ("/session/1/refresh", [""]), ("/session/1/drop", [""]), ("/session/x/drop", [""]), ("/session/4294967296/back", [""]), ("/none", [""])]
+
+
+def some_http(draw):
+    """A request that is whole, with its parts drawn from right and wrong ones."""
+    kind = draw.randrange(4)
+    if kind == 0:
+        method, path, body = "GET", draw.choice(["/", "/?a=b", "/article/cat", "/article/%63at", "/article/b%c3%a9", "/article/", "/session/1", "/session/a", "/none", "//"]), b""
+    elif kind == 1:
+        method, path, body = "POST", "/api", some_line(draw).replace(b"\xff", b"\xfe")
+    else:
+        path, bodies = draw.choice(FORMS)
+        method, body = "POST", draw.choice(bodies).encode()
+    if draw.randrange(12) == 0:
+        method = draw.choice(["GET", "POST", "PUT", "get"])
+    fields = ["Host: here"]
+    if body or draw.randrange(2):
+        fields.append(f"Content-Length: {len(body)}")
+    odd = draw.randrange(24)
+    if odd == 0:
+        fields.append(draw.choice(["Transfer-Encoding: chunked", "transfer-encoding:"]))
+    elif odd == 1:
+        fields = fields[1:]
+    elif odd == 2:
+        fields.append("hOST: there")
+    elif odd == 3:
+        fields.append(draw.choice(["Content-Length: 7", f"Content-Length: 0{len(body)}", "Content-Length: x", "Content-Length: 65537", "Content-Length: " + "9" * 20, "Content-Length:"]))
+    elif odd == 4:
+        fields += [f"X-{n}: {n}" for n in range(draw.choice([60, 61, 62, 63, 64, 65, 200]))]
+    elif odd == 5:
+        fields.append("X: " + "y" * draw.choice([1000, 16000, 16384, 20000]))
+    draw.shuffle(fields)
+    version = draw.choice(["1.1"] * 9 + ["1.0"])
+    return f"{method} {path} HTTP/{version}\r\n".encode() + "".join(it + "\r\n" for it in fields).encode() + b"\r\n" + body
+
+
+def some_bytes(draw):
+    """What one connection sends."""
+    kind = draw.randrange(8)
+    if kind == 0:
+        return draw.randbytes(draw.randrange(1, 300))
+    data = some_http(draw)
+    if kind == 1:
+        return data[:draw.randrange(1, len(data))]
+    if kind == 2:
+        return data + draw.randbytes(draw.randrange(1, 200))
+    if kind == 3:
+        changed = bytearray(data)
+        changed[draw.randrange(min(len(data), 200))] = draw.randrange(256)
+        return bytes(changed)
+    return data
+
+
+def pieces(draw, data):
+    if draw.randrange(3):
+        return [data]
+    cuts = sorted(draw.randrange(len(data)) for _ in range(draw.randrange(1, 5)))
+    return [data[a:b] for a, b in zip([0, *cuts], [*cuts, len(data)]) if a < b]
+
+
+# ---- connections
+
+def connect_once(wiki, draw, number):
+    """One hostile connection. Tells what was wrong, or nothing."""
+    data = some_bytes(draw)
+    allowed = expected(data)
+    got = b""
+    link = wiki.connect(source=f"127.0.0.{1 + number % 200}")
+    try:
+        if draw.randrange(50) == 0:
+            link.sendall(data)
+            return None
+        for piece in pieces(draw, data):
+            link.sendall(piece)
+        link.shutdown(socket.SHUT_WR)
+        got = read_all(link)
+    except (ConnectionResetError, BrokenPipeError):
+        # more came than is passed over once the response stands: its front may have been read or not
+        return None if len(data) > 100_000 or allowed - {WAIT} else f"reset after {data[:200]!r}"
+    finally:
+        reset(link)
+    try:
+        status = parse_response(got)[0] if got else WAIT
+    except Closed:
+        return f"half a response {got[:200]!r} to {data[:300]!r}"
+    return None if status in allowed else f"{status}, and not one of {sorted(allowed)}, answers {data[:400]!r}"
+
+
+def many(port, seed, count):
+    wiki = object.__new__(Wiki)
+    wiki.port = port
+    draw = random.Random(seed)
+    for number in range(count):
+        wrong = connect_once(wiki, draw, number)
+        if wrong:
+            return f"connection {number} of seed {seed}: {wrong}"
+    return None
+
+
+def connections(wiki, count, seed):
+    """So many connections, two at a time. Ends the script at the first wrong answer."""
+    with multiprocessing.Pool(2) as pool:
+        for wrong in pool.starmap(many, [(wiki.port, seed + k, count // 2) for k in range(2)]):
+            if wrong:
+                raise SystemExit(f"hostile: {wrong}")
+    if wiki.page("/")[0] != 200:
+        raise SystemExit("hostile: the program doesn't go on serving")
+
+
+def full_wiki(words, sentences):
+    """Lines that bring words and sentences to so many each."""
+    for n in range(words):
+        name = "".join(chr(97 + n // p % 26) for p in (17576, 676, 26, 1))
+        yield {"do": "word", "kind": "noun" if n < 20 else "name", "forms": [name, name + "s"] if n < 20 else ["N" + name]}
+    for n in range(sentences):
+        # Each word of the first kind is one of the nouns, and each sentence says that a name is one of them.
+        noun, name = "aa" + "a" + chr(97 + n % 20), n % (words - 20) + 20
+        form = "N" + "".join(chr(97 + name // p % 26) for p in (17576, 676, 26, 1))
+        yield {"do": "add", "article": form, "text": f"{form} is {'an' if noun[0] in 'aeiou' else 'a'} {noun}."}
+
+
+def hostile_connections(program, count, given):
+    wiki = Wiki(program, given)
+    connections(wiki, count // 2, 100)
+    before = wiki.memory()
+    connections(wiki, count - count // 2, 200)
+    grown = wiki.memory() - before
+    wiki.stop()
+    return grown
+
+
+# ---- lines
+
+def hostile_lines(program, count, seed):
+    draw = random.Random(seed)
+    lines = [some_line(draw) for _ in range(count)]
+    with tempfile.TemporaryFile() as given, tempfile.TemporaryFile() as told:
+        given.write(b"\n".join(lines) + b"\n")
+        given.seek(0)
+        status = subprocess.run([program, "replay"], stdin=given, stdout=told).returncode
+        told.seek(0)
+        replies = told.read().split(b"\n")
+    if status or len(replies) != count + 1 or replies.pop():
+        raise SystemExit(f"hostile: replay ended with {status} after {len(replies)} replies to {count} lines")
+    for line, reply in zip(lines, replies):
+        do = None if len(line) > 65535 else request_in(line)
+        said = json.loads(reply)
+        if (said == BAD_REQUEST) != (do is None) or (do is not None and said.get("done") != do and said.get("refused") not in range(1, 16)):
+            raise SystemExit(f"hostile: {reply[:200]!r} answers {line[:400]!r}")
+
+
+def main():
+    program, is_long, begun = os.path.abspath(sys.argv[1]), sys.argv[2:] == ["long"], time.time()
+    count = 100_000 if is_long else 1_000
+    hostile_lines(program, count, 7)
+    lines_done = time.time()
+    given = b"".join(json.dumps(it).encode() + b"\n" for it in (full_wiki(5000, 2000) if is_long else full_wiki(100, 60)))
+    grown = hostile_connections(program, count, given)
+    if is_long and grown > 2_000_000:
+        raise SystemExit(f"hostile: the program holds {grown} bytes more after {count // 2} connections")
+    print(f"hostile: {count} lines in {lines_done - begun:.1f} s, {count} connections in {time.time() - lines_done:.1f} s, each answered as it should be; {grown} bytes more held")
+
+
+main()

@@ -6,3 +6,4 @@ pub mod Ends
 pub mod Table
 pub mod Cuts
 pub mod Instances
+pub mod Asks

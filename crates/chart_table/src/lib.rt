@@ -1,6 +1,7 @@
 //! Which tokens have a derivation, and which a partial one, by a table of where phrases end and where they are cut off.
 #![tactic(auto)]
 
+mod asks;
 mod branches;
 mod choices;
 mod ends;
@@ -11,6 +12,7 @@ mod states;
 mod steps;
 mod table;
 
+pub use asks::Ask;
 pub use ends::tail_of;
 pub use instances::leading_instances;
 pub use sameness::{same_entries, same_values};

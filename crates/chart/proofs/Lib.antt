@@ -3,3 +3,4 @@ pub mod TurnedLemmas
 pub mod TurnedTrees
 pub mod SwapLemmas
 pub mod FollowLemmas
+pub mod LastToken

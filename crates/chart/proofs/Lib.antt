@@ -4,3 +4,5 @@ pub mod TurnedTrees
 pub mod SwapLemmas
 pub mod FollowLemmas
 pub mod LastToken
+pub mod ReadingLemmas
+pub mod OfferLemmas

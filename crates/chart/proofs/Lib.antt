@@ -6,3 +6,4 @@ pub mod FollowLemmas
 pub mod LastToken
 pub mod ReadingLemmas
 pub mod OfferLemmas
+pub mod MenuLemmas

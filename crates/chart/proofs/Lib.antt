@@ -7,3 +7,4 @@ pub mod LastToken
 pub mod ReadingLemmas
 pub mod OfferLemmas
 pub mod MenuLemmas
+pub mod OfferLoops

@@ -3,11 +3,7 @@ use Rattle.std.proofs.lemmas.Result.{IfOk-weaker}
 use Rattle.derivations.specs.Entries.{shown, texts_of, goes_on, all_tried, forms_among, functions_in, IsInOrder, AreTexts}
 use Rattle.derivations.proofs.EntryLemmas.{all_tried_in_order}
 use Rattle.derivations.proofs.TypingLemmas.{text_menu, whole_menu, gathered}
-use Rattle.chart.proofs.SwapLemmas.{none_tried}
-use Rattle.chart.proofs.menus.menu_for.Goals as goal
-
-pub try_terminals-requires-clause-tried : goal.try_terminals-requires-clause-tried
-try_terminals-requires-clause-tried c = none_tried c.args.grammar.now c.args.lexicon.now c.args.tokens.now c.new-tried.result c.new-tried.ensures
+use Rattle.chart.proofs.menus.menu_by_trying.Goals as goal
 
 pub try_words-requires-clause-ordered : goal.try_words-requires-clause-ordered
 try_words-requires-clause-ordered c =

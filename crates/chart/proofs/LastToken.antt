@@ -66,11 +66,11 @@ pass_keeps s values (NoBack patterns) stand after P par h =
 
 any_one : {X : Type 0} (p : X → Bool) (xs : List X) → list_any p xs ≡ true → (x : X) × OneOf xs x × (p x ≡ true)
 any_one p [] h = absurd (cc)
-any_one {X = X} p (x ∷ xs) h = at (p x) refl h
+any_one {X = X} p (x ∷ xs) h = at (p x) refl (any_one p xs) h
   where
-    at : (b : Bool) → p x ≡ b → (b || list_any p xs) ≡ true → (y : X) × OneOf (x ∷ xs) y × (p y ≡ true)
-    at true e k = (x, inl refl, e)
-    at false e k = let r = any_one p xs k in (r.0, inr r.1, r.2)
+    at : (b : Bool) → p x ≡ b → (list_any p xs ≡ true → (y : X) × OneOf xs y × (p y ≡ true)) → (b || list_any p xs) ≡ true → (y : X) × OneOf (x ∷ xs) y × (p y ≡ true)
+    at true e later k = (x, inl refl, e)
+    at false e later k = let r = later k in (r.0, inr r.1, r.2)
 
 one_any : {X : Type 0} (p : X → Bool) (xs : List X) (x : X) → OneOf xs x → p x ≡ true → list_any p xs ≡ true
 one_any p [] x o h = absurd o
@@ -142,18 +142,23 @@ one_crosses s n values own (Back positive negative) es at found ns after par h l
 one_crosses s n values own (NoBack patterns) es at found ns after par h le lt =
     unless_some (list_any (is_agreeing (tests_under values patterns)) at.list) _ after h (λ b is. no_crossing n at after (ap (λ (st : Stand). st.at) is) le lt)
 
+-- elements that lead from the place or before it to a place behind it
+abbrev ElementsCross : Setting → ℕ → List (ℕ × Value) → List Element → Type 0
+ElementsCross s n values es =
+    (at : At) (found : List ℕ) (own : List (ℕ × Value)) (ns : Nodes) (after : Stand) → AllOf (Crossing s n) (phrases_of s ns) → run s values es (stand_at s at found own ns) ≡ Some after → at.place ≤ n → n < after.at.place → Crosses s n values own es at
+
 run_crosses : (s : Setting) (n : ℕ) (values : List (ℕ × Value)) (es : List Element) (at : At) (found : List ℕ) (own : List (ℕ × Value)) (ns : Nodes) (after : Stand) → AllOf (Crossing s n) (phrases_of s ns) → run s values es (stand_at s at found own ns) ≡ Some after → at.place ≤ n → n < after.at.place → Crosses s n values own es at
 run_crosses s n values [] at found own ns after par h le lt = no_crossing n at after (ap (λ (st : Stand). st.at) (same_Some _ _ h)) le lt
 run_crosses s n values (e ∷ es) at found own ns after par h le lt =
     option_and_then_some (run s values es) (pass s values e (stand_at s at found own ns)) after h (λ mid first rest.
-    by mid first rest (cases_lt n mid.at.place))
+    by (run_crosses s n values es) mid first rest (cases_lt n mid.at.place))
   where
-    by : (mid : Stand) → pass s values e (stand_at s at found own ns) ≡ Some mid → run s values es mid ≡ Some after → (n < mid.at.place) ⊎ (mid.at.place ≤ n) → Crosses s n values own (e ∷ es) at
-    by mid first rest (inl over) = one_crosses s n values own e es at found ns mid par first le over
-    by mid first rest (inr before) =
+    by : ElementsCross s n values es → (mid : Stand) → pass s values e (stand_at s at found own ns) ≡ Some mid → run s values es mid ≡ Some after → (n < mid.at.place) ⊎ (mid.at.place ≤ n) → Crosses s n values own (e ∷ es) at
+    by later mid first rest (inl over) = one_crosses s n values own e es at found ns mid par first le over
+    by later mid first rest (inr before) =
         let p = passed s values e at found own ns mid first in
         let kids : AllOf (Crossing s n) (phrases_of s p.left) = subst (AllOf (Crossing s n)) p.children (pass_keeps s values e (stand_at s at found own ns) mid (Crossing s n) par first) in
-        let c = run_crosses s n values es mid.at mid.found (own_past s e own) p.left after kids (ap (λ o. run s values es (record { at = mid.at; found = mid.found; own = o; children = phrases_of s p.left })) (sym p.own_is) ∙ ap (λ k. run s values es (record { at = mid.at; found = mid.found; own = mid.own; children = k })) (sym p.children) ∙ rest) before lt in
+        let c = later mid.at mid.found (own_past s e own) p.left after kids (ap (λ o. run s values es (record { at = mid.at; found = mid.found; own = o; children = phrases_of s p.left })) (sym p.own_is) ∙ ap (λ k. run s values es (record { at = mid.at; found = mid.found; own = mid.own; children = k })) (sym p.children) ∙ rest) before lt in
         let within_rest : c.count < length es = c.within in
         record { count = suc c.count; within = omega arith; last = c.last; path = (mid.at, p.leads, c.path); asks = c.asks; token = c.token; stop = c.stop }
 
@@ -218,13 +223,13 @@ cut_crosses s n m (entered number values found ns count child) asked at h le lt 
     option_and_then_some _ (front_of s number values found ns count asked at) m h (λ stand is ends.
     option_and_then_some _ (rule_with s.grammar number) stand is (λ rule has fronts.
     option_and_then_some (λ category. cut_end s child (under values category) stand.at) (option_and_then (λ r. next_category r count) (rule_with s.grammar number)) m ends (λ c next deep.
-    by stand rule c has fronts next deep (cases_lt n stand.at.place))))
+    by (cut_crosses s n m child) stand rule c has fronts next deep (cases_lt n stand.at.place))))
   where
-    by : (stand : Stand) (rule : Rule) (c : Category) → rule_with s.grammar number ≡ Some rule → front s rule values found (phrases_of s ns) count asked at ≡ Some stand → option_and_then (λ r. next_category r count) (rule_with s.grammar number) ≡ Some c → cut_end s child (under values c) stand.at ≡ Some m → (n < stand.at.place) ⊎ (stand.at.place ≤ n) → Follows s n asked at
-    by stand rule c has fronts next deep (inl over) = front_crosses s n number rule values found ns count asked at stand has fronts le over
-    by stand rule c has fronts next deep (inr before) =
+    by : ((category : Test) (place : At) → cut_end s child category place ≡ Some m → place.place ≤ n → n < m → Follows s n category place) → (stand : Stand) (rule : Rule) (c : Category) → rule_with s.grammar number ≡ Some rule → front s rule values found (phrases_of s ns) count asked at ≡ Some stand → option_and_then (λ r. next_category r count) (rule_with s.grammar number) ≡ Some c → cut_end s child (under values c) stand.at ≡ Some m → (n < stand.at.place) ⊎ (stand.at.place ≤ n) → Follows s n asked at
+    by later stand rule c has fronts next deep (inl over) = front_crosses s n number rule values found ns count asked at stand has fronts le over
+    by later stand rule c has fronts next deep (inr before) =
         let f = front_is s rule values found ns count asked at stand fronts in
-        let inner = cut_crosses s n m child (under values c) stand.at deep before lt in
+        let inner = later (under values c) stand.at deep before lt in
         (inner.0, inner.1, ask_of_rule s n inner.0 asked at number rule values has (record { instance = f.instance; head = f.head; count = count; last = stand.at; path = f.path; stop = inr (c, sym (ap (option_and_then (λ r. next_category r count)) has) ∙ next, inner.2) }))
 
 -- Towards the left: where a cut-off node asks for the token, it takes it.

@@ -103,20 +103,19 @@ AsksAt s n asks = AskLeads s n asks text_category (record { place = 0; list = []
 follows_forth : (s : Setting) (n : ℕ) (text : List ℕ) (ts : List (List ℕ)) (k : ℕ) (bs : List Bool) → Told s n (terminal_asks k ts) bs → some_follows text ts bs ≡ true → (j : ℕ) × (option_map_or (bytes_eq text) (slice_get ts j) false ≡ true) × AsksAt s n (ask.Terminal (k + j))
 follows_forth s n text [] k bs told h = absurd (cc)
 follows_forth s n text (t ∷ ts) k [] told h = absurd told
-follows_forth s n text (t ∷ ts) k (b ∷ bs) told h = at (bytes_eq text t) b refl refl h
+follows_forth s n text (t ∷ ts) k (b ∷ bs) told h = at (bytes_eq text t) b refl refl (λ m. later (follows_forth s n text ts (k + 1) bs told.1 m)) h
   where
-    later : some_follows text ts bs ≡ true → (j : ℕ) × (option_map_or (bytes_eq text) (slice_get (t ∷ ts) j) false ≡ true) × AsksAt s n (ask.Terminal (k + j))
-    later m =
-        let r = follows_forth s n text ts (k + 1) bs told.1 m in
+    later : (j : ℕ) × (option_map_or (bytes_eq text) (slice_get ts j) false ≡ true) × AsksAt s n (ask.Terminal (k + 1 + j)) → (j : ℕ) × (option_map_or (bytes_eq text) (slice_get (t ∷ ts) j) false ≡ true) × AsksAt s n (ask.Terminal (k + j))
+    later r =
         let next : k + 1 + r.0 ≡ k + suc r.0 = omega arith in
         (suc r.0, r.1, subst (λ x. AsksAt s n (ask.Terminal x)) next r.2)
 
-    at : (e c : Bool) → bytes_eq text t ≡ e → b ≡ c → ((e && c) || some_follows text ts bs) ≡ true → (j : ℕ) × (option_map_or (bytes_eq text) (slice_get (t ∷ ts) j) false ≡ true) × AsksAt s n (ask.Terminal (k + j))
-    at true true p q m =
+    at : (e c : Bool) → bytes_eq text t ≡ e → b ≡ c → (some_follows text ts bs ≡ true → (j : ℕ) × (option_map_or (bytes_eq text) (slice_get (t ∷ ts) j) false ≡ true) × AsksAt s n (ask.Terminal (k + j))) → ((e && c) || some_follows text ts bs) ≡ true → (j : ℕ) × (option_map_or (bytes_eq text) (slice_get (t ∷ ts) j) false ≡ true) × AsksAt s n (ask.Terminal (k + j))
+    at true true p q rest m =
         let none_more : k ≡ k + 0 = omega arith in
         (0, p, subst (λ x. AsksAt s n (ask.Terminal x)) none_more (told.0.0 q))
-    at true false p q m = later m
-    at false c p q m = later m
+    at true false p q rest m = rest m
+    at false c p q rest m = rest m
 
 follows_back : (s : Setting) (n : ℕ) (text : List ℕ) (ts : List (List ℕ)) (k : ℕ) (bs : List Bool) (j : ℕ) → Told s n (terminal_asks k ts) bs → option_map_or (bytes_eq text) (slice_get ts j) false ≡ true → AsksAt s n (ask.Terminal (k + j)) → some_follows text ts bs ≡ true
 follows_back s n text [] k bs j told h asked = absurd (cc)

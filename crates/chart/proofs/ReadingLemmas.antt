@@ -1,8 +1,9 @@
 -- What tokens read as: the words of their readings, and those that have none.
-use Rattle.std.proofs.Common.{◌≡◌, ℕ, suc, zero, ◌+◌, ◌<◌, List, [], ◌∷◌, ◌++◌, Bool, true, false, ◌&&◌, ◌||◌, map, length, get_or, Some, inl, inr, refl, sym, ap, ◌∙◌, subst, arith}
+use Rattle.std.proofs.Common.{◌≡◌, ℕ, suc, zero, ◌+◌, ◌<◌, List, [], ◌∷◌, ◌++◌, Bool, true, false, ◌&&◌, ◌||◌, map, length, get_or, Some, ◌≤◌, ◌⊎◌, inl, inr, append-nil, refl, sym, ap, ◌∙◌, subst, arith}
 use Rattle.std.specs.Prelude.{if◌then◌else◌, ◌==◌, not, slice_get}
 use Rattle.std.specs.List.{list_any, list_all, flat_map}
 use Rattle.std.specs.Str.{bytes_eq}
+use Rattle.std.proofs.lemmas.Bool.{cases_lt}
 use Rattle.std.proofs.lemmas.Option.{same_Some}
 use Rattle.std.proofs.lemmas.Slice.Eq.{bytes_eq-Decides}
 use Rattle.codeco_terms.specs.declared.values.Value.{Value}
@@ -14,10 +15,10 @@ use Rattle.scopes.specs.Resolution.{has_value}
 use Rattle.lexicon.specs.declared.kinds.Kind.{Kind}
 use Rattle.lexicon.specs.declared.kinds.Kind.TheVariants as kind
 use Rattle.lexicon.specs.declared.words.Word.{Word}
+use Rattle.lexicon.specs.Kinds.{form_count}
 use Rattle.lexicon.specs.Words.{Listed, IsLexicon, is_among, has_form}
 use Rattle.lexicon.specs.Terminals.{raised, is_spelling_of, is_reserved}
 use Rattle.lexicon.specs.Readings.{begins_with_vowel, vow_of, number_at, form_at, reading, readings_from, readings_of_word, readings_of}
-use Rattle.lexicon.proofs.Reading.{readings_none, readings_at}
 use Rattle.derivation_trees.specs.Cutting.{is_terminal}
 use Rattle.chart_table.specs.Branches.{OneOf}
 use Rattle.chart.specs.Offers.{has_in, is_used}
@@ -78,21 +79,20 @@ from_at k id token place (form ∷ forms) (suc j) h =
 
 pub from_is : (k : Kind) (id : WordId) (token : List ℕ) (place : ℕ) (forms : List (List ℕ)) (r : Ground) → OneOf (readings_from k id token place forms) r → (j : ℕ) × (slice_get forms j ≡ Some token) × (reading k id (place + j) token ≡ r)
 from_is k id token place [] r o = absurd o
-from_is k id token place (form ∷ forms) r o = at (bytes_eq token form) refl o
+from_is k id token place (form ∷ forms) r o = at (bytes_eq token form) refl (λ p. later (from_is k id token (place + 1) forms r p)) o
   where
-    later : OneOf (readings_from k id token (place + 1) forms) r → (j : ℕ) × (slice_get (form ∷ forms) j ≡ Some token) × (reading k id (place + j) token ≡ r)
-    later p =
-        let h = from_is k id token (place + 1) forms r p in
+    later : (j : ℕ) × (slice_get forms j ≡ Some token) × (reading k id (place + 1 + j) token ≡ r) → (j : ℕ) × (slice_get (form ∷ forms) j ≡ Some token) × (reading k id (place + j) token ≡ r)
+    later h =
         let next : place + suc h.0 ≡ place + 1 + h.0 = omega arith in
         (suc h.0, h.1, ap (λ q. reading k id q token) next ∙ h.2)
 
-    at : (b : Bool) → bytes_eq token form ≡ b → OneOf (if b then reading k id place form ∷ readings_from k id token (place + 1) forms else readings_from k id token (place + 1) forms) r → (j : ℕ) × (slice_get (form ∷ forms) j ≡ Some token) × (reading k id (place + j) token ≡ r)
-    at true e (inl is) =
+    at : (b : Bool) → bytes_eq token form ≡ b → (OneOf (readings_from k id token (place + 1) forms) r → (j : ℕ) × (slice_get (form ∷ forms) j ≡ Some token) × (reading k id (place + j) token ≡ r)) → OneOf (if b then reading k id place form ∷ readings_from k id token (place + 1) forms else readings_from k id token (place + 1) forms) r → (j : ℕ) × (slice_get (form ∷ forms) j ≡ Some token) × (reading k id (place + j) token ≡ r)
+    at true e further (inl is) =
         let same : token ≡ form = (bytes_eq-Decides token form).0 e in
         let none_more : place + 0 ≡ place = omega arith in
         (0, ap Some (sym same), ap (λ q. reading k id q token) none_more ∙ ap (reading k id place) same ∙ is)
-    at true e (inr p) = later p
-    at false e p = later p
+    at true e further (inr p) = further p
+    at false e further p = further p
 
 -- a text that stands among the forms
 pub form_among : (forms : List (List ℕ)) (j : ℕ) (token : List ℕ) → slice_get forms j ≡ Some token → is_among forms token ≡ true
@@ -104,11 +104,61 @@ form_among (form ∷ forms) (suc j) token h = at (bytes_eq token form) (form_amo
     at true e = refl
     at false e = e
 
+-- a token that is none of the forms of a word has no readings as one
+none_from : (k : Kind) (id : WordId) (token : List ℕ) (place : ℕ) (forms : List (List ℕ)) → is_among forms token ≡ false → readings_from k id token place forms ≡ []
+none_from k id token place [] h = refl
+none_from k id token place (form ∷ forms) h = at (bytes_eq token form) h (none_from k id token (place + 1) forms)
+  where
+    at : (b : Bool) → (b || is_among forms token) ≡ false → (is_among forms token ≡ false → readings_from k id token (place + 1) forms ≡ []) → (if b then reading k id place form ∷ readings_from k id token (place + 1) forms else readings_from k id token (place + 1) forms) ≡ []
+    at true e later = absurd (cc)
+    at false e later = later e
+
+none_read : (live : List Word) (token : List ℕ) → ((j : ℕ) (word : Word) → slice_get live j ≡ Some word → has_form token word ≡ false) → readings_of live token ≡ []
+none_read [] token h = refl
+none_read (word ∷ live) token h =
+    ap (λ l. l ++ readings_of live token) (none_from word.forms.kind word.id token 0 word.forms.texts (h 0 word refl)) ∙ none_read live token (λ j w e. h (suc j) w e)
+
+one_reads : (live : List Word) (place : ℕ) (word : Word) (token : List ℕ) → slice_get live place ≡ Some word → ((j : ℕ) (other : Word) → slice_get live j ≡ Some other → (j ≡ place → ⊥) → has_form token other ≡ false) → readings_of live token ≡ readings_of_word token word
+one_reads [] place word token lives alone = absurd (cc)
+one_reads (first ∷ live) zero word token lives alone =
+    ap (λ l. readings_of_word token first ++ l) (none_read live token (λ j other e. alone (suc j) other e (λ z. absurd (omega arith)))) ∙ append-nil (readings_of_word token first) ∙ ap (readings_of_word token) (same_Some first word lives)
+one_reads (first ∷ live) (suc place) word token lives alone =
+    ap (λ l. l ++ readings_of live token) (none_from first.forms.kind first.id token 0 first.forms.texts (alone 0 first refl (λ z. absurd (omega arith)))) ∙ one_reads live place word token lives (λ j other e n. alone (suc j) other e (λ z. n (omega arith)))
+
+at_default : {X : Type 0} (xs : List X) (i : ℕ) (x d : X) → slice_get xs i ≡ Some x → (i < length xs) × (get_or xs i d ≡ x)
+at_default [] i x d h = absurd (cc)
+at_default (y ∷ ys) zero x d h = (omega arith, same_Some y x h)
+at_default (y ∷ ys) (suc i) x d h = let r = at_default ys i x d h in let lt : i < length ys = r.0 in (omega arith, r.1)
+
+-- no other live word has the form
+alone_with : (l : Listed) → IsLexicon l → (place : ℕ) (word : Word) (token : List ℕ) → slice_get l.live place ≡ Some word → has_form token word ≡ true → (j : ℕ) (other : Word) → slice_get l.live j ≡ Some other → (j ≡ place → ⊥) → has_form token other ≡ false
+alone_with l lexicon place word token lives has j other e apart = by (cases_lt j place)
+  where
+    here : (place < length l.live) × (get_or l.live place word ≡ word)
+    here = at_default l.live place word word lives
+
+    there : (j < length l.live) × (get_or l.live j word ≡ other)
+    there = at_default l.live j other word e
+
+    not_true : (b : Bool) → has_form token other ≡ b → (has_form token other ≡ true → has_form token word ≡ false) → has_form token other ≡ false
+    not_true true y shares = let z : true ≡ false = sym has ∙ shares y in absurd (cc)
+    not_true false y shares = y
+
+    by : (j < place) ⊎ (place ≤ j) → has_form token other ≡ false
+    by (inl before) =
+        not_true (has_form token other) refl (λ y. ap (has_form token) (sym here.1) ∙ lexicon.apart j place word before here.0 token (ap (has_form token) there.1 ∙ y))
+    by (inr behind) =
+        let lt : place < j = after_place behind (cases_lt place j) in
+        ap (has_form token) (sym there.1) ∙ lexicon.apart place j word lt there.0 token (ap (has_form token) here.1 ∙ has)
+      where
+        after_place : place ≤ j → (place < j) ⊎ (j ≤ place) → place < j
+        after_place le (inl lt) = lt
+        after_place le (inr ge) = absurd (apart (omega arith))
+
 -- the readings of a form of a live word are those that it has as a form of this word
 pub form_reads : (l : Listed) → IsLexicon l → (place : ℕ) (word : Word) (token : List ℕ) → slice_get l.live place ≡ Some word → has_form token word ≡ true → readings_of l.live token ≡ readings_of_word token word
 form_reads l lexicon place word token lives has =
-    let r = at_slice l.live place word lives in
-    readings_at l.live lexicon.apart token place word r.0 (ap (has_form token) r.1 ∙ has) ∙ ap (readings_of_word token) r.1
+    one_reads l.live place word token lives (alone_with l lexicon place word token lives has)
 
 -- other numbers for words
 
@@ -248,8 +298,22 @@ form_no_terminal l lexicon place word token lives has = at (is_terminal l.termin
 
 -- a terminal has no readings
 pub terminal_reads : (l : Listed) → IsLexicon l → (token : List ℕ) → is_terminal l.terminals token ≡ true → readings_of l.live token ≡ []
-terminal_reads l lexicon token h = readings_none l.live token (λ k d lt. at k d lt (has_form token (get_or l.live k d)) refl)
+terminal_reads l lexicon token h = none_read l.live token (λ j word e. at j word e (has_form token word) refl)
   where
-    at : (k : ℕ) (d : Word) → k < length l.live → (b : Bool) → has_form token (get_or l.live k d) ≡ b → has_form token (get_or l.live k d) ≡ false
-    at k d lt true e = let z : true ≡ false = sym (spelled_reserved l.terminals token h) ∙ lexicon.unreserved k d lt token e in absurd (cc)
-    at k d lt false e = e
+    at : (j : ℕ) (word : Word) → slice_get l.live j ≡ Some word → (b : Bool) → has_form token word ≡ b → has_form token word ≡ false
+    at j word e true is = let z : true ≡ false = sym h ∙ form_no_terminal l lexicon j word token e is in absurd (cc)
+    at j word e false is = is
+
+-- a live word has a form
+pub some_form : (l : Listed) → IsLexicon l → (place : ℕ) (word : Word) → slice_get l.live place ≡ Some word → 0 < length word.forms.texts
+some_form l lexicon place word lives =
+    let r = at_slice l.live place word lives in
+    let long : length word.forms.texts ≡ form_count word.forms.kind = subst (λ (w : Word). length w.forms.texts ≡ form_count w.forms.kind) r.1 (lexicon.complete place word r.0) in
+    subst (λ n. 0 < n) (sym long) (at word.forms.kind)
+  where
+    at : (k : Kind) → 0 < form_count k
+    at kind.Name = omega arith
+    at kind.Noun = omega arith
+    at kind.Of = omega arith
+    at kind.Verb = omega arith
+    at kind.Adjective = omega arith

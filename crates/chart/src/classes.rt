@@ -48,8 +48,7 @@ fn begins_with_vowel(form: &[u8]) -> bool
 
 // The class of the form at a place of a word of the kind.
 pub(crate) fn class_of(kind: Kind, place: usize, form: &[u8]) -> usize
-    ensures class { result ≡ offers.class_of kind place form.now }
-    ensures below { result < CLASS_COUNT }
+    ensures { result ≡ offers.class_of kind place form.now }
 {
     match kind {
         Kind::Name => 0,

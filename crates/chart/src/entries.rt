@@ -81,7 +81,7 @@ pub(crate) fn in_order<'a>(
     alloc: Global,
     mut found: Vec<Entry<'a>>,
 ) -> Result<Vec<Entry<'a>>, Memory>
-    ensures { IfOk result (λ entries. IsOrdered (map shown found.items) (map shown entries.items)) }
+    ensures { IfOk result (λ entries. IsOrdered (map shown found.entry.items) (map shown entries.items)) }
 {
     found.sort_unstable_by(|one, other| order(one, other));
     let mut entries = Vec::with_capacity(alloc, found.len())?;

@@ -220,6 +220,12 @@ fn menu_by_asking<'a>(
     menu_of(alloc, entries.as_slice())
 }
 
+fn is_same(symbol: &Symbol, other: &Symbol) -> bool
+    ensures { IsTrue result → symbol.now ≡ other.now }
+{
+    symbol.as_bytes() == other.as_bytes()
+}
+
 // Whether the symbols are the others.
 fn are_same(symbols: &[Symbol], others: &[Symbol]) -> bool
     ensures { IsTrue result → symbols.now ≡ others.now }
@@ -228,7 +234,7 @@ fn are_same(symbols: &[Symbol], others: &[Symbol]) -> bool
         return false;
     }
     for (place, symbol) in symbols.iter().enumerate() {
-        if symbol.as_bytes() != others[place].as_bytes() {
+        if !is_same(symbol, &others[place]) {
             return false;
         }
     }

@@ -1,7 +1,7 @@
 // Which tokens may follow, by what is asked for where the tokens end: by one table for terminals and for forms of words among
 // the tokens, and by another for the forms of all other words.
-ghost use Rattle.std.specs.Prelude.{◌≡◌, ℕ, ◌≤◌, ◌<◌, ◌∷◌, [], ◌++◌, ◌^◌, length, map, filter, true, false, IfOk, OnOk, IfSome, IfNone, Some, slice_get, IsTrue, ◌⊎◌};
-ghost use Rattle.std.specs.List.{list_any};
+ghost use Rattle.std.specs.Prelude.{◌≡◌, ◌&&◌, ℕ, ◌≤◌, ◌<◌, ◌∷◌, [], ◌++◌, length, map, filter, true, false, IfOk, OnOk, IfSome, IfNone, Some, slice_get, slice_index_or, IsTrue, ◌⊎◌};
+ghost use Rattle.std.specs.Str.{bytes_eq};
 ghost use Rattle.codeco_terms.specs.declared.values.Value.TheVariants.{Word as TheWord};
 ghost use Rattle.wiki_base.specs.declared.tokens.TheConstants.{MOST_TOKENS};
 ghost use Rattle.scopes.specs.Resolution as resolution;
@@ -11,7 +11,7 @@ ghost use Rattle.lexicon.specs.declared.words.Word.{Word as TheEntry};
 ghost use Rattle.derivations.specs.Entries.{shown, texts_of, forms_in, functions_in};
 ghost use Rattle.chart.specs.Offers as offers;
 
-use crate::classes::{CLASS_COUNT, class_asks, class_of, form_ask};
+use crate::classes::{class_asks, class_of, form_ask};
 use crate::entries::Entry;
 use chart_table::{Ask, may_follow};
 use codeco_checked::CheckedGrammar;
@@ -116,15 +116,26 @@ fn ask_used<'a>(
     Ok(())
 }
 
+// What is told of the ask with the number; false past the last one.
+fn is_told(told: &[bool], number: usize) -> bool
+    ensures { result ≡ slice_index_or told.now number false }
+{
+    number < told.len() && told[number]
+}
+
+// Whether the text is the terminal with the number, and it is told that it may follow.
+fn follows_as(text: &str, terminal: &Symbol, told: &[bool], number: usize) -> bool
+    ensures { result ≡ (bytes_eq text.now terminal.now && slice_index_or told.now number false) }
+{
+    text.as_bytes() == terminal.as_bytes() && is_told(told, number)
+}
+
 // Whether the text is one of the terminals, and it is told that this one may follow.
 fn some_follows(text: &str, terminals: &[Symbol], told: &[bool]) -> bool
     ensures { result ≡ offers.some_follows text.now terminals.now told.now }
 {
     for (number, terminal) in terminals.iter().enumerate() {
-        if number >= told.len() {
-            return false;
-        }
-        if told[number] && text.as_bytes() == terminal.as_bytes() {
+        if follows_as(text, terminal, told, number) {
             return true;
         }
     }
@@ -157,8 +168,8 @@ fn add_chosen<'a>(
 ) -> Result<(), Memory>
     ensures { OnOk result (map shown found.new.items ≡ map shown found.old.items ++ offers.chosen (map shown forms.now) told.now) }
 {
-    for (form, follows) in forms.iter().zip(told) {
-        if *follows {
+    for (number, form) in forms.iter().enumerate() {
+        if is_told(told, number) {
             found.push(*form)?;
         }
     }
@@ -203,6 +214,7 @@ pub(crate) fn add_known<'a>(
 // The place of the first word without a form among the tokens.
 fn first_new(lexicon: &Lexicon, readings: &[Readings]) -> Option<usize>
     ensures new { IfSome result (λ place. (place < length lexicon.now.live) × ((word : TheEntry) → slice_get lexicon.now.live place ≡ Some word → offers.is_used readings.now word.id ≡ false)) }
+    ensures lexicon { IsLexicon lexicon.now }
     ensures none { IfNone result ((place : ℕ) (word : TheEntry) → slice_get lexicon.now.live place ≡ Some word → offers.is_used readings.now word.id ≡ true) }
 {
     for place in 0..lexicon.len() {
@@ -215,14 +227,13 @@ fn first_new(lexicon: &Lexicon, readings: &[Readings]) -> Option<usize>
 
 // Adds the forms of the word of whose class it is told that they may follow.
 fn add_forms<'a>(word: &'a Word, told: &[bool], found: &mut Vec<Entry<'a>>) -> Result<(), Memory>
-    requires { length told.now ≡ CLASS_COUNT }
     ensures { OnOk result (map shown found.new.items ≡ map shown found.old.items
         ++ offers.told_forms told.now word.now.forms.kind 0 word.now.forms.texts) }
 {
     let kind = word.forms.kind;
     let group = Group::of_kind(kind);
     for (place, text) in word.forms.texts.as_slice().iter().enumerate() {
-        if told[class_of(kind, place, text.as_str().as_bytes())] {
+        if is_told(told, class_of(kind, place, text.as_str().as_bytes())) {
             found.push((group, text.as_str()))?;
         }
     }
@@ -236,7 +247,6 @@ fn add_words<'a>(
     told: &[bool],
     found: &mut Vec<Entry<'a>>,
 ) -> Result<(), Memory>
-    requires { length told.now ≡ CLASS_COUNT }
     ensures { OnOk result (map shown found.new.items ≡ map shown found.old.items
         ++ offers.new_forms readings.now told.now lexicon.now.live) }
 {
@@ -269,9 +279,7 @@ pub(crate) fn add_new<'a>(
         return Ok(());
     };
     let word = lexicon.get(place);
-    let [form, ..] = word.forms.texts.as_slice() else {
-        unreachable!()
-    };
+    let form = word.forms.texts.get(0);
     let last = lexicon.readings(form.as_str());
     let told = told_of(alloc, grammar, lexicon, tokens, last, &class_asks(word.id))?;
     add_words(lexicon, readings, told.as_slice(), found)

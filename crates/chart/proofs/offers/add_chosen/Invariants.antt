@@ -1,8 +1,8 @@
-use Rattle.std.proofs.Common.{◌≡◌, ◌++◌, drop, map, length}
+use Rattle.std.proofs.Common.{◌≡◌, ◌++◌, drop, map}
 use Rattle.derivations.specs.Entries.{shown}
 use Rattle.chart.specs.Offers.{chosen}
 use Rattle.chart.proofs.offers.add_chosen.Given as goal
 
-abbrev pub invariant-loop-form : goal.invariant-loop-form
-invariant-loop-form l =
-    map shown l.found.items ++ chosen (map shown (drop (length l.yielded) l.forms)) (drop (length l.yielded) l.told) ≡ map shown l.initial.found.items ++ chosen (map shown l.forms) l.told
+abbrev pub invariant-loop-number : goal.invariant-loop-number
+invariant-loop-number l =
+    map shown l.found.items ++ chosen (drop l.number (map shown l.forms)) (drop l.number l.told) ≡ map shown l.initial.found.items ++ chosen (map shown l.forms) l.told

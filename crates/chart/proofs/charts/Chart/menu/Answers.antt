@@ -10,4 +10,4 @@ menu_for-requires-clause-readings c =
     c.as_slice.ensures ∙ readings_kept c.args.grammar.now c.self.inside.grammar (readings_of c.args.lexicon.now.live) c.args.self.now c.self.inside.tokens c.self.inside.readings c.self.view_is c.requires.kept
 
 pub menu_for-requires-clause-few : goal.menu_for-requires-clause-few
-menu_for-requires-clause-few c = subst (λ (x : Setting). length x.tokens ≤ MOST_TOKENS) c.self.view_is c.self.invariant.few
+menu_for-requires-clause-few c = c.self.invariant.few

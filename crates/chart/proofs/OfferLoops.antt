@@ -188,7 +188,7 @@ chosen_step xs bs i d old new whole lt is h =
     let long : length (map shown xs) ≡ length xs = map_length shown xs in
     let within : i < length (map shown xs) = omega arith in
     let piece = ap (λ x. if slice_index_or bs i false then x ∷ [] else []) (map_get shown xs i d lt) in
-    ap (λ n. n ++ chosen (drop (i + 1) (map shown xs)) (drop (i + 1) bs)) is ∙ append_assoc old (if slice_index_or bs i false then shown (get_or xs i d) ∷ [] else []) (chosen (drop (i + 1) (map shown xs)) (drop (i + 1) bs)) ∙ ap (λ p. old ++ p ++ chosen (drop (i + 1) (map shown xs)) (drop (i + 1) bs)) (sym piece) ∙ ap (λ l. old ++ l) (sym (chosen_turn (map shown xs) bs i (shown d) within)) ∙ h
+    ap (λ n. n ++ chosen (drop (i + 1) (map shown xs)) (drop (i + 1) bs)) is ∙ append_assoc old (if slice_index_or bs i false then shown (get_or xs i d) ∷ [] else []) (chosen (drop (i + 1) (map shown xs)) (drop (i + 1) bs)) ∙ ap (λ p. old ++ (p ++ chosen (drop (i + 1) (map shown xs)) (drop (i + 1) bs))) (sym piece) ∙ ap (λ l. old ++ l) (sym (chosen_turn (map shown xs) bs i (shown d) within)) ∙ h
 
 pub chosen_more : (xs : List (Group × Bor (List ℕ))) (bs : List Bool) (i : ℕ) (d : Group × Bor (List ℕ)) (old new : List (Group × Bor (List ℕ))) (whole : List (Group × List ℕ)) → i < length xs → slice_index_or bs i false ≡ true → new ≡ old ++ get_or xs i d ∷ [] → map shown old ++ chosen (drop i (map shown xs)) (drop i bs) ≡ whole → map shown new ++ chosen (drop (i + 1) (map shown xs)) (drop (i + 1) bs) ≡ whole
 chosen_more xs bs i d old new whole lt test is h =

@@ -12,3 +12,4 @@ pub mod SentenceLemmas
 pub mod CutLemmas
 pub mod HeadLemmas
 pub mod InstanceLemmas
+pub mod IdleLemmas

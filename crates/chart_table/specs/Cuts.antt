@@ -1,11 +1,12 @@
 -- Where cut-off phrases of a category begin that end where the tokens end.
-use Rattle.std.specs.Prelude.{◌≡◌, ℕ, ◌-◌, ◌≤◌, ◌<◌, true, List, [], ◌∷◌, length, take, drop, Some, ◌⊎◌}
+use Rattle.std.specs.Prelude.{◌≡◌, false, ℕ, ◌-◌, ◌≤◌, ◌<◌, true, List, [], ◌∷◌, length, take, drop, Some, ◌⊎◌}
 use Rattle.codeco_terms.specs.declared.values.Value.{Value}
 use Rattle.codeco_terms.specs.declared.categories.Category.{Category}
 use Rattle.codeco_terms.specs.declared.elements.Element.{Element}
 use Rattle.codeco_terms.specs.declared.rules.Rule.{Rule}
 use Rattle.scopes.specs.declared.tests.Test.{Test}
 use Rattle.derivation_trees.specs.Settings.{Setting}
+use Rattle.derivation_scenes.specs.Starts.{may_start}
 use Rattle.derivation_trees.specs.Instances.{under, feats_under, own_values, is_instance}
 use Rattle.derivation_trees.specs.Derives.{At, fits, rule_with}
 use Rattle.derivation_trees.specs.Partial.{CutNode, cut_end, next_category, sub_of}
@@ -123,3 +124,8 @@ pub record IsCutOf (s : Setting) (name : ℕ) (at : At) (e : End) : Type 0 where
 pub record HasCutsUpTo (s : Setting) (name : ℕ) (known : List (ℕ × Value)) (at : At) (count : ℕ) (cuts : List End) : Type 0 where
   pub sound : (e : End) → OneOf cuts e → IsCutOf s name at e
   pub complete : (number : ℕ) (rule : Rule) → rule_with s.grammar number ≡ Some rule → number ≤ count → rule.head.name ≡ name → HasRuleCuts s rule known at cuts
+
+-- the tokens don't end at the place, and the rule's first element that takes tokens can't stand there
+pub record IsIdle (s : Setting) (rule : Rule) (place : ℕ) : Type 0 where
+  pub before : place ≡ length s.tokens → ⊥
+  pub not : may_start s place rule.body ≡ false

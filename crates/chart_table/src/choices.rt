@@ -10,7 +10,8 @@ ghost use Rattle.chart_table.specs.Choices as choosing;
 use crate::branches::values_at;
 use crate::states::Feat;
 use codeco_terms::{Declared, Element, Ground, Pattern, Rule, Term, Value};
-use derivation_trees::{Setting, rule_own_features};
+use derivation_scenes::Scene;
+use derivation_trees::rule_own_features;
 use lists::List;
 use std::alloc::Global;
 use wiki_base::{Memory, WordId};
@@ -115,7 +116,7 @@ fn places_of(alloc: Global, body: &[Element]) -> Result<List<u8>, Memory>
 }
 
 // What the rule writes.
-pub(crate) fn plan_of(alloc: Global, setting: &Setting<'_>, rule: &Rule) -> Result<Plan, Memory>
+pub(crate) fn plan_of(alloc: Global, setting: &Scene<'_>, rule: &Rule) -> Result<Plan, Memory>
     ensures terms { IfOk result (λ plan. plan.terms ≡ choosing.terms_of rule.now) }
     ensures places { IfOk result (λ plan. plan.places ≡ flat_map positions rule.now.body) }
     ensures own { IfOk result (λ plan. plan.own ≡ instances.rule_own_features setting.now.grammar rule.now) }
@@ -140,7 +141,7 @@ fn push_words(alloc: Global, readings: &[Ground], out: &mut List<Value>) -> Resu
 }
 
 // Word 0 and the words with a form among the tokens.
-fn word_values(alloc: Global, setting: &Setting<'_>) -> Result<List<Value>, Memory>
+fn word_values(alloc: Global, setting: &Scene<'_>) -> Result<List<Value>, Memory>
     ensures { IfOk result
         (λ values. values ≡ choosing.no_word ∷ flat_map choosing.words_of setting.now.readings) }
 {
@@ -154,7 +155,7 @@ fn word_values(alloc: Global, setting: &Setting<'_>) -> Result<List<Value>, Memo
 
 // The positions 0 to the number of tokens.
 #[tactic(auto, using(crate::proofs::Loops::positions_more))]
-fn position_values(alloc: Global, setting: &Setting<'_>) -> Result<List<Value>, Memory>
+fn position_values(alloc: Global, setting: &Scene<'_>) -> Result<List<Value>, Memory>
     ensures { IfOk result (λ values. values ≡ choosing.all_positions setting.now) }
 {
     let mut values = List::new(alloc);
@@ -178,7 +179,7 @@ fn atom_values(alloc: Global, atoms: &[u16]) -> Result<List<Value>, Memory>
 // The values that are declared so.
 fn declared_values(
     alloc: Global,
-    setting: &Setting<'_>,
+    setting: &Scene<'_>,
     declared: &Declared,
 ) -> Result<List<Value>, Memory>
     ensures { IfOk result (λ values. values ≡ choosing.declared_values setting.now declared.now) }
@@ -192,7 +193,7 @@ fn declared_values(
 }
 
 // The values of the feature with the number.
-fn feature_values(alloc: Global, setting: &Setting<'_>, feature: u16) -> Result<List<Value>, Memory>
+fn feature_values(alloc: Global, setting: &Scene<'_>, feature: u16) -> Result<List<Value>, Memory>
     ensures { IfOk result (λ values. values ≡ choosing.feature_values setting.now feature) }
 {
     match setting.grammar.features().as_slice().get(feature as usize) {
@@ -238,7 +239,7 @@ fn one_value(alloc: Global, value: Value) -> Result<List<Value>, Memory>
 
 fn own_choices(
     alloc: Global,
-    setting: &Setting<'_>,
+    setting: &Scene<'_>,
     feature: Option<u16>,
 ) -> Result<List<Value>, Memory>
     ensures { IfOk result (λ values. values ≡ choosing.own_choices setting.now feature) }
@@ -257,7 +258,7 @@ fn own_feature(own: &[u16], place: usize) -> Option<u16>
 
 fn variable_choices(
     alloc: Global,
-    setting: &Setting<'_>,
+    setting: &Scene<'_>,
     own: &[u16],
     variable: u8,
     feature: Option<u16>,
@@ -283,7 +284,7 @@ fn variable_choices(
 // The values that the term can have.
 pub(crate) fn choices(
     alloc: Global,
-    setting: &Setting<'_>,
+    setting: &Scene<'_>,
     plan: &Plan,
     term: Term,
 ) -> Result<List<Value>, Memory>

@@ -18,7 +18,8 @@ use crate::choices::{Plan, plan_of};
 use crate::states::{Bound, End, Feat, State};
 use crate::steps::{close, extended, push_ends, push_plain};
 use codeco_terms::{Category, Element, Ground, Rule, Term, Value};
-use derivation_trees::{Setting, is_instance, rule_own_features, under, value_under, variables_of};
+use derivation_scenes::{Scene, is_instance};
+use derivation_trees::{rule_own_features, under, value_under, variables_of};
 use lists::List;
 use scopes::{Access, Entry};
 use std::alloc::Global;
@@ -149,7 +150,7 @@ fn end_with(
 // The end in an assignment of all variables, if that is an instance.
 fn finished_one(
     alloc: Global,
-    setting: &Setting<'_>,
+    setting: &Scene<'_>,
     rule: &Rule,
     before: &Access,
     state: &State,
@@ -173,7 +174,7 @@ fn finished_one(
 // The ends in these assignments of all variables, where they are instances.
 fn finished_all(
     alloc: Global,
-    setting: &Setting<'_>,
+    setting: &Scene<'_>,
     rule: &Rule,
     before: &Access,
     state: &State,
@@ -202,7 +203,7 @@ fn finished_all(
 // The ends of phrases of the rule that stand so after the last element.
 pub(crate) fn finished(
     alloc: Global,
-    setting: &Setting<'_>,
+    setting: &Scene<'_>,
     rule: &Rule,
     plan: &Plan,
     before: &Access,

@@ -15,7 +15,8 @@ use crate::states::{Bound, State};
 use crate::steps::close;
 use crate::table::{Row, last_states, start_states};
 use codeco_terms::{Rule, Value};
-use derivation_trees::{Setting, variables_of};
+use derivation_scenes::Scene;
+use derivation_trees::variables_of;
 use lists::List;
 use scopes::Access;
 use std::alloc::Global;
@@ -83,7 +84,7 @@ fn push_bounds(
 // Adds the values of all variables in a state, in each way.
 fn push_state(
     alloc: Global,
-    setting: &Setting<'_>,
+    setting: &Scene<'_>,
     rule: &Rule,
     plan: &Plan,
     state: &State,
@@ -105,7 +106,7 @@ fn push_state(
 // Adds the values of all variables in each of the states.
 fn push_states(
     alloc: Global,
-    setting: &Setting<'_>,
+    setting: &Scene<'_>,
     rule: &Rule,
     plan: &Plan,
     states: &[State],
@@ -127,7 +128,7 @@ fn push_states(
 /// more may be made.
 pub fn leading_instances(
     alloc: Global,
-    setting: &Setting<'_>,
+    setting: &Scene<'_>,
     rows: &mut List<Row>,
     rule: &Rule,
     known: &[(u16, Value)],

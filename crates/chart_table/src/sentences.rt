@@ -1,5 +1,5 @@
 // Which tokens are sentences.
-ghost use Rattle.std.specs.Prelude.{◌≡◌, ◌≤◌, ◌<◌, ◌==◌, ◌↔◌, [], length, slice_get, Some, IfOk, IsTrue};
+ghost use Rattle.std.specs.Prelude.{◌≡◌, ◌≤◌, ◌+◌, ◌<◌, ◌==◌, ◌↔◌, [], length, slice_get, Some, IfOk, IsTrue};
 ghost use Rattle.std.specs.List.{list_any};
 ghost use Rattle.derivation_trees.specs.Trees.{Node};
 ghost use Rattle.derivation_trees.specs.Derives.{IsDerivation};
@@ -11,7 +11,8 @@ ghost use Rattle.chart_table.specs.Table as tables;
 use crate::states::End;
 use crate::table::{row_of, token_count};
 use codeco_checked::CheckedGrammar;
-use derivation_trees::{Setting, readings_of};
+use derivation_scenes::Scene;
+use derivation_trees::readings_of;
 use lexicon::Lexicon;
 use lists::List;
 use std::alloc::Global;
@@ -42,7 +43,7 @@ pub fn has_derivation(
     ensures { IfOk result (λ yes. IsTrue yes ↔ IsSentence grammar.now lexicon.now tokens.now) }
 {
     let readings = readings_of(alloc, lexicon, tokens.as_slice())?;
-    let setting = Setting {
+    let setting = Scene {
         grammar: grammar.grammar(),
         tokens: tokens.as_slice(),
         readings: readings.as_slice(),
@@ -50,7 +51,7 @@ pub fn has_derivation(
     is_sentence(alloc, &setting)
 }
 
-/// Whether the tokens, of which there are at most 40, have a partial derivation by the grammar with the words of the
+/// Whether the tokens, of which there are at most 41, have a partial derivation by the grammar with the words of the
 /// lexicon, by the same table.
 pub fn begins(
     alloc: Global,
@@ -58,11 +59,11 @@ pub fn begins(
     lexicon: &Lexicon,
     tokens: &Tokens,
 ) -> Result<bool, Memory>
-    requires { length tokens.now ≤ MOST_TOKENS }
+    requires { length tokens.now ≤ MOST_TOKENS + 1 }
     ensures { IfOk result (λ yes. IsTrue yes ↔ IsBeginning grammar.now lexicon.now tokens.now) }
 {
     let readings = readings_of(alloc, lexicon, tokens.as_slice())?;
-    let setting = Setting {
+    let setting = Scene {
         grammar: grammar.grammar(),
         tokens: tokens.as_slice(),
         readings: readings.as_slice(),
@@ -71,7 +72,7 @@ pub fn begins(
 }
 
 // Whether the setting's tokens have a derivation.
-fn is_sentence(alloc: Global, setting: &Setting<'_>) -> Result<bool, Memory>
+fn is_sentence(alloc: Global, setting: &Scene<'_>) -> Result<bool, Memory>
     ensures { IfOk result (λ yes. IsTrue yes ↔ ((tree : Node) × IsDerivation setting.now tree)) }
 {
     let standing = standing_of(alloc, setting)?;
@@ -79,7 +80,7 @@ fn is_sentence(alloc: Global, setting: &Setting<'_>) -> Result<bool, Memory>
 }
 
 // Whether the setting's tokens have a partial derivation.
-fn is_beginning(alloc: Global, setting: &Setting<'_>) -> Result<bool, Memory>
+fn is_beginning(alloc: Global, setting: &Scene<'_>) -> Result<bool, Memory>
     ensures { IfOk result (λ yes. IsTrue yes ↔ ((cut : CutNode) × IsPartialDerivation setting.now cut)) }
 {
     let standing = standing_of(alloc, setting)?;
@@ -87,7 +88,7 @@ fn is_beginning(alloc: Global, setting: &Setting<'_>) -> Result<bool, Memory>
 }
 
 /// Whether the setting's tokens have a partial derivation, and whether they have a derivation, by one table.
-pub fn standing_of(alloc: Global, setting: &Setting<'_>) -> Result<Standing, Memory>
+pub fn standing_of(alloc: Global, setting: &Scene<'_>) -> Result<Standing, Memory>
     ensures begins { IfOk result (λ standing. IsTrue standing.begins ↔ ((cut : CutNode) × IsPartialDerivation setting.now cut)) }
     ensures derives { IfOk result (λ standing. IsTrue standing.derives ↔ ((tree : Node) × IsDerivation setting.now tree)) }
 {

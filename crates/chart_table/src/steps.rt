@@ -1,6 +1,7 @@
 // Where a node may stand after one more element.
 ghost use Rattle.std.specs.Prelude.{◌≡◌, ◌+◌, ◌≤◌, [], ◌∷◌, ◌++◌, map, Some, None, option_map, unwrap_or, slice_get, length, false, IfOk, OnOk, if◌then◌else◌};
 ghost use Rattle.std.specs.List.{flat_map, list_any};
+ghost use Rattle.std.specs.Str.{bytes_eq};
 ghost use Rattle.codeco_terms.specs.declared.values.Value.TheVariants.{Pos};
 ghost use Rattle.codeco_terms.specs.declared.values.Term.TheVariants.{Var};
 ghost use Rattle.scopes.specs.AccessList.{introduced};
@@ -19,7 +20,8 @@ use crate::branches::{alone, copy_bound, have, meet, read_as, restrict};
 use crate::choices::{Plan, choices};
 use crate::states::{Bound, End, Feat, State};
 use codeco_terms::{Category, Element, Ground, Pattern, Term, Vals, Value};
-use derivation_trees::{Setting, features_of, term_value, tests_under, written};
+use derivation_scenes::Scene;
+use derivation_trees::{features_of, term_value, tests_under, written};
 use lists::List;
 use scopes::{Access, Entry, Found, TestList, Tests};
 use std::alloc::Global;
@@ -49,7 +51,7 @@ pub(crate) fn push_placed(
 // The assignments under which each term has one of its choices.
 pub(crate) fn close(
     alloc: Global,
-    setting: &Setting<'_>,
+    setting: &Scene<'_>,
     plan: &Plan,
     feats: &[Feat],
     bounds: List<Bound>,
@@ -67,7 +69,7 @@ pub(crate) fn close(
 
 fn close_patterns(
     alloc: Global,
-    setting: &Setting<'_>,
+    setting: &Scene<'_>,
     plan: &Plan,
     patterns: &[Pattern],
     bounds: List<Bound>,
@@ -83,7 +85,7 @@ fn close_patterns(
 }
 
 // The readings of the token at the place.
-fn readings_at<'a>(setting: &Setting<'a>, place: u16) -> &'a [Ground]
+fn readings_at<'a>(setting: &Scene<'a>, place: u16) -> &'a [Ground]
     ensures { result.now ≡ steps.readings_at setting.now place }
 {
     match setting.readings.get(place as usize) {
@@ -227,7 +229,7 @@ fn push_introduced(
 // `>` and `>>` introduce a referent at the place.
 fn introduce(
     alloc: Global,
-    setting: &Setting<'_>,
+    setting: &Scene<'_>,
     plan: &Plan,
     number: u16,
     category: &Category,
@@ -382,9 +384,46 @@ fn refer_none(
     Ok(out)
 }
 
+// The place after a token that is the terminal.
+fn after_terminal(setting: &Scene<'_>, terminal: u16, place: u16) -> Option<u16>
+    ensures { result ≡ (if settings.matches_terminal setting.now terminal place then Some (place + 1) else None) }
+{
+    if (place as usize) < setting.tokens.len()
+        && matches_terminal(setting, terminal, place as usize)
+    {
+        Some(place + 1)
+    } else {
+        None
+    }
+}
+
+// Whether the token at the place is the terminal with the number.
+fn matches_terminal(setting: &Scene<'_>, terminal: u16, place: usize) -> bool
+    ensures { result ≡ settings.matches_terminal setting.now terminal place }
+{
+    let Some(token) = setting.tokens.get(place) else {
+        return false;
+    };
+    let Some(symbol) = setting
+        .grammar
+        .terminals()
+        .as_slice()
+        .get(terminal as usize)
+    else {
+        return false;
+    };
+    same_bytes(token.as_str().as_bytes(), symbol.as_bytes())
+}
+
+fn same_bytes(bytes: &[u8], other: &[u8]) -> bool
+    ensures { result ≡ bytes_eq bytes.now other.now }
+{
+    bytes == other
+}
+
 fn push_terminal(
     alloc: Global,
-    setting: &Setting<'_>,
+    setting: &Scene<'_>,
     terminal: u16,
     state: &State,
     out: &mut List<State>,
@@ -392,7 +431,7 @@ fn push_terminal(
     ensures { OnOk result (out.new ≡ out.old
         ++ (if settings.matches_terminal setting.now terminal state.now.place then steps.placed (state.now.place + 1) state.now.list (state.now.binds ∷ []) else [])) }
 {
-    match setting.after_terminal(terminal, state.place) {
+    match after_terminal(setting, terminal, state.place) {
         None => Ok(()),
         Some(place) => {
             let one = alone(alloc, state.binds.as_slice())?;
@@ -403,7 +442,7 @@ fn push_terminal(
 
 fn push_preterminal(
     alloc: Global,
-    setting: &Setting<'_>,
+    setting: &Scene<'_>,
     category: &Category,
     state: &State,
     out: &mut List<State>,
@@ -453,7 +492,7 @@ fn push_opened(alloc: Global, state: &State, out: &mut List<State>) -> Result<()
 
 fn push_back(
     alloc: Global,
-    setting: &Setting<'_>,
+    setting: &Scene<'_>,
     plan: &Plan,
     positive: &[Pattern],
     negative: &[Pattern],
@@ -473,7 +512,7 @@ fn push_back(
 
 fn push_no_back(
     alloc: Global,
-    setting: &Setting<'_>,
+    setting: &Scene<'_>,
     plan: &Plan,
     patterns: &[Pattern],
     state: &State,
@@ -492,7 +531,7 @@ fn push_no_back(
 // Adds the states after an element that is no category.
 pub(crate) fn push_plain(
     alloc: Global,
-    setting: &Setting<'_>,
+    setting: &Scene<'_>,
     plan: &Plan,
     number: u16,
     element: &Element,

@@ -23,7 +23,8 @@ use crate::sameness::{same_end, same_entries, same_values};
 use crate::states::{Bound, End, Feat, State};
 use crate::steps::{extended, push_ends, push_placed, push_plain};
 use codeco_terms::{Category, Element, Grammar, Rule, Value};
-use derivation_trees::{Setting, push_own_features};
+use derivation_scenes::{Scene, may_start};
+use derivation_trees::push_own_features;
 use lists::List;
 use scopes::{Access, Entry, TestValues};
 use std::alloc::Global;
@@ -47,13 +48,13 @@ fn is_row(row: &Row, name: u16, known: &[(u16, Value)], place: u16, list: &[Entr
     ensures place { result ≡ true → row.now.place ≡ place }
     ensures list { result ≡ true → row.now.list ≡ list.now }
 {
-    row.name == name
-        && row.place == place
+    row.place == place
+        && row.name == name
         && same_values(row.known.as_slice(), known)
         && same_entries(row.list.as_slice(), list)
 }
 
-// The number of the row, if it is there.
+// The number of the row, if it is there. The newest rows are looked at first.
 fn find(
     rows: &[Row],
     name: u16,
@@ -63,8 +64,10 @@ fn find(
 ) -> Option<usize>
     ensures { IfSome result (λ number. tables.IsFound rows.now number name known.now place list.now) }
 {
-    for (number, row) in rows.iter().enumerate() {
-        if is_row(row, name, known, place, list) {
+    let mut number = rows.len();
+    while number > 0 {
+        number -= 1;
+        if is_row(&rows[number], name, known, place, list) {
             return Some(number);
         }
     }
@@ -137,7 +140,7 @@ fn push_all_new(alloc: Global, ends: &[End], out: &mut List<End>) -> Result<(), 
 // Adds the ends of phrases of the rule that stand in these states after the last element.
 fn push_finished(
     alloc: Global,
-    setting: &Setting<'_>,
+    setting: &Scene<'_>,
     rule: &Rule,
     plan: &Plan,
     before: &Access,
@@ -166,7 +169,7 @@ fn own_count_of(alloc: Global, grammar: &Grammar, element: &Element) -> Result<u
     Ok(own.len())
 }
 
-fn own_count(alloc: Global, setting: &Setting<'_>, element: &Element) -> Result<usize, Memory>
+fn own_count(alloc: Global, setting: &Scene<'_>, element: &Element) -> Result<usize, Memory>
     ensures { IfOk result (λ count. count ≡ length (instances.own_features setting.now.grammar element.now)) }
 {
     own_count_of(alloc, setting.grammar, element)
@@ -240,7 +243,7 @@ fn push_new_row(rows: &mut List<Row>, row: Row) -> Result<usize, Memory>
 // Adds, for a state, the phrases of the rule that are cut off there.
 fn push_cut(
     alloc: Global,
-    setting: &Setting<'_>,
+    setting: &Scene<'_>,
     rule: &Rule,
     plan: &Plan,
     state: &State,
@@ -259,7 +262,7 @@ fn push_cut(
 // Adds the phrases of the rule that are cut off in these states.
 fn push_cuts(
     alloc: Global,
-    setting: &Setting<'_>,
+    setting: &Scene<'_>,
     rule: &Rule,
     plan: &Plan,
     states: &[State],
@@ -277,7 +280,7 @@ fn push_cuts(
 }
 
 // How many tokens there are.
-pub(crate) fn token_count(setting: &Setting<'_>) -> usize
+pub(crate) fn token_count(setting: &Scene<'_>) -> usize
     ensures { result ≡ length setting.now.tokens }
 {
     setting.tokens.len()
@@ -286,7 +289,7 @@ pub(crate) fn token_count(setting: &Setting<'_>) -> usize
 // Adds the phrases of the rule that are cut off in a state where the tokens end.
 fn push_cut_here(
     alloc: Global,
-    setting: &Setting<'_>,
+    setting: &Scene<'_>,
     rule: &Rule,
     plan: &Plan,
     state: &State,
@@ -308,7 +311,7 @@ fn push_cut_here(
 // Adds the phrases of the rule that are cut off in those of the states where the tokens end.
 fn push_cuts_here(
     alloc: Global,
-    setting: &Setting<'_>,
+    setting: &Scene<'_>,
     rule: &Rule,
     plan: &Plan,
     states: &[State],
@@ -328,7 +331,7 @@ fn push_cuts_here(
 // Adds the phrases of the rule whose next element, a category, is cut off itself.
 fn push_cuts_within(
     alloc: Global,
-    setting: &Setting<'_>,
+    setting: &Scene<'_>,
     rule: &Rule,
     plan: &Plan,
     category: &Category,
@@ -352,7 +355,7 @@ fn push_cuts_within(
 #[cycle(ends)]
 pub(crate) fn row_of(
     alloc: Global,
-    setting: &Setting<'_>,
+    setting: &Scene<'_>,
     rows: &mut List<Row>,
     depth: u32,
     name: u16,
@@ -402,7 +405,7 @@ pub(crate) fn row_of(
 #[cycle(ends)]
 fn category_ends(
     alloc: Global,
-    setting: &Setting<'_>,
+    setting: &Scene<'_>,
     rows: &mut List<Row>,
     depth: u32,
     name: u16,
@@ -426,11 +429,21 @@ fn category_ends(
     Ok(ends)
 }
 
+// Whether the tokens end at the place, or the rule's first element that takes tokens may stand there.
+fn may_go(setting: &Scene<'_>, rule: &Rule, place: u16) -> bool
+    ensures { result ≡ false → cutting.IsIdle setting.now rule.now place }
+{
+    if place as usize == token_count(setting) {
+        return true;
+    }
+    may_start(setting, place, rule.body.as_slice())
+}
+
 // Adds the ends of the rule and what is cut off, if it has the name.
 #[cycle(ends)]
 fn push_named(
     alloc: Global,
-    setting: &Setting<'_>,
+    setting: &Scene<'_>,
     rows: &mut List<Row>,
     depth: u32,
     name: u16,
@@ -459,7 +472,7 @@ fn push_named(
 #[cycle(ends)]
 fn push_rule(
     alloc: Global,
-    setting: &Setting<'_>,
+    setting: &Scene<'_>,
     rows: &mut List<Row>,
     depth: u32,
     rule: &Rule,
@@ -474,6 +487,9 @@ fn push_rule(
     ensures ends { OnOk result (ending.HasEndsOfRule setting.now rule.now known.now (record { place = place; list = start.now }) ends.old ends.new) }
     ensures cuts { OnOk result (cutting.HasCutsOfRule setting.now rule.now known.now (record { place = place; list = start.now }) cuts.old cuts.new) }
 {
+    if !may_go(setting, rule, place) {
+        return Ok(());
+    }
     let plan = plan_of(alloc, setting, rule)?;
     let starts = start_states(alloc, known, rule.head.feats.as_slice(), place, start)?;
     let states = last_states(alloc, setting, rows, depth, rule, &plan, starts, cuts)?;
@@ -486,7 +502,7 @@ fn push_rule(
 #[cycle(ends)]
 pub(crate) fn last_states(
     alloc: Global,
-    setting: &Setting<'_>,
+    setting: &Scene<'_>,
     rows: &mut List<Row>,
     depth: u32,
     rule: &Rule,
@@ -529,7 +545,7 @@ pub(crate) fn last_states(
 #[cycle(ends)]
 fn next_states(
     alloc: Global,
-    setting: &Setting<'_>,
+    setting: &Scene<'_>,
     rows: &mut List<Row>,
     depth: u32,
     rule: &Rule,
@@ -560,7 +576,7 @@ fn next_states(
 #[cycle(ends)]
 fn push_state(
     alloc: Global,
-    setting: &Setting<'_>,
+    setting: &Scene<'_>,
     rows: &mut List<Row>,
     depth: u32,
     rule: &Rule,
@@ -598,7 +614,7 @@ fn push_state(
 #[cycle(ends)]
 fn push_category(
     alloc: Global,
-    setting: &Setting<'_>,
+    setting: &Scene<'_>,
     rows: &mut List<Row>,
     depth: u32,
     rule: &Rule,
@@ -663,7 +679,7 @@ fn push_row(
 // Adds what is cut off within a category, by a row.
 fn push_row_cuts(
     alloc: Global,
-    setting: &Setting<'_>,
+    setting: &Scene<'_>,
     rule: &Rule,
     plan: &Plan,
     category: &Category,

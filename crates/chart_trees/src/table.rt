@@ -4,6 +4,8 @@ ghost use Rattle.codeco_terms.specs.declared.elements.Element.TheVariants.{Sub};
 ghost use Rattle.derivation_trees.specs.Derives.{rule_with};
 ghost use Rattle.derivation_trees.specs.Stands.{IsLimited, IsWithin};
 ghost use Rattle.derivations.specs.Enumeration as enumeration;
+ghost use Rattle.chart_table.specs.Table.{AreRows};
+ghost use Rattle.chart_table.specs.Instances.{HasInstances};
 ghost use Rattle.chart_trees.specs.declared.table.Best.{Best as OneBest};
 ghost use Rattle.chart_trees.specs.Paths.{path_of, outcome_at};
 ghost use Rattle.chart_trees.specs.Ways as ways;
@@ -14,6 +16,7 @@ use crate::outcomes::{Outcome, push_ended};
 use crate::paths::{Path, opened, push_joined, push_passed};
 use chart_table::{Row, access_of, leading_instances, referents_of, same_entries, same_values};
 use codeco_terms::{Category, Element, Rule, Value};
+use derivation_scenes::Scene;
 use derivation_trees::{Setting, fits, is_instance, under};
 use lists::List;
 use scopes::{Access, Entry, Test};
@@ -94,6 +97,28 @@ fn may_begin(
         return Ok(false);
     }
     is_instance(alloc, setting, rule, values)
+}
+
+// Values for all variables of the rule: among them is each instance by which its elements lead somewhere.
+fn instances_of(
+    alloc: Global,
+    setting: &Setting<'_>,
+    ends: &mut List<Row>,
+    rule: &Rule,
+    known: &[(u16, Value)],
+    place: u16,
+    list: &Access,
+) -> Result<List<List<(u8, Value)>>, Memory>
+    requires { AreRows setting.now ends.old }
+    ensures rows { OnOk result (AreRows setting.now ends.new) }
+    ensures instances { IfOk result (HasInstances setting.now rule.now known.now (record { place = place; list = list.now })) }
+{
+    let scene = Scene {
+        grammar: setting.grammar,
+        tokens: setting.tokens,
+        readings: setting.readings,
+    };
+    leading_instances(alloc, &scene, ends, rule, known, place, list)
 }
 
 // The number of the row of the category, which is made where it isn't there yet.
@@ -203,7 +228,7 @@ fn push_rule(
     ensures tables { OnOk result (tabled.AreTables setting.now tables.new) }
     ensures trees { OnOk result (ends.HasTrees setting.now asked.now (record { place = place; list = start.now }) (ends.IsOfRule number) out.old out.new) }
 {
-    let instances = leading_instances(
+    let instances = instances_of(
         alloc,
         setting,
         &mut tables.ends,

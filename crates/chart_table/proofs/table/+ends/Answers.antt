@@ -8,6 +8,7 @@ use Rattle.chart_table.proofs.CycleLemmas.{row_found, row_returned, rows_returne
 use Rattle.chart_table.specs.Steps.{starting}
 use Rattle.chart_table.specs.Branches.{known_features}
 use Rattle.chart_table.specs.Cuts.{HasHeads, Among, Halts, Enters}
+use Rattle.chart_table.proofs.IdleLemmas.{idle_ends, idle_cuts}
 use Rattle.chart_table.proofs.table.+ends.Goals as goal
 
 pub category_ends-loop-rule-init : goal.category_ends-loop-rule-init
@@ -124,3 +125,11 @@ pub push_category-push_row_cuts-requires-clause-number : goal.push_category-push
 push_category-push_row_cuts-requires-clause-number t c =
     let has = c.in_ok-row.ensures.row in
     subst (λ l. c.in_ok-row.row < length l) (sym c.as_slice-4.ensures) (row_below c.row_of.new.rows c.in_ok-row.row has.row has.is)
+
+pub push_rule-returns-then-not-may_go-clause-ends : goal.push_rule-returns-then-not-may_go-clause-ends
+push_rule-returns-then-not-may_go-clause-ends t c =
+    idle_ends c.args.setting.now c.args.rule.now c.args.known.now (record { place = c.args.place; list = c.args.start.now }) c.args.ends.now (c.may_go.ensures c.if-not-may_go.true)
+
+pub push_rule-returns-then-not-may_go-clause-cuts : goal.push_rule-returns-then-not-may_go-clause-cuts
+push_rule-returns-then-not-may_go-clause-cuts t c =
+    idle_cuts c.args.setting.now c.args.rule.now c.args.known.now (record { place = c.args.place; list = c.args.start.now }) c.args.cuts.now (c.may_go.ensures c.if-not-may_go.true)

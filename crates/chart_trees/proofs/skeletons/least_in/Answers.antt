@@ -1,7 +1,7 @@
 use Rattle.std.proofs.lemmas.Result.{IfOk-weaker}
 use Rattle.chart_trees.proofs.LeastLemmas.{told, best_in}
 use Rattle.chart_trees.proofs.TableLemmas.{tables_none, row_below}
-use Rattle.chart_trees.proofs.least.least_in.Goals as goal
+use Rattle.chart_trees.proofs.skeletons.least_in.Goals as goal
 
 pub best_of-requires-clause-tables : goal.best_of-requires-clause-tables
 best_of-requires-clause-tables c = tables_none c.args.setting.now _ c.new.ensures c.new-2.ensures

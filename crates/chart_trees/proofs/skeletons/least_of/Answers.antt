@@ -7,7 +7,7 @@ use Rattle.derivation_trees.specs.Sentences.{setting_of}
 use Rattle.derivation_trees.proofs.LimitLemmas.{IsLimited-from_sound}
 use Rattle.derivations.proofs.LeastLemmas.{none_told}
 use Rattle.derivations.proofs.UniqueLemmas.{codes_tell, unique_told}
-use Rattle.chart_trees.proofs.least.least_of.Goals as goal
+use Rattle.chart_trees.proofs.skeletons.least_of.Goals as goal
 
 pub least_in-requires : goal.least_in-requires
 least_in-requires c =

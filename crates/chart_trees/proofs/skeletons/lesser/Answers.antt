@@ -1,7 +1,7 @@
 use Rattle.std.proofs.Common.{◌≡◌, false, rules, sym, ◌∙◌}
 use Rattle.derivations.proofs.Members.{true_is_false}
 use Rattle.derivations.proofs.LeastLemmas.{lesser_none, lesser_other, lesser_old}
-use Rattle.chart_trees.proofs.least.lesser.Goals as goal
+use Rattle.chart_trees.proofs.skeletons.lesser.Goals as goal
 
 pub returns-in-None : goal.returns-in-None
 returns-in-None c = lesser_none c.args.other c.args.least c.in-None.is

@@ -1,6 +1,6 @@
 use Rattle.chart_trees.proofs.LeastLemmas.{among_next, listed_next, listed_done, trees_in}
 use Rattle.std.proofs.Common.{take}
-use Rattle.chart_trees.proofs.least.least_among.Goals as goal
+use Rattle.chart_trees.proofs.skeletons.least_among.Goals as goal
 
 pub loop-outcome-preserved : goal.loop-outcome-preserved
 loop-outcome-preserved c =

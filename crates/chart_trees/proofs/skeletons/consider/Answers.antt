@@ -3,7 +3,7 @@ use Rattle.derivation_trees.specs.Trees.{node_of}
 use Rattle.derivations.specs.Listed.{IsLesser}
 use Rattle.derivations.proofs.LeastLemmas.{least_of_same, least_of_more}
 use Rattle.chart_trees.proofs.LeastLemmas.{is_derivation, is_no_derivation, not_here}
-use Rattle.chart_trees.proofs.least.consider.Goals as goal
+use Rattle.chart_trees.proofs.skeletons.consider.Goals as goal
 
 pub returns-then-outcome-token_count : goal.returns-then-outcome-token_count
 returns-then-outcome-token_count c =

@@ -17,9 +17,13 @@ use Rattle.derivation_trees.specs.Partial.{CutNode, stopped, entered, used_up, f
 use Rattle.chart_table.specs.declared.states.State.{State}
 use Rattle.chart_table.specs.Leading.{Path, ElementLeads, own_past, referents}
 use Rattle.chart_table.specs.Steps.{at_of, Covers}
-use Rattle.chart_table.specs.declared.states.End.{End}
+use Rattle.chart_table.specs.declared.states.Cut.{Cut}
+use Rattle.chart_table.specs.declared.asks.Ask.{Ask}
+use Rattle.chart_table.specs.declared.asks.Ask.TheVariants as ask
 use Rattle.chart_table.specs.Ends.{CoversPath, LeadsFrom, AreSteps}
-use Rattle.chart_table.specs.Cuts.{CutLeads, RuleCut, AreCuts, own_after, AreAfter, HasCutsUpTo}
+use Rattle.chart_table.specs.Asks.{AskLeads, CutMeets, meets}
+use Rattle.chart_table.specs.Aims.{Aims}
+use Rattle.chart_table.specs.Cuts.{CutLeads, Met, Stops, RuleCut, AreCuts, cut_head, own_after, AreAfter, HasCutsUpTo}
 use Rattle.chart_table.proofs.BranchLemmas.{Binds}
 use Rattle.chart_table.proofs.EndLemmas.{drop_further, own_at, fits_name, agrees_known}
 use Rattle.chart_table.proofs.PassLemmas.{if_some, if_true, both_true, and_both, stand_at, run_path, path_runs}
@@ -51,25 +55,27 @@ front_shows s rule values found ns count asked at stand h =
     }))))
 
 -- what a rule that is cut off is
-pub record SomeCut (s : Setting) (asked : Test) (at : At) : Type 0 where
+pub record SomeCut (s : Setting) (aim : Aims) (j : ℕ) (asked : Test) (at : At) : Type 0 where
   pub number : ℕ
   pub rule : Rule
   pub has : rule_with s.grammar number ≡ Some rule
   pub values : List (ℕ × Value)
-  pub cut : RuleCut s rule values asked at
+  pub cut : RuleCut s aim j rule values asked at
 
-pub rule_of_cut : (s : Setting) (asked : Test) (at : At) → CutLeads s asked at → SomeCut s asked at
-rule_of_cut s asked at (stopped n values found ns count, h) =
-    map_some (λ (stand : Stand). stand.at.place) (front_of s n values found ns count asked at) (length s.tokens) h (λ stand is place.
+pub rule_of_cut : (s : Setting) (aim : Aims) (j : ℕ) (asked : Test) (at : At) → CutLeads s aim j asked at → SomeCut s aim j asked at
+rule_of_cut s aim j asked at (a, at_j, (stopped n values found ns count, h, m)) =
+    map_some (λ (stand : Stand). stand.at.place) (front_of s n values found ns count asked at) aim.halt h (λ stand is place.
     option_and_then_some _ (rule_with s.grammar n) stand is (λ rule has fronts.
     let f = front_shows s rule values found ns count asked at stand fronts in
-    record { number = n; rule = rule; has = has; values = values; cut = record { instance = f.instance; head = f.head; count = count; last = stand.at; path = f.path; stop = inl place } }))
-rule_of_cut s asked at (entered n values found ns count child, h) =
-    option_and_then_some _ (front_of s n values found ns count asked at) (length s.tokens) h (λ stand is ends.
+    let same : m.0 ≡ rule = same_Some m.0 rule (sym m.1 ∙ has) in
+    let met : Met aim j values (slice_get rule.body count) = (a, at_j, ap (λ r. meets values (slice_get r.body count) a) (sym same) ∙ m.2) in
+    record { number = n; rule = rule; has = has; values = values; cut = record { instance = f.instance; head = f.head; count = count; last = stand.at; path = f.path; stop = inl (place, met) } }))
+rule_of_cut s aim j asked at (a, at_j, (entered n values found ns count child, h, m)) =
+    option_and_then_some _ (front_of s n values found ns count asked at) aim.halt h (λ stand is ends.
     option_and_then_some _ (rule_with s.grammar n) stand is (λ rule has fronts.
-    option_and_then_some (λ category. cut_end s child (under values category) stand.at) (option_and_then (λ r. next_category r count) (rule_with s.grammar n)) (length s.tokens) ends (λ c next cut.
+    option_and_then_some (λ category. cut_end s child (under values category) stand.at) (option_and_then (λ r. next_category r count) (rule_with s.grammar n)) aim.halt ends (λ c next cut.
     let f = front_shows s rule values found ns count asked at stand fronts in
-    record { number = n; rule = rule; has = has; values = values; cut = record { instance = f.instance; head = f.head; count = count; last = stand.at; path = f.path; stop = inr (c, sym (ap (option_and_then (λ r. next_category r count)) has) ∙ next, (child, cut)) } })))
+    record { number = n; rule = rule; has = has; values = values; cut = record { instance = f.instance; head = f.head; count = count; last = stand.at; path = f.path; stop = inr (c, sym (ap (option_and_then (λ r. next_category r count)) has) ∙ next, (a, at_j, (child, cut, m))) } })))
 
 -- the found positions and children of a front
 pub record Fronts (s : Setting) (number : ℕ) (values : List (ℕ × Value)) (count : ℕ) (asked : Test) (at last : At) : Type 0 where
@@ -93,14 +99,19 @@ fronts_of s number rule values count asked at last has instance head path =
       at_is = refl;
     }
 
-pub cut_of_rule : (s : Setting) (asked : Test) (at : At) (number : ℕ) (rule : Rule) (values : List (ℕ × Value)) → rule_with s.grammar number ≡ Some rule → RuleCut s rule values asked at → CutLeads s asked at
-cut_of_rule s asked at number rule values has c =
+pub cut_of_rule : (s : Setting) (aim : Aims) (j : ℕ) (asked : Test) (at : At) (number : ℕ) (rule : Rule) (values : List (ℕ × Value)) → rule_with s.grammar number ≡ Some rule → RuleCut s aim j rule values asked at → CutLeads s aim j asked at
+cut_of_rule s aim j asked at number rule values has c =
     let f = fronts_of s number rule values c.count asked at c.last has c.instance c.head c.path in
     by_stop f c.stop
   where
-    by_stop : Fronts s number values c.count asked at c.last → (c.last.place ≡ length s.tokens) ⊎ ((d : Category) × (next_category rule c.count ≡ Some d) × CutLeads s (under values d) c.last) → CutLeads s asked at
-    by_stop f (inl place) = (stopped number values f.found f.children c.count, ap (option_map (λ (stand : Stand). stand.at.place)) f.is ∙ ap (λ a. Some a.place) f.at_is ∙ ap Some place)
-    by_stop f (inr d) = (entered number values f.found f.children c.count d.2.0, ap (option_and_then (λ stand. option_and_then (λ category. cut_end s d.2.0 (under values category) stand.at) (option_and_then (λ r. next_category r c.count) (rule_with s.grammar number)))) f.is ∙ ap (option_and_then (λ category. cut_end s d.2.0 (under values category) f.stand.at)) (ap (option_and_then (λ r. next_category r c.count)) has ∙ d.1) ∙ ap (cut_end s d.2.0 (under values d.0)) f.at_is ∙ d.2.1)
+    by_stop : Fronts s number values c.count asked at c.last → Stops s aim j rule values c.count c.last → CutLeads s aim j asked at
+    by_stop f (inl h) =
+        let met = h.1 in
+        (met.0, met.1, (stopped number values f.found f.children c.count, ap (option_map (λ (stand : Stand). stand.at.place)) f.is ∙ ap (λ a. Some a.place) f.at_is ∙ ap Some h.0, (rule, has, met.2)))
+    by_stop f (inr d) =
+        let led = d.2 in
+        let child = led.2.0 in
+        (led.0, led.1, (entered number values f.found f.children c.count child, ap (option_and_then (λ stand. option_and_then (λ category. cut_end s child (under values category) stand.at) (option_and_then (λ r. next_category r c.count) (rule_with s.grammar number)))) f.is ∙ ap (option_and_then (λ category. cut_end s child (under values category) f.stand.at)) (ap (option_and_then (λ r. next_category r c.count)) has ∙ d.1) ∙ ap (cut_end s child (under values d.0)) f.at_is ∙ led.2.1, led.2.2))
 
 -- a cut-off node never looks at the openers of the list that it starts with
 
@@ -130,8 +141,10 @@ cut_alike_at s (entered number values found ns count child) asked place one othe
     let deeper = cut_alike_at s child (under values c) stand.at.place (one ++ a.0) (other ++ a.0) n lists (ap (λ l. cut_end s child (under values c) (record { place = stand.at.place; list = l })) (sym a.1) ∙ cut) in
     ap (λ o. option_and_then (λ st. option_and_then (λ category. cut_end s child (under values category) st.at) (option_and_then (λ r. next_category r count) (rule_with s.grammar number))) (option_and_then (λ r. front s r values found (phrases_of s ns) count asked (record { place = place; list = other })) o)) has ∙ ap (option_and_then (λ st. option_and_then (λ category. cut_end s child (under values category) st.at) (option_and_then (λ r. next_category r count) (rule_with s.grammar number)))) a.2 ∙ ap (option_and_then (λ category. cut_end s child (under values category) (record { place = stand.at.place; list = other ++ a.0 }))) next ∙ deeper)))
 
-pub cut_alike : (s : Setting) (asked : Test) (place : ℕ) (one other : List Entry) → referents one ≡ referents other → CutLeads s asked (record { place = place; list = one }) → CutLeads s asked (record { place = place; list = other })
-cut_alike s asked place one other same h = (h.0, cut_alike_at s h.0 asked place one other (length s.tokens) same h.1)
+pub cut_alike : (s : Setting) (aim : Aims) (j : ℕ) (asked : Test) (place : ℕ) (one other : List Entry) → referents one ≡ referents other → CutLeads s aim j asked (record { place = place; list = one }) → CutLeads s aim j asked (record { place = place; list = other })
+cut_alike s aim j asked place one other same h =
+    let led = h.2 in
+    (h.0, h.1, (led.0, cut_alike_at s led.0 asked place one other aim.halt same led.1, led.2))
 
 -- paths, element by element from the right
 
@@ -222,12 +235,12 @@ rule_number s (suc n) rule h = by_none (suc n == 0) refl h
     by_none false e h = let lt = slice_below s.grammar.rules (suc n - 1) rule h in omega arith
 
 -- the cut-off phrases of all rules with the name are those of the category
-pub cuts_up_to : (s : Setting) (name : ℕ) (known : Binds) (at : At) (cuts : List End) → HasCutsUpTo s name known at (length s.grammar.rules) cuts → AreCuts s name known at cuts
-cuts_up_to s name known at cuts has = record {
-  sound = λ e o asked named h.
-      let r = has.sound e o in
+pub cuts_up_to : (s : Setting) (aim : Aims) (name : ℕ) (known : Binds) (at : At) (cuts : List Cut) → HasCutsUpTo s aim name known at (length s.grammar.rules) cuts → AreCuts s aim name known at cuts
+cuts_up_to s aim name known at cuts has = record {
+  sound = λ j values o asked named h.
+      let r = has.sound j values o in
       let c = r.cut in
-      cut_of_rule s asked at r.number r.rule c.values r.has (record {
+      cut_of_rule s aim j asked at r.number r.rule c.values r.has (record {
         instance = c.instance;
         head = ap (λ m. fits (record { name = m; values = feats_under c.values r.rule.head.feats }) asked) r.named ∙ ap (λ f. fits (record { name = name; values = f }) asked) (sym c.is) ∙ h;
         count = c.count;
@@ -235,10 +248,10 @@ cuts_up_to s name known at cuts has = record {
         path = c.path;
         stop = c.stop;
       });
-  complete = λ asked named known_in leads.
-      let r = rule_of_cut s asked at leads in
+  complete = λ j asked named known_in leads.
+      let r = rule_of_cut s aim j asked at leads in
       let c = r.cut in
       let name_is : r.rule.head.name ≡ name = fits_name (under r.values r.rule.head) asked c.head ∙ named in
-      let found = has.complete r.number r.rule r.has (rule_number s r.number r.rule r.has) name_is r.values c.count c.last c.instance (agrees_known known r.rule r.values asked c.head known_in) c.path c.stop in
-      (found.0, found.1, ap (λ f. fits (record { name = name; values = f }) asked) found.2 ∙ sym (ap (λ m. fits (record { name = m; values = feats_under r.values r.rule.head.feats }) asked) name_is) ∙ c.head);
+      let found = has.complete r.number r.rule r.has (rule_number s r.number r.rule r.has) name_is j r.values c.count c.last c.instance (agrees_known known r.rule r.values asked c.head known_in) c.path c.stop in
+      (feats_under r.values r.rule.head.feats, found, sym (ap (λ m. fits (record { name = m; values = feats_under r.values r.rule.head.feats }) asked) name_is) ∙ c.head);
 }

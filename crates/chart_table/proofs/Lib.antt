@@ -4,6 +4,7 @@ pub mod OpenerLemmas
 pub mod BranchLemmas
 pub mod StepLemmas
 pub mod ChoiceLemmas
+pub mod PlanLemmas
 pub mod EndLemmas
 pub mod TurnLemmas
 pub mod TableLemmas

@@ -4,5 +4,7 @@ pub mod Steps
 pub mod Choices
 pub mod Ends
 pub mod Table
+pub mod Asks
+pub mod Aims
 pub mod Cuts
 pub mod Instances

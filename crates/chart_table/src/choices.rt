@@ -1,5 +1,5 @@
 // The values that a variable of a rule can have at the tokens.
-ghost use Rattle.std.specs.Prelude.{◌≡◌, ◌+◌, ◌-◌, [], ◌∷◌, ◌++◌, map, Some, None, option_map, slice_get, IfOk, OnOk};
+ghost use Rattle.std.specs.Prelude.{◌≡◌, ◌+◌, ◌-◌, [], ◌∷◌, ◌++◌, map, length, Some, None, option_map, slice_get, IfOk, OnOk};
 ghost use Rattle.std.specs.List.{flat_map, range_with_len};
 ghost use Rattle.codeco_checked.specs.Numbering.{has};
 ghost use Rattle.codeco_checked.specs.Occurrences.{positions};
@@ -9,9 +9,9 @@ ghost use Rattle.chart_table.specs.Choices as choosing;
 
 use crate::branches::values_at;
 use crate::states::Feat;
-use codeco_terms::{Declared, Element, Ground, Pattern, Rule, Term, Value};
+use codeco_terms::{Declared, Element, Grammar, Ground, Pattern, Rule, Term, Value};
 use derivation_scenes::Scene;
-use derivation_trees::rule_own_features;
+use derivation_trees::{push_own_features, rule_own_features, variables_of, written_variables};
 use lists::List;
 use std::alloc::Global;
 use wiki_base::{Memory, WordId};
@@ -19,12 +19,17 @@ use wiki_base::{Memory, WordId};
 /// The feature of preterminals that holds the word.
 const WORD_FEATURE: u16 = 3;
 
-// What a rule writes: its features with their terms, the variables of `#`, and the features of its own variables.
+/// What a rule writes, and its variables: its features with their terms, the variables of `#`, the features of its own
+/// variables, all variables, how many of them are written, how many own ones each element has, and a value for each.
 #[derive(Drop)]
-pub(crate) struct Plan {
+pub struct Plan {
     pub(crate) terms: List<Feat>,
     pub(crate) places: List<u8>,
     pub(crate) own: List<u16>,
+    pub(crate) variables: List<usize>,
+    pub(crate) written: usize,
+    pub(crate) counts: List<usize>,
+    pub(crate) sample: List<(u8, Value)>,
 }
 
 fn push_feats(feats: &[Feat], out: &mut List<Feat>) -> Result<(), Memory>
@@ -115,18 +120,96 @@ fn places_of(alloc: Global, body: &[Element]) -> Result<List<u8>, Memory>
     Ok(places)
 }
 
-// What the rule writes.
-pub(crate) fn plan_of(alloc: Global, setting: &Scene<'_>, rule: &Rule) -> Result<Plan, Memory>
-    ensures terms { IfOk result (λ plan. plan.terms ≡ choosing.terms_of rule.now) }
-    ensures places { IfOk result (λ plan. plan.places ≡ flat_map positions rule.now.body) }
-    ensures own { IfOk result (λ plan. plan.own ≡ instances.rule_own_features setting.now.grammar rule.now) }
+// How many own variables the element has.
+fn own_count(alloc: Global, grammar: &Grammar, element: &Element) -> Result<usize, Memory>
+    ensures { IfOk result (λ count. count ≡ length (instances.own_features grammar.now element.now)) }
 {
-    let own = rule_own_features(alloc, setting.grammar, rule.body.as_slice())?;
+    let mut features = Vec::new(alloc);
+    push_own_features(alloc, grammar, element, &mut features)?;
+    let own = List::from_vec(features);
+    Ok(own.len())
+}
+
+// How many own variables each element has.
+fn counts_of(alloc: Global, grammar: &Grammar, body: &[Element]) -> Result<List<usize>, Memory>
+    ensures { IfOk result
+        (λ counts. counts ≡ map (λ e. length (instances.own_features grammar.now e)) body.now) }
+{
+    let mut counts = List::new(alloc);
+    for element in body {
+        counts.push(own_count(alloc, grammar, element)?)?;
+    }
+    Ok(counts)
+}
+
+// How many variables are written in the rule.
+fn written_count(alloc: Global, rule: &Rule) -> Result<usize, Memory>
+    ensures { IfOk result (λ count. count ≡ length (instances.written_variables rule.now)) }
+{
+    let written = List::from_vec(written_variables(alloc, rule)?);
+    Ok(written.len())
+}
+
+// What the rule writes, with no values yet.
+fn bare_plan(alloc: Global, grammar: &Grammar, rule: &Rule) -> Result<Plan, Memory>
+    ensures { IfOk result (λ plan. choosing.IsPlanOf grammar.now rule.now plan) }
+{
+    let body = rule.body.as_slice();
+    let own = List::from_vec(rule_own_features(alloc, grammar, body)?);
+    let variables = List::from_vec(variables_of(alloc, rule, own.len())?);
     Ok(Plan {
         terms: terms_of(alloc, rule)?,
-        places: places_of(alloc, rule.body.as_slice())?,
-        own: List::from_vec(own),
+        places: places_of(alloc, body)?,
+        own,
+        variables,
+        written: written_count(alloc, rule)?,
+        counts: counts_of(alloc, grammar, body)?,
+        sample: List::new(alloc),
     })
+}
+
+// A value for each of the variables that can have one: the first of those that it can have.
+fn sample_of(alloc: Global, setting: &Scene<'_>, plan: &Plan) -> Result<List<(u8, Value)>, Memory> {
+    let mut sample = List::new(alloc);
+    for number in plan.variables.as_slice() {
+        push_sample(alloc, setting, plan, *number, &mut sample)?;
+    }
+    Ok(sample)
+}
+
+fn push_sample(
+    alloc: Global,
+    setting: &Scene<'_>,
+    plan: &Plan,
+    number: usize,
+    sample: &mut List<(u8, Value)>,
+) -> Result<(), Memory> {
+    let variable = u8::try_from(number).map_err(|_| Memory)?;
+    let values = choices(alloc, setting, plan, Term::Var(variable))?;
+    match values.as_slice().first() {
+        None => Ok(()),
+        Some(value) => sample.push((variable, *value)),
+    }
+}
+
+/// What the rule writes, and its variables.
+pub(crate) fn plan_of(alloc: Global, setting: &Scene<'_>, rule: &Rule) -> Result<Plan, Memory>
+    ensures { IfOk result (λ plan. choosing.IsPlan setting.now rule.now plan) }
+{
+    let mut plan = bare_plan(alloc, setting.grammar, rule)?;
+    plan.sample = sample_of(alloc, setting, &plan)?;
+    Ok(plan)
+}
+
+/// The plans of all rules.
+pub fn plans_of(alloc: Global, setting: &Scene<'_>) -> Result<List<Plan>, Memory>
+    ensures { IfOk result (λ plans. choosing.ArePlans setting.now plans) }
+{
+    let mut plans = List::new(alloc);
+    for rule in setting.grammar.rules().as_slice() {
+        plans.push(plan_of(alloc, setting, rule)?)?;
+    }
+    Ok(plans)
 }
 
 // Adds the words of readings.

@@ -16,7 +16,7 @@ ghost use Rattle.chart_table.specs.Steps as steps;
 ghost use Rattle.derivation_trees.specs.Settings as settings;
 ghost use Rattle.scopes.specs.declared.entries.Entry.TheVariants as entry;
 
-use crate::branches::{alone, copy_bound, have, meet, read_as, restrict};
+use crate::branches::{all_know, alone, choose, copy_bound, have, meet, read_as, restrict};
 use crate::choices::{Plan, choices};
 use crate::states::{Bound, End, Feat, State};
 use codeco_terms::{Category, Element, Ground, Pattern, Term, Vals, Value};
@@ -48,7 +48,25 @@ pub(crate) fn push_placed(
     Ok(())
 }
 
-// The assignments under which each term has one of its choices.
+// The assignments under which the term is known: those under which it isn't have each of its choices.
+fn close_term(
+    alloc: Global,
+    setting: &Scene<'_>,
+    plan: &Plan,
+    term: Term,
+    bounds: List<Bound>,
+) -> Result<List<Bound>, Memory>
+    ensures { IfOk result (λ out. out ≡ flat_map
+        (branches.chosen_for term (choosing.choices setting.now plan.now.terms plan.now.places plan.now.own term)) bounds) }
+{
+    if all_know(bounds.as_slice(), term) {
+        return Ok(bounds);
+    }
+    let values = choices(alloc, setting, plan, term)?;
+    choose(alloc, term, values.as_slice(), bounds.as_slice())
+}
+
+// The assignments under which each term is known: those under which one isn't have each of its choices.
 pub(crate) fn close(
     alloc: Global,
     setting: &Scene<'_>,
@@ -61,8 +79,7 @@ pub(crate) fn close(
 {
     let mut all = bounds;
     for feat in feats {
-        let values = choices(alloc, setting, plan, feat.1)?;
-        all = restrict(alloc, feat.1, values.as_slice(), all.as_slice())?;
+        all = close_term(alloc, setting, plan, feat.1, all)?;
     }
     Ok(all)
 }

@@ -17,21 +17,21 @@ ghost use Rattle.chart_table.specs.declared.states.State.{State as OneState};
 ghost use Rattle.chart_table.specs.declared.table.Row.{Row as OneRow};
 
 use crate::branches::{known_features, meet};
-use crate::choices::{Plan, plan_of};
+use crate::choices::Plan;
+use crate::cuts::{push_cuts_here, push_cuts_within};
 use crate::ends::finished;
 use crate::sameness::{same_end, same_entries, same_values};
-use crate::states::{Bound, End, Feat, State};
+use crate::states::{Aim, Bound, Cut, End, Feat, State};
 use crate::steps::{extended, push_ends, push_placed, push_plain};
-use codeco_terms::{Category, Element, Grammar, Rule, Value};
+use codeco_terms::{Category, Element, Rule, Value};
 use derivation_scenes::{Scene, may_start};
-use derivation_trees::push_own_features;
 use lists::List;
 use scopes::{Access, Entry, TestValues};
 use std::alloc::Global;
 use wiki_base::Memory;
 
 /// The phrases of a category with known values, from a place and a list without openers: where they end, and those that
-/// are cut off where the tokens end.
+/// are cut off at a place, with what they are asked for there.
 #[derive(Drop)]
 pub struct Row {
     pub(crate) name: u16,
@@ -39,7 +39,7 @@ pub struct Row {
     pub(crate) place: u16,
     pub(crate) list: List<Entry>,
     pub(crate) ends: List<End>,
-    pub(crate) cuts: List<End>,
+    pub(crate) cuts: List<Cut>,
 }
 
 fn is_row(row: &Row, name: u16, known: &[(u16, Value)], place: u16, list: &[Entry]) -> bool
@@ -147,9 +147,7 @@ fn push_finished(
     states: &[State],
     out: &mut List<End>,
 ) -> Result<(), Memory>
-    requires terms { plan.now.terms ≡ choosing.terms_of rule.now }
-    requires places { plan.now.places ≡ flat_map positions rule.now.body }
-    requires own { plan.now.own ≡ instances.rule_own_features setting.now.grammar rule.now }
+    requires { choosing.IsPlan setting.now rule.now plan.now }
     ensures { OnOk result (ending.HasFinished setting.now rule.now before.now states.now out.old out.new) }
 {
     for state in states {
@@ -157,22 +155,6 @@ fn push_finished(
         push_all_new(alloc, ends.as_slice(), out)?;
     }
     Ok(())
-}
-
-// How many own variables the element has.
-fn own_count_of(alloc: Global, grammar: &Grammar, element: &Element) -> Result<usize, Memory>
-    ensures { IfOk result (λ count. count ≡ length (instances.own_features grammar.now element.now)) }
-{
-    let mut features = Vec::new(alloc);
-    push_own_features(alloc, grammar, element, &mut features)?;
-    let own = List::from_vec(features);
-    Ok(own.len())
-}
-
-fn own_count(alloc: Global, setting: &Scene<'_>, element: &Element) -> Result<usize, Memory>
-    ensures { IfOk result (λ count. count ≡ length (instances.own_features setting.now.grammar element.now)) }
-{
-    own_count_of(alloc, setting.grammar, element)
 }
 
 fn add_count(number: u16, count: usize) -> Result<u16, Memory>
@@ -240,45 +222,6 @@ fn push_new_row(rows: &mut List<Row>, row: Row) -> Result<usize, Memory>
     Ok(number)
 }
 
-// Adds, for a state, the phrases of the rule that are cut off there.
-fn push_cut(
-    alloc: Global,
-    setting: &Scene<'_>,
-    rule: &Rule,
-    plan: &Plan,
-    state: &State,
-    cuts: &mut List<End>,
-) -> Result<(), Memory>
-    requires terms { plan.now.terms ≡ choosing.terms_of rule.now }
-    requires places { plan.now.places ≡ flat_map positions rule.now.body }
-    requires own { plan.now.own ≡ instances.rule_own_features setting.now.grammar rule.now }
-    ensures { OnOk result (cutting.HasHeads setting.now rule.now (λ v. branches.Extends v state.now.binds) cuts.old cuts.new) }
-{
-    let ends = finished(alloc, setting, rule, plan, &state.list, state)?;
-    push_all_new(alloc, ends.as_slice(), cuts)?;
-    Ok(())
-}
-
-// Adds the phrases of the rule that are cut off in these states.
-fn push_cuts(
-    alloc: Global,
-    setting: &Scene<'_>,
-    rule: &Rule,
-    plan: &Plan,
-    states: &[State],
-    cuts: &mut List<End>,
-) -> Result<(), Memory>
-    requires terms { plan.now.terms ≡ choosing.terms_of rule.now }
-    requires places { plan.now.places ≡ flat_map positions rule.now.body }
-    requires own { plan.now.own ≡ instances.rule_own_features setting.now.grammar rule.now }
-    ensures { OnOk result (cutting.HasHeads setting.now rule.now (λ v. cutting.Among (cutting.IsExtended v) states.now) cuts.old cuts.new) }
-{
-    for state in states {
-        push_cut(alloc, setting, rule, plan, state, cuts)?;
-    }
-    Ok(())
-}
-
 // How many tokens there are.
 pub(crate) fn token_count(setting: &Scene<'_>) -> usize
     ensures { result ≡ length setting.now.tokens }
@@ -286,76 +229,13 @@ pub(crate) fn token_count(setting: &Scene<'_>) -> usize
     setting.tokens.len()
 }
 
-// Adds the phrases of the rule that are cut off in a state where the tokens end.
-fn push_cut_here(
-    alloc: Global,
-    setting: &Scene<'_>,
-    rule: &Rule,
-    plan: &Plan,
-    state: &State,
-    cuts: &mut List<End>,
-) -> Result<(), Memory>
-    requires terms { plan.now.terms ≡ choosing.terms_of rule.now }
-    requires places { plan.now.places ≡ flat_map positions rule.now.body }
-    requires own { plan.now.own ≡ instances.rule_own_features setting.now.grammar rule.now }
-    ensures { OnOk result (cutting.HasHeads setting.now rule.now (λ v. cutting.Halts setting.now v state.now) cuts.old cuts.new) }
-{
-    let end = token_count(setting);
-    if state.place as usize == end {
-        push_cut(alloc, setting, rule, plan, state, cuts)?;
-        return Ok(());
-    }
-    Ok(())
-}
-
-// Adds the phrases of the rule that are cut off in those of the states where the tokens end.
-fn push_cuts_here(
-    alloc: Global,
-    setting: &Scene<'_>,
-    rule: &Rule,
-    plan: &Plan,
-    states: &[State],
-    cuts: &mut List<End>,
-) -> Result<(), Memory>
-    requires terms { plan.now.terms ≡ choosing.terms_of rule.now }
-    requires places { plan.now.places ≡ flat_map positions rule.now.body }
-    requires own { plan.now.own ≡ instances.rule_own_features setting.now.grammar rule.now }
-    ensures { OnOk result (cutting.HasHeads setting.now rule.now (λ v. cutting.Among (cutting.Halts setting.now v) states.now) cuts.old cuts.new) }
-{
-    for state in states {
-        push_cut_here(alloc, setting, rule, plan, state, cuts)?;
-    }
-    Ok(())
-}
-
-// Adds the phrases of the rule whose next element, a category, is cut off itself.
-fn push_cuts_within(
-    alloc: Global,
-    setting: &Scene<'_>,
-    rule: &Rule,
-    plan: &Plan,
-    category: &Category,
-    state: &State,
-    within: &[End],
-    cuts: &mut List<End>,
-) -> Result<(), Memory>
-    requires terms { plan.now.terms ≡ choosing.terms_of rule.now }
-    requires places { plan.now.places ≡ flat_map positions rule.now.body }
-    requires own { plan.now.own ≡ instances.rule_own_features setting.now.grammar rule.now }
-    ensures { OnOk result (cutting.HasHeads setting.now rule.now
-        (λ v. cutting.Among (cutting.IsExtended v) (steps.sub_steps category.now state.now within.now)) cuts.old cuts.new) }
-{
-    let mut states = List::new(alloc);
-    push_ends(alloc, category, state, within, &mut states)?;
-    push_cuts(alloc, setting, rule, plan, states.as_slice(), cuts)?;
-    Ok(())
-}
-
 // The number of the row of the category, which is made where it isn't there yet.
 #[cycle(ends)]
 pub(crate) fn row_of(
     alloc: Global,
     setting: &Scene<'_>,
+    aim: &Aim<'_>,
+    plans: &[Plan],
     rows: &mut List<Row>,
     depth: u32,
     name: u16,
@@ -363,9 +243,10 @@ pub(crate) fn row_of(
     place: u16,
     list: List<Entry>,
 ) -> Result<usize, Memory>
-    requires { tables.AreRows setting.now rows.old }
-    ensures rows { OnOk result (tables.AreRows setting.now rows.new) }
-    ensures row { IfOk result (λ number. tables.HasRow setting.now rows.new number name known (record { place = place; list = list })) }
+    requires rows { tables.AreRows setting.now aim.now rows.old }
+    requires plans { choosing.ArePlans setting.now plans.now }
+    ensures rows { OnOk result (tables.AreRows setting.now aim.now rows.new) }
+    ensures row { IfOk result (λ number. tables.HasRow setting.now aim.now rows.new number name known (record { place = place; list = list })) }
 {
     if let Some(number) = find(
         rows.as_slice(),
@@ -381,6 +262,8 @@ pub(crate) fn row_of(
     let ends = category_ends(
         alloc,
         setting,
+        aim,
+        plans,
         rows,
         depth,
         name,
@@ -406,34 +289,50 @@ pub(crate) fn row_of(
 fn category_ends(
     alloc: Global,
     setting: &Scene<'_>,
+    aim: &Aim<'_>,
+    plans: &[Plan],
     rows: &mut List<Row>,
     depth: u32,
     name: u16,
     known: &[(u16, Value)],
     place: u16,
     start: &Access,
-    cuts: &mut List<End>,
+    cuts: &mut List<Cut>,
 ) -> Result<List<End>, Memory>
-    requires rows { tables.AreRows setting.now rows.old }
+    requires rows { tables.AreRows setting.now aim.now rows.old }
+    requires plans { choosing.ArePlans setting.now plans.now }
     requires none { cuts.old ≡ [] }
-    ensures rows { OnOk result (tables.AreRows setting.now rows.new) }
+    ensures rows { OnOk result (tables.AreRows setting.now aim.now rows.new) }
     ensures ends { IfOk result (λ ends. ending.IsEnds setting.now name known.now (record { place = place; list = start.now }) ends) }
-    ensures cuts { OnOk result (cutting.AreCuts setting.now name known.now (record { place = place; list = start.now }) cuts.new) }
+    ensures cuts { OnOk result (cutting.AreCuts setting.now aim.now name known.now (record { place = place; list = start.now }) cuts.new) }
 {
     let mut ends = List::new(alloc);
-    for rule in setting.grammar.rules().as_slice() {
+    for (number, rule) in setting.grammar.rules().as_slice().iter().enumerate() {
         push_named(
-            alloc, setting, rows, depth, name, rule, known, place, start, &mut ends, cuts,
+            alloc,
+            setting,
+            aim,
+            plans,
+            rows,
+            depth,
+            name,
+            rule,
+            &plans[number],
+            known,
+            place,
+            start,
+            &mut ends,
+            cuts,
         )?;
     }
     Ok(ends)
 }
 
-// Whether the tokens end at the place, or the rule's first element that takes tokens may stand there.
-fn may_go(setting: &Scene<'_>, rule: &Rule, place: u16) -> bool
-    ensures { result ≡ false → cutting.IsIdle setting.now rule.now place }
+// Whether phrases are cut off at the place, or the rule's first element that takes tokens may stand there.
+fn may_go(setting: &Scene<'_>, aim: &Aim<'_>, rule: &Rule, place: u16) -> bool
+    ensures { result ≡ false → cutting.IsIdle setting.now aim.now rule.now place }
 {
-    if place as usize == token_count(setting) {
+    if place as usize == aim.halt {
         return true;
     }
     may_start(setting, place, rule.body.as_slice())
@@ -444,24 +343,29 @@ fn may_go(setting: &Scene<'_>, rule: &Rule, place: u16) -> bool
 fn push_named(
     alloc: Global,
     setting: &Scene<'_>,
+    aim: &Aim<'_>,
+    plans: &[Plan],
     rows: &mut List<Row>,
     depth: u32,
     name: u16,
     rule: &Rule,
+    plan: &Plan,
     known: &[(u16, Value)],
     place: u16,
     start: &Access,
     ends: &mut List<End>,
-    cuts: &mut List<End>,
+    cuts: &mut List<Cut>,
 ) -> Result<(), Memory>
-    requires { tables.AreRows setting.now rows.old }
-    ensures rows { OnOk result (tables.AreRows setting.now rows.new) }
+    requires rows { tables.AreRows setting.now aim.now rows.old }
+    requires plans { choosing.ArePlans setting.now plans.now }
+    requires plan { choosing.IsPlan setting.now rule.now plan.now }
+    ensures rows { OnOk result (tables.AreRows setting.now aim.now rows.new) }
     ensures ends { OnOk result (ending.HasEndsIfNamed setting.now rule.now name known.now (record { place = place; list = start.now }) ends.old ends.new) }
-    ensures cuts { OnOk result (cutting.HasCutsIfNamed setting.now rule.now name known.now (record { place = place; list = start.now }) cuts.old cuts.new) }
+    ensures cuts { OnOk result (cutting.HasCutsIfNamed setting.now aim.now rule.now name known.now (record { place = place; list = start.now }) cuts.old cuts.new) }
 {
     if rule.head.name == name {
         push_rule(
-            alloc, setting, rows, depth, rule, known, place, start, ends, cuts,
+            alloc, setting, aim, plans, rows, depth, rule, plan, known, place, start, ends, cuts,
         )?;
         return Ok(());
     }
@@ -473,28 +377,43 @@ fn push_named(
 fn push_rule(
     alloc: Global,
     setting: &Scene<'_>,
+    aim: &Aim<'_>,
+    plans: &[Plan],
     rows: &mut List<Row>,
     depth: u32,
     rule: &Rule,
+    plan: &Plan,
     known: &[(u16, Value)],
     place: u16,
     start: &Access,
     ends: &mut List<End>,
-    cuts: &mut List<End>,
+    cuts: &mut List<Cut>,
 ) -> Result<(), Memory>
-    requires { tables.AreRows setting.now rows.old }
-    ensures rows { OnOk result (tables.AreRows setting.now rows.new) }
+    requires rows { tables.AreRows setting.now aim.now rows.old }
+    requires plans { choosing.ArePlans setting.now plans.now }
+    requires plan { choosing.IsPlan setting.now rule.now plan.now }
+    ensures rows { OnOk result (tables.AreRows setting.now aim.now rows.new) }
     ensures ends { OnOk result (ending.HasEndsOfRule setting.now rule.now known.now (record { place = place; list = start.now }) ends.old ends.new) }
-    ensures cuts { OnOk result (cutting.HasCutsOfRule setting.now rule.now known.now (record { place = place; list = start.now }) cuts.old cuts.new) }
+    ensures cuts { OnOk result (cutting.HasCutsOfRule setting.now aim.now rule.now known.now (record { place = place; list = start.now }) cuts.old cuts.new) }
 {
-    if !may_go(setting, rule, place) {
+    if !may_go(setting, aim, rule, place) {
         return Ok(());
     }
-    let plan = plan_of(alloc, setting, rule)?;
     let starts = start_states(alloc, known, rule.head.feats.as_slice(), place, start)?;
-    let states = last_states(alloc, setting, rows, depth, rule, &plan, starts, cuts)?;
-    push_cuts_here(alloc, setting, rule, &plan, states.as_slice(), cuts)?;
-    push_finished(alloc, setting, rule, &plan, start, states.as_slice(), ends)?;
+    let states = last_states(
+        alloc, setting, aim, plans, rows, depth, rule, plan, starts, cuts,
+    )?;
+    push_cuts_here(
+        alloc,
+        setting,
+        aim,
+        rule,
+        plan,
+        None,
+        states.as_slice(),
+        cuts,
+    )?;
+    push_finished(alloc, setting, rule, plan, start, states.as_slice(), ends)?;
     Ok(())
 }
 
@@ -503,29 +422,41 @@ fn push_rule(
 pub(crate) fn last_states(
     alloc: Global,
     setting: &Scene<'_>,
+    aim: &Aim<'_>,
+    plans: &[Plan],
     rows: &mut List<Row>,
     depth: u32,
     rule: &Rule,
     plan: &Plan,
     starts: List<State>,
-    cuts: &mut List<End>,
+    cuts: &mut List<Cut>,
 ) -> Result<List<State>, Memory>
-    requires rows { tables.AreRows setting.now rows.old }
-    requires terms { plan.now.terms ≡ choosing.terms_of rule.now }
-    requires places { plan.now.places ≡ flat_map positions rule.now.body }
-    requires own { plan.now.own ≡ instances.rule_own_features setting.now.grammar rule.now }
-    ensures rows { OnOk result (tables.AreRows setting.now rows.new) }
+    requires rows { tables.AreRows setting.now aim.now rows.old }
+    requires plans { choosing.ArePlans setting.now plans.now }
+    requires plan { choosing.IsPlan setting.now rule.now plan.now }
+    ensures rows { OnOk result (tables.AreRows setting.now aim.now rows.new) }
     ensures last { IfOk result (λ states. cutting.AreAllAfter setting.now rule.now starts states) }
-    ensures cuts { OnOk result (cutting.HasHeads setting.now rule.now (cutting.CutBefore setting.now rule.now starts (length rule.now.body)) cuts.old cuts.new) }
+    ensures cuts { OnOk result (cutting.HasHeads setting.now rule.now (cutting.CutBefore setting.now aim.now rule.now starts (length rule.now.body)) cuts.old cuts.new) }
 {
     let body = rule.body.as_slice();
     let mut states = starts;
     let mut number: u16 = 16;
-    for element in body {
-        push_cuts_here(alloc, setting, rule, plan, states.as_slice(), cuts)?;
+    for (place, element) in body.iter().enumerate() {
+        push_cuts_here(
+            alloc,
+            setting,
+            aim,
+            rule,
+            plan,
+            Some(element),
+            states.as_slice(),
+            cuts,
+        )?;
         states = next_states(
             alloc,
             setting,
+            aim,
+            plans,
             rows,
             depth,
             rule,
@@ -535,8 +466,7 @@ pub(crate) fn last_states(
             states.as_slice(),
             cuts,
         )?;
-        let count = own_count(alloc, setting, element)?;
-        number = add_count(number, count)?;
+        number = add_count(number, *plan.counts.get(place))?;
     }
     Ok(states)
 }
@@ -546,6 +476,8 @@ pub(crate) fn last_states(
 fn next_states(
     alloc: Global,
     setting: &Scene<'_>,
+    aim: &Aim<'_>,
+    plans: &[Plan],
     rows: &mut List<Row>,
     depth: u32,
     rule: &Rule,
@@ -553,20 +485,20 @@ fn next_states(
     number: u16,
     element: &Element,
     states: &[State],
-    cuts: &mut List<End>,
+    cuts: &mut List<Cut>,
 ) -> Result<List<State>, Memory>
-    requires rows { tables.AreRows setting.now rows.old }
-    requires terms { plan.now.terms ≡ choosing.terms_of rule.now }
-    requires places { plan.now.places ≡ flat_map positions rule.now.body }
-    requires own { plan.now.own ≡ instances.rule_own_features setting.now.grammar rule.now }
-    ensures rows { OnOk result (tables.AreRows setting.now rows.new) }
+    requires rows { tables.AreRows setting.now aim.now rows.old }
+    requires plans { choosing.ArePlans setting.now plans.now }
+    requires plan { choosing.IsPlan setting.now rule.now plan.now }
+    ensures rows { OnOk result (tables.AreRows setting.now aim.now rows.new) }
     ensures steps { IfOk result (λ news. ending.AreSteps setting.now rule.now number element.now states.now news) }
-    ensures cuts { OnOk result (cutting.HasHeads setting.now rule.now (λ v. cutting.Among (cutting.Enters setting.now element.now v) states.now) cuts.old cuts.new) }
+    ensures cuts { OnOk result (cutting.HasHeads setting.now rule.now (λ j v. cutting.Among (cutting.Enters setting.now aim.now element.now j v) states.now) cuts.old cuts.new) }
 {
     let mut news = List::new(alloc);
     for state in states {
         push_state(
-            alloc, setting, rows, depth, rule, plan, number, element, state, &mut news, cuts,
+            alloc, setting, aim, plans, rows, depth, rule, plan, number, element, state, &mut news,
+            cuts,
         )?;
     }
     Ok(news)
@@ -577,6 +509,8 @@ fn next_states(
 fn push_state(
     alloc: Global,
     setting: &Scene<'_>,
+    aim: &Aim<'_>,
+    plans: &[Plan],
     rows: &mut List<Row>,
     depth: u32,
     rule: &Rule,
@@ -585,20 +519,20 @@ fn push_state(
     element: &Element,
     state: &State,
     out: &mut List<State>,
-    cuts: &mut List<End>,
+    cuts: &mut List<Cut>,
 ) -> Result<(), Memory>
-    requires rows { tables.AreRows setting.now rows.old }
-    requires terms { plan.now.terms ≡ choosing.terms_of rule.now }
-    requires places { plan.now.places ≡ flat_map positions rule.now.body }
-    requires own { plan.now.own ≡ instances.rule_own_features setting.now.grammar rule.now }
-    ensures rows { OnOk result (tables.AreRows setting.now rows.new) }
+    requires rows { tables.AreRows setting.now aim.now rows.old }
+    requires plans { choosing.ArePlans setting.now plans.now }
+    requires plan { choosing.IsPlan setting.now rule.now plan.now }
+    ensures rows { OnOk result (tables.AreRows setting.now aim.now rows.new) }
     ensures step { OnOk result ((news : List OneState) × (out.new ≡ out.old ++ news) × ending.IsStep setting.now rule.now number element.now state.now news) }
-    ensures cuts { OnOk result (cutting.HasHeads setting.now rule.now (λ v. cutting.Enters setting.now element.now v state.now) cuts.old cuts.new) }
+    ensures cuts { OnOk result (cutting.HasHeads setting.now rule.now (λ j v. cutting.Enters setting.now aim.now element.now j v state.now) cuts.old cuts.new) }
 {
     match element {
         Element::Sub(category) => {
             push_category(
-                alloc, setting, rows, depth, rule, plan, number, category, state, out, cuts,
+                alloc, setting, aim, plans, rows, depth, rule, plan, number, category, state, out,
+                cuts,
             )?;
             Ok(())
         }
@@ -615,6 +549,8 @@ fn push_state(
 fn push_category(
     alloc: Global,
     setting: &Scene<'_>,
+    aim: &Aim<'_>,
+    plans: &[Plan],
     rows: &mut List<Row>,
     depth: u32,
     rule: &Rule,
@@ -623,15 +559,14 @@ fn push_category(
     category: &Category,
     state: &State,
     out: &mut List<State>,
-    cuts: &mut List<End>,
+    cuts: &mut List<Cut>,
 ) -> Result<(), Memory>
-    requires rows { tables.AreRows setting.now rows.old }
-    requires terms { plan.now.terms ≡ choosing.terms_of rule.now }
-    requires places { plan.now.places ≡ flat_map positions rule.now.body }
-    requires own { plan.now.own ≡ instances.rule_own_features setting.now.grammar rule.now }
-    ensures rows { OnOk result (tables.AreRows setting.now rows.new) }
+    requires rows { tables.AreRows setting.now aim.now rows.old }
+    requires plans { choosing.ArePlans setting.now plans.now }
+    requires plan { choosing.IsPlan setting.now rule.now plan.now }
+    ensures rows { OnOk result (tables.AreRows setting.now aim.now rows.new) }
     ensures step { OnOk result ((news : List OneState) × (out.new ≡ out.old ++ news) × ending.IsStep setting.now rule.now number (Sub category.now) state.now news) }
-    ensures cuts { OnOk result (cutting.HasHeads setting.now rule.now (λ v. cutting.Enters setting.now (Sub category.now) v state.now) cuts.old cuts.new) }
+    ensures cuts { OnOk result (cutting.HasHeads setting.now rule.now (λ j v. cutting.Enters setting.now aim.now (Sub category.now) j v state.now) cuts.old cuts.new) }
 {
     let deeper = depth.checked_sub(1).ok_or(Memory)?;
     let known = known_features(alloc, state.binds.as_slice(), category.feats.as_slice())?;
@@ -639,6 +574,8 @@ fn push_category(
     let row = row_of(
         alloc,
         setting,
+        aim,
+        plans,
         rows,
         deeper,
         category.name,
@@ -686,14 +623,12 @@ fn push_row_cuts(
     state: &State,
     rows: &[Row],
     number: usize,
-    cuts: &mut List<End>,
+    cuts: &mut List<Cut>,
 ) -> Result<(), Memory>
     requires number { number < length rows.now }
-    requires terms { plan.now.terms ≡ choosing.terms_of rule.now }
-    requires places { plan.now.places ≡ flat_map positions rule.now.body }
-    requires own { plan.now.own ≡ instances.rule_own_features setting.now.grammar rule.now }
+    requires plan { choosing.IsPlan setting.now rule.now plan.now }
     ensures { OnOk result ((row : OneRow) → slice_get rows.now number ≡ Some row → cutting.HasHeads setting.now rule.now
-        (λ v. cutting.Among (cutting.IsExtended v) (steps.sub_steps category.now state.now row.cuts)) cuts.old cuts.new) }
+        (cutting.OneBefore row.cuts (cutting.MeetsCut category.now state.now.binds) (length row.cuts)) cuts.old cuts.new) }
 {
     push_cuts_within(
         alloc,
@@ -701,7 +636,7 @@ fn push_row_cuts(
         rule,
         plan,
         category,
-        state,
+        state.binds.as_slice(),
         rows[number].cuts.as_slice(),
         cuts,
     )

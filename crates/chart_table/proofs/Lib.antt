@@ -14,3 +14,4 @@ pub mod CutLemmas
 pub mod HeadLemmas
 pub mod InstanceLemmas
 pub mod IdleLemmas
+pub mod AskLemmas

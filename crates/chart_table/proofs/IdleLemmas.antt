@@ -20,6 +20,7 @@ use Rattle.chart_table.specs.declared.states.End.{End}
 use Rattle.chart_table.specs.declared.states.Cut.{Cut}
 use Rattle.chart_table.specs.Leading.{Path, own_past}
 use Rattle.chart_table.specs.Ends.{HasEndsOfRule}
+use Rattle.chart_table.specs.Instances.{HasInstances}
 use Rattle.chart_table.specs.Aims.{Aims}
 use Rattle.chart_table.specs.Cuts.{CutLeads, Stops, HasCutsOfRule, IsIdle}
 use Rattle.chart_table.proofs.PassLemmas.{both_true}
@@ -130,3 +131,7 @@ idle_is s aim rule place count body b c e not is off = record {
   before = λ h. not (h ∙ sym c);
   not = ap (may_start s place) (sym e) ∙ sym is ∙ off;
 }
+
+pub idle_instances : (s : Setting) (rule : Rule) (known : List (ℕ × Value)) (at : At) (body : List Element) (b : Bool) (found : List (List (ℕ × Value))) → body ≡ rule.body → b ≡ may_start s at.place body → b ≡ false → HasInstances s rule known at found
+idle_instances s rule known at body b found e is off values last instance agrees path =
+    absurd (true_is_false (sym (path_starts s values (own_values rule values) rule.body at last path) ∙ ap (may_start s at.place) (sym e) ∙ sym is ∙ off))

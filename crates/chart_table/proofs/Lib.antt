@@ -10,8 +10,8 @@ pub mod TurnLemmas
 pub mod TableLemmas
 pub mod CycleLemmas
 pub mod SentenceLemmas
+pub mod AskLemmas
 pub mod CutLemmas
 pub mod HeadLemmas
 pub mod InstanceLemmas
 pub mod IdleLemmas
-pub mod AskLemmas

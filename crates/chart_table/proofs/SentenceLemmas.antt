@@ -1,31 +1,28 @@
 -- Sentences, by the ends of `text`.
 use Rattle.std.proofs.Common.{◌≡◌, ℕ, suc, zero, ◌+◌, List, [], ◌∷◌, Bool, true, false, ◌||◌, length, map, Option, Some, None, arith, refl, sym, ap, ◌∙◌, subst, inl, inr, IsTrue, ◌↔◌}
-use Rattle.std.specs.Prelude.{◌==◌, slice_get, option_map, option_and_then}
-use Rattle.std.proofs.lemmas.Option.{same_Some, option_and_then_some}
+use Rattle.std.specs.Prelude.{◌==◌, slice_get}
+use Rattle.std.proofs.lemmas.Option.{same_Some}
 use Rattle.chart_table.specs.declared.table.Row.{Row}
 use Rattle.chart_table.specs.Table.{HasRow, IsTextRow}
 use Rattle.std.specs.List.{list_any, list_all, range_with_len}
 use Rattle.codeco_terms.specs.declared.values.Value.{Value}
 use Rattle.scopes.specs.declared.entries.Entry.{Entry}
-use Rattle.derivation_trees.specs.Trees.{Node, Nodes}
-use Rattle.derivation_trees.specs.Instances.{under}
-use Rattle.scopes.specs.declared.tests.Test.{Test}
-use Rattle.codeco_terms.specs.declared.elements.Element.{Element}
-use Rattle.codeco_terms.specs.declared.rules.Rule.{Rule}
+use Rattle.derivation_trees.specs.Trees.{Node}
 use Rattle.derivation_trees.specs.Settings.{Setting}
-use Rattle.derivation_trees.specs.Derives.{At, Stand, fits, same_where_both, text_category, rule_with, phrases_of, IsDerivation}
+use Rattle.derivation_trees.specs.Derives.{At, fits, same_where_both, text_category, IsDerivation}
 use Rattle.chart_table.specs.declared.states.End.{End}
 use Rattle.chart_table.specs.Branches.{OneOf}
-use Rattle.derivation_trees.specs.Partial.{CutNode, stopped, entered, cut_end, front, front_of, next_category, IsPartialDerivation}
+use Rattle.derivation_trees.specs.Partial.{CutNode, IsPartialDerivation}
 use Rattle.chart_table.specs.Ends.{end_head, IsEnds}
 use Rattle.chart_table.specs.declared.states.Cut.{Cut}
 use Rattle.chart_table.specs.declared.asks.Ask.{Ask}
 use Rattle.chart_table.specs.declared.asks.Ask.TheVariants as ask
-use Rattle.chart_table.specs.Asks.{AskLeads, CutMeets, meets, is_met}
+use Rattle.chart_table.specs.Asks.{AskLeads}
 use Rattle.chart_table.specs.Aims.{Aims}
 use Rattle.chart_table.specs.Cuts.{AreCuts, CutLeads, HasCut, cut_head}
 use Rattle.chart_table.proofs.PassLemmas.{same_number}
 use Rattle.chart_table.proofs.BranchLemmas.{number_is}
+use Rattle.chart_table.proofs.AskLemmas.{any_leads, leads_any}
 
 -- where sentences begin
 abbrev pub first_at : At
@@ -108,36 +105,12 @@ told s aim row count ends b is n seen h =
     let same : b ≡ list_any (λ e. e.place == length s.tokens) row.ends = h ∙ ap (list_any (λ e. e.place == count)) seen ∙ ap (λ m. list_any (λ e. e.place == m) row.ends) n in
     (λ t. sentence_of s row.ends is.ends (sym same ∙ t), λ d. same ∙ end_of s row.ends is.ends d.0 d.1)
 
--- where nothing is asked, whatever comes next meets the ask
-
-any_met : (v : List (ℕ × Value)) (next : Option Element) → meets v next ask.Any ≡ true
-any_met v None = refl
-any_met v (Some e) = refl
-
-stopped_any : (s : Setting) (number : ℕ) (values : List (ℕ × Value)) (count : ℕ) (stand : Option Rule) → rule_with s.grammar number ≡ stand → (stand ≡ None → ⊥) → (rule : Rule) × (rule_with s.grammar number ≡ Some rule) × (is_met rule values count ask.Any ≡ true)
-stopped_any s number values count None e h = absurd (h refl)
-stopped_any s number values count (Some rule) e h = (rule, e, any_met values (slice_get rule.body count))
-
-rule_there : (s : Setting) (number : ℕ) (values : List (ℕ × Value)) (found : List ℕ) (ns : Nodes) (count : ℕ) (asked : Test) (at : At) (n : ℕ) → option_map (λ (stand : Stand). stand.at.place) (front_of s number values found ns count asked at) ≡ Some n → rule_with s.grammar number ≡ None → ⊥
-rule_there s number values found ns count asked at n h e =
-    let none : option_map (λ (stand : Stand). stand.at.place) (front_of s number values found ns count asked at) ≡ None = ap (λ o. option_map (λ (stand : Stand). stand.at.place) (option_and_then (λ rule. front s rule values found (phrases_of s ns) count asked at) o)) e in
-    let z : None ≡ Some n = sym none ∙ h in
-    absurd (cc)
-
-meets_any : (s : Setting) (cut : CutNode) (asked : Test) (at : At) (n : ℕ) → cut_end s cut asked at ≡ Some n → CutMeets s cut ask.Any
-meets_any s (stopped number values found ns count) asked at n h =
-    stopped_any s number values count (rule_with s.grammar number) refl (rule_there s number values found ns count asked at n h)
-meets_any s (entered number values found ns count child) asked at n h =
-    option_and_then_some _ (front_of s number values found ns count asked at) n h (λ stand is ends.
-    option_and_then_some (λ category. cut_end s child (under values category) stand.at) (option_and_then (λ r. next_category r count) (rule_with s.grammar number)) n ends (λ c next cut.
-    meets_any s child (under values c) stand.at n cut))
-
 pub begun : (s : Setting) (count : ℕ) (asks : List Ask) (row : Row) (cuts : List Cut) (b : Bool) → asks ≡ ask.Any ∷ [] → count ≡ length s.tokens → IsTextRow s (record { halt = count; asks = asks }) row → cuts ≡ row.cuts → b ≡ list_any (λ e. e.ask == 0) cuts → IsTrue b ↔ ((cut : CutNode) × IsPartialDerivation s cut)
 begun s count asks row cuts b a n is seen h =
     let aim : Aims = record { halt = count; asks = asks } in
     let both = asked_for s aim row 0 b is (h ∙ ap (list_any (λ e. e.ask == 0)) seen) in (
-      λ t. let led = both.0 t in let cut = led.2 in (cut.0, cut.1 ∙ ap Some n),
-      λ d. both.1 (ask.Any, ap (λ l. slice_get l 0) a, (d.0, d.1 ∙ ap Some (sym n), meets_any s d.0 text_category first_at (length s.tokens) d.1)),
+      λ t. let led = both.0 t in let cut = leads_any s count led.0 text_category first_at led.2 in (cut.0, cut.1 ∙ ap Some n),
+      λ d. both.1 (ask.Any, ap (λ l. slice_get l 0) a, any_leads s count text_category first_at (d.0, d.1 ∙ ap Some (sym n))),
     )
 
 -- one answer for each ask

@@ -20,6 +20,7 @@ use Rattle.derivation_trees.specs.Settings.{Setting, is_value}
 use Rattle.derivation_trees.specs.Instances.{rule_own_features, own_features, written_variables, variables_of, same_numbers, term_fits, own_fit, value_under}
 use Rattle.chart_table.specs.declared.choices.Plan.{Plan}
 use Rattle.chart_table.specs.Branches.{values_at, marked}
+use Rattle.chart_table.specs.Features.{element_features}
 
 -- the features that a pattern writes, with their terms
 abbrev pub pattern_terms : Pattern → List (ℕ × Term)
@@ -105,20 +106,21 @@ pub record IsPlanOf (g : GrammarParts) (rule : Rule) (plan : Plan) : Type 0 wher
   pub variables : plan.variables ≡ variables_of g rule
   pub written : plan.written ≡ length (written_variables rule)
   pub counts : plan.counts ≡ map (λ e. length (own_features g e)) rule.body
+  pub features : plan.features ≡ map (element_features g) rule.body
 
 abbrev pub IsPlan : Setting → Rule → Plan → Type 0
 IsPlan s rule plan = IsPlanOf s.grammar rule plan
 
 -- one plan for each rule
-abbrev pub EachPlan : Setting → List Rule → List Plan → Type 0
-EachPlan s [] [] = Unit {0}
-EachPlan s [] (plan ∷ plans) = ⊥
-EachPlan s (rule ∷ rules) [] = ⊥
-EachPlan s (rule ∷ rules) (plan ∷ plans) = IsPlan s rule plan × EachPlan s rules plans
+abbrev pub EachPlan : GrammarParts → List Rule → List Plan → Type 0
+EachPlan g [] [] = Unit {0}
+EachPlan g [] (plan ∷ plans) = ⊥
+EachPlan g (rule ∷ rules) [] = ⊥
+EachPlan g (rule ∷ rules) (plan ∷ plans) = IsPlanOf g rule plan × EachPlan g rules plans
 
 -- one plan for each rule of the grammar
-pub record ArePlans (s : Setting) (plans : List Plan) : Type 0 where
-  pub all : EachPlan s s.grammar.rules plans
+abbrev pub ArePlans : Setting → List Plan → Type 0
+ArePlans s plans = EachPlan s.grammar s.grammar.rules plans
 
 -- the values have the numbers of the plan's variables, and are values of the features and positions that it tells
 abbrev pub planned_instance : Setting → Plan → List (ℕ × Value) → Bool

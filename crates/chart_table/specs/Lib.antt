@@ -1,5 +1,6 @@
 pub mod Leading
 pub mod Branches
+pub mod Features
 pub mod Steps
 pub mod Choices
 pub mod Ends

@@ -6,12 +6,14 @@ ghost use Rattle.codeco_checked.specs.Occurrences.{positions};
 ghost use Rattle.derivation_trees.specs.Instances as instances;
 ghost use Rattle.chart_table.specs.Branches.{marked};
 ghost use Rattle.chart_table.specs.Choices as choosing;
+ghost use Rattle.chart_table.specs.Features as features;
 
 use crate::branches::values_at;
+use crate::features::{Listed, owned_by};
 use crate::states::Feat;
 use codeco_terms::{Declared, Element, Grammar, Ground, Pattern, Rule, Term, Value};
 use derivation_scenes::Scene;
-use derivation_trees::{push_own_features, rule_own_features, variables_of, written_variables};
+use derivation_trees::{variables_of, written_variables};
 use lists::List;
 use std::alloc::Global;
 use wiki_base::{Memory, WordId};
@@ -20,7 +22,8 @@ use wiki_base::{Memory, WordId};
 const WORD_FEATURE: u16 = 3;
 
 /// What a rule writes, and its variables: its features with their terms, the variables of `#`, the features of its own
-/// variables, all variables, how many of them are written, how many own ones each element has, and a value for each.
+/// variables, all variables, how many of them are written, how many own ones each element has,
+/// the features of the categories that elements introduce, and a value for each variable.
 #[derive(Drop)]
 pub struct Plan {
     pub(crate) terms: List<Feat>,
@@ -29,6 +32,7 @@ pub struct Plan {
     pub(crate) variables: List<usize>,
     pub(crate) written: usize,
     pub(crate) counts: List<usize>,
+    pub(crate) features: List<List<u16>>,
     pub(crate) sample: List<(u8, Value)>,
 }
 
@@ -120,28 +124,6 @@ fn places_of(alloc: Global, body: &[Element]) -> Result<List<u8>, Memory>
     Ok(places)
 }
 
-// How many own variables the element has.
-fn own_count(alloc: Global, grammar: &Grammar, element: &Element) -> Result<usize, Memory>
-    ensures { IfOk result (λ count. count ≡ length (instances.own_features grammar.now element.now)) }
-{
-    let mut features = Vec::new(alloc);
-    push_own_features(alloc, grammar, element, &mut features)?;
-    let own = List::from_vec(features);
-    Ok(own.len())
-}
-
-// How many own variables each element has.
-fn counts_of(alloc: Global, grammar: &Grammar, body: &[Element]) -> Result<List<usize>, Memory>
-    ensures { IfOk result
-        (λ counts. counts ≡ map (λ e. length (instances.own_features grammar.now e)) body.now) }
-{
-    let mut counts = List::new(alloc);
-    for element in body {
-        counts.push(own_count(alloc, grammar, element)?)?;
-    }
-    Ok(counts)
-}
-
 // How many variables are written in the rule.
 fn written_count(alloc: Global, rule: &Rule) -> Result<usize, Memory>
     ensures { IfOk result (λ count. count ≡ length (instances.written_variables rule.now)) }
@@ -151,63 +133,96 @@ fn written_count(alloc: Global, rule: &Rule) -> Result<usize, Memory>
 }
 
 // What the rule writes, with no values yet.
-fn bare_plan(alloc: Global, grammar: &Grammar, rule: &Rule) -> Result<Plan, Memory>
-    ensures { IfOk result (λ plan. choosing.IsPlanOf grammar.now rule.now plan) }
+fn bare_plan(
+    alloc: Global,
+    grammar: &Grammar,
+    rule: &Rule,
+    known: &mut List<Listed>,
+) -> Result<Plan, Memory>
+    requires { features.AreListed grammar.now known.old }
+    ensures known { OnOk result (features.AreListed grammar.now known.new) }
+    ensures plan { IfOk result (λ plan. choosing.IsPlanOf grammar.now rule.now plan) }
 {
     let body = rule.body.as_slice();
-    let own = List::from_vec(rule_own_features(alloc, grammar, body)?);
-    let variables = List::from_vec(variables_of(alloc, rule, own.len())?);
+    let owned = owned_by(alloc, grammar, body, known)?;
+    let variables = List::from_vec(variables_of(alloc, rule, owned.own.len())?);
     Ok(Plan {
         terms: terms_of(alloc, rule)?,
         places: places_of(alloc, body)?,
-        own,
+        own: owned.own,
         variables,
         written: written_count(alloc, rule)?,
-        counts: counts_of(alloc, grammar, body)?,
+        counts: owned.counts,
+        features: owned.features,
         sample: List::new(alloc),
     })
 }
 
-// A value for each of the variables that can have one: the first of those that it can have.
-fn sample_of(alloc: Global, setting: &Scene<'_>, plan: &Plan) -> Result<List<(u8, Value)>, Memory> {
+// One of the values of the feature, if it has any.
+fn some_value(grammar: &Grammar, feature: u16) -> Option<Value> {
+    let feature = grammar.features().as_slice().get(feature as usize)?;
+    match &feature.declared {
+        Declared::Undeclared => None,
+        Declared::Words => Some(Value::Word(WordId(0))),
+        Declared::Positions => Some(Value::Pos(0)),
+        Declared::Atoms(atoms) => match atoms.as_slice().first() {
+            None => None,
+            Some(atom) => Some(Value::Atom(*atom)),
+        },
+    }
+}
+
+// One of the values that the variable can have, if it can have any.
+fn some_choice(grammar: &Grammar, plan: &Plan, variable: u8) -> Option<Value> {
+    if let Some(feature) = first_feature(plan.terms.as_slice(), variable) {
+        return some_value(grammar, feature);
+    }
+    if has_place(plan.places.as_slice(), variable) {
+        return Some(Value::Pos(0));
+    }
+    if variable < 16 {
+        return Some(Value::Atom(0));
+    }
+    let feature = own_feature(plan.own.as_slice(), variable as usize - 16)?;
+    some_value(grammar, feature)
+}
+
+// A value for each of the variables that can have one: one of those that it can have.
+fn sample_of(alloc: Global, grammar: &Grammar, plan: &Plan) -> Result<List<(u8, Value)>, Memory> {
     let mut sample = List::new(alloc);
     for number in plan.variables.as_slice() {
-        push_sample(alloc, setting, plan, *number, &mut sample)?;
+        let variable = u8::try_from(*number).map_err(|_| Memory)?;
+        if let Some(value) = some_choice(grammar, plan, variable) {
+            sample.push((variable, value))?;
+        }
     }
     Ok(sample)
 }
 
-fn push_sample(
+// What the rule writes, and its variables.
+fn plan_of(
     alloc: Global,
-    setting: &Scene<'_>,
-    plan: &Plan,
-    number: usize,
-    sample: &mut List<(u8, Value)>,
-) -> Result<(), Memory> {
-    let variable = u8::try_from(number).map_err(|_| Memory)?;
-    let values = choices(alloc, setting, plan, Term::Var(variable))?;
-    match values.as_slice().first() {
-        None => Ok(()),
-        Some(value) => sample.push((variable, *value)),
-    }
-}
-
-/// What the rule writes, and its variables.
-pub(crate) fn plan_of(alloc: Global, setting: &Scene<'_>, rule: &Rule) -> Result<Plan, Memory>
-    ensures { IfOk result (λ plan. choosing.IsPlan setting.now rule.now plan) }
+    grammar: &Grammar,
+    rule: &Rule,
+    known: &mut List<Listed>,
+) -> Result<Plan, Memory>
+    requires { features.AreListed grammar.now known.old }
+    ensures known { OnOk result (features.AreListed grammar.now known.new) }
+    ensures plan { IfOk result (λ plan. choosing.IsPlanOf grammar.now rule.now plan) }
 {
-    let mut plan = bare_plan(alloc, setting.grammar, rule)?;
-    plan.sample = sample_of(alloc, setting, &plan)?;
+    let mut plan = bare_plan(alloc, grammar, rule, known)?;
+    plan.sample = sample_of(alloc, grammar, &plan)?;
     Ok(plan)
 }
 
-/// The plans of all rules.
-pub fn plans_of(alloc: Global, setting: &Scene<'_>) -> Result<List<Plan>, Memory>
-    ensures { IfOk result (λ plans. choosing.ArePlans setting.now plans) }
+/// The plans of all rules of the grammar.
+pub fn plans_of(alloc: Global, grammar: &Grammar) -> Result<List<Plan>, Memory>
+    ensures { IfOk result (λ plans. choosing.EachPlan grammar.now grammar.now.rules plans) }
 {
+    let mut known = List::new(alloc);
     let mut plans = List::new(alloc);
-    for rule in setting.grammar.rules().as_slice() {
-        plans.push(plan_of(alloc, setting, rule)?)?;
+    for rule in grammar.rules().as_slice() {
+        plans.push(plan_of(alloc, grammar, rule, &mut known)?)?;
     }
     Ok(plans)
 }

@@ -62,13 +62,8 @@ pub(crate) fn values_of_all(
     Ok(values)
 }
 
-// Whether the values are an instance of the rule.
-pub(crate) fn is_instance(
-    setting: &Scene<'_>,
-    rule: &Rule,
-    plan: &Plan,
-    values: &[(u8, Value)],
-) -> bool
+/// Whether the values are an instance of the rule, which has this plan.
+pub fn is_instance(setting: &Scene<'_>, rule: &Rule, plan: &Plan, values: &[(u8, Value)]) -> bool
     requires { choosing.IsPlan setting.now rule.now plan.now }
     ensures { result ≡ instances.is_instance setting.now rule.now values.now }
 {

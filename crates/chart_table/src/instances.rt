@@ -15,7 +15,7 @@ use crate::states::{Aim, Bound, State};
 use crate::steps::close;
 use crate::table::{Row, last_states, start_states};
 use codeco_terms::{Rule, Value};
-use derivation_scenes::Scene;
+use derivation_scenes::{Scene, may_start};
 use lists::List;
 use scopes::Access;
 use std::alloc::Global;
@@ -136,6 +136,9 @@ pub fn leading_instances(
     ensures rows { OnOk result (tables.AreRows setting.now tables.no_asks rows.new) }
     ensures instances { IfOk result (finding.HasInstances setting.now rule.now known.now (record { place = place; list = list.now })) }
 {
+    if !may_start(setting, place, rule.body.as_slice()) {
+        return Ok(List::new(alloc));
+    }
     let aim = nothing();
     let starts = start_states(alloc, known, rule.head.feats.as_slice(), place, list)?;
     let mut cuts = List::new(alloc);

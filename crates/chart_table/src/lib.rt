@@ -6,6 +6,7 @@ mod branches;
 mod choices;
 mod cuts;
 mod ends;
+mod features;
 mod fits;
 mod instances;
 mod sameness;
@@ -16,7 +17,7 @@ mod table;
 
 pub use asks::Ask;
 pub use choices::{Plan, plans_of};
-pub use ends::tail_of;
+pub use ends::{is_instance, tail_of};
 pub use instances::leading_instances;
 pub use sameness::{same_entries, same_values};
 pub use sentences::{Standing, begins, has_derivation, may_follow, standing_of};

@@ -112,7 +112,7 @@ pub fn standing_of(alloc: Global, setting: &Scene<'_>) -> Result<Standing, Memor
 fn text_row(alloc: Global, setting: &Scene<'_>, aim: &Aim<'_>) -> Result<Row, Memory>
     ensures { IfOk result (tables.IsTextRow setting.now aim.now) }
 {
-    let plans = plans_of(alloc, setting)?;
+    let plans = plans_of(alloc, setting.grammar)?;
     let mut rows = List::new(alloc);
     let known = List::new(alloc);
     let list = List::new(alloc);

@@ -12,6 +12,7 @@ ghost use Rattle.derivation_trees.specs.Derives as derives;
 ghost use Rattle.derivation_trees.specs.Stands.{is_sub};
 ghost use Rattle.chart_table.specs.Branches as branches;
 ghost use Rattle.chart_table.specs.Choices as choosing;
+ghost use Rattle.chart_table.specs.Features as listing;
 ghost use Rattle.chart_table.specs.Steps as steps;
 ghost use Rattle.derivation_trees.specs.Settings as settings;
 ghost use Rattle.scopes.specs.declared.entries.Entry.TheVariants as entry;
@@ -21,7 +22,7 @@ use crate::choices::{Plan, choices};
 use crate::states::{Bound, End, Feat, State};
 use codeco_terms::{Category, Element, Ground, Pattern, Term, Vals, Value};
 use derivation_scenes::Scene;
-use derivation_trees::{features_of, term_value, tests_under, written};
+use derivation_trees::{term_value, tests_under, written};
 use lists::List;
 use scopes::{Access, Entry, Found, TestList, Tests};
 use std::alloc::Global;
@@ -243,27 +244,23 @@ fn push_introduced(
     Ok(())
 }
 
-// `>` and `>>` introduce a referent at the place.
+// `>` and `>>` introduce a referent at the place. The features are those of its category.
 fn introduce(
     alloc: Global,
     setting: &Scene<'_>,
     plan: &Plan,
     number: u16,
+    features: &[u16],
     category: &Category,
     strong: bool,
     state: &State,
     out: &mut List<State>,
 ) -> Result<(), Memory>
+    requires { features.now ≡ instances.features_of setting.now.grammar category.now.name }
     ensures { OnOk result (out.new ≡ out.old
         ++ steps.introducing setting.now (choosing.choices setting.now plan.now.terms plan.now.places plan.now.own) number category.now strong state.now) }
 {
-    let features = features_of(alloc, setting.grammar, category.name)?;
-    let feats = complete(
-        alloc,
-        category.feats.as_slice(),
-        features.as_slice(),
-        number,
-    )?;
+    let feats = complete(alloc, category.feats.as_slice(), features, number)?;
     let one = alone(alloc, state.binds.as_slice())?;
     let bounds = close(alloc, setting, plan, feats.as_slice(), one)?;
     push_introduced(
@@ -551,10 +548,12 @@ pub(crate) fn push_plain(
     setting: &Scene<'_>,
     plan: &Plan,
     number: u16,
+    features: &[u16],
     element: &Element,
     state: &State,
     out: &mut List<State>,
 ) -> Result<(), Memory>
+    requires { features.now ≡ listing.element_features setting.now.grammar element.now }
     ensures { OnOk result (out.new ≡ out.old
         ++ steps.plain_steps setting.now (choosing.choices setting.now plan.now.terms plan.now.places plan.now.own) number element.now state.now) }
 {
@@ -565,10 +564,14 @@ pub(crate) fn push_plain(
         Element::Position(variable) => push_position(alloc, *variable, state, out),
         Element::Opener => push_opened(alloc, state, out),
         Element::Forward(category) => {
-            introduce(alloc, setting, plan, number, category, false, state, out)
+            introduce(
+                alloc, setting, plan, number, features, category, false, state, out,
+            )
         }
         Element::Strong(category) => {
-            introduce(alloc, setting, plan, number, category, true, state, out)
+            introduce(
+                alloc, setting, plan, number, features, category, true, state, out,
+            )
         }
         Element::Back(positive, negative) => push_back(
             alloc,

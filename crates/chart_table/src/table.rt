@@ -9,6 +9,7 @@ ghost use Rattle.chart_table.specs.Branches as branches;
 ghost use Rattle.chart_table.specs.Choices as choosing;
 ghost use Rattle.chart_table.specs.Steps as steps;
 ghost use Rattle.chart_table.specs.Ends as ending;
+ghost use Rattle.chart_table.specs.Features as listing;
 ghost use Rattle.chart_table.specs.Cuts as cutting;
 ghost use Rattle.chart_table.specs.Table as tables;
 ghost use Rattle.codeco_terms.specs.declared.elements.Element.{Element as OneElement};
@@ -462,6 +463,7 @@ pub(crate) fn last_states(
             rule,
             plan,
             number,
+            plan.features.get(place).as_slice(),
             element,
             states.as_slice(),
             cuts,
@@ -483,6 +485,7 @@ fn next_states(
     rule: &Rule,
     plan: &Plan,
     number: u16,
+    features: &[u16],
     element: &Element,
     states: &[State],
     cuts: &mut List<Cut>,
@@ -490,6 +493,7 @@ fn next_states(
     requires rows { tables.AreRows setting.now aim.now rows.old }
     requires plans { choosing.ArePlans setting.now plans.now }
     requires plan { choosing.IsPlan setting.now rule.now plan.now }
+    requires features { features.now ≡ listing.element_features setting.now.grammar element.now }
     ensures rows { OnOk result (tables.AreRows setting.now aim.now rows.new) }
     ensures steps { IfOk result (λ news. ending.AreSteps setting.now rule.now number element.now states.now news) }
     ensures cuts { OnOk result (cutting.HasHeads setting.now rule.now (λ j v. cutting.Among (cutting.Enters setting.now aim.now element.now j v) states.now) cuts.old cuts.new) }
@@ -497,8 +501,8 @@ fn next_states(
     let mut news = List::new(alloc);
     for state in states {
         push_state(
-            alloc, setting, aim, plans, rows, depth, rule, plan, number, element, state, &mut news,
-            cuts,
+            alloc, setting, aim, plans, rows, depth, rule, plan, number, features, element, state,
+            &mut news, cuts,
         )?;
     }
     Ok(news)
@@ -516,6 +520,7 @@ fn push_state(
     rule: &Rule,
     plan: &Plan,
     number: u16,
+    features: &[u16],
     element: &Element,
     state: &State,
     out: &mut List<State>,
@@ -524,6 +529,7 @@ fn push_state(
     requires rows { tables.AreRows setting.now aim.now rows.old }
     requires plans { choosing.ArePlans setting.now plans.now }
     requires plan { choosing.IsPlan setting.now rule.now plan.now }
+    requires features { features.now ≡ listing.element_features setting.now.grammar element.now }
     ensures rows { OnOk result (tables.AreRows setting.now aim.now rows.new) }
     ensures step { OnOk result ((news : List OneState) × (out.new ≡ out.old ++ news) × ending.IsStep setting.now rule.now number element.now state.now news) }
     ensures cuts { OnOk result (cutting.HasHeads setting.now rule.now (λ j v. cutting.Enters setting.now aim.now element.now j v state.now) cuts.old cuts.new) }
@@ -537,7 +543,7 @@ fn push_state(
             Ok(())
         }
         _ => {
-            push_plain(alloc, setting, plan, number, element, state, out)?;
+            push_plain(alloc, setting, plan, number, features, element, state, out)?;
             Ok(())
         }
     }

@@ -12,6 +12,7 @@ ghost use Rattle.chart_trees.specs.Outcomes as ends;
 
 use crate::outcomes::Outcome;
 use crate::table::{Tables, best_of};
+use chart_table::plans_of;
 use codeco_checked::CheckedGrammar;
 use derivation_trees::{Setting, Skeleton, readings_of, sketch_of};
 use lexicon::Lexicon;
@@ -112,12 +113,22 @@ fn least_in(alloc: Global, setting: &Setting<'_>) -> Result<Option<Skeleton>, Me
     ensures least { IfOk result (λ least. IfSome least (IsLeast setting.now)) }
     ensures none { IfOk result (λ least. IfNone least ((tree : Node) → IsDerivation setting.now tree → ⊥)) }
 {
+    let plans = plans_of(alloc, setting.grammar)?;
     let mut tables = Tables {
         ends: List::new(alloc),
         rows: List::new(alloc),
     };
     let list = List::new(alloc);
-    let number = best_of(alloc, setting, &mut tables, DEEPEST, text(alloc), 0, list)?;
+    let number = best_of(
+        alloc,
+        setting,
+        plans.as_slice(),
+        &mut tables,
+        DEEPEST,
+        text(alloc),
+        0,
+        list,
+    )?;
     let row = tables.rows.get(number);
     least_among(alloc, setting, row.outcomes.as_slice())
 }

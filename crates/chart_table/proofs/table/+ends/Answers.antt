@@ -134,3 +134,6 @@ push_rule-returns-then-not-may_go-clause-ends t c =
 pub push_rule-returns-then-not-may_go-clause-cuts : goal.push_rule-returns-then-not-may_go-clause-cuts
 push_rule-returns-then-not-may_go-clause-cuts t c =
     idle_cuts c.args.setting.now c.args.aim.now c.args.rule.now c.args.known.now (record { place = c.args.place; list = c.args.start.now }) c.args.cuts.now (c.may_go.ensures c.if-not-may_go.true)
+
+pub last_states-next_states-requires-clause-features : goal.last_states-next_states-requires-clause-features
+last_states-next_states-requires-clause-features t c = ?

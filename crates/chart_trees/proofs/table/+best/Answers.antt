@@ -22,23 +22,23 @@ pub best_of-returns-clause-row : goal.best_of-returns-clause-row
 best_of-returns-clause-row t c =
     row_new c.args.setting.now c.all_outcomes.new.tables.rows c.push_new_row.new.rows (record { asked = c.args.asked; place = c.args.place; list = c.args.list; outcomes = c.in_ok-outcomes.outcomes }) c.in_ok-number.number c.in_ok-start.start c.in_ok-number.ensures.rows c.in_ok-number.ensures.number (c.in_ok-start.ensures ∙ c.as_slice-3.ensures) c.in_ok-outcomes.ensures.best
 
-pub all_outcomes-loop-rule-init : goal.all_outcomes-loop-rule-init
-all_outcomes-loop-rule-init t c = record {
+pub all_outcomes-loop-index-init : goal.all_outcomes-loop-index-init
+all_outcomes-loop-index-init t c = record {
   tables = c.requires.tables;
   number = omega arith;
   trees = up_to_none c.args.setting.now c.args.asked.now (record { place = c.args.place; list = c.args.start.now }) c.new-out.result c.new-out.ensures;
 }
 
-pub all_outcomes-loop-rule-preserved : goal.all_outcomes-loop-rule-preserved
-all_outcomes-loop-rule-preserved t c = record {
+pub all_outcomes-loop-index-preserved : goal.all_outcomes-loop-index-preserved
+all_outcomes-loop-index-preserved t c = record {
   tables = c.in_ok-push_named.ensures.tables;
-  number = omega (arith, c.in_ok-number.ensures, c.loop-rule.invariant.number);
-  trees = up_to_turn c.args.setting.now c.args.asked.now (record { place = c.args.place; list = c.args.start.now }) c.loop-rule.rule-index c.loop-rule.number c.loop-rule.out c.push_named.new.out c.loop-rule.invariant.number c.loop-rule.invariant.trees c.in_ok-push_named.ensures.trees;
+  number = omega (arith, c.in_ok-number.ensures, c.loop-index.invariant.number);
+  trees = up_to_turn c.args.setting.now c.args.asked.now (record { place = c.args.place; list = c.args.start.now }) c.loop-index.index c.loop-index.number c.loop-index.out c.push_named.new.out c.loop-index.invariant.number c.loop-index.invariant.trees c.in_ok-push_named.ensures.trees;
 }
 
 pub all_outcomes-returns-clause-best : goal.all_outcomes-returns-clause-best
 all_outcomes-returns-clause-best t c =
-    up_to_done c.args.setting.now c.args.asked.now (record { place = c.args.place; list = c.args.start.now }) c.loop-rule.rule-index c.as_slice-rule-items.result.now c.loop-rule.out (search rules) c.loop-rule-test.false c.loop-rule.invariant.trees
+    up_to_done c.args.setting.now c.args.asked.now (record { place = c.args.place; list = c.args.start.now }) c.loop-index.index c.as_slice-rule-items.result.now c.loop-index.out (search rules) c.loop-index-test.false c.loop-index.invariant.trees
 
 pub push_named-returns-clause-trees : goal.push_named-returns-clause-trees
 push_named-returns-clause-trees t c =

@@ -113,7 +113,7 @@ row_returned s aim rows after row number known start e n k l ends cuts =
 
 pub rows_returned : (s : Setting) (aim : Aims) (rows after : List Row) (row : Row) (known : List (ℕ × Value)) (start : List Entry) → after ≡ rows ++ row ∷ [] → known ≡ row.known → start ≡ row.list → AreRows s aim rows → IsEnds s row.name known (record { place = row.place; list = start }) row.ends → AreCuts s aim row.name known (record { place = row.place; list = start }) row.cuts → AreRows s aim after
 rows_returned s aim rows after row known start e k l rs ends cuts =
-    subst (AreRows s) (sym e) (rows_more s aim rows row rs (row_is s aim row known start k l (ends, cuts)))
+    subst (AreRows s aim) (sym e) (rows_more s aim rows row rs (row_is s aim row known start k l (ends, cuts)))
 
 pub finished_same : (s : Setting) (rule : Rule) (start : List Entry) (seen states : List State) (before after : List End) → seen ≡ states → HasFinished s rule start seen before after → HasFinished s rule start states before after
 finished_same s rule start seen states before after e h = subst (λ x. HasFinished s rule start x before after) e h

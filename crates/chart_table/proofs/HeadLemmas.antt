@@ -1,6 +1,6 @@
 -- What is cut off in the states of a rule, and in all rules.
-use Rattle.std.proofs.Common.{◌≡◌, ℕ, suc, zero, ◌+◌, ◌-◌, ◌<◌, ◌≤◌, get_or, List, [], ◌∷◌, ◌++◌, Bool, true, false, length, take, drop, Option, Some, None, refl, sym, ap, ◌∙◌, subst, arith, ◌⊎◌, inl, inr, nat_lt, nat_eq}
-use Rattle.std.specs.Prelude.{◌==◌, if◌then◌else◌, option_and_then, slice_get}
+use Rattle.std.proofs.Common.{◌≡◌, ℕ, suc, zero, ◌+◌, ◌-◌, ◌<◌, ◌≤◌, get_or, List, [], ◌∷◌, ◌++◌, Bool, true, false, length, take, drop, Option, Some, None, refl, sym, ap, ◌∙◌, subst, arith, ◌⊎◌, inl, inr, nat_lt, nat_eq, IsTrue, ◌↔◌}
+use Rattle.std.specs.Prelude.{◌==◌, if◌then◌else◌, not, option_and_then, slice_get}
 use Rattle.std.specs.List.{list_all}
 use Rattle.std.proofs.lemmas.Bool.Decides.{nat_tests}
 use Rattle.std.proofs.lemmas.Option.{same_Some, slice_get-get_or}
@@ -26,7 +26,8 @@ use Rattle.chart_table.specs.Branches.{OneOf, Extends, AnyExtends, known_feature
 use Rattle.chart_table.specs.declared.choices.Plan.{Plan}
 use Rattle.chart_table.specs.Choices.{choices, choices_in, IsPlan}
 use Rattle.chart_table.specs.Steps.{at_of, Covers, starting}
-use Rattle.chart_table.specs.Ends.{CoversPath, Agrees, AreLast, finished, end_with}
+use Rattle.chart_table.specs.declared.states.End.{End}
+use Rattle.chart_table.specs.Ends.{CoversPath, Agrees, AreLast, finished, end_with, has_values}
 use Rattle.chart_table.specs.Asks.{meets, takes_terminal, takes_reading}
 use Rattle.chart_table.specs.Aims.{Aims}
 use Rattle.chart_table.specs.Cuts.{CutLeads, Met, Stops, AreCuts, AreAfter, AreAllAfter, Among, Halts, Enters, CutBefore, HasCut, HasHeads, IsOf, Settles, AllSettle, HasOneMore, IsPossible, OneBefore, MeetsOne, MeetsCut, met_binds, reading_binds, within_binds, HasRuleCuts, HasCutsOfRule, HasCutsIfNamed, HasCutsUpTo}
@@ -36,7 +37,7 @@ use Rattle.chart_table.proofs.ChoiceLemmas.{chosen}
 use Rattle.chart_table.proofs.PlanLemmas.{choices_same}
 use Rattle.chart_table.proofs.OpenerLemmas.{referents-twice}
 use Rattle.chart_table.proofs.StepLemmas.{placed_to, placed_from}
-use Rattle.chart_table.proofs.EndLemmas.{stripped, known_in_feats, path_to, path_from, rule_at, number_of}
+use Rattle.chart_table.proofs.EndLemmas.{stripped, known_in_feats, path_to, path_from, rule_at, number_of, has_from, finished_shows, shows_finished}
 use Rattle.chart_table.proofs.CutLemmas.{cut_alike, covers_nil, nil_covers}
 
 -- lists of heads
@@ -128,6 +129,32 @@ all_taken zero (x ∷ xs) le = absurd (omega arith)
 all_taken (suc n) [] le = refl
 all_taken (suc n) (x ∷ xs) le = ap (λ ys. x ∷ ys) (all_taken n xs (omega arith))
 
+-- whether some instance extends an assignment
+
+pub guess_possible : (s : Setting) (rule : Rule) (guess bound : Binds) (a b : Bool) → a ≡ is_instance s rule guess → b ≡ has_values guess bound → a ≡ true → b ≡ true → IsPossible s rule bound
+guess_possible s rule guess bound a b is has x y = (guess, sym is ∙ x, has_from guess bound (sym has ∙ y))
+
+some_end : (ends : List End) → (ends ≡ [] → ⊥) → (e : End) × OneOf ends e
+some_end [] h = absurd (h refl)
+some_end (x ∷ xs) h = (x, inl refl)
+
+pub all_tried : (s : Setting) (rule : Rule) (bound : Binds) (state : State) (ends : List End) (before : List Entry) (empty : Bool) → state.binds ≡ bound → ends ≡ finished s rule before state → IsTrue empty ↔ (ends ≡ []) → IsTrue (not empty) ↔ IsPossible s rule bound
+all_tried s rule bound state ends before empty same is h = by empty h
+  where
+    some : (e : End) → OneOf ends e → IsPossible s rule bound
+    some e o =
+        let r = finished_shows s rule before state e (subst (λ l. OneOf l e) is o) in
+        (r.values, r.instance, subst (Extends r.values) same r.extends)
+
+    none : ends ≡ [] → IsPossible s rule bound → ⊥
+    none e p =
+        let o = shows_finished s rule before state p.0 p.1 (subst (Extends p.0) (sym same) p.2) in
+        subst (λ l. OneOf l (end_with rule before state p.0)) (sym is ∙ e) o
+
+    by : (x : Bool) → IsTrue x ↔ (ends ≡ []) → IsTrue (not x) ↔ IsPossible s rule bound
+    by true e = (λ t. absurd (let z : false ≡ true = t in cc), λ p. absurd (none (e.0 refl) p))
+    by false e = (λ t. let one = some_end ends (λ n. let z : false ≡ true = e.1 n in absurd (cc)) in some one.0 one.1, λ p. refl)
+
 -- assignments, one after another
 
 pub of_none : (s : Setting) (rule : Rule) (number : ℕ) (cuts : List Cut) → HasHeads s rule (IsOf number []) cuts cuts
@@ -173,7 +200,7 @@ pub before_none : {X : Type 0} (s : Setting) (rule : Rule) (xs : List X) (P : �
 before_none s rule xs P cuts = heads_alike s rule (λ j v. ⊥) (OneBefore xs P 0) cuts cuts (λ j v i h. absurd h) (λ j v i h. let lt = h.1 in absurd (omega arith)) (heads_none s rule cuts)
 
 pub before_turn : {X : Type 0} (s : Setting) (rule : Rule) (xs : List X) (P : ℕ → X → ℕ → Binds → Type 0) (i : ℕ) (x : X) (first before after : List Cut) → i < length xs → x ≡ get_or xs i x → HasHeads s rule (OneBefore xs P i) first before → HasHeads s rule (P i x) before after → HasHeads s rule (OneBefore xs P (i + 1)) first after
-before_turn {X} s rule xs P i x first before after lt is one two =
+before_turn s rule xs P i x first before after lt is one two =
     heads_alike s rule (λ j v. OneBefore xs P i j v ⊎ P i x j v) (OneBefore xs P (i + 1)) first after to from (heads_then s rule (OneBefore xs P i) (P i x) first before after one two)
   where
     here : slice_get xs i ≡ Some x

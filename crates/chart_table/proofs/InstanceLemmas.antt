@@ -107,9 +107,9 @@ pub states_done : (s : Setting) (rule : Rule) (states : List State) (i : ℕ) (f
 states_done s rule states i first after le h = subst (λ l. HasStates s rule l first after) (all_taken i states le) h
 
 -- the values of all variables in a state, as the program makes them
-pub closed_is : (s : Setting) (rule : Rule) (state : State) (plan : Plan) (feats seen_feats : List (ℕ × Term)) (one bounds seen_bounds : List Binds) → IsPlan s rule plan → feats ≡ as_terms plan.variables → seen_feats ≡ feats → one ≡ state.binds ∷ [] → bounds ≡ closing (choices s plan.terms plan.places plan.own) seen_feats one → seen_bounds ≡ bounds → map (λ b. values_of_all b plan.variables) seen_bounds ≡ closed_values s rule state
-closed_is s rule state plan feats seen_feats one bounds seen_bounds p f g a b d =
-    ap (λ x. map (λ b. values_of_all b x) seen_bounds) p.variables ∙ ap (map (λ b. values_of_all b (variables_of s.grammar rule))) (d ∙ b ∙ ap (λ x. closing x seen_feats one) (choices_same s rule plan p) ∙ ap (λ x. closing (choices_in s rule) x one) (g ∙ f ∙ ap as_terms p.variables) ∙ ap (closing (choices_in s rule) (as_terms (variables_of s.grammar rule))) a)
+pub closed_is : (s : Setting) (rule : Rule) (state : State) (plan : Plan) (numbers : List ℕ) (feats seen_feats : List (ℕ × Term)) (one bounds seen_bounds : List Binds) → IsPlan s rule plan → numbers ≡ plan.variables → feats ≡ as_terms plan.variables → seen_feats ≡ feats → one ≡ state.binds ∷ [] → bounds ≡ closing (choices s plan.terms plan.places plan.own) seen_feats one → seen_bounds ≡ bounds → map (λ b. values_of_all b numbers) seen_bounds ≡ closed_values s rule state
+closed_is s rule state plan numbers feats seen_feats one bounds seen_bounds p n f g a b d =
+    ap (λ x. map (λ b. values_of_all b x) seen_bounds) (n ∙ p.variables) ∙ ap (map (λ b. values_of_all b (variables_of s.grammar rule))) (d ∙ b ∙ ap (λ x. closing x seen_feats one) (choices_same s rule plan p) ∙ ap (λ x. closing (choices_in s rule) x one) (g ∙ f ∙ ap as_terms p.variables) ∙ ap (closing (choices_in s rule) (as_terms (variables_of s.grammar rule))) a)
 
 -- an instance that extends a state's assignment is one of its values
 values_to : (s : Setting) (rule : Rule) (v : Binds) (bs : List Binds) → is_instance s rule v ≡ true → Each (KnownAll (as_terms (variables_of s.grammar rule))) bs → AnyExtends v bs → OneOf (map (λ b. values_of_all b (variables_of s.grammar rule)) bs) v

@@ -16,7 +16,7 @@ use Rattle.derivation_trees.specs.Settings.{Setting, is_value}
 use Rattle.derivation_trees.specs.Instances.{features_of, value_under, same_numbers, term_fits, own_fit, own_values, own_features, written_variables, variables_of, rule_own_features, is_instance}
 use Rattle.chart_table.specs.declared.choices.Plan.{Plan}
 use Rattle.chart_table.specs.Choices.{choices, choices_in, terms_of, IsPlanOf, IsPlan, EachPlan, ArePlans, planned_instance}
-use Rattle.chart_table.specs.declared.features.Listed.{Listed}
+use Rattle.chart_table.specs.declared.features.CategoryFeatures.{CategoryFeatures}
 use Rattle.chart_table.specs.Branches.{OneOf}
 use Rattle.chart_table.specs.Features.{element_features, own_among, HasListed, AreListed}
 use Rattle.chart_table.proofs.BranchLemmas.{Binds}
@@ -77,21 +77,9 @@ each_at g (r ∷ rs) (x ∷ xs) zero rule plan h e f = subst (IsPlanOf g rule) (
 each_at g (r ∷ rs) (x ∷ xs) (suc i) rule plan h e f = each_at g rs xs i rule plan h.1 e f
 
 -- the plan with the number is that of the rule with the number
-pub plan_at : (s : Setting) (rules : List Rule) (i : ℕ) (rule : Rule) (plan : Plan) (plans : List Plan) → rules ≡ s.grammar.rules → i < length rules → rule ≡ get_or rules i rule → i < length plans → plan ≡ get_or plans i plan → ArePlans s plans → IsPlan s rule plan
-plan_at s rules i rule plan plans e lt is below at are =
-    each_at s.grammar s.grammar.rules plans i rule plan are (ap (λ l. slice_get l i) (sym e) ∙ slice_get-get_or rules i rule lt ∙ ap Some (sym is)) (slice_get-get_or plans i plan below ∙ ap Some (sym at))
-
--- the same rule's plan with other values beside
-pub plan_with : (g : GrammarParts) (rule : Rule) (plan : Plan) (sample : List (ℕ × Value)) → IsPlanOf g rule plan → IsPlanOf g rule (record plan { sample = sample })
-plan_with g rule plan sample p = record {
-  terms = p.terms;
-  places = p.places;
-  own = p.own;
-  variables = p.variables;
-  written = p.written;
-  counts = p.counts;
-  features = p.features;
-}
+pub plan_is : (s : Setting) (rules : List Rule) (i : ℕ) (rule : Rule) (plan : Plan) (plans : List Plan) → rules ≡ s.grammar.rules → i < length rules → rule ≡ get_or rules i rule → slice_get plans i ≡ Some plan → ArePlans s plans → IsPlan s rule plan
+plan_is s rules i rule plan plans e lt is at are =
+    each_at s.grammar s.grammar.rules plans i rule plan are (ap (λ l. slice_get l i) (sym e) ∙ slice_get-get_or rules i rule lt ∙ ap Some (sym is)) at
 
 -- how many own variables an element has
 
@@ -149,12 +137,12 @@ own_is g (NoBack patterns) = refl
 pub own_mine : (g : GrammarParts) (e : Element) (found seen mine : List ℕ) → found ≡ element_features g e → seen ≡ found → mine ≡ own_among seen e → mine ≡ own_features g e
 own_mine g e found seen mine f s m = m ∙ ap (λ x. own_among x e) (s ∙ f) ∙ own_is g e
 
+map_last : {X Y : Type 0} (f : X → Y) (ys : List X) (x : X) → map f (ys ++ x ∷ []) ≡ map f ys ++ f x ∷ []
+map_last f [] x = refl
+map_last f (y ∷ ys) x = ap (λ l. f y ∷ l) (map_last f ys x)
+
 map_turn : {X Y : Type 0} (f : X → Y) (xs : List X) (i : ℕ) (x : X) → i < length xs → x ≡ get_or xs i x → map f (take (i + 1) xs) ≡ map f (take i xs) ++ f x ∷ []
-map_turn f xs i x lt is = ap (map f) (take_more xs i x lt ∙ ap (λ y. take i xs ++ y ∷ []) (sym is)) ∙ map_last (take i xs)
-  where
-    map_last : (ys : List X) → map f (ys ++ x ∷ []) ≡ map f ys ++ f x ∷ []
-    map_last [] = refl
-    map_last (y ∷ ys) = ap (λ l. f y ∷ l) (map_last ys)
+map_turn f xs i x lt is = ap (map f) (take_more xs i x lt ∙ ap (λ y. take i xs ++ y ∷ []) (sym is)) ∙ map_last f (take i xs) x
 
 -- one more item of lists that are mapped
 pub mapped_more : {X Y : Type 0} (f : X → Y) (xs : List X) (i : ℕ) (x : X) (y : Y) (out new : List Y) → i < length xs → x ≡ get_or xs i x → y ≡ f x → out ≡ map f (take i xs) → new ≡ out ++ y ∷ [] → new ≡ map f (take (i + 1) xs)
@@ -163,31 +151,31 @@ mapped_more f xs i x y out new lt is made old more =
 
 -- features that are listed
 
-one_split : (xs : List Listed) (x one : Listed) → OneOf (xs ++ x ∷ []) one → OneOf xs one ⊎ (x ≡ one)
+one_split : (xs : List CategoryFeatures) (x one : CategoryFeatures) → OneOf (xs ++ x ∷ []) one → OneOf xs one ⊎ (x ≡ one)
 one_split [] x one (inl e) = inr e
 one_split [] x one (inr h) = absurd h
 one_split (y ∷ ys) x one (inl e) = inl (inl e)
 one_split (y ∷ ys) x one (inr h) = elim (one_split ys x one h) [ inl a ↦ inl (inr a) | inr b ↦ inr b ]
 
-pub listed_none : (g : GrammarParts) (known : List Listed) → known ≡ [] → AreListed g known
+pub listed_none : (g : GrammarParts) (known : List CategoryFeatures) → known ≡ [] → AreListed g known
 listed_none g known e one o = absurd (subst (λ l. OneOf l one) e o)
 
-pub listed_more : (g : GrammarParts) (known after : List Listed) (x : Listed) → after ≡ known ++ x ∷ [] → x.features ≡ features_of g x.name → AreListed g known → AreListed g after
+pub listed_more : (g : GrammarParts) (known after : List CategoryFeatures) (x : CategoryFeatures) → after ≡ known ++ x ∷ [] → x.features ≡ features_of g x.name → AreListed g known → AreListed g after
 listed_more g known after x e is all one o = by (one_split known x one (subst (λ l. OneOf l one) e o))
   where
     by : OneOf known one ⊎ (x ≡ one) → one.features ≡ features_of g one.name
     by (inl a) = all one a
-    by (inr same) = subst (λ (y : Listed). y.features ≡ features_of g y.name) same is
+    by (inr same) = subst (λ (y : CategoryFeatures). y.features ≡ features_of g y.name) same is
 
-listed_at : (known : List Listed) (i : ℕ) (x : Listed) → slice_get known i ≡ Some x → OneOf known x
+listed_at : (known : List CategoryFeatures) (i : ℕ) (x : CategoryFeatures) → slice_get known i ≡ Some x → OneOf known x
 listed_at [] i x h = absurd (cc)
 listed_at (y ∷ ys) zero x h = inl (same_Some y x h)
 listed_at (y ∷ ys) (suc i) x h = inr (listed_at ys i x h)
 
-pub listed_here : (known : List Listed) (i : ℕ) (x : Listed) (name : ℕ) (found : List ℕ) → i < length known → x ≡ get_or known i x → x.name ≡ name → found ≡ x.features → HasListed known name found
+pub listed_here : (known : List CategoryFeatures) (i : ℕ) (x : CategoryFeatures) (name : ℕ) (found : List ℕ) → i < length known → x ≡ get_or known i x → x.name ≡ name → found ≡ x.features → HasListed known name found
 listed_here known i x name found lt is named same =
     (x, listed_at known i x (slice_get-get_or known i x lt ∙ ap Some (sym is)), named, sym same)
 
-pub listed_is : (g : GrammarParts) (known seen : List Listed) (name : ℕ) (found : List ℕ) → seen ≡ known → AreListed g known → HasListed seen name found → found ≡ features_of g name
+pub listed_is : (g : GrammarParts) (known seen : List CategoryFeatures) (name : ℕ) (found : List ℕ) → seen ≡ known → AreListed g known → HasListed seen name found → found ≡ features_of g name
 listed_is g known seen name found e all h =
     sym h.3 ∙ all h.0 (subst (λ l. OneOf l h.0) e h.1) ∙ ap (features_of g) h.2

@@ -1,5 +1,5 @@
 -- Sentences, by the ends of `text`.
-use Rattle.std.proofs.Common.{◌≡◌, ℕ, suc, zero, ◌+◌, List, [], ◌∷◌, Bool, true, false, ◌||◌, length, map, Option, Some, None, arith, refl, sym, ap, ◌∙◌, subst, inl, inr, IsTrue, ◌↔◌}
+use Rattle.std.proofs.Common.{◌≡◌, ℕ, suc, zero, ◌+◌, List, [], ◌∷◌, ◌++◌, Bool, true, false, ◌||◌, length, map, Option, Some, None, arith, refl, sym, ap, ◌∙◌, subst, inl, inr, IsTrue, ◌↔◌}
 use Rattle.std.specs.Prelude.{◌==◌, slice_get}
 use Rattle.std.proofs.lemmas.Option.{same_Some}
 use Rattle.chart_table.specs.declared.table.Row.{Row}
@@ -20,6 +20,7 @@ use Rattle.chart_table.specs.declared.asks.Ask.TheVariants as ask
 use Rattle.chart_table.specs.Asks.{AskLeads}
 use Rattle.chart_table.specs.Aims.{Aims}
 use Rattle.chart_table.specs.Cuts.{AreCuts, CutLeads, HasCut, cut_head}
+use Rattle.derivation_trees.proofs.InstanceLemmas.{range_more}
 use Rattle.chart_table.proofs.PassLemmas.{same_number}
 use Rattle.chart_table.proofs.BranchLemmas.{number_is}
 use Rattle.chart_table.proofs.AskLemmas.{any_leads, leads_any}
@@ -115,16 +116,36 @@ begun s count asks row cuts b a n is seen h =
 
 -- one answer for each ask
 
-range_at : (f : ℕ → Bool) (first count j : ℕ) (yes : Bool) → slice_get (map f (range_with_len first count)) j ≡ Some yes → yes ≡ f (first + j)
-range_at f first zero j yes h = absurd (cc)
-range_at f first (suc n) zero yes h = let z : first ≡ first + 0 = omega arith in sym (same_Some (f first) yes h) ∙ ap f z
-range_at f first (suc n) (suc j) yes h = let z : (first + 1) + j ≡ first + suc j = omega arith in range_at f (first + 1) n j yes h ∙ ap f z
+map_last : (f : ℕ → Bool) (xs : List ℕ) (x : ℕ) → map f (xs ++ x ∷ []) ≡ map f xs ++ f x ∷ []
+map_last f [] x = refl
+map_last f (y ∷ ys) x = ap (λ l. f y ∷ l) (map_last f ys x)
 
-pub answer_is : (s : Setting) (halt : ℕ) (asks : List Ask) (row : Row) (cuts : List Cut) (count : ℕ) (follows : List Bool) → IsTextRow s (record { halt = halt; asks = asks }) row → cuts ≡ row.cuts → follows ≡ map (λ j. list_any (λ e. e.ask == j) cuts) (range_with_len 0 count) → (j : ℕ) (a : Ask) (yes : Bool) → slice_get asks j ≡ Some a → slice_get follows j ≡ Some yes → IsTrue yes ↔ AskLeads s halt a text_category first_at
-answer_is s halt asks row cuts count follows is seen e j a yes at has =
+pub follows_more : (f : ℕ → Bool) (n : ℕ) (b : Bool) (out new : List Bool) → out ≡ map f (range_with_len 0 n) → b ≡ f n → new ≡ out ++ b ∷ [] → new ≡ map f (range_with_len 0 (n + 1))
+follows_more f n b out new old is more =
+    let last : 0 + n ≡ n = omega arith in
+    more ∙ ap (λ o. o ++ b ∷ []) old ∙ ap (λ x. map f (range_with_len 0 n) ++ x ∷ []) (is ∙ ap f (sym last)) ∙ sym (ap (map f) (range_more 0 n) ∙ map_last f (range_with_len 0 n) (0 + n))
+
+range_at : (f : ℕ → Bool) (first count j : ℕ) (yes : Bool) → slice_get (map f (range_with_len first count)) j ≡ Some yes → yes ≡ f (first + j)
+range_at f first zero j b h = absurd (cc)
+range_at f first (suc n) zero b h = let z : first ≡ first + 0 = omega arith in sym (same_Some (f first) b h) ∙ ap f z
+range_at f first (suc n) (suc j) b h = let z : (first + 1) + j ≡ first + suc j = omega arith in range_at f (first + 1) n j b h ∙ ap f z
+
+range_length : (first count : ℕ) → length (range_with_len first count) ≡ count
+range_length first zero = refl
+range_length first (suc n) = ap suc (range_length (first + 1) n)
+
+map_length : (f : ℕ → Bool) (xs : List ℕ) → length (map f xs) ≡ length xs
+map_length f [] = refl
+map_length f (x ∷ xs) = ap suc (map_length f xs)
+
+pub answer_count : (f : ℕ → Bool) (count : ℕ) (follows : List Bool) → follows ≡ map f (range_with_len 0 count) → length follows ≡ count
+answer_count f count follows e = ap length e ∙ map_length f (range_with_len 0 count) ∙ range_length 0 count
+
+pub answer_is : (s : Setting) (halt : ℕ) (asks : List Ask) (row : Row) (cuts : List Cut) (count : ℕ) (follows : List Bool) → IsTextRow s (record { halt = halt; asks = asks }) row → cuts ≡ row.cuts → follows ≡ map (λ j. list_any (λ e. e.ask == j) cuts) (range_with_len 0 count) → (j : ℕ) (a : Ask) (told : Bool) → slice_get asks j ≡ Some a → slice_get follows j ≡ Some told → IsTrue told ↔ AskLeads s halt a text_category first_at
+answer_is s halt asks row cuts count follows is seen e j a b at has =
     let aim : Aims = record { halt = halt; asks = asks } in
-    let told_is : yes ≡ list_any (λ x. x.ask == j) row.cuts = range_at (λ k. list_any (λ x. x.ask == k) cuts) 0 count j yes (ap (λ l. slice_get l j) (sym e) ∙ has) ∙ ap (λ k. list_any (λ x. x.ask == k) cuts) (let z : 0 + j ≡ j = omega arith in z) ∙ ap (list_any (λ x. x.ask == j)) seen in
-    let both = asked_for s aim row j yes is told_is in (
-      λ t. let led = both.0 t in subst (λ b. AskLeads s halt b text_category first_at) (same_Some led.0 a (sym led.1 ∙ at)) led.2,
+    let told_is : b ≡ list_any (λ x. x.ask == j) row.cuts = range_at (λ k. list_any (λ x. x.ask == k) cuts) 0 count j b (ap (λ l. slice_get l j) (sym e) ∙ has) ∙ ap (λ k. list_any (λ x. x.ask == k) cuts) (let z : 0 + j ≡ j = omega arith in z) ∙ ap (list_any (λ x. x.ask == j)) seen in
+    let both = asked_for s aim row j b is told_is in (
+      λ t. let led = both.0 t in subst (λ x. AskLeads s halt x text_category first_at) (same_Some led.0 a (sym led.1 ∙ at)) led.2,
       λ led. both.1 (a, at, led),
     )

@@ -128,7 +128,7 @@ IsPossible s rule bound = (v : List (ℕ × Value)) × (is_instance s rule v ≡
 
 -- the property holds with one of the first so many items
 abbrev pub OneBefore : {X : Type 0} → List X → (ℕ → X → ℕ → List (ℕ × Value) → Type 0) → ℕ → ℕ → List (ℕ × Value) → Type 0
-OneBefore {X} xs P count j v = (k : ℕ) × (k < count) × ((x : X) × (slice_get xs k ≡ Some x) × P k x j v)
+OneBefore {X = X} xs P count j v = (k : ℕ) × (k < count) × ((x : X) × (slice_get xs k ≡ Some x) × P k x j v)
 
 -- the assignments under which the element takes a token that reads so
 abbrev pub reading_binds : Ground → Element → List (ℕ × Value) → List (List (ℕ × Value))

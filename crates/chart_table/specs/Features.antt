@@ -5,7 +5,7 @@ use Rattle.codeco_terms.specs.declared.elements.Element.TheVariants.{Terminal, P
 use Rattle.codeco_terms.specs.GrammarParts.{GrammarParts}
 use Rattle.codeco_checked.specs.Numbering.{has}
 use Rattle.derivation_trees.specs.Instances.{features_of}
-use Rattle.chart_table.specs.declared.features.Listed.{Listed}
+use Rattle.chart_table.specs.declared.features.CategoryFeatures.{CategoryFeatures}
 use Rattle.chart_table.specs.Branches.{OneOf}
 
 -- the features of the category that the element introduces
@@ -33,9 +33,9 @@ own_among features (Back positive negative) = []
 own_among features (NoBack patterns) = []
 
 -- the features are those that are listed for the category
-abbrev pub HasListed : List Listed → ℕ → List ℕ → Type 0
-HasListed known name features = (one : Listed) × OneOf known one × (one.name ≡ name) × (one.features ≡ features)
+abbrev pub HasListed : List CategoryFeatures → ℕ → List ℕ → Type 0
+HasListed known name features = (one : CategoryFeatures) × OneOf known one × (one.name ≡ name) × (one.features ≡ features)
 
 -- what is listed are the features of categories
-abbrev pub AreListed : GrammarParts → List Listed → Type 0
-AreListed g known = (one : Listed) → OneOf known one → one.features ≡ features_of g one.name
+abbrev pub AreListed : GrammarParts → List CategoryFeatures → Type 0
+AreListed g known = (one : CategoryFeatures) → OneOf known one → one.features ≡ features_of g one.name

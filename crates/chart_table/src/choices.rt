@@ -1,15 +1,15 @@
 // The values that a variable of a rule can have at the tokens.
-ghost use Rattle.std.specs.Prelude.{◌≡◌, ◌+◌, ◌-◌, [], ◌∷◌, ◌++◌, map, length, Some, None, option_map, slice_get, IfOk, OnOk};
+ghost use Rattle.std.specs.Prelude.{◌≡◌, ◌<◌, ◌+◌, ◌-◌, [], ◌∷◌, ◌++◌, map, length, Some, None, option_map, slice_get, IfOk, OnOk};
 ghost use Rattle.std.specs.List.{flat_map, range_with_len};
 ghost use Rattle.codeco_checked.specs.Numbering.{has};
 ghost use Rattle.codeco_checked.specs.Occurrences.{positions};
 ghost use Rattle.derivation_trees.specs.Instances as instances;
 ghost use Rattle.chart_table.specs.Branches.{marked};
 ghost use Rattle.chart_table.specs.Choices as choosing;
-ghost use Rattle.chart_table.specs.Features as features;
+ghost use Rattle.chart_table.specs.Features as listing;
 
 use crate::branches::values_at;
-use crate::features::{Listed, owned_by};
+use crate::features::{CategoryFeatures, owned_by};
 use crate::states::Feat;
 use codeco_terms::{Declared, Element, Grammar, Ground, Pattern, Rule, Term, Value};
 use derivation_scenes::Scene;
@@ -137,10 +137,10 @@ fn bare_plan(
     alloc: Global,
     grammar: &Grammar,
     rule: &Rule,
-    known: &mut List<Listed>,
+    known: &mut List<CategoryFeatures>,
 ) -> Result<Plan, Memory>
-    requires { features.AreListed grammar.now known.old }
-    ensures known { OnOk result (features.AreListed grammar.now known.new) }
+    requires { listing.AreListed grammar.now known.old }
+    ensures known { OnOk result (listing.AreListed grammar.now known.new) }
     ensures plan { IfOk result (λ plan. choosing.IsPlanOf grammar.now rule.now plan) }
 {
     let body = rule.body.as_slice();
@@ -204,10 +204,10 @@ fn plan_of(
     alloc: Global,
     grammar: &Grammar,
     rule: &Rule,
-    known: &mut List<Listed>,
+    known: &mut List<CategoryFeatures>,
 ) -> Result<Plan, Memory>
-    requires { features.AreListed grammar.now known.old }
-    ensures known { OnOk result (features.AreListed grammar.now known.new) }
+    requires { listing.AreListed grammar.now known.old }
+    ensures known { OnOk result (listing.AreListed grammar.now known.new) }
     ensures plan { IfOk result (λ plan. choosing.IsPlanOf grammar.now rule.now plan) }
 {
     let mut plan = bare_plan(alloc, grammar, rule, known)?;
@@ -225,6 +225,30 @@ pub fn plans_of(alloc: Global, grammar: &Grammar) -> Result<List<Plan>, Memory>
         plans.push(plan_of(alloc, grammar, rule, &mut known)?)?;
     }
     Ok(plans)
+}
+
+/// The plan of the rule with the number.
+pub fn plan_for<'a>(plans: &'a [Plan], number: usize) -> &'a Plan
+    requires { number < length plans.now }
+    ensures { slice_get plans.now number ≡ Some result.now }
+{
+    &plans[number]
+}
+
+// The features of the category that the element with the number introduces.
+pub(crate) fn features_at<'a>(plan: &'a Plan, place: usize) -> &'a [u16]
+    requires { place < length plan.now.features }
+    ensures { slice_get plan.now.features place ≡ Some result.now }
+{
+    plan.features.get(place).as_slice()
+}
+
+// How many own variables the element with the number has.
+pub(crate) fn count_at(plan: &Plan, place: usize) -> usize
+    requires { place < length plan.now.counts }
+    ensures { slice_get plan.now.counts place ≡ Some result }
+{
+    *plan.counts.get(place)
 }
 
 // Adds the words of readings.

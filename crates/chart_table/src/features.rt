@@ -1,9 +1,9 @@
 // The features of introductions, looked up once for each category.
-ghost use Rattle.std.specs.Prelude.{◌≡◌, ◌++◌, filter, map, not, length, All, IfOk, IfSome, OnOk};
+ghost use Rattle.std.specs.Prelude.{◌≡◌, filter, map, not, length, All, IfOk, IfSome, OnOk};
 ghost use Rattle.std.specs.List.{flat_map};
 ghost use Rattle.codeco_checked.specs.Numbering.{has};
 ghost use Rattle.derivation_trees.specs.Instances as instances;
-ghost use Rattle.chart_table.specs.Features as features;
+ghost use Rattle.chart_table.specs.Features as listing;
 
 use codeco_terms::{Element, Grammar, Term};
 use derivation_trees::features_of;
@@ -13,7 +13,7 @@ use wiki_base::Memory;
 
 // A category with its features.
 #[derive(Drop)]
-pub(crate) struct Listed {
+pub(crate) struct CategoryFeatures {
     pub(crate) name: u16,
     pub(crate) features: List<u16>,
 }
@@ -38,8 +38,8 @@ fn copy_numbers(alloc: Global, numbers: &[u16]) -> Result<List<u16>, Memory>
 }
 
 // The features of the category, if they were looked up before.
-fn listed(alloc: Global, known: &[Listed], name: u16) -> Result<Option<List<u16>>, Memory>
-    ensures { IfOk result (λ found. IfSome found (features.HasListed known.now name)) }
+fn listed(alloc: Global, known: &[CategoryFeatures], name: u16) -> Result<Option<List<u16>>, Memory>
+    ensures { IfOk result (λ found. IfSome found (listing.HasListed known.now name)) }
 {
     for one in known {
         if one.name == name {
@@ -55,10 +55,10 @@ fn features_for(
     alloc: Global,
     grammar: &Grammar,
     name: u16,
-    known: &mut List<Listed>,
+    known: &mut List<CategoryFeatures>,
 ) -> Result<List<u16>, Memory>
-    requires { features.AreListed grammar.now known.old }
-    ensures known { OnOk result (features.AreListed grammar.now known.new) }
+    requires { listing.AreListed grammar.now known.old }
+    ensures known { OnOk result (listing.AreListed grammar.now known.new) }
     ensures features { IfOk result (λ found. found ≡ instances.features_of grammar.now name) }
 {
     if let Some(found) = listed(alloc, known.as_slice(), name)? {
@@ -66,7 +66,7 @@ fn features_for(
     }
     let found = List::from_vec(features_of(alloc, grammar, name)?);
     let copied = copy_numbers(alloc, found.as_slice())?;
-    known.push(Listed {
+    known.push(CategoryFeatures {
         name,
         features: copied,
     })?;
@@ -78,11 +78,11 @@ fn element_features(
     alloc: Global,
     grammar: &Grammar,
     element: &Element,
-    known: &mut List<Listed>,
+    known: &mut List<CategoryFeatures>,
 ) -> Result<List<u16>, Memory>
-    requires { features.AreListed grammar.now known.old }
-    ensures known { OnOk result (features.AreListed grammar.now known.new) }
-    ensures features { IfOk result (λ found. found ≡ features.element_features grammar.now element.now) }
+    requires { listing.AreListed grammar.now known.old }
+    ensures known { OnOk result (listing.AreListed grammar.now known.new) }
+    ensures features { IfOk result (λ found. found ≡ listing.element_features grammar.now element.now) }
 {
     match element {
         Element::Forward(category) | Element::Strong(category) => {
@@ -92,17 +92,18 @@ fn element_features(
     }
 }
 
-// Adds those of the features that aren't written.
-fn push_others(features: &[u16], feats: &[(u16, Term)], own: &mut List<u16>) -> Result<(), Memory>
-    ensures { OnOk result
-        (own.new ≡ own.old ++ filter (λ f. not (has (map (λ p. p.0) feats.now) f)) features.now) }
+// Those of the features that aren't written.
+fn others(alloc: Global, features: &[u16], feats: &[(u16, Term)]) -> Result<List<u16>, Memory>
+    ensures { IfOk result
+        (λ own. own ≡ filter (λ f. not (has (map (λ p. p.0) feats.now) f)) features.now) }
 {
+    let mut own = List::new(alloc);
     for feature in features {
         if !writes(feats, *feature) {
             own.push(*feature)?;
         }
     }
-    Ok(())
+    Ok(own)
 }
 
 // Whether the feature is written.
@@ -119,15 +120,13 @@ fn writes(feats: &[(u16, Term)], feature: u16) -> bool
 
 // The features of the element's own variables, by the features of the category that it introduces.
 fn own_features(alloc: Global, features: &[u16], element: &Element) -> Result<List<u16>, Memory>
-    ensures { IfOk result (λ own. own ≡ features.own_among features.now element.now) }
+    ensures { IfOk result (λ own. own ≡ listing.own_among features.now element.now) }
 {
-    let mut own = List::new(alloc);
     match element {
         Element::Forward(category) | Element::Strong(category) => {
-            push_others(features, category.feats.as_slice(), &mut own)?;
-            Ok(own)
+            others(alloc, features, category.feats.as_slice())
         }
-        _ => Ok(own),
+        _ => Ok(List::new(alloc)),
     }
 }
 
@@ -137,11 +136,11 @@ pub(crate) fn owned_by(
     alloc: Global,
     grammar: &Grammar,
     body: &[Element],
-    known: &mut List<Listed>,
+    known: &mut List<CategoryFeatures>,
 ) -> Result<Owned, Memory>
-    requires { features.AreListed grammar.now known.old }
-    ensures known { OnOk result (features.AreListed grammar.now known.new) }
-    ensures features { IfOk result (λ owned. owned.features ≡ map (features.element_features grammar.now) body.now) }
+    requires { listing.AreListed grammar.now known.old }
+    ensures known { OnOk result (listing.AreListed grammar.now known.new) }
+    ensures features { IfOk result (λ owned. owned.features ≡ map (listing.element_features grammar.now) body.now) }
     ensures own { IfOk result (λ owned. owned.own ≡ flat_map (instances.own_features grammar.now) body.now) }
     ensures counts { IfOk result
         (λ owned. owned.counts ≡ map (λ e. length (instances.own_features grammar.now e)) body.now) }

@@ -16,7 +16,7 @@ mod steps;
 mod table;
 
 pub use asks::Ask;
-pub use choices::{Plan, plans_of};
+pub use choices::{Plan, plan_for, plans_of};
 pub use ends::{is_instance, tail_of};
 pub use instances::leading_instances;
 pub use sameness::{same_entries, same_values};

@@ -18,7 +18,7 @@ ghost use Rattle.chart_table.specs.declared.states.State.{State as OneState};
 ghost use Rattle.chart_table.specs.declared.table.Row.{Row as OneRow};
 
 use crate::branches::{known_features, meet};
-use crate::choices::Plan;
+use crate::choices::{Plan, count_at, features_at, plan_for};
 use crate::cuts::{push_cuts_here, push_cuts_within};
 use crate::ends::finished;
 use crate::sameness::{same_end, same_entries, same_values};
@@ -307,23 +307,13 @@ fn category_ends(
     ensures ends { IfOk result (λ ends. ending.IsEnds setting.now name known.now (record { place = place; list = start.now }) ends) }
     ensures cuts { OnOk result (cutting.AreCuts setting.now aim.now name known.now (record { place = place; list = start.now }) cuts.new) }
 {
+    let rules = setting.grammar.rules().as_slice();
     let mut ends = List::new(alloc);
-    for (number, rule) in setting.grammar.rules().as_slice().iter().enumerate() {
+    for (number, rule) in rules.iter().enumerate() {
+        let plan = plan_for(plans, number);
         push_named(
-            alloc,
-            setting,
-            aim,
-            plans,
-            rows,
-            depth,
-            name,
-            rule,
-            &plans[number],
-            known,
-            place,
-            start,
-            &mut ends,
-            cuts,
+            alloc, setting, aim, plans, rows, depth, name, rule, plan, known, place, start,
+            &mut ends, cuts,
         )?;
     }
     Ok(ends)
@@ -453,6 +443,7 @@ pub(crate) fn last_states(
             states.as_slice(),
             cuts,
         )?;
+        let features = features_at(plan, place);
         states = next_states(
             alloc,
             setting,
@@ -463,12 +454,12 @@ pub(crate) fn last_states(
             rule,
             plan,
             number,
-            plan.features.get(place).as_slice(),
+            features,
             element,
             states.as_slice(),
             cuts,
         )?;
-        number = add_count(number, *plan.counts.get(place))?;
+        number = add_count(number, count_at(plan, place))?;
     }
     Ok(states)
 }

@@ -17,7 +17,7 @@ ghost use Rattle.chart_trees.specs.Tables as tabled;
 use crate::outcomes::{Outcome, push_ended};
 use crate::paths::{Path, opened, push_joined, push_passed};
 use chart_table::{
-    Plan, Row, access_of, leading_instances, referents_of, same_entries, same_values,
+    Plan, Row, access_of, leading_instances, plan_for, referents_of, same_entries, same_values,
 };
 use codeco_terms::{Category, Element, Rule, Value};
 use derivation_scenes::Scene;
@@ -57,12 +57,14 @@ fn same_test(one: &Test, other: &Test) -> bool
     one.name == other.name && same_values(one.values.as_slice(), other.values.as_slice())
 }
 
-// The number of the row, if it is there.
+// The number of the row, if it is there. The newest rows are looked at first.
 fn find(rows: &[Best], asked: &Test, place: u16, list: &[Entry]) -> Option<usize>
     ensures { IfSome result (λ number. tabled.IsFound rows.now number asked.now place list.now) }
 {
-    for (number, row) in rows.iter().enumerate() {
-        if is_row(row, asked, place, list) {
+    let mut number = rows.len();
+    while number > 0 {
+        number -= 1;
+        if is_row(&rows[number], asked, place, list) {
             return Some(number);
         }
     }
@@ -195,22 +197,13 @@ fn all_outcomes(
     ensures tables { OnOk result (tabled.AreTables setting.now tables.new) }
     ensures best { IfOk result (ends.IsBest setting.now asked.now (record { place = place; list = start.now })) }
 {
+    let rules = setting.grammar.rules().as_slice();
     let mut out = List::new(alloc);
     let mut number: u16 = 1;
-    for (index, rule) in setting.grammar.rules().as_slice().iter().enumerate() {
+    for (index, rule) in rules.iter().enumerate() {
+        let plan = plan_for(plans, index);
         push_named(
-            alloc,
-            setting,
-            plans,
-            tables,
-            depth,
-            asked,
-            number,
-            rule,
-            &plans[index],
-            place,
-            start,
-            &mut out,
+            alloc, setting, plans, tables, depth, asked, number, rule, plan, place, start, &mut out,
         )?;
         number = next_number(number)?;
     }

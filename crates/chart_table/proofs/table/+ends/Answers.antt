@@ -4,11 +4,12 @@ use Rattle.chart_table.proofs.TurnLemmas.{steps_turn, steps_done}
 use Rattle.chart_table.proofs.TableLemmas.{row_below}
 use Rattle.chart_table.proofs.CutLemmas.{after_none}
 use Rattle.chart_table.proofs.HeadLemmas.{cut_before_none, heads_turn, heads_done, among_none, enters_not, all_after_last, rule_cut, cut_rule_turn, start_cuts}
-use Rattle.chart_table.proofs.CycleLemmas.{row_found, row_returned, rows_returned, finished_same, start_steps, start_rules, rule_turn, rules_done, cuts_done, rule_pushed, after_turn, after_done, cut_turn, cut_done, plain_state, category_returned, category_cut, not_category}
+use Rattle.chart_table.proofs.CycleLemmas.{row_found, row_returned, rows_returned, finished_same, start_steps, start_rules, rule_turn, rules_done, cuts_done, rule_pushed, after_turn, after_done, cut_turn, cut_done, plain_state, category_returned, category_cut, heads_same, not_category}
 use Rattle.chart_table.specs.Steps.{starting}
 use Rattle.chart_table.specs.Branches.{known_features}
 use Rattle.chart_table.specs.Cuts.{HasHeads, Among, Halts, Enters}
-use Rattle.chart_table.proofs.PlanLemmas.{plan_there, plan_at, count_there, count_is}
+use Rattle.codeco_terms.specs.declared.elements.Element.TheVariants.{Sub}
+use Rattle.chart_table.proofs.PlanLemmas.{plan_there, plan_is, count_there, count_is, features_there, features_are}
 use Rattle.chart_table.proofs.IdleLemmas.{idle_ends, idle_cuts}
 use Rattle.chart_table.proofs.table.+ends.Goals as goal
 
@@ -22,17 +23,17 @@ category_ends-loop-number-init t c = record {
 pub category_ends-loop-number-preserved : goal.category_ends-loop-number-preserved
 category_ends-loop-number-preserved t c = record {
   rows = c.in_ok-push_named.ensures.rows;
-  ends = rule_turn c.args.setting.now c.args.name c.args.known.now (record { place = c.args.place; list = c.args.start.now }) c.as_slice-rule-items.result.now c.loop-number.number c.rule-item.result c.loop-number.ends c.push_named.new.ends (search rules) c.loop-number-test.true c.rule-item.is c.loop-number.invariant.ends c.in_ok-push_named.ensures.ends;
-  cuts = cut_rule_turn c.args.setting.now c.args.aim.now c.args.name c.args.known.now (record { place = c.args.place; list = c.args.start.now }) c.as_slice-rule-items.result.now c.loop-number.number c.rule-item.result c.loop-number.cuts c.push_named.new.cuts (search rules) c.loop-number-test.true c.rule-item.is c.loop-number.invariant.cuts c.in_ok-push_named.ensures.cuts;
+  ends = rule_turn c.args.setting.now c.args.name c.args.known.now (record { place = c.args.place; list = c.args.start.now }) c.as_slice-rules.result.now c.loop-number.number c.index-rules-number.result c.loop-number.ends c.push_named.new.ends (search rules) c.loop-number-test.true c.index-rules-number.is c.loop-number.invariant.ends c.in_ok-push_named.ensures.ends;
+  cuts = cut_rule_turn c.args.setting.now c.args.aim.now c.args.name c.args.known.now (record { place = c.args.place; list = c.args.start.now }) c.as_slice-rules.result.now c.loop-number.number c.index-rules-number.result c.loop-number.cuts c.push_named.new.cuts (search rules) c.loop-number-test.true c.index-rules-number.is c.loop-number.invariant.cuts c.in_ok-push_named.ensures.cuts;
 }
 
 pub category_ends-returns-clause-ends : goal.category_ends-returns-clause-ends
 category_ends-returns-clause-ends t c =
-    rules_done c.args.setting.now c.args.name c.args.known.now (record { place = c.args.place; list = c.args.start.now }) c.as_slice-rule-items.result.now c.loop-number.number c.loop-number.ends (search rules) c.loop-number-test.false (omega arith) c.loop-number.invariant.ends
+    rules_done c.args.setting.now c.args.name c.args.known.now (record { place = c.args.place; list = c.args.start.now }) c.as_slice-rules.result.now c.loop-number.number c.loop-number.ends (search rules) c.loop-number-test.false (omega arith) c.loop-number.invariant.ends
 
 pub category_ends-returns-clause-cuts : goal.category_ends-returns-clause-cuts
 category_ends-returns-clause-cuts t c =
-    cuts_done c.args.setting.now c.args.aim.now c.args.name c.args.known.now (record { place = c.args.place; list = c.args.start.now }) c.as_slice-rule-items.result.now c.loop-number.number c.loop-number.cuts (search rules) c.loop-number-test.false (omega arith) c.loop-number.invariant.cuts
+    cuts_done c.args.setting.now c.args.aim.now c.args.name c.args.known.now (record { place = c.args.place; list = c.args.start.now }) c.as_slice-rules.result.now c.loop-number.number c.loop-number.cuts (search rules) c.loop-number-test.false (omega arith) c.loop-number.invariant.cuts
 
 pub row_of-returns-in-Some-clause-row : goal.row_of-returns-in-Some-clause-row
 row_of-returns-in-Some-clause-row t c =
@@ -66,8 +67,8 @@ last_states-loop-place-init t c = record {
 pub last_states-loop-place-preserved : goal.last_states-loop-place-preserved
 last_states-loop-place-preserved t c = record {
   rows = c.in_ok-states.ensures.rows;
-  after = after_turn c.args.setting.now c.args.rule.now c.args.starts c.loop-place.number c.in_ok-number.number c.loop-place.place c.get.result.now c.as_slice-body.result.now c.element-item.result c.loop-place.states c.as_slice-in-loop-place.result.now c.in_ok-states.states c.as_slice-body.ensures c.as_slice-in-loop-place.ensures c.loop-place-test.true c.element-item.is c.loop-place.invariant.after c.in_ok-states.ensures.steps (count_is c.args.setting.now c.args.rule.now c.args.plan.now c.as_slice-body.result.now c.loop-place.place c.element-item.result c.get.result.now c.requires.plan c.as_slice-body.ensures c.loop-place-test.true c.element-item.is c.get.ensures) c.in_ok-number.ensures;
-  cuts = cut_turn c.args.setting.now c.args.aim.now c.args.rule.now c.args.starts c.loop-place.number c.loop-place.place c.as_slice-body.result.now c.element-item.result c.loop-place.states c.as_slice.result.now c.as_slice-in-loop-place.result.now c.args.cuts.now c.loop-place.cuts c.push_cuts_here.new.cuts c.next_states.new.cuts c.as_slice-body.ensures c.as_slice.ensures c.as_slice-in-loop-place.ensures c.loop-place-test.true c.element-item.is c.loop-place.invariant.after c.loop-place.invariant.cuts c.in_ok-push_cuts_here.ensures c.in_ok-states.ensures.cuts;
+  after = after_turn c.args.setting.now c.args.rule.now c.args.starts c.loop-place.number c.in_ok-number.number c.loop-place.place c.count_at.result c.as_slice-body.result.now c.index-body-place.result c.loop-place.states c.as_slice-in-loop-place.result.now c.in_ok-states.states c.as_slice-body.ensures c.as_slice-in-loop-place.ensures c.loop-place-test.true c.index-body-place.is c.loop-place.invariant.after c.in_ok-states.ensures.steps (count_is c.args.setting.now c.args.rule.now c.args.plan.now c.as_slice-body.result.now c.loop-place.place c.index-body-place.result c.count_at.result c.requires.plan c.as_slice-body.ensures c.loop-place-test.true c.index-body-place.is c.count_at.ensures) c.in_ok-number.ensures;
+  cuts = cut_turn c.args.setting.now c.args.aim.now c.args.rule.now c.args.starts c.loop-place.number c.loop-place.place c.as_slice-body.result.now c.index-body-place.result c.loop-place.states c.as_slice.result.now c.as_slice-in-loop-place.result.now c.args.cuts.now c.loop-place.cuts c.push_cuts_here.new.cuts c.next_states.new.cuts c.as_slice-body.ensures c.as_slice.ensures c.as_slice-in-loop-place.ensures c.loop-place-test.true c.index-body-place.is c.loop-place.invariant.after c.loop-place.invariant.cuts c.in_ok-push_cuts_here.ensures c.in_ok-states.ensures.cuts;
 }
 
 pub last_states-returns-clause-last : goal.last_states-returns-clause-last
@@ -135,5 +136,33 @@ pub push_rule-returns-then-not-may_go-clause-cuts : goal.push_rule-returns-then-
 push_rule-returns-then-not-may_go-clause-cuts t c =
     idle_cuts c.args.setting.now c.args.aim.now c.args.rule.now c.args.known.now (record { place = c.args.place; list = c.args.start.now }) c.args.cuts.now (c.may_go.ensures c.if-not-may_go.true)
 
-pub last_states-next_states-requires-clause-features : goal.last_states-next_states-requires-clause-features
-last_states-next_states-requires-clause-features t c = ?
+pub last_states-features_at-features-requires : goal.last_states-features_at-features-requires
+last_states-features_at-features-requires t c =
+    features_there c.args.setting.now c.args.rule.now c.args.plan.now c.as_slice-body.result.now c.loop-place.place c.requires.plan c.as_slice-body.ensures c.loop-place-test.true
+
+pub last_states-count_at-requires : goal.last_states-count_at-requires
+last_states-count_at-requires t c =
+    count_there c.args.setting.now c.args.rule.now c.args.plan.now c.as_slice-body.result.now c.loop-place.place c.requires.plan c.as_slice-body.ensures c.loop-place-test.true
+
+pub last_states-next_states-requires : goal.last_states-next_states-requires
+last_states-next_states-requires t c = record {
+  rows = c.loop-place.invariant.rows;
+  plans = c.requires.plans;
+  plan = c.requires.plan;
+  features = features_are c.args.setting.now c.args.rule.now c.args.plan.now c.as_slice-body.result.now c.loop-place.place c.index-body-place.result c.features_at-features.result.now c.requires.plan c.as_slice-body.ensures c.loop-place-test.true c.index-body-place.is c.features_at-features.ensures;
+}
+
+pub category_ends-plan_for-plan-requires : goal.category_ends-plan_for-plan-requires
+category_ends-plan_for-plan-requires t c =
+    plan_there c.args.setting.now c.as_slice-rules.result.now c.loop-number.number c.args.plans.now (search rules) c.loop-number-test.true c.requires.plans
+
+pub category_ends-push_named-requires : goal.category_ends-push_named-requires
+category_ends-push_named-requires t c = record {
+  rows = c.loop-number.invariant.rows;
+  plans = c.requires.plans;
+  plan = plan_is c.args.setting.now c.as_slice-rules.result.now c.loop-number.number c.index-rules-number.result c.plan_for-plan.result.now c.args.plans.now (search rules) c.loop-number-test.true c.index-rules-number.is c.plan_for-plan.ensures c.requires.plans;
+}
+
+pub push_state-returns-in_ok-push_category-in-Sub-clause-cuts : goal.push_state-returns-in_ok-push_category-in-Sub-clause-cuts
+push_state-returns-in_ok-push_category-in-Sub-clause-cuts t c =
+    heads_same c.args.setting.now c.args.aim.now c.args.rule.now c.args.element.now (Sub c.in-Sub.category) c.args.state.now c.args.cuts.now c.push_category.new.cuts c.in-Sub.is c.in_ok-push_category-in-Sub.ensures.cuts

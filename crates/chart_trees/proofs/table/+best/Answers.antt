@@ -8,6 +8,7 @@ use Rattle.derivation_trees.specs.Derives.{At}
 use Rattle.chart_trees.proofs.WayLemmas.{steps_none, steps_turn, steps_done, reached_first, reached_turn, reached_done}
 use Rattle.chart_trees.proofs.OutcomeLemmas.{instance_trees, no_trees, trees_none, trees_turn, trees_done, rule_trees, other_trees, up_to_none, up_to_turn, up_to_done}
 use Rattle.chart_trees.proofs.TableLemmas.{row_found, tables_more, row_new, row_below, plain_pushed, steps_same, child_pushed}
+use Rattle.chart_table.proofs.PlanLemmas.{plan_there, plan_is}
 use Rattle.chart_trees.proofs.table.+best.Goals as goal
 
 pub best_of-returns-in-Some-clause-row : goal.best_of-returns-in-Some-clause-row
@@ -38,7 +39,14 @@ all_outcomes-loop-index-preserved t c = record {
 
 pub all_outcomes-returns-clause-best : goal.all_outcomes-returns-clause-best
 all_outcomes-returns-clause-best t c =
-    up_to_done c.args.setting.now c.args.asked.now (record { place = c.args.place; list = c.args.start.now }) c.loop-index.index c.as_slice-rule-items.result.now c.loop-index.out (search rules) c.loop-index-test.false c.loop-index.invariant.trees
+    up_to_done c.args.setting.now c.args.asked.now (record { place = c.args.place; list = c.args.start.now }) c.loop-index.index c.as_slice-rules.result.now c.loop-index.out (search rules) c.loop-index-test.false c.loop-index.invariant.trees
+
+pub all_outcomes-plan_for-plan-requires : goal.all_outcomes-plan_for-plan-requires
+all_outcomes-plan_for-plan-requires t c =
+    plan_there c.args.setting.now c.as_slice-rules.result.now c.loop-index.index c.args.plans.now (search rules) c.loop-index-test.true c.requires.plans
+
+pub all_outcomes-push_named-requires : goal.all_outcomes-push_named-requires
+all_outcomes-push_named-requires t c = ?
 
 pub push_named-returns-clause-trees : goal.push_named-returns-clause-trees
 push_named-returns-clause-trees t c =

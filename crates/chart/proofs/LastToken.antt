@@ -1,6 +1,6 @@
 -- The last token: cut-off nodes that take it are those that ask for it, with it taken.
-use Rattle.std.proofs.Common.{◌≡◌, ℕ, suc, zero, ◌+◌, ◌<◌, ◌≤◌, List, [], ◌∷◌, ◌++◌, Bool, true, false, ◌&&◌, ◌||◌, length, take, Option, Some, None, refl, sym, ap, ◌∙◌, subst, arith, ◌⊎◌, inl, inr, ◌↔◌, take-take}
-use Rattle.std.specs.Prelude.{if◌then◌else◌, ◌==◌, option_and_then, option_map, slice_get}
+use Rattle.std.proofs.Common.{◌≡◌, ℕ, suc, zero, ◌+◌, ◌<◌, ◌≤◌, List, [], ◌∷◌, Bool, true, false, ◌&&◌, ◌||◌, length, take, Option, Some, None, refl, sym, ap, ◌∙◌, subst, arith, ◌⊎◌, inl, inr, take-take}
+use Rattle.std.specs.Prelude.{option_and_then, slice_get}
 use Rattle.std.specs.Option.{option_map_or}
 use Rattle.std.specs.List.{list_any}
 use Rattle.std.proofs.lemmas.Bool.{cases_lt}
@@ -26,9 +26,9 @@ use Rattle.chart_table.specs.declared.asks.Ask.{Ask}
 use Rattle.chart_table.specs.declared.asks.Ask.TheVariants as ask
 use Rattle.chart_table.specs.Leading.{ElementLeads, Path, own_past, moved_on}
 use Rattle.chart_table.specs.Branches.{OneOf}
-use Rattle.chart_table.specs.Asks.{takes_terminal, takes_reading, meets, is_met, CutMeets, AskLeads, TokenMeets, Follows}
+use Rattle.chart_table.specs.Asks.{takes_terminal, takes_reading, meets, CutMeets, AskLeads, TokenMeets, Follows}
 use Rattle.chart_table.proofs.PassLemmas.{if_some, unless_some, both_true, same_number, passed, stand_at}
-use Rattle.chart_table.proofs.AskLemmas.{place_some, all_used, front_is, met_in, ask_of_rule, leads_any, any_leads}
+use Rattle.chart_table.proofs.AskLemmas.{place_some, all_used, front_is, met_in, ask_of_rule, leads_any}
 
 -- a property of all phrases
 

@@ -1,10 +1,8 @@
 -- What is found, put in order, is the menu.
-use Rattle.std.proofs.Common.{◌≡◌, ℕ, suc, zero, ◌+◌, ◌<◌, ◌≤◌, List, [], ◌∷◌, ◌++◌, Bool, true, false, ◌&&◌, ◌||◌, map, filter, length, get_or, Some, None, ◌⊎◌, inl, inr, refl, sym, ap, ◌∙◌, subst, arith, IsTrue, ◌↔◌, All}
-use Rattle.std.specs.Prelude.{if◌then◌else◌, ◌==◌, slice_get, slice_index_or, IsUtf8}
-use Rattle.std.specs.List.{list_any, flat_map}
+use Rattle.std.proofs.Common.{◌≡◌, ℕ, suc, zero, ◌+◌, ◌<◌, List, [], ◌∷◌, ◌++◌, Bool, true, false, ◌||◌, map, filter, length, Some, ◌⊎◌, inl, inr, refl, sym, ap, ◌∙◌, subst, arith}
+use Rattle.std.specs.Prelude.{if◌then◌else◌, slice_get, slice_index_or}
 use Rattle.std.specs.Str.{bytes_eq}
-use Rattle.std.specs.declared.cmp.Ordering.{Ordering}
-use Rattle.std.specs.declared.cmp.Ordering.TheVariants.{Less, Equal, Greater}
+use Rattle.std.specs.declared.cmp.Ordering.TheVariants.{Less, Greater}
 use Rattle.std.specs.Ordering.{ordering_reverse}
 use Rattle.std.specs.List.Sorted.{IsPermutation}
 use Rattle.std.specs.Borrow.{Bor}
@@ -24,18 +22,17 @@ use Rattle.derivation_trees.specs.declared.menus.Group.TheVariants.{Function}
 use Rattle.derivation_trees.specs.Settings.{Setting}
 use Rattle.derivation_trees.specs.Cutting.{is_terminal}
 use Rattle.derivation_trees.specs.Partial.{IsBeginning}
-use Rattle.derivation_trees.specs.Menus.{group_of, entry_cmp, IsMenu}
+use Rattle.derivation_trees.specs.Menus.{group_of, entry_cmp}
 use Rattle.derivations.specs.Among.{Among}
-use Rattle.derivations.specs.Entries.{shown, with_entry, AllBefore, IsInOrder, goes_on, tried, all_tried, forms_in, forms_among, functions_in, AreTexts}
-use Rattle.derivations.specs.Typing.{IsTextMenu}
+use Rattle.derivations.specs.Entries.{shown, AllBefore, IsInOrder, goes_on, all_tried, forms_in, forms_among, functions_in, AreTexts}
 use Rattle.derivations.proofs.Members.{among_left, among_right, among_map, among_flat_map}
 use Rattle.derivations.proofs.SoundLemmas.{Mapped, from_map, Flattened, from_flat_map, either_among}
-use Rattle.derivations.proofs.EntryLemmas.{entry_total, entry_trans, all_tried_in_order, all_tried_keeps, all_tried_has, all_tried_from, contains_among, among_contains}
-use Rattle.derivations.proofs.TypingLemmas.{beginning_from_test, test_from_beginning, gathered, text_menu, whole_menu}
+use Rattle.derivations.proofs.EntryLemmas.{entry_total, all_tried_in_order, all_tried_keeps, all_tried_has, all_tried_from, contains_among, among_contains}
+use Rattle.derivations.proofs.TypingLemmas.{beginning_from_test, test_from_beginning, gathered}
 use Rattle.chart_table.specs.declared.asks.Ask.{Ask}
 use Rattle.chart_table.specs.declared.asks.Ask.TheVariants as ask
 use Rattle.chart_table.proofs.BranchLemmas.{either}
-use Rattle.chart.specs.Offers.{with_last, Told, some_follows, is_used, form_asks, used_asks, used_forms, chosen, class_of, class_readings, told_forms, new_forms, KnownFound, NewFound, NoneNew, IsOrdered}
+use Rattle.chart.specs.Offers.{with_last, Told, some_follows, is_used, form_asks, used_asks, used_forms, chosen, class_of, told_forms, new_forms, KnownFound, NewFound, NoneNew, IsOrdered}
 use Rattle.chart.proofs.ReadingLemmas.{at_slice, form_among}
 use Rattle.chart.proofs.OfferLemmas.{reads, AsksAt, IsFirst, terminal_law, class_told, used_form_follows, used_form_asked, new_form_follows, new_form_asked}
 

@@ -1,12 +1,11 @@
 -- What may follow is what is asked for, by two tables.
-use Rattle.std.proofs.Common.{◌≡◌, ℕ, suc, zero, ◌+◌, ◌<◌, ◌≤◌, List, [], ◌∷◌, ◌++◌, Bool, true, false, ◌&&◌, ◌||◌, map, length, length-append, Option, Some, None, ◌⊎◌, inl, inr, refl, sym, ap, ◌∙◌, subst, arith, IsTrue, ◌↔◌}
+use Rattle.std.proofs.Common.{◌≡◌, ℕ, suc, zero, ◌+◌, ◌<◌, ◌≤◌, List, [], ◌∷◌, ◌++◌, Bool, true, false, ◌&&◌, ◌||◌, map, length, length-append, Some, refl, sym, ap, ◌∙◌, subst, arith}
 use Rattle.std.specs.Prelude.{if◌then◌else◌, ◌==◌, slice_get, slice_index_or}
 use Rattle.std.specs.Option.{option_map_or}
 use Rattle.std.specs.List.{list_any}
 use Rattle.std.specs.Str.{bytes_eq}
 use Rattle.std.proofs.lemmas.List.{map-append}
 use Rattle.std.proofs.lemmas.Option.{same_Some}
-use Rattle.std.proofs.lemmas.Slice.Eq.{bytes_eq-Decides}
 use Rattle.codeco_terms.specs.declared.values.Value.{Value}
 use Rattle.codeco_terms.specs.declared.values.Value.TheVariants.{Atom, Word as TheWord}
 use Rattle.codeco_terms.specs.declared.categories.Ground.{Ground}
@@ -22,13 +21,13 @@ use Rattle.lexicon.specs.Readings.{begins_with_vowel, reading, readings_of, read
 use Rattle.derivation_trees.specs.Settings.{Setting, matches_terminal}
 use Rattle.derivation_trees.specs.Derives.{text_category}
 use Rattle.derivation_trees.specs.Cutting.{is_terminal}
-use Rattle.derivation_trees.specs.Partial.{CutNode, cut_end, IsPartialDerivation, IsBeginning}
+use Rattle.derivation_trees.specs.Partial.{CutNode, IsPartialDerivation, IsBeginning}
 use Rattle.derivation_trees.specs.Sentences.{setting_of}
 use Rattle.chart_table.specs.declared.asks.Ask.{Ask}
 use Rattle.chart_table.specs.declared.asks.Ask.TheVariants as ask
 use Rattle.chart_table.specs.Branches.{OneOf}
-use Rattle.chart_table.specs.Asks.{AskLeads, TokenMeets, Follows}
-use Rattle.chart_table.proofs.PassLemmas.{both_true, same_value_is}
+use Rattle.chart_table.specs.Asks.{AskLeads, TokenMeets}
+use Rattle.chart_table.proofs.PassLemmas.{same_value_is}
 use Rattle.chart.specs.Offers.{with_last, Told, terminal_asks, some_follows, is_used, class_of, class_readings}
 use Rattle.chart.proofs.SwapLemmas.{Asked, HasWord, BringsNone, swapped, swapped_first, asked_new, asked_old}
 use Rattle.chart.proofs.TurnedLemmas.{turned_ground, length_turned}

@@ -5,10 +5,7 @@ use Rattle.std.specs.Borrow.{Bor}
 use Rattle.std.specs.Str.{bytes_eq}
 use Rattle.std.proofs.lemmas.Bool.{cases_lt}
 use Rattle.std.proofs.lemmas.List.{drop_more}
-use Rattle.std.proofs.lemmas.Option.{same_Some}
 use Rattle.codeco_terms.specs.declared.categories.Ground.{Ground}
-use Rattle.wiki_base.specs.declared.numbers.WordId.{WordId}
-use Rattle.lexicon.specs.declared.kinds.Kind.{Kind}
 use Rattle.lexicon.specs.declared.words.Word.{Word}
 use Rattle.lexicon.specs.Readings.{readings_of}
 use Rattle.codeco_terms.specs.GrammarParts.{GrammarParts}
@@ -16,7 +13,7 @@ use Rattle.derivation_trees.specs.declared.menus.Group.{Group}
 use Rattle.derivation_trees.specs.declared.menus.Group.TheVariants.{Function}
 use Rattle.derivation_trees.specs.Derives.{text_category}
 use Rattle.derivation_trees.specs.Settings.{Setting}
-use Rattle.derivations.specs.Entries.{shown, texts_of, forms_in, functions_in, with_entry, all_tried}
+use Rattle.derivations.specs.Entries.{shown, forms_in, functions_in, with_entry, all_tried}
 use Rattle.chart_table.specs.declared.asks.Ask.{Ask}
 use Rattle.chart_table.specs.Asks.{AskLeads}
 use Rattle.chart.proofs.ReadingLemmas.{at_slice}

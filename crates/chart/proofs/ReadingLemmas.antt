@@ -1,13 +1,13 @@
 -- What tokens read as: the words of their readings, and those that have none.
 use Rattle.std.proofs.Common.{◌≡◌, ℕ, suc, zero, ◌+◌, ◌<◌, List, [], ◌∷◌, ◌++◌, Bool, true, false, ◌&&◌, ◌||◌, map, length, get_or, Some, ◌≤◌, ◌⊎◌, inl, inr, append-nil, refl, sym, ap, ◌∙◌, subst, arith}
 use Rattle.std.specs.Prelude.{if◌then◌else◌, ◌==◌, not, slice_get}
-use Rattle.std.specs.List.{list_any, list_all, flat_map}
+use Rattle.std.specs.List.{list_all}
 use Rattle.std.specs.Str.{bytes_eq}
 use Rattle.std.proofs.lemmas.Bool.{cases_lt}
 use Rattle.std.proofs.lemmas.Option.{same_Some}
 use Rattle.std.proofs.lemmas.Slice.Eq.{bytes_eq-Decides}
 use Rattle.codeco_terms.specs.declared.values.Value.{Value}
-use Rattle.codeco_terms.specs.declared.values.Value.TheVariants.{Atom, Word as TheWord, Pos}
+use Rattle.codeco_terms.specs.declared.values.Value.TheVariants.{Atom, Word as TheWord}
 use Rattle.codeco_terms.specs.declared.categories.Ground.{Ground}
 use Rattle.codeco_terms.specs.Values.{same_value}
 use Rattle.wiki_base.specs.declared.numbers.WordId.{WordId}

@@ -1,5 +1,5 @@
 -- Two words without a form among the tokens may change places, and a last token that brings no new word may be any other.
-use Rattle.std.proofs.Common.{◌≡◌, ℕ, suc, zero, ◌+◌, ◌-◌, ◌<◌, ◌≤◌, List, [], ◌∷◌, ◌++◌, Bool, true, false, ◌&&◌, ◌||◌, map, length, length-append, Option, Some, None, refl, sym, ap, ◌∙◌, subst, arith, nat_lt}
+use Rattle.std.proofs.Common.{◌≡◌, ℕ, suc, zero, ◌-◌, ◌<◌, List, [], ◌∷◌, ◌++◌, Bool, true, false, ◌&&◌, ◌||◌, map, length, length-append, Some, None, refl, sym, ap, ◌∙◌, subst, arith, nat_lt}
 use Rattle.std.specs.Prelude.{if◌then◌else◌, ◌==◌, not, option_map, slice_get}
 use Rattle.std.specs.Option.{option_map_or}
 use Rattle.std.specs.List.{list_any, list_all}
@@ -18,15 +18,14 @@ use Rattle.codeco_terms.specs.declared.rules.Rule.{Rule}
 use Rattle.codeco_terms.specs.GrammarParts.{GrammarParts}
 use Rattle.codeco_terms.specs.Values.{same_value}
 use Rattle.codeco_checked.specs.Sound.{IsSound, is_written, is_written_name, is_written_term, is_written_pattern, is_plain_pattern, is_written_element, is_written_rule, is_empty, ascends}
-use Rattle.wiki_base.specs.declared.numbers.WordId.{WordId}
-use Rattle.derivation_trees.specs.Settings.{Setting, has_word}
-use Rattle.derivation_trees.specs.Derives.{text_category, rule_with}
+use Rattle.derivation_trees.specs.Settings.{has_word}
+use Rattle.derivation_trees.specs.Derives.{text_category}
 use Rattle.chart_table.specs.declared.asks.Ask.{Ask}
 use Rattle.chart_table.specs.declared.asks.Ask.TheVariants as ask
 use Rattle.chart_table.specs.Asks.{AskLeads}
 use Rattle.chart_table.proofs.PassLemmas.{both_true}
 use Rattle.chart.specs.Offers.{with_last, has_in}
-use Rattle.chart.proofs.TurnedLemmas.{Binds, IsTurn, turned, turned_pair, turned_all, turned_ground, turned_readings, Alike, AllWritten, PatternsWritten, value_same, any_turned, has_turned, slice_turned}
+use Rattle.chart.proofs.TurnedLemmas.{Binds, IsTurn, turned, turned_all, turned_ground, turned_readings, Alike, AllWritten, PatternsWritten, value_same, any_turned, has_turned, slice_turned}
 use Rattle.chart.proofs.TurnedTrees.{ElementWritten, BodyWritten, RuleWritten, RulesWritten, turned_ask, ask_turned}
 
 -- the other of two numbers, or the number itself where it is neither

@@ -1,11 +1,9 @@
 -- Words without a form among the earlier tokens differ by their numbers alone: where other numbers are given to words, one to
 -- one, all derivations stay, with those numbers.
-use Rattle.std.proofs.Common.{◌≡◌, ℕ, suc, zero, ◌+◌, ◌-◌, ◌<◌, List, [], ◌∷◌, ◌++◌, Bool, true, false, ◌&&◌, ◌||◌, map, length, drop, Option, Some, None, refl, sym, ap, ◌∙◌, subst, arith, cond, nat_lt, nat_le}
-use Rattle.std.specs.Prelude.{if◌then◌else◌, ◌==◌, not, option_and_then, option_map, slice_get, unwrap_or}
+use Rattle.std.proofs.Common.{◌≡◌, ℕ, suc, zero, ◌+◌, ◌<◌, List, [], ◌∷◌, Bool, true, false, ◌&&◌, ◌||◌, map, length, drop, Option, Some, None, refl, ap, ◌∙◌, arith, cond, nat_lt, nat_le}
+use Rattle.std.specs.Prelude.{if◌then◌else◌, ◌==◌, not, option_map, slice_get, unwrap_or}
 use Rattle.std.specs.Option.{option_map_or}
 use Rattle.std.specs.List.{list_any, list_all, filter_map, cons_option, flat_map, prefix_len, position}
-use Rattle.std.proofs.lemmas.List.{map-append}
-use Rattle.std.proofs.lemmas.Option.{option_and_then_some, same_Some}
 use Rattle.codeco_terms.specs.declared.values.Value.{Value}
 use Rattle.codeco_terms.specs.declared.values.Value.TheVariants.{Atom, Word, Pos}
 use Rattle.codeco_terms.specs.declared.values.Term.{Term}
@@ -15,8 +13,6 @@ use Rattle.codeco_terms.specs.declared.categories.Pattern.{Pattern}
 use Rattle.codeco_terms.specs.declared.categories.Ground.{Ground}
 use Rattle.codeco_terms.specs.declared.declarations.Declared.{Declared}
 use Rattle.codeco_terms.specs.declared.declarations.Declared.TheVariants as declared
-use Rattle.codeco_terms.specs.declared.elements.Element.{Element}
-use Rattle.codeco_terms.specs.declared.elements.Element.TheVariants.{Terminal, Preterminal, Sub, Position, Opener, Forward, Strong, Back, NoBack}
 use Rattle.codeco_terms.specs.declared.rules.Rule.{Rule}
 use Rattle.codeco_terms.specs.GrammarParts.{GrammarParts}
 use Rattle.codeco_terms.specs.Values.{same_value}
@@ -31,8 +27,7 @@ use Rattle.scopes.specs.AccessList.{closed, strong_referents, introduced}
 use Rattle.scopes.specs.Resolution.{Finding, finding, finding_at, has_value, agrees, is_agreeing, closest_finding, last_of}
 use Rattle.derivation_trees.specs.Settings.{Setting, matches_terminal, matches_preterminal, has_word, is_value, fits_feature}
 use Rattle.derivation_trees.specs.Instances.{looked_up, value_under, term_value, feats_under, under, tests_under, term_fits, own_fit, own_values, variables_of, same_numbers, rule_own_features, written_variables, is_instance, features_of}
-use Rattle.derivation_trees.specs.Derives.{At, first_value, filled_value, own_after, filled, own_rest, referent, takes, is_found, reference_tests, same_where_both, fits}
-use Rattle.chart_table.proofs.PassLemmas.{same_value_is}
+use Rattle.derivation_trees.specs.Derives.{first_value, filled_value, own_after, filled, own_rest, referent, takes, is_found, reference_tests, fits}
 
 abbrev pub Binds : Type 0
 Binds = List (ℕ × Value)

@@ -1,12 +1,10 @@
 -- Trees and cut-off nodes lead on, where other numbers are given to words, as far as the settings are alike.
-use Rattle.std.proofs.Common.{◌≡◌, ℕ, suc, zero, ◌+◌, ◌-◌, ◌<◌, ◌≤◌, List, [], ◌∷◌, ◌++◌, Bool, true, false, ◌&&◌, ◌||◌, map, length, drop, take, Option, Some, None, refl, sym, ap, ◌∙◌, subst, arith}
-use Rattle.std.specs.Prelude.{if◌then◌else◌, ◌==◌, not, option_and_then, option_map, slice_get}
-use Rattle.std.specs.List.{list_any, list_all}
+use Rattle.std.proofs.Common.{◌≡◌, ℕ, suc, zero, ◌+◌, ◌<◌, ◌≤◌, List, [], ◌∷◌, ◌++◌, Bool, true, false, ◌&&◌, length, drop, take, Option, Some, None, refl, sym, ap, ◌∙◌, subst, arith}
+use Rattle.std.specs.Prelude.{option_and_then, option_map, slice_get}
+use Rattle.std.specs.List.{list_any}
 use Rattle.std.proofs.lemmas.List.{map-append}
 use Rattle.std.proofs.lemmas.Option.{option_and_then_some, same_Some}
-use Rattle.codeco_terms.specs.declared.values.Value.{Value}
-use Rattle.codeco_terms.specs.declared.values.Value.TheVariants.{Atom, Word, Pos}
-use Rattle.codeco_terms.specs.declared.values.Term.{Term}
+use Rattle.codeco_terms.specs.declared.values.Value.TheVariants.{Pos}
 use Rattle.codeco_terms.specs.declared.categories.Category.{Category}
 use Rattle.codeco_terms.specs.declared.categories.Pattern.{Pattern}
 use Rattle.codeco_terms.specs.declared.categories.Ground.{Ground}
@@ -20,18 +18,18 @@ use Rattle.scopes.specs.declared.entries.Entry.{Entry}
 use Rattle.scopes.specs.declared.entries.Entry.TheVariants as entry
 use Rattle.scopes.specs.declared.tests.Test.{Test}
 use Rattle.scopes.specs.AccessList.{closed, introduced}
-use Rattle.scopes.specs.Resolution.{Finding, is_agreeing, closest_finding, agrees}
+use Rattle.scopes.specs.Resolution.{is_agreeing, closest_finding, agrees}
 use Rattle.derivation_trees.specs.Trees.{Node, Nodes, node, none, more}
 use Rattle.derivation_trees.specs.Settings.{Setting, matches_terminal, matches_preterminal}
 use Rattle.derivation_trees.specs.Instances.{value_under, under, tests_under, own_values, is_instance, features_of}
-use Rattle.derivation_trees.specs.Derives.{At, Phrase, Stand, moved, pass, run, pass_token, pass_child, pass_introduction, pass_finding, is_found, reference_tests, referent, own_rest, is_none_left, list_after, ended, fits, begun, phrase, rule_with, phrase_of, phrases_of}
+use Rattle.derivation_trees.specs.Derives.{At, Phrase, Stand, moved, pass, run, pass_child, pass_introduction, pass_finding, is_found, reference_tests, referent, own_rest, is_none_left, list_after, ended, fits, begun, phrase, rule_with, phrase_of, phrases_of}
 use Rattle.derivation_trees.specs.Partial.{CutNode, stopped, entered, used_up, front, next_category, sub_of, front_of, cut_end}
 use Rattle.chart_table.specs.declared.asks.Ask.{Ask}
 use Rattle.chart_table.specs.declared.asks.Ask.TheVariants as ask
 use Rattle.chart_table.specs.Asks.{takes_reading, meets, CutMeets, AskLeads}
 use Rattle.chart_table.proofs.PassLemmas.{if_some, unless_some, if_true, if_false, both_true, and_both}
 use Rattle.chart_table.proofs.AskLemmas.{place_some, met_in}
-use Rattle.chart.proofs.TurnedLemmas.{Binds, IsTurn, turned, turned_pair, turned_all, turned_ground, turned_test, turned_entry, turned_list, turned_finding, turned_tests, Alike, AllWritten, PatternsWritten, value_same, value_turned, under_turned, tests_turned, none_turned, closest_turned, closed_turned, drop_turned, length_turned, introduced_turned, rest_turned, referent_turned, fits_turned, found_turned, reference_turned, preterminal_turned, agrees_turned, own_values_turned, instance_turned}
+use Rattle.chart.proofs.TurnedLemmas.{Binds, IsTurn, turned_all, turned_ground, turned_test, turned_entry, turned_list, Alike, AllWritten, PatternsWritten, value_same, value_turned, under_turned, tests_turned, none_turned, closest_turned, closed_turned, drop_turned, length_turned, introduced_turned, rest_turned, referent_turned, fits_turned, found_turned, reference_turned, preterminal_turned, agrees_turned, own_values_turned, instance_turned}
 
 abbrev pub turned_at : (ℕ → ℕ) → At → At
 turned_at h at = record { place = at.place; list = turned_list h at.list }

@@ -1,4 +1,4 @@
-use Rattle.std.proofs.Common.{◌≡◌, true, map, ◌∙◌, ap}
+use Rattle.std.proofs.Common.{true, map, ◌∙◌, ap}
 use Rattle.derivations.specs.Entries.{shown, all_tried}
 use Rattle.chart.proofs.MenuLemmas.{put_ordered}
 use Rattle.chart.proofs.entries.in_order.Goals as goal

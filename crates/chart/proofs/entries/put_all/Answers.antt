@@ -1,4 +1,4 @@
-use Rattle.std.proofs.Common.{◌≡◌, map, sym, subst}
+use Rattle.std.proofs.Common.{map, sym, subst}
 use Rattle.derivations.specs.Entries.{shown, IsInOrder}
 use Rattle.derivations.proofs.EntryLemmas.{with_entry_in_order}
 use Rattle.chart.proofs.OfferLoops.{put_turn}

@@ -1,4 +1,4 @@
-use Rattle.std.proofs.Common.{◌≡◌, ◌∙◌, map, sym}
+use Rattle.std.proofs.Common.{◌∙◌, map, sym}
 use Rattle.derivations.specs.Entries.{shown, goes_on}
 use Rattle.chart.proofs.FollowLemmas.{follows_test, put_where, left_where}
 use Rattle.chart.proofs.menus.consider.Goals as goal

@@ -1,4 +1,4 @@
-use Rattle.std.proofs.Common.{◌≡◌, map, ◌∙◌, ap, subst, []}
+use Rattle.std.proofs.Common.{map, ◌∙◌, ap, subst, []}
 use Rattle.std.proofs.lemmas.Result.{IfOk-weaker}
 use Rattle.derivations.specs.Entries.{shown, texts_of}
 use Rattle.derivations.proofs.TypingLemmas.{text_menu, whole_menu}

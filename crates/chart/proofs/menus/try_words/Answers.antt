@@ -1,4 +1,4 @@
-use Rattle.std.proofs.Common.{◌≡◌, ◌+◌, map, drop, rules, sym, ◌∙◌, ap, subst}
+use Rattle.std.proofs.Common.{◌+◌, map, drop, rules, sym, ◌∙◌, ap, subst}
 use Rattle.derivations.specs.Entries.{shown, goes_on, all_tried, forms_in, forms_among, IsInOrder}
 use Rattle.derivations.proofs.EntryLemmas.{all_tried_in_order}
 use Rattle.derivations.proofs.TypingLemmas.{one_word_tried}

@@ -1,4 +1,4 @@
-use Rattle.std.proofs.Common.{◌≡◌, sym, ap, ◌∙◌}
+use Rattle.std.proofs.Common.{sym, ap, ◌∙◌}
 use Rattle.chart.proofs.OfferLoops.{chosen_more, chosen_less}
 use Rattle.chart.proofs.offers.add_chosen.Goals as goal
 use Rattle.chart.proofs.offers.add_chosen.Goals.{then-is_told+in_ok-push, else-is_told}

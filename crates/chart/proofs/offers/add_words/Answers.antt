@@ -1,4 +1,4 @@
-use Rattle.std.proofs.Common.{◌≡◌, map, sym, ap, ◌∙◌}
+use Rattle.std.proofs.Common.{map, sym, ap, ◌∙◌}
 use Rattle.derivations.specs.Entries.{shown}
 use Rattle.chart.specs.Offers.{is_used, told_forms}
 use Rattle.chart.proofs.OfferLoops.{new_step, added_unless, kept_unless}

@@ -1,4 +1,4 @@
-use Rattle.std.proofs.Common.{◌≡◌, map, sym, ap, ◌∙◌}
+use Rattle.std.proofs.Common.{map, sym, ap, ◌∙◌}
 use Rattle.derivations.specs.Entries.{shown, forms_in}
 use Rattle.chart.specs.Offers.{is_used, form_asks}
 use Rattle.chart.proofs.OfferLoops.{used_step, asks_step, added_if, kept_if}

@@ -1,6 +1,5 @@
-use Rattle.std.proofs.Common.{◌≡◌, ℕ, List, [], ◌∷◌, ◌++◌, Bool, map, length, Some, ap, ◌∙◌, subst, IsTrue, ◌↔◌}
+use Rattle.std.proofs.Common.{◌≡◌, ℕ, [], ◌∷◌, ◌++◌, Bool, map, length, Some, ap, ◌∙◌, subst, IsTrue, ◌↔◌}
 use Rattle.std.specs.Prelude.{slice_get, IfOk}
-use Rattle.codeco_terms.specs.declared.categories.Ground.{Ground}
 use Rattle.lexicon.specs.Readings.{readings_of}
 use Rattle.derivation_trees.specs.Derives.{text_category}
 use Rattle.derivation_trees.specs.Settings.{Setting}

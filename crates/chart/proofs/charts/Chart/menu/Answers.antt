@@ -1,6 +1,4 @@
-use Rattle.std.proofs.Common.{◌≡◌, ◌∙◌, ◌≤◌, length, subst}
-use Rattle.wiki_base.specs.declared.tokens.TheConstants.{MOST_TOKENS}
-use Rattle.derivation_trees.specs.Settings.{Setting}
+use Rattle.std.proofs.Common.{◌∙◌}
 use Rattle.lexicon.specs.Readings.{readings_of}
 use Rattle.chart.proofs.ChartLemmas.{readings_kept}
 use Rattle.chart.proofs.charts.Chart.menu.Goals as goal

@@ -14,7 +14,7 @@ use Rattle.derivation_trees.specs.Instances.{under}
 use Rattle.derivation_trees.specs.Stands.{is_sub}
 use Rattle.derivations.specs.Enumeration as enumeration
 use Rattle.chart_table.specs.Leading.{referents}
-use Rattle.chart_table.specs.Table.{IsRow as IsEndsRow}
+use Rattle.chart_table.specs.Table.{IsRow as IsEndsRow, no_asks}
 use Rattle.chart_table.proofs.OpenerLemmas.{referents-twice}
 use Rattle.chart_trees.specs.declared.table.Best.{Best}
 use Rattle.chart_trees.specs.declared.table.Tables.{Tables}
@@ -79,7 +79,7 @@ row_below (y ∷ ys) (suc i) row h = let lt = row_below ys i row h in omega arit
 
 pub tables_none : (s : Setting) (tables : Tables) → tables.ends ≡ [] → tables.rows ≡ [] → AreTables s tables
 tables_none s tables e f = record {
-  ends = record { all = subst (All (IsEndsRow s)) (sym e) (All-nil (IsEndsRow s)) };
+  ends = record { all = subst (All (IsEndsRow s no_asks)) (sym e) (All-nil (IsEndsRow s no_asks)) };
   rows = subst (All (IsRow s)) (sym f) (All-nil (IsRow s));
 }
 

@@ -19,7 +19,7 @@ use Rattle.wiki_store.specs.Step.{with_replaced, with_marked}
 use Rattle.wiki_store.proofs.AroundLemmas.{item, parts_at, set_parts}
 use Rattle.wiki_store.proofs.JudgeLemmas.{marked-spliced}
 use Rattle.wiki_store.proofs.InsideLemmas.{item-is, set-same, moved, spot, spot_known, sentence_here, means_here, short_here, over_inside, plain_inside, status_outside, spends_outside, keeps_inside}
-use Rattle.wiki_store.proofs.store.Store.restate.Goals as goal
+use Rattle.wiki_store.proofs.store.Store.restate_judged.Goals as goal
 
 pub index-requires : goal.index-requires
 index-requires c =

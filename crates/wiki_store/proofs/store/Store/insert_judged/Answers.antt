@@ -18,7 +18,7 @@ use Rattle.wiki_parts.specs.Knowledge.{is_asserted, live_names, sentences_in}
 use Rattle.wiki_parts.specs.Kept.{stated_by, known_around, Stands, IsKeeping}
 use Rattle.wiki_store.specs.Step.{with_inserted}
 use Rattle.wiki_store.proofs.InsideLemmas.{item-is, set-there, undone, moved, gap, gap_known, over_inside, plain_inside, status_outside, spends_outside, keeps_inside}
-use Rattle.wiki_store.proofs.store.Store.insert.Goals as goal
+use Rattle.wiki_store.proofs.store.Store.insert_judged.Goals as goal
 
 pub standing-requires-clause-around : goal.standing-requires-clause-around
 standing-requires-clause-around c =

@@ -215,13 +215,15 @@ impl Store {
     {
         let place = self.place(word);
         let here = at as usize;
-        if !is_settled(&self.kept, self.senses[place].get(here)) {
+        let articles = self.articles.as_slice();
+        let sense = self.senses[place].get(here);
+        if !is_settled(&self.kept, sense) {
             return self.restate_judged(word, at);
         }
-        let own = stated(self.alloc, self.senses[place].get(here))?;
+        let own = stated(self.alloc, sense)?;
         join(
             &mut self.kept,
-            self.articles.as_slice(),
+            articles,
             &self.senses,
             place,
             here,

@@ -96,6 +96,7 @@ pub(crate) fn undo(
 }
 
 // Axioms of a list: how many stand before them, and how many they are.
+#[derive(Drop)]
 struct Span {
     first: usize,
     count: usize,

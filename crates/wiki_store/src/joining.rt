@@ -47,7 +47,7 @@ pub(crate) fn join(
     ensures memory { OnErr result (kept_claims kept.new ≡ kept_claims kept.old) }
 {
     let total = kept.axioms().len();
-    let old = span(articles, senses, place, from, to, total);
+    let old = span_of(articles, senses, place, from, to, total);
     if !kept.insert(old.first, own)? {
         unreachable!();
     }
@@ -72,7 +72,7 @@ pub(crate) fn leave(
     ensures interp { kept_interp kept.new ≡ kept_interp kept.old }
 {
     let total = kept.axioms().len();
-    let old = span(articles, senses, place, from, to, total);
+    let old = span_of(articles, senses, place, from, to, total);
     kept.remove(old.first, old.first + old.count);
 }
 
@@ -91,7 +91,7 @@ pub(crate) fn undo(
     ensures interp { kept_interp kept.new ≡ kept_interp kept.old }
 {
     let total = kept.axioms().len();
-    let old = span(articles, senses, place, at, at, total);
+    let old = span_of(articles, senses, place, at, at, total);
     kept.remove(old.first, old.first + count);
 }
 
@@ -103,7 +103,7 @@ struct Span {
 }
 
 // Where the axioms of some sentences of an article stand, from a place to before another, among all that are known.
-fn span(
+fn span_of(
     articles: &[Article],
     senses: &[Senses],
     place: usize,

@@ -1,6 +1,7 @@
 -- Where the axioms of some sentences of an article stand among all that are known.
-use Rattle.std.proofs.Common.{◌≡◌, ℕ, ◌+◌, ◌-◌, ◌<◌, ◌≤◌, cond, List, [], ◌∷◌, ◌++◌, length, take, drop, refl, sym, ap, subst, ◌∙◌, append_assoc, append-nil, arith}
+use Rattle.std.proofs.Common.{◌≡◌, ℕ, ◌+◌, ◌-◌, ◌<◌, ◌≤◌, cond, List, [], ◌∷◌, ◌++◌, length, take, drop, Option, Some, None, Result, Ok, Err, OnErr, refl, sym, ap, subst, ◌∙◌, append_assoc, append-nil, arith}
 use Rattle.std.specs.List.{slice_get, insert_slice, remove_range}
+use Rattle.std.specs.Option.{IsSomeAnd}
 use Rattle.std.proofs.lemmas.List.{length-append, length-take-le, length-drop, take-append-drop, drop-drop}
 use Rattle.std.proofs.Math.Seq.{take-append_seam, drop-append_seam, drop-append-add}
 use Rattle.wiki_base.specs.declared.numbers.WordId.{WordId}
@@ -19,7 +20,7 @@ use Rattle.wiki_parts.specs.State.{State}
 use Rattle.wiki_parts.specs.Kept.{stated_by, meanings_in, known_of, known_in, known_around, IsAround, Stands, IsKeeping}
 use Rattle.wiki_store.specs.Settled.{IsTrueIn}
 use Rattle.wiki_store.proofs.AroundLemmas.{known_in-parts, known_around-is}
-use Rattle.wiki_store.proofs.JudgeLemmas.{known_of-split}
+use Rattle.wiki_store.proofs.JudgeLemmas.{known_of-split, known_in-gap}
 
 -- ---- lists
 
@@ -65,6 +66,32 @@ gone-at {X} xs own all first count n is none within many =
       omega (arith, long, more, front, many),
     )
 
+pub long-insert_slice : {X : Type 0} (xs own : List X) (first : ℕ) → first ≤ length xs → length (insert_slice xs first own) ≡ length xs + length own
+long-insert_slice xs own first within =
+    let front = length-take-le first xs within in
+    let back = length-drop first xs in
+    let both = length-append (take first xs) own in
+    let all = length-append (take first xs ++ own) (drop first xs) in
+    omega (arith, within, front, back, both, all)
+
+five-long : {X : Type 0} (a b m c d : List X) → length (a ++ (b ++ (m ++ (c ++ d)))) ≡ length a + length b + length m + length c + length d
+five-long a b m c d =
+    let one = length-append a (b ++ (m ++ (c ++ d))) in
+    let two = length-append b (m ++ (c ++ d)) in
+    let three = length-append m (c ++ d) in
+    let four = length-append c d in
+    omega (arith, one, two, three, four)
+
+-- a value that is there, with what is true of it
+pub some-there : {X : Type 0} (P : X → Type 0) (o : Option X) → IsSomeAnd o P → (x : X) × (o ≡ Some x) × P x
+some-there P None here = absurd here
+some-there P (Some x) here = (x, refl, here)
+
+-- what is so is so where a call gave an error
+pub either-way : {T E : Type 0} (result : Result T E) (P : Type 0) → P → OnErr result P
+either-way (Ok value) P here = tt
+either-way (Err fault) P here = here
+
 -- the parts of five lists, by how long they are
 parts_of : {X : Type 0} (xs a b m c own : List X) (first count : ℕ) → xs ≡ (a ++ b) ++ (m ++ c) → first ≡ length a + length b → count ≡ length m
     → take first xs ++ (own ++ drop (first + count) xs) ≡ a ++ (b ++ (own ++ c))
@@ -96,16 +123,16 @@ known_of-three ss ms from to rises same =
 
 module _ (articles : List Article) (senses : List (List Sense)) (place from to : ℕ) (around : IsAround articles senses place from to) where
   -- what is known before an article's sentences, of those before a place, from it to before another, and behind that
-  pub front : List Claim
+  unfoldable pub front : List Claim
   front = known_in (take place articles) (take place senses)
 
-  pub before : List Claim
+  unfoldable pub before : List Claim
   before = known_of (take from around.article.sentences) (meanings_in (take from around.own))
 
-  pub between : List Claim
+  unfoldable pub between : List Claim
   between = known_of (take (to - from) (drop from around.article.sentences)) (meanings_in (take (to - from) (drop from around.own)))
 
-  pub behind : List Claim
+  unfoldable pub behind : List Claim
   behind = known_of (drop to around.article.sentences) (meanings_in (drop to around.own)) ++ known_in (drop (place + 1) articles) (drop (place + 1) senses)
 
   known-parts : known_in articles senses ≡ (front ++ before) ++ (between ++ behind)
@@ -122,6 +149,20 @@ module _ (articles : List Article) (senses : List (List Sense)) (place from to :
   known-long =
       ap length known-parts ∙ length-append (front ++ before) (between ++ behind)
       ∙ (let one = length-append front before in let other = length-append between behind in omega (arith, one, other))
+
+  -- how much is known of the sentences before the second place
+  pub upto-long : length (known_of (take to around.article.sentences) (meanings_in (take to around.own))) ≡ length before + length between
+  unfolding before between
+  upto-long =
+      let later = known_of (drop to around.article.sentences) (meanings_in (drop to around.own)) in
+      let upto = known_of (take to around.article.sentences) (meanings_in (take to around.own)) in
+      let same : upto ++ later ≡ before ++ (between ++ later) =
+      sym (known_of-split around.article.sentences around.own to around.many) ∙ known_of-three around.article.sentences around.own from to around.rises around.many in
+      let left = length-append upto later in
+      let right = length-append before (between ++ later) in
+      let inner = length-append between later in
+      let long : length (upto ++ later) ≡ length (before ++ (between ++ later)) = ap length same in
+      omega (arith, left, right, inner, long)
 
   -- they stand there among all
   pub stand : (first count : ℕ) → first ≡ length front + length before → count ≡ length between → (own : List Claim)
@@ -161,3 +202,20 @@ keeps-claims state senses model after keeping same = record {
   short = keeping.short;
   few = keeping.few;
 }
+
+-- there are so many more with these in place of none
+pub around-long : (articles : List Article) (senses : List (List Sense)) (place at : ℕ) → IsAround articles senses place at at → (own : List Claim)
+    → length (known_around articles senses place at own at) ≡ length (known_in articles senses) + length own
+around-long articles senses place at around own =
+    let a = around.article in
+    let front = known_in (take place articles) (take place senses) in
+    let back = known_in (drop (place + 1) articles) (drop (place + 1) senses) in
+    let before = known_of (take at a.sentences) (meanings_in (take at around.own)) in
+    let behind = known_of (drop at a.sentences) (meanings_in (drop at around.own)) in
+    let with_own : length (known_around articles senses place at own at) ≡ length (front ++ (before ++ (own ++ (behind ++ back)))) =
+    ap length (known_around-is articles senses place at at own a around.own around.here around.meant) in
+    let without : length (known_in articles senses) ≡ length (front ++ (before ++ ([] ++ (behind ++ back)))) =
+    ap length (known_in-gap articles senses place at around ∙ known_around-is articles senses place at at [] a around.own around.here around.meant) in
+    let long = five-long front before own behind back in
+    let short = five-long front before [] behind back in
+    omega (arith, with_own, without, long, short)

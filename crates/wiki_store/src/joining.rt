@@ -120,9 +120,10 @@ fn span_of(
     let meant = senses[place].as_slice();
     let before = count_in(&articles[..place], &senses[..place], total);
     let own = count_of(&sentences[..from], &meant[..from], total);
+    let upto = count_of(&sentences[..to], &meant[..to], total);
     Span {
         first: before + own,
-        count: count_of(&sentences[from..to], &meant[from..to], total),
+        count: upto - own,
     }
 }
 

@@ -23,7 +23,7 @@ use Rattle.wiki_store.specs.Settled.{IsTrueIn}
 use Rattle.wiki_store.specs.Step.{with_inserted, with_replaced, with_marked}
 use Rattle.wiki_store.proofs.AroundLemmas.{item, parts_at, set_parts}
 use Rattle.wiki_store.proofs.JudgeLemmas.{marked-spliced}
-use Rattle.wiki_store.proofs.JoiningLemmas.{settled-states, settled-stands, not-red, keeps-claims}
+use Rattle.wiki_store.proofs.JoiningLemmas.{settled-states, settled-stands, not-red, keeps-claims, either-way}
 use Rattle.wiki_store.proofs.InsideLemmas.{item-is, set-same, moved, gap, gap_own, spot, spot_known, sentence_here, means_here, short_here, status_outside, keeps_inside}
 use Rattle.wiki_store.proofs.store.Store.insert_true.Goals as goal
 
@@ -45,15 +45,16 @@ join-requires-clause-model c =
     subst (λ (cs : List Claim). IsModel (kept_interp c.self.inside.kept) cs) (sym c.in_ok-own.ensures)
     (settled-states (kept_interp c.self.inside.kept) (meaning_shown c.args.fresh.sense) (subst (λ (h : Holding). IsTrueIn h.interpretation (meaning_shown c.args.fresh.sense)) (sym c.self.view_is) c.requires.settled))
 
-pub invariant_of-self-in_err-join : goal.invariant_of-self-in_err-join
-invariant_of-self-in_err-join c =
+pub invariant_of-self : goal.invariant_of-self
+invariant_of-self c =
     let inside : State = record { grammar = c.self.inside.grammar; budget = c.self.inside.budget; words = c.self.inside.lexicon; articles = c.self.inside.articles } in
     (keeps-claims inside c.self.inside.senses.items c.self.inside.kept c.join.new.kept c.self.invariant.0 c.in_err-join.ensures.memory, c.self.invariant.1)
 
 pub returns-in_err-join-clause-memory : goal.returns-in_err-join-clause-memory
 returns-in_err-join-clause-memory c =
     let inside : State = record { grammar = c.self.inside.grammar; budget = c.self.inside.budget; words = c.self.inside.lexicon; articles = c.self.inside.articles } in
-    ap (λ (i : Interpretation). record { state = inside; interpretation = i }) c.join.ensures.interp ∙ c.self.view_is
+    let after : Holding = record { state = inside; interpretation = kept_interp c.join.new.kept } in
+    either-way c.from_residual-in_err-join.result (after ≡ c.args.self.now) (ap (λ (i : Interpretation). record { state = inside; interpretation = i }) c.join.ensures.interp ∙ c.self.view_is)
 
 pub put-requires-clause-own : goal.put-requires-clause-own
 put-requires-clause-own c =
@@ -113,3 +114,6 @@ returns-in-Ok-clause-after c =
 pub returns-in-Ok-clause-spent : goal.returns-in-Ok-clause-spent
 returns-in-Ok-clause-spent c =
     λ red claims knows model. not-red red
+
+pub undo-requires-clause-around : goal.undo-requires-clause-around
+undo-requires-clause-around c = ?

@@ -23,7 +23,7 @@ use Rattle.wiki_store.specs.Settled.{IsTrueIn}
 use Rattle.wiki_store.specs.Step.{with_inserted, with_replaced, with_marked}
 use Rattle.wiki_store.proofs.AroundLemmas.{item, parts_at, set_parts}
 use Rattle.wiki_store.proofs.JudgeLemmas.{marked-spliced}
-use Rattle.wiki_store.proofs.JoiningLemmas.{settled-states, settled-stands, not-red, keeps-claims}
+use Rattle.wiki_store.proofs.JoiningLemmas.{settled-states, settled-stands, not-red, keeps-claims, either-way}
 use Rattle.wiki_store.proofs.InsideLemmas.{item-is, set-same, moved, gap, gap_own, spot, spot_known, sentence_here, means_here, short_here, status_outside, keeps_inside}
 use Rattle.wiki_store.proofs.store.Store.restate.Goals as goal
 
@@ -45,15 +45,16 @@ join-requires-clause-model c =
     subst (λ (cs : List Claim). IsModel (kept_interp c.self.inside.kept) cs) (sym c.in_ok-own.ensures)
     (settled-states (kept_interp c.self.inside.kept) (meaning_shown c.get-sense.result.now) (c.is_settled.ensures c.if-not-is_settled.false))
 
-pub invariant_of-self-in_err-join : goal.invariant_of-self-in_err-join
-invariant_of-self-in_err-join c =
+pub invariant_of-self : goal.invariant_of-self
+invariant_of-self c =
     let inside : State = record { grammar = c.self.inside.grammar; budget = c.self.inside.budget; words = c.self.inside.lexicon; articles = c.self.inside.articles } in
     (keeps-claims inside c.self.inside.senses.items c.self.inside.kept c.join.new.kept c.self.invariant.0 c.in_err-join.ensures.memory, c.self.invariant.1)
 
 pub returns-in_err-join-clause-memory : goal.returns-in_err-join-clause-memory
 returns-in_err-join-clause-memory c =
     let inside : State = record { grammar = c.self.inside.grammar; budget = c.self.inside.budget; words = c.self.inside.lexicon; articles = c.self.inside.articles } in
-    ap (λ (i : Interpretation). record { state = inside; interpretation = i }) c.join.ensures.interp ∙ c.self.view_is
+    let after : Holding = record { state = inside; interpretation = kept_interp c.join.new.kept } in
+    either-way c.from_residual-in_err-join.result (after ≡ c.args.self.now) (ap (λ (i : Interpretation). record { state = inside; interpretation = i }) c.join.ensures.interp ∙ c.self.view_is)
 
 pub index-requires : goal.index-requires
 index-requires c =
@@ -63,8 +64,7 @@ index-requires c =
     let many = around.many in
     let rising = around.within in
     let within = slice_get_within c.self.inside.senses.items c.place-place.result around.own around.meant in
-    let same : length c.deref.result.now ≡ length c.self.inside.senses.items = ap length c.deref.ensures.value in
-    omega (arith, within, same, c.self.inside.senses.ok)
+    subst (λ n. c.place-place.result < n) (sym c.self.inside.senses.ok.0) within
 
 pub get-sense-requires : goal.get-sense-requires
 get-sense-requires c =
@@ -77,8 +77,8 @@ get-sense-requires c =
     let long : length c.index.result.now ≡ length around.own = ap length before in
     omega (arith, long, many, rising)
 
-pub invariant_of-self : goal.invariant_of-self
-invariant_of-self c =
+pub invariant_of-self-2 : goal.invariant_of-self-2
+invariant_of-self-2 c =
     let inside : State = record { grammar = c.self.inside.grammar; budget = c.self.inside.budget; words = c.self.inside.lexicon; articles = c.self.inside.articles } in
     let ordered : AreInOrder c.self.inside.articles = c.as_slice-articles.ensures.in_order in
     let around = spot inside c.self.inside.senses.items c.self.inside.kept c.args.self.now c.self.view_is c.self.invariant.0 ordered c.args.word c.place-place.result c.place-place.ensures c.args.at c.requires.place in

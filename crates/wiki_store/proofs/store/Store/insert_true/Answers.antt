@@ -18,7 +18,7 @@ use Rattle.wiki_parts.specs.State.{State}
 use Rattle.wiki_parts.specs.Holding.{Holding}
 use Rattle.wiki_parts.specs.Found.{meaning_shown}
 use Rattle.wiki_parts.specs.Knowledge.{live_names, sentences_in, GetStatus}
-use Rattle.wiki_parts.specs.Kept.{stated_by, known_around, known_in, Stands, IsKeeping}
+use Rattle.wiki_parts.specs.Kept.{stated_by, known_around, known_in, IsAround, Stands, IsKeeping}
 use Rattle.wiki_store.specs.Settled.{IsTrueIn}
 use Rattle.wiki_store.specs.Step.{with_inserted, with_replaced, with_marked}
 use Rattle.wiki_store.proofs.AroundLemmas.{item, parts_at, set_parts}
@@ -116,4 +116,9 @@ returns-in-Ok-clause-spent c =
     λ red claims knows model. not-red red
 
 pub undo-requires-clause-around : goal.undo-requires-clause-around
-undo-requires-clause-around c = ?
+undo-requires-clause-around c =
+    let inside : State = record { grammar = c.self.inside.grammar; budget = c.self.inside.budget; words = c.self.inside.lexicon; articles = c.self.inside.articles } in
+    let ordered : AreInOrder c.self.inside.articles = c.as_slice.ensures.in_order in
+    let around = gap inside c.self.inside.senses.items c.self.inside.kept c.args.self.now c.self.view_is c.self.invariant.0 ordered c.args.fresh.word c.place-place.result c.place-place.ensures c.args.fresh.at c.requires.place in
+    subst (λ (xs : List Article). IsAround xs c.deref-in-Err.result.now c.place-place.result c.args.fresh.at c.args.fresh.at) (sym (c.as_slice-articles.ensures.articles ∙ c.in-Err.ensures.articles_stay))
+    (subst (λ (ms : List (List Sense)). IsAround c.self.inside.articles ms c.place-place.result c.args.fresh.at c.args.fresh.at) (sym (c.deref-in-Err.ensures.value ∙ c.in-Err.ensures.senses_stay)) around)

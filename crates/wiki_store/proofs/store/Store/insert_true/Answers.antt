@@ -122,3 +122,25 @@ undo-requires-clause-around c =
     let around = gap inside c.self.inside.senses.items c.self.inside.kept c.args.self.now c.self.view_is c.self.invariant.0 ordered c.args.fresh.word c.place-place.result c.place-place.ensures c.args.fresh.at c.requires.place in
     subst (λ (xs : List Article). IsAround xs c.deref-in-Err.result.now c.place-place.result c.args.fresh.at c.args.fresh.at) (sym (c.as_slice-articles.ensures.articles ∙ c.in-Err.ensures.articles_stay))
     (subst (λ (ms : List (List Sense)). IsAround c.self.inside.articles ms c.place-place.result c.args.fresh.at c.args.fresh.at) (sym (c.deref-in-Err.ensures.value ∙ c.in-Err.ensures.senses_stay)) around)
+
+pub undo-requires-clause-joined : goal.undo-requires-clause-joined
+undo-requires-clause-joined c = (
+  claims_of c.in_ok-own.own,
+  sym c.len-count.ensures,
+  c.in_ok-join.ensures.joined
+      ∙ ap (λ (xs : List Article). known_around xs c.deref.result.now c.place-place.result c.args.fresh.at (claims_of c.in_ok-own.own) c.args.fresh.at) (c.as_slice.ensures.articles ∙ sym (c.as_slice-articles.ensures.articles ∙ c.in-Err.ensures.articles_stay))
+      ∙ ap (λ (ms : List (List Sense)). known_around c.as_slice-articles.result.now ms c.place-place.result c.args.fresh.at (claims_of c.in_ok-own.own) c.args.fresh.at) (c.deref.ensures.value ∙ sym (c.deref-in-Err.ensures.value ∙ c.in-Err.ensures.senses_stay)),
+)
+
+pub invariant_of-self-in-Err : goal.invariant_of-self-in-Err
+invariant_of-self-in-Err c =
+    let inside : State = record { grammar = c.self.inside.grammar; budget = c.self.inside.budget; words = c.self.inside.lexicon; articles = c.self.inside.articles } in
+    let same : kept_claims c.undo.new.kept ≡ kept_claims c.self.inside.kept =
+    c.undo.ensures.left
+    ∙ ap (λ (xs : List Article). known_in xs c.deref-in-Err.result.now) (c.as_slice-articles.ensures.articles ∙ c.in-Err.ensures.articles_stay)
+    ∙ ap (λ (ms : List (List Sense)). known_in c.self.inside.articles ms) (c.deref-in-Err.ensures.value ∙ c.in-Err.ensures.senses_stay)
+    ∙ sym c.self.invariant.0.known in (
+      moved (λ (xs : List Article) (ms : List (List Sense)). IsKeeping (record inside { articles = xs }) ms c.undo.new.kept) c.self.inside.articles c.put.new.articles c.self.inside.senses.items c.put.new.senses.items
+          (sym c.in-Err.ensures.articles_stay) (sym c.in-Err.ensures.senses_stay) (keeps-claims inside c.self.inside.senses.items c.self.inside.kept c.undo.new.kept c.self.invariant.0 same),
+      c.self.invariant.1,
+    )

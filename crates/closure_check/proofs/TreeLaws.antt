@@ -1,7 +1,5 @@
 -- Trees, one layer at a time.
-use Rattle.std.proofs.Common.{◌≡◌, ℕ, suc, ◌+◌, ◌<◌, ◌≤◌, ◌==◌, ◌&&◌, Bool, true, false, List, [], ◌∷◌, ◌++◌, map, length, drop, get_or, refl, sym, ap, ◌∙◌, add-zero, arith}
-use Rattle.std.proofs.Math.Bool.{and-true, and_assoc}
-use Rattle.std.proofs.lemmas.Bool.{eq-eqb, ne_eqb, and_right}
+use Rattle.std.proofs.Common.{◌≡◌, ℕ, ◌+◌, ◌<◌, ◌≤◌, ◌==◌, ◌&&◌, Bool, true, false, List, [], ◌∷◌, map, length, drop, get_or, refl, sym, ap, ◌∙◌}
 use Rattle.std.proofs.lemmas.List.{drop_more, drop_all}
 use Rattle.logic_terms.specs.Theory.{Theory}
 use Rattle.tableau_rules.specs.declared.step.Clash.{Clash}
@@ -13,7 +11,6 @@ use Rattle.tableau_rules.specs.declared.step.Closed.TheFolds.{fold-roll-Closed}
 use Rattle.tableau_rules.specs.Graph.{Graph}
 use Rattle.tableau_rules.specs.Clashes.{is_clash}
 use Rattle.tableau_rules.specs.Rules.{applies, choices, after}
-use Rattle.closure_check.specs.Firsts.{close_firsts}
 use Rattle.tableau_rules.specs.Trees.{Tree, Trees, ends, splits, trees_from, tree_layer, tree_of, closes, close_from}
 
 pub tree_of-Clash : (c : Clash) → tree_of (closed.Clash c) ≡ ends c
@@ -56,26 +53,6 @@ module _ (k : Theory) (g : Graph) where
   pub left_ends : (r : Bool) (s : Step) (n : ℕ) (ts : List Closed) (i : ℕ) → length ts ≤ i → r ≡ close_left s n (drop i ts) → r ≡ (n == choices g s)
   left_ends r s n ts i past now = now ∙ ap (close_left s n) (drop_all i ts past)
 
-module _ (k : Theory) (g : Graph) (s : Step) where
-  count_on : (n m : ℕ) → (n + 1) + m ≡ n + suc m
-  count_on n m = omega arith
-
-  -- with another number of trees than choices a step closes nothing
-  pub wrong_count : (n : ℕ) (ts : List Closed) → (n + length ts ≡ choices g s → ⊥) → close_left k g s n ts ≡ false
-  wrong_count n [] other = ne_eqb n (choices g s) (λ same. other (add-zero n ∙ same))
-  wrong_count n (t ∷ ts) other =
-      and_right (closes k (after k g s n) (tree_of t)) (close_left k g s (n + 1) ts)
-      (wrong_count (n + 1) ts (λ same. other (sym (count_on n (length ts)) ∙ same)))
-
-  -- the choices before the last one, and the last one
-  pub last_decides : (n : ℕ) (ts : List Closed) (t : Closed) → n + (length ts + 1) ≡ choices g s → close_left k g s n (ts ++ t ∷ []) ≡ (close_firsts k g s n (map tree_of ts) && closes k (after k g s (n + length ts)) (tree_of t))
-  last_decides n [] t count =
-      ap (λ b. closes k (after k g s n) (tree_of t) && b) (eq-eqb (n + 1) (choices g s) count)
-      ∙ (and-true (closes k (after k g s n) (tree_of t)) ∙ ap (λ m. closes k (after k g s m) (tree_of t)) (sym (add-zero n)))
-  last_decides n (u ∷ us) t count =
-      ap (λ b. closes k (after k g s n) (tree_of u) && b) (last_decides (n + 1) us t (counted n (length us) (choices g s) count))
-      ∙ (sym (and_assoc (closes k (after k g s n) (tree_of u)) (close_firsts k g s (n + 1) (map tree_of us)) (closes k (after k g s ((n + 1) + length us)) (tree_of t)))
-      ∙ ap (λ m. (closes k (after k g s n) (tree_of u) && close_firsts k g s (n + 1) (map tree_of us)) && closes k (after k g s m) (tree_of t)) (count_on n (length us)))
-    where
-      counted : (n m c : ℕ) → n + (suc m + 1) ≡ c → (n + 1) + (m + 1) ≡ c
-      counted n m c e = omega arith
+-- behind the last subtree, the count of choices decides
+pub close_past : (k : Theory) (g : Graph) (s : Step) (n : ℕ) (ts : List Closed) (i : ℕ) → length ts ≤ i → close_from k g s n (trees_from (map tree_of (drop i ts))) ≡ (n == choices g s)
+close_past k g s n ts i past = ap (close_left k g s n) (drop_all i ts past)

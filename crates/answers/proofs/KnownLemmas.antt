@@ -12,7 +12,7 @@ use Rattle.logic_terms.specs.Interpretation.{Interpretation, is_interpretation, 
 use Rattle.logic_terms.specs.Meaning.{is_in, holds}
 use Rattle.logic_terms.specs.Names.{names_rise}
 use Rattle.logic_terms.specs.Plain.{is_plain, are_plain, is_plain_theory}
-use Rattle.logic_terms.specs.Reading.{IsIn}
+use Rattle.logic_terms.specs.Reading.{IsIn, IsModel}
 use Rattle.logic_terms.specs.Theory.{Theory, IsLawful, IsModelOf}
 use Rattle.logic_terms.proofs.ComplementLemmas.{is_in-complement}
 use Rattle.logic_terms.proofs.MeaningLemmas.{is_in-Decides}
@@ -26,7 +26,7 @@ use Rattle.closure_check.specs.NoModel.{HasNoModel}
 use Rattle.tableau_rules.specs.Searching.{IsLonger}
 use Rattle.answers.specs.Answered.{denied, IsInAll, IsOutsideSome, IsUnknown}
 use Rattle.answers.specs.Asserted.{with_assertion}
-use Rattle.answers.proofs.AskedLemmas.{over_denied, plain_denied, in_all, outside_some}
+use Rattle.answers.proofs.AskedLemmas.{over_denied, plain_denied, in_all, outside_some, complement_outside}
 
 -- one more assertion behind the axioms is one more piece behind theirs
 sorted_more : (claims : List Claim) (c : Concept) (name : WordId) → sorted (claims ++ ClassAssertion c name ∷ []) ≡ with_piece (sorted claims) (Assertion name c)
@@ -101,3 +101,8 @@ not_denied i c d name is fails = elim (cases_Bool (is_in i c (element_of i name)
       let missing : is_in i (complement c) (element_of i name) ≡ false = subst (λ e. is_in i e (element_of i name) ≡ false) is fails in
       cc
 ]
+
+-- where it is true, the interpretation, if it is a model, has it outside
+pub outside_here : (i : Interpretation) (claims : List Claim) (c d : Concept) (name : WordId) → d ≡ complement c → is_interpretation i ≡ true → IsModel i claims → holds i (ClassAssertion d name) ≡ true → IsOutsideSome claims c name
+outside_here i claims c d name is sound m h =
+    (i, sound, m, complement_outside i c (element_of i name) (subst (λ e. is_in i e (element_of i name) ≡ true) is h))

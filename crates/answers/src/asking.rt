@@ -75,10 +75,34 @@ pub fn ask_known(
     ensures apart { IfOk result (λ a. (n : WordId) → Contains a.yes n → ¬ Contains a.unknown n) }
 {
     let denial = negated(alloc, class)?;
+    all_decided(alloc, k, class, &denial, kept, names, budget)
+}
+
+// The same with the complement of the class in negation normal form.
+fn all_decided(
+    alloc: Global,
+    k: &Knowledge,
+    class: &Class,
+    denial: &Class,
+    kept: &CheckedModel,
+    names: &Names,
+    budget: u64,
+) -> Result<Answers, Memory>
+    requires denial { concept_of denial.now ≡ complement (concept_of class.now) }
+    requires absorbed { IsAbsorbed (kept_claims kept.now) names.now (theory_of k.now) }
+    requires over { IsTrue (are_over names.now (kept_claims kept.now) && list_all (is_among names.now) (names_in (concept_of class.now))) }
+    requires plain { IsTrue (are_plain (kept_claims kept.now) && is_plain (concept_of class.now)) }
+    ensures yes { IfOk result (λ a. All (IsInAll (kept_claims kept.now) (concept_of class.now)) a.yes) }
+    ensures unknown { IfOk result (λ a. All (IsUnknown (kept_claims kept.now) names.now budget (concept_of class.now)) a.unknown) }
+    ensures kept_has_unknown { IfOk result (λ a. All (λ n. IsIn (kept_interp kept.now) (concept_of class.now) (element_of (kept_interp kept.now) n)) a.unknown) }
+    ensures others { IfOk result (λ a. (n : WordId) → Contains names.now n → ¬ Contains a.yes n → ¬ Contains a.unknown n → IsOutsideSome (kept_claims kept.now) (concept_of class.now) n) }
+    ensures given { IfOk result (λ a. All (Contains names.now) a.yes × All (Contains names.now) a.unknown) }
+    ensures apart { IfOk result (λ a. (n : WordId) → Contains a.yes n → ¬ Contains a.unknown n) }
+{
     let mut yes = Names::new(alloc);
     let mut unknown = Names::new(alloc);
     for name in names.as_slice() {
-        match decided(alloc, k, class, &denial, kept, names, *name, budget)? {
+        match decided(alloc, k, class, denial, kept, names, *name, budget)? {
             Asked::Yes => yes.push(*name)?,
             Asked::Unknown => unknown.push(*name)?,
             Asked::No => {}
@@ -95,7 +119,7 @@ pub(crate) enum Asked {
     No,
 }
 
-// The denial is the complement of the class in negation normal form.
+// Whether one name is in the class. The denial is the complement of the class in negation normal form.
 fn decided(
     alloc: Global,
     k: &Knowledge,
@@ -114,8 +138,8 @@ fn decided(
     requires given { IsTrue (is_among names.now name) }
     ensures { IfOk result (λ a. Answered (kept_interp kept.now) (kept_claims kept.now) names.now budget (concept_of class.now) name a) }
 {
-    let denied = Axiom::Member(denial.copy(alloc)?, name);
-    if axiom_true(kept.interp(), &denied) {
+    let is_out = is_outside(alloc, kept, class, denial, name)?;
+    if is_out {
         return Ok(Asked::No);
     }
     let with_denial = asserting(alloc, k, name, denial)?;
@@ -124,4 +148,21 @@ fn decided(
         Decision::Tree(_) => Ok(Asked::Yes),
         Decision::Undecided(_) => Ok(Asked::Unknown),
     }
+}
+
+// Whether the kept interpretation has a name outside the class, of which the denial is the complement.
+fn is_outside(
+    alloc: Global,
+    kept: &CheckedModel,
+    class: &Class,
+    denial: &Class,
+    name: WordId,
+) -> Result<bool, Memory>
+    requires { concept_of denial.now ≡ complement (concept_of class.now) }
+    ensures outside { IfOk result (λ yes. IsTrue yes → IsOutsideSome (kept_claims kept.now) (concept_of class.now) name) }
+    ensures inside { IfOk result (λ yes. ¬ IsTrue yes → IsIn (kept_interp kept.now) (concept_of class.now) (element_of (kept_interp kept.now) name)) }
+{
+    let copied = denial.copy(alloc)?;
+    let denied = Axiom::Member(copied, name);
+    Ok(axiom_true(kept.interp(), &denied))
 }

@@ -1,4 +1,5 @@
-use Rattle.std.proofs.Common.{subst, sym, ap}
+use Rattle.std.proofs.Common.{subst, sym, ◌∙◌}
+use Rattle.std.proofs.lemmas.Bool.{false≢true}
 use Rattle.std.specs.Prelude.{IsTrue}
 use Rattle.logic_terms.specs.Interpretation.{is_interpretation}
 use Rattle.logic_terms.specs.Known.{theory_of}
@@ -9,8 +10,11 @@ use Rattle.owl_eval.specs.Checked.{kept_interp, kept_claims}
 use Rattle.tableau.specs.Ends.{IsCutAt}
 use Rattle.tableau_rules.specs.Shown.{graph_of}
 use Rattle.reasoner.specs.Decisions.{IfModel, IfTree, IfUndecided}
-use Rattle.answers.proofs.KnownLemmas.{IsDenying, denying_lawful, denying_plain, denying_model, denying_none, denying_longer, not_denied}
+use Rattle.answers.proofs.KnownLemmas.{IsDenying, denying_lawful, denying_plain, denying_model, denying_none, denying_longer}
 use Rattle.answers.proofs.asking.decided.Goals as goal
+
+pub returns-then-is_out : goal.returns-then-is_out
+returns-then-is_out c = c.in_ok-is_out.ensures.outside c.if-is_out.true
 
 pub decide-requires-clause-lawful : goal.decide-requires-clause-lawful
 decide-requires-clause-lawful c =
@@ -85,6 +89,5 @@ returns c =
             plain = c.requires.plain;
           })
           c.args.budget cut.longer,
-      not_denied (kept_interp c.args.kept.now) (concept_of c.args.class.now) (concept_of c.args.denial.now) c.args.name c.requires.denial
-          ?,
+      c.in_ok-is_out.ensures.inside (λ t. false≢true (sym c.if-is_out.false ∙ t)),
     )

@@ -59,9 +59,10 @@ impl Chart {
         })
     }
 
-    /// The tokens.
+    /// The tokens, of which there are at most 40.
     pub fn tokens(&self) -> &Tokens
-        ensures { result.now ≡ self.now.tokens }
+        ensures tokens { result.now ≡ self.now.tokens }
+        ensures few { length result.now ≤ MOST_TOKENS }
     {
         &self.tokens
     }

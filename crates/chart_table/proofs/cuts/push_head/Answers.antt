@@ -1,4 +1,4 @@
-use Rattle.std.proofs.Common.{◌≡◌, ◌∷◌, [], true, false, absurd, ap, ◌∙◌, sym, subst, rules}
+use Rattle.std.proofs.Common.{◌≡◌, ◌∷◌, [], ap, subst, rules}
 use Rattle.scopes.specs.declared.tests.Test.{Test}
 use Rattle.chart_table.specs.Cuts.{HasCut}
 use Rattle.chart_table.proofs.HeadLemmas.{head_there, head_added, head_never}

@@ -145,23 +145,14 @@ last_states-count_at-requires t c =
     count_there c.args.setting.now c.args.rule.now c.args.plan.now c.as_slice-body.result.now c.loop-place.place c.requires.plan c.as_slice-body.ensures c.loop-place-test.true
 
 pub last_states-next_states-requires : goal.last_states-next_states-requires
-last_states-next_states-requires t c = record {
-  rows = c.loop-place.invariant.rows;
-  plans = c.requires.plans;
-  plan = c.requires.plan;
-  features = features_are c.args.setting.now c.args.rule.now c.args.plan.now c.as_slice-body.result.now c.loop-place.place c.index-body-place.result c.features_at-features.result.now c.requires.plan c.as_slice-body.ensures c.loop-place-test.true c.index-body-place.is c.features_at-features.ensures;
-}
+last_states-next_states-requires t c = (omega arith, (c.loop-place.invariant.rows, (c.requires.plans, (c.requires.plan, features_are c.args.setting.now c.args.rule.now c.args.plan.now c.as_slice-body.result.now c.loop-place.place c.index-body-place.result c.features_at-features.result.now c.requires.plan c.as_slice-body.ensures c.loop-place-test.true c.index-body-place.is c.features_at-features.ensures))))
 
 pub category_ends-plan_for-plan-requires : goal.category_ends-plan_for-plan-requires
 category_ends-plan_for-plan-requires t c =
     plan_there c.args.setting.now c.as_slice-rules.result.now c.loop-number.number c.args.plans.now (search rules) c.loop-number-test.true c.requires.plans
 
 pub category_ends-push_named-requires : goal.category_ends-push_named-requires
-category_ends-push_named-requires t c = record {
-  rows = c.loop-number.invariant.rows;
-  plans = c.requires.plans;
-  plan = plan_is c.args.setting.now c.as_slice-rules.result.now c.loop-number.number c.index-rules-number.result c.plan_for-plan.result.now c.args.plans.now (search rules) c.loop-number-test.true c.index-rules-number.is c.plan_for-plan.ensures c.requires.plans;
-}
+category_ends-push_named-requires t c = (omega arith, (c.loop-number.invariant.rows, (c.requires.plans, plan_is c.args.setting.now c.as_slice-rules.result.now c.loop-number.number c.index-rules-number.result c.plan_for-plan.result.now c.args.plans.now (search rules) c.loop-number-test.true c.index-rules-number.is c.plan_for-plan.ensures c.requires.plans)))
 
 pub push_state-returns-in_ok-push_category-in-Sub-clause-cuts : goal.push_state-returns-in_ok-push_category-in-Sub-clause-cuts
 push_state-returns-in_ok-push_category-in-Sub-clause-cuts t c =

@@ -7,7 +7,7 @@ use Rattle.codeco_terms.specs.declared.elements.Element.TheVariants.{Sub}
 use Rattle.derivation_trees.specs.Derives.{At}
 use Rattle.chart_trees.proofs.WayLemmas.{steps_none, steps_turn, steps_done, reached_first, reached_turn, reached_done}
 use Rattle.chart_trees.proofs.OutcomeLemmas.{instance_trees, no_trees, trees_none, trees_turn, trees_done, rule_trees, other_trees, up_to_none, up_to_turn, up_to_done}
-use Rattle.chart_trees.proofs.TableLemmas.{row_found, tables_more, row_new, row_below, plain_pushed, steps_same, child_pushed}
+use Rattle.chart_trees.proofs.TableLemmas.{rule_numbered, row_found, tables_more, row_new, row_below, plain_pushed, steps_same, child_pushed}
 use Rattle.chart_table.proofs.PlanLemmas.{plan_there, plan_is}
 use Rattle.chart_trees.proofs.table.+best.Goals as goal
 
@@ -46,7 +46,7 @@ all_outcomes-plan_for-plan-requires t c =
     plan_there c.args.setting.now c.as_slice-rules.result.now c.loop-index.index c.args.plans.now (search rules) c.loop-index-test.true c.requires.plans
 
 pub all_outcomes-push_named-requires : goal.all_outcomes-push_named-requires
-all_outcomes-push_named-requires t c = ?
+all_outcomes-push_named-requires t c = (omega arith, (c.requires.limited, (c.requires.plans, (c.loop-index.invariant.tables, (rule_numbered c.args.setting.now c.as_slice-rules.result.now c.loop-index.index c.loop-index.number c.index-rules-index.result (search rules) c.loop-index.invariant.number c.loop-index-test.true c.index-rules-index.is, plan_is c.args.setting.now c.as_slice-rules.result.now c.loop-index.index c.index-rules-index.result c.plan_for-plan.result.now c.args.plans.now (search rules) c.loop-index-test.true c.index-rules-index.is c.plan_for-plan.ensures c.requires.plans)))))
 
 pub push_named-returns-clause-trees : goal.push_named-returns-clause-trees
 push_named-returns-clause-trees t c =

@@ -1,6 +1,6 @@
 -- Cut-off nodes that are asked for what comes next, and the rules that they are of.
-use Rattle.std.proofs.Common.{◌≡◌, ℕ, ◌+◌, List, [], ◌∷◌, ◌++◌, Bool, true, false, ◌&&◌, take, Option, Some, None, refl, sym, ap, ◌∙◌, ◌⊎◌, inl, inr}
-use Rattle.std.specs.Prelude.{if◌then◌else◌, option_and_then, option_map}
+use Rattle.std.proofs.Common.{◌≡◌, ℕ, List, [], ◌++◌, true, ◌&&◌, take, Option, Some, None, refl, sym, ap, ◌∙◌, ◌⊎◌, inl, inr}
+use Rattle.std.specs.Prelude.{option_and_then, option_map}
 use Rattle.std.proofs.lemmas.Option.{option_and_then_some, same_Some}
 use Rattle.codeco_terms.specs.declared.values.Value.{Value}
 use Rattle.codeco_terms.specs.declared.categories.Category.{Category}
@@ -15,7 +15,7 @@ use Rattle.derivation_trees.specs.Partial.{CutNode, stopped, entered, used_up, f
 use Rattle.chart_table.specs.declared.asks.Ask.{Ask}
 use Rattle.chart_table.specs.declared.asks.Ask.TheVariants as ask
 use Rattle.chart_table.specs.Leading.{Path, referents}
-use Rattle.chart_table.specs.Asks.{is_met, CutMeets, AskLeads, AskStops, RuleAsks}
+use Rattle.chart_table.specs.Asks.{is_met, CutMeets, AskLeads, RuleAsks}
 use Rattle.chart_table.proofs.PassLemmas.{if_some, if_true, both_true, and_both, stand_at, run_path, path_runs}
 use Rattle.chart_table.proofs.OpenerLemmas.{referents-append, relisted, run_adds, nodes_parallel}
 

@@ -1,6 +1,6 @@
 -- Cut-off nodes, and the ways in which rules are cut off.
 use Rattle.std.proofs.lemmas.List.{take_more}
-use Rattle.std.proofs.Common.{◌≡◌, ℕ, suc, zero, ◌+◌, ◌-◌, ◌<◌, ◌≤◌, get_or, List, [], ◌∷◌, ◌++◌, Bool, true, false, length, take, drop, Option, Some, None, refl, sym, ap, ◌∙◌, subst, arith, ◌⊎◌, inl, inr}
+use Rattle.std.proofs.Common.{◌≡◌, ℕ, suc, zero, ◌+◌, ◌-◌, ◌<◌, ◌≤◌, get_or, List, [], ◌∷◌, ◌++◌, Bool, true, false, length, take, drop, Some, None, refl, sym, ap, ◌∙◌, subst, arith, inl, inr}
 use Rattle.std.specs.Prelude.{if◌then◌else◌, ◌==◌, slice_get}
 use Rattle.codeco_terms.specs.declared.values.Value.{Value}
 use Rattle.codeco_terms.specs.declared.elements.Element.{Element}
@@ -8,13 +8,12 @@ use Rattle.codeco_terms.specs.declared.rules.Rule.{Rule}
 use Rattle.scopes.specs.declared.entries.Entry.{Entry}
 use Rattle.scopes.specs.declared.tests.Test.{Test}
 use Rattle.derivation_trees.specs.Settings.{Setting}
-use Rattle.derivation_trees.specs.Instances.{under, feats_under, own_values, own_features, is_instance}
+use Rattle.derivation_trees.specs.Instances.{under, feats_under, own_values, own_features}
 use Rattle.derivation_trees.specs.Derives.{At, rule_with, fits}
 use Rattle.chart_table.specs.declared.states.State.{State}
 use Rattle.chart_table.specs.declared.states.Cut.{Cut}
 use Rattle.chart_table.specs.declared.asks.Ask.{Ask}
 use Rattle.chart_table.specs.Leading.{Path, ElementLeads, own_past, referents}
-use Rattle.chart_table.specs.Branches.{Extends}
 use Rattle.chart_table.specs.Steps.{at_of, Covers}
 use Rattle.chart_table.specs.Ends.{CoversPath, LeadsFrom, AreSteps}
 use Rattle.chart_table.specs.Asks.{AskStops}

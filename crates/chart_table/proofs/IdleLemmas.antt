@@ -1,5 +1,5 @@
 -- A rule whose first element that takes tokens can't stand at a place before the end has no phrase there, nor one that is cut off.
-use Rattle.std.proofs.Common.{◌≡◌, ℕ, zero, suc, List, [], ◌∷◌, Bool, true, false, ◌&&◌, ◌||◌, length, take, Option, Some, None, refl, sym, ap, ◌∙◌, subst, ◌⊎◌, inl, inr}
+use Rattle.std.proofs.Common.{◌≡◌, ℕ, zero, suc, List, [], ◌∷◌, Bool, true, false, ◌||◌, take, Option, Some, None, refl, sym, ap, ◌∙◌, ◌⊎◌, inl, inr}
 use Rattle.std.specs.Prelude.{◌==◌, option_and_then, slice_get}
 use Rattle.std.specs.Option.{option_map_or}
 use Rattle.std.specs.List.{list_all, list_any}
@@ -11,8 +11,8 @@ use Rattle.codeco_terms.specs.declared.elements.Element.TheVariants.{Terminal, P
 use Rattle.codeco_terms.specs.declared.rules.Rule.{Rule}
 use Rattle.scopes.specs.declared.tests.Test.{Test}
 use Rattle.scopes.specs.Resolution.{agrees, has_value}
-use Rattle.derivation_trees.specs.Settings.{Setting, matches_terminal, matches_preterminal}
-use Rattle.derivation_trees.specs.Instances.{under, own_values, is_instance}
+use Rattle.derivation_trees.specs.Settings.{Setting, matches_preterminal}
+use Rattle.derivation_trees.specs.Instances.{under, own_values}
 use Rattle.derivation_trees.specs.Derives.{At}
 use Rattle.derivation_trees.specs.Partial.{sub_of}
 use Rattle.derivation_scenes.specs.Starts.{has_kind, may_start}
@@ -22,7 +22,7 @@ use Rattle.chart_table.specs.Leading.{Path, own_past}
 use Rattle.chart_table.specs.Ends.{HasEndsOfRule}
 use Rattle.chart_table.specs.Instances.{HasInstances}
 use Rattle.chart_table.specs.Aims.{Aims}
-use Rattle.chart_table.specs.Cuts.{CutLeads, Stops, HasCutsOfRule, IsIdle}
+use Rattle.chart_table.specs.Cuts.{Stops, HasCutsOfRule, IsIdle}
 use Rattle.chart_table.proofs.PassLemmas.{both_true}
 
 true_is_false : true ≡ false → ⊥

@@ -1,13 +1,11 @@
 -- The instances of a rule that lead somewhere are found.
 use Rattle.std.proofs.Common.{◌≡◌, ℕ, zero, suc, ◌+◌, ◌-◌, ◌<◌, ◌≤◌, List, [], ◌∷◌, ◌++◌, true, map, length, take, drop, get_or, refl, sym, ap, ◌∙◌, subst, arith, inl, inr}
 use Rattle.std.proofs.lemmas.List.{take_more}
-use Rattle.std.specs.List.{flat_map, range_with_len}
 use Rattle.codeco_terms.specs.declared.values.Term.{Term}
-use Rattle.codeco_checked.specs.Occurrences.{positions}
 use Rattle.codeco_terms.specs.declared.rules.Rule.{Rule}
 use Rattle.scopes.specs.declared.entries.Entry.{Entry}
 use Rattle.derivation_trees.specs.Settings.{Setting}
-use Rattle.derivation_trees.specs.Instances.{is_instance, own_values, variables_of, written_variables, rule_own_features}
+use Rattle.derivation_trees.specs.Instances.{is_instance, own_values, variables_of}
 use Rattle.chart_table.specs.declared.states.State.{State}
 use Rattle.chart_table.specs.Branches.{OneOf, Extends, AnyExtends, closing}
 use Rattle.chart_table.specs.declared.choices.Plan.{Plan}

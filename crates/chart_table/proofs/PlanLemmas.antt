@@ -1,11 +1,9 @@
 -- What the plans of rules tell.
-use Rattle.std.proofs.Common.{◌≡◌, ℕ, zero, suc, ◌+◌, ◌<◌, ◌≤◌, List, [], ◌∷◌, ◌++◌, Bool, true, ◌&&◌, map, length, take, drop, get_or, Some, refl, sym, ap, ◌∙◌, subst, arith, ◌⊎◌, inl, inr}
+use Rattle.std.proofs.Common.{◌≡◌, ℕ, zero, suc, ◌+◌, ◌<◌, ◌≤◌, List, [], ◌∷◌, ◌++◌, ◌&&◌, map, length, take, drop, get_or, Some, refl, sym, ap, ◌∙◌, subst, arith, ◌⊎◌, inl, inr}
 use Rattle.std.specs.Prelude.{slice_get}
 use Rattle.std.specs.List.{list_all, flat_map}
 use Rattle.std.proofs.lemmas.Option.{same_Some, slice_get-get_or}
 use Rattle.std.proofs.lemmas.List.{take_more}
-use Rattle.codeco_terms.specs.declared.values.Value.{Value}
-use Rattle.codeco_terms.specs.declared.values.Term.{Term}
 use Rattle.codeco_terms.specs.declared.declarations.Declared.TheVariants as declared
 use Rattle.codeco_terms.specs.declared.elements.Element.{Element}
 use Rattle.codeco_terms.specs.declared.elements.Element.TheVariants.{Terminal, Preterminal, Sub, Position, Opener, Forward, Strong, Back, NoBack}
@@ -13,7 +11,7 @@ use Rattle.codeco_terms.specs.declared.rules.Rule.{Rule}
 use Rattle.codeco_terms.specs.GrammarParts.{GrammarParts}
 use Rattle.codeco_checked.specs.Occurrences.{positions, rule_features}
 use Rattle.derivation_trees.specs.Settings.{Setting, is_value}
-use Rattle.derivation_trees.specs.Instances.{features_of, value_under, same_numbers, term_fits, own_fit, own_values, own_features, written_variables, variables_of, rule_own_features, is_instance}
+use Rattle.derivation_trees.specs.Instances.{features_of, value_under, same_numbers, term_fits, own_fit, own_features, variables_of, rule_own_features, is_instance}
 use Rattle.chart_table.specs.declared.choices.Plan.{Plan}
 use Rattle.chart_table.specs.Choices.{choices, choices_in, terms_of, IsPlanOf, IsPlan, EachPlan, ArePlans, planned_instance}
 use Rattle.chart_table.specs.declared.features.CategoryFeatures.{CategoryFeatures}

@@ -1,5 +1,5 @@
 -- Sentences, by the ends of `text`.
-use Rattle.std.proofs.Common.{◌≡◌, ℕ, suc, zero, ◌+◌, List, [], ◌∷◌, ◌++◌, Bool, true, false, ◌||◌, length, map, Option, Some, None, arith, refl, sym, ap, ◌∙◌, subst, inl, inr, IsTrue, ◌↔◌}
+use Rattle.std.proofs.Common.{◌≡◌, ℕ, suc, zero, ◌+◌, List, [], ◌∷◌, ◌++◌, Bool, true, false, ◌||◌, length, map, Some, arith, refl, sym, ap, ◌∙◌, subst, inl, inr, IsTrue, ◌↔◌}
 use Rattle.std.specs.Prelude.{◌==◌, slice_get}
 use Rattle.std.proofs.lemmas.Option.{same_Some}
 use Rattle.chart_table.specs.declared.table.Row.{Row}

@@ -1,13 +1,12 @@
 -- Turns of the loops over entries, ends and states.
 use Rattle.std.proofs.Common.{◌≡◌, ℕ, suc, zero, ◌+◌, ◌-◌, ◌<◌, ◌≤◌, List, [], ◌∷◌, ◌++◌, length, take, drop, get_or, length-drop, Some, refl, sym, ap, ◌∙◌, subst, arith}
 use Rattle.std.specs.Prelude.{slice_get}
-use Rattle.std.specs.List.{flat_map, range_with_len}
+use Rattle.std.specs.List.{flat_map}
 use Rattle.std.proofs.lemmas.Option.{slice_get-get_or, get_or_from_slice_get}
 use Rattle.std.proofs.lemmas.List.{take_more, get_or-drop}
 use Rattle.codeco_terms.specs.declared.values.Value.{Value}
 use Rattle.codeco_terms.specs.declared.values.Term.{Term}
-use Rattle.codeco_checked.specs.Occurrences.{positions}
-use Rattle.derivation_trees.specs.Instances.{written_variables, variables_of, rule_own_features}
+use Rattle.derivation_trees.specs.Instances.{variables_of}
 use Rattle.chart_table.specs.Branches.{closing}
 use Rattle.chart_table.specs.declared.choices.Plan.{Plan}
 use Rattle.chart_table.specs.Choices.{choices, choices_in, IsPlan}

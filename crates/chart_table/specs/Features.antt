@@ -1,5 +1,5 @@
 -- The features of the categories that elements introduce.
-use Rattle.std.specs.Prelude.{◌≡◌, ℕ, not, List, [], map, filter, All}
+use Rattle.std.specs.Prelude.{◌≡◌, ℕ, not, List, [], map, filter}
 use Rattle.codeco_terms.specs.declared.elements.Element.{Element}
 use Rattle.codeco_terms.specs.declared.elements.Element.TheVariants.{Terminal, Preterminal, Sub, Position, Opener, Forward, Strong, Back, NoBack}
 use Rattle.codeco_terms.specs.GrammarParts.{GrammarParts}

@@ -1,4 +1,3 @@
-use Rattle.std.proofs.Common.{rules}
 use Rattle.chart_table.proofs.HeadLemmas.{cut_there}
 use Rattle.chart_table.proofs.cuts.has_cut.Goals as goal
 

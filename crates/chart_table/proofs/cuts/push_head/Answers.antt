@@ -1,7 +1,7 @@
-use Rattle.std.proofs.Common.{◌≡◌, ◌∷◌, [], ap, subst, rules}
+use Rattle.std.proofs.Common.{ap, subst, rules}
 use Rattle.scopes.specs.declared.tests.Test.{Test}
 use Rattle.chart_table.specs.Cuts.{HasCut}
-use Rattle.chart_table.proofs.HeadLemmas.{head_there, head_added, head_never}
+use Rattle.chart_table.proofs.HeadLemmas.{head_there, head_added}
 use Rattle.chart_table.proofs.cuts.push_head.Goals as goal
 
 pub returns-then-has_cut : goal.returns-then-has_cut

@@ -1,4 +1,4 @@
-use Rattle.std.proofs.Common.{◌≡◌, arith}
+use Rattle.std.proofs.Common.{arith}
 use Rattle.derivation_trees.proofs.InstanceLemmas.{same_numbers_short, same_numbers_end}
 use Rattle.chart_table.proofs.fits.have_numbers.Goals as goal
 

@@ -1,4 +1,4 @@
-use Rattle.std.proofs.Common.{◌≡◌, arith}
+use Rattle.std.proofs.Common.{arith}
 use Rattle.derivation_trees.proofs.InstanceLemmas.{own_fit_short}
 use Rattle.chart_table.proofs.fits.own_fit.Goals as goal
 

@@ -1,4 +1,4 @@
-use Rattle.std.proofs.Common.{◌≡◌, ap}
+use Rattle.std.proofs.Common.{ap}
 use Rattle.chart_table.proofs.IdleLemmas.{idle_is}
 use Rattle.chart_table.proofs.table.may_go.Goals as goal
 

@@ -204,8 +204,10 @@ fn put(
     requires open { CanChange articles.old fresh.word }
     requires place { HasPlace articles.old fresh.word fresh.at }
     requires own { IsSomeAnd (slice_get senses.old.items place) (λ own. fresh.at ≤ length own) }
-    ensures articles { OnOk result (articles.new ≡ with_change articles.old fresh.word (λ sentences. insert sentences fresh.at (record { tokens = fresh.tokens; status = status }))) }
-    ensures senses { OnOk result ((own : List TheSense) → slice_get senses.old.items place ≡ Some own → senses.new.items ≡ slice_set senses.old.items place (insert own fresh.at fresh.sense)) }
+    ensures articles { OnOk result (articles.new
+        ≡ with_change articles.old fresh.word (λ sentences. insert sentences fresh.at (record { tokens = fresh.tokens; status = status }))) }
+    ensures senses { OnOk result ((own : List TheSense) → slice_get senses.old.items place ≡ Some own
+        → senses.new.items ≡ slice_set senses.old.items place (insert own fresh.at fresh.sense)) }
     ensures articles_stay { OnErr result (articles.new ≡ articles.old) }
     ensures senses_stay { OnErr result (senses.new.items ≡ senses.old.items) }
 {

@@ -114,7 +114,8 @@ fn span_of(
     requires around { IsAround articles.now senses.now place from to }
     requires total { length (known_in articles.now senses.now) ≤ total }
     ensures within { result.first + result.count ≤ length (known_in articles.now senses.now) }
-    ensures around { (own : List Claim) → known_around articles.now senses.now place from own to ≡ take result.first (known_in articles.now senses.now) ++ (own ++ drop (result.first + result.count) (known_in articles.now senses.now)) }
+    ensures around { (own : List Claim) → known_around articles.now senses.now place from own to
+        ≡ take result.first (known_in articles.now senses.now) ++ (own ++ drop (result.first + result.count) (known_in articles.now senses.now)) }
 {
     let sentences = articles[place].sentences.as_slice();
     let meant = senses[place].as_slice();

@@ -91,7 +91,7 @@ impl Machine for Desk {
 
 // What serving left.
 #[derive(Drop)]
-pub(crate) struct Played {
+pub(crate) struct Left {
     pub served: Served,
     pub journal: MemorySink,
     alloc: Global,
@@ -99,7 +99,7 @@ pub(crate) struct Played {
 }
 
 // Serves the events of a script, at most so many, where the sends of these numbers fail.
-pub(crate) fn played(script: Script, failing: &[u64], most: u64) -> Result<Played, Fail> {
+pub(crate) fn serve_script(script: Script, failing: &[u64], most: u64) -> Result<Left, Fail> {
     let alloc = script.alloc;
     let mut fails = Fails::none(alloc);
     fails.send.extend_from_slice(failing)?;
@@ -110,7 +110,7 @@ pub(crate) fn played(script: Script, failing: &[u64], most: u64) -> Result<Playe
     let mut journal = MemorySink::new(alloc, Vec::new(alloc));
     let mut link = MemoryLink::in_pieces(alloc, script.events, fails, LARGEST);
     let served = serve(alloc, &mut desk, most, &mut journal, &mut link);
-    Ok(Played {
+    Ok(Left {
         served,
         journal,
         alloc,
@@ -118,7 +118,7 @@ pub(crate) fn played(script: Script, failing: &[u64], most: u64) -> Result<Playe
     })
 }
 
-impl Played {
+impl Left {
     // What was sent on a connection's number.
     pub(crate) fn sent_on(&self, connection: u32) -> Result<Vec<u8>, Fail> {
         let mut all = Vec::new(self.alloc);

@@ -1,5 +1,6 @@
 pub mod CommandLemmas
 pub mod RunLemmas
 pub mod ServeLemmas
+pub mod CompletenessLemmas
 pub mod StatusLemmas
 pub mod OptionLemmas

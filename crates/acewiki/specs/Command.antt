@@ -9,15 +9,17 @@ use Rattle.acewiki.specs.declared.options.TheConstants.{MOST_BUDGET, MOST_EVENTS
 use Rattle.acewiki.specs.declared.command.Outcome.{Outcome}
 use Rattle.acewiki.specs.declared.command.Outcome.TheVariants.{Done, Usage, ReadFault, WriteFault, LinkFault, TooMuch, Memory}
 
--- a command: `replay` with the budget of a search, or `serve` with its address, the budget, and how many events it handles
+-- a command: `replay` with the budget of a search; `serve` with its address, the budget, and how many events it handles; or `help`
 pub data Asked : Type 0 where
   replay : ℕ → Asked
   serve : List ℕ → ℕ → ℕ → Asked
+  help : Asked
 
 -- a command of the program as what is asked
 abbrev pub asked_by : Command → Asked
 asked_by (commands.Replay budget) = replay budget
 asked_by (commands.Serve address budget events) = serve address.now budget events
+asked_by commands.Help = help
 
 -- ---- options
 
@@ -69,12 +71,23 @@ abbrev pub serve_of : List (List ℕ) → Option Asked
 serve_of [] = None
 serve_of (address ∷ words) = if is_address address then option_map (serve_with address) (options_after no_options words) else None
 
+-- `help` alone
+abbrev pub help_of : List (List ℕ) → Option Asked
+help_of [] = Some help
+help_of (word ∷ words) = None
+
 -- the command that the words are
 abbrev pub command_of : List (List ℕ) → Option Asked
 command_of [] = None
 command_of (name ∷ words) =
     if bytes_eq name (codes "replay") then option_and_then replay_with (options_after no_options words) else (
-    if bytes_eq name (codes "serve") then serve_of words else None)
+    if bytes_eq name (codes "serve") then serve_of words else (
+    if bytes_eq name (codes "help") then help_of words else None))
+
+-- what `help` writes: a line for each command
+unfoldable pub help_text : List ℕ
+help_text =
+    codes "acewiki replay [--budget N]\nacewiki serve ADDRESS [--budget N] [--events N]\n" ++ codes "acewiki make COUNT SEED [--budget N]\nacewiki help\n"
 
 -- ---- the end
 

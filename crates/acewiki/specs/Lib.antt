@@ -3,3 +3,4 @@ pub mod Command
 pub mod Lines
 pub mod Replay
 pub mod Serve
+pub mod Completeness

@@ -1,6 +1,6 @@
 // The command line: which words are a command, and how the program ends.
 ghost use Rattle.std.specs.Prelude.{◌≡◌, None, Some, option_map, if◌then◌else◌};
-ghost use Rattle.acewiki.specs.Command.{asked_by, command_of, replay_with, serve_of, is_address, begins_with_hyphen, status_of, words_of};
+ghost use Rattle.acewiki.specs.Command.{asked_by, command_of, replay_with, serve_of, help_of, is_address, begins_with_hyphen, status_of, words_of};
 ghost use Rattle.acewiki.specs.declared.command.Outcome.TheVariants.{Memory as out_of_memory};
 
 use crate::options::{DEFAULT_BUDGET, MOST_EVENTS, Options};
@@ -20,6 +20,8 @@ pub enum Command<'a> {
         budget: u64,
         events: u64,
     },
+    /// Tells what the commands are.
+    Help,
 }
 
 impl Command<'_> {
@@ -33,6 +35,9 @@ impl Command<'_> {
         }
         if name.as_slice() == b"serve".as_slice() {
             return serve_of(words);
+        }
+        if name.as_slice() == b"help".as_slice() {
+            return help_of(words);
         }
         None
     }
@@ -60,6 +65,15 @@ fn serve_of(words: &[Arg]) -> Option<Command<'_>>
         budget: options.budget.unwrap_or(DEFAULT_BUDGET),
         events: options.events.unwrap_or(MOST_EVENTS),
     })
+}
+
+fn help_of(words: &[Arg]) -> Option<Command<'_>>
+    ensures { option_map asked_by result ≡ help_of words.now }
+{
+    match words {
+        [] => Some(Command::Help),
+        [..] => None,
+    }
 }
 
 // The address that a word is, if it is one.

@@ -1,8 +1,9 @@
 //! AceWiki: a controlled-English wiki. `acewiki replay` answers one reply line to each request line of its input, and
-//! `acewiki serve ADDRESS` serves it to browsers.
+//! `acewiki serve ADDRESS` serves it to browsers; `acewiki help` tells the commands.
 #![tactic(auto)]
 
 mod command;
+mod help;
 mod lines;
 mod options;
 mod replay;

@@ -1,0 +1,8 @@
+use Rattle.acewiki.proofs.StatusLemmas.{WritesHelp-all, WritesHelp-front}
+use Rattle.acewiki.proofs.help.help.Goals as goal
+
+pub returns-then-write_help-clause-helps : goal.returns-then-write_help-clause-helps
+returns-then-write_help-clause-helps g c = ?
+
+pub returns-else-write_help-clause-helps : goal.returns-else-write_help-clause-helps
+returns-else-write_help-clause-helps g c = ?

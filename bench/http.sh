@@ -33,18 +33,27 @@ kilobytes() { awk '/^VmRSS/ { print $2 }' "/proc/$server/status"; }
 here="$(rate $wiki 20000 16)" there="$(rate $web 20000 16)"
 printf '%-44s %8d\n' 'acewiki, 16 clients, requests/second' "$here" 'nginx, equal page, requests/second' "$there"
 awk -v a="$here" -v b="$there" 'BEGIN { printf "%-44s %8.2f\n", "acewiki as a part of nginx", a / b }'
-alone="$(rate $wiki 5000 1)"
-printf '%-44s %8d\n' 'acewiki, one client at a time' "$alone"
-python3 - "$wiki" "$work/idle" <<'PY' &
+# One client at a time, by turns without and with 60 idle connections, so that what else the machine does hits both alike.
+idle() { # FILE: holds 60 connections until it is killed, and makes the file once they stand
+    exec python3 - "$wiki" "$1" <<'PY'
 import socket, sys, time
 held = [socket.create_connection(("127.0.0.1", int(sys.argv[1]))) for _ in range(60)]
 open(sys.argv[2], "w").close()
-time.sleep(40)
+time.sleep(50)
 PY
-idle=$!
-until [ -e "$work/idle" ]; do sleep 0.1; done
-printf '%-44s %8d\n' 'the same beside 60 idle connections' "$(rate $wiki 5000 1)"
-kill $idle
+}
+for round in $(seq 9); do
+    rate $wiki 2000 1 >>"$work/alone"; echo >>"$work/alone"
+    idle "$work/idle$round" &
+    held=$!
+    until [ -e "$work/idle$round" ]; do sleep 0.05; done
+    rate $wiki 2000 1 >>"$work/beside"; echo >>"$work/beside"
+    kill $held; wait $held 2>/dev/null || true
+done
+median() { sort -n "$1" | awk 'NF { rates[++n] = $1 } END { print rates[int((n + 1) / 2)] }'; }
+alone="$(median "$work/alone")" beside="$(median "$work/beside")"
+printf '%-44s %8d\n' 'acewiki, one client at a time' "$alone" 'the same beside 60 idle connections' "$beside"
+awk -v a="$alone" -v b="$beside" 'BEGIN { printf "%-44s %8.2f\n", "with idle connections as a part of without", b / a }'
 python3 - "$wiki" <<'PY'
 import socket, sys, time
 body = b'{"do":"find","word":"Nameab","x":"' + b"a" * 70000

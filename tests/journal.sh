@@ -1,12 +1,15 @@
 #!/usr/bin/env bash
-# The journal keeps a wiki: the program is killed after some requests over HTTP and started anew on what went in and the
-# journal, and then the index and the page of each article are as before, and sessions are gone. $1 is the program.
+# The journal keeps a wiki in one file, as docs/HTTP.md says: the program is killed after some requests over HTTP and started
+# anew, and then the index and the page of each article are as before, and sessions are gone. A last line that was cut off is
+# no change, and takes none with it that comes later. $1 is the program.
 set -u
 exec python3 - "$1" <<'PY'
-import json, random, signal, socket, subprocess, sys, time
+import json, os, random, signal, socket, subprocess, sys, tempfile, time
 
 PORT, HEAD = 18661, "HTTP/1.1\r\nHost: here\r\n"
 draw = random.Random(5)
+folder = tempfile.TemporaryDirectory()
+FILE = folder.name + "/wiki.jsonl"
 
 
 def send(text):
@@ -23,10 +26,9 @@ def ask(**request):
     return json.loads(send(f"POST /api {HEAD}Content-Length: {len(body)}\r\n\r\n{body}").split("\r\n\r\n")[1])
 
 
-def start(given):
-    wiki = subprocess.Popen([sys.argv[1], "serve", f"127.0.0.1:{PORT}"], stdin=subprocess.PIPE, stdout=subprocess.PIPE)
-    wiki.stdin.write(given)
-    wiki.stdin.close()
+def start():
+    command = 'echo >>"$1"; exec "$2" serve "$3" <"$1" >>"$1"'
+    wiki = subprocess.Popen(["sh", "-c", command, "sh", FILE, sys.argv[1], f"127.0.0.1:{PORT}"])
     for _ in range(200):
         try:
             socket.create_connection(("127.0.0.1", PORT)).close()
@@ -58,9 +60,23 @@ def commit(session, tokens):
         sys.exit(f"journal: no commit: {reply}")
 
 
+def anew(wiki, want, why):
+    """Kills the program, starts it, and looks at all pages."""
+    wiki.send_signal(signal.SIGKILL)
+    wiki.wait()
+    if why == "cut":
+        os.truncate(FILE, os.path.getsize(FILE) - 3)
+    wiki = start()
+    if pages(nouns + names) != want:
+        wiki.kill()
+        sys.exit(f"journal: other pages after a start on the journal ({why})")
+    return wiki
+
+
 nouns, names = ["cat", "dog", "fox"], ["Ada", "Bob"]
-given = b"".join(json.dumps(dict(do="word", kind="noun", forms=[noun])).encode() + b"\n" for noun in nouns)
-wiki = start(given)
+with open(FILE, "w") as file:
+    file.writelines(json.dumps(dict(do="word", kind="noun", forms=[noun])) + "\n" for noun in nouns)
+wiki = start()
 for name in names:
     ask(do="word", kind="name", forms=[name])
 for turn in range(3):
@@ -68,13 +84,14 @@ for turn in range(3):
         change(nouns, names)
     session = ask(do="open", article="Ada")["session"]
     commit(session, ["Ada", "is", "a", "cat", "."])
-    before = pages(nouns + names)
-    wiki.send_signal(signal.SIGKILL)
-    given += wiki.stdout.read()
-    wiki = start(given)
-    if pages(nouns + names) != before:
-        sys.exit("journal: other pages after a start on the journal")
+    wiki = anew(wiki, pages(nouns + names), "whole")
     if ask(do="menu", session=session).get("name") != "NoSession":
+        wiki.kill()
         sys.exit("journal: a session was kept")
+before = pages(nouns + names)
+ask(do="add", article="Bob", text="Bob is a fox.")
+wiki = anew(wiki, before, "cut")
+ask(do="add", article="Bob", text="Bob is a dog.")
+wiki = anew(wiki, pages(nouns + names), "after a cut")
 wiki.kill()
 PY

@@ -16,12 +16,14 @@ use Rattle.wiki_io.specs.Lines.{InputLine, input_lines}
 use Rattle.acewiki.specs.Wiki.{Holding, KeptStep}
 use Rattle.serving.specs.declared.serving.Served.{Served}
 use Rattle.serving.specs.declared.serving.Served.TheVariants as served
-use Rattle.serving.specs.Handling.{exchange_in, response_in}
+use Rattle.serving.specs.Handling.{turn_in, exchange_in, response_in}
 use Rattle.server.specs.Kept.{Kept}
 use Rattle.serving.specs.Events.{Outside, RunsEvents, RunsAll, EndsServing, Ended}
 use Rattle.serving.proofs.ServeLemmas.{told_same}
 use Rattle.serving.proofs.DeliverLemmas.{Delivers-whole, with_more-nil}
 use Rattle.serving.proofs.EventLemmas.{RunsEvents-none, Turns-append}
+use Rattle.server.proofs.RunLemmas.{own_each}
+use Rattle.wiki_core.proofs.ApartLemmas.{tokens_own}
 use Rattle.acewiki.specs.declared.command.Outcome.{Outcome}
 use Rattle.acewiki.specs.declared.command.Outcome.TheVariants as outcomes
 use Rattle.acewiki.specs.Lines.{asked, told, StepsLine}
@@ -69,8 +71,10 @@ answers_of_run first bytes left_after input outside events last kept outside_aft
   handlings = run.handlings;
   kept = kept;
   turns = run.turns;
+  own = own_each events (map turn_in run.handlings) kept run.turns;
   last = last;
   run = Turns-append KeptStep first input.exchanges (flat_map exchange_in run.handlings) input.last last input.steps.turns run.steps;
+  tokens = tokens_own first.state.pages.grammar;
   journal = run.journal;
   responses = run.responses;
   whole = Delivers-whole (flat_map response_in run.handlings) outside.sent outside_after.sent outside.send_faults outside_after.send_faults run.responses;

@@ -11,7 +11,8 @@ use Rattle.wiki_talk.specs.declared.replies.Reply.{Reply}
 use Rattle.wiki_talk.specs.Turns.{Exchange, request_in, Turns}
 use Rattle.acewiki.specs.Wiki.{Holding, KeptStep}
 use Rattle.server.specs.Kept.{Kept}
-use Rattle.server.specs.Runs.{TakesAll}
+use Rattle.server.specs.Runs.{TakesAll, AreOwn}
+use Rattle.wiki_core.specs.Apart.{TokensAreOwn}
 use Rattle.serving.specs.declared.serving.Served.{Served}
 use Rattle.serving.specs.declared.serving.Served.TheVariants as served
 use Rattle.serving.specs.Handling.{Handling, turn_in, exchange_in, journal_in, response_in}
@@ -71,16 +72,22 @@ Serves first most left outside handed outcome left_after outside_after handed_af
 
 -- For every list of events, that is, for every interleaving of pieces that arrive on any connections, the bytes answered are
 -- a plain wiki's: there is one run of the plain wiki over what the lines of the input ask and then what the events ask, in
--- order. The journal is the lines of the accepted changes. On each connection's number the responses to its replies are
--- sent, opening after opening, each whole where no send failed.
+-- order. By each of its steps every stored sentence has a derivation from the present words, every menu lists exactly the
+-- tokens that continue a partial derivation, the axioms of the asserted sentences are those that they mean and have the kept
+-- interpretation as a finite model, and a sentence that means axioms is red only where no finite interpretation is a model with
+-- them, or a budget is spent. What a connection asks is told by its own bytes alone, however they were cut, and what a session
+-- holds by what that session heard. The journal is the lines of the accepted changes. On each connection's number the
+-- responses to its replies are sent, opening after opening, each whole where no send failed.
 pub record AnswersAsPlainWiki (first : Holding) (lines : List InputLine) (outside : Outside) (events : List Event) (outside_after : Outside) : Type 0 where
   pub of_lines : List (Exchange Request Reply)
   pub asked_then : map request_in of_lines ≡ map asked lines
   pub handlings : List Handling
   pub kept : List Kept
   pub turns : TakesAll [] events (map turn_in handlings) kept
+  pub own : AreOwn [] events (map turn_in handlings)
   pub last : Holding
   pub run : Turns KeptStep first (of_lines ++ flat_map exchange_in handlings) last
+  pub tokens : TokensAreOwn first.state.pages.grammar
   pub journal : Appends outside.journal outside_after.journal (flat_map journal_in handlings)
   pub responses : Delivers (flat_map response_in handlings) outside.sent outside.send_faults outside_after.sent outside_after.send_faults
   pub whole : ¬ Rose outside.send_faults outside_after.send_faults → (n : ℕ) (sent sent_after : List (ℕ × List ℕ)) → outside.sent ≡ Some sent → outside_after.sent ≡ Some sent_after

@@ -6,7 +6,7 @@ use Rattle.std.specs.Prelude.{if◌then◌else◌, nat_lt, IsUtf8}
 use Rattle.httparse.specs.declared.spans.HeaderSpan.{HeaderSpan}
 use Rattle.httparse.specs.declared.spans.RequestSpans.{RequestSpans}
 use Rattle.httparse.specs.Grammar.{RequestHead, print_request, ReadsRequest, HasNoRequest, NeverHasRequest, MayBecomeRequest}
-use Rattle.httparse.specs.Spans.{span_bytes, header_bytes, name_and_value, IsRequestWithin, IsRequestAt, IsRequestOf, RequestExceeds}
+use Rattle.httparse.specs.Spans.{span_bytes, header_bytes, name_and_value, IsRequestWithin, IsRequestAt, IsRequestOf, RequestOverflows, RequestExceeds}
 use Rattle.httparse.specs.declared.Status.{Status}
 use Rattle.httparse.specs.declared.Status.TheVariants.{Complete}
 use Rattle.httparse.specs.Outcome.{IfComplete}
@@ -73,11 +73,11 @@ begins_half bytes part begun is none may told = inr (inl (subst IsHalfHead is (n
 pub begins_never : (bytes part : List ℕ) (begun : Begun) → part ≡ head_part bytes → NeverHasRequest part → begun ≡ refused 400 → Begins bytes begun
 begins_never bytes part begun is never told = inl (subst IsNoHead is (inl never), told)
 
-pub begins_exceeds : (bytes part : List ℕ) (begun : Begun) → part ≡ head_part bytes → RequestExceeds MOST_FIELDS part → begun ≡ refused 400 → Begins bytes begun
-begins_exceeds bytes part begun is exceeds told = inl (subst IsNoHead is (inr (exceeds, exceeds_newlines MOST_FIELDS part exceeds)), told)
+pub begins_exceeds : (bytes part : List ℕ) (begun : Begun) → part ≡ head_part bytes → RequestOverflows MOST_FIELDS part → RequestExceeds MOST_FIELDS part → begun ≡ refused 400 → Begins bytes begun
+begins_exceeds bytes part begun is overflows exceeds told = inl (subst IsNoHead is (inr (overflows, exceeds, exceeds_newlines MOST_FIELDS part exceeds)), told)
 
 -- a prefix of the first bytes stays one when more bytes come
-prefix_stays : (n : ℕ) (bytes more front rest : List ℕ) → take n bytes ≡ front ++ rest → take n (bytes ++ more) ≡ front ++ drop (length front) (take n (bytes ++ more))
+pub prefix_stays : (n : ℕ) (bytes more front rest : List ℕ) → take n bytes ≡ front ++ rest → take n (bytes ++ more) ≡ front ++ drop (length front) (take n (bytes ++ more))
 prefix_stays n bytes more [] rest h = refl
 prefix_stays zero bytes more (x ∷ front) rest h = cc
 prefix_stays (suc n) [] more (x ∷ front) rest h = cc

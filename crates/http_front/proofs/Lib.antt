@@ -5,3 +5,4 @@ pub mod HeadLemmas
 pub mod NumberLemmas
 pub mod PieceLemmas
 pub mod RouteLemmas
+pub mod CutLemmas

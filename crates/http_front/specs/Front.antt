@@ -3,7 +3,7 @@ use Rattle.std.specs.Prelude.{◌≡◌, ◌==◌, ◌≤◌, ◌+◌, ◌⊎◌
 use Rattle.std.specs.Option.{option_map_or}
 use Rattle.std.specs.Str.{bytes_eq}
 use Rattle.httparse.specs.Grammar.{RequestHead, print_request, ReadsRequest, HasNoRequest, NeverHasRequest, MayBecomeRequest}
-use Rattle.httparse.specs.Spans.{name_and_value, RequestExceeds}
+use Rattle.httparse.specs.Spans.{name_and_value, RequestOverflows, RequestExceeds}
 use Rattle.wiki_talk.specs.declared.requests.Request.{Request}
 use Rattle.http_front.specs.declared.goals.Verb.{Verb}
 use Rattle.http_front.specs.declared.goals.Goal.{Goal}
@@ -83,9 +83,9 @@ abbrev pub after_blank : List ℕ → List ℕ
 after_blank [] = []
 after_blank (b ∷ bytes) = if is_line_end b then after_blank bytes else b ∷ bytes
 
--- these bytes begin a head that has too many fields
+-- these bytes begin a head that has too many fields however they go on, and that many lines have come
 abbrev pub HasTooManyFields : List ℕ → Type 0
-HasTooManyFields bytes = RequestExceeds MOST_FIELDS bytes × (MOST_FIELDS + 2 ≤ newlines (after_blank bytes))
+HasTooManyFields bytes = RequestOverflows MOST_FIELDS bytes × RequestExceeds MOST_FIELDS bytes × (MOST_FIELDS + 2 ≤ newlines (after_blank bytes))
 
 -- however they go on, these bytes begin with no head, or a head that they begin has too many fields
 abbrev pub IsNoHead : List ℕ → Type 0

@@ -4,3 +4,4 @@ pub mod Routes
 pub mod Forms
 pub mod Asked
 pub mod Front
+pub mod Cuts

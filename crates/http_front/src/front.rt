@@ -3,6 +3,7 @@ ghost use Rattle.std.specs.Prelude.{◌≡◌, ◌≤◌, ◌++◌, List, ℕ, I
 ghost use Rattle.httparse.specs.Spans.{IsHeaderWithin, header_bytes};
 ghost use Rattle.http_front.specs.Routes.{table, path_of};
 ghost use Rattle.http_front.specs.Front.{refused, half_begun, word_in, session_in, begun_for, begun_by, begun_at, begun_with, begun_of, head_part, Begins, seen_of, seen_after, Sees, is_line};
+ghost use Rattle.http_front.specs.Cuts.{IsCutAnywhere};
 ghost use Rattle.http_front.specs.Forms.{decoded};
 
 use crate::asked::{Asked, asked};
@@ -35,8 +36,17 @@ impl Front {
     }
 
     /// What the bytes that have come over a connection since its opening are: no whole request yet, a refusal or a request.
-    #[tactic(auto, using(crate::proofs::HeadLemmas::sees_wait, crate::proofs::HeadLemmas::sees_refusal, crate::proofs::HeadLemmas::sees_head))]
+    /// In whatever pieces they came, they are the same.
     pub fn request_of(&self, bytes: &[u8]) -> Result<Seen, Memory>
+        ensures sees { IfOk result (λ seen. Sees bytes.now seen) }
+        ensures cut { IfOk result (λ seen. IsCutAnywhere bytes.now seen) }
+    {
+        let seen = self.seen_in(bytes)?;
+        Ok(seen)
+    }
+
+    #[tactic(auto, using(crate::proofs::HeadLemmas::sees_wait, crate::proofs::HeadLemmas::sees_refusal, crate::proofs::HeadLemmas::sees_head))]
+    fn seen_in(&self, bytes: &[u8]) -> Result<Seen, Memory>
         ensures { IfOk result (λ seen. Sees bytes.now seen) }
     {
         match self.head_of(bytes)? {

@@ -5,13 +5,14 @@ use Rattle.wiki_io.specs.declared.links.Event.{Event}
 use Rattle.wiki_io.specs.declared.links.Event.TheVariants.{Opened, Piece, Ended}
 use Rattle.wiki_io.specs.Link.{is_among, can_come}
 use Rattle.http_front.specs.Front.{Sees}
+use Rattle.http_front.proofs.CutLemmas.{cut_anywhere}
 use Rattle.server.specs.declared.limits.TheConstants.{MOST_OPEN}
 use Rattle.server.specs.declared.turns.Turn.{Turn}
 use Rattle.server.specs.declared.turns.Turn.TheVariants as turns
 use Rattle.server.specs.Kept.{Kept, numbers, fresh, bytes_of, with_piece, closed}
 use Rattle.server.specs.Taking.{Takes, TakesOpening, TakesPiece, TakesEnd, kept_after}
 use Rattle.server.specs.Reading.{IsSeen}
-use Rattle.server.specs.Runs.{TakesAll, own_after, own_after_all, own_bytes, IsOwn, IsApart}
+use Rattle.server.specs.Runs.{TakesAll, own_after, own_after_all, own_bytes, IsOwn, AreOwn, IsApart}
 use Rattle.server.proofs.OwnLemmas.{by_number, bytes_of-push, numbers-push, bytes_of-none, numbers-piece, bytes_of-piece, bytes_of-other_piece, numbers-closed, numbers-others, bytes_of-others}
 
 -- of each connection that is kept, the bytes are these
@@ -82,7 +83,8 @@ take_apart kept (Piece n piece) turn new comes takes = λ events turns run.
     let same : (n == n) ≡ true = eq-eqb n n refl in
     let is : bytes_of n kept ++ piece ≡ own_bytes n (events ++ Piece n piece ∷ []) =
     ap (λ bs. bs ++ piece) own ∙ sym (own_after_all-push n [] events (Piece n piece) ∙ (rw same refl)) in
-    record { seen = takes.seen; sees = subst (λ bs. Sees bs takes.seen) is takes.sees; turn_is = takes.turn_is }
+    let sees : Sees (own_bytes n (events ++ Piece n piece ∷ [])) takes.seen = subst (λ bs. Sees bs takes.seen) is takes.sees in
+    (record { seen = takes.seen; sees = sees; turn_is = takes.turn_is }, cut_anywhere (own_bytes n (events ++ Piece n piece ∷ [])) takes.seen sees)
 take_apart kept (Ended n) turn new comes takes = λ events turns run. tt
 
 -- one event more
@@ -94,3 +96,16 @@ TakesAll-push first [] (t ∷ turns) event turn before last run comes takes = ab
 TakesAll-push first (e ∷ events) [] event turn before last run comes takes = absurd run
 TakesAll-push first (e ∷ events) (t ∷ turns) event turn before last run comes takes =
     (run.0, run.1, run.2, TakesAll-push run.0 events turns event turn before last run.3 comes takes)
+
+-- so it is at each event of a run
+own_behind : (before : List Event) (turns_before : List Turn) (kept : List Kept) → TakesAll [] before turns_before kept
+    → (events : List Event) (turns : List Turn) (new : List Kept) → TakesAll kept events turns new → AreOwn before events turns
+own_behind before turns_before kept run [] turns new rest = tt
+own_behind before turns_before kept run (event ∷ events) [] new rest = tt
+own_behind before turns_before kept run (event ∷ events) (turn ∷ turns) new rest = (
+  take_apart kept event turn rest.0 rest.1 rest.2 before turns_before run,
+  own_behind (before ++ event ∷ []) (turns_before ++ turn ∷ []) rest.0 (TakesAll-push [] before turns_before event turn kept rest.0 run rest.1 rest.2) events turns new rest.3,
+)
+
+pub own_each : (events : List Event) (turns : List Turn) (kept : List Kept) → TakesAll [] events turns kept → AreOwn [] events turns
+own_each events turns kept run = own_behind [] [] [] refl events turns kept run

@@ -3,6 +3,7 @@ use Rattle.std.specs.Prelude.{◌≡◌, ◌==◌, ℕ, List, [], ◌∷◌, ◌
 use Rattle.wiki_io.specs.declared.links.Event.{Event}
 use Rattle.wiki_io.specs.declared.links.Event.TheVariants.{Opened, Piece, Ended}
 use Rattle.wiki_io.specs.Link.{can_come}
+use Rattle.http_front.specs.Cuts.{IsCutAnywhere}
 use Rattle.server.specs.declared.turns.Turn.{Turn}
 use Rattle.server.specs.Kept.{Kept, numbers}
 use Rattle.server.specs.Taking.{Takes}
@@ -30,11 +31,21 @@ own_after_all n bytes (event ∷ events) = own_after_all n (own_after n bytes ev
 abbrev pub own_bytes : ℕ → List Event → List ℕ
 own_bytes n events = own_after_all n [] events
 
+-- the turn is what these bytes of the connection with this number are, however they were cut into pieces
+abbrev pub IsSeenAnywhere : ℕ → List ℕ → Turn → Type 0
+IsSeenAnywhere n bytes turn = (is : IsSeen n bytes turn) × IsCutAnywhere bytes is.seen
+
 -- at a piece the turn is what the bytes of its own connection are
 abbrev pub IsOwn : List Event → Event → Turn → Type 0
 IsOwn events (Opened n) turn = ⊤
-IsOwn events (Piece n piece) turn = IsSeen n (own_bytes n (events ++ Piece n piece ∷ [])) turn
+IsOwn events (Piece n piece) turn = IsSeenAnywhere n (own_bytes n (events ++ Piece n piece ∷ [])) turn
 IsOwn events (Ended n) turn = ⊤
+
+-- so it is at each of some events that come behind others
+abbrev pub AreOwn : List Event → List Event → List Turn → Type 0
+AreOwn before [] turns = ⊤
+AreOwn before (event ∷ events) [] = ⊤
+AreOwn before (event ∷ events) (turn ∷ turns) = IsOwn before event turn × AreOwn (before ++ event ∷ []) events turns
 
 -- so it is whatever came over all connections since there was none
 abbrev pub IsApart : List Kept → Event → Turn → Type 0

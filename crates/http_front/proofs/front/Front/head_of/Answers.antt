@@ -18,4 +18,4 @@ returns-in_ok-begun-in-Ok-Complete c =
 pub returns-in-Err-TooManyHeaders : goal.returns-in-Err-TooManyHeaders
 returns-in-Err-TooManyHeaders c =
     begins_exceeds c.args.bytes.now c.head_part-part.result.now c.refused.result
-    c.head_part-part.ensures (c.in-Err-TooManyHeaders.ensures.too_many (ap Err c.in-Err-TooManyHeaders.field-0-is)) c.refused.ensures
+    c.head_part-part.ensures c.in-Err-TooManyHeaders.ensures.no_room (c.in-Err-TooManyHeaders.ensures.too_many (ap Err c.in-Err-TooManyHeaders.field-0-is)) c.refused.ensures

@@ -1,0 +1,7 @@
+//! Tests of serving: events on connections, at a small machine and over a link in memory.
+#![tactic(auto)]
+
+#[cfg(test)]
+mod played;
+#[cfg(test)]
+mod tests;

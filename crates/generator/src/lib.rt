@@ -1,0 +1,12 @@
+//! A generated wiki: its requests by a count and a seed, and what the replies to them add up to.
+#![tactic(auto)]
+
+mod drawn;
+mod requests;
+mod summary;
+#[cfg(test)]
+mod tests;
+
+pub use drawn::next_draw;
+pub use requests::{read_request, sentence_of_kind, word_request};
+pub use summary::Summary;

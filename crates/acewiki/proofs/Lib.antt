@@ -2,5 +2,6 @@ pub mod CommandLemmas
 pub mod RunLemmas
 pub mod ServeLemmas
 pub mod CompletenessLemmas
+pub mod MakeLemmas
 pub mod StatusLemmas
 pub mod OptionLemmas

@@ -36,7 +36,7 @@ is_serve found command c d is at_some same = sym is ∙ ap (option_map asked_by)
 pub is_none : (found : Option Command) (command : Option Asked) → option_map asked_by found ≡ command → found ≡ None → command ≡ None
 is_none found command is none = sym is ∙ ap (option_map asked_by) none
 
-some-same : {X : Type 0} (x y : X) → Some x ≡ Some y → x ≡ y
+pub some-same : {X : Type 0} (x y : X) → Some x ≡ Some y → x ≡ y
 some-same x y same = cc
 
 replay-same : (a b : ℕ) → replay a ≡ replay b → a ≡ b

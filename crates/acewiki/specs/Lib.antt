@@ -4,3 +4,4 @@ pub mod Lines
 pub mod Replay
 pub mod Serve
 pub mod Completeness
+pub mod Make

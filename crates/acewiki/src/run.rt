@@ -4,8 +4,9 @@ ghost use Rattle.wiki_io.specs.declared.links.Event.{Event};
 ghost use Rattle.wiki_io.specs.Faults.{Rose};
 ghost use Rattle.wiki_io.specs.Lines.{input_lines};
 ghost use Rattle.wiki_io.specs.Link.{with_more};
-ghost use Rattle.acewiki.specs.Command.{Asked, replay, serve, help, command_of, status_of, words_of};
+ghost use Rattle.acewiki.specs.Command.{Asked, replay, serve, make, help, command_of, status_of, words_of};
 ghost use Rattle.acewiki.specs.Completeness.{DoesWhatIsFree};
+ghost use Rattle.acewiki.specs.Make.{MakesSummary};
 ghost use Rattle.acewiki.specs.Replay.{AnswersLines, Replays, WritesHelp, IsWithin, Tells, EndsWith};
 ghost use Rattle.acewiki.specs.Wiki.{ace_wiki};
 ghost use Rattle.acewiki.specs.Serve.{Serves, AnswersAsPlainWiki, ServesUpToFault};
@@ -13,6 +14,7 @@ ghost use Rattle.acewiki.specs.declared.command.Outcome.{Outcome};
 
 use crate::command::{Command, Outcome};
 use crate::help::help;
+use crate::make::make;
 use crate::replay::replay;
 use crate::serve::serve;
 use crate::words::{CommandLine, words};
@@ -76,6 +78,13 @@ pub fn run<S: Source, K: Sink, E: Sink, L: Link>(
         (record { journal = K.taken output.old; sent = L.sent link.old; send_faults = L.send_faults link.old }) (L.handed link.old) outcome (S.left input.new)
         (record { journal = K.taken output.new; sent = L.sent link.new; send_faults = L.send_faults link.new }) (L.handed link.new) (L.left link.new) }
 
+    // `make`: the summary of a run of the plain wiki over the generated requests was written, or a front of it with status 4 or 9.
+    // Nothing is read or sent.
+    ensures makes { (count seed budget : ℕ) (outcome : Outcome) → command_of words.now ≡ Some (make count seed budget) → result ≡ status_of outcome
+        → MakesSummary (ace_wiki budget) count seed (K.taken output.old) outcome (K.taken output.new) }
+    ensures make_alone { (count seed budget : ℕ) → command_of words.now ≡ Some (make count seed budget)
+        → (input.new ≡ input.old) × (link.new ≡ link.old) × ((result ≡ 0) ⊎ ((result ≡ 4) ⊎ (result ≡ 9))) }
+
     // `help`: its lines were written, or a front of them with status 4. Nothing is read or sent, and no memory is taken.
     ensures helps { (outcome : Outcome) → command_of words.now ≡ Some help → result ≡ status_of outcome → WritesHelp outcome (K.taken output.old) (K.taken output.new) }
     ensures help_alone { command_of words.now ≡ Some help → (input.new ≡ input.old) × (link.new ≡ link.old) × ((result ≡ 0) ⊎ (result ≡ 4)) }
@@ -116,6 +125,10 @@ fn perform<S: Source, K: Sink, L: Link>(
         → Serves (ace_wiki budget) most (S.left input.old)
         (record { journal = K.taken output.old; sent = L.sent link.old; send_faults = L.send_faults link.old }) (L.handed link.old) result (S.left input.new)
         (record { journal = K.taken output.new; sent = L.sent link.new; send_faults = L.send_faults link.new }) (L.handed link.new) (L.left link.new) }
+    ensures makes { (count seed budget : ℕ) → command_of words.now ≡ Some (make count seed budget)
+        → MakesSummary (ace_wiki budget) count seed (K.taken output.old) result (K.taken output.new) }
+    ensures make_alone { (count seed budget : ℕ) → command_of words.now ≡ Some (make count seed budget)
+        → (input.new ≡ input.old) × (link.new ≡ link.old) × ((result ≡ Outcome.Done) ⊎ ((result ≡ Outcome.WriteFault) ⊎ (result ≡ Outcome.Memory))) }
     ensures helps { command_of words.now ≡ Some help → WritesHelp result (K.taken output.old) (K.taken output.new) }
     ensures help_alone { command_of words.now ≡ Some help → (input.new ≡ input.old) × (link.new ≡ link.old) × ((result ≡ Outcome.Done) ⊎ (result ≡ Outcome.WriteFault)) }
     ensures read_fault { result ≡ Outcome.ReadFault → Rose (S.faults input.old) (S.faults input.new) }
@@ -133,6 +146,13 @@ fn perform<S: Source, K: Sink, L: Link>(
                 events,
             },
         ) => serve(alloc, address, budget, events, input, output, link),
+        Some(
+            Command::Make {
+                count,
+                seed,
+                budget,
+            },
+        ) => make(alloc, count, seed, budget, output),
         Some(Command::Help) => help(output),
         None => Outcome::Usage,
     }
@@ -169,6 +189,8 @@ pub fn program<C: CommandLine, S: Source, K: Sink, E: Sink, L: Link>(
         → command_of words ≡ Some (serve address budget most) → (bytes : List ℕ) → S.left input.old ≡ Some bytes → ServesUpToFault (ace_wiki budget) (input_lines bytes)
         (record { journal = K.taken output.old; sent = L.sent link.old; send_faults = L.send_faults link.old }) (L.handed link.old)
         (record { journal = K.taken output.new; sent = L.sent link.new; send_faults = L.send_faults link.new }) (L.handed link.new) }
+    ensures makes { (words : List (List ℕ)) (count seed budget : ℕ) (outcome : Outcome) → C.words line.now ≡ Some words → command_of words ≡ Some (make count seed budget)
+        → result ≡ status_of outcome → MakesSummary (ace_wiki budget) count seed (K.taken output.old) outcome (K.taken output.new) }
     ensures helps { (words : List (List ℕ)) (outcome : Outcome) → C.words line.now ≡ Some words → command_of words ≡ Some help → result ≡ status_of outcome
         → WritesHelp outcome (K.taken output.old) (K.taken output.new) }
     ensures read_fault { result ≡ 3 → Rose (S.faults input.old) (S.faults input.new) }

@@ -8,6 +8,7 @@ use Rattle.acewiki.specs.Serve.{Serves}
 use Rattle.acewiki.proofs.CompletenessLemmas.{does_what_is_free}
 use Rattle.acewiki.proofs.ServeLemmas.{headline_of, headline_at_fault, headline_up_to}
 use Rattle.acewiki.proofs.StatusLemmas.{outcome_is, answers_done, completes, with_outcome, with_help, help_status, serves_outcome}
+use Rattle.acewiki.proofs.MakeLemmas.{with_make, make_status}
 use Rattle.acewiki.proofs.run.run.Goals as goal
 
 pub returns-clause-usage : goal.returns-clause-usage
@@ -67,6 +68,17 @@ returns-clause-no_link g c =
     λ budget given.
     let none = c.perform-outcome.ensures.no_link budget given in
     (none.0, λ five. none.1 (sym (outcome_is _ _ outcomes.LinkFault c.end.ensures.status five)))
+
+pub returns-clause-makes : goal.returns-clause-makes
+returns-clause-makes g c =
+    λ count seed budget outcome given status.
+    with_make _ _ _ _ _ outcome _ (sym (outcome_is _ _ outcome c.end.ensures.status status)) (c.perform-outcome.ensures.makes count seed budget given)
+
+pub returns-clause-make_alone : goal.returns-clause-make_alone
+returns-clause-make_alone g c =
+    λ count seed budget given.
+    let alone = c.perform-outcome.ensures.make_alone count seed budget given in
+    (alone.0, alone.1, make_status _ _ c.end.ensures.status alone.2)
 
 pub returns-clause-helps : goal.returns-clause-helps
 returns-clause-helps g c =

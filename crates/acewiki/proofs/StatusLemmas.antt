@@ -165,7 +165,7 @@ pub WritesHelp-none : (outcome : Outcome) (taken : Option (List ℕ)) → Append
 WritesHelp-none outcome taken none not_done = record { written = []; sink = none; front = (help_text, refl); whole = λ is. absurd (not_done is) }
 
 pub with_help : (outcome other : Outcome) (taken taken_after : Option (List ℕ)) → outcome ≡ other → WritesHelp outcome taken taken_after → WritesHelp other taken taken_after
-with_help outcome other taken taken_after same help = subst (λ (o : Outcome). WritesHelp o taken taken_after) same help
+with_help outcome other taken taken_after same helps = subst (λ (o : Outcome). WritesHelp o taken taken_after) same helps
 
 -- it ends with 0 or 4
 pub help_status : (result : ℕ) (outcome : Outcome) → result ≡ status_of outcome → (outcome ≡ outcomes.Done) ⊎ (outcome ≡ outcomes.WriteFault) → (result ≡ 0) ⊎ (result ≡ 4)

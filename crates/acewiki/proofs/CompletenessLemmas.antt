@@ -1,14 +1,13 @@
 -- What is free is done.
-use Rattle.std.proofs.Common.{◌≡◌, Bool, true, false}
+use Rattle.std.proofs.Common.{Bool, true, false}
 use Rattle.std.specs.Prelude.{MatchBool}
 use Rattle.wiki_talk.specs.declared.requests.Request.{Request}
-use Rattle.wiki_talk.specs.declared.replies.Reply.{Reply}
 use Rattle.wiki_talk.specs.declared.replies.Reply.TheVariants as replies
 use Rattle.wiki_talk.specs.declared.refusals.Refusal.{Refusal}
 use Rattle.wiki_store.specs.Step as store
 use Rattle.wiki_core.specs.Step as core
-use Rattle.acewiki.specs.Wiki.{Holding, KeptStep}
-use Rattle.acewiki.specs.Completeness.{IsFree, IsDone, DoesWhatIsFree}
+use Rattle.acewiki.specs.Wiki.{Holding}
+use Rattle.acewiki.specs.Completeness.{DoesWhatIsFree}
 
 -- a refusal has a cause that stands
 refused-free : (old new : Holding) (request : Request) (refusal : Refusal) (on_pages : Bool)

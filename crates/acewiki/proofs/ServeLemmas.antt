@@ -1,5 +1,5 @@
 -- Lines that are stepped, and events that are handled after them.
-use Rattle.std.proofs.Common.{◌≡◌, ◌⊎◌, ℕ, List, [], ◌∷◌, ◌++◌, map, Option, Some, None, refl, sym, ap, subst, ◌∙◌, append-nil, inl, inr, IsTrue, arith, ◌<◌, ◌≤◌}
+use Rattle.std.proofs.Common.{◌≡◌, ℕ, List, [], ◌∷◌, ◌++◌, map, Option, Some, None, refl, sym, ap, subst, ◌∙◌, append-nil, inl, inr, IsTrue, arith, ◌<◌, ◌≤◌}
 use Rattle.std.specs.List.{flat_map}
 use Rattle.std.specs.Io.KnownBytes.{Consumes, IsAtEnd}
 use Rattle.wiki_io.specs.declared.limits.TheConstants.{MAX_INPUT}
@@ -28,7 +28,7 @@ use Rattle.acewiki.specs.declared.command.Outcome.{Outcome}
 use Rattle.acewiki.specs.declared.command.Outcome.TheVariants as outcomes
 use Rattle.acewiki.specs.Lines.{asked, told, StepsLine}
 use Rattle.acewiki.specs.Replay.{StepsInput, StepsInputTo, Replays}
-use Rattle.acewiki.specs.Serve.{outcome_of, EndsInput, ServesNothing, ServesEvents, ServesLink, Serves, AnswersAsPlainWiki, AnswersUpToFault, ServesUpToFault}
+use Rattle.acewiki.specs.Serve.{outcome_of, EndsInput, ServesEvents, ServesLink, Serves, AnswersAsPlainWiki, AnswersUpToFault, ServesUpToFault}
 use Rattle.acewiki.proofs.RunLemmas.{Running, Running-line, Replays-none, Replays-end, Replays-end_last, Replays-fault, Replays-too_large, Replays-cut}
 
 -- ---- the end

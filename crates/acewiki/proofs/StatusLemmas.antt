@@ -1,9 +1,8 @@
 -- What a status says of the command that ended with it.
-use Rattle.std.proofs.Common.{◌≡◌, ◌≢◌, ◌⊎◌, ◌↔◌, ℕ, ◌<◌, ◌≤◌, List, [], ◌∷◌, ◌++◌, length, take, drop, map, Option, Some, None, refl, sym, ap, subst, ◌∙◌, inl, inr, append-nil, take-append-drop, arith}
+use Rattle.std.proofs.Common.{◌≡◌, ◌⊎◌, ◌↔◌, ℕ, ◌≤◌, List, [], length, take, drop, Option, Some, None, refl, sym, ap, subst, ◌∙◌, inl, inr, append-nil, take-append-drop, arith}
 use Rattle.std.specs.Prelude.{option_map, IfSome}
 use Rattle.std.proofs.lemmas.List.{length-append}
-use Rattle.std.specs.Io.KnownBytes.{Consumes, Appends, IsAtEnd}
-use Rattle.wiki_io.specs.declared.limits.TheConstants.{MAX_INPUT}
+use Rattle.std.specs.Io.KnownBytes.{Consumes, Appends}
 use Rattle.wiki_io.specs.Lines.{InputLine, input_lines}
 use Rattle.wiki_io.specs.declared.links.Event.{Event}
 use Rattle.acewiki.specs.Wiki.{Holding, ace_wiki}
@@ -15,9 +14,9 @@ use Rattle.acewiki.specs.declared.command.Command.TheVariants as commands
 use Rattle.acewiki.specs.declared.command.Outcome.{Outcome}
 use Rattle.acewiki.specs.declared.command.Outcome.TheVariants as outcomes
 use Rattle.acewiki.specs.Command.{Asked, replay, serve, help, asked_by, status_of, help_text}
-use Rattle.acewiki.specs.Lines.{StepsLines, reply_lines}
+use Rattle.acewiki.specs.Lines.{StepsLines}
 use Rattle.acewiki.specs.Replay.{StepsInput, Replays, AnswersLines, WritesHelp, IsWithin}
-use Rattle.acewiki.specs.Serve.{outcome_of, ServesNothing, ServesEvents, Serves}
+use Rattle.acewiki.specs.Serve.{outcome_of, Serves}
 use Rattle.acewiki.proofs.CommandLemmas.{status_of-same}
 use Rattle.acewiki.proofs.ServeLemmas.{read_all}
 

@@ -1,5 +1,5 @@
 -- The command line: which words are a command, and how the program ends.
-use Rattle.std.specs.Prelude.{ℕ, ◌==◌, ◌&&◌, not, Bool, true, false, List, [], ◌∷◌, ◌++◌, codes, if◌then◌else◌, nat_le, Option, Some, None, is_some, unwrap_or, option_map, option_and_then}
+use Rattle.std.specs.Prelude.{ℕ, ◌==◌, ◌&&◌, not, Bool, false, List, [], ◌∷◌, ◌++◌, codes, if◌then◌else◌, nat_le, Option, Some, None, is_some, unwrap_or, option_map, option_and_then}
 use Rattle.std.specs.Str.{bytes_eq, is_utf8}
 use Rattle.http_front.specs.Numbers.{number_of}
 use Rattle.acewiki.specs.declared.command.Command.{Command}

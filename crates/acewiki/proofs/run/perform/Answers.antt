@@ -1,9 +1,4 @@
-use Rattle.std.proofs.Common.{◌≡◌, ℕ, List, refl, sym, subst, inl, inr}
-use Rattle.acewiki.specs.Wiki.{Holding}
-use Rattle.acewiki.specs.declared.command.Command.TheVariants as commands
-use Rattle.acewiki.specs.Replay.{Replays}
-use Rattle.acewiki.specs.Wiki.{ace_wiki}
-use Rattle.acewiki.specs.Serve.{Serves}
+use Rattle.std.proofs.Common.{refl, inl, inr}
 use Rattle.acewiki.proofs.StatusLemmas.{is_replay, is_serve, is_none, same_replay, same_budget, same_most, no_serve, help_no_replay, help_no_serve, no_command, with_budget_of, with_numbers, not_too_large, serves_not_too_large}
 use Rattle.acewiki.specs.declared.command.Outcome.TheVariants as outcomes
 use Rattle.acewiki.proofs.MakeLemmas.{other_command, same_make, made_not}

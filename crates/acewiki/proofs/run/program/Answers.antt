@@ -1,9 +1,7 @@
-use Rattle.std.proofs.Common.{◌≡◌, List, ℕ, sym, subst, ap, ◌∙◌, refl, inl}
+use Rattle.std.proofs.Common.{ap, ◌∙◌, refl, inl}
 use Rattle.wiki_io.proofs.KnownLemmas.{Appends-nil}
-use Rattle.acewiki.specs.declared.command.Outcome.{Outcome}
 use Rattle.acewiki.specs.declared.command.Outcome.TheVariants as outcomes
 use Rattle.acewiki.specs.Command.{command_of}
-use Rattle.acewiki.specs.Replay.{Replays}
 use Rattle.acewiki.specs.Wiki.{ace_wiki}
 use Rattle.acewiki.proofs.RunLemmas.{Replays-none}
 use Rattle.acewiki.proofs.StatusLemmas.{outcome_is, told_words, with_outcome, WritesHelp-none, with_help}

@@ -1,10 +1,7 @@
-use Rattle.std.proofs.Common.{◌≡◌, ℕ, List, refl, sym, subst, ap, ◌∙◌}
-use Rattle.acewiki.specs.declared.command.Outcome.{Outcome}
+use Rattle.std.proofs.Common.{sym, ap, ◌∙◌}
 use Rattle.acewiki.specs.declared.command.Outcome.TheVariants as outcomes
 use Rattle.acewiki.specs.Command.{status_of}
-use Rattle.acewiki.specs.Replay.{Replays}
 use Rattle.acewiki.specs.Wiki.{ace_wiki}
-use Rattle.acewiki.specs.Serve.{Serves}
 use Rattle.acewiki.proofs.CompletenessLemmas.{does_what_is_free}
 use Rattle.acewiki.proofs.ServeLemmas.{headline_of, headline_at_fault, headline_up_to}
 use Rattle.acewiki.proofs.StatusLemmas.{outcome_is, answers_done, completes, with_outcome, with_help, help_status, serves_outcome}

@@ -7,7 +7,7 @@ import json, os, socket, subprocess, sys, tempfile
 from running import Wiki, api, free_port, read_all
 
 WORDS = {0: "", 2: "usage: acewiki replay|serve|make|help\n", 3: "read fault\n", 4: "write fault\n", 5: "link fault\n"}
-LINES = b"".join(json.dumps(dict(do="word", kind="name", forms=["N" + chr(97 + n)])).encode() + b"\n" for n in range(20))
+LINES = b"".join(json.dumps(dict(do="word", kind="name", forms=["Nam" + chr(97 + n)])).encode() + b"\n" for n in range(20))
 HELP = b"acewiki replay [--budget N]\nacewiki serve ADDRESS [--budget N] [--events N]\nacewiki make COUNT SEED [--budget N]\nacewiki help\n"
 
 
@@ -58,7 +58,7 @@ def full_journal(program):
     """A change that the journal doesn't take is answered by no byte, and the program ends with 4. What isn't a change is answered."""
     for output in (open("/dev/full", "wb"), closed_pipe()):
         wiki = Wiki(program, LINES, output)
-        if wiki.ask(do="find", word="Na").get("done") != "find":
+        if wiki.ask(do="find", word="Nama").get("done") != "find":
             raise SystemExit("faults: a request that changes nothing isn't answered")
         with wiki.connect() as link:
             link.sendall(api(dict(do="word", kind="name", forms=["Bern"])))

@@ -17,15 +17,16 @@ def free_port():
 class Wiki:
     """A program that serves, from these lines on. Its journal goes to a file, or to what is given as `output`."""
 
-    def __init__(self, program, given=b"", output=None, options=()):
+    def __init__(self, program, given=b"", output=None, options=(), environment=None, waits=True):
         self.port = free_port()
         self.journal = tempfile.TemporaryFile() if output is None else output
         with tempfile.TemporaryFile() as lines:
             lines.write(given)
             lines.seek(0)
             words = [program, "serve", f"127.0.0.1:{self.port}", *options]
-            self.process = subprocess.Popen(words, stdin=lines, stdout=self.journal, stderr=subprocess.PIPE)
-        self.wait()
+            self.process = subprocess.Popen(words, stdin=lines, stdout=self.journal, stderr=subprocess.PIPE, env=environment)
+        if waits:
+            self.wait()
 
     def wait(self):
         """Waits until it listens."""

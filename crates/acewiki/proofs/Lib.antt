@@ -1,5 +1,7 @@
 pub mod CommandLemmas
 pub mod RunLemmas
 pub mod ServeLemmas
+pub mod CompletenessLemmas
+pub mod MakeLemmas
 pub mod StatusLemmas
 pub mod OptionLemmas

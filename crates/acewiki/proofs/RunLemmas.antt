@@ -1,15 +1,15 @@
 -- Runs that go on by one line, and runs that end.
-use Rattle.std.proofs.Common.{◌≡◌, ◌≢◌, ℕ, ◌+◌, ◌-◌, ◌<◌, ◌≤◌, List, [], ◌∷◌, ◌++◌, length, take, drop, map, Option, Some, None, IsTrue, refl, sym, ap, subst, ◌∙◌, append_assoc, append-nil, arith, take-append-drop, ◌⊎◌, inl, inr, ◌↔◌}
+use Rattle.std.proofs.Common.{◌≡◌, ℕ, ◌-◌, ◌<◌, ◌≤◌, List, [], ◌∷◌, ◌++◌, length, take, drop, map, Option, Some, None, IsTrue, refl, sym, ap, subst, ◌∙◌, append_assoc, append-nil, arith, take-append-drop, ◌⊎◌, inl, inr, ◌↔◌}
 use Rattle.std.proofs.lemmas.Bool.{false≢true, cases_lt}
 use Rattle.std.proofs.lemmas.Grind.{flat_map-append}
 use Rattle.std.proofs.lemmas.List.{map_push, length-append, take_at}
-use Rattle.std.specs.Io.KnownBytes.{Consumes, Appends, Keeps, IsAtEnd}
+use Rattle.std.specs.Io.KnownBytes.{Appends, Keeps, IsAtEnd}
 use Rattle.wiki_io.specs.declared.limits.TheConstants.{MAX_INPUT}
 use Rattle.wiki_io.specs.declared.reader.Line.{Line}
 use Rattle.wiki_io.specs.declared.reader.Line.TheVariants as said_by
 use Rattle.wiki_io.specs.Faults.{Rose}
 use Rattle.wiki_io.specs.Lines.{InputLine, input_lines, Begins, AreKnown, AreReadLines}
-use Rattle.wiki_io.specs.Reading.{Reading, unread, lines_to_come, answered, ReadsLine, HasNoLine, HasGivenFrom}
+use Rattle.wiki_io.specs.Reading.{Reading, unread, answered, ReadsLine, HasNoLine, HasGivenFrom}
 use Rattle.wiki_io.proofs.KnownLemmas.{Appends-nil, Appends-trans, Appends-kept, Consumes-nil}
 use Rattle.wiki_io.proofs.ReadingLemmas.{HasGivenFrom-unread, HasGivenFrom-call, HasGiven-end, HasGiven-fault, HasGiven-known, AreKnown-front}
 use Rattle.wiki_talk.specs.declared.requests.Request.{Request}
@@ -20,8 +20,8 @@ use Rattle.wiki_talk.proofs.TurnLemmas.{Turns-push}
 use Rattle.acewiki.specs.Wiki.{Holding, KeptStep}
 use Rattle.acewiki.specs.declared.command.Outcome.{Outcome}
 use Rattle.acewiki.specs.declared.command.Outcome.TheVariants.{Done, ReadFault, WriteFault, TooMuch, Memory}
-use Rattle.acewiki.specs.Lines.{asked, told, reply_lines, StepsLine, StepsLines, RepliesTo, WasStepped, AnswersLine, BeginsAnswer, GivesUpLine, CutsLine}
-use Rattle.acewiki.specs.Replay.{StepsInput, but_last, Replays}
+use Rattle.acewiki.specs.Lines.{asked, told, reply_lines, StepsLine, StepsLines, RepliesTo, WasStepped, AnswersLine, BeginsAnswer, CutsLine}
+use Rattle.acewiki.specs.Replay.{but_last, Replays}
 
 -- ---- one line
 

@@ -1,5 +1,5 @@
 -- Lines that are stepped, and events that are handled after them.
-use Rattle.std.proofs.Common.{◌≡◌, ◌⊎◌, ℕ, List, [], ◌∷◌, ◌++◌, map, Option, Some, None, refl, sym, ap, subst, ◌∙◌, append-nil, inl, inr, IsTrue, arith, ◌<◌, ◌≤◌}
+use Rattle.std.proofs.Common.{◌≡◌, ℕ, List, [], ◌∷◌, ◌++◌, map, Option, Some, None, refl, sym, ap, subst, ◌∙◌, append-nil, inl, inr, IsTrue, arith, ◌<◌, ◌≤◌}
 use Rattle.std.specs.List.{flat_map}
 use Rattle.std.specs.Io.KnownBytes.{Consumes, IsAtEnd}
 use Rattle.wiki_io.specs.declared.limits.TheConstants.{MAX_INPUT}
@@ -17,17 +17,18 @@ use Rattle.acewiki.specs.Wiki.{Holding, KeptStep}
 use Rattle.serving.specs.declared.serving.Served.{Served}
 use Rattle.serving.specs.declared.serving.Served.TheVariants as served
 use Rattle.serving.specs.Handling.{turn_in, exchange_in, response_in}
-use Rattle.serving.specs.Events.{Outside, RunsAll, EndsServing, Ended}
+use Rattle.server.specs.Kept.{Kept}
+use Rattle.serving.specs.Events.{Outside, RunsEvents, RunsAll, EndsServing, Ended}
 use Rattle.serving.proofs.ServeLemmas.{told_same}
-use Rattle.serving.proofs.DeliverLemmas.{Delivers-whole}
-use Rattle.serving.proofs.EventLemmas.{Turns-append}
+use Rattle.serving.proofs.DeliverLemmas.{Delivers-whole, with_more-nil}
+use Rattle.serving.proofs.EventLemmas.{RunsEvents-none, Turns-append}
 use Rattle.server.proofs.RunLemmas.{own_each}
 use Rattle.wiki_core.proofs.ApartLemmas.{tokens_own}
 use Rattle.acewiki.specs.declared.command.Outcome.{Outcome}
 use Rattle.acewiki.specs.declared.command.Outcome.TheVariants as outcomes
 use Rattle.acewiki.specs.Lines.{asked, told, StepsLine}
 use Rattle.acewiki.specs.Replay.{StepsInput, StepsInputTo, Replays}
-use Rattle.acewiki.specs.Serve.{outcome_of, ServesNothing, ServesEvents, ServesLink, Serves, AnswersAsPlainWiki}
+use Rattle.acewiki.specs.Serve.{outcome_of, EndsInput, ServesEvents, ServesLink, Serves, AnswersAsPlainWiki, AnswersUpToFault, ServesUpToFault}
 use Rattle.acewiki.proofs.RunLemmas.{Running, Running-line, Replays-none, Replays-end, Replays-end_last, Replays-fault, Replays-too_large, Replays-cut}
 
 -- ---- the end
@@ -47,59 +48,154 @@ done_alone served.LinkFault is = cc
 done_alone served.JournalFault is = cc
 done_alone served.Memory is = cc
 
+-- it steps all lines of the input
+all_lines : (first : Holding) (bytes : List ℕ) (left_after : Option (List ℕ)) (input : StepsInput first (Some bytes) outcomes.Done left_after) → input.lines ≡ input_lines bytes
+all_lines first bytes left_after input =
+    let end = input.done refl in
+    end.2 ∙ ap input_lines (read_all bytes input.read left_after input.source end.0)
+
+fault_alone : (served_so : Served) → outcomes.LinkFault ≡ outcome_of served_so → served_so ≡ served.LinkFault
+fault_alone served.Done is = cc
+fault_alone served.LinkFault is = refl
+fault_alone served.JournalFault is = cc
+fault_alone served.Memory is = cc
+
 -- ---- the headline
 
-headline_events : (first : Holding) (most : ℕ) (bytes : List ℕ) (outside : Outside) (handed : Option (List Event)) (left_after : Option (List ℕ)) (outside_after : Outside) (handed_after coming_after : Option (List Event))
-    → ServesEvents first most (Some bytes) outside handed outcomes.Done left_after outside_after handed_after coming_after
+-- all lines were stepped, and then all of these events were handled
+abbrev answers_of_run : (first : Holding) (bytes : List ℕ) (left_after : Option (List ℕ)) (input : StepsInput first (Some bytes) outcomes.Done left_after) (outside : Outside) (events : List Event) (last : Holding) (kept : List Kept) (outside_after : Outside)
+    → RunsEvents KeptStep input.last [] outside events last kept outside_after → AnswersAsPlainWiki first (input_lines bytes) outside events outside_after
+answers_of_run first bytes left_after input outside events last kept outside_after run = record {
+  of_lines = input.exchanges;
+  asked_then = input.steps.asked_then ∙ ap (map asked) (all_lines first bytes left_after input);
+  handlings = run.handlings;
+  kept = kept;
+  turns = run.turns;
+  own = own_each events (map turn_in run.handlings) kept run.turns;
+  last = last;
+  run = Turns-append KeptStep first input.exchanges (flat_map exchange_in run.handlings) input.last last input.steps.turns run.steps;
+  tokens = tokens_own first.state.pages.grammar;
+  journal = run.journal;
+  responses = run.responses;
+  whole = Delivers-whole (flat_map response_in run.handlings) outside.sent outside_after.sent outside.send_faults outside_after.send_faults run.responses;
+}
+
+-- the events of a serving that was handled to its end, whatever they are
+headline_events : (first : Holding) (bytes : List ℕ) (outside : Outside) (left_after : Option (List ℕ)) (input : StepsInput first (Some bytes) outcomes.Done left_after) (handed handed_after : Option (List Event)) (events : List Event) (outside_after : Outside)
+    → handed_after ≡ with_more handed events → RunsAll KeptStep input.last outside events outside_after
     → (events : List Event) × (handed_after ≡ with_more handed events) × AnswersAsPlainWiki first (input_lines bytes) outside events outside_after
-headline_events first most bytes outside handed left_after outside_after handed_after coming_after serves =
-    let ends : EndsServing KeptStep serves.input.last most outside serves.events served.Done coming_after outside_after =
-    subst (λ s. EndsServing KeptStep serves.input.last most outside serves.events s coming_after outside_after) (done_alone serves.served_so serves.outcome_is) serves.ends in
-    let all = ends.0.run in
-    let end = serves.input.done refl in
-    let all_lines : serves.input.lines ≡ input_lines bytes = end.2 ∙ ap input_lines (read_all bytes serves.input.read left_after serves.input.source end.0) in (
-      serves.events,
-      serves.are_handed,
-      record {
-        of_lines = serves.input.exchanges;
-        asked_then = serves.input.steps.asked_then ∙ ap (map asked) all_lines;
-        handlings = all.handlings;
-        kept = ends.0.kept;
-        turns = all.turns;
-        own = own_each serves.events (map turn_in all.handlings) ends.0.kept all.turns;
-        last = ends.0.last;
-        run = Turns-append KeptStep first serves.input.exchanges (flat_map exchange_in all.handlings) serves.input.last ends.0.last serves.input.steps.turns all.steps;
-        tokens = tokens_own first.state.pages.grammar;
-        journal = all.journal;
-        responses = all.responses;
-        whole = Delivers-whole (flat_map response_in all.handlings) outside.sent outside_after.sent outside.send_faults outside_after.send_faults all.responses;
-      },
-    )
+headline_events first bytes outside left_after input handed handed_after events outside_after are_handed all =
+    (events, are_handed, answers_of_run first bytes left_after input outside events all.last all.kept outside_after all.run)
+
+-- where the input's bytes are told
+told_input : (first : Holding) (left : Option (List ℕ)) (left_after : Option (List ℕ)) (outcome : Outcome) (bytes : List ℕ) → left ≡ Some bytes → StepsInput first left outcome left_after → StepsInput first (Some bytes) outcome left_after
+told_input first left left_after outcome bytes is input = subst (λ (l : Option (List ℕ)). StepsInput first l outcome left_after) is input
+
+module _ (first : Holding) (most : ℕ) (bytes : List ℕ) (outside : Outside) (handed : Option (List Event)) (left_after : Option (List ℕ)) (outside_after : Outside) (handed_after coming_after : Option (List Event)) where
+  headline_done : ServesEvents first most (Some bytes) outside handed outcomes.Done left_after outside_after handed_after coming_after
+      → (events : List Event) × (handed_after ≡ with_more handed events) × AnswersAsPlainWiki first (input_lines bytes) outside events outside_after
+  headline_done serves =
+      let ends : EndsServing KeptStep serves.input.last most outside serves.events served.Done coming_after outside_after =
+      subst (λ s. EndsServing KeptStep serves.input.last most outside serves.events s coming_after outside_after) (done_alone serves.served_so serves.outcome_is) serves.ends in
+      headline_events first bytes outside left_after serves.input handed handed_after serves.events outside_after serves.are_handed ends.0
+
+  headline_fault : ServesEvents first most (Some bytes) outside handed outcomes.LinkFault left_after outside_after handed_after coming_after
+      → (events : List Event) × (handed_after ≡ with_more handed events) × AnswersAsPlainWiki first (input_lines bytes) outside events outside_after
+  headline_fault serves =
+      let ends : EndsServing KeptStep serves.input.last most outside serves.events served.LinkFault coming_after outside_after =
+      subst (λ s. EndsServing KeptStep serves.input.last most outside serves.events s coming_after outside_after) (fault_alone serves.served_so serves.outcome_is) serves.ends in
+      headline_events first bytes outside left_after serves.input handed handed_after serves.events outside_after serves.are_handed ends
+
+  -- the link could not listen
+  headline_deaf : (outcome : Outcome) → StepsInput first (Some bytes) outcome left_after → outcome ≡ outcomes.Done → outside_after ≡ outside → handed_after ≡ handed
+      → (events : List Event) × (handed_after ≡ with_more handed events) × AnswersAsPlainWiki first (input_lines bytes) outside events outside_after
+  headline_deaf outcome input done same same_handed =
+      let stepped : StepsInput first (Some bytes) outcomes.Done left_after = subst (λ (o : Outcome). StepsInput first (Some bytes) o left_after) done input in
+      let run : RunsEvents KeptStep stepped.last [] outside [] stepped.last [] outside_after =
+      subst (λ (o : Outside). RunsEvents KeptStep stepped.last [] outside [] stepped.last [] o) (sym same) (RunsEvents-none KeptStep stepped.last [] outside) in
+      ([], same_handed ∙ sym (with_more-nil handed), answers_of_run first bytes left_after stepped outside [] stepped.last [] outside_after run)
+
+  -- up to a fault
+  all_up_to : (input : StepsInput first (Some bytes) outcomes.Done left_after) (events : List Event) → RunsAll KeptStep input.last outside events outside_after → AnswersUpToFault first (input_lines bytes) outside events outside_after
+  all_up_to input events all = record {
+    answered = events;
+    last_event = [];
+    all = sym (append-nil events);
+    outside_then = outside_after;
+    answers = answers_of_run first bytes left_after input outside events all.last all.kept outside_after all.run;
+    ends = refl;
+  }
+
+  events_up_to : (input : StepsInput first (Some bytes) outcomes.Done left_after) (events : List Event) (served_so : Served) → EndsServing KeptStep input.last most outside events served_so coming_after outside_after
+      → AnswersUpToFault first (input_lines bytes) outside events outside_after
+  events_up_to input events served.Done ends = all_up_to input events ends.0
+  events_up_to input events served.LinkFault ends = all_up_to input events ends
+  events_up_to input events served.JournalFault ends = record {
+    answered = ends.handled;
+    last_event = ends.last_event ∷ [];
+    all = ends.all;
+    outside_then = ends.outside_before;
+    answers = answers_of_run first bytes left_after input outside ends.handled ends.before ends.kept ends.outside_before ends.run;
+    ends = inr (ends.last, ends.kept_after, ends.cut, ends.unsent.0, ends.unsent.1);
+  }
+  events_up_to input events served.Memory (inl all) = all_up_to input events all
+  events_up_to input events served.Memory (inr until) = record {
+    answered = until.handled;
+    last_event = until.last_event ∷ [];
+    all = until.all;
+    outside_then = outside_after;
+    answers = answers_of_run first bytes left_after input outside until.handled until.before until.kept outside_after until.run;
+    ends = inl ((until.last, until.was_handled), refl);
+  }
 
 -- the events of a serving that is done, whatever they are
 pub headline_of : (first : Holding) (most : ℕ) (left : Option (List ℕ)) (outside : Outside) (handed : Option (List Event)) (left_after : Option (List ℕ)) (outside_after : Outside) (handed_after coming_after : Option (List Event))
     → Serves first most left outside handed outcomes.Done left_after outside_after handed_after coming_after → (bytes : List ℕ) → left ≡ Some bytes
     → (events : List Event) × (handed_after ≡ with_more handed events) × AnswersAsPlainWiki first (input_lines bytes) outside events outside_after
 headline_of first most left outside handed left_after outside_after handed_after coming_after (inl nothing) bytes is =
-    elim nothing.why [
-      | inl stopped ↦ absurd (stopped.1 refl)
-      | inr other ↦ absurd (elim other [ inl fault ↦ cc fault | inr memory ↦ cc memory ])
-    ]
+    elim nothing.why [ inl stopped ↦ absurd stopped.1 | inr deaf ↦ absurd (cc deaf.1) ]
 headline_of first most left outside handed left_after outside_after handed_after coming_after (inr events) bytes is =
-    headline_events first most bytes outside handed left_after outside_after handed_after coming_after
+    headline_done first most bytes outside handed left_after outside_after handed_after coming_after
     (subst (λ l. ServesEvents first most l outside handed outcomes.Done left_after outside_after handed_after coming_after) is events)
+
+-- the same where the link failed
+pub headline_at_fault : (first : Holding) (most : ℕ) (left : Option (List ℕ)) (outside : Outside) (handed : Option (List Event)) (left_after : Option (List ℕ)) (outside_after : Outside) (handed_after coming_after : Option (List Event))
+    → Serves first most left outside handed outcomes.LinkFault left_after outside_after handed_after coming_after → (bytes : List ℕ) → left ≡ Some bytes
+    → (events : List Event) × (handed_after ≡ with_more handed events) × AnswersAsPlainWiki first (input_lines bytes) outside events outside_after
+headline_at_fault first most left outside handed left_after outside_after handed_after coming_after (inl nothing) bytes is = elim nothing.why [
+  | inl stopped ↦ absurd stopped.1
+  | inr deaf ↦ headline_deaf first most bytes outside handed left_after outside_after handed_after coming_after nothing.stepped (told_input first left left_after nothing.stepped bytes is nothing.input) deaf.0 nothing.same nothing.same_handed
+]
+headline_at_fault first most left outside handed left_after outside_after handed_after coming_after (inr events) bytes is =
+    headline_fault first most bytes outside handed left_after outside_after handed_after coming_after
+    (subst (λ l. ServesEvents first most l outside handed outcomes.LinkFault left_after outside_after handed_after coming_after) is events)
+
+-- the events of any serving, up to a fault
+pub headline_up_to : (first : Holding) (most : ℕ) (left : Option (List ℕ)) (outside : Outside) (handed : Option (List Event)) (outcome : Outcome) (left_after : Option (List ℕ)) (outside_after : Outside) (handed_after coming_after : Option (List Event))
+    → Serves first most left outside handed outcome left_after outside_after handed_after coming_after → (bytes : List ℕ) → left ≡ Some bytes
+    → ServesUpToFault first (input_lines bytes) outside handed outside_after handed_after
+headline_up_to first most left outside handed outcome left_after outside_after handed_after coming_after (inl nothing) bytes is = inl (nothing.same, nothing.same_handed)
+headline_up_to first most left outside handed outcome left_after outside_after handed_after coming_after (inr events) bytes is =
+    let told : ServesEvents first most (Some bytes) outside handed outcome left_after outside_after handed_after coming_after =
+    subst (λ l. ServesEvents first most l outside handed outcome left_after outside_after handed_after coming_after) is events in
+    inr (told.events, told.are_handed, events_up_to first most bytes outside handed left_after outside_after handed_after coming_after told.input told.events told.served_so told.ends)
 
 -- ---- what serve has done
 
-pub Serves-stopped : (first : Holding) (most : ℕ) (left : Option (List ℕ)) (outside : Outside) (handed : Option (List Event)) (outcome : Outcome) (left_after : Option (List ℕ)) (coming_after : Option (List Event))
-    → StepsInput first left outcome left_after → (outcome ≡ outcomes.Done → ⊥) → Serves first most left outside handed outcome left_after outside handed coming_after
-Serves-stopped first most left outside handed outcome left_after coming_after input not_done =
-    inl (record { stepped = outcome; input = input; why = inl (refl, not_done); same = refl; same_handed = refl })
+-- how the lines of an input can end
+pub ends_input : (outcome : Outcome) → (outcome ≡ outcomes.Done → ⊥) → (outcome ≡ outcomes.Usage → ⊥) → (outcome ≡ outcomes.WriteFault → ⊥) → (outcome ≡ outcomes.LinkFault → ⊥) → EndsInput outcome
+ends_input outcomes.Done done usage write link = done refl
+ends_input outcomes.Usage done usage write link = usage refl
+ends_input outcomes.ReadFault done usage write link = tt
+ends_input outcomes.WriteFault done usage write link = write refl
+ends_input outcomes.LinkFault done usage write link = link refl
+ends_input outcomes.TooMuch done usage write link = tt
+ends_input outcomes.Memory done usage write link = tt
 
-pub Serves-deaf : (first : Holding) (most : ℕ) (left : Option (List ℕ)) (outside : Outside) (handed : Option (List Event)) (left_after : Option (List ℕ)) (outside_after : Outside) (handed_after coming_after : Option (List Event)) (stepped : Outcome)
-    → StepsInput first left stepped left_after → outside_after ≡ outside → handed_after ≡ handed → Serves first most left outside handed outcomes.LinkFault left_after outside_after handed_after coming_after
-Serves-deaf first most left outside handed left_after outside_after handed_after coming_after stepped input same same_handed =
-    inl (record { stepped = stepped; input = input; why = inr (inl refl); same = same; same_handed = same_handed })
+pub Serves-stopped : (first : Holding) (most : ℕ) (left : Option (List ℕ)) (outside : Outside) (handed : Option (List Event)) (outcome : Outcome) (left_after : Option (List ℕ)) (coming_after : Option (List Event))
+    → StepsInput first left outcome left_after → EndsInput outcome → Serves first most left outside handed outcome left_after outside handed coming_after
+Serves-stopped first most left outside handed outcome left_after coming_after input ends =
+    inl (record { stepped = outcome; input = input; why = inl (refl, ends); same = refl; same_handed = refl })
 
 -- ---- lines that are stepped
 
@@ -177,7 +273,7 @@ pub Serves-link : (first last : Holding) (most : ℕ) (left : Option (List ℕ))
     → stepped ≡ outcomes.Done → StepsInputTo first left stepped left_after last → ServesLink last most outside handed outcome outside_after handed_after coming_after
     → Serves first most left outside handed outcome left_after outside_after handed_after coming_after
 Serves-link first last most left outside handed stepped outcome left_after outside_after handed_after coming_after done steps (inl deaf) =
-    inl (record { stepped = stepped; input = steps.steps; why = inr (inl deaf.0); same = deaf.1; same_handed = deaf.2 })
+    inl (record { stepped = stepped; input = steps.steps; why = inr (done, deaf.0); same = deaf.1; same_handed = deaf.2 })
 Serves-link first last most left outside handed stepped outcome left_after outside_after handed_after coming_after done steps (inr serving) =
     let done_steps : StepsInputTo first left outcomes.Done left_after last = subst (λ o. StepsInputTo first left o left_after last) done steps in
     let ended = serving.2 in

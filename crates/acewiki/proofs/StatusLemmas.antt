@@ -1,9 +1,8 @@
 -- What a status says of the command that ended with it.
-use Rattle.std.proofs.Common.{◌≡◌, ◌≢◌, ◌⊎◌, ◌↔◌, ℕ, ◌<◌, ◌≤◌, List, [], ◌++◌, length, map, Option, Some, None, refl, sym, ap, subst, ◌∙◌, inl, inr, arith}
+use Rattle.std.proofs.Common.{◌≡◌, ◌⊎◌, ◌↔◌, ℕ, ◌≤◌, List, [], length, take, drop, Option, Some, None, refl, sym, ap, subst, ◌∙◌, inl, inr, append-nil, take-append-drop, arith}
 use Rattle.std.specs.Prelude.{option_map, IfSome}
 use Rattle.std.proofs.lemmas.List.{length-append}
-use Rattle.std.specs.Io.KnownBytes.{Consumes, Appends, IsAtEnd}
-use Rattle.wiki_io.specs.declared.limits.TheConstants.{MAX_INPUT}
+use Rattle.std.specs.Io.KnownBytes.{Consumes, Appends}
 use Rattle.wiki_io.specs.Lines.{InputLine, input_lines}
 use Rattle.wiki_io.specs.declared.links.Event.{Event}
 use Rattle.acewiki.specs.Wiki.{Holding, ace_wiki}
@@ -14,10 +13,10 @@ use Rattle.acewiki.specs.declared.command.Command.{Command}
 use Rattle.acewiki.specs.declared.command.Command.TheVariants as commands
 use Rattle.acewiki.specs.declared.command.Outcome.{Outcome}
 use Rattle.acewiki.specs.declared.command.Outcome.TheVariants as outcomes
-use Rattle.acewiki.specs.Command.{Asked, replay, serve, asked_by, status_of}
-use Rattle.acewiki.specs.Lines.{StepsLines, reply_lines}
-use Rattle.acewiki.specs.Replay.{StepsInput, Replays, AnswersLines, IsWithin}
-use Rattle.acewiki.specs.Serve.{outcome_of, ServesNothing, ServesEvents, Serves}
+use Rattle.acewiki.specs.Command.{Asked, replay, serve, help, asked_by, status_of, help_text}
+use Rattle.acewiki.specs.Lines.{StepsLines}
+use Rattle.acewiki.specs.Replay.{StepsInput, Replays, AnswersLines, WritesHelp, IsWithin}
+use Rattle.acewiki.specs.Serve.{outcome_of, Serves}
 use Rattle.acewiki.proofs.CommandLemmas.{status_of-same}
 use Rattle.acewiki.proofs.ServeLemmas.{read_all}
 
@@ -36,7 +35,7 @@ is_serve found command c d is at_some same = sym is ∙ ap (option_map asked_by)
 pub is_none : (found : Option Command) (command : Option Asked) → option_map asked_by found ≡ command → found ≡ None → command ≡ None
 is_none found command is none = sym is ∙ ap (option_map asked_by) none
 
-some-same : {X : Type 0} (x y : X) → Some x ≡ Some y → x ≡ y
+pub some-same : {X : Type 0} (x y : X) → Some x ≡ Some y → x ≡ y
 some-same x y same = cc
 
 replay-same : (a b : ℕ) → replay a ≡ replay b → a ≡ b
@@ -51,6 +50,18 @@ replay_or_serve a budget most address h = cc
 
 pub no_serve : {P : Type 0} (command : Option Asked) (a budget most : ℕ) (address : List ℕ) → command ≡ Some (replay a) → command ≡ Some (serve address budget most) → P
 no_serve command a budget most address is given = absurd (replay_or_serve a budget most address (some-same (replay a) (serve address budget most) (sym is ∙ given)))
+
+help_or_replay : (budget : ℕ) → help ≡ replay budget → ⊥
+help_or_replay budget h = cc
+
+help_or_serve : (budget most : ℕ) (address : List ℕ) → help ≡ serve address budget most → ⊥
+help_or_serve budget most address h = cc
+
+pub help_no_replay : {P : Type 0} (command : Option Asked) (budget : ℕ) → command ≡ Some help → command ≡ Some (replay budget) → P
+help_no_replay command budget is given = absurd (help_or_replay budget (some-same help (replay budget) (sym is ∙ given)))
+
+pub help_no_serve : {P : Type 0} (command : Option Asked) (budget most : ℕ) (address : List ℕ) → command ≡ Some help → command ≡ Some (serve address budget most) → P
+help_no_serve command budget most address is given = absurd (help_or_serve budget most address (some-same help (serve address budget most) (sym is ∙ given)))
 
 pub no_command : {P : Type 0} (command : Option Asked) (asked : Asked) → command ≡ None → command ≡ Some asked → P
 no_command command asked none is = absurd (none_or_some (sym none ∙ is))
@@ -114,7 +125,7 @@ pub serves_not_too_large : (first : Holding) (most : ℕ) (left : Option (List �
     → Serves first most left outside handed outcome left_after outside_after handed_after coming_after → IsWithin left → outcome ≡ outcomes.TooMuch → ⊥
 serves_not_too_large first most left outside handed outcome left_after outside_after handed_after coming_after (inl nothing) within is = elim nothing.why [
   | inl stopped ↦ not_too_large first left nothing.stepped left_after nothing.input within (stopped.0 ∙ is)
-  | inr other ↦ elim other [ inl fault ↦ cc (fault, is) | inr memory ↦ cc (memory, is) ]
+  | inr deaf ↦ cc (deaf.1, is)
 ]
 serves_not_too_large first most left outside handed outcome left_after outside_after handed_after coming_after (inr events) within is = outcome_large events.served_so (sym is ∙ events.outcome_is)
 
@@ -136,6 +147,29 @@ told_words None items words same is = absurd (none_or_some is)
     none_or_some : None ≡ Some words → ⊥
     none_or_some h = cc
 told_words (Some t) items words same is = same ∙ some-same t words is
+
+-- ---- help
+
+-- all of its lines were written
+pub WritesHelp-all : (outcome : Outcome) (taken taken_after : Option (List ℕ)) → Appends taken taken_after help_text → WritesHelp outcome taken taken_after
+WritesHelp-all outcome taken taken_after all = record { written = help_text; sink = all; front = ([], sym (append-nil help_text)); whole = λ _. refl }
+
+-- a front of them was written
+pub WritesHelp-front : (outcome : Outcome) (taken taken_after : Option (List ℕ)) (n : ℕ) → Appends taken taken_after (take n help_text) → (outcome ≡ outcomes.Done → ⊥) → WritesHelp outcome taken taken_after
+WritesHelp-front outcome taken taken_after n front not_done =
+    record { written = take n help_text; sink = front; front = (drop n help_text, sym (take-append-drop n help_text)); whole = λ is. absurd (not_done is) }
+
+-- nothing was written
+pub WritesHelp-none : (outcome : Outcome) (taken : Option (List ℕ)) → Appends taken taken [] → (outcome ≡ outcomes.Done → ⊥) → WritesHelp outcome taken taken
+WritesHelp-none outcome taken none not_done = record { written = []; sink = none; front = (help_text, refl); whole = λ is. absurd (not_done is) }
+
+pub with_help : (outcome other : Outcome) (taken taken_after : Option (List ℕ)) → outcome ≡ other → WritesHelp outcome taken taken_after → WritesHelp other taken taken_after
+with_help outcome other taken taken_after same helps = subst (λ (o : Outcome). WritesHelp o taken taken_after) same helps
+
+-- it ends with 0 or 4
+pub help_status : (result : ℕ) (outcome : Outcome) → result ≡ status_of outcome → (outcome ≡ outcomes.Done) ⊎ (outcome ≡ outcomes.WriteFault) → (result ≡ 0) ⊎ (result ≡ 4)
+help_status result outcome status (inl done) = inl (status ∙ ap status_of done)
+help_status result outcome status (inr fault) = inr (status ∙ ap status_of fault)
 
 -- ---- the same with another budget, number of events or outcome
 

@@ -1,23 +1,28 @@
 -- The command line: which words are a command, and how the program ends.
-use Rattle.std.specs.Prelude.{ℕ, ◌==◌, ◌&&◌, not, Bool, true, false, List, [], ◌∷◌, ◌++◌, codes, if◌then◌else◌, nat_le, Option, Some, None, is_some, unwrap_or, option_map, option_and_then}
+use Rattle.std.specs.Prelude.{ℕ, ◌==◌, ◌&&◌, not, Bool, false, List, [], ◌∷◌, ◌++◌, codes, if◌then◌else◌, nat_le, Option, Some, None, is_some, unwrap_or, option_map, option_and_then}
 use Rattle.std.specs.Str.{bytes_eq, is_utf8}
 use Rattle.http_front.specs.Numbers.{number_of}
 use Rattle.acewiki.specs.declared.command.Command.{Command}
 use Rattle.acewiki.specs.declared.command.Command.TheVariants as commands
 use Rattle.acewiki.specs.declared.options.Options.{Options}
-use Rattle.acewiki.specs.declared.options.TheConstants.{MOST_BUDGET, MOST_EVENTS, DEFAULT_BUDGET}
+use Rattle.acewiki.specs.declared.options.TheConstants.{MOST_BUDGET, MOST_EVENTS, MOST_MADE, DEFAULT_BUDGET}
 use Rattle.acewiki.specs.declared.command.Outcome.{Outcome}
 use Rattle.acewiki.specs.declared.command.Outcome.TheVariants.{Done, Usage, ReadFault, WriteFault, LinkFault, TooMuch, Memory}
 
--- a command: `replay` with the budget of a search, or `serve` with its address, the budget, and how many events it handles
+-- a command: `replay` with the budget of a search; `serve` with its address, the budget, and how many events it handles; `make` with how
+-- many sentences, the seed of its draws, and the budget; or `help`
 pub data Asked : Type 0 where
   replay : ℕ → Asked
   serve : List ℕ → ℕ → ℕ → Asked
+  make : ℕ → ℕ → ℕ → Asked
+  help : Asked
 
 -- a command of the program as what is asked
 abbrev pub asked_by : Command → Asked
 asked_by (commands.Replay budget) = replay budget
 asked_by (commands.Serve address budget events) = serve address.now budget events
+asked_by (commands.Make count seed budget) = make count seed budget
+asked_by commands.Help = help
 
 -- ---- options
 
@@ -69,12 +74,39 @@ abbrev pub serve_of : List (List ℕ) → Option Asked
 serve_of [] = None
 serve_of (address ∷ words) = if is_address address then option_map (serve_with address) (options_after no_options words) else None
 
+-- `make COUNT SEED [--budget N]`
+abbrev pub make_with : ℕ → ℕ → Options → Option Asked
+make_with count seed options = if is_some options.events then None else Some (make count seed (unwrap_or options.budget DEFAULT_BUDGET))
+
+abbrev pub make_seeded : ℕ → List ℕ → List (List ℕ) → Option Asked
+make_seeded count word words = option_and_then (λ seed. option_and_then (make_with count seed) (options_after no_options words)) (number_of 19 word)
+
+abbrev pub make_counted : List ℕ → List (List ℕ) → Option Asked
+make_counted word [] = None
+make_counted word (seed ∷ words) = option_and_then (λ count. make_seeded count seed words) (number_within 1 MOST_MADE word)
+
+abbrev pub make_of : List (List ℕ) → Option Asked
+make_of [] = None
+make_of (count ∷ words) = make_counted count words
+
+-- `help` alone
+abbrev pub help_of : List (List ℕ) → Option Asked
+help_of [] = Some help
+help_of (word ∷ words) = None
+
 -- the command that the words are
 abbrev pub command_of : List (List ℕ) → Option Asked
 command_of [] = None
 command_of (name ∷ words) =
     if bytes_eq name (codes "replay") then option_and_then replay_with (options_after no_options words) else (
-    if bytes_eq name (codes "serve") then serve_of words else None)
+    if bytes_eq name (codes "serve") then serve_of words else (
+    if bytes_eq name (codes "make") then make_of words else (
+    if bytes_eq name (codes "help") then help_of words else None)))
+
+-- what `help` writes: a line for each command
+unfoldable pub help_text : List ℕ
+help_text =
+    codes "acewiki replay [--budget N]\nacewiki serve ADDRESS [--budget N] [--events N]\n" ++ codes "acewiki make COUNT SEED [--budget N]\nacewiki help\n"
 
 -- ---- the end
 

@@ -3,3 +3,5 @@ pub mod Command
 pub mod Lines
 pub mod Replay
 pub mod Serve
+pub mod Completeness
+pub mod Make

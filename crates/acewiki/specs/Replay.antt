@@ -10,7 +10,7 @@ use Rattle.wiki_talk.specs.Turns.{Exchange}
 use Rattle.acewiki.specs.Wiki.{Holding}
 use Rattle.acewiki.specs.declared.command.Outcome.{Outcome}
 use Rattle.acewiki.specs.declared.command.Outcome.TheVariants.{Done, ReadFault, WriteFault, TooMuch, Memory}
-use Rattle.acewiki.specs.Command.{status_of, words_of}
+use Rattle.acewiki.specs.Command.{status_of, words_of, help_text}
 use Rattle.acewiki.specs.Lines.{StepsLines, reply_lines}
 
 -- What a command has done with the lines of its input when it ends with this outcome: of what the input had left it read
@@ -57,6 +57,13 @@ pub record AnswersLines (first : Holding) (lines : List InputLine) (taken taken_
   pub last : Holding
   pub steps : StepsLines first lines exchanges last
   pub sink : Appends taken taken_after (reply_lines exchanges)
+
+-- What `help` has written when it ends with this outcome: its lines, or a front of them.
+pub record WritesHelp (outcome : Outcome) (taken taken_after : Option (List ℕ)) : Type 0 where
+  pub written : List ℕ
+  pub sink : Appends taken taken_after written
+  pub front : Begins written help_text
+  pub whole : outcome ≡ Done → written ≡ help_text
 
 -- the source told no more than `MAX_INPUT` bytes
 abbrev pub IsWithin : Option (List ℕ) → Type 0

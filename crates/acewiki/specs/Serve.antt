@@ -1,5 +1,5 @@
 -- What `serve` does with the lines of its input and then with the events of a link.
-use Rattle.std.specs.Prelude.{◌≡◌, ◌⊎◌, ℕ, ◌≤◌, List, [], ◌++◌, length, map, Option, Some}
+use Rattle.std.specs.Prelude.{◌≡◌, ◌⊎◌, ℕ, ◌≤◌, List, [], ◌∷◌, ◌++◌, length, map, Option, Some, ⊤}
 use Rattle.std.specs.List.{flat_map}
 use Rattle.std.specs.Io.KnownBytes.{Appends}
 use Rattle.wiki_io.specs.declared.links.Event.{Event}
@@ -17,7 +17,7 @@ use Rattle.serving.specs.declared.serving.Served.{Served}
 use Rattle.serving.specs.declared.serving.Served.TheVariants as served
 use Rattle.serving.specs.Handling.{Handling, turn_in, exchange_in, journal_in, response_in}
 use Rattle.serving.specs.Delivering.{Delivers}
-use Rattle.serving.specs.Events.{Outside, EndsServing, Ended}
+use Rattle.serving.specs.Events.{Outside, WasHandled, CutsJournal, EndsServing, Ended}
 use Rattle.acewiki.specs.declared.command.Outcome.{Outcome}
 use Rattle.acewiki.specs.declared.command.Outcome.TheVariants as outcomes
 use Rattle.acewiki.specs.Lines.{asked}
@@ -30,12 +30,19 @@ outcome_of served.LinkFault = outcomes.LinkFault
 outcome_of served.JournalFault = outcomes.WriteFault
 outcome_of served.Memory = outcomes.Memory
 
--- No event was handed in, and nothing was written or sent: the lines of the input ended so, or they were all stepped and the
--- link could not listen, or there was no memory.
+-- a command can end so before the lines of its input are all stepped
+abbrev pub EndsInput : Outcome → Type 0
+EndsInput outcomes.ReadFault = ⊤
+EndsInput outcomes.TooMuch = ⊤
+EndsInput outcomes.Memory = ⊤
+EndsInput outcome = ⊥
+
+-- No event was handed in, and nothing was written or sent: the lines of the input ended so, or there was no memory; or they
+-- were all stepped, and the link could not listen.
 pub record ServesNothing (first : Holding) (left : Option (List ℕ)) (outside : Outside) (handed : Option (List Event)) (outcome : Outcome) (left_after : Option (List ℕ)) (outside_after : Outside) (handed_after : Option (List Event)) : Type 0 where
   pub stepped : Outcome
   pub input : StepsInput first left stepped left_after
-  pub why : ((stepped ≡ outcome) × (outcome ≡ outcomes.Done → ⊥)) ⊎ ((outcome ≡ outcomes.LinkFault) ⊎ (outcome ≡ outcomes.Memory))
+  pub why : ((stepped ≡ outcome) × EndsInput outcome) ⊎ ((stepped ≡ outcomes.Done) × (outcome ≡ outcomes.LinkFault))
   pub same : outside_after ≡ outside
   pub same_handed : handed_after ≡ handed
 
@@ -85,3 +92,34 @@ pub record AnswersAsPlainWiki (first : Holding) (lines : List InputLine) (outsid
   pub responses : Delivers (flat_map response_in handlings) outside.sent outside.send_faults outside_after.sent outside_after.send_faults
   pub whole : ¬ Rose outside.send_faults outside_after.send_faults → (n : ℕ) (sent sent_after : List (ℕ × List ℕ)) → outside.sent ≡ Some sent → outside_after.sent ≡ Some sent_after
       → sent_on n sent_after ≡ sent_on n sent ++ sent_on n (flat_map response_in handlings)
+
+-- ---- a fault
+
+-- An event that a fault ended: the plain wiki has done its step for it or nothing, and nothing was written; or it has done its step,
+-- and of the journal's line a front was written. Nothing was sent.
+abbrev pub EndsAtFault : Holding → List Kept → Event → Outside → Outside → Type 0
+EndsAtFault old kept event outside outside_after =
+    (((new : Holding) × WasHandled KeptStep old kept event new) × (outside_after ≡ outside))
+    ⊎ ((new : Holding) × (kept_after : List Kept) × CutsJournal KeptStep old kept event outside.journal new kept_after outside_after.journal
+    × (outside_after.sent ≡ outside.sent) × (outside_after.send_faults ≡ outside.send_faults))
+
+-- the same of one event at most
+abbrev pub EndsAt : Holding → List Kept → List Event → Outside → Outside → Type 0
+EndsAt old kept [] outside outside_after = outside_after ≡ outside
+EndsAt old kept (event ∷ []) outside outside_after = EndsAtFault old kept event outside outside_after
+EndsAt old kept (event ∷ next ∷ more) outside outside_after = ⊥
+
+-- The same up to a fault: for all events, or all but a last one, which the fault ended, the bytes answered are a plain wiki's.
+pub record AnswersUpToFault (first : Holding) (lines : List InputLine) (outside : Outside) (events : List Event) (outside_after : Outside) : Type 0 where
+  pub answered : List Event
+  pub last_event : List Event
+  pub all : events ≡ answered ++ last_event
+  pub outside_then : Outside
+  pub answers : AnswersAsPlainWiki first lines outside answered outside_then
+  pub ends : EndsAt answers.last answers.kept last_event outside_then outside_after
+
+-- No event was handed in, and nothing was written or sent; or the events that were handed in were answered up to a fault.
+abbrev pub ServesUpToFault : Holding → List InputLine → Outside → Option (List Event) → Outside → Option (List Event) → Type 0
+ServesUpToFault first lines outside handed outside_after handed_after =
+    ((outside_after ≡ outside) × (handed_after ≡ handed))
+    ⊎ ((events : List Event) × (handed_after ≡ with_more handed events) × AnswersUpToFault first lines outside events outside_after)

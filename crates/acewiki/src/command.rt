@@ -1,9 +1,10 @@
 // The command line: which words are a command, and how the program ends.
 ghost use Rattle.std.specs.Prelude.{◌≡◌, None, Some, option_map, if◌then◌else◌};
-ghost use Rattle.acewiki.specs.Command.{asked_by, command_of, replay_with, serve_of, is_address, begins_with_hyphen, status_of, words_of};
+ghost use Rattle.acewiki.specs.Command.{asked_by, command_of, replay_with, serve_of, make_of, make_counted, make_seeded, make_with, help_of, is_address, begins_with_hyphen, status_of, words_of};
 ghost use Rattle.acewiki.specs.declared.command.Outcome.TheVariants.{Memory as out_of_memory};
 
-use crate::options::{DEFAULT_BUDGET, MOST_EVENTS, Options};
+use crate::options::{DEFAULT_BUDGET, MOST_EVENTS, MOST_MADE, Options, number_within};
+use http_front::number_of;
 use std::str::from_utf8;
 use wiki_base::{Arg, Memory};
 
@@ -20,6 +21,14 @@ pub enum Command<'a> {
         budget: u64,
         events: u64,
     },
+    /// Makes a wiki of so many generated sentences by the draws of a seed, and tells what the replies add up to.
+    Make {
+        count: u32,
+        seed: u64,
+        budget: u64,
+    },
+    /// Tells what the commands are.
+    Help,
 }
 
 impl Command<'_> {
@@ -33,6 +42,12 @@ impl Command<'_> {
         }
         if name.as_slice() == b"serve".as_slice() {
             return serve_of(words);
+        }
+        if name.as_slice() == b"make".as_slice() {
+            return make_of(words);
+        }
+        if name.as_slice() == b"help".as_slice() {
+            return help_of(words);
         }
         None
     }
@@ -60,6 +75,50 @@ fn serve_of(words: &[Arg]) -> Option<Command<'_>>
         budget: options.budget.unwrap_or(DEFAULT_BUDGET),
         events: options.events.unwrap_or(MOST_EVENTS),
     })
+}
+
+fn make_of(words: &[Arg]) -> Option<Command<'_>>
+    ensures { option_map asked_by result ≡ make_of words.now }
+{
+    let (count, words) = words.split_first()?;
+    make_counted(count.as_slice(), words)
+}
+
+fn make_counted<'a>(count: &[u8], words: &'a [Arg]) -> Option<Command<'a>>
+    ensures { option_map asked_by result ≡ make_counted count.now words.now }
+{
+    let (seed, words) = words.split_first()?;
+    let count = number_within(1, MOST_MADE, count)?;
+    make_seeded(count as u32, seed.as_slice(), words)
+}
+
+fn make_seeded<'a>(count: u32, seed: &[u8], words: &'a [Arg]) -> Option<Command<'a>>
+    ensures { option_map asked_by result ≡ make_seeded count seed.now words.now }
+{
+    let seed = number_of(seed, 19)?;
+    make_with(count, seed, Options::from_words(words)?)
+}
+
+fn make_with<'a>(count: u32, seed: u64, options: Options) -> Option<Command<'a>>
+    ensures { option_map asked_by result ≡ make_with count seed options }
+{
+    if options.events.is_some() {
+        return None;
+    }
+    Some(Command::Make {
+        count,
+        seed,
+        budget: options.budget.unwrap_or(DEFAULT_BUDGET),
+    })
+}
+
+fn help_of(words: &[Arg]) -> Option<Command<'_>>
+    ensures { option_map asked_by result ≡ help_of words.now }
+{
+    match words {
+        [] => Some(Command::Help),
+        [..] => None,
+    }
 }
 
 // The address that a word is, if it is one.

@@ -1,9 +1,12 @@
 //! AceWiki: a controlled-English wiki. `acewiki replay` answers one reply line to each request line of its input, and
-//! `acewiki serve ADDRESS` serves it to browsers.
+//! `acewiki serve ADDRESS` serves it to browsers; `acewiki make COUNT SEED` makes a
+//! generated one, and `acewiki help` tells the commands.
 #![tactic(auto)]
 
 mod command;
+mod help;
 mod lines;
+mod make;
 mod options;
 mod replay;
 mod run;

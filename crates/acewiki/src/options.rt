@@ -1,5 +1,5 @@
 // The options of a command, each as two words.
-ghost use Rattle.std.specs.Prelude.{◌≡◌, ◌≤◌};
+ghost use Rattle.std.specs.Prelude.{◌≡◌, ◌≤◌, IfSome};
 ghost use Rattle.acewiki.specs.Command.{number_within, with_budget, with_events, with_option, options_after, no_options};
 
 use http_front::number_of;
@@ -10,6 +10,9 @@ pub const MOST_BUDGET: u64 = 1_000_000_000;
 
 /// The most events that are handled, and how many are where the command says nothing else.
 pub const MOST_EVENTS: u64 = 1_000_000_000;
+
+/// The most sentences that are made.
+pub const MOST_MADE: u64 = 2_000;
 
 /// How many steps a search may take where the command says nothing else.
 pub const DEFAULT_BUDGET: u64 = 1_000_000;
@@ -81,9 +84,10 @@ impl Options {
     }
 }
 
-// The number that a word of 1 to 19 digits writes, if it stands between these two.
-fn number_within(least: u64, most: u64, word: &[u8]) -> Option<u64>
-    ensures { result ≡ number_within least most word.now }
+/// The number that a word of 1 to 19 digits writes, if it stands between these two.
+pub fn number_within(least: u64, most: u64, word: &[u8]) -> Option<u64>
+    ensures number { result ≡ number_within least most word.now }
+    ensures within { IfSome result (λ number. number ≤ most) }
 {
     match number_of(word, 19) {
         Some(number) if least <= number && number <= most => Some(number),

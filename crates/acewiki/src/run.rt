@@ -4,13 +4,17 @@ ghost use Rattle.wiki_io.specs.declared.links.Event.{Event};
 ghost use Rattle.wiki_io.specs.Faults.{Rose};
 ghost use Rattle.wiki_io.specs.Lines.{input_lines};
 ghost use Rattle.wiki_io.specs.Link.{with_more};
-ghost use Rattle.acewiki.specs.Command.{Asked, replay, serve, command_of, status_of, words_of};
-ghost use Rattle.acewiki.specs.Replay.{AnswersLines, Replays, IsWithin, Tells, EndsWith};
+ghost use Rattle.acewiki.specs.Command.{Asked, replay, serve, make, help, command_of, status_of, words_of};
+ghost use Rattle.acewiki.specs.Completeness.{DoesWhatIsFree};
+ghost use Rattle.acewiki.specs.Make.{MakesSummary};
+ghost use Rattle.acewiki.specs.Replay.{AnswersLines, Replays, WritesHelp, IsWithin, Tells, EndsWith};
 ghost use Rattle.acewiki.specs.Wiki.{ace_wiki};
-ghost use Rattle.acewiki.specs.Serve.{Serves, AnswersAsPlainWiki};
+ghost use Rattle.acewiki.specs.Serve.{Serves, AnswersAsPlainWiki, ServesUpToFault};
 ghost use Rattle.acewiki.specs.declared.command.Outcome.{Outcome};
 
 use crate::command::{Command, Outcome};
+use crate::help::help;
+use crate::make::make;
 use crate::replay::replay;
 use crate::serve::serve;
 use crate::words::{CommandLine, words};
@@ -53,11 +57,37 @@ pub fn run<S: Source, K: Sink, E: Sink, L: Link>(
         (record { journal = K.taken output.old; sent = L.sent link.old; send_faults = L.send_faults link.old }) events
         (record { journal = K.taken output.new; sent = L.sent link.new; send_faults = L.send_faults link.new }) }
 
+    // The same with status 5, whether the link could not listen or failed later.
+    ensures link_headline { (address : List ℕ) (budget most : ℕ) → command_of words.now ≡ Some (serve address budget most) → result ≡ 5
+        → (bytes : List ℕ) → S.left input.old ≡ Some bytes
+        → (events : List Event) × (L.handed link.new ≡ with_more (L.handed link.old) events)
+        × AnswersAsPlainWiki (ace_wiki budget) (input_lines bytes)
+        (record { journal = K.taken output.old; sent = L.sent link.old; send_faults = L.send_faults link.old }) events
+        (record { journal = K.taken output.new; sent = L.sent link.new; send_faults = L.send_faults link.new }) }
+
+    // With any status it holds up to the event that a fault ended. Where the lines of the input were not all stepped, no event was
+    // handed in.
+    ensures up_to_a_fault { (address : List ℕ) (budget most : ℕ) → command_of words.now ≡ Some (serve address budget most)
+        → (bytes : List ℕ) → S.left input.old ≡ Some bytes → ServesUpToFault (ace_wiki budget) (input_lines bytes)
+        (record { journal = K.taken output.old; sent = L.sent link.old; send_faults = L.send_faults link.old }) (L.handed link.old)
+        (record { journal = K.taken output.new; sent = L.sent link.new; send_faults = L.send_faults link.new }) (L.handed link.new) }
+
     // `serve` with any status: the lines that were stepped, the events that were handed in, and what was written and sent then.
     ensures serves { (address : List ℕ) (budget most : ℕ) (outcome : Outcome) → command_of words.now ≡ Some (serve address budget most) → result ≡ status_of outcome
         → Serves (ace_wiki budget) most (S.left input.old)
         (record { journal = K.taken output.old; sent = L.sent link.old; send_faults = L.send_faults link.old }) (L.handed link.old) outcome (S.left input.new)
         (record { journal = K.taken output.new; sent = L.sent link.new; send_faults = L.send_faults link.new }) (L.handed link.new) (L.left link.new) }
+
+    // `make`: the summary of a run of the plain wiki over the generated requests was written, or a front of it with status 4 or 9.
+    // Nothing is read or sent.
+    ensures makes { (count seed budget : ℕ) (outcome : Outcome) → command_of words.now ≡ Some (make count seed budget) → result ≡ status_of outcome
+        → MakesSummary (ace_wiki budget) count seed (K.taken output.old) outcome (K.taken output.new) }
+    ensures make_alone { (count seed budget : ℕ) → command_of words.now ≡ Some (make count seed budget)
+        → (input.new ≡ input.old) × (link.new ≡ link.old) × ((result ≡ 0) ⊎ ((result ≡ 4) ⊎ (result ≡ 9))) }
+
+    // `help`: its lines were written, or a front of them with status 4. Nothing is read or sent, and no memory is taken.
+    ensures helps { (outcome : Outcome) → command_of words.now ≡ Some help → result ≡ status_of outcome → WritesHelp outcome (K.taken output.old) (K.taken output.new) }
+    ensures help_alone { command_of words.now ≡ Some help → (input.new ≡ input.old) × (link.new ≡ link.old) × ((result ≡ 0) ⊎ (result ≡ 4)) }
 
     ensures read_fault { result ≡ 3 → Rose (S.faults input.old) (S.faults input.new) }
     ensures write_fault { result ≡ 4 → Rose (K.faults output.old) (K.faults output.new) }
@@ -67,6 +97,9 @@ pub fn run<S: Source, K: Sink, E: Sink, L: Link>(
     // It does not give up by itself, unless for memory.
     ensures complete { (command_of words.now ≢ None) → ¬ Rose (S.faults input.old) (S.faults input.new) → ¬ Rose (K.faults output.old) (K.faults output.new)
         → ¬ Rose (L.faults link.old) (L.faults link.new) → IsWithin (S.left input.old) → (result ≡ 0) ⊎ (result ≡ 9) }
+
+    // No request is refused without a cause: each step of the wiki does what nothing stands against.
+    ensures done_where_free { DoesWhatIsFree }
 
     // The status is one of those, and its words were written. A write that fails there changes no status.
     ensures words { EndsWith result (E.taken errors.old) (E.faults errors.old) (E.taken errors.new) (E.faults errors.new) }
@@ -92,6 +125,12 @@ fn perform<S: Source, K: Sink, L: Link>(
         → Serves (ace_wiki budget) most (S.left input.old)
         (record { journal = K.taken output.old; sent = L.sent link.old; send_faults = L.send_faults link.old }) (L.handed link.old) result (S.left input.new)
         (record { journal = K.taken output.new; sent = L.sent link.new; send_faults = L.send_faults link.new }) (L.handed link.new) (L.left link.new) }
+    ensures makes { (count seed budget : ℕ) → command_of words.now ≡ Some (make count seed budget)
+        → MakesSummary (ace_wiki budget) count seed (K.taken output.old) result (K.taken output.new) }
+    ensures make_alone { (count seed budget : ℕ) → command_of words.now ≡ Some (make count seed budget)
+        → (input.new ≡ input.old) × (link.new ≡ link.old) × ((result ≡ Outcome.Done) ⊎ ((result ≡ Outcome.WriteFault) ⊎ (result ≡ Outcome.Memory))) }
+    ensures helps { command_of words.now ≡ Some help → WritesHelp result (K.taken output.old) (K.taken output.new) }
+    ensures help_alone { command_of words.now ≡ Some help → (input.new ≡ input.old) × (link.new ≡ link.old) × ((result ≡ Outcome.Done) ⊎ (result ≡ Outcome.WriteFault)) }
     ensures read_fault { result ≡ Outcome.ReadFault → Rose (S.faults input.old) (S.faults input.new) }
     ensures write_fault { result ≡ Outcome.WriteFault → Rose (K.faults output.old) (K.faults output.new) }
     ensures link_fault { result ≡ Outcome.LinkFault → Rose (L.faults link.old) (L.faults link.new) }
@@ -107,6 +146,14 @@ fn perform<S: Source, K: Sink, L: Link>(
                 events,
             },
         ) => serve(alloc, address, budget, events, input, output, link),
+        Some(
+            Command::Make {
+                count,
+                seed,
+                budget,
+            },
+        ) => make(alloc, count, seed, budget, output),
+        Some(Command::Help) => help(output),
         None => Outcome::Usage,
     }
 }
@@ -138,6 +185,14 @@ pub fn program<C: CommandLine, S: Source, K: Sink, E: Sink, L: Link>(
         × AnswersAsPlainWiki (ace_wiki budget) (input_lines bytes)
         (record { journal = K.taken output.old; sent = L.sent link.old; send_faults = L.send_faults link.old }) events
         (record { journal = K.taken output.new; sent = L.sent link.new; send_faults = L.send_faults link.new }) }
+    ensures up_to_a_fault { (words : List (List ℕ)) (address : List ℕ) (budget most : ℕ) → C.words line.now ≡ Some words
+        → command_of words ≡ Some (serve address budget most) → (bytes : List ℕ) → S.left input.old ≡ Some bytes → ServesUpToFault (ace_wiki budget) (input_lines bytes)
+        (record { journal = K.taken output.old; sent = L.sent link.old; send_faults = L.send_faults link.old }) (L.handed link.old)
+        (record { journal = K.taken output.new; sent = L.sent link.new; send_faults = L.send_faults link.new }) (L.handed link.new) }
+    ensures makes { (words : List (List ℕ)) (count seed budget : ℕ) (outcome : Outcome) → C.words line.now ≡ Some words → command_of words ≡ Some (make count seed budget)
+        → result ≡ status_of outcome → MakesSummary (ace_wiki budget) count seed (K.taken output.old) outcome (K.taken output.new) }
+    ensures helps { (words : List (List ℕ)) (outcome : Outcome) → C.words line.now ≡ Some words → command_of words ≡ Some help → result ≡ status_of outcome
+        → WritesHelp outcome (K.taken output.old) (K.taken output.new) }
     ensures read_fault { result ≡ 3 → Rose (S.faults input.old) (S.faults input.new) }
     ensures write_fault { result ≡ 4 → Rose (K.faults output.old) (K.faults output.new) }
     ensures link_fault { result ≡ 5 → Rose (L.faults link.old) (L.faults link.new) }

@@ -118,7 +118,8 @@ module _ {S : Type 0} (step : S → Request → Reply → S → Type 0) (first :
 
     -- an event whose line the journal cut off
     pub ended_journal : (most : ℕ) (event : Event) (handed_then left : Option (List Event)) (machine_after : S) (kept_after : List Kept) (told_after : Outside) → handed_then ≡ with_more handed (event ∷ [])
-        → CutsJournal step machine kept event told_then.journal machine_after kept_after told_after.journal → told_after.sent ≡ told_then.sent → count < most → Ended step first outside handed_first most handed_then served.JournalFault left told_after
+        → CutsJournal step machine kept event told_then.journal machine_after kept_after told_after.journal → (told_after.sent ≡ told_then.sent) × (told_after.send_faults ≡ told_then.send_faults) → count < most
+        → Ended step first outside handed_first most handed_then served.JournalFault left told_after
     ended_journal most event handed_then left machine_after kept_after told_after is cuts unsent room = (
       s.events ++ event ∷ [],
       handed_more (event ∷ []) handed_then is,

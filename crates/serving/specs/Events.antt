@@ -60,7 +60,7 @@ pub record RunsUntilJournal {S : Type 0} (step : S → Request → Reply → S �
   pub last : S
   pub kept_after : List Kept
   pub cut : CutsJournal step before kept last_event outside_before.journal last kept_after outside_after.journal
-  pub unsent : outside_after.sent ≡ outside_before.sent
+  pub unsent : (outside_after.sent ≡ outside_before.sent) × (outside_after.send_faults ≡ outside_before.send_faults)
 
 -- The same where there was no memory for the last of them: the machine is as before it, or has stepped for it, and nothing was
 -- written or sent.

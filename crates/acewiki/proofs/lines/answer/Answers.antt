@@ -1,4 +1,4 @@
-use Rattle.std.proofs.Common.{◌≡◌, List, ℕ, Some, refl, sym, ◌∙◌}
+use Rattle.std.proofs.Common.{◌≡◌, List, ℕ, refl, sym, ◌∙◌}
 use Rattle.std.proofs.lemmas.Result.{IfOk-weaker, on_err_weaker}
 use Rattle.acewiki.specs.Lines.{line_handed, asked, RepliesTo}
 use Rattle.acewiki.proofs.RunLemmas.{RepliesTo-step, WasStepped-step}

@@ -1,5 +1,4 @@
-use Rattle.std.proofs.Common.{◌≡◌, inr}
-use Rattle.acewiki.specs.Wiki.{KeptStep}
+use Rattle.std.proofs.Common.{inr}
 use Rattle.acewiki.proofs.ServeLemmas.{with_line, err_with}
 use Rattle.acewiki.proofs.lines.reply_to.Goals as goal
 

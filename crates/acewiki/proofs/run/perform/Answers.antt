@@ -1,10 +1,7 @@
-use Rattle.std.proofs.Common.{◌≡◌, ℕ, List, refl, sym, subst}
-use Rattle.acewiki.specs.Wiki.{Holding}
-use Rattle.acewiki.specs.declared.command.Command.TheVariants as commands
-use Rattle.acewiki.specs.Replay.{Replays}
-use Rattle.acewiki.specs.Wiki.{ace_wiki}
-use Rattle.acewiki.specs.Serve.{Serves}
-use Rattle.acewiki.proofs.StatusLemmas.{is_replay, is_serve, is_none, same_replay, same_budget, same_most, no_serve, no_command, with_budget_of, with_numbers, not_too_large, serves_not_too_large}
+use Rattle.std.proofs.Common.{refl, inl, inr}
+use Rattle.acewiki.proofs.StatusLemmas.{is_replay, is_serve, is_none, same_replay, same_budget, same_most, no_serve, help_no_replay, help_no_serve, no_command, with_budget_of, with_numbers, not_too_large, serves_not_too_large}
+use Rattle.acewiki.specs.declared.command.Outcome.TheVariants as outcomes
+use Rattle.acewiki.proofs.MakeLemmas.{other_command, same_make, made_not}
 use Rattle.acewiki.proofs.run.perform.Goals as goal
 
 pub returns-in-Some-Replay-clause-usage : goal.returns-in-Some-Replay-clause-usage
@@ -77,3 +74,169 @@ returns-in-None-clause-serves g c = λ address budget most given. no_command _ _
 
 pub returns-in-None-clause-no_link : goal.returns-in-None-clause-no_link
 returns-in-None-clause-no_link g c = λ budget given. no_command _ _ (is_none _ _ c.from_words.ensures c.in-None.is) given
+
+pub returns-in-Some-Replay-clause-helps : goal.returns-in-Some-Replay-clause-helps
+returns-in-Some-Replay-clause-helps g c =
+    λ given.
+    let command = is_replay _ _ _ _ c.from_words.ensures c.in-Some-Replay.is c.in-Some-Replay.field-0-is in
+    help_no_replay _ c.in-Some-Replay.budget given command
+
+pub returns-in-Some-Replay-clause-help_alone : goal.returns-in-Some-Replay-clause-help_alone
+returns-in-Some-Replay-clause-help_alone g c =
+    λ given.
+    let command = is_replay _ _ _ _ c.from_words.ensures c.in-Some-Replay.is c.in-Some-Replay.field-0-is in
+    help_no_replay _ c.in-Some-Replay.budget given command
+
+pub returns-in-Some-Serve-clause-helps : goal.returns-in-Some-Serve-clause-helps
+returns-in-Some-Serve-clause-helps g c =
+    λ given.
+    let command = is_serve _ _ _ _ c.from_words.ensures c.in-Some-Serve.is c.in-Some-Serve.field-0-is in
+    help_no_serve _ c.in-Some-Serve.budget c.in-Some-Serve.events _ given command
+
+pub returns-in-Some-Serve-clause-help_alone : goal.returns-in-Some-Serve-clause-help_alone
+returns-in-Some-Serve-clause-help_alone g c =
+    λ given.
+    let command = is_serve _ _ _ _ c.from_words.ensures c.in-Some-Serve.is c.in-Some-Serve.field-0-is in
+    help_no_serve _ c.in-Some-Serve.budget c.in-Some-Serve.events _ given command
+
+pub returns-in-None-clause-helps : goal.returns-in-None-clause-helps
+returns-in-None-clause-helps g c = λ given. no_command _ _ (is_none _ _ c.from_words.ensures c.in-None.is) given
+
+pub returns-in-None-clause-help_alone : goal.returns-in-None-clause-help_alone
+returns-in-None-clause-help_alone g c = λ given. no_command _ _ (is_none _ _ c.from_words.ensures c.in-None.is) given
+
+pub returns-in-Some-Help-clause-usage : goal.returns-in-Some-Help-clause-usage
+returns-in-Some-Help-clause-usage g c =
+    let command = is_serve _ _ _ _ c.from_words.ensures c.in-Some-Help.is c.in-Some-Help.field-0-is in
+    ((λ is. absurd (elim c.help.ensures.ends [ inl done ↦ cc (done, is) | inr fault ↦ cc (fault, is) ])), λ none. no_command _ _ none command)
+
+pub returns-in-Some-Help-clause-idle : goal.returns-in-Some-Help-clause-idle
+returns-in-Some-Help-clause-idle g c = λ is. absurd (elim c.help.ensures.ends [ inl done ↦ cc (done, is) | inr fault ↦ cc (fault, is) ])
+
+pub returns-in-Some-Help-clause-replays : goal.returns-in-Some-Help-clause-replays
+returns-in-Some-Help-clause-replays g c =
+    λ budget given.
+    let command = is_serve _ _ _ _ c.from_words.ensures c.in-Some-Help.is c.in-Some-Help.field-0-is in
+    help_no_replay _ budget command given
+
+pub returns-in-Some-Help-clause-serves : goal.returns-in-Some-Help-clause-serves
+returns-in-Some-Help-clause-serves g c =
+    λ address budget most given.
+    let command = is_serve _ _ _ _ c.from_words.ensures c.in-Some-Help.is c.in-Some-Help.field-0-is in
+    help_no_serve _ budget most address command given
+
+pub returns-in-Some-Help-clause-read_fault : goal.returns-in-Some-Help-clause-read_fault
+returns-in-Some-Help-clause-read_fault g c = λ is. absurd (elim c.help.ensures.ends [ inl done ↦ cc (done, is) | inr fault ↦ cc (fault, is) ])
+
+pub returns-in-Some-Help-clause-link_fault : goal.returns-in-Some-Help-clause-link_fault
+returns-in-Some-Help-clause-link_fault g c = λ is. absurd (elim c.help.ensures.ends [ inl done ↦ cc (done, is) | inr fault ↦ cc (fault, is) ])
+
+pub returns-in-Some-Help-clause-help_alone : goal.returns-in-Some-Help-clause-help_alone
+returns-in-Some-Help-clause-help_alone g c = λ given. (refl, refl, c.help.ensures.ends)
+
+pub returns-in-Some-Help-clause-no_link : goal.returns-in-Some-Help-clause-no_link
+returns-in-Some-Help-clause-no_link g c =
+    λ budget given.
+    let command = is_serve _ _ _ _ c.from_words.ensures c.in-Some-Help.is c.in-Some-Help.field-0-is in
+    help_no_replay _ budget command given
+
+pub returns-in-Some-Help-clause-large : goal.returns-in-Some-Help-clause-large
+returns-in-Some-Help-clause-large g c = λ _ is. absurd (elim c.help.ensures.ends [ inl done ↦ cc (done, is) | inr fault ↦ cc (fault, is) ])
+
+pub returns-in-Some-Replay-clause-makes : goal.returns-in-Some-Replay-clause-makes
+returns-in-Some-Replay-clause-makes g c =
+    λ count seed budget given.
+    let command = is_replay _ _ _ _ c.from_words.ensures c.in-Some-Replay.is c.in-Some-Replay.field-0-is in
+    other_command _ _ _ command given (λ same. cc same)
+
+pub returns-in-Some-Replay-clause-make_alone : goal.returns-in-Some-Replay-clause-make_alone
+returns-in-Some-Replay-clause-make_alone g c =
+    λ count seed budget given.
+    let command = is_replay _ _ _ _ c.from_words.ensures c.in-Some-Replay.is c.in-Some-Replay.field-0-is in
+    other_command _ _ _ command given (λ same. cc same)
+
+pub returns-in-Some-Serve-clause-makes : goal.returns-in-Some-Serve-clause-makes
+returns-in-Some-Serve-clause-makes g c =
+    λ count seed budget given.
+    let command = is_serve _ _ _ _ c.from_words.ensures c.in-Some-Serve.is c.in-Some-Serve.field-0-is in
+    other_command _ _ _ command given (λ same. cc same)
+
+pub returns-in-Some-Serve-clause-make_alone : goal.returns-in-Some-Serve-clause-make_alone
+returns-in-Some-Serve-clause-make_alone g c =
+    λ count seed budget given.
+    let command = is_serve _ _ _ _ c.from_words.ensures c.in-Some-Serve.is c.in-Some-Serve.field-0-is in
+    other_command _ _ _ command given (λ same. cc same)
+
+pub returns-in-Some-Help-clause-makes : goal.returns-in-Some-Help-clause-makes
+returns-in-Some-Help-clause-makes g c =
+    λ count seed budget given.
+    let command = is_serve _ _ _ _ c.from_words.ensures c.in-Some-Help.is c.in-Some-Help.field-0-is in
+    other_command _ _ _ command given (λ same. cc same)
+
+pub returns-in-Some-Help-clause-make_alone : goal.returns-in-Some-Help-clause-make_alone
+returns-in-Some-Help-clause-make_alone g c =
+    λ count seed budget given.
+    let command = is_serve _ _ _ _ c.from_words.ensures c.in-Some-Help.is c.in-Some-Help.field-0-is in
+    other_command _ _ _ command given (λ same. cc same)
+
+pub returns-in-None-clause-makes : goal.returns-in-None-clause-makes
+returns-in-None-clause-makes g c = λ count seed budget given. no_command _ _ (is_none _ _ c.from_words.ensures c.in-None.is) given
+
+pub returns-in-None-clause-make_alone : goal.returns-in-None-clause-make_alone
+returns-in-None-clause-make_alone g c = λ count seed budget given. no_command _ _ (is_none _ _ c.from_words.ensures c.in-None.is) given
+
+pub returns-in-Some-Make-clause-usage : goal.returns-in-Some-Make-clause-usage
+returns-in-Some-Make-clause-usage g c =
+    let command = is_serve _ _ _ _ c.from_words.ensures c.in-Some-Make.is c.in-Some-Make.field-0-is in
+    ((λ is. absurd (made_not c.make.result outcomes.Usage c.make.ensures.ends is (λ same. cc same) (λ same. cc same) (λ same. cc same))), λ none. no_command _ _ none command)
+
+pub returns-in-Some-Make-clause-idle : goal.returns-in-Some-Make-clause-idle
+returns-in-Some-Make-clause-idle g c = λ is. absurd (made_not c.make.result outcomes.Usage c.make.ensures.ends is (λ same. cc same) (λ same. cc same) (λ same. cc same))
+
+pub returns-in-Some-Make-clause-replays : goal.returns-in-Some-Make-clause-replays
+returns-in-Some-Make-clause-replays g c =
+    λ budget given.
+    let command = is_serve _ _ _ _ c.from_words.ensures c.in-Some-Make.is c.in-Some-Make.field-0-is in
+    other_command _ _ _ command given (λ same. cc same)
+
+pub returns-in-Some-Make-clause-serves : goal.returns-in-Some-Make-clause-serves
+returns-in-Some-Make-clause-serves g c =
+    λ address budget most given.
+    let command = is_serve _ _ _ _ c.from_words.ensures c.in-Some-Make.is c.in-Some-Make.field-0-is in
+    other_command _ _ _ command given (λ same. cc same)
+
+pub returns-in-Some-Make-clause-makes : goal.returns-in-Some-Make-clause-makes
+returns-in-Some-Make-clause-makes g c =
+    λ count seed budget given.
+    let command = is_serve _ _ _ _ c.from_words.ensures c.in-Some-Make.is c.in-Some-Make.field-0-is in
+    same_make _ _ count _ seed _ budget _ _ _ command given c.make.ensures.makes
+
+pub returns-in-Some-Make-clause-make_alone : goal.returns-in-Some-Make-clause-make_alone
+returns-in-Some-Make-clause-make_alone g c = λ count seed budget given. (refl, refl, c.make.ensures.ends)
+
+pub returns-in-Some-Make-clause-helps : goal.returns-in-Some-Make-clause-helps
+returns-in-Some-Make-clause-helps g c =
+    λ given.
+    let command = is_serve _ _ _ _ c.from_words.ensures c.in-Some-Make.is c.in-Some-Make.field-0-is in
+    other_command _ _ _ command given (λ same. cc same)
+
+pub returns-in-Some-Make-clause-help_alone : goal.returns-in-Some-Make-clause-help_alone
+returns-in-Some-Make-clause-help_alone g c =
+    λ given.
+    let command = is_serve _ _ _ _ c.from_words.ensures c.in-Some-Make.is c.in-Some-Make.field-0-is in
+    other_command _ _ _ command given (λ same. cc same)
+
+pub returns-in-Some-Make-clause-read_fault : goal.returns-in-Some-Make-clause-read_fault
+returns-in-Some-Make-clause-read_fault g c = λ is. absurd (made_not c.make.result outcomes.ReadFault c.make.ensures.ends is (λ same. cc same) (λ same. cc same) (λ same. cc same))
+
+pub returns-in-Some-Make-clause-link_fault : goal.returns-in-Some-Make-clause-link_fault
+returns-in-Some-Make-clause-link_fault g c = λ is. absurd (made_not c.make.result outcomes.LinkFault c.make.ensures.ends is (λ same. cc same) (λ same. cc same) (λ same. cc same))
+
+pub returns-in-Some-Make-clause-no_link : goal.returns-in-Some-Make-clause-no_link
+returns-in-Some-Make-clause-no_link g c =
+    λ budget given.
+    let command = is_serve _ _ _ _ c.from_words.ensures c.in-Some-Make.is c.in-Some-Make.field-0-is in
+    other_command _ _ _ command given (λ same. cc same)
+
+pub returns-in-Some-Make-clause-large : goal.returns-in-Some-Make-clause-large
+returns-in-Some-Make-clause-large g c = λ _ is. absurd (made_not c.make.result outcomes.TooMuch c.make.ensures.ends is (λ same. cc same) (λ same. cc same) (λ same. cc same))

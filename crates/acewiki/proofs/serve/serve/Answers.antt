@@ -2,4 +2,4 @@ use Rattle.acewiki.proofs.ServeLemmas.{Serves-stopped, StepsInput-none}
 use Rattle.acewiki.proofs.serve.serve.Goals as goal
 
 pub returns-in-Err-clause-serves : goal.returns-in-Err-clause-serves
-returns-in-Err-clause-serves g c = Serves-stopped _ _ _ _ _ _ _ _ (StepsInput-none _ _) (λ is. cc is)
+returns-in-Err-clause-serves g c = Serves-stopped _ _ _ _ _ _ _ _ (StepsInput-none _ _) tt

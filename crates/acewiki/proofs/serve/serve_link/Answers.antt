@@ -1,5 +1,5 @@
 use Rattle.std.proofs.Common.{refl, inl, inr, ◌∙◌, sym}
-use Rattle.acewiki.proofs.ServeLemmas.{served_same, fault_of_served, fault_of_journal, no_other}
+use Rattle.acewiki.proofs.ServeLemmas.{served_same, fault_of_journal, no_other}
 use Rattle.acewiki.proofs.serve.serve_link.Goals as goal
 
 pub returns-in-Ready-clause-serves : goal.returns-in-Ready-clause-serves

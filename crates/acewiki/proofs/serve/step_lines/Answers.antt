@@ -1,4 +1,4 @@
-use Rattle.std.proofs.Common.{◌≡◌, ℕ, List, [], ◌∷◌, refl, ap, sym, None, arith}
+use Rattle.std.proofs.Common.{◌≡◌, ℕ, List, [], ◌∷◌, refl, ap, sym}
 use Rattle.wiki_io.specs.Lines.{text}
 use Rattle.wiki_io.specs.Reading.{answered}
 use Rattle.wiki_io.specs.declared.reader.Line.{Line}

@@ -45,7 +45,7 @@ returns-in-JournalFault-clause-serves g c =
     let room : c.events._handled < c.args.most = omega arith in
     ended_journal g.W.Machine.Steps _ _ _ _ _ _ _ _ _ _ _ _ _ c.events.invariant _ (told_same _ _ _ _ _ next.sent next.send_faults) _ c.in-Event.come _ (g.L.Link.left c.event.new.link) _ _ _
     (done.handed ∙ come_event _ _ _ c.in-Event.come next.handed c.in-Event.is) (done.journal c.in-JournalFault.is)
-    (ap g.L.Link.sent (done.unsent (λ is. cc (c.in-JournalFault.is, is)))) room
+    (ap g.L.Link.sent (done.unsent (λ is. cc (c.in-JournalFault.is, is))), ap g.L.Link.send_faults (done.unsent (λ is. cc (c.in-JournalFault.is, is)))) room
 
 pub returns-in-JournalFault-clause-journal_fault : goal.returns-in-JournalFault-clause-journal_fault
 returns-in-JournalFault-clause-journal_fault g c = λ _. omega (arith, c.events.invariant.journal_faults, c.event.ensures.journal_fault c.in-JournalFault.is)

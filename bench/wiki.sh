@@ -63,10 +63,14 @@ for word in nouns + names + verbs:
     answers += sum(len(s.get("answers", [])) for s in reply["sentences"])
     unknown += sum(len(s.get("unknown", [])) for s in reply["sentences"])
 whole = time.perf_counter() - whole
+finds = [ask(do="find", word=noun + "s")[1] for noun in nouns * 10]
+words = [ask(do="word", kind="name", forms=[f"New{x}{y}"])[1] for x in letters for y in letters[:10]]
 reply, reword = ask(do="reword", word="noune", forms=["noune", "nounes"])
 print(f"{'sentences':32} {count:10} {statuses}, {answers} answers, {unknown} unknown")
 print(f"{'all requests, s':32} {whole:10.2f}")
 print(f"{'an add, median and worst, ms':32} {statistics.median(adds):10.2f} {max(adds):10.2f}")
 print(f"{'a read, median and worst, ms':32} {statistics.median(reads):10.2f} {max(reads):10.2f}")
+print(f"{'a find, median and worst, ms':32} {statistics.median(finds):10.2f} {max(finds):10.2f}")
+print(f"{'a word, median and worst, ms':32} {statistics.median(words):10.2f} {max(words):10.2f}")
 print(f"{'a reword, ms':32} {reword:10.2f} {reply}")
 PY

@@ -3,3 +3,8 @@ pub mod TurnedLemmas
 pub mod TurnedTrees
 pub mod SwapLemmas
 pub mod FollowLemmas
+pub mod LastToken
+pub mod ReadingLemmas
+pub mod OfferLemmas
+pub mod MenuLemmas
+pub mod OfferLoops

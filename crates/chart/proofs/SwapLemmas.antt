@@ -1,11 +1,10 @@
--- Two words without a form among the tokens may change places.
-use Rattle.std.proofs.Common.{◌≡◌, ℕ, suc, zero, ◌+◌, ◌-◌, ◌<◌, ◌≤◌, List, [], ◌∷◌, ◌++◌, Bool, true, false, ◌&&◌, ◌||◌, map, length, length-append, Option, Some, None, refl, sym, ap, ◌∙◌, subst, arith, nat_lt, get_or, IsTrue, ◌↔◌, ◌⊎◌, inl, inr}
-use Rattle.std.specs.Prelude.{if◌then◌else◌, ◌==◌, not, option_and_then, option_map, slice_get}
+-- Two words without a form among the tokens may change places, and a last token that brings no new word may be any other.
+use Rattle.std.proofs.Common.{◌≡◌, ℕ, suc, zero, ◌-◌, ◌<◌, List, [], ◌∷◌, ◌++◌, Bool, true, false, ◌&&◌, ◌||◌, map, length, length-append, Some, None, refl, sym, ap, ◌∙◌, subst, arith, nat_lt}
+use Rattle.std.specs.Prelude.{if◌then◌else◌, ◌==◌, not, option_map, slice_get}
 use Rattle.std.specs.Option.{option_map_or}
 use Rattle.std.specs.List.{list_any, list_all}
 use Rattle.std.specs.Str.{bytes_eq}
 use Rattle.std.proofs.lemmas.Bool.Decides.{nat_tests}
-use Rattle.std.proofs.lemmas.List.{map-append}
 use Rattle.std.proofs.lemmas.Option.{same_Some}
 use Rattle.codeco_terms.specs.declared.values.Value.{Value}
 use Rattle.codeco_terms.specs.declared.values.Value.TheVariants.{Atom, Word, Pos}
@@ -19,22 +18,33 @@ use Rattle.codeco_terms.specs.declared.rules.Rule.{Rule}
 use Rattle.codeco_terms.specs.GrammarParts.{GrammarParts}
 use Rattle.codeco_terms.specs.Values.{same_value}
 use Rattle.codeco_checked.specs.Sound.{IsSound, is_written, is_written_name, is_written_term, is_written_pattern, is_plain_pattern, is_written_element, is_written_rule, is_empty, ascends}
-use Rattle.lexicon.specs.Words.{Listed}
-use Rattle.lexicon.specs.Readings.{readings_of}
-use Rattle.derivation_trees.specs.Settings.{Setting, matches_terminal}
-use Rattle.derivation_trees.specs.Derives.{rule_with}
-use Rattle.derivation_trees.specs.Cutting.{is_terminal}
-use Rattle.derivation_trees.specs.Partial.{IsBeginning}
-use Rattle.derivation_trees.specs.Sentences.{setting_of}
-use Rattle.chart.specs.Alike.{swapped, swapped_value, swapped_ground, lacks_word, lacks_value, lacks_in}
-use Rattle.wiki_base.specs.declared.numbers.WordId.{WordId}
-use Rattle.chart.specs.declared.alike.Tried.{Tried}
-use Rattle.chart.specs.Trying.{IsTried, AreTried, IsKnown}
-use Rattle.chart_table.specs.Branches.{OneOf}
-use Rattle.chart_table.proofs.BranchLemmas.{either}
+use Rattle.derivation_trees.specs.Settings.{has_word}
+use Rattle.derivation_trees.specs.Derives.{text_category}
+use Rattle.chart_table.specs.declared.asks.Ask.{Ask}
+use Rattle.chart_table.specs.declared.asks.Ask.TheVariants as ask
+use Rattle.chart_table.specs.Asks.{AskLeads}
 use Rattle.chart_table.proofs.PassLemmas.{both_true}
-use Rattle.chart.proofs.TurnedLemmas.{Binds, IsTurn, turned, turned_pair, turned_all, turned_ground, turned_readings, Alike, AllWritten, PatternsWritten, length_turned}
-use Rattle.chart.proofs.TurnedTrees.{ElementWritten, BodyWritten, RuleWritten, RulesWritten, partial_turned}
+use Rattle.chart.specs.Offers.{with_last, has_in}
+use Rattle.chart.proofs.TurnedLemmas.{Binds, IsTurn, turned, turned_all, turned_ground, turned_readings, Alike, AllWritten, PatternsWritten, value_same, any_turned, has_turned, slice_turned}
+use Rattle.chart.proofs.TurnedTrees.{ElementWritten, BodyWritten, RuleWritten, RulesWritten, turned_ask, ask_turned}
+
+-- the other of two numbers, or the number itself where it is neither
+abbrev pub swapped : ℕ → ℕ → ℕ → ℕ
+swapped a b x = if x == a then b else (if x == b then a else x)
+
+-- the value isn't the word
+abbrev pub lacks_value : ℕ → Value → Bool
+lacks_value a (Atom x) = true
+lacks_value a (Word w) = not (w.0 == a)
+lacks_value a (Pos p) = true
+
+-- the word isn't among the values of readings
+abbrev pub lacks_in : ℕ → List Ground → Bool
+lacks_in a readings = list_all (λ r. list_all (λ p. lacks_value a p.1) r.vals) readings
+
+-- the word isn't among the values of the readings of tokens
+abbrev pub lacks_word : ℕ → List (List Ground) → Bool
+lacks_word a readings = list_all (lacks_in a) readings
 
 -- numbers
 
@@ -54,10 +64,10 @@ number_apart x y n = at (x == y) refl
     at true e = absurd (n (number_is x y e))
     at false e = e
 
-swapped_first : (a b : ℕ) → swapped a b a ≡ b
+pub swapped_first : (a b : ℕ) → swapped a b a ≡ b
 swapped_first a b = ap (λ t. if t then b else (if a == b then a else a)) (number_same a a refl)
 
-swapped_second : (a b : ℕ) → swapped a b b ≡ a
+pub swapped_second : (a b : ℕ) → swapped a b b ≡ a
 swapped_second a b = at (b == a) refl
   where
     at : (t : Bool) → (b == a) ≡ t → swapped a b b ≡ a
@@ -105,10 +115,8 @@ all_twice : (a b : ℕ) (vs : Binds) → turned_all (swapped a b) (turned_all (s
 all_twice a b [] = refl
 all_twice a b (p ∷ vs) = ap (λ v. (p.0, v) ∷ turned_all (swapped a b) (turned_all (swapped a b) vs)) (value_twice a b p.1) ∙ ap (λ l. p ∷ l) (all_twice a b vs)
 
-grounds_twice : (a b : ℕ) (rs : List Ground) → map (turned_ground (swapped a b)) (map (turned_ground (swapped a b)) rs) ≡ rs
-grounds_twice a b [] = refl
-grounds_twice a b (r ∷ rs) =
-    ap (λ vs. record { name = r.name; vals = vs } ∷ map (turned_ground (swapped a b)) (map (turned_ground (swapped a b)) rs)) (all_twice a b r.vals) ∙ ap (λ l. r ∷ l) (grounds_twice a b rs)
+ground_twice : (a b : ℕ) (r : Ground) → turned_ground (swapped a b) (turned_ground (swapped a b) r) ≡ r
+ground_twice a b r = ap (λ vs. record { name = r.name; vals = vs }) (all_twice a b r.vals)
 
 value_stays : (a b : ℕ) (v : Value) → lacks_value a v ≡ true → lacks_value b v ≡ true → turned (swapped a b) v ≡ v
 value_stays a b (Atom x) h k = refl
@@ -139,49 +147,6 @@ readings_stay a b (rs ∷ rss) h k =
     both_true (lacks_in a rs) (lacks_word a rss) h (λ h1 h2.
     both_true (lacks_in b rs) (lacks_word b rss) k (λ k1 k2.
     ap (λ x. x ∷ turned_readings (swapped a b) rss) (grounds_stay a b rs h1 k1) ∙ ap (λ l. rs ∷ l) (readings_stay a b rss h2 k2)))
-
--- what is swapped is what is turned
-ground_same : (a b : ℕ) (r : Ground) → swapped_ground a b r ≡ turned_ground (swapped a b) r
-ground_same a b r = ap (λ vs. record { name = r.name; vals = vs }) (each r.vals)
-  where
-    one : (v : Value) → swapped_value a b v ≡ turned (swapped a b) v
-    one (Atom x) = refl
-    one (Word w) = refl
-    one (Pos p) = refl
-
-    each : (vs : Binds) → map (λ p. (p.0, swapped_value a b p.1)) vs ≡ turned_all (swapped a b) vs
-    each [] = refl
-    each (p ∷ vs) = ap (λ v. (p.0, v) ∷ map (λ q. (q.0, swapped_value a b q.1)) vs) (one p.1) ∙ ap (λ l. (p.0, turned (swapped a b) p.1) ∷ l) (each vs)
-
-grounds_same : (a b : ℕ) (rs : List Ground) → map (swapped_ground a b) rs ≡ map (turned_ground (swapped a b)) rs
-grounds_same a b [] = refl
-grounds_same a b (r ∷ rs) = ap (λ x. x ∷ map (swapped_ground a b) rs) (ground_same a b r) ∙ ap (λ l. turned_ground (swapped a b) r ∷ l) (grounds_same a b rs)
-
--- terminals
-
-none_any : (xs : List (List ℕ)) (i : ℕ) (token : List ℕ) → list_any (bytes_eq token) xs ≡ false → option_map_or (bytes_eq token) (slice_get xs i) false ≡ false
-none_any [] i token h = refl
-none_any (x ∷ xs) i token h = at (bytes_eq token x) refl h i (λ k r. none_any xs k token r)
-  where
-    at : (t : Bool) → bytes_eq token x ≡ t → (t || list_any (bytes_eq token) xs) ≡ false → (k : ℕ) → ((j : ℕ) → list_any (bytes_eq token) xs ≡ false → option_map_or (bytes_eq token) (slice_get xs j) false ≡ false) → option_map_or (bytes_eq token) (slice_get (x ∷ xs) k) false ≡ false
-    at true e r k rest = absurd (cc)
-    at false e r zero rest = e
-    at false e r (suc j) rest = rest j r
-
--- the test of a token that may be there
-terminal_test : List (List ℕ) → ℕ → Option (List ℕ) → Bool
-terminal_test terminals t o = option_map_or (λ token. option_map_or (bytes_eq token) (slice_get terminals t) false) o false
-
-last_terminal : (terminals tokens : List (List ℕ)) (one other : List ℕ) (t place : ℕ) → list_any (bytes_eq one) terminals ≡ false → list_any (bytes_eq other) terminals ≡ false → terminal_test terminals t (slice_get (tokens ++ other ∷ []) place) ≡ terminal_test terminals t (slice_get (tokens ++ one ∷ []) place)
-unfolding terminal_test
-last_terminal terminals [] one other t zero h k = none_any terminals t other k ∙ sym (none_any terminals t one h)
-last_terminal terminals [] one other t (suc place) h k = refl
-last_terminal terminals (x ∷ tokens) one other t zero h k = refl
-last_terminal terminals (x ∷ tokens) one other t (suc place) h k = last_terminal terminals tokens one other t place h k
-
-terminals_alike : (g : GrammarParts) (rs qs : List (List Ground)) (tokens : List (List ℕ)) (one other : List ℕ) (t place : ℕ) → is_terminal g.terminals one ≡ false → is_terminal g.terminals other ≡ false → matches_terminal (record { grammar = g; tokens = tokens ++ other ∷ []; readings = qs }) t place ≡ matches_terminal (record { grammar = g; tokens = tokens ++ one ∷ []; readings = rs }) t place
-unfolding terminal_test
-terminals_alike g rs qs tokens one other t place h k = last_terminal g.terminals tokens one other t place h k
 
 -- written rules
 
@@ -240,52 +205,137 @@ rules_written g sound number rule has = at (number == 0) has
     at true e = absurd (cc)
     at false e = rule_written rule (all_at g.rules (number - 1) rule sound.written.rules e)
 
--- tokens that read alike but for the word
+-- settings that differ in the last token
 
-map_more : (f : List ℕ → List Ground) (tokens : List (List ℕ)) (x : List ℕ) → map f (tokens ++ x ∷ []) ≡ map f tokens ++ f x ∷ []
-map_more f tokens x = map-append f tokens (x ∷ [])
+slice_before : {X : Type 0} (xs ys : List X) (i : ℕ) → i < length xs → slice_get (xs ++ ys) i ≡ slice_get xs i
+slice_before [] ys i lt = absurd (omega arith)
+slice_before (x ∷ xs) ys zero lt = refl
+slice_before (x ∷ xs) ys (suc i) lt = slice_before xs ys i (omega arith)
 
-alike_from : (g : GrammarParts) (f : List ℕ → List Ground) (tokens : List (List ℕ)) (one other : List ℕ) (a b : ℕ) → is_terminal g.terminals one ≡ false → is_terminal g.terminals other ≡ false → lacks_word a (map f tokens) ≡ true → lacks_word b (map f tokens) ≡ true → f other ≡ map (turned_ground (swapped a b)) (f one) → Alike (swapped a b) (record { grammar = g; tokens = tokens ++ one ∷ []; readings = map f (tokens ++ one ∷ []) }) (record { grammar = g; tokens = tokens ++ other ∷ []; readings = map f (tokens ++ other ∷ []) })
-alike_from g f tokens one other a b h k la lb is = record {
+pub any_append : {X : Type 0} (p : X → Bool) (xs ys : List X) → list_any p (xs ++ ys) ≡ (list_any p xs || list_any p ys)
+any_append p [] ys = refl
+any_append p (x ∷ xs) ys = ap (λ b. p x || b) (any_append p xs ys) ∙ at (p x)
+  where
+    at : (b : Bool) → (b || (list_any p xs || list_any p ys)) ≡ ((b || list_any p xs) || list_any p ys)
+    at true = refl
+    at false = refl
+
+pub or_false : (b : Bool) → (b || false) ≡ b
+or_false true = refl
+or_false false = refl
+
+alike_last : (h : ℕ → ℕ) (g : GrammarParts) (tokens : List (List ℕ)) (rs : List (List Ground)) (one other : List ℕ) (q r : List Ground) → length rs ≡ length tokens → turned_readings h rs ≡ rs → ((v : Value) → has_word (with_last g tokens rs other r) (turned h v) ≡ has_word (with_last g tokens rs one q) v) → Alike (length tokens) h (with_last g tokens rs one q) (with_last g tokens rs other r)
+alike_last h g tokens rs one other q r long stays words = record {
   grammar = refl;
   count = length-append tokens (other ∷ []) ∙ sym (length-append tokens (one ∷ []));
-  terminals = λ t place. terminals_alike g (map f (tokens ++ one ∷ [])) (map f (tokens ++ other ∷ [])) tokens one other t place h k;
-  readings = map_more f tokens other ∙ ap (λ l. l ++ f other ∷ []) (sym (readings_stay a b (map f tokens) la lb)) ∙ ap (λ x. turned_readings (swapped a b) (map f tokens) ++ x ∷ []) is ∙ sym (ap (turned_readings (swapped a b)) (map_more f tokens one) ∙ map-append (map (turned_ground (swapped a b))) (map f tokens) (f one ∷ []));
+  terminals = λ t place lt. ap (λ o. option_map_or (λ token. option_map_or (bytes_eq token) (slice_get g.terminals t) false) o false) (slice_before tokens (other ∷ []) place lt ∙ sym (slice_before tokens (one ∷ []) place lt));
+  readings = λ place lt.
+      let below : place < length rs = subst (λ k. place < k) (sym long) lt in
+      slice_before rs (r ∷ []) place below ∙ ap (λ x. slice_get x place) (sym stays) ∙ slice_turned (map (turned_ground h)) rs place ∙ ap (option_map (map (turned_ground h))) (sym (slice_before rs (q ∷ []) place below));
+  words = words;
 }
 
-pub follows_alike : (g : GrammarParts) (l : Listed) (tokens : List (List ℕ)) (one other : List ℕ) (a b : ℕ) → IsSound g → is_terminal g.terminals one ≡ false → is_terminal g.terminals other ≡ false → (a ≡ 0 → ⊥) → (b ≡ 0 → ⊥) → lacks_word a (map (readings_of l.live) tokens) ≡ true → lacks_word b (map (readings_of l.live) tokens) ≡ true → readings_of l.live other ≡ map (swapped_ground a b) (readings_of l.live one) → (IsBeginning g l (tokens ++ one ∷ []) → IsBeginning g l (tokens ++ other ∷ [])) × (IsBeginning g l (tokens ++ other ∷ []) → IsBeginning g l (tokens ++ one ∷ []))
-follows_alike g l tokens one other a b sound h k na nb la lb is =
-    let f = readings_of l.live in
-    let forth : f other ≡ map (turned_ground (swapped a b)) (f one) = is ∙ grounds_same a b (f one) in
-    let back : f one ≡ map (turned_ground (swapped a b)) (f other) = sym (grounds_twice a b (f one)) ∙ ap (map (turned_ground (swapped a b))) (sym forth) in
-    (λ x. partial_turned (swapped a b) (swap_turns a b na nb) (setting_of g l (tokens ++ one ∷ [])) (setting_of g l (tokens ++ other ∷ [])) (alike_from g f tokens one other a b h k la lb forth) (rules_written g sound) x, λ x. partial_turned (swapped a b) (swap_turns a b na nb) (setting_of g l (tokens ++ other ∷ [])) (setting_of g l (tokens ++ one ∷ [])) (alike_from g f tokens other one a b k h la lb back) (rules_written g sound) x)
+-- the words of the readings before the last token
+abbrev words_in : List (List Ground) → Value → Bool
+words_in rs v = list_any (λ one. has_in one v) rs
 
--- what is told of a token that reads alike is true of the text
-pub known_told : (g : GrammarParts) (l : Listed) (tokens : List (List ℕ)) (text : List ℕ) (tried seen : List Tried) (read seen_read : List Ground) (word : WordId) (readings : List (List Ground)) (b : Bool) → IsSound g → readings ≡ map (readings_of l.live) tokens → seen ≡ tried → seen_read ≡ read → read ≡ readings_of l.live text → is_terminal g.terminals text ≡ false → 0 < word.0 → lacks_word word.0 readings ≡ true → AreTried g l tokens tried → IsKnown seen seen_read word b → IsTrue b ↔ IsBeginning g l (tokens ++ text ∷ [])
-known_told g l tokens text tried seen read seen_read word readings b sound rs s r is plain above lacks all k =
-    let one = k.0 in
-    let t = all one (subst (λ xs. OneOf xs one) s k.1) in
-    let above_too = t.word in
-    let alike : readings_of l.live text ≡ map (swapped_ground one.word.0 word.0) (readings_of l.live t.token) = sym is ∙ sym r ∙ k.3 ∙ ap (map (swapped_ground one.word.0 word.0)) (sym t.reads) in
-    let both = follows_alike g l tokens t.token text one.word.0 word.0 sound t.plain plain (λ e. absurd (omega arith)) (λ e. absurd (omega arith)) t.lacks (subst (λ x. lacks_word word.0 x ≡ true) rs lacks) alike in
-    subst (λ x. IsTrue x ↔ IsBeginning g l (tokens ++ text ∷ [])) k.2 (λ h. both.0 (t.told.0 h), λ h. t.told.1 (both.1 h))
+pub last_words : (g : GrammarParts) (tokens : List (List ℕ)) (rs : List (List Ground)) (one : List ℕ) (q : List Ground) (v : Value) → has_word (with_last g tokens rs one q) v ≡ (words_in rs v || has_in q v)
+last_words g tokens rs one q v =
+    any_append (λ readings. has_in readings v) rs (q ∷ []) ∙ ap (λ b. words_in rs v || b) (or_false (has_in q v))
 
-one_of_more : (xs : List Tried) (x y : Tried) → OneOf (xs ++ x ∷ []) y → OneOf xs y ⊎ (x ≡ y)
-one_of_more [] x y (inl e) = inr e
-one_of_more [] x y (inr h) = absurd h
-one_of_more (z ∷ zs) x y (inl e) = inl (inl e)
-one_of_more (z ∷ zs) x y (inr h) = either (λ a. inl (inr a)) (λ e. inr e) (one_of_more zs x y h)
+words_turned : (h : ℕ → ℕ) → IsTurn h → (rs : List (List Ground)) (v : Value) → turned_readings h rs ≡ rs → words_in rs (turned h v) ≡ words_in rs v
+words_turned h t rs v stays =
+    ap (λ x. words_in x (turned h v)) (sym stays) ∙ any_turned _ _ (map (turned_ground h)) rs (λ readings. any_turned _ _ (turned_ground h) readings (λ r. has_turned h t r.vals (3, v)))
 
--- one more token that was tried
-pub tried_more : (g : GrammarParts) (l : Listed) (tokens : List (List ℕ)) (text : List ℕ) (tried more : List Tried) (one : Tried) (readings : List (List Ground)) → more ≡ tried ++ one ∷ [] → readings ≡ map (readings_of l.live) tokens → one.readings ≡ readings_of l.live text → is_terminal g.terminals text ≡ false → 0 < one.word.0 → lacks_word one.word.0 readings ≡ true → IsTrue one.follows ↔ IsBeginning g l (tokens ++ text ∷ []) → AreTried g l tokens tried → AreTried g l tokens more
-tried_more g l tokens text tried more one readings m rs reads plain above lacks told all x o =
-    either (λ h. all x h) (λ e. subst (IsTried g l tokens) e (record { token = text; reads = sym reads; plain = plain; word = above; lacks = subst (λ r. lacks_word one.word.0 r ≡ true) rs lacks; told = told })) (one_of_more tried one x (subst (λ xs. OneOf xs x) m o))
+last_turned : (h : ℕ → ℕ) → IsTurn h → (g : GrammarParts) (tokens : List (List ℕ)) (rs : List (List Ground)) (one other : List ℕ) (q r : List Ground) → turned_readings h rs ≡ rs → ((v : Value) → has_in r (turned h v) ≡ has_in q v) → (v : Value) → has_word (with_last g tokens rs other r) (turned h v) ≡ has_word (with_last g tokens rs one q) v
+last_turned h t g tokens rs one other q r stays same v =
+    last_words g tokens rs other r (turned h v) ∙ ap (λ b. b || has_in r (turned h v)) (words_turned h t rs v stays) ∙ ap (λ b. words_in rs v || b) (same v) ∙ sym (last_words g tokens rs one q v)
 
-pub tried_here : (xs : List Tried) (i : ℕ) (x : Tried) → i < length xs → x ≡ get_or xs i x → OneOf xs x
-tried_here [] i x lt is = absurd (omega arith)
-tried_here (y ∷ ys) zero x lt is = inl (sym is)
-tried_here (y ∷ ys) (suc i) x lt is = inr (tried_here ys i x (omega arith) is)
+-- what is asked for, of the category of sentences, at the place of the last token
+abbrev pub Asked : GrammarParts → List (List ℕ) → List (List Ground) → List ℕ → List Ground → Ask → Type 0
+Asked g tokens rs token read asks =
+    AskLeads (with_last g tokens rs token read) (length tokens) asks text_category (record { place = 0; list = [] })
 
--- before the first token that is tried
-pub none_tried : (g : GrammarParts) (l : Listed) (tokens : List (List ℕ)) (tried : List Tried) → tried ≡ [] → AreTried g l tokens tried
-none_tried g l tokens tried e one o = absurd (subst (λ xs. OneOf xs one) e o)
+-- a last token that reads with one new word, and another that reads with another new word
+
+-- the readings have this word and no other
+abbrev pub HasWord : List Ground → ℕ → Type 0
+HasWord q w = (v : Value) → has_in q v ≡ same_value (Word (record { 0 = w })) v
+
+value_of_swapped : (a b : ℕ) (q r : List Ground) → (a ≡ 0 → ⊥) → (b ≡ 0 → ⊥) → HasWord q a → HasWord r b → (v : Value) → has_in r (turned (swapped a b) v) ≡ has_in q v
+value_of_swapped a b q r na nb hq hr v =
+    hr (turned (swapped a b) v) ∙ ap (λ x. same_value (Word (record { 0 = x })) (turned (swapped a b) v)) (sym (swapped_first a b)) ∙ same (Word (record { 0 = a })) v ∙ sym (hq v)
+  where
+    same : (x y : Value) → same_value (turned (swapped a b) x) (turned (swapped a b) y) ≡ same_value x y
+    same x y = value_same (swapped a b) (swap_turns a b na nb) x y
+
+value_of_swapped_back : (a b : ℕ) (q r : List Ground) → (a ≡ 0 → ⊥) → (b ≡ 0 → ⊥) → HasWord q a → HasWord r b → (v : Value) → has_in q (turned (swapped a b) v) ≡ has_in r v
+value_of_swapped_back a b q r na nb hq hr v =
+    hq (turned (swapped a b) v) ∙ ap (λ x. same_value (Word (record { 0 = x })) (turned (swapped a b) v)) (sym (swapped_second a b)) ∙ same (Word (record { 0 = b })) v ∙ sym (hr v)
+  where
+    same : (x y : Value) → same_value (turned (swapped a b) x) (turned (swapped a b) y) ≡ same_value x y
+    same x y = value_same (swapped a b) (swap_turns a b na nb) x y
+
+-- two new words may change places in what is asked for
+pub asked_new : (g : GrammarParts) (tokens : List (List ℕ)) (rs : List (List Ground)) (one other : List ℕ) (q r : List Ground) (a b : ℕ) → IsSound g → length rs ≡ length tokens → (a ≡ 0 → ⊥) → (b ≡ 0 → ⊥) → lacks_word a rs ≡ true → lacks_word b rs ≡ true → HasWord q a → HasWord r b → (x : Ground) → (Asked g tokens rs one q (ask.Reading x) → Asked g tokens rs other r (ask.Reading (turned_ground (swapped a b) x))) × (Asked g tokens rs other r (ask.Reading (turned_ground (swapped a b) x)) → Asked g tokens rs one q (ask.Reading x))
+asked_new g tokens rs one other q r a b sound long na nb la lb hq hr x =
+    let h = swapped a b in
+    let t = swap_turns a b na nb in
+    let stays = readings_stay a b rs la lb in
+    let forth = alike_last h g tokens rs one other q r long stays (last_turned h t g tokens rs one other q r stays (value_of_swapped a b q r na nb hq hr)) in
+    let back = alike_last h g tokens rs other one r q long stays (last_turned h t g tokens rs other one r q stays (value_of_swapped_back a b q r na nb hq hr)) in (
+      λ l. ask_turned (length tokens) h t (with_last g tokens rs one q) (with_last g tokens rs other r) forth (rules_written g sound) (ask.Reading x) text_category (record { place = 0; list = [] }) l,
+      λ l. subst (λ y. Asked g tokens rs one q (ask.Reading y)) (ground_twice a b x) (ask_turned (length tokens) h t (with_last g tokens rs other r) (with_last g tokens rs one q) back (rules_written g sound) (ask.Reading (turned_ground h x)) text_category (record { place = 0; list = [] }) l),
+    )
+
+-- a last token that brings no new word, and another that has no readings
+
+value_kept : (v : Value) → turned (λ x. x) v ≡ v
+value_kept (Atom x) = refl
+value_kept (Word w) = refl
+value_kept (Pos p) = refl
+
+all_kept : (vs : Binds) → turned_all (λ x. x) vs ≡ vs
+all_kept [] = refl
+all_kept (p ∷ vs) = ap (λ v. (p.0, v) ∷ turned_all (λ x. x) vs) (value_kept p.1) ∙ ap (λ l. p ∷ l) (all_kept vs)
+
+ground_kept : (r : Ground) → turned_ground (λ x. x) r ≡ r
+ground_kept r = ap (λ vs. record { name = r.name; vals = vs }) (all_kept r.vals)
+
+grounds_kept : (rs : List Ground) → map (turned_ground (λ x. x)) rs ≡ rs
+grounds_kept [] = refl
+grounds_kept (r ∷ rs) = ap (λ x. x ∷ map (turned_ground (λ y. y)) rs) (ground_kept r) ∙ ap (λ l. r ∷ l) (grounds_kept rs)
+
+readings_kept : (rss : List (List Ground)) → turned_readings (λ x. x) rss ≡ rss
+readings_kept [] = refl
+readings_kept (rs ∷ rss) = ap (λ x. x ∷ turned_readings (λ y. y) rss) (grounds_kept rs) ∙ ap (λ l. rs ∷ l) (readings_kept rss)
+
+ask_kept : (asks : Ask) → turned_ask (λ x. x) asks ≡ asks
+ask_kept ask.Any = refl
+ask_kept (ask.Terminal number) = refl
+ask_kept (ask.Reading r) = ap ask.Reading (ground_kept r)
+
+none_turns : IsTurn (λ x. x)
+none_turns = record { same = λ x y. refl; none = λ x. refl }
+
+asked_kept : (g : GrammarParts) (tokens : List (List ℕ)) (rs : List (List Ground)) (one other : List ℕ) (q r : List Ground) → IsSound g → length rs ≡ length tokens → ((v : Value) → has_word (with_last g tokens rs other r) v ≡ has_word (with_last g tokens rs one q) v) → (asks : Ask) → Asked g tokens rs one q asks → Asked g tokens rs other r asks
+asked_kept g tokens rs one other q r sound long same asks l =
+    let alike = alike_last (λ x. x) g tokens rs one other q r long (readings_kept rs) (λ v. ap (has_word (with_last g tokens rs other r)) (value_kept v) ∙ same v) in
+    subst (Asked g tokens rs other r) (ask_kept asks) (ask_turned (length tokens) (λ x. x) none_turns (with_last g tokens rs one q) (with_last g tokens rs other r) alike (rules_written g sound) asks text_category (record { place = 0; list = [] }) l)
+
+-- the words of the last token are among those of the others
+abbrev pub BringsNone : List (List Ground) → List Ground → Type 0
+BringsNone rs q = (v : Value) → has_in q v ≡ true → list_any (λ one. has_in one v) rs ≡ true
+
+same_words : (g : GrammarParts) (tokens : List (List ℕ)) (rs : List (List Ground)) (one other : List ℕ) (q : List Ground) → BringsNone rs q → (v : Value) → has_word (with_last g tokens rs other []) v ≡ has_word (with_last g tokens rs one q) v
+same_words g tokens rs one other q brings v =
+    last_words g tokens rs other [] v ∙ at (words_in rs v) (has_in q v) (brings v) ∙ sym (last_words g tokens rs one q v)
+  where
+    at : (a b : Bool) → (b ≡ true → a ≡ true) → (a || false) ≡ (a || b)
+    at true b h = refl
+    at false true h = h refl
+    at false false h = refl
+
+pub asked_old : (g : GrammarParts) (tokens : List (List ℕ)) (rs : List (List Ground)) (one other : List ℕ) (q : List Ground) → IsSound g → length rs ≡ length tokens → BringsNone rs q → (asks : Ask) → (Asked g tokens rs one q asks → Asked g tokens rs other [] asks) × (Asked g tokens rs other [] asks → Asked g tokens rs one q asks)
+asked_old g tokens rs one other q sound long brings asks =
+    (λ l. asked_kept g tokens rs one other q [] sound long (same_words g tokens rs one other q brings) asks l, λ l. asked_kept g tokens rs other one [] q sound long (λ v. sym (same_words g tokens rs one other q brings v)) asks l)

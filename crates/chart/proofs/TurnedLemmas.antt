@@ -1,11 +1,9 @@
 -- Words without a form among the earlier tokens differ by their numbers alone: where other numbers are given to words, one to
 -- one, all derivations stay, with those numbers.
-use Rattle.std.proofs.Common.{◌≡◌, ℕ, suc, zero, ◌+◌, ◌-◌, List, [], ◌∷◌, ◌++◌, Bool, true, false, ◌&&◌, ◌||◌, map, length, drop, Option, Some, None, refl, sym, ap, ◌∙◌, subst, arith, cond, nat_lt, nat_le}
-use Rattle.std.specs.Prelude.{if◌then◌else◌, ◌==◌, not, option_and_then, option_map, slice_get, unwrap_or}
+use Rattle.std.proofs.Common.{◌≡◌, ℕ, suc, zero, ◌+◌, ◌<◌, List, [], ◌∷◌, Bool, true, false, ◌&&◌, ◌||◌, map, length, drop, Option, Some, None, refl, ap, ◌∙◌, arith, cond, nat_lt, nat_le}
+use Rattle.std.specs.Prelude.{if◌then◌else◌, ◌==◌, not, option_map, slice_get, unwrap_or}
 use Rattle.std.specs.Option.{option_map_or}
 use Rattle.std.specs.List.{list_any, list_all, filter_map, cons_option, flat_map, prefix_len, position}
-use Rattle.std.proofs.lemmas.List.{map-append}
-use Rattle.std.proofs.lemmas.Option.{option_and_then_some, same_Some}
 use Rattle.codeco_terms.specs.declared.values.Value.{Value}
 use Rattle.codeco_terms.specs.declared.values.Value.TheVariants.{Atom, Word, Pos}
 use Rattle.codeco_terms.specs.declared.values.Term.{Term}
@@ -15,8 +13,6 @@ use Rattle.codeco_terms.specs.declared.categories.Pattern.{Pattern}
 use Rattle.codeco_terms.specs.declared.categories.Ground.{Ground}
 use Rattle.codeco_terms.specs.declared.declarations.Declared.{Declared}
 use Rattle.codeco_terms.specs.declared.declarations.Declared.TheVariants as declared
-use Rattle.codeco_terms.specs.declared.elements.Element.{Element}
-use Rattle.codeco_terms.specs.declared.elements.Element.TheVariants.{Terminal, Preterminal, Sub, Position, Opener, Forward, Strong, Back, NoBack}
 use Rattle.codeco_terms.specs.declared.rules.Rule.{Rule}
 use Rattle.codeco_terms.specs.GrammarParts.{GrammarParts}
 use Rattle.codeco_terms.specs.Values.{same_value}
@@ -31,8 +27,7 @@ use Rattle.scopes.specs.AccessList.{closed, strong_referents, introduced}
 use Rattle.scopes.specs.Resolution.{Finding, finding, finding_at, has_value, agrees, is_agreeing, closest_finding, last_of}
 use Rattle.derivation_trees.specs.Settings.{Setting, matches_terminal, matches_preterminal, has_word, is_value, fits_feature}
 use Rattle.derivation_trees.specs.Instances.{looked_up, value_under, term_value, feats_under, under, tests_under, term_fits, own_fit, own_values, variables_of, same_numbers, rule_own_features, written_variables, is_instance, features_of}
-use Rattle.derivation_trees.specs.Derives.{At, first_value, filled_value, own_after, filled, own_rest, referent, takes, is_found, reference_tests, same_where_both, fits}
-use Rattle.chart_table.proofs.PassLemmas.{same_value_is}
+use Rattle.derivation_trees.specs.Derives.{first_value, filled_value, own_after, filled, own_rest, referent, takes, is_found, reference_tests, fits}
 
 abbrev pub Binds : Type 0
 Binds = List (ℕ × Value)
@@ -293,64 +288,62 @@ reference_turned h vs positive negative w v =
 abbrev pub turned_readings : (ℕ → ℕ) → List (List Ground) → List (List Ground)
 turned_readings h rs = map (map (turned_ground h)) rs
 
--- the settings differ by the numbers of words alone
-pub record Alike (h : ℕ → ℕ) (s other : Setting) : Type 0 where
+-- The settings differ by the numbers of words alone, at the places before one: there the same terminals stand and the
+-- readings are the same but for these numbers. There are as many tokens, and a word has a form among them where the other has.
+pub record Alike (n : ℕ) (h : ℕ → ℕ) (s other : Setting) : Type 0 where
   pub grammar : other.grammar ≡ s.grammar
   pub count : length other.tokens ≡ length s.tokens
-  pub terminals : (t place : ℕ) → matches_terminal other t place ≡ matches_terminal s t place
-  pub readings : other.readings ≡ turned_readings h s.readings
+  pub terminals : (t place : ℕ) → place < n → matches_terminal other t place ≡ matches_terminal s t place
+  pub readings : (place : ℕ) → place < n → slice_get other.readings place ≡ option_map (map (turned_ground h)) (slice_get s.readings place)
+  pub words : (v : Value) → has_word other (turned h v) ≡ has_word s v
 
 pub slice_turned : {X Y : Type 0} (f : X → Y) (xs : List X) (i : ℕ) → slice_get (map f xs) i ≡ option_map f (slice_get xs i)
 slice_turned f [] i = refl
 slice_turned f (x ∷ xs) zero = refl
 slice_turned f (x ∷ xs) (suc i) = slice_turned f xs i
 
-pub preterminal_turned : (h : ℕ → ℕ) → IsTurn h → (s other : Setting) → Alike h s other → (asked : Test) (place : ℕ) → matches_preterminal other (turned_test h asked) place ≡ matches_preterminal s asked place
-preterminal_turned h t s other a asked place =
-    ap (λ rs. option_map_or (λ readings. list_any (λ r. agrees r (turned_test h asked)) readings) (slice_get rs place) false) a.readings ∙ ap (λ o. option_map_or (λ readings. list_any (λ r. agrees r (turned_test h asked)) readings) o false) (slice_turned (map (turned_ground h)) s.readings place) ∙ at (slice_get s.readings place)
+pub preterminal_turned : (n : ℕ) (h : ℕ → ℕ) → IsTurn h → (s other : Setting) → Alike n h s other → (asked : Test) (place : ℕ) → place < n → matches_preterminal other (turned_test h asked) place ≡ matches_preterminal s asked place
+preterminal_turned n h t s other a asked place lt =
+    ap (λ o. option_map_or (λ readings. list_any (λ r. agrees r (turned_test h asked)) readings) o false) (a.readings place lt) ∙ at (slice_get s.readings place)
   where
     at : (o : Option (List Ground)) → option_map_or (λ readings. list_any (λ r. agrees r (turned_test h asked)) readings) (option_map (map (turned_ground h)) o) false ≡ option_map_or (λ readings. list_any (λ r. agrees r asked) readings) o false
     at None = refl
     at (Some readings) = any_turned _ _ (turned_ground h) readings (λ r. agrees_turned h t r asked)
 
-word_turned : (h : ℕ → ℕ) → IsTurn h → (s other : Setting) → Alike h s other → (v : Value) → has_word other (turned h v) ≡ has_word s v
-word_turned h t s other a v =
-    ap (λ rs. list_any (λ readings. list_any (λ r. has_value r.vals (3, turned h v)) readings) rs) a.readings ∙ any_turned _ _ (map (turned_ground h)) s.readings (λ readings. any_turned _ _ (turned_ground h) readings (λ r. has_turned h t r.vals (3, v)))
+is_value_turned : (n : ℕ) (h : ℕ → ℕ) → IsTurn h → (s other : Setting) → Alike n h s other → (d : Declared) (v : Value) → is_value other d (turned h v) ≡ is_value s d v
+is_value_turned n h t s other a declared.Undeclared v = refl
+is_value_turned n h t s other a declared.Words (Atom x) = refl
+is_value_turned n h t s other a declared.Words (Word w) = ap (λ b. b || has_word other (Word (record { 0 = h w.0 }))) (t.none w.0) ∙ ap (λ b. (w.0 == 0) || b) (a.words (Word w))
+is_value_turned n h t s other a declared.Words (Pos p) = refl
+is_value_turned n h t s other a declared.Positions (Atom x) = refl
+is_value_turned n h t s other a declared.Positions (Word w) = refl
+is_value_turned n h t s other a declared.Positions (Pos p) = ap (nat_le p) a.count
+is_value_turned n h t s other a (declared.Atoms atoms) (Atom x) = refl
+is_value_turned n h t s other a (declared.Atoms atoms) (Word w) = refl
+is_value_turned n h t s other a (declared.Atoms atoms) (Pos p) = refl
 
-is_value_turned : (h : ℕ → ℕ) → IsTurn h → (s other : Setting) → Alike h s other → (d : Declared) (v : Value) → is_value other d (turned h v) ≡ is_value s d v
-is_value_turned h t s other a declared.Undeclared v = refl
-is_value_turned h t s other a declared.Words (Atom x) = refl
-is_value_turned h t s other a declared.Words (Word w) = ap (λ b. b || has_word other (Word (record { 0 = h w.0 }))) (t.none w.0) ∙ ap (λ b. (w.0 == 0) || b) (word_turned h t s other a (Word w))
-is_value_turned h t s other a declared.Words (Pos p) = refl
-is_value_turned h t s other a declared.Positions (Atom x) = refl
-is_value_turned h t s other a declared.Positions (Word w) = refl
-is_value_turned h t s other a declared.Positions (Pos p) = ap (nat_le p) a.count
-is_value_turned h t s other a (declared.Atoms atoms) (Atom x) = refl
-is_value_turned h t s other a (declared.Atoms atoms) (Word w) = refl
-is_value_turned h t s other a (declared.Atoms atoms) (Pos p) = refl
+fits_feature_turned : (n : ℕ) (h : ℕ → ℕ) → IsTurn h → (s other : Setting) → Alike n h s other → (f : ℕ) (v : Value) → fits_feature other f (turned h v) ≡ fits_feature s f v
+fits_feature_turned n h t s other a f v = ap (λ g. is_value other (values_of g f) (turned h v)) a.grammar ∙ is_value_turned n h t s other a (values_of s.grammar f) v
 
-fits_feature_turned : (h : ℕ → ℕ) → IsTurn h → (s other : Setting) → Alike h s other → (f : ℕ) (v : Value) → fits_feature other f (turned h v) ≡ fits_feature s f v
-fits_feature_turned h t s other a f v = ap (λ g. is_value other (values_of g f) (turned h v)) a.grammar ∙ is_value_turned h t s other a (values_of s.grammar f) v
+term_fits_turned : (n : ℕ) (h : ℕ → ℕ) → IsTurn h → (s other : Setting) → Alike n h s other → (vs : Binds) (q : ℕ × Term) → term_fits other (turned_all h vs) q ≡ term_fits s vs q
+term_fits_turned n h t s other a vs (f, Val v) = refl
+term_fits_turned n h t s other a vs (f, Var x) = ap (fits_feature other f) (value_turned h vs x) ∙ fits_feature_turned n h t s other a f (value_under vs x)
 
-term_fits_turned : (h : ℕ → ℕ) → IsTurn h → (s other : Setting) → Alike h s other → (vs : Binds) (q : ℕ × Term) → term_fits other (turned_all h vs) q ≡ term_fits s vs q
-term_fits_turned h t s other a vs (f, Val v) = refl
-term_fits_turned h t s other a vs (f, Var x) = ap (fits_feature other f) (value_turned h vs x) ∙ fits_feature_turned h t s other a f (value_under vs x)
+terms_fit_turned : (n : ℕ) (h : ℕ → ℕ) → IsTurn h → (s other : Setting) → Alike n h s other → (vs : Binds) (qs : List (ℕ × Term)) → list_all (term_fits other (turned_all h vs)) qs ≡ list_all (term_fits s vs) qs
+terms_fit_turned n h t s other a vs [] = refl
+terms_fit_turned n h t s other a vs (q ∷ qs) =
+    ap (λ b. b && list_all (term_fits other (turned_all h vs)) qs) (term_fits_turned n h t s other a vs q) ∙ ap (λ b. term_fits s vs q && b) (terms_fit_turned n h t s other a vs qs)
 
-terms_fit_turned : (h : ℕ → ℕ) → IsTurn h → (s other : Setting) → Alike h s other → (vs : Binds) (qs : List (ℕ × Term)) → list_all (term_fits other (turned_all h vs)) qs ≡ list_all (term_fits s vs) qs
-terms_fit_turned h t s other a vs [] = refl
-terms_fit_turned h t s other a vs (q ∷ qs) =
-    ap (λ b. b && list_all (term_fits other (turned_all h vs)) qs) (term_fits_turned h t s other a vs q) ∙ ap (λ b. term_fits s vs q && b) (terms_fit_turned h t s other a vs qs)
+positions_turned : (n : ℕ) (h : ℕ → ℕ) → IsTurn h → (s other : Setting) → Alike n h s other → (vs : Binds) (xs : List ℕ) → list_all (λ x. is_value other declared.Positions (value_under (turned_all h vs) x)) xs ≡ list_all (λ x. is_value s declared.Positions (value_under vs x)) xs
+positions_turned n h t s other a vs [] = refl
+positions_turned n h t s other a vs (x ∷ xs) =
+    ap (λ b. b && list_all (λ y. is_value other declared.Positions (value_under (turned_all h vs) y)) xs) (ap (is_value other declared.Positions) (value_turned h vs x) ∙ is_value_turned n h t s other a declared.Positions (value_under vs x)) ∙ ap (λ b. is_value s declared.Positions (value_under vs x) && b) (positions_turned n h t s other a vs xs)
 
-positions_turned : (h : ℕ → ℕ) → IsTurn h → (s other : Setting) → Alike h s other → (vs : Binds) (xs : List ℕ) → list_all (λ x. is_value other declared.Positions (value_under (turned_all h vs) x)) xs ≡ list_all (λ x. is_value s declared.Positions (value_under vs x)) xs
-positions_turned h t s other a vs [] = refl
-positions_turned h t s other a vs (x ∷ xs) =
-    ap (λ b. b && list_all (λ y. is_value other declared.Positions (value_under (turned_all h vs) y)) xs) (ap (is_value other declared.Positions) (value_turned h vs x) ∙ is_value_turned h t s other a declared.Positions (value_under vs x)) ∙ ap (λ b. is_value s declared.Positions (value_under vs x) && b) (positions_turned h t s other a vs xs)
-
-own_fit_turned : (h : ℕ → ℕ) → IsTurn h → (s other : Setting) → Alike h s other → (fs : List ℕ) (own : Binds) → own_fit other fs (turned_all h own) ≡ own_fit s fs own
-own_fit_turned h t s other a [] own = refl
-own_fit_turned h t s other a (f ∷ fs) [] = refl
-own_fit_turned h t s other a (f ∷ fs) (p ∷ own) =
-    ap (λ b. b && own_fit other fs (turned_all h own)) (fits_feature_turned h t s other a f p.1) ∙ ap (λ b. fits_feature s f p.1 && b) (own_fit_turned h t s other a fs own)
+own_fit_turned : (n : ℕ) (h : ℕ → ℕ) → IsTurn h → (s other : Setting) → Alike n h s other → (fs : List ℕ) (own : Binds) → own_fit other fs (turned_all h own) ≡ own_fit s fs own
+own_fit_turned n h t s other a [] own = refl
+own_fit_turned n h t s other a (f ∷ fs) [] = refl
+own_fit_turned n h t s other a (f ∷ fs) (p ∷ own) =
+    ap (λ b. b && own_fit other fs (turned_all h own)) (fits_feature_turned n h t s other a f p.1) ∙ ap (λ b. fits_feature s f p.1 && b) (own_fit_turned n h t s other a fs own)
 
 numbers_turned : (h : ℕ → ℕ) (vs : Binds) → map (λ p. p.0) (turned_all h vs) ≡ map (λ p. p.0) vs
 numbers_turned h [] = refl
@@ -359,11 +352,11 @@ numbers_turned h (p ∷ vs) = ap (λ l. p.0 ∷ l) (numbers_turned h vs)
 pub own_values_turned : (h : ℕ → ℕ) (rule : Rule) (vs : Binds) → own_values rule (turned_all h vs) ≡ turned_all h (own_values rule vs)
 own_values_turned h rule vs = drop_turned (turned_pair h) (length (written_variables rule)) vs
 
-pub instance_turned : (h : ℕ → ℕ) → IsTurn h → (s other : Setting) → Alike h s other → (rule : Rule) (vs : Binds) → is_instance other rule (turned_all h vs) ≡ is_instance s rule vs
+pub instance_turned : (n : ℕ) (h : ℕ → ℕ) → IsTurn h → (s other : Setting) → Alike n h s other → (rule : Rule) (vs : Binds) → is_instance other rule (turned_all h vs) ≡ is_instance s rule vs
 unfolding is_instance
-instance_turned h t s other a rule vs =
+instance_turned n h t s other a rule vs =
     let one : same_numbers (map (λ p. p.0) (turned_all h vs)) (variables_of other.grammar rule) ≡ same_numbers (map (λ p. p.0) vs) (variables_of s.grammar rule) = ap (λ l. same_numbers l (variables_of other.grammar rule)) (numbers_turned h vs) ∙ ap (λ g. same_numbers (map (λ p. p.0) vs) (variables_of g rule)) a.grammar in
-    let two = terms_fit_turned h t s other a vs (rule_features rule) in
-    let three = positions_turned h t s other a vs (flat_map positions rule.body) in
-    let four : own_fit other (rule_own_features other.grammar rule) (own_values rule (turned_all h vs)) ≡ own_fit s (rule_own_features s.grammar rule) (own_values rule vs) = ap (λ g. own_fit other (rule_own_features g rule) (own_values rule (turned_all h vs))) a.grammar ∙ ap (own_fit other (rule_own_features s.grammar rule)) (own_values_turned h rule vs) ∙ own_fit_turned h t s other a (rule_own_features s.grammar rule) (own_values rule vs) in
+    let two = terms_fit_turned n h t s other a vs (rule_features rule) in
+    let three = positions_turned n h t s other a vs (flat_map positions rule.body) in
+    let four : own_fit other (rule_own_features other.grammar rule) (own_values rule (turned_all h vs)) ≡ own_fit s (rule_own_features s.grammar rule) (own_values rule vs) = ap (λ g. own_fit other (rule_own_features g rule) (own_values rule (turned_all h vs))) a.grammar ∙ ap (own_fit other (rule_own_features s.grammar rule)) (own_values_turned h rule vs) ∙ own_fit_turned n h t s other a (rule_own_features s.grammar rule) (own_values rule vs) in
     cc

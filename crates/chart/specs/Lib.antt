@@ -1,3 +1,2 @@
 pub mod Charts
-pub mod Alike
-pub mod Trying
+pub mod Offers

@@ -13,7 +13,8 @@ ghost use Rattle.chart.specs.Charts as charting;
 use crate::menus::menu_for;
 use chart_table::standing_of;
 use codeco_checked::CheckedGrammar;
-use derivation_trees::{Menu, Setting, readings_of};
+use derivation_scenes::Scene;
+use derivation_trees::{Menu, readings_of};
 use lexicon::{Lexicon, Readings};
 use lists::List;
 use std::alloc::Global;
@@ -58,9 +59,10 @@ impl Chart {
         })
     }
 
-    /// The tokens.
+    /// The tokens, of which there are at most 40.
     pub fn tokens(&self) -> &Tokens
-        ensures { result.now ≡ self.now.tokens }
+        ensures tokens { result.now ≡ self.now.tokens }
+        ensures few { length result.now ≤ MOST_TOKENS }
     {
         &self.tokens
     }
@@ -89,16 +91,15 @@ impl Chart {
 
     /// The menu of the tokens: each token that may follow, with its group, in order of groups and bytes, each once. A token may
     /// follow where the tokens with it at their end have a partial derivation, with the values at that longer list. A
-    /// terminal that isn't in UTF-8, which no token can be, is left out. A form whose word has none among the tokens is tried
-    /// once for all that read alike. The grammar has to be the one that is kept, and the lexicon has to give the readings
-    /// that are kept.
+    /// terminal that isn't in UTF-8, which no token can be, is left out. Two tables tell all that may follow, whatever the number
+    /// of words, where the terminals are those of the lexicon. The grammar has to be the one that is kept, and the lexicon has to
+    /// give the readings that are kept.
     pub fn menu<'a>(
         &self,
         grammar: &'a CheckedGrammar,
         lexicon: &'a Lexicon,
     ) -> Result<Menu<'a>, Memory>
         requires kept { self.now ≡ setting_of grammar.now lexicon.now self.now.tokens }
-        requires room { length self.now.tokens < MOST_TOKENS }
         ensures menu { All IsUtf8 grammar.now.terminals → IfOk result (IsMenu grammar.now lexicon.now self.now.tokens) }
         ensures texts { IfOk result (IsTextMenu grammar.now lexicon.now self.now.tokens) }
     {
@@ -140,7 +141,7 @@ fn derives_nothing(alloc: Global, grammar: &CheckedGrammar) -> Result<bool, Memo
     ensures { IfOk result
         (λ yes. IsTrue yes ↔ ((tree : Node) × IsDerivation (record { grammar = grammar.now; tokens = []; readings = [] }) tree)) }
 {
-    let setting = Setting {
+    let setting = Scene {
         grammar: grammar.grammar(),
         tokens: &[],
         readings: &[],
@@ -173,7 +174,7 @@ fn step_to(grammar: &CheckedGrammar, lexicon: &Lexicon, tokens: &Tokens) -> Resu
 {
     let alloc = tokens.allocator();
     let readings = List::from_vec(readings_of(alloc, lexicon, tokens.as_slice())?);
-    let setting = Setting {
+    let setting = Scene {
         grammar: grammar.grammar(),
         tokens: tokens.as_slice(),
         readings: readings.as_slice(),

@@ -1,7 +1,8 @@
 // The entries of a menu as they are gathered, in order.
-ghost use Rattle.std.specs.Prelude.{◌≡◌, ◌≤◌, ◌∷◌, [], IfOk, OnOk, length, map};
+ghost use Rattle.std.specs.Prelude.{◌≡◌, ◌≤◌, ◌<◌, ◌∷◌, [], true, IfOk, OnOk, length, map};
 ghost use Rattle.derivation_trees.specs.Menus.{entry_cmp};
-ghost use Rattle.derivations.specs.Entries.{shown, with_entry, IsInOrder, IsPlaceFor};
+ghost use Rattle.derivations.specs.Entries.{shown, with_entry, all_tried, IsInOrder, IsPlaceFor};
+ghost use Rattle.chart.specs.Offers.{IsOrdered};
 
 use derivation_trees::{Group, Menu};
 use std::alloc::Global;
@@ -21,6 +22,18 @@ fn order(one: &Entry<'_>, other: &Entry<'_>) -> Ordering
         .then(one.1.cmp(other.1))
 }
 
+// Where to look between two places: first at the last of so many, since most entries come after all others.
+fn probe(low: usize, high: usize, count: usize) -> usize
+    requires { low < high }
+    ensures at_least { low ≤ result }
+    ensures below { result < high }
+{
+    if low == 0 && high == count {
+        return high - 1;
+    }
+    low + (high - low) / 2
+}
+
 // How many of the entries, which stand in order, are before the entry.
 fn place_for(entries: &[Entry<'_>], entry: &Entry<'_>) -> usize
     requires { IsInOrder (map shown entries.now) }
@@ -29,7 +42,7 @@ fn place_for(entries: &[Entry<'_>], entry: &Entry<'_>) -> usize
     let mut low = 0;
     let mut high = entries.len();
     while low < high {
-        let middle = low + (high - low) / 2;
+        let middle = probe(low, high, entries.len());
         if order(&entries[middle], entry) == Ordering::Less {
             low = middle + 1;
         } else {
@@ -50,6 +63,30 @@ pub(crate) fn put<'a>(entries: &mut Vec<Entry<'a>>, entry: Entry<'a>) -> Result<
     }
     entries.insert(place, entry)?;
     Ok(())
+}
+
+// Puts the entries that were found among others, which stand in order.
+fn put_all<'a>(found: &[Entry<'a>], entries: &mut Vec<Entry<'a>>) -> Result<(), Memory>
+    requires { IsInOrder (map shown entries.old.items) }
+    ensures { OnOk result (map shown entries.new.items ≡ all_tried (λ e. true) (map shown found.now) (map shown entries.old.items)) }
+{
+    for entry in found {
+        put(entries, *entry)?;
+    }
+    Ok(())
+}
+
+// The entries in order, each once.
+pub(crate) fn in_order<'a>(
+    alloc: Global,
+    mut found: Vec<Entry<'a>>,
+) -> Result<Vec<Entry<'a>>, Memory>
+    ensures { IfOk result (λ entries. IsOrdered (map shown found.entry.items) (map shown entries.items)) }
+{
+    found.sort_unstable_by(|one, other| order(one, other));
+    let mut entries = Vec::with_capacity(alloc, found.len())?;
+    put_all(found.as_slice(), &mut entries)?;
+    Ok(entries)
 }
 
 // The entries as a menu.

@@ -1,5 +1,5 @@
 // The menu of tokens: each terminal and each form that may follow.
-ghost use Rattle.std.specs.Prelude.{◌≡◌, ◌<◌, All, IsUtf8, IfOk, OnOk, length, map};
+ghost use Rattle.std.specs.Prelude.{◌≡◌, ◌≤◌, ◌↔◌, ◌∷◌, [], ◌++◌, All, IsUtf8, IsTrue, IfOk, OnOk, length, map};
 ghost use Rattle.wiki_base.specs.Token.{IsToken};
 ghost use Rattle.wiki_base.specs.declared.tokens.TheConstants.{MOST_TOKENS};
 ghost use Rattle.codeco_checked.specs.Sound.{IsSound};
@@ -7,17 +7,38 @@ ghost use Rattle.lexicon.specs.Readings as lexical;
 ghost use Rattle.derivation_trees.specs.Menus.{IsMenu};
 ghost use Rattle.derivations.specs.Entries.{shown, texts_of, goes_on, tried as with_tried, all_tried, forms_in, forms_among, functions_in, IsInOrder, AreTexts};
 ghost use Rattle.derivations.specs.Typing.{IsTextMenu};
-ghost use Rattle.chart.specs.Trying.{AreTried};
+ghost use Rattle.derivation_trees.specs.Partial.{IsBeginning};
 
-use crate::alike::{Tried, follows};
-use crate::entries::{Entry, menu_of, put};
+use crate::entries::{Entry, in_order, menu_of, put};
+use crate::offers::{add_known, add_new};
+use chart_table::begins;
 use codeco_checked::CheckedGrammar;
+use codeco_terms::Symbol;
 use derivation_trees::{Group, Menu};
 use lexicon::{Lexicon, Readings, Word};
-use lists::List;
 use std::alloc::Global;
 use std::str;
-use wiki_base::{Memory, Tokens};
+use wiki_base::{Copied, Memory, Token, Tokens};
+
+/// The most terminals that are asked for by their numbers.
+const MOST_ASKED: usize = 65535;
+
+// Whether the tokens with the text at their end have a partial derivation.
+fn try_token(
+    alloc: Global,
+    grammar: &CheckedGrammar,
+    lexicon: &Lexicon,
+    tokens: &Tokens,
+    text: &str,
+) -> Result<bool, Memory>
+    requires few { length tokens.now ≤ MOST_TOKENS }
+    requires token { IsToken text.now }
+    ensures { IfOk result (λ follows. IsTrue follows ↔ IsBeginning grammar.now lexicon.now (tokens.now ++ text.now ∷ [])) }
+{
+    let mut longer = tokens.copy()?;
+    longer.push(Token::from_str(alloc, text)?)?;
+    begins(alloc, grammar, lexicon, &longer)
+}
 
 // Adds the candidate, where its token may follow.
 fn consider<'a>(
@@ -25,23 +46,19 @@ fn consider<'a>(
     grammar: &CheckedGrammar,
     lexicon: &Lexicon,
     tokens: &Tokens,
-    readings: &[Readings],
     group: Group,
     text: &'a str,
-    tried: &mut List<Tried>,
     entries: &mut Vec<Entry<'a>>,
 ) -> Result<(), Memory>
-    requires few { length tokens.now < MOST_TOKENS }
+    requires few { length tokens.now ≤ MOST_TOKENS }
     requires token { IsToken text.now }
-    requires readings { readings.now ≡ map (lexical.readings_of lexicon.now.live) tokens.now }
-    requires tried { AreTried grammar.now lexicon.now tokens.now tried.old }
+    requires sound { IsSound grammar.now }
     requires ordered { IsInOrder (map shown entries.old.items) }
 
     ensures entries { OnOk result (map shown entries.new.items
         ≡ with_tried (goes_on grammar.now lexicon.now tokens.now) (group, text.now) (map shown entries.old.items)) }
-    ensures tried { AreTried grammar.now lexicon.now tokens.now tried.new }
 {
-    let yes = follows(alloc, grammar, lexicon, tokens, readings, text, tried)?;
+    let yes = try_token(alloc, grammar, lexicon, tokens, text)?;
     if !yes {
         return Ok(());
     }
@@ -70,20 +87,16 @@ fn try_terminals<'a>(
     grammar: &CheckedGrammar,
     lexicon: &Lexicon,
     tokens: &Tokens,
-    readings: &[Readings],
     texts: &[&'a str],
-    tried: &mut List<Tried>,
     entries: &mut Vec<Entry<'a>>,
 ) -> Result<(), Memory>
-    requires few { length tokens.now < MOST_TOKENS }
-    requires readings { readings.now ≡ map (lexical.readings_of lexicon.now.live) tokens.now }
-    requires tried { AreTried grammar.now lexicon.now tokens.now tried.old }
+    requires few { length tokens.now ≤ MOST_TOKENS }
     requires tokens { All IsToken (texts_of texts.now) }
+    requires sound { IsSound grammar.now }
     requires ordered { IsInOrder (map shown entries.old.items) }
 
     ensures entries { OnOk result (map shown entries.new.items
         ≡ all_tried (goes_on grammar.now lexicon.now tokens.now) (functions_in (texts_of texts.now)) (map shown entries.old.items)) }
-    ensures tried { AreTried grammar.now lexicon.now tokens.now tried.new }
 {
     for text in texts {
         consider(
@@ -91,10 +104,8 @@ fn try_terminals<'a>(
             grammar,
             lexicon,
             tokens,
-            readings,
             Group::Function,
             *text,
-            tried,
             entries,
         )?;
     }
@@ -107,19 +118,15 @@ fn try_word<'a>(
     grammar: &CheckedGrammar,
     lexicon: &Lexicon,
     tokens: &Tokens,
-    readings: &[Readings],
     word: &'a Word,
-    tried: &mut List<Tried>,
     entries: &mut Vec<Entry<'a>>,
 ) -> Result<(), Memory>
-    requires few { length tokens.now < MOST_TOKENS }
-    requires readings { readings.now ≡ map (lexical.readings_of lexicon.now.live) tokens.now }
-    requires tried { AreTried grammar.now lexicon.now tokens.now tried.old }
+    requires few { length tokens.now ≤ MOST_TOKENS }
+    requires sound { IsSound grammar.now }
     requires ordered { IsInOrder (map shown entries.old.items) }
 
     ensures entries { OnOk result (map shown entries.new.items
         ≡ all_tried (goes_on grammar.now lexicon.now tokens.now) (forms_in word.now) (map shown entries.old.items)) }
-    ensures tried { AreTried grammar.now lexicon.now tokens.now tried.new }
 {
     let group = Group::of_kind(word.forms.kind);
     for text in word.forms.texts.as_slice() {
@@ -128,10 +135,8 @@ fn try_word<'a>(
             grammar,
             lexicon,
             tokens,
-            readings,
             group,
             text.as_str(),
-            tried,
             entries,
         )?;
     }
@@ -144,32 +149,96 @@ fn try_words<'a>(
     grammar: &CheckedGrammar,
     lexicon: &'a Lexicon,
     tokens: &Tokens,
-    readings: &[Readings],
-    tried: &mut List<Tried>,
     entries: &mut Vec<Entry<'a>>,
 ) -> Result<(), Memory>
-    requires few { length tokens.now < MOST_TOKENS }
-    requires readings { readings.now ≡ map (lexical.readings_of lexicon.now.live) tokens.now }
-    requires tried { AreTried grammar.now lexicon.now tokens.now tried.old }
+    requires few { length tokens.now ≤ MOST_TOKENS }
+    requires sound { IsSound grammar.now }
     requires ordered { IsInOrder (map shown entries.old.items) }
 
     ensures entries { OnOk result (map shown entries.new.items
         ≡ all_tried (goes_on grammar.now lexicon.now tokens.now) (forms_among lexicon.now.live) (map shown entries.old.items)) }
-    ensures tried { AreTried grammar.now lexicon.now tokens.now tried.new }
 {
     for place in 0..lexicon.len() {
-        try_word(
-            alloc,
-            grammar,
-            lexicon,
-            tokens,
-            readings,
-            lexicon.get(place),
-            tried,
-            entries,
-        )?;
+        try_word(alloc, grammar, lexicon, tokens, lexicon.get(place), entries)?;
     }
     Ok(())
+}
+
+// The menu of the tokens, with each terminal and each form tried by itself.
+fn menu_by_trying<'a>(
+    alloc: Global,
+    grammar: &'a CheckedGrammar,
+    lexicon: &'a Lexicon,
+    tokens: &Tokens,
+) -> Result<Menu<'a>, Memory>
+    requires few { length tokens.now ≤ MOST_TOKENS }
+    ensures menu { All IsUtf8 grammar.now.terminals → IfOk result (IsMenu grammar.now lexicon.now tokens.now) }
+    ensures texts { IfOk result (IsTextMenu grammar.now lexicon.now tokens.now) }
+{
+    let texts = terminal_texts(alloc, grammar)?;
+    let mut entries = Vec::new(alloc);
+    try_terminals(
+        alloc,
+        grammar,
+        lexicon,
+        tokens,
+        texts.as_slice(),
+        &mut entries,
+    )?;
+    try_words(alloc, grammar, lexicon, tokens, &mut entries)?;
+    menu_of(alloc, entries.as_slice())
+}
+
+// The menu of the tokens, which have these readings, where the terminals are those of the lexicon, so that no form is one.
+fn menu_by_asking<'a>(
+    alloc: Global,
+    grammar: &'a CheckedGrammar,
+    lexicon: &'a Lexicon,
+    tokens: &Tokens,
+    readings: &[Readings],
+) -> Result<Menu<'a>, Memory>
+    requires few { length tokens.now ≤ MOST_TOKENS }
+    requires readings { readings.now ≡ map (lexical.readings_of lexicon.now.live) tokens.now }
+    requires terminals { length grammar.now.terminals ≤ 65535 }
+    requires same { grammar.now.terminals ≡ lexicon.now.terminals }
+    ensures menu { All IsUtf8 grammar.now.terminals → IfOk result (IsMenu grammar.now lexicon.now tokens.now) }
+    ensures texts { IfOk result (IsTextMenu grammar.now lexicon.now tokens.now) }
+{
+    let texts = terminal_texts(alloc, grammar)?;
+    let mut found = Vec::new(alloc);
+    add_known(
+        alloc,
+        grammar,
+        lexicon,
+        tokens,
+        readings,
+        texts.as_slice(),
+        &mut found,
+    )?;
+    add_new(alloc, grammar, lexicon, tokens, readings, &mut found)?;
+    let entries = in_order(alloc, found)?;
+    menu_of(alloc, entries.as_slice())
+}
+
+fn is_same(symbol: &Symbol, other: &Symbol) -> bool
+    ensures { IsTrue result → symbol.now ≡ other.now }
+{
+    symbol.as_bytes() == other.as_bytes()
+}
+
+// Whether the symbols are the others.
+fn are_same(symbols: &[Symbol], others: &[Symbol]) -> bool
+    ensures { IsTrue result → symbols.now ≡ others.now }
+{
+    if symbols.len() != others.len() {
+        return false;
+    }
+    for (place, symbol) in symbols.iter().enumerate() {
+        if !is_same(symbol, &others[place]) {
+            return false;
+        }
+    }
+    true
 }
 
 // The menu of the tokens, which have these readings.
@@ -180,33 +249,15 @@ pub(crate) fn menu_for<'a>(
     tokens: &Tokens,
     readings: &[Readings],
 ) -> Result<Menu<'a>, Memory>
-    requires few { length tokens.now < MOST_TOKENS }
+    requires few { length tokens.now ≤ MOST_TOKENS }
     requires readings { readings.now ≡ map (lexical.readings_of lexicon.now.live) tokens.now }
-
     ensures menu { All IsUtf8 grammar.now.terminals → IfOk result (IsMenu grammar.now lexicon.now tokens.now) }
     ensures texts { IfOk result (IsTextMenu grammar.now lexicon.now tokens.now) }
 {
-    let texts = terminal_texts(alloc, grammar)?;
-    let mut tried = List::new(alloc);
-    let mut entries = Vec::new(alloc);
-    try_terminals(
-        alloc,
-        grammar,
-        lexicon,
-        tokens,
-        readings,
-        texts.as_slice(),
-        &mut tried,
-        &mut entries,
-    )?;
-    try_words(
-        alloc,
-        grammar,
-        lexicon,
-        tokens,
-        readings,
-        &mut tried,
-        &mut entries,
-    )?;
-    menu_of(alloc, entries.as_slice())
+    let terminals = grammar.grammar().terminals().as_slice();
+    if terminals.len() <= MOST_ASKED && are_same(terminals, lexicon.terminals().as_slice()) {
+        menu_by_asking(alloc, grammar, lexicon, tokens, readings)
+    } else {
+        menu_by_trying(alloc, grammar, lexicon, tokens)
+    }
 }

@@ -1,9 +1,11 @@
 -- Which instances extend one of some assignments.
 use Rattle.std.proofs.Common.{◌≡◌, ℕ, List, [], ◌∷◌, ◌++◌, Bool, true, false, ◌&&◌, ◌||◌, Option, Some, None, refl, sym, ap, ◌∙◌, subst, arith, ◌⊎◌, inl, inr}
 use Rattle.std.specs.Prelude.{if◌then◌else◌, ◌==◌, not, unwrap_or}
-use Rattle.std.specs.List.{list_all, filter_map, cons_option}
+use Rattle.std.specs.List.{list_all, filter_map, cons_option, flat_map}
 use Rattle.std.proofs.lemmas.Bool.Decides.{nat_tests}
 use Rattle.std.proofs.lemmas.Option.{same_Some}
+use Rattle.std.proofs.lemmas.Grind.{flat_map-append}
+use Rattle.std.proofs.lemmas.List.{append-nil}
 use Rattle.codeco_terms.specs.declared.values.Value.{Value}
 use Rattle.codeco_terms.specs.declared.values.Value.TheVariants.{Atom}
 use Rattle.codeco_terms.specs.declared.values.Term.{Term}
@@ -15,7 +17,7 @@ use Rattle.codeco_terms.specs.Values.{same_value}
 use Rattle.scopes.specs.Resolution.{has_value, agrees}
 use Rattle.derivation_trees.specs.Instances.{looked_up, value_under, term_value, under, feats_under, tests_under}
 use Rattle.derivation_trees.specs.Derives.{same_where_both}
-use Rattle.chart_table.specs.Branches.{OneOf, Extends, AnyExtends, bound_at, bound_term, restricted, values_at, having, read_as, meeting_one, meeting, closing, closing_patterns, known_value}
+use Rattle.chart_table.specs.Branches.{OneOf, Extends, AnyExtends, bound_at, bound_term, restricted, values_at, having, read_as, meeting_one, meeting, chosen_at, chosen_for, closing, closing_patterns, known_value}
 use Rattle.chart_table.proofs.PassLemmas.{if_some, both_true, and_both, same_value_is, same_value-refl, same_number}
 
 abbrev pub Binds : Type 0
@@ -233,13 +235,37 @@ meeting_from v (p ∷ vals) feats bs h =
 abbrev pub Chosen : (Term → List Value) → Binds → Type 0
 Chosen choices v = (term : Term) → OneOf (choices term) (term_value v term)
 
+chosen_to : (v b : Binds) (term : Term) (values : List Value) → Extends v b → OneOf values (term_value v term) → AnyExtends v (chosen_for term values b)
+chosen_to v b term values h o = at (known_value b term)
+  where
+    at : (k : Option Value) → AnyExtends v (chosen_at term values b k)
+    at None = one_to v b term values h o
+    at (Some known) = inl h
+
+chosen_from : (v b : Binds) (term : Term) (values : List Value) → AnyExtends v (chosen_for term values b) → Extends v b
+chosen_from v b term values h = at (known_value b term) h
+  where
+    at : (k : Option Value) → AnyExtends v (chosen_at term values b k) → Extends v b
+    at None h = (one_from v b term values h).0
+    at (Some known) h = single v b h
+
+chosen_all_to : (v : Binds) (term : Term) (values : List Value) (bs : List Binds) → AnyExtends v bs → OneOf values (term_value v term) → AnyExtends v (flat_map (chosen_for term values) bs)
+chosen_all_to v term values [] h o = absurd h
+chosen_all_to v term values (b ∷ bs) (inl h) o = any_left v (chosen_for term values b) (flat_map (chosen_for term values) bs) (chosen_to v b term values h o)
+chosen_all_to v term values (b ∷ bs) (inr h) o = any_right v (chosen_for term values b) (flat_map (chosen_for term values) bs) (chosen_all_to v term values bs h o)
+
+chosen_all_from : (v : Binds) (term : Term) (values : List Value) (bs : List Binds) → AnyExtends v (flat_map (chosen_for term values) bs) → AnyExtends v bs
+chosen_all_from v term values [] h = h
+chosen_all_from v term values (b ∷ bs) h =
+    either (λ a. inl (chosen_from v b term values a)) (λ a. inr (chosen_all_from v term values bs a)) (any_append v (chosen_for term values b) (flat_map (chosen_for term values) bs) h)
+
 pub closing_to : (choices : Term → List Value) (v : Binds) (feats : List (ℕ × Term)) (bs : List Binds) → Chosen choices v → AnyExtends v bs → AnyExtends v (closing choices feats bs)
 closing_to choices v [] bs chosen h = h
-closing_to choices v (q ∷ feats) bs chosen h = closing_to choices v feats _ chosen (restricted_to v q.1 (choices q.1) bs h (chosen q.1))
+closing_to choices v (q ∷ feats) bs chosen h = closing_to choices v feats _ chosen (chosen_all_to v q.1 (choices q.1) bs h (chosen q.1))
 
 pub closing_from : (choices : Term → List Value) (v : Binds) (feats : List (ℕ × Term)) (bs : List Binds) → AnyExtends v (closing choices feats bs) → AnyExtends v bs
 closing_from choices v [] bs h = h
-closing_from choices v (q ∷ feats) bs h = (restricted_from v q.1 (choices q.1) bs (closing_from choices v feats _ h)).0
+closing_from choices v (q ∷ feats) bs h = chosen_all_from v q.1 (choices q.1) bs (closing_from choices v feats _ h)
 
 pub closing_patterns_to : (choices : Term → List Value) (v : Binds) (ps : List Pattern) (bs : List Binds) → Chosen choices v → AnyExtends v bs → AnyExtends v (closing_patterns choices ps bs)
 closing_patterns_to choices v [] bs chosen h = h
@@ -329,22 +355,36 @@ one_each : (P : Binds → Type 0) (b : Binds) (term : Term) (values : List Value
 one_each P b term [] h = tt
 one_each P b term (x ∷ xs) h = each_option P (bound_term b term x) (filter_map (bound_term b term) xs) (h x) (one_each P b term xs h)
 
-pub restricted_keeps : (P : Binds → Type 0) → Stays P → (term : Term) (values : List Value) (bs : List Binds) → Each P bs → Each P (restricted term values bs)
-restricted_keeps P stays term values [] h = tt
-restricted_keeps P stays term values (b ∷ bs) h =
-    each_append P (filter_map (bound_term b term) values) (restricted term values bs) (one_each P b term values (λ value after e. stays b term value after h.0 e)) (restricted_keeps P stays term values bs h.1)
+chosen_keeps : (P : Binds → Type 0) → Stays P → (term : Term) (values : List Value) (b : Binds) → P b → Each P (chosen_for term values b)
+chosen_keeps P stays term values b h = at (known_value b term)
+  where
+    at : (k : Option Value) → Each P (chosen_at term values b k)
+    at None = one_each P b term values (λ value after e. stays b term value after h e)
+    at (Some known) = (h, tt)
 
-pub restricted_known : (term : Term) (values : List Value) (bs : List Binds) → Each (λ b. Known b term) (restricted term values bs)
-restricted_known term values [] = tt
-restricted_known term values (b ∷ bs) =
-    each_append (λ c. Known c term) (filter_map (bound_term b term) values) (restricted term values bs) (one_each (λ c. Known c term) b term values (λ value after e. bound_known b term value after e)) (restricted_known term values bs)
+chosen_known : (term : Term) (values : List Value) (b : Binds) → Each (λ c. Known c term) (chosen_for term values b)
+chosen_known term values b = at (known_value b term) refl
+  where
+    at : (k : Option Value) → known_value b term ≡ k → Each (λ c. Known c term) (chosen_at term values b k)
+    at None e = one_each (λ c. Known c term) b term values (λ value after e. bound_known b term value after e)
+    at (Some known) e = ((known, e), tt)
+
+chosen_all_keep : (P : Binds → Type 0) → Stays P → (term : Term) (values : List Value) (bs : List Binds) → Each P bs → Each P (flat_map (chosen_for term values) bs)
+chosen_all_keep P stays term values [] h = tt
+chosen_all_keep P stays term values (b ∷ bs) h =
+    each_append P (chosen_for term values b) (flat_map (chosen_for term values) bs) (chosen_keeps P stays term values b h.0) (chosen_all_keep P stays term values bs h.1)
+
+chosen_all_known : (term : Term) (values : List Value) (bs : List Binds) → Each (λ c. Known c term) (flat_map (chosen_for term values) bs)
+chosen_all_known term values [] = tt
+chosen_all_known term values (b ∷ bs) =
+    each_append (λ c. Known c term) (chosen_for term values b) (flat_map (chosen_for term values) bs) (chosen_known term values b) (chosen_all_known term values bs)
 
 pub known_stays : (term : Term) → Stays (λ b. Known b term)
 known_stays other b term value after h e = bound_keeps b term value after other h e
 
 pub closing_keeps : (P : Binds → Type 0) → Stays P → (choices : Term → List Value) (feats : List (ℕ × Term)) (bs : List Binds) → Each P bs → Each P (closing choices feats bs)
 closing_keeps P stays choices [] bs h = h
-closing_keeps P stays choices (q ∷ feats) bs h = closing_keeps P stays choices feats _ (restricted_keeps P stays q.1 (choices q.1) bs h)
+closing_keeps P stays choices (q ∷ feats) bs h = closing_keeps P stays choices feats _ (chosen_all_keep P stays q.1 (choices q.1) bs h)
 
 pub closing_known : (choices : Term → List Value) (feats : List (ℕ × Term)) (bs : List Binds) → Each (KnownAll feats) (closing choices feats bs)
 closing_known choices [] bs = all_units bs
@@ -353,8 +393,8 @@ closing_known choices [] bs = all_units bs
     all_units [] = tt
     all_units (x ∷ xs) = (tt, all_units xs)
 closing_known choices (q ∷ feats) bs =
-    let cs = restricted q.1 (choices q.1) bs in
-    each_both (λ b. Known b q.1) (KnownAll feats) (closing choices feats cs) (closing_keeps (λ b. Known b q.1) (known_stays q.1) choices feats cs (restricted_known q.1 (choices q.1) bs)) (closing_known choices feats cs)
+    let cs = flat_map (chosen_for q.1 (choices q.1)) bs in
+    each_both (λ b. Known b q.1) (KnownAll feats) (closing choices feats cs) (closing_keeps (λ b. Known b q.1) (known_stays q.1) choices feats cs (chosen_all_known q.1 (choices q.1) bs)) (closing_known choices feats cs)
 
 pub all_stays : (feats : List (ℕ × Term)) → Stays (KnownAll feats)
 all_stays [] b term value after h e = tt
@@ -392,3 +432,8 @@ pub tests_same : (v b : Binds) (ps : List Pattern) → Extends v b → KnownPatt
 tests_same v b [] h k = refl
 tests_same v b (p ∷ ps) h k =
     ap (λ f. record { name = p.cat.name; values = f } ∷ tests_under v ps) (feats_same v b p.cat.feats h k.0) ∙ ap (λ ts. under b p.cat ∷ ts) (tests_same v b ps h k.1)
+
+-- assignments that all know the term are chosen alone
+
+pub know_push : {X : Type 0} (f : X → List X) (xs : List X) (x : X) → flat_map f xs ≡ xs → f x ≡ x ∷ [] → flat_map f (xs ++ x ∷ []) ≡ xs ++ x ∷ []
+know_push f xs x h k = flat_map-append f xs (x ∷ []) ∙ ap (λ a. a ++ flat_map f (x ∷ [])) h ∙ ap (λ a. xs ++ a) (append-nil (f x) ∙ k)

@@ -1,137 +1,64 @@
 -- Cut-off nodes, and the ways in which rules are cut off.
 use Rattle.std.proofs.lemmas.List.{take_more}
-use Rattle.std.proofs.Common.{◌≡◌, ℕ, suc, zero, ◌+◌, ◌-◌, ◌<◌, ◌≤◌, get_or, List, [], ◌∷◌, ◌++◌, Bool, true, false, ◌&&◌, length, take, drop, Option, Some, None, refl, sym, ap, ◌∙◌, subst, arith, ◌⊎◌, inl, inr}
-use Rattle.std.specs.Prelude.{if◌then◌else◌, ◌==◌, option_and_then, option_map, slice_get}
-use Rattle.std.proofs.lemmas.Option.{option_and_then_some, same_Some}
+use Rattle.std.proofs.Common.{◌≡◌, ℕ, suc, zero, ◌+◌, ◌-◌, ◌<◌, ◌≤◌, get_or, List, [], ◌∷◌, ◌++◌, Bool, true, false, length, take, drop, Some, None, refl, sym, ap, ◌∙◌, subst, arith, inl, inr}
+use Rattle.std.specs.Prelude.{if◌then◌else◌, ◌==◌, slice_get}
 use Rattle.codeco_terms.specs.declared.values.Value.{Value}
-use Rattle.codeco_terms.specs.declared.categories.Category.{Category}
 use Rattle.codeco_terms.specs.declared.elements.Element.{Element}
 use Rattle.codeco_terms.specs.declared.rules.Rule.{Rule}
 use Rattle.scopes.specs.declared.entries.Entry.{Entry}
 use Rattle.scopes.specs.declared.tests.Test.{Test}
-use Rattle.derivation_trees.specs.Trees.{Nodes}
 use Rattle.derivation_trees.specs.Settings.{Setting}
-use Rattle.derivation_trees.specs.Instances.{under, feats_under, own_values, own_features, is_instance}
-use Rattle.derivation_trees.specs.Derives.{At, Stand, run, begun, rule_with, fits, phrases_of, is_none_left}
-use Rattle.derivation_trees.specs.Partial.{CutNode, stopped, entered, used_up, front, next_category, front_of, cut_end}
+use Rattle.derivation_trees.specs.Instances.{under, feats_under, own_values, own_features}
+use Rattle.derivation_trees.specs.Derives.{At, rule_with, fits}
 use Rattle.chart_table.specs.declared.states.State.{State}
+use Rattle.chart_table.specs.declared.states.Cut.{Cut}
+use Rattle.chart_table.specs.declared.asks.Ask.{Ask}
 use Rattle.chart_table.specs.Leading.{Path, ElementLeads, own_past, referents}
 use Rattle.chart_table.specs.Steps.{at_of, Covers}
-use Rattle.chart_table.specs.declared.states.End.{End}
 use Rattle.chart_table.specs.Ends.{CoversPath, LeadsFrom, AreSteps}
-use Rattle.chart_table.specs.Cuts.{CutLeads, RuleCut, AreCuts, own_after, AreAfter, HasCutsUpTo}
+use Rattle.chart_table.specs.Asks.{AskStops}
+use Rattle.chart_table.specs.Aims.{Aims}
+use Rattle.chart_table.specs.Cuts.{CutLeads, Stops, RuleCut, AreCuts, own_after, AreAfter, HasCutsUpTo}
 use Rattle.chart_table.proofs.BranchLemmas.{Binds}
 use Rattle.chart_table.proofs.EndLemmas.{drop_further, own_at, fits_name, agrees_known}
-use Rattle.chart_table.proofs.PassLemmas.{if_some, if_true, both_true, and_both, stand_at, run_path, path_runs}
-use Rattle.chart_table.proofs.OpenerLemmas.{referents-append, relisted, run_adds, nodes_parallel}
-
-pub map_some : {A B P : Type 0} (f : A → B) (o : Option A) (y : B) → option_map f o ≡ Some y → ((x : A) → o ≡ Some x → f x ≡ y → P) → P
-map_some f None y h k = absurd (cc)
-map_some f (Some x) y h k = k x refl (same_Some (f x) y h)
-
-pub used_up_is : (stand after : Stand) → used_up stand ≡ Some after → stand ≡ after
-used_up_is stand after h = if_some (is_none_left stand.found && is_none_left stand.children) stand after h (λ _ e. e)
-
--- what a front shows
-pub record Front (s : Setting) (rule : Rule) (values : List (ℕ × Value)) (count : ℕ) (asked : Test) (at last : At) : Type 0 where
-  pub instance : is_instance s rule values ≡ true
-  pub head : fits (under values rule.head) asked ≡ true
-  pub path : Path s values (own_values rule values) (take count rule.body) at last
-
-front_shows : (s : Setting) (rule : Rule) (values : List (ℕ × Value)) (found : List ℕ) (ns : Nodes) (count : ℕ) (asked : Test) (at : At) (stand : Stand) → front s rule values found (phrases_of s ns) count asked at ≡ Some stand → Front s rule values count asked at stand.at
-front_shows s rule values found ns count asked at stand h =
-    option_and_then_some _ (begun s rule values found (phrases_of s ns) asked at) stand h (λ start starts runs.
-    if_some (fits (under values rule.head) asked && is_instance s rule values) _ start starts (λ b same.
-    both_true (fits (under values rule.head) asked) (is_instance s rule values) b (λ head instance.
-    option_and_then_some used_up (run s values (take count rule.body) start) stand runs (λ last ran used.
-    record {
-      instance = instance;
-      head = head;
-      path = run_path s values (take count rule.body) at found (own_values rule values) ns stand (ap (run s values (take count rule.body)) same ∙ ran ∙ ap Some (used_up_is last stand used));
-    }))))
+use Rattle.chart_table.proofs.AskLemmas.{rule_of_ask, ask_of_rule, ask_alike}
 
 -- what a rule that is cut off is
-pub record SomeCut (s : Setting) (asked : Test) (at : At) : Type 0 where
+pub record SomeCut (s : Setting) (aim : Aims) (j : ℕ) (asked : Test) (at : At) : Type 0 where
   pub number : ℕ
   pub rule : Rule
   pub has : rule_with s.grammar number ≡ Some rule
   pub values : List (ℕ × Value)
-  pub cut : RuleCut s rule values asked at
+  pub cut : RuleCut s aim j rule values asked at
 
-pub rule_of_cut : (s : Setting) (asked : Test) (at : At) → CutLeads s asked at → SomeCut s asked at
-rule_of_cut s asked at (stopped n values found ns count, h) =
-    map_some (λ (stand : Stand). stand.at.place) (front_of s n values found ns count asked at) (length s.tokens) h (λ stand is place.
-    option_and_then_some _ (rule_with s.grammar n) stand is (λ rule has fronts.
-    let f = front_shows s rule values found ns count asked at stand fronts in
-    record { number = n; rule = rule; has = has; values = values; cut = record { instance = f.instance; head = f.head; count = count; last = stand.at; path = f.path; stop = inl place } }))
-rule_of_cut s asked at (entered n values found ns count child, h) =
-    option_and_then_some _ (front_of s n values found ns count asked at) (length s.tokens) h (λ stand is ends.
-    option_and_then_some _ (rule_with s.grammar n) stand is (λ rule has fronts.
-    option_and_then_some (λ category. cut_end s child (under values category) stand.at) (option_and_then (λ r. next_category r count) (rule_with s.grammar n)) (length s.tokens) ends (λ c next cut.
-    let f = front_shows s rule values found ns count asked at stand fronts in
-    record { number = n; rule = rule; has = has; values = values; cut = record { instance = f.instance; head = f.head; count = count; last = stand.at; path = f.path; stop = inr (c, sym (ap (option_and_then (λ r. next_category r count)) has) ∙ next, (child, cut)) } })))
+numbered : (s : Setting) (aim : Aims) (j : ℕ) (a : Ask) (rule : Rule) (values : Binds) (count : ℕ) (last : At) → slice_get aim.asks j ≡ Some a → AskStops s aim.halt a rule values count last → Stops s aim j rule values count last
+numbered s aim j a rule values count last at (inl h) = inl (h.0, (a, at, h.1))
+numbered s aim j a rule values count last at (inr c) = inr (c.0, c.1, (a, at, c.2))
 
--- the found positions and children of a front
-pub record Fronts (s : Setting) (number : ℕ) (values : List (ℕ × Value)) (count : ℕ) (asked : Test) (at last : At) : Type 0 where
-  pub found : List ℕ
-  pub children : Nodes
-  pub stand : Stand
-  pub is : front_of s number values found children count asked at ≡ Some stand
-  pub at_is : stand.at ≡ last
-
-fronts_of : (s : Setting) (number : ℕ) (rule : Rule) (values : List (ℕ × Value)) (count : ℕ) (asked : Test) (at last : At) → rule_with s.grammar number ≡ Some rule → is_instance s rule values ≡ true → fits (under values rule.head) asked ≡ true → Path s values (own_values rule values) (take count rule.body) at last → Fronts s number values count asked at last
-fronts_of s number rule values count asked at last has instance head path =
-    let ran = path_runs s values (take count rule.body) at (own_values rule values) last path in
-    let kids = phrases_of s ran.children in
-    let begins : begun s rule values ran.found kids asked at ≡ Some (stand_at s at ran.found (own_values rule values) ran.children) =
-    if_true _ _ _ (and_both _ _ head instance) refl in
+pub rule_of_cut : (s : Setting) (aim : Aims) (j : ℕ) (asked : Test) (at : At) → CutLeads s aim j asked at → SomeCut s aim j asked at
+rule_of_cut s aim j asked at h =
+    let r = rule_of_ask s aim.halt h.0 asked at h.2 in
+    let c = r.cut in
     record {
-      found = ran.found;
-      children = ran.children;
-      stand = record { at = last; found = []; own = ran.own_left; children = [] };
-      is = ap (option_and_then (λ r. front s r values ran.found kids count asked at)) has ∙ ap (option_and_then (λ stand. option_and_then used_up (run s values (take count rule.body) stand))) begins ∙ ap (option_and_then used_up) ran.is;
-      at_is = refl;
+      number = r.number;
+      rule = r.rule;
+      has = r.has;
+      values = r.values;
+      cut = record { instance = c.instance; head = c.head; count = c.count; last = c.last; path = c.path; stop = numbered s aim j h.0 r.rule r.values c.count c.last h.1 c.stop };
     }
 
-pub cut_of_rule : (s : Setting) (asked : Test) (at : At) (number : ℕ) (rule : Rule) (values : List (ℕ × Value)) → rule_with s.grammar number ≡ Some rule → RuleCut s rule values asked at → CutLeads s asked at
-cut_of_rule s asked at number rule values has c =
-    let f = fronts_of s number rule values c.count asked at c.last has c.instance c.head c.path in
-    by_stop f c.stop
+pub cut_of_rule : (s : Setting) (aim : Aims) (j : ℕ) (asked : Test) (at : At) (number : ℕ) (rule : Rule) (values : List (ℕ × Value)) → rule_with s.grammar number ≡ Some rule → RuleCut s aim j rule values asked at → CutLeads s aim j asked at
+cut_of_rule s aim j asked at number rule values has c = by_stop c.stop
   where
-    by_stop : Fronts s number values c.count asked at c.last → (c.last.place ≡ length s.tokens) ⊎ ((d : Category) × (next_category rule c.count ≡ Some d) × CutLeads s (under values d) c.last) → CutLeads s asked at
-    by_stop f (inl place) = (stopped number values f.found f.children c.count, ap (option_map (λ (stand : Stand). stand.at.place)) f.is ∙ ap (λ a. Some a.place) f.at_is ∙ ap Some place)
-    by_stop f (inr d) = (entered number values f.found f.children c.count d.2.0, ap (option_and_then (λ stand. option_and_then (λ category. cut_end s d.2.0 (under values category) stand.at) (option_and_then (λ r. next_category r c.count) (rule_with s.grammar number)))) f.is ∙ ap (option_and_then (λ category. cut_end s d.2.0 (under values category) f.stand.at)) (ap (option_and_then (λ r. next_category r c.count)) has ∙ d.1) ∙ ap (cut_end s d.2.0 (under values d.0)) f.at_is ∙ d.2.1)
+    made : (a : Ask) → slice_get aim.asks j ≡ Some a → AskStops s aim.halt a rule values c.count c.last → CutLeads s aim j asked at
+    made a at_j stop = (a, at_j, ask_of_rule s aim.halt a asked at number rule values has (record { instance = c.instance; head = c.head; count = c.count; last = c.last; path = c.path; stop = stop }))
 
--- a cut-off node never looks at the openers of the list that it starts with
+    by_stop : Stops s aim j rule values c.count c.last → CutLeads s aim j asked at
+    by_stop (inl h) = made h.1.0 h.1.1 (inl (h.0, h.1.2))
+    by_stop (inr d) = made d.2.0 d.2.1 (inr (d.0, d.1, d.2.2))
 
-front_alike : (s : Setting) (rule : Rule) (values : List (ℕ × Value)) (found : List ℕ) (ns : Nodes) (count : ℕ) (asked : Test) (place : ℕ) (one other : List Entry) (stand : Stand) → referents one ≡ referents other → front s rule values found (phrases_of s ns) count asked (record { place = place; list = one }) ≡ Some stand → (added : List Entry) × (stand.at.list ≡ one ++ added) × (front s rule values found (phrases_of s ns) count asked (record { place = place; list = other }) ≡ Some (relisted stand (other ++ added)))
-front_alike s rule values found ns count asked place one other stand same h =
-    option_and_then_some _ (begun s rule values found (phrases_of s ns) asked (record { place = place; list = one })) stand h (λ start starts runs.
-    if_some (fits (under values rule.head) asked && is_instance s rule values) _ start starts (λ b is_start.
-    option_and_then_some used_up (run s values (take count rule.body) start) stand runs (λ last ran used.
-    let first : Stand = record { at = record { place = place; list = one }; found = found; own = own_values rule values; children = phrases_of s ns } in
-    let is_last = used_up_is last stand used in
-    let a = run_adds s values (take count rule.body) first stand other same (nodes_parallel s ns) (ap (run s values (take count rule.body)) is_start ∙ ran ∙ ap Some is_last) in
-    if_some (is_none_left last.found && is_none_left last.children) last stand used (λ none_left _.
-    (a.added, a.grown, ap (option_and_then (λ st. option_and_then used_up (run s values (take count rule.body) st))) (if_true _ _ (relisted first other) b refl) ∙ ap (option_and_then used_up) a.same ∙ if_true (is_none_left stand.found && is_none_left stand.children) _ _ (sym (ap (λ st. is_none_left st.found && is_none_left st.children) is_last) ∙ none_left) refl)))))
-
-cut_alike_at : (s : Setting) (cut : CutNode) (asked : Test) (place : ℕ) (one other : List Entry) (n : ℕ) → referents one ≡ referents other → cut_end s cut asked (record { place = place; list = one }) ≡ Some n → cut_end s cut asked (record { place = place; list = other }) ≡ Some n
-cut_alike_at s (stopped number values found ns count) asked place one other n same h =
-    map_some (λ (stand : Stand). stand.at.place) (front_of s number values found ns count asked (record { place = place; list = one })) n h (λ stand is ends.
-    option_and_then_some _ (rule_with s.grammar number) stand is (λ rule has fronts.
-    let a = front_alike s rule values found ns count asked place one other stand same fronts in
-    ap (λ o. option_map (λ (st : Stand). st.at.place) (option_and_then (λ r. front s r values found (phrases_of s ns) count asked (record { place = place; list = other })) o)) has ∙ ap (option_map (λ (st : Stand). st.at.place)) a.2 ∙ ap Some ends))
-cut_alike_at s (entered number values found ns count child) asked place one other n same h =
-    option_and_then_some _ (front_of s number values found ns count asked (record { place = place; list = one })) n h (λ stand is ends.
-    option_and_then_some _ (rule_with s.grammar number) stand is (λ rule has fronts.
-    option_and_then_some (λ category. cut_end s child (under values category) stand.at) (option_and_then (λ r. next_category r count) (rule_with s.grammar number)) n ends (λ c next cut.
-    let a = front_alike s rule values found ns count asked place one other stand same fronts in
-    let lists : referents (one ++ a.0) ≡ referents (other ++ a.0) = referents-append one a.0 ∙ ap (λ r. r ++ referents a.0) same ∙ sym (referents-append other a.0) in
-    let deeper = cut_alike_at s child (under values c) stand.at.place (one ++ a.0) (other ++ a.0) n lists (ap (λ l. cut_end s child (under values c) (record { place = stand.at.place; list = l })) (sym a.1) ∙ cut) in
-    ap (λ o. option_and_then (λ st. option_and_then (λ category. cut_end s child (under values category) st.at) (option_and_then (λ r. next_category r count) (rule_with s.grammar number))) (option_and_then (λ r. front s r values found (phrases_of s ns) count asked (record { place = place; list = other })) o)) has ∙ ap (option_and_then (λ st. option_and_then (λ category. cut_end s child (under values category) st.at) (option_and_then (λ r. next_category r count) (rule_with s.grammar number)))) a.2 ∙ ap (option_and_then (λ category. cut_end s child (under values category) (record { place = stand.at.place; list = other ++ a.0 }))) next ∙ deeper)))
-
-pub cut_alike : (s : Setting) (asked : Test) (place : ℕ) (one other : List Entry) → referents one ≡ referents other → CutLeads s asked (record { place = place; list = one }) → CutLeads s asked (record { place = place; list = other })
-cut_alike s asked place one other same h = (h.0, cut_alike_at s h.0 asked place one other (length s.tokens) same h.1)
+pub cut_alike : (s : Setting) (aim : Aims) (j : ℕ) (asked : Test) (place : ℕ) (one other : List Entry) → referents one ≡ referents other → CutLeads s aim j asked (record { place = place; list = one }) → CutLeads s aim j asked (record { place = place; list = other })
+cut_alike s aim j asked place one other same h = (h.0, h.1, ask_alike s aim.halt h.0 asked place one other same h.2)
 
 -- paths, element by element from the right
 
@@ -222,12 +149,12 @@ rule_number s (suc n) rule h = by_none (suc n == 0) refl h
     by_none false e h = let lt = slice_below s.grammar.rules (suc n - 1) rule h in omega arith
 
 -- the cut-off phrases of all rules with the name are those of the category
-pub cuts_up_to : (s : Setting) (name : ℕ) (known : Binds) (at : At) (cuts : List End) → HasCutsUpTo s name known at (length s.grammar.rules) cuts → AreCuts s name known at cuts
-cuts_up_to s name known at cuts has = record {
-  sound = λ e o asked named h.
-      let r = has.sound e o in
+pub cuts_up_to : (s : Setting) (aim : Aims) (name : ℕ) (known : Binds) (at : At) (cuts : List Cut) → HasCutsUpTo s aim name known at (length s.grammar.rules) cuts → AreCuts s aim name known at cuts
+cuts_up_to s aim name known at cuts has = record {
+  sound = λ j values o asked named h.
+      let r = has.sound j values o in
       let c = r.cut in
-      cut_of_rule s asked at r.number r.rule c.values r.has (record {
+      cut_of_rule s aim j asked at r.number r.rule c.values r.has (record {
         instance = c.instance;
         head = ap (λ m. fits (record { name = m; values = feats_under c.values r.rule.head.feats }) asked) r.named ∙ ap (λ f. fits (record { name = name; values = f }) asked) (sym c.is) ∙ h;
         count = c.count;
@@ -235,10 +162,10 @@ cuts_up_to s name known at cuts has = record {
         path = c.path;
         stop = c.stop;
       });
-  complete = λ asked named known_in leads.
-      let r = rule_of_cut s asked at leads in
+  complete = λ j asked named known_in leads.
+      let r = rule_of_cut s aim j asked at leads in
       let c = r.cut in
       let name_is : r.rule.head.name ≡ name = fits_name (under r.values r.rule.head) asked c.head ∙ named in
-      let found = has.complete r.number r.rule r.has (rule_number s r.number r.rule r.has) name_is r.values c.count c.last c.instance (agrees_known known r.rule r.values asked c.head known_in) c.path c.stop in
-      (found.0, found.1, ap (λ f. fits (record { name = name; values = f }) asked) found.2 ∙ sym (ap (λ m. fits (record { name = m; values = feats_under r.values r.rule.head.feats }) asked) name_is) ∙ c.head);
+      let found = has.complete r.number r.rule r.has (rule_number s r.number r.rule r.has) name_is j r.values c.count c.last c.instance (agrees_known known r.rule r.values asked c.head known_in) c.path c.stop in
+      (feats_under r.values r.rule.head.feats, found, sym (ap (λ m. fits (record { name = m; values = feats_under r.values r.rule.head.feats }) asked) name_is) ∙ c.head);
 }

@@ -25,7 +25,9 @@ use Rattle.chart_table.specs.Branches.{known_features}
 use Rattle.chart_table.specs.Choices.{choices, choices_in, terms_of}
 use Rattle.chart_table.specs.Steps.{plain_steps, sub_steps, starting}
 use Rattle.chart_table.specs.Ends.{IsEnds, HasFinished, HasEndsOfRule, HasEndsIfNamed, HasEndsUpTo, AreLast, AreSteps, IsStep}
-use Rattle.chart_table.specs.Cuts.{AreCuts, AreAfter, AreAllAfter, HasHeads, CutBefore, Among, IsExtended, Halts, Enters, HasCutsUpTo}
+use Rattle.chart_table.specs.declared.states.Cut.{Cut}
+use Rattle.chart_table.specs.Aims.{Aims}
+use Rattle.chart_table.specs.Cuts.{AreCuts, AreAfter, AreAllAfter, HasHeads, CutBefore, Among, Halts, Enters, OneBefore, MeetsCut, HasCutsUpTo}
 use Rattle.chart_table.specs.Table.{row_at, IsRow, AreRows, HasRow, IsFound}
 use Rattle.chart_table.proofs.EndLemmas.{stripped, rule_ends, steps_none, up_to_none, up_to_skip, up_to_more, ends_up_to, plain_step, category_step}
 use Rattle.chart_table.proofs.TableLemmas.{new_row, rows_more, found_row, RowAt}
@@ -87,31 +89,31 @@ plain_state s rule terms places own n e state before after t p o plain h =
     ap (λ x. plain_steps s (choices s x places own) n e state) t ∙ ap (λ x. plain_steps s (choices s (terms_of rule) x own) n e state) p ∙ ap (λ x. plain_steps s (choices s (terms_of rule) (flat_map positions rule.body) x) n e state) o in
     (plain_steps s (choices_in s rule) n e state, h ∙ ap (λ x. before ++ x) same, plain_step s rule n e state plain)
 
-pub category_state : (s : Setting) (rule : Rule) (n : ℕ) (c : Category) (state : State) (rows : List Row) (number : ℕ) (before after : List State) → HasRow s rows number c.name (known_features state.binds c.feats) (stripped state) → ((row : Row) → slice_get rows number ≡ Some row → after ≡ before ++ sub_steps c state row.ends) → (news : List State) × (after ≡ before ++ news) × IsStep s rule n (Sub c) state news
-category_state s rule n c state rows number before after has h =
+pub category_state : (s : Setting) (aim : Aims) (rule : Rule) (n : ℕ) (c : Category) (state : State) (rows : List Row) (number : ℕ) (before after : List State) → HasRow s aim rows number c.name (known_features state.binds c.feats) (stripped state) → ((row : Row) → slice_get rows number ≡ Some row → after ≡ before ++ sub_steps c state row.ends) → (news : List State) × (after ≡ before ++ news) × IsStep s rule n (Sub c) state news
+category_state s aim rule n c state rows number before after has h =
     (sub_steps c state has.row.ends, h has.row has.is, category_step s rule n c state has.row.ends has.ends)
 
 pub step_same : (s : Setting) (rule : Rule) (n : ℕ) (e other : Element) (state : State) (before after : List State) → e ≡ other → (news : List State) × (after ≡ before ++ news) × IsStep s rule n other state news → (news : List State) × (after ≡ before ++ news) × IsStep s rule n e state news
 step_same s rule n e other state before after is h = (h.0, h.1, subst (λ x. IsStep s rule n x state h.0) (sym is) h.2)
 
 -- a row that is there, by lists that were lent
-pub row_found : (s : Setting) (rows seen : List Row) (number name : ℕ) (known seen_known : List (ℕ × Value)) (place : ℕ) (list seen_list : List Entry) → seen ≡ rows → seen_known ≡ known → seen_list ≡ list → AreRows s rows → IsFound seen number name seen_known place seen_list → HasRow s rows number name known (record { place = place; list = list })
-row_found s rows seen number name known seen_known place list seen_list r k l rs found =
-    found_row s rows number name known place list rs (subst (λ x. IsFound x number name known place list) r (subst (λ x. IsFound seen number name x place list) k (subst (λ x. IsFound seen number name seen_known place x) l found)))
+pub row_found : (s : Setting) (aim : Aims) (rows seen : List Row) (number name : ℕ) (known seen_known : List (ℕ × Value)) (place : ℕ) (list seen_list : List Entry) → seen ≡ rows → seen_known ≡ known → seen_list ≡ list → AreRows s aim rows → IsFound seen number name seen_known place seen_list → HasRow s aim rows number name known (record { place = place; list = list })
+row_found s aim rows seen number name known seen_known place list seen_list r k l rs found =
+    found_row s aim rows number name known place list rs (subst (λ x. IsFound x number name known place list) r (subst (λ x. IsFound seen number name x place list) k (subst (λ x. IsFound seen number name seen_known place x) l found)))
 
 -- a new row, by the lists that its ends were found from
-row_is : (s : Setting) (row : Row) (known : List (ℕ × Value)) (start : List Entry) → known ≡ row.known → start ≡ row.list → RowAt s row row.name known row.place start → IsRow s row
-row_is s row known start k l is =
-    let at : RowAt s row row.name row.known row.place row.list = subst (λ x. RowAt s row row.name row.known row.place x) l (subst (λ x. RowAt s row row.name x row.place start) k is) in
+row_is : (s : Setting) (aim : Aims) (row : Row) (known : List (ℕ × Value)) (start : List Entry) → known ≡ row.known → start ≡ row.list → RowAt s aim row row.name known row.place start → IsRow s aim row
+row_is s aim row known start k l is =
+    let at : RowAt s aim row row.name row.known row.place row.list = subst (λ x. RowAt s aim row row.name row.known row.place x) l (subst (λ x. RowAt s aim row row.name x row.place start) k is) in
     record { ends = at.0; cuts = at.1 }
 
-pub row_returned : (s : Setting) (rows after : List Row) (row : Row) (number : ℕ) (known : List (ℕ × Value)) (start : List Entry) → after ≡ rows ++ row ∷ [] → number ≡ length rows → known ≡ row.known → start ≡ row.list → IsEnds s row.name known (record { place = row.place; list = start }) row.ends → AreCuts s row.name known (record { place = row.place; list = start }) row.cuts → HasRow s after number row.name row.known (row_at row)
-row_returned s rows after row number known start e n k l ends cuts =
-    subst (λ x. HasRow s x number row.name row.known (row_at row)) (sym e) (subst (λ m. HasRow s (rows ++ row ∷ []) m row.name row.known (row_at row)) (sym n) (new_row s rows row (row_is s row known start k l (ends, cuts))))
+pub row_returned : (s : Setting) (aim : Aims) (rows after : List Row) (row : Row) (number : ℕ) (known : List (ℕ × Value)) (start : List Entry) → after ≡ rows ++ row ∷ [] → number ≡ length rows → known ≡ row.known → start ≡ row.list → IsEnds s row.name known (record { place = row.place; list = start }) row.ends → AreCuts s aim row.name known (record { place = row.place; list = start }) row.cuts → HasRow s aim after number row.name row.known (row_at row)
+row_returned s aim rows after row number known start e n k l ends cuts =
+    subst (λ x. HasRow s aim x number row.name row.known (row_at row)) (sym e) (subst (λ m. HasRow s aim (rows ++ row ∷ []) m row.name row.known (row_at row)) (sym n) (new_row s aim rows row (row_is s aim row known start k l (ends, cuts))))
 
-pub rows_returned : (s : Setting) (rows after : List Row) (row : Row) (known : List (ℕ × Value)) (start : List Entry) → after ≡ rows ++ row ∷ [] → known ≡ row.known → start ≡ row.list → AreRows s rows → IsEnds s row.name known (record { place = row.place; list = start }) row.ends → AreCuts s row.name known (record { place = row.place; list = start }) row.cuts → AreRows s after
-rows_returned s rows after row known start e k l rs ends cuts =
-    subst (AreRows s) (sym e) (rows_more s rows row rs (row_is s row known start k l (ends, cuts)))
+pub rows_returned : (s : Setting) (aim : Aims) (rows after : List Row) (row : Row) (known : List (ℕ × Value)) (start : List Entry) → after ≡ rows ++ row ∷ [] → known ≡ row.known → start ≡ row.list → AreRows s aim rows → IsEnds s row.name known (record { place = row.place; list = start }) row.ends → AreCuts s aim row.name known (record { place = row.place; list = start }) row.cuts → AreRows s aim after
+rows_returned s aim rows after row known start e k l rs ends cuts =
+    subst (AreRows s aim) (sym e) (rows_more s aim rows row rs (row_is s aim row known start k l (ends, cuts)))
 
 pub finished_same : (s : Setting) (rule : Rule) (start : List Entry) (seen states : List State) (before after : List End) → seen ≡ states → HasFinished s rule start seen before after → HasFinished s rule start states before after
 finished_same s rule start seen states before after e h = subst (λ x. HasFinished s rule start x before after) e h
@@ -120,23 +122,23 @@ pub start_steps : (s : Setting) (rule : Rule) (n : ℕ) (e : Element) (news : Li
 start_steps s rule n e news is = subst (AreSteps s rule n e []) (sym is) (steps_none s rule n e)
 
 -- the states after a category, by a row that was looked up or made
-pub category_returned : (s : Setting) (rule : Rule) (n : ℕ) (c : Category) (state : State) (rows seen : List Row) (number : ℕ) (known : List (ℕ × Value)) (list : List Entry) (before after : List State) → seen ≡ rows → known ≡ known_features state.binds c.feats → list ≡ referents state.list → HasRow s rows number c.name known (record { place = state.place; list = list }) → ((row : Row) → slice_get seen number ≡ Some row → after ≡ before ++ sub_steps c state row.ends) → (news : List State) × (after ≡ before ++ news) × IsStep s rule n (Sub c) state news
-category_returned s rule n c state rows seen number known list before after r k l has h =
-    category_state s rule n c state rows number before after (subst (λ x. HasRow s rows number c.name x (stripped state)) k (subst (λ x. HasRow s rows number c.name known (record { place = state.place; list = x })) l has)) (λ row e. h row (ap (λ x. slice_get x number) r ∙ e))
+pub category_returned : (s : Setting) (aim : Aims) (rule : Rule) (n : ℕ) (c : Category) (state : State) (rows seen : List Row) (number : ℕ) (known : List (ℕ × Value)) (list : List Entry) (before after : List State) → seen ≡ rows → known ≡ known_features state.binds c.feats → list ≡ referents state.list → HasRow s aim rows number c.name known (record { place = state.place; list = list }) → ((row : Row) → slice_get seen number ≡ Some row → after ≡ before ++ sub_steps c state row.ends) → (news : List State) × (after ≡ before ++ news) × IsStep s rule n (Sub c) state news
+category_returned s aim rule n c state rows seen number known list before after r k l has h =
+    category_state s aim rule n c state rows number before after (subst (λ x. HasRow s aim rows number c.name x (stripped state)) k (subst (λ x. HasRow s aim rows number c.name known (record { place = state.place; list = x })) l has)) (λ row e. h row (ap (λ x. slice_get x number) r ∙ e))
 
 -- what is cut off within a category, by a row that was looked up or made
-pub category_cut : (s : Setting) (rule : Rule) (c : Category) (state : State) (rows seen : List Row) (number : ℕ) (known : List (ℕ × Value)) (list : List Entry) (before after : List End) → seen ≡ rows → known ≡ known_features state.binds c.feats → list ≡ referents state.list → HasRow s rows number c.name known (record { place = state.place; list = list }) → ((row : Row) → slice_get seen number ≡ Some row → HasHeads s rule (λ v. Among (IsExtended v) (sub_steps c state row.cuts)) before after) → HasHeads s rule (λ v. Enters s (Sub c) v state) before after
-category_cut s rule c state rows seen number known list before after r k l has h =
-    let row = subst (λ x. HasRow s rows number c.name x (stripped state)) k (subst (λ x. HasRow s rows number c.name known (record { place = state.place; list = x })) l has) in
-    enters_heads s rule c state row.row.cuts before after row.cuts (h row.row (ap (λ x. slice_get x number) r ∙ row.is))
+pub category_cut : (s : Setting) (aim : Aims) (rule : Rule) (c : Category) (state : State) (rows seen : List Row) (number : ℕ) (known : List (ℕ × Value)) (list : List Entry) (before after : List Cut) → seen ≡ rows → known ≡ known_features state.binds c.feats → list ≡ referents state.list → HasRow s aim rows number c.name known (record { place = state.place; list = list }) → ((row : Row) → slice_get seen number ≡ Some row → HasHeads s rule (OneBefore row.cuts (MeetsCut c state.binds) (length row.cuts)) before after) → HasHeads s rule (λ j v. Enters s aim (Sub c) j v state) before after
+category_cut s aim rule c state rows seen number known list before after r k l has h =
+    let row = subst (λ x. HasRow s aim rows number c.name x (stripped state)) k (subst (λ x. HasRow s aim rows number c.name known (record { place = state.place; list = x })) l has) in
+    enters_heads s aim rule c state row.row.cuts before after row.cuts (h row.row (ap (λ x. slice_get x number) r ∙ row.is))
 
-pub cuts_done : (s : Setting) (name : ℕ) (known : List (ℕ × Value)) (at : At) (rules : List Rule) (i : ℕ) (cuts : List End) → rules ≡ s.grammar.rules → length rules ≤ i → i ≤ length rules → HasCutsUpTo s name known at i cuts → AreCuts s name known at cuts
-cuts_done s name known at rules i cuts e le ge h =
+pub cuts_done : (s : Setting) (aim : Aims) (name : ℕ) (known : List (ℕ × Value)) (at : At) (rules : List Rule) (i : ℕ) (cuts : List Cut) → rules ≡ s.grammar.rules → length rules ≤ i → i ≤ length rules → HasCutsUpTo s aim name known at i cuts → AreCuts s aim name known at cuts
+cuts_done s aim name known at rules i cuts e le ge h =
     let n : i ≡ length s.grammar.rules = let same : i ≡ length rules = omega arith in same ∙ ap length e in
-    cuts_up_to s name known at cuts (subst (λ k. HasCutsUpTo s name known at k cuts) n h)
+    cuts_up_to s aim name known at cuts (subst (λ k. HasCutsUpTo s aim name known at k cuts) n h)
 
-pub heads_same : (s : Setting) (rule : Rule) (e other : Element) (state : State) (before after : List End) → e ≡ other → HasHeads s rule (λ v. Enters s other v state) before after → HasHeads s rule (λ v. Enters s e v state) before after
-heads_same s rule e other state before after is h = subst (λ x. HasHeads s rule (λ v. Enters s x v state) before after) (sym is) h
+pub heads_same : (s : Setting) (aim : Aims) (rule : Rule) (e other : Element) (state : State) (before after : List Cut) → e ≡ other → HasHeads s rule (λ j v. Enters s aim other j v state) before after → HasHeads s rule (λ j v. Enters s aim e j v state) before after
+heads_same s aim rule e other state before after is h = subst (λ x. HasHeads s rule (λ j v. Enters s aim x j v state) before after) (sym is) h
 
 -- an element that is no category
 pub not_category : (e : Element) → is_sub e ≡ false → sub_of e ≡ None
@@ -150,11 +152,11 @@ not_category (Strong c) h = refl
 not_category (Back positive negative) h = refl
 not_category (NoBack patterns) h = refl
 
-pub cut_turn : (s : Setting) (rule : Rule) (starts : List State) (n i : ℕ) (body : List Element) (e : Element) (states seen again : List State) (first before middle after : List End) → body ≡ rule.body → seen ≡ states → again ≡ states → i < length body → e ≡ get_or body i e → AreAfter s rule starts n i states → HasHeads s rule (CutBefore s rule starts i) first before → HasHeads s rule (λ v. Among (Halts s v) seen) before middle → HasHeads s rule (λ v. Among (Enters s e v) again) middle after → HasHeads s rule (CutBefore s rule starts (i + 1)) first after
-cut_turn s rule starts n i body e states seen again first before middle after b r q lt is are x y z =
+pub cut_turn : (s : Setting) (aim : Aims) (rule : Rule) (starts : List State) (n i : ℕ) (body : List Element) (e : Element) (states seen again : List State) (first before middle after : List Cut) → body ≡ rule.body → seen ≡ states → again ≡ states → i < length body → e ≡ get_or body i e → AreAfter s rule starts n i states → HasHeads s rule (CutBefore s aim rule starts i) first before → HasHeads s rule (λ j v. Among (Halts aim (Some e) j v) seen) before middle → HasHeads s rule (λ j v. Among (Enters s aim e j v) again) middle after → HasHeads s rule (CutBefore s aim rule starts (i + 1)) first after
+cut_turn s aim rule starts n i body e states seen again first before middle after b r q lt is are x y z =
     let below : i < length rule.body = omega (arith, ap length b) in
-    cut_before_more s rule starts n i e states first before middle after below (is ∙ ap (λ l. get_or l i e) b) are x (subst (λ l. HasHeads s rule (λ v. Among (Halts s v) l) before middle) r y) (subst (λ l. HasHeads s rule (λ v. Among (Enters s e v) l) middle after) q z)
+    cut_before_more s aim rule starts n i e states first before middle after below (is ∙ ap (λ l. get_or l i e) b) are x (subst (λ l. HasHeads s rule (λ j v. Among (Halts aim (Some e) j v) l) before middle) r y) (subst (λ l. HasHeads s rule (λ j v. Among (Enters s aim e j v) l) middle after) q z)
 
-pub cut_done : (s : Setting) (rule : Rule) (starts : List State) (i : ℕ) (body : List Element) (before after : List End) → body ≡ rule.body → length body ≤ i → i ≤ length body → HasHeads s rule (CutBefore s rule starts i) before after → HasHeads s rule (CutBefore s rule starts (length rule.body)) before after
-cut_done s rule starts i body before after b le ge h =
-    let same : i ≡ length rule.body = omega (arith, ap length b) in subst (λ k. HasHeads s rule (CutBefore s rule starts k) before after) same h
+pub cut_done : (s : Setting) (aim : Aims) (rule : Rule) (starts : List State) (i : ℕ) (body : List Element) (before after : List Cut) → body ≡ rule.body → length body ≤ i → i ≤ length body → HasHeads s rule (CutBefore s aim rule starts i) before after → HasHeads s rule (CutBefore s aim rule starts (length rule.body)) before after
+cut_done s aim rule starts i body before after b le ge h =
+    let same : i ≡ length rule.body = omega (arith, ap length b) in subst (λ k. HasHeads s rule (CutBefore s aim rule starts k) before after) same h

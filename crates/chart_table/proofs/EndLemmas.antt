@@ -289,7 +289,7 @@ all_known s rule v b instance h k =
 
 -- finished phrases
 
-has_from : (v bound : Binds) → has_values v bound ≡ true → Extends v bound
+pub has_from : (v bound : Binds) → has_values v bound ≡ true → Extends v bound
 has_from v [] h = tt
 has_from v (p ∷ bound) h = both_true (same_value (value_under v p.0) p.1) (has_values v bound) h (λ a b. (same_value_is (value_under v p.0) p.1 a, has_from v bound b))
 

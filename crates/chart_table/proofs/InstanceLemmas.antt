@@ -1,16 +1,16 @@
 -- The instances of a rule that lead somewhere are found.
 use Rattle.std.proofs.Common.{◌≡◌, ℕ, zero, suc, ◌+◌, ◌-◌, ◌<◌, ◌≤◌, List, [], ◌∷◌, ◌++◌, true, map, length, take, drop, get_or, refl, sym, ap, ◌∙◌, subst, arith, inl, inr}
 use Rattle.std.proofs.lemmas.List.{take_more}
-use Rattle.std.specs.List.{flat_map, range_with_len}
 use Rattle.codeco_terms.specs.declared.values.Term.{Term}
-use Rattle.codeco_checked.specs.Occurrences.{positions}
 use Rattle.codeco_terms.specs.declared.rules.Rule.{Rule}
 use Rattle.scopes.specs.declared.entries.Entry.{Entry}
 use Rattle.derivation_trees.specs.Settings.{Setting}
-use Rattle.derivation_trees.specs.Instances.{is_instance, own_values, variables_of, written_variables, rule_own_features}
+use Rattle.derivation_trees.specs.Instances.{is_instance, own_values, variables_of}
 use Rattle.chart_table.specs.declared.states.State.{State}
 use Rattle.chart_table.specs.Branches.{OneOf, Extends, AnyExtends, closing}
-use Rattle.chart_table.specs.Choices.{choices, choices_in, terms_of}
+use Rattle.chart_table.specs.declared.choices.Plan.{Plan}
+use Rattle.chart_table.specs.Choices.{choices, choices_in, IsPlan}
+use Rattle.chart_table.proofs.PlanLemmas.{choices_same}
 use Rattle.chart_table.specs.Steps.{starting}
 use Rattle.chart_table.specs.Ends.{as_terms, values_of_all, CoversPath}
 use Rattle.chart_table.specs.Cuts.{AreAllAfter}
@@ -105,11 +105,9 @@ pub states_done : (s : Setting) (rule : Rule) (states : List State) (i : ℕ) (f
 states_done s rule states i first after le h = subst (λ l. HasStates s rule l first after) (all_taken i states le) h
 
 -- the values of all variables in a state, as the program makes them
-pub closed_is : (s : Setting) (rule : Rule) (state : State) (terms : List (ℕ × Term)) (places own : List ℕ) (count : ℕ) (numbers seen : List ℕ) (feats seen_feats : List (ℕ × Term)) (one bounds seen_bounds : List Binds) (numbers_seen : List ℕ) → terms ≡ terms_of rule → places ≡ flat_map positions rule.body → own ≡ rule_own_features s.grammar rule → count ≡ length own → numbers ≡ written_variables rule ++ range_with_len 16 count → seen ≡ numbers → feats ≡ as_terms seen → seen_feats ≡ feats → one ≡ state.binds ∷ [] → bounds ≡ closing (choices s terms places own) seen_feats one → seen_bounds ≡ bounds → numbers_seen ≡ numbers → map (λ b. values_of_all b numbers_seen) seen_bounds ≡ closed_values s rule state
-closed_is s rule state terms places own count numbers seen feats seen_feats one bounds seen_bounds numbers_seen t p o n v m f g a b d w =
-    let all : numbers ≡ variables_of s.grammar rule = v ∙ ap (λ k. written_variables rule ++ range_with_len 16 k) (n ∙ ap length o) in
-    let chosen_is : choices s terms places own ≡ choices_in s rule = ap (λ x. choices s x places own) t ∙ ap (λ x. choices s (terms_of rule) x own) p ∙ ap (λ x. choices s (terms_of rule) (flat_map positions rule.body) x) o in
-    ap (λ x. map (λ b. values_of_all b x) seen_bounds) (w ∙ all) ∙ ap (map (λ b. values_of_all b (variables_of s.grammar rule))) (d ∙ b ∙ ap (λ x. closing x seen_feats one) chosen_is ∙ ap (λ x. closing (choices_in s rule) x one) (g ∙ f ∙ ap as_terms (m ∙ all)) ∙ ap (closing (choices_in s rule) (as_terms (variables_of s.grammar rule))) a)
+pub closed_is : (s : Setting) (rule : Rule) (state : State) (plan : Plan) (numbers : List ℕ) (feats seen_feats : List (ℕ × Term)) (one bounds seen_bounds : List Binds) → IsPlan s rule plan → numbers ≡ plan.variables → feats ≡ as_terms plan.variables → seen_feats ≡ feats → one ≡ state.binds ∷ [] → bounds ≡ closing (choices s plan.terms plan.places plan.own) seen_feats one → seen_bounds ≡ bounds → map (λ b. values_of_all b numbers) seen_bounds ≡ closed_values s rule state
+closed_is s rule state plan numbers feats seen_feats one bounds seen_bounds p n f g a b d =
+    ap (λ x. map (λ b. values_of_all b x) seen_bounds) (n ∙ p.variables) ∙ ap (map (λ b. values_of_all b (variables_of s.grammar rule))) (d ∙ b ∙ ap (λ x. closing x seen_feats one) (choices_same s rule plan p) ∙ ap (λ x. closing (choices_in s rule) x one) (g ∙ f ∙ ap as_terms p.variables) ∙ ap (closing (choices_in s rule) (as_terms (variables_of s.grammar rule))) a)
 
 -- an instance that extends a state's assignment is one of its values
 values_to : (s : Setting) (rule : Rule) (v : Binds) (bs : List Binds) → is_instance s rule v ≡ true → Each (KnownAll (as_terms (variables_of s.grammar rule))) bs → AnyExtends v bs → OneOf (map (λ b. values_of_all b (variables_of s.grammar rule)) bs) v

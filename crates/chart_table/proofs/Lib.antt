@@ -4,11 +4,14 @@ pub mod OpenerLemmas
 pub mod BranchLemmas
 pub mod StepLemmas
 pub mod ChoiceLemmas
+pub mod PlanLemmas
 pub mod EndLemmas
 pub mod TurnLemmas
 pub mod TableLemmas
 pub mod CycleLemmas
 pub mod SentenceLemmas
+pub mod AskLemmas
 pub mod CutLemmas
 pub mod HeadLemmas
 pub mod InstanceLemmas
+pub mod IdleLemmas

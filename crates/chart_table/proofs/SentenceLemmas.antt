@@ -1,10 +1,10 @@
 -- Sentences, by the ends of `text`.
-use Rattle.std.proofs.Common.{◌≡◌, ℕ, List, [], ◌∷◌, Bool, true, false, ◌||◌, length, Some, refl, sym, ap, ◌∙◌, subst, inl, inr, IsTrue, ◌↔◌}
-use Rattle.std.specs.Prelude.{◌==◌, not, slice_get}
+use Rattle.std.proofs.Common.{◌≡◌, ℕ, suc, zero, ◌+◌, List, [], ◌∷◌, ◌++◌, Bool, true, false, ◌||◌, length, map, Some, arith, refl, sym, ap, ◌∙◌, subst, inl, inr, IsTrue, ◌↔◌}
+use Rattle.std.specs.Prelude.{◌==◌, slice_get}
 use Rattle.std.proofs.lemmas.Option.{same_Some}
 use Rattle.chart_table.specs.declared.table.Row.{Row}
-use Rattle.chart_table.specs.Table.{HasRow}
-use Rattle.std.specs.List.{list_any, list_all}
+use Rattle.chart_table.specs.Table.{HasRow, IsTextRow}
+use Rattle.std.specs.List.{list_any, list_all, range_with_len}
 use Rattle.codeco_terms.specs.declared.values.Value.{Value}
 use Rattle.scopes.specs.declared.entries.Entry.{Entry}
 use Rattle.derivation_trees.specs.Trees.{Node}
@@ -14,9 +14,16 @@ use Rattle.chart_table.specs.declared.states.End.{End}
 use Rattle.chart_table.specs.Branches.{OneOf}
 use Rattle.derivation_trees.specs.Partial.{CutNode, IsPartialDerivation}
 use Rattle.chart_table.specs.Ends.{end_head, IsEnds}
-use Rattle.chart_table.specs.Cuts.{AreCuts}
+use Rattle.chart_table.specs.declared.states.Cut.{Cut}
+use Rattle.chart_table.specs.declared.asks.Ask.{Ask}
+use Rattle.chart_table.specs.declared.asks.Ask.TheVariants as ask
+use Rattle.chart_table.specs.Asks.{AskLeads}
+use Rattle.chart_table.specs.Aims.{Aims}
+use Rattle.chart_table.specs.Cuts.{AreCuts, CutLeads, HasCut, cut_head}
+use Rattle.derivation_trees.proofs.InstanceLemmas.{range_more}
 use Rattle.chart_table.proofs.PassLemmas.{same_number}
 use Rattle.chart_table.proofs.BranchLemmas.{number_is}
+use Rattle.chart_table.proofs.AskLemmas.{any_leads, leads_any}
 
 -- where sentences begin
 abbrev pub first_at : At
@@ -60,31 +67,85 @@ end_of s ends is tree derives =
     any_of (length s.tokens) ends found.0 found.1 (sym (ap (λ a. a.place) found.3))
 
 -- a cut-off phrase of `text` is a partial derivation, and each partial derivation has one
-pub beginning_of : (s : Setting) (cuts : List End) → AreCuts s 5 [] first_at cuts → (e : End) → OneOf cuts e → (cut : CutNode) × IsPartialDerivation s cut
-beginning_of s cuts is e o = is.sound e o text_category refl (fits_text e)
 
-some_one : (cuts : List End) → (cuts ≡ [] → ⊥) → (e : End) × OneOf cuts e
-some_one [] h = absurd (h refl)
-some_one (x ∷ xs) h = (x, inl refl)
+asked_of : (number : ℕ) (cuts : List Cut) → list_any (λ e. e.ask == number) cuts ≡ true → (values : List (ℕ × Value)) × HasCut cuts number values
+asked_of number [] h = absurd (cc)
+asked_of number (x ∷ xs) h = at (asked_of number xs) (x.ask == number) refl h
+  where
+    at : (list_any (λ e. e.ask == number) xs ≡ true → (values : List (ℕ × Value)) × HasCut xs number values) → (b : Bool) → (x.ask == number) ≡ b → (b || list_any (λ e. e.ask == number) xs) ≡ true → (values : List (ℕ × Value)) × HasCut (x ∷ xs) number values
+    at rest true n h = (x.values, (x, inl refl, number_is x.ask number n, refl))
+    at rest false n h = let r = rest h in (r.0, (r.1.0, inr r.1.1, r.1.2, r.1.3))
 
-none_one : (cuts : List End) (e : End) → cuts ≡ [] → OneOf cuts e → ⊥
-none_one cuts e is o = subst (λ l. OneOf l e) is o
+of_asked : (number : ℕ) (cuts : List Cut) (e : Cut) → OneOf cuts e → e.ask ≡ number → list_any (λ x. x.ask == number) cuts ≡ true
+of_asked number [] e o is = absurd o
+of_asked number (x ∷ xs) e (inl same) is =
+    ap (λ b. b || list_any (λ y. y.ask == number) xs) (ap (λ (y : Cut). y.ask == number) same ∙ ap (λ n. n == number) is ∙ same_number number)
+of_asked number (x ∷ xs) e (inr o) is = ap (λ b. (x.ask == number) || b) (of_asked number xs e o is) ∙ or_right (x.ask == number)
 
-the_row : (s : Setting) (rows : List Row) (number : ℕ) (row : Row) (known : List (ℕ × Value)) (list : List Entry) → known ≡ [] → list ≡ [] → HasRow s rows number 5 known (record { place = 0; list = list }) → slice_get rows number ≡ Some row → IsEnds s 5 [] first_at row.ends × AreCuts s 5 [] first_at row.cuts
-the_row s rows number row known list k l has is =
+fits_any : (values : List (ℕ × Value)) → fits (cut_head 5 values) text_category ≡ true
+fits_any values = all_fit values
+
+-- the row of `text` tells whether a partial derivation meets the ask with the number
+pub asked_for : (s : Setting) (aim : Aims) (row : Row) (j : ℕ) (b : Bool) → IsTextRow s aim row → b ≡ list_any (λ e. e.ask == j) row.cuts → IsTrue b ↔ CutLeads s aim j text_category first_at
+asked_for s aim row j b is e = (
+  λ t. let r = asked_of j row.cuts (sym e ∙ t) in is.cuts.sound j r.0 r.1 text_category refl (fits_any r.0),
+  λ led. let r = is.cuts.complete j text_category refl (λ p o. absurd o) led in let h = r.1 in e ∙ of_asked j row.cuts h.0 h.1 h.2,
+)
+
+pub text_row_is : (s : Setting) (aim : Aims) (rows : List Row) (number : ℕ) (row : Row) (known : List (ℕ × Value)) (list : List Entry) → known ≡ [] → list ≡ [] → HasRow s aim rows number 5 known (record { place = 0; list = list }) → slice_get rows number ≡ Some row → IsTextRow s aim row
+text_row_is s aim rows number row known list k l has is =
     let same : has.row ≡ row = same_Some has.row row (sym has.is ∙ is) in
-    subst (λ r. IsEnds s 5 [] first_at r.ends × AreCuts s 5 [] first_at r.cuts) same (subst (λ x. IsEnds s 5 x first_at has.row.ends × AreCuts s 5 x first_at has.row.cuts) k (subst (λ x. IsEnds s 5 known (record { place = 0; list = x }) has.row.ends × AreCuts s 5 known (record { place = 0; list = x }) has.row.cuts) l (has.ends, has.cuts)))
+    subst (IsTextRow s aim) same (record {
+      ends = subst (λ x. IsEnds s 5 x first_at has.row.ends) k (subst (λ x. IsEnds s 5 known (record { place = 0; list = x }) has.row.ends) l has.ends);
+      cuts = subst (λ x. AreCuts s aim 5 x first_at has.row.cuts) k (subst (λ x. AreCuts s aim 5 known (record { place = 0; list = x }) has.row.cuts) l has.cuts);
+    })
 
 -- what the row of `text` tells
-pub told : (s : Setting) (rows : List Row) (number count : ℕ) (row : Row) (ends : List End) (known : List (ℕ × Value)) (list : List Entry) (b : Bool) → known ≡ [] → list ≡ [] → count ≡ length s.tokens → HasRow s rows number 5 known (record { place = 0; list = list }) → slice_get rows number ≡ Some row → ends ≡ row.ends → b ≡ list_any (λ e. e.place == count) ends → IsTrue b ↔ ((tree : Node) × IsDerivation s tree)
-told s rows number count row ends known list b k l n has is seen h =
-    let r = the_row s rows number row known list k l has is in
+pub told : (s : Setting) (aim : Aims) (row : Row) (count : ℕ) (ends : List End) (b : Bool) → IsTextRow s aim row → count ≡ length s.tokens → ends ≡ row.ends → b ≡ list_any (λ e. e.place == count) ends → IsTrue b ↔ ((tree : Node) × IsDerivation s tree)
+told s aim row count ends b is n seen h =
     let same : b ≡ list_any (λ e. e.place == length s.tokens) row.ends = h ∙ ap (list_any (λ e. e.place == count)) seen ∙ ap (λ m. list_any (λ e. e.place == m) row.ends) n in
-    (λ t. sentence_of s row.ends r.0 (sym same ∙ t), λ d. same ∙ end_of s row.ends r.0 d.0 d.1)
+    (λ t. sentence_of s row.ends is.ends (sym same ∙ t), λ d. same ∙ end_of s row.ends is.ends d.0 d.1)
 
-pub begun : (s : Setting) (rows : List Row) (number : ℕ) (row : Row) (known : List (ℕ × Value)) (list : List Entry) (b : Bool) → known ≡ [] → list ≡ [] → HasRow s rows number 5 known (record { place = 0; list = list }) → slice_get rows number ≡ Some row → IsTrue b ↔ (row.cuts ≡ []) → IsTrue (not b) ↔ ((cut : CutNode) × IsPartialDerivation s cut)
-begun s rows number row known list b k l has is h = by_empty b h
-  where
-    by_empty : (x : Bool) → IsTrue x ↔ (row.cuts ≡ []) → IsTrue (not x) ↔ ((cut : CutNode) × IsPartialDerivation s cut)
-    by_empty true e = (λ t. absurd (let z : false ≡ true = t in cc), λ d. absurd (let r = the_row s rows number row known list k l has is in let found = r.1.complete text_category refl (λ p o. absurd o) d in none_one row.cuts found.0 (e.0 refl) found.1))
-    by_empty false e = (λ t. let r = the_row s rows number row known list k l has is in let some = some_one row.cuts (λ n. let z : false ≡ true = e.1 n in absurd (cc)) in beginning_of s row.cuts r.1 some.0 some.1, λ d. refl)
+pub begun : (s : Setting) (count : ℕ) (asks : List Ask) (row : Row) (cuts : List Cut) (b : Bool) → asks ≡ ask.Any ∷ [] → count ≡ length s.tokens → IsTextRow s (record { halt = count; asks = asks }) row → cuts ≡ row.cuts → b ≡ list_any (λ e. e.ask == 0) cuts → IsTrue b ↔ ((cut : CutNode) × IsPartialDerivation s cut)
+begun s count asks row cuts b a n is seen h =
+    let aim : Aims = record { halt = count; asks = asks } in
+    let both = asked_for s aim row 0 b is (h ∙ ap (list_any (λ e. e.ask == 0)) seen) in (
+      λ t. let led = both.0 t in let cut = leads_any s count led.0 text_category first_at led.2 in (cut.0, cut.1 ∙ ap Some n),
+      λ d. both.1 (ask.Any, ap (λ l. slice_get l 0) a, any_leads s count text_category first_at (d.0, d.1 ∙ ap Some (sym n))),
+    )
+
+-- one answer for each ask
+
+map_last : (f : ℕ → Bool) (xs : List ℕ) (x : ℕ) → map f (xs ++ x ∷ []) ≡ map f xs ++ f x ∷ []
+map_last f [] x = refl
+map_last f (y ∷ ys) x = ap (λ l. f y ∷ l) (map_last f ys x)
+
+pub follows_more : (f : ℕ → Bool) (n : ℕ) (b : Bool) (out new : List Bool) → out ≡ map f (range_with_len 0 n) → b ≡ f n → new ≡ out ++ b ∷ [] → new ≡ map f (range_with_len 0 (n + 1))
+follows_more f n b out new old is more =
+    let last : 0 + n ≡ n = omega arith in
+    more ∙ ap (λ o. o ++ b ∷ []) old ∙ ap (λ x. map f (range_with_len 0 n) ++ x ∷ []) (is ∙ ap f (sym last)) ∙ sym (ap (map f) (range_more 0 n) ∙ map_last f (range_with_len 0 n) (0 + n))
+
+range_at : (f : ℕ → Bool) (first count j : ℕ) (yes : Bool) → slice_get (map f (range_with_len first count)) j ≡ Some yes → yes ≡ f (first + j)
+range_at f first zero j b h = absurd (cc)
+range_at f first (suc n) zero b h = let z : first ≡ first + 0 = omega arith in sym (same_Some (f first) b h) ∙ ap f z
+range_at f first (suc n) (suc j) b h = let z : (first + 1) + j ≡ first + suc j = omega arith in range_at f (first + 1) n j b h ∙ ap f z
+
+range_length : (first count : ℕ) → length (range_with_len first count) ≡ count
+range_length first zero = refl
+range_length first (suc n) = ap suc (range_length (first + 1) n)
+
+map_length : (f : ℕ → Bool) (xs : List ℕ) → length (map f xs) ≡ length xs
+map_length f [] = refl
+map_length f (x ∷ xs) = ap suc (map_length f xs)
+
+pub answer_count : (f : ℕ → Bool) (count : ℕ) (follows : List Bool) → follows ≡ map f (range_with_len 0 count) → length follows ≡ count
+answer_count f count follows e = ap length e ∙ map_length f (range_with_len 0 count) ∙ range_length 0 count
+
+pub answer_is : (s : Setting) (halt : ℕ) (asks : List Ask) (row : Row) (cuts : List Cut) (count : ℕ) (follows : List Bool) → IsTextRow s (record { halt = halt; asks = asks }) row → cuts ≡ row.cuts → follows ≡ map (λ j. list_any (λ e. e.ask == j) cuts) (range_with_len 0 count) → (j : ℕ) (a : Ask) (told : Bool) → slice_get asks j ≡ Some a → slice_get follows j ≡ Some told → IsTrue told ↔ AskLeads s halt a text_category first_at
+answer_is s halt asks row cuts count follows is seen e j a b at has =
+    let aim : Aims = record { halt = halt; asks = asks } in
+    let told_is : b ≡ list_any (λ x. x.ask == j) row.cuts = range_at (λ k. list_any (λ x. x.ask == k) cuts) 0 count j b (ap (λ l. slice_get l j) (sym e) ∙ has) ∙ ap (λ k. list_any (λ x. x.ask == k) cuts) (let z : 0 + j ≡ j = omega arith in z) ∙ ap (list_any (λ x. x.ask == j)) seen in
+    let both = asked_for s aim row j b is told_is in (
+      λ t. let led = both.0 t in subst (λ x. AskLeads s halt x text_category first_at) (same_Some led.0 a (sym led.1 ∙ at)) led.2,
+      λ led. both.1 (a, at, led),
+    )

@@ -11,6 +11,7 @@ use Rattle.scopes.specs.declared.entries.Entry.{Entry}
 use Rattle.derivation_trees.specs.Settings.{Setting}
 use Rattle.chart_table.specs.declared.table.Row.{Row}
 use Rattle.chart_table.specs.Ends.{IsEnds}
+use Rattle.chart_table.specs.Aims.{Aims}
 use Rattle.chart_table.specs.Cuts.{AreCuts}
 use Rattle.chart_table.specs.Table.{row_at, IsRow, AreRows, HasRow, IsFound}
 
@@ -20,18 +21,18 @@ all_slice P (x ∷ xs) zero row h e = subst P (same_Some x row e) (All-head P x 
 all_slice P (x ∷ xs) (suc i) row h e = all_slice P xs i row (All-tail P x xs h) e
 
 -- what a row has, as the row of a category from a place and a list
-abbrev pub RowAt : Setting → Row → ℕ → List (ℕ × Value) → ℕ → List Entry → Type 0
-RowAt s row name known place list =
-    IsEnds s name known (record { place = place; list = list }) row.ends × AreCuts s name known (record { place = place; list = list }) row.cuts
+abbrev pub RowAt : Setting → Aims → Row → ℕ → List (ℕ × Value) → ℕ → List Entry → Type 0
+RowAt s aim row name known place list =
+    IsEnds s name known (record { place = place; list = list }) row.ends × AreCuts s aim name known (record { place = place; list = list }) row.cuts
 
 -- a row that is found has the ends that are asked for
-pub found_row : (s : Setting) (rows : List Row) (number name : ℕ) (known : List (ℕ × Value)) (place : ℕ) (list : List Entry) → AreRows s rows → IsFound rows number name known place list → HasRow s rows number name known (record { place = place; list = list })
-found_row s rows number name known place list rs found =
-    let row_is = all_slice (IsRow s) rows number found.row rs.all found.is in
-    let named : RowAt s found.row name found.row.known found.row.place found.row.list = subst (λ n. RowAt s found.row n found.row.known found.row.place found.row.list) found.name_is (row_is.ends, row_is.cuts) in
-    let knows : RowAt s found.row name known found.row.place found.row.list = subst (λ k. RowAt s found.row name k found.row.place found.row.list) found.known_is named in
-    let placed : RowAt s found.row name known place found.row.list = subst (λ p. RowAt s found.row name known p found.row.list) found.place_is knows in
-    let listed : RowAt s found.row name known place list = subst (λ l. RowAt s found.row name known place l) found.list_is placed in
+pub found_row : (s : Setting) (aim : Aims) (rows : List Row) (number name : ℕ) (known : List (ℕ × Value)) (place : ℕ) (list : List Entry) → AreRows s aim rows → IsFound rows number name known place list → HasRow s aim rows number name known (record { place = place; list = list })
+found_row s aim rows number name known place list rs found =
+    let row_is = all_slice (IsRow s aim) rows number found.row rs.all found.is in
+    let named : RowAt s aim found.row name found.row.known found.row.place found.row.list = subst (λ n. RowAt s aim found.row n found.row.known found.row.place found.row.list) found.name_is (row_is.ends, row_is.cuts) in
+    let knows : RowAt s aim found.row name known found.row.place found.row.list = subst (λ k. RowAt s aim found.row name k found.row.place found.row.list) found.known_is named in
+    let placed : RowAt s aim found.row name known place found.row.list = subst (λ p. RowAt s aim found.row name known p found.row.list) found.place_is knows in
+    let listed : RowAt s aim found.row name known place list = subst (λ l. RowAt s aim found.row name known place l) found.list_is placed in
     record { row = found.row; is = found.is; ends = listed.0; cuts = listed.1 }
 
 slice_last : (rows : List Row) (row : Row) → slice_get (rows ++ row ∷ []) (length rows) ≡ Some row
@@ -39,14 +40,14 @@ slice_last [] row = refl
 slice_last (x ∷ xs) row = slice_last xs row
 
 -- a new row at the end
-pub new_row : (s : Setting) (rows : List Row) (row : Row) → IsRow s row → HasRow s (rows ++ row ∷ []) (length rows) row.name row.known (row_at row)
-new_row s rows row is = record { row = row; is = slice_last rows row; ends = is.ends; cuts = is.cuts }
+pub new_row : (s : Setting) (aim : Aims) (rows : List Row) (row : Row) → IsRow s aim row → HasRow s aim (rows ++ row ∷ []) (length rows) row.name row.known (row_at row)
+new_row s aim rows row is = record { row = row; is = slice_last rows row; ends = is.ends; cuts = is.cuts }
 
-pub rows_more : (s : Setting) (rows : List Row) (row : Row) → AreRows s rows → IsRow s row → AreRows s (rows ++ row ∷ [])
-rows_more s rows row rs is = record { all = All-push (IsRow s) rows row rs.all is }
+pub rows_more : (s : Setting) (aim : Aims) (rows : List Row) (row : Row) → AreRows s aim rows → IsRow s aim row → AreRows s aim (rows ++ row ∷ [])
+rows_more s aim rows row rs is = record { all = All-push (IsRow s aim) rows row rs.all is }
 
-pub rows_none : (s : Setting) → AreRows s []
-rows_none s = record { all = All-nil (IsRow s) }
+pub rows_none : (s : Setting) (aim : Aims) → AreRows s aim []
+rows_none s aim = record { all = All-nil (IsRow s aim) }
 
 pub row_below : (rows : List Row) (i : ℕ) (row : Row) → slice_get rows i ≡ Some row → i < length rows
 row_below [] i row h = absurd (cc)

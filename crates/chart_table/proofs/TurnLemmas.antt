@@ -1,15 +1,16 @@
 -- Turns of the loops over entries, ends and states.
 use Rattle.std.proofs.Common.{◌≡◌, ℕ, suc, zero, ◌+◌, ◌-◌, ◌<◌, ◌≤◌, List, [], ◌∷◌, ◌++◌, length, take, drop, get_or, length-drop, Some, refl, sym, ap, ◌∙◌, subst, arith}
 use Rattle.std.specs.Prelude.{slice_get}
-use Rattle.std.specs.List.{flat_map, range_with_len}
+use Rattle.std.specs.List.{flat_map}
 use Rattle.std.proofs.lemmas.Option.{slice_get-get_or, get_or_from_slice_get}
 use Rattle.std.proofs.lemmas.List.{take_more, get_or-drop}
 use Rattle.codeco_terms.specs.declared.values.Value.{Value}
 use Rattle.codeco_terms.specs.declared.values.Term.{Term}
-use Rattle.codeco_checked.specs.Occurrences.{positions}
-use Rattle.derivation_trees.specs.Instances.{written_variables, variables_of, rule_own_features}
+use Rattle.derivation_trees.specs.Instances.{variables_of}
 use Rattle.chart_table.specs.Branches.{closing}
-use Rattle.chart_table.specs.Choices.{choices, choices_in, terms_of}
+use Rattle.chart_table.specs.declared.choices.Plan.{Plan}
+use Rattle.chart_table.specs.Choices.{choices, choices_in, IsPlan}
+use Rattle.chart_table.proofs.PlanLemmas.{choices_same}
 use Rattle.codeco_terms.specs.declared.elements.Element.{Element}
 use Rattle.codeco_terms.specs.declared.rules.Rule.{Rule}
 use Rattle.scopes.specs.declared.entries.Entry.{Entry}
@@ -77,8 +78,6 @@ pub more_seen : (ends seen : List End) (x : End) → seen ≡ ends → HasMore s
 more_seen ends seen x e h = subst (λ l. HasMore l l (x ∷ [])) e h
 
 -- the ends of finished phrases, step by step
-pub finished_is : (s : Setting) (rule : Rule) (before : List Entry) (state : State) (terms : List (ℕ × Term)) (places own : List ℕ) (count : ℕ) (numbers seen : List ℕ) (feats seen_feats : List (ℕ × Term)) (one bounds seen_bounds : List (List (ℕ × Value))) → terms ≡ terms_of rule → places ≡ flat_map positions rule.body → own ≡ rule_own_features s.grammar rule → count ≡ length own → numbers ≡ written_variables rule ++ range_with_len 16 count → seen ≡ numbers → feats ≡ as_terms numbers → seen_feats ≡ feats → one ≡ state.binds ∷ [] → bounds ≡ closing (choices s terms places own) seen_feats one → seen_bounds ≡ bounds → flat_map (finished_one s rule before state seen) seen_bounds ≡ finished s rule before state
-finished_is s rule before state terms places own count numbers seen feats seen_feats one bounds seen_bounds t p o n v m f g a b d =
-    let all : numbers ≡ variables_of s.grammar rule = v ∙ ap (λ k. written_variables rule ++ range_with_len 16 k) (n ∙ ap length o) in
-    let chosen : choices s terms places own ≡ choices_in s rule = ap (λ x. choices s x places own) t ∙ ap (λ x. choices s (terms_of rule) x own) p ∙ ap (λ x. choices s (terms_of rule) (flat_map positions rule.body) x) o in
-    ap (λ x. flat_map (finished_one s rule before state x) seen_bounds) (m ∙ all) ∙ ap (flat_map (finished_one s rule before state (variables_of s.grammar rule))) (d ∙ b ∙ ap (λ x. closing x seen_feats one) chosen ∙ ap (λ x. closing (choices_in s rule) x one) (g ∙ f ∙ ap as_terms all) ∙ ap (closing (choices_in s rule) (as_terms (variables_of s.grammar rule))) a)
+pub finished_is : (s : Setting) (rule : Rule) (before : List Entry) (state : State) (plan : Plan) (feats seen_feats : List (ℕ × Term)) (one bounds seen_bounds : List (List (ℕ × Value))) → IsPlan s rule plan → feats ≡ as_terms plan.variables → seen_feats ≡ feats → one ≡ state.binds ∷ [] → bounds ≡ closing (choices s plan.terms plan.places plan.own) seen_feats one → seen_bounds ≡ bounds → flat_map (finished_one s rule before state plan.variables) seen_bounds ≡ finished s rule before state
+finished_is s rule before state plan feats seen_feats one bounds seen_bounds p f g a b d =
+    ap (λ x. flat_map (finished_one s rule before state x) seen_bounds) p.variables ∙ ap (flat_map (finished_one s rule before state (variables_of s.grammar rule))) (d ∙ b ∙ ap (λ x. closing x seen_feats one) (choices_same s rule plan p) ∙ ap (λ x. closing (choices_in s rule) x one) (g ∙ f ∙ ap as_terms p.variables) ∙ ap (closing (choices_in s rule) (as_terms (variables_of s.grammar rule))) a)

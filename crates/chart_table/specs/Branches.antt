@@ -66,10 +66,23 @@ abbrev pub meeting : List (ℕ × Value) → List (ℕ × Term) → List (List (
 meeting [] feats bs = bs
 meeting (p ∷ vals) feats bs = meeting vals feats (meeting_one p feats bs)
 
--- the assignments under which each term has one of its choices
+-- the value of a term, where it is known
+abbrev pub known_value : List (ℕ × Value) → Term → Option Value
+known_value bound (Val v) = Some v
+known_value bound (Var x) = looked_up bound x
+
+-- the assignment alone where the term is known, else with each of the values for it
+abbrev pub chosen_at : Term → List Value → List (ℕ × Value) → Option Value → List (List (ℕ × Value))
+chosen_at term values bound (Some v) = bound ∷ []
+chosen_at term values bound None = filter_map (bound_term bound term) values
+
+abbrev pub chosen_for : Term → List Value → List (ℕ × Value) → List (List (ℕ × Value))
+chosen_for term values bound = chosen_at term values bound (known_value bound term)
+
+-- the assignments under which each term is known: those that aren't have one of their choices
 abbrev pub closing : (Term → List Value) → List (ℕ × Term) → List (List (ℕ × Value)) → List (List (ℕ × Value))
 closing choices [] bs = bs
-closing choices (q ∷ feats) bs = closing choices feats (restricted q.1 (choices q.1) bs)
+closing choices (q ∷ feats) bs = closing choices feats (flat_map (chosen_for q.1 (choices q.1)) bs)
 
 abbrev pub closing_patterns : (Term → List Value) → List Pattern → List (List (ℕ × Value)) → List (List (ℕ × Value))
 closing_patterns choices [] bs = bs
@@ -78,11 +91,6 @@ closing_patterns choices (p ∷ ps) bs = closing_patterns choices ps (closing ch
 -- a variable that is marked, as a feature with its term
 abbrev pub marked : (ℕ × ℕ) → (ℕ × Term)
 marked t = (t.0, Var t.1)
-
--- the value of a term, where it is known
-abbrev pub known_value : List (ℕ × Value) → Term → Option Value
-known_value bound (Val v) = Some v
-known_value bound (Var x) = looked_up bound x
 
 abbrev pub known_feature : List (ℕ × Value) → (ℕ × Term) → Option (ℕ × Value)
 known_feature bound q = option_map (λ v. (q.0, v)) (known_value bound q.1)

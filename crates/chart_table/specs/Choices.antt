@@ -1,6 +1,6 @@
 -- The values that a variable of a rule can have at some tokens.
-use Rattle.std.specs.Prelude.{ℕ, ◌+◌, ◌-◌, ◌==◌, nat_lt, if◌then◌else◌, Bool, true, false, List, [], ◌∷◌, ◌++◌, length, map, slice_get, Option, Some, None, flat_map}
-use Rattle.std.specs.List.{range_with_len}
+use Rattle.std.specs.Prelude.{◌≡◌, ℕ, ◌+◌, ◌-◌, ◌==◌, ◌&&◌, nat_lt, if◌then◌else◌, Bool, true, false, List, [], ◌∷◌, ◌++◌, length, map, drop, slice_get, Option, Some, None, flat_map}
+use Rattle.std.specs.List.{range_with_len, list_all}
 use Rattle.codeco_terms.specs.declared.values.Value.{Value}
 use Rattle.codeco_terms.specs.declared.values.Value.TheVariants.{Atom, Word, Pos}
 use Rattle.codeco_terms.specs.declared.values.Term.{Term}
@@ -12,12 +12,15 @@ use Rattle.codeco_terms.specs.declared.declarations.Declared.TheVariants as decl
 use Rattle.codeco_terms.specs.declared.elements.Element.{Element}
 use Rattle.codeco_terms.specs.declared.elements.Element.TheVariants.{Terminal, Preterminal, Sub, Position, Opener, Forward, Strong, Back, NoBack}
 use Rattle.codeco_terms.specs.declared.rules.Rule.{Rule}
+use Rattle.codeco_terms.specs.GrammarParts.{GrammarParts}
 use Rattle.codeco_checked.specs.Numbering.{has}
 use Rattle.codeco_checked.specs.Faults.{values_of}
 use Rattle.codeco_checked.specs.Occurrences.{positions}
-use Rattle.derivation_trees.specs.Settings.{Setting}
-use Rattle.derivation_trees.specs.Instances.{rule_own_features}
+use Rattle.derivation_trees.specs.Settings.{Setting, is_value}
+use Rattle.derivation_trees.specs.Instances.{rule_own_features, own_features, written_variables, variables_of, same_numbers, term_fits, own_fit, value_under}
+use Rattle.chart_table.specs.declared.choices.Plan.{Plan}
 use Rattle.chart_table.specs.Branches.{values_at, marked}
+use Rattle.chart_table.specs.Features.{element_features}
 
 -- the features that a pattern writes, with their terms
 abbrev pub pattern_terms : Pattern → List (ℕ × Term)
@@ -94,3 +97,32 @@ choices s terms places own (Var x) = variable_choices s own x (first_feature ter
 -- the values that a term of the rule can have
 abbrev pub choices_in : Setting → Rule → Term → List Value
 choices_in s rule = choices s (terms_of rule) (flat_map positions rule.body) (rule_own_features s.grammar rule)
+
+-- what a rule writes, and its variables
+pub record IsPlanOf (g : GrammarParts) (rule : Rule) (plan : Plan) : Type 0 where
+  pub terms : plan.terms ≡ terms_of rule
+  pub places : plan.places ≡ flat_map positions rule.body
+  pub own : plan.own ≡ rule_own_features g rule
+  pub variables : plan.variables ≡ variables_of g rule
+  pub written : plan.written ≡ length (written_variables rule)
+  pub counts : plan.counts ≡ map (λ e. length (own_features g e)) rule.body
+  pub features : plan.features ≡ map (element_features g) rule.body
+
+abbrev pub IsPlan : Setting → Rule → Plan → Type 0
+IsPlan s rule plan = IsPlanOf s.grammar rule plan
+
+-- one plan for each rule
+abbrev pub EachPlan : GrammarParts → List Rule → List Plan → Type 0
+EachPlan g [] [] = Unit {0}
+EachPlan g [] (plan ∷ plans) = ⊥
+EachPlan g (rule ∷ rules) [] = ⊥
+EachPlan g (rule ∷ rules) (plan ∷ plans) = IsPlanOf g rule plan × EachPlan g rules plans
+
+-- one plan for each rule of the grammar
+abbrev pub ArePlans : Setting → List Plan → Type 0
+ArePlans s plans = EachPlan s.grammar s.grammar.rules plans
+
+-- the values have the numbers of the plan's variables, and are values of the features and positions that it tells
+abbrev pub planned_instance : Setting → Plan → List (ℕ × Value) → Bool
+planned_instance s plan values =
+    ((same_numbers (map (λ p. p.0) values) plan.variables && list_all (term_fits s values) plan.terms) && list_all (λ x. is_value s declared.Positions (value_under values x)) plan.places) && own_fit s plan.own (drop plan.written values)

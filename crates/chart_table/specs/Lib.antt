@@ -1,8 +1,11 @@
 pub mod Leading
 pub mod Branches
+pub mod Features
 pub mod Steps
 pub mod Choices
 pub mod Ends
 pub mod Table
+pub mod Asks
+pub mod Aims
 pub mod Cuts
 pub mod Instances

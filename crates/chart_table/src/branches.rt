@@ -1,6 +1,7 @@
 // The ways in which variables of a rule can be given values.
-ghost use Rattle.std.specs.Prelude.{◌≡◌, ◌==◌, [], ◌∷◌, ◌++◌, if◌then◌else◌, Some, None, IfOk, OnOk};
-ghost use Rattle.std.specs.List.{filter_map, cons_option};
+ghost use Rattle.std.specs.Prelude.{◌≡◌, ◌==◌, List, [], ◌∷◌, ◌++◌, true, if◌then◌else◌, Some, None, IfOk, OnOk};
+ghost use Rattle.std.specs.List.{filter_map, cons_option, flat_map};
+ghost use Rattle.codeco_terms.specs.declared.values.Value.{Value as OneValue};
 ghost use Rattle.derivation_trees.specs.Instances.{looked_up};
 ghost use Rattle.chart_table.specs.Branches as branches;
 
@@ -113,6 +114,63 @@ fn push_restricted(
         push_some(one, out)?;
     }
     Ok(())
+}
+
+// The value of the term, where it is known.
+fn known_value(bound: &[(u8, Value)], term: Term) -> Option<Value>
+    ensures { result ≡ branches.known_value bound.now term }
+{
+    match term {
+        Term::Val(value) => Some(value),
+        Term::Var(variable) => value_of(bound, variable),
+    }
+}
+
+// Whether the term is known under each of the assignments.
+pub(crate) fn all_know(bounds: &[Bound], term: Term) -> bool
+    ensures { result ≡ true → (values : List OneValue) → flat_map (branches.chosen_for term values) bounds.now ≡ bounds.now }
+{
+    for bound in bounds {
+        if known_value(bound.as_slice(), term).is_none() {
+            return false;
+        }
+    }
+    true
+}
+
+// Adds the assignment alone where the term is known, else with each of the values for it.
+fn push_chosen(
+    alloc: Global,
+    bound: &[(u8, Value)],
+    term: Term,
+    values: &[Value],
+    out: &mut List<Bound>,
+) -> Result<(), Memory>
+    ensures { OnOk result (out.new ≡ out.old ++ branches.chosen_for term values.now bound.now) }
+{
+    match known_value(bound, term) {
+        Some(_) => {
+            let same = copy_bound(alloc, bound)?;
+            out.push(same)
+        }
+        None => push_restricted(alloc, bound, term, values, out),
+    }
+}
+
+// The assignments under which the term is known: those under which it isn't have each of the values for it.
+pub(crate) fn choose(
+    alloc: Global,
+    term: Term,
+    values: &[Value],
+    bounds: &[Bound],
+) -> Result<List<Bound>, Memory>
+    ensures { IfOk result (λ out. out ≡ flat_map (branches.chosen_for term values.now) bounds.now) }
+{
+    let mut out = List::new(alloc);
+    for bound in bounds {
+        push_chosen(alloc, bound.as_slice(), term, values, &mut out)?;
+    }
+    Ok(out)
 }
 
 // The assignments under which the term has one of the values.
@@ -252,16 +310,6 @@ pub(crate) fn meet(
         all = meet_one(alloc, *pair, feats, all)?;
     }
     Ok(all)
-}
-
-// The value of the term, where it is known.
-fn known_value(bound: &[(u8, Value)], term: Term) -> Option<Value>
-    ensures { result ≡ branches.known_value bound.now term }
-{
-    match term {
-        Term::Val(value) => Some(value),
-        Term::Var(variable) => value_of(bound, variable),
-    }
 }
 
 // The features whose values are known.

@@ -1,16 +1,19 @@
 // The values that a variable of a rule can have at the tokens.
-ghost use Rattle.std.specs.Prelude.{◌≡◌, ◌+◌, ◌-◌, [], ◌∷◌, ◌++◌, map, Some, None, option_map, slice_get, IfOk, OnOk};
+ghost use Rattle.std.specs.Prelude.{◌≡◌, ◌<◌, ◌+◌, ◌-◌, [], ◌∷◌, ◌++◌, map, length, Some, None, option_map, slice_get, IfOk, OnOk};
 ghost use Rattle.std.specs.List.{flat_map, range_with_len};
 ghost use Rattle.codeco_checked.specs.Numbering.{has};
 ghost use Rattle.codeco_checked.specs.Occurrences.{positions};
 ghost use Rattle.derivation_trees.specs.Instances as instances;
 ghost use Rattle.chart_table.specs.Branches.{marked};
 ghost use Rattle.chart_table.specs.Choices as choosing;
+ghost use Rattle.chart_table.specs.Features as listing;
 
 use crate::branches::values_at;
+use crate::features::{CategoryFeatures, owned_by};
 use crate::states::Feat;
-use codeco_terms::{Declared, Element, Ground, Pattern, Rule, Term, Value};
-use derivation_trees::{Setting, rule_own_features};
+use codeco_terms::{Declared, Element, Grammar, Ground, Pattern, Rule, Term, Value};
+use derivation_scenes::Scene;
+use derivation_trees::{variables_of, written_variables};
 use lists::List;
 use std::alloc::Global;
 use wiki_base::{Memory, WordId};
@@ -18,12 +21,19 @@ use wiki_base::{Memory, WordId};
 /// The feature of preterminals that holds the word.
 const WORD_FEATURE: u16 = 3;
 
-// What a rule writes: its features with their terms, the variables of `#`, and the features of its own variables.
+/// What a rule writes, and its variables: its features with their terms, the variables of `#`, the features of its own
+/// variables, all variables, how many of them are written, how many own ones each element has,
+/// the features of the categories that elements introduce, and a value for each variable.
 #[derive(Drop)]
-pub(crate) struct Plan {
+pub struct Plan {
     pub(crate) terms: List<Feat>,
     pub(crate) places: List<u8>,
     pub(crate) own: List<u16>,
+    pub(crate) variables: List<usize>,
+    pub(crate) written: usize,
+    pub(crate) counts: List<usize>,
+    pub(crate) features: List<List<u16>>,
+    pub(crate) sample: List<(u8, Value)>,
 }
 
 fn push_feats(feats: &[Feat], out: &mut List<Feat>) -> Result<(), Memory>
@@ -114,18 +124,131 @@ fn places_of(alloc: Global, body: &[Element]) -> Result<List<u8>, Memory>
     Ok(places)
 }
 
-// What the rule writes.
-pub(crate) fn plan_of(alloc: Global, setting: &Setting<'_>, rule: &Rule) -> Result<Plan, Memory>
-    ensures terms { IfOk result (λ plan. plan.terms ≡ choosing.terms_of rule.now) }
-    ensures places { IfOk result (λ plan. plan.places ≡ flat_map positions rule.now.body) }
-    ensures own { IfOk result (λ plan. plan.own ≡ instances.rule_own_features setting.now.grammar rule.now) }
+// How many variables are written in the rule.
+fn written_count(alloc: Global, rule: &Rule) -> Result<usize, Memory>
+    ensures { IfOk result (λ count. count ≡ length (instances.written_variables rule.now)) }
 {
-    let own = rule_own_features(alloc, setting.grammar, rule.body.as_slice())?;
+    let written = List::from_vec(written_variables(alloc, rule)?);
+    Ok(written.len())
+}
+
+// What the rule writes, with no values yet.
+fn bare_plan(
+    alloc: Global,
+    grammar: &Grammar,
+    rule: &Rule,
+    known: &mut List<CategoryFeatures>,
+) -> Result<Plan, Memory>
+    requires { listing.AreListed grammar.now known.old }
+    ensures known { OnOk result (listing.AreListed grammar.now known.new) }
+    ensures plan { IfOk result (λ plan. choosing.IsPlanOf grammar.now rule.now plan) }
+{
+    let body = rule.body.as_slice();
+    let owned = owned_by(alloc, grammar, body, known)?;
+    let variables = List::from_vec(variables_of(alloc, rule, owned.own.len())?);
     Ok(Plan {
         terms: terms_of(alloc, rule)?,
-        places: places_of(alloc, rule.body.as_slice())?,
-        own: List::from_vec(own),
+        places: places_of(alloc, body)?,
+        own: owned.own,
+        variables,
+        written: written_count(alloc, rule)?,
+        counts: owned.counts,
+        features: owned.features,
+        sample: List::new(alloc),
     })
+}
+
+// One of the values of the feature, if it has any.
+fn some_value(grammar: &Grammar, feature: u16) -> Option<Value> {
+    let feature = grammar.features().as_slice().get(feature as usize)?;
+    match &feature.declared {
+        Declared::Undeclared => None,
+        Declared::Words => Some(Value::Word(WordId(0))),
+        Declared::Positions => Some(Value::Pos(0)),
+        Declared::Atoms(atoms) => match atoms.as_slice().first() {
+            None => None,
+            Some(atom) => Some(Value::Atom(*atom)),
+        },
+    }
+}
+
+// One of the values that the variable can have, if it can have any.
+fn some_choice(grammar: &Grammar, plan: &Plan, variable: u8) -> Option<Value> {
+    if let Some(feature) = first_feature(plan.terms.as_slice(), variable) {
+        return some_value(grammar, feature);
+    }
+    if has_place(plan.places.as_slice(), variable) {
+        return Some(Value::Pos(0));
+    }
+    if variable < 16 {
+        return Some(Value::Atom(0));
+    }
+    let feature = own_feature(plan.own.as_slice(), variable as usize - 16)?;
+    some_value(grammar, feature)
+}
+
+// A value for each of the variables that can have one: one of those that it can have.
+fn sample_of(alloc: Global, grammar: &Grammar, plan: &Plan) -> Result<List<(u8, Value)>, Memory> {
+    let mut sample = List::new(alloc);
+    for number in plan.variables.as_slice() {
+        let variable = u8::try_from(*number).map_err(|_| Memory)?;
+        if let Some(value) = some_choice(grammar, plan, variable) {
+            sample.push((variable, value))?;
+        }
+    }
+    Ok(sample)
+}
+
+// What the rule writes, and its variables.
+fn plan_of(
+    alloc: Global,
+    grammar: &Grammar,
+    rule: &Rule,
+    known: &mut List<CategoryFeatures>,
+) -> Result<Plan, Memory>
+    requires { listing.AreListed grammar.now known.old }
+    ensures known { OnOk result (listing.AreListed grammar.now known.new) }
+    ensures plan { IfOk result (λ plan. choosing.IsPlanOf grammar.now rule.now plan) }
+{
+    let mut plan = bare_plan(alloc, grammar, rule, known)?;
+    plan.sample = sample_of(alloc, grammar, &plan)?;
+    Ok(plan)
+}
+
+/// The plans of all rules of the grammar.
+pub fn plans_of(alloc: Global, grammar: &Grammar) -> Result<List<Plan>, Memory>
+    ensures { IfOk result (λ plans. choosing.EachPlan grammar.now grammar.now.rules plans) }
+{
+    let mut known = List::new(alloc);
+    let mut plans = List::new(alloc);
+    for rule in grammar.rules().as_slice() {
+        plans.push(plan_of(alloc, grammar, rule, &mut known)?)?;
+    }
+    Ok(plans)
+}
+
+/// The plan of the rule with the number.
+pub fn plan_for<'a>(plans: &'a [Plan], number: usize) -> &'a Plan
+    requires { number < length plans.now }
+    ensures { slice_get plans.now number ≡ Some result.now }
+{
+    &plans[number]
+}
+
+// The features of the category that the element with the number introduces.
+pub(crate) fn features_at<'a>(plan: &'a Plan, place: usize) -> &'a [u16]
+    requires { place < length plan.now.features }
+    ensures { slice_get plan.now.features place ≡ Some result.now }
+{
+    plan.features.get(place).as_slice()
+}
+
+// How many own variables the element with the number has.
+pub(crate) fn count_at(plan: &Plan, place: usize) -> usize
+    requires { place < length plan.now.counts }
+    ensures { slice_get plan.now.counts place ≡ Some result }
+{
+    *plan.counts.get(place)
 }
 
 // Adds the words of readings.
@@ -140,7 +263,7 @@ fn push_words(alloc: Global, readings: &[Ground], out: &mut List<Value>) -> Resu
 }
 
 // Word 0 and the words with a form among the tokens.
-fn word_values(alloc: Global, setting: &Setting<'_>) -> Result<List<Value>, Memory>
+fn word_values(alloc: Global, setting: &Scene<'_>) -> Result<List<Value>, Memory>
     ensures { IfOk result
         (λ values. values ≡ choosing.no_word ∷ flat_map choosing.words_of setting.now.readings) }
 {
@@ -154,7 +277,7 @@ fn word_values(alloc: Global, setting: &Setting<'_>) -> Result<List<Value>, Memo
 
 // The positions 0 to the number of tokens.
 #[tactic(auto, using(crate::proofs::Loops::positions_more))]
-fn position_values(alloc: Global, setting: &Setting<'_>) -> Result<List<Value>, Memory>
+fn position_values(alloc: Global, setting: &Scene<'_>) -> Result<List<Value>, Memory>
     ensures { IfOk result (λ values. values ≡ choosing.all_positions setting.now) }
 {
     let mut values = List::new(alloc);
@@ -178,7 +301,7 @@ fn atom_values(alloc: Global, atoms: &[u16]) -> Result<List<Value>, Memory>
 // The values that are declared so.
 fn declared_values(
     alloc: Global,
-    setting: &Setting<'_>,
+    setting: &Scene<'_>,
     declared: &Declared,
 ) -> Result<List<Value>, Memory>
     ensures { IfOk result (λ values. values ≡ choosing.declared_values setting.now declared.now) }
@@ -192,7 +315,7 @@ fn declared_values(
 }
 
 // The values of the feature with the number.
-fn feature_values(alloc: Global, setting: &Setting<'_>, feature: u16) -> Result<List<Value>, Memory>
+fn feature_values(alloc: Global, setting: &Scene<'_>, feature: u16) -> Result<List<Value>, Memory>
     ensures { IfOk result (λ values. values ≡ choosing.feature_values setting.now feature) }
 {
     match setting.grammar.features().as_slice().get(feature as usize) {
@@ -238,7 +361,7 @@ fn one_value(alloc: Global, value: Value) -> Result<List<Value>, Memory>
 
 fn own_choices(
     alloc: Global,
-    setting: &Setting<'_>,
+    setting: &Scene<'_>,
     feature: Option<u16>,
 ) -> Result<List<Value>, Memory>
     ensures { IfOk result (λ values. values ≡ choosing.own_choices setting.now feature) }
@@ -257,7 +380,7 @@ fn own_feature(own: &[u16], place: usize) -> Option<u16>
 
 fn variable_choices(
     alloc: Global,
-    setting: &Setting<'_>,
+    setting: &Scene<'_>,
     own: &[u16],
     variable: u8,
     feature: Option<u16>,
@@ -283,7 +406,7 @@ fn variable_choices(
 // The values that the term can have.
 pub(crate) fn choices(
     alloc: Global,
-    setting: &Setting<'_>,
+    setting: &Scene<'_>,
     plan: &Plan,
     term: Term,
 ) -> Result<List<Value>, Memory>

@@ -13,12 +13,14 @@ ghost use Rattle.chart_table.specs.Choices as choosing;
 ghost use Rattle.chart_table.specs.Steps as steps;
 ghost use Rattle.chart_table.specs.Ends as ending;
 
-use crate::branches::{alone, known_features, meet};
-use crate::choices::{Plan, plan_of};
+use crate::branches::alone;
+use crate::choices::Plan;
+use crate::fits::is_planned;
 use crate::states::{Bound, End, Feat, State};
-use crate::steps::{close, extended, push_ends, push_plain};
-use codeco_terms::{Category, Element, Ground, Rule, Term, Value};
-use derivation_trees::{Setting, is_instance, rule_own_features, under, value_under, variables_of};
+use crate::steps::close;
+use codeco_terms::{Rule, Term, Value};
+use derivation_scenes::Scene;
+use derivation_trees::{under, value_under};
 use lists::List;
 use scopes::{Access, Entry};
 use std::alloc::Global;
@@ -60,7 +62,16 @@ pub(crate) fn values_of_all(
     Ok(values)
 }
 
-fn has_values(values: &[(u8, Value)], bound: &[(u8, Value)]) -> bool
+/// Whether the values are an instance of the rule, which has this plan.
+pub fn is_instance(setting: &Scene<'_>, rule: &Rule, plan: &Plan, values: &[(u8, Value)]) -> bool
+    requires { choosing.IsPlan setting.now rule.now plan.now }
+    ensures { result ≡ instances.is_instance setting.now rule.now values.now }
+{
+    let _ = rule;
+    is_planned(setting, plan, values)
+}
+
+pub(crate) fn has_values(values: &[(u8, Value)], bound: &[(u8, Value)]) -> bool
     ensures { result ≡ ending.has_values values.now bound.now }
 {
     bound.iter().all(|p| value_under(values, p.0).is(p.1))
@@ -149,21 +160,20 @@ fn end_with(
 // The end in an assignment of all variables, if that is an instance.
 fn finished_one(
     alloc: Global,
-    setting: &Setting<'_>,
+    setting: &Scene<'_>,
     rule: &Rule,
+    plan: &Plan,
     before: &Access,
     state: &State,
-    numbers: &[usize],
     bound: &[(u8, Value)],
 ) -> Result<List<End>, Memory>
+    requires { choosing.IsPlan setting.now rule.now plan.now }
     ensures { IfOk result (λ ends. ends
-        ≡ ending.finished_one setting.now rule.now before.now state.now numbers.now bound.now) }
+        ≡ ending.finished_one setting.now rule.now before.now state.now plan.now.variables bound.now) }
 {
     let mut ends = List::new(alloc);
-    let values = values_of_all(alloc, bound, numbers)?;
-    if is_instance(alloc, setting, rule, values.as_slice())?
-        && has_values(values.as_slice(), bound)
-    {
+    let values = values_of_all(alloc, bound, plan.variables.as_slice())?;
+    if is_instance(setting, rule, plan, values.as_slice()) && has_values(values.as_slice(), bound) {
         let end = end_with(alloc, rule, before, state, values.as_slice())?;
         ends.push(end)?;
     }
@@ -173,27 +183,20 @@ fn finished_one(
 // The ends in these assignments of all variables, where they are instances.
 fn finished_all(
     alloc: Global,
-    setting: &Setting<'_>,
+    setting: &Scene<'_>,
     rule: &Rule,
+    plan: &Plan,
     before: &Access,
     state: &State,
-    numbers: &[usize],
     bounds: &[Bound],
 ) -> Result<List<End>, Memory>
+    requires { choosing.IsPlan setting.now rule.now plan.now }
     ensures { IfOk result (λ ends. ends
-        ≡ flat_map (ending.finished_one setting.now rule.now before.now state.now numbers.now) bounds.now) }
+        ≡ flat_map (ending.finished_one setting.now rule.now before.now state.now plan.now.variables) bounds.now) }
 {
     let mut ends = List::new(alloc);
     for bound in bounds {
-        let more = finished_one(
-            alloc,
-            setting,
-            rule,
-            before,
-            state,
-            numbers,
-            bound.as_slice(),
-        )?;
+        let more = finished_one(alloc, setting, rule, plan, before, state, bound.as_slice())?;
         ends.append(more)?;
     }
     Ok(ends)
@@ -202,29 +205,17 @@ fn finished_all(
 // The ends of phrases of the rule that stand so after the last element.
 pub(crate) fn finished(
     alloc: Global,
-    setting: &Setting<'_>,
+    setting: &Scene<'_>,
     rule: &Rule,
     plan: &Plan,
     before: &Access,
     state: &State,
 ) -> Result<List<End>, Memory>
-    requires terms { plan.now.terms ≡ choosing.terms_of rule.now }
-    requires places { plan.now.places ≡ flat_map positions rule.now.body }
-    requires own { plan.now.own ≡ instances.rule_own_features setting.now.grammar rule.now }
+    requires { choosing.IsPlan setting.now rule.now plan.now }
     ensures { IfOk result (λ ends. ends ≡ ending.finished setting.now rule.now before.now state.now) }
 {
-    let variables = variables_of(alloc, rule, plan.own.len())?;
-    let numbers = List::from_vec(variables);
-    let terms = as_terms(alloc, numbers.as_slice())?;
+    let terms = as_terms(alloc, plan.variables.as_slice())?;
     let one = alone(alloc, state.binds.as_slice())?;
     let bounds = close(alloc, setting, plan, terms.as_slice(), one)?;
-    finished_all(
-        alloc,
-        setting,
-        rule,
-        before,
-        state,
-        numbers.as_slice(),
-        bounds.as_slice(),
-    )
+    finished_all(alloc, setting, rule, plan, before, state, bounds.as_slice())
 }

@@ -8,14 +8,14 @@ ghost use Rattle.chart_table.specs.Instances as finding;
 ghost use Rattle.chart_table.specs.Table as tables;
 
 use crate::branches::alone;
-use crate::choices::{Plan, plan_of};
+use crate::choices::Plan;
 use crate::ends::{as_terms, values_of_all};
 use crate::sentences::DEEPEST;
-use crate::states::{Bound, State};
+use crate::states::{Aim, Bound, State};
 use crate::steps::close;
 use crate::table::{Row, last_states, start_states};
 use codeco_terms::{Rule, Value};
-use derivation_trees::{Setting, variables_of};
+use derivation_scenes::{Scene, may_start};
 use lists::List;
 use scopes::Access;
 use std::alloc::Global;
@@ -83,37 +83,31 @@ fn push_bounds(
 // Adds the values of all variables in a state, in each way.
 fn push_state(
     alloc: Global,
-    setting: &Setting<'_>,
+    setting: &Scene<'_>,
     rule: &Rule,
     plan: &Plan,
     state: &State,
     out: &mut List<Bound>,
 ) -> Result<(), Memory>
-    requires terms { plan.now.terms ≡ choosing.terms_of rule.now }
-    requires places { plan.now.places ≡ flat_map positions rule.now.body }
-    requires own { plan.now.own ≡ instances.rule_own_features setting.now.grammar rule.now }
+    requires { choosing.IsPlan setting.now rule.now plan.now }
     ensures { OnOk result (finding.HasMore out.old out.new (finding.closed_values setting.now rule.now state.now)) }
 {
-    let variables = variables_of(alloc, rule, plan.own.len())?;
-    let numbers = List::from_vec(variables);
-    let terms = as_terms(alloc, numbers.as_slice())?;
+    let terms = as_terms(alloc, plan.variables.as_slice())?;
     let one = alone(alloc, state.binds.as_slice())?;
     let bounds = close(alloc, setting, plan, terms.as_slice(), one)?;
-    push_bounds(alloc, bounds.as_slice(), numbers.as_slice(), out)
+    push_bounds(alloc, bounds.as_slice(), plan.variables.as_slice(), out)
 }
 
 // Adds the values of all variables in each of the states.
 fn push_states(
     alloc: Global,
-    setting: &Setting<'_>,
+    setting: &Scene<'_>,
     rule: &Rule,
     plan: &Plan,
     states: &[State],
     out: &mut List<Bound>,
 ) -> Result<(), Memory>
-    requires terms { plan.now.terms ≡ choosing.terms_of rule.now }
-    requires places { plan.now.places ≡ flat_map positions rule.now.body }
-    requires own { plan.now.own ≡ instances.rule_own_features setting.now.grammar rule.now }
+    requires { choosing.IsPlan setting.now rule.now plan.now }
     ensures { OnOk result (finding.HasStates setting.now rule.now states.now out.old out.new) }
 {
     for state in states {
@@ -127,31 +121,48 @@ fn push_states(
 /// more may be made.
 pub fn leading_instances(
     alloc: Global,
-    setting: &Setting<'_>,
+    setting: &Scene<'_>,
+    plans: &[Plan],
     rows: &mut List<Row>,
     rule: &Rule,
+    plan: &Plan,
     known: &[(u16, Value)],
     place: u16,
     list: &Access,
 ) -> Result<List<List<(u8, Value)>>, Memory>
-    requires { tables.AreRows setting.now rows.old }
-    ensures rows { OnOk result (tables.AreRows setting.now rows.new) }
+    requires plans { choosing.ArePlans setting.now plans.now }
+    requires rows { tables.AreRows setting.now tables.no_asks rows.old }
+    requires plan { choosing.IsPlan setting.now rule.now plan.now }
+    ensures rows { OnOk result (tables.AreRows setting.now tables.no_asks rows.new) }
     ensures instances { IfOk result (finding.HasInstances setting.now rule.now known.now (record { place = place; list = list.now })) }
 {
-    let plan = plan_of(alloc, setting, rule)?;
+    if !may_start(setting, place, rule.body.as_slice()) {
+        return Ok(List::new(alloc));
+    }
+    let aim = nothing();
     let starts = start_states(alloc, known, rule.head.feats.as_slice(), place, list)?;
     let mut cuts = List::new(alloc);
     let states = last_states(
-        alloc, setting, rows, DEEPEST, rule, &plan, starts, &mut cuts,
+        alloc, setting, &aim, plans, rows, DEEPEST, rule, plan, starts, &mut cuts,
     )?;
     let mut instances = List::new(alloc);
     push_states(
         alloc,
         setting,
         rule,
-        &plan,
+        plan,
         states.as_slice(),
         &mut instances,
     )?;
     Ok(instances)
+}
+
+// Nothing is asked for.
+fn nothing() -> Aim<'static>
+    ensures { result ≡ tables.no_asks }
+{
+    Aim {
+        halt: 65536,
+        asks: &[],
+    }
 }

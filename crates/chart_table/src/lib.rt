@@ -1,9 +1,13 @@
 //! Which tokens have a derivation, and which a partial one, by a table of where phrases end and where they are cut off.
 #![tactic(auto)]
 
+mod asks;
 mod branches;
 mod choices;
+mod cuts;
 mod ends;
+mod features;
+mod fits;
 mod instances;
 mod sameness;
 mod sentences;
@@ -11,9 +15,11 @@ mod states;
 mod steps;
 mod table;
 
-pub use ends::tail_of;
+pub use asks::Ask;
+pub use choices::{Plan, plan_for, plans_of};
+pub use ends::{is_instance, tail_of};
 pub use instances::leading_instances;
 pub use sameness::{same_entries, same_values};
-pub use sentences::{Standing, begins, has_derivation, standing_of};
+pub use sentences::{Standing, begins, has_derivation, may_follow, standing_of};
 pub use steps::extended;
 pub use table::{Row, access_of, referents_of};

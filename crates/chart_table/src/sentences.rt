@@ -1,17 +1,22 @@
 // Which tokens are sentences.
-ghost use Rattle.std.specs.Prelude.{◌≡◌, ◌≤◌, ◌<◌, ◌==◌, ◌↔◌, [], length, slice_get, Some, IfOk, IsTrue};
-ghost use Rattle.std.specs.List.{list_any};
+ghost use Rattle.std.specs.Prelude.{◌≡◌, ◌≤◌, ◌+◌, ◌<◌, ◌==◌, ◌↔◌, ℕ, Bool, [], length, map, slice_get, Some, IfOk, IsTrue};
+ghost use Rattle.std.specs.List.{list_any, range_with_len};
 ghost use Rattle.derivation_trees.specs.Trees.{Node};
-ghost use Rattle.derivation_trees.specs.Derives.{IsDerivation};
+ghost use Rattle.derivation_trees.specs.Derives.{IsDerivation, text_category};
 ghost use Rattle.derivation_trees.specs.Sentences.{IsSentence};
 ghost use Rattle.derivation_trees.specs.Partial.{CutNode, IsPartialDerivation, IsBeginning};
 ghost use Rattle.wiki_base.specs.declared.tokens.TheConstants.{MOST_TOKENS};
+ghost use Rattle.chart_table.specs.declared.asks.Ask.{Ask as OneAsk};
+ghost use Rattle.chart_table.specs.Asks.{AskLeads};
 ghost use Rattle.chart_table.specs.Table as tables;
 
-use crate::states::End;
-use crate::table::{row_of, token_count};
+use crate::asks::Ask;
+use crate::choices::plans_of;
+use crate::states::{Aim, Cut, End};
+use crate::table::{Row, row_of, token_count};
 use codeco_checked::CheckedGrammar;
-use derivation_trees::{Setting, readings_of};
+use derivation_scenes::Scene;
+use derivation_trees::readings_of;
 use lexicon::Lexicon;
 use lists::List;
 use std::alloc::Global;
@@ -42,7 +47,7 @@ pub fn has_derivation(
     ensures { IfOk result (λ yes. IsTrue yes ↔ IsSentence grammar.now lexicon.now tokens.now) }
 {
     let readings = readings_of(alloc, lexicon, tokens.as_slice())?;
-    let setting = Setting {
+    let setting = Scene {
         grammar: grammar.grammar(),
         tokens: tokens.as_slice(),
         readings: readings.as_slice(),
@@ -50,7 +55,7 @@ pub fn has_derivation(
     is_sentence(alloc, &setting)
 }
 
-/// Whether the tokens, of which there are at most 40, have a partial derivation by the grammar with the words of the
+/// Whether the tokens, of which there are at most 41, have a partial derivation by the grammar with the words of the
 /// lexicon, by the same table.
 pub fn begins(
     alloc: Global,
@@ -58,11 +63,11 @@ pub fn begins(
     lexicon: &Lexicon,
     tokens: &Tokens,
 ) -> Result<bool, Memory>
-    requires { length tokens.now ≤ MOST_TOKENS }
+    requires { length tokens.now ≤ MOST_TOKENS + 1 }
     ensures { IfOk result (λ yes. IsTrue yes ↔ IsBeginning grammar.now lexicon.now tokens.now) }
 {
     let readings = readings_of(alloc, lexicon, tokens.as_slice())?;
-    let setting = Setting {
+    let setting = Scene {
         grammar: grammar.grammar(),
         tokens: tokens.as_slice(),
         readings: readings.as_slice(),
@@ -71,7 +76,7 @@ pub fn begins(
 }
 
 // Whether the setting's tokens have a derivation.
-fn is_sentence(alloc: Global, setting: &Setting<'_>) -> Result<bool, Memory>
+fn is_sentence(alloc: Global, setting: &Scene<'_>) -> Result<bool, Memory>
     ensures { IfOk result (λ yes. IsTrue yes ↔ ((tree : Node) × IsDerivation setting.now tree)) }
 {
     let standing = standing_of(alloc, setting)?;
@@ -79,7 +84,7 @@ fn is_sentence(alloc: Global, setting: &Setting<'_>) -> Result<bool, Memory>
 }
 
 // Whether the setting's tokens have a partial derivation.
-fn is_beginning(alloc: Global, setting: &Setting<'_>) -> Result<bool, Memory>
+fn is_beginning(alloc: Global, setting: &Scene<'_>) -> Result<bool, Memory>
     ensures { IfOk result (λ yes. IsTrue yes ↔ ((cut : CutNode) × IsPartialDerivation setting.now cut)) }
 {
     let standing = standing_of(alloc, setting)?;
@@ -87,19 +92,78 @@ fn is_beginning(alloc: Global, setting: &Setting<'_>) -> Result<bool, Memory>
 }
 
 /// Whether the setting's tokens have a partial derivation, and whether they have a derivation, by one table.
-pub fn standing_of(alloc: Global, setting: &Setting<'_>) -> Result<Standing, Memory>
+pub fn standing_of(alloc: Global, setting: &Scene<'_>) -> Result<Standing, Memory>
     ensures begins { IfOk result (λ standing. IsTrue standing.begins ↔ ((cut : CutNode) × IsPartialDerivation setting.now cut)) }
     ensures derives { IfOk result (λ standing. IsTrue standing.derives ↔ ((tree : Node) × IsDerivation setting.now tree)) }
 {
+    let count = token_count(setting);
+    let any = [Ask::Any];
+    let aim = Aim {
+        halt: count,
+        asks: &any,
+    };
+    let row = text_row(alloc, setting, &aim)?;
+    let derives = some_ends_at(row.ends.as_slice(), count);
+    let begins = has_ask(row.cuts.as_slice(), 0);
+    Ok(Standing { begins, derives })
+}
+
+// The row of the category of sentences from place 0 and the empty list.
+fn text_row(alloc: Global, setting: &Scene<'_>, aim: &Aim<'_>) -> Result<Row, Memory>
+    ensures { IfOk result (tables.IsTextRow setting.now aim.now) }
+{
+    let plans = plans_of(alloc, setting.grammar)?;
     let mut rows = List::new(alloc);
     let known = List::new(alloc);
     let list = List::new(alloc);
-    let number = row_of(alloc, setting, &mut rows, DEEPEST, TEXT, known, 0, list)?;
-    let count = token_count(setting);
-    let row = rows.get(number);
-    let derives = some_ends_at(row.ends.as_slice(), count);
-    let begins = !row.cuts.is_empty();
-    Ok(Standing { begins, derives })
+    let number = row_of(
+        alloc,
+        setting,
+        aim,
+        plans.as_slice(),
+        &mut rows,
+        DEEPEST,
+        TEXT,
+        known,
+        0,
+        list,
+    )?;
+    Ok(rows.remove(number))
+}
+
+// Whether one of the cut-off phrases meets the ask with the number.
+fn has_ask(cuts: &[Cut], number: usize) -> bool
+    ensures { result ≡ list_any (λ e. e.ask == number) cuts.now }
+{
+    cuts.iter().any(|cut| cut.ask == number)
+}
+
+/// For each of the asks, whether a partial derivation that is cut off at the place, which begins with the tokens before it,
+/// meets the ask there: by one table.
+pub fn may_follow(
+    alloc: Global,
+    setting: &Scene<'_>,
+    halt: usize,
+    asks: &[Ask],
+) -> Result<List<bool>, Memory>
+    ensures count { IfOk result (λ follows. length follows ≡ length asks.now) }
+    ensures each { IfOk result (λ follows. (j : ℕ) (a : OneAsk) (yes : Bool) → slice_get asks.now j ≡ Some a → slice_get follows j ≡ Some yes → IsTrue yes ↔ AskLeads setting.now halt a text_category (record { place = 0; list = [] })) }
+{
+    let aim = Aim { halt, asks };
+    let row = text_row(alloc, setting, &aim)?;
+    follows(alloc, row.cuts.as_slice(), asks.len())
+}
+
+// For each number of an ask, whether one of the cut-off phrases meets it.
+fn follows(alloc: Global, cuts: &[Cut], count: usize) -> Result<List<bool>, Memory>
+    ensures { IfOk result
+        (λ follows. follows ≡ map (λ j. list_any (λ e. e.ask == j) cuts.now) (range_with_len 0 count)) }
+{
+    let mut follows = List::new(alloc);
+    for number in 0..count {
+        follows.push(has_ask(cuts, number))?;
+    }
+    Ok(follows)
 }
 
 fn some_ends_at(ends: &[End], place: usize) -> bool

@@ -1,11 +1,10 @@
 // Where a node may stand after some of its elements, and where phrases end.
-ghost use Rattle.std.specs.Prelude.{◌≡◌, IfOk};
 
+use crate::asks::Ask;
 use codeco_terms::{Term, Value};
 use lists::List;
 use scopes::{Access, Entry, TestValues};
-use std::alloc::Global;
-use wiki_base::Memory;
+use std::marker::Model;
 
 /// Variables of a rule with their values: a partial instance.
 pub(crate) type Bound = List<(u8, Value)>;
@@ -28,4 +27,26 @@ pub(crate) struct End {
     pub(crate) values: TestValues,
     pub(crate) place: u16,
     pub(crate) tail: List<Entry>,
+}
+
+// A cut-off phrase: the number of an ask that its next element meets, and the values of the features that the head writes.
+#[derive(Drop)]
+pub(crate) struct Cut {
+    pub(crate) ask: usize,
+    pub(crate) values: TestValues,
+}
+
+// The place at which phrases are cut off, and what may be asked of them there.
+#[derive(Drop)]
+pub(crate) struct Aim<'a> {
+    pub(crate) halt: usize,
+    pub(crate) asks: &'a [Ask],
+}
+
+impl<'a> Model for Aim<'a> {
+    ghost use Rattle.chart_table.specs.Aims as aiming;
+
+    ghost Value = { aiming.Aims };
+
+    ghost view = { λ a. record { halt = a.halt; asks = a.asks.now } };
 }

@@ -1,6 +1,7 @@
 // Where a node may stand after one more element.
 ghost use Rattle.std.specs.Prelude.{◌≡◌, ◌+◌, ◌≤◌, [], ◌∷◌, ◌++◌, map, Some, None, option_map, unwrap_or, slice_get, length, false, IfOk, OnOk, if◌then◌else◌};
 ghost use Rattle.std.specs.List.{flat_map, list_any};
+ghost use Rattle.std.specs.Str.{bytes_eq};
 ghost use Rattle.codeco_terms.specs.declared.values.Value.TheVariants.{Pos};
 ghost use Rattle.codeco_terms.specs.declared.values.Term.TheVariants.{Var};
 ghost use Rattle.scopes.specs.AccessList.{introduced};
@@ -11,15 +12,17 @@ ghost use Rattle.derivation_trees.specs.Derives as derives;
 ghost use Rattle.derivation_trees.specs.Stands.{is_sub};
 ghost use Rattle.chart_table.specs.Branches as branches;
 ghost use Rattle.chart_table.specs.Choices as choosing;
+ghost use Rattle.chart_table.specs.Features as listing;
 ghost use Rattle.chart_table.specs.Steps as steps;
 ghost use Rattle.derivation_trees.specs.Settings as settings;
 ghost use Rattle.scopes.specs.declared.entries.Entry.TheVariants as entry;
 
-use crate::branches::{alone, copy_bound, have, meet, read_as, restrict};
+use crate::branches::{all_know, alone, choose, copy_bound, have, meet, read_as, restrict};
 use crate::choices::{Plan, choices};
 use crate::states::{Bound, End, Feat, State};
 use codeco_terms::{Category, Element, Ground, Pattern, Term, Vals, Value};
-use derivation_trees::{Setting, features_of, term_value, tests_under, written};
+use derivation_scenes::Scene;
+use derivation_trees::{term_value, tests_under, written};
 use lists::List;
 use scopes::{Access, Entry, Found, TestList, Tests};
 use std::alloc::Global;
@@ -46,10 +49,28 @@ pub(crate) fn push_placed(
     Ok(())
 }
 
-// The assignments under which each term has one of its choices.
+// The assignments under which the term is known: those under which it isn't have each of its choices.
+fn close_term(
+    alloc: Global,
+    setting: &Scene<'_>,
+    plan: &Plan,
+    term: Term,
+    bounds: List<Bound>,
+) -> Result<List<Bound>, Memory>
+    ensures { IfOk result (λ out. out ≡ flat_map
+        (branches.chosen_for term (choosing.choices setting.now plan.now.terms plan.now.places plan.now.own term)) bounds) }
+{
+    if all_know(bounds.as_slice(), term) {
+        return Ok(bounds);
+    }
+    let values = choices(alloc, setting, plan, term)?;
+    choose(alloc, term, values.as_slice(), bounds.as_slice())
+}
+
+// The assignments under which each term is known: those under which one isn't have each of its choices.
 pub(crate) fn close(
     alloc: Global,
-    setting: &Setting<'_>,
+    setting: &Scene<'_>,
     plan: &Plan,
     feats: &[Feat],
     bounds: List<Bound>,
@@ -59,15 +80,14 @@ pub(crate) fn close(
 {
     let mut all = bounds;
     for feat in feats {
-        let values = choices(alloc, setting, plan, feat.1)?;
-        all = restrict(alloc, feat.1, values.as_slice(), all.as_slice())?;
+        all = close_term(alloc, setting, plan, feat.1, all)?;
     }
     Ok(all)
 }
 
 fn close_patterns(
     alloc: Global,
-    setting: &Setting<'_>,
+    setting: &Scene<'_>,
     plan: &Plan,
     patterns: &[Pattern],
     bounds: List<Bound>,
@@ -83,7 +103,7 @@ fn close_patterns(
 }
 
 // The readings of the token at the place.
-fn readings_at<'a>(setting: &Setting<'a>, place: u16) -> &'a [Ground]
+fn readings_at<'a>(setting: &Scene<'a>, place: u16) -> &'a [Ground]
     ensures { result.now ≡ steps.readings_at setting.now place }
 {
     match setting.readings.get(place as usize) {
@@ -224,27 +244,23 @@ fn push_introduced(
     Ok(())
 }
 
-// `>` and `>>` introduce a referent at the place.
+// `>` and `>>` introduce a referent at the place. The features are those of its category.
 fn introduce(
     alloc: Global,
-    setting: &Setting<'_>,
+    setting: &Scene<'_>,
     plan: &Plan,
     number: u16,
+    features: &[u16],
     category: &Category,
     strong: bool,
     state: &State,
     out: &mut List<State>,
 ) -> Result<(), Memory>
+    requires { features.now ≡ instances.features_of setting.now.grammar category.now.name }
     ensures { OnOk result (out.new ≡ out.old
         ++ steps.introducing setting.now (choosing.choices setting.now plan.now.terms plan.now.places plan.now.own) number category.now strong state.now) }
 {
-    let features = features_of(alloc, setting.grammar, category.name)?;
-    let feats = complete(
-        alloc,
-        category.feats.as_slice(),
-        features.as_slice(),
-        number,
-    )?;
+    let feats = complete(alloc, category.feats.as_slice(), features, number)?;
     let one = alone(alloc, state.binds.as_slice())?;
     let bounds = close(alloc, setting, plan, feats.as_slice(), one)?;
     push_introduced(
@@ -382,9 +398,46 @@ fn refer_none(
     Ok(out)
 }
 
+// The place after a token that is the terminal.
+fn after_terminal(setting: &Scene<'_>, terminal: u16, place: u16) -> Option<u16>
+    ensures { result ≡ (if settings.matches_terminal setting.now terminal place then Some (place + 1) else None) }
+{
+    if (place as usize) < setting.tokens.len()
+        && matches_terminal(setting, terminal, place as usize)
+    {
+        Some(place + 1)
+    } else {
+        None
+    }
+}
+
+// Whether the token at the place is the terminal with the number.
+fn matches_terminal(setting: &Scene<'_>, terminal: u16, place: usize) -> bool
+    ensures { result ≡ settings.matches_terminal setting.now terminal place }
+{
+    let Some(token) = setting.tokens.get(place) else {
+        return false;
+    };
+    let Some(symbol) = setting
+        .grammar
+        .terminals()
+        .as_slice()
+        .get(terminal as usize)
+    else {
+        return false;
+    };
+    same_bytes(token.as_str().as_bytes(), symbol.as_bytes())
+}
+
+fn same_bytes(bytes: &[u8], other: &[u8]) -> bool
+    ensures { result ≡ bytes_eq bytes.now other.now }
+{
+    bytes == other
+}
+
 fn push_terminal(
     alloc: Global,
-    setting: &Setting<'_>,
+    setting: &Scene<'_>,
     terminal: u16,
     state: &State,
     out: &mut List<State>,
@@ -392,7 +445,7 @@ fn push_terminal(
     ensures { OnOk result (out.new ≡ out.old
         ++ (if settings.matches_terminal setting.now terminal state.now.place then steps.placed (state.now.place + 1) state.now.list (state.now.binds ∷ []) else [])) }
 {
-    match setting.after_terminal(terminal, state.place) {
+    match after_terminal(setting, terminal, state.place) {
         None => Ok(()),
         Some(place) => {
             let one = alone(alloc, state.binds.as_slice())?;
@@ -403,7 +456,7 @@ fn push_terminal(
 
 fn push_preterminal(
     alloc: Global,
-    setting: &Setting<'_>,
+    setting: &Scene<'_>,
     category: &Category,
     state: &State,
     out: &mut List<State>,
@@ -453,7 +506,7 @@ fn push_opened(alloc: Global, state: &State, out: &mut List<State>) -> Result<()
 
 fn push_back(
     alloc: Global,
-    setting: &Setting<'_>,
+    setting: &Scene<'_>,
     plan: &Plan,
     positive: &[Pattern],
     negative: &[Pattern],
@@ -473,7 +526,7 @@ fn push_back(
 
 fn push_no_back(
     alloc: Global,
-    setting: &Setting<'_>,
+    setting: &Scene<'_>,
     plan: &Plan,
     patterns: &[Pattern],
     state: &State,
@@ -492,13 +545,15 @@ fn push_no_back(
 // Adds the states after an element that is no category.
 pub(crate) fn push_plain(
     alloc: Global,
-    setting: &Setting<'_>,
+    setting: &Scene<'_>,
     plan: &Plan,
     number: u16,
+    features: &[u16],
     element: &Element,
     state: &State,
     out: &mut List<State>,
 ) -> Result<(), Memory>
+    requires { features.now ≡ listing.element_features setting.now.grammar element.now }
     ensures { OnOk result (out.new ≡ out.old
         ++ steps.plain_steps setting.now (choosing.choices setting.now plan.now.terms plan.now.places plan.now.own) number element.now state.now) }
 {
@@ -509,10 +564,14 @@ pub(crate) fn push_plain(
         Element::Position(variable) => push_position(alloc, *variable, state, out),
         Element::Opener => push_opened(alloc, state, out),
         Element::Forward(category) => {
-            introduce(alloc, setting, plan, number, category, false, state, out)
+            introduce(
+                alloc, setting, plan, number, features, category, false, state, out,
+            )
         }
         Element::Strong(category) => {
-            introduce(alloc, setting, plan, number, category, true, state, out)
+            introduce(
+                alloc, setting, plan, number, features, category, true, state, out,
+            )
         }
         Element::Back(positive, negative) => push_back(
             alloc,

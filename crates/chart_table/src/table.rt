@@ -9,6 +9,7 @@ ghost use Rattle.chart_table.specs.Branches as branches;
 ghost use Rattle.chart_table.specs.Choices as choosing;
 ghost use Rattle.chart_table.specs.Steps as steps;
 ghost use Rattle.chart_table.specs.Ends as ending;
+ghost use Rattle.chart_table.specs.Features as listing;
 ghost use Rattle.chart_table.specs.Cuts as cutting;
 ghost use Rattle.chart_table.specs.Table as tables;
 ghost use Rattle.codeco_terms.specs.declared.elements.Element.{Element as OneElement};
@@ -17,20 +18,21 @@ ghost use Rattle.chart_table.specs.declared.states.State.{State as OneState};
 ghost use Rattle.chart_table.specs.declared.table.Row.{Row as OneRow};
 
 use crate::branches::{known_features, meet};
-use crate::choices::{Plan, plan_of};
+use crate::choices::{Plan, count_at, features_at, plan_for};
+use crate::cuts::{push_cuts_here, push_cuts_within};
 use crate::ends::finished;
 use crate::sameness::{same_end, same_entries, same_values};
-use crate::states::{Bound, End, Feat, State};
+use crate::states::{Aim, Bound, Cut, End, Feat, State};
 use crate::steps::{extended, push_ends, push_placed, push_plain};
-use codeco_terms::{Category, Element, Grammar, Rule, Value};
-use derivation_trees::{Setting, push_own_features};
+use codeco_terms::{Category, Element, Rule, Value};
+use derivation_scenes::{Scene, may_start};
 use lists::List;
 use scopes::{Access, Entry, TestValues};
 use std::alloc::Global;
 use wiki_base::Memory;
 
 /// The phrases of a category with known values, from a place and a list without openers: where they end, and those that
-/// are cut off where the tokens end.
+/// are cut off at a place, with what they are asked for there.
 #[derive(Drop)]
 pub struct Row {
     pub(crate) name: u16,
@@ -38,7 +40,7 @@ pub struct Row {
     pub(crate) place: u16,
     pub(crate) list: List<Entry>,
     pub(crate) ends: List<End>,
-    pub(crate) cuts: List<End>,
+    pub(crate) cuts: List<Cut>,
 }
 
 fn is_row(row: &Row, name: u16, known: &[(u16, Value)], place: u16, list: &[Entry]) -> bool
@@ -47,13 +49,13 @@ fn is_row(row: &Row, name: u16, known: &[(u16, Value)], place: u16, list: &[Entr
     ensures place { result ≡ true → row.now.place ≡ place }
     ensures list { result ≡ true → row.now.list ≡ list.now }
 {
-    row.name == name
-        && row.place == place
+    row.place == place
+        && row.name == name
         && same_values(row.known.as_slice(), known)
         && same_entries(row.list.as_slice(), list)
 }
 
-// The number of the row, if it is there.
+// The number of the row, if it is there. The newest rows are looked at first.
 fn find(
     rows: &[Row],
     name: u16,
@@ -63,8 +65,10 @@ fn find(
 ) -> Option<usize>
     ensures { IfSome result (λ number. tables.IsFound rows.now number name known.now place list.now) }
 {
-    for (number, row) in rows.iter().enumerate() {
-        if is_row(row, name, known, place, list) {
+    let mut number = rows.len();
+    while number > 0 {
+        number -= 1;
+        if is_row(&rows[number], name, known, place, list) {
             return Some(number);
         }
     }
@@ -137,16 +141,14 @@ fn push_all_new(alloc: Global, ends: &[End], out: &mut List<End>) -> Result<(), 
 // Adds the ends of phrases of the rule that stand in these states after the last element.
 fn push_finished(
     alloc: Global,
-    setting: &Setting<'_>,
+    setting: &Scene<'_>,
     rule: &Rule,
     plan: &Plan,
     before: &Access,
     states: &[State],
     out: &mut List<End>,
 ) -> Result<(), Memory>
-    requires terms { plan.now.terms ≡ choosing.terms_of rule.now }
-    requires places { plan.now.places ≡ flat_map positions rule.now.body }
-    requires own { plan.now.own ≡ instances.rule_own_features setting.now.grammar rule.now }
+    requires { choosing.IsPlan setting.now rule.now plan.now }
     ensures { OnOk result (ending.HasFinished setting.now rule.now before.now states.now out.old out.new) }
 {
     for state in states {
@@ -154,22 +156,6 @@ fn push_finished(
         push_all_new(alloc, ends.as_slice(), out)?;
     }
     Ok(())
-}
-
-// How many own variables the element has.
-fn own_count_of(alloc: Global, grammar: &Grammar, element: &Element) -> Result<usize, Memory>
-    ensures { IfOk result (λ count. count ≡ length (instances.own_features grammar.now element.now)) }
-{
-    let mut features = Vec::new(alloc);
-    push_own_features(alloc, grammar, element, &mut features)?;
-    let own = List::from_vec(features);
-    Ok(own.len())
-}
-
-fn own_count(alloc: Global, setting: &Setting<'_>, element: &Element) -> Result<usize, Memory>
-    ensures { IfOk result (λ count. count ≡ length (instances.own_features setting.now.grammar element.now)) }
-{
-    own_count_of(alloc, setting.grammar, element)
 }
 
 fn add_count(number: u16, count: usize) -> Result<u16, Memory>
@@ -237,122 +223,20 @@ fn push_new_row(rows: &mut List<Row>, row: Row) -> Result<usize, Memory>
     Ok(number)
 }
 
-// Adds, for a state, the phrases of the rule that are cut off there.
-fn push_cut(
-    alloc: Global,
-    setting: &Setting<'_>,
-    rule: &Rule,
-    plan: &Plan,
-    state: &State,
-    cuts: &mut List<End>,
-) -> Result<(), Memory>
-    requires terms { plan.now.terms ≡ choosing.terms_of rule.now }
-    requires places { plan.now.places ≡ flat_map positions rule.now.body }
-    requires own { plan.now.own ≡ instances.rule_own_features setting.now.grammar rule.now }
-    ensures { OnOk result (cutting.HasHeads setting.now rule.now (λ v. branches.Extends v state.now.binds) cuts.old cuts.new) }
-{
-    let ends = finished(alloc, setting, rule, plan, &state.list, state)?;
-    push_all_new(alloc, ends.as_slice(), cuts)?;
-    Ok(())
-}
-
-// Adds the phrases of the rule that are cut off in these states.
-fn push_cuts(
-    alloc: Global,
-    setting: &Setting<'_>,
-    rule: &Rule,
-    plan: &Plan,
-    states: &[State],
-    cuts: &mut List<End>,
-) -> Result<(), Memory>
-    requires terms { plan.now.terms ≡ choosing.terms_of rule.now }
-    requires places { plan.now.places ≡ flat_map positions rule.now.body }
-    requires own { plan.now.own ≡ instances.rule_own_features setting.now.grammar rule.now }
-    ensures { OnOk result (cutting.HasHeads setting.now rule.now (λ v. cutting.Among (cutting.IsExtended v) states.now) cuts.old cuts.new) }
-{
-    for state in states {
-        push_cut(alloc, setting, rule, plan, state, cuts)?;
-    }
-    Ok(())
-}
-
 // How many tokens there are.
-pub(crate) fn token_count(setting: &Setting<'_>) -> usize
+pub(crate) fn token_count(setting: &Scene<'_>) -> usize
     ensures { result ≡ length setting.now.tokens }
 {
     setting.tokens.len()
-}
-
-// Adds the phrases of the rule that are cut off in a state where the tokens end.
-fn push_cut_here(
-    alloc: Global,
-    setting: &Setting<'_>,
-    rule: &Rule,
-    plan: &Plan,
-    state: &State,
-    cuts: &mut List<End>,
-) -> Result<(), Memory>
-    requires terms { plan.now.terms ≡ choosing.terms_of rule.now }
-    requires places { plan.now.places ≡ flat_map positions rule.now.body }
-    requires own { plan.now.own ≡ instances.rule_own_features setting.now.grammar rule.now }
-    ensures { OnOk result (cutting.HasHeads setting.now rule.now (λ v. cutting.Halts setting.now v state.now) cuts.old cuts.new) }
-{
-    let end = token_count(setting);
-    if state.place as usize == end {
-        push_cut(alloc, setting, rule, plan, state, cuts)?;
-        return Ok(());
-    }
-    Ok(())
-}
-
-// Adds the phrases of the rule that are cut off in those of the states where the tokens end.
-fn push_cuts_here(
-    alloc: Global,
-    setting: &Setting<'_>,
-    rule: &Rule,
-    plan: &Plan,
-    states: &[State],
-    cuts: &mut List<End>,
-) -> Result<(), Memory>
-    requires terms { plan.now.terms ≡ choosing.terms_of rule.now }
-    requires places { plan.now.places ≡ flat_map positions rule.now.body }
-    requires own { plan.now.own ≡ instances.rule_own_features setting.now.grammar rule.now }
-    ensures { OnOk result (cutting.HasHeads setting.now rule.now (λ v. cutting.Among (cutting.Halts setting.now v) states.now) cuts.old cuts.new) }
-{
-    for state in states {
-        push_cut_here(alloc, setting, rule, plan, state, cuts)?;
-    }
-    Ok(())
-}
-
-// Adds the phrases of the rule whose next element, a category, is cut off itself.
-fn push_cuts_within(
-    alloc: Global,
-    setting: &Setting<'_>,
-    rule: &Rule,
-    plan: &Plan,
-    category: &Category,
-    state: &State,
-    within: &[End],
-    cuts: &mut List<End>,
-) -> Result<(), Memory>
-    requires terms { plan.now.terms ≡ choosing.terms_of rule.now }
-    requires places { plan.now.places ≡ flat_map positions rule.now.body }
-    requires own { plan.now.own ≡ instances.rule_own_features setting.now.grammar rule.now }
-    ensures { OnOk result (cutting.HasHeads setting.now rule.now
-        (λ v. cutting.Among (cutting.IsExtended v) (steps.sub_steps category.now state.now within.now)) cuts.old cuts.new) }
-{
-    let mut states = List::new(alloc);
-    push_ends(alloc, category, state, within, &mut states)?;
-    push_cuts(alloc, setting, rule, plan, states.as_slice(), cuts)?;
-    Ok(())
 }
 
 // The number of the row of the category, which is made where it isn't there yet.
 #[cycle(ends)]
 pub(crate) fn row_of(
     alloc: Global,
-    setting: &Setting<'_>,
+    setting: &Scene<'_>,
+    aim: &Aim<'_>,
+    plans: &[Plan],
     rows: &mut List<Row>,
     depth: u32,
     name: u16,
@@ -360,9 +244,10 @@ pub(crate) fn row_of(
     place: u16,
     list: List<Entry>,
 ) -> Result<usize, Memory>
-    requires { tables.AreRows setting.now rows.old }
-    ensures rows { OnOk result (tables.AreRows setting.now rows.new) }
-    ensures row { IfOk result (λ number. tables.HasRow setting.now rows.new number name known (record { place = place; list = list })) }
+    requires rows { tables.AreRows setting.now aim.now rows.old }
+    requires plans { choosing.ArePlans setting.now plans.now }
+    ensures rows { OnOk result (tables.AreRows setting.now aim.now rows.new) }
+    ensures row { IfOk result (λ number. tables.HasRow setting.now aim.now rows.new number name known (record { place = place; list = list })) }
 {
     if let Some(number) = find(
         rows.as_slice(),
@@ -378,6 +263,8 @@ pub(crate) fn row_of(
     let ends = category_ends(
         alloc,
         setting,
+        aim,
+        plans,
         rows,
         depth,
         name,
@@ -402,53 +289,74 @@ pub(crate) fn row_of(
 #[cycle(ends)]
 fn category_ends(
     alloc: Global,
-    setting: &Setting<'_>,
+    setting: &Scene<'_>,
+    aim: &Aim<'_>,
+    plans: &[Plan],
     rows: &mut List<Row>,
     depth: u32,
     name: u16,
     known: &[(u16, Value)],
     place: u16,
     start: &Access,
-    cuts: &mut List<End>,
+    cuts: &mut List<Cut>,
 ) -> Result<List<End>, Memory>
-    requires rows { tables.AreRows setting.now rows.old }
+    requires rows { tables.AreRows setting.now aim.now rows.old }
+    requires plans { choosing.ArePlans setting.now plans.now }
     requires none { cuts.old ≡ [] }
-    ensures rows { OnOk result (tables.AreRows setting.now rows.new) }
+    ensures rows { OnOk result (tables.AreRows setting.now aim.now rows.new) }
     ensures ends { IfOk result (λ ends. ending.IsEnds setting.now name known.now (record { place = place; list = start.now }) ends) }
-    ensures cuts { OnOk result (cutting.AreCuts setting.now name known.now (record { place = place; list = start.now }) cuts.new) }
+    ensures cuts { OnOk result (cutting.AreCuts setting.now aim.now name known.now (record { place = place; list = start.now }) cuts.new) }
 {
+    let rules = setting.grammar.rules().as_slice();
     let mut ends = List::new(alloc);
-    for rule in setting.grammar.rules().as_slice() {
+    for (number, rule) in rules.iter().enumerate() {
+        let plan = plan_for(plans, number);
         push_named(
-            alloc, setting, rows, depth, name, rule, known, place, start, &mut ends, cuts,
+            alloc, setting, aim, plans, rows, depth, name, rule, plan, known, place, start,
+            &mut ends, cuts,
         )?;
     }
     Ok(ends)
+}
+
+// Whether phrases are cut off at the place, or the rule's first element that takes tokens may stand there.
+fn may_go(setting: &Scene<'_>, aim: &Aim<'_>, rule: &Rule, place: u16) -> bool
+    ensures { result ≡ false → cutting.IsIdle setting.now aim.now rule.now place }
+{
+    if place as usize == aim.halt {
+        return true;
+    }
+    may_start(setting, place, rule.body.as_slice())
 }
 
 // Adds the ends of the rule and what is cut off, if it has the name.
 #[cycle(ends)]
 fn push_named(
     alloc: Global,
-    setting: &Setting<'_>,
+    setting: &Scene<'_>,
+    aim: &Aim<'_>,
+    plans: &[Plan],
     rows: &mut List<Row>,
     depth: u32,
     name: u16,
     rule: &Rule,
+    plan: &Plan,
     known: &[(u16, Value)],
     place: u16,
     start: &Access,
     ends: &mut List<End>,
-    cuts: &mut List<End>,
+    cuts: &mut List<Cut>,
 ) -> Result<(), Memory>
-    requires { tables.AreRows setting.now rows.old }
-    ensures rows { OnOk result (tables.AreRows setting.now rows.new) }
+    requires rows { tables.AreRows setting.now aim.now rows.old }
+    requires plans { choosing.ArePlans setting.now plans.now }
+    requires plan { choosing.IsPlan setting.now rule.now plan.now }
+    ensures rows { OnOk result (tables.AreRows setting.now aim.now rows.new) }
     ensures ends { OnOk result (ending.HasEndsIfNamed setting.now rule.now name known.now (record { place = place; list = start.now }) ends.old ends.new) }
-    ensures cuts { OnOk result (cutting.HasCutsIfNamed setting.now rule.now name known.now (record { place = place; list = start.now }) cuts.old cuts.new) }
+    ensures cuts { OnOk result (cutting.HasCutsIfNamed setting.now aim.now rule.now name known.now (record { place = place; list = start.now }) cuts.old cuts.new) }
 {
     if rule.head.name == name {
         push_rule(
-            alloc, setting, rows, depth, rule, known, place, start, ends, cuts,
+            alloc, setting, aim, plans, rows, depth, rule, plan, known, place, start, ends, cuts,
         )?;
         return Ok(());
     }
@@ -459,26 +367,44 @@ fn push_named(
 #[cycle(ends)]
 fn push_rule(
     alloc: Global,
-    setting: &Setting<'_>,
+    setting: &Scene<'_>,
+    aim: &Aim<'_>,
+    plans: &[Plan],
     rows: &mut List<Row>,
     depth: u32,
     rule: &Rule,
+    plan: &Plan,
     known: &[(u16, Value)],
     place: u16,
     start: &Access,
     ends: &mut List<End>,
-    cuts: &mut List<End>,
+    cuts: &mut List<Cut>,
 ) -> Result<(), Memory>
-    requires { tables.AreRows setting.now rows.old }
-    ensures rows { OnOk result (tables.AreRows setting.now rows.new) }
+    requires rows { tables.AreRows setting.now aim.now rows.old }
+    requires plans { choosing.ArePlans setting.now plans.now }
+    requires plan { choosing.IsPlan setting.now rule.now plan.now }
+    ensures rows { OnOk result (tables.AreRows setting.now aim.now rows.new) }
     ensures ends { OnOk result (ending.HasEndsOfRule setting.now rule.now known.now (record { place = place; list = start.now }) ends.old ends.new) }
-    ensures cuts { OnOk result (cutting.HasCutsOfRule setting.now rule.now known.now (record { place = place; list = start.now }) cuts.old cuts.new) }
+    ensures cuts { OnOk result (cutting.HasCutsOfRule setting.now aim.now rule.now known.now (record { place = place; list = start.now }) cuts.old cuts.new) }
 {
-    let plan = plan_of(alloc, setting, rule)?;
+    if !may_go(setting, aim, rule, place) {
+        return Ok(());
+    }
     let starts = start_states(alloc, known, rule.head.feats.as_slice(), place, start)?;
-    let states = last_states(alloc, setting, rows, depth, rule, &plan, starts, cuts)?;
-    push_cuts_here(alloc, setting, rule, &plan, states.as_slice(), cuts)?;
-    push_finished(alloc, setting, rule, &plan, start, states.as_slice(), ends)?;
+    let states = last_states(
+        alloc, setting, aim, plans, rows, depth, rule, plan, starts, cuts,
+    )?;
+    push_cuts_here(
+        alloc,
+        setting,
+        aim,
+        rule,
+        plan,
+        None,
+        states.as_slice(),
+        cuts,
+    )?;
+    push_finished(alloc, setting, rule, plan, start, states.as_slice(), ends)?;
     Ok(())
 }
 
@@ -486,41 +412,54 @@ fn push_rule(
 #[cycle(ends)]
 pub(crate) fn last_states(
     alloc: Global,
-    setting: &Setting<'_>,
+    setting: &Scene<'_>,
+    aim: &Aim<'_>,
+    plans: &[Plan],
     rows: &mut List<Row>,
     depth: u32,
     rule: &Rule,
     plan: &Plan,
     starts: List<State>,
-    cuts: &mut List<End>,
+    cuts: &mut List<Cut>,
 ) -> Result<List<State>, Memory>
-    requires rows { tables.AreRows setting.now rows.old }
-    requires terms { plan.now.terms ≡ choosing.terms_of rule.now }
-    requires places { plan.now.places ≡ flat_map positions rule.now.body }
-    requires own { plan.now.own ≡ instances.rule_own_features setting.now.grammar rule.now }
-    ensures rows { OnOk result (tables.AreRows setting.now rows.new) }
+    requires rows { tables.AreRows setting.now aim.now rows.old }
+    requires plans { choosing.ArePlans setting.now plans.now }
+    requires plan { choosing.IsPlan setting.now rule.now plan.now }
+    ensures rows { OnOk result (tables.AreRows setting.now aim.now rows.new) }
     ensures last { IfOk result (λ states. cutting.AreAllAfter setting.now rule.now starts states) }
-    ensures cuts { OnOk result (cutting.HasHeads setting.now rule.now (cutting.CutBefore setting.now rule.now starts (length rule.now.body)) cuts.old cuts.new) }
+    ensures cuts { OnOk result (cutting.HasHeads setting.now rule.now (cutting.CutBefore setting.now aim.now rule.now starts (length rule.now.body)) cuts.old cuts.new) }
 {
     let body = rule.body.as_slice();
     let mut states = starts;
     let mut number: u16 = 16;
-    for element in body {
-        push_cuts_here(alloc, setting, rule, plan, states.as_slice(), cuts)?;
+    for (place, element) in body.iter().enumerate() {
+        push_cuts_here(
+            alloc,
+            setting,
+            aim,
+            rule,
+            plan,
+            Some(element),
+            states.as_slice(),
+            cuts,
+        )?;
+        let features = features_at(plan, place);
         states = next_states(
             alloc,
             setting,
+            aim,
+            plans,
             rows,
             depth,
             rule,
             plan,
             number,
+            features,
             element,
             states.as_slice(),
             cuts,
         )?;
-        let count = own_count(alloc, setting, element)?;
-        number = add_count(number, count)?;
+        number = add_count(number, count_at(plan, place))?;
     }
     Ok(states)
 }
@@ -529,28 +468,32 @@ pub(crate) fn last_states(
 #[cycle(ends)]
 fn next_states(
     alloc: Global,
-    setting: &Setting<'_>,
+    setting: &Scene<'_>,
+    aim: &Aim<'_>,
+    plans: &[Plan],
     rows: &mut List<Row>,
     depth: u32,
     rule: &Rule,
     plan: &Plan,
     number: u16,
+    features: &[u16],
     element: &Element,
     states: &[State],
-    cuts: &mut List<End>,
+    cuts: &mut List<Cut>,
 ) -> Result<List<State>, Memory>
-    requires rows { tables.AreRows setting.now rows.old }
-    requires terms { plan.now.terms ≡ choosing.terms_of rule.now }
-    requires places { plan.now.places ≡ flat_map positions rule.now.body }
-    requires own { plan.now.own ≡ instances.rule_own_features setting.now.grammar rule.now }
-    ensures rows { OnOk result (tables.AreRows setting.now rows.new) }
+    requires rows { tables.AreRows setting.now aim.now rows.old }
+    requires plans { choosing.ArePlans setting.now plans.now }
+    requires plan { choosing.IsPlan setting.now rule.now plan.now }
+    requires features { features.now ≡ listing.element_features setting.now.grammar element.now }
+    ensures rows { OnOk result (tables.AreRows setting.now aim.now rows.new) }
     ensures steps { IfOk result (λ news. ending.AreSteps setting.now rule.now number element.now states.now news) }
-    ensures cuts { OnOk result (cutting.HasHeads setting.now rule.now (λ v. cutting.Among (cutting.Enters setting.now element.now v) states.now) cuts.old cuts.new) }
+    ensures cuts { OnOk result (cutting.HasHeads setting.now rule.now (λ j v. cutting.Among (cutting.Enters setting.now aim.now element.now j v) states.now) cuts.old cuts.new) }
 {
     let mut news = List::new(alloc);
     for state in states {
         push_state(
-            alloc, setting, rows, depth, rule, plan, number, element, state, &mut news, cuts,
+            alloc, setting, aim, plans, rows, depth, rule, plan, number, features, element, state,
+            &mut news, cuts,
         )?;
     }
     Ok(news)
@@ -560,34 +503,38 @@ fn next_states(
 #[cycle(ends)]
 fn push_state(
     alloc: Global,
-    setting: &Setting<'_>,
+    setting: &Scene<'_>,
+    aim: &Aim<'_>,
+    plans: &[Plan],
     rows: &mut List<Row>,
     depth: u32,
     rule: &Rule,
     plan: &Plan,
     number: u16,
+    features: &[u16],
     element: &Element,
     state: &State,
     out: &mut List<State>,
-    cuts: &mut List<End>,
+    cuts: &mut List<Cut>,
 ) -> Result<(), Memory>
-    requires rows { tables.AreRows setting.now rows.old }
-    requires terms { plan.now.terms ≡ choosing.terms_of rule.now }
-    requires places { plan.now.places ≡ flat_map positions rule.now.body }
-    requires own { plan.now.own ≡ instances.rule_own_features setting.now.grammar rule.now }
-    ensures rows { OnOk result (tables.AreRows setting.now rows.new) }
+    requires rows { tables.AreRows setting.now aim.now rows.old }
+    requires plans { choosing.ArePlans setting.now plans.now }
+    requires plan { choosing.IsPlan setting.now rule.now plan.now }
+    requires features { features.now ≡ listing.element_features setting.now.grammar element.now }
+    ensures rows { OnOk result (tables.AreRows setting.now aim.now rows.new) }
     ensures step { OnOk result ((news : List OneState) × (out.new ≡ out.old ++ news) × ending.IsStep setting.now rule.now number element.now state.now news) }
-    ensures cuts { OnOk result (cutting.HasHeads setting.now rule.now (λ v. cutting.Enters setting.now element.now v state.now) cuts.old cuts.new) }
+    ensures cuts { OnOk result (cutting.HasHeads setting.now rule.now (λ j v. cutting.Enters setting.now aim.now element.now j v state.now) cuts.old cuts.new) }
 {
     match element {
         Element::Sub(category) => {
             push_category(
-                alloc, setting, rows, depth, rule, plan, number, category, state, out, cuts,
+                alloc, setting, aim, plans, rows, depth, rule, plan, number, category, state, out,
+                cuts,
             )?;
             Ok(())
         }
         _ => {
-            push_plain(alloc, setting, plan, number, element, state, out)?;
+            push_plain(alloc, setting, plan, number, features, element, state, out)?;
             Ok(())
         }
     }
@@ -598,7 +545,9 @@ fn push_state(
 #[cycle(ends)]
 fn push_category(
     alloc: Global,
-    setting: &Setting<'_>,
+    setting: &Scene<'_>,
+    aim: &Aim<'_>,
+    plans: &[Plan],
     rows: &mut List<Row>,
     depth: u32,
     rule: &Rule,
@@ -607,15 +556,14 @@ fn push_category(
     category: &Category,
     state: &State,
     out: &mut List<State>,
-    cuts: &mut List<End>,
+    cuts: &mut List<Cut>,
 ) -> Result<(), Memory>
-    requires rows { tables.AreRows setting.now rows.old }
-    requires terms { plan.now.terms ≡ choosing.terms_of rule.now }
-    requires places { plan.now.places ≡ flat_map positions rule.now.body }
-    requires own { plan.now.own ≡ instances.rule_own_features setting.now.grammar rule.now }
-    ensures rows { OnOk result (tables.AreRows setting.now rows.new) }
+    requires rows { tables.AreRows setting.now aim.now rows.old }
+    requires plans { choosing.ArePlans setting.now plans.now }
+    requires plan { choosing.IsPlan setting.now rule.now plan.now }
+    ensures rows { OnOk result (tables.AreRows setting.now aim.now rows.new) }
     ensures step { OnOk result ((news : List OneState) × (out.new ≡ out.old ++ news) × ending.IsStep setting.now rule.now number (Sub category.now) state.now news) }
-    ensures cuts { OnOk result (cutting.HasHeads setting.now rule.now (λ v. cutting.Enters setting.now (Sub category.now) v state.now) cuts.old cuts.new) }
+    ensures cuts { OnOk result (cutting.HasHeads setting.now rule.now (λ j v. cutting.Enters setting.now aim.now (Sub category.now) j v state.now) cuts.old cuts.new) }
 {
     let deeper = depth.checked_sub(1).ok_or(Memory)?;
     let known = known_features(alloc, state.binds.as_slice(), category.feats.as_slice())?;
@@ -623,6 +571,8 @@ fn push_category(
     let row = row_of(
         alloc,
         setting,
+        aim,
+        plans,
         rows,
         deeper,
         category.name,
@@ -663,21 +613,19 @@ fn push_row(
 // Adds what is cut off within a category, by a row.
 fn push_row_cuts(
     alloc: Global,
-    setting: &Setting<'_>,
+    setting: &Scene<'_>,
     rule: &Rule,
     plan: &Plan,
     category: &Category,
     state: &State,
     rows: &[Row],
     number: usize,
-    cuts: &mut List<End>,
+    cuts: &mut List<Cut>,
 ) -> Result<(), Memory>
     requires number { number < length rows.now }
-    requires terms { plan.now.terms ≡ choosing.terms_of rule.now }
-    requires places { plan.now.places ≡ flat_map positions rule.now.body }
-    requires own { plan.now.own ≡ instances.rule_own_features setting.now.grammar rule.now }
+    requires plan { choosing.IsPlan setting.now rule.now plan.now }
     ensures { OnOk result ((row : OneRow) → slice_get rows.now number ≡ Some row → cutting.HasHeads setting.now rule.now
-        (λ v. cutting.Among (cutting.IsExtended v) (steps.sub_steps category.now state.now row.cuts)) cuts.old cuts.new) }
+        (cutting.OneBefore row.cuts (cutting.MeetsCut category.now state.now.binds) (length row.cuts)) cuts.old cuts.new) }
 {
     push_cuts_within(
         alloc,
@@ -685,7 +633,7 @@ fn push_row_cuts(
         rule,
         plan,
         category,
-        state,
+        state.binds.as_slice(),
         rows[number].cuts.as_slice(),
         cuts,
     )

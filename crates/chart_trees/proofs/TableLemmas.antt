@@ -1,5 +1,5 @@
 -- Rows of the table of least trees.
-use Rattle.std.proofs.Common.{◌≡◌, ℕ, zero, suc, ◌<◌, List, [], ◌∷◌, ◌++◌, map, length, get_or, false, Some, refl, sym, ap, ◌∙◌, subst, arith}
+use Rattle.std.proofs.Common.{◌≡◌, ℕ, zero, suc, ◌+◌, ◌<◌, List, [], ◌∷◌, ◌++◌, map, length, get_or, false, Some, refl, sym, ap, ◌∙◌, subst, arith}
 use Rattle.std.specs.Prelude.{slice_get, All}
 use Rattle.std.proofs.lemmas.Option.{same_Some, slice_get-get_or}
 use Rattle.std.proofs.lemmas.List.Elements.{All-nil, All-push, All-head, All-tail}
@@ -11,10 +11,13 @@ use Rattle.scopes.specs.declared.entries.Entry.{Entry}
 use Rattle.scopes.specs.declared.tests.Test.{Test}
 use Rattle.derivation_trees.specs.Settings.{Setting}
 use Rattle.derivation_trees.specs.Instances.{under}
+use Rattle.derivation_trees.specs.Derives.{rule_with}
 use Rattle.derivation_trees.specs.Stands.{is_sub}
+use Rattle.codeco_terms.specs.declared.rules.Rule.{Rule}
+use Rattle.chart_table.proofs.EndLemmas.{number_of}
 use Rattle.derivations.specs.Enumeration as enumeration
 use Rattle.chart_table.specs.Leading.{referents}
-use Rattle.chart_table.specs.Table.{IsRow as IsEndsRow}
+use Rattle.chart_table.specs.Table.{IsRow as IsEndsRow, no_asks}
 use Rattle.chart_table.proofs.OpenerLemmas.{referents-twice}
 use Rattle.chart_trees.specs.declared.table.Best.{Best}
 use Rattle.chart_trees.specs.declared.table.Tables.{Tables}
@@ -79,7 +82,7 @@ row_below (y ∷ ys) (suc i) row h = let lt = row_below ys i row h in omega arit
 
 pub tables_none : (s : Setting) (tables : Tables) → tables.ends ≡ [] → tables.rows ≡ [] → AreTables s tables
 tables_none s tables e f = record {
-  ends = record { all = subst (All (IsEndsRow s)) (sym e) (All-nil (IsEndsRow s)) };
+  ends = record { all = subst (All (IsEndsRow s no_asks)) (sym e) (All-nil (IsEndsRow s no_asks)) };
   rows = subst (All (IsRow s)) (sym f) (All-nil (IsRow s));
 }
 
@@ -99,3 +102,8 @@ child_pushed s values c p rows seen number asked list before after same a l has 
     let alike : referents list ≡ referents p.list = ap referents l ∙ referents-twice p.list in
     let best : IsBest s (under values c) (record { place = p.place; list = p.list }) row.outcomes = best_alike s (under values c) p.place list p.list row.outcomes alike first in
     (map (enumeration.joined (path_of p)) (map (outcome_at p.list) row.outcomes), made row (ap (λ rs. slice_get rs number) same ∙ has.is), child_steps s values c (path_of p) row.outcomes best)
+
+-- the rule with the number
+pub rule_numbered : (s : Setting) (rules : List Rule) (i number : ℕ) (rule : Rule) → rules ≡ s.grammar.rules → number ≡ i + 1 → i < length rules → rule ≡ get_or rules i rule → rule_with s.grammar number ≡ Some rule
+rule_numbered s rules i number rule e n lt is =
+    subst (λ k. rule_with s.grammar k ≡ Some rule) (sym n) (number_of s i rule (ap (λ l. slice_get l i) (sym e) ∙ slice_get-get_or rules i rule lt ∙ ap Some (sym is)))

@@ -4,7 +4,7 @@ use Rattle.scopes.specs.declared.entries.Entry.{Entry}
 use Rattle.scopes.specs.declared.tests.Test.{Test}
 use Rattle.derivation_trees.specs.Settings.{Setting}
 use Rattle.derivation_trees.specs.Derives.{At}
-use Rattle.chart_table.specs.Table.{AreRows}
+use Rattle.chart_table.specs.Table.{AreRows, no_asks}
 use Rattle.chart_trees.specs.declared.table.Best.{Best}
 use Rattle.chart_trees.specs.declared.table.Tables.{Tables}
 use Rattle.chart_trees.specs.Outcomes.{IsBest}
@@ -19,7 +19,7 @@ pub record IsRow (s : Setting) (row : Best) : Type 0 where
 
 -- each row has the ends or the least trees of its category
 pub record AreTables (s : Setting) (tables : Tables) : Type 0 where
-  pub ends : AreRows s tables.ends
+  pub ends : AreRows s no_asks tables.ends
   pub rows : All (IsRow s) tables.rows
 
 -- the row with this number has the least trees for the category from the place and the list

@@ -1,10 +1,12 @@
 //! The least skeleton of tokens, by a table of least trees: no derivation is listed.
 #![tactic(auto)]
 
+mod charts;
 mod codes;
-mod least;
 mod outcomes;
 mod paths;
+mod skeletons;
 mod table;
 
-pub use least::least_of;
+pub use charts::least;
+pub use skeletons::least_of;

@@ -2,8 +2,12 @@
 ghost use Rattle.std.specs.Prelude.{◌≡◌, ◌+◌, ◌≤◌, ◌<◌, ◌∷◌, [], ◌++◌, map, length, ℕ, List, Some, All, IfOk, IfSome, OnOk, IsTrue, slice_get};
 ghost use Rattle.codeco_terms.specs.declared.elements.Element.TheVariants.{Sub};
 ghost use Rattle.derivation_trees.specs.Derives.{rule_with};
+ghost use Rattle.derivation_trees.specs.Instances.{is_instance};
 ghost use Rattle.derivation_trees.specs.Stands.{IsLimited, IsWithin};
 ghost use Rattle.derivations.specs.Enumeration as enumeration;
+ghost use Rattle.chart_table.specs.Choices.{ArePlans, IsPlan};
+ghost use Rattle.chart_table.specs.Table.{AreRows, no_asks};
+ghost use Rattle.chart_table.specs.Instances.{HasInstances};
 ghost use Rattle.chart_trees.specs.declared.table.Best.{Best as OneBest};
 ghost use Rattle.chart_trees.specs.Paths.{path_of, outcome_at};
 ghost use Rattle.chart_trees.specs.Ways as ways;
@@ -12,9 +16,12 @@ ghost use Rattle.chart_trees.specs.Tables as tabled;
 
 use crate::outcomes::{Outcome, push_ended};
 use crate::paths::{Path, opened, push_joined, push_passed};
-use chart_table::{Row, access_of, leading_instances, referents_of, same_entries, same_values};
+use chart_table::{
+    Plan, Row, access_of, leading_instances, plan_for, referents_of, same_entries, same_values,
+};
 use codeco_terms::{Category, Element, Rule, Value};
-use derivation_trees::{Setting, fits, is_instance, under};
+use derivation_scenes::Scene;
+use derivation_trees::{Setting, fits, under};
 use lists::List;
 use scopes::{Access, Entry, Test};
 use std::alloc::Global;
@@ -50,12 +57,14 @@ fn same_test(one: &Test, other: &Test) -> bool
     one.name == other.name && same_values(one.values.as_slice(), other.values.as_slice())
 }
 
-// The number of the row, if it is there.
+// The number of the row, if it is there. The newest rows are looked at first.
 fn find(rows: &[Best], asked: &Test, place: u16, list: &[Entry]) -> Option<usize>
     ensures { IfSome result (λ number. tabled.IsFound rows.now number asked.now place list.now) }
 {
-    for (number, row) in rows.iter().enumerate() {
-        if is_row(row, asked, place, list) {
+    let mut number = rows.len();
+    while number > 0 {
+        number -= 1;
+        if is_row(&rows[number], asked, place, list) {
             return Some(number);
         }
     }
@@ -84,16 +93,57 @@ fn may_begin(
     alloc: Global,
     setting: &Setting<'_>,
     rule: &Rule,
+    plan: &Plan,
     asked: &Test,
     values: &[(u8, Value)],
 ) -> Result<bool, Memory>
+    requires { IsPlan setting.now rule.now plan.now }
     ensures { IfOk result (λ yes. yes ≡ enumeration.may_begin setting.now rule.now asked.now values.now) }
 {
     let head = under(alloc, values, &rule.head)?;
     if !fits(&head, asked) {
         return Ok(false);
     }
-    is_instance(alloc, setting, rule, values)
+    Ok(is_planned(setting, rule, plan, values))
+}
+
+// Whether the values are an instance of the rule.
+fn is_planned(setting: &Setting<'_>, rule: &Rule, plan: &Plan, values: &[(u8, Value)]) -> bool
+    requires { IsPlan setting.now rule.now plan.now }
+    ensures { result ≡ is_instance setting.now rule.now values.now }
+{
+    let scene = Scene {
+        grammar: setting.grammar,
+        tokens: setting.tokens,
+        readings: setting.readings,
+    };
+    chart_table::is_instance(&scene, rule, plan, values)
+}
+
+// Values for all variables of the rule: among them is each instance by which its elements lead somewhere.
+fn instances_of(
+    alloc: Global,
+    setting: &Setting<'_>,
+    plans: &[Plan],
+    ends: &mut List<Row>,
+    rule: &Rule,
+    plan: &Plan,
+    known: &[(u16, Value)],
+    place: u16,
+    list: &Access,
+) -> Result<List<List<(u8, Value)>>, Memory>
+    requires plans { ArePlans setting.now plans.now }
+    requires rows { AreRows setting.now no_asks ends.old }
+    requires plan { IsPlan setting.now rule.now plan.now }
+    ensures rows { OnOk result (AreRows setting.now no_asks ends.new) }
+    ensures instances { IfOk result (HasInstances setting.now rule.now known.now (record { place = place; list = list.now })) }
+{
+    let scene = Scene {
+        grammar: setting.grammar,
+        tokens: setting.tokens,
+        readings: setting.readings,
+    };
+    leading_instances(alloc, &scene, plans, ends, rule, plan, known, place, list)
 }
 
 // The number of the row of the category, which is made where it isn't there yet.
@@ -101,6 +151,7 @@ fn may_begin(
 pub(crate) fn best_of(
     alloc: Global,
     setting: &Setting<'_>,
+    plans: &[Plan],
     tables: &mut Tables,
     depth: u32,
     asked: Test,
@@ -108,6 +159,7 @@ pub(crate) fn best_of(
     list: List<Entry>,
 ) -> Result<usize, Memory>
     requires limited { IsLimited setting.now.grammar }
+    requires plans { ArePlans setting.now plans.now }
     requires tables { tabled.AreTables setting.now tables.old }
     ensures tables { OnOk result (tabled.AreTables setting.now tables.new) }
     ensures row { IfOk result (λ number. tabled.HasBest setting.now tables.new.rows number asked (record { place = place; list = list })) }
@@ -116,7 +168,7 @@ pub(crate) fn best_of(
         return Ok(number);
     }
     let start = access_of(alloc, list.as_slice())?;
-    let outcomes = all_outcomes(alloc, setting, tables, depth, &asked, place, &start)?;
+    let outcomes = all_outcomes(alloc, setting, plans, tables, depth, &asked, place, &start)?;
     let row = Best {
         asked,
         place,
@@ -132,6 +184,7 @@ pub(crate) fn best_of(
 fn all_outcomes(
     alloc: Global,
     setting: &Setting<'_>,
+    plans: &[Plan],
     tables: &mut Tables,
     depth: u32,
     asked: &Test,
@@ -139,15 +192,18 @@ fn all_outcomes(
     start: &Access,
 ) -> Result<List<Outcome>, Memory>
     requires limited { IsLimited setting.now.grammar }
+    requires plans { ArePlans setting.now plans.now }
     requires tables { tabled.AreTables setting.now tables.old }
     ensures tables { OnOk result (tabled.AreTables setting.now tables.new) }
     ensures best { IfOk result (ends.IsBest setting.now asked.now (record { place = place; list = start.now })) }
 {
+    let rules = setting.grammar.rules().as_slice();
     let mut out = List::new(alloc);
     let mut number: u16 = 1;
-    for rule in setting.grammar.rules().as_slice() {
+    for (index, rule) in rules.iter().enumerate() {
+        let plan = plan_for(plans, index);
         push_named(
-            alloc, setting, tables, depth, asked, number, rule, place, start, &mut out,
+            alloc, setting, plans, tables, depth, asked, number, rule, plan, place, start, &mut out,
         )?;
         number = next_number(number)?;
     }
@@ -159,24 +215,28 @@ fn all_outcomes(
 fn push_named(
     alloc: Global,
     setting: &Setting<'_>,
+    plans: &[Plan],
     tables: &mut Tables,
     depth: u32,
     asked: &Test,
     number: u16,
     rule: &Rule,
+    plan: &Plan,
     place: u16,
     start: &Access,
     out: &mut List<Outcome>,
 ) -> Result<(), Memory>
     requires limited { IsLimited setting.now.grammar }
+    requires plans { ArePlans setting.now plans.now }
     requires tables { tabled.AreTables setting.now tables.old }
     requires has { rule_with setting.now.grammar number ≡ Some rule.now }
+    requires plan { IsPlan setting.now rule.now plan.now }
     ensures tables { OnOk result (tabled.AreTables setting.now tables.new) }
     ensures trees { OnOk result (ends.HasTrees setting.now asked.now (record { place = place; list = start.now }) (ends.IsOfRule number) out.old out.new) }
 {
     if rule.head.name == asked.name {
         push_rule(
-            alloc, setting, tables, depth, asked, number, rule, place, start, out,
+            alloc, setting, plans, tables, depth, asked, number, rule, plan, place, start, out,
         )?;
         return Ok(());
     }
@@ -188,26 +248,32 @@ fn push_named(
 fn push_rule(
     alloc: Global,
     setting: &Setting<'_>,
+    plans: &[Plan],
     tables: &mut Tables,
     depth: u32,
     asked: &Test,
     number: u16,
     rule: &Rule,
+    plan: &Plan,
     place: u16,
     start: &Access,
     out: &mut List<Outcome>,
 ) -> Result<(), Memory>
     requires limited { IsLimited setting.now.grammar }
+    requires plans { ArePlans setting.now plans.now }
     requires tables { tabled.AreTables setting.now tables.old }
     requires has { rule_with setting.now.grammar number ≡ Some rule.now }
+    requires plan { IsPlan setting.now rule.now plan.now }
     ensures tables { OnOk result (tabled.AreTables setting.now tables.new) }
     ensures trees { OnOk result (ends.HasTrees setting.now asked.now (record { place = place; list = start.now }) (ends.IsOfRule number) out.old out.new) }
 {
-    let instances = leading_instances(
+    let instances = instances_of(
         alloc,
         setting,
+        plans,
         &mut tables.ends,
         rule,
+        plan,
         asked.values.as_slice(),
         place,
         start,
@@ -215,11 +281,13 @@ fn push_rule(
     push_instances(
         alloc,
         setting,
+        plans,
         tables,
         depth,
         asked,
         number,
         rule,
+        plan,
         place,
         start,
         instances.as_slice(),
@@ -233,19 +301,23 @@ fn push_rule(
 fn push_instances(
     alloc: Global,
     setting: &Setting<'_>,
+    plans: &[Plan],
     tables: &mut Tables,
     depth: u32,
     asked: &Test,
     number: u16,
     rule: &Rule,
+    plan: &Plan,
     place: u16,
     start: &Access,
     instances: &[List<(u8, Value)>],
     out: &mut List<Outcome>,
 ) -> Result<(), Memory>
     requires limited { IsLimited setting.now.grammar }
+    requires plans { ArePlans setting.now plans.now }
     requires tables { tabled.AreTables setting.now tables.old }
     requires has { rule_with setting.now.grammar number ≡ Some rule.now }
+    requires plan { IsPlan setting.now rule.now plan.now }
     ensures tables { OnOk result (tabled.AreTables setting.now tables.new) }
     ensures trees { OnOk result (ends.HasTrees setting.now asked.now (record { place = place; list = start.now }) (ends.IsOfInstances number instances.now) out.old out.new) }
 {
@@ -253,11 +325,13 @@ fn push_instances(
         push_instance(
             alloc,
             setting,
+            plans,
             tables,
             depth,
             asked,
             number,
             rule,
+            plan,
             place,
             start,
             values.as_slice(),
@@ -272,29 +346,34 @@ fn push_instances(
 fn push_instance(
     alloc: Global,
     setting: &Setting<'_>,
+    plans: &[Plan],
     tables: &mut Tables,
     depth: u32,
     asked: &Test,
     number: u16,
     rule: &Rule,
+    plan: &Plan,
     place: u16,
     start: &Access,
     values: &[(u8, Value)],
     out: &mut List<Outcome>,
 ) -> Result<(), Memory>
     requires limited { IsLimited setting.now.grammar }
+    requires plans { ArePlans setting.now plans.now }
     requires tables { tabled.AreTables setting.now tables.old }
     requires has { rule_with setting.now.grammar number ≡ Some rule.now }
+    requires plan { IsPlan setting.now rule.now plan.now }
     ensures tables { OnOk result (tabled.AreTables setting.now tables.new) }
     ensures trees { OnOk result (ends.HasTrees setting.now asked.now (record { place = place; list = start.now }) (ends.IsOfInstance number values.now) out.old out.new) }
 {
-    if !may_begin(alloc, setting, rule, asked, values)? {
+    if !may_begin(alloc, setting, rule, plan, asked, values)? {
         return Ok(());
     }
     let first = opened(alloc, rule, values, place, start)?;
     let paths = run_all(
         alloc,
         setting,
+        plans,
         tables,
         depth,
         values,
@@ -310,6 +389,7 @@ fn push_instance(
 fn run_all(
     alloc: Global,
     setting: &Setting<'_>,
+    plans: &[Plan],
     tables: &mut Tables,
     depth: u32,
     values: &[(u8, Value)],
@@ -317,6 +397,7 @@ fn run_all(
     first: Path,
 ) -> Result<List<Path>, Memory>
     requires limited { IsLimited setting.now.grammar }
+    requires plans { ArePlans setting.now plans.now }
     requires within { All (IsWithin setting.now.grammar) body.now }
     requires tables { tabled.AreTables setting.now tables.old }
     ensures tables { OnOk result (tabled.AreTables setting.now tables.new) }
@@ -328,6 +409,7 @@ fn run_all(
         paths = step_all(
             alloc,
             setting,
+            plans,
             tables,
             depth,
             values,
@@ -343,6 +425,7 @@ fn run_all(
 fn step_all(
     alloc: Global,
     setting: &Setting<'_>,
+    plans: &[Plan],
     tables: &mut Tables,
     depth: u32,
     values: &[(u8, Value)],
@@ -350,6 +433,7 @@ fn step_all(
     paths: &[Path],
 ) -> Result<List<Path>, Memory>
     requires limited { IsLimited setting.now.grammar }
+    requires plans { ArePlans setting.now plans.now }
     requires within { IsWithin setting.now.grammar element.now }
     requires tables { tabled.AreTables setting.now tables.old }
     ensures tables { OnOk result (tabled.AreTables setting.now tables.new) }
@@ -358,7 +442,7 @@ fn step_all(
     let mut out = List::new(alloc);
     for path in paths {
         push_steps(
-            alloc, setting, tables, depth, values, element, path, &mut out,
+            alloc, setting, plans, tables, depth, values, element, path, &mut out,
         )?;
     }
     Ok(out)
@@ -369,6 +453,7 @@ fn step_all(
 fn push_steps(
     alloc: Global,
     setting: &Setting<'_>,
+    plans: &[Plan],
     tables: &mut Tables,
     depth: u32,
     values: &[(u8, Value)],
@@ -377,6 +462,7 @@ fn push_steps(
     out: &mut List<Path>,
 ) -> Result<(), Memory>
     requires limited { IsLimited setting.now.grammar }
+    requires plans { ArePlans setting.now plans.now }
     requires within { IsWithin setting.now.grammar element.now }
     requires tables { tabled.AreTables setting.now tables.old }
     ensures tables { OnOk result (tabled.AreTables setting.now tables.new) }
@@ -384,7 +470,9 @@ fn push_steps(
 {
     match element {
         Element::Sub(category) => {
-            push_child(alloc, setting, tables, depth, values, category, path, out)?;
+            push_child(
+                alloc, setting, plans, tables, depth, values, category, path, out,
+            )?;
             Ok(())
         }
         _ => {
@@ -399,6 +487,7 @@ fn push_steps(
 fn push_child(
     alloc: Global,
     setting: &Setting<'_>,
+    plans: &[Plan],
     tables: &mut Tables,
     depth: u32,
     values: &[(u8, Value)],
@@ -407,6 +496,7 @@ fn push_child(
     out: &mut List<Path>,
 ) -> Result<(), Memory>
     requires limited { IsLimited setting.now.grammar }
+    requires plans { ArePlans setting.now plans.now }
     requires tables { tabled.AreTables setting.now tables.old }
     ensures tables { OnOk result (tabled.AreTables setting.now tables.new) }
     ensures steps { OnOk result (ways.HasSteps setting.now values.now (Sub category.now) (path_of path.now) (map path_of out.old) (map path_of out.new)) }
@@ -414,7 +504,9 @@ fn push_child(
     let deeper = depth.checked_sub(1).ok_or(Memory)?;
     let asked = under(alloc, values, category)?;
     let list = referents_of(alloc, &path.list)?;
-    let number = best_of(alloc, setting, tables, deeper, asked, path.place, list)?;
+    let number = best_of(
+        alloc, setting, plans, tables, deeper, asked, path.place, list,
+    )?;
     push_best(alloc, path, tables.rows.as_slice(), number, out)?;
     Ok(())
 }

@@ -341,6 +341,26 @@ fn no_referent_agrees_where_none_is_introduced(rt: HostRuntime) -> Result<(), Fa
     has_typeable(&rt, rt.alloc(), &grammar, &[], "a b", 1)
 }
 
+const PLACES: &str =
+    "feature id: position. text --> a(id: P) [u] b(id: P). a(id: P) --> [t] #P. b(id: P) --> #P [v]. \
+     b(id: P) --> [w].";
+
+#[test]
+fn a_position_is_the_number_of_tokens_before_it(rt: HostRuntime) -> Result<(), Fail> {
+    let grammar = read_grammar(rt.alloc(), PLACES)?;
+    let menu = [(Group::Function, "w")];
+    has_menu(&rt, rt.alloc(), &grammar, &[], "t u", &menu)?;
+    has_typeable(&rt, rt.alloc(), &grammar, &[], "t u v", 2)?;
+    assert!(rt; least(rt.alloc(), &grammar, &[], "t u v")?.is_none());
+    match least(rt.alloc(), &grammar, &[], "t u w")? {
+        None => Err(Fail::new("a sentence")),
+        Some(skeleton) => {
+            assert!(rt; skeleton.code(rt.alloc())?.as_slice() == [1, 2, 4].as_slice());
+            Ok(())
+        }
+    }
+}
+
 #[test]
 fn skeletons_and_menus_are_made_and_copied(rt: HostRuntime) -> Result<(), Fail> {
     let alloc = rt.alloc();

@@ -257,3 +257,50 @@ fn which_men_own_bill(rt: HostRuntime) -> Result<(), Fail> {
     );
     Ok(())
 }
+
+// The structure of one condition.
+fn alone(alloc: Global, condition: Cond) -> Result<Drs, Fail> {
+    Ok(drs(Vec::new(alloc), vec![in alloc; condition]?))
+}
+
+fn is_dog(alloc: Global) -> Result<Drs, Fail> {
+    alone(alloc, Cond::Class(DOG, Thing::Name(MARY)))
+}
+
+#[test]
+fn conditions_twelve_deep_are_mapped(rt: HostRuntime) -> Result<(), Fail> {
+    let alloc = rt.alloc();
+    let mut denied = is_dog(alloc)?;
+    let mut either = is_dog(alloc)?;
+    let mut implied = is_dog(alloc)?;
+    let mut union = Text8::from_str(alloc, ":dog")?;
+    let mut chain = Text8::from_str(alloc, ":dog")?;
+    for _ in 0..12 {
+        denied = alone(alloc, Cond::Not(denied))?;
+        either = alone(alloc, Cond::Or(is_dog(alloc)?, either))?;
+        implied = alone(alloc, Cond::Implies(is_dog(alloc)?, implied))?;
+        let (inner, last) = (union.as_str(), chain.as_str());
+        union = Text8::from_str(
+            alloc,
+            format!(in alloc; "ObjectUnionOf(:dog {inner})")?.as_str(),
+        )?;
+        chain = Text8::from_str(
+            alloc,
+            format!(in alloc; "ObjectUnionOf(ObjectComplementOf(:dog) {last})")?.as_str(),
+        )?;
+    }
+    assert_eq!(rt;
+        printed(alloc, &denied)?.as_str(),
+        "ClassAssertion(:dog :Mary);"
+    );
+    let (inner, last) = (union.as_str(), chain.as_str());
+    assert_eq!(rt;
+        printed(alloc, &either)?.as_str(),
+        format!(in alloc; "ClassAssertion({inner} :Mary);")?.as_str()
+    );
+    assert_eq!(rt;
+        printed(alloc, &implied)?.as_str(),
+        format!(in alloc; "ClassAssertion({last} :Mary);")?.as_str()
+    );
+    Ok(())
+}

@@ -1,6 +1,7 @@
 pub mod Arranged
 pub mod Assignments
 pub mod Filters
+pub mod Growing
 pub mod Halving
 pub mod Lookups
 pub mod Members

@@ -1,5 +1,6 @@
 // Interpretations that were checked to be models.
-ghost use Rattle.std.specs.Prelude.{◌≡◌, true, ◌↔◌, IsTrue, IsOk, IfOk, IfErr};
+ghost use Rattle.std.specs.Prelude.{◌≡◌, ◌≤◌, true, ◌↔◌, IsTrue, IsOk, IfOk, IfErr, OnOk, OnErr, length, if◌then◌else◌};
+ghost use Rattle.std.specs.List.{insert_slice, remove_range};
 ghost use Rattle.logic_terms.specs.Interpretation.{is_interpretation};
 ghost use Rattle.logic_terms.specs.Shown.{claims_of};
 ghost use Rattle.logic_terms.specs.Meaning.{all_hold};
@@ -7,9 +8,11 @@ ghost use Rattle.logic_terms.specs.Reading.{IsModel};
 
 use crate::axioms::is_model;
 use crate::interp::Interp;
-use logic_terms::Axioms;
+use logic_terms::{Axiom, Axioms};
+use std::mem;
+use wiki_base::Memory;
 
-/// An interpretation and axioms that it is a model of. Only `new` makes one, and it checks.
+/// An interpretation and axioms that it is a model of. Only `new` makes one, and it checks; `insert` checks what it adds.
 #[derive(Drop)]
 pub struct CheckedModel {
     interp: Interp,
@@ -50,4 +53,60 @@ impl CheckedModel {
     {
         &self.axioms
     }
+
+    /// Puts axioms in at a place, if each of them is true in the interpretation, and answers whether they are. Those that are
+    /// there already are not looked at. After any answer but true all is as before.
+    pub fn insert(&mut self, at: usize, more: Axioms) -> Result<bool, Memory>
+        requires { at ≤ length (kept_claims self.old) }
+        ensures accepts { IfOk result (λ taken. IsTrue taken ↔ IsModel (kept_interp self.old) (claims_of more)) }
+        ensures axioms { IfOk result (λ taken. kept_claims self.new ≡ (if taken then insert_slice (kept_claims self.old) at (claims_of more) else kept_claims self.old)) }
+        ensures interp { kept_interp self.new ≡ kept_interp self.old }
+        ensures err { OnErr result (kept_claims self.new ≡ kept_claims self.old) }
+    {
+        if !is_model(&self.interp, &more) {
+            return Ok(false);
+        }
+        let none = Axioms::new(self.interp.allocator());
+        let mut items = mem::replace(&mut self.axioms, none).into_vec();
+        let grown = put_in(&mut items, at, more.into_vec());
+        self.axioms = Axioms::from_vec(items);
+        grown?;
+        Ok(true)
+    }
+
+    /// Takes the axioms from a place to before another out. It takes no memory, and the others are not looked at.
+    pub fn remove(&mut self, from: usize, to: usize)
+        requires rises { from ≤ to }
+        requires within { to ≤ length (kept_claims self.old) }
+        ensures axioms { kept_claims self.new ≡ remove_range (kept_claims self.old) from to }
+        ensures interp { kept_interp self.new ≡ kept_interp self.old }
+    {
+        let none = Axioms::new(self.interp.allocator());
+        let mut items = mem::replace(&mut self.axioms, none).into_vec();
+        take_out(&mut items, from, to);
+        self.axioms = Axioms::from_vec(items);
+    }
+}
+
+// Puts items in at a place. Where memory is refused, all stays.
+fn put_in(items: &mut Vec<Axiom>, at: usize, mut more: Vec<Axiom>) -> Result<(), Memory>
+    requires { at ≤ length items.old.items }
+    ensures ok { OnOk result (items.new.items ≡ insert_slice items.old.items at more.items) }
+    ensures err { OnErr result (items.new.items ≡ items.old.items) }
+{
+    let count = more.len();
+    items.append(&mut more)?;
+    items[at..].rotate_right(count);
+    Ok(())
+}
+
+// Takes the items from a place to before another out.
+fn take_out(items: &mut Vec<Axiom>, from: usize, to: usize)
+    requires rises { from ≤ to }
+    requires within { to ≤ length items.old.items }
+    ensures { items.new.items ≡ remove_range items.old.items from to }
+{
+    let left = items.len() - (to - from);
+    items[from..].rotate_left(to - from);
+    items.truncate(left);
 }

@@ -158,6 +158,11 @@ impl Interp {
         self
     }
 
+    // The allocator that it keeps.
+    pub(crate) fn allocator(&self) -> Global {
+        *self.names.allocator()
+    }
+
     /// The element of a name; 0 where it has none.
     pub fn element(&self, name: WordId) -> u64
         ensures { result ≡ element_of self.now name }

@@ -2,6 +2,6 @@
 #![tactic(auto)]
 
 #[cfg(test)]
-mod played;
+mod scripts;
 #[cfg(test)]
 mod tests;

@@ -1,5 +1,5 @@
 // Whole runs of events.
-use crate::played::{Script, played};
+use crate::scripts::{Script, serve_script};
 use serving::Served;
 use std::test::Fail;
 
@@ -22,7 +22,7 @@ fn pieces_of_two_connections_are_not_joined(rt: HostRuntime) -> Result<(), Fail>
             _ => {}
         }
     }
-    let left = played(script, &[], 200)?;
+    let left = serve_script(script, &[], 200)?;
     let response =
         b"HTTP/1.1 200 OK\r\nContent-Type: application/json\r\nContent-Length: 28\r\nConnection: close\r\n\r\n{\"done\":\"words\",\"words\":[]}\n";
     assert_eq!(rt; left.served, Served::Done);
@@ -69,7 +69,7 @@ fn what_is_refused_is_told_why(rt: HostRuntime) -> Result<(), Fail> {
     for (request, front) in cases {
         let mut script = Script::new(rt.alloc());
         script.ask(7, request)?;
-        let left = played(script, &[], ALL)?;
+        let left = serve_script(script, &[], ALL)?;
         let response = left.sent_on(7)?;
         assert!(rt; response.starts_with(front.as_bytes()), "to {request}");
         assert_eq!(rt; response.is_empty(), front.is_empty());
@@ -87,7 +87,7 @@ fn the_longest_body_may_be_no_request(rt: HostRuntime) -> Result<(), Fail> {
     )?;
     script.say(1, &half)?;
     script.say(1, &half)?;
-    let left = played(script, &[], ALL)?;
+    let left = serve_script(script, &[], ALL)?;
     let response = left.sent_on(1)?;
     assert!(rt; response.starts_with(b"HTTP/1.1 400 Bad Request\r\n"));
     assert!(rt; response.ends_with(b"<p>0 BadRequest</p></body></html>\n"));
@@ -100,7 +100,7 @@ fn an_accepted_change_goes_to_the_journal(rt: HostRuntime) -> Result<(), Fail> {
     let taken = "POST /word HTTP/1.0\r\nContent-Length: 20\r\n\r\nkind=name&forms=Bern";
     script.ask(1, taken)?;
     script.ask(2, taken)?;
-    let left = played(script, &[], 4)?;
+    let left = serve_script(script, &[], 4)?;
     let line = b"{\"do\":\"word\",\"forms\":[\"Bern\"],\"kind\":\"name\"}\n";
     assert_eq!(rt; left.served, Served::Done);
     assert_eq!(rt; left.journal.bytes(), line.as_slice());
@@ -116,7 +116,7 @@ fn the_65th_connection_is_told_that_there_are_too_many(rt: HostRuntime) -> Resul
         script.open(connection)?;
     }
     script.say(64, b"GET / HTTP/1.0\r\n\r\n")?;
-    let left = played(script, &[], ALL)?;
+    let left = serve_script(script, &[], ALL)?;
     assert!(rt; left.sent_on(63)?.is_empty());
     assert!(rt; left.sent_on(64)?.starts_with(b"HTTP/1.1 200 OK\r\n"));
     assert!(rt;
@@ -131,7 +131,7 @@ fn a_send_that_fails_cuts_its_response_alone(rt: HostRuntime) -> Result<(), Fail
     let mut script = Script::new(rt.alloc());
     script.ask(1, "GET / HTTP/1.1\r\nHost: x\r\n\r\n")?;
     script.ask(2, "GET / HTTP/1.1\r\nHost: x\r\n\r\n")?;
-    let left = played(script, &[3], ALL)?;
+    let left = serve_script(script, &[3], ALL)?;
     let cut = left.sent_on(1)?;
     let whole = left.sent_on(2)?;
     assert_eq!(rt; cut.len(), 200);
@@ -145,13 +145,13 @@ fn serving_ends_after_its_events_or_with_the_link(rt: HostRuntime) -> Result<(),
     for most in [1, ALL] {
         let mut script = Script::new(rt.alloc());
         script.open(1)?;
-        let left = played(script, &[], most)?;
+        let left = serve_script(script, &[], most)?;
         assert_eq!(rt; left.served, Served::Done);
         assert!(rt; left.sent_on(1)?.is_empty());
     }
     let mut script = Script::new(rt.alloc());
     script.ask(1, "GET / HTTP/1.0\r\n\r\n")?;
-    let left = played(script, &[], 1)?;
+    let left = serve_script(script, &[], 1)?;
     assert_eq!(rt; left.served, Served::Done);
     assert!(rt; left.sent_on(1)?.is_empty());
     Ok(())

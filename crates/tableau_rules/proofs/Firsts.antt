@@ -19,6 +19,11 @@ module _ {X : Type 0} (f : ℕ → Option X) (k : ℕ) (passed : first_below k f
     | inr ne ↦ ap (λ o. option_or o (f n)) (first_found n x (omega arith) here)
   ]
 
+pub first_none : {X : Type 0} (n : ℕ) (f : ℕ → Option X) → ((y : ℕ) → y < n → f y ≡ None) → first_below n f ≡ None
+first_none zero f none = refl
+first_none (suc n) f none =
+    ap (λ o. option_or o (f n)) (first_none n f (λ y lt. none y (omega arith))) ∙ none n (omega arith)
+
 pub where_is : {X : Type 0} (test : Bool) (x : X) → test ≡ true → where_true test x ≡ Some x
 where_is test x is = ap (λ b. where_true b x) is
 

@@ -1,10 +1,10 @@
 -- What a branch is after its nodes or their labels grew.
-use Rattle.std.proofs.Common.{◌≡◌, ℕ, zero, suc, ◌+◌, ◌<◌, Bool, true, false, List, [], ◌∷◌, ◌++◌, map, filter, length, take, get_or, cond, Option, Some, None, slice_get, refl, sym, ap, ◌∙◌, arith}
-use Rattle.std.specs.Prelude.{slice_set, IsErr, OnErr, if◌then◌else◌}
+use Rattle.std.proofs.Common.{◌≡◌, ℕ, zero, suc, ◌<◌, Bool, true, false, List, [], ◌∷◌, ◌++◌, map, filter, length, take, get_or, cond, Some, slice_get, refl, sym, ap, ◌∙◌}
+use Rattle.std.specs.Prelude.{slice_set, OnErr}
 use Rattle.std.specs.declared.result.Result.{Result}
 use Rattle.std.specs.declared.result.Result.TheVariants.{Ok, Err}
 use Rattle.std.specs.Option.{option_map_or}
-use Rattle.std.proofs.lemmas.List.{map-set, set-get_or, append-nil}
+use Rattle.std.proofs.lemmas.List.{map-set, set-get_or}
 use Rattle.logic_terms.specs.Concept.{Concept}
 use Rattle.logic_terms.specs.declared.expressions.Classes.{Classes}
 use Rattle.logic_terms.specs.Shown.{concepts_of}

@@ -5,3 +5,4 @@ pub mod Lists
 pub mod MapWalks
 pub mod NameLaws
 pub mod Passing
+pub mod Reaching

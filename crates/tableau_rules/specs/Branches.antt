@@ -1,5 +1,5 @@
 -- The branches of knowledge: what `start` and steps that apply make of it.
-use Rattle.std.specs.Prelude.{ℕ, ◌≡◌, ◌<◌, ◌&&◌, Bool, true, false, not, List, [], ◌∷◌, ◌++◌, map, filter, filter_map, Option, Some, None, IsTrue, is_some}
+use Rattle.std.specs.Prelude.{ℕ, ◌<◌, ◌&&◌, Bool, not, List, [], ◌∷◌, ◌++◌, map, filter, filter_map, Option, None, IsTrue, is_some}
 use Rattle.std.specs.Option.{option_and_then, option_map}
 use Rattle.wiki_base.specs.declared.numbers.WordId.{WordId}
 use Rattle.logic_terms.specs.declared.expressions.Role.{Role}

@@ -1,10 +1,10 @@
 -- The contradictions of a branch.
-use Rattle.std.specs.Prelude.{ℕ, ◌&&◌, ◌||◌, Bool, false, List, length, slice_get, Option}
+use Rattle.std.specs.Prelude.{ℕ, ◌&&◌, ◌||◌, Bool, false, length, slice_get, Option}
 use Rattle.std.specs.List.{list_any}
 use Rattle.std.specs.Option.{option_map_or}
 use Rattle.wiki_base.specs.declared.numbers.WordId.{WordId}
 use Rattle.logic_terms.specs.declared.expressions.Role.{Role}
-use Rattle.logic_terms.specs.Concept.{Concept, Everything, Atomic, ComplementOf, HasValue}
+use Rattle.logic_terms.specs.Concept.{Concept, Everything, Atomic, ComplementOf}
 use Rattle.logic_terms.specs.Interpretation.{is_word}
 use Rattle.logic_terms.specs.Meaning.{some_below}
 use Rattle.logic_terms.specs.Parts.{word_part, complement_part, value_part}

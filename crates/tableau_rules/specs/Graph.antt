@@ -1,5 +1,5 @@
 -- A branch as a completion graph: nodes with labels, and edges.
-use Rattle.std.specs.Prelude.{ℕ, List, [], map, Option, slice_get}
+use Rattle.std.specs.Prelude.{ℕ, List, [], Option, slice_get}
 use Rattle.std.specs.Option.{option_and_then, option_map_or}
 use Rattle.logic_terms.specs.Concept.{Concept}
 use Rattle.tableau_rules.specs.declared.branch.Edge.{Edge}

@@ -15,7 +15,7 @@ use logic_terms::Knowledge;
 pub fn is_indirectly_blocked(k: &Knowledge, b: &Branch, node: u64) -> bool
     ensures { result ≡ is_indirectly_blocked (theory_of k.now) (graph_of b.now) node }
 {
-    some_blocks(k, b, root_count(k), node, node)
+    some_blocks(k, b, node, node)
 }
 
 /// Whether the node is directly blocked: it is anonymous, none of its proper ancestors is directly blocked, and an
@@ -23,8 +23,7 @@ pub fn is_indirectly_blocked(k: &Knowledge, b: &Branch, node: u64) -> bool
 pub fn is_directly_blocked(k: &Knowledge, b: &Branch, node: u64) -> bool
     ensures { result ≡ is_directly_blocked (theory_of k.now) (graph_of b.now) node }
 {
-    let named = root_count(k);
-    repeats(k, b, named, node, node) && !some_blocks(k, b, named, node, node)
+    repeats(k, b, node, node) && !some_blocks(k, b, node, node)
 }
 
 /// Whether the node is directly or indirectly blocked. It takes no memory.
@@ -34,17 +33,22 @@ pub fn is_blocked(k: &Knowledge, b: &Branch, node: u64) -> bool
     is_directly_blocked(k, b, node) || is_indirectly_blocked(k, b, node)
 }
 
+// Whether a node is no name's. The names are counted, so other tests go before.
+fn is_anonymous(k: &Knowledge, node: u64) -> bool
+    ensures { result ≡ is_anonymous (theory_of k.now) node }
+{
+    node >= root_count(k)
+}
+
 // Whether `above` is anonymous and has the node's classes.
-fn is_twin(k: &Knowledge, b: &Branch, named: u64, node: u64, above: u64) -> bool
-    requires { named ≡ length (roots (theory_of k.now)) }
+fn is_twin(k: &Knowledge, b: &Branch, node: u64, above: u64) -> bool
     ensures { result ≡ (is_anonymous (theory_of k.now) above && same_classes (label_at (graph_of b.now) node) (label_at (graph_of b.now) above)) }
 {
-    above >= named && same_set(b.label(node), b.label(above))
+    same_set(b.label(node), b.label(above)) && is_anonymous(k, above)
 }
 
 // Whether one of the first `count` ancestors is anonymous and has the node's classes.
-fn twin_above(k: &Knowledge, b: &Branch, named: u64, node: u64, count: u64) -> bool
-    requires { named ≡ length (roots (theory_of k.now)) }
+fn twin_above(k: &Knowledge, b: &Branch, node: u64, count: u64) -> bool
     ensures { result ≡ has_twin (theory_of k.now) (graph_of b.now) node (climb count (graph_of b.now) node) }
 {
     let mut at = node;
@@ -52,7 +56,7 @@ fn twin_above(k: &Knowledge, b: &Branch, named: u64, node: u64, count: u64) -> b
     while left > 0 {
         match b.parent(at) {
             Some(parent) => {
-                if is_twin(k, b, named, node, parent) {
+                if is_twin(k, b, node, parent) {
                     return true;
                 }
                 at = parent;
@@ -65,16 +69,14 @@ fn twin_above(k: &Knowledge, b: &Branch, named: u64, node: u64, count: u64) -> b
 }
 
 // Whether the node is anonymous, and one of its first `count` ancestors is so too and has the same classes.
-fn repeats(k: &Knowledge, b: &Branch, named: u64, node: u64, count: u64) -> bool
-    requires { named ≡ length (roots (theory_of k.now)) }
+fn repeats(k: &Knowledge, b: &Branch, node: u64, count: u64) -> bool
     ensures { result ≡ (is_anonymous (theory_of k.now) node && has_twin (theory_of k.now) (graph_of b.now) node (climb count (graph_of b.now) node)) }
 {
-    node >= named && twin_above(k, b, named, node, count)
+    twin_above(k, b, node, count) && is_anonymous(k, node)
 }
 
 // Whether one of the first `count` ancestors is directly blocked, which is so where one of them repeats one above it.
-fn some_blocks(k: &Knowledge, b: &Branch, named: u64, node: u64, count: u64) -> bool
-    requires { named ≡ length (roots (theory_of k.now)) }
+fn some_blocks(k: &Knowledge, b: &Branch, node: u64, count: u64) -> bool
     ensures { result ≡ blocks (theory_of k.now) (graph_of b.now) (climb count (graph_of b.now) node) }
 {
     let mut at = node;
@@ -82,7 +84,7 @@ fn some_blocks(k: &Knowledge, b: &Branch, named: u64, node: u64, count: u64) -> 
     while left > 0 {
         match b.parent(at) {
             Some(parent) => {
-                if repeats(k, b, named, parent, left - 1) {
+                if repeats(k, b, parent, left - 1) {
                     return true;
                 }
                 at = parent;

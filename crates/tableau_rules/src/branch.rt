@@ -4,7 +4,9 @@ ghost use Rattle.logic_terms.specs.Shown.{concept_of, concepts_of};
 ghost use Rattle.tableau_rules.specs.Graph.{Graph, Vertex, label_at, class_at, parent_of};
 ghost use Rattle.tableau_rules.specs.Rules.{grown, with_edge, with_node};
 ghost use Rattle.tableau_rules.specs.Shown.{graph_of, vertex_of};
+ghost use Rattle.tableau_rules.specs.Touching.{edges_at};
 
+use crate::edges::Edges;
 use logic_terms::{Class, Classes, Role};
 use std::alloc::Global;
 use wiki_base::Memory;
@@ -28,7 +30,7 @@ pub struct Node {
 #[derive(Drop)]
 pub struct Branch {
     nodes: Vec<Node>,
-    edges: Vec<Edge>,
+    edges: Edges,
 }
 
 impl Node {
@@ -63,9 +65,11 @@ impl Node {
 }
 
 impl Branch {
-    pub(crate) fn new(nodes: Vec<Node>, edges: Vec<Edge>) -> Self
-        ensures { graph_of result ≡ record { nodes = map vertex_of nodes.items; edges = edges.items } }
+    // Nodes without edges.
+    pub(crate) fn new(nodes: Vec<Node>) -> Self
+        ensures { graph_of result ≡ record { nodes = map vertex_of nodes.items; edges = [] } }
     {
+        let edges = Edges::new(*nodes.allocator());
         Branch { nodes, edges }
     }
 
@@ -81,6 +85,13 @@ impl Branch {
         ensures { result.now ≡ (graph_of self.now).edges }
     {
         self.edges.as_slice()
+    }
+
+    /// The edges that lead from a node or to it, in the order in which they were added. It takes no memory.
+    pub fn edges_at(&self, node: u64) -> &[Edge]
+        ensures { result.now ≡ edges_at (graph_of self.now).edges node }
+    {
+        self.edges.at(node)
     }
 
     /// The label of a node, and no classes for any other number. It takes no memory.
@@ -128,14 +139,14 @@ impl Branch {
     pub fn edge(&self, place: u64) -> Option<Edge>
         ensures { result ≡ slice_get (graph_of self.now).edges place }
     {
-        self.edges.get(place as usize).copied()
+        self.edges.as_slice().get(place as usize).copied()
     }
 
     /// How many edges there are. It takes no memory.
     pub fn edge_count(&self) -> u64
         ensures { result ≡ length (graph_of self.now).edges }
     {
-        self.edges.len() as u64
+        self.edges.as_slice().len() as u64
     }
 
     pub(crate) fn allocator(&self) -> Global {
@@ -160,8 +171,7 @@ impl Branch {
         ensures ok { OnOk result (graph_of self.new ≡ with_edge (graph_of self.old) edge) }
         ensures err { OnErr result (graph_of self.new ≡ graph_of self.old) }
     {
-        self.edges.push(edge)?;
-        Ok(())
+        self.edges.push(edge)
     }
 
     // Adds a node and an edge, unchanged where memory is refused.
@@ -169,11 +179,11 @@ impl Branch {
         ensures ok { OnOk result (graph_of self.new ≡ with_node (graph_of self.old) (vertex_of node) edge) }
         ensures err { OnErr result (graph_of self.new ≡ graph_of self.old) }
     {
-        self.edges.push(edge)?;
-        match self.nodes.push(node) {
+        self.nodes.push(node)?;
+        match self.edges.push(edge) {
             Ok(()) => Ok(()),
             Err(_) => {
-                let _ = self.edges.pop();
+                let _ = self.nodes.pop();
                 Err(Memory)
             }
         }
@@ -183,12 +193,11 @@ impl Branch {
     pub fn copy(&self) -> Result<Branch, Memory>
         ensures { IfOk result (λ copied. graph_of copied ≡ graph_of self.now) }
     {
-        let alloc = *self.nodes.allocator();
-        let mut nodes = Vec::new(alloc);
+        let mut nodes = Vec::with_capacity(self.allocator(), self.nodes.len())?;
         for node in &self.nodes {
             nodes.push(node.copy()?)?;
         }
-        let edges = Vec::from_slice(alloc, self.edges.as_slice())?;
+        let edges = self.edges.copy()?;
         Ok(Branch { nodes, edges })
     }
 }

@@ -13,12 +13,12 @@ ghost use Rattle.tableau_rules.specs.Shown.{graph_of};
 ghost use Rattle.tableau_rules.specs.declared.step.Rule.TheVariants as rule;
 
 use crate::branch::{Branch, Edge, Node};
-use crate::grown::{missing, missing_of, unfoldings, unit_member};
+use crate::grown::{missing, missing_of, missing_unfoldings, unit_member};
 use crate::names::node_of;
 use crate::starting::label_with;
 use crate::step::{Rule, Step};
 use logic_terms::{Class, Classes, Knowledge};
-use wiki_base::Memory;
+use wiki_base::{Memory, WordId};
 
 // A change to a branch, with the memory that it takes.
 #[derive(Drop)]
@@ -128,10 +128,7 @@ fn by_unfold(k: &Knowledge, b: &Branch, node: u64, class: &Class) -> Result<Chan
     ensures { IfOk result (λ change. changed (graph_of b.now) change ≡ option_map_or (λ word. adding (graph_of b.now) node (unfoldings_of (theory_of k.now) word)) (word_part (concept_of class.now)) (graph_of b.now)) }
 {
     match class.word() {
-        Some(word) => {
-            let classes = unfoldings(b.allocator(), k, word)?;
-            growing(b, node, classes.as_slice())
-        }
+        Some(word) => unfolding(k, b, node, word),
         None => Ok(Change::Nothing),
     }
 }
@@ -200,6 +197,14 @@ fn by_some(k: &Knowledge, b: &Branch, node: u64, class: &Class) -> Result<Change
         }
         None => Ok(Change::Nothing),
     }
+}
+
+// The unfoldings that a node's label lacks.
+fn unfolding(k: &Knowledge, b: &Branch, node: u64, word: WordId) -> Result<Change, Memory>
+    ensures { IfOk result (λ change. changed (graph_of b.now) change ≡ adding (graph_of b.now) node (unfoldings_of (theory_of k.now) word)) }
+{
+    let more = missing_unfoldings(b.allocator(), k, b.label(node), word)?;
+    Ok(Change::Classes(node, more))
 }
 
 // The classes that a node's label lacks.

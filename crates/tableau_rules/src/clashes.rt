@@ -16,7 +16,7 @@ ghost use Rattle.tableau_rules.specs.Shown.{graph_of};
 
 use crate::branch::Branch;
 use crate::names::node_of;
-use crate::neighbour::makes_neighbour;
+use crate::neighbour::{is_neighbour, makes_neighbour};
 use crate::step::Clash;
 use logic_terms::{Class, Knowledge, Role};
 use wiki_base::WordId;
@@ -102,7 +102,8 @@ fn clash_of_nodes(k: &Knowledge, b: &Branch) -> Option<Clash>
     None
 }
 
-fn clash_at_node(k: &Knowledge, b: &Branch, node: u64) -> Option<Clash>
+/// A clash at a node, if there is one: that of the first place. It takes no memory.
+pub fn clash_at_node(k: &Knowledge, b: &Branch, node: u64) -> Option<Clash>
     ensures exact { is_some result ≡ list_any (clashes_at (theory_of k.now) (graph_of b.now) node) (label_at (graph_of b.now) node) }
     ensures there { IfSome result (λ c. IsTrue (is_clash (theory_of k.now) (graph_of b.now) c)) }
 {
@@ -264,8 +265,19 @@ fn value_clash(k: &Knowledge, b: &Branch, node: u64, place: u64, class: &Class) 
     }
 }
 
-// The place of the first edge that makes `to` a neighbour of `from`.
+// The place of the first edge that makes `to` a neighbour of `from`. All edges are looked at only where there is one.
 fn edge_between(k: &Knowledge, b: &Branch, role: Role, from: u64, to: u64) -> Option<u64>
+    ensures exact { is_some result ≡ is_neighbour (theory_of k.now) (graph_of b.now) role from to }
+    ensures there { IfSome result (λ e. IsTrue (passes (slice_get (graph_of b.now).edges e) (makes_neighbour (theory_of k.now) role from to))) }
+{
+    if is_neighbour(k, b, role, from, to) {
+        first_edge_between(k, b, role, from, to)
+    } else {
+        None
+    }
+}
+
+fn first_edge_between(k: &Knowledge, b: &Branch, role: Role, from: u64, to: u64) -> Option<u64>
     ensures exact { is_some result ≡ is_neighbour (theory_of k.now) (graph_of b.now) role from to }
     ensures there { IfSome result (λ e. IsTrue (passes (slice_get (graph_of b.now).edges e) (makes_neighbour (theory_of k.now) role from to))) }
 {

@@ -57,17 +57,22 @@ pub(crate) fn missing_of(
     }
 }
 
-// The classes that a class word unfolds to.
-pub(crate) fn unfoldings(alloc: Global, k: &Knowledge, word: WordId) -> Result<Classes, Memory>
-    ensures { IfOk result (λ found. concepts_of found ≡ unfoldings_of (theory_of k.now) word) }
+// The unfoldings of a class word that a label lacks, each once.
+pub(crate) fn missing_unfoldings(
+    alloc: Global,
+    k: &Knowledge,
+    label: &[Class],
+    word: WordId,
+) -> Result<Classes, Memory>
+    ensures { IfOk result (λ more. map concept_of label.now ++ concepts_of more ≡ with_classes (map concept_of label.now) (unfoldings_of (theory_of k.now) word)) }
 {
-    let mut found = Classes::new(alloc);
+    let mut more = Classes::new(alloc);
     for entry in k.unfoldings() {
-        if word.0 == entry.0.0 {
-            found.push(entry.1.copy(alloc)?)?;
+        if word.0 == entry.0.0 && is_missing(label, more.as_slice(), &entry.1) {
+            more.push(entry.1.copy(alloc)?)?;
         }
     }
-    Ok(found)
+    Ok(more)
 }
 
 // The member whose complement is not in the label, or else the first.

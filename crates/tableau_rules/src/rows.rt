@@ -1,7 +1,7 @@
 // One row of the table for each rule: whether it applies at a node for a class of its label.
-ghost use Rattle.std.specs.Prelude.{◌≡◌, ℕ, not, map, filter, length, Option, MatchOption, None, Some, ◌&&◌};
+ghost use Rattle.std.specs.Prelude.{◌≡◌, ℕ, min, not, map, filter, length, Option, MatchOption, None, Some, ◌&&◌};
 ghost use Rattle.std.specs.List.{list_any};
-ghost use Rattle.std.specs.Option.{option_and_then};
+ghost use Rattle.std.specs.Option.{option_and_then, option_map_or};
 ghost use Rattle.logic_terms.specs.Interpretation.{is_word};
 ghost use Rattle.logic_terms.specs.Known.{theory_of};
 ghost use Rattle.logic_terms.specs.Meaning.{some_below};
@@ -10,14 +10,16 @@ ghost use Rattle.logic_terms.specs.Shown.{concept_of, concepts_of};
 ghost use Rattle.tableau_rules.specs.Shown.{graph_of};
 ghost use Rattle.tableau_rules.specs.First.{first_below, where_true};
 ghost use Rattle.tableau_rules.specs.Graph.{label_at};
+ghost use Rattle.tableau_rules.specs.Blocking.{is_indirectly_blocked};
 ghost use Rattle.tableau_rules.specs.Rules.{lacks_some, unfoldings_of, needs, serves, row, site};
+ghost use Rattle.tableau_rules.specs.Touching.{reaches};
 ghost use Rattle.tableau_rules.specs.declared.step.Rule.TheVariants as rule;
 
 use crate::blocking::{is_blocked, is_indirectly_blocked};
-use crate::branch::Branch;
+use crate::branch::{Branch, Edge};
 use crate::label::{has, lacks_all_of, lacks_some_of, leaves_at_most_one};
 use crate::names::node_of;
-use crate::neighbour::is_neighbour;
+use crate::neighbour::{far_end, is_neighbour, leads_on};
 use crate::step::Rule;
 use logic_terms::{Class, Knowledge, Role};
 use wiki_base::WordId;
@@ -26,10 +28,10 @@ use wiki_base::WordId;
 pub(crate) fn site(k: &Knowledge, b: &Branch, rule: Rule, node: u64, class: &Class) -> Option<u64>
     ensures { result ≡ site (theory_of k.now) (graph_of b.now) rule node (concept_of class.now) }
 {
-    if is_indirectly_blocked(k, b, node) {
-        None
-    } else {
-        row(k, b, rule, node, class)
+    // The rule is asked first: on most classes it finds nothing, and blocking need not be looked at.
+    match row(k, b, rule, node, class) {
+        Some(_) if is_indirectly_blocked(k, b, node) => None,
+        found => found,
     }
 }
 
@@ -97,20 +99,31 @@ fn by_all(k: &Knowledge, b: &Branch, node: u64, class: &Class) -> Option<u64>
 fn first_in_need(k: &Knowledge, b: &Branch, role: Role, class: &Class, node: u64) -> Option<u64>
     ensures { result ≡ first_below (length (graph_of b.now).nodes) (λ y. where_true (needs (theory_of k.now) (graph_of b.now) role (concept_of class.now) node y) y) }
 {
-    for other in 0..b.len() {
-        if is_in_need(k, b, role, class, node, other) {
-            return Some(other);
+    let mut least = None;
+    for edge in b.edges_at(node) {
+        if is_in_need(k, b, role, class, node, *edge) {
+            least = Some(lesser(least, far_end(node, *edge)));
         }
     }
-    None
+    least
 }
 
-fn is_in_need(k: &Knowledge, b: &Branch, role: Role, class: &Class, node: u64, other: u64) -> bool
-    ensures { result ≡ needs (theory_of k.now) (graph_of b.now) role (concept_of class.now) node other }
+fn lesser(least: Option<u64>, other: u64) -> u64
+    ensures { result ≡ option_map_or (λ own. min own other) least other }
 {
-    is_neighbour(k, b, role, node, other)
-        && !is_indirectly_blocked(k, b, other)
+    match least {
+        Some(own) => own.min(other),
+        None => other,
+    }
+}
+
+fn is_in_need(k: &Knowledge, b: &Branch, role: Role, class: &Class, node: u64, edge: Edge) -> bool
+    ensures { result ≡ reaches (theory_of k.now) role (length (graph_of b.now).nodes) node (λ y. not (is_indirectly_blocked (theory_of k.now) (graph_of b.now) y) && not (has_concept (label_at (graph_of b.now) y) (concept_of class.now))) edge }
+{
+    let other = far_end(node, edge);
+    leads_on(k, b, role, node, edge)
         && !has(b.label(other), class)
+        && !is_indirectly_blocked(k, b, other)
 }
 
 fn by_value(k: &Knowledge, b: &Branch, node: u64, class: &Class) -> Option<u64>
@@ -119,7 +132,7 @@ fn by_value(k: &Knowledge, b: &Branch, node: u64, class: &Class) -> Option<u64>
     match class.value() {
         Some(parts) => match node_of(k, parts.1) {
             Some(named) => zero_where(
-                !is_blocked(k, b, node) && !is_neighbour(k, b, parts.0, node, named),
+                !is_neighbour(k, b, parts.0, node, named) && !is_blocked(k, b, node),
             ),
             None => None,
         },
@@ -153,7 +166,7 @@ fn by_some(k: &Knowledge, b: &Branch, node: u64, class: &Class) -> Option<u64>
 {
     match class.existential() {
         Some(parts) => zero_where(
-            !is_blocked(k, b, node) && !is_served(k, b, parts.0, parts.1, node),
+            !is_served(k, b, parts.0, parts.1, node) && !is_blocked(k, b, node),
         ),
         None => None,
     }
@@ -163,20 +176,21 @@ fn by_some(k: &Knowledge, b: &Branch, node: u64, class: &Class) -> Option<u64>
 fn is_served(k: &Knowledge, b: &Branch, role: Role, class: &Class, node: u64) -> bool
     ensures { result ≡ some_below (length (graph_of b.now).nodes) (serves (theory_of k.now) (graph_of b.now) role (concept_of class.now) node) }
 {
-    for other in 0..b.len() {
-        if is_witness(k, b, role, class, node, other) {
+    for edge in b.edges_at(node) {
+        if is_witness(k, b, role, class, node, *edge) {
             return true;
         }
     }
     false
 }
 
-fn is_witness(k: &Knowledge, b: &Branch, role: Role, class: &Class, node: u64, other: u64) -> bool
-    ensures { result ≡ serves (theory_of k.now) (graph_of b.now) role (concept_of class.now) node other }
+fn is_witness(k: &Knowledge, b: &Branch, role: Role, class: &Class, node: u64, edge: Edge) -> bool
+    ensures { result ≡ reaches (theory_of k.now) role (length (graph_of b.now).nodes) node (λ y. not (is_indirectly_blocked (theory_of k.now) (graph_of b.now) y) && has_concept (label_at (graph_of b.now) y) (concept_of class.now)) edge }
 {
-    is_neighbour(k, b, role, node, other)
-        && !is_indirectly_blocked(k, b, other)
+    let other = far_end(node, edge);
+    leads_on(k, b, role, node, edge)
         && has(b.label(other), class)
+        && !is_indirectly_blocked(k, b, other)
 }
 
 fn zero_where(applies: bool) -> Option<u64>

@@ -25,8 +25,7 @@ pub fn start(alloc: Global, k: &Knowledge) -> Result<Branch, Memory>
     ensures branch { IfOk result (λ b. IsBranch (theory_of k.now) (graph_of b)) }
 {
     let nodes = first_nodes(alloc, k)?;
-    let edges = first_edges(alloc, k)?;
-    Ok(Branch::new(nodes, edges))
+    join_first_edges(k, Branch::new(nodes))
 }
 
 fn first_nodes(alloc: Global, k: &Knowledge) -> Result<Vec<Node>, Memory>
@@ -42,38 +41,65 @@ fn first_nodes(alloc: Global, k: &Knowledge) -> Result<Vec<Node>, Memory>
 fn named_nodes(alloc: Global, k: &Knowledge) -> Result<Vec<Node>, Memory>
     ensures { IfOk result (λ nodes. map vertex_of nodes.items ≡ map (λ r. first_node (theory_of k.now) (asserted (theory_of k.now) r)) (roots (theory_of k.now))) }
 {
+    let owners = owners(alloc, k)?;
     let mut nodes = Vec::new(alloc);
     for entry in k.names() {
         if entry.0.0 == entry.1.0 {
-            nodes.push(named_node(alloc, k, entry.0)?)?;
+            nodes.push(named_node(alloc, k, owners.as_slice(), entry.0)?)?;
         }
     }
     Ok(nodes)
 }
 
-fn named_node(alloc: Global, k: &Knowledge, root: WordId) -> Result<Node, Memory>
+// The representative of each assertion's name, which would be looked for anew at each node.
+fn owners(alloc: Global, k: &Knowledge) -> Result<Vec<Option<WordId>>, Memory>
+    ensures { IfOk result (λ owners. owners.items ≡ map (λ e. representative (theory_of k.now) e.0) (theory_of k.now).assertions) }
+{
+    let mut owners = Vec::with_capacity(alloc, k.assertions().len())?;
+    for entry in k.assertions() {
+        owners.push(k.representative(entry.0))?;
+    }
+    Ok(owners)
+}
+
+fn named_node(
+    alloc: Global,
+    k: &Knowledge,
+    owners: &[Option<WordId>],
+    root: WordId,
+) -> Result<Node, Memory>
+    requires { owners.now ≡ map (λ e. representative (theory_of k.now) e.0) (theory_of k.now).assertions }
     ensures { IfOk result (λ node. vertex_of node ≡ first_node (theory_of k.now) (asserted (theory_of k.now) root)) }
 {
-    first_node(alloc, k, asserted(alloc, k, root)?)
+    first_node(alloc, k, asserted(alloc, k, owners, root)?)
 }
 
 // The classes that are asserted of the names with a representative.
-fn asserted(alloc: Global, k: &Knowledge, root: WordId) -> Result<Classes, Memory>
+fn asserted(
+    alloc: Global,
+    k: &Knowledge,
+    owners: &[Option<WordId>],
+    root: WordId,
+) -> Result<Classes, Memory>
+    requires { owners.now ≡ map (λ e. representative (theory_of k.now) e.0) (theory_of k.now).assertions }
     ensures { IfOk result (λ classes. concepts_of classes ≡ asserted (theory_of k.now) root) }
 {
     let mut classes = Classes::new(alloc);
-    for entry in k.assertions() {
-        if is_represented(k, entry.0, root) {
+    let entries = k.assertions();
+    for (place, entry) in entries.iter().enumerate() {
+        if is_owned(k, owners[place], entry.0, root) {
             classes.push(entry.1.copy(alloc)?)?;
         }
     }
     Ok(classes)
 }
 
-fn is_represented(k: &Knowledge, name: WordId, root: WordId) -> bool
+// Whether the representative of a name is this one.
+fn is_owned(k: &Knowledge, owner: Option<WordId>, name: WordId, root: WordId) -> bool
+    requires { owner ≡ representative (theory_of k.now) name }
     ensures { result ≡ passes (representative (theory_of k.now) name) (is_word root) }
 {
-    match k.representative(name) {
+    match owner {
         Some(own) => root.0 == own.0,
         None => false,
     }
@@ -106,16 +132,17 @@ pub(crate) fn label_with(alloc: Global, k: &Knowledge, class: &Class) -> Result<
     label_of(alloc, k, classes.as_slice())
 }
 
-fn first_edges(alloc: Global, k: &Knowledge) -> Result<Vec<Edge>, Memory>
-    ensures { IfOk result (λ edges. edges.items ≡ filter_map (first_edge (theory_of k.now)) (theory_of k.now).edges) }
+// Adds the edges of the property assertions.
+fn join_first_edges(k: &Knowledge, b: Branch) -> Result<Branch, Memory>
+    ensures { IfOk result (λ joined. graph_of joined ≡ record { nodes = (graph_of b).nodes; edges = (graph_of b).edges ++ filter_map (first_edge (theory_of k.now)) (theory_of k.now).edges }) }
 {
-    let mut edges = Vec::new(alloc);
+    let mut joined = b;
     for entry in k.edges() {
         if let Some(edge) = first_edge(k, *entry) {
-            edges.push(edge)?;
+            joined.join(edge)?;
         }
     }
-    Ok(edges)
+    Ok(joined)
 }
 
 // The edge of a property assertion, between the nodes of its names.

@@ -2,7 +2,7 @@
 use Rattle.std.proofs.Common.{◌≡◌, ℕ, zero, suc, ◌+◌, ◌<◌, ◌≤◌, Bool, true, cond, List, [], ◌∷◌, ◌++◌, length, get_or, set, take, drop, All, AllPairs, Option, Some, refl, sym, ap, subst, ◌∙◌, arith}
 use Rattle.std.specs.Prelude.{IsTrue, IfOk, Result, Ok, Err}
 use Rattle.std.specs.List.{slice_get, insert, remove}
-use Rattle.std.specs.Option.{option_and_then}
+use Rattle.std.specs.Option.{option_and_then, IsSomeAnd}
 use Rattle.std.proofs.lemmas.List.{set-get_or, get_or-set_same}
 use Rattle.std.proofs.lemmas.Option.{get_or_from_slice_get, slice_get_within}
 use Rattle.wiki_base.specs.declared.numbers.WordId.{WordId}
@@ -115,6 +115,15 @@ module _ (inside : State) (senses : List (List Sense)) (model : CheckedModel) (n
 
   pub gap_known : (at : ℕ) → HasPlace now.state.articles word at → kept_claims model ≡ known_around inside.articles senses place at [] at
   gap_known at there = keeping.known ∙ known_in-gap inside.articles senses place at (gap at there)
+
+  -- what is kept of the article has that place
+  pub gap_own : (at : ℕ) → HasPlace now.state.articles word at → IsSomeAnd (slice_get senses place) (λ own. at ≤ length own)
+  gap_own at there =
+      let around = gap at there in
+      let many = around.many in
+      let within = around.within in
+      let fits : at ≤ length around.own = omega (arith, many, within) in
+      subst (λ (o : Option (List Sense)). IsSomeAnd o (λ own. at ≤ length own)) (sym around.meant) fits
 
   -- the place of a sentence
   pub spot : (at : ℕ) → HasSentence now.state.articles word at → IsAround inside.articles senses place at (at + 1)

@@ -209,7 +209,7 @@ keeps-changed state senses model word place from to ordered here around change s
 
 -- ---- what is known without the sentence
 
-known_of-split : (ss : List Sentence) (ms : List Sense) (at : ℕ) → length ms ≡ length ss
+pub known_of-split : (ss : List Sentence) (ms : List Sense) (at : ℕ) → length ms ≡ length ss
     → known_of ss (meanings_in ms) ≡ known_of (take at ss) (meanings_in (take at ms)) ++ known_of (drop at ss) (meanings_in (drop at ms))
 known_of-split ss ms at same =
     ap (λ (xs : List Sentence). known_of xs (meanings_in ms)) (sym (take-append-drop at ss))

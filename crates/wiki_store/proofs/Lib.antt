@@ -14,3 +14,4 @@ pub mod SameMeanings
 pub mod WordKeeping
 pub mod FindLemmas
 pub mod RewordLemmas
+pub mod JoiningLemmas

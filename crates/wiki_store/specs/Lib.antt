@@ -3,3 +3,4 @@ pub mod Spending
 pub mod Step
 pub mod Rewording
 pub mod Sameness
+pub mod Settled

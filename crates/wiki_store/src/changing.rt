@@ -12,10 +12,12 @@ ghost use Rattle.wiki_parts.specs.Meanings.{Means};
 ghost use Rattle.wiki_parts.specs.Parsing.{tokens_of};
 ghost use Rattle.wiki_parts.specs.Places.{word_named, sentence_named};
 ghost use Rattle.wiki_parts.specs.Refusing.{HasBadStatus, may_reassert};
+ghost use Rattle.wiki_store.specs.Settled.{IsTrueIn};
 ghost use Rattle.wiki_store.specs.Spending.{SpendsBeyondKept};
 ghost use Rattle.wiki_store.specs.Step.{Step, Refuses, with_replaced, with_marked};
 
 use crate::adding::Fresh;
+use crate::joining::{is_settled, join, stated};
 use crate::removing::model_without;
 use crate::standing::standing;
 use crate::store::Store;
@@ -65,6 +67,56 @@ impl Store {
 
     // Stores a sentence in place of another with the status that it gets, where the other one has left what is known.
     fn replace(&mut self, fresh: Fresh) -> Result<Status, Memory>
+        requires open { CanChange self.old.state.articles fresh.word }
+        requires place { HasSentence self.old.state.articles fresh.word fresh.at }
+        requires few { length fresh.tokens ≤ MOST_TOKENS }
+        requires means { Means self.old.state.grammar self.old.state.words fresh.tokens (meaning_shown fresh.sense) }
+        ensures status { IfOk result (λ status. IsStatusOf (with_replaced self.old.state fresh.word fresh.at (record { tokens = fresh.tokens; status = Status.Asserted })) (meaning_shown fresh.sense) status) }
+        ensures after { IfOk result (λ status. self.new.state ≡ with_replaced self.old.state fresh.word fresh.at (record { tokens = fresh.tokens; status = status })) }
+        ensures spent { IfOk result (λ status. status ≡ Status.RedBudget → (claims : List Claim) → Knows (with_replaced self.old.state fresh.word fresh.at (record { tokens = fresh.tokens; status = Status.Asserted })) claims → ¬ IsModel self.old.interpretation claims) }
+        ensures memory { OnErr result (self.new ≡ self.old) }
+    {
+        if is_settled(&self.kept, &fresh.sense) {
+            self.replace_true(fresh)
+        } else {
+            self.replace_judged(fresh)
+        }
+    }
+
+    // Stores a statement that is true in the kept interpretation in place of another sentence.
+    fn replace_true(&mut self, fresh: Fresh) -> Result<Status, Memory>
+        requires open { CanChange self.old.state.articles fresh.word }
+        requires place { HasSentence self.old.state.articles fresh.word fresh.at }
+        requires few { length fresh.tokens ≤ MOST_TOKENS }
+        requires means { Means self.old.state.grammar self.old.state.words fresh.tokens (meaning_shown fresh.sense) }
+        requires settled { IsTrueIn self.old.interpretation (meaning_shown fresh.sense) }
+        ensures status { IfOk result (λ status. IsStatusOf (with_replaced self.old.state fresh.word fresh.at (record { tokens = fresh.tokens; status = Status.Asserted })) (meaning_shown fresh.sense) status) }
+        ensures after { IfOk result (λ status. self.new.state ≡ with_replaced self.old.state fresh.word fresh.at (record { tokens = fresh.tokens; status = status })) }
+        ensures spent { IfOk result (λ status. status ≡ Status.RedBudget → (claims : List Claim) → Knows (with_replaced self.old.state fresh.word fresh.at (record { tokens = fresh.tokens; status = Status.Asserted })) claims → ¬ IsModel self.old.interpretation claims) }
+        ensures memory { OnErr result (self.new ≡ self.old) }
+    {
+        let place = self.place(fresh.word);
+        let at = fresh.at as usize;
+        let own = stated(self.alloc, &fresh.sense)?;
+        join(
+            &mut self.kept,
+            self.articles.as_slice(),
+            &self.senses,
+            place,
+            at,
+            own,
+            at + 1,
+        )?;
+        self.senses[place].set(at, fresh.sense);
+        let (tokens, status) = (fresh.tokens, Status::Asserted);
+        let _ = self
+            .articles
+            .replace(fresh.word, fresh.at, Sentence { tokens, status });
+        Ok(status)
+    }
+
+    // The same by a verdict on all that is known then, if it is a statement.
+    fn replace_judged(&mut self, fresh: Fresh) -> Result<Status, Memory>
         requires open { CanChange self.old.state.articles fresh.word }
         requires place { HasSentence self.old.state.articles fresh.word fresh.at }
         requires few { length fresh.tokens ≤ MOST_TOKENS }
@@ -153,6 +205,37 @@ impl Store {
 
     // Stores the status that a sentence gets which isn't asserted.
     fn restate(&mut self, word: WordId, at: u32) -> Result<Status, Memory>
+        requires open { CanChange self.old.state.articles word }
+        requires place { HasSentence self.old.state.articles word at }
+        requires may { (sentence : TheSentence) → sentence_at self.old.state.articles word at ≡ Some sentence → may_reassert sentence.status ≡ true }
+        ensures status { IfOk result (λ status. (sentence : TheSentence) → sentence_at self.old.state.articles word at ≡ Some sentence → GetStatus (with_marked self.old.state word at Status.Asserted) sentence.tokens status) }
+        ensures after { IfOk result (λ status. self.new.state ≡ with_marked self.old.state word at status) }
+        ensures spent { IfOk result (λ status. status ≡ Status.RedBudget → (claims : List Claim) → Knows (with_marked self.old.state word at Status.Asserted) claims → ¬ IsModel self.old.interpretation claims) }
+        ensures memory { OnErr result (self.new ≡ self.old) }
+    {
+        let place = self.place(word);
+        let here = at as usize;
+        let articles = self.articles.as_slice();
+        let sense = self.senses[place].get(here);
+        if !is_settled(&self.kept, sense) {
+            return self.restate_judged(word, at);
+        }
+        let own = stated(self.alloc, sense)?;
+        join(
+            &mut self.kept,
+            articles,
+            &self.senses,
+            place,
+            here,
+            own,
+            here + 1,
+        )?;
+        self.articles.mark(word, at, Status::Asserted);
+        Ok(Status::Asserted)
+    }
+
+    // Stores it by a verdict on all that is known with it.
+    fn restate_judged(&mut self, word: WordId, at: u32) -> Result<Status, Memory>
         requires open { CanChange self.old.state.articles word }
         requires place { HasSentence self.old.state.articles word at }
         requires may { (sentence : TheSentence) → sentence_at self.old.state.articles word at ≡ Some sentence → may_reassert sentence.status ≡ true }

@@ -5,6 +5,7 @@ mod adding;
 mod appending;
 mod causes;
 mod changing;
+mod joining;
 mod lending;
 mod reading;
 mod removing;

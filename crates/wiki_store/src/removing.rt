@@ -8,6 +8,7 @@ ghost use Rattle.wiki_parts.specs.Places.{word_named};
 ghost use Rattle.wiki_parts.specs.Refusing.{may_retract};
 ghost use Rattle.wiki_store.specs.Step.{Step, Refuses};
 
+use crate::joining::leave;
 use crate::store::Store;
 use articles::Article;
 use lists::Copied;
@@ -27,17 +28,17 @@ impl Store {
     {
         let word = self.removable(form, at)?;
         let place = self.place(word);
-        let kept = model_without(
-            self.alloc,
+        let here = at as usize;
+        leave(
+            &mut self.kept,
             self.articles.as_slice(),
             &self.senses,
-            &self.kept,
             place,
-            at,
-        )?;
+            here,
+            here + 1,
+        );
         let _ = self.articles.take(word, at);
-        let _ = self.senses[place].remove(at as usize);
-        self.kept = kept;
+        let _ = self.senses[place].remove(here);
         Ok(Reply::Remove)
     }
 
@@ -49,17 +50,17 @@ impl Store {
     {
         let word = self.retracted(form, at)?;
         let place = self.place(word);
-        let kept = model_without(
-            self.alloc,
+        let here = at as usize;
+        leave(
+            &mut self.kept,
             self.articles.as_slice(),
             &self.senses,
-            &self.kept,
             place,
-            at,
-        )?;
+            here,
+            here + 1,
+        );
         let status = Status::Retracted;
         self.articles.mark(word, at, status);
-        self.kept = kept;
         Ok(Reply::Retract { status })
     }
 

@@ -1,8 +1,4 @@
-use Rattle.std.proofs.Common.{◌≡◌, ℕ, ◌-◌, ◌<◌, ◌≤◌, length, map, List}
-use Rattle.std.specs.Prelude.{slice_index_or}
-use Rattle.std.specs.declared.cmp.Ordering.TheVariants.{Less}
-use Rattle.derivation_trees.specs.declared.menus.Group.{Group}
-use Rattle.derivation_trees.specs.Menus.{entry_cmp}
+use Rattle.std.proofs.Common.{◌-◌, map}
 use Rattle.derivations.specs.Entries.{shown}
 use Rattle.derivations.proofs.EntryLemmas.{Between}
 use Rattle.chart.proofs.entries.place_for.Given as goal

@@ -1,7 +1,6 @@
 use Rattle.std.proofs.Common.{◌≡◌, ℕ, ◌+◌, List, [], map, drop, length, rules, sym, ◌∙◌, ap, subst, Bor}
 use Rattle.wiki_base.specs.Token.{IsToken}
-use Rattle.derivation_trees.specs.declared.menus.Group.TheVariants.{Function}
-use Rattle.derivations.specs.Entries.{shown, texts_of, goes_on, tried, all_tried, functions_in, IsInOrder}
+use Rattle.derivations.specs.Entries.{shown, texts_of, goes_on, all_tried, functions_in, IsInOrder}
 use Rattle.derivations.proofs.EntryLemmas.{tried_in_order}
 use Rattle.derivations.proofs.TypingLemmas.{texts_get, texts_length, one_text_tried}
 use Rattle.chart.proofs.menus.try_terminals.Goals as goal
@@ -16,4 +15,4 @@ loop-text-preserved c =
     let test = goes_on c.args.grammar.now c.args.lexicon.now c.args.tokens.now in
     let nothing : Bor (List ℕ) = record { ref_ptr = (0, 0); now = [] } in
     let old = map shown c.loop-text.entries.items in
-    record { ordered = subst IsInOrder (sym c.in_ok-consider.ensures.entries) (tried_in_order test _ old c.loop-text.invariant.ordered); gathered = ap (all_tried test (functions_in (texts_of (drop (c.loop-text.text-index + 1) c.args.texts.now)))) c.in_ok-consider.ensures.entries ∙ one_text_tried test c.args.texts.now c.loop-text.text-index nothing old (search rules) ∙ c.loop-text.invariant.gathered; tried = c.in_ok-consider.ensures.tried }
+    record { ordered = subst IsInOrder (sym c.in_ok-consider.ensures.entries) (tried_in_order test _ old c.loop-text.invariant.ordered); gathered = ap (all_tried test (functions_in (texts_of (drop (c.loop-text.text-index + 1) c.args.texts.now)))) c.in_ok-consider.ensures.entries ∙ one_text_tried test c.args.texts.now c.loop-text.text-index nothing old (search rules) ∙ c.loop-text.invariant.gathered }

@@ -1,4 +1,4 @@
-use Rattle.std.proofs.Common.{◌≡◌, ◌+◌, ◌<◌, map, drop, length, get_or, rules, sym, ◌∙◌, ap, subst}
+use Rattle.std.proofs.Common.{◌≡◌, ◌+◌, ◌<◌, map, drop, length, get_or, sym, ◌∙◌, ap, subst}
 use Rattle.wiki_base.specs.Text.{IsText}
 use Rattle.derivation_trees.specs.Menus.{group_of}
 use Rattle.derivations.specs.Entries.{shown, goes_on, all_tried, tried, IsInOrder}
@@ -20,4 +20,4 @@ loop-text-preserved c =
     let step : map shown c.consider.new.entries.items ≡ tried test (group, c.text-item.result) old = c.in_ok-consider.ensures.entries ∙ ap (λ g. tried test (g, c.as_str.result.now) old) c.of_kind-group.ensures ∙ ap (λ t. tried test (group, t) old) c.as_str.ensures.value in
     let is : c.text-item.result ≡ get_or texts c.loop-text.text-index c.text-item.result = c.text-item.is ∙ ap (λ ts. get_or ts c.loop-text.text-index c.text-item.result) c.as_slice-text-items.ensures in
     let lt : c.loop-text.text-index < length texts = subst (λ ts. c.loop-text.text-index < length ts) c.as_slice-text-items.ensures c.loop-text-test.true in
-    record { ordered = subst IsInOrder (sym step) (tried_in_order test (group, c.text-item.result) old c.loop-text.invariant.ordered); gathered = ap (all_tried test (map (λ text. (group, text)) (drop (c.loop-text.text-index + 1) texts))) step ∙ one_tried test group texts c.loop-text.text-index c.text-item.result old lt is ∙ c.loop-text.invariant.gathered; tried = c.in_ok-consider.ensures.tried }
+    record { ordered = subst IsInOrder (sym step) (tried_in_order test (group, c.text-item.result) old c.loop-text.invariant.ordered); gathered = ap (all_tried test (map (λ text. (group, text)) (drop (c.loop-text.text-index + 1) texts))) step ∙ one_tried test group texts c.loop-text.text-index c.text-item.result old lt is ∙ c.loop-text.invariant.gathered }

@@ -6,6 +6,4 @@ use Rattle.chart_table.proofs.ends.finished.Goals as goal
 
 pub returns : goal.returns
 returns c =
-    let numbers = c.from_vec-numbers.result in
-    let binds = c.args.state.now.binds in
-    subst (λ l. IfOk c.finished_all.result (λ ends. ends ≡ l)) (finished_is c.args.setting.now c.args.rule.now c.args.before.now c.args.state.now c.args.plan.now.terms c.args.plan.now.places c.args.plan.now.own c.len.result numbers c.as_slice-4.result.now c.in_ok-terms.terms c.as_slice-3.result.now c.in_ok-one.one c.in_ok-bounds.bounds c.as_slice-5.result.now c.requires.terms c.requires.places c.requires.own c.len.ensures (c.from_vec-numbers.ensures ∙ c.in_ok-variables.ensures) c.as_slice-4.ensures (c.in_ok-terms.ensures ∙ ap as_terms c.as_slice.ensures) c.as_slice-3.ensures (c.in_ok-one.ensures ∙ ap (λ b. b ∷ []) c.as_slice-2.ensures) c.in_ok-bounds.ensures c.as_slice-5.ensures) c.finished_all.ensures
+    subst (λ l. IfOk c.finished_all.result (λ ends. ends ≡ l)) (finished_is c.args.setting.now c.args.rule.now c.args.before.now c.args.state.now c.args.plan.now c.in_ok-terms.terms c.as_slice-3.result.now c.in_ok-one.one c.in_ok-bounds.bounds c.as_slice-4.result.now c.requires (c.in_ok-terms.ensures ∙ ap as_terms c.as_slice.ensures) c.as_slice-3.ensures (c.in_ok-one.ensures ∙ ap (λ b. b ∷ []) c.as_slice-2.ensures) c.in_ok-bounds.ensures c.as_slice-4.ensures) c.finished_all.ensures

@@ -28,26 +28,26 @@ decreases-push_state l = 8 * l.depth + 2
 abbrev pub decreases-push_category : goal.decreases-push_category
 decreases-push_category l = 8 * l.depth + 1
 
-abbrev pub invariant-category_ends-loop-rule : goal.invariant-category_ends-loop-rule
-invariant-category_ends-loop-rule l =
+abbrev pub invariant-category_ends-loop-number : goal.invariant-category_ends-loop-number
+invariant-category_ends-loop-number l =
     record {
-      rows : AreRows l.setting l.rows;
-      ends : HasEndsUpTo l.setting l.name l.known (record { place = l.place; list = l.start }) l.rule-index l.ends;
-      cuts : HasCutsUpTo l.setting l.name l.known (record { place = l.place; list = l.start }) l.rule-index l.cuts;
+      rows : AreRows l.setting l.aim l.rows;
+      ends : HasEndsUpTo l.setting l.name l.known (record { place = l.place; list = l.start }) l.number l.ends;
+      cuts : HasCutsUpTo l.setting l.aim l.name l.known (record { place = l.place; list = l.start }) l.number l.cuts;
     }
 
-abbrev pub invariant-last_states-loop-element : goal.invariant-last_states-loop-element
-invariant-last_states-loop-element l =
+abbrev pub invariant-last_states-loop-place : goal.invariant-last_states-loop-place
+invariant-last_states-loop-place l =
     record {
-      rows : AreRows l.setting l.rows;
-      after : AreAfter l.setting l.rule l.fn.starts l.number l.element-index l.states;
-      cuts : HasHeads l.setting l.rule (CutBefore l.setting l.rule l.fn.starts l.element-index) l.fn.cuts l.cuts;
+      rows : AreRows l.setting l.aim l.rows;
+      after : AreAfter l.setting l.rule l.fn.starts l.number l.place l.states;
+      cuts : HasHeads l.setting l.rule (CutBefore l.setting l.aim l.rule l.fn.starts l.place) l.fn.cuts l.cuts;
     }
 
 abbrev pub invariant-next_states-loop-state : goal.invariant-next_states-loop-state
 invariant-next_states-loop-state l =
     record {
-      rows : AreRows l.setting l.rows;
+      rows : AreRows l.setting l.aim l.rows;
       steps : AreSteps l.setting l.rule l.number l.element (take l.state-index l.states) l.news;
-      cuts : HasHeads l.setting l.rule (λ v. Among (Enters l.setting l.element v) (take l.state-index l.states)) l.fn.cuts l.cuts;
+      cuts : HasHeads l.setting l.rule (λ j v. Among (Enters l.setting l.aim l.element j v) (take l.state-index l.states)) l.fn.cuts l.cuts;
     }

@@ -7,7 +7,8 @@ use Rattle.codeco_terms.specs.declared.elements.Element.TheVariants.{Sub}
 use Rattle.derivation_trees.specs.Derives.{At}
 use Rattle.chart_trees.proofs.WayLemmas.{steps_none, steps_turn, steps_done, reached_first, reached_turn, reached_done}
 use Rattle.chart_trees.proofs.OutcomeLemmas.{instance_trees, no_trees, trees_none, trees_turn, trees_done, rule_trees, other_trees, up_to_none, up_to_turn, up_to_done}
-use Rattle.chart_trees.proofs.TableLemmas.{row_found, tables_more, row_new, row_below, plain_pushed, steps_same, child_pushed}
+use Rattle.chart_trees.proofs.TableLemmas.{rule_numbered, row_found, tables_more, row_new, row_below, plain_pushed, steps_same, child_pushed}
+use Rattle.chart_table.proofs.PlanLemmas.{plan_there, plan_is}
 use Rattle.chart_trees.proofs.table.+best.Goals as goal
 
 pub best_of-returns-in-Some-clause-row : goal.best_of-returns-in-Some-clause-row
@@ -22,23 +23,30 @@ pub best_of-returns-clause-row : goal.best_of-returns-clause-row
 best_of-returns-clause-row t c =
     row_new c.args.setting.now c.all_outcomes.new.tables.rows c.push_new_row.new.rows (record { asked = c.args.asked; place = c.args.place; list = c.args.list; outcomes = c.in_ok-outcomes.outcomes }) c.in_ok-number.number c.in_ok-start.start c.in_ok-number.ensures.rows c.in_ok-number.ensures.number (c.in_ok-start.ensures ∙ c.as_slice-3.ensures) c.in_ok-outcomes.ensures.best
 
-pub all_outcomes-loop-rule-init : goal.all_outcomes-loop-rule-init
-all_outcomes-loop-rule-init t c = record {
+pub all_outcomes-loop-index-init : goal.all_outcomes-loop-index-init
+all_outcomes-loop-index-init t c = record {
   tables = c.requires.tables;
   number = omega arith;
   trees = up_to_none c.args.setting.now c.args.asked.now (record { place = c.args.place; list = c.args.start.now }) c.new-out.result c.new-out.ensures;
 }
 
-pub all_outcomes-loop-rule-preserved : goal.all_outcomes-loop-rule-preserved
-all_outcomes-loop-rule-preserved t c = record {
+pub all_outcomes-loop-index-preserved : goal.all_outcomes-loop-index-preserved
+all_outcomes-loop-index-preserved t c = record {
   tables = c.in_ok-push_named.ensures.tables;
-  number = omega (arith, c.in_ok-number.ensures, c.loop-rule.invariant.number);
-  trees = up_to_turn c.args.setting.now c.args.asked.now (record { place = c.args.place; list = c.args.start.now }) c.loop-rule.rule-index c.loop-rule.number c.loop-rule.out c.push_named.new.out c.loop-rule.invariant.number c.loop-rule.invariant.trees c.in_ok-push_named.ensures.trees;
+  number = omega (arith, c.in_ok-number.ensures, c.loop-index.invariant.number);
+  trees = up_to_turn c.args.setting.now c.args.asked.now (record { place = c.args.place; list = c.args.start.now }) c.loop-index.index c.loop-index.number c.loop-index.out c.push_named.new.out c.loop-index.invariant.number c.loop-index.invariant.trees c.in_ok-push_named.ensures.trees;
 }
 
 pub all_outcomes-returns-clause-best : goal.all_outcomes-returns-clause-best
 all_outcomes-returns-clause-best t c =
-    up_to_done c.args.setting.now c.args.asked.now (record { place = c.args.place; list = c.args.start.now }) c.loop-rule.rule-index c.as_slice-rule-items.result.now c.loop-rule.out (search rules) c.loop-rule-test.false c.loop-rule.invariant.trees
+    up_to_done c.args.setting.now c.args.asked.now (record { place = c.args.place; list = c.args.start.now }) c.loop-index.index c.as_slice-rules.result.now c.loop-index.out (search rules) c.loop-index-test.false c.loop-index.invariant.trees
+
+pub all_outcomes-plan_for-plan-requires : goal.all_outcomes-plan_for-plan-requires
+all_outcomes-plan_for-plan-requires t c =
+    plan_there c.args.setting.now c.as_slice-rules.result.now c.loop-index.index c.args.plans.now (search rules) c.loop-index-test.true c.requires.plans
+
+pub all_outcomes-push_named-requires : goal.all_outcomes-push_named-requires
+all_outcomes-push_named-requires t c = (omega arith, (c.requires.limited, (c.requires.plans, (c.loop-index.invariant.tables, (rule_numbered c.args.setting.now c.as_slice-rules.result.now c.loop-index.index c.loop-index.number c.index-rules-index.result (search rules) c.loop-index.invariant.number c.loop-index-test.true c.index-rules-index.is, plan_is c.args.setting.now c.as_slice-rules.result.now c.loop-index.index c.index-rules-index.result c.plan_for-plan.result.now c.args.plans.now (search rules) c.loop-index-test.true c.index-rules-index.is c.plan_for-plan.ensures c.requires.plans)))))
 
 pub push_named-returns-clause-trees : goal.push_named-returns-clause-trees
 push_named-returns-clause-trees t c =

@@ -35,12 +35,12 @@ decreases-push_steps l = 10 * l.depth + 2
 abbrev pub decreases-push_child : goal.decreases-push_child
 decreases-push_child l = 10 * l.depth + 1
 
-abbrev pub invariant-all_outcomes-loop-rule : goal.invariant-all_outcomes-loop-rule
-invariant-all_outcomes-loop-rule l =
+abbrev pub invariant-all_outcomes-loop-index : goal.invariant-all_outcomes-loop-index
+invariant-all_outcomes-loop-index l =
     record {
       tables : AreTables l.setting l.tables;
-      number : l.number ≡ l.rule-index + 1;
-      trees : HasTreesUpTo l.setting l.asked (record { place = l.place; list = l.start }) l.rule-index l.out;
+      number : l.number ≡ l.index + 1;
+      trees : HasTreesUpTo l.setting l.asked (record { place = l.place; list = l.start }) l.index l.out;
     }
 
 abbrev pub invariant-push_instances-loop-values : goal.invariant-push_instances-loop-values

@@ -1,4 +1,4 @@
-use Rattle.std.proofs.Common.{◌<◌, length, sym, ◌∙◌, arith}
+use Rattle.std.proofs.Common.{◌<◌, length, sym, arith}
 use Rattle.logic_terms.specs.Known.{theory_of}
 use Rattle.tableau_rules.specs.Clashes.{clashes_at}
 use Rattle.tableau_rules.specs.Graph.{label_at}

@@ -1,4 +1,4 @@
-use Rattle.std.proofs.Common.{◌<◌, length, sym, ◌∙◌, arith}
+use Rattle.std.proofs.Common.{◌<◌, length, sym, arith}
 use Rattle.std.specs.List.{list_any}
 use Rattle.logic_terms.specs.Known.{theory_of}
 use Rattle.logic_terms.proofs.Places.{some_below_passes}

@@ -1,4 +1,4 @@
-use Rattle.std.proofs.Common.{◌≡◌, ℕ, ◌<◌, length, sym, ap, arith}
+use Rattle.std.proofs.Common.{ℕ, ◌<◌, length, sym, ap, arith}
 use Rattle.std.specs.Option.{option_map}
 use Rattle.logic_terms.specs.Known.{theory_of}
 use Rattle.tableau_rules.specs.Graph.{label_at}

@@ -1,8 +1,6 @@
-use Rattle.std.proofs.Common.{◌≡◌, true, false, take, map}
-use Rattle.std.specs.Prelude.{not}
-use Rattle.std.specs.List.{list_any, list_all}
-use Rattle.logic_terms.specs.Complement.{complement}
-use Rattle.logic_terms.specs.Same.{same_concept, has_concept}
+use Rattle.std.proofs.Common.{◌≡◌, false, take, map}
+use Rattle.std.specs.List.{list_any}
+use Rattle.logic_terms.specs.Same.{same_concept}
 use Rattle.logic_terms.specs.Shown.{concept_of}
 use Rattle.tableau_rules.proofs.label.has.Given as goal
 

@@ -1,8 +1,7 @@
-use Rattle.std.proofs.Common.{◌≡◌, true, false, take, map}
+use Rattle.std.proofs.Common.{◌≡◌, true, take, map}
 use Rattle.std.specs.Prelude.{not}
-use Rattle.std.specs.List.{list_any, list_all}
-use Rattle.logic_terms.specs.Complement.{complement}
-use Rattle.logic_terms.specs.Same.{same_concept, has_concept}
+use Rattle.std.specs.List.{list_all}
+use Rattle.logic_terms.specs.Same.{has_concept}
 use Rattle.logic_terms.specs.Shown.{concept_of}
 use Rattle.tableau_rules.proofs.label.lacks_all_of.Given as goal
 

@@ -1,8 +1,7 @@
 use Rattle.std.proofs.Common.{map, sym, ap, ◌∙◌}
 use Rattle.std.specs.Prelude.{not}
-use Rattle.std.specs.List.{list_any, list_all}
-use Rattle.logic_terms.specs.Complement.{complement}
-use Rattle.logic_terms.specs.Same.{same_concept, has_concept}
+use Rattle.std.specs.List.{list_any}
+use Rattle.logic_terms.specs.Same.{has_concept}
 use Rattle.logic_terms.specs.Shown.{concept_of}
 use Rattle.tableau_rules.proofs.MapWalks.{map_passes, map_some_more, map_all}
 use Rattle.tableau_rules.proofs.label.lacks_some_of.Goals as goal

@@ -1,4 +1,4 @@
-use Rattle.std.proofs.Common.{◌≡◌, ℕ, ◌+◌, ltb, map, length, take, filter, subst, sym, ap, ◌∙◌, arith, true, false}
+use Rattle.std.proofs.Common.{◌≡◌, ℕ, ◌+◌, ltb, map, length, sym, ap, ◌∙◌, arith, true, false}
 use Rattle.std.specs.Prelude.{not}
 use Rattle.logic_terms.specs.Complement.{complement}
 use Rattle.logic_terms.specs.Same.{has_concept}

@@ -2,7 +2,7 @@ use Rattle.std.proofs.Common.{◌&&◌, map, sym, ap, ◌∙◌}
 use Rattle.std.specs.Prelude.{not}
 use Rattle.std.specs.List.{list_any}
 use Rattle.logic_terms.specs.Interpretation.{is_word}
-use Rattle.logic_terms.specs.Known.{theory_of, stated}
+use Rattle.logic_terms.specs.Known.{theory_of}
 use Rattle.logic_terms.specs.Same.{has_concept}
 use Rattle.logic_terms.specs.Shown.{concept_of}
 use Rattle.tableau_rules.proofs.Lists.{lacks_unfolding_as_list}

@@ -1,4 +1,3 @@
-use Rattle.std.proofs.Common.{◌≡◌}
 use Rattle.lexicon.specs.Readings.{readings_of}
 use Rattle.chart.proofs.ChartLemmas.{chart_grown}
 use Rattle.chart.proofs.charts.Chart.advance.Goals as goal

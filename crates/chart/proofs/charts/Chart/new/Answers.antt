@@ -1,4 +1,4 @@
-use Rattle.std.proofs.Common.{◌≡◌, ◌∙◌, ◌++◌, ◌∷◌, [], ap}
+use Rattle.std.proofs.Common.{◌∙◌, ◌++◌, ◌∷◌, [], ap}
 use Rattle.chart.proofs.ChartLemmas.{chart_none}
 use Rattle.chart.proofs.charts.Chart.new.Goals as goal
 

@@ -1,0 +1,92 @@
+-- What cut-off phrases are asked for next.
+use Rattle.std.specs.Prelude.{◌≡◌, ℕ, ◌==◌, Bool, true, false, List, take, slice_get, Option, Some, None, ◌⊎◌}
+use Rattle.codeco_terms.specs.declared.values.Value.{Value}
+use Rattle.codeco_terms.specs.declared.categories.Category.{Category}
+use Rattle.codeco_terms.specs.declared.categories.Ground.{Ground}
+use Rattle.codeco_terms.specs.declared.elements.Element.{Element}
+use Rattle.codeco_terms.specs.declared.elements.Element.TheVariants.{Terminal, Preterminal, Sub, Position, Opener, Forward, Strong, Back, NoBack}
+use Rattle.codeco_terms.specs.declared.rules.Rule.{Rule}
+use Rattle.scopes.specs.declared.tests.Test.{Test}
+use Rattle.scopes.specs.Resolution.{agrees}
+use Rattle.derivation_trees.specs.Settings.{Setting, matches_terminal}
+use Rattle.derivation_trees.specs.Instances.{under, own_values, is_instance}
+use Rattle.derivation_trees.specs.Derives.{At, fits, rule_with}
+use Rattle.derivation_trees.specs.Partial.{CutNode, stopped, entered, cut_end, next_category}
+use Rattle.chart_table.specs.declared.asks.Ask.{Ask}
+use Rattle.chart_table.specs.declared.asks.Ask.TheVariants as ask
+use Rattle.chart_table.specs.Leading.{Path}
+use Rattle.chart_table.specs.Branches.{OneOf}
+
+-- the element takes a token that reads so
+abbrev pub takes_reading : List (ℕ × Value) → Ground → Element → Bool
+takes_reading values reading (Terminal t) = false
+takes_reading values reading (Preterminal c) = agrees reading (under values c)
+takes_reading values reading (Sub c) = false
+takes_reading values reading (Position x) = false
+takes_reading values reading Opener = false
+takes_reading values reading (Forward c) = false
+takes_reading values reading (Strong c) = false
+takes_reading values reading (Back positive negative) = false
+takes_reading values reading (NoBack patterns) = false
+
+-- the element is the terminal with the number
+abbrev pub takes_terminal : ℕ → Element → Bool
+takes_terminal number (Terminal t) = t == number
+takes_terminal number (Preterminal c) = false
+takes_terminal number (Sub c) = false
+takes_terminal number (Position x) = false
+takes_terminal number Opener = false
+takes_terminal number (Forward c) = false
+takes_terminal number (Strong c) = false
+takes_terminal number (Back positive negative) = false
+takes_terminal number (NoBack patterns) = false
+
+-- the next element, if there is one, meets the ask in the instance: whatever it is, or it is the terminal, or it is a
+-- preterminal with which the reading agrees
+abbrev pub meets : List (ℕ × Value) → Option Element → Ask → Bool
+meets values next ask.Any = true
+meets values None (ask.Terminal number) = false
+meets values (Some e) (ask.Terminal number) = takes_terminal number e
+meets values None (ask.Reading reading) = false
+meets values (Some e) (ask.Reading reading) = takes_reading values reading e
+
+-- after the first `count` elements of the rule, the next one meets the ask in the instance
+abbrev pub is_met : Rule → List (ℕ × Value) → ℕ → Ask → Bool
+is_met rule values count asks = meets values (slice_get rule.body count) asks
+
+-- where a cut-off node is cut off by itself, its next element meets the ask
+abbrev pub CutMeets : Setting → CutNode → Ask → Type 0
+CutMeets s (stopped number values found children count) asks =
+    (rule : Rule) × (rule_with s.grammar number ≡ Some rule) × (is_met rule values count asks ≡ true)
+CutMeets s (entered number values found children count child) asks = CutMeets s child asks
+
+-- some cut-off node, as a phrase for the category from the place and the list, ends at this place, and there its next element
+-- meets the ask
+abbrev pub AskLeads : Setting → ℕ → Ask → Test → At → Type 0
+AskLeads s halt asks asked at = (cut : CutNode) × (cut_end s cut asked at ≡ Some halt) × CutMeets s cut asks
+
+-- A node that has gone so many elements of its rule is cut off there: it stands at the place and its next element meets the
+-- ask, or a category comes next that is cut off itself.
+abbrev pub AskStops : Setting → ℕ → Ask → Rule → List (ℕ × Value) → ℕ → At → Type 0
+AskStops s halt asks rule values count last =
+    ((last.place ≡ halt) × (is_met rule values count asks ≡ true)) ⊎ ((c : Category) × (next_category rule count ≡ Some c) × AskLeads s halt asks (under values c) last)
+
+-- the rule is cut off in the instance, as a phrase for the category: after some of its elements it stands at the place and
+-- its next element meets the ask, or a category comes next that is cut off itself
+pub record RuleAsks (s : Setting) (halt : ℕ) (asks : Ask) (rule : Rule) (values : List (ℕ × Value)) (asked : Test) (at : At) : Type 0 where
+  pub instance : is_instance s rule values ≡ true
+  pub head : fits (under values rule.head) asked ≡ true
+  pub count : ℕ
+  pub last : At
+  pub path : Path s values (own_values rule values) (take count rule.body) at last
+  pub stop : AskStops s halt asks rule values count last
+
+-- the token at the place meets the ask: it is the terminal, or it reads so
+abbrev pub TokenMeets : Setting → ℕ → Ask → Type 0
+TokenMeets s place ask.Any = ⊥
+TokenMeets s place (ask.Terminal number) = matches_terminal s number place ≡ true
+TokenMeets s place (ask.Reading reading) = (readings : List Ground) × (slice_get s.readings place ≡ Some readings) × OneOf readings reading
+
+-- the token at the place may come there: a cut-off node of the category of sentences asks for it
+abbrev pub Follows : Setting → ℕ → Test → At → Type 0
+Follows s place asked at = (asks : Ask) × TokenMeets s place asks × AskLeads s place asks asked at

@@ -1,0 +1,12 @@
+-- The choices of a step before its last one.
+use Rattle.std.specs.Prelude.{ℕ, ◌+◌, ◌&&◌, Bool, true, List, [], ◌∷◌}
+use Rattle.logic_terms.specs.Theory.{Theory}
+use Rattle.tableau_rules.specs.declared.step.Step.{Step}
+use Rattle.tableau_rules.specs.Graph.{Graph}
+use Rattle.tableau_rules.specs.Rules.{after}
+use Rattle.tableau_rules.specs.Trees.{Tree, closes}
+
+-- whether each of these trees closes the branch after its choice of a step, which are counted from a number on
+abbrev pub close_firsts : Theory → Graph → Step → ℕ → List Tree → Bool
+close_firsts k g step choice [] = true
+close_firsts k g step choice (t ∷ ts) = closes k (after k g step choice) t && close_firsts k g step (choice + 1) ts

@@ -1,0 +1,221 @@
+-- Where the axioms of some sentences of an article stand among all that are known.
+use Rattle.std.proofs.Common.{◌≡◌, ℕ, ◌+◌, ◌-◌, ◌<◌, ◌≤◌, cond, List, [], ◌∷◌, ◌++◌, length, take, drop, Option, Some, None, Result, Ok, Err, OnErr, refl, sym, ap, subst, ◌∙◌, append_assoc, append-nil, arith}
+use Rattle.std.specs.List.{slice_get, insert_slice, remove_range}
+use Rattle.std.specs.Option.{IsSomeAnd}
+use Rattle.std.proofs.lemmas.List.{length-append, length-take-le, length-drop, take-append-drop, drop-drop}
+use Rattle.std.proofs.Math.Seq.{take-append_seam, drop-append_seam, drop-append-add}
+use Rattle.wiki_base.specs.declared.numbers.WordId.{WordId}
+use Rattle.logic_terms.specs.Concept.{Claim}
+use Rattle.logic_terms.specs.Interpretation.{Interpretation}
+use Rattle.logic_terms.specs.Reading.{IsModel}
+use Rattle.owl_eval.specs.declared.checked.CheckedModel.{CheckedModel}
+use Rattle.owl_eval.specs.Checked.{kept_claims}
+use Rattle.reasoner.specs.Verdicts.{IsFiniteModel}
+use Rattle.wiki_talk.specs.declared.statuses.Status.TheVariants.{Asserted, RedBudget}
+use Rattle.articles.specs.declared.sentences.Sentence.{Sentence}
+use Rattle.articles.specs.declared.article.Article.{Article}
+use Rattle.wiki_parts.specs.declared.meanings.Sense.{Sense}
+use Rattle.wiki_parts.specs.Meanings.{Meaning, stating, outside, asking, asking_outside}
+use Rattle.wiki_parts.specs.State.{State}
+use Rattle.wiki_parts.specs.Kept.{stated_by, meanings_in, known_of, known_in, known_around, IsAround, Stands, IsKeeping}
+use Rattle.wiki_store.specs.Settled.{IsTrueIn}
+use Rattle.wiki_store.proofs.AroundLemmas.{known_in-parts, known_around-is}
+use Rattle.wiki_store.proofs.JudgeLemmas.{known_of-split, known_in-gap}
+
+-- ---- lists
+
+-- items come in at a place, and those behind them go, up to another place
+pub replaced : {X : Type 0} (xs own : List X) (first count : ℕ) → first ≤ length xs
+    → remove_range (insert_slice xs first own) (first + length own) (first + length own + count) ≡ take first xs ++ (own ++ drop (first + count) xs)
+replaced {X} xs own first count within =
+    let front : List X = take first xs ++ own in
+    let back : List X = drop first xs in
+    let long : first + length own ≡ length front = ap (λ n. n + length own) (sym (length-take-le first xs within)) ∙ sym (length-append (take first xs) own) in
+    ap (λ (n : ℕ). take n (front ++ back) ++ drop (n + count) (front ++ back)) long
+    ∙ ap (λ (ys : List X). ys ++ drop (length front + count) (front ++ back)) (take-append_seam front back)
+    ∙ ap (λ (ys : List X). front ++ ys) (drop-append-add front back count ∙ drop-drop count first xs)
+    ∙ append_assoc (take first xs) own (drop (first + count) xs)
+
+-- items that came in at a place go
+pub gone : {X : Type 0} (xs own : List X) (first : ℕ) → first ≤ length xs → remove_range (take first xs ++ (own ++ drop first xs)) first (first + length own) ≡ xs
+gone {X} xs own first within =
+    let front : List X = take first xs in
+    let back : List X = drop first xs in
+    let short : first ≡ length front = sym (length-take-le first xs within) in
+    let long : first + length own ≡ length (front ++ own) = ap (λ n. n + length own) short ∙ sym (length-append front own) in
+    ap (λ (n : ℕ). take n (front ++ (own ++ back)) ++ drop (first + length own) (front ++ (own ++ back))) short
+    ∙ ap (λ (ys : List X). ys ++ drop (first + length own) (front ++ (own ++ back))) (take-append_seam front (own ++ back))
+    ∙ ap (λ (ys : List X). front ++ ys)
+    (ap (λ (ys : List X). drop (first + length own) ys) (sym (append_assoc front own back)) ∙ ap (λ (n : ℕ). drop n ((front ++ own) ++ back)) long ∙ drop-append_seam (front ++ own) back)
+    ∙ take-append-drop first xs
+
+-- The same where so many items from the place on are none, by the list that they are put in.
+pub gone-at : {X : Type 0} (xs own all : List X) (first count n : ℕ) → all ≡ take first xs ++ (own ++ drop (first + count) xs) → xs ≡ take first xs ++ ([] ++ drop (first + count) xs)
+    → first + count ≤ length xs → length own ≡ n → (remove_range all first (first + n) ≡ xs) × (first + n ≤ length all)
+gone-at {X} xs own all first count n is none within many =
+    let rest = length-drop (first + count) xs in
+    let front = length-take-le first xs (omega (arith, within)) in
+    let short : length xs ≡ length (take first xs) + length (drop (first + count) xs) = ap length none ∙ length-append (take first xs) (drop (first + count) xs) in
+    let here : first + count ≡ first = omega (arith, rest, front, short, within) in
+    let joined : all ≡ take first xs ++ (own ++ drop first xs) = is ∙ ap (λ (k : ℕ). take first xs ++ (own ++ drop k xs)) here in
+    let long : length all ≡ length (take first xs) + length (own ++ drop first xs) = ap length joined ∙ length-append (take first xs) (own ++ drop first xs) in
+    let more = length-append own (drop first xs) in (
+      ap (λ (ys : List X). remove_range ys first (first + n)) joined
+          ∙ ap (λ (k : ℕ). remove_range (take first xs ++ (own ++ drop first xs)) first (first + k)) (sym many)
+          ∙ gone xs own first (omega (arith, within)),
+      omega (arith, long, more, front, many),
+    )
+
+pub long-insert_slice : {X : Type 0} (xs own : List X) (first : ℕ) → first ≤ length xs → length (insert_slice xs first own) ≡ length xs + length own
+long-insert_slice xs own first within =
+    let front = length-take-le first xs within in
+    let back = length-drop first xs in
+    let both = length-append (take first xs) own in
+    let all = length-append (take first xs ++ own) (drop first xs) in
+    omega (arith, within, front, back, both, all)
+
+five-long : {X : Type 0} (a b m c d : List X) → length (a ++ (b ++ (m ++ (c ++ d)))) ≡ length a + length b + length m + length c + length d
+five-long a b m c d =
+    let one = length-append a (b ++ (m ++ (c ++ d))) in
+    let two = length-append b (m ++ (c ++ d)) in
+    let three = length-append m (c ++ d) in
+    let four = length-append c d in
+    omega (arith, one, two, three, four)
+
+-- a value that is there, with what is true of it
+pub some-there : {X : Type 0} (P : X → Type 0) (o : Option X) → IsSomeAnd o P → (x : X) × (o ≡ Some x) × P x
+some-there P None here = absurd here
+some-there P (Some x) here = (x, refl, here)
+
+-- what is so is so where a call gave an error
+pub either-way : {T E : Type 0} (result : Result T E) (P : Type 0) → P → OnErr result P
+either-way (Ok value) P here = tt
+either-way (Err fault) P here = here
+
+-- the parts of five lists, by how long they are
+parts_of : {X : Type 0} (xs a b m c own : List X) (first count : ℕ) → xs ≡ (a ++ b) ++ (m ++ c) → first ≡ length a + length b → count ≡ length m
+    → take first xs ++ (own ++ drop (first + count) xs) ≡ a ++ (b ++ (own ++ c))
+parts_of {X} xs a b m c own first count is here many =
+    let start : first ≡ length (a ++ b) = here ∙ sym (length-append a b) in
+    ap (λ (ys : List X). take first ys ++ (own ++ drop (first + count) ys)) is
+    ∙ ap (λ (n : ℕ). take n ((a ++ b) ++ (m ++ c)) ++ (own ++ drop (n + count) ((a ++ b) ++ (m ++ c)))) start
+    ∙ ap (λ (ys : List X). ys ++ (own ++ drop (length (a ++ b) + count) ((a ++ b) ++ (m ++ c)))) (take-append_seam (a ++ b) (m ++ c))
+    ∙ ap (λ (ys : List X). (a ++ b) ++ (own ++ ys)) (drop-append-add (a ++ b) (m ++ c) count ∙ ap (λ (n : ℕ). drop n (m ++ c)) many ∙ drop-append_seam m c)
+    ∙ append_assoc a b (own ++ c)
+
+-- ---- what is known
+
+-- what is known of sentences, by those before a place, those from it to before another, and the others
+known_of-three : (ss : List Sentence) (ms : List Sense) (from to : ℕ) → from ≤ to → length ms ≡ length ss
+    → known_of ss (meanings_in ms)
+    ≡ known_of (take from ss) (meanings_in (take from ms))
+    ++ (known_of (take (to - from) (drop from ss)) (meanings_in (take (to - from) (drop from ms))) ++ known_of (drop to ss) (meanings_in (drop to ms)))
+known_of-three ss ms from to rises same =
+    let same_back : length (drop from ms) ≡ length (drop from ss) = length-drop from ms ∙ ap (λ n. n - from) same ∙ sym (length-drop from ss) in
+    let on : from + (to - from) ≡ to = omega (arith, rises) in
+    let before = known_of (take from ss) (meanings_in (take from ms)) in
+    let between = known_of (take (to - from) (drop from ss)) (meanings_in (take (to - from) (drop from ms))) in
+    known_of-split ss ms from same
+    ∙ ap (λ (cs : List Claim). before ++ cs)
+    (known_of-split (drop from ss) (drop from ms) (to - from) same_back
+    ∙ ap (λ (xs : List Sentence). between ++ known_of xs (meanings_in (drop (to - from) (drop from ms)))) (drop-drop (to - from) from ss ∙ ap (λ (n : ℕ). drop n ss) on)
+    ∙ ap (λ (xs : List Sense). between ++ known_of (drop to ss) (meanings_in xs)) (drop-drop (to - from) from ms ∙ ap (λ (n : ℕ). drop n ms) on))
+
+module _ (articles : List Article) (senses : List (List Sense)) (place from to : ℕ) (around : IsAround articles senses place from to) where
+  -- what is known before an article's sentences, of those before a place, from it to before another, and behind that
+  unfoldable pub front : List Claim
+  front = known_in (take place articles) (take place senses)
+
+  unfoldable pub before : List Claim
+  before = known_of (take from around.article.sentences) (meanings_in (take from around.own))
+
+  unfoldable pub between : List Claim
+  between = known_of (take (to - from) (drop from around.article.sentences)) (meanings_in (take (to - from) (drop from around.own)))
+
+  unfoldable pub behind : List Claim
+  behind = known_of (drop to around.article.sentences) (meanings_in (drop to around.own)) ++ known_in (drop (place + 1) articles) (drop (place + 1) senses)
+
+  known-parts : known_in articles senses ≡ (front ++ before) ++ (between ++ behind)
+  unfolding front before between behind
+  known-parts =
+      let back = known_in (drop (place + 1) articles) (drop (place + 1) senses) in
+      let later = known_of (drop to around.article.sentences) (meanings_in (drop to around.own)) in
+      known_in-parts articles senses place around.article around.own around.here around.meant
+      ∙ ap (λ (cs : List Claim). front ++ (cs ++ back)) (known_of-three around.article.sentences around.own from to around.rises around.many)
+      ∙ ap (λ (cs : List Claim). front ++ cs) (append_assoc before (between ++ later) back ∙ ap (λ (cs : List Claim). before ++ cs) (append_assoc between later back))
+      ∙ sym (append_assoc front before (between ++ (later ++ back)))
+
+  pub known-long : length (known_in articles senses) ≡ length front + length before + length between + length behind
+  known-long =
+      ap length known-parts ∙ length-append (front ++ before) (between ++ behind)
+      ∙ (let one = length-append front before in let other = length-append between behind in omega (arith, one, other))
+
+  -- how much is known of the sentences before the second place
+  pub upto-long : length (known_of (take to around.article.sentences) (meanings_in (take to around.own))) ≡ length before + length between
+  unfolding before between
+  upto-long =
+      let later = known_of (drop to around.article.sentences) (meanings_in (drop to around.own)) in
+      let upto = known_of (take to around.article.sentences) (meanings_in (take to around.own)) in
+      let same : upto ++ later ≡ before ++ (between ++ later) =
+      sym (known_of-split around.article.sentences around.own to around.many) ∙ known_of-three around.article.sentences around.own from to around.rises around.many in
+      let left = length-append upto later in
+      let right = length-append before (between ++ later) in
+      let inner = length-append between later in
+      let long : length (upto ++ later) ≡ length (before ++ (between ++ later)) = ap length same in
+      omega (arith, left, right, inner, long)
+
+  -- they stand there among all
+  pub stand : (first count : ℕ) → first ≡ length front + length before → count ≡ length between → (own : List Claim)
+      → known_around articles senses place from own to ≡ take first (known_in articles senses) ++ (own ++ drop (first + count) (known_in articles senses))
+  unfolding front before behind
+  stand first count here many own =
+      known_around-is articles senses place from to own around.article around.own around.here around.meant
+      ∙ sym (parts_of (known_in articles senses) front before between behind own first count known-parts here many)
+
+-- ---- statements that are true in an interpretation
+
+pub settled-states : (i : Interpretation) (meaning : Meaning) → IsTrueIn i meaning → IsModel i (stated_by meaning)
+settled-states i (stating claims) true_there = true_there
+settled-states i (outside cause) true_there = absurd true_there
+settled-states i (asking concept) true_there = absurd true_there
+settled-states i (asking_outside cause) true_there = absurd true_there
+
+-- such a statement is asserted where all axioms have a model
+pub settled-stands : (i j : Interpretation) (claims : List Claim) (names : List WordId) (budget : ℕ) (meaning : Meaning) → IsTrueIn i meaning → IsFiniteModel j claims
+    → Stands claims names budget meaning Asserted
+settled-stands i j claims names budget (stating []) true_there finite = refl
+settled-stands i j claims names budget (stating (claim ∷ own)) true_there finite = (j, finite)
+settled-stands i j claims names budget (outside cause) true_there finite = absurd true_there
+settled-stands i j claims names budget (asking concept) true_there finite = absurd true_there
+settled-stands i j claims names budget (asking_outside cause) true_there finite = absurd true_there
+
+-- it isn't red then
+pub not-red : Asserted ≡ RedBudget → ⊥
+not-red red = cc
+
+-- what is kept beside a state may have another model of the same axioms
+pub keeps-claims : (state : State) (senses : List (List Sense)) (model after : CheckedModel) → IsKeeping state senses model → kept_claims after ≡ kept_claims model → IsKeeping state senses after
+keeps-claims state senses model after keeping same = record {
+  sound = keeping.sound;
+  mean = keeping.mean;
+  known = same ∙ keeping.known;
+  short = keeping.short;
+  few = keeping.few;
+}
+
+-- there are so many more with these in place of none
+pub around-long : (articles : List Article) (senses : List (List Sense)) (place at : ℕ) → IsAround articles senses place at at → (own : List Claim)
+    → length (known_around articles senses place at own at) ≡ length (known_in articles senses) + length own
+around-long articles senses place at around own =
+    let a = around.article in
+    let front = known_in (take place articles) (take place senses) in
+    let back = known_in (drop (place + 1) articles) (drop (place + 1) senses) in
+    let before = known_of (take at a.sentences) (meanings_in (take at around.own)) in
+    let behind = known_of (drop at a.sentences) (meanings_in (drop at around.own)) in
+    let with_own : length (known_around articles senses place at own at) ≡ length (front ++ (before ++ (own ++ (behind ++ back)))) =
+    ap length (known_around-is articles senses place at at own a around.own around.here around.meant) in
+    let without : length (known_in articles senses) ≡ length (front ++ (before ++ ([] ++ (behind ++ back)))) =
+    ap length (known_in-gap articles senses place at around ∙ known_around-is articles senses place at at [] a around.own around.here around.meant) in
+    let long = five-long front before own behind back in
+    let short = five-long front before [] behind back in
+    omega (arith, with_own, without, long, short)

@@ -9,6 +9,7 @@ from running import Wiki, api, free_port, read_all
 WORDS = {0: "", 2: "usage: acewiki replay|serve|make|help\n", 3: "read fault\n", 4: "write fault\n", 5: "link fault\n"}
 LINES = b"".join(json.dumps(dict(do="word", kind="name", forms=["Nam" + chr(97 + n)])).encode() + b"\n" for n in range(20))
 HELP = b"acewiki replay [--budget N]\nacewiki serve ADDRESS [--budget N] [--events N]\nacewiki make COUNT SEED [--budget N]\nacewiki help\n"
+MADE = b"words 50\nsentences 5\nasserted 4\nred 0\noutside 0\nquestions 1\nanswers 0\nunknown 0\n"
 
 
 def ran(program, words, status, given=LINES, output=subprocess.PIPE, **more):
@@ -34,14 +35,15 @@ def closed_pipe():
 def no_command(program):
     for words in [[], ["fly"], ["replay", "x"], ["Replay"], ["help", "x"], ["serve"], ["serve", "-x"], ["replay", "--events", "1"],
                   ["replay", "--budget"], ["replay", "--budget", "1000000001"], ["serve", "x", "--events", "0"], ["--help"], ["--version"],
-                  ["serve", "x", "--budget", "1", "--budget", "1"], ["replay", "--budget", "0" * 20], [b"\xff"], ["serve", b"a\xff"]]:
+                  ["serve", "x", "--budget", "1", "--budget", "1"], ["replay", "--budget", "0" * 20], [b"\xff"], ["serve", b"a\xff"], ["make"], ["make", "1"],
+                  ["make", "0", "1"], ["make", "2001", "1"], ["make", "1", "x"], ["make", "1", "1" * 20], ["make", "1", "1", "--events", "1"]]:
         if ran(program, words, 2):
             raise SystemExit(f"faults: {words} wrote something")
 
 
 def full(program):
     """Output on a full device, and into a pipe that nobody reads."""
-    for words in (["replay"], ["help"]):
+    for words in (["replay"], ["help"], ["make", "5", "7"]):
         with open("/dev/full", "wb") as device:
             ran(program, words, 4, output=device)
         pipe = closed_pipe()
@@ -93,6 +95,8 @@ def deaf(program):
 def done(program):
     if ran(program, ["help"], 0) != HELP or ran(program, ["help"], 0, given=b"", stdin=os.open("/", os.O_RDONLY)) != HELP:
         raise SystemExit("faults: help writes something else")
+    if ran(program, ["make", "5", "7"], 0) != MADE or ran(program, ["make", "05", "7", "--budget", "1000"], 0) != MADE:
+        raise SystemExit("faults: make writes something else")
     if ran(program, ["replay"], 0) != b'{"done":"word"}\n' * 20:
         raise SystemExit("faults: other replies")
     wiki = Wiki(program, LINES, options=["--events", "5"])

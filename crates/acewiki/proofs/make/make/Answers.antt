@@ -1,4 +1,3 @@
-use Rattle.std.proofs.Common.{refl, inr}
 use Rattle.wiki_io.proofs.KnownLemmas.{Appends-nil}
 use Rattle.acewiki.proofs.MakeLemmas.{MakesSummary-none}
 use Rattle.acewiki.proofs.make.make.Goals as goal

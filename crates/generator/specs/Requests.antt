@@ -8,6 +8,7 @@ use Rattle.generator.specs.Drawn.{next_draw, noun, nouns, name, verb, verbs, ver
 
 -- ---- words
 
+-- the request for a noun, a name or a verb, by the number of its letter
 abbrev pub noun_request : ℕ → Request
 noun_request n = requests.Word kinds.Noun (noun n ∷ nouns n ∷ [])
 

@@ -2,7 +2,9 @@ pub mod FirstApplies
 pub mod Labels
 pub mod Parts
 pub mod Powers
+pub mod Rank
 pub mod SearchBound
 pub mod Stepping
 pub mod Subsets
 pub mod Sums
+pub mod Ways

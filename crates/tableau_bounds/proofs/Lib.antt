@@ -1,5 +1,8 @@
+pub mod Beginning
+pub mod Ends
 pub mod FirstApplies
 pub mod Labels
+pub mod Nodes
 pub mod Parts
 pub mod Powers
 pub mod Rank

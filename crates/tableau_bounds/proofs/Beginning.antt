@@ -1,12 +1,11 @@
 -- The first branch: labels of class occurrences, each class once, and no parents.
-use Rattle.std.proofs.Common.{◌≡◌, ℕ, zero, suc, ◌+◌, ◌<◌, ◌≤◌, ◌⊎◌, Bool, true, false, List, [], ◌∷◌, ◌++◌, map, length, Option, Some, None, slice_get, refl, sym, ap, ◌∙◌, subst, inl, inr, arith}
+use Rattle.std.proofs.Common.{◌≡◌, ℕ, zero, suc, ◌≤◌, List, [], ◌∷◌, ◌++◌, map, length, Option, Some, None, slice_get, refl, sym, ap, subst, inl, inr, arith}
 use Rattle.std.specs.Option.{option_map_or, option_and_then}
 use Rattle.std.proofs.lemmas.List.{length-map}
 use Rattle.wiki_base.specs.declared.numbers.WordId.{WordId}
 use Rattle.logic_terms.specs.Concept.{Concept}
-use Rattle.logic_terms.specs.Same.{has_concept}
 use Rattle.logic_terms.specs.Theory.{Theory}
-use Rattle.tableau_rules.specs.Graph.{Graph, Vertex, label_at, parent_of}
+use Rattle.tableau_rules.specs.Graph.{Vertex, label_at, parent_of}
 use Rattle.tableau_rules.specs.Neighbours.{roots}
 use Rattle.tableau_rules.specs.Rules.{with_classes}
 use Rattle.tableau_rules.specs.Branches.{asserted, first_node, first_nodes, start}

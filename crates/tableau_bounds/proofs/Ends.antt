@@ -1,7 +1,6 @@
 -- The systematic search ends: no branch has more nodes, and no search more applications, than the bounds say.
-use Rattle.std.proofs.Common.{◌≡◌, ℕ, zero, suc, ◌+◌, ◌-◌, ◌*◌, ◌^◌, ◌<◌, ◌≤◌, ◌==◌, Bool, true, false, List, [], ◌∷◌, length, Option, Some, None, refl, sym, ap, ◌∙◌, subst, inl, inr, arith, mul-le-mul_right, mul-le-mul_left, mul-add, mul-one}
-use Rattle.std.specs.Prelude.{not, nat_lt, IsTrue}
-use Rattle.std.specs.List.{list_all}
+use Rattle.std.proofs.Common.{◌≡◌, ℕ, suc, ◌+◌, ◌-◌, ◌*◌, ◌^◌, ◌<◌, ◌≤◌, ◌==◌, true, false, List, [], ◌∷◌, length, Option, Some, None, refl, sym, ap, ◌∙◌, subst, inl, inr, arith, mul-le-mul_right, mul-le-mul_left, mul-add, mul-one}
+use Rattle.std.specs.Prelude.{nat_lt}
 use Rattle.std.specs.Option.{option_map_or, option_and_then}
 use Rattle.std.proofs.lemmas.Bool.{cases_lt, le-ltb, not_from_false}
 use Rattle.logic_terms.specs.Concept.{Concept}
@@ -13,7 +12,7 @@ use Rattle.tableau_rules.specs.declared.step.Rule.TheVariants as rule
 use Rattle.tableau_rules.specs.declared.step.Step.{Step}
 use Rattle.tableau_rules.specs.Graph.{Graph, label_at, class_at, parent_of}
 use Rattle.tableau_rules.specs.Neighbours.{roots}
-use Rattle.tableau_rules.specs.Blocking.{is_anonymous, is_blocked}
+use Rattle.tableau_rules.specs.Blocking.{is_anonymous}
 use Rattle.tableau_rules.specs.Rules.{site, choices_for, choices, applies, after}
 use Rattle.tableau_rules.specs.Branches.{start, IsBranch, begun, stepped}
 use Rattle.tableau_rules.specs.Searching.{IsLonger}

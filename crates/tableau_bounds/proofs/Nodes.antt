@@ -1,8 +1,7 @@
 -- How many nodes a branch has: each class of some successor makes at most one child of its node, and no node stands deeper
 -- than the ways up from unblocked nodes allow.
-use Rattle.std.proofs.Common.{◌≡◌, ℕ, zero, suc, ◌+◌, ◌-◌, ◌*◌, ◌^◌, ◌<◌, ◌≤◌, ◌==◌, ◌&&◌, ◌||◌, Bool, true, false, List, [], ◌∷◌, ◌++◌, length, Option, Some, None, refl, sym, ap, ◌∙◌, subst, arith, pow-suc, mul-le-mul, mul-le-mul_right, mul-le-mul_left, mul-suc, suc-mul, mul-zero, mul-add, mul_assoc, mul_comm}
-use Rattle.std.specs.Prelude.{not, IsTrue}
-use Rattle.std.specs.Option.{option_map_or}
+use Rattle.std.proofs.Common.{◌≡◌, ℕ, zero, suc, ◌+◌, ◌-◌, ◌*◌, ◌^◌, ◌<◌, ◌≤◌, ◌==◌, ◌&&◌, Bool, true, false, length, Option, Some, None, refl, sym, ap, ◌∙◌, subst, arith, pow-suc, mul-le-mul_right, mul-le-mul_left, mul-suc, suc-mul, mul-zero, mul_comm}
+use Rattle.std.specs.Prelude.{not}
 use Rattle.std.proofs.Math.Nat.{pow-zero}
 use Rattle.std.proofs.lemmas.Bool.{and_from, and_parts, eq-eqb, eqb-true, false_from_ne_true, not_from_false}
 use Rattle.logic_terms.specs.declared.expressions.Role.{Role}
@@ -15,16 +14,16 @@ use Rattle.logic_terms.proofs.Places.{some_below_passes}
 use Rattle.tableau_rules.specs.Graph.{Graph, label_at, parent_of}
 use Rattle.tableau_rules.specs.Neighbours.{is_neighbour}
 use Rattle.tableau_rules.specs.Clashes.{passes}
-use Rattle.tableau_rules.specs.Blocking.{ancestors, is_blocked, is_indirectly_blocked}
+use Rattle.tableau_rules.specs.Blocking.{is_blocked, is_indirectly_blocked}
 use Rattle.tableau_rules.specs.Rules.{serves}
 use Rattle.tableau_rules.proofs.Reaching.{some_below_found}
 use Rattle.tableau_bounds.specs.Enough.{class_occurrences, class_count}
 use Rattle.tableau_bounds.proofs.Parts.{Within, in_first}
-use Rattle.tableau_bounds.proofs.Labels.{BeginsWith, Unique, unique_fits}
+use Rattle.tableau_bounds.proofs.Labels.{Unique, unique_fits}
 use Rattle.tableau_bounds.proofs.Powers.{power_pos}
 use Rattle.tableau_bounds.proofs.Stepping.{Move, label_grows, edge_comes, node_comes, IsStep, ParentsBelow}
-use Rattle.tableau_bounds.proofs.Sums.{total, total_le, total_more, total_most, tally, tally_most, tally_up, tally_more}
-use Rattle.tableau_bounds.proofs.Ways.{ancestors-some, ancestors-none, ancestors_same, indirectly-some, depth}
+use Rattle.tableau_bounds.proofs.Sums.{total, total_le, total_more, tally, tally_most, tally_up, tally_more}
+use Rattle.tableau_bounds.proofs.Ways.{ancestors-some, ancestors_same, indirectly-some, depth}
 
 -- how many nodes a tree of so many levels has at most, where each node has at most m children
 abbrev pub tree_size : ℕ → ℕ → ℕ

@@ -1,6 +1,6 @@
 -- Powers and products, as the bounds need them.
 use Rattle.std.proofs.Math.Nat.{pow-zero}
-use Rattle.std.proofs.Common.{◌≡◌, ℕ, zero, suc, ◌+◌, ◌-◌, ◌*◌, ◌^◌, ◌<◌, ◌≤◌, refl, sym, ap, ◌∙◌, subst, arith, pow-suc, suc-mul, mul-pos, mul-le-mul_right, mul-le-mul, mul-suc, mul_comm}
+use Rattle.std.proofs.Common.{◌≡◌, ℕ, zero, suc, ◌+◌, ◌-◌, ◌*◌, ◌^◌, ◌<◌, ◌≤◌, sym, ap, ◌∙◌, subst, arith, pow-suc, suc-mul, mul-pos, mul-le-mul_right, mul-suc, mul_comm}
 
 pub power_pos : (b n : ℕ) → 0 < b → 0 < b ^ n
 power_pos b zero pos = omega (arith, pow-zero b)

@@ -1,9 +1,9 @@
 -- What each step does to a branch.
-use Rattle.std.proofs.Common.{◌≡◌, ℕ, zero, suc, ◌+◌, ◌<◌, ◌≤◌, ◌==◌, ◌&&◌, ◌||◌, ◌⊎◌, Bool, true, false, List, [], ◌∷◌, ◌++◌, filter, length, set, cond, Option, Some, None, slice_get, refl, sym, ap, ◌∙◌, subst, inl, inr, arith, length-append, length-set, append-nil}
+use Rattle.std.proofs.Common.{◌≡◌, ℕ, zero, suc, ◌+◌, ◌<◌, ◌≤◌, ◌==◌, ◌&&◌, ◌⊎◌, Bool, true, false, List, [], ◌∷◌, ◌++◌, length, set, cond, Option, Some, None, slice_get, refl, sym, ap, ◌∙◌, subst, inl, inr, arith, length-append, length-set, append-nil}
 use Rattle.std.specs.Prelude.{not, nat_lt, option_to_list}
-use Rattle.std.specs.List.{list_any, list_all}
+use Rattle.std.specs.List.{list_any}
 use Rattle.std.specs.Option.{option_map_or, option_and_then, option_or}
-use Rattle.std.proofs.lemmas.Bool.{cases_eq, cases_lt, and_parts, and_from, or_cases, or_left, or_right, eqb-true, eq-eqb, not_from_false}
+use Rattle.std.proofs.lemmas.Bool.{cases_eq, cases_lt, and_parts, and_from, or_cases, or_left, or_right, eqb-true, eq-eqb}
 use Rattle.std.proofs.lemmas.Option.{slice_get_within, slice_get_past}
 use Rattle.std.proofs.lemmas.List.Folds.{list_any-append}
 use Rattle.wiki_base.specs.declared.numbers.WordId.{WordId}
@@ -24,7 +24,7 @@ use Rattle.tableau_rules.specs.Graph.{Graph, Vertex, label_at, class_at, parent_
 use Rattle.tableau_rules.specs.Neighbours.{node_of, makes_neighbour, is_neighbour}
 use Rattle.tableau_rules.specs.Clashes.{passes}
 use Rattle.tableau_rules.specs.Blocking.{is_blocked, is_indirectly_blocked}
-use Rattle.tableau_rules.specs.Rules.{lacks_some, lacks_all, unfoldings_of, open_members, unit_member, serves, needs, row, site, site_at, applies, with_classes, adding, with_edge, with_node, choices_for, choices, effect, after}
+use Rattle.tableau_rules.specs.Rules.{lacks_some, lacks_all, unfoldings_of, open_members, unit_member, serves, needs, row, site, applies, with_classes, adding, with_edge, with_node, choices_for, choices, effect, after}
 use Rattle.tableau_bounds.specs.Enough.{class_occurrences}
 use Rattle.tableau_bounds.proofs.Parts.{Within, general_within, unfoldings_within, intersection_within, union_within, some_within, all_class_within}
 use Rattle.tableau_bounds.proofs.Labels.{get_set_same, get_set_other, get_push_old, get_push_new, there_is, has_here, filter_within, one_within, new_classes, only_classes, BeginsWith, with_classes_begins, lacking_grows, lacks_one, lacks_member, not_true, Unique, unique_classes}

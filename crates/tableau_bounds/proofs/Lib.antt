@@ -1,0 +1,16 @@
+pub mod Beginning
+pub mod Endless
+pub mod Ends
+pub mod FirstApplies
+pub mod Labels
+pub mod Laws
+pub mod Nodes
+pub mod Parts
+pub mod Plain
+pub mod Powers
+pub mod Rank
+pub mod SearchBound
+pub mod Stepping
+pub mod Subsets
+pub mod Sums
+pub mod Ways

@@ -187,6 +187,7 @@ try:
             time.sleep(0.05)
     else:
         fail("the program doesn't listen")
+    expect("a first request", sent(CUT), 200, FOUND)
     for test in (in_turn, beside_idle, half_sent, too_many, cut_anywhere, gone, behind, odd, in_turn):
         begun = time.time()
         test()

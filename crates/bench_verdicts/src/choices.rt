@@ -1,9 +1,7 @@
 // Axioms that lead a search into many choices.
-ghost use Rattle.std.specs.Prelude.{◌<◌};
 
 use crate::Fault;
 use logic_terms::{Axiom, Axioms, Class, Classes, Names, Role};
-use reasoner_examples::first_names;
 use std::alloc::Global;
 use wiki_base::WordId;
 
@@ -29,8 +27,13 @@ fn not(alloc: Global, word: u32) -> Result<Class, Fault> {
     Ok(Class::Not(Box::new(alloc, Class::Named(WordId(word)))?))
 }
 
+// So many names, from number 0 on.
 fn numbered(alloc: Global, count: u32) -> Result<Names, Fault> {
-    first_names(alloc, count).map_err(|_| Fault::Memory)
+    let mut names = Names::new(alloc);
+    for number in 0..count {
+        names.push(WordId(number))?;
+    }
+    Ok(names)
 }
 
 // So many persons, each of whom has a parent that is a person; everything that has a parent knows the first one.
@@ -57,8 +60,8 @@ pub(crate) fn hidden(alloc: Global, unions: u32) -> Result<Base, Fault> {
     let mut axioms = Axioms::new(alloc);
     for number in 0..unions {
         let members = vec![in alloc;
-            Class::Named(WordId(20_000 + number)),
-            Class::Named(WordId(30_000 + number)),
+            Class::Named(WordId(number.saturating_add(20_000))),
+            Class::Named(WordId(number.saturating_add(30_000))),
         ]?;
         let union = Class::Or(Classes::from_vec(members));
         axioms.push(Axiom::Member(union, WordId(0)))?;
@@ -142,14 +145,13 @@ pub(crate) fn drawn_colouring(
     count: usize,
     seed: u64,
     planted: bool,
-) -> Result<Base, Fault>
-    requires { 0 < vertices }
-{
+) -> Result<Base, Fault> {
     let mut edges = Vec::new(alloc);
     let mut state = seed;
+    let bound = vertices.max(1);
     for _ in 0..100_000 {
-        let one = drawn(&mut state) % vertices;
-        let other = drawn(&mut state) % vertices;
+        let one = drawn(&mut state) % bound;
+        let other = drawn(&mut state) % bound;
         let edge = (one.min(other), one.max(other));
         let is_fit = if planted {
             one % 3 != other % 3

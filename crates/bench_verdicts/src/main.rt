@@ -220,10 +220,9 @@ fn tell<R: Print + CpuClock>(
 
 // Tells the verdicts on axioms with many names or many choices.
 fn tell_all<R: Print + CpuClock>(rt: &R, alloc: Global, timed: bool) -> Result<(), Fault> {
-    let scale: u32 = if timed { 100 } else { 4 };
-    tell(rt, alloc, "persons", persons(alloc, 10 * scale)?, timed)?;
-    tell(rt, alloc, "a hidden clash", hidden(alloc, scale)?, timed)?;
-    let path = scale.min(20);
+    let (count, unions, path) = if timed { (1_000, 100, 20) } else { (10, 4, 4) };
+    tell(rt, alloc, "persons", persons(alloc, count)?, timed)?;
+    tell(rt, alloc, "a hidden clash", hidden(alloc, unions)?, timed)?;
     tell(
         rt,
         alloc,

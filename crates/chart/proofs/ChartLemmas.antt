@@ -156,3 +156,9 @@ kept_on g f s tokens e = e ∙ ap (λ t. setting g t (map f t)) (sym (ap (λ x. 
 pub readings_kept : (g kept : GrammarParts) (f : List ℕ → List Ground) (s : Setting) (old : List (List ℕ)) (old_readings : List (List Ground)) → setting kept old old_readings ≡ s → s ≡ setting g s.tokens (map f s.tokens) → old_readings ≡ map f old
 readings_kept g kept f s old old_readings view is_kept =
     ap (λ x. x.readings) (view ∙ is_kept) ∙ ap (map f) (sym (ap (λ x. x.tokens) view))
+
+-- the first tokens, which read as before
+pub chart_unchanged : (s : Setting) (derives : List Bool) (f : List ℕ → List Ground) (n : ℕ) (g : GrammarParts) (tokens : List (List ℕ)) (readings : List (List Ground)) (told_of : List Bool) → g ≡ s.grammar → tokens ≡ take n s.tokens → readings ≡ map f tokens → take n s.readings ≡ map f (take n s.tokens) → told_of ≡ take (n + 1) derives → n ≤ length s.tokens → IsChart s derives → IsChart (setting g tokens readings) told_of
+chart_unchanged s derives f n g tokens readings told_of same first read alike told_is within chart =
+    let is : setting g tokens readings ≡ first_of s n = ap (λ x. setting x tokens readings) same ∙ setting_same s.grammar tokens (take n s.tokens) readings (take n s.readings) first (read ∙ ap (map f) first ∙ sym alike) in
+    subst (λ x. IsChart x told_of) (sym is) (subst (IsChart (first_of s n)) (sym told_is) (chart_less s derives n within chart))

@@ -1,5 +1,5 @@
 // The chart of a list of tokens that grows and shrinks at its end.
-ghost use Rattle.std.specs.Prelude.{◌≡◌, ◌+◌, ◌-◌, ◌<◌, ◌≤◌, ◌↔◌, [], ◌∷◌, ◌++◌, map, length, true, false, All, IsUtf8, IsTrue, IfOk, OnOk, OnErr};
+ghost use Rattle.std.specs.Prelude.{◌≡◌, ◌+◌, ◌-◌, ◌<◌, ◌≤◌, ◌↔◌, [], ◌∷◌, ◌++◌, map, take, length, true, false, All, IsUtf8, IsTrue, IfOk, OnOk, OnErr};
 ghost use Rattle.wiki_base.specs.declared.tokens.TheConstants.{MOST_TOKENS};
 ghost use Rattle.derivation_trees.specs.Trees.{Node};
 ghost use Rattle.derivation_trees.specs.Derives.{IsDerivation};
@@ -11,8 +11,9 @@ ghost use Rattle.derivations.specs.Typing.{IsTextMenu};
 ghost use Rattle.chart.specs.Charts as charting;
 
 use crate::menus::menu_for;
-use chart_table::standing_of;
+use chart_table::{same_values, standing_of};
 use codeco_checked::CheckedGrammar;
+use codeco_terms::Ground;
 use derivation_scenes::Scene;
 use derivation_trees::{Menu, readings_of};
 use lexicon::{Lexicon, Readings};
@@ -113,6 +114,26 @@ impl Chart {
         )
     }
 
+    /// The chart of the tokens before the first whose readings by the lexicon are other than those that are kept, with the grammar
+    /// that is kept. What is known of these tokens is copied, and no table is made.
+    pub fn unchanged(&self, lexicon: &Lexicon) -> Result<Chart, Memory>
+        ensures front { IfOk result (λ chart. chart ≡ charting.first_of self.now (length chart.tokens)) }
+        ensures within { IfOk result (λ chart. length chart.tokens ≤ length self.now.tokens) }
+        ensures kept { IfOk result (λ chart. chart ≡ setting_of self.now.grammar lexicon.now chart.tokens) }
+    {
+        let alloc = self.tokens.allocator();
+        let count = same_count(lexicon, self.tokens.as_slice(), self.readings.as_slice());
+        let tokens = List::copied(alloc, &self.tokens.as_slice()[..count])?;
+        let readings = List::from_vec(readings_of(alloc, lexicon, tokens.as_slice())?);
+        let derives = List::from_slice(alloc, &self.derives.as_slice()[..count + 1])?;
+        Ok(Chart {
+            grammar: self.grammar.copy()?,
+            tokens,
+            readings,
+            derives,
+        })
+    }
+
     /// Drops the last token; false on no tokens. Takes no memory.
     pub fn back(&mut self) -> bool
         ensures none { result ≡ false → (self.old.tokens ≡ []) × (self.new ≡ self.old) }
@@ -148,6 +169,41 @@ fn derives_nothing(alloc: Global, grammar: &CheckedGrammar) -> Result<bool, Memo
     };
     let standing = standing_of(alloc, &setting)?;
     Ok(standing.derives)
+}
+
+fn same_ground(one: &Ground, other: &Ground) -> bool
+    ensures { IsTrue result → one.now ≡ other.now }
+{
+    one.name == other.name && same_values(one.vals.as_slice(), other.vals.as_slice())
+}
+
+fn read_same(one: &[Ground], other: &[Ground]) -> bool
+    ensures { IsTrue result → one.now ≡ other.now }
+{
+    if one.len() != other.len() {
+        return false;
+    }
+    for (place, reading) in one.iter().enumerate() {
+        if !same_ground(reading, &other[place]) {
+            return false;
+        }
+    }
+    true
+}
+
+// How many of the first tokens read by the lexicon as these readings tell.
+fn same_count(lexicon: &Lexicon, tokens: &[Token], readings: &[Readings]) -> usize
+    requires { length readings.now ≡ length tokens.now }
+    ensures within { result ≤ length tokens.now }
+    ensures same { take result readings.now ≡ map (lexical.readings_of lexicon.now.live) (take result tokens.now) }
+{
+    for (place, token) in tokens.iter().enumerate() {
+        let read = lexicon.readings(token.as_str());
+        if !read_same(readings[place].as_slice(), read.as_slice()) {
+            return place;
+        }
+    }
+    tokens.len()
 }
 
 fn with_token(tokens: &Tokens, token: &Token) -> Result<Tokens, Memory>

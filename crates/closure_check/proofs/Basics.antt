@@ -1,8 +1,8 @@
 -- Tests of lists, and what follows where they hold.
-use Rattle.std.proofs.Common.{◌≡◌, ◌≢◌, ℕ, zero, suc, ◌+◌, ◌<◌, ◌≤◌, ◌==◌, ◌&&◌, ◌||◌, Bool, true, false, List, [], ◌∷◌, ◌++◌, length, map, filter, cond, Option, Some, None, slice_get, refl, sym, ap, ◌∙◌, inl, inr, arith}
-use Rattle.std.specs.Prelude.{not, ◌⊎◌, nat_lt, slice_set, filter_map, if◌then◌else◌}
-use Rattle.std.specs.List.{list_any, list_all, cons_option}
-use Rattle.std.specs.Option.{option_map_or, option_and_then, option_map, option_or}
+use Rattle.std.proofs.Common.{◌≡◌, ◌≢◌, ℕ, zero, suc, ◌<◌, ◌&&◌, ◌||◌, Bool, true, false, List, [], ◌∷◌, ◌++◌, length, filter, cond, Option, Some, None, slice_get, refl, sym, ap, ◌∙◌, inl, inr, arith}
+use Rattle.std.specs.Prelude.{not, ◌⊎◌, nat_lt, slice_set}
+use Rattle.std.specs.List.{list_any, list_all}
+use Rattle.std.specs.Option.{option_or}
 use Rattle.std.specs.Map.{lookup}
 use Rattle.std.proofs.lemmas.Bool.{cases_eq, ltb-true}
 use Rattle.logic_terms.specs.Meaning.{some_below, each_below, implies}

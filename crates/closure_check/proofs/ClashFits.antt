@@ -1,21 +1,20 @@
 -- An interpretation that is a model fits no branch with a clash.
-use Rattle.std.proofs.Common.{◌≡◌, ℕ, ◌<◌, ◌==◌, ◌&&◌, Bool, true, false, List, Option, Some, None, slice_get, subst, refl, sym, ap, ◌∙◌}
+use Rattle.std.proofs.Common.{◌≡◌, ℕ, ◌==◌, ◌&&◌, true, Some, slice_get, subst, refl, sym, ap, ◌∙◌}
 use Rattle.std.specs.Prelude.{not}
 use Rattle.std.specs.List.{list_any, list_all}
 use Rattle.std.proofs.lemmas.Bool.{eqb-true, eq-eqb}
 use Rattle.wiki_base.specs.declared.numbers.WordId.{WordId}
 use Rattle.logic_terms.specs.declared.expressions.Role.{Role}
-use Rattle.logic_terms.specs.Concept.{Concept, Everything, Atomic, ComplementOf, IntersectionOf, UnionOf, SomeValuesFrom, AllValuesFrom, HasValue, SubPropertyOf, SameIndividual, DifferentIndividuals}
+use Rattle.logic_terms.specs.Concept.{Concept, Everything, Atomic, ComplementOf, HasValue, SubPropertyOf, SameIndividual, DifferentIndividuals}
 use Rattle.logic_terms.specs.Interpretation.{Interpretation, element_of, has_element, relates, is_word}
 use Rattle.logic_terms.specs.Meaning.{is_in, holds}
 use Rattle.logic_terms.specs.Parts.{word_part, complement_part, value_part}
 use Rattle.logic_terms.specs.Same.{same_concept}
 use Rattle.logic_terms.specs.Theory.{Theory, representative}
 use Rattle.logic_terms.proofs.SameLemmas.{word_equal, same_concept-equal}
-use Rattle.tableau_rules.specs.declared.branch.Edge.{Edge}
 use Rattle.tableau_rules.specs.declared.step.Clash.{Clash}
 use Rattle.tableau_rules.specs.declared.step.Clash.TheVariants.{Pair, NoThing, NoValue, Names}
-use Rattle.tableau_rules.specs.Graph.{Graph, label_at, class_at}
+use Rattle.tableau_rules.specs.Graph.{Graph, class_at}
 use Rattle.tableau_rules.specs.Neighbours.{node_of, makes_neighbour}
 use Rattle.tableau_rules.specs.Clashes.{passes, are_joined, value_clashes, is_clash}
 use Rattle.closure_check.proofs.Basics.{both_left, both_right, not_both, passes_some, any_with_all, all_at, lookup_entry}

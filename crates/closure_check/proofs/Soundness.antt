@@ -1,9 +1,9 @@
 -- A closed tree excludes every model.
-use Rattle.std.proofs.Common.{◌≡◌, ℕ, zero, suc, ◌+◌, ◌<◌, ◌≤◌, ◌==◌, ◌&&◌, Bool, true, false, subst, refl, sym, ap, ◌∙◌, inl, inr, arith}
+use Rattle.std.proofs.Common.{◌≡◌, ℕ, ◌+◌, ◌<◌, ◌≤◌, true, subst, refl, sym, inl, inr, arith}
 use Rattle.std.specs.List.{list_all}
 use Rattle.std.proofs.lemmas.Bool.{cases_eq, eqb-true}
-use Rattle.logic_terms.specs.Concept.{Concept, Everything, Atomic, SubClassOf, SubPropertyOf, ClassAssertion, PropertyAssertion, SameIndividual, DifferentIndividuals}
-use Rattle.logic_terms.specs.Interpretation.{Interpretation, is_interpretation}
+use Rattle.logic_terms.specs.Concept.{Everything, Atomic, SubClassOf, SubPropertyOf, ClassAssertion, PropertyAssertion, SameIndividual, DifferentIndividuals}
+use Rattle.logic_terms.specs.Interpretation.{Interpretation}
 use Rattle.logic_terms.specs.Meaning.{holds}
 use Rattle.logic_terms.specs.Reading.{Holds}
 use Rattle.logic_terms.specs.Theory.{Theory, IsModelOf}
@@ -12,7 +12,6 @@ use Rattle.closure_check.specs.NoModel.{HasNoModel}
 use Rattle.std.proofs.lemmas.Bool.Decides.{Decides-by_and}
 use Rattle.tableau_rules.specs.declared.step.Step.{Step}
 use Rattle.tableau_rules.specs.Graph.{Graph}
-use Rattle.tableau_rules.specs.Clashes.{is_clash}
 use Rattle.tableau_rules.specs.Rules.{applies, choices, after}
 use Rattle.tableau_rules.specs.Branches.{start}
 use Rattle.tableau_rules.specs.Trees.{Tree, Trees, ends, splits, no_tree, also_tree, closes, close_from, is_closed}

@@ -1,26 +1,24 @@
 -- A model fits the first branch.
-use Rattle.std.proofs.Common.{◌≡◌, ℕ, zero, suc, ◌+◌, ◌<◌, ◌≤◌, ◌==◌, ◌&&◌, Bool, true, false, List, [], ◌∷◌, ◌++◌, length, map, filter, cond, Option, Some, None, slice_get, subst, refl, sym, ap, ◌∙◌, inl, inr, arith}
+use Rattle.std.proofs.Common.{◌≡◌, ℕ, zero, suc, ◌<◌, ◌≤◌, ◌&&◌, Bool, true, false, List, [], ◌∷◌, ◌++◌, length, map, filter, cond, Option, Some, None, slice_get, subst, refl, sym, ap, ◌∙◌, arith}
 use Rattle.std.specs.Prelude.{nat_lt, if◌then◌else◌, filter_map, unwrap_or}
-use Rattle.std.specs.List.{list_any, list_all, cons_option}
+use Rattle.std.specs.List.{list_all, cons_option}
 use Rattle.std.specs.Option.{option_map_or, option_and_then, option_map}
-use Rattle.std.proofs.lemmas.Bool.{eqb-true, lt-ltb, ltb-true}
+use Rattle.std.proofs.lemmas.Bool.{lt-ltb, ltb-true}
 use Rattle.std.proofs.lemmas.List.{length-map}
-use Rattle.std.proofs.lemmas.Option.{slice_get-map}
 use Rattle.wiki_base.specs.declared.numbers.WordId.{WordId}
 use Rattle.logic_terms.specs.declared.expressions.Role.{Role}
-use Rattle.logic_terms.specs.Concept.{Concept, Everything, SubClassOf, SubPropertyOf, ClassAssertion, PropertyAssertion, SameIndividual}
+use Rattle.logic_terms.specs.Concept.{Concept, Everything, SubClassOf, ClassAssertion, PropertyAssertion, SameIndividual}
 use Rattle.logic_terms.specs.Interpretation.{Interpretation, is_interpretation, element_of, relates, is_word}
 use Rattle.std.specs.Map.{lookup}
 use Rattle.logic_terms.specs.Meaning.{is_in, holds}
 use Rattle.logic_terms.specs.Theory.{Theory, representative}
 use Rattle.logic_terms.proofs.SameLemmas.{word_equal}
 use Rattle.tableau_rules.specs.declared.branch.Edge.{Edge}
-use Rattle.tableau_rules.specs.Graph.{Graph, Vertex, label_at}
 use Rattle.tableau_rules.specs.Neighbours.{roots, place_in, node_of}
 use Rattle.tableau_rules.specs.Clashes.{passes}
 use Rattle.tableau_rules.specs.Rules.{with_classes}
 use Rattle.tableau_rules.specs.Branches.{asserted, first_node, first_nodes, first_edge, start}
-use Rattle.closure_check.proofs.Basics.{both_left, both_right, both, passes_some, all_append, lookup_entry}
+use Rattle.closure_check.proofs.Basics.{both_left, both_right, both, passes_some, all_append}
 use Rattle.closure_check.proofs.Fitting.{Fits, pairs_up, within, with_classes_all, node_within}
 use Rattle.closure_check.proofs.StepFits.{general_in}
 use Rattle.closure_check.proofs.ClashFits.{named_alike}

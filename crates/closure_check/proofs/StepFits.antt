@@ -1,14 +1,14 @@
 -- Where an interpretation is a model of the knowledge and fits a branch, it fits one of the branches after a step.
-use Rattle.std.proofs.Common.{◌≡◌, ◌≢◌, ℕ, zero, suc, ◌+◌, ◌<◌, ◌≤◌, ◌==◌, ◌&&◌, ◌||◌, Bool, true, false, List, [], ◌∷◌, ◌++◌, length, map, filter, cond, Option, Some, None, slice_get, subst, refl, sym, ap, ◌∙◌, inl, inr, arith}
-use Rattle.std.specs.Prelude.{not, ◌⊎◌, nat_lt, if◌then◌else◌}
+use Rattle.std.proofs.Common.{◌≡◌, ℕ, ◌<◌, ◌==◌, ◌&&◌, ◌||◌, Bool, true, false, List, [], ◌∷◌, length, map, filter, cond, Option, Some, None, slice_get, subst, refl, sym, ap, ◌∙◌, inl, inr, arith}
+use Rattle.std.specs.Prelude.{not, nat_lt, if◌then◌else◌}
 use Rattle.std.specs.List.{list_any, list_all}
-use Rattle.std.specs.Option.{option_map_or, option_and_then, option_map, option_or, option_to_list}
+use Rattle.std.specs.Option.{option_map_or, option_and_then, option_or, option_to_list}
 use Rattle.std.proofs.lemmas.Bool.{eqb-true}
 use Rattle.wiki_base.specs.declared.numbers.WordId.{WordId}
 use Rattle.logic_terms.specs.declared.expressions.Role.{Role}
-use Rattle.logic_terms.specs.Concept.{Concept, Concepts, Everything, Atomic, ComplementOf, IntersectionOf, UnionOf, SomeValuesFrom, AllValuesFrom, HasValue, no_concept, also_concept, SubClassOf, SubPropertyOf}
+use Rattle.logic_terms.specs.Concept.{Concept, Concepts, Everything, Atomic, IntersectionOf, UnionOf, SomeValuesFrom, AllValuesFrom, HasValue, no_concept, also_concept, SubClassOf, SubPropertyOf}
 use Rattle.logic_terms.specs.Interpretation.{Interpretation, element_of, has_element, relates, is_word}
-use Rattle.logic_terms.specs.Meaning.{is_in, is_in_each, is_in_some, each_below, some_below, implies, holds}
+use Rattle.logic_terms.specs.Meaning.{is_in, is_in_each, is_in_some, implies, holds}
 use Rattle.logic_terms.specs.Parts.{members_in, word_part, intersection_part, union_part, some_part, all_part, value_part}
 use Rattle.logic_terms.specs.Complement.{complement}
 use Rattle.logic_terms.specs.Same.{has_concept}
@@ -20,11 +20,11 @@ use Rattle.tableau_rules.specs.declared.step.Rule.TheVariants as rule
 use Rattle.tableau_rules.specs.declared.step.Step.{Step}
 use Rattle.tableau_rules.specs.First.{first_below, where_true}
 use Rattle.tableau_rules.specs.Graph.{Graph, label_at, class_at}
-use Rattle.tableau_rules.specs.Neighbours.{roots, node_of, is_neighbour}
+use Rattle.tableau_rules.specs.Neighbours.{node_of, is_neighbour}
 use Rattle.tableau_rules.specs.Blocking.{is_indirectly_blocked}
-use Rattle.tableau_rules.specs.Rules.{lacks_all, unfoldings_of, open_members, unit_member, needs, row, site, site_at, applies, with_classes, adding, with_edge, with_node, choices_for, choices, effect, after}
-use Rattle.closure_check.proofs.Basics.{both_left, both_right, both, either, implied, not_both, not_false, tested, any_at, any_kept, only_one, each_at, some_at, first_passes, where_holds}
-use Rattle.closure_check.proofs.Fitting.{Fits, class_fits, class_within, has_fits, with_classes_all, adding_fits, neighbours_pair, node_within, with_edge_fits, and_at, with_node_fits, pairs_up}
+use Rattle.tableau_rules.specs.Rules.{lacks_all, unfoldings_of, open_members, unit_member, needs, row, site, applies, with_classes, adding, with_edge, with_node, choices_for, choices, effect, after}
+use Rattle.closure_check.proofs.Basics.{both_left, both_right, both, implied, not_both, tested, any_at, any_kept, only_one, each_at, some_at, first_passes, where_holds}
+use Rattle.closure_check.proofs.Fitting.{Fits, class_fits, class_within, has_fits, with_classes_all, adding_fits, neighbours_pair, node_within, with_edge_fits, and_at, with_node_fits}
 
 each_in : (i : Interpretation) (cs : Concepts) (a : ℕ) → is_in_each i cs a ≡ list_all (λ c. is_in i c a) (members_in cs)
 each_in i no_concept a = refl

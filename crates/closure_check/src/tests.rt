@@ -109,3 +109,35 @@ fn the_place_of_the_edge_is_checked(rt: HostRuntime) -> Result<(), Fail> {
     assert!(rt; !accepts(alloc, &k, &Closed::Clash(Clash::NoValue(0, 0, 1)))?);
     Ok(())
 }
+
+const DEPTH: u64 = 100;
+
+// So many unions of a class word of its own and of nothing, and then the complement of the first of these words.
+fn unions(alloc: Global) -> Result<Vec<(WordId, Class)>, Fail> {
+    let mut asserted = Vec::new(alloc);
+    for level in 0..DEPTH as u32 {
+        let nothing = not(alloc, Class::Thing)?;
+        let members = Classes::from_vec(vec![in alloc;
+            Class::Named(WordId(100 + level)),
+            nothing,
+        ]?);
+        asserted.push((BERN, Class::Or(members)))?;
+    }
+    asserted.push((BERN, not(alloc, Class::Named(WordId(100)))?))?;
+    Ok(asserted)
+}
+
+#[test]
+fn choices_within_choices(rt: HostRuntime) -> Result<(), Fail> {
+    let alloc = rt.alloc();
+    let k = about(alloc, unions(alloc)?, Vec::new(alloc))?;
+    let mut tree = Closed::Clash(Clash::Pair(0, DEPTH + 1, DEPTH));
+    for level in (0..DEPTH).rev() {
+        let mut subtrees = List::new(alloc);
+        subtrees.push(tree)?;
+        subtrees.push(Closed::Clash(Clash::NoThing(0, DEPTH + 1 + level)))?;
+        tree = Closed::Step(step(Rule::Or, level, 0), subtrees);
+    }
+    assert!(rt; accepts(alloc, &k, &tree)?);
+    Ok(())
+}

@@ -280,3 +280,22 @@ typed_kept (Err y) g l old new tokens kept added unchanged = subst (λ s. s ≡ 
 pub back_kept : (g : GrammarParts) (l : Listed) (old new : Setting) (dropped : Bool) → old ≡ setting_of g l old.tokens → (dropped ≡ false → (old.tokens ≡ []) × (new ≡ old)) → (dropped ≡ true → (0 < length old.tokens) × (new ≡ first_of old (length old.tokens - 1))) → new ≡ setting_of g l new.tokens
 back_kept g l old new true kept none last = front_kept g l old new (length old.tokens - 1) kept (last refl).1
 back_kept g l old new false kept none last = subst (λ s. s ≡ setting_of g l s.tokens) (sym (none refl).1) kept
+
+-- The chart that further tokens are added to
+
+pub nothing_front : (g : GrammarParts) (l : Listed) (tokens : List (List ℕ)) (s : Setting) → s ≡ record { grammar = g; tokens = []; readings = [] } → s ≡ setting_of g l (take (length s.tokens) tokens)
+nothing_front g l tokens s e = e ∙ sym (ap (λ (x : Setting). setting_of g l (take (length x.tokens) tokens)) e)
+
+pub nothing_first : (g : GrammarParts) (l : Listed) (tokens : List (List ℕ)) (s : Setting) → IsSound g → s ≡ record { grammar = g; tokens = []; readings = [] } → IsTypeable g l (take (length s.tokens) tokens)
+nothing_first g l tokens s sound e =
+    subst (λ (x : Setting). IsTypeable g l (take (length x.tokens) tokens)) (sym e) (nothing_typeable g l sound)
+
+-- the first tokens, which read as before, are kept by the grammar that is kept and the lexicon
+pub front_by : (g : GrammarParts) (l : Listed) (chart s front : Setting) → chart ≡ s → s.grammar ≡ g → front ≡ first_of chart (length front.tokens) → front ≡ setting_of chart.grammar l front.tokens → front ≡ setting_of g l (take (length front.tokens) chart.tokens)
+front_by g l chart s front view same first kept =
+    kept ∙ ap (λ x. setting_of x l front.tokens) (ap (λ (x : Setting). x.grammar) view ∙ same) ∙ ap (setting_of g l) (ap (λ (x : Setting). x.tokens) first)
+
+pub front_typeable : (g : GrammarParts) (l : Listed) (chart s front : Setting) → chart ≡ s → IsEdited chart → s.grammar ≡ g → front ≡ first_of chart (length front.tokens) → front ≡ setting_of chart.grammar l front.tokens → IsTypeable g l (take (length front.tokens) chart.tokens)
+front_typeable g l chart s front view edited same first kept =
+    let by : front ≡ setting_of g l front.tokens = kept ∙ ap (λ x. setting_of x l front.tokens) (ap (λ (x : Setting). x.grammar) view ∙ same) in
+    subst (IsTypeable g l) (ap (λ (x : Setting). x.tokens) first) (typeable_by g l front by (edited_less chart front (length front.tokens) edited first).typeable)

@@ -1,9 +1,10 @@
 // An editor of one sentence.
-ghost use Rattle.std.specs.Prelude.{◌≡◌, ◌+◌, ◌-◌, ◌<◌, ◌≤◌, ◌↔◌, [], ◌∷◌, ◌++◌, ℕ, length, filter, nat_eq, true, false, All, IsUtf8, IsTrue, IfOk, OnOk, OnErr, Err};
+ghost use Rattle.std.specs.Prelude.{◌≡◌, ◌+◌, ◌-◌, ◌<◌, ◌≤◌, ◌↔◌, [], ◌∷◌, ◌++◌, ℕ, length, take, filter, nat_eq, true, false, All, IsUtf8, IsTrue, IfOk, OnOk, OnErr, Err};
 ghost use Rattle.std.specs.List.{starts_with};
 ghost use Rattle.wiki_base.specs.declared.tokens.TheConstants.{MOST_TOKENS};
 ghost use Rattle.derivation_trees.specs.Trees.{Node};
 ghost use Rattle.derivation_trees.specs.Derives.{IsDerivation};
+ghost use Rattle.derivation_trees.specs.Partial.{IsTypeable};
 ghost use Rattle.derivation_trees.specs.Sentences.{setting_of};
 ghost use Rattle.derivation_trees.specs.Menus.{IsMenu};
 ghost use Rattle.derivations.specs.Typing.{IsTextMenu};
@@ -14,11 +15,11 @@ use crate::faults::TypeFault;
 use crate::typing::{is_known, read};
 use chart::Chart;
 use codeco_checked::CheckedGrammar;
-use derivations::{Menu, plain_menu};
+use derivation_trees::Menu;
 use lexicon::Lexicon;
 use std::alloc::Global;
 use std::marker::Model;
-use wiki_base::{MOST_TOKENS, Memory, Token, Tokens};
+use wiki_base::{Memory, Token, Tokens};
 
 /// At most 40 tokens, each typed from the menu of those before it, with the grammar and the readings that they were typed
 /// with. By these the tokens and each of their prefixes have a partial derivation. Seen as the grammar, the tokens and
@@ -127,11 +128,7 @@ impl Editor {
         ensures menu { All IsUtf8 grammar.now.terminals → IfOk result (IsMenu grammar.now lexicon.now self.now.tokens) }
         ensures texts { IfOk result (IsTextMenu grammar.now lexicon.now self.now.tokens) }
     {
-        let tokens = self.chart.tokens();
-        if tokens.len() < MOST_TOKENS {
-            return self.chart.menu(grammar, lexicon);
-        }
-        plain_menu(tokens.allocator(), grammar, lexicon, tokens)
+        self.chart.menu(grammar, lexicon)
     }
 
     /// The entries of a menu whose texts begin with a prefix, in order. No text is copied.
@@ -165,6 +162,26 @@ impl Editor {
         let left_out = tokens.len() - chart.tokens().len();
         Ok((Editor { chart }, left_out as u32))
     }
+
+    /// The same, where the grammar is the one that is kept. The tokens before the first that reads otherwise by the lexicon stay
+    /// typeable, and no table is made for them.
+    pub fn reread(
+        &self,
+        grammar: &CheckedGrammar,
+        lexicon: &Lexicon,
+    ) -> Result<(Editor, u32), Memory>
+        requires { self.now.grammar ≡ grammar.now }
+        ensures kept { IfOk result (λ rebased. rebased.0 ≡ setting_of grammar.now lexicon.now rebased.0.tokens) }
+        ensures tokens { IfOk result (λ rebased. IsRebased grammar.now lexicon.now self.now.tokens rebased.0.tokens) }
+        ensures left_out { IfOk result (λ rebased. length rebased.0.tokens + rebased.1 ≡ length self.now.tokens) }
+        ensures edited { IfOk result (λ rebased. IsEdited rebased.0) }
+    {
+        let tokens = self.chart.tokens();
+        let front = self.chart.unchanged(lexicon)?;
+        let chart = extended(front, grammar, lexicon, tokens.as_slice())?;
+        let left_out = tokens.len() - chart.tokens().len();
+        Ok((Editor { chart }, left_out as u32))
+    }
 }
 
 // Drops all tokens of the chart.
@@ -186,10 +203,27 @@ fn longest(
     ensures kept { IfOk result (λ chart. chart ≡ setting_of grammar.now lexicon.now chart.tokens) }
     ensures tokens { IfOk result (λ chart. IsRebased grammar.now lexicon.now tokens.now chart.tokens) }
 {
-    let mut chart = Chart::new(alloc, grammar)?;
+    let chart = Chart::new(alloc, grammar)?;
     let _ = grammar.grammar();
-    for token in tokens {
-        let goes_on = chart.advance(grammar, lexicon, token)?;
+    extended(chart, grammar, lexicon, tokens)
+}
+
+// The chart, which has the first of the tokens, with those after it as far as they go on.
+fn extended(
+    chart: Chart,
+    grammar: &CheckedGrammar,
+    lexicon: &Lexicon,
+    tokens: &[Token],
+) -> Result<Chart, Memory>
+    requires few { length tokens.now ≤ MOST_TOKENS }
+    requires front { chart ≡ setting_of grammar.now lexicon.now (take (length chart.tokens) tokens.now) }
+    requires typeable { IsTypeable grammar.now lexicon.now (take (length chart.tokens) tokens.now) }
+    ensures kept { IfOk result (λ chart. chart ≡ setting_of grammar.now lexicon.now chart.tokens) }
+    ensures tokens { IfOk result (λ chart. IsRebased grammar.now lexicon.now tokens.now chart.tokens) }
+{
+    let mut chart = chart;
+    for place in chart.tokens().len()..tokens.len() {
+        let goes_on = chart.advance(grammar, lexicon, &tokens[place])?;
         if !goes_on {
             chart.back();
             return Ok(chart);

@@ -8,6 +8,7 @@ use Rattle.generator.specs.Drawn.{next_draw, noun, nouns, name, verb, verbs, ver
 
 -- ---- words
 
+-- the request for a noun, a name or a verb, by the number of its letter
 abbrev pub noun_request : ℕ → Request
 noun_request n = requests.Word kinds.Noun (noun n ∷ nouns n ∷ [])
 
@@ -15,7 +16,7 @@ abbrev pub name_request : ℕ → Request
 name_request n = requests.Word kinds.Name (name n ∷ [])
 
 abbrev pub verb_request : ℕ → Request
-verb_request n = requests.Word kinds.Verb (verb n ∷ verbs n ∷ verbed n ∷ [])
+verb_request n = requests.Word kinds.Verb (verbs n ∷ verb n ∷ verbed n ∷ [])
 
 -- the word with the number, from 0: twenty nouns, twenty names and ten verbs
 abbrev pub word_request : ℕ → Request

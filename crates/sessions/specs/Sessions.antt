@@ -109,3 +109,7 @@ pub record AreSessions (sessions : List Session) : Type 0 where
   pub in_order : AreInOrder sessions
   pub few : length sessions ≤ MOST_SESSIONS
   pub edited : All (λ session. IsEdited session.editor) sessions
+
+-- the sessions' editors keep the grammar
+abbrev pub AreOfGrammar : GrammarParts → List Session → Type 0
+AreOfGrammar g sessions = All (λ (session : Session). session.editor.grammar ≡ g) sessions

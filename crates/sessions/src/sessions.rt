@@ -39,7 +39,7 @@ impl Model for Sessions {
 }
 
 impl Sessions {
-    ghost use Rattle.sessions.specs.Sessions.{all_plain, plain, session_of, new_session, with_change, with_tokens, with_revision, without_session, without_article, HasSession, AreSessions, AreRebased, AreTypeable, IsKept, AreKept, AreKeptOn};
+    ghost use Rattle.sessions.specs.Sessions.{all_plain, plain, session_of, new_session, with_change, with_tokens, with_revision, without_session, without_article, HasSession, AreSessions, AreRebased, AreOfGrammar, AreTypeable, IsKept, AreKept, AreKeptOn};
     ghost use Rattle.sessions.specs.Places.{IsPlaceOf};
 
     /// No sessions. Takes no memory.
@@ -211,14 +211,15 @@ impl Sessions {
             .retain(|session| session.article.0 != article.0);
     }
 
-    /// Each session with its tokens rebased to the grammar and the lexicon.
+    /// Each session with its tokens rebased to the lexicon. The grammar has to be the one that the sessions keep.
     pub fn rebased(&self, grammar: &CheckedGrammar, lexicon: &Lexicon) -> Result<Sessions, Memory>
+        requires { AreOfGrammar grammar.now self.now }
         ensures rebased { IfOk result (λ rebased. AreRebased grammar.now lexicon.now (all_plain self.now) (all_plain rebased)) }
         ensures kept { IfOk result (AreKept grammar.now lexicon.now) }
     {
         let mut sessions = Vec::new(*self.sessions.allocator());
         for session in &self.sessions {
-            let (editor, _) = session.editor.rebase(grammar, lexicon)?;
+            let (editor, _) = session.editor.reread(grammar, lexicon)?;
             sessions.push(Session {
                 number: session.number,
                 article: session.article,

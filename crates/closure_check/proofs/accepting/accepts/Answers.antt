@@ -1,7 +1,6 @@
 use Rattle.std.proofs.Common.{◌≡◌, sym, ap, ◌∙◌}
 use Rattle.std.proofs.lemmas.Result.{IfOk-weaker}
 use Rattle.logic_terms.specs.Known.{theory_of}
-use Rattle.tableau_rules.specs.Branches.{start}
 use Rattle.tableau_rules.specs.Shown.{graph_of}
 use Rattle.tableau_rules.specs.Trees.{tree_of, closes}
 use Rattle.closure_check.proofs.Soundness.{closed_excludes}

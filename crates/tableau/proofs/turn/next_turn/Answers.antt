@@ -1,11 +1,12 @@
-use Rattle.std.proofs.Common.{◌≡◌, false, map, length, Some, sym, ap, subst, ◌∙◌}
+use Rattle.std.proofs.Common.{◌≡◌, true, false, map, length, Some, sym, ap, subst, ◌∙◌}
+use Rattle.std.specs.Prelude.{IsTrue}
 use Rattle.std.proofs.lemmas.Result.{IfOk-weaker}
 use Rattle.logic_terms.specs.Known.{theory_of}
-use Rattle.tableau_rules.specs.Clashes.{has_clash}
+use Rattle.tableau_rules.specs.Clashes.{has_clash, is_clash}
 use Rattle.tableau_rules.specs.Rules.{first_step, choices}
 use Rattle.tableau_rules.specs.Trees.{tree_of}
 use Rattle.tableau.specs.Ways.{reached, CloseEach}
-use Rattle.tableau.proofs.WayLemmas.{closes_step, waits_at_none, turns_back}
+use Rattle.tableau.proofs.WayLemmas.{closes_step, closes_clash, waits_at_none, waits_at_clash, turns_back}
 use Rattle.tableau.proofs.turn.next_turn.Goals as goal
 
 pub returns-in-Some-applicable : goal.returns-in-Some-applicable
@@ -19,3 +20,12 @@ returns-in-Some-applicable c =
     let each : CloseEach k s.graph step 0 (map tree_of c.new.result) = subst (λ ts. CloseEach k s.graph step 0 (map tree_of ts)) (sym c.new.ensures) tt in
     let shut = closes_step k s.graph step c.new.result first (ap length c.new.ensures ∙ sym none) each in
     IfOk-weaker c.back-in-Some-applicable.result _ _ (λ t back. turns_back k s _ t (waits_at_none k s step calm first none) (back k c.requires.leads shut)) c.back-in-Some-applicable.ensures
+
+pub returns-in-Some : goal.returns-in-Some
+returns-in-Some c =
+    let k = theory_of c.args.k.now in
+    let s = reached k c.args.way.now in
+    let clash : has_clash k s.graph ≡ true = ap (has_clash k) (sym c.requires.here) ∙ sym c.in-Some.ensures.exact in
+    let there : IsTrue (is_clash k s.graph c.in-Some.found) = subst (λ g. IsTrue (is_clash k g c.in-Some.found)) c.requires.here c.in-Some.ensures.there in
+    let shut = closes_clash k s.graph c.in-Some.found there in
+    IfOk-weaker c.back.result _ _ (λ t back. turns_back k s _ t (waits_at_clash k s clash) (back k c.requires.leads shut)) c.back.ensures

@@ -2,7 +2,7 @@ use Rattle.std.proofs.Common.{◌≡◌, ◌∙◌, ◌+◌, List, [], ◌∷◌
 use Rattle.std.proofs.lemmas.List.{take_more}
 use Rattle.editor.specs.Editing.{IsEdited}
 use Rattle.sessions.specs.declared.session.Session.{Session}
-use Rattle.sessions.specs.Sessions.{all_plain, AreKept, AreRebased}
+use Rattle.sessions.specs.Sessions.{all_plain, AreKept, AreRebased, AreOfGrammar}
 use Rattle.sessions.proofs.ChangeLemmas.{opened_kept, opened_edited, rebased_more, rebased_whole, rebased_sessions}
 use Rattle.sessions.proofs.sessions.Sessions.rebased.Goals as goal
 
@@ -28,3 +28,12 @@ invariant_of-result c =
     rebased_sessions c.args.grammar.now c.args.lexicon.now c.self.inside.sessions.items c.loop-session.sessions.items c.self.invariant
     (rebased_whole c.args.grammar.now c.args.lexicon.now c.deref-session-items.result.now c.self.inside.sessions.items c.loop-session.sessions.items c.loop-session.session-index c.loop-session-test.false c.deref-session-items.ensures.value c.loop-session.invariant.0)
     c.loop-session.invariant.2
+
+pub reread-requires : goal.reread-requires
+reread-requires c =
+    let g = c.args.grammar.now in
+    let i = c.loop-session.session-index in
+    let old : Session = c.session-item.result in
+    let items : c.deref-session-items.result.now ≡ c.args.self.now = c.deref-session-items.ensures.value ∙ c.self.view_is in
+    let all : AreOfGrammar g c.deref-session-items.result.now = subst (AreOfGrammar g) (sym items) c.requires in
+    ap (λ (s : Session). s.editor.grammar) c.session-item.is ∙ all i old c.loop-session-test.true

@@ -1,13 +1,14 @@
 use Rattle.std.proofs.Common.{◌≡◌, refl, sym, ap, subst}
 use Rattle.std.proofs.lemmas.Result.{err_from_is_err_and}
 use Rattle.codeco_terms.specs.GrammarParts.{GrammarParts}
-use Rattle.sessions.specs.Sessions.{all_plain, AreKept, AreRebased}
+use Rattle.sessions.specs.Sessions.{all_plain, AreKept, AreRebased, AreOfGrammar}
 use Rattle.wiki_talk.specs.declared.requests.Request.TheVariants as requests
 use Rattle.wiki_talk.specs.declared.replies.Reply.TheVariants as replies
 use Rattle.wiki_parts.specs.Holding as holding
 use Rattle.wiki_core.specs.Holding.{Holding}
 use Rattle.wiki_core.specs.Step.{StepsPages}
 use Rattle.wiki_core.specs.Keeping.{AreHeld}
+use Rattle.sessions.proofs.KeepingLaws.{kept_grammar}
 use Rattle.wiki_core.proofs.HeldLemmas.{held_rebased}
 use Rattle.wiki_core.proofs.wiki.Wiki.reword.Goals as goal
 
@@ -38,3 +39,8 @@ returns-clause-step c =
       sessions = subst (λ (g : GrammarParts). AreRebased g lexicon (all_plain c.self.inside.sessions) (all_plain sessions)) c.grammar.ensures c.in_ok-sessions.ensures.rebased;
       last = refl;
     }))
+
+pub rebased-requires : goal.rebased-requires
+rebased-requires c =
+    let pages = c.self.inside.store.state in
+    subst (λ (g : GrammarParts). AreOfGrammar g c.self.inside.sessions) (sym c.grammar.ensures) (kept_grammar pages.grammar pages.words c.self.inside.sessions c.self.invariant.kept)

@@ -1,8 +1,9 @@
 use Rattle.std.proofs.Common.{◌≡◌, refl, sym, ap, subst}
 use Rattle.codeco_terms.specs.GrammarParts.{GrammarParts}
-use Rattle.sessions.specs.Sessions.{all_plain, AreKept, AreRebased}
+use Rattle.sessions.specs.Sessions.{all_plain, AreKept, AreRebased, AreOfGrammar}
 use Rattle.wiki_parts.specs.Holding as holding
 use Rattle.wiki_core.specs.Keeping.{AreHeld}
+use Rattle.sessions.proofs.KeepingLaws.{kept_grammar}
 use Rattle.wiki_core.proofs.HeldLemmas.{held_ended}
 use Rattle.wiki_core.proofs.wiki.Wiki.unword.Goals as goal
 
@@ -17,3 +18,8 @@ invariant_of-self c =
     (c.end_on.ensures.kept pages.grammar lexicon (subst (λ (g : GrammarParts). AreKept g lexicon sessions) c.grammar.ensures c.in_ok-sessions.ensures.kept))
     (subst (λ (g : GrammarParts). AreRebased g lexicon (all_plain c.self.inside.sessions) (all_plain sessions)) c.grammar.ensures c.in_ok-sessions.ensures.rebased)
     c.end_on.ensures.ended)
+
+pub rebased-requires : goal.rebased-requires
+rebased-requires c =
+    let pages = c.self.inside.store.state in
+    subst (λ (g : GrammarParts). AreOfGrammar g c.self.inside.sessions) (sym c.grammar.ensures) (kept_grammar pages.grammar pages.words c.self.inside.sessions c.self.invariant.kept)

@@ -19,7 +19,8 @@ use Rattle.logic_terms.specs.Reading.{IsIn, Holds, IsModel}
 use Rattle.logic_terms.proofs.ComplementLemmas.{is_in-complement, is_normal-complement, is_wide-complement}
 use Rattle.logic_terms.proofs.MeaningLemmas.{is_in-Decides, all_hold-Decides}
 use Rattle.absorb.specs.Mentioned.{names_in, names_in_claim, is_among, are_over}
-use Rattle.reasoner.specs.Verdicts.{IsFiniteModel, HaveNoModel}
+use Rattle.reasoner.specs.Verdicts.{IsFiniteModel, HaveNoModel, SpendsAll}
+use Rattle.tableau_rules.specs.Graph.{Graph}
 use Rattle.answers.specs.Answered.{denied, IsInAll, IsOutsideSome, IsUnknown}
 use Rattle.answers.proofs.NamedIn.{names_in-complement}
 
@@ -35,6 +36,10 @@ complement_outside i c x h = not_from_Decides (is_in i c x) (is_in-Decides i c x
 
 denied_hold : (i : Interpretation) (claims : List Claim) (c : Concept) (name : WordId) → all_hold i (denied claims c name) ≡ (all_hold i claims && (is_in i (complement c) (element_of i name) && true))
 denied_hold i claims c name = list_all-append (holds i) claims (ClassAssertion (complement c) name ∷ [])
+
+-- what is pushed on a copy of the axioms makes them the axioms with the denial
+pub denied_is : (pushed copied lent claims : List Claim) (d c : Concept) (name : WordId) → pushed ≡ copied ++ ClassAssertion d name ∷ [] → copied ≡ lent → lent ≡ claims → d ≡ complement c → pushed ≡ denied claims c name
+denied_is pushed copied lent claims d c name push copy part exact = push ∙ (λ j. (copy ∙ part) j ++ ClassAssertion (exact j) name ∷ [])
 
 -- a model of the axioms that has the name outside the class is one of the axioms with the denial, and back
 pub denied_model : (i : Interpretation) (claims : List Claim) (c : Concept) (name : WordId) → IsModel i claims → ¬ IsIn i c (element_of i name) → IsModel i (denied claims c name)
@@ -57,6 +62,15 @@ in_all claims c name none i sound m = elim (cases_Bool (is_in i c (element_of i 
 pub outside_some : (claims : List Claim) (c : Concept) (name : WordId) (i : Interpretation) → IsFiniteModel i (denied claims c name) → IsOutsideSome claims c name
 outside_some claims c name i m =
     let parts = denied_parts i claims c name m.1 in (i, m.0, parts.0, parts.1)
+
+pub kept_has : (i : Interpretation) (claims : List Claim) (c : Concept) (name : WordId) → IsModel i claims → ¬ IsModel i (denied claims c name) → IsIn i c (element_of i name)
+kept_has i claims c name m not_denied = elim (cases_Bool (is_in i c (element_of i name))) [
+  | inl inside ↦ (is_in-Decides i c (element_of i name)).0 inside
+  | inr outside ↦ absurd (not_denied (denied_model i claims c name m (not_from_Decides (is_in i c (element_of i name)) (is_in-Decides i c (element_of i name)) outside)))
+]
+
+pub unknown_from : (claims : List Claim) (names : List WordId) (budget : ℕ) (c : Concept) (name : WordId) (g : Graph) → SpendsAll (denied claims c name) names budget g → IsUnknown claims names budget c name
+unknown_from claims names budget c name g s = record { knowledge = s.knowledge; absorbed = s.absorbed; longer = s.cut.longer }
 
 -- the denial is over the given names, and plain
 pub over_denied : (names : List WordId) (claims : List Claim) (c : Concept) (name : WordId) → are_over names claims ≡ true → is_among names name ≡ true → list_all (is_among names) (names_in c) ≡ true → are_over names (denied claims c name) ≡ true

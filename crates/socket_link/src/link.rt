@@ -71,11 +71,17 @@ impl<'a, R: Net + Clock> SocketLink<'a, R> {
             if index > self.connections.len() {
                 index = 0;
             }
+            // Behind the listener's turn comes that of the first connection, also where it let one in.
+            let after = if index < self.connections.len() {
+                index.saturating_add(1)
+            } else {
+                0
+            };
             let next = match self.connections.get(index).copied() {
                 Some(number) => self.hear(number, buf),
                 None => self.accept(),
             };
-            index = index.saturating_add(1);
+            index = after;
             if next != Next::Over {
                 self.turn = index;
                 return next;

@@ -34,19 +34,19 @@ fn pieces_come_and_what_was_sent_is_written_after_the_close(rt: HostRuntime) -> 
 }
 
 #[test]
-fn connections_are_served_in_turn_and_end(rt: HostRuntime) -> Result<(), Fail> {
+fn connections_and_the_listener_have_their_turns(rt: HostRuntime) -> Result<(), Fail> {
     let mut link = SocketLink::new(rt.alloc(), &rt, Duration::from_secs(LONG))?;
     assert_eq!(rt; link.listen("127.0.0.1:0"), Listen::Ready);
     let mut first = client(&rt, link.address())?;
     let mut second = client(&rt, link.address())?;
-    let mut buffer = [0; 2];
-    assert_eq!(rt; link.next(&mut buffer), Next::Opened(0));
-    assert_eq!(rt; link.next(&mut buffer), Next::Opened(1));
     first.write_all(b"aaaa")?;
     second.write_all(b"bb")?;
+    let mut buffer = [0; 2];
+    assert_eq!(rt; link.next(&mut buffer), Next::Opened(0));
+    assert_eq!(rt; link.next(&mut buffer), Next::Bytes(0, 2));
+    assert_eq!(rt; link.next(&mut buffer), Next::Opened(1));
     assert_eq!(rt; link.next(&mut buffer), Next::Bytes(0, 2));
     assert_eq!(rt; link.next(&mut buffer), Next::Bytes(1, 2));
-    assert_eq!(rt; link.next(&mut buffer), Next::Bytes(0, 2));
     drop(second);
     assert_eq!(rt; link.next(&mut buffer), Next::Ended(1));
     Ok(())

@@ -195,7 +195,7 @@ def some_request(draw):
 
 def sentence(draw):
     return draw.choice(["Ada is a cat.", "No cat is a dog.", "Who is a cat?", "Every dog sees a cat.", "Ada sees every.", ". . .",
-                        " ".join(draw.choice(WORDS) for _ in range(draw.randrange(60))), "Every cat"])
+                        " ".join(draw.choice(WORDS) for _ in range(draw.randrange(draw.choice([6, 6, 6, 6, 60])))), "Every cat"])
 
 
 def some_line(draw):
@@ -379,7 +379,7 @@ def hostile_lines(program, count, seed):
 
 def main():
     program, is_long, begun = os.path.abspath(sys.argv[1]), sys.argv[2:] == ["long"], time.time()
-    count = 100_000 if is_long else 1_000
+    count = 100_000 if is_long else 600
     hostile_lines(program, count, 7)
     lines_done = time.time()
     given = b"".join(json.dumps(it).encode() + b"\n" for it in (full_wiki(5000, 2000) if is_long else full_wiki(100, 60)))

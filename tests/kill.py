@@ -114,7 +114,7 @@ def kills(program, count, seed):
         clients = [Client(wiki, seed * 10000 + number * 10 + k) for k in range(3)]
         for client in clients:
             client.start()
-        time.sleep(draw.uniform(0.0, 0.7))
+        time.sleep(draw.uniform(0.0, 0.15))
         written = wiki.kill()
         for client in clients:
             client.join()

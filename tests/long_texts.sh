@@ -25,3 +25,16 @@ words='{"done":"words","words":[{"forms":["Mary"],"kind":"name"}]}'
 } >"$work/replies"
 "$1" replay <"$work/lines" >"$work/got" || { echo "long_texts: the program ended with status $?"; exit 1; }
 cmp -s "$work/got" "$work/replies" || { echo "long_texts: another reply"; diff "$work/got" "$work/replies" | cut -c1-300; exit 1; }
+
+# Forty tokens that go on but are no sentence yet are told what may follow, as shorter ones of the same shape are, in no time.
+nested() { local text="Mary sees a city"; for _ in $(seq "$1"); do text="$text that sees a city"; done; echo "{\"do\":\"parse\",\"text\":\"$text\"}"; }
+{
+    echo '{"do":"word","kind":"name","forms":["Mary"]}'
+    echo '{"do":"word","kind":"noun","forms":["city"]}'
+    echo '{"do":"word","kind":"verb","forms":["see"]}'
+    nested 2
+    nested 9
+} >"$work/lines"
+timeout 20 "$1" replay <"$work/lines" | tail -n 2 >"$work/got"
+sed -n 2p "$work/got" | grep -q '^{"k":40,"menu":{.*"function":\[.*"\.".*"name":"NotSentence","refused":12}$' || { echo "long_texts: forty tokens have another reply"; cut -c1-300 "$work/got"; exit 1; }
+[ "$(sed -n 1p "$work/got" | sed 's/"k":12/"k":40/')" = "$(sed -n 2p "$work/got")" ] || { echo "long_texts: forty tokens have another menu than twelve"; cut -c1-300 "$work/got"; exit 1; }

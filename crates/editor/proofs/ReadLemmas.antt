@@ -28,7 +28,7 @@ use Rattle.derivation_trees.specs.Cutting.{is_terminal}
 use Rattle.derivation_trees.specs.Sentences.{setting_of}
 use Rattle.derivations.proofs.Members.{Among, true_is_false}
 use Rattle.chart_table.proofs.PassLemmas.{if_some, unless_some}
-use Rattle.chart_table.proofs.CutLemmas.{map_some, used_up_is}
+use Rattle.chart_table.proofs.AskLemmas.{place_some, all_used}
 
 -- the token at the place is a terminal, or reads as a preterminal
 abbrev IsReadAt : Setting → ℕ → Type 0
@@ -145,7 +145,7 @@ front_reads s rule values found children count asked at stand kids h =
     let at_start = begins_at s rule values found children asked at start starts in
     option_and_then_some used_up (run s values (take count rule.body) start) stand runs (λ last ran used.
     let passed = run_reads s values (take count rule.body) start last (subst (AllReads s) (sym at_start.1) kids) ran in
-    subst (λ (to : Stand). Read s at.place to.at.place) (used_up_is last stand used) (subst (λ (from : At). Read s from.place last.at.place) at_start.0 passed.read)))
+    subst (λ (to : Stand). Read s at.place to.at.place) (all_used last stand used) (subst (λ (from : At). Read s from.place last.at.place) at_start.0 passed.read)))
 
 front_of_reads : (s : Setting) (number : ℕ) (values : List (ℕ × Value)) (found : List ℕ) (ns : Nodes) (count : ℕ) (asked : Test) (at : At) (stand : Stand) → front_of s number values found ns count asked at ≡ Some stand → Read s at.place stand.at.place
 front_of_reads s number values found ns count asked at stand h =
@@ -153,7 +153,7 @@ front_of_reads s number values found ns count asked at stand h =
 
 cut_reads : (s : Setting) (cut : CutNode) (asked : Test) (at : At) (n : ℕ) → cut_end s cut asked at ≡ Some n → Read s at.place n
 cut_reads s (stopped number values found ns count) asked at n h =
-    map_some (λ (stand : Stand). stand.at.place) (front_of s number values found ns count asked at) n h (λ stand is place.
+    place_some (λ (stand : Stand). stand.at.place) (front_of s number values found ns count asked at) n h (λ stand is place.
     subst (Read s at.place) place (front_of_reads s number values found ns count asked at stand is))
 cut_reads s (entered number values found ns count child) asked at n h =
     option_and_then_some _ (front_of s number values found ns count asked at) n h (λ stand is ends.

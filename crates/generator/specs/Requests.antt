@@ -16,7 +16,7 @@ abbrev pub name_request : ℕ → Request
 name_request n = requests.Word kinds.Name (name n ∷ [])
 
 abbrev pub verb_request : ℕ → Request
-verb_request n = requests.Word kinds.Verb (verb n ∷ verbs n ∷ verbed n ∷ [])
+verb_request n = requests.Word kinds.Verb (verbs n ∷ verb n ∷ verbed n ∷ [])
 
 -- the word with the number, from 0: twenty nouns, twenty names and ten verbs
 abbrev pub word_request : ℕ → Request

@@ -55,9 +55,9 @@ fn verb_request(alloc: Global, number: u32) -> Result<Request, Memory>
     requires { number < 20 }
     ensures { IfOk result (λ request. request ≡ made.verb_request number) }
 {
-    let infinitive = one_form(alloc, verb(alloc, number)?)?;
-    let third = with_form(infinitive, verbs(alloc, number)?)?;
-    let forms = with_form(third, verbed(alloc, number)?)?;
+    let third = one_form(alloc, verbs(alloc, number)?)?;
+    let infinitive = with_form(third, verb(alloc, number)?)?;
+    let forms = with_form(infinitive, verbed(alloc, number)?)?;
     Ok(Request::Word {
         kind: Kind::Verb,
         forms,

@@ -10,11 +10,11 @@ use chart::Chart;
 use chart_table::begins;
 use chart_trees::least_of;
 use codeco_checked::CheckedGrammar;
-use derivations::{Menu, Skeleton, plain_menu};
+use derivations::{Menu, Skeleton};
 use lexicon::Lexicon;
 use lists::Copied;
 use std::alloc::Global;
-use wiki_base::{MOST_TOKENS, Memory, Tokens};
+use wiki_base::{Memory, Tokens};
 
 /// How many of the tokens are typeable, from the first on.
 pub fn typeable_count(
@@ -38,7 +38,7 @@ pub fn typeable_count(
     Ok(count)
 }
 
-/// The menu of the tokens: by the chart, which holds up to 40 tokens, with the one that may follow.
+/// The menu of the tokens, by the chart.
 pub fn menu<'a>(
     alloc: Global,
     grammar: &'a CheckedGrammar,
@@ -48,9 +48,6 @@ pub fn menu<'a>(
     requires { length tokens.now ≤ MOST_TOKENS }
     ensures { IfOk result (IsTextMenu grammar.now lexicon.now tokens.now) }
 {
-    if tokens.len() >= MOST_TOKENS {
-        return plain_menu(alloc, grammar, lexicon, tokens);
-    }
     let mut chart = Chart::new(alloc, grammar)?;
     for token in tokens.as_slice() {
         chart.advance(grammar, lexicon, token)?;

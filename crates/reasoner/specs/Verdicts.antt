@@ -1,5 +1,5 @@
 -- What verdicts say.
-use Rattle.std.specs.Prelude.{ℕ, List, IsTrue}
+use Rattle.std.specs.Prelude.{ℕ, ◌<◌, List, IsTrue}
 use Rattle.wiki_base.specs.declared.numbers.WordId.{WordId}
 use Rattle.logic_terms.specs.Concept.{Claim}
 use Rattle.logic_terms.specs.Interpretation.{Interpretation, is_interpretation}
@@ -11,6 +11,7 @@ use Rattle.tableau_rules.specs.declared.branch.Branch.{Branch}
 use Rattle.tableau_rules.specs.declared.step.Closed.{Closed}
 use Rattle.tableau_rules.specs.Graph.{Graph}
 use Rattle.tableau_rules.specs.Trees.{Tree, is_closed}
+use Rattle.tableau_bounds.specs.Enough.{enough}
 use Rattle.tableau.specs.Ends.{IsCutAt}
 use Rattle.reasoner.specs.declared.answer.Verdict.{Verdict}
 use Rattle.reasoner.specs.declared.answer.Verdict.TheVariants.{Consistent, Inconsistent, Spent}
@@ -50,3 +51,9 @@ pub record SpendsAll (claims : List Claim) (names : List WordId) (budget : ℕ) 
   pub knowledge : Theory
   pub absorbed : IsAbsorbed claims names knowledge
   pub cut : IsCutAt knowledge budget g
+
+-- a budget is below the bound that always ends the search over the absorbed knowledge of these axioms and names
+pub record IsBelowEnough (claims : List Claim) (names : List WordId) (budget : ℕ) : Type 0 where
+  pub knowledge : Theory
+  pub absorbed : IsAbsorbed claims names knowledge
+  pub below : budget < enough knowledge

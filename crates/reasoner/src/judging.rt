@@ -8,7 +8,7 @@ ghost use Rattle.absorb.specs.Mentioned.{are_over};
 ghost use Rattle.owl_eval.specs.Checked.{kept_interp, kept_claims};
 ghost use Rattle.tableau_rules.specs.Shown.{graph_of};
 ghost use Rattle.tableau_rules.specs.Trees.{tree_of};
-ghost use Rattle.reasoner.specs.Verdicts.{IfConsistent, IfInconsistent, IfSpent, IsFiniteModel, HaveNoModel, ClosesAll, SpendsAll};
+ghost use Rattle.reasoner.specs.Verdicts.{IfConsistent, IfInconsistent, IfSpent, IsFiniteModel, HaveNoModel, ClosesAll, SpendsAll, IsBelowEnough};
 
 use crate::answer::{Decision, Verdict};
 use crate::deciding::decide;
@@ -34,6 +34,7 @@ pub fn verdict(
     ensures inconsistent { IfOk result (λ v. IfInconsistent v (λ tree. ClosesAll (claims_of axioms) names.now (tree_of tree))) }
     ensures impossible { IfOk result (λ v. IfInconsistent v (λ _. HaveNoModel (claims_of axioms))) }
     ensures spent { IfOk result (λ v. IfSpent v (λ b. SpendsAll (claims_of axioms) names.now budget (graph_of b))) }
+    ensures enough { IfOk result (λ v. IfSpent v (λ _. IsBelowEnough (claims_of axioms) names.now budget)) }
     ensures not_kept { IfOk result (λ v. IfSpent v (λ _. ¬ IsModel (kept_interp kept.now) (claims_of axioms))) }
 {
     if is_model(kept.interp(), &axioms) {
@@ -57,6 +58,7 @@ pub fn searched_verdict(
     ensures inconsistent { IfOk result (λ v. IfInconsistent v (λ tree. ClosesAll (claims_of axioms) names.now (tree_of tree))) }
     ensures impossible { IfOk result (λ v. IfInconsistent v (λ _. HaveNoModel (claims_of axioms))) }
     ensures spent { IfOk result (λ v. IfSpent v (λ b. SpendsAll (claims_of axioms) names.now budget (graph_of b))) }
+    ensures enough { IfOk result (λ v. IfSpent v (λ _. IsBelowEnough (claims_of axioms) names.now budget)) }
 {
     let k = absorb(alloc, &axioms, names)?;
     match decide(alloc, &k, budget)? {

@@ -1,8 +1,10 @@
 // The systematic search.
-ghost use Rattle.std.specs.Prelude.{◌≡◌, IfOk, IsTrue};
+ghost use Rattle.std.specs.Prelude.{◌≡◌, ◌<◌, IfOk, IsTrue};
 ghost use Rattle.logic_terms.specs.Known.{theory_of};
+ghost use Rattle.logic_terms.specs.Plain.{is_plain_theory};
 ghost use Rattle.tableau_rules.specs.Shown.{graph_of};
 ghost use Rattle.tableau_rules.specs.Trees.{tree_of, is_closed};
+ghost use Rattle.tableau_bounds.specs.Enough.{enough};
 ghost use Rattle.tableau.specs.Ends.{IfFinished, IfClosed, IfSpent, IsEnd, IsCutAt};
 
 use crate::outcome::Outcome;
@@ -23,6 +25,7 @@ pub fn search(alloc: Global, k: &Knowledge, budget: u64) -> Result<Outcome, Memo
     ensures finished { IfOk result (λ o. IfFinished o (λ b. IsEnd (theory_of k.now) (graph_of b))) }
     ensures closed { IfOk result (λ o. IfClosed o (λ tree. IsTrue (is_closed (theory_of k.now) (tree_of tree)))) }
     ensures spent { IfOk result (λ o. IfSpent o (λ b. IsCutAt (theory_of k.now) budget (graph_of b))) }
+    ensures enough { IfOk result (λ o. IfSpent o (λ _. IsTrue (is_plain_theory (theory_of k.now)) → budget < enough (theory_of k.now))) }
 {
     match quickly(alloc, k, budget)? {
         Some(outcome) => Ok(outcome),

@@ -5,7 +5,10 @@ use Rattle.logic_terms.specs.Theory.{IsModelOf}
 use Rattle.logic_terms.specs.Interpretation.{is_interpretation}
 use Rattle.std.specs.Prelude.{IsTrue}
 use Rattle.closure_check.specs.NoModel.{HasNoModel}
-use Rattle.reasoner.specs.Decisions.{IfModel, IfTree}
+use Rattle.tableau_rules.specs.Shown.{graph_of}
+use Rattle.tableau.specs.Ends.{IsCutAt}
+use Rattle.tableau_bounds.proofs.Laws.{search_bounded}
+use Rattle.reasoner.specs.Decisions.{IfModel, IfTree, IfUndecided}
 use Rattle.reasoner.specs.Verdicts.{IsFiniteModel}
 use Rattle.reasoner.proofs.judging.searched_verdict.Goals as goal
 
@@ -26,3 +29,13 @@ returns-in-Tree-clause-impossible c i model =
     let k = theory_of c.in_ok-k.k in
     let none = subst (λ d. IfTree d (λ _. HasNoModel k)) c.in-Tree.is c.in_ok-interp.ensures.no_model in
     none i model.0 ((c.in_ok-k.ensures.models i).1 model.1)
+
+pub returns-in-Undecided-clause-enough : goal.returns-in-Undecided-clause-enough
+returns-in-Undecided-clause-enough c =
+    let k = theory_of c.in_ok-k.k in
+    let cut = subst (λ d. IfUndecided d (λ b. IsCutAt k c.args.budget (graph_of b))) c.in-Undecided.is c.in_ok-interp.ensures.undecided in
+    record {
+      knowledge = k;
+      absorbed = c.in_ok-k.ensures.exact;
+      below = search_bounded k (c.in_ok-k.ensures.plain c.requires.plain) c.args.budget cut.longer;
+    }

@@ -233,7 +233,9 @@ def some_http(draw):
     """A request that is whole, with its parts drawn from right and wrong ones."""
     kind = draw.randrange(4)
     if kind == 0:
-        method, path, body = "GET", draw.choice(["/", "/?a=b", "/article/cat", "/article/%63at", "/article/b%c3%a9", "/article/", "/session/1", "/session/a", "/none", "//"]), b""
+        method, path, body = "GET", draw.choice(["/", "/?a=b", "/article/cat", "/article/%63at", "/article/b%c3%a9", "/article/", "/session/1", "/session/a", "/none", "//",
+                                           "/article/Ada", "/article/dog", "/article/%c3%a9", "/article/cat/", "/session/2", "/session/00000000001", "/article",
+                                           "/session/4294967295", "/session/99999999999", "/api/", "/word/", "*", "/article/a%2"]), b""
     elif kind == 1:
         method, path, body = "POST", "/api", some_line(draw).replace(b"\xff", b"\xfe")
     else:
@@ -319,7 +321,10 @@ def many(port, seed, count):
     wiki.port = port
     draw = random.Random(seed)
     for number in range(count):
-        wrong = connect_once(wiki, draw, number)
+        try:
+            wrong = connect_once(wiki, draw, number)
+        except OSError as error:
+            wrong = repr(error)
         if wrong:
             return f"connection {number} of seed {seed}: {wrong}"
     return None
@@ -330,7 +335,7 @@ def connections(wiki, count, seed):
     with multiprocessing.Pool(2) as pool:
         for wrong in pool.starmap(many, [(wiki.port, seed + k, count // 2) for k in range(2)]):
             if wrong:
-                raise SystemExit(f"hostile: {wrong}")
+                raise SystemExit(f"hostile: {wrong}; the program's status is {wiki.process.poll()}")
     if wiki.page("/")[0] != 200:
         raise SystemExit("hostile: the program doesn't go on serving")
 

@@ -5,7 +5,7 @@ that serves answers a change whole, or in part, or not at all, and has ended wit
 answered stands in the journal, whose lines are whole. The allocator that refuses stands before that of the C library; what is
 allocated in other places, as by a reader of the operating system's, is refused as well.
 """
-import os, sys, tempfile
+import os, sys, tempfile, time
 from refusing import COUNTRIES, Refusing, lines, word
 from running import Closed, Wiki, api, parse_response, read_all
 
@@ -37,25 +37,42 @@ def replays(refusing, given, name):
     return f"{name}: {refused} of {len(numbers(count))} runs ended with 9"
 
 
-def serves(refusing):
-    """One change over a connection, with each of the first allocations refused."""
-    ended = answered = 0
-    for number in range(1, 501):
-        wiki = Wiki(refusing.program, lines(word("noun", "city")), environment=refusing.environment(MALLOC=number), waits=False)
-        got = b""
-        for _ in range(500):
-            try:
-                with wiki.connect() as link:
-                    link.sendall(api(word("name", "Bern")))
-                    got = read_all(link)
+def goes_on(wiki):
+    """The status with which the program has ended, or None where it goes on serving. The allocation may be one for this page."""
+    try:
+        if wiki.process.poll() is None and wiki.page("/")[0] == 200:
+            return None
+    except (OSError, Closed):
+        pass
+    return wiki.process.wait(20)
+
+
+def asked_once(refusing, options, **refused):
+    """A program that serves, and what it answered to one change."""
+    wiki = Wiki(refusing.program, lines(word("noun", "city")), options=options, environment=refusing.environment(**refused), waits=False)
+    for _ in range(2000):
+        try:
+            with wiki.connect() as link:
+                link.sendall(api(word("name", "Bern")))
+                return wiki, read_all(link)
+        except OSError:
+            if wiki.process.poll() is not None:
                 break
-            except OSError:
-                if wiki.process.poll() is not None:
-                    break
+            time.sleep(0.001)
+    return wiki, b""
+
+
+def serves(refusing):
+    """One change over a connection, with allocations refused over the whole run and each of the last 250."""
+    wiki, _ = asked_once(refusing, ["--events", "2"])
+    wiki.process.wait(20)
+    count = refusing.counts()[0]
+    tried = sorted({*range(1, count + 1, max(1, count // 250)), *range(max(1, count - 250), count + 1)})
+    ended = answered = 0
+    for number in tried:
+        wiki, got = asked_once(refusing, [], MALLOC=number)
         journal = wiki.written()
-        status = wiki.process.poll()
-        if status is None and wiki.page("/")[0] != 200:
-            raise SystemExit(f"memory: allocation {number} refused: it doesn't go on serving")
+        status = goes_on(wiki)
         wiki.stop()
         try:
             whole = got and parse_response(got)[0] == 200
@@ -64,7 +81,7 @@ def serves(refusing):
         if status not in (None, 9) or journal not in (b"", b'{"do":"word","forms":["Bern"],"kind":"name"}\n') or (got and not journal):
             raise SystemExit(f"memory: allocation {number} refused: status {status}, {got!r}, journal {journal!r}")
         ended, answered = ended + (status == 9), answered + bool(whole)
-    return f"serve: {ended} of 500 runs ended with 9, {answered} answered whole"
+    return f"serve: {ended} of {len(tried)} runs ended with 9, {answered} answered whole"
 
 
 def main():

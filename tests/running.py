@@ -1,5 +1,5 @@
 """What the scripts that run the program share: a wiki that serves on a port of its own, what is sent to it, and its pages."""
-import html, html.parser, json, os, re, signal, socket, struct, subprocess, tempfile, time, urllib.parse
+import html.parser, json, os, random, re, signal, socket, struct, subprocess, tempfile, time, urllib.parse
 
 BAD_REQUEST = {"name": "BadRequest", "refused": 0}
 
@@ -9,9 +9,15 @@ class Closed(Exception):
 
 
 def free_port():
-    with socket.socket() as it:
-        it.bind(("127.0.0.1", 0))
-        return it.getsockname()[1]
+    """A port that nobody listens at, below those that the system gives to clients, which could else meet themselves there."""
+    while True:
+        port = random.randrange(20000, 32000)
+        with socket.socket() as it:
+            try:
+                it.bind(("127.0.0.1", port))
+                return port
+            except OSError:
+                pass
 
 
 class Wiki:

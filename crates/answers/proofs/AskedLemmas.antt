@@ -31,7 +31,7 @@ outside_complement i c x out = elim (cases_Bool (is_in i c x)) [
   | inr outside ↦ is_in-complement i c x ∙ not_from_false (is_in i c x) outside
 ]
 
-complement_outside : (i : Interpretation) (c : Concept) (x : ℕ) → is_in i (complement c) x ≡ true → ¬ IsIn i c x
+pub complement_outside : (i : Interpretation) (c : Concept) (x : ℕ) → is_in i (complement c) x ≡ true → ¬ IsIn i c x
 complement_outside i c x h = not_from_Decides (is_in i c x) (is_in-Decides i c x) (not-true (is_in i c x) (sym (is_in-complement i c x) ∙ h))
 
 denied_hold : (i : Interpretation) (claims : List Claim) (c : Concept) (name : WordId) → all_hold i (denied claims c name) ≡ (all_hold i claims && (is_in i (complement c) (element_of i name) && true))

@@ -6,14 +6,20 @@ ghost use Rattle.logic_terms.specs.Interpretation.{Interpretation, element_of};
 ghost use Rattle.logic_terms.specs.Plain.{is_plain, are_plain};
 ghost use Rattle.logic_terms.specs.Reading.{IsIn, IsModel};
 ghost use Rattle.wiki_base.specs.declared.numbers.WordId.{WordId};
+ghost use Rattle.logic_terms.specs.Complement.{complement};
+ghost use Rattle.logic_terms.specs.Known.{theory_of};
+ghost use Rattle.logic_terms.specs.Names.{names_rise};
+ghost use Rattle.absorb.specs.Absorbed.{IsAbsorbed};
 ghost use Rattle.absorb.specs.Mentioned.{names_in, is_among, are_over};
 ghost use Rattle.owl_eval.specs.Checked.{kept_interp, kept_claims};
 ghost use Rattle.answers.specs.Answered.{IsInAll, IsOutsideSome, IsUnknown};
 ghost use Rattle.answers.specs.Single.{Answered};
 
-use logic_terms::{Axiom, Axioms, Class, Names, negated};
+use crate::asserting::asserting;
+use absorb::absorb;
+use logic_terms::{Axiom, Class, Knowledge, Names, negated};
 use owl_eval::{CheckedModel, axiom_true};
-use reasoner::{Verdict, verdict};
+use reasoner::{Decision, decide};
 use std::alloc::Global;
 use wiki_base::{Memory, WordId};
 
@@ -45,10 +51,58 @@ pub fn ask(
     ensures given { IfOk result (λ a. All (Contains names.now) a.yes × All (Contains names.now) a.unknown) }
     ensures apart { IfOk result (λ a. (n : WordId) → Contains a.yes n → ¬ Contains a.unknown n) }
 {
+    let k = absorb(alloc, kept.axioms(), names)?;
+    ask_known(alloc, &k, class, kept, names, budget)
+}
+
+/// The same with the knowledge that the kept axioms were absorbed to, which serves many classes.
+pub fn ask_known(
+    alloc: Global,
+    k: &Knowledge,
+    class: &Class,
+    kept: &CheckedModel,
+    names: &Names,
+    budget: u64,
+) -> Result<Answers, Memory>
+    requires absorbed { IsAbsorbed (kept_claims kept.now) names.now (theory_of k.now) }
+    requires over { IsTrue (are_over names.now (kept_claims kept.now) && list_all (is_among names.now) (names_in (concept_of class.now))) }
+    requires plain { IsTrue (are_plain (kept_claims kept.now) && is_plain (concept_of class.now)) }
+    ensures yes { IfOk result (λ a. All (IsInAll (kept_claims kept.now) (concept_of class.now)) a.yes) }
+    ensures unknown { IfOk result (λ a. All (IsUnknown (kept_claims kept.now) names.now budget (concept_of class.now)) a.unknown) }
+    ensures kept_has_unknown { IfOk result (λ a. All (λ n. IsIn (kept_interp kept.now) (concept_of class.now) (element_of (kept_interp kept.now) n)) a.unknown) }
+    ensures others { IfOk result (λ a. (n : WordId) → Contains names.now n → ¬ Contains a.yes n → ¬ Contains a.unknown n → IsOutsideSome (kept_claims kept.now) (concept_of class.now) n) }
+    ensures given { IfOk result (λ a. All (Contains names.now) a.yes × All (Contains names.now) a.unknown) }
+    ensures apart { IfOk result (λ a. (n : WordId) → Contains a.yes n → ¬ Contains a.unknown n) }
+{
+    let denial = negated(alloc, class)?;
+    all_decided(alloc, k, class, &denial, kept, names, budget)
+}
+
+// The same with the complement of the class in negation normal form.
+fn all_decided(
+    alloc: Global,
+    k: &Knowledge,
+    class: &Class,
+    denial: &Class,
+    kept: &CheckedModel,
+    names: &Names,
+    budget: u64,
+) -> Result<Answers, Memory>
+    requires denial { concept_of denial.now ≡ complement (concept_of class.now) }
+    requires absorbed { IsAbsorbed (kept_claims kept.now) names.now (theory_of k.now) }
+    requires over { IsTrue (are_over names.now (kept_claims kept.now) && list_all (is_among names.now) (names_in (concept_of class.now))) }
+    requires plain { IsTrue (are_plain (kept_claims kept.now) && is_plain (concept_of class.now)) }
+    ensures yes { IfOk result (λ a. All (IsInAll (kept_claims kept.now) (concept_of class.now)) a.yes) }
+    ensures unknown { IfOk result (λ a. All (IsUnknown (kept_claims kept.now) names.now budget (concept_of class.now)) a.unknown) }
+    ensures kept_has_unknown { IfOk result (λ a. All (λ n. IsIn (kept_interp kept.now) (concept_of class.now) (element_of (kept_interp kept.now) n)) a.unknown) }
+    ensures others { IfOk result (λ a. (n : WordId) → Contains names.now n → ¬ Contains a.yes n → ¬ Contains a.unknown n → IsOutsideSome (kept_claims kept.now) (concept_of class.now) n) }
+    ensures given { IfOk result (λ a. All (Contains names.now) a.yes × All (Contains names.now) a.unknown) }
+    ensures apart { IfOk result (λ a. (n : WordId) → Contains a.yes n → ¬ Contains a.unknown n) }
+{
     let mut yes = Names::new(alloc);
     let mut unknown = Names::new(alloc);
     for name in names.as_slice() {
-        match decided(alloc, class, kept, names, *name, budget)? {
+        match decided(alloc, k, class, denial, kept, names, *name, budget)? {
             Asked::Yes => yes.push(*name)?,
             Asked::Unknown => unknown.push(*name)?,
             Asked::No => {}
@@ -65,28 +119,50 @@ pub(crate) enum Asked {
     No,
 }
 
+// Whether one name is in the class. The denial is the complement of the class in negation normal form.
 fn decided(
     alloc: Global,
+    k: &Knowledge,
     class: &Class,
+    denial: &Class,
     kept: &CheckedModel,
     names: &Names,
     name: WordId,
     budget: u64,
 ) -> Result<Asked, Memory>
+    requires absorbed { IsAbsorbed (kept_claims kept.now) names.now (theory_of k.now) }
+    requires denial { concept_of denial.now ≡ complement (concept_of class.now) }
     requires over { IsTrue (are_over names.now (kept_claims kept.now) && list_all (is_among names.now) (names_in (concept_of class.now))) }
     requires plain { IsTrue (are_plain (kept_claims kept.now) && is_plain (concept_of class.now)) }
+    requires rising { names_rise names.now ≡ true }
     requires given { IsTrue (is_among names.now name) }
     ensures { IfOk result (λ a. Answered (kept_interp kept.now) (kept_claims kept.now) names.now budget (concept_of class.now) name a) }
 {
-    let denial = Axiom::Member(negated(alloc, class)?, name);
-    if axiom_true(kept.interp(), &denial) {
+    let is_out = is_outside(alloc, kept, class, denial, name)?;
+    if is_out {
         return Ok(Asked::No);
     }
-    let mut axioms = kept.axioms().copy()?;
-    axioms.push(denial)?;
-    match verdict(alloc, axioms, names, kept, budget)? {
-        Verdict::Consistent(_) => Ok(Asked::No),
-        Verdict::Inconsistent(_) => Ok(Asked::Yes),
-        Verdict::Spent(_) => Ok(Asked::Unknown),
+    let with_denial = asserting(alloc, k, name, denial)?;
+    match decide(alloc, &with_denial, budget)? {
+        Decision::Model(_) => Ok(Asked::No),
+        Decision::Tree(_) => Ok(Asked::Yes),
+        Decision::Undecided(_) => Ok(Asked::Unknown),
     }
+}
+
+// Whether the kept interpretation has a name outside the class, of which the denial is the complement.
+fn is_outside(
+    alloc: Global,
+    kept: &CheckedModel,
+    class: &Class,
+    denial: &Class,
+    name: WordId,
+) -> Result<bool, Memory>
+    requires { concept_of denial.now ≡ complement (concept_of class.now) }
+    ensures outside { IfOk result (λ yes. IsTrue yes → IsOutsideSome (kept_claims kept.now) (concept_of class.now) name) }
+    ensures inside { IfOk result (λ yes. ¬ IsTrue yes → IsIn (kept_interp kept.now) (concept_of class.now) (element_of (kept_interp kept.now) name)) }
+{
+    let copied = denial.copy(alloc)?;
+    let denied = Axiom::Member(copied, name);
+    Ok(axiom_true(kept.interp(), &denied))
 }

@@ -2,5 +2,6 @@
 #![tactic(auto)]
 
 mod asking;
+mod asserting;
 
-pub use asking::{Answers, ask};
+pub use asking::{Answers, ask, ask_known};

@@ -1,7 +1,10 @@
-//! Gives verdicts on the axioms of 200 sentences that are drawn by a rule. With the word `time` they are 2,000, and it also
-//! tells how much processor time each verdict took.
+//! Gives verdicts on the axioms of 200 sentences that are drawn by a rule, and on axioms with many names or many choices. With
+//! the word `time` there are more of them, and it also tells how much processor time each verdict took.
 #![tactic(auto)]
 
+mod choices;
+
+use choices::{Base, drawn_colouring, hidden, path_and_clique, persons};
 use logic_terms::{Axiom, Axioms, Class, Names, Role};
 use owl_eval::{CheckedModel, Interp};
 use reasoner::{Verdict, verdict};
@@ -16,6 +19,8 @@ const NOUNS: u32 = 20;
 const NAMES: u32 = 20;
 
 const VERBS: u32 = 10;
+
+const DEFAULT_BUDGET: u64 = 1_000_000;
 
 #[derive(Debug, Drop)]
 enum Fault {
@@ -169,6 +174,87 @@ fn is_spent(verdict: &Verdict) -> bool {
     }
 }
 
+// What the verdict on a base is.
+fn said(verdict: &Verdict) -> &'static str {
+    match verdict {
+        Verdict::Consistent(_) => "a model",
+        Verdict::Inconsistent(_) => "no model",
+        Verdict::Spent(_) => "spent",
+    }
+}
+
+fn judged_base(
+    alloc: Global,
+    base: Base,
+    kept: &CheckedModel,
+    budget: u64,
+) -> Result<Verdict, Fault> {
+    let Base { axioms, names } = base;
+    if are_fit(&names, &axioms) {
+        Ok(verdict(alloc, axioms, &names, kept, budget)?)
+    } else {
+        Err(Fault::Axioms)
+    }
+}
+
+// Tells the verdict on a base with the program's own budget, and how much processor time it took where that is asked.
+fn tell<R: Print + CpuClock>(
+    rt: &R,
+    alloc: Global,
+    text: &str,
+    base: Base,
+    timed: bool,
+) -> Result<(), Fault> {
+    let none = bare(alloc)?;
+    let start = rt.thread_cpu_time()?;
+    let verdict = judged_base(alloc, base, &none, DEFAULT_BUDGET)?;
+    let taken = rt.thread_cpu_time()?.saturating_sub(start).as_micros();
+    let kind = said(&verdict);
+    if timed {
+        println!(rt; "{text}: {kind}, {taken} microseconds")?;
+    } else {
+        println!(rt; "{text}: {kind}")?;
+    }
+    Ok(())
+}
+
+// Tells the verdicts on axioms with many names or many choices.
+fn tell_all<R: Print + CpuClock>(rt: &R, alloc: Global, timed: bool) -> Result<(), Fault> {
+    let scale: u32 = if timed { 100 } else { 4 };
+    tell(rt, alloc, "persons", persons(alloc, 10 * scale)?, timed)?;
+    tell(rt, alloc, "a hidden clash", hidden(alloc, scale)?, timed)?;
+    let path = scale.min(20);
+    tell(
+        rt,
+        alloc,
+        "a path and a clique",
+        path_and_clique(alloc, path, false)?,
+        timed,
+    )?;
+    tell(
+        rt,
+        alloc,
+        "a path to a clique",
+        path_and_clique(alloc, path, true)?,
+        timed,
+    )?;
+    Ok(())
+}
+
+// Tells the verdicts on drawn colourings. Those without a planted one may have none.
+fn tell_colourings<R: Print + CpuClock>(rt: &R, alloc: Global, timed: bool) -> Result<(), Fault> {
+    let (vertices, edges, seeds) = if timed { (100, 230, 20) } else { (9, 14, 2) };
+    for seed in 0..seeds {
+        let base = drawn_colouring(alloc, vertices, edges, seed, true)?;
+        tell(rt, alloc, "a planted colouring", base, timed)?;
+        if timed {
+            let base = drawn_colouring(alloc, vertices, edges, seed, false)?;
+            tell(rt, alloc, "a drawn colouring", base, timed)?;
+        }
+    }
+    Ok(())
+}
+
 fn main(rt: HostRuntime) -> Result<(), Fault> {
     let alloc = rt.alloc();
     let timed = env::args(&rt)?.count() > 1;
@@ -192,5 +278,6 @@ fn main(rt: HostRuntime) -> Result<(), Fault> {
         let kept = kept.as_micros();
         println!(rt; "{searched} microseconds with a search, {kept} microseconds without")?;
     }
-    Ok(())
+    tell_all(&rt, alloc, timed)?;
+    tell_colourings(&rt, alloc, timed)
 }

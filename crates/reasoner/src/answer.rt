@@ -1,5 +1,5 @@
 // What a verdict is.
-use owl_eval::CheckedModel;
+use owl_eval::{CheckedModel, Interp};
 use tableau_rules::{Branch, Closed};
 
 /// Whether axioms have a finite model.
@@ -11,4 +11,15 @@ pub enum Verdict {
     Inconsistent(Closed),
     /// The search has not ended within the budget; its branch by then.
     Spent(Branch),
+}
+
+/// Whether knowledge has a finite model.
+#[derive(Drop)]
+pub enum Decision {
+    /// It has this one.
+    Model(Interp),
+    /// It has none, as this closed tree shows.
+    Tree(Closed),
+    /// The search has not ended within the budget; its branch by then.
+    Undecided(Branch),
 }

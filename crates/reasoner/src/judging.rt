@@ -10,13 +10,12 @@ ghost use Rattle.tableau_rules.specs.Shown.{graph_of};
 ghost use Rattle.tableau_rules.specs.Trees.{tree_of};
 ghost use Rattle.reasoner.specs.Verdicts.{IfConsistent, IfInconsistent, IfSpent, IsFiniteModel, HaveNoModel, ClosesAll, SpendsAll};
 
-use crate::answer::Verdict;
+use crate::answer::{Decision, Verdict};
+use crate::deciding::decide;
 use absorb::absorb;
-use branch_model::model;
 use logic_terms::{Axioms, Names};
 use owl_eval::{CheckedModel, Interp, is_model};
 use std::alloc::Global;
-use tableau::{Outcome, search};
 use wiki_base::Memory;
 
 /// Whether axioms over these names have a finite model. The kept interpretation is tried first: where it is a model, no
@@ -41,14 +40,29 @@ pub fn verdict(
         let interp = kept.interp().copy()?;
         return Ok(Verdict::Consistent(checked(interp, axioms)));
     }
+    searched_verdict(alloc, axioms, names, budget)
+}
+
+/// The verdict that the search alone makes, for axioms that the kept interpretation is not a model of.
+pub fn searched_verdict(
+    alloc: Global,
+    axioms: Axioms,
+    names: &Names,
+    budget: u64,
+) -> Result<Verdict, Memory>
+    requires over { IsTrue (are_over names.now (claims_of axioms)) }
+    requires plain { IsTrue (are_plain (claims_of axioms)) }
+    ensures consistent { IfOk result (λ v. IfConsistent v (λ m. kept_claims m ≡ claims_of axioms)) }
+    ensures model { IfOk result (λ v. IfConsistent v (λ m. IsFiniteModel (kept_interp m) (claims_of axioms))) }
+    ensures inconsistent { IfOk result (λ v. IfInconsistent v (λ tree. ClosesAll (claims_of axioms) names.now (tree_of tree))) }
+    ensures impossible { IfOk result (λ v. IfInconsistent v (λ _. HaveNoModel (claims_of axioms))) }
+    ensures spent { IfOk result (λ v. IfSpent v (λ b. SpendsAll (claims_of axioms) names.now budget (graph_of b))) }
+{
     let k = absorb(alloc, &axioms, names)?;
-    match search(alloc, &k, budget)? {
-        Outcome::Finished(b) => {
-            let interp = model(alloc, &k, &b)?;
-            Ok(Verdict::Consistent(checked(interp, axioms)))
-        }
-        Outcome::Closed(tree) => Ok(Verdict::Inconsistent(tree)),
-        Outcome::Spent(b) => Ok(Verdict::Spent(b)),
+    match decide(alloc, &k, budget)? {
+        Decision::Model(interp) => Ok(Verdict::Consistent(checked(interp, axioms))),
+        Decision::Tree(tree) => Ok(Verdict::Inconsistent(tree)),
+        Decision::Undecided(b) => Ok(Verdict::Spent(b)),
     }
 }
 

@@ -1,8 +1,10 @@
-//! Verdicts: whether axioms have a finite model.
+//! Verdicts: whether axioms, or knowledge, have a finite model.
 #![tactic(auto)]
 
 mod answer;
+mod deciding;
 mod judging;
 
-pub use answer::Verdict;
-pub use judging::verdict;
+pub use answer::{Decision, Verdict};
+pub use deciding::decide;
+pub use judging::{searched_verdict, verdict};

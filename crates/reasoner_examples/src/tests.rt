@@ -7,10 +7,12 @@ use absorb::absorb;
 use closure_check::accepts;
 use logic_terms::{Axioms, Knowledge, Names};
 use owl_eval::{CheckedModel, Interp};
+use quick_search::{Proposal, hunt};
 use reasoner::{Verdict, verdict};
 use std::alloc::Global;
 use std::test::Fail;
 use tableau::{Outcome, search};
+use tableau_rules::start;
 
 // How a search ended.
 #[derive(Clone, Copy, PartialEq, Eq)]
@@ -75,6 +77,28 @@ fn a_search_is_cut_at_each_budget_below_its_steps(rt: HostRuntime) -> Result<(),
         }
         let end = if *size == 0 { End::Shut } else { End::Open };
         assert!(rt; end_of(&search(alloc, &k, *steps)?) == end, "{axioms}");
+    }
+    Ok(())
+}
+
+#[test]
+fn the_quick_search_ends_where_the_systematic_one_does(rt: HostRuntime) -> Result<(), Fail> {
+    let alloc = rt.alloc();
+    for (names, axioms, steps, size) in BASES.iter() {
+        let k = knowledge(alloc, *names, axioms)?;
+        let first = start(alloc, &k)?;
+        for budget in 0..*steps {
+            let early = hunt(alloc, &k, &first, budget, false)?;
+            assert!(rt; matches!(early, Proposal::Nothing), "{axioms}");
+        }
+        match hunt(alloc, &k, &first, *steps, false)? {
+            Proposal::Steps(_) => assert!(rt; *size > 0, "{axioms}"),
+            Proposal::Tree(tree) => {
+                assert!(rt; *size == 0, "{axioms}");
+                assert!(rt; accepts(alloc, &k, &tree)?, "{axioms}");
+            }
+            Proposal::Nothing => assert!(rt; false, "{axioms}"),
+        }
     }
     Ok(())
 }

@@ -4,6 +4,7 @@ ghost use Rattle.std.specs.List.{AllZip};
 ghost use Rattle.articles.specs.declared.article.Article.{Article as TheArticle};
 ghost use Rattle.articles.specs.Articles.{article_of, HasArticle};
 ghost use Rattle.lexicon.specs.Words.{canonical_form_of, forms_of};
+ghost use Rattle.logic_terms.specs.Known.{theory_of};
 ghost use Rattle.logic_terms.specs.Shown.{concept_of};
 ghost use Rattle.wiki_parts.specs.Faults.{IsFault};
 ghost use Rattle.wiki_parts.specs.Found.{meaning_shown};
@@ -12,14 +13,16 @@ ghost use Rattle.wiki_parts.specs.Kept.{MeanEach, meanings_in};
 ghost use Rattle.wiki_parts.specs.Knowledge.{live_names};
 ghost use Rattle.wiki_parts.specs.Meanings.{asking, Means};
 ghost use Rattle.wiki_parts.specs.Telling.{is_question, TellsSentence, TellsSentences};
+ghost use Rattle.wiki_store.specs.Settled.{AbsorbsKnown};
 ghost use Rattle.wiki_store.specs.Spending.{KeptHasUnknown, KeptHasEachUnknown};
 ghost use Rattle.wiki_store.specs.Step.{Step, Refuses};
 
 use crate::store::Store;
+use absorb::absorb;
 use articles::Sentence;
 use derivation_trees::show;
 use lexicon::MOST_WORDS;
-use logic_terms::{Class, Names};
+use logic_terms::{Class, Knowledge, Names};
 use wiki_base::{Memory, Text8, Text8s, WordId};
 use wiki_parts::{Fault, Sense, Senses, answers_of, live_names, spelled, told_text};
 use wiki_talk::{Reply, Request, SentenceView, SentenceViews};
@@ -71,28 +74,41 @@ impl Store {
         ensures unknown { IfOk result (AllZip (KeptHasUnknown self.now) sentences.now) }
     {
         let names = live_names(self.alloc, &self.lexicon)?;
+        let known = self.absorbed(&names)?;
         let mut views = SentenceViews::new(self.alloc);
         for place in 0..sentences.len() {
-            views.push(self.view(&names, &sentences[place], &senses[place])?)?;
+            views.push(self.view(&names, &known, &sentences[place], &senses[place])?)?;
         }
         Ok(views)
+    }
+
+    // The knowledge that all that is known is absorbed to, with the live names. It serves all questions of an article.
+    fn absorbed(&self, names: &Names) -> Result<Knowledge, Memory>
+        requires { names.now ≡ live_names self.now.state.words }
+        ensures { IfOk result (λ known. AbsorbsKnown self.now.state names.now (theory_of known)) }
+    {
+        prove!(self.lexicon.len() <= MOST_WORDS);
+        let _ = self.grammar.grammar();
+        absorb(self.alloc, self.kept.axioms(), names)
     }
 
     // A sentence as it is told, by what it means.
     fn view(
         &self,
         names: &Names,
+        known: &Knowledge,
         sentence: &Sentence,
         sense: &Sense,
     ) -> Result<SentenceView, Memory>
         requires names { names.now ≡ live_names self.now.state.words }
+        requires absorbed { AbsorbsKnown self.now.state names.now (theory_of known.now) }
         requires means { Means self.now.state.grammar self.now.state.words sentence.now.tokens (meaning_shown sense.now) }
         requires fits { FitsMeaning sentence.now.status (meaning_shown sense.now) }
         ensures tells { IfOk result (TellsSentence self.now.state sentence.now) }
         ensures unknown { IfOk result (KeptHasUnknown self.now sentence.now) }
     {
         match sense {
-            Sense::Asking(class) => self.question_view(names, sentence, class),
+            Sense::Asking(class) => self.question_view(names, known, sentence, class),
             Sense::Stating(_) | Sense::Outside(_) | Sense::AskingOutside(_) => {
                 self.plain_view(sentence)
             }
@@ -103,10 +119,12 @@ impl Store {
     fn question_view(
         &self,
         names: &Names,
+        known: &Knowledge,
         sentence: &Sentence,
         class: &Class,
     ) -> Result<SentenceView, Memory>
         requires names { names.now ≡ live_names self.now.state.words }
+        requires absorbed { AbsorbsKnown self.now.state names.now (theory_of known.now) }
         requires asks { is_question sentence.now.status ≡ true }
         requires means { Means self.now.state.grammar self.now.state.words sentence.now.tokens (asking (concept_of class.now)) }
         ensures tells { IfOk result (TellsSentence self.now.state sentence.now) }
@@ -114,7 +132,7 @@ impl Store {
     {
         prove!(self.lexicon.len() <= MOST_WORDS);
         let grammar = self.grammar.grammar();
-        let answers = answers_of(self.alloc, class, &self.kept, names, self.budget)?;
+        let answers = answers_of(self.alloc, known, class, &self.kept, names, self.budget)?;
         Ok(SentenceView {
             status: sentence.status,
             text: show(self.alloc, grammar, &sentence.tokens)?,

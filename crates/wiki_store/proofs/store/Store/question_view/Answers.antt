@@ -28,6 +28,13 @@ answers_of-requires-clause-plain c =
     c.args.sentence.now.tokens (concept_of c.args.class.now)
     (subst (λ (h : Holding). Means h.state.grammar h.state.words c.args.sentence.now.tokens (asking (concept_of c.args.class.now))) (sym c.self.view_is) c.requires.means)
 
+pub answers_of-requires-clause-absorbed : goal.answers_of-requires-clause-absorbed
+answers_of-requires-clause-absorbed c =
+    let inside : State = record { grammar = c.self.inside.grammar; budget = c.self.inside.budget; words = c.self.inside.lexicon; articles = c.self.inside.articles } in
+    let known : Knows inside (kept_claims c.self.inside.kept) =
+    subst (Knows inside) (sym c.self.invariant.0.known) (knows_from_known c.self.inside.grammar c.self.inside.lexicon c.self.inside.articles c.self.inside.senses.items c.self.invariant.0.mean) in
+    c.requires.absorbed (kept_claims c.self.inside.kept) (subst (λ (h : Holding). Knows h.state (kept_claims c.self.inside.kept)) c.self.view_is known)
+
 pub returns-clause-tells : goal.returns-clause-tells
 returns-clause-tells c =
     let state : State = c.args.self.now.state in

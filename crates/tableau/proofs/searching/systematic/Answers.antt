@@ -4,8 +4,8 @@ use Rattle.tableau_rules.specs.Shown.{graph_of}
 use Rattle.tableau.specs.Turns.{IsTurn}
 use Rattle.tableau.specs.Ways.{Leads, reached, chosen}
 use Rattle.tableau.proofs.WayLemmas.{ends_at, cut_forward, cut_back, searched_on}
-use Rattle.tableau.proofs.searching.search.Goals as goal
-use Rattle.tableau.proofs.searching.search.Goals.{in-Forward+in_ok-b-in-Forward, in-Back+in_ok-b-in-Back}
+use Rattle.tableau.proofs.searching.systematic.Goals as goal
+use Rattle.tableau.proofs.searching.systematic.Goals.{in-Forward+in_ok-b-in-Forward, in-Back+in_ok-b-in-Back}
 
 pub returns-in-Finished-clause-finished : goal.returns-in-Finished-clause-finished
 returns-in-Finished-clause-finished c =

@@ -3,7 +3,7 @@ use Rattle.logic_terms.specs.Known.{theory_of}
 use Rattle.tableau_rules.specs.Searching.{searched}
 use Rattle.tableau_rules.specs.Shown.{graph_of}
 use Rattle.tableau.specs.Ways.{Leads, reached}
-use Rattle.tableau.proofs.searching.search.Given as goal
+use Rattle.tableau.proofs.searching.systematic.Given as goal
 
 abbrev pub invariant-loop-spent : goal.invariant-loop-spent
 invariant-loop-spent l = record {

@@ -1,0 +1,526 @@
+// The branch of the quick search, by numbers, with what is needed to go back and with an agenda of steps that may apply.
+use crate::concepts::{Concepts, Form};
+use logic_terms::{Knowledge, Role};
+use std::alloc::Global;
+use std::collections::{BTreeMap, BTreeSet};
+use tableau_rules::{Branch, root_count};
+use wiki_base::Memory;
+
+// The rules, in the order in which they are tried.
+#[derive(Clone, Copy, Debug, PartialEq, Eq, PartialOrd, Ord)]
+pub(crate) enum Rank {
+    And,
+    Unfold,
+    All,
+    Value,
+    Unit,
+    Or,
+    Some,
+}
+
+// A rule, a node, and a place in its label: steps go in the order of these.
+#[derive(Clone, Copy, Debug, PartialEq, Eq, PartialOrd, Ord)]
+pub(crate) struct Candidate {
+    pub(crate) rank: Rank,
+    pub(crate) node: u64,
+    pub(crate) place: u64,
+}
+
+#[derive(Drop)]
+pub(crate) struct Spot {
+    pub(crate) parent: Option<u64>,
+    pub(crate) label: Vec<u64>,
+    // The step that added each class of the label.
+    makers: Vec<u64>,
+    // The edges that begin or end here.
+    pub(crate) edges: Vec<u64>,
+    children: Vec<u64>,
+    // A number that is the same for equal sets of classes.
+    mix: u64,
+}
+
+#[derive(Clone, Copy, Debug, PartialEq, Eq)]
+pub(crate) struct Link {
+    pub(crate) from: u64,
+    pub(crate) role: Role,
+    pub(crate) to: u64,
+    pub(crate) maker: u64,
+}
+
+// What was changed, to be taken back.
+#[derive(Clone, Copy, Debug, PartialEq, Eq)]
+enum Change {
+    Class(u64),
+    Edge,
+    Node,
+    Put(Candidate),
+    Took(Candidate),
+}
+
+#[derive(Drop)]
+pub(crate) struct Graph {
+    pub(crate) alloc: Global,
+    pub(crate) concepts: Concepts,
+    pub(crate) general: Vec<u64>,
+    pub(crate) roots: u64,
+    pub(crate) nodes: Vec<Spot>,
+    pub(crate) edges: Vec<Link>,
+    places: BTreeMap<(u64, u64), u64>,
+    agenda: BTreeSet<Candidate>,
+    trail: Vec<Change>,
+    // How often a class at a node was part of what closed a branch.
+    weights: BTreeMap<(u64, u64), u64>,
+}
+
+// How many unions are compared at most before one is split.
+const MOST_COMPARED: usize = 256;
+
+// A number of its own for each class, as far as it goes.
+fn spread(concept: u64) -> u64 {
+    let mixed = (concept ^ (concept >> 7)).wrapping_mul(0x9E37_79B9_7F4A_7C15);
+    mixed ^ (mixed >> 29)
+}
+
+impl Graph {
+    // The first branch.
+    pub(crate) fn begun(alloc: Global, k: &Knowledge, first: &Branch) -> Result<Graph, Memory> {
+        let mut graph = Graph {
+            alloc,
+            concepts: Concepts::new(alloc),
+            general: Vec::new(alloc),
+            roots: root_count(k),
+            nodes: Vec::new(alloc),
+            edges: Vec::new(alloc),
+            places: BTreeMap::new(alloc),
+            agenda: BTreeSet::new(alloc),
+            trail: Vec::new(alloc),
+            weights: BTreeMap::new(alloc),
+        };
+        let labels = graph.numbered(k, first)?;
+        for node in 0..labels.len() {
+            graph.add_node(None)?;
+        }
+        for (node, label) in labels.iter().enumerate() {
+            for concept in label {
+                graph.add_class(node as u64, *concept, 0)?;
+            }
+        }
+        for edge in first.edges() {
+            graph.add_edge(Link {
+                from: edge.from,
+                role: edge.role,
+                to: edge.to,
+                maker: 0,
+            })?;
+        }
+        graph.trail.clear();
+        Ok(graph)
+    }
+
+    // The labels of the first branch, when all classes have their numbers.
+    fn numbered(&mut self, k: &Knowledge, first: &Branch) -> Result<Vec<Vec<u64>>, Memory> {
+        for class in k.general().as_slice() {
+            let number = self.concepts.number_of(class)?;
+            self.general.push(number)?;
+        }
+        let mut labels = Vec::new(self.alloc);
+        for node in first.nodes() {
+            let mut label = Vec::new(self.alloc);
+            for class in node.label().as_slice() {
+                let number = self.concepts.number_of(class)?;
+                label.push(number)?;
+            }
+            labels.push(label)?;
+        }
+        self.concepts.unfold(k)?;
+        self.concepts.complete(k)?;
+        Ok(labels)
+    }
+
+    pub(crate) fn label_len(&self, node: u64) -> u64 {
+        match self.nodes.get(node as usize) {
+            Some(spot) => spot.label.len() as u64,
+            None => 0,
+        }
+    }
+
+    pub(crate) fn class(&self, node: u64, place: u64) -> Option<u64> {
+        match self.nodes.get(node as usize) {
+            Some(spot) => spot.label.get(place as usize).copied(),
+            None => None,
+        }
+    }
+
+    // The step that added the class at a place.
+    pub(crate) fn maker(&self, node: u64, place: u64) -> u64 {
+        match self.nodes.get(node as usize) {
+            Some(spot) => spot.makers.get(place as usize).copied().unwrap_or(0),
+            None => 0,
+        }
+    }
+
+    // The place of a class in a label.
+    pub(crate) fn place(&self, node: u64, concept: u64) -> Option<u64> {
+        self.places.get(&(node, concept)).copied()
+    }
+
+    pub(crate) fn has(&self, node: u64, concept: u64) -> bool {
+        self.places.contains_key(&(node, concept))
+    }
+
+    pub(crate) fn parent(&self, node: u64) -> Option<u64> {
+        match self.nodes.get(node as usize) {
+            Some(spot) => spot.parent,
+            None => None,
+        }
+    }
+
+    // Whether two nodes have the same classes.
+    pub(crate) fn are_alike(&self, one: u64, other: u64) -> bool {
+        let Some(first) = self.nodes.get(one as usize) else {
+            return false;
+        };
+        let Some(second) = self.nodes.get(other as usize) else {
+            return false;
+        };
+        first.mix == second.mix
+            && first.label.len() == second.label.len()
+            && first.label.iter().all(|concept| self.has(other, *concept))
+    }
+
+    pub(crate) fn mark(&self) -> u64 {
+        self.trail.len() as u64
+    }
+
+    // Adds a class to a label, if it lacks it.
+    pub(crate) fn add_class(&mut self, node: u64, concept: u64, maker: u64) -> Result<(), Memory> {
+        if self.has(node, concept) {
+            return Ok(());
+        }
+        let place = self.label_len(node);
+        let Some(spot) = self.nodes.get_mut(node as usize) else {
+            return Ok(());
+        };
+        spot.label.push(concept)?;
+        spot.makers.push(maker)?;
+        spot.mix = spot.mix.wrapping_add(spread(concept));
+        self.places.insert((node, concept), place)?;
+        self.trail.push(Change::Class(node))?;
+        self.put_class(node, place, concept)?;
+        self.put_watchers(node, concept)?;
+        if node >= self.roots {
+            self.put_unblocked(node)?;
+        }
+        Ok(())
+    }
+
+    pub(crate) fn add_edge(&mut self, link: Link) -> Result<(), Memory> {
+        let place = self.edges.len() as u64;
+        self.edges.push(link)?;
+        if let Some(spot) = self.nodes.get_mut(link.from as usize) {
+            spot.edges.push(place)?;
+        }
+        if link.to != link.from {
+            if let Some(spot) = self.nodes.get_mut(link.to as usize) {
+                spot.edges.push(place)?;
+            }
+        }
+        self.trail.push(Change::Edge)?;
+        self.put_rank(link.from, Rank::All)?;
+        self.put_rank(link.to, Rank::All)
+    }
+
+    pub(crate) fn add_node(&mut self, parent: Option<u64>) -> Result<(), Memory> {
+        let node = self.nodes.len() as u64;
+        self.nodes.push(Spot {
+            parent,
+            label: Vec::new(self.alloc),
+            makers: Vec::new(self.alloc),
+            edges: Vec::new(self.alloc),
+            children: Vec::new(self.alloc),
+            mix: 0,
+        })?;
+        if let Some(above) = parent {
+            if let Some(spot) = self.nodes.get_mut(above as usize) {
+                spot.children.push(node)?;
+            }
+        }
+        self.trail.push(Change::Node)?;
+        Ok(())
+    }
+
+    // Takes the changes since a mark back.
+    pub(crate) fn undo(&mut self, mark: u64) -> Result<(), Memory> {
+        for _ in mark..self.mark() {
+            match self.trail.pop() {
+                Some(Change::Class(node)) => self.drop_class(node),
+                Some(Change::Edge) => self.drop_edge(),
+                Some(Change::Node) => self.drop_node(),
+                Some(Change::Put(candidate)) => {
+                    let _ = self.agenda.remove(&candidate);
+                }
+                Some(Change::Took(candidate)) => {
+                    let _ = self.agenda.insert(candidate)?;
+                }
+                None => {}
+            }
+        }
+        Ok(())
+    }
+
+    fn drop_class(&mut self, node: u64) {
+        if let Some(spot) = self.nodes.get_mut(node as usize) {
+            let _ = spot.makers.pop();
+            if let Some(concept) = spot.label.pop() {
+                spot.mix = spot.mix.wrapping_sub(spread(concept));
+                let _ = self.places.remove(&(node, concept));
+            }
+        }
+    }
+
+    fn drop_edge(&mut self) {
+        if let Some(link) = self.edges.pop() {
+            if let Some(spot) = self.nodes.get_mut(link.from as usize) {
+                let _ = spot.edges.pop();
+            }
+            if link.to != link.from {
+                if let Some(spot) = self.nodes.get_mut(link.to as usize) {
+                    let _ = spot.edges.pop();
+                }
+            }
+        }
+    }
+
+    fn drop_node(&mut self) {
+        if let Some(spot) = self.nodes.pop() {
+            if let Some(above) = spot.parent {
+                if let Some(parent) = self.nodes.get_mut(above as usize) {
+                    let _ = parent.children.pop();
+                }
+            }
+        }
+    }
+
+    // Takes the first candidate off the agenda.
+    pub(crate) fn pop(&mut self) -> Result<Option<Candidate>, Memory> {
+        match self.agenda.pop_first() {
+            Some(candidate) => {
+                self.trail.push(Change::Took(candidate))?;
+                Ok(Some(candidate))
+            }
+            None => Ok(None),
+        }
+    }
+
+    // Takes, in place of a union's step, that of the union which leaves the fewest choices for its weight.
+    pub(crate) fn pop_tightest(
+        &mut self,
+        k: &Knowledge,
+        first: Candidate,
+    ) -> Result<Candidate, Memory> {
+        let best = self.tightest(k, first);
+        if best != first {
+            if self.agenda.remove(&best) {
+                self.trail.push(Change::Took(best))?;
+            }
+            self.put(first)?;
+        }
+        Ok(best)
+    }
+
+    fn tightest(&self, k: &Knowledge, first: Candidate) -> Candidate {
+        let mut best = first;
+        let mut seen: usize = 0;
+        for candidate in self.agenda.iter() {
+            if candidate.rank != Rank::Or || seen >= MOST_COMPARED {
+                return best;
+            }
+            seen = seen.saturating_add(1);
+            if self.is_tighter(*candidate, best) && self.site(k, *candidate).is_some() {
+                best = *candidate;
+            }
+        }
+        best
+    }
+
+    fn is_tighter(&self, one: Candidate, other: Candidate) -> bool {
+        let (open, weight) = self.tightness(one);
+        let (others, their_weight) = self.tightness(other);
+        open.saturating_mul(their_weight) < others.saturating_mul(weight)
+    }
+
+    // How many choices are left, and the weight.
+    fn tightness(&self, candidate: Candidate) -> (u64, u64) {
+        match self.class(candidate.node, candidate.place) {
+            Some(concept) => {
+                let weight = self.weights.get(&(candidate.node, concept)).copied();
+                let open = self.open_count(candidate.node, concept);
+                (open, weight.unwrap_or(0).saturating_add(1))
+            }
+            None => (0, 1),
+        }
+    }
+
+    // A class at a node was part of what closed a branch.
+    pub(crate) fn weigh(&mut self, node: u64, concept: u64) -> Result<(), Memory> {
+        let weight = self.weights.get(&(node, concept)).copied().unwrap_or(0);
+        let _ = self
+            .weights
+            .insert((node, concept), weight.saturating_add(1))?;
+        Ok(())
+    }
+
+    pub(crate) fn waiting(&self) -> usize {
+        self.agenda.len()
+    }
+
+    pub(crate) fn put(&mut self, candidate: Candidate) -> Result<(), Memory> {
+        if self.agenda.insert(candidate)? {
+            self.trail.push(Change::Put(candidate))?;
+        }
+        Ok(())
+    }
+
+    fn put_at(&mut self, rank: Rank, node: u64, place: u64) -> Result<(), Memory> {
+        self.put(Candidate { rank, node, place })
+    }
+
+    // Puts in the steps for a class of a label.
+    fn put_class(&mut self, node: u64, place: u64, concept: u64) -> Result<(), Memory> {
+        match self.concepts.form(concept) {
+            Form::Named(_) => {
+                if self.concepts.part_count(concept) > 0 {
+                    self.put_at(Rank::Unfold, node, place)?;
+                }
+                Ok(())
+            }
+            Form::And(_) => self.put_at(Rank::And, node, place),
+            Form::Or(_) => {
+                self.put_at(Rank::Unit, node, place)?;
+                self.put_at(Rank::Or, node, place)
+            }
+            Form::Some(_, _, _) => self.put_at(Rank::Some, node, place),
+            Form::All(_, _, _) => self.put_at(Rank::All, node, place),
+            Form::Value(_, _, _) => self.put_at(Rank::Value, node, place),
+            _ => Ok(()),
+        }
+    }
+
+    // Puts in the steps by one rule at a node.
+    fn put_rank(&mut self, node: u64, rank: Rank) -> Result<(), Memory> {
+        for place in 0..self.label_len(node) {
+            if let Some(concept) = self.class(node, place) {
+                let fits = match self.concepts.form(concept) {
+                    Form::All(_, _, _) => rank == Rank::All,
+                    Form::Some(_, _, _) => rank == Rank::Some,
+                    Form::Value(_, _, _) => rank == Rank::Value,
+                    _ => false,
+                };
+                if fits {
+                    self.put_at(rank, node, place)?;
+                }
+            }
+        }
+        Ok(())
+    }
+
+    // Puts in the unions of which a class denies a member.
+    fn put_watchers(&mut self, node: u64, concept: u64) -> Result<(), Memory> {
+        for place in 0..self.watcher_count(concept) {
+            if let Some(union) = self.watcher(concept, place) {
+                if let Some(found) = self.place(node, union) {
+                    self.put_at(Rank::Unit, node, found)?;
+                }
+            }
+        }
+        Ok(())
+    }
+
+    fn watcher_count(&self, concept: u64) -> usize {
+        match self.concepts.get(concept) {
+            Some(found) => found.watchers.len(),
+            None => 0,
+        }
+    }
+
+    fn watcher(&self, concept: u64, place: usize) -> Option<u64> {
+        match self.concepts.get(concept) {
+            Some(found) => found.watchers.get(place).copied(),
+            None => None,
+        }
+    }
+
+    // Puts in what may apply since the label of an anonymous node grew, by which nodes may be blocked or no longer blocked:
+    // it, and the nodes below.
+    fn put_unblocked(&mut self, node: u64) -> Result<(), Memory> {
+        if self.child_count(node) == 0 {
+            self.put_rank(node, Rank::Value)?;
+            return self.put_rank(node, Rank::Some);
+        }
+        let mut waiting = Vec::new(self.alloc);
+        waiting.push(node)?;
+        for _ in 0..self.nodes.len() {
+            if let Some(below) = waiting.pop() {
+                self.put_all(below)?;
+                for place in 0..self.child_count(below) {
+                    if let Some(child) = self.child(below, place) {
+                        waiting.push(child)?;
+                    }
+                }
+            }
+        }
+        Ok(())
+    }
+
+    // Puts in all steps at a node, and those by which its neighbours look at it.
+    fn put_all(&mut self, node: u64) -> Result<(), Memory> {
+        for place in 0..self.label_len(node) {
+            if let Some(concept) = self.class(node, place) {
+                self.put_class(node, place, concept)?;
+            }
+        }
+        for place in 0..self.edge_count(node) {
+            if let Some(link) = self.edge_at(node, place) {
+                let other = if link.from == node {
+                    link.to
+                } else {
+                    link.from
+                };
+                self.put_rank(other, Rank::All)?;
+                self.put_rank(other, Rank::Some)?;
+            }
+        }
+        Ok(())
+    }
+
+    fn child_count(&self, node: u64) -> usize {
+        match self.nodes.get(node as usize) {
+            Some(spot) => spot.children.len(),
+            None => 0,
+        }
+    }
+
+    fn child(&self, node: u64, place: usize) -> Option<u64> {
+        match self.nodes.get(node as usize) {
+            Some(spot) => spot.children.get(place).copied(),
+            None => None,
+        }
+    }
+
+    pub(crate) fn edge_count(&self, node: u64) -> usize {
+        match self.nodes.get(node as usize) {
+            Some(spot) => spot.edges.len(),
+            None => 0,
+        }
+    }
+
+    pub(crate) fn edge_at(&self, node: u64, place: usize) -> Option<Link> {
+        match self.nodes.get(node as usize) {
+            Some(spot) => match spot.edges.get(place) {
+                Some(edge) => self.edges.get(*edge as usize).copied(),
+                None => None,
+            },
+            None => None,
+        }
+    }
+}

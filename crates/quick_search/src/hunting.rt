@@ -1,0 +1,268 @@
+// The quick search itself.
+use crate::graph::{Candidate, Graph, Rank};
+use crate::taking::Found;
+use crate::writing::write;
+use lists::List;
+use logic_terms::Knowledge;
+use std::alloc::Global;
+use std::collections::BTreeSet;
+use tableau_rules::{Branch, Clash, Closed, Rule, Step, clash};
+use wiki_base::Memory;
+
+/// What a quick search proposes.
+#[derive(Drop)]
+pub enum Proposal {
+    /// These choices of steps, one after the other, should make a branch without clash to which no rule applies.
+    Steps(List<(Step, u64)>),
+    /// This should be a closed tree.
+    Tree(Closed),
+    /// Nothing was found within the budget.
+    Nothing,
+}
+
+// A tree of the branches that were closed, in the numbers that their nodes had.
+#[derive(Drop)]
+pub(crate) enum Proof {
+    Clash(u64),
+    Step(Split, List<Proof>),
+}
+
+// A step of such a tree: a rule for a class at a node.
+#[derive(Clone, Copy, Debug, PartialEq, Eq)]
+pub(crate) struct Split {
+    pub(crate) rank: Rank,
+    pub(crate) node: u64,
+    pub(crate) concept: u64,
+    pub(crate) other: u64,
+    // The node that it makes, if it makes one.
+    pub(crate) made: u64,
+}
+
+// A choice that was taken.
+#[derive(Drop)]
+struct Taken {
+    candidate: Candidate,
+    split: Split,
+    choice: u64,
+    choices: u64,
+    mark: u64,
+    // The steps that the step rests on.
+    premises: Vec<u64>,
+    // What closed the choices before this one, and the earlier steps that it rests on.
+    shut: List<Proof>,
+    needs: BTreeSet<u64>,
+}
+
+// How a turn ends.
+enum Turn {
+    Going(Option<Found>),
+    Ended(Proposal),
+}
+
+// A search: its branch, the choices that led to it, and whether it may leave choices out that a clash does not rest on.
+#[derive(Drop)]
+struct Search {
+    graph: Graph,
+    path: Vec<Taken>,
+    leaps: bool,
+}
+
+/// Searches for a branch without clash to which no rule applies, or for a closed tree, with at most `budget` rule
+/// applications, from the first branch of the knowledge on. Steps and choices come in the order of the systematic search, and
+/// so it ends after as many applications. Where it `leaps`, it leaves out the choices that a clash does not rest on, and
+/// splits the union first that leaves the fewest choices and closed the most branches.
+pub fn hunt(
+    alloc: Global,
+    k: &Knowledge,
+    first: &Branch,
+    budget: u64,
+    leaps: bool,
+) -> Result<Proposal, Memory> {
+    if let Some(found) = clash(k, first) {
+        return Ok(Proposal::Tree(Closed::Clash(found)));
+    }
+    let graph = Graph::begun(alloc, k, first)?;
+    let mut search = Search {
+        graph,
+        path: Vec::new(alloc),
+        leaps,
+    };
+    let mut found = None;
+    for _ in 0..budget {
+        match search.turn(k, found)? {
+            Turn::Going(next) => found = next,
+            Turn::Ended(proposal) => return Ok(proposal),
+        }
+    }
+    search.last(k, found)
+}
+
+impl Search {
+    // The next application, or the end.
+    fn turn(&mut self, k: &Knowledge, found: Option<Found>) -> Result<Turn, Memory> {
+        match found {
+            Some(clash) => self.back(k, clash),
+            None => match self.next(k)? {
+                Some(step) => self.forward(k, step.0, step.1),
+                None => Ok(Turn::Ended(Proposal::Steps(self.steps()?))),
+            },
+        }
+    }
+
+    // The end where no application is left.
+    fn last(&mut self, k: &Knowledge, found: Option<Found>) -> Result<Proposal, Memory> {
+        let ended = match found {
+            Some(clash) => self.back(k, clash)?,
+            None => match self.next(k)? {
+                Some(_) => Turn::Going(None),
+                None => Turn::Ended(Proposal::Steps(self.steps()?)),
+            },
+        };
+        match ended {
+            Turn::Ended(proposal) => Ok(proposal),
+            Turn::Going(_) => Ok(Proposal::Nothing),
+        }
+    }
+
+    // The first step that applies, and the node that it adds to.
+    fn next(&mut self, k: &Knowledge) -> Result<Option<(Candidate, u64)>, Memory> {
+        for _ in 0..self.graph.waiting() {
+            match self.graph.pop()? {
+                Some(candidate) => {
+                    if let Some(other) = self.graph.site(k, candidate) {
+                        if self.leaps && candidate.rank == Rank::Or {
+                            let tightest = self.graph.pop_tightest(k, candidate)?;
+                            return Ok(Some((tightest, other)));
+                        }
+                        return Ok(Some((candidate, other)));
+                    }
+                }
+                None => return Ok(None),
+            }
+        }
+        Ok(None)
+    }
+
+    // Takes the first choice of a step.
+    fn forward(&mut self, k: &Knowledge, candidate: Candidate, other: u64) -> Result<Turn, Memory> {
+        let alloc = self.graph.alloc;
+        let choices = self.graph.choices(candidate);
+        if choices == 0 {
+            return Ok(Turn::Ended(Proposal::Nothing));
+        }
+        let split = Split {
+            rank: candidate.rank,
+            node: candidate.node,
+            concept: self
+                .graph
+                .class(candidate.node, candidate.place)
+                .unwrap_or(0),
+            other,
+            made: self.graph.nodes.len() as u64,
+        };
+        self.path.push(Taken {
+            candidate,
+            split,
+            choice: 0,
+            choices,
+            mark: self.graph.mark(),
+            premises: self.graph.premises(k, candidate, other)?,
+            shut: List::new(alloc),
+            needs: BTreeSet::new(alloc),
+        })?;
+        let maker = self.path.len() as u64;
+        Ok(Turn::Going(self.graph.take(k, candidate, other, 0, maker)?))
+    }
+
+    // Goes back from a clash to the last choice that is left and that it rests on, and takes the one after it.
+    fn back(&mut self, k: &Knowledge, found: Found) -> Result<Turn, Memory> {
+        let alloc = self.graph.alloc;
+        let mut proof = Proof::Clash(found.node);
+        let mut needs = BTreeSet::new(alloc);
+        add_all(&mut needs, found.makers.as_slice())?;
+        while let Some(taken) = self.path.pop() {
+            let number = (self.path.len() as u64).saturating_add(1);
+            let is_needed = needs.remove(&number);
+            if is_needed || (taken.choices > 1 && !self.leaps) {
+                let mut last = taken;
+                if last.split.rank == Rank::Or || last.split.rank == Rank::Unit {
+                    self.graph.weigh(last.split.node, last.split.concept)?;
+                }
+                last.shut.push(proof)?;
+                last.needs.append(&mut needs)?;
+                if last.choice.saturating_add(1) < last.choices {
+                    return self.take_next(k, last);
+                }
+                add_all(&mut last.needs, last.premises.as_slice())?;
+                let Taken {
+                    split,
+                    shut,
+                    needs: rests_on,
+                    ..
+                } = last;
+                proof = Proof::Step(split, shut);
+                needs = rests_on;
+            }
+        }
+        self.graph.undo(0)?;
+        let written = write(&mut self.graph, k, &proof)?;
+        Ok(Turn::Ended(match written {
+            Some(tree) => Proposal::Tree(tree),
+            None => Proposal::Nothing,
+        }))
+    }
+
+    // Takes the choice that follows the last one.
+    fn take_next(&mut self, k: &Knowledge, last: Taken) -> Result<Turn, Memory> {
+        let mut taken = last;
+        taken.choice = taken.choice.saturating_add(1);
+        let choice = taken.choice;
+        let candidate = taken.candidate;
+        let other = taken.split.other;
+        self.graph.undo(taken.mark)?;
+        self.path.push(taken)?;
+        let maker = self.path.len() as u64;
+        Ok(Turn::Going(self.graph.take(k, candidate, other, choice, maker)?))
+    }
+
+    // The choices that led to the branch.
+    fn steps(&self) -> Result<List<(Step, u64)>, Memory> {
+        let mut steps = List::new(self.graph.alloc);
+        for taken in &self.path {
+            let step = step_of(taken.candidate, taken.split.other);
+            steps.push((step, taken.choice))?;
+        }
+        Ok(steps)
+    }
+}
+
+// Adds numbers of steps; 0 stands for the first branch.
+fn add_all(needs: &mut BTreeSet<u64>, makers: &[u64]) -> Result<(), Memory> {
+    for maker in makers {
+        if *maker > 0 {
+            let _ = needs.insert(*maker)?;
+        }
+    }
+    Ok(())
+}
+
+pub(crate) fn step_of(candidate: Candidate, other: u64) -> Step {
+    Step {
+        rule: rule_of(candidate.rank),
+        node: candidate.node,
+        class: candidate.place,
+        other,
+    }
+}
+
+fn rule_of(rank: Rank) -> Rule {
+    match rank {
+        Rank::And => Rule::And,
+        Rank::Unfold => Rule::Unfold,
+        Rank::All => Rule::All,
+        Rank::Value => Rule::Value,
+        Rank::Unit => Rule::Unit,
+        Rank::Or => Rule::Or,
+        Rank::Some => Rule::Some,
+    }
+}

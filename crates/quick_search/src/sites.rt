@@ -1,0 +1,197 @@
+// Where a step applies.
+use crate::concepts::{Form, role_of};
+use crate::graph::{Candidate, Graph, Link, Rank};
+use logic_terms::{Knowledge, Role};
+
+// The other end of an edge, where the edge makes it a neighbour by the role.
+fn end_by(k: &Knowledge, role: Role, node: u64, link: Link) -> Option<u64> {
+    if link.from == node && k.is_below(link.role, role) {
+        return Some(link.to);
+    }
+    if link.to == node && k.is_below(link.role.inverse(), role) {
+        return Some(link.from);
+    }
+    None
+}
+
+impl Graph {
+    // Whether a step applies, and the node that it adds to: 0 for a rule without one.
+    pub(crate) fn site(&self, k: &Knowledge, candidate: Candidate) -> Option<u64> {
+        let node = candidate.node;
+        let concept = self.class(node, candidate.place)?;
+        if self.is_shadowed(node) {
+            return None;
+        }
+        match (candidate.rank, self.concepts.form(concept)) {
+            (Rank::And, Form::And(_)) => self.zero_where(self.lacks_some(node, concept)),
+            (Rank::Unfold, Form::Named(_)) => self.zero_where(self.lacks_some(node, concept)),
+            (Rank::All, Form::All(word, inverted, part)) => {
+                self.least_in_need(k, role_of(word, inverted), node, part)
+            }
+            (Rank::Value, Form::Value(word, inverted, _)) => {
+                self.value_site(k, role_of(word, inverted), node, concept)
+            }
+            (Rank::Unit, Form::Or(_)) => {
+                self.zero_where(self.lacks_all(node, concept) && self.open_count(node, concept) < 2)
+            }
+            (Rank::Or, Form::Or(_)) => self.zero_where(self.lacks_all(node, concept)),
+            (Rank::Some, Form::Some(word, inverted, part)) => self.zero_where(
+                !self.is_blocked(node) && !self.is_served(k, role_of(word, inverted), node, part),
+            ),
+            _ => None,
+        }
+    }
+
+    fn zero_where(&self, applies: bool) -> Option<u64> {
+        if applies { Some(0) } else { None }
+    }
+
+    fn value_site(&self, k: &Knowledge, role: Role, node: u64, concept: u64) -> Option<u64> {
+        let named = self.concepts.get(concept)?.named?;
+        self.zero_where(!self.is_blocked(node) && self.link(k, role, node, named).is_none())
+    }
+
+    // Whether a label lacks a part of a class.
+    fn lacks_some(&self, node: u64, concept: u64) -> bool {
+        for place in 0..self.concepts.part_count(concept) {
+            if let Some(part) = self.concepts.part(concept, place) {
+                if !self.has(node, part) {
+                    return true;
+                }
+            }
+        }
+        false
+    }
+
+    fn lacks_all(&self, node: u64, concept: u64) -> bool {
+        self.part_had(node, concept).is_none()
+    }
+
+    // The first part of a class that a label has.
+    pub(crate) fn part_had(&self, node: u64, concept: u64) -> Option<u64> {
+        for place in 0..self.concepts.part_count(concept) {
+            if let Some(part) = self.concepts.part(concept, place) {
+                if self.has(node, part) {
+                    return Some(place);
+                }
+            }
+        }
+        None
+    }
+
+    // How many members of a union a label does not deny.
+    pub(crate) fn open_count(&self, node: u64, concept: u64) -> u64 {
+        let mut open: u64 = 0;
+        if let Some(found) = self.concepts.get(concept) {
+            for denial in &found.denials {
+                if !self.has(node, *denial) {
+                    open = open.saturating_add(1);
+                }
+            }
+        }
+        open
+    }
+
+    // The place of the first member that a label does not deny.
+    pub(crate) fn first_open(&self, node: u64, concept: u64) -> Option<u64> {
+        if let Some(found) = self.concepts.get(concept) {
+            for (place, denial) in found.denials.iter().enumerate() {
+                if !self.has(node, *denial) {
+                    return Some(place as u64);
+                }
+            }
+        }
+        None
+    }
+
+    // The least neighbour that is not indirectly blocked and lacks a class.
+    pub(crate) fn least_in_need(
+        &self,
+        k: &Knowledge,
+        role: Role,
+        node: u64,
+        part: u64,
+    ) -> Option<u64> {
+        let mut least: Option<u64> = None;
+        for place in 0..self.edge_count(node) {
+            if let Some(link) = self.edge_at(node, place) {
+                if let Some(other) = end_by(k, role, node, link) {
+                    let is_less = match least {
+                        Some(best) => other < best,
+                        None => true,
+                    };
+                    if is_less && !self.has(other, part) && !self.is_shadowed(other) {
+                        least = Some(other);
+                    }
+                }
+            }
+        }
+        least
+    }
+
+    fn is_served(&self, k: &Knowledge, role: Role, node: u64, part: u64) -> bool {
+        for place in 0..self.edge_count(node) {
+            if let Some(link) = self.edge_at(node, place) {
+                if let Some(other) = end_by(k, role, node, link) {
+                    if self.has(other, part) && !self.is_shadowed(other) {
+                        return true;
+                    }
+                }
+            }
+        }
+        false
+    }
+
+    // The place of an edge, among those of the node, that makes the other node a neighbour by the role.
+    pub(crate) fn link(&self, k: &Knowledge, role: Role, node: u64, other: u64) -> Option<usize> {
+        for place in 0..self.edge_count(node) {
+            if let Some(link) = self.edge_at(node, place) {
+                if end_by(k, role, node, link) == Some(other) {
+                    return Some(place);
+                }
+            }
+        }
+        None
+    }
+
+    // Whether a node is anonymous, and so is one above it with the same classes.
+    fn is_repeated(&self, node: u64) -> bool {
+        if node < self.roots {
+            return false;
+        }
+        let mut at = node;
+        for _ in 0..self.nodes.len() {
+            match self.parent(at) {
+                Some(above) => {
+                    if above >= self.roots && self.are_alike(node, above) {
+                        return true;
+                    }
+                    at = above;
+                }
+                None => return false,
+            }
+        }
+        false
+    }
+
+    // Whether a node above is directly blocked.
+    pub(crate) fn is_shadowed(&self, node: u64) -> bool {
+        let mut at = node;
+        for _ in 0..self.nodes.len() {
+            match self.parent(at) {
+                Some(above) => {
+                    if self.is_repeated(above) {
+                        return true;
+                    }
+                    at = above;
+                }
+                None => return false,
+            }
+        }
+        false
+    }
+
+    fn is_blocked(&self, node: u64) -> bool {
+        self.is_repeated(node) || self.is_shadowed(node)
+    }
+}

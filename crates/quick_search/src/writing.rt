@@ -1,0 +1,210 @@
+// Writes a closed tree anew, without the steps that it does not need: nodes and places get other numbers.
+use crate::concepts::{Form, role_of};
+use crate::graph::{Candidate, Graph, Rank};
+use crate::hunting::{Proof, Split, step_of};
+use lists::List;
+use logic_terms::Knowledge;
+use tableau_rules::{Closed, Step};
+use wiki_base::Memory;
+
+// The numbers that nodes had and have now.
+#[derive(Drop)]
+struct Moved {
+    nodes: Vec<(u64, u64)>,
+}
+
+impl Moved {
+    fn now(&self, node: u64) -> u64 {
+        let mut now = node;
+        for entry in &self.nodes {
+            if entry.0 == node {
+                now = entry.1;
+            }
+        }
+        now
+    }
+}
+
+// The tree that closes the first branch, which the graph is at; none where it is not found.
+pub(crate) fn write(
+    graph: &mut Graph,
+    k: &Knowledge,
+    proof: &Proof,
+) -> Result<Option<Closed>, Memory> {
+    let mut moved = Moved {
+        nodes: Vec::new(graph.alloc),
+    };
+    written(graph, k, &mut moved, proof)
+}
+
+fn written(
+    graph: &mut Graph,
+    k: &Knowledge,
+    moved: &mut Moved,
+    proof: &Proof,
+) -> Result<Option<Closed>, Memory> {
+    match proof {
+        Proof::Clash(node) => shut(graph, k, moved.now(*node)),
+        Proof::Step(split, proofs) => {
+            let Some(stand) = found_again(graph, k, moved, *split)? else {
+                return Ok(None);
+            };
+            let mut trees = List::new(graph.alloc);
+            let mut choice: u64 = 0;
+            for proof in proofs.as_slice() {
+                if stand.takes(choice) {
+                    let mark = graph.mark();
+                    let known = moved.nodes.len();
+                    enter(graph, k, moved, &stand, choice)?;
+                    let tree = written(graph, k, moved, proof)?;
+                    graph.undo(mark)?;
+                    moved.nodes.truncate(known);
+                    match tree {
+                        Some(found) => trees.push(found)?,
+                        None => return Ok(None),
+                    }
+                }
+                choice = choice.saturating_add(1);
+            }
+            stand.wrapped(trees)
+        }
+    }
+}
+
+// How a step stands in the tree that is written.
+#[derive(Drop)]
+struct Stand {
+    split: Split,
+    candidate: Candidate,
+    other: u64,
+    // The steps of the same class at lesser neighbours, which come first.
+    early: List<Step>,
+    // The one choice that is taken where the step is not needed.
+    only: Option<u64>,
+}
+
+impl Stand {
+    fn takes(&self, choice: u64) -> bool {
+        match self.only {
+            Some(place) => choice == place,
+            None => true,
+        }
+    }
+
+    // The tree of the steps and of the trees of its choices.
+    fn wrapped(self, trees: List<Closed>) -> Result<Option<Closed>, Memory> {
+        let Stand {
+            split: _,
+            candidate,
+            other,
+            mut early,
+            only,
+        } = self;
+        let mut subtrees = trees;
+        let alloc = early.allocator();
+        let mut tree = if only.is_some() {
+            subtrees.pop()
+        } else {
+            Some(Closed::Step(step_of(candidate, other), subtrees))
+        };
+        while let Some(step) = early.pop() {
+            tree = match tree {
+                Some(inner) => {
+                    let mut single = List::new(alloc);
+                    single.push(inner)?;
+                    Some(Closed::Step(step, single))
+                }
+                None => None,
+            };
+        }
+        Ok(tree)
+    }
+}
+
+fn shut(graph: &Graph, k: &Knowledge, node: u64) -> Result<Option<Closed>, Memory> {
+    match graph.clash_from(k, node, 0)? {
+        Some(found) => Ok(Some(Closed::Clash(found.clash))),
+        None => Ok(None),
+    }
+}
+
+// Where a step stands now; none where its class is missing.
+fn found_again(
+    graph: &mut Graph,
+    k: &Knowledge,
+    moved: &Moved,
+    split: Split,
+) -> Result<Option<Stand>, Memory> {
+    let node = moved.now(split.node);
+    let Some(place) = graph.place(node, split.concept) else {
+        return Ok(None);
+    };
+    let candidate = Candidate {
+        rank: split.rank,
+        node,
+        place,
+    };
+    let wanted = if split.rank == Rank::All {
+        moved.now(split.other)
+    } else {
+        0
+    };
+    let early = led(graph, k, candidate, split.concept, wanted)?;
+    let only = match graph.site(k, candidate) {
+        Some(other) if other == wanted => None,
+        _ => Some(graph.part_had(node, split.concept).unwrap_or(0)),
+    };
+    Ok(Some(Stand {
+        split,
+        candidate,
+        other: wanted,
+        early,
+        only: if split.rank == Rank::Or || only.is_none() {
+            only
+        } else {
+            Some(0)
+        },
+    }))
+}
+
+// Takes the steps of a class of all successors at the neighbours before one.
+fn led(
+    graph: &mut Graph,
+    k: &Knowledge,
+    candidate: Candidate,
+    concept: u64,
+    wanted: u64,
+) -> Result<List<Step>, Memory> {
+    let mut early = List::new(graph.alloc);
+    if let Form::All(word, inverted, part) = graph.concepts.form(concept) {
+        for _ in 0..graph.edge_count(candidate.node) {
+            match graph.least_in_need(k, role_of(word, inverted), candidate.node, part) {
+                Some(other) if other < wanted => {
+                    let _ = graph.take(k, candidate, other, 0, 0)?;
+                    early.push(step_of(candidate, other))?;
+                }
+                _ => return Ok(early),
+            }
+        }
+    }
+    Ok(early)
+}
+
+// Takes a choice of a step, if the step is needed.
+fn enter(
+    graph: &mut Graph,
+    k: &Knowledge,
+    moved: &mut Moved,
+    stand: &Stand,
+    choice: u64,
+) -> Result<(), Memory> {
+    if stand.only.is_none() {
+        if stand.split.rank == Rank::Some {
+            moved
+                .nodes
+                .push((stand.split.made, graph.nodes.len() as u64))?;
+        }
+        let _ = graph.take(k, stand.candidate, stand.other, choice, 0)?;
+    }
+    Ok(())
+}

@@ -1,0 +1,28 @@
+use Rattle.std.proofs.Common.{sym, subst}
+use Rattle.logic_terms.specs.Known.{theory_of}
+use Rattle.logic_terms.specs.Shown.{claims_of}
+use Rattle.logic_terms.specs.Theory.{IsModelOf}
+use Rattle.logic_terms.specs.Interpretation.{is_interpretation}
+use Rattle.std.specs.Prelude.{IsTrue}
+use Rattle.closure_check.specs.NoModel.{HasNoModel}
+use Rattle.reasoner.specs.Decisions.{IfModel, IfTree}
+use Rattle.reasoner.specs.Verdicts.{IsFiniteModel}
+use Rattle.reasoner.proofs.judging.searched_verdict.Goals as goal
+
+pub checked-requires : goal.checked-requires
+checked-requires c =
+    (c.in_ok-k.ensures.models c.in-Model.interp).0 (subst (λ d. IfModel d (λ i. IsModelOf i (theory_of c.in_ok-k.k))) c.in-Model.is c.in_ok-interp.ensures.model)
+
+pub returns-in-Model-clause-model : goal.returns-in-Model-clause-model
+returns-in-Model-clause-model c =
+    let k = theory_of c.in_ok-k.k in
+    subst (λ i. IsFiniteModel i (claims_of c.args.axioms)) (sym c.checked.ensures.interp) (
+      subst (λ d. IfModel d (λ i. IsTrue (is_interpretation i))) c.in-Model.is c.in_ok-interp.ensures.finite,
+      (c.in_ok-k.ensures.models c.in-Model.interp).0 (subst (λ d. IfModel d (λ i. IsModelOf i k)) c.in-Model.is c.in_ok-interp.ensures.model),
+    )
+
+pub returns-in-Tree-clause-impossible : goal.returns-in-Tree-clause-impossible
+returns-in-Tree-clause-impossible c i model =
+    let k = theory_of c.in_ok-k.k in
+    let none = subst (λ d. IfTree d (λ _. HasNoModel k)) c.in-Tree.is c.in_ok-interp.ensures.no_model in
+    none i model.0 ((c.in_ok-k.ensures.models i).1 model.1)

@@ -2,7 +2,8 @@
 
 calls.py PROGRAM: each read of the input, each write of the output, each wait for connections and the listening fail in turn, where
 no read gives and no write takes more than 50 bytes. The statuses are 3, 4, 5 and 5; what was written is a front of what it would
-be, after a failed read the replies to whole lines; and no response is sent whose change isn't in the journal.
+be, after a failed read the replies to whole lines; and no response is sent whose change isn't in the journal. The status is the
+same where standard error can't be written either.
 """
 import os, sys, tempfile
 from refusing import COUNTRIES, Refusing, lines, word
@@ -22,11 +23,21 @@ def reads_and_writes(refusing):
         front = b"".join(whole.splitlines(True)[:given.count(b"\n")])
         if (status, output, told) != (3, front, b"read fault\n"):
             raise SystemExit(f"calls: read {number} failed: status {status}, {told!r}, {output!r}")
+        untold(refusing, (3, front), READ=number)
     for number in range(1, writes + 1):
         status, output, told = refusing.replay(COUNTRIES, PIECE=PIECE, WRITE=number)
-        if status != 4 or not whole.startswith(output) or output == whole or told != b"write fault\n":
+        if status != 4 or output != whole[:len(output)] or output == whole or told != b"write fault\n":
             raise SystemExit(f"calls: write {number} failed: status {status}, {told!r}, {output!r}")
+        untold(refusing, (4, output), WRITE=number)
     return f"{reads} reads and {writes} writes"
+
+
+def untold(refusing, wanted, **refused):
+    """The same call fails beside a standard error that can't be written."""
+    with open("/dev/full", "wb") as device:
+        ended = refusing.replay(COUNTRIES, errors=device, PIECE=PIECE, **refused)[:2]
+    if ended != wanted:
+        raise SystemExit(f"calls: {refused} failed, and standard error too: {ended} and not {wanted}")
 
 
 def waits(refusing):
@@ -62,6 +73,11 @@ def waits(refusing):
     wiki = Wiki(refusing.program, given, environment=refusing.environment(LISTEN=1), waits=False)
     if wiki.process.wait(20) != 5 or wiki.process.stderr.read() != b"link fault\n":
         raise SystemExit("calls: listening failed, and the status isn't 5")
+    with open("/dev/full", "wb") as device:
+        for refused in (dict(LISTEN=1), dict(WAIT=1)):
+            wiki = Wiki(refusing.program, given, environment=refusing.environment(**refused), waits=False, errors=device)
+            if wiki.process.wait(20) != 5:
+                raise SystemExit(f"calls: {refused} failed, and standard error too: the status isn't 5")
     return "11 waits, and the listening"
 
 

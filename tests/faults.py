@@ -82,6 +82,13 @@ def unreadable(program):
     os.close(folder)
 
 
+def too_long(program):
+    """A line that is too long is answered by `BadRequest`, however much longer it is, and the next one as ever."""
+    for length in (65_536, 70_000, 1_000_000):
+        if ran(program, ["replay"], 0, given=b"x" * length + b"\n" + LINES) != b'{"name":"BadRequest","refused":0}\n' + b'{"done":"word"}\n' * 20:
+            raise SystemExit(f"faults: a line of {length} bytes has another reply")
+
+
 def deaf(program):
     """Addresses that can't be listened at."""
     with socket.socket() as taken:
@@ -110,7 +117,7 @@ def done(program):
 
 def main():
     program = os.path.abspath(sys.argv[1])
-    for test in (no_command, full, full_journal, unreadable, deaf, done):
+    for test in (no_command, full, full_journal, unreadable, too_long, deaf, done):
         test(program)
     print("faults: each status as it should be")
 

@@ -290,9 +290,10 @@ def pieces(draw, data):
 
 # ---- connections
 
-def connect_once(wiki, draw, number):
-    """One hostile connection. Tells what was wrong, or nothing."""
+def connect_once(wiki, draw, number, passed):
+    """One hostile connection, whose bytes are added to those that passed. Tells what was wrong, or nothing."""
     data = some_bytes(draw)
+    passed[0] += len(data)
     allowed = expected(data)
     got = b""
     link = wiki.connect(source=f"127.0.0.{1 + number % 200}")
@@ -304,6 +305,7 @@ def connect_once(wiki, draw, number):
             link.sendall(piece)
         link.shutdown(socket.SHUT_WR)
         got = read_all(link)
+        passed[1] += len(got)
     except (ConnectionResetError, BrokenPipeError):
         # more came than is passed over once the response stands: its front may have been read or not
         return None if len(data) > 100_000 or allowed - {WAIT} else f"reset after {data[:200]!r}"
@@ -319,47 +321,68 @@ def connect_once(wiki, draw, number):
 def many(port, seed, count):
     wiki = object.__new__(Wiki)
     wiki.port = port
-    draw = random.Random(seed)
+    draw, passed = random.Random(seed), [0, 0]
     for number in range(count):
         try:
-            wrong = connect_once(wiki, draw, number)
+            wrong = connect_once(wiki, draw, number, passed)
         except OSError as error:
             wrong = repr(error)
         if wrong:
-            return f"connection {number} of seed {seed}: {wrong}"
-    return None
+            return f"connection {number} of seed {seed}: {wrong}", passed
+    return None, passed
 
 
 def connections(wiki, count, seed):
-    """So many connections, two at a time. Ends the script at the first wrong answer."""
+    """So many connections, two at a time. Ends the script at the first wrong answer. Tells how many bytes came and went."""
+    came = went = 0
     with multiprocessing.Pool(2) as pool:
-        for wrong in pool.starmap(many, [(wiki.port, seed + k, count // 2) for k in range(2)]):
+        for wrong, passed in pool.starmap(many, [(wiki.port, seed + k, count // 2) for k in range(2)]):
+            came, went = came + passed[0], went + passed[1]
             if wrong:
                 raise SystemExit(f"hostile: {wrong}; the program's status is {wiki.process.poll()}")
     if wiki.page("/")[0] != 200:
         raise SystemExit("hostile: the program doesn't go on serving")
+    return came, went
 
 
 def full_wiki(words, sentences):
-    """Lines that bring words and sentences to so many each."""
-    for n in range(words):
-        name = "".join(chr(97 + n // p % 26) for p in (17576, 676, 26, 1))
-        yield {"do": "word", "kind": "noun" if n < 20 else "name", "forms": [name, name + "s"] if n < 20 else ["N" + name]}
-    for n in range(sentences):
-        # Each word of the first kind is one of the nouns, and each sentence says that a name is one of them.
-        noun, name = "aa" + "a" + chr(97 + n % 20), n % (words - 20) + 20
-        form = "N" + "".join(chr(97 + name // p % 26) for p in (17576, 676, 26, 1))
-        yield {"do": "add", "article": form, "text": f"{form} is {'an' if noun[0] in 'aeiou' else 'a'} {noun}."}
+    """Lines that bring words and sentences to so many each. The words of hostile requests are among them, with a few sentences."""
+    known = [("noun", "cat", "cats"), ("noun", "dog", "dogs"), ("noun", "fish", "fish"), ("verb", "sees", "see", "seen"), ("name", "Ada"), ("name", "Bob")]
+    for kind, *forms in known:
+        yield {"do": "word", "kind": kind, "forms": forms}
+    names = ["N" + "".join(chr(97 + n // p % 26) for p in (676, 26, 1)) for n in range(words - len(known))]
+    for name in names:
+        yield {"do": "word", "kind": "name", "forms": [name]}
+    said = [("Ada", "Ada is a cat."), ("Ada", "Ada sees Bob."), ("cat", "Who is a cat?"), ("cat", "Every cat sees a fish."), ("dog", "No cat is a dog.")]
+    for article, text in said:
+        yield {"do": "add", "article": article, "text": text}
+    for n in range(sentences - len(said)):
+        name = names[n % len(names)]
+        yield {"do": "add", "article": name, "text": f"{name} is a {('dog', 'fish')[n % 2]}."}
 
 
-def hostile_connections(program, count, given):
-    wiki = Wiki(program, given)
-    connections(wiki, count // 2, 100)
+def at_the_limits(wiki):
+    """Asks for one word and one sentence too many, so that what follows meets a wiki at its limits."""
+    for request, which in ((dict(do="word", kind="name", forms=["Onemore"]), "words"), (dict(do="add", article="Bob", text="Bob is a cat."), "sentences")):
+        if wiki.ask(**request).get("which") != which:
+            raise SystemExit(f"hostile: the wiki isn't at its limit of {which}")
+
+
+def hostile_connections(program, count, given, is_full):
+    """So many connections to the wiki of these lines: how long it took to begin, the bytes that came and went, and how many bytes more it
+    holds after the second half than after the first."""
+    begun = time.time()
+    wiki = Wiki(program, given, options=["--budget", "2000"], waits=False)
+    wiki.wait(600)
+    began = time.time() - begun
+    if is_full:
+        at_the_limits(wiki)
+    first = connections(wiki, count // 2, 100)
     before = wiki.memory()
-    connections(wiki, count - count // 2, 200)
+    second = connections(wiki, count - count // 2, 200)
     grown = wiki.memory() - before
     wiki.stop()
-    return grown
+    return began, first[0] + second[0], first[1] + second[1], grown
 
 
 # ---- lines
@@ -386,12 +409,13 @@ def main():
     program, is_long, begun = os.path.abspath(sys.argv[1]), sys.argv[2:] == ["long"], time.time()
     count = 100_000 if is_long else 600
     hostile_lines(program, count, 7)
-    lines_done = time.time()
-    given = b"".join(json.dumps(it).encode() + b"\n" for it in (full_wiki(5000, 2000) if is_long else full_wiki(100, 60)))
-    grown = hostile_connections(program, count, given)
+    print(f"hostile: {count} lines in {time.time() - begun:.1f} s, each answered as it should be", flush=True)
+    given, begun = b"".join(json.dumps(it).encode() + b"\n" for it in (full_wiki(5000, 2000) if is_long else full_wiki(100, 60))), time.time()
+    began, came, went, grown = hostile_connections(program, count, given, is_long)
     if is_long and grown > 2_000_000:
         raise SystemExit(f"hostile: the program holds {grown} bytes more after {count // 2} connections")
-    print(f"hostile: {count} lines in {lines_done - begun:.1f} s, {count} connections in {time.time() - lines_done:.1f} s, each answered as it should be; {grown} bytes more held")
+    print(f"hostile: {count} connections in {time.time() - begun - began:.1f} s behind a start of {began:.1f} s, each answered as it should be; "
+          f"{came:,} bytes came, {went:,} went, {grown:,} more are held")
 
 
 main()

@@ -101,11 +101,12 @@ class Refusing:
         told = {name if name == "PIECE" else "REFUSE_" + name: str(number) for name, number in refused.items()}
         return dict(os.environ, LD_PRELOAD=self.library, COUNTED=self.counted, **told)
 
-    def replay(self, given, **refused):
+    def replay(self, given, errors=subprocess.PIPE, **refused):
+        """The status of a run, what it wrote, and what it told on standard error where that is not given."""
         with tempfile.TemporaryFile() as it:
             it.write(given)
             it.seek(0)
-            done = subprocess.run([self.program, "replay"], stdin=it, capture_output=True, env=self.environment(**refused), timeout=120)
+            done = subprocess.run([self.program, "replay"], stdin=it, stdout=subprocess.PIPE, stderr=errors, env=self.environment(**refused), timeout=120)
         return done.returncode, done.stdout, done.stderr
 
     def counts(self):

@@ -23,20 +23,20 @@ def free_port():
 class Wiki:
     """A program that serves, from these lines on. Its journal goes to a file, or to what is given as `output`."""
 
-    def __init__(self, program, given=b"", output=None, options=(), environment=None, waits=True):
+    def __init__(self, program, given=b"", output=None, options=(), environment=None, waits=True, errors=subprocess.PIPE):
         self.port = free_port()
         self.journal = tempfile.TemporaryFile() if output is None else output
         with tempfile.TemporaryFile() as lines:
             lines.write(given)
             lines.seek(0)
             words = [program, "serve", f"127.0.0.1:{self.port}", *options]
-            self.process = subprocess.Popen(words, stdin=lines, stdout=self.journal, stderr=subprocess.PIPE, env=environment)
+            self.process = subprocess.Popen(words, stdin=lines, stdout=self.journal, stderr=errors, env=environment)
         if waits:
             self.wait()
 
-    def wait(self):
+    def wait(self, seconds=60):
         """Waits until it listens."""
-        for _ in range(6000):
+        for _ in range(100 * seconds):
             try:
                 self.connect().close()
                 return

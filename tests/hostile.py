@@ -5,7 +5,7 @@ below 400, 413 or waiting is allowed. Each line to `replay` has one reply: `BadR
 docs/PROTOCOL.md, and else what was asked or a refusal. The program goes on serving, and once words and sentences are at their
 limits its memory doesn't grow.
 """
-import json, multiprocessing, os, random, re, socket, subprocess, sys, tempfile, time
+import collections, json, multiprocessing, os, random, re, socket, subprocess, sys, tempfile, time
 from running import BAD_REQUEST, Closed, Wiki, parse_response, read_all, reset
 
 WAIT = 0
@@ -13,9 +13,10 @@ U32 = 4294967295
 
 # ---- the checker of connections: which statuses may come for these bytes, or WAIT
 
+# In each pattern a byte can belong to one part alone, so that a match takes no longer than its text.
 TOKEN = rb"[!#$%&'*+.^_`|~0-9A-Za-z-]+"
-HEAD = re.compile(rb"(?:\r?\n)*(" + TOKEN + rb") ([!-~]+) HTTP/1\.([01])\r?\n((?:" + TOKEN + rb":[ \t]*[ -~\x80-\xff\t]*\r?\n)*)\r?\n")
-FIELD = re.compile(rb"(" + TOKEN + rb"):[ \t]*([ -~\x80-\xff\t]*)\r?\n")
+HEAD = re.compile(rb"(?:\r?\n)*(" + TOKEN + rb") ([!-~]+) HTTP/1\.([01])\r?\n((?:" + TOKEN + rb":[ -~\x80-\xff\t]*\r?\n)*)\r?\n")
+FIELD = re.compile(rb"(" + TOKEN + rb"):([ -~\x80-\xff\t]*)\r?\n")
 ROUTES = [
     (rb"/", b"GET", {200}), (rb"/word", b"POST", {303, 409}), (rb"/api", b"POST", {200, 404, 409}),
     (rb"/article/[^/]+", b"GET", {200, 404}), (rb"/session/[^/]+", b"GET", {200, 404}),
@@ -43,8 +44,8 @@ def is_front_of_fields(data):
     if not found or re.fullmatch(TOKEN + rb" [!-~]+ HTTP/1\.[01]", line) is None or len(data) > 16384:
         return False
     *whole, last = rest.split(b"\r\n")
-    fields = all(re.fullmatch(TOKEN + rb":[ \t]*[ -~\t]*", it) for it in whole)
-    return fields and len(whole) < 64 and re.fullmatch(rb"(?:" + TOKEN + rb"(?::[ \t]*[ -~\t]*\r?)?)?", last) is not None
+    fields = all(re.fullmatch(TOKEN + rb":[ -~\t]*", it) for it in whole)
+    return fields and len(whole) < 64 and re.fullmatch(rb"(?:" + TOKEN + rb"(?::[ -~\t]*\r?)?)?", last) is not None
 
 
 def after_head(head, body):
@@ -291,9 +292,9 @@ def pieces(draw, data):
 # ---- connections
 
 def connect_once(wiki, draw, number, passed):
-    """One hostile connection, whose bytes are added to those that passed. Tells what was wrong, or nothing."""
+    """One hostile connection, whose bytes and status are counted. Tells what was wrong, or nothing."""
     data = some_bytes(draw)
-    passed[0] += len(data)
+    passed["came"] += len(data)
     allowed = expected(data)
     got = b""
     link = wiki.connect(source=f"127.0.0.{1 + number % 200}")
@@ -305,7 +306,7 @@ def connect_once(wiki, draw, number, passed):
             link.sendall(piece)
         link.shutdown(socket.SHUT_WR)
         got = read_all(link)
-        passed[1] += len(got)
+        passed["went"] += len(got)
     except (ConnectionResetError, BrokenPipeError):
         # more came than is passed over once the response stands: its front may have been read or not
         return None if len(data) > 100_000 or allowed - {WAIT} else f"reset after {data[:200]!r}"
@@ -315,13 +316,14 @@ def connect_once(wiki, draw, number, passed):
         status = parse_response(got)[0] if got else WAIT
     except Closed:
         return f"half a response {got[:200]!r} to {data[:300]!r}"
+    passed[status] += 1
     return None if status in allowed else f"{status}, and not one of {sorted(allowed)}, answers {data[:400]!r}"
 
 
 def many(port, seed, count):
     wiki = object.__new__(Wiki)
     wiki.port = port
-    draw, passed = random.Random(seed), [0, 0]
+    draw, passed = random.Random(seed), collections.Counter()
     for number in range(count):
         try:
             wrong = connect_once(wiki, draw, number, passed)
@@ -333,16 +335,17 @@ def many(port, seed, count):
 
 
 def connections(wiki, count, seed):
-    """So many connections, two at a time. Ends the script at the first wrong answer. Tells how many bytes came and went."""
-    came = went = 0
+    """So many connections, two at a time. Ends the script at the first wrong answer. Tells how many bytes came and went, and how often
+    each status."""
+    all_passed = collections.Counter()
     with multiprocessing.Pool(2) as pool:
         for wrong, passed in pool.starmap(many, [(wiki.port, seed + k, count // 2) for k in range(2)]):
-            came, went = came + passed[0], went + passed[1]
+            all_passed += passed
             if wrong:
                 raise SystemExit(f"hostile: {wrong}; the program's status is {wiki.process.poll()}")
     if wiki.page("/")[0] != 200:
         raise SystemExit("hostile: the program doesn't go on serving")
-    return came, went
+    return all_passed
 
 
 def full_wiki(words, sentences):
@@ -356,9 +359,10 @@ def full_wiki(words, sentences):
     said = [("Ada", "Ada is a cat."), ("Ada", "Ada sees Bob."), ("cat", "Who is a cat?"), ("cat", "Every cat sees a fish."), ("dog", "No cat is a dog.")]
     for article, text in said:
         yield {"do": "add", "article": article, "text": text}
+    # Only some are asserted, since each of these is judged beside all the words, which takes a start long.
     for n in range(sentences - len(said)):
         name = names[n % len(names)]
-        yield {"do": "add", "article": name, "text": f"{name} is a {('dog', 'fish')[n % 2]}."}
+        yield {"do": "add", "article": name, "text": f"{name} is a fish." if n < 40 else ("Who is a fish?", "A dog is a cat.")[n % 2]}
 
 
 def at_the_limits(wiki):
@@ -369,8 +373,8 @@ def at_the_limits(wiki):
 
 
 def hostile_connections(program, count, given, is_full):
-    """So many connections to the wiki of these lines: how long it took to begin, the bytes that came and went, and how many bytes more it
-    holds after the second half than after the first."""
+    """So many connections to the wiki of these lines: how long it took to begin, what passed, and how many bytes more it holds after the
+    second half than after the first."""
     begun = time.time()
     wiki = Wiki(program, given, options=["--budget", "2000"], waits=False)
     wiki.wait(600)
@@ -382,7 +386,7 @@ def hostile_connections(program, count, given, is_full):
     second = connections(wiki, count - count // 2, 200)
     grown = wiki.memory() - before
     wiki.stop()
-    return began, first[0] + second[0], first[1] + second[1], grown
+    return began, first + second, grown
 
 
 # ---- lines
@@ -411,11 +415,12 @@ def main():
     hostile_lines(program, count, 7)
     print(f"hostile: {count} lines in {time.time() - begun:.1f} s, each answered as it should be", flush=True)
     given, begun = b"".join(json.dumps(it).encode() + b"\n" for it in (full_wiki(5000, 2000) if is_long else full_wiki(100, 60))), time.time()
-    began, came, went, grown = hostile_connections(program, count, given, is_long)
+    began, passed, grown = hostile_connections(program, count, given, is_long)
     if is_long and grown > 2_000_000:
         raise SystemExit(f"hostile: the program holds {grown} bytes more after {count // 2} connections")
     print(f"hostile: {count} connections in {time.time() - begun - began:.1f} s behind a start of {began:.1f} s, each answered as it should be; "
-          f"{came:,} bytes came, {went:,} went, {grown:,} more are held")
+          f"{passed.pop('came'):,} bytes came, {passed.pop('went'):,} went, {grown:,} more are held; "
+          + ", ".join(f"{times} times {status or 'nothing'}" for status, times in sorted(passed.items())))
 
 
 main()

@@ -1,8 +1,9 @@
 """Memory that is refused: the number N allocation of a run fails, for the first 500 numbers and 500 more over the rest.
 
 memory.py PROGRAM: a run of `replay` ends with status 9 and a front of its output, or with status 0 and all of it. A program
-that serves answers a change whole, or in part, or not at all, and has ended with status 9 or goes on serving; a change that was
-answered stands in the journal, whose lines are whole. The allocator that refuses stands before that of the C library; what is
+that serves answers a change whole, or in part, or not at all, and has ended with status 9; or the link had no memory to keep the
+response of a change in the journal, which is a `send` that failed, and it goes on serving. A change that was answered stands in the
+journal, whose lines are whole. The allocator that refuses stands before that of the C library; what is
 allocated in other places, as by a reader of the operating system's, is refused as well.
 """
 import os, sys, tempfile, time
@@ -68,7 +69,7 @@ def serves(refusing):
     wiki.process.wait(20)
     count = refusing.counts()[0]
     tried = sorted({*range(1, count + 1, max(1, count // 250)), *range(max(1, count - 250), count + 1)})
-    ended = answered = 0
+    ended = answered = cut = 0
     for number in tried:
         wiki, got = asked_once(refusing, [], MALLOC=number)
         journal = wiki.written()
@@ -80,8 +81,10 @@ def serves(refusing):
             whole = False
         if status not in (None, 9) or journal not in (b"", b'{"do":"word","forms":["Bern"],"kind":"name"}\n') or (got and not journal):
             raise SystemExit(f"memory: allocation {number} refused: status {status}, {got!r}, journal {journal!r}")
-        ended, answered = ended + (status == 9), answered + bool(whole)
-    return f"serve: {ended} of {len(tried)} runs ended with 9, {answered} answered whole"
+        if status is None and (whole or not journal):
+            raise SystemExit(f"memory: allocation {number} refused, and it goes on serving: {got!r}, journal {journal!r}")
+        ended, answered, cut = ended + (status == 9), answered + bool(whole), cut + (status is None)
+    return f"serve: {ended} of {len(tried)} runs ended with 9, {answered} of them after a whole response; {cut} cut the response alone"
 
 
 def main():

@@ -122,73 +122,105 @@ def behind():
         expect(f"{more} bytes behind the request", sent(CUT.encode() + b"x" * more), 200, FOUND)
 
 
-def form(path, body):
-    return f"POST {path} {HEAD}Content-Length: {len(body)}\r\n\r\n{body}"
+def told(request, status, part):
+    """What comes for a request, in which no text of it stands as an element."""
+    got = sent(request)
+    expect(repr(request[:80]), got, status, part)
+    if "<script" in got:
+        fail(f"a text leaves its element: {got!r}")
 
 
-def odd():
-    for text, status, part in [
-        (f"GET /article/%zz {HEAD}\r\n", 404, "1 NoWord"),
-        (f"GET /article/%FF%C3 {HEAD}\r\n", 404, "1 NoWord"),
-        (f"GET /article/a%00b {HEAD}\r\n", 404, "1 NoWord"),
-        (f"GET /article/Nameaa%2Fadd {HEAD}\r\n", 404, "1 NoWord"),
-        (f"GET /article/Name%61a?x=/add {HEAD}\r\n", 200, "<h1>Nameaa</h1>"),
-        (b"GET /article/\xff HTTP/1.1\r\nHost: here\r\n\r\n", 400, "400 Bad Request"),
-        (b"GET /article/\x00 HTTP/1.1\r\nHost: here\r\n\r\n", 400, "400 Bad Request"),
-        (f"GET / {HEAD}Note: \0\r\n\r\n", 400, "400 Bad Request"),
-        (f"GET /session/0000000001 {HEAD}\r\n", 404, "6 NoSession"),
-        (f"GET /session/00000000001 {HEAD}\r\n", 400, "400 Bad Request"),
-        (f"GET /session/4294967296 {HEAD}\r\n", 400, "400 Bad Request"),
-        (f"GET /session/%2B1 {HEAD}\r\n", 400, "400 Bad Request"),
-        (f"GET / {HEAD}Content-Length: 0000000000000000000\r\n\r\n", 200, "<h1>AceWiki</h1>"),
-        (f"GET / {HEAD}Content-Length: 00000000000000000000\r\n\r\n", 400, "400 Bad Request"),
-        (f"GET / {HEAD}Content-Length: 1\r\nContent-Length: 01\r\n\r\nx", 200, "<h1>AceWiki</h1>"),
-        (f"GET / {HEAD}Content-Length: 1\r\nContent-Length: 2\r\n\r\nxx", 400, "400 Bad Request"),
-        (f"GET / {HEAD}Content-Length: 65537\r\n\r\n", 413, "413 Payload Too Large"),
-        (f"GET / {HEAD}X: " + "x" * 16384, 413, "413 Payload Too Large"),
-        (f"GET / {HEAD}" + "A: b\r\n" * 63 + "\r\n", 200, "<h1>AceWiki</h1>"),
-        (f"GET / {HEAD}" + "A: b\r\n" * 64 + "\r\n", 400, "400 Bad Request"),
-        (f"GET / {HEAD}Transfer-Encoding: chunked\r\n\r\n", 501, "501 Not Implemented"),
-        ("GET / HTTP/1.1\r\n\r\n", 400, "400 Bad Request"),
-        (f"GET / {HEAD}hOsT: there\r\n\r\n", 400, "400 Bad Request"),
-        ("GET / HTTP/1.0\r\n\r\n", 200, "<h1>AceWiki</h1>"),
-        (f"GET /none {HEAD}\r\n", 404, "404 Not Found"),
-        (f"GET /word {HEAD}\r\n", 405, "\r\nAllow: POST\r\n"),
-        (form("/word", "kind=name"), 400, "400 Bad Request"),
-        (form("/word", "kind=cat&forms=x"), 400, "400 Bad Request"),
-        (form("/word", "kind=name&kind=noun&forms=%zz&forms=Ok"), 409, "2 BadForm"),
-        (form("/word", "kind=name&forms=%00"), 409, "2 BadForm"),
-        (form("/word", "kind=name&forms=%FF"), 409, "2 BadForm"),
-        (form("/word", "%6bind=name&forms=+Nameaa++"), 409, "3 Taken"),
-        (form("/article/Nameaa/remove", "at=0000000000"), 404, "5 NoPlace"),
-        (form("/article/Nameaa/remove", "at=-0"), 400, "400 Bad Request"),
-        (form("/article/Nameaa/remove", "at=4294967296"), 400, "400 Bad Request"),
-        (form("/article/Nameaa/add", "text=%3Cscript%3Ealert(%22%26%22)%3C/script%3E"), 409, "NotSentence"),
-        (form("/api", "{"), 400, "0 BadRequest"),
-        (form("/api", '{"do":"find","word":"\\ud800"}'), 400, "0 BadRequest"),
-        (form("/api", '{"do":"find",\n"word":"Bonn"}'), 404, '{"name":"NoWord"'),
-        (form("/api", " " * 65536), 400, "0 BadRequest"),
+def odd_targets():
+    for target, status, part in [
+        ("/article/%zz", 404, "1 NoWord"),
+        ("/article/%FF%C3", 404, "1 NoWord"),
+        ("/article/a%00b", 404, "1 NoWord"),
+        ("/article/Nameaa%2Fadd", 404, "1 NoWord"),
+        ("/article/Name%61a?x=/add", 200, "<h1>Nameaa</h1>"),
+        ("/session/0000000001", 404, "6 NoSession"),
+        ("/session/00000000001", 400, "400 Bad Request"),
+        ("/session/4294967296", 400, "400 Bad Request"),
+        ("/session/%2B1", 400, "400 Bad Request"),
+        ("/none", 404, "404 Not Found"),
+        ("/word", 405, "\r\nAllow: POST\r\n"),
     ]:
-        got = sent(text)
-        expect(repr(text[:80]), got, status, part)
-        if "<script" in got:
-            fail(f"a text leaves its element: {got!r}")
+        told(f"GET {target} {HEAD}\r\n", status, part)
+    for byte in (b"\xff", b"\x00"):
+        told(b"GET /article/" + byte + f" {HEAD}\r\n".encode(), 400, "400 Bad Request")
 
 
-wiki = subprocess.Popen([sys.argv[1], "serve", f"127.0.0.1:{PORT}"], stdin=subprocess.PIPE, stdout=subprocess.PIPE)
-try:
-    wiki.stdin.write(WORDS.encode())
+def odd_fields():
+    index, bad, large = (200, "<h1>AceWiki</h1>"), (400, "400 Bad Request"), (413, "413 Payload Too Large")
+    for fields, (status, part) in [
+        ("Host: here\r\nNote: \0\r\n\r\n", bad),
+        ("Host: here\r\nContent-Length: 0000000000000000000\r\n\r\n", index),
+        ("Host: here\r\nContent-Length: 00000000000000000000\r\n\r\n", bad),
+        ("Host: here\r\nContent-Length: 1\r\nContent-Length: 01\r\n\r\nx", index),
+        ("Host: here\r\nContent-Length: 1\r\nContent-Length: 2\r\n\r\nxx", bad),
+        ("Host: here\r\nContent-Length: 65537\r\n\r\n", large),
+        ("Host: here\r\nX: " + "x" * 16384, large),
+        ("Host: here\r\n" + "A: b\r\n" * 63 + "\r\n", index),
+        ("Host: here\r\n" + "A: b\r\n" * 64 + "\r\n", bad),
+        ("Host: here\r\nTransfer-Encoding: chunked\r\n\r\n", (501, "501 Not Implemented")),
+        ("Host: here\r\nhOsT: there\r\n\r\n", bad),
+        ("\r\n", bad),
+    ]:
+        told(f"GET / HTTP/1.1\r\n{fields}", status, part)
+    told("GET / HTTP/1.0\r\n\r\n", *index)
+
+
+def odd_bodies():
+    for path, body, status, part in [
+        ("/word", "kind=name", 400, "400 Bad Request"),
+        ("/word", "kind=cat&forms=x", 400, "400 Bad Request"),
+        ("/word", "kind=name&kind=noun&forms=%zz&forms=Ok", 409, "2 BadForm"),
+        ("/word", "kind=name&forms=%00", 409, "2 BadForm"),
+        ("/word", "kind=name&forms=%FF", 409, "2 BadForm"),
+        ("/word", "%6bind=name&forms=+Nameaa++", 409, "3 Taken"),
+        ("/article/Nameaa/remove", "at=0000000000", 404, "5 NoPlace"),
+        ("/article/Nameaa/remove", "at=-0", 400, "400 Bad Request"),
+        ("/article/Nameaa/remove", "at=4294967296", 400, "400 Bad Request"),
+        ("/article/Nameaa/add", "text=%3Cscript%3Ealert(%22%26%22)%3C/script%3E", 409, "NotSentence"),
+        ("/api", "{", 400, "0 BadRequest"),
+        ("/api", '{"do":"find","word":"\\ud800"}', 400, "0 BadRequest"),
+        ("/api", '{"do":"find",\n"word":"Bonn"}', 404, '{"name":"NoWord"'),
+        ("/api", " " * 65536, 400, "0 BadRequest"),
+    ]:
+        told(f"POST {path} {HEAD}Content-Length: {len(body)}\r\n\r\n{body}", status, part)
+
+
+def started(lines, *options):
+    """A program that serves, from these lines on, and the first connection to it."""
+    wiki = subprocess.Popen([sys.argv[1], "serve", f"127.0.0.1:{PORT}", *options], stdin=subprocess.PIPE, stdout=subprocess.PIPE)
+    wiki.stdin.write(lines.encode())
     wiki.stdin.close()
     for _ in range(200):
         try:
-            opened().close()
-            break
+            return wiki, opened()
         except OSError:
             time.sleep(0.05)
-    else:
-        fail("the program doesn't listen")
+    fail("the program doesn't listen")
+
+
+def few_events():
+    """An opening and a request are two events; the third is an opening, which gets nothing, and the end."""
+    wiki, link = started("", "--events", "3")
+    try:
+        link.sendall(f"GET / {HEAD}\r\n".encode())
+        got = answer(link)
+        expect("the index of an empty wiki", got, 200, "\r\nContent-Length: 274\r\n")
+        if len(got.split("\r\n\r\n")[1]) != 274 or answer(opened()) or wiki.wait(10) or wiki.stdout.read():
+            fail("another end than after three events")
+    finally:
+        wiki.kill()
+
+
+few_events()
+wiki, link = started(WORDS)
+try:
+    link.close()
     expect("a first request", sent(CUT), 200, FOUND)
-    for test in (in_turn, beside_idle, half_sent, too_many, cut_anywhere, gone, behind, odd, in_turn):
+    for test in (in_turn, beside_idle, half_sent, too_many, cut_anywhere, gone, behind, odd_targets, odd_fields, odd_bodies, in_turn):
         begun = time.time()
         test()
         if len(sys.argv) > 2:

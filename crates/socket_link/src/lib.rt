@@ -3,7 +3,9 @@
 #![tactic(auto)]
 
 mod link;
+mod numbers;
 mod place;
+mod places;
 mod sockets;
 #[cfg(test)]
 mod tests;

@@ -7,7 +7,7 @@ ghost use Rattle.wiki_io.specs.Sink.{TookFits};
 ghost use Rattle.socket_link.specs.Round.{HandsIn};
 
 use crate::place::Heard;
-use crate::sockets::{PLACES, Sockets};
+use crate::sockets::{Sockets, Turn};
 use std::alloc::Global;
 use std::net::{Net, SocketAddr};
 use std::time::{Clock, Duration};
@@ -18,6 +18,7 @@ use wiki_io::{Link, Listen, Next, Took};
 const MOST_OPEN: usize = 65;
 
 /// A link over TCP. It hands in each connection that it accepts, and pieces of whichever connection has some, in turn.
+/// A connection on which nothing comes isn't looked at until its time is up.
 /// It accepts none while 65 are open or 128 sockets stand. A connection ends where the other side ends it, where its
 /// socket fails, and where nothing has come for the idle time. What was taken to be sent is still written after the
 /// connection is closed, for as long as it goes on at least every two seconds.
@@ -25,8 +26,6 @@ const MOST_OPEN: usize = 65;
 pub struct SocketLink<'a, R> {
     sockets: Sockets<'a, R>,
     connections: Vec<u32>,
-    // where the next round begins: the listener's turn comes after that of the last open connection
-    turn: usize,
     faults: u64,
     send_faults: u64,
 }
@@ -41,7 +40,6 @@ impl<'a, R: Net + Clock> SocketLink<'a, R> {
         Ok(SocketLink {
             sockets: Sockets::new(alloc, host, idle)?,
             connections: Vec::with_capacity(alloc, MOST_OPEN)?,
-            turn: 0,
             faults: 0,
             send_faults: 0,
         })
@@ -57,8 +55,7 @@ impl<'a, R: Net + Clock> SocketLink<'a, R> {
         self.sockets.finish(time)
     }
 
-    // Hands in what there is of the connection or of the listener whose turn comes next. Here `Over` says that nothing is
-    // there now.
+    // Hands in what there is at the next turn of the round, or begins another round. Here `Over` says that nothing was there.
     fn hand_in(&mut self, buf: &mut [u8]) -> Next
         requires { 0 < length buf.old }
         ensures handed { HandsIn self.old.connections.items result buf.new self.new.connections.items }
@@ -66,39 +63,28 @@ impl<'a, R: Net + Clock> SocketLink<'a, R> {
         ensures faults { self.new.faults ≡ self.old.faults }
         ensures send_faults { self.new.send_faults ≡ self.old.send_faults }
     {
-        let mut index = self.turn;
-        for _ in 0..=self.connections.len() {
-            if index > self.connections.len() {
-                index = 0;
-            }
-            // Behind the listener's turn comes that of the first connection, also where it let one in.
-            let after = if index < self.connections.len() {
-                index.saturating_add(1)
-            } else {
-                0
-            };
-            let next = match self.connections.get(index).copied() {
-                Some(number) => self.hear(number, buf),
-                None => self.accept(),
-            };
-            index = after;
-            if next != Next::Over {
-                self.turn = index;
-                return next;
-            }
+        let lets_in = self.connections.len() < MOST_OPEN;
+        match self.sockets.next_turn(lets_in) {
+            Turn::Connection(number) => self.hear(number, buf),
+            Turn::Listener(number) => self.accept(number),
+            Turn::Nobody => match self.sockets.next_round(lets_in) {
+                Ok(()) => Next::Over,
+                Err(_) => Next::Failed,
+            },
         }
-        Next::Over
     }
 
     fn hear(&mut self, number: u32, buf: &mut [u8]) -> Next
-        requires room { 0 < length buf.old }
-        requires is_open { IsTrue (is_among self.old.connections.items number) }
+        requires { 0 < length buf.old }
         ensures handed { HandsIn self.old.connections.items result buf.new self.new.connections.items }
-        ensures over { result ≡ Next.Over → self.new.connections.items ≡ self.old.connections.items }
         ensures room { length buf.new ≡ length buf.old }
         ensures faults { self.new.faults ≡ self.old.faults }
         ensures send_faults { self.new.send_faults ≡ self.old.send_faults }
     {
+        if !self.connections.contains(&number) {
+            self.sockets.end(number);
+            return Next::Over;
+        }
         match self.sockets.hear(number, buf) {
             Heard::Nothing => Next::Over,
             Heard::Bytes(size) => Next::Bytes(number, size),
@@ -110,38 +96,15 @@ impl<'a, R: Net + Clock> SocketLink<'a, R> {
         }
     }
 
-    fn accept(&mut self) -> Next
+    // Lets a connection in, if one waits, under a number that no other has.
+    fn accept(&mut self, number: u32) -> Next
         ensures handed { (buffer : List ℕ) → HandsIn self.old.connections.items result buffer self.new.connections.items }
         ensures faults { self.new.faults ≡ self.old.faults }
         ensures send_faults { self.new.send_faults ≡ self.old.send_faults }
     {
-        if self.connections.len() >= MOST_OPEN {
+        if self.connections.contains(&number) {
             return Next::Over;
         }
-        match self.free_number() {
-            Some(number) => self.accept_as(number),
-            None => Next::Over,
-        }
-    }
-
-    // A number without a socket, so no connection's.
-    fn free_number(&self) -> Option<u32>
-        ensures { IfSome result (λ number. is_among self.now.connections.items number ≡ false) }
-    {
-        for number in 0..PLACES {
-            if !self.connections.contains(&number) && self.sockets.is_free(number) {
-                return Some(number);
-            }
-        }
-        None
-    }
-
-    fn accept_as(&mut self, number: u32) -> Next
-        requires { is_among self.old.connections.items number ≡ false }
-        ensures handed { (buffer : List ℕ) → HandsIn self.old.connections.items result buffer self.new.connections.items }
-        ensures faults { self.new.faults ≡ self.old.faults }
-        ensures send_faults { self.new.send_faults ≡ self.old.send_faults }
-    {
         match self.sockets.accept(number) {
             Ok(false) => Next::Over,
             Ok(true) => {
@@ -192,9 +155,6 @@ impl<R: Net + Clock> Link for SocketLink<'_, R> {
                 Next::Over => {}
                 Next::Failed => break,
                 next => return next,
-            }
-            if self.sockets.wait().is_err() {
-                break;
             }
         }
         self.faults = self.faults.saturating_add(1);

@@ -60,6 +60,10 @@ impl Place {
         self.is_closed
     }
 
+    pub(crate) fn is_readable(&self) -> bool {
+        self.readable
+    }
+
     pub(crate) fn since(&self) -> Duration {
         self.since
     }

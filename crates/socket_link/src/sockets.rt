@@ -1,8 +1,11 @@
-// The sockets behind a link: the listener, a place for each connection, and the wait for what becomes ready.
+// The sockets behind a link: the listener, a place for each connection, and the wait for what becomes ready. The work goes
+// round: each round looks at what has become ready, and then each connection with something to be read has one turn, and
+// the listener one.
 ghost use Rattle.std.specs.Prelude.{◌≡◌, ◌<◌, ◌≤◌, length};
 ghost use Rattle.socket_link.specs.Heard.{HeardFits};
 
 use crate::place::{Heard, Place};
+use crate::places::{PLACES, Places};
 use mio::net::{TcpListener, TcpStream};
 use mio::{Events, Interest, Poll, Token};
 use std::alloc::Global;
@@ -11,12 +14,6 @@ use std::io::ErrorKind;
 use std::net::{Net, SocketAddr, ToSocketAddrs};
 use std::time::{Clock, Duration};
 use wiki_base::Memory;
-
-/// How many sockets of connections there are at most, those of closed connections included.
-pub(crate) const PLACES: u32 = 128;
-
-// How many seconds a closed connection may stand without progress.
-const PATIENCE: u64 = 2;
 
 // For how many seconds nothing is accepted after there were no descriptors, unless a connection is closed.
 const RETRY: u64 = 1;
@@ -27,15 +24,27 @@ const LISTENER_ERRORS: [i32; 4] = [9, 14, 22, 88];
 // Errors of `accept` for want of descriptors or room: ENOMEM, ENFILE, EMFILE, ENOBUFS.
 const FULL_ERRORS: [i32; 4] = [12, 23, 24, 105];
 
+/// Whose turn it is.
+#[derive(Clone, Copy, Debug, PartialEq, Eq)]
+pub(crate) enum Turn {
+    /// A connection's, on which something may have come.
+    Connection(u32),
+    /// The listener's, at which a connection may wait. The place of this number is free for it.
+    Listener(u32),
+    /// Nobody's: the round is over.
+    Nobody,
+}
+
 #[derive(Drop)]
 pub(crate) struct Sockets<'a, R> {
     alloc: Global,
     host: &'a R,
-    idle: Duration,
     poll: Option<Poll>,
     listener: Option<TcpListener>,
     events: Events<Global>,
-    places: Vec<Option<Place>>,
+    places: Places,
+    // from which number on the connections have had no turn in this round; the listener's turn is that behind theirs
+    turn: u32,
     // whether a connection may wait at the listener, and whether there were no descriptors for one
     waits: bool,
     is_full: bool,
@@ -44,19 +53,15 @@ pub(crate) struct Sockets<'a, R> {
 
 impl<'a, R: Net + Clock> Sockets<'a, R> {
     pub(crate) fn new(alloc: Global, host: &'a R, idle: Duration) -> Result<Self, Memory> {
-        let mut places = Vec::with_capacity(alloc, PLACES as usize)?;
-        for _ in 0..PLACES {
-            places.push(None)?;
-        }
         let events = Events::with_capacity(alloc, PLACES as usize)?;
         Ok(Sockets {
             alloc,
             host,
-            idle,
             poll: None,
             listener: None,
             events,
-            places,
+            places: Places::new(alloc, idle)?,
+            turn: 0,
             waits: false,
             is_full: false,
             now: Duration::from_secs(0),
@@ -90,10 +95,76 @@ impl<'a, R: Net + Clock> Sockets<'a, R> {
         }
     }
 
-    pub(crate) fn is_free(&self, number: u32) -> bool {
-        match self.places.get(number as usize) {
-            Some(place) => place.is_none(),
-            None => false,
+    // Whose turn comes next in this round, where a connection is let in or not.
+    pub(crate) fn next_turn(&mut self, lets_in: bool) -> Turn {
+        if let Some(number) = self.places.ready_from(self.turn) {
+            self.turn = number.saturating_add(1);
+            return Turn::Connection(number);
+        }
+        if self.turn <= PLACES {
+            self.turn = PLACES + 1;
+            if let Some(number) = self.place_for_one(lets_in) {
+                return Turn::Listener(number);
+            }
+        }
+        Turn::Nobody
+    }
+
+    // The number of a place for a connection that may wait at the listener, if it is let in.
+    fn place_for_one(&self, lets_in: bool) -> Option<u32> {
+        if lets_in && self.waits && !self.is_full {
+            self.places.free_number()
+        } else {
+            None
+        }
+    }
+
+    // Begins a round: waits until something is ready or the first of the times is up, and not at all where somebody's turn
+    // comes anyway.
+    pub(crate) fn next_round(&mut self, lets_in: bool) -> io::Result<()> {
+        if self.places.ready_from(0).is_some() || self.place_for_one(lets_in).is_some() {
+            return self.wait(Some(Duration::from_secs(0)));
+        }
+        self.wait(self.time_left())
+    }
+
+    // Waits for the time at most, notes what has become ready, and goes on with what is closed.
+    fn wait(&mut self, time: Option<Duration>) -> io::Result<()> {
+        let Some(poll) = &mut self.poll else {
+            return Err(io::Error::from(ErrorKind::NotConnected));
+        };
+        match poll.poll(&mut self.events, time) {
+            Err(error) if error.kind() != ErrorKind::Interrupted => return Err(error),
+            _ => {}
+        }
+        self.now = self.host.monotonic()?;
+        self.turn = 0;
+        self.is_full = false;
+        for event in &self.events {
+            match u32::try_from(event.token().0) {
+                Ok(number) if number < PLACES => self.places.becomes_ready(
+                    number,
+                    event.is_readable() || event.is_read_closed() || event.is_error(),
+                    event.is_writable() || event.is_write_closed() || event.is_error(),
+                    self.now,
+                ),
+                _ => self.waits = true,
+            }
+        }
+        self.places.look_over(self.now);
+        Ok(())
+    }
+
+    // How long a wait may last: until a connection may have stood too long, or until one is accepted again.
+    fn time_left(&self) -> Option<Duration> {
+        let left = self.places.time_left(self.now);
+        if !self.is_full {
+            return left;
+        }
+        let retry = Duration::from_secs(RETRY);
+        match left {
+            Some(time) if time < retry => Some(time),
+            _ => Some(retry),
         }
     }
 
@@ -137,9 +208,8 @@ impl<'a, R: Net + Clock> Sockets<'a, R> {
                 Interest::READABLE | Interest::WRITABLE,
             )?;
         }
-        if let Some(place) = self.places.get_mut(number as usize) {
-            *place = Some(Place::new(self.alloc, stream, self.now));
-        }
+        self.places
+            .settle(number, Place::new(self.alloc, stream, self.now), self.now);
         Ok(())
     }
 
@@ -148,118 +218,24 @@ impl<'a, R: Net + Clock> Sockets<'a, R> {
         ensures fits { HeardFits result (length buf.new) }
         ensures room { length buf.new ≡ length buf.old }
     {
-        let Some(Some(place)) = self.places.get_mut(number as usize) else {
-            return Heard::End;
-        };
-        match place.hear(buf, self.now) {
-            Heard::Nothing if self.now.saturating_sub(place.since()) >= self.idle => Heard::End,
-            heard => heard,
-        }
+        self.places.hear(number, buf, self.now)
     }
 
     // Keeps the bytes and writes what the socket takes at once. False for want of memory, or where the socket has failed.
     pub(crate) fn send(&mut self, number: u32, bytes: &[u8]) -> bool {
-        match self.places.get_mut(number as usize) {
-            Some(Some(place)) => place.keep(bytes).is_ok() && place.write(self.now),
-            _ => false,
-        }
+        self.places.send(number, bytes, self.now)
     }
 
     // The connection is closed; its socket goes once all is written and what comes was passed over.
     pub(crate) fn close(&mut self, number: u32) {
-        let now = self.now;
-        if let Some(place) = self.places.get_mut(number as usize) {
-            let stays = match place {
-                Some(open) => {
-                    open.close(now);
-                    open.wind_up(now)
-                }
-                None => false,
-            };
-            if !stays {
-                *place = None;
-                self.is_full = false;
-            }
-        }
+        self.places.close(number, self.now);
+        self.is_full = false;
     }
 
     // The connection has ended, and its socket goes.
     pub(crate) fn end(&mut self, number: u32) {
-        if let Some(place) = self.places.get_mut(number as usize) {
-            *place = None;
-            self.is_full = false;
-        }
-    }
-
-    // Waits until something is ready or the first of the times is up, and goes on with what is closed.
-    pub(crate) fn wait(&mut self) -> io::Result<()> {
-        let time = self.time_left();
-        let Some(poll) = &mut self.poll else {
-            return Err(io::Error::from(ErrorKind::NotConnected));
-        };
-        match poll.poll(&mut self.events, time) {
-            Err(error) if error.kind() != ErrorKind::Interrupted => return Err(error),
-            _ => {}
-        }
-        self.now = self.host.monotonic()?;
+        self.places.end(number);
         self.is_full = false;
-        for event in &self.events {
-            let number = event.token().0;
-            match self.places.get_mut(number) {
-                Some(Some(place)) => place.becomes_ready(
-                    event.is_readable() || event.is_read_closed() || event.is_error(),
-                    event.is_writable() || event.is_write_closed() || event.is_error(),
-                ),
-                Some(None) => {}
-                None => self.waits = true,
-            }
-        }
-        self.go_on();
-        Ok(())
-    }
-
-    // Writes what is unsent, and lets the sockets go that are done with or have stood too long.
-    fn go_on(&mut self) {
-        let now = self.now;
-        for place in &mut self.places {
-            let stays = match place {
-                Some(kept) if kept.is_closed() => kept.wind_up(now)
-                    && now.saturating_sub(kept.since()) < Duration::from_secs(PATIENCE),
-                Some(kept) => {
-                    // Where writing fails, the next reading finds it.
-                    kept.write(now);
-                    true
-                }
-                None => true,
-            };
-            if !stays {
-                *place = None;
-            }
-        }
-    }
-
-    // How long a wait may last: until the first connection has stood too long.
-    fn time_left(&self) -> Option<Duration> {
-        let mut least = if self.is_full {
-            Some(Duration::from_secs(RETRY))
-        } else {
-            None
-        };
-        for place in &self.places {
-            if let Some(kept) = place {
-                let patience = if kept.is_closed() {
-                    Duration::from_secs(PATIENCE)
-                } else {
-                    self.idle
-                };
-                let left = patience.saturating_sub(self.now.saturating_sub(kept.since()));
-                least = Some(match least {
-                    Some(time) if time <= left => time,
-                    _ => left,
-                });
-            }
-        }
-        least
     }
 
     // Waits until no closed connection has its socket any more, at most for about the time.
@@ -269,16 +245,9 @@ impl<'a, R: Net + Clock> Sockets<'a, R> {
         };
         for _ in 0..u64::MAX {
             let is_late = self.now.saturating_sub(start) >= time;
-            if is_late || !self.is_winding_up() || self.wait().is_err() {
+            if is_late || !self.places.is_winding_up() || self.wait(self.time_left()).is_err() {
                 return;
             }
         }
-    }
-
-    fn is_winding_up(&self) -> bool {
-        self.places.iter().any(|place| match place {
-            Some(kept) => kept.is_closed(),
-            None => false,
-        })
     }
 }

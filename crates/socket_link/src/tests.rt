@@ -1,4 +1,5 @@
 use super::*;
+use std::collections::VecDeque;
 use std::io::{Read, Write};
 use std::net::{SocketAddr, TcpStream};
 use std::test::Fail;
@@ -66,19 +67,22 @@ fn a_connection_on_which_nothing_comes_ends(rt: HostRuntime) -> Result<(), Fail>
 
 #[test]
 fn no_more_than_65_are_open(rt: HostRuntime) -> Result<(), Fail> {
-    let mut link = SocketLink::new(rt.alloc(), &rt, Duration::from_millis(200))?;
+    let mut link = SocketLink::new(rt.alloc(), &rt, Duration::from_secs(LONG))?;
     assert_eq!(rt; link.listen("127.0.0.1:0"), Listen::Ready);
-    let mut clients = Vec::new(rt.alloc());
-    for _ in 0..66 {
-        clients.push(client(&rt, link.address())?)?;
+    let mut clients = VecDeque::new(rt.alloc());
+    for _ in 0..67 {
+        clients.push_back(client(&rt, link.address())?)?;
     }
     let mut buffer = [0; 2];
     for number in 0..65 {
         assert_eq!(rt; link.next(&mut buffer), Next::Opened(number));
     }
+    drop(clients.pop_front());
+    assert_eq!(rt; link.next(&mut buffer), Next::Ended(0));
+    assert_eq!(rt; link.next(&mut buffer), Next::Opened(0));
+    // The socket of a connection that is closed keeps its place, and so its number, for a while.
     link.close(7);
-    assert!(rt; matches!(link.next(&mut buffer), Next::Opened(_)));
-    assert!(rt; matches!(link.next(&mut buffer), Next::Ended(_)));
+    assert_eq!(rt; link.next(&mut buffer), Next::Opened(65));
     Ok(())
 }
 

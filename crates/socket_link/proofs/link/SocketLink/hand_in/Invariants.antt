@@ -1,9 +1,0 @@
-use Rattle.std.proofs.Common.{◌≡◌, length}
-use Rattle.socket_link.proofs.link.SocketLink.hand_in.Given as goal
-
-abbrev pub invariant-loop : goal.invariant-loop
-invariant-loop g l =
-    (l.self.connections.items ≡ l.initial.self.connections.items)
-    × (length l.buf ≡ length l.initial.buf)
-    × (l.self.faults ≡ l.initial.self.faults)
-    × (l.self.send_faults ≡ l.initial.self.send_faults)

@@ -1,0 +1,44 @@
+// Sets of small numbers.
+
+/// Numbers below 128.
+#[derive(Drop)]
+pub(crate) struct Numbers {
+    bits: u128,
+}
+
+impl Numbers {
+    /// No numbers.
+    pub(crate) fn none() -> Numbers {
+        Numbers { bits: 0 }
+    }
+
+    pub(crate) fn insert(&mut self, number: u32) {
+        self.bits |= bit(number);
+    }
+
+    pub(crate) fn remove(&mut self, number: u32) {
+        self.bits &= !bit(number);
+    }
+
+    /// The least of the numbers that isn't below this one.
+    pub(crate) fn first_from(&self, from: u32) -> Option<u32> {
+        let rest = self.bits.checked_shr(from).unwrap_or(0);
+        if rest == 0 {
+            return None;
+        }
+        Some(from.saturating_add(rest.trailing_zeros()))
+    }
+
+    /// The least number below 128 that isn't one of these.
+    pub(crate) fn first_missing(&self) -> Option<u32> {
+        if self.bits == u128::MAX {
+            return None;
+        }
+        Some(self.bits.trailing_ones())
+    }
+}
+
+// The set of this number alone; of none where it is too great.
+fn bit(number: u32) -> u128 {
+    1u128.checked_shl(number).unwrap_or(0)
+}

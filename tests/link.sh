@@ -122,6 +122,47 @@ def behind():
         expect(f"{more} bytes behind the request", sent(CUT.encode() + b"x" * more), 200, FOUND)
 
 
+def endless():
+    link = opened()
+    link.sendall(CUT.encode())
+    try:
+        for _ in range(400):
+            link.sendall(b"x" * 65536)
+    except OSError:
+        return
+    fail("26 million bytes behind a request are passed over")
+
+
+def unclosed():
+    """More clients than there are places keep their sockets open when they are answered."""
+    links = []
+    for _ in range(200):
+        links.append(opened())
+        links[-1].sendall(CUT.encode())
+        if not links[-1].recv(100).startswith(b"HTTP/1.1 200 "):
+            fail("one is not answered beside others that don't close")
+
+
+def worked():
+    """How long the program has had a processor, in hundredths of a second."""
+    with open(f"/proc/{wiki.pid}/stat") as stat:
+        return sum(map(int, stat.read().split()[13:15]))
+
+
+def still():
+    """Nothing is done while nothing comes, whether one more may be let in or not."""
+    links = [opened() for _ in range(63)]
+    for count in (63, 66):
+        links += [opened() for _ in range(count - len(links))]
+        for link in links[:63]:
+            link.sendall(b"G")
+        time.sleep(0.3)
+        before = worked()
+        time.sleep(0.7)
+        if worked() - before > 5:
+            fail(f"{worked() - before} hundredths of a second of work for {count} connections on which nothing comes")
+
+
 def told(request, status, part):
     """What comes for a request, in which no text of it stands as an element."""
     got = sent(request)
@@ -220,7 +261,7 @@ wiki, link = started(WORDS)
 try:
     link.close()
     expect("a first request", sent(CUT), 200, FOUND)
-    for test in (in_turn, beside_idle, half_sent, too_many, cut_anywhere, gone, behind, odd_targets, odd_fields, odd_bodies, in_turn):
+    for test in (in_turn, beside_idle, half_sent, too_many, cut_anywhere, gone, behind, endless, odd_targets, odd_fields, odd_bodies, unclosed, still, in_turn):
         begun = time.time()
         test()
         if len(sys.argv) > 2:

@@ -1,0 +1,10 @@
+pub mod Calm
+pub mod Changing
+pub mod Effects
+pub mod Fitting
+pub mod Idle
+pub mod Nexts
+pub mod Noting
+pub mod Shapes
+pub mod Staying
+pub mod Waits

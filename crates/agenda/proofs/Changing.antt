@@ -126,7 +126,7 @@ module _ (k : Theory) (g : Graph) where
   neighbour_only : (e : Edge) (role : Role) (y z : ℕ) → ends e y ≡ false → list_any (makes_neighbour k role y z) (g.edges ++ e ∷ []) ≡ true → list_any (makes_neighbour k role y z) g.edges ≡ true
   neighbour_only e role y z apart h = elim (or_cases (list_any (makes_neighbour k role y z) g.edges) (makes_neighbour k role y z e || false) (sym (list_any-append (makes_neighbour k role y z) g.edges (e ∷ [])) ∙ h)) [
     | inl old ↦ old
-    | inr new ↦ elim (or_cases (makes_neighbour k role y z e) false new) [ inl it ↦ absurd (both (end_of e role y z it) apart) | inr no ↦ cc ]
+    | inr new ↦ elim (or_cases (makes_neighbour k role y z e) false new) [ inl it ↦ absurd (both (end_of e role y z it) apart) | inr off ↦ cc ]
   ]
 
   pub edge_changes : (e : Edge) → Changes k g (with_edge g e) (λ y. false) (ends e)

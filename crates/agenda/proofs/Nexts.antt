@@ -30,7 +30,7 @@ both : {b : Bool} → b ≡ true → b ≡ false → ⊥
 both t f = cc
 
 -- a rule without a node y adds at 0
-where_zero : (t : Bool) → (where_true t 0 ≡ None) ⊎ (where_true t 0 ≡ Some 0)
+where_zero : (t : Bool) → (where_true {X = ℕ} t 0 ≡ None) ⊎ (where_true {X = ℕ} t 0 ≡ Some 0)
 where_zero true = inr refl
 where_zero false = inl refl
 
@@ -44,7 +44,7 @@ module _ (k : Theory) (g : Graph) where
   row_zero rule.Unfold x c e = then_zero (λ word. where_true (lacks_some (label_at g x) (unfoldings_of k word)) 0) (λ word. where_zero (lacks_some (label_at g x) (unfoldings_of k word))) (word_part c)
   row_zero rule.All x c e = cc
   row_zero rule.Value x c e =
-      then_zero (λ p. option_and_then (λ y. where_true (not (is_blocked k g x) && not (is_neighbour k g p.0 x y)) 0) (node_of k p.1))
+      then_zero (λ p. option_and_then {U = ℕ} (λ y. where_true (not (is_blocked k g x) && not (is_neighbour k g p.0 x y)) 0) (node_of k p.1))
       (λ p. then_zero (λ y. where_true (not (is_blocked k g x) && not (is_neighbour k g p.0 x y)) 0) (λ y. where_zero (not (is_blocked k g x) && not (is_neighbour k g p.0 x y))) (node_of k p.1)) (value_part c)
   row_zero rule.Unit x c e =
       then_zero (λ cs. where_true (lacks_all (label_at g x) cs && nat_lt (length (open_members (label_at g x) cs)) 2) 0)
@@ -157,7 +157,7 @@ module _ (k : Theory) (g : Graph) where
         | inl stops ↦ inr (stops, awaited p.0 y near stops)
         | inr open_there ↦
             let row_none : first_below (length g.nodes) (λ z. where_true (needs k g p.0 p.1 x z) z) ≡ None =
-            sym (ap (option_and_then (λ q. first_below (length g.nodes) (λ z. where_true (needs k g q.0 q.1 x z) z))) part) ∙ site_row rule.All c free (at_class rule.All place c at (none place)) in
+            sym (ap (option_and_then {U = ℕ} (λ q. first_below (length g.nodes) (λ z. where_true (needs k g q.0 q.1 x z) z))) part) ∙ site_row rule.All c free (at_class rule.All place c at (none place)) in
             let fails : needs k g p.0 p.1 x y ≡ false = where_fails (needs k g p.0 p.1 x y) y (none_below (length g.nodes) (λ z. where_true (needs k g p.0 p.1 x z) z) row_none y (there p.0 x y near)) in
             inl (has_it (is_neighbour k g p.0 x y) (is_indirectly_blocked k g y) (has_concept (label_at g y) p.1) fails near open_there)
       ])
@@ -175,7 +175,7 @@ module _ (k : Theory) (g : Graph) where
         | inl stops ↦ or_right (is_directly_blocked k g x) (is_indirectly_blocked k g x) stops
         | inr free ↦
             let row_none : where_true (not (is_blocked k g x) && not (some_below (length g.nodes) (serves k g p.0 p.1 x))) 0 ≡ None =
-            sym (ap (option_and_then (λ q. where_true (not (is_blocked k g x) && not (some_below (length g.nodes) (serves k g q.0 q.1 x))) 0)) part) ∙ site_row rule.Some c free (at_class rule.Some place c at (none place)) in
+            sym (ap (option_and_then {U = ℕ} (λ q. where_true (not (is_blocked k g x) && not (some_below (length g.nodes) (serves k g q.0 q.1 x))) 0)) part) ∙ site_row rule.Some c free (at_class rule.Some place c at (none place)) in
             must_block (is_blocked k g x) (some_below (length g.nodes) (serves k g p.0 p.1 x)) (where_fails (not (is_blocked k g x) && not (some_below (length g.nodes) (serves k g p.0 p.1 x))) 0 row_none) alone
       ])
     ]

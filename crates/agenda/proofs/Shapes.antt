@@ -64,20 +64,20 @@ pub shaped_neighbours : (k : Theory) (g : Graph) → IsShaped k g → Neighbours
 shaped_neighbours k g shaped role y z near = neighbours_in k role y z (length g.nodes) g.edges shaped.inside near
 
 -- the first branch
+next_place : (m n c : ℕ) → m < c → suc m ≡ n → n < suc c
+next_place m n c lt is = omega arith
+
+first_place : (n c : ℕ) → 0 ≡ n → n < suc c
+first_place n c is = omega arith
+
+placed_by : (b : Bool) (o : Option ℕ) (n c : ℕ) → ((m : ℕ) → o ≡ Some m → m < c) → (if b then Some 0 else option_map suc o) ≡ Some n → n < suc c
+placed_by true o n c each e = first_place n c cc
+placed_by false None n c each e = cc
+placed_by false (Some m) n c each e = next_place m n c (each m refl) cc
+
 placed : (ws : List WordId) (word : WordId) (n : ℕ) → place_in ws word ≡ Some n → n < length ws
 placed [] word n at = cc
-placed (w ∷ ws) word n at = go (is_word word w) (place_in ws word) refl at
-  where
-    next : (m : ℕ) → m < length ws → suc m ≡ n → n < length (w ∷ ws)
-    next m lt is = omega arith
-
-    first : 0 ≡ n → n < length (w ∷ ws)
-    first is = omega arith
-
-    go : (b : Bool) (o : Option ℕ) → place_in ws word ≡ o → (if b then Some 0 else option_map suc o) ≡ Some n → n < length (w ∷ ws)
-    go true o is e = first cc
-    go false None is e = cc
-    go false (Some m) is e = next m (placed ws word m is) cc
+placed (w ∷ ws) word n at = placed_by (is_word word w) (place_in ws word) n (length ws) (λ m is. placed ws word m is) at
 
 named_node : (k : Theory) (name : WordId) (n : ℕ) → node_of k name ≡ Some n → n < length (roots k)
 named_node k name n at = go (representative k name) at
@@ -100,16 +100,14 @@ first_inside k n le d e at = go (node_of k d.1) (node_of k d.2) refl refl at
         let same : f ≡ e = cc in
         subst (λ z. is_inside n z ≡ true) same (and_from (nat_lt x n) (nat_lt y n) (lt-ltb x n (far x (named_node k d.1 x one))) (lt-ltb y n (far y (named_node k d.2 y two))))
 
+one_inside : (n : ℕ) (o : Option Edge) (es : List Edge) → ((e : Edge) → o ≡ Some e → is_inside n e ≡ true) → list_all (is_inside n) es ≡ true → list_all (is_inside n) (cons_option o es) ≡ true
+one_inside n None es each rest = rest
+one_inside n (Some e) es each rest = and_from (is_inside n e) (list_all (is_inside n) es) (each e refl) rest
+
 firsts_inside : (k : Theory) (n : ℕ) → length (roots k) ≤ n → (ds : List (Role × WordId × WordId)) → list_all (is_inside n) (filter_map (first_edge k) ds) ≡ true
 firsts_inside k n le [] = refl
-firsts_inside k n le (d ∷ ds) = go (first_edge k d) refl
-  where
-    rest : list_all (is_inside n) (filter_map (first_edge k) ds) ≡ true
-    rest = firsts_inside k n le ds
-
-    go : (o : Option Edge) → first_edge k d ≡ o → list_all (is_inside n) (cons_option o (filter_map (first_edge k) ds)) ≡ true
-    go None at = rest
-    go (Some e) at = and_from (is_inside n e) (list_all (is_inside n) (filter_map (first_edge k) ds)) (first_inside k n le d e at) rest
+firsts_inside k n le (d ∷ ds) =
+    one_inside n (first_edge k d) (filter_map (first_edge k) ds) (λ e at. first_inside k n le d e at) (firsts_inside k n le ds)
 
 start_shaped : (k : Theory) → IsShaped k (start k)
 start_shaped k = record {

@@ -3,7 +3,7 @@ use Rattle.std.proofs.Common.{◌≡◌, ℕ, zero, suc, ◌+◌, ◌<◌, ◌�
 use Rattle.std.specs.Prelude.{not, nat_lt}
 use Rattle.std.specs.List.{list_any, list_all}
 use Rattle.std.specs.Option.{option_and_then, option_or}
-use Rattle.std.proofs.lemmas.Bool.{cases_Bool, and_parts, and_from, false_from_ne_true, not_from_false}
+use Rattle.std.proofs.lemmas.Bool.{cases_Bool, cases_lt, and_parts, and_from, false_from_ne_true, not_from_false}
 use Rattle.wiki_base.specs.declared.numbers.WordId.{WordId}
 use Rattle.logic_terms.specs.declared.expressions.Role.{Role}
 use Rattle.logic_terms.specs.Concept.{Concept}
@@ -34,18 +34,21 @@ both t f = cc
 abbrev pub NeighboursThere : Theory → Graph → Type 0
 NeighboursThere k g = (role : Role) (y z : ℕ) → is_neighbour k g role y z ≡ true → z < length g.nodes
 
-pub none_below : {X : Type 0} (n : ℕ) (f : ℕ → Option X) → first_below n f ≡ None → (y : ℕ) → y < n → f y ≡ None
-none_below zero f h y lt = absurd (omega arith)
-none_below (suc n) f h y lt = go (first_below n f) (f n) refl refl h
-  where
-    go : (a b : Option X) → first_below n f ≡ a → f n ≡ b → option_or a b ≡ None → f y ≡ None
-    go None b before here e = elim (Rattle.std.proofs.lemmas.Bool.cases_lt y n) [
-      | inl less ↦ none_below n f before y less
-      | inr past ↦ (let same : n ≡ y = omega arith in ap f (sym same) ∙ (here ∙ e))
-    ]
-    go (Some x) b before here e = cc
+module _ {X : Type 0} where
+  none_parts : (a b : Option X) → option_or a b ≡ None → (a ≡ None) × (b ≡ None)
+  none_parts None b e = (refl, e)
+  none_parts (Some x) b e = cc
 
-where_fails : {X : Type 0} (test : Bool) (x : X) → where_true test x ≡ None → test ≡ false
+  pub none_below : (n : ℕ) (f : ℕ → Option X) → first_below n f ≡ None → (y : ℕ) → y < n → f y ≡ None
+  none_below zero f h y lt = absurd (omega arith)
+  none_below (suc n) f h y lt =
+      let parts = none_parts (first_below n f) (f n) h in
+      elim (cases_lt y n) [
+        | inl less ↦ none_below n f parts.0 y less
+        | inr past ↦ (let same : n ≡ y = omega arith in ap f (sym same) ∙ parts.1)
+      ]
+
+pub where_fails : {X : Type 0} (test : Bool) (x : X) → where_true test x ≡ None → test ≡ false
 where_fails true x h = cc
 where_fails false x h = refl
 
@@ -99,11 +102,11 @@ module _ (k : Theory) (g h : Graph) (grows joins : ℕ → Bool) (change : Chang
     label_x = same_label x (and_parts (waits x x) (waits_for waits x (ancestors g x)) own).0
 
     -- by a rule that looks at labels alone
-    value_stays : (o : Option (Role × WordId)) → option_and_then (λ p. option_and_then (λ y. where_true (not (is_blocked k g x) && not (is_neighbour k g p.0 x y)) 0) (node_of k p.1)) o ≡ None → option_and_then (λ p. option_and_then (λ y. where_true (not (is_blocked k h x) && not (is_neighbour k h p.0 x y)) 0) (node_of k p.1)) o ≡ None
+    value_stays : (o : Option (Role × WordId)) → option_and_then {U = ℕ} (λ p. option_and_then {U = ℕ} (λ y. where_true (not (is_blocked k g x) && not (is_neighbour k g p.0 x y)) 0) (node_of k p.1)) o ≡ None → option_and_then {U = ℕ} (λ p. option_and_then {U = ℕ} (λ y. where_true (not (is_blocked k h x) && not (is_neighbour k h p.0 x y)) 0) (node_of k p.1)) o ≡ None
     value_stays None e = refl
     value_stays (Some p) e = go (node_of k p.1) e
       where
-        go : (o : Option ℕ) → option_and_then (λ y. where_true (not (is_blocked k g x) && not (is_neighbour k g p.0 x y)) 0) o ≡ None → option_and_then (λ y. where_true (not (is_blocked k h x) && not (is_neighbour k h p.0 x y)) 0) o ≡ None
+        go : (o : Option ℕ) → option_and_then {U = ℕ} (λ y. where_true (not (is_blocked k g x) && not (is_neighbour k g p.0 x y)) 0) o ≡ None → option_and_then {U = ℕ} (λ y. where_true (not (is_blocked k h x) && not (is_neighbour k h p.0 x y)) 0) o ≡ None
         go None i = refl
         go (Some y) i =
             where_not (not (is_blocked k h x) && not (is_neighbour k h p.0 x y)) 0
@@ -131,22 +134,22 @@ module _ (k : Theory) (g h : Graph) (grows joins : ℕ → Bool) (change : Chang
     through a b c l m = omega arith
 
     row_stays : (r : Rule) → (r ≡ rule.All → joins x ≡ false) → RestsBy k g waits x r → (place : ℕ) (c : Concept) → class_at g x place ≡ Some c → is_indirectly_blocked k g x ≡ false → row k g r x c ≡ None → row k h r x c ≡ None
-    row_stays rule.And apart rests place c at free none = ap (λ l. option_and_then (λ cs. where_true (lacks_some l cs) 0) (intersection_part c)) label_x ∙ none
-    row_stays rule.Unfold apart rests place c at free none = ap (λ l. option_and_then (λ word. where_true (lacks_some l (unfoldings_of k word)) 0) (word_part c)) label_x ∙ none
+    row_stays rule.And apart rests place c at free none = ap (λ l. option_and_then {U = ℕ} (λ cs. where_true (lacks_some l cs) 0) (intersection_part c)) label_x ∙ none
+    row_stays rule.Unfold apart rests place c at free none = ap (λ l. option_and_then {U = ℕ} (λ word. where_true (lacks_some l (unfoldings_of k word)) 0) (word_part c)) label_x ∙ none
     row_stays rule.All apart rests place c at free none = go (all_part c) refl
       where
-        go : (o : Option (Role × Concept)) → all_part c ≡ o → option_and_then (λ p. first_below (length h.nodes) (λ y. where_true (needs k h p.0 p.1 x y) y)) o ≡ None
+        go : (o : Option (Role × Concept)) → all_part c ≡ o → option_and_then {U = ℕ} (λ p. first_below (length h.nodes) (λ y. where_true (needs k h p.0 p.1 x y) y)) o ≡ None
         go None part = refl
         go (Some p) part = first_none (length h.nodes) (λ y. where_true (needs k h p.0 p.1 x y) y) (λ y below. where_not (needs k h p.0 p.1 x y) y (elim (rests place c p at part) [
           | inl stops ↦ absurd (both stops free)
           | inr each ↦ all_stays (apart refl) p each y
         ]))
     row_stays rule.Value apart rests place c at free none = value_stays (value_part c) none
-    row_stays rule.Unit apart rests place c at free none = ap (λ l. option_and_then (λ cs. where_true (lacks_all l cs && nat_lt (length (open_members l cs)) 2) 0) (union_part c)) label_x ∙ none
-    row_stays rule.Or apart rests place c at free none = ap (λ l. option_and_then (λ cs. where_true (lacks_all l cs) 0) (union_part c)) label_x ∙ none
+    row_stays rule.Unit apart rests place c at free none = ap (λ l. option_and_then {U = ℕ} (λ cs. where_true (lacks_all l cs && nat_lt (length (open_members l cs)) 2) 0) (union_part c)) label_x ∙ none
+    row_stays rule.Or apart rests place c at free none = ap (λ l. option_and_then {U = ℕ} (λ cs. where_true (lacks_all l cs) 0) (union_part c)) label_x ∙ none
     row_stays rule.Some apart rests place c at free none = go (some_part c) refl
       where
-        go : (o : Option (Role × Concept)) → some_part c ≡ o → option_and_then (λ p. where_true (not (is_blocked k h x) && not (some_below (length h.nodes) (serves k h p.0 p.1 x))) 0) o ≡ None
+        go : (o : Option (Role × Concept)) → some_part c ≡ o → option_and_then {U = ℕ} (λ p. where_true (not (is_blocked k h x) && not (some_below (length h.nodes) (serves k h p.0 p.1 x))) 0) o ≡ None
         go None part = refl
         go (Some p) part = where_not (not (is_blocked k h x) && not (some_below (length h.nodes) (serves k h p.0 p.1 x))) 0 (elim (rests place c p at part) [
           | inl stops ↦ fails_first (is_blocked k h x) (some_below (length h.nodes) (serves k h p.0 p.1 x)) (blocked_same x lt own ∙ stops)
@@ -181,7 +184,7 @@ module _ (k : Theory) (g h : Graph) (grows joins : ℕ → Bool) (change : Chang
       others_stay : (r : Rule) → (r ≡ rule.All → joins x ≡ false) → RestsBy k g waits x r → RestsBy k h later x r
       others_stay rule.And apart rests = tt
       others_stay rule.Unfold apart rests = tt
-      others_stay rule.All apart rests place c p at part = elim (rests place c p (sym (ap (λ l. slice_get l place) label_x) ∙ at) part) [
+      others_stay rule.All apart rests = λ place c p at part. elim (rests place c p (sym (ap (λ l. slice_get l place) label_x) ∙ at) part) [
         | inl stops ↦ inl (indirectly_same x lt own ∙ stops)
         | inr each ↦ inr (λ y near. let before = change.only p.0 x y (apart refl) near in elim (each y before) [
           | inl has ↦ inl (change.more y p.1 has)
@@ -191,7 +194,7 @@ module _ (k : Theory) (g h : Graph) (grows joins : ℕ → Bool) (change : Chang
       others_stay rule.Value apart rests = tt
       others_stay rule.Unit apart rests = tt
       others_stay rule.Or apart rests = tt
-      others_stay rule.Some apart rests place c p at part = elim (rests place c p (sym (ap (λ l. slice_get l place) label_x) ∙ at) part) [
+      others_stay rule.Some apart rests = λ place c p at part. elim (rests place c p (sym (ap (λ l. slice_get l place) label_x) ∙ at) part) [
         | inl stops ↦ inl (blocked_same x lt own ∙ stops)
         | inr (y, below, served, all) ↦ inr (y, through y (length g.nodes) (length h.nodes) below change.count, some_stays p y below served all, still_up y below all)
       ]

@@ -1,13 +1,19 @@
 -- Lists of nodes that wait for others.
 use Rattle.std.proofs.Common.{◌≡◌, ℕ, zero, ◌+◌, ◌-◌, ◌<◌, ◌≤◌, ◌==◌, ◌||◌, ◌⊎◌, Bool, true, false, List, [], ◌∷◌, ◌++◌, length, set, take, get_or, Option, Some, None, subst, refl, sym, ap, ◌∙◌, inl, inr, arith}
+use Rattle.std.specs.Prelude.{OnOk}
+use Rattle.std.specs.BTreeSet.{BTreeSet, contains}
+use Rattle.std.specs.Ordering.{nat_cmp}
 use Rattle.std.specs.List.{list_any, list_all}
-use Rattle.std.proofs.lemmas.Bool.{and_parts, and_from, or_cases, or_left, or_right, cases_eq, cases_lt, eq-eqb}
+use Rattle.std.specs.declared.result.Result.{Result}
+use Rattle.std.specs.declared.result.Result.TheVariants.{Ok, Err}
+use Rattle.std.proofs.lemmas.Bool.{and_parts, and_from, or_cases, or_left, or_right, cases_eq, cases_lt, eq-eqb, eqb-true}
 use Rattle.std.proofs.lemmas.List.{take_all, take_more, get_or-set_same, get_or-set_other}
 use Rattle.std.proofs.lemmas.List.Folds.{list_any-append}
 use Rattle.logic_terms.specs.declared.expressions.Role.{Role}
 use Rattle.logic_terms.specs.Theory.{Theory}
 use Rattle.tableau_rules.specs.declared.branch.Edge.{Edge}
-use Rattle.tableau_rules.specs.Graph.{Graph, parent_of}
+use Rattle.std.proofs.lemmas.Option.{slice_get_past}
+use Rattle.tableau_rules.specs.Graph.{Graph, label_at, class_at, parent_of}
 use Rattle.tableau_rules.specs.Neighbours.{makes_neighbour, is_neighbour}
 use Rattle.tableau_rules.specs.Blocking.{climb, is_indirectly_blocked}
 use Rattle.tableau_rules.specs.Touching.{edges_at, far_end}
@@ -79,14 +85,14 @@ pub waited_first : (k : Theory) (g : Graph) (waits : ℕ → ℕ → Bool) (x : 
 waited_first k g waits x es role y h stops = cc
 
 module _ (k : Theory) (g : Graph) (x : ℕ) (items : List Edge) (i : ℕ) (d : Edge) (lt : i < length items) where
-  pub waited_more : (waits then : ℕ → ℕ → Bool) → ((z y : ℕ) → waits z y ≡ true → then z y ≡ true) → AreWaitedBy k g waits x (take i items) → (is_indirectly_blocked k g (far_end x (get_or items i d)) ≡ true → waits_for then x (way_up g (far_end x (get_or items i d))) ≡ true) → AreWaitedBy k g then x (take (i + 1) items)
-  waited_more waits then more before here role y h stops = elim (or_cases (list_any (makes_neighbour k role x y) (take i items)) (makes_neighbour k role x y (get_or items i d) || false) split) [
+  pub waited_more : (waits then : ℕ → ℕ → Bool) → ((z y : ℕ) → waits z y ≡ true → then z y ≡ true) → AreWaitedBy k g waits x (take i items) → (other : ℕ) → other ≡ far_end x (get_or items i d) → (is_indirectly_blocked k g other ≡ true → waits_for then x (way_up g other) ≡ true) → AreWaitedBy k g then x (take (i + 1) items)
+  waited_more waits then more before other far here role y h stops = elim (or_cases (list_any (makes_neighbour k role x y) (take i items)) (makes_neighbour k role x y (get_or items i d) || false) split) [
     | inl old ↦ waits_more waits then x more (way_up g y) (before role y old stops)
     | inr new ↦ elim (or_cases (makes_neighbour k role x y (get_or items i d)) false new) [
       | inl it ↦
-          let far : y ≡ far_end x (get_or items i d) = far_is k role x y (get_or items i d) it in
-          subst (λ z. waits_for then x (way_up g z) ≡ true) (sym far) (here (subst (λ z. is_indirectly_blocked k g z ≡ true) far stops))
-      | inr no ↦ cc
+          let same : other ≡ y = far ∙ sym (far_is k role x y (get_or items i d) it) in
+          subst (λ z. waits_for then x (way_up g z) ≡ true) same (here (subst (λ z. is_indirectly_blocked k g z ≡ true) (sym same) stops))
+      | inr off ↦ cc
     ]
   ]
     where
@@ -103,3 +109,37 @@ waited_still k g waits then x place more before c p at part = elim (before c p a
   | inl none ↦ inl none
   | inr (y, lt, served, all) ↦ inr (y, lt, served, waits_more waits then x more (way_up g y) all)
 ]
+
+-- one item more
+pub all_more : (nodes : List ℕ) (i d : ℕ) → i < length nodes → (old new : BTreeSet ℕ) → ((x : ℕ) → list_any (λ y. y == x) (take i nodes) ≡ true → contains nat_cmp old x ≡ true) → ((x : ℕ) → contains nat_cmp old x ≡ true → contains nat_cmp new x ≡ true) → contains nat_cmp new (get_or nodes i d) ≡ true → (x : ℕ) → list_any (λ y. y == x) (take (i + 1) nodes) ≡ true → contains nat_cmp new x ≡ true
+all_more nodes i d lt old new before kept here x h =
+    let split : (list_any (λ y. y == x) (take i nodes) || ((get_or nodes i d == x) || false)) ≡ true =
+    sym (ap (list_any (λ y. y == x)) (take_more nodes i d lt) ∙ list_any-append (λ y. y == x) (take i nodes) (get_or nodes i d ∷ [])) ∙ h in
+    elim (or_cases (list_any (λ y. y == x) (take i nodes)) ((get_or nodes i d == x) || false) split) [
+      | inl old_one ↦ kept x (before x old_one)
+      | inr new_one ↦ elim (or_cases (get_or nodes i d == x) false new_one) [
+        | inl it ↦ subst (λ z. contains nat_cmp new z ≡ true) (eqb-true (get_or nodes i d) x it) here
+        | inr off ↦ cc
+      ]
+    ]
+
+pub not_blocked : {b : Bool} → b ≡ true → b ≡ false → ⊥
+not_blocked t f = cc
+
+-- each place of a label
+pub places_more : (k : Theory) (g : Graph) (waits then : ℕ → ℕ → Bool) (x n : ℕ) → ((z y : ℕ) → waits z y ≡ true → then z y ≡ true) → ((place : ℕ) → place < n → IsWaitedFor k g waits x place) → IsWaitedFor k g then x n → (place : ℕ) → place < n + 1 → IsWaitedFor k g then x place
+places_more k g waits then x n more before here place lt = elim (cases_eq place n) [
+  | inl same ↦ subst (IsWaitedFor k g then x) (sym same) here
+  | inr other ↦ waited_still k g waits then x place more (before place (omega arith))
+]
+
+pub places_all : (k : Theory) (g : Graph) (waits : ℕ → ℕ → Bool) (x n : ℕ) → length (label_at g x) ≤ n → ((place : ℕ) → place < n → IsWaitedFor k g waits x place) → (place : ℕ) → IsWaitedFor k g waits x place
+places_all k g waits x n past all place = elim (cases_lt place n) [
+  | inl lt ↦ all place lt
+  | inr beyond ↦ (λ c p at part. let none : class_at g x place ≡ None = slice_get_past (label_at g x) place (omega arith) in let never : None ≡ Some c = sym none ∙ at in cc)
+]
+
+-- two facts of one result
+pub on_both : {T E A B C : Type 0} (r : Result T E) → (A → B → C) → OnOk r A → OnOk r B → OnOk r C
+on_both (Ok x) f a b = f a b
+on_both (Err e) f a b = tt

@@ -68,6 +68,12 @@ pub record NotesLabel (g : Graph) (r : Rule) (x : ℕ) (old new : Queue) : Type 
   pub waiting : (z y : ℕ) → (x ≡ z → ⊥) → is_waiting old z y ≡ true → is_waiting new z y ≡ true
   pub put : IsPut g r new x
 
+-- what a queue gets where an edge joins two nodes
+pub record Meets (g : Graph) (r : Rule) (e : Edge) (old new : Queue) : Type 0 where
+  pub kept : (y : ℕ) → is_due old y ≡ true → is_due new y ≡ true
+  pub waiting : (z y : ℕ) → is_waiting old z y ≡ true → is_waiting new z y ≡ true
+  pub met : r ≡ rule.All → IsPut g r new e.from × IsPut g r new e.to
+
 -- what a queue gets where an edge came, to a new node or not
 pub record NotesEdge (g : Graph) (r : Rule) (e : Edge) (is_new : Bool) (old new : Queue) : Type 0 where
   pub kept : (y : ℕ) → is_due old y ≡ true → is_due new y ≡ true

@@ -11,7 +11,7 @@ ghost use Rattle.tableau_rules.specs.Graph.{label_at};
 ghost use Rattle.tableau_rules.specs.Rules.{first_at, first_by};
 ghost use Rattle.tableau_rules.specs.Shown.{graph_of};
 ghost use Rattle.agenda.specs.Resting.{concerns, IsResting};
-ghost use Rattle.agenda.specs.Views.{is_listed, Lists, is_due, is_waiting, FitsQueue, FollowsQueue, NotesLabel, NotesEdge};
+ghost use Rattle.agenda.specs.Views.{is_listed, Lists, is_due, is_waiting, FitsQueue, FollowsQueue, NotesLabel, Meets, NotesEdge};
 
 use crate::reading::concerns;
 use crate::sites::{first_at, is_all};
@@ -141,7 +141,7 @@ impl Queue {
         ensures fewer { OnOk result (btree_set_len self.new.due < btree_set_len self.old.due) }
     {
         rest(&mut self.waiting, k, b, rule, node)?;
-        self.due.remove(&node);
+        let _ = self.due.remove(&node);
         Ok(())
     }
 
@@ -165,16 +165,23 @@ impl Queue {
         self.put(b, rule, node)
     }
 
-    fn note_edge(&mut self, b: &Branch, rule: Rule, edge: Edge, is_new: bool) -> Result<(), Memory>
-        ensures { OnOk result (NotesEdge (graph_of b.now) rule edge is_new self.old self.new) }
+    // Makes the ends of an edge due where the rule looks at all neighbours.
+    fn meet(&mut self, b: &Branch, rule: Rule, edge: Edge) -> Result<(), Memory>
+        ensures { OnOk result (Meets (graph_of b.now) rule edge self.old self.new) }
     {
         if is_all(rule) {
             self.put(b, rule, edge.from)?;
             self.put(b, rule, edge.to)?;
         }
+        Ok(())
+    }
+
+    fn note_edge(&mut self, b: &Branch, rule: Rule, edge: Edge, is_new: bool) -> Result<(), Memory>
+        ensures { OnOk result (NotesEdge (graph_of b.now) rule edge is_new self.old self.new) }
+    {
+        self.meet(b, rule, edge)?;
         if is_new {
-            self.wake(edge.to)?;
-            self.put(b, rule, edge.to)?;
+            self.note_label(b, rule, edge.to)?;
         }
         Ok(())
     }

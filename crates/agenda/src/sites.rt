@@ -38,7 +38,7 @@ fn site_at(k: &Knowledge, b: &Branch, rule: Rule, node: u64, place: u64) -> Opti
     }
 }
 
-fn is_all(rule: Rule) -> bool
+pub(crate) fn is_all(rule: Rule) -> bool
     ensures { result ≡ is_all rule }
 {
     match rule {

@@ -38,10 +38,3 @@ IsBack k waiting way Finished = ⊥
 IsBack k waiting way (Shut tree) = IsTrue (is_closed k (tree_of tree))
 IsBack k waiting way (Forward step) = ⊥
 IsBack k waiting way (Back step trees before) = IsLast k waiting way step trees (graph_of before)
-
--- a fact where the search takes the first choice of a step
-abbrev pub IfForward : Turn → Type 0 → Type 0
-IfForward Finished P = Unit {0}
-IfForward (Shut tree) P = Unit {0}
-IfForward (Forward step) P = P
-IfForward (Back step trees before) P = Unit {0}

@@ -7,7 +7,7 @@ ghost use Rattle.tableau_rules.specs.Clashes.{is_clash, has_clash};
 ghost use Rattle.tableau_rules.specs.Shown.{graph_of};
 ghost use Rattle.tableau_rules.specs.Trees.{tree_of, closes};
 ghost use Rattle.tableau.specs.Ways.{Leads, reached};
-ghost use Rattle.tableau.specs.Turns.{IsTurn, IsBack, IfForward};
+ghost use Rattle.tableau.specs.Turns.{IsTurn, IsBack};
 
 use crate::way::Taken;
 use agenda::Agenda;
@@ -45,7 +45,7 @@ pub(crate) fn next_turn(
     requires there { IfSome clash (λ c. IsTrue (is_clash (theory_of k.now) (graph_of b.now) c)) }
     requires agenda { IsAgendaOf (theory_of k.now) (graph_of b.now) agenda.old }
     ensures turn { IfOk result (λ t. IsTurn (theory_of k.now) (reached (theory_of k.now) way.old) way.new t) }
-    ensures agenda { IfOk result (λ t. IfForward t (IsAgendaOf (theory_of k.now) (graph_of b.now) agenda.new)) }
+    ensures agenda { IfOk result (λ _. IsAgendaOf (theory_of k.now) (graph_of b.now) agenda.new) }
 {
     match clash {
         Some(found) => back(Closed::Clash(found), way),

@@ -3,6 +3,8 @@ use Rattle.std.proofs.Common.{◌≡◌, ℕ, ◌<◌, false, List, [], length, 
 use Rattle.logic_terms.specs.Theory.{Theory}
 use Rattle.agenda.specs.declared.keeping.Agenda.{Agenda}
 use Rattle.agenda.specs.Agendas.{IsAgendaOf, Follows, IsAfterCalm}
+use Rattle.tableau_rules.specs.declared.branch.Branch.{Branch}
+use Rattle.tableau_rules.specs.Shown.{graph_of}
 use Rattle.tableau_rules.specs.declared.step.Closed.{Closed}
 use Rattle.tableau_rules.specs.declared.step.Step.{Step}
 use Rattle.tableau_rules.specs.Graph.{Graph}
@@ -24,3 +26,7 @@ pub next_agenda : (k : Theory) (s : Searching) (way : List Taken) (step : Step) 
 next_agenda k s way step g h later old new next at is here follows fits =
     follows (reached k way).graph 0 (leads_to_branch k way next.leads) (first_applies k (reached k way).graph step next.choice.first) (here ∙ ap (λ t. t.graph) is)
     (subst (λ f. IsAgendaOf k f old) (at ∙ next.before) fits)
+
+-- equal branches and agendas
+pub moved : (k : Theory) (old new : Branch) (before later : Agenda) → new ≡ old → later ≡ before → IsAgendaOf k (graph_of old) before → IsAgendaOf k (graph_of new) later
+moved k old new before later same again fits = subst (IsAgendaOf k (graph_of new)) (sym again) (subst (λ b. IsAgendaOf k (graph_of b) before) (sym same) fits)

@@ -49,11 +49,16 @@ pub(crate) fn next_turn(
 {
     match clash {
         Some(found) => back(Closed::Clash(found), way),
-        None => match agenda.next(k, b)? {
-            None => Ok(Turn::Finished),
-            Some(step) if choices(b, &step) == 0 => back(Closed::Step(step, List::new(alloc)), way),
-            Some(step) => Ok(Turn::Forward(step)),
-        },
+        None => {
+            let first = agenda.next(k, b)?;
+            match first {
+                None => Ok(Turn::Finished),
+                Some(step) if choices(b, &step) == 0 => {
+                    back(Closed::Step(step, List::new(alloc)), way)
+                }
+                Some(step) => Ok(Turn::Forward(step)),
+            }
+        }
     }
 }
 

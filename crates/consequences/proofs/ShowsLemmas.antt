@@ -76,6 +76,10 @@ all_kept test keep (x ∷ xs) h = go (keep x)
     go true = both (test x) (list_all test (filter keep xs)) (both_left (test x) (list_all test xs) h) (all_kept test keep xs (both_right (test x) (list_all test xs) h))
     go false = all_kept test keep xs (both_right (test x) (list_all test xs) h)
 
+or_true : (a b : Bool) → b ≡ true → (a || b) ≡ true
+or_true true b h = refl
+or_true false b h = h
+
 -- what a branch shows is so in each interpretation that fits it
 module _ (i : Interpretation) (k : Theory) (g : Graph) (f : ℕ → ℕ) (fits : Fits i k g f) (hierarchy : list_all (λ p. holds i (SubPropertyOf p.0 p.1)) k.hierarchy ≡ true) where
   value_fits : (role : Role) (name : WordId) (x : ℕ) (o : Option ℕ) → node_of k name ≡ o → option_map_or (λ y. is_neighbour k g role x y) o false ≡ true → relates i role (f x) (element_of i name) ≡ true
@@ -110,7 +114,3 @@ module _ (i : Interpretation) (k : Theory) (g : Graph) (f : ℕ → ℕ) (fits :
       | inl here ↦ ap (λ b. b || is_in_some i cs (f x)) (shown_fits c x here)
       | inr there ↦ or_true (is_in i c (f x)) (is_in_some i cs (f x)) (some_fits cs x there)
     ]
-
-    or_true : (a b : Bool) → b ≡ true → (a || b) ≡ true
-    or_true true b h = refl
-    or_true false b h = h

@@ -1,5 +1,5 @@
 // The branch to which steps that leave one choice lead.
-ghost use Rattle.std.specs.Prelude.{IfOk, IfSome};
+ghost use Rattle.std.specs.Prelude.{IfOk, IfSome, OnOk};
 ghost use Rattle.logic_terms.specs.Known.{theory_of};
 ghost use Rattle.tableau_rules.specs.Shown.{graph_of};
 ghost use Rattle.consequences.specs.Forced.{IsForced};
@@ -28,12 +28,11 @@ pub(crate) fn forced_branch(
         return Ok(None);
     }
     let first = start(alloc, k)?;
-    let branch = match hunt(alloc, k, &first, MOST_STEPS, true)? {
-        Proposal::Steps(steps) => forced(k, first, steps.as_slice())?,
-        Proposal::Tree(_) => first,
-        Proposal::Nothing => first,
-    };
-    Ok(Some(branch))
+    match hunt(alloc, k, &first, MOST_STEPS, true)? {
+        Proposal::Steps(steps) => Ok(Some(forced(k, first, steps.as_slice())?)),
+        Proposal::Tree(_) => Ok(Some(first)),
+        Proposal::Nothing => Ok(Some(first)),
+    }
 }
 
 // The branch that those of the steps make that apply and leave one choice.
@@ -43,10 +42,18 @@ fn forced(k: &Knowledge, first: Branch, steps: &[(Step, u64)]) -> Result<Branch,
 {
     let mut b = first;
     for taken in steps {
-        let step = taken.0;
-        if applies(k, &b, &step) && choices(&b, &step) == 1 {
-            apply(k, &mut b, &step, 0)?;
-        }
+        take(k, &mut b, &taken.0)?;
     }
     Ok(b)
+}
+
+// Takes a step, if it applies and leaves one choice.
+fn take(k: &Knowledge, b: &mut Branch, step: &Step) -> Result<(), Memory>
+    requires { IsForced (theory_of k.now) (graph_of b.old) }
+    ensures { OnOk result (IsForced (theory_of k.now) (graph_of b.new)) }
+{
+    if !applies(k, b, step) || choices(b, step) != 1 {
+        return Ok(());
+    }
+    apply(k, b, step, 0)
 }

@@ -11,6 +11,7 @@ ghost use Rattle.logic_terms.specs.Names.{names_rise};
 ghost use Rattle.absorb.specs.Absorbed.{IsAbsorbed};
 ghost use Rattle.absorb.specs.Mentioned.{names_in, is_among, are_over};
 ghost use Rattle.owl_eval.specs.Checked.{kept_interp, kept_claims};
+ghost use Rattle.consequences.specs.Known.{theory_in};
 ghost use Rattle.answers.specs.Answered.{IsInAll, IsOutsideSome, IsUnknown};
 ghost use Rattle.answers.specs.Single.{Answered};
 
@@ -65,7 +66,7 @@ pub fn ask_known(
     names: &Names,
     budget: u64,
 ) -> Result<Answers, Memory>
-    requires absorbed { IsAbsorbed (kept_claims kept.now) names.now known.now }
+    requires absorbed { IsAbsorbed (kept_claims kept.now) names.now (theory_in known.now) }
     requires over { IsTrue (are_over names.now (kept_claims kept.now) && list_all (is_among names.now) (names_in (concept_of class.now))) }
     requires plain { IsTrue (are_plain (kept_claims kept.now) && is_plain (concept_of class.now)) }
     ensures yes { IfOk result (λ a. All (IsInAll (kept_claims kept.now) (concept_of class.now)) a.yes) }
@@ -90,7 +91,7 @@ fn all_decided(
     budget: u64,
 ) -> Result<Answers, Memory>
     requires denial { concept_of denial.now ≡ complement (concept_of class.now) }
-    requires absorbed { IsAbsorbed (kept_claims kept.now) names.now known.now }
+    requires absorbed { IsAbsorbed (kept_claims kept.now) names.now (theory_in known.now) }
     requires over { IsTrue (are_over names.now (kept_claims kept.now) && list_all (is_among names.now) (names_in (concept_of class.now))) }
     requires plain { IsTrue (are_plain (kept_claims kept.now) && is_plain (concept_of class.now)) }
     ensures yes { IfOk result (λ a. All (IsInAll (kept_claims kept.now) (concept_of class.now)) a.yes) }
@@ -131,7 +132,7 @@ fn decided(
     name: WordId,
     budget: u64,
 ) -> Result<Asked, Memory>
-    requires absorbed { IsAbsorbed (kept_claims kept.now) names.now known.now }
+    requires absorbed { IsAbsorbed (kept_claims kept.now) names.now (theory_in known.now) }
     requires denial { concept_of denial.now ≡ complement (concept_of class.now) }
     requires over { IsTrue (are_over names.now (kept_claims kept.now) && list_all (is_among names.now) (names_in (concept_of class.now))) }
     requires plain { IsTrue (are_plain (kept_claims kept.now) && is_plain (concept_of class.now)) }

@@ -1,5 +1,7 @@
 -- Each model fits a branch to which steps that leave one choice lead.
 use Rattle.std.proofs.Common.{◌≡◌, ℕ, ◌<◌, true, Some, subst, refl, sym, arith}
+use Rattle.std.proofs.Math.Logic.{∥∥₁_elim}
+use mathlib.Core.Bool.{Bool-set}
 use Rattle.std.specs.Prelude.{IsTrue}
 use Rattle.wiki_base.specs.declared.numbers.WordId.{WordId}
 use Rattle.logic_terms.specs.Concept.{Concept}
@@ -33,12 +35,13 @@ module _ (i : Interpretation) (k : Theory) (is : is_interpretation i ≡ true) (
       (w.2.0, subst (λ choice. Fits i k (after k g s choice) w.2.0) (first_is w.0 (choices g s) w.1 one) w.2.1)
 
 -- what such a branch shows of a name's node each model has
-pub shown_in_each : (k : Theory) (g : Graph) → IsForced k g → (c : Concept) (name : WordId) (x : ℕ) → node_of k name ≡ Some x → shows k g c x ≡ true → HasInEachModel k c name
+pub shown_in_each : (k : Theory) (g : Graph) → ∥ IsForced k g ∥₁ → (c : Concept) (name : WordId) (x : ℕ) → node_of k name ≡ Some x → shows k g c x ≡ true → HasInEachModel k c name
 shown_in_each k g forced c name x at shown i is model =
     let parts : Parts i k = parts_of i k model in
-    let there = forced_fits i k is parts g forced in
-    (is_in-Decides i c (element_of i name)).0
-    (subst (λ e. is_in i c e ≡ true) (there.1.names name x at) (shown_fits i k g there.0 there.1 parts.hierarchy c x shown))
+    let fits : IsForced k g → is_in i c (element_of i name) ≡ true = λ h. (
+      let there = forced_fits i k is parts g h in
+      subst (λ e. is_in i c e ≡ true) (there.1.names name x at) (shown_fits i k g there.0 there.1 parts.hierarchy c x shown)) in
+    (is_in-Decides i c (element_of i name)).0 (∥∥₁_elim forced (Bool-set _ _) fits)
 
 -- a branch that is the first one
 pub forced_start : (k : Theory) (g : Graph) → g ≡ start k → IsForced k g

@@ -70,11 +70,12 @@ module _ (k : Theory) (g : Graph) (x : ℕ) (whole : Class) where
 -- what all items pass those pass that are kept
 all_kept : {X : Type 0} (test keep : X → Bool) (xs : List X) → list_all test xs ≡ true → list_all test (filter keep xs) ≡ true
 all_kept test keep [] h = refl
-all_kept test keep (x ∷ xs) h = go (keep x)
+all_kept test keep (x ∷ xs) h =
+    go (all_kept test keep xs (both_right (test x) (list_all test xs) h)) (keep x)
   where
-    go : (b : Bool) → list_all test (cond b (x ∷ filter keep xs) (filter keep xs)) ≡ true
-    go true = both (test x) (list_all test (filter keep xs)) (both_left (test x) (list_all test xs) h) (all_kept test keep xs (both_right (test x) (list_all test xs) h))
-    go false = all_kept test keep xs (both_right (test x) (list_all test xs) h)
+    go : list_all test (filter keep xs) ≡ true → (b : Bool) → list_all test (cond b (x ∷ filter keep xs) (filter keep xs)) ≡ true
+    go rest true = both (test x) (list_all test (filter keep xs)) (both_left (test x) (list_all test xs) h) rest
+    go rest false = rest
 
 or_true : (a b : Bool) → b ≡ true → (a || b) ≡ true
 or_true true b h = refl

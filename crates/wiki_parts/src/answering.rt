@@ -9,6 +9,7 @@ ghost use Rattle.logic_terms.specs.Plain.{is_plain, are_plain};
 ghost use Rattle.logic_terms.specs.Reading.{IsIn};
 ghost use Rattle.logic_terms.specs.Shown.{concept_of};
 ghost use Rattle.owl_eval.specs.Checked.{kept_interp, kept_claims};
+ghost use Rattle.consequences.specs.Known.{theory_in};
 ghost use Rattle.wiki_base.specs.declared.numbers.WordId.{WordId};
 ghost use Rattle.wiki_parts.specs.Knowledge.{Answer, live_names};
 ghost use Rattle.wiki_parts.specs.Telling.{spelled};
@@ -31,7 +32,7 @@ pub fn answers_of(
     names: &Names,
     budget: u64,
 ) -> Result<Answers, Memory>
-    requires absorbed { IfSome known.now (IsAbsorbed (kept_claims kept.now) names.now) }
+    requires absorbed { IfSome known.now (λ k. IsAbsorbed (kept_claims kept.now) names.now (theory_in k)) }
     requires over { IsTrue (are_over names.now (kept_claims kept.now) && list_all (is_among names.now) (names_in (concept_of class.now))) }
     requires plain { IsTrue (are_plain (kept_claims kept.now) && is_plain (concept_of class.now)) }
     ensures answer { IfOk result (λ a. Answer (kept_claims kept.now) names.now budget (concept_of class.now) a.yes a.unknown) }
@@ -52,7 +53,7 @@ fn asked(
     names: &Names,
     budget: u64,
 ) -> Result<Answers, Memory>
-    requires absorbed { IfSome known.now (IsAbsorbed (kept_claims kept.now) names.now) }
+    requires absorbed { IfSome known.now (λ k. IsAbsorbed (kept_claims kept.now) names.now (theory_in k)) }
     requires over { IsTrue (are_over names.now (kept_claims kept.now) && list_all (is_among names.now) (names_in (concept_of class.now))) }
     requires plain { IsTrue (are_plain (kept_claims kept.now) && is_plain (concept_of class.now)) }
     ensures yes { IfOk result (λ a. All (IsInAll (kept_claims kept.now) (concept_of class.now)) a.yes) }

@@ -5,6 +5,7 @@ ghost use Rattle.articles.specs.declared.article.Article.{Article as TheArticle}
 ghost use Rattle.articles.specs.Articles.{article_of, HasArticle};
 ghost use Rattle.lexicon.specs.Words.{canonical_form_of, forms_of};
 ghost use Rattle.logic_terms.specs.Shown.{concept_of};
+ghost use Rattle.consequences.specs.Known.{theory_in};
 ghost use Rattle.wiki_parts.specs.Faults.{IsFault};
 ghost use Rattle.wiki_parts.specs.Found.{meaning_shown};
 ghost use Rattle.wiki_parts.specs.Holding.{FitsMeaning};
@@ -86,7 +87,7 @@ impl Store {
     // questions of an article.
     fn consequences(&self, names: &Names, senses: &[Sense]) -> Result<Option<Consequences>, Memory>
         requires { names.now ≡ live_names self.now.state.words }
-        ensures { IfOk result (λ known. IfSome known (AbsorbsKnown self.now.state names.now)) }
+        ensures { IfOk result (λ known. IfSome known (λ k. AbsorbsKnown self.now.state names.now (theory_in k))) }
     {
         if !asks(senses) {
             return Ok(None);
@@ -107,7 +108,7 @@ impl Store {
         sense: &Sense,
     ) -> Result<SentenceView, Memory>
         requires names { names.now ≡ live_names self.now.state.words }
-        requires absorbed { IfSome known.now (AbsorbsKnown self.now.state names.now) }
+        requires absorbed { IfSome known.now (λ k. AbsorbsKnown self.now.state names.now (theory_in k)) }
         requires means { Means self.now.state.grammar self.now.state.words sentence.now.tokens (meaning_shown sense.now) }
         requires fits { FitsMeaning sentence.now.status (meaning_shown sense.now) }
         ensures tells { IfOk result (TellsSentence self.now.state sentence.now) }
@@ -130,7 +131,7 @@ impl Store {
         class: &Class,
     ) -> Result<SentenceView, Memory>
         requires names { names.now ≡ live_names self.now.state.words }
-        requires absorbed { IfSome known.now (AbsorbsKnown self.now.state names.now) }
+        requires absorbed { IfSome known.now (λ k. AbsorbsKnown self.now.state names.now (theory_in k)) }
         requires asks { is_question sentence.now.status ≡ true }
         requires means { Means self.now.state.grammar self.now.state.words sentence.now.tokens (asking (concept_of class.now)) }
         ensures tells { IfOk result (TellsSentence self.now.state sentence.now) }

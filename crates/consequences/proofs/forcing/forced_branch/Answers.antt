@@ -9,5 +9,5 @@ forced-requires c = forced_start (theory_of c.args.k.now) (graph_of c.in_ok-firs
 pub returns-in-Tree : goal.returns-in-Tree
 returns-in-Tree c = forced_start (theory_of c.args.k.now) (graph_of c.in_ok-first.first) c.in_ok-first.ensures.exact
 
-pub returns-in-Nothing : goal.returns-in-Nothing
-returns-in-Nothing c = forced_start (theory_of c.args.k.now) (graph_of c.in_ok-first.first) c.in_ok-first.ensures.exact
+pub returns : goal.returns
+returns c = forced_start (theory_of c.args.k.now) (graph_of c.in_ok-first.first) c.in_ok-first.ensures.exact

@@ -26,7 +26,7 @@ is_shown-returns-in-Or t c =
 
 pub is_shown-returns-in-Some : goal.is_shown-returns-in-Some
 is_shown-returns-in-Some t c =
-    shown_some (theory_of c.args.k.now) (graph_of c.args.b.now) c.args.node c.args.class.now c.in-Some.role c.in-Some.inner c.deref-in-Some.result.now c.edges_at.result.now _ c.some_end_is_shown.ensures c.edges_at.ensures c.deref-in-Some.ensures c.in-Some.is
+    shown_some (theory_of c.args.k.now) (graph_of c.args.b.now) c.args.node c.args.class.now c.in-Some.role c.in-Some.inner c.deref.result.now c.edges_at.result.now _ c.some_end_is_shown.ensures c.edges_at.ensures c.deref.ensures c.in-Some.is
 
 pub is_shown-returns-in-Value : goal.is_shown-returns-in-Value
 is_shown-returns-in-Value t c =

@@ -2,6 +2,7 @@ use Rattle.std.proofs.Common.{◌≡◌, List, sym, subst}
 use Rattle.std.specs.Prelude.{IsTrue}
 use Rattle.absorb.specs.Absorbed.{IsAbsorbed}
 use Rattle.absorb.specs.Mentioned.{are_over}
+use Rattle.consequences.specs.Known.{theory_in}
 use Rattle.logic_terms.specs.Concept.{Claim}
 use Rattle.logic_terms.specs.Known.{theory_of}
 use Rattle.logic_terms.specs.Theory.{Theory}
@@ -27,7 +28,7 @@ returns c other knows =
     let known : Knows inside claims =
     subst (Knows inside) (sym c.self.invariant.0.known) (knows_from_known c.self.inside.grammar c.self.inside.lexicon c.self.inside.articles c.self.inside.senses.items c.self.invariant.0.mean) in
     let seen : Knows c.args.self.now.state claims = subst (λ (h : Holding). Knows h.state claims) c.self.view_is known in
-    let absorbed : IsAbsorbed claims c.args.names.now c.in_ok-known.known =
+    let absorbed : IsAbsorbed claims c.args.names.now (theory_in c.in_ok-known.known) =
     subst (IsAbsorbed claims c.args.names.now) (sym c.in_ok-known.ensures)
     (subst (λ (cs : List Claim). IsAbsorbed cs c.args.names.now (theory_of c.in_ok-k.k)) c.axioms.ensures.part c.in_ok-k.ensures.exact) in
-    subst (λ (cs : List Claim). IsAbsorbed cs c.args.names.now c.in_ok-known.known) (knows_one c.args.self.now.state claims other seen knows) absorbed
+    subst (λ (cs : List Claim). IsAbsorbed cs c.args.names.now (theory_in c.in_ok-known.known)) (knows_one c.args.self.now.state claims other seen knows) absorbed

@@ -1,4 +1,5 @@
 use Rattle.std.proofs.Common.{IfOk, sym, subst, ◌∙◌}
+use Rattle.std.proofs.lemmas.Bool.{false≢true}
 use Rattle.std.proofs.lemmas.Result.{IfOk-weaker}
 use Rattle.logic_terms.specs.Reading.{IsModel}
 use Rattle.logic_terms.specs.Shown.{claims_of}
@@ -27,6 +28,6 @@ pub returns-in-Err-clause-not_kept : goal.returns-in-Err-clause-not_kept
 returns-in-Err-clause-not_kept c =
     let kept = kept_interp c.args.kept.now in
     let claims = claims_of c.args.axioms in
-    let no_model : ¬ IsModel kept claims = λ m. c.in-Err.ensures.accepts.1 (subst (λ i. IsModel i claims) (sym (c.in_ok-interp.ensures ∙ c.interp.ensures.part)) m) in
+    let no_model : ¬ IsModel kept claims = λ m. false≢true (c.in-Err.ensures.accepts.1 (subst (λ i. IsModel i claims) (sym (c.in_ok-interp.ensures ∙ c.interp.ensures.part)) m)) in
     IfOk-weaker c.grown_verdict.result (λ v. IfSpent v (λ b. SpendsAll (claims_of c.in-Err.refused.1) c.args.names.now c.args.budget (graph_of b))) (λ v. IfSpent v (λ _. ¬ IsModel kept claims))
     (λ v _. if_spent no_model v) c.grown_verdict.ensures.spent

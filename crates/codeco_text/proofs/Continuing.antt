@@ -66,212 +66,47 @@ ending stand.RuleHead = a_name ∷ arrow_stops
 ending stand.FeatureName = a_name ∷ lexeme.Sign sign.Colon ∷ a_name ∷ stops
 ending stand.FeatureColon = lexeme.Sign sign.Colon ∷ a_name ∷ stops
 ending stand.FeatureValue = a_name ∷ stops
-ending stand.AtomNext = stops
 ending stand.AtomName = a_name ∷ stops
-ending stand.FeatureEnd = stops
 ending (stand.Category p r) = part_end p r
 ending stand.Arrow = arrow_stops
-ending stand.Body = stops
 ending stand.PositionName = lexeme.Variable (codes "A") ∷ stops
 ending stand.BackPattern = lexeme.Sign sign.Plus ∷ a_name ∷ stops
-ending stand.Positives = stops
-ending stand.Negatives = stops
 ending stand.AbsentPattern = lexeme.Sign sign.Plus ∷ a_name ∷ stops
-ending stand.Absents = stops
+ending _ = stops
 
 ending_leads : (s : Stand) → runs s (ending s) ≡ Some stand.Items
-ending_leads stand.Items = refl
-ending_leads stand.LabelName = refl
-ending_leads stand.LabelEnd = refl
-ending_leads stand.RuleHead = refl
-ending_leads stand.FeatureName = refl
-ending_leads stand.FeatureColon = refl
-ending_leads stand.FeatureValue = refl
-ending_leads stand.AtomNext = refl
-ending_leads stand.AtomName = refl
-ending_leads stand.FeatureEnd = refl
-ending_leads stand.Arrow = refl
-ending_leads stand.Body = refl
-ending_leads stand.PositionName = refl
-ending_leads stand.BackPattern = refl
-ending_leads stand.Positives = refl
-ending_leads stand.Negatives = refl
-ending_leads stand.AbsentPattern = refl
-ending_leads stand.Absents = refl
 ending_leads (stand.Category part.Name role.Head) = refl
-ending_leads (stand.Category part.Name role.Preterminal) = refl
-ending_leads (stand.Category part.Name role.Sub) = refl
-ending_leads (stand.Category part.Name role.Forward) = refl
-ending_leads (stand.Category part.Name role.Strong) = refl
-ending_leads (stand.Category part.Name role.Positive) = refl
-ending_leads (stand.Category part.Name role.Negative) = refl
-ending_leads (stand.Category part.Name role.Absent) = refl
 ending_leads (stand.Category part.Named role.Head) = refl
-ending_leads (stand.Category part.Named role.Preterminal) = refl
-ending_leads (stand.Category part.Named role.Sub) = refl
-ending_leads (stand.Category part.Named role.Forward) = refl
-ending_leads (stand.Category part.Named role.Strong) = refl
-ending_leads (stand.Category part.Named role.Positive) = refl
-ending_leads (stand.Category part.Named role.Negative) = refl
-ending_leads (stand.Category part.Named role.Absent) = refl
 ending_leads (stand.Category part.Feature role.Head) = refl
-ending_leads (stand.Category part.Feature role.Preterminal) = refl
-ending_leads (stand.Category part.Feature role.Sub) = refl
-ending_leads (stand.Category part.Feature role.Forward) = refl
-ending_leads (stand.Category part.Feature role.Strong) = refl
-ending_leads (stand.Category part.Feature role.Positive) = refl
-ending_leads (stand.Category part.Feature role.Negative) = refl
-ending_leads (stand.Category part.Feature role.Absent) = refl
 ending_leads (stand.Category part.Colon role.Head) = refl
-ending_leads (stand.Category part.Colon role.Preterminal) = refl
-ending_leads (stand.Category part.Colon role.Sub) = refl
-ending_leads (stand.Category part.Colon role.Forward) = refl
-ending_leads (stand.Category part.Colon role.Strong) = refl
-ending_leads (stand.Category part.Colon role.Positive) = refl
-ending_leads (stand.Category part.Colon role.Negative) = refl
-ending_leads (stand.Category part.Colon role.Absent) = refl
 ending_leads (stand.Category part.Term role.Head) = refl
-ending_leads (stand.Category part.Term role.Preterminal) = refl
-ending_leads (stand.Category part.Term role.Sub) = refl
-ending_leads (stand.Category part.Term role.Forward) = refl
-ending_leads (stand.Category part.Term role.Strong) = refl
-ending_leads (stand.Category part.Term role.Positive) = refl
-ending_leads (stand.Category part.Term role.Negative) = refl
-ending_leads (stand.Category part.Term role.Absent) = refl
 ending_leads (stand.Category part.Taken role.Head) = refl
-ending_leads (stand.Category part.Taken role.Preterminal) = refl
-ending_leads (stand.Category part.Taken role.Sub) = refl
-ending_leads (stand.Category part.Taken role.Forward) = refl
-ending_leads (stand.Category part.Taken role.Strong) = refl
-ending_leads (stand.Category part.Taken role.Positive) = refl
-ending_leads (stand.Category part.Taken role.Negative) = refl
-ending_leads (stand.Category part.Taken role.Absent) = refl
 ending_leads (stand.Category part.Next role.Head) = refl
-ending_leads (stand.Category part.Next role.Preterminal) = refl
-ending_leads (stand.Category part.Next role.Sub) = refl
-ending_leads (stand.Category part.Next role.Forward) = refl
-ending_leads (stand.Category part.Next role.Strong) = refl
-ending_leads (stand.Category part.Next role.Positive) = refl
-ending_leads (stand.Category part.Next role.Negative) = refl
-ending_leads (stand.Category part.Next role.Absent) = refl
 ending_leads (stand.Category part.Whole role.Head) = refl
-ending_leads (stand.Category part.Whole role.Preterminal) = refl
-ending_leads (stand.Category part.Whole role.Sub) = refl
-ending_leads (stand.Category part.Whole role.Forward) = refl
-ending_leads (stand.Category part.Whole role.Strong) = refl
-ending_leads (stand.Category part.Whole role.Positive) = refl
-ending_leads (stand.Category part.Whole role.Negative) = refl
-ending_leads (stand.Category part.Whole role.Absent) = refl
+ending_leads s = refl
 
 ending_symbols : (s : Stand) → list_all is_symbol (ending s) ≡ true
-ending_symbols stand.Items = refl
-ending_symbols stand.LabelName = refl
-ending_symbols stand.LabelEnd = refl
-ending_symbols stand.RuleHead = refl
-ending_symbols stand.FeatureName = refl
-ending_symbols stand.FeatureColon = refl
-ending_symbols stand.FeatureValue = refl
-ending_symbols stand.AtomNext = refl
-ending_symbols stand.AtomName = refl
-ending_symbols stand.FeatureEnd = refl
-ending_symbols stand.Arrow = refl
-ending_symbols stand.Body = refl
-ending_symbols stand.PositionName = refl
-ending_symbols stand.BackPattern = refl
-ending_symbols stand.Positives = refl
-ending_symbols stand.Negatives = refl
-ending_symbols stand.AbsentPattern = refl
-ending_symbols stand.Absents = refl
 ending_symbols (stand.Category part.Name role.Head) = refl
-ending_symbols (stand.Category part.Name role.Preterminal) = refl
-ending_symbols (stand.Category part.Name role.Sub) = refl
-ending_symbols (stand.Category part.Name role.Forward) = refl
-ending_symbols (stand.Category part.Name role.Strong) = refl
-ending_symbols (stand.Category part.Name role.Positive) = refl
-ending_symbols (stand.Category part.Name role.Negative) = refl
-ending_symbols (stand.Category part.Name role.Absent) = refl
 ending_symbols (stand.Category part.Named role.Head) = refl
-ending_symbols (stand.Category part.Named role.Preterminal) = refl
-ending_symbols (stand.Category part.Named role.Sub) = refl
-ending_symbols (stand.Category part.Named role.Forward) = refl
-ending_symbols (stand.Category part.Named role.Strong) = refl
-ending_symbols (stand.Category part.Named role.Positive) = refl
-ending_symbols (stand.Category part.Named role.Negative) = refl
-ending_symbols (stand.Category part.Named role.Absent) = refl
 ending_symbols (stand.Category part.Feature role.Head) = refl
-ending_symbols (stand.Category part.Feature role.Preterminal) = refl
-ending_symbols (stand.Category part.Feature role.Sub) = refl
-ending_symbols (stand.Category part.Feature role.Forward) = refl
-ending_symbols (stand.Category part.Feature role.Strong) = refl
-ending_symbols (stand.Category part.Feature role.Positive) = refl
-ending_symbols (stand.Category part.Feature role.Negative) = refl
-ending_symbols (stand.Category part.Feature role.Absent) = refl
 ending_symbols (stand.Category part.Colon role.Head) = refl
-ending_symbols (stand.Category part.Colon role.Preterminal) = refl
-ending_symbols (stand.Category part.Colon role.Sub) = refl
-ending_symbols (stand.Category part.Colon role.Forward) = refl
-ending_symbols (stand.Category part.Colon role.Strong) = refl
-ending_symbols (stand.Category part.Colon role.Positive) = refl
-ending_symbols (stand.Category part.Colon role.Negative) = refl
-ending_symbols (stand.Category part.Colon role.Absent) = refl
 ending_symbols (stand.Category part.Term role.Head) = refl
-ending_symbols (stand.Category part.Term role.Preterminal) = refl
-ending_symbols (stand.Category part.Term role.Sub) = refl
-ending_symbols (stand.Category part.Term role.Forward) = refl
-ending_symbols (stand.Category part.Term role.Strong) = refl
-ending_symbols (stand.Category part.Term role.Positive) = refl
-ending_symbols (stand.Category part.Term role.Negative) = refl
-ending_symbols (stand.Category part.Term role.Absent) = refl
 ending_symbols (stand.Category part.Taken role.Head) = refl
-ending_symbols (stand.Category part.Taken role.Preterminal) = refl
-ending_symbols (stand.Category part.Taken role.Sub) = refl
-ending_symbols (stand.Category part.Taken role.Forward) = refl
-ending_symbols (stand.Category part.Taken role.Strong) = refl
-ending_symbols (stand.Category part.Taken role.Positive) = refl
-ending_symbols (stand.Category part.Taken role.Negative) = refl
-ending_symbols (stand.Category part.Taken role.Absent) = refl
 ending_symbols (stand.Category part.Next role.Head) = refl
-ending_symbols (stand.Category part.Next role.Preterminal) = refl
-ending_symbols (stand.Category part.Next role.Sub) = refl
-ending_symbols (stand.Category part.Next role.Forward) = refl
-ending_symbols (stand.Category part.Next role.Strong) = refl
-ending_symbols (stand.Category part.Next role.Positive) = refl
-ending_symbols (stand.Category part.Next role.Negative) = refl
-ending_symbols (stand.Category part.Next role.Absent) = refl
 ending_symbols (stand.Category part.Whole role.Head) = refl
-ending_symbols (stand.Category part.Whole role.Preterminal) = refl
-ending_symbols (stand.Category part.Whole role.Sub) = refl
-ending_symbols (stand.Category part.Whole role.Forward) = refl
-ending_symbols (stand.Category part.Whole role.Strong) = refl
-ending_symbols (stand.Category part.Whole role.Positive) = refl
-ending_symbols (stand.Category part.Whole role.Negative) = refl
-ending_symbols (stand.Category part.Whole role.Absent) = refl
+ending_symbols s = refl
 
 -- each with a space before it
 abbrev pub spaced : List Lexeme → List ℕ
 spaced xs = flat_map (λ x. 32 ∷ lexeme_bytes x) xs
 
 space_stops : (x : Lexeme) (rest : List ℕ) → goes_on x (32 ∷ rest) ≡ false
-space_stops (lexeme.Identifier w) rest = refl
-space_stops (lexeme.Variable w) rest = refl
-space_stops (lexeme.Keyword w) rest = refl
-space_stops (lexeme.Label w) rest = refl
-space_stops (lexeme.Kind w) rest = refl
-space_stops (lexeme.Terminal t) rest = refl
 space_stops (lexeme.Sign sign.Weak) rest = refl
-space_stops (lexeme.Sign sign.Minus) rest = refl
-space_stops (lexeme.Sign _) rest = refl
+space_stops x rest = refl
 
 empty_stops : (x : Lexeme) → goes_on x [] ≡ false
-empty_stops (lexeme.Identifier w) = refl
-empty_stops (lexeme.Variable w) = refl
-empty_stops (lexeme.Keyword w) = refl
-empty_stops (lexeme.Label w) = refl
-empty_stops (lexeme.Kind w) = refl
-empty_stops (lexeme.Terminal t) = refl
 empty_stops (lexeme.Sign sign.Weak) = refl
-empty_stops (lexeme.Sign sign.Minus) = refl
-empty_stops (lexeme.Sign _) = refl
+empty_stops x = refl
 
 spaced_stops : (x : Lexeme) (xs : List Lexeme) → goes_on x (spaced xs) ≡ false
 spaced_stops x [] = empty_stops x
@@ -337,8 +172,6 @@ pub record SignFits (b : Builder) (m : Mode) (s : Sign) : Type 0 where
 
 -- what is known of a reading
 abbrev pub Fits : Builder → Mode → Type 0
-Fits b between = Unit {0}
-Fits b comment = Unit {0}
 Fits b (word w) = WordFits b w
 Fits b (terminal t) = TerminalFits b t
 Fits b dash = SignFits b dash sign.Normal
@@ -347,6 +180,7 @@ Fits b tilde = SignFits b tilde sign.Closing
 Fits b tildes = SignFits b tildes sign.Closing
 Fits b slash = SignFits b slash sign.Scope
 Fits b greater = SignFits b greater sign.Weak
+Fits b _ = Unit {0}
 
 abbrev pub FitsAt : Builder × Mode → Type 0
 FitsAt s = Fits s.0 s.1
@@ -358,14 +192,9 @@ behind_fits : (o : Option Builder) (s : Builder × Mode) → behind o ≡ Some s
 behind_fits o s e = let g = behind_some o s e in subst FitsAt g.2 tt
 
 begin_goes : (k : Wanted) (x : ℕ) → may_begin k x ≡ true → may_go_on k (x ∷ []) ≡ true
-begin_goes wanted.Nothing x h = refl
-begin_goes wanted.Item x h = refl
-begin_goes wanted.Identifier x h = refl
-begin_goes wanted.Value x h = refl
 begin_goes wanted.Label x h = h
 begin_goes wanted.Kind x h = h
-begin_goes wanted.Variable x h = refl
-begin_goes wanted.Term x h = refl
+begin_goes k x h = refl
 
 -- a sign begins
 sign_fits : (b : Builder) (m : Mode) (y : Sign) (x : ℕ) (s : Builder × Mode) → begin b x ≡ Some s → front m ≡ x ∷ [] → guard (takes_sign b y) (b, m) ≡ Some s → (SignFits b m y → Fits b m) → FitsAt s

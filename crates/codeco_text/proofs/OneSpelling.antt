@@ -35,14 +35,9 @@ body_plain (x ∷ xs) h = rw (or_parts (is_sign sign.OpenParen x) (begins_patter
 
 term_split : (t u : WrittenTerm) (r s : List Lexeme) → term_lexemes t ++ r ≡ term_lexemes u ++ s → (t ≡ u) × (r ≡ s)
 term_split (term.Atom w) (term.Atom v) r s e = (cc, cc)
-term_split (term.Atom w) (term.Variable v) r s e = absurd cc
-term_split (term.Atom w) (term.Taken v) r s e = absurd cc
-term_split (term.Variable w) (term.Atom v) r s e = absurd cc
 term_split (term.Variable w) (term.Variable v) r s e = (cc, cc)
-term_split (term.Variable w) (term.Taken v) r s e = absurd cc
-term_split (term.Taken w) (term.Atom v) r s e = absurd cc
-term_split (term.Taken w) (term.Variable v) r s e = absurd cc
 term_split (term.Taken w) (term.Taken v) r s e = (cc, cc)
+term_split t u r s e = absurd cc
 
 feat_eq : (f g : WrittenFeat) → f.name ≡ g.name → f.term ≡ g.term → f ≡ g
 feat_eq f g p q = λ i. record { name = p i; term = q i }
@@ -169,15 +164,8 @@ head_or (x ∷ xs) = x
 
 element_first : (e : WrittenElement) (r : List Lexeme) → head_or (element_lexemes e ++ r) ≡ element_head e
 unfolding element_head head_or
-element_first (element.Terminal t) r = refl
-element_first (element.Preterminal c) r = refl
 element_first (element.Sub c) r = ap (λ (xs : List Lexeme). head_or (xs ++ r)) (category_features (lexeme.Identifier c.name) c.feats)
-element_first (element.Position x) r = refl
-element_first element.Opener r = refl
-element_first (element.Forward c) r = refl
-element_first (element.Strong c) r = refl
-element_first (element.Back ps ns) r = refl
-element_first (element.NoBack ps) r = refl
+element_first e r = refl
 
 heads : (e f : WrittenElement) (r s : List Lexeme) → element_lexemes e ++ r ≡ element_lexemes f ++ s → element_head e ≡ element_head f
 heads e f r s q = sym (element_first e r) ∙ ap head_or q ∙ element_first f s
@@ -185,97 +173,19 @@ heads e f r s q = sym (element_first e r) ∙ ap head_or q ∙ element_first f s
 element_split : (a b : WrittenElement) (r s : List Lexeme) → starts_body r ≡ true → starts_body s ≡ true → element_lexemes a ++ r ≡ element_lexemes b ++ s → (a ≡ b) × (r ≡ s)
 unfolding element_head
 element_split (element.Terminal t) (element.Terminal u) r s h k e = (cc, cc)
-element_split (element.Terminal t) (element.Preterminal d) r s h k e = absurd (let f = heads (element.Terminal t) (element.Preterminal d) r s e in cc)
-element_split (element.Terminal t) (element.Sub d) r s h k e = absurd (let f = heads (element.Terminal t) (element.Sub d) r s e in cc)
-element_split (element.Terminal t) (element.Position y) r s h k e = absurd (let f = heads (element.Terminal t) (element.Position y) r s e in cc)
-element_split (element.Terminal t) element.Opener r s h k e = absurd (let f = heads (element.Terminal t) element.Opener r s e in cc)
-element_split (element.Terminal t) (element.Forward d) r s h k e = absurd (let f = heads (element.Terminal t) (element.Forward d) r s e in cc)
-element_split (element.Terminal t) (element.Strong d) r s h k e = absurd (let f = heads (element.Terminal t) (element.Strong d) r s e in cc)
-element_split (element.Terminal t) (element.Back qs ms) r s h k e = absurd (let f = heads (element.Terminal t) (element.Back qs ms) r s e in cc)
-element_split (element.Terminal t) (element.NoBack qs) r s h k e = absurd (let f = heads (element.Terminal t) (element.NoBack qs) r s e in cc)
-element_split (element.Preterminal c) (element.Terminal u) r s h k e = absurd (let f = heads (element.Preterminal c) (element.Terminal u) r s e in cc)
 element_split (element.Preterminal c) (element.Preterminal d) r s h k e = let f = named_split (λ w. lexeme.Kind w) c d r s (body_plain r h) (body_plain s k) (λ w v g. cc) (tail_is e) in (ap (λ (x : WrittenCategory). element.Preterminal x) f.0, f.1)
-element_split (element.Preterminal c) (element.Sub d) r s h k e = absurd (let f = heads (element.Preterminal c) (element.Sub d) r s e in cc)
-element_split (element.Preterminal c) (element.Position y) r s h k e = absurd (let f = heads (element.Preterminal c) (element.Position y) r s e in cc)
-element_split (element.Preterminal c) element.Opener r s h k e = absurd (let f = heads (element.Preterminal c) element.Opener r s e in cc)
-element_split (element.Preterminal c) (element.Forward d) r s h k e = absurd (let f = heads (element.Preterminal c) (element.Forward d) r s e in cc)
-element_split (element.Preterminal c) (element.Strong d) r s h k e = absurd (let f = heads (element.Preterminal c) (element.Strong d) r s e in cc)
-element_split (element.Preterminal c) (element.Back qs ms) r s h k e = absurd (let f = heads (element.Preterminal c) (element.Back qs ms) r s e in cc)
-element_split (element.Preterminal c) (element.NoBack qs) r s h k e = absurd (let f = heads (element.Preterminal c) (element.NoBack qs) r s e in cc)
-element_split (element.Sub c) (element.Terminal u) r s h k e = absurd (let f = heads (element.Sub c) (element.Terminal u) r s e in cc)
-element_split (element.Sub c) (element.Preterminal d) r s h k e = absurd (let f = heads (element.Sub c) (element.Preterminal d) r s e in cc)
 element_split (element.Sub c) (element.Sub d) r s h k e = let f = named_split (λ w. lexeme.Identifier w) c d r s (body_plain r h) (body_plain s k) (λ w v g. cc) e in (ap (λ (x : WrittenCategory). element.Sub x) f.0, f.1)
-element_split (element.Sub c) (element.Position y) r s h k e = absurd (let f = heads (element.Sub c) (element.Position y) r s e in cc)
-element_split (element.Sub c) element.Opener r s h k e = absurd (let f = heads (element.Sub c) element.Opener r s e in cc)
-element_split (element.Sub c) (element.Forward d) r s h k e = absurd (let f = heads (element.Sub c) (element.Forward d) r s e in cc)
-element_split (element.Sub c) (element.Strong d) r s h k e = absurd (let f = heads (element.Sub c) (element.Strong d) r s e in cc)
-element_split (element.Sub c) (element.Back qs ms) r s h k e = absurd (let f = heads (element.Sub c) (element.Back qs ms) r s e in cc)
-element_split (element.Sub c) (element.NoBack qs) r s h k e = absurd (let f = heads (element.Sub c) (element.NoBack qs) r s e in cc)
-element_split (element.Position x) (element.Terminal u) r s h k e = absurd (let f = heads (element.Position x) (element.Terminal u) r s e in cc)
-element_split (element.Position x) (element.Preterminal d) r s h k e = absurd (let f = heads (element.Position x) (element.Preterminal d) r s e in cc)
-element_split (element.Position x) (element.Sub d) r s h k e = absurd (let f = heads (element.Position x) (element.Sub d) r s e in cc)
 element_split (element.Position x) (element.Position y) r s h k e = (cc, cc)
-element_split (element.Position x) element.Opener r s h k e = absurd (let f = heads (element.Position x) element.Opener r s e in cc)
-element_split (element.Position x) (element.Forward d) r s h k e = absurd (let f = heads (element.Position x) (element.Forward d) r s e in cc)
-element_split (element.Position x) (element.Strong d) r s h k e = absurd (let f = heads (element.Position x) (element.Strong d) r s e in cc)
-element_split (element.Position x) (element.Back qs ms) r s h k e = absurd (let f = heads (element.Position x) (element.Back qs ms) r s e in cc)
-element_split (element.Position x) (element.NoBack qs) r s h k e = absurd (let f = heads (element.Position x) (element.NoBack qs) r s e in cc)
-element_split element.Opener (element.Terminal u) r s h k e = absurd (let f = heads element.Opener (element.Terminal u) r s e in cc)
-element_split element.Opener (element.Preterminal d) r s h k e = absurd (let f = heads element.Opener (element.Preterminal d) r s e in cc)
-element_split element.Opener (element.Sub d) r s h k e = absurd (let f = heads element.Opener (element.Sub d) r s e in cc)
-element_split element.Opener (element.Position y) r s h k e = absurd (let f = heads element.Opener (element.Position y) r s e in cc)
 element_split element.Opener element.Opener r s h k e = (refl, cc)
-element_split element.Opener (element.Forward d) r s h k e = absurd (let f = heads element.Opener (element.Forward d) r s e in cc)
-element_split element.Opener (element.Strong d) r s h k e = absurd (let f = heads element.Opener (element.Strong d) r s e in cc)
-element_split element.Opener (element.Back qs ms) r s h k e = absurd (let f = heads element.Opener (element.Back qs ms) r s e in cc)
-element_split element.Opener (element.NoBack qs) r s h k e = absurd (let f = heads element.Opener (element.NoBack qs) r s e in cc)
-element_split (element.Forward c) (element.Terminal u) r s h k e = absurd (let f = heads (element.Forward c) (element.Terminal u) r s e in cc)
-element_split (element.Forward c) (element.Preterminal d) r s h k e = absurd (let f = heads (element.Forward c) (element.Preterminal d) r s e in cc)
-element_split (element.Forward c) (element.Sub d) r s h k e = absurd (let f = heads (element.Forward c) (element.Sub d) r s e in cc)
-element_split (element.Forward c) (element.Position y) r s h k e = absurd (let f = heads (element.Forward c) (element.Position y) r s e in cc)
-element_split (element.Forward c) element.Opener r s h k e = absurd (let f = heads (element.Forward c) element.Opener r s e in cc)
 element_split (element.Forward c) (element.Forward d) r s h k e = let f = named_split (λ w. lexeme.Identifier w) c d r s (body_plain r h) (body_plain s k) (λ w v g. cc) (tail_is e) in (ap (λ (x : WrittenCategory). element.Forward x) f.0, f.1)
-element_split (element.Forward c) (element.Strong d) r s h k e = absurd (let f = heads (element.Forward c) (element.Strong d) r s e in cc)
-element_split (element.Forward c) (element.Back qs ms) r s h k e = absurd (let f = heads (element.Forward c) (element.Back qs ms) r s e in cc)
-element_split (element.Forward c) (element.NoBack qs) r s h k e = absurd (let f = heads (element.Forward c) (element.NoBack qs) r s e in cc)
-element_split (element.Strong c) (element.Terminal u) r s h k e = absurd (let f = heads (element.Strong c) (element.Terminal u) r s e in cc)
-element_split (element.Strong c) (element.Preterminal d) r s h k e = absurd (let f = heads (element.Strong c) (element.Preterminal d) r s e in cc)
-element_split (element.Strong c) (element.Sub d) r s h k e = absurd (let f = heads (element.Strong c) (element.Sub d) r s e in cc)
-element_split (element.Strong c) (element.Position y) r s h k e = absurd (let f = heads (element.Strong c) (element.Position y) r s e in cc)
-element_split (element.Strong c) element.Opener r s h k e = absurd (let f = heads (element.Strong c) element.Opener r s e in cc)
-element_split (element.Strong c) (element.Forward d) r s h k e = absurd (let f = heads (element.Strong c) (element.Forward d) r s e in cc)
 element_split (element.Strong c) (element.Strong d) r s h k e = let f = named_split (λ w. lexeme.Identifier w) c d r s (body_plain r h) (body_plain s k) (λ w v g. cc) (tail_is e) in (ap (λ (x : WrittenCategory). element.Strong x) f.0, f.1)
-element_split (element.Strong c) (element.Back qs ms) r s h k e = absurd (let f = heads (element.Strong c) (element.Back qs ms) r s e in cc)
-element_split (element.Strong c) (element.NoBack qs) r s h k e = absurd (let f = heads (element.Strong c) (element.NoBack qs) r s e in cc)
-element_split (element.Back ps ns) (element.Terminal u) r s h k e = absurd (let f = heads (element.Back ps ns) (element.Terminal u) r s e in cc)
-element_split (element.Back ps ns) (element.Preterminal d) r s h k e = absurd (let f = heads (element.Back ps ns) (element.Preterminal d) r s e in cc)
-element_split (element.Back ps ns) (element.Sub d) r s h k e = absurd (let f = heads (element.Back ps ns) (element.Sub d) r s e in cc)
-element_split (element.Back ps ns) (element.Position y) r s h k e = absurd (let f = heads (element.Back ps ns) (element.Position y) r s e in cc)
-element_split (element.Back ps ns) element.Opener r s h k e = absurd (let f = heads (element.Back ps ns) element.Opener r s e in cc)
-element_split (element.Back ps ns) (element.Forward d) r s h k e = absurd (let f = heads (element.Back ps ns) (element.Forward d) r s e in cc)
-element_split (element.Back ps ns) (element.Strong d) r s h k e = absurd (let f = heads (element.Back ps ns) (element.Strong d) r s e in cc)
 element_split (element.Back ps ns) (element.Back qs ms) r s h k e = back_split ps ns qs ms r s h k (tail_is e)
-element_split (element.Back ps ns) (element.NoBack qs) r s h k e = absurd (let f = heads (element.Back ps ns) (element.NoBack qs) r s e in cc)
-element_split (element.NoBack ps) (element.Terminal u) r s h k e = absurd (let f = heads (element.NoBack ps) (element.Terminal u) r s e in cc)
-element_split (element.NoBack ps) (element.Preterminal d) r s h k e = absurd (let f = heads (element.NoBack ps) (element.Preterminal d) r s e in cc)
-element_split (element.NoBack ps) (element.Sub d) r s h k e = absurd (let f = heads (element.NoBack ps) (element.Sub d) r s e in cc)
-element_split (element.NoBack ps) (element.Position y) r s h k e = absurd (let f = heads (element.NoBack ps) (element.Position y) r s e in cc)
-element_split (element.NoBack ps) element.Opener r s h k e = absurd (let f = heads (element.NoBack ps) element.Opener r s e in cc)
-element_split (element.NoBack ps) (element.Forward d) r s h k e = absurd (let f = heads (element.NoBack ps) (element.Forward d) r s e in cc)
-element_split (element.NoBack ps) (element.Strong d) r s h k e = absurd (let f = heads (element.NoBack ps) (element.Strong d) r s e in cc)
-element_split (element.NoBack ps) (element.Back qs ms) r s h k e = absurd (let f = heads (element.NoBack ps) (element.Back qs ms) r s e in cc)
 element_split (element.NoBack ps) (element.NoBack qs) r s h k e = let f = signed_own sign.Plus ps qs r s refl refl (body_without_plus r h) (body_without_plus s k) (tail_is e) in (ap (λ (x : List WrittenCategory). element.NoBack x) f.0, f.1)
+element_split a b r s h k e = absurd (let f = heads a b r s e in cc)
 
 element_starts : (e : WrittenElement) (rest : List Lexeme) → starts_body (element_lexemes e ++ rest) ≡ true
-element_starts (element.Terminal t) rest = refl
-element_starts (element.Preterminal c) rest = refl
 element_starts (element.Sub c) rest = ap (λ (xs : List Lexeme). starts_body (xs ++ rest)) (category_features (lexeme.Identifier c.name) c.feats)
-element_starts (element.Position x) rest = refl
-element_starts element.Opener rest = refl
-element_starts (element.Forward c) rest = refl
-element_starts (element.Strong c) rest = refl
-element_starts (element.Back ps ns) rest = refl
-element_starts (element.NoBack ps) rest = refl
+element_starts e rest = refl
 
 body_starts : (es : List WrittenElement) (r : List Lexeme) → starts_body (body_lexemes es ++ lexeme.Sign sign.Stop ∷ r) ≡ true
 body_starts [] r = refl
@@ -284,14 +194,7 @@ body_starts (e ∷ es) r = ap starts_body (append_assoc (element_lexemes e) (bod
 no_stop : (e : WrittenElement) → element_head e ≡ lexeme.Sign sign.Stop → ⊥
 unfolding element_head
 no_stop (element.Terminal t) h = cc
-no_stop (element.Preterminal c) h = cc
-no_stop (element.Sub c) h = cc
-no_stop (element.Position x) h = cc
-no_stop element.Opener h = cc
-no_stop (element.Forward c) h = cc
-no_stop (element.Strong c) h = cc
-no_stop (element.Back ps ns) h = cc
-no_stop (element.NoBack ps) h = cc
+no_stop e h = cc
 
 stop_clash : (e : WrittenElement) (es : List WrittenElement) (r s : List Lexeme) → lexeme.Sign sign.Stop ∷ r ≡ body_lexemes (e ∷ es) ++ lexeme.Sign sign.Stop ∷ s → ⊥
 unfolding head_or
@@ -311,9 +214,8 @@ body_split (g ∷ es) (f ∷ fs) r s e =
 
 arrow_split : (a b : Bool) → arrow a ≡ arrow b → a ≡ b
 arrow_split true true e = refl
-arrow_split true false e = absurd cc
-arrow_split false true e = absurd cc
 arrow_split false false e = refl
+arrow_split a b e = absurd cc
 
 arrow_plain : (a : Bool) (r : List Lexeme) → starts_plain (arrow a ∷ r) ≡ true
 arrow_plain true r = refl
@@ -359,29 +261,26 @@ atoms_split a (c ∷ cs) b (d ∷ ds) r s e =
     let one : a ≡ b = let h = head_is (lexeme.Identifier a) (lexeme.Identifier b) _ _ e in cc in
     (ap (λ (x : List ℕ). x ∷ c ∷ cs) one ∙ ap (λ (xs : List (List ℕ)). b ∷ xs) others.0, others.1)
 
-atoms_first : (a : List ℕ) (others : List (List ℕ)) (r : List Lexeme) → (rest : List Lexeme) × (listed (map (λ a. lexeme.Identifier a ∷ []) (a ∷ others)) ++ r ≡ lexeme.Identifier a ∷ rest)
-atoms_first a [] r = (r, refl)
-atoms_first a (b ∷ bs) r = (lexeme.Sign sign.Comma ∷ (listed (map (λ a. lexeme.Identifier a ∷ []) (b ∷ bs)) ++ r), refl)
+domain_head : Domain → Lexeme
+domain_head domain.Words = lexeme.Keyword (codes "word")
+domain_head domain.Positions = lexeme.Keyword (codes "position")
+domain_head (domain.Atoms []) = lexeme.Sign sign.Stop
+domain_head (domain.Atoms (a ∷ others)) = lexeme.Identifier a
+
+domain_first : (d : Domain) (r : List Lexeme) → head_or (domain_lexemes d ++ lexeme.Sign sign.Stop ∷ r) ≡ domain_head d
+unfolding domain_head head_or
+domain_first (domain.Atoms (a ∷ b ∷ bs)) r = refl
+domain_first d r = refl
 
 domain_split : (c d : Domain) (r s : List Lexeme) → domain_lexemes c ++ lexeme.Sign sign.Stop ∷ r ≡ domain_lexemes d ++ lexeme.Sign sign.Stop ∷ s → (c ≡ d) × (r ≡ s)
+unfolding domain_head
 domain_split domain.Words domain.Words r s e = (refl, tail_is (tail_is e))
-domain_split domain.Words domain.Positions r s e = absurd cc
-domain_split domain.Words (domain.Atoms []) r s e = absurd cc
-domain_split domain.Words (domain.Atoms (b ∷ bs)) r s e = absurd (let f = atoms_first b bs (lexeme.Sign sign.Stop ∷ s) in let clash = e ∙ f.1 in cc)
-domain_split domain.Positions domain.Words r s e = absurd cc
 domain_split domain.Positions domain.Positions r s e = (refl, tail_is (tail_is e))
-domain_split domain.Positions (domain.Atoms []) r s e = absurd cc
-domain_split domain.Positions (domain.Atoms (b ∷ bs)) r s e = absurd (let f = atoms_first b bs (lexeme.Sign sign.Stop ∷ s) in let clash = e ∙ f.1 in cc)
-domain_split (domain.Atoms []) domain.Words r s e = absurd cc
-domain_split (domain.Atoms []) domain.Positions r s e = absurd cc
 domain_split (domain.Atoms []) (domain.Atoms []) r s e = (refl, tail_is e)
-domain_split (domain.Atoms []) (domain.Atoms (b ∷ bs)) r s e = absurd (let f = atoms_first b bs (lexeme.Sign sign.Stop ∷ s) in let clash = e ∙ f.1 in cc)
-domain_split (domain.Atoms (a ∷ others)) domain.Words r s e = absurd (let f = atoms_first a others (lexeme.Sign sign.Stop ∷ r) in let clash = sym e ∙ f.1 in cc)
-domain_split (domain.Atoms (a ∷ others)) domain.Positions r s e = absurd (let f = atoms_first a others (lexeme.Sign sign.Stop ∷ r) in let clash = sym e ∙ f.1 in cc)
-domain_split (domain.Atoms (a ∷ others)) (domain.Atoms []) r s e = absurd (let f = atoms_first a others (lexeme.Sign sign.Stop ∷ r) in let clash = sym e ∙ f.1 in cc)
 domain_split (domain.Atoms (a ∷ others)) (domain.Atoms (b ∷ bs)) r s e =
     let all = atoms_split a others b bs r s e in
     (ap (λ (x : List (List ℕ)). domain.Atoms x) all.0, all.1)
+domain_split c d r s e = absurd (let f : domain_head c ≡ domain_head d = sym (domain_first c r) ∙ ap head_or e ∙ domain_first d s in cc)
 
 rule_first : (l : Option (List ℕ)) (c : WrittenCategory) (more : List Lexeme) (r : List Lexeme) → lexeme.Keyword (codes "feature") ∷ r ≡ label_lexemes l ++ (named c ++ more) → ⊥
 rule_first None c more r e = let clash = e ∙ named_first c more in cc

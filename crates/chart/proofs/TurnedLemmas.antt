@@ -21,8 +21,8 @@ use Rattle.codeco_checked.specs.Occurrences.{rule_features, positions}
 use Rattle.codeco_checked.specs.Sound.{is_written_term}
 use Rattle.scopes.specs.declared.entries.Entry.{Entry}
 use Rattle.scopes.specs.declared.entries.Entry.TheVariants as entry
-use Rattle.scopes.specs.declared.tests.Test.{Test}
-use Rattle.scopes.specs.declared.tests.Tests.{Tests}
+use Rattle.scopes.specs.declared.agreement.Test.{Test}
+use Rattle.scopes.specs.declared.agreement.Tests.{Tests}
 use Rattle.scopes.specs.AccessList.{closed, strong_referents, introduced}
 use Rattle.scopes.specs.Resolution.{Finding, finding, finding_at, has_value, agrees, is_agreeing, closest_finding, last_of}
 use Rattle.derivation_trees.specs.Settings.{Setting, matches_terminal, matches_preterminal, has_word, is_value, fits_feature}

@@ -15,8 +15,8 @@ use Rattle.codeco_terms.specs.declared.rules.Rule.{Rule}
 use Rattle.codeco_terms.specs.Values.{same_value}
 use Rattle.scopes.specs.declared.entries.Entry.{Entry}
 use Rattle.scopes.specs.declared.entries.Entry.TheVariants as entry
-use Rattle.scopes.specs.declared.tests.Test.{Test}
-use Rattle.scopes.specs.declared.tests.Tests.{Tests}
+use Rattle.scopes.specs.declared.agreement.Test.{Test}
+use Rattle.scopes.specs.declared.agreement.Tests.{Tests}
 use Rattle.scopes.specs.AccessList.{closed, introduced}
 use Rattle.scopes.specs.Resolution.{finding, finding_at, is_agreeing, closest_finding, last_of}
 use Rattle.derivation_trees.specs.Trees.{Node, Nodes, node, none, more}

@@ -14,7 +14,7 @@ use Rattle.codeco_terms.specs.declared.elements.Element.{Element}
 use Rattle.codeco_terms.specs.declared.elements.Element.TheVariants.{Terminal, Preterminal, Sub, Position, Opener, Forward, Strong, Back, NoBack}
 use Rattle.scopes.specs.declared.entries.Entry.{Entry}
 use Rattle.scopes.specs.declared.entries.Entry.TheVariants as entry
-use Rattle.scopes.specs.declared.tests.Test.{Test}
+use Rattle.scopes.specs.declared.agreement.Test.{Test}
 use Rattle.scopes.specs.AccessList.{introduced}
 use Rattle.scopes.specs.Resolution.{has_value, agrees, Finding, is_agreeing, closest_finding}
 use Rattle.derivation_trees.specs.Settings.{Setting, matches_terminal, matches_preterminal}

@@ -6,7 +6,7 @@ use Rattle.codeco_terms.specs.declared.categories.Ground.{Ground}
 use Rattle.codeco_terms.specs.declared.elements.Element.{Element}
 use Rattle.codeco_terms.specs.declared.elements.Element.TheVariants.{Terminal, Preterminal, Sub, Position, Opener, Forward, Strong, Back, NoBack}
 use Rattle.codeco_terms.specs.declared.rules.Rule.{Rule}
-use Rattle.scopes.specs.declared.tests.Test.{Test}
+use Rattle.scopes.specs.declared.agreement.Test.{Test}
 use Rattle.derivation_trees.specs.Settings.{Setting}
 use Rattle.derivation_trees.specs.Instances.{under, feats_under, own_values, is_instance}
 use Rattle.derivation_trees.specs.Derives.{At, fits, rule_with}

@@ -22,7 +22,7 @@ use Rattle.chart_trees.specs.Outcomes.{IsOutcome, Covers, IsBest}
 use Rattle.chart_trees.specs.declared.table.Best.{Best}
 use Rattle.chart_trees.specs.Tables.{HasBest}
 use Rattle.scopes.specs.declared.entries.Entry.{Entry}
-use Rattle.scopes.specs.declared.tests.Test.{Test}
+use Rattle.scopes.specs.declared.agreement.Test.{Test}
 use Rattle.chart_trees.proofs.OrderLemmas.{lower_less}
 use Rattle.chart_trees.proofs.CodeLemmas.{code_is, sketch_code_is}
 

@@ -88,12 +88,12 @@ value_fits d (Word w) = false
 value_fits d (Pos p) = false
 
 -- a variable, or an atom that is among the values
-abbrev pub term_fits : Declared → Term → Bool
-term_fits d (Val v) = value_fits d v
-term_fits d (Var x) = true
+abbrev pub fits_declared : Declared → Term → Bool
+fits_declared d (Val v) = value_fits d v
+fits_declared d (Var x) = true
 
 abbrev pub has_wrong_atom : GrammarParts → Rule → Bool
-has_wrong_atom g r = list_any (λ f. not (term_fits (values_of g f.0) f.1)) (rule_features r)
+has_wrong_atom g r = list_any (λ f. not (fits_declared (values_of g f.0) f.1)) (rule_features r)
 
 abbrev pub same_variable : Term → Term → Bool
 same_variable (Val v) u = false

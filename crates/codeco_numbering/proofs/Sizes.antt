@@ -8,7 +8,7 @@ use Rattle.codeco_checked.specs.Numbering.{differ}
 use Rattle.codeco_checked.specs.Faults.{count_texts}
 use Rattle.codeco_numbering.specs.Numbered.{gathered}
 use Rattle.codeco_numbering.proofs.Gathers.{gathered_append}
-use Rattle.codeco_numbering.proofs.SoundCounts.{length_gathered_all}
+use Rattle.codeco_numbering.proofs.Sound.Counts.{length_gathered_all}
 
 -- at most each word is gathered
 pub gathered_most : (names ws : List (List ℕ)) → length (gathered names ws) ≤ length names + length ws

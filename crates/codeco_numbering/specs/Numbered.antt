@@ -98,8 +98,8 @@ abbrev pub written_features : WrittenRule → List (List ℕ)
 written_features r = flat_map category_features (r.head ∷ flat_map element_categories r.body)
 
 -- the features: the four first ones, the others that are declared, and those that rules write without a declaration
-abbrev pub features_of : List WrittenItem → List NamedFeature
-features_of items = with_undeclared (with_items (map undeclared first_features) items) (flat_map written_features (rules_of items))
+abbrev pub all_features : List WrittenItem → List NamedFeature
+all_features items = with_undeclared (with_items (map undeclared first_features) items) (flat_map written_features (rules_of items))
 
 abbrev pub domain_atoms : Domain → List (List ℕ)
 domain_atoms domain.Words = []
@@ -208,8 +208,8 @@ element_names features (element.Back ps ns) = flat_map (category_names features)
 element_names features (element.NoBack ps) = flat_map (category_names features) ps
 
 -- the variables of a rule in the order of their first occurrence, the head first
-abbrev pub variables_of : List (List ℕ) → WrittenRule → List (List ℕ)
-variables_of features r = gathered [] (category_names features r.head ++ flat_map (element_names features) r.body)
+abbrev pub variable_names : List (List ℕ) → WrittenRule → List (List ℕ)
+variable_names features r = gathered [] (category_names features r.head ++ flat_map (element_names features) r.body)
 
 -- the label of this name among these
 abbrev pub label_among : List Label → List ℕ → Option Label
@@ -258,7 +258,7 @@ written_terminals (element.NoBack ps) = []
 -- the grammar that declarations and rules make
 abbrev pub numbered_of : List WrittenItem → GrammarParts
 numbered_of items =
-    let features = features_of items in
+    let features = all_features items in
     let rules = rules_of items in
     let names = map (λ f. f.name) features in
     let atoms = atoms_of features in
@@ -269,5 +269,5 @@ numbered_of items =
       atoms = atoms;
       terminals = terminals;
       categories = kinds ++ categories;
-      rules = map (λ r. numbered_rule (record { features = names; atoms = atoms; terminals = terminals; categories = categories; variables = variables_of names r }) r) rules;
+      rules = map (λ r. numbered_rule (record { features = names; atoms = atoms; terminals = terminals; categories = categories; variables = variable_names names r }) r) rules;
     }

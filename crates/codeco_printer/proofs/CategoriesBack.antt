@@ -17,9 +17,9 @@ use Rattle.codeco_checked.specs.Numbering.{counts_up, first_categories, grammar_
 use Rattle.codeco_checked.specs.Sound.{IsSound, ascends, is_empty, is_written, is_written_name, is_written_pattern, is_plain_pattern, is_written_element, is_written_rule}
 use Rattle.codeco_printer.specs.Unnumbered.{name_at, written_pattern, written_element, written_rule}
 use Rattle.codeco_numbering.specs.Numbered.{gathered, plain_categories, rule_names}
-use Rattle.codeco_numbering.proofs.SoundLowered.{lowered, lowered_append, lowered_counts}
+use Rattle.codeco_numbering.proofs.Sound.Lowered.{lowered, lowered_append, lowered_counts}
 use Rattle.wiki_base.proofs.ListLaws.{all_weaken}
-use Rattle.codeco_numbering.proofs.SoundCounts.{counted}
+use Rattle.codeco_numbering.proofs.Sound.Counts.{counted}
 use Rattle.codeco_printer.proofs.Tables.{gathered_counts, begins_take}
 
 -- Names

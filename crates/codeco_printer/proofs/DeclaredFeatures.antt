@@ -21,7 +21,7 @@ use Rattle.codeco_checked.specs.Sound.{IsSound}
 use Rattle.codeco_printer.specs.Unnumbered.{feature_name, letter, written_term, plain_terms, taken_terms, merged, with_names, written_category, written_pattern, written_element, written_rule}
 use Rattle.codeco_numbering.specs.Numbered.{element_categories, category_features, written_features}
 use Rattle.wiki_base.proofs.ListLaws.{all_append, all_split, all_flat, flat_all, all_weaken}
-use Rattle.codeco_numbering.proofs.SoundMentions.{with_taken_all}
+use Rattle.codeco_numbering.proofs.Sound.Mentions.{with_taken_all}
 use Rattle.codeco_printer.proofs.WrittenSound.{merged_all}
 use Rattle.codeco_printer.proofs.SoundNumbers.{feat_below, atom_below, feats_below, all_feats_below}
 use Rattle.codeco_printer.proofs.Tables.{among_at}

@@ -12,7 +12,7 @@ use Rattle.codeco_checked.specs.Occurrences.{put_feature, with_taken, term_varia
 use Rattle.codeco_checked.specs.Sound.{ascends}
 use Rattle.codeco_printer.specs.Unnumbered.{letter, written_term, plain_terms, taken_terms, below, from, merged}
 use Rattle.codeco_numbering.specs.Numbered.{put_in_order, in_order, term_names}
-use Rattle.codeco_numbering.proofs.SoundOrder.{rises}
+use Rattle.codeco_numbering.proofs.Sound.Order.{rises}
 
 pub in_order_rises : (n : ℕ) (xs : List (ℕ × WrittenTerm)) → rises n xs ≡ true → in_order xs ≡ xs
 in_order_rises n [] h = refl

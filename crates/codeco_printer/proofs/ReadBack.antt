@@ -27,12 +27,12 @@ use Rattle.codeco_checked.specs.Faults.{is_double, has_double_declaration, is_ba
 use Rattle.codeco_checked.specs.Sound.{IsSound}
 use Rattle.std.specs.List.{list_any}
 use Rattle.codeco_printer.specs.Unnumbered.{name_at, written_element, written_rule, declaration, written_feature, written_of}
-use Rattle.codeco_numbering.specs.Numbered.{gathered, number_of, NamedFeature, undeclared, is_open, with_declaration, with_item, with_items, with_undeclared, written_features, features_of, feature_atoms, atoms_of, numbered_domain, numbered_feature, item_rules, rules_of, rule_names, written_terminals, variables_of, numbered_rule, numbered_of}
-use Rattle.codeco_numbering.proofs.SoundFeatures.{none_undeclared}
+use Rattle.codeco_numbering.specs.Numbered.{gathered, number_of, NamedFeature, undeclared, is_open, with_declaration, with_item, with_items, with_undeclared, written_features, all_features, feature_atoms, atoms_of, numbered_domain, numbered_feature, item_rules, rules_of, rule_names, written_terminals, variable_names, numbered_rule, numbered_of}
+use Rattle.codeco_numbering.proofs.Sound.Features.{none_undeclared}
 use Rattle.wiki_base.proofs.ListLaws.{all_append, all_flat, all_weaken, all_both}
-use Rattle.codeco_numbering.proofs.SoundCounts.{counted}
+use Rattle.codeco_numbering.proofs.Sound.Counts.{counted}
 use Rattle.codeco_printer.proofs.SoundNumbers.{is_fine, all_fine}
-use Rattle.codeco_numbering.proofs.SoundTables.{same_bytes_refl, differs_comm}
+use Rattle.codeco_numbering.proofs.Sound.Tables.{same_bytes_refl, differs_comm}
 use Rattle.codeco_printer.proofs.Tables.{number_at, gathered_counts, begins_take}
 use Rattle.codeco_printer.proofs.CategoriesBack.{first_kinds, kinds_first, categories_back}
 use Rattle.codeco_printer.proofs.DeclaredFeatures.{features_are_declared}
@@ -231,7 +231,7 @@ names_back g [] = refl
 names_back g (f ∷ fs) = ap (λ (x : List (List ℕ)). f.name ∷ x) (names_back g fs)
 
 -- no rule writes a feature without a declaration
-features_named : (g : GrammarParts) → IsSound g → features_of (written_of g) ≡ map (named_feature g) g.features
+features_named : (g : GrammarParts) → IsSound g → all_features (written_of g) ≡ map (named_feature g) g.features
 features_named g s =
     let named = map (named_feature g) g.features in
     let written = flat_map written_features (map (written_rule g) g.rules) in
@@ -240,11 +240,11 @@ features_named g s =
     ∙ ap (λ (fs : List NamedFeature). with_undeclared fs written) (declared_named g s)
     ∙ none_undeclared named written among
 
-rules_back : (g : GrammarParts) (rs : List Rule) → Differs g → list_all (is_fine g) rs ≡ true → map (λ r. numbered_rule (rule_tables g (variables_of (feature_names g) r)) r) (map (written_rule g) rs) ≡ rs
+rules_back : (g : GrammarParts) (rs : List Rule) → Differs g → list_all (is_fine g) rs ≡ true → map (λ r. numbered_rule (rule_tables g (variable_names (feature_names g) r)) r) (map (written_rule g) rs) ≡ rs
 rules_back g [] d h = refl
 rules_back g (r ∷ rs) d h =
     let parts = and_parts (is_fine g r) (list_all (is_fine g) rs) h in
-    ap (λ (x : Rule). x ∷ map (λ y. numbered_rule (rule_tables g (variables_of (feature_names g) y)) y) (map (written_rule g) rs)) (rule_back g r d parts.0)
+    ap (λ (x : Rule). x ∷ map (λ y. numbered_rule (rule_tables g (variable_names (feature_names g) y)) y) (map (written_rule g) rs)) (rule_back g r d parts.0)
     ∙ ap (λ (x : List Rule). r ∷ x) (rules_back g rs d parts.1)
 
 -- Terminals
@@ -282,7 +282,7 @@ build features names atoms terminals categories rules = record {
   atoms = atoms;
   terminals = terminals;
   categories = kinds ++ categories;
-  rules = map (λ r. numbered_rule (record { features = names; atoms = atoms; terminals = terminals; categories = categories; variables = variables_of names r }) r) rules;
+  rules = map (λ r. numbered_rule (record { features = names; atoms = atoms; terminals = terminals; categories = categories; variables = variable_names names r }) r) rules;
 }
 
 abbrev build_of : List NamedFeature → List WrittenRule → GrammarParts
@@ -309,6 +309,6 @@ numbered_of-written_of g s =
     ∙ ap (λ (xs : List (List ℕ)). build named (feature_names g) xs terminals categories written) (atoms_back g s)
     ∙ ap (λ (xs : List (List ℕ)). build named (feature_names g) g.atoms xs categories written) terminals_are
     ∙ ap (λ (xs : List (List ℕ)). build named (feature_names g) g.atoms g.terminals xs written) (categories_back g s)
-    ∙ ap (λ (fs : List Feature). made (kinds ++ others) fs (map (λ r. numbered_rule (rule_tables g (variables_of (feature_names g) r)) r) written)) features
+    ∙ ap (λ (fs : List Feature). made (kinds ++ others) fs (map (λ r. numbered_rule (rule_tables g (variable_names (feature_names g) r)) r) written)) features
     ∙ ap (made (kinds ++ others) g.features) rules
     ∙ ap (λ (cs : List (List ℕ)). made cs g.features g.rules) (kinds_first g s)

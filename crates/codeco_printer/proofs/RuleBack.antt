@@ -25,9 +25,9 @@ use Rattle.codeco_checked.specs.Numbering.{count_different, differ, variables_co
 use Rattle.codeco_checked.specs.Sound.{ascends, is_empty, is_written, is_written_name, is_written_pattern, is_plain_pattern, is_written_element, is_written_rule, is_written_term}
 use Rattle.codeco_printer.specs.Unnumbered.{name_at, feature_name, letter, written_term, plain_terms, taken_terms, below, from, merged, with_names, written_category, written_pattern, written_element, written_rule}
 use Rattle.codeco_numbering.specs.Labels.{label_name}
-use Rattle.codeco_numbering.specs.Numbered.{number_of, in_order, ordered, category_names, Tables, numbered_term, plain_feats, taken_feats, numbered_category, numbered_preterminal, numbered_pattern, numbered_element, element_names, gathered, variables_of, numbered_label, numbered_rule}
+use Rattle.codeco_numbering.specs.Numbered.{number_of, in_order, ordered, category_names, Tables, numbered_term, plain_feats, taken_feats, numbered_category, numbered_preterminal, numbered_pattern, numbered_element, element_names, gathered, variable_names, numbered_label, numbered_rule}
 use Rattle.wiki_base.proofs.ListLaws.{all_split, all_flat, all_weaken}
-use Rattle.codeco_numbering.proofs.SoundMentions.{with_taken_all}
+use Rattle.codeco_numbering.proofs.Sound.Mentions.{with_taken_all}
 use Rattle.codeco_printer.proofs.WrittenSound.{below_all, from_all, merged_all}
 use Rattle.codeco_printer.proofs.SoundNumbers.{term_fine, feat_fine, category_fine, names_below, feats_below, terminals_below, few_variables, is_fine, positions_fine, mentions_fine}
 use Rattle.codeco_printer.proofs.Tables.{number_at, sixteen, variable_number, gathered_letters}
@@ -373,7 +373,7 @@ option_label_back (Some l) = label_back l
 abbrev pub rule_tables : GrammarParts → List (List ℕ) → Tables
 rule_tables g variables = record { features = feature_names g; atoms = g.atoms; terminals = g.terminals; categories = drop 5 g.categories; variables = variables }
 
-pub rule_back : (g : GrammarParts) (r : Rule) → Differs g → is_fine g r ≡ true → numbered_rule (rule_tables g (variables_of (feature_names g) (written_rule g r))) (written_rule g r) ≡ r
+pub rule_back : (g : GrammarParts) (r : Rule) → Differs g → is_fine g r ≡ true → numbered_rule (rule_tables g (variable_names (feature_names g) (written_rule g r))) (written_rule g r) ≡ r
 rule_back g r d h =
     let k = count_different (rule_variables r) in
     let parts = and_parts (is_written_rule r && (few_variables r && variables_count_up r)) (names_below g r && (feats_below g r && terminals_below g r)) h in
@@ -391,7 +391,7 @@ rule_back g r d h =
     ap (λ (x : List (List ℕ)). x ++ flat_map (element_names (feature_names g)) (map (written_element g) r.body)) (category_letters g k r.head d fines.0 (name_ascends r.head ws.0))
     ∙ ap (λ (x : List (List ℕ)). map letter (category_variables r.head) ++ x) (body_letters g k r.body d ws.1 ms)
     ∙ sym (map-append letter (category_variables r.head) (flat_map element_variables r.body)) in
-    let variables : variables_of (feature_names g) (written_rule g r) ≡ take k sixteen = ap (gathered []) names ∙ gathered_letters k (rule_variables r) most counts.1 in
+    let variables : variable_names (feature_names g) (written_rule g r) ≡ take k sixteen = ap (gathered []) names ∙ gathered_letters k (rule_variables r) most counts.1 in
     let made : Option Label → Category → List Element → Rule = λ l c es. record { label = l; head = c; closing = r.closing; body = es } in
     let label = option_label_back r.label in
     let head = category_back g k r.head d most fines.0 ws.0 in

@@ -21,12 +21,12 @@ use Rattle.codeco_text.proofs.Growth.{same_is}
 use Rattle.codeco_checked.specs.declared.fault.GrammarFault.TheVariants as fault
 use Rattle.codeco_checked.specs.Occurrences.{rule_mentions, rule_features, rule_terminals}
 use Rattle.codeco_checked.specs.Numbering.{has, begins_with, first_categories, declared_atoms, grammar_atoms, grammar_names, grammar_terminals, is_declared}
-use Rattle.codeco_checked.specs.Faults.{at_rule, values_of, term_fits, is_undeclared_rule, is_bad_rule, has_wrong_atom, has_mixed_variable, has_wrong_position, has_double_feature, has_wrong_preterminal, has_double_declaration}
+use Rattle.codeco_checked.specs.Faults.{at_rule, values_of, fits_declared, is_undeclared_rule, is_bad_rule, has_wrong_atom, has_mixed_variable, has_wrong_position, has_double_feature, has_wrong_preterminal, has_double_declaration}
 use Rattle.codeco_checked.specs.Sound.{IsSound}
 use Rattle.codeco_printer.specs.Unnumbered.{name_at, feature_name, letter, letter_byte, value_name}
 use Rattle.codeco_numbering.specs.Labels.{label_name}
-use Rattle.codeco_numbering.proofs.SoundCounts.{counted}
-use Rattle.codeco_numbering.proofs.SoundFaults.{at_no_rule}
+use Rattle.codeco_numbering.proofs.Sound.Counts.{counted}
+use Rattle.codeco_numbering.proofs.Sound.Faults.{at_no_rule}
 use Rattle.wiki_base.proofs.ListLaws.{all_flat, all_weaken, all_both, all_from_none, none_each, all_at}
 
 pub letter_variable : (x : ℕ) → is_variable (letter x) ≡ true
@@ -121,11 +121,11 @@ atoms_named g s =
     all_flat (λ a. is_identifier (name_at g.atoms a)) (λ x. declared_atoms x.declared) g.features
     (all_weaken (λ x. ltb x (length g.atoms)) (λ a. is_identifier (name_at g.atoms a)) (λ a lt. all_at is_identifier g.atoms a [] s.written.atoms (ltb-true a (length g.atoms) lt)) (grammar_atoms g) (counted 7 (length g.atoms) (grammar_atoms g) s.numbered.atoms).1)
 
-term_fits_named : (g : GrammarParts) (f : ℕ) (t : Term) → IsSound g → term_fits (values_of g f) t ≡ true → term_named g t ≡ true
-term_fits_named g f (Val (Atom a)) s h = values_at (λ x. is_identifier (name_at g.atoms x)) g.features f a (atoms_named g s) h
-term_fits_named g f (Val (Word w)) s h = absurd cc
-term_fits_named g f (Val (Pos p)) s h = absurd cc
-term_fits_named g f (Var x) s h = refl
+fits_declared_named : (g : GrammarParts) (f : ℕ) (t : Term) → IsSound g → fits_declared (values_of g f) t ≡ true → term_named g t ≡ true
+fits_declared_named g f (Val (Atom a)) s h = values_at (λ x. is_identifier (name_at g.atoms x)) g.features f a (atoms_named g s) h
+fits_declared_named g f (Val (Word w)) s h = absurd cc
+fits_declared_named g f (Val (Pos p)) s h = absurd cc
+fits_declared_named g f (Var x) s h = refl
 
 pub no_undeclared : (g : GrammarParts) → IsSound g → list_any (is_undeclared_rule g) g.rules ≡ false
 no_undeclared g s = at_no_rule (is_undeclared_rule g) g.rules (λ n h. s.faultless (fault.Undeclared n) h)
@@ -133,29 +133,29 @@ no_undeclared g s = at_no_rule (is_undeclared_rule g) g.rules (λ n h. s.faultle
 pub no_bad : (g : GrammarParts) → IsSound g → list_any (is_bad_rule g) g.rules ≡ false
 no_bad g s = at_no_rule (is_bad_rule g) g.rules (λ n h. s.faultless (fault.BadValue n) (or_right (eqb n 0 && has_double_declaration g) (at_rule (is_bad_rule g) g.rules n) h))
 
-pub not_wrong : (g : GrammarParts) (r : Rule) → is_bad_rule g r ≡ false → list_all (λ f. term_fits (values_of g f.0) f.1) (rule_features r) ≡ true
+pub not_wrong : (g : GrammarParts) (r : Rule) → is_bad_rule g r ≡ false → list_all (λ f. fits_declared (values_of g f.0) f.1) (rule_features r) ≡ true
 not_wrong g r h =
     let a = or_parts (has_wrong_atom g r || has_mixed_variable g r || has_wrong_position g r || has_double_feature r) (has_wrong_preterminal g r) h in
     let b = or_parts (has_wrong_atom g r || has_mixed_variable g r || has_wrong_position g r) (has_double_feature r) a.0 in
     let c = or_parts (has_wrong_atom g r || has_mixed_variable g r) (has_wrong_position g r) b.0 in
     let d = or_parts (has_wrong_atom g r) (has_mixed_variable g r) c.0 in
-    all_from_none (λ f. term_fits (values_of g f.0) f.1) (rule_features r) d.0
+    all_from_none (λ f. fits_declared (values_of g f.0) f.1) (rule_features r) d.0
 
 -- the features that rules write have names
 features_named : (g : GrammarParts) → IsSound g → list_all (λ r. list_all (feat_named g) (rule_features r)) g.rules ≡ true
 features_named g s =
     let named = none_each (is_undeclared_rule g) (λ r. list_all (λ f. is_declared (values_of g f.0)) (rule_features r)) (λ r h. all_from_none (λ f. is_declared (values_of g f.0)) (rule_features r) h) g.rules (no_undeclared g s) in
-    let fits = none_each (is_bad_rule g) (λ r. list_all (λ f. term_fits (values_of g f.0) f.1) (rule_features r)) (not_wrong g) g.rules (no_bad g s) in
+    let fits = none_each (is_bad_rule g) (λ r. list_all (λ f. fits_declared (values_of g f.0) f.1) (rule_features r)) (not_wrong g) g.rules (no_bad g s) in
     let P : Rule → Bool = λ r. list_all (λ f. is_declared (values_of g f.0)) (rule_features r) in
-    let Q : Rule → Bool = λ r. list_all (λ f. term_fits (values_of g f.0) f.1) (rule_features r) in
+    let Q : Rule → Bool = λ r. list_all (λ f. fits_declared (values_of g f.0) f.1) (rule_features r) in
     all_weaken (λ r. P r && Q r) (λ r. list_all (feat_named g) (rule_features r))
     (λ r h.
     let parts = and_parts (P r) (Q r) h in
-    all_weaken (λ f. is_declared (values_of g f.0) && term_fits (values_of g f.0) f.1) (feat_named g)
+    all_weaken (λ f. is_declared (values_of g f.0) && fits_declared (values_of g f.0) f.1) (feat_named g)
     (λ f k.
-    let both = and_parts (is_declared (values_of g f.0)) (term_fits (values_of g f.0) f.1) k in
-    and_from (is_identifier (feature_name g.features f.0)) (term_named g f.1) (declared_named g.features f.0 s.written.features both.0) (term_fits_named g f.0 f.1 s both.1))
-    (rule_features r) (all_both (λ f. is_declared (values_of g f.0)) (λ f. term_fits (values_of g f.0) f.1) (rule_features r) parts.0 parts.1))
+    let both = and_parts (is_declared (values_of g f.0)) (fits_declared (values_of g f.0) f.1) k in
+    and_from (is_identifier (feature_name g.features f.0)) (term_named g f.1) (declared_named g.features f.0 s.written.features both.0) (fits_declared_named g f.0 f.1 s both.1))
+    (rule_features r) (all_both (λ f. is_declared (values_of g f.0)) (λ f. fits_declared (values_of g f.0) f.1) (rule_features r) parts.0 parts.1))
     g.rules (all_both P Q g.rules named fits)
 
 names_named : (g : GrammarParts) → IsSound g → list_all (λ r. list_all (λ c. is_identifier (name_at g.categories c.name)) (rule_mentions r)) g.rules ≡ true

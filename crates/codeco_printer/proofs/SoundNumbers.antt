@@ -17,11 +17,11 @@ use Rattle.codeco_terms.specs.GrammarParts.{GrammarParts}
 use Rattle.codeco_checked.specs.declared.fault.GrammarFault.TheVariants as fault
 use Rattle.codeco_checked.specs.Occurrences.{mentions, rule_mentions, rule_features, term_variables, category_variables, positions, element_variables, rule_variables, rule_terminals}
 use Rattle.codeco_checked.specs.Numbering.{count_different, declared_atoms, grammar_atoms, grammar_names, grammar_terminals, is_declared, variables_count_up}
-use Rattle.codeco_checked.specs.Faults.{at_rule, values_of, term_fits, is_undeclared_rule, is_bad_rule, is_large_rule, has_large_declarations, has_broad_category}
+use Rattle.codeco_checked.specs.Faults.{at_rule, values_of, fits_declared, is_undeclared_rule, is_bad_rule, is_large_rule, has_large_declarations, has_broad_category}
 use Rattle.codeco_checked.specs.Sound.{IsSound, is_written_rule}
-use Rattle.codeco_numbering.proofs.SoundFaults.{at_no_rule}
+use Rattle.codeco_numbering.proofs.Sound.Faults.{at_no_rule}
 use Rattle.wiki_base.proofs.ListLaws.{all_split, all_flat, flat_all, all_weaken, all_both, all_from_none, none_each}
-use Rattle.codeco_numbering.proofs.SoundCounts.{counted}
+use Rattle.codeco_numbering.proofs.Sound.Counts.{counted}
 use Rattle.codeco_printer.proofs.SoundNames.{no_undeclared, no_bad, not_wrong, values_at}
 
 abbrev pub atom_below : GrammarParts → Term → Bool
@@ -54,7 +54,7 @@ declared_below [] f h = absurd cc
 declared_below (x ∷ xs) zero h = omega arith
 declared_below (x ∷ xs) (suc f) h = let rest = declared_below xs f h in omega arith
 
-term_below : (g : GrammarParts) (f : ℕ) (t : Term) → IsSound g → term_fits (values_of g f) t ≡ true → atom_below g t ≡ true
+term_below : (g : GrammarParts) (f : ℕ) (t : Term) → IsSound g → fits_declared (values_of g f) t ≡ true → atom_below g t ≡ true
 term_below g f (Val (Atom a)) s h =
     values_at (λ x. ltb x (length g.atoms)) g.features f a (all_flat (λ x. ltb x (length g.atoms)) (λ x. declared_atoms x.declared) g.features (counted 7 (length g.atoms) (grammar_atoms g) s.numbered.atoms).1) h
 term_below g f (Val (Word w)) s h = absurd cc
@@ -64,17 +64,17 @@ term_below g f (Var x) s h = refl
 pub all_feats_below : (g : GrammarParts) → IsSound g → list_all (feats_below g) g.rules ≡ true
 all_feats_below g s =
     let P : Rule → Bool = λ r. list_all (λ f. is_declared (values_of g f.0)) (rule_features r) in
-    let Q : Rule → Bool = λ r. list_all (λ f. term_fits (values_of g f.0) f.1) (rule_features r) in
+    let Q : Rule → Bool = λ r. list_all (λ f. fits_declared (values_of g f.0) f.1) (rule_features r) in
     let named : list_all P g.rules ≡ true = none_each (is_undeclared_rule g) P (λ r h. all_from_none (λ f. is_declared (values_of g f.0)) (rule_features r) h) g.rules (no_undeclared g s) in
     let fits : list_all Q g.rules ≡ true = none_each (is_bad_rule g) Q (not_wrong g) g.rules (no_bad g s) in
     all_weaken (λ r. P r && Q r) (feats_below g)
     (λ r h.
     let parts = and_parts (P r) (Q r) h in
-    all_weaken (λ f. is_declared (values_of g f.0) && term_fits (values_of g f.0) f.1) (feat_below g)
+    all_weaken (λ f. is_declared (values_of g f.0) && fits_declared (values_of g f.0) f.1) (feat_below g)
     (λ f k.
-    let both = and_parts (is_declared (values_of g f.0)) (term_fits (values_of g f.0) f.1) k in
+    let both = and_parts (is_declared (values_of g f.0)) (fits_declared (values_of g f.0) f.1) k in
     and_from (ltb f.0 (length g.features)) (atom_below g f.1) (lt-ltb f.0 (length g.features) (declared_below g.features f.0 both.0)) (term_below g f.0 f.1 s both.1))
-    (rule_features r) (all_both (λ f. is_declared (values_of g f.0)) (λ f. term_fits (values_of g f.0) f.1) (rule_features r) parts.0 parts.1))
+    (rule_features r) (all_both (λ f. is_declared (values_of g f.0)) (λ f. fits_declared (values_of g f.0) f.1) (rule_features r) parts.0 parts.1))
     g.rules (all_both P Q g.rules named fits)
 
 all_names_below : (g : GrammarParts) → IsSound g → list_all (names_below g) g.rules ≡ true

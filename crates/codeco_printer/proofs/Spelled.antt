@@ -20,7 +20,7 @@ use Rattle.codeco_text.specs.Names.{is_identifier, is_variable, is_terminal, is_
 use Rattle.codeco_text.specs.Notation.{labels, kinds, is_symbol, listed, term_lexemes, category_lexemes, named, signed, element_lexemes, label_lexemes, arrow, body_lexemes, domain_lexemes, item_lexemes, lexemes}
 use Rattle.codeco_printer.specs.Writing.{closed_feats}
 use Rattle.codeco_printer.proofs.WriteLaws.{category_closed}
-use Rattle.codeco_numbering.proofs.SoundSpelled.{term_spelled, feat_spelled, category_spelled, element_spelled, label_spelled, domain_spelled, item_spelled}
+use Rattle.codeco_numbering.proofs.Sound.Spelled.{term_spelled, feat_spelled, category_spelled, element_spelled, label_spelled, domain_spelled, item_spelled}
 use Rattle.wiki_base.proofs.ListLaws.{all_append}
 
 abbrev AreSymbols : List Lexeme → Type 0

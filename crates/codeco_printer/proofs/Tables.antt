@@ -8,8 +8,8 @@ use Rattle.codeco_text.proofs.Growth.{same_is}
 use Rattle.codeco_checked.specs.Numbering.{counts_up, differ, begins_with}
 use Rattle.codeco_printer.specs.Unnumbered.{name_at, letter}
 use Rattle.codeco_numbering.specs.Numbered.{gathered, number_of}
-use Rattle.codeco_numbering.proofs.SoundTables.{same_bytes_refl, differs_comm}
-use Rattle.codeco_numbering.proofs.SoundCounts.{counted}
+use Rattle.codeco_numbering.proofs.Sound.Tables.{same_bytes_refl, differs_comm}
+use Rattle.codeco_numbering.proofs.Sound.Counts.{counted}
 
 -- a name that stands at a place is among the names
 pub among_at : (names : List (List ℕ)) (n : ℕ) → n < length names → is_among names (name_at names n) ≡ true

@@ -7,7 +7,7 @@ mod declarations;
 mod elements;
 mod environment;
 #[cfg(test)]
-mod examples;
+mod tests;
 mod feature_lists;
 mod grammar;
 mod rules;

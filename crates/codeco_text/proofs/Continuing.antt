@@ -9,18 +9,18 @@ use Rattle.codeco_text.specs.declared.symbols.Sign.{Sign}
 use Rattle.codeco_text.specs.declared.symbols.Sign.TheVariants as sign
 use Rattle.codeco_text.specs.declared.symbols.Lexeme.{Lexeme}
 use Rattle.codeco_text.specs.declared.symbols.Lexeme.TheVariants as lexeme
-use Rattle.codeco_text.specs.declared.stand.Role.{Role}
-use Rattle.codeco_text.specs.declared.stand.Role.TheVariants as role
-use Rattle.codeco_text.specs.declared.stand.Part.{Part}
-use Rattle.codeco_text.specs.declared.stand.Part.TheVariants as part
-use Rattle.codeco_text.specs.declared.stand.Stand.{Stand}
-use Rattle.codeco_text.specs.declared.stand.Stand.TheVariants as stand
-use Rattle.codeco_text.specs.declared.stand.Wanted.{Wanted}
-use Rattle.codeco_text.specs.declared.stand.Wanted.TheVariants as wanted
+use Rattle.codeco_text.specs.declared.spot.Role.{Role}
+use Rattle.codeco_text.specs.declared.spot.Role.TheVariants as role
+use Rattle.codeco_text.specs.declared.spot.Part.{Part}
+use Rattle.codeco_text.specs.declared.spot.Part.TheVariants as part
+use Rattle.codeco_text.specs.declared.spot.Spot.{Spot}
+use Rattle.codeco_text.specs.declared.spot.Spot.TheVariants as spot
+use Rattle.codeco_text.specs.declared.spot.Wanted.{Wanted}
+use Rattle.codeco_text.specs.declared.spot.Wanted.TheVariants as wanted
 use Rattle.codeco_text.specs.declared.builder.Builder.{Builder}
 use Rattle.codeco_text.specs.Names.{same_bytes, is_among, is_space, is_lower, is_upper, is_word_byte, is_lower_word, is_identifier, is_variable, is_terminal, is_terminal_byte, ends_well, keywords}
 use Rattle.codeco_text.specs.Notation.{labels, kinds, lexeme_bytes, is_symbol, goes_on, Begins, SpellsFrom}
-use Rattle.codeco_text.specs.Reading.{◌>>=◌, wants, may_begin, may_go_on, is_front_among, next_stand}
+use Rattle.codeco_text.specs.Reading.{◌>>=◌, wants, may_begin, may_go_on, is_front_among, next_spot}
 use Rattle.codeco_text.specs.Building.{push, grow, name_lexeme}
 use Rattle.codeco_text.specs.Scanning.{Mode, between, comment, word, terminal, dash, dashes, tilde, tildes, slash, greater, takes_sign, takes_terminal, guard, behind, single, begin, begin_sign, begin_dash, begin_single, finish, step, if_terminal}
 use Rattle.codeco_text.proofs.Growth.{same_is}
@@ -58,42 +58,42 @@ part_end part.Next r = lexeme.Sign sign.CloseParen ∷ after_end r
 part_end part.Whole r = after_end r
 
 -- symbols that lead from here to between items
-abbrev pub ending : Stand → List Lexeme
-ending stand.Items = []
-ending stand.LabelName = lexeme.Label (codes "no") ∷ lexeme.Sign sign.CloseBrace ∷ a_name ∷ arrow_stops
-ending stand.LabelEnd = lexeme.Sign sign.CloseBrace ∷ a_name ∷ arrow_stops
-ending stand.RuleHead = a_name ∷ arrow_stops
-ending stand.FeatureName = a_name ∷ lexeme.Sign sign.Colon ∷ a_name ∷ stops
-ending stand.FeatureColon = lexeme.Sign sign.Colon ∷ a_name ∷ stops
-ending stand.FeatureValue = a_name ∷ stops
-ending stand.AtomName = a_name ∷ stops
-ending (stand.Category p r) = part_end p r
-ending stand.Arrow = arrow_stops
-ending stand.PositionName = lexeme.Variable (codes "A") ∷ stops
-ending stand.BackPattern = lexeme.Sign sign.Plus ∷ a_name ∷ stops
-ending stand.AbsentPattern = lexeme.Sign sign.Plus ∷ a_name ∷ stops
+abbrev pub ending : Spot → List Lexeme
+ending spot.Items = []
+ending spot.LabelName = lexeme.Label (codes "no") ∷ lexeme.Sign sign.CloseBrace ∷ a_name ∷ arrow_stops
+ending spot.LabelEnd = lexeme.Sign sign.CloseBrace ∷ a_name ∷ arrow_stops
+ending spot.RuleHead = a_name ∷ arrow_stops
+ending spot.FeatureName = a_name ∷ lexeme.Sign sign.Colon ∷ a_name ∷ stops
+ending spot.FeatureColon = lexeme.Sign sign.Colon ∷ a_name ∷ stops
+ending spot.FeatureValue = a_name ∷ stops
+ending spot.AtomName = a_name ∷ stops
+ending (spot.Category p r) = part_end p r
+ending spot.Arrow = arrow_stops
+ending spot.PositionName = lexeme.Variable (codes "A") ∷ stops
+ending spot.BackPattern = lexeme.Sign sign.Plus ∷ a_name ∷ stops
+ending spot.AbsentPattern = lexeme.Sign sign.Plus ∷ a_name ∷ stops
 ending _ = stops
 
-ending_leads : (s : Stand) → runs s (ending s) ≡ Some stand.Items
-ending_leads (stand.Category part.Name role.Head) = refl
-ending_leads (stand.Category part.Named role.Head) = refl
-ending_leads (stand.Category part.Feature role.Head) = refl
-ending_leads (stand.Category part.Colon role.Head) = refl
-ending_leads (stand.Category part.Term role.Head) = refl
-ending_leads (stand.Category part.Taken role.Head) = refl
-ending_leads (stand.Category part.Next role.Head) = refl
-ending_leads (stand.Category part.Whole role.Head) = refl
+ending_leads : (s : Spot) → runs s (ending s) ≡ Some spot.Items
+ending_leads (spot.Category part.Name role.Head) = refl
+ending_leads (spot.Category part.Named role.Head) = refl
+ending_leads (spot.Category part.Feature role.Head) = refl
+ending_leads (spot.Category part.Colon role.Head) = refl
+ending_leads (spot.Category part.Term role.Head) = refl
+ending_leads (spot.Category part.Taken role.Head) = refl
+ending_leads (spot.Category part.Next role.Head) = refl
+ending_leads (spot.Category part.Whole role.Head) = refl
 ending_leads s = refl
 
-ending_symbols : (s : Stand) → list_all is_symbol (ending s) ≡ true
-ending_symbols (stand.Category part.Name role.Head) = refl
-ending_symbols (stand.Category part.Named role.Head) = refl
-ending_symbols (stand.Category part.Feature role.Head) = refl
-ending_symbols (stand.Category part.Colon role.Head) = refl
-ending_symbols (stand.Category part.Term role.Head) = refl
-ending_symbols (stand.Category part.Taken role.Head) = refl
-ending_symbols (stand.Category part.Next role.Head) = refl
-ending_symbols (stand.Category part.Whole role.Head) = refl
+ending_symbols : (s : Spot) → list_all is_symbol (ending s) ≡ true
+ending_symbols (spot.Category part.Name role.Head) = refl
+ending_symbols (spot.Category part.Named role.Head) = refl
+ending_symbols (spot.Category part.Feature role.Head) = refl
+ending_symbols (spot.Category part.Colon role.Head) = refl
+ending_symbols (spot.Category part.Term role.Head) = refl
+ending_symbols (spot.Category part.Taken role.Head) = refl
+ending_symbols (spot.Category part.Next role.Head) = refl
+ending_symbols (spot.Category part.Whole role.Head) = refl
 ending_symbols s = refl
 
 -- each with a space before it
@@ -157,9 +157,9 @@ pub record WordFits (b : Builder) (w : List ℕ) : Type 0 where
   pub first : ℕ
   pub others : List ℕ
   pub parts : w ≡ first ∷ others
-  pub begins : may_begin (wants b.stand) first ≡ true
+  pub begins : may_begin (wants b.spot) first ≡ true
   pub letters : list_all is_word_byte others ≡ true
-  pub going : may_go_on (wants b.stand) w ≡ true
+  pub going : may_go_on (wants b.spot) w ≡ true
 
 pub record TerminalFits (b : Builder) (t : List ℕ) : Type 0 where
   pub reached : reach b between (91 ∷ t) ≡ Some (b, terminal t)
@@ -208,10 +208,10 @@ begin_fits b x s e = elim (chosen (is_space x) (Some (b, between)) _ (Some s) e)
   | inl p ↦ subst FitsAt (some_same (b, between) s p.1) tt
   | inr p ↦ elim (chosen (eqb x 37) (Some (b, comment)) _ (Some s) p.1) [
     | inl q ↦ subst FitsAt (some_same (b, comment) s q.1) tt
-    | inr q ↦ elim (chosen (may_begin (wants b.stand) x) (Some (b, word (x ∷ []))) (begin_sign b x) (Some s) q.1) [
+    | inr q ↦ elim (chosen (may_begin (wants b.spot) x) (Some (b, word (x ∷ []))) (begin_sign b x) (Some s) q.1) [
       | inl r ↦
           let is = some_same (b, word (x ∷ [])) s r.1 in
-          let fits : WordFits b (x ∷ []) = record { reached = reach_one b between x ∙ e ∙ ap Some (sym is); first = x; others = []; parts = refl; begins = r.0; letters = refl; going = begin_goes (wants b.stand) x r.0 } in
+          let fits : WordFits b (x ∷ []) = record { reached = reach_one b between x ∙ e ∙ ap Some (sym is); first = x; others = []; parts = refl; begins = r.0; letters = refl; going = begin_goes (wants b.spot) x r.0 } in
           subst FitsAt is fits
       | inr r ↦ elim (chosen (eqb x 91) (guard (takes_terminal b) (b, terminal [])) _ (Some s) r.1) [
         | inl t ↦
@@ -242,9 +242,9 @@ begin_fits b x s e = elim (chosen (is_space x) (Some (b, between)) _ (Some s) e)
   ]
 ]
 
-word_goes_on : (b : Builder) (w : List ℕ) (x : ℕ) (s : Builder × Mode) → WordFits b w → is_word_byte x ≡ true → step b (word w) x ≡ Some s → guard (may_go_on (wants b.stand) (push w x)) (b, word (push w x)) ≡ Some s → FitsAt s
+word_goes_on : (b : Builder) (w : List ℕ) (x : ℕ) (s : Builder × Mode) → WordFits b w → is_word_byte x ≡ true → step b (word w) x ≡ Some s → guard (may_go_on (wants b.spot) (push w x)) (b, word (push w x)) ≡ Some s → FitsAt s
 word_goes_on b w x s fits letter e g =
-    let h = guard_some (may_go_on (wants b.stand) (push w x)) (b, word (push w x)) s g in
+    let h = guard_some (may_go_on (wants b.spot) (push w x)) (b, word (push w x)) s g in
     let next : WordFits b (push w x) = record {
       reached = reach_push w x b b between (word w) fits.reached ∙ e ∙ ap Some (sym h.1);
       first = fits.first;
@@ -284,7 +284,7 @@ comment_fits false b = tt
 pub step_fits : (b : Builder) (m : Mode) (x : ℕ) (s : Builder × Mode) → Fits b m → step b m x ≡ Some s → FitsAt s
 step_fits b between x s fits e = begin_fits b x s e
 step_fits b comment x s fits e = subst FitsAt (some_same (b, cond (eqb x 10) between comment) s e) (comment_fits (eqb x 10) b)
-step_fits b (word w) x s fits e = elim (chosen (is_word_byte x) (guard (may_go_on (wants b.stand) (push w x)) (b, word (push w x))) (finish b (word w) >>= λ d. begin d x) (Some s) e) [
+step_fits b (word w) x s fits e = elim (chosen (is_word_byte x) (guard (may_go_on (wants b.spot) (push w x)) (b, word (push w x))) (finish b (word w) >>= λ d. begin d x) (Some s) e) [
   | inl p ↦ word_goes_on b w x s fits p.0 e p.1
   | inr p ↦ let f = bind_some (finish b (word w)) (λ d. begin d x) s p.1 in begin_fits f.0 x s f.2
 ]
@@ -340,16 +340,16 @@ no_keyword w = or_from (same_bytes (push w 48) (codes "feature")) _ (no_digit_en
 pub record Completes (b : Builder) (front : List ℕ) : Type 0 where
   pub symbol : Lexeme
   pub more : List ℕ
-  pub next : Stand
+  pub next : Spot
   pub bytes : lexeme_bytes symbol ≡ front ++ more
   pub whole : is_symbol symbol ≡ true
-  pub stands : next_stand b.stand symbol ≡ Some next
+  pub stands : next_spot b.spot symbol ≡ Some next
 
-completes_by : (b : Builder) (front : List ℕ) (x : Lexeme) (more : List ℕ) → lexeme_bytes x ≡ front ++ more → is_symbol x ≡ true → is_some (next_stand b.stand x) ≡ true → Completes b front
+completes_by : (b : Builder) (front : List ℕ) (x : Lexeme) (more : List ℕ) → lexeme_bytes x ≡ front ++ more → is_symbol x ≡ true → is_some (next_spot b.spot x) ≡ true → Completes b front
 completes_by b front x more bytes whole stands =
-    let next = there (next_stand b.stand x) stands in
+    let next = there (next_spot b.spot x) stands in
     record { symbol = x; more = more; next = next.0; bytes = bytes; whole = whole; stands = next.1 } where
-      there : (o : Option Stand) → is_some o ≡ true → (t : Stand) × (o ≡ Some t)
+      there : (o : Option Spot) → is_some o ≡ true → (t : Spot) × (o ≡ Some t)
       there None h = absurd cc
       there (Some t) h = (t, refl)
 
@@ -360,27 +360,27 @@ name_ends (x ∷ xs) h =
     let letters : list_all is_word_byte (push xs 48) ≡ true = list_all-append is_word_byte xs (48 ∷ []) ∙ and_from (list_all is_word_byte xs) true parts.1 refl in
     and_from (is_lower x && list_all is_word_byte (push xs 48)) _ (and_from (is_lower x) _ parts.0 letters) (not_from_false (is_among keywords (push (x ∷ xs) 48)) (no_keyword (x ∷ xs)))
 
-name_completes : (b : Builder) (w : List ℕ) (fits : WordFits b w) → wants_names (wants b.stand) ≡ true → is_lower fits.first ≡ true → Completes b w
+name_completes : (b : Builder) (w : List ℕ) (fits : WordFits b w) → wants_names (wants b.spot) ≡ true → is_lower fits.first ≡ true → Completes b w
 name_completes b w fits wanted lower =
     let low : is_lower_word w ≡ true = ap is_lower_word fits.parts ∙ and_from (is_lower fits.first) _ lower fits.letters in
-    completes_by b w (lexeme.Identifier (push w 48)) (48 ∷ []) refl (name_ends w low) (name_next b.stand (push w 48) wanted)
+    completes_by b w (lexeme.Identifier (push w 48)) (48 ∷ []) refl (name_ends w low) (name_next b.spot (push w 48) wanted)
 
-variable_completes : (b : Builder) (w : List ℕ) (fits : WordFits b w) → wants_variables (wants b.stand) ≡ true → is_upper fits.first ≡ true → Completes b w
+variable_completes : (b : Builder) (w : List ℕ) (fits : WordFits b w) → wants_variables (wants b.spot) ≡ true → is_upper fits.first ≡ true → Completes b w
 variable_completes b w fits wanted upper =
     let whole : is_variable w ≡ true = ap is_variable fits.parts ∙ and_from (is_upper fits.first) _ upper fits.letters in
-    completes_by b w (lexeme.Variable w) [] (sym (append-nil w)) whole (variable_next b.stand w wanted)
+    completes_by b w (lexeme.Variable w) [] (sym (append-nil w)) whole (variable_next b.spot w wanted)
 
-word_completes : (k : Wanted) (b : Builder) (w : List ℕ) → wants b.stand ≡ k → WordFits b w → Completes b w
+word_completes : (k : Wanted) (b : Builder) (w : List ℕ) → wants b.spot ≡ k → WordFits b w → Completes b w
 word_completes wanted.Nothing b w e fits = absurd (both_ways (may_begin wanted.Nothing fits.first) refl (ap (λ (k : Wanted). may_begin k fits.first) (sym e) ∙ fits.begins))
 word_completes wanted.Item b w e fits = name_completes b w fits (ap wants_names e) (ap (λ (k : Wanted). may_begin k fits.first) (sym e) ∙ fits.begins)
 word_completes wanted.Identifier b w e fits = name_completes b w fits (ap wants_names e) (ap (λ (k : Wanted). may_begin k fits.first) (sym e) ∙ fits.begins)
 word_completes wanted.Value b w e fits = name_completes b w fits (ap wants_names e) (ap (λ (k : Wanted). may_begin k fits.first) (sym e) ∙ fits.begins)
 word_completes wanted.Label b w e fits =
     let rest = front_among labels w (ap (λ (k : Wanted). may_go_on k w) (sym e) ∙ fits.going) in
-    completes_by b w (lexeme.Label (w ++ rest.0)) rest.0 refl rest.1 (label_next b.stand (w ++ rest.0) e)
+    completes_by b w (lexeme.Label (w ++ rest.0)) rest.0 refl rest.1 (label_next b.spot (w ++ rest.0) e)
 word_completes wanted.Kind b w e fits =
     let rest = front_among kinds w (ap (λ (k : Wanted). may_go_on k w) (sym e) ∙ fits.going) in
-    completes_by b w (lexeme.Kind (w ++ rest.0)) rest.0 refl rest.1 (kind_next b.stand (w ++ rest.0) e)
+    completes_by b w (lexeme.Kind (w ++ rest.0)) rest.0 refl rest.1 (kind_next b.spot (w ++ rest.0) e)
 word_completes wanted.Variable b w e fits = variable_completes b w fits (ap wants_variables e) (ap (λ (k : Wanted). may_begin k fits.first) (sym e) ∙ fits.begins)
 word_completes wanted.Term b w e fits = elim (or_cases (is_upper fits.first) (is_lower fits.first) (ap (λ (k : Wanted). may_begin k fits.first) (sym e) ∙ fits.begins)) [
   | inl u ↦ variable_completes b w fits (ap wants_variables e) u
@@ -402,7 +402,7 @@ terminal_completes : (b : Builder) (t : List ℕ) → TerminalFits b t → Compl
 terminal_completes b t fits = completes_by b (91 ∷ t) (lexeme.Terminal (push t 120)) (120 ∷ 93 ∷ []) (ap (λ (v : List ℕ). 91 ∷ v) (append_assoc t (120 ∷ []) (93 ∷ []))) (ends_by_letter t fits.bytes) fits.takes
 
 -- a reading that is in a symbol goes on by what completes it
-behind_symbol : (b : Builder) (m : Mode) → reach b between (front m) ≡ Some (b, m) → Completes b (front m) → (more : List ℕ) × (d : Builder) × (final b m more ≡ Some d) × (d.stand ≡ stand.Items)
+behind_symbol : (b : Builder) (m : Mode) → reach b between (front m) ≡ Some (b, m) → Completes b (front m) → (more : List ℕ) × (d : Builder) × (final b m more ≡ Some d) × (d.spot ≡ spot.Items)
 behind_symbol b m reached c =
     let rest = spaced (ending c.next) in
     let begins : Begins false (front m ++ (c.more ++ rest)) c.symbol rest = record {
@@ -413,23 +413,23 @@ behind_symbol b m reached c =
       parts = sym (append_assoc (front m) c.more rest) ∙ ap (λ (v : List ℕ). v ++ rest) (sym c.bytes);
     } in
     let spells : SpellsFrom false (front m ++ (c.more ++ rest)) (c.symbol ∷ ending c.next) = (rest, begins, spaced_spells (ending c.next) (ending_symbols c.next)) in
-    let leads : runs b.stand (c.symbol ∷ ending c.next) ≡ Some stand.Items = ap (λ (o : Option Stand). o >>= λ t. runs t (ending c.next)) c.stands ∙ ending_leads c.next in
-    let end = spelled_final (c.symbol ∷ ending c.next) (front m ++ (c.more ++ rest)) false b stand.Items spells leads in
+    let leads : runs b.spot (c.symbol ∷ ending c.next) ≡ Some spot.Items = ap (λ (o : Option Spot). o >>= λ t. runs t (ending c.next)) c.stands ∙ ending_leads c.next in
+    let end = spelled_final (c.symbol ∷ ending c.next) (front m ++ (c.more ++ rest)) false b spot.Items spells leads in
     let here : final b between (front m ++ (c.more ++ rest)) ≡ final b m (c.more ++ rest) = reach_final (front m) (c.more ++ rest) b between ∙ ap (λ (o : Option (Builder × Mode)). o >>= λ s. final s.0 s.1 (c.more ++ rest)) reached in
     (c.more ++ rest, end.0, sym here ∙ end.1, end.2)
 
-sign_behind : (b : Builder) (m : Mode) (y : Sign) (more : List ℕ) → lexeme_bytes (lexeme.Sign y) ≡ front m ++ more → SignFits b m y → (more : List ℕ) × (d : Builder) × (final b m more ≡ Some d) × (d.stand ≡ stand.Items)
+sign_behind : (b : Builder) (m : Mode) (y : Sign) (more : List ℕ) → lexeme_bytes (lexeme.Sign y) ≡ front m ++ more → SignFits b m y → (more : List ℕ) × (d : Builder) × (final b m more ≡ Some d) × (d.spot ≡ spot.Items)
 sign_behind b m y more bytes fits = behind_symbol b m fits.reached (completes_by b (front m) (lexeme.Sign y) more bytes refl fits.takes)
 
 -- every reading goes on to between items
-pub continuation : (b : Builder) (m : Mode) → Fits b m → (more : List ℕ) × (d : Builder) × (final b m more ≡ Some d) × (d.stand ≡ stand.Items)
+pub continuation : (b : Builder) (m : Mode) → Fits b m → (more : List ℕ) × (d : Builder) × (final b m more ≡ Some d) × (d.spot ≡ spot.Items)
 continuation b between fits =
-    let end = spelled_final (ending b.stand) (spaced (ending b.stand)) false b stand.Items (spaced_spells (ending b.stand) (ending_symbols b.stand)) (ending_leads b.stand) in
-    (spaced (ending b.stand), end.0, end.1, end.2)
+    let end = spelled_final (ending b.spot) (spaced (ending b.spot)) false b spot.Items (spaced_spells (ending b.spot) (ending_symbols b.spot)) (ending_leads b.spot) in
+    (spaced (ending b.spot), end.0, end.1, end.2)
 continuation b comment fits =
-    let end = spelled_final (ending b.stand) (spaced (ending b.stand)) false b stand.Items (spaced_spells (ending b.stand) (ending_symbols b.stand)) (ending_leads b.stand) in
-    (10 ∷ spaced (ending b.stand), end.0, end.1, end.2)
-continuation b (word w) fits = behind_symbol b (word w) fits.reached (word_completes (wants b.stand) b w refl fits)
+    let end = spelled_final (ending b.spot) (spaced (ending b.spot)) false b spot.Items (spaced_spells (ending b.spot) (ending_symbols b.spot)) (ending_leads b.spot) in
+    (10 ∷ spaced (ending b.spot), end.0, end.1, end.2)
+continuation b (word w) fits = behind_symbol b (word w) fits.reached (word_completes (wants b.spot) b w refl fits)
 continuation b (terminal t) fits = behind_symbol b (terminal t) fits.reached (terminal_completes b t fits)
 continuation b dash fits = sign_behind b dash sign.Normal (45 ∷ 62 ∷ []) refl fits
 continuation b dashes fits = sign_behind b dashes sign.Normal (62 ∷ []) refl fits

@@ -5,8 +5,8 @@ use Rattle.std.specs.Prelude.{IfOk, IfErr}
 use Rattle.std.proofs.lemmas.List.{append-nil, take_at}
 use Rattle.std.proofs.lemmas.Bool.{cases_Bool}
 use Rattle.codeco_text.specs.declared.symbols.Lexeme.{Lexeme}
-use Rattle.codeco_text.specs.declared.stand.Stand.{Stand}
-use Rattle.codeco_text.specs.declared.stand.Stand.TheVariants as stand
+use Rattle.codeco_text.specs.declared.spot.Spot.{Spot}
+use Rattle.codeco_text.specs.declared.spot.Spot.TheVariants as spot
 use Rattle.codeco_text.specs.declared.written.WrittenItem.{WrittenItem}
 use Rattle.codeco_text.specs.declared.builder.Builder.{Builder}
 use Rattle.codeco_text.specs.declared.syntax_fault.SyntaxFault.{SyntaxFault}
@@ -23,22 +23,22 @@ use Rattle.codeco_text.proofs.Complete.{spelled_final}
 use Rattle.codeco_text.proofs.OneSpelling.{lexemes_same}
 use Rattle.codeco_text.proofs.Continuing.{Fits, reach, reach_final, reach_fits, continuation}
 
-items_stand : (s : Stand) → is_between_items s ≡ true → s ≡ stand.Items
-items_stand stand.Items h = refl
-items_stand _ h = absurd cc
+items_spot : (s : Spot) → is_between_items s ≡ true → s ≡ spot.Items
+items_spot spot.Items h = refl
+items_spot _ h = absurd cc
 
 -- a reading that ends between items
 pub record EndsBetween (b : Builder) (m : Mode) (text : List ℕ) (items : List WrittenItem) : Type 0 where
   pub last : Builder
   pub taken : final b m text ≡ Some last
-  pub stands : last.stand ≡ stand.Items
+  pub stands : last.spot ≡ spot.Items
   pub has : last.items ≡ items
 
 ended_ends : (b : Builder) (m : Mode) (items : List WrittenItem) → ended b m ≡ Some items → EndsBetween b m [] items
 ended_ends b m items e =
-    let c = bind_some (finish b m) (λ c. guard (is_between_items c.stand) c.items) items e in
-    let g = guard_some (is_between_items c.0.stand) c.0.items items c.2 in
-    record { last = c.0; taken = c.1; stands = items_stand c.0.stand g.0; has = g.1 }
+    let c = bind_some (finish b m) (λ c. guard (is_between_items c.spot) c.items) items e in
+    let g = guard_some (is_between_items c.0.spot) c.0.items items c.2 in
+    record { last = c.0; taken = c.1; stands = items_spot c.0.spot g.0; has = g.1 }
 
 place_ok : (o : Option (List WrittenItem)) (n : ℕ) (items : List WrittenItem) → ok_or_place o n ≡ Ok items → o ≡ Some items
 place_ok None n items e = absurd cc
@@ -59,21 +59,21 @@ reading_ok (x ∷ xs) b m n items e =
 pub ends_spelling : (text : List ℕ) (items : List WrittenItem) → EndsBetween fresh between text items → IsSpelling text items
 ends_spelling text items e =
     let s = final_spelled text fresh e.last between e.taken in
-    let symbols : lexemes items ≡ s.symbols = sym (ap lexemes e.has) ∙ sym (ap (λ (t : Stand). so_far_at t e.last) e.stands) ∙ s.grows in
-    let leads : runs stand.Items (lexemes items) ≡ Some stand.Items = ap (runs stand.Items) symbols ∙ s.leads ∙ ap (λ (t : Stand). Some t) e.stands in
+    let symbols : lexemes items ≡ s.symbols = sym (ap lexemes e.has) ∙ sym (ap (λ (t : Spot). so_far_at t e.last) e.stands) ∙ s.grows in
+    let leads : runs spot.Items (lexemes items) ≡ Some spot.Items = ap (runs spot.Items) symbols ∙ s.leads ∙ ap (λ (t : Spot). Some t) e.stands in
     record {
       fits = fits_from (list_all item_fits items) (sym (items_run items) ∙ leads);
       spells = subst (λ (xs : List Lexeme). SpellsFrom false text xs) (sym symbols) s.spells;
     } where
-      fits_from : (t : Bool) → only_if t (Some stand.Items) ≡ Some stand.Items → t ≡ true
+      fits_from : (t : Bool) → only_if t (Some spot.Items) ≡ Some spot.Items → t ≡ true
       fits_from true h = refl
       fits_from false h = absurd cc
 
 -- what is spelled is taken
-pub spelling_ends : (text : List ℕ) (items : List WrittenItem) → IsSpelling text items → (d : Builder) × (final fresh between text ≡ Some d) × (d.stand ≡ stand.Items) × (so_far d ≡ lexemes items)
+pub spelling_ends : (text : List ℕ) (items : List WrittenItem) → IsSpelling text items → (d : Builder) × (final fresh between text ≡ Some d) × (d.spot ≡ spot.Items) × (so_far d ≡ lexemes items)
 spelling_ends text items s =
-    let leads : runs stand.Items (lexemes items) ≡ Some stand.Items = items_run items ∙ ap (λ (t : Bool). only_if t (Some stand.Items)) s.fits in
-    spelled_final (lexemes items) text false fresh stand.Items s.spells leads
+    let leads : runs spot.Items (lexemes items) ≡ Some spot.Items = items_run items ∙ ap (λ (t : Bool). only_if t (Some spot.Items)) s.fits in
+    spelled_final (lexemes items) text false fresh spot.Items s.spells leads
 
 -- where a reading stops
 pub record Stops (b : Builder) (m : Mode) (text : List ℕ) (n place : ℕ) : Type 0 where
@@ -135,8 +135,8 @@ open_end front c k reached stops sentence =
     ∙ reach_final front [] fresh between
     ∙ ap (λ (o : Option (Builder × Mode)). o >>= λ s. final s.0 s.1 []) reached in
     let whole : ended c k ≡ Some d.0.items =
-    ap (λ (o : Option Builder). o >>= λ c. guard (is_between_items c.stand) c.items) (sym here ∙ d.1)
-    ∙ ap (λ (s : Stand). guard (is_between_items s) d.0.items) d.2 in
+    ap (λ (o : Option Builder). o >>= λ c. guard (is_between_items c.spot) c.items) (sym here ∙ d.1)
+    ∙ ap (λ (s : Spot). guard (is_between_items s) d.0.items) d.2 in
     clash (ended c k) d.0.items stops whole where
       clash : (o : Option (List WrittenItem)) (items : List WrittenItem) → o ≡ None → o ≡ Some items → ⊥
       clash o items p q = cc
@@ -191,12 +191,12 @@ is_fault text (Ok items) h = tt
 is_fault text (Err (fault.At place)) h = stops_fault text place (reading_err text fresh between 0 place h)
 is_fault text (Err fault.Memory) h = tt
 
-place_some : (b : Builder) (m : Mode) (d : Builder) (n : ℕ) → finish b m ≡ Some d → d.stand ≡ stand.Items → ok_or_place (ended b m) n ≡ Ok d.items
+place_some : (b : Builder) (m : Mode) (d : Builder) (n : ℕ) → finish b m ≡ Some d → d.spot ≡ spot.Items → ok_or_place (ended b m) n ≡ Ok d.items
 place_some b m d n e f =
-    ap (λ (o : Option Builder). ok_or_place (o >>= λ c. guard (is_between_items c.stand) c.items) n) e
-    ∙ ap (λ (s : Stand). ok_or_place (guard (is_between_items s) d.items) n) f
+    ap (λ (o : Option Builder). ok_or_place (o >>= λ c. guard (is_between_items c.spot) c.items) n) e
+    ∙ ap (λ (s : Spot). ok_or_place (guard (is_between_items s) d.items) n) f
 
-reading_from : (text : List ℕ) (b : Builder) (m : Mode) (n : ℕ) (d : Builder) → final b m text ≡ Some d → d.stand ≡ stand.Items → reading b m text n ≡ Ok d.items
+reading_from : (text : List ℕ) (b : Builder) (m : Mode) (n : ℕ) (d : Builder) → final b m text ≡ Some d → d.spot ≡ spot.Items → reading b m text n ≡ Ok d.items
 reading_from [] b m n d e f = place_some b m d n e f
 reading_from (x ∷ xs) b m n d e f =
     let s = bind_some (step b m x) (λ s. final s.0 s.1 xs) d e in
@@ -206,7 +206,7 @@ reading_from (x ∷ xs) b m n d e f =
 spelling_read : (text : List ℕ) (items : List WrittenItem) → IsSpelling text items → reading fresh between text 0 ≡ Ok items
 spelling_read text items s =
     let d = spelling_ends text items s in
-    let same : d.0.items ≡ items = lexemes_same d.0.items items (sym (ap (λ (t : Stand). so_far_at t d.0) d.2) ∙ d.3) in
+    let same : d.0.items ≡ items = lexemes_same d.0.items items (sym (ap (λ (t : Spot). so_far_at t d.0) d.2) ∙ d.3) in
     reading_from text fresh between 0 d.0 d.1 d.2 ∙ ap (λ (x : List WrittenItem). Ok x) same
 
 pub is_only : (text : List ℕ) (r : Result (List WrittenItem) SyntaxFault) → Reads r (reading fresh between text 0) → (items : List WrittenItem) → IsSpelling text items → Finds items r

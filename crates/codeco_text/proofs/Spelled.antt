@@ -7,22 +7,22 @@ use Rattle.codeco_text.specs.declared.symbols.Sign.{Sign}
 use Rattle.codeco_text.specs.declared.symbols.Sign.TheVariants as sign
 use Rattle.codeco_text.specs.declared.symbols.Lexeme.{Lexeme}
 use Rattle.codeco_text.specs.declared.symbols.Lexeme.TheVariants as lexeme
-use Rattle.codeco_text.specs.declared.stand.Role.{Role}
-use Rattle.codeco_text.specs.declared.stand.Role.TheVariants as role
-use Rattle.codeco_text.specs.declared.stand.Part.{Part}
-use Rattle.codeco_text.specs.declared.stand.Part.TheVariants as part
-use Rattle.codeco_text.specs.declared.stand.Stand.{Stand}
-use Rattle.codeco_text.specs.declared.stand.Stand.TheVariants as stand
+use Rattle.codeco_text.specs.declared.spot.Role.{Role}
+use Rattle.codeco_text.specs.declared.spot.Role.TheVariants as role
+use Rattle.codeco_text.specs.declared.spot.Part.{Part}
+use Rattle.codeco_text.specs.declared.spot.Part.TheVariants as part
+use Rattle.codeco_text.specs.declared.spot.Spot.{Spot}
+use Rattle.codeco_text.specs.declared.spot.Spot.TheVariants as spot
 use Rattle.codeco_text.specs.declared.builder.Builder.{Builder}
 use Rattle.codeco_text.specs.Names.{is_space, is_word_byte, is_terminal, is_terminal_byte}
 use Rattle.codeco_text.specs.Notation.{lexeme_bytes, is_symbol, goes_on, has_front, sign_bytes, SpellsFrom}
-use Rattle.codeco_text.specs.Reading.{◌>>=◌, wants, as_word, may_begin, may_go_on, next_stand}
+use Rattle.codeco_text.specs.Reading.{◌>>=◌, wants, as_word, may_begin, may_go_on, next_spot}
 use Rattle.codeco_text.specs.Building.{push, so_far, grow}
 use Rattle.codeco_text.specs.Scanning.{Mode, between, comment, word, terminal, dash, dashes, tilde, tildes, slash, greater, takes_sign, takes_terminal, guard, behind, single, begin, begin_sign, begin_dash, begin_single, finish, step, if_terminal}
 use Rattle.codeco_text.proofs.Growth.{grow_adds}
 use Rattle.codeco_text.proofs.Trees.{runs}
 use Rattle.codeco_text.proofs.Gaps.{Continues, spells_space, spells_comment, spells_in_comment, continues_more, continues_whole, continues_before, begins_here}
-use Rattle.codeco_text.proofs.Soundness.{bind_some, guard_some, behind_some, chosen, grow_stand, word_some, word_is, word_stops, ends_all}
+use Rattle.codeco_text.proofs.Soundness.{bind_some, guard_some, behind_some, chosen, grow_spot, word_some, word_is, word_stops, ends_all}
 
 -- the first bytes of the symbol that a reading is in
 abbrev pub front : Mode → List ℕ
@@ -60,7 +60,7 @@ pub record Spelled (b : Builder) (m : Mode) (text : List ℕ) (c : Builder) : Ty
   pub symbols : List Lexeme
   pub spells : From m text symbols
   pub grows : so_far c ≡ so_far b ++ symbols
-  pub leads : runs b.stand symbols ≡ Some c.stand
+  pub leads : runs b.spot symbols ≡ Some c.spot
 
 -- nothing was taken
 same_builder : (b c : Builder) (m k : Mode) (text rest : List ℕ) → ((xs : List Lexeme) → From k rest xs → From m text xs) → Spelled b k rest c → Spelled b m text c
@@ -72,54 +72,54 @@ new_symbol b d c x m k text rest grown h s = record {
   symbols = x ∷ s.symbols;
   spells = h s.symbols s.spells;
   grows = s.grows ∙ ap (λ (t : List Lexeme). t ++ s.symbols) (grow_adds b x d grown) ∙ append_assoc (so_far b) (x ∷ []) s.symbols;
-  leads = ap (λ (o : Option Stand). o >>= λ t. runs t s.symbols) (grow_stand b x d grown) ∙ s.leads;
+  leads = ap (λ (o : Option Spot). o >>= λ t. runs t s.symbols) (grow_spot b x d grown) ∙ s.leads;
 }
 
 -- only a reference's patterns have a - before them
-pub minus_stand : (s t : Stand) → next_stand s (lexeme.Sign sign.Minus) ≡ Some t → t ≡ stand.Category part.Name role.Negative
-minus_stand stand.Items t e = absurd cc
-minus_stand stand.LabelName t e = absurd cc
-minus_stand stand.LabelEnd t e = absurd cc
-minus_stand stand.RuleHead t e = absurd cc
-minus_stand stand.FeatureName t e = absurd cc
-minus_stand stand.FeatureColon t e = absurd cc
-minus_stand stand.FeatureValue t e = absurd cc
-minus_stand stand.AtomNext t e = absurd cc
-minus_stand stand.AtomName t e = absurd cc
-minus_stand stand.FeatureEnd t e = absurd cc
-minus_stand (stand.Category part.Name r) t e = absurd cc
-minus_stand (stand.Category part.Named role.Positive) t e = cc
-minus_stand (stand.Category part.Named role.Negative) t e = cc
-minus_stand (stand.Category part.Named role.Head) t e = absurd cc
-minus_stand (stand.Category part.Named role.Preterminal) t e = absurd cc
-minus_stand (stand.Category part.Named role.Sub) t e = absurd cc
-minus_stand (stand.Category part.Named role.Forward) t e = absurd cc
-minus_stand (stand.Category part.Named role.Strong) t e = absurd cc
-minus_stand (stand.Category part.Named role.Absent) t e = absurd cc
-minus_stand (stand.Category part.Feature r) t e = absurd cc
-minus_stand (stand.Category part.Colon r) t e = absurd cc
-minus_stand (stand.Category part.Term r) t e = absurd cc
-minus_stand (stand.Category part.Taken r) t e = absurd cc
-minus_stand (stand.Category part.Next r) t e = absurd cc
-minus_stand (stand.Category part.Whole role.Positive) t e = cc
-minus_stand (stand.Category part.Whole role.Negative) t e = cc
-minus_stand (stand.Category part.Whole role.Head) t e = absurd cc
-minus_stand (stand.Category part.Whole role.Preterminal) t e = absurd cc
-minus_stand (stand.Category part.Whole role.Sub) t e = absurd cc
-minus_stand (stand.Category part.Whole role.Forward) t e = absurd cc
-minus_stand (stand.Category part.Whole role.Strong) t e = absurd cc
-minus_stand (stand.Category part.Whole role.Absent) t e = absurd cc
-minus_stand stand.Arrow t e = absurd cc
-minus_stand stand.Body t e = absurd cc
-minus_stand stand.PositionName t e = absurd cc
-minus_stand stand.BackPattern t e = absurd cc
-minus_stand stand.Positives t e = cc
-minus_stand stand.Negatives t e = cc
-minus_stand stand.AbsentPattern t e = absurd cc
-minus_stand stand.Absents t e = absurd cc
+pub minus_spot : (s t : Spot) → next_spot s (lexeme.Sign sign.Minus) ≡ Some t → t ≡ spot.Category part.Name role.Negative
+minus_spot spot.Items t e = absurd cc
+minus_spot spot.LabelName t e = absurd cc
+minus_spot spot.LabelEnd t e = absurd cc
+minus_spot spot.RuleHead t e = absurd cc
+minus_spot spot.FeatureName t e = absurd cc
+minus_spot spot.FeatureColon t e = absurd cc
+minus_spot spot.FeatureValue t e = absurd cc
+minus_spot spot.AtomNext t e = absurd cc
+minus_spot spot.AtomName t e = absurd cc
+minus_spot spot.FeatureEnd t e = absurd cc
+minus_spot (spot.Category part.Name r) t e = absurd cc
+minus_spot (spot.Category part.Named role.Positive) t e = cc
+minus_spot (spot.Category part.Named role.Negative) t e = cc
+minus_spot (spot.Category part.Named role.Head) t e = absurd cc
+minus_spot (spot.Category part.Named role.Preterminal) t e = absurd cc
+minus_spot (spot.Category part.Named role.Sub) t e = absurd cc
+minus_spot (spot.Category part.Named role.Forward) t e = absurd cc
+minus_spot (spot.Category part.Named role.Strong) t e = absurd cc
+minus_spot (spot.Category part.Named role.Absent) t e = absurd cc
+minus_spot (spot.Category part.Feature r) t e = absurd cc
+minus_spot (spot.Category part.Colon r) t e = absurd cc
+minus_spot (spot.Category part.Term r) t e = absurd cc
+minus_spot (spot.Category part.Taken r) t e = absurd cc
+minus_spot (spot.Category part.Next r) t e = absurd cc
+minus_spot (spot.Category part.Whole role.Positive) t e = cc
+minus_spot (spot.Category part.Whole role.Negative) t e = cc
+minus_spot (spot.Category part.Whole role.Head) t e = absurd cc
+minus_spot (spot.Category part.Whole role.Preterminal) t e = absurd cc
+minus_spot (spot.Category part.Whole role.Sub) t e = absurd cc
+minus_spot (spot.Category part.Whole role.Forward) t e = absurd cc
+minus_spot (spot.Category part.Whole role.Strong) t e = absurd cc
+minus_spot (spot.Category part.Whole role.Absent) t e = absurd cc
+minus_spot spot.Arrow t e = absurd cc
+minus_spot spot.Body t e = absurd cc
+minus_spot spot.PositionName t e = absurd cc
+minus_spot spot.BackPattern t e = absurd cc
+minus_spot spot.Positives t e = cc
+minus_spot spot.Negatives t e = cc
+minus_spot spot.AbsentPattern t e = absurd cc
+minus_spot spot.Absents t e = absurd cc
 
 -- where a name comes, no - stands
-no_dash : (d : Builder) → d.stand ≡ stand.Category part.Name role.Negative → begin d 45 ≡ None
+no_dash : (d : Builder) → d.spot ≡ spot.Category part.Name role.Negative → begin d 45 ≡ None
 no_dash d e = rw e refl
 
 front_dash : (b : ℕ) (rest : List ℕ) → has_front (codes "->") (b ∷ rest) ≡ true → b ≡ 45
@@ -129,7 +129,7 @@ pub none_some : (o : Option Builder) (c : Builder) → o ≡ None → o ≡ Some
 none_some o c p q = cc
 
 -- what stands behind a - that was taken doesn't make it an arrow
-minus_longest : (d c : Builder) (rest : List ℕ) → d.stand ≡ stand.Category part.Name role.Negative → final d between rest ≡ Some c → has_front (codes "->") rest ≡ false
+minus_longest : (d c : Builder) (rest : List ℕ) → d.spot ≡ spot.Category part.Name role.Negative → final d between rest ≡ Some c → has_front (codes "->") rest ≡ false
 minus_longest d c [] e f = refl
 minus_longest d c (b ∷ rest) e f = elim (cases_Bool (has_front (codes "->") (b ∷ rest))) [
   | inl h ↦
@@ -197,7 +197,7 @@ dash_spelled d c rest s e h = elim (chosen (takes_sign d sign.Minus) (behind (gr
   | inl p ↦
       let g = behind_some (grow d (lexeme.Sign sign.Minus)) s p.1 in
       let after = spelled_at s (g.0, between) rest c g.2 h in
-      one_byte d g.0 c (lexeme.Sign sign.Minus) 45 rest g.1 refl refl (minus_longest g.0 c rest (minus_stand d.stand g.0.stand (grow_stand d (lexeme.Sign sign.Minus) g.0 g.1)) after.ends) after.spelled
+      one_byte d g.0 c (lexeme.Sign sign.Minus) 45 rest g.1 refl refl (minus_longest g.0 c rest (minus_spot d.spot g.0.spot (grow_spot d (lexeme.Sign sign.Minus) g.0 g.1)) after.ends) after.spelled
   | inr p ↦
       let g = guard_some (takes_sign d sign.Normal) (d, dash) s p.1 in
       begins_by d c dash 45 rest (λ xs f. f) (spelled_at s (d, dash) rest c g.1 h).spelled
@@ -244,7 +244,7 @@ begin_spelled d c b rest s e h = elim (chosen (is_space b) (Some (d, between)) _
   | inl p ↦ same_builder d c between between (b ∷ rest) rest (λ xs. spells_space b rest xs p.0) (spelled_at s (d, between) rest c (some_is (d, between) s p.1) h).spelled
   | inr p ↦ elim (chosen (eqb b 37) (Some (d, comment)) _ (Some s) p.1) [
     | inl q ↦ same_builder d c between comment (b ∷ rest) rest (λ xs. spells_comment b rest xs (eqb-true b 37 q.0)) (spelled_at s (d, comment) rest c (some_is (d, comment) s q.1) h).spelled
-    | inr q ↦ elim (chosen (may_begin (wants d.stand) b) (Some (d, word (b ∷ []))) (begin_sign d b) (Some s) q.1) [
+    | inr q ↦ elim (chosen (may_begin (wants d.spot) b) (Some (d, word (b ∷ []))) (begin_sign d b) (Some s) q.1) [
       | inl r ↦ begins_by d c (word (b ∷ [])) b rest (λ xs f. f) (spelled_at s (d, word (b ∷ [])) rest c (some_is (d, word (b ∷ [])) s r.1) h).spelled
       | inr r ↦ sign_spelled d c b rest s r.1 h
     ]
@@ -258,16 +258,16 @@ comment_from true rest xs h = h
 comment_from false rest xs h = h
 
 word_spelled : (b c : Builder) (w : List ℕ) (x : ℕ) (rest : List ℕ) (s : Builder × Mode) → step b (word w) x ≡ Some s → Behind s rest c → Spelled b (word w) (x ∷ rest) c
-word_spelled b c w x rest s e h = elim (chosen (is_word_byte x) (guard (may_go_on (wants b.stand) (push w x)) (b, word (push w x))) (finish b (word w) >>= λ d. begin d x) (Some s) e) [
+word_spelled b c w x rest s e h = elim (chosen (is_word_byte x) (guard (may_go_on (wants b.spot) (push w x)) (b, word (push w x))) (finish b (word w) >>= λ d. begin d x) (Some s) e) [
   | inl p ↦
-      let g = guard_some (may_go_on (wants b.stand) (push w x)) (b, word (push w x)) s p.1 in
+      let g = guard_some (may_go_on (wants b.spot) (push w x)) (b, word (push w x)) s p.1 in
       same_builder b c (word w) (word (push w x)) (x ∷ rest) rest (λ xs f. continues_more w x rest xs f) (spelled_at s (b, word (push w x)) rest c g.1 h).spelled
   | inr p ↦
       let f = bind_some (finish b (word w)) (λ d. begin d x) s p.1 in
-      let y = bind_some (as_word (wants b.stand) w) (λ y. grow b y) f.0 f.1 in
-      let is = word_some (wants b.stand) w y.0 y.1 in
+      let y = bind_some (as_word (wants b.spot) w) (λ y. grow b y) f.0 f.1 in
+      let is = word_some (wants b.spot) w y.0 y.1 in
       new_symbol b f.0 c y.0 (word w) between (x ∷ rest) (x ∷ rest) y.2
-      (λ xs k. continues_before w (x ∷ rest) y.0 xs is.0 is.1 (word_stops y.0 x rest (word_is (wants b.stand) w y.0 y.1) p.0) k)
+      (λ xs k. continues_before w (x ∷ rest) y.0 xs is.0 is.1 (word_stops y.0 x rest (word_is (wants b.spot) w y.0 y.1) p.0) k)
       (begin_spelled f.0 c x rest s f.2 h)
 ]
 
@@ -349,8 +349,8 @@ nothing_left b c m f e = subst (λ (t : Builder). Spelled b m [] t) e (record { 
 
 word_ends : (b c : Builder) (w : List ℕ) → finish b (word w) ≡ Some c → Spelled b (word w) [] c
 word_ends b c w e =
-    let y = bind_some (as_word (wants b.stand) w) (λ y. grow b y) c e in
-    let is = word_some (wants b.stand) w y.0 y.1 in
+    let y = bind_some (as_word (wants b.spot) w) (λ y. grow b y) c e in
+    let is = word_some (wants b.spot) w y.0 y.1 in
     new_symbol b c c y.0 (word w) between [] [] y.2 (λ xs k. continues_before w [] y.0 xs is.0 is.1 (ends_all y.0) k) (nothing_left c c between refl refl)
 
 ends_spelled : (b c : Builder) (m : Mode) → finish b m ≡ Some c → Spelled b m [] c

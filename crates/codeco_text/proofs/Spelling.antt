@@ -7,8 +7,8 @@ use Rattle.std.proofs.lemmas.List.Folds.{list_all-append}
 use Rattle.std.proofs.lemmas.Bool.{eqb-true, eq-eqb, leb-true, lt-leb, cases_Bool, both_ways, and_parts, and_from, and_right, or_cases, or_parts, or_from, or_left, or_right, not-true, not_from_false, cond-false}
 use Rattle.codeco_text.specs.declared.symbols.Lexeme.{Lexeme}
 use Rattle.codeco_text.specs.declared.symbols.Lexeme.TheVariants as lexeme
-use Rattle.codeco_text.specs.declared.stand.Wanted.{Wanted}
-use Rattle.codeco_text.specs.declared.stand.Wanted.TheVariants as wanted
+use Rattle.codeco_text.specs.declared.spot.Wanted.{Wanted}
+use Rattle.codeco_text.specs.declared.spot.Wanted.TheVariants as wanted
 use Rattle.codeco_text.specs.Names.{same_bytes, is_among, is_space, is_lower, is_upper, is_word_byte, is_lower_word, is_identifier, is_variable, is_terminal, is_terminal_byte, ends_well, keywords}
 use Rattle.codeco_text.specs.Notation.{labels, kinds, has_front}
 use Rattle.codeco_text.specs.Reading.{identifier, as_word, may_begin, may_go_on, is_front_among}

@@ -4,12 +4,12 @@ use Rattle.codeco_text.specs.declared.symbols.Sign.{Sign}
 use Rattle.codeco_text.specs.declared.symbols.Sign.TheVariants as sign
 use Rattle.codeco_text.specs.declared.symbols.Lexeme.{Lexeme}
 use Rattle.codeco_text.specs.declared.symbols.Lexeme.TheVariants as lexeme
-use Rattle.codeco_text.specs.declared.stand.Role.{Role}
-use Rattle.codeco_text.specs.declared.stand.Role.TheVariants as role
-use Rattle.codeco_text.specs.declared.stand.Part.{Part}
-use Rattle.codeco_text.specs.declared.stand.Part.TheVariants as part
-use Rattle.codeco_text.specs.declared.stand.Stand.{Stand}
-use Rattle.codeco_text.specs.declared.stand.Stand.TheVariants as stand
+use Rattle.codeco_text.specs.declared.spot.Role.{Role}
+use Rattle.codeco_text.specs.declared.spot.Role.TheVariants as role
+use Rattle.codeco_text.specs.declared.spot.Part.{Part}
+use Rattle.codeco_text.specs.declared.spot.Part.TheVariants as part
+use Rattle.codeco_text.specs.declared.spot.Spot.{Spot}
+use Rattle.codeco_text.specs.declared.spot.Spot.TheVariants as spot
 use Rattle.codeco_text.specs.declared.written.WrittenTerm.{WrittenTerm}
 use Rattle.codeco_text.specs.declared.written.WrittenTerm.TheVariants as term
 use Rattle.codeco_text.specs.declared.written.WrittenFeat.{WrittenFeat}
@@ -48,27 +48,27 @@ with_part_identifier part.Taken c w = c
 with_part_identifier part.Next c w = c
 with_part_identifier part.Whole c w = c
 
-abbrev pub identifier_at : Stand → Builder → List ℕ → Builder
-identifier_at stand.Items b w = record b { category = named_category b.category w; rule = record b.rule { label = None } }
-identifier_at stand.RuleHead b w = record b { category = named_category b.category w }
-identifier_at stand.FeatureName b w = record b { declaration = record b.declaration { name = w } }
-identifier_at stand.FeatureValue b w = record b { declaration = record b.declaration { atom = w; atoms = [] } }
-identifier_at stand.AtomName b w = record b { declaration = record b.declaration { atom = w } }
-identifier_at (stand.Category p r) b w = record b { category = with_part_identifier p b.category w }
-identifier_at stand.Body b w = record b { category = named_category b.category w }
+abbrev pub identifier_at : Spot → Builder → List ℕ → Builder
+identifier_at spot.Items b w = record b { category = named_category b.category w; rule = record b.rule { label = None } }
+identifier_at spot.RuleHead b w = record b { category = named_category b.category w }
+identifier_at spot.FeatureName b w = record b { declaration = record b.declaration { name = w } }
+identifier_at spot.FeatureValue b w = record b { declaration = record b.declaration { atom = w; atoms = [] } }
+identifier_at spot.AtomName b w = record b { declaration = record b.declaration { atom = w } }
+identifier_at (spot.Category p r) b w = record b { category = with_part_identifier p b.category w }
+identifier_at spot.Body b w = record b { category = named_category b.category w }
 identifier_at _ b w = b
 
 abbrev pub with_identifier : Builder → List ℕ → Builder
-with_identifier b w = identifier_at b.stand b w
+with_identifier b w = identifier_at b.spot b w
 
-abbrev pub variable_at : Stand → Builder → List ℕ → Builder
-variable_at (stand.Category part.Term r) b w = record b { category = record b.category { term = term.Variable w } }
-variable_at (stand.Category part.Taken r) b w = record b { category = record b.category { term = term.Taken w } }
-variable_at stand.PositionName b w = record b { rule = record b.rule { body = push b.rule.body (element.Position w) } }
+abbrev pub variable_at : Spot → Builder → List ℕ → Builder
+variable_at (spot.Category part.Term r) b w = record b { category = record b.category { term = term.Variable w } }
+variable_at (spot.Category part.Taken r) b w = record b { category = record b.category { term = term.Taken w } }
+variable_at spot.PositionName b w = record b { rule = record b.rule { body = push b.rule.body (element.Position w) } }
 variable_at _ b w = b
 
 abbrev pub with_variable : Builder → List ℕ → Builder
-with_variable b w = variable_at b.stand b w
+with_variable b w = variable_at b.spot b w
 
 abbrev pub with_keyword : Builder → List ℕ → Builder
 with_keyword b w = record b { declaration = record b.declaration { positions = same_bytes w (codes "position") } }
@@ -122,21 +122,21 @@ abbrev pub end_atom : Builder → Sign → Builder
 end_atom b sign.Stop = with_declaration b (domain.Atoms (push b.declaration.atoms b.declaration.atom))
 end_atom b _ = record b { declaration = record b.declaration { atoms = push b.declaration.atoms b.declaration.atom; atom = [] } }
 
-abbrev pub sign_at : Stand → Builder → Sign → Builder
-sign_at stand.LabelEnd b s = record b { rule = record b.rule { label = Some b.rule.pending; pending = [] } }
-sign_at stand.AtomNext b s = end_atom b s
-sign_at stand.FeatureEnd b s = with_declaration b (values_domain b.declaration.positions)
-sign_at (stand.Category part.Named r) b s = record b { category = record b.category { feats = [] } }
-sign_at (stand.Category part.Next r) b s = record b { category = with_feat b.category }
-sign_at stand.Arrow b s = arrow_at b s
-sign_at stand.Body b s = body_sign_at b s
-sign_at stand.BackPattern b s = record b { rule = with_patterns b.rule }
-sign_at stand.AbsentPattern b s = record b { rule = with_patterns b.rule }
-sign_at stand.Positives b sign.Minus = record b { rule = record b.rule { negatives = [] } }
+abbrev pub sign_at : Spot → Builder → Sign → Builder
+sign_at spot.LabelEnd b s = record b { rule = record b.rule { label = Some b.rule.pending; pending = [] } }
+sign_at spot.AtomNext b s = end_atom b s
+sign_at spot.FeatureEnd b s = with_declaration b (values_domain b.declaration.positions)
+sign_at (spot.Category part.Named r) b s = record b { category = record b.category { feats = [] } }
+sign_at (spot.Category part.Next r) b s = record b { category = with_feat b.category }
+sign_at spot.Arrow b s = arrow_at b s
+sign_at spot.Body b s = body_sign_at b s
+sign_at spot.BackPattern b s = record b { rule = with_patterns b.rule }
+sign_at spot.AbsentPattern b s = record b { rule = with_patterns b.rule }
+sign_at spot.Positives b sign.Minus = record b { rule = record b.rule { negatives = [] } }
 sign_at _ b s = b
 
 abbrev pub with_sign : Builder → Sign → Builder
-with_sign b s = sign_at b.stand b s
+with_sign b s = sign_at b.spot b s
 
 -- What is whole
 
@@ -153,43 +153,43 @@ settled_rule role.Absent r c = record r { positives = push r.positives c }
 -- a category that is whole stands in its place
 abbrev pub settle_into : Builder → Role → List WrittenFeat → Builder
 settle_into b r feats = record b {
-  stand = after_category r;
+  spot = after_category r;
   category = named_category b.category [];
   rule = settled_rule r b.rule (record { name = b.category.name; feats = feats });
 }
 
-abbrev pub settle_at : Stand → Builder → Builder
-settle_at (stand.Category part.Named r) b = settle_into b r []
-settle_at (stand.Category part.Whole r) b = settle_into b r b.category.feats
+abbrev pub settle_at : Spot → Builder → Builder
+settle_at (spot.Category part.Named r) b = settle_into b r []
+settle_at (spot.Category part.Whole r) b = settle_into b r b.category.feats
 settle_at _ b = b
 
 abbrev pub settled_builder : Builder → Builder
-settled_builder b = settle_at b.stand b
+settled_builder b = settle_at b.spot b
 
 -- a reference that is whole stands in the body
 abbrev pub close_into : Builder → WrittenElement → Builder
-close_into b e = record b { stand = stand.Body; rule = record b.rule { body = push b.rule.body e; positives = []; negatives = [] } }
+close_into b e = record b { spot = spot.Body; rule = record b.rule { body = push b.rule.body e; positives = []; negatives = [] } }
 
-abbrev pub close_at : Stand → Builder → Builder
-close_at stand.Positives b = close_into b (element.Back b.rule.positives [])
-close_at stand.Negatives b = close_into b (element.Back b.rule.positives b.rule.negatives)
-close_at stand.Absents b = close_into b (element.NoBack b.rule.positives)
+abbrev pub close_at : Spot → Builder → Builder
+close_at spot.Positives b = close_into b (element.Back b.rule.positives [])
+close_at spot.Negatives b = close_into b (element.Back b.rule.positives b.rule.negatives)
+close_at spot.Absents b = close_into b (element.NoBack b.rule.positives)
 close_at _ b = b
 
 abbrev pub closed_builder : Builder → Builder
-closed_builder b = close_at b.stand b
+closed_builder b = close_at b.spot b
 
-abbrev pub is_named : Stand → Bool
-is_named (stand.Category part.Named r) = true
+abbrev pub is_named : Spot → Bool
+is_named (spot.Category part.Named r) = true
 is_named _ = false
 
-abbrev pub opens_features : Stand → Lexeme → Bool
+abbrev pub opens_features : Spot → Lexeme → Bool
 opens_features s x = is_named s && is_sign sign.OpenParen x
 
 -- what takes the symbol
 abbrev pub ready : Builder → Lexeme → Builder
 ready b x =
-    let whole = if opens_features b.stand x then b else settled_builder b in
+    let whole = if opens_features b.spot x then b else settled_builder b in
     if begins_pattern x then whole else closed_builder whole
 
 -- The symbol taken
@@ -203,11 +203,11 @@ with_lexeme b (lexeme.Kind w) = with_kind b w
 with_lexeme b (lexeme.Terminal t) = with_terminal b t
 with_lexeme b (lexeme.Sign s) = with_sign b s
 
-abbrev pub moved : Builder → Stand → Builder
-moved b s = record b { stand = s }
+abbrev pub moved : Builder → Spot → Builder
+moved b s = record b { spot = s }
 
 abbrev pub take_ready : Builder → Lexeme → Option Builder
-take_ready b x = option_map (moved (with_lexeme b x)) (advance b.stand x)
+take_ready b x = option_map (moved (with_lexeme b x)) (advance b.spot x)
 
 abbrev pub grow : Builder → Lexeme → Option Builder
 grow b x = take_ready (ready b x) x
@@ -282,27 +282,27 @@ role_front role.Positive items r = push (back_front items r) (lexeme.Sign sign.P
 role_front role.Negative items r = push (negative_front items r) (lexeme.Sign sign.Minus)
 role_front role.Absent items r = push (absent_front items r) (lexeme.Sign sign.Plus)
 
-abbrev pub so_far_at : Stand → Builder → List Lexeme
-so_far_at stand.Items b = lexemes b.items
-so_far_at stand.LabelName b = push (lexemes b.items) (lexeme.Sign sign.OpenBrace)
-so_far_at stand.LabelEnd b = push (push (lexemes b.items) (lexeme.Sign sign.OpenBrace)) (lexeme.Label b.rule.pending)
-so_far_at stand.RuleHead b = head_front b.items b.rule
-so_far_at stand.FeatureName b = declaration_front b.items
-so_far_at stand.FeatureColon b = push (declaration_front b.items) (lexeme.Identifier b.declaration.name)
-so_far_at stand.FeatureValue b = value_front b.items b.declaration.name
-so_far_at stand.AtomNext b = push (value_front b.items b.declaration.name ++ atoms_open b.declaration.atoms) (lexeme.Identifier b.declaration.atom)
-so_far_at stand.AtomName b = value_front b.items b.declaration.name ++ atoms_open b.declaration.atoms
-so_far_at stand.FeatureEnd b = push (value_front b.items b.declaration.name) (lexeme.Keyword (values_word b.declaration.positions))
-so_far_at (stand.Category p r) b = role_front r b.items b.rule ++ part_lexemes p r b.category
-so_far_at stand.Arrow b = arrow_front b.items b.rule
-so_far_at stand.Body b = body_front b.items b.rule
-so_far_at stand.PositionName b = push (body_front b.items b.rule) (lexeme.Sign sign.Hash)
-so_far_at stand.BackPattern b = push (body_front b.items b.rule) (lexeme.Sign sign.Back)
-so_far_at stand.Positives b = back_front b.items b.rule
-so_far_at stand.Negatives b = negative_front b.items b.rule
-so_far_at stand.AbsentPattern b = push (body_front b.items b.rule) (lexeme.Sign sign.NoBack)
-so_far_at stand.Absents b = absent_front b.items b.rule
+abbrev pub so_far_at : Spot → Builder → List Lexeme
+so_far_at spot.Items b = lexemes b.items
+so_far_at spot.LabelName b = push (lexemes b.items) (lexeme.Sign sign.OpenBrace)
+so_far_at spot.LabelEnd b = push (push (lexemes b.items) (lexeme.Sign sign.OpenBrace)) (lexeme.Label b.rule.pending)
+so_far_at spot.RuleHead b = head_front b.items b.rule
+so_far_at spot.FeatureName b = declaration_front b.items
+so_far_at spot.FeatureColon b = push (declaration_front b.items) (lexeme.Identifier b.declaration.name)
+so_far_at spot.FeatureValue b = value_front b.items b.declaration.name
+so_far_at spot.AtomNext b = push (value_front b.items b.declaration.name ++ atoms_open b.declaration.atoms) (lexeme.Identifier b.declaration.atom)
+so_far_at spot.AtomName b = value_front b.items b.declaration.name ++ atoms_open b.declaration.atoms
+so_far_at spot.FeatureEnd b = push (value_front b.items b.declaration.name) (lexeme.Keyword (values_word b.declaration.positions))
+so_far_at (spot.Category p r) b = role_front r b.items b.rule ++ part_lexemes p r b.category
+so_far_at spot.Arrow b = arrow_front b.items b.rule
+so_far_at spot.Body b = body_front b.items b.rule
+so_far_at spot.PositionName b = push (body_front b.items b.rule) (lexeme.Sign sign.Hash)
+so_far_at spot.BackPattern b = push (body_front b.items b.rule) (lexeme.Sign sign.Back)
+so_far_at spot.Positives b = back_front b.items b.rule
+so_far_at spot.Negatives b = negative_front b.items b.rule
+so_far_at spot.AbsentPattern b = push (body_front b.items b.rule) (lexeme.Sign sign.NoBack)
+so_far_at spot.Absents b = absent_front b.items b.rule
 
 -- the symbols that were read
 abbrev pub so_far : Builder → List Lexeme
-so_far b = so_far_at b.stand b
+so_far b = so_far_at b.spot b

@@ -13,7 +13,7 @@ use Rattle.codeco_terms.specs.declared.elements.Element.TheVariants.{Terminal, P
 use Rattle.codeco_terms.specs.declared.rules.Rule.{Rule}
 use Rattle.codeco_terms.specs.Values.{same_value}
 use Rattle.scopes.specs.declared.entries.Entry.{Entry}
-use Rattle.scopes.specs.declared.tests.Test.{Test}
+use Rattle.scopes.specs.declared.agreement.Test.{Test}
 use Rattle.scopes.specs.Resolution.{Finding, is_agreeing, closest_finding}
 use Rattle.derivation_trees.specs.declared.trees.Tree.{Tree, out-Tree}
 use Rattle.derivation_trees.specs.declared.trees.Trees.{Trees, out-Trees}

@@ -11,7 +11,7 @@ use Rattle.codeco_terms.specs.declared.elements.Element.TheVariants.{Terminal, P
 use Rattle.codeco_terms.specs.declared.rules.Rule.{Rule}
 use Rattle.codeco_terms.specs.GrammarParts.{GrammarParts}
 use Rattle.codeco_checked.specs.Faults.{is_phrase, sub_name, first_category, StepsTo}
-use Rattle.scopes.specs.declared.tests.Test.{Test}
+use Rattle.scopes.specs.declared.agreement.Test.{Test}
 use Rattle.derivation_trees.specs.Trees.{Node, Nodes, node, none, more}
 use Rattle.derivation_trees.specs.Settings.{Setting}
 use Rattle.derivation_trees.specs.Instances.{under, own_values}

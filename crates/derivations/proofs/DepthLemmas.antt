@@ -17,7 +17,7 @@ use Rattle.codeco_terms.specs.Values.{same_value}
 use Rattle.codeco_checked.specs.declared.fault.GrammarFault.TheVariants.{EmptyRule, LeftRecursion}
 use Rattle.codeco_checked.specs.Faults.{is_phrase, is_empty_rule, sub_name, first_category, StepsTo, Leads, IsRecursive, at_rule}
 use Rattle.codeco_checked.specs.Sound.{IsSound}
-use Rattle.scopes.specs.declared.tests.Test.{Test}
+use Rattle.scopes.specs.declared.agreement.Test.{Test}
 use Rattle.scopes.specs.Resolution.{Finding, closest_finding, is_agreeing}
 use Rattle.derivation_trees.specs.Trees.{Node, Nodes, node, none, more}
 use Rattle.derivation_trees.specs.Settings.{Setting, matches_terminal, matches_preterminal}

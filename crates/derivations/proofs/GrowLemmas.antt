@@ -9,7 +9,7 @@ use Rattle.codeco_terms.specs.declared.elements.Element.TheVariants.{Terminal, P
 use Rattle.codeco_terms.specs.declared.rules.Rule.{Rule}
 use Rattle.scopes.specs.declared.entries.Entry.{Entry}
 use Rattle.scopes.specs.AccessList.{closed}
-use Rattle.scopes.specs.declared.tests.Test.{Test}
+use Rattle.scopes.specs.declared.agreement.Test.{Test}
 use Rattle.derivation_trees.specs.Settings.{Setting}
 use Rattle.derivation_trees.specs.Instances.{under}
 use Rattle.derivation_trees.specs.Derives.{At, Stand, pass, fits, list_after}

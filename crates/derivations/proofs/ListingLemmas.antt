@@ -6,7 +6,7 @@ use Rattle.codeco_terms.specs.declared.values.Value.{Value}
 use Rattle.codeco_terms.specs.declared.rules.Rule.{Rule}
 use Rattle.codeco_terms.specs.GrammarParts.{GrammarParts}
 use Rattle.scopes.specs.declared.entries.Entry.{Entry}
-use Rattle.scopes.specs.declared.tests.Test.{Test}
+use Rattle.scopes.specs.declared.agreement.Test.{Test}
 use Rattle.derivation_trees.specs.Trees.{Node, Nodes, node, none, more, nodes_from}
 use Rattle.derivation_trees.specs.Settings.{Setting}
 use Rattle.derivation_trees.specs.Instances.{under, is_instance, own_values}

@@ -13,7 +13,7 @@ use Rattle.derivations.proofs.GrowLemmas.{Each, PathBegins, all_grow, trees_grow
 use Rattle.std.specs.List.{flat_map, list_any, range_with_len}
 use Rattle.codeco_terms.specs.declared.elements.Element.{Element}
 use Rattle.scopes.specs.declared.entries.Entry.{Entry}
-use Rattle.scopes.specs.declared.tests.Test.{Test}
+use Rattle.scopes.specs.declared.agreement.Test.{Test}
 use Rattle.codeco_terms.specs.declared.values.Value.{Value}
 use Rattle.codeco_terms.specs.declared.values.Value.TheVariants.{Pos}
 use Rattle.derivation_trees.specs.Settings.{Setting}

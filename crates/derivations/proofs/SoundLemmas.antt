@@ -14,7 +14,7 @@ use Rattle.codeco_terms.specs.declared.rules.Rule.{Rule}
 use Rattle.codeco_terms.specs.GrammarParts.{GrammarParts}
 use Rattle.codeco_terms.specs.Values.{same_value}
 use Rattle.scopes.specs.declared.entries.Entry.{Entry}
-use Rattle.scopes.specs.declared.tests.Test.{Test}
+use Rattle.scopes.specs.declared.agreement.Test.{Test}
 use Rattle.scopes.specs.Resolution.{Finding, closest_finding, is_agreeing}
 use Rattle.derivation_trees.specs.Trees.{Node, Nodes, node, none, more, nodes_from}
 use Rattle.derivation_trees.specs.Settings.{Setting, matches_terminal, matches_preterminal}

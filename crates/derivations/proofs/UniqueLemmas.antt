@@ -16,7 +16,7 @@ use Rattle.codeco_terms.specs.declared.elements.Element.TheVariants.{Terminal, P
 use Rattle.codeco_terms.specs.declared.rules.Rule.{Rule}
 use Rattle.codeco_terms.specs.GrammarParts.{GrammarParts}
 use Rattle.codeco_terms.specs.Values.{same_value}
-use Rattle.scopes.specs.declared.tests.Test.{Test}
+use Rattle.scopes.specs.declared.agreement.Test.{Test}
 use Rattle.scopes.specs.Resolution.{Finding, closest_finding, is_agreeing}
 use Rattle.lexicon.specs.Words.{Listed}
 use Rattle.derivation_trees.specs.declared.skeletons.Skeleton.{Skeleton, out-Skeleton}

@@ -5,7 +5,7 @@ use Rattle.std.specs.List.{filter_map, cons_option}
 use Rattle.std.proofs.lemmas.List.Elements.{filter_map-append}
 use Rattle.std.proofs.lemmas.List.{append-nil}
 use Rattle.scopes.specs.declared.entries.Entry.{Entry}
-use Rattle.scopes.specs.declared.tests.Tests.{Tests}
+use Rattle.scopes.specs.declared.agreement.Tests.{Tests}
 use Rattle.scopes.specs.Resolution.{Finding, finding, closest_finding, last_of}
 
 pub last_of-push : {X : Type 0} (xs : List X) (x : X) → last_of (xs ++ x ∷ []) ≡ Some x

@@ -6,8 +6,8 @@ use Rattle.codeco_terms.specs.declared.categories.Ground.{Ground}
 use Rattle.codeco_terms.specs.Values.{same_value}
 use Rattle.scopes.specs.declared.entries.Entry.{Entry}
 use Rattle.scopes.specs.declared.entries.Entry.TheVariants.{Opener, Weak, Strong}
-use Rattle.scopes.specs.declared.tests.Test.{Test}
-use Rattle.scopes.specs.declared.tests.Tests.{Tests}
+use Rattle.scopes.specs.declared.agreement.Test.{Test}
+use Rattle.scopes.specs.declared.agreement.Tests.{Tests}
 
 -- the values have this one at this feature
 abbrev pub has_value : List (ℕ × Value) → (ℕ × Value) → Bool

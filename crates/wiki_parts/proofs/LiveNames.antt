@@ -24,7 +24,7 @@ use Rattle.codeco_checked.specs.declared.labels.Words.TheVariants as words
 use Rattle.codeco_checked.specs.declared.fault.GrammarFault.TheVariants.{LabelKind}
 use Rattle.codeco_checked.specs.Labels.{label_row, child_kinds, word_names, head_fits, children_fit, words_fit, fits_row, fits_label, FitKinds, is_introduction, is_reference, introduces_behind_tokens, one_if}
 use Rattle.codeco_checked.specs.Sound.{IsSound}
-use Rattle.scopes.specs.declared.tests.Test.{Test}
+use Rattle.scopes.specs.declared.agreement.Test.{Test}
 use Rattle.scopes.specs.Resolution.{Finding, has_value, agrees, is_agreeing, closest_finding}
 use Rattle.lexicon.specs.declared.kinds.Kind.{Kind}
 use Rattle.lexicon.specs.declared.kinds.Kind.TheVariants.{Name, Noun, Of, Verb, Adjective}

@@ -1,5 +1,5 @@
 use Rattle.std.proofs.Common.{ap, subst, rules}
-use Rattle.scopes.specs.declared.tests.Test.{Test}
+use Rattle.scopes.specs.declared.agreement.Test.{Test}
 use Rattle.chart_table.specs.Cuts.{HasCut}
 use Rattle.chart_table.proofs.HeadLemmas.{head_there, head_added}
 use Rattle.chart_table.proofs.cuts.push_head.Goals as goal

@@ -3,8 +3,8 @@ use Rattle.std.specs.Option.{IfNone}
 use Rattle.codeco_terms.specs.GrammarParts.{GrammarParts}
 use Rattle.codeco_checked.specs.Numbering.{counts_up, grammar_atoms, IsNumbered}
 use Rattle.codeco_checked.specs.Sound.{IsWritten}
-use Rattle.codeco_numbering.proofs.SoundContents.{atoms_count_up}
-use Rattle.codeco_numbering.proofs.SoundNumbered.{numbered_is_written, sound_without_bad_values}
+use Rattle.codeco_numbering.proofs.Sound.Contents.{atoms_count_up}
+use Rattle.codeco_numbering.proofs.Sound.Numbered.{numbered_is_written, sound_without_bad_values}
 use Rattle.codeco_reader.specs.Texts.{IsFaultless}
 use Rattle.codeco_reader.proofs.reading.checked.Goals as goal
 

@@ -6,6 +6,7 @@ use Rattle.std.proofs.lemmas.Bool.{cases_Bool, both_ways, and_parts}
 use Rattle.std.proofs.lemmas.Bool.Decides.{Decides-eqb, Decides-like, Decides-and, Decides-or, Decides-by_or, not_from_Decides}
 use Rattle.std.proofs.lemmas.List.Elements.{Contains-append_left, Contains-push, Contains-push_cases, Decides-contains, All-push}
 use Rattle.std.proofs.lemmas.List.Quantifiers.{all_pairs_push}
+use Rattle.std.proofs.Math.Bool.{not-not}
 use Rattle.wiki_base.specs.declared.numbers.WordId.{WordId}
 use Rattle.logic_terms.specs.declared.expressions.Role.{Role}
 use Rattle.logic_terms.specs.Interpretation.{is_word}
@@ -203,12 +204,8 @@ product_all before hs lower upper below above low up all r s = (
   λ h. elim h [ inl old ↦ (all r s).1 (inl old) | inr both ↦ (all r s).1 (inr ((low r).1 both.0, (up s).1 both.1)) ],
 )
 
-turned_twice : (b : Bool) → not (not b) ≡ b
-turned_twice true = refl
-turned_twice false = refl
-
 pub inverse-inverse : (r : Role) → inverse (inverse r) ≡ r
-inverse-inverse r = λ j. record { id = r.id; inverted = turned_twice r.inverted j }
+inverse-inverse r = λ j. record { id = r.id; inverted = not-not r.inverted j }
 
 -- one of the two steps that one more inclusion makes
 abbrev Halfway : List (Role × Role) → Role × Role → Role → Role → Type 0

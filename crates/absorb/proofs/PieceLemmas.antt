@@ -5,6 +5,7 @@ use Rattle.std.specs.List.{list_all, flat_map}
 use Rattle.std.specs.Option.{option_map_or}
 use Rattle.std.proofs.lemmas.List.Folds.{list_all-append}
 use Rattle.std.proofs.lemmas.Bool.Decides.{same_from_decides}
+use Rattle.std.proofs.Math.Bool.{or-false, and-true as and_true}
 use Rattle.wiki_base.specs.declared.numbers.WordId.{WordId}
 use Rattle.logic_terms.specs.declared.expressions.Role.{Role}
 use Rattle.logic_terms.specs.Concept.{Concept, Concepts, Everything, Atomic, ComplementOf, IntersectionOf, UnionOf, SomeValuesFrom, AllValuesFrom, HasValue, no_concept, also_concept, Claim, SubClassOf, SubPropertyOf, ClassAssertion, PropertyAssertion, NegativePropertyAssertion, SameIndividual, DifferentIndividuals}
@@ -12,7 +13,7 @@ use Rattle.logic_terms.specs.Interpretation.{Interpretation, element_of, relates
 use Rattle.logic_terms.specs.Meaning.{each_below, implies, is_in, is_in_each, is_in_some, holds, all_hold}
 use Rattle.logic_terms.specs.Reading.{IsIn, Holds}
 use Rattle.logic_terms.specs.Complement.{complement}
-use Rattle.logic_terms.proofs.ComplementLemmas.{is_in-complement, not_not, not_and}
+use Rattle.logic_terms.proofs.ComplementLemmas.{is_in-complement, not_and}
 use Rattle.logic_terms.proofs.MeaningLemmas.{holds-Decides}
 use Rattle.logic_terms.specs.Same.{inverse}
 use Rattle.absorb.specs.Pieces.{Piece, Equality, RoleInclusion, Assertion, Related, Difference, Unfolding, General, claim_in, either, word_of, first_word, without_first_word, together, general, guarded, inclusion, inclusions, pieces_of, all_pieces}
@@ -46,10 +47,6 @@ Relates-turned i role x y h = turned_back role.inverted _ _ h
 pub each_below-same : (n : ℕ) (f g : ℕ → Bool) → ((x : ℕ) → f x ≡ g x) → each_below n f ≡ each_below n g
 each_below-same n f g same = ap (each_below n) (λ j x. same x j)
 
-or_false : (a : Bool) → (a || false) ≡ a
-or_false true = refl
-or_false false = refl
-
 swap_four : (a b c d : Bool) → ((a && b) && (c && d)) ≡ ((a && c) && (b && d))
 swap_four true true c d = refl
 swap_four true false true d = refl
@@ -75,7 +72,7 @@ each_true (suc n) = each_true n
 
 -- the general form of an inclusion
 is_in-either : (i : Interpretation) (c d : Concept) (x : ℕ) → is_in i (either c d) x ≡ (is_in i c x || is_in i d x)
-is_in-either i c d x = ap (λ b. is_in i c x || b) (or_false (is_in i d x))
+is_in-either i c d x = ap (λ b. is_in i c x || b) (or-false (is_in i d x))
 
 is_in-general : (i : Interpretation) (c d : Concept) (x : ℕ) → is_in i (either (complement c) d) x ≡ implies (is_in i c x) (is_in i d x)
 is_in-general i c d x = is_in-either i (complement c) d x ∙ ap (λ b. b || is_in i d x) (is_in-complement i c x)
@@ -92,10 +89,6 @@ is_in-together i (also_concept c no_concept) x = sym (and_true (is_in i c x))
     and_true true = refl
     and_true false = refl
 is_in-together i (also_concept c (also_concept d cs)) x = refl
-
-and_true : (a : Bool) → (a && true) ≡ a
-and_true true = refl
-and_true false = refl
 
 word_of_is : (c : Concept) (word : WordId) → word_of c ≡ Some word → c ≡ Atomic word
 word_of_is Everything word h = cc

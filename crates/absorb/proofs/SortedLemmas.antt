@@ -2,6 +2,7 @@
 use Rattle.std.proofs.Common.{◌≡◌, ◌&&◌, Bool, true, false, List, [], ◌∷◌, ◌++◌, refl, sym, ap, ◌∙◌}
 use Rattle.std.specs.List.{list_all}
 use Rattle.std.proofs.lemmas.List.Folds.{list_all-append}
+use Rattle.std.proofs.Math.Bool.{and-true}
 use Rattle.logic_terms.specs.Concept.{Claim}
 use Rattle.absorb.specs.Pieces.{Piece, Equality, RoleInclusion, Assertion, Related, Difference, Unfolding, General, all_pieces}
 use Rattle.absorb.specs.Sorted.{Sorted, no_pieces, with_piece, with_pieces, sorted}
@@ -17,16 +18,12 @@ all_sorted test s =
     && (list_all (λ e. test (Unfolding e.0 e.1)) s.unfoldings
     && list_all (λ c. test (General c)) s.general)))))
 
-and_true : (a : Bool) → (a && true) ≡ a
-and_true true = refl
-and_true false = refl
-
 list_all-push : {X : Type 0} (test : X → Bool) (xs : List X) (x : X) → list_all test (xs ++ x ∷ []) ≡ (list_all test xs && test x)
-list_all-push test xs x = list_all-append test xs (x ∷ []) ∙ ap (λ b. list_all test xs && b) (and_true (test x))
+list_all-push test xs x = list_all-append test xs (x ∷ []) ∙ ap (λ b. list_all test xs && b) (and-true (test x))
 
 -- one more at its place, or at the end
 first : (a b c : Bool) → ((a && b) && c) ≡ ((a && c) && b)
-first true true c = sym (and_true c)
+first true true c = sym (and-true c)
 first true false true = refl
 first true false false = refl
 first false b c = refl
@@ -102,7 +99,7 @@ with_piece-all test s (General c) =
     ∙ ap (λ b. e && (r && b)) (inside a (g && (d && (u && n))) t) ∙ ap (λ b. e && b) (inside r (a && (g && (d && (u && n)))) t) ∙ inside e (r && (a && (g && (d && (u && n))))) t
 
 with_pieces-all : (test : Piece → Bool) (s : Sorted) (ps : List Piece) → all_sorted test (with_pieces s ps) ≡ (all_sorted test s && list_all test ps)
-with_pieces-all test s [] = sym (and_true (all_sorted test s))
+with_pieces-all test s [] = sym (and-true (all_sorted test s))
 with_pieces-all test s (p ∷ ps) =
     with_pieces-all test (with_piece s p) ps
     ∙ ap (λ b. b && list_all test ps) (with_piece-all test s p)

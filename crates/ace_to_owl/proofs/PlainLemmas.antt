@@ -3,7 +3,10 @@ use Rattle.std.proofs.Common.{◌≡◌, ℕ, zero, suc, ◌==◌, ◌&&◌, ◌
 use Rattle.std.specs.Prelude.{not, if◌then◌else◌}
 use Rattle.std.specs.List.{list_any, list_all, filter_map, cons_option}
 use Rattle.std.proofs.lemmas.List.Folds.{list_all-append}
+use Rattle.std.proofs.lemmas.Bool.{and_from}
+use Rattle.std.proofs.Math.Bool.{and-true}
 use Rattle.wiki_base.specs.declared.numbers.WordId.{WordId}
+use Rattle.wiki_base.proofs.BoolLaws.{and_first, and_second}
 use Rattle.logic_terms.specs.declared.structures.Thing.{Thing}
 use Rattle.logic_terms.specs.declared.structures.Thing.TheVariants.{Ref, Name}
 use Rattle.logic_terms.specs.declared.expressions.Role.{Role}
@@ -19,8 +22,6 @@ use Rattle.ace_to_owl.specs.Terms.{open_terms, terms_in, terms_in_all, terms_in_
 use Rattle.ace_to_owl.specs.Parts.{Part, At, Edge, straight, inverse, intersection, leads, part_at, class_at, tree_fault, class_of_tree}
 use Rattle.ace_to_owl.specs.Rolling.{member, is_foreign, value_part, edge_part, holder, held, negated_class, either_class, negation_part, roll, roll_with, parts, part_of}
 use Rattle.ace_to_owl.specs.Mapping.{without, class_asked, subclass_claim, member_claim, only_condition, only_fact, denied_claim, is_pair, role_claim, plain_claim, alone, other_claim, leading_claim, nameless_claim, named_claim, used_claim, compound_claim, claim_alone, own_terms, together, referents_with, conditions_with, claim_together, claim_at, claims_after, axioms_stated}
-use Rattle.ace_to_owl.proofs.Labels.{and_true}
-use Rattle.ace_to_owl.proofs.Forest.{and_l, and_r, both}
 use Rattle.ace_to_owl.proofs.RollMeaning.{Went, went, no_err, ok_same, never_same}
 
 -- the class that a part gives, and one that may be there
@@ -34,29 +35,29 @@ is_plain_option None = true
 
 plain_complement : (c : Concept) → is_plain c ≡ true → is_plain (complement c) ≡ true
 plain_complement c h =
-    both (is_normal (complement c)) (is_wide (complement c)) (is_normal-complement c) (is_wide-complement c ∙ and_r (is_normal c) (is_wide c) h)
+    and_from (is_normal (complement c)) (is_wide (complement c)) (is_normal-complement c) (is_wide-complement c ∙ and_second (is_normal c) (is_wide c) h)
 
 plain_either : (c d : Concept) → is_plain c ≡ true → is_plain d ≡ true → is_plain (UnionOf (also_concept c (also_concept d no_concept))) ≡ true
 plain_either c d h g =
-    both (is_normal c && (is_normal d && true)) (is_wide c && (is_wide d && true))
-    (both (is_normal c) (is_normal d && true) (and_l (is_normal c) (is_wide c) h) (and_true (is_normal d) ∙ and_l (is_normal d) (is_wide d) g))
-    (both (is_wide c) (is_wide d && true) (and_r (is_normal c) (is_wide c) h) (and_true (is_wide d) ∙ and_r (is_normal d) (is_wide d) g))
+    and_from (is_normal c && (is_normal d && true)) (is_wide c && (is_wide d && true))
+    (and_from (is_normal c) (is_normal d && true) (and_first (is_normal c) (is_wide c) h) (and-true (is_normal d) ∙ and_first (is_normal d) (is_wide d) g))
+    (and_from (is_wide c) (is_wide d && true) (and_second (is_normal c) (is_wide c) h) (and-true (is_wide d) ∙ and_second (is_normal d) (is_wide d) g))
 
 each_normal_from : (cs : List Concept) → list_all is_plain cs ≡ true → each_normal (concepts_from cs) ≡ true
 each_normal_from [] h = refl
 each_normal_from (c ∷ cs) h =
-    both (is_normal c) (each_normal (concepts_from cs)) (and_l (is_normal c) (is_wide c) (and_l (is_plain c) (list_all is_plain cs) h)) (each_normal_from cs (and_r (is_plain c) (list_all is_plain cs) h))
+    and_from (is_normal c) (each_normal (concepts_from cs)) (and_first (is_normal c) (is_wide c) (and_first (is_plain c) (list_all is_plain cs) h)) (each_normal_from cs (and_second (is_plain c) (list_all is_plain cs) h))
 
 each_wide_from : (cs : List Concept) → list_all is_plain cs ≡ true → each_wide (concepts_from cs) ≡ true
 each_wide_from [] h = refl
 each_wide_from (c ∷ cs) h =
-    both (is_wide c) (each_wide (concepts_from cs)) (and_r (is_normal c) (is_wide c) (and_l (is_plain c) (list_all is_plain cs) h)) (each_wide_from cs (and_r (is_plain c) (list_all is_plain cs) h))
+    and_from (is_wide c) (each_wide (concepts_from cs)) (and_second (is_normal c) (is_wide c) (and_first (is_plain c) (list_all is_plain cs) h)) (each_wide_from cs (and_second (is_plain c) (list_all is_plain cs) h))
 
 plain_intersection : (cs : List Concept) → list_all is_plain cs ≡ true → is_plain (intersection cs) ≡ true
 plain_intersection [] h = refl
-plain_intersection (c ∷ []) h = and_l (is_plain c) true h
+plain_intersection (c ∷ []) h = and_first (is_plain c) true h
 plain_intersection (c ∷ d ∷ cs) h =
-    both (each_normal (concepts_from (c ∷ d ∷ cs))) (each_wide (concepts_from (c ∷ d ∷ cs))) (each_normal_from (c ∷ d ∷ cs) h) (each_wide_from (c ∷ d ∷ cs) h)
+    and_from (each_normal (concepts_from (c ∷ d ∷ cs))) (each_wide (concepts_from (c ∷ d ∷ cs))) (each_normal_from (c ∷ d ∷ cs) h) (each_wide_from (c ∷ d ∷ cs) h)
 
 -- what parts give at a member
 plain_front : (o : Option Concept) (cs : List Concept) → list_all is_plain (cons_option o cs) ≡ (is_plain_option o && list_all is_plain cs)
@@ -67,7 +68,7 @@ plain_gifts : (f : Part → Option Concept) (ps : List Part) → list_all is_pla
 plain_gifts f [] h each = refl
 plain_gifts f (p ∷ ps) h each =
     plain_front (f p) (filter_map f ps)
-    ∙ both (is_plain_option (f p)) (list_all is_plain (filter_map f ps)) (each p (and_l (is_plain_part p) (list_all is_plain_part ps) h)) (plain_gifts f ps (and_r (is_plain_part p) (list_all is_plain_part ps) h) each)
+    ∙ and_from (is_plain_option (f p)) (list_all is_plain (filter_map f ps)) (each p (and_first (is_plain_part p) (list_all is_plain_part ps) h)) (plain_gifts f ps (and_second (is_plain_part p) (list_all is_plain_part ps) h) each)
 
 plain_there : (b : Bool) (c : Concept) → is_plain c ≡ true → is_plain_option (if b then Some c else None) ≡ true
 plain_there true c h = h
@@ -147,7 +148,7 @@ mutual
       let v : Went (last rs) (λ p. class_of_tree rs (w.from ++ p ∷ [])) c = went (last rs) (λ p. class_of_tree rs (w.from ++ p ∷ [])) c w.after in
       plain_tree rs (w.from ++ v.from ∷ []) c v.after
       (list_all-append is_plain_part w.from (v.from ∷ [])
-      ∙ both (list_all is_plain_part w.from) (is_plain_part v.from && true) (plain_parts root rs cs w.from w.first) (and_true (is_plain_part v.from) ∙ each rs v.from v.first))
+      ∙ and_from (list_all is_plain_part w.from) (is_plain_part v.from && true) (plain_parts root rs cs w.from w.first) (and-true (is_plain_part v.from) ∙ each rs v.from v.first))
 
   pub plain_parts : (root : Option Thing) (rs : List ℕ) (cs : Conditions) (ps : List Part) → parts root rs cs ≡ Ok ps → list_all is_plain_part ps ≡ true
   plain_parts root rs no_condition ps e = sym (ap (list_all is_plain_part) (ok_same [] ps e))
@@ -155,7 +156,7 @@ mutual
       let w : Went (part_of root rs c) (λ p. next (parts root rs cs) (λ qs. Ok (p ∷ qs))) ps = went (part_of root rs c) (λ p. next (parts root rs cs) (λ qs. Ok (p ∷ qs))) ps e in
       let v : Went (parts root rs cs) (λ qs. Ok (w.from ∷ qs)) ps = went (parts root rs cs) (λ qs. Ok (w.from ∷ qs)) ps w.after in
       sym (ap (list_all is_plain_part) (ok_same (w.from ∷ v.from) ps v.after))
-      ∙ both (is_plain_part w.from) (list_all is_plain_part v.from) (plain_part root rs c w.from w.first) (plain_parts root rs cs v.from v.first)
+      ∙ and_from (is_plain_part w.from) (list_all is_plain_part v.from) (plain_part root rs c w.from w.first) (plain_parts root rs cs v.from v.first)
 
   pub plain_part : (root : Option Thing) (rs : List ℕ) (c : Condition) (p : Part) → part_of root rs c ≡ Ok p → is_plain_part p ≡ true
   plain_part root rs (IsA noun t) p e = plain_noun noun p (is_foreign root rs t) (member root rs t) e
@@ -250,7 +251,7 @@ plain_subclass x k l claim e =
     let w : Went (roll (Some (Ref x)) (without x k)) (λ c. next (roll (Some (Ref x)) l) (λ d. Ok (SubClassOf c d))) claim = went (roll (Some (Ref x)) (without x k)) (λ c. next (roll (Some (Ref x)) l) (λ d. Ok (SubClassOf c d))) claim e in
     let v : Went (roll (Some (Ref x)) l) (λ d. Ok (SubClassOf w.from d)) claim = went (roll (Some (Ref x)) l) (λ d. Ok (SubClassOf w.from d)) claim w.after in
     sym (ap is_plain_claim (ok_same (SubClassOf w.from v.from) claim v.after))
-    ∙ both (is_plain w.from) (is_plain v.from) (plain_roll (Some (Ref x)) (without x k) w.from w.first) (plain_roll (Some (Ref x)) l v.from v.first)
+    ∙ and_from (is_plain w.from) (is_plain v.from) (plain_roll (Some (Ref x)) (without x k) w.from w.first) (plain_roll (Some (Ref x)) l v.from v.first)
 
 plain_other : (c : Condition) (claim : Claim) → other_claim c ≡ Ok claim → is_plain_claim claim ≡ true
 plain_other c claim e =
@@ -332,7 +333,7 @@ plain_after rs gs all before (c ∷ cs) claims e =
     let v : Went (claims_after rs gs all (before ++ own_terms rs c ∷ []) cs) (λ more. Ok (cons_option w.from more)) claims = went (claims_after rs gs all (before ++ own_terms rs c ∷ []) cs) (λ more. Ok (cons_option w.from more)) claims w.after in
     sym (ap are_plain (ok_same (cons_option w.from v.from) claims v.after))
     ∙ plain_more w.from v.from
-    ∙ both (is_plain_maybe w.from) (are_plain v.from) (plain_at rs gs all before (own_terms rs c) c w.from w.first) (plain_after rs gs all (before ++ own_terms rs c ∷ []) cs v.from v.first)
+    ∙ and_from (is_plain_maybe w.from) (are_plain v.from) (plain_at rs gs all before (own_terms rs c) c w.from w.first) (plain_after rs gs all (before ++ own_terms rs c ∷ []) cs v.from v.first)
 
 -- the axioms of a statement, and the class of a question
 pub statement_plain : (k : Structure) (claims : List Claim) → axioms_stated k ≡ Ok claims → are_plain claims ≡ true

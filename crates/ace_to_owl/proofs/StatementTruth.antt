@@ -2,9 +2,10 @@
 use Rattle.std.proofs.Common.{◌≡◌, ℕ, ◌<◌, ◌==◌, ◌&&◌, ◌||◌, Bool, true, false, List, [], ◌∷◌, ◌++◌, map, length, Option, Some, None, Result, Ok, Err, Decides, refl, sym, ap, ◌∙◌, subst, inl, inr, arith}
 use Rattle.std.specs.Prelude.{◌⊎◌, not, cond, if◌then◌else◌}
 use Rattle.std.specs.List.{list_any, list_all, filter, cons_option}
-use Rattle.std.proofs.lemmas.Bool.{cases_Bool, eq-eqb, ne_eqb}
+use Rattle.std.proofs.lemmas.Bool.{cases_Bool, eq-eqb, ne_eqb, or_cases, or_right, and_from, eqb-true, both_ways}
 use Rattle.std.proofs.lemmas.List.Folds.{list_any-append}
 use Rattle.wiki_base.specs.declared.numbers.WordId.{WordId}
+use Rattle.wiki_base.proofs.BoolLaws.{and_first, and_second, same_tests}
 use Rattle.logic_terms.specs.declared.structures.Thing.TheVariants.{Ref, Name}
 use Rattle.logic_terms.specs.declared.cause.Cause.{Cause}
 use Rattle.logic_terms.specs.declared.cause.Cause.TheVariants.{NoRoot}
@@ -23,10 +24,7 @@ use Rattle.ace_to_owl.specs.Terms.{terms_in_all, terms_in_condition, first_name}
 use Rattle.ace_to_owl.specs.Moves.{gathered}
 use Rattle.ace_to_owl.specs.Rolling.{roll}
 use Rattle.ace_to_owl.specs.Mapping.{without, class_asked, member_claim, claim_alone, own_terms, joined, together, referents_with, conditions_with, claim_together, claim_at, claims_after, axioms_stated}
-use Rattle.ace_to_owl.proofs.Labels.{from_eqb, clash}
-use Rattle.ace_to_owl.proofs.Forest.{or_cases, and_l, and_r, or_r, both}
 use Rattle.ace_to_owl.proofs.GroupLemmas.{joined_more}
-use Rattle.ace_to_owl.proofs.TreeMeaning.{iff_same}
 use Rattle.ace_to_owl.proofs.RollMeaning.{Went, went, no_err, ok_same, fresh_in, fresh_in_all, fresh_in_condition}
 use Rattle.ace_to_owl.proofs.Fresh.{Among, Apart, apart_of, fresh_once, fresh_less_condition, bound_filter}
 use Rattle.ace_to_owl.proofs.TermsTruth.{is_used, condition_alike, has_own}
@@ -43,7 +41,7 @@ joined-grouped [] q p = refl
 joined-grouped (g ∷ gs) q p = joined_more (grouped gs) (grouped (g ∷ gs)) g gs (λ a b. joined-grouped gs a b) (λ n. refl) q p
 
 label_of : (gs : List (List ℕ)) (q p : ℕ) → joined gs q p ≡ true → grouped gs q ≡ grouped gs p
-label_of gs q p h = from_eqb (grouped gs q) (grouped gs p) (joined-grouped gs q p ∙ h)
+label_of gs q p h = eqb-true (grouped gs q) (grouped gs p) (joined-grouped gs q p ∙ h)
 
 joined_by : (gs : List (List ℕ)) (q p : ℕ) → grouped gs q ≡ grouped gs p → joined gs q p ≡ true
 joined_by gs q p e = sym (joined-grouped gs q p) ∙ eq-eqb (grouped gs q) (grouped gs p) e
@@ -61,8 +59,8 @@ joined_trans gs q p r h g = joined_by gs q r (label_of gs q p h ∙ label_of gs 
 any_at : (test : ℕ → Bool) (xs : List ℕ) (q : ℕ) → is_bound xs q ≡ true → test q ≡ true → list_any test xs ≡ true
 any_at test [] q h t = h
 any_at test (x ∷ xs) q h t = elim (or_cases (x == q) (is_bound xs q) h) [
-  | inl here ↦ ap (λ b. b || list_any test xs) (ap test (from_eqb x q here) ∙ t)
-  | inr later ↦ or_r (test x) (list_any test xs) (any_at test xs q later t)
+  | inl here ↦ ap (λ b. b || list_any test xs) (ap test (eqb-true x q here) ∙ t)
+  | inr later ↦ or_right (test x) (list_any test xs) (any_at test xs q later t)
 ]
 
 record Passing (test : ℕ → Bool) (xs : List ℕ) : Type 0 where
@@ -71,10 +69,10 @@ record Passing (test : ℕ → Bool) (xs : List ℕ) : Type 0 where
   passes : test at ≡ true
 
 any_from : (test : ℕ → Bool) (xs : List ℕ) → list_any test xs ≡ true → Passing test xs
-any_from test [] h = absurd (clash false refl h)
+any_from test [] h = absurd (both_ways false refl h)
 any_from test (x ∷ xs) h = elim (or_cases (test x) (list_any test xs) h) [
   | inl here ↦ record { at = x; among = ap (λ b. b || is_bound xs x) (eq-eqb x x refl); passes = here }
-  | inr later ↦ (let w : Passing test xs = any_from test xs later in record { at = w.at; among = or_r (x == w.at) (is_bound xs w.at) w.among; passes = w.passes })
+  | inr later ↦ (let w : Passing test xs = any_from test xs later in record { at = w.at; among = or_right (x == w.at) (is_bound xs w.at) w.among; passes = w.passes })
 ]
 
 -- two groups with referents that are joined
@@ -106,8 +104,8 @@ group_joins rs [] c q p listed mine theirs = absurd listed
 group_joins rs (d ∷ ds) c q p listed mine theirs = elim listed [
   | inl same ↦ (let gs : List (List ℕ) = map (own_terms rs) ds in
       let g : List ℕ = own_terms rs d in
-      or_r (joined gs q p) (list_any (λ r. joined gs q r) g && list_any (λ r. joined gs r p) g)
-      (both (list_any (λ r. joined gs q r) g) (list_any (λ r. joined gs r p) g)
+      or_right (joined gs q p) (list_any (λ r. joined gs q r) g && list_any (λ r. joined gs r p) g)
+      (and_from (list_any (λ r. joined gs q r) g) (list_any (λ r. joined gs r p) g)
       (any_at (λ r. joined gs q r) g q (sym (ap (λ e. is_bound (own_terms rs e) q) same) ∙ mine) (joined_refl gs q))
       (any_at (λ r. joined gs r p) g p (sym (ap (λ e. is_bound (own_terms rs e) p) same) ∙ theirs) (joined_refl gs p))))
   | inr later ↦ (let gs : List (List ℕ) = map (own_terms rs) ds in
@@ -123,7 +121,7 @@ kept_listed false test d c more is h = inr h
 listed_kept : (t : Bool) (test : Condition → Bool) (d c : Condition) (more : List Condition) → test d ≡ t → test c ≡ true → (c ≡ d) ⊎ Listed c more → Listed c (cond t (d ∷ more) more)
 listed_kept true test d c more is passes h = h
 listed_kept false test d c more is passes h = elim h [
-  | inl same ↦ absurd (clash (test d) is (sym (ap test same) ∙ passes))
+  | inl same ↦ absurd (both_ways (test d) is (sym (ap test same) ∙ passes))
   | inr later ↦ later
 ]
 
@@ -141,14 +139,14 @@ listed_filter test (d ∷ cs) c passes h = elim h [
 all_true_each : (i : Interpretation) (cs : List Condition) (g : ℕ → ℕ) → all_true i (conditions_from cs) g ≡ true → (c : Condition) → Listed c cs → condition_true i c g ≡ true
 all_true_each i [] g h c listed = absurd listed
 all_true_each i (d ∷ cs) g h c listed = elim listed [
-  | inl same ↦ ap (λ e. condition_true i e g) same ∙ and_l (condition_true i d g) (all_true i (conditions_from cs) g) h
-  | inr later ↦ all_true_each i cs g (and_r (condition_true i d g) (all_true i (conditions_from cs) g) h) c later
+  | inl same ↦ ap (λ e. condition_true i e g) same ∙ and_first (condition_true i d g) (all_true i (conditions_from cs) g) h
+  | inr later ↦ all_true_each i cs g (and_second (condition_true i d g) (all_true i (conditions_from cs) g) h) c later
 ]
 
 each_all_true : (i : Interpretation) (cs : List Condition) (g : ℕ → ℕ) → ((c : Condition) → Listed c cs → condition_true i c g ≡ true) → all_true i (conditions_from cs) g ≡ true
 each_all_true i [] g each = refl
 each_all_true i (d ∷ cs) g each =
-    both (condition_true i d g) (all_true i (conditions_from cs) g) (each d (inl refl)) (each_all_true i cs g (λ c listed. each c (inr listed)))
+    and_from (condition_true i d g) (all_true i (conditions_from cs) g) (each d (inl refl)) (each_all_true i cs g (λ c listed. each c (inr listed)))
 
 -- what is known of each condition of a statement
 pub record Known (rs : List ℕ) (c : Condition) : Type 0 where
@@ -160,14 +158,14 @@ all_known rs no_condition once fresh c listed = absurd listed
 all_known rs (also_condition d cs) once fresh c listed =
     let two : Apart (introduced_in_condition d) (introduced_in_all cs) = apart_of (introduced_in_condition d) (introduced_in_all cs) once in
     elim listed [
-      | inl same ↦ subst (Known rs) (sym same) (record { once = two.first; fresh = and_l (fresh_in_condition rs d) (fresh_in_all rs cs) fresh })
-      | inr later ↦ all_known rs cs two.second (and_r (fresh_in_condition rs d) (fresh_in_all rs cs) fresh) c later
+      | inl same ↦ subst (Known rs) (sym same) (record { once = two.first; fresh = and_first (fresh_in_condition rs d) (fresh_in_all rs cs) fresh })
+      | inr later ↦ all_known rs cs two.second (and_second (fresh_in_condition rs d) (fresh_in_all rs cs) fresh) c later
     ]
 
 known_fresh_all : (rs fewer : List ℕ) (cs : List Condition) → Among fewer rs → ((c : Condition) → Listed c cs → Known rs c) → fresh_in_all fewer (conditions_from cs) ≡ true
 known_fresh_all rs fewer [] less each = refl
 known_fresh_all rs fewer (d ∷ cs) less each =
-    both (fresh_in_condition fewer d) (fresh_in_all fewer (conditions_from cs))
+    and_from (fresh_in_condition fewer d) (fresh_in_all fewer (conditions_from cs))
     (fresh_less_condition fewer rs d less (each d (inl refl)).fresh)
     (known_fresh_all rs fewer cs less (λ c listed. each c (inr listed)))
 
@@ -185,7 +183,7 @@ component_says i rs inside cs claim less each e f = by (first_name (terms_in_all
         let w : Went (roll (Some (Name name)) (structure inside (conditions_from cs))) (λ d. Ok (ClassAssertion d name)) claim = went (roll (Some (Name name)) (structure inside (conditions_from cs))) (λ d. Ok (ClassAssertion d name)) claim h in
         sym (ap (holds i) (ok_same (ClassAssertion w.from name) claim w.after))
         ∙ roll_true i [] (Some (Name name)) (structure inside (conditions_from cs)) w.from
-        (both (list_all (λ r. not (is_bound [] r)) inside) (fresh_in_all inside (conditions_from cs)) (none_out inside) (known_fresh_all rs inside cs less each))
+        (and_from (list_all (λ r. not (is_bound [] r)) inside) (fresh_in_all inside (conditions_from cs)) (none_out inside) (known_fresh_all rs inside cs less each))
         tt w.first f (element_of i name) refl
 
 -- what an axiom at a place is, by the cases of its condition
@@ -219,14 +217,14 @@ front_holds i None claims = refl
 more_before : (test : List ℕ → Bool) (before : List (List ℕ)) (g : List ℕ) → list_any test (before ++ g ∷ []) ≡ true → (list_any test before ≡ true) ⊎ (test g ≡ true)
 more_before test before g h = elim (or_cases (list_any test before) (test g || false) (sym (list_any-append test before (g ∷ [])) ∙ h)) [
   | inl old ↦ inl old
-  | inr new ↦ elim (or_cases (test g) false new) [ inl is_so ↦ inr is_so | inr is_not ↦ absurd (clash false refl is_not) ]
+  | inr new ↦ elim (or_cases (test g) false new) [ inl is_so ↦ inr is_so | inr is_not ↦ absurd (both_ways false refl is_not) ]
 ]
 
 before_old : (test : List ℕ → Bool) (before : List (List ℕ)) (g : List ℕ) → list_any test before ≡ true → list_any test (before ++ g ∷ []) ≡ true
 before_old test before g h = list_any-append test before (g ∷ []) ∙ ap (λ b. b || (test g || false)) h
 
 before_new : (test : List ℕ → Bool) (before : List (List ℕ)) (g : List ℕ) → test g ≡ true → list_any test (before ++ g ∷ []) ≡ true
-before_new test before g h = list_any-append test before (g ∷ []) ∙ or_r (list_any test before) (test g || false) (ap (λ b. b || false) h)
+before_new test before g h = list_any-append test before (g ∷ []) ∙ or_right (list_any test before) (test g || false) (ap (λ b. b || false) h)
 
 record PassingGroup (test : List ℕ → Bool) (gs : List (List ℕ)) : Type 0 where
   group : List ℕ
@@ -234,10 +232,10 @@ record PassingGroup (test : List ℕ → Bool) (gs : List (List ℕ)) : Type 0 w
   carries : (other : List ℕ → Bool) → other group ≡ true → list_any other gs ≡ true
 
 group_from : (test : List ℕ → Bool) (gs : List (List ℕ)) → list_any test gs ≡ true → PassingGroup test gs
-group_from test [] h = absurd (clash false refl h)
+group_from test [] h = absurd (both_ways false refl h)
 group_from test (g ∷ gs) h = elim (or_cases (test g) (list_any test gs) h) [
   | inl here ↦ record { group = g; passes = here; carries = λ other p. ap (λ b. b || list_any other gs) p }
-  | inr later ↦ (let w : PassingGroup test gs = group_from test gs later in record { group = w.group; passes = w.passes; carries = λ other p. or_r (other g) (list_any other gs) (w.carries other p) })
+  | inr later ↦ (let w : PassingGroup test gs = group_from test gs later in record { group = w.group; passes = w.passes; carries = λ other p. or_right (other g) (list_any other gs) (w.carries other p) })
 ]
 
 -- a statement's conditions, each of which is known
@@ -268,7 +266,7 @@ module _ (i : Interpretation) (positive : 0 < i.size) (rs : List ℕ) (all : Lis
   alone_true : (c : Condition) (claim : Claim) → Listed c all → claim_alone c ≡ Ok claim → (f : ℕ → ℕ) → holds i claim ≡ condition_true i c f
   alone_true c claim listed e f =
       let k : Known rs c = known c listed in
-      (alone_says i c claim positive k.once (fresh_less_condition [] rs c (λ q h. absurd (clash false refl h)) k.fresh) e).truth f
+      (alone_says i c claim positive k.once (fresh_less_condition [] rs c (λ q h. absurd (both_ways false refl h)) k.fresh) e).truth f
 
   component_true : (c : Condition) (claim : Claim) → claim_together (inside_of c) (with_of c) ≡ Ok claim → (f : ℕ → ℕ) → holds i claim ≡ is_true i (structure (inside_of c) (conditions_from (with_of c))) f
   component_true c claim e f = component_says i rs (inside_of c) (with_of c) claim (inside_among c) (λ d h. known d (with_listed c d h)) e f
@@ -299,7 +297,7 @@ module _ (i : Interpretation) (positive : 0 < i.size) (rs : List ℕ) (all : Lis
         let v : Went (claims_after rs (map (own_terms rs) all) all (before ++ own_terms rs c ∷ []) cs) (λ more. Ok (cons_option w.from more)) claims = went (claims_after rs (map (own_terms rs) all) all (before ++ own_terms rs c ∷ []) cs) (λ more. Ok (cons_option w.from more)) claims w.after in
         sym (ap (all_hold i) (ok_same (cons_option w.from v.from) claims v.after))
         ∙ front_holds i w.from v.from
-        ∙ both (elim w.from [ Some claim ↦ holds i claim | None ↦ true ]) (all_hold i v.from)
+        ∙ and_from (elim w.from [ Some claim ↦ holds i claim | None ↦ true ]) (all_hold i v.from)
         (step_forth before c w.from (within c (inl refl)) (step_of rs all before c w.from w.first))
         (claims_forth (before ++ own_terms rs c ∷ []) cs v.from (λ d h. within d (inr h)) v.first)
 
@@ -331,7 +329,7 @@ module _ (i : Interpretation) (positive : 0 < i.size) (rs : List ℕ) (all : Lis
         done = λ d in_all was. elim (more_before (together (map (own_terms rs) all) (own_terms rs d)) before (own_terms rs c) was) [
           | inl old ↦ found.done d in_all old
           | inr new ↦ (let m : Meeting (map (own_terms rs) all) (own_terms rs d) (own_terms rs c) = meeting (map (own_terms rs) all) (own_terms rs d) (own_terms rs c) new in
-              absurd (clash false refl (sym (ap (λ own. is_bound own m.p) none) ∙ m.theirs)))
+              absurd (both_ways false refl (sym (ap (λ own. is_bound own m.p) none) ∙ m.theirs)))
         ];
       };
       keeps = λ g kept. sym (alone_true c claim listed e g) ∙ true_claim;
@@ -371,7 +369,7 @@ module _ (i : Interpretation) (positive : 0 < i.size) (rs : List ℕ) (all : Lis
             extends = record {
               introduced = λ r in_rs. elim (cases_Bool (is_bound (inside_of c) r)) [
                 | inl is_so ↦ w.1.introduced r ((list_any-Contains (inside_of c) r).0 is_so)
-                | inr is_not ↦ subst (λ n. n < i.size) (sym (w.1.others r (λ in_c. clash (is_bound (inside_of c) r) is_not ((list_any-Contains (inside_of c) r).1 in_c)))) (found.extends.introduced r in_rs)
+                | inr is_not ↦ subst (λ n. n < i.size) (sym (w.1.others r (λ in_c. both_ways (is_bound (inside_of c) r) is_not ((list_any-Contains (inside_of c) r).1 in_c)))) (found.extends.introduced r in_rs)
               ];
               others = λ r out.
                   w.1.others r (λ in_c. out ((list_any-Contains rs r).0 (inside_among c r ((list_any-Contains (inside_of c) r).1 in_c))))
@@ -398,7 +396,7 @@ module _ (i : Interpretation) (positive : 0 < i.size) (rs : List ℕ) (all : Lis
             let mine : is_bound (own_terms rs d) r ≡ true = has_own rs (terms_in_condition [] d) r (inside_among c r in_c) used in
             let w : PassingGroup (together (map (own_terms rs) all) (own_terms rs d)) before = group_from (together (map (own_terms rs) all) (own_terms rs d)) before old in
             let n : Meeting (map (own_terms rs) all) (own_terms rs d) w.group = meeting (map (own_terms rs) all) (own_terms rs d) w.group w.passes in
-            clash (list_any (together (map (own_terms rs) all) (own_terms rs c)) before) new
+            both_ways (list_any (together (map (own_terms rs) all) (own_terms rs c)) before) new
             (w.carries (together (map (own_terms rs) all) (own_terms rs c))
             (meet (map (own_terms rs) all) (own_terms rs c) w.group j.at n.p j.among n.theirs
             (joined_trans (map (own_terms rs) all) j.at r n.p j.passes
@@ -429,9 +427,9 @@ module _ (i : Interpretation) (positive : 0 < i.size) (rs : List ℕ) (all : Lis
         let two : ((elim w.from [ Some claim ↦ holds i claim | None ↦ true ]) && all_hold i v.from) ≡ true =
         sym (front_holds i w.from v.from) ∙ ap (all_hold i) (ok_same (cons_option w.from v.from) claims v.after) ∙ t in
         let n : Next before c =
-        step_back before c w.from h (within c (inl refl)) (step_of rs all before c w.from w.first) (and_l (elim w.from [ Some claim ↦ holds i claim | None ↦ true ]) (all_hold i v.from) two) found in
+        step_back before c w.from h (within c (inl refl)) (step_of rs all before c w.from w.first) (and_first (elim w.from [ Some claim ↦ holds i claim | None ↦ true ]) (all_hold i v.from) two) found in
         let m : Made (before ++ own_terms rs c ∷ []) cs =
-        claims_back (before ++ own_terms rs c ∷ []) cs v.from n.h (λ d listed. within d (inr listed)) v.first (and_r (elim w.from [ Some claim ↦ holds i claim | None ↦ true ]) (all_hold i v.from) two) n.found in
+        claims_back (before ++ own_terms rs c ∷ []) cs v.from n.h (λ d listed. within d (inr listed)) v.first (and_second (elim w.from [ Some claim ↦ holds i claim | None ↦ true ]) (all_hold i v.from) two) n.found in
         record {
           g = m.g;
           extends = m.extends;
@@ -459,14 +457,14 @@ module _ (i : Interpretation) (positive : 0 < i.size) (rs : List ℕ) (all : Lis
           | inr is_not ↦ ap (λ b. if b then 0 else f q) is_not
         ];
       };
-      done = λ d listed was. absurd (clash (is_done [] d) (nothing_done d) was);
+      done = λ d listed was. absurd (both_ways (is_done [] d) (nothing_done d) was);
     }
 
     statement_same : (claims : List Claim) → claims_after rs (map (own_terms rs) all) all [] all ≡ Ok claims → is_true i (structure rs (conditions_from all)) f ≡ all_hold i claims
     statement_same claims e =
         let some : Decides (is_true i (structure rs (conditions_from all)) f) ((g : ℕ → ℕ) × Extends i.size rs f g × (all_true i (conditions_from all) g ≡ true)) =
         some_extension-Decides i.size rs (λ g. all_true i (conditions_from all) g) (λ g. all_true i (conditions_from all) g ≡ true) (λ g. (λ t. t, λ t. t)) f in
-        iff_same (is_true i (structure rs (conditions_from all)) f) (all_hold i claims)
+        same_tests (is_true i (structure rs (conditions_from all)) f) (all_hold i claims)
         (λ h.
         let w : (g : ℕ → ℕ) × Extends i.size rs f g × (all_true i (conditions_from all) g ≡ true) = some.0 h in
         claims_forth w.0 (λ q own. w.1.introduced q ((list_any-Contains rs q).0 own)) (all_true_each i all w.0 w.2) [] all claims (λ c listed. listed) e)
@@ -482,13 +480,13 @@ from_list (also_condition c cs) = ap (also_condition c) (from_list cs)
 pub statement_true : (k : Structure) (claims : List Claim) → axioms_stated k ≡ Ok claims → all_distinct (introduced_in k) ≡ true → (i : Interpretation) → 0 < i.size → (f : ℕ → ℕ) → is_true i k f ≡ all_hold i claims
 statement_true (structure rs cs) claims e once i positive f =
     let two : Apart rs (introduced_in_all cs) = apart_of rs (introduced_in_all cs) once in
-    let fresh : fresh_in [] (structure rs cs) ≡ true = fresh_once [] (structure rs cs) once (λ q none own. clash false refl none) in
+    let fresh : fresh_in [] (structure rs cs) ≡ true = fresh_once [] (structure rs cs) once (λ q none own. both_ways false refl none) in
     ap (λ ds. is_true i (structure rs ds) f) (sym (from_list cs))
-    ∙ statement_same i positive rs (condition_list cs) (all_known rs cs two.second (and_r (list_all (λ r. not (is_bound [] r)) rs) (fresh_in_all rs cs) fresh)) f claims e
+    ∙ statement_same i positive rs (condition_list cs) (all_known rs cs two.second (and_second (list_all (λ r. not (is_bound [] r)) rs) (fresh_in_all rs cs) fresh)) f claims e
 
 -- an element is in a question's class exactly where the structure is true with it for the referent that is asked for
 pub question_true : (k : Structure) (x : ℕ) (c : Concept) → class_asked k x ≡ Ok c → all_distinct (introduced_in k) ≡ true → is_bound (referents_in k) x ≡ true → (i : Interpretation) (f : ℕ → ℕ) (y : ℕ) → is_in i c y ≡ is_true i (without x k) (giving f x y)
 question_true k x c e once own i f y =
     roll_true i (x ∷ []) (Some (Ref x)) (without x k) c
-    (without_fresh x k (fresh_once [] k once (λ q none h. clash false refl none)) own)
+    (without_fresh x k (fresh_once [] k once (λ q none h. both_ways false refl none)) own)
     (ap (λ b. b || false) (eq-eqb x x refl)) e (giving f x y) y (same_at f x y x refl)

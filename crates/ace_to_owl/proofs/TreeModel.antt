@@ -2,13 +2,13 @@
 use Rattle.std.proofs.Common.{◌≡◌, ℕ, zero, suc, ◌≤◌, ◌<◌, ◌==◌, ◌&&◌, ◌||◌, Bool, true, false, List, [], ◌∷◌, ◌++◌, length, Option, Some, None, refl, sym, ap, ◌∙◌, subst, inl, inr, arith, append_assoc}
 use Rattle.std.specs.Prelude.{not, cond, if◌then◌else◌}
 use Rattle.std.specs.List.{filter_map}
-use Rattle.std.proofs.lemmas.Bool.{cases_eq, cases_Bool, eq-eqb, ne_eqb}
+use Rattle.std.proofs.lemmas.Bool.{cases_eq, cases_Bool, eq-eqb, ne_eqb, and_from, eqb-true, both_ways}
+use Rattle.wiki_base.proofs.BoolLaws.{and_first, and_second}
 use Rattle.logic_terms.specs.Concept.{Concept}
 use Rattle.logic_terms.specs.Interpretation.{Interpretation, has_pair}
 use Rattle.logic_terms.specs.Meaning.{is_in}
 use Rattle.ace_to_owl.specs.Parts.{Part, At, Edge, connected, has_cycle}
-use Rattle.ace_to_owl.proofs.Labels.{from_eqb, clash}
-use Rattle.ace_to_owl.proofs.Forest.{Con, and_l, and_r, both, con_refl, con_sym, con_trans, con_skip, speaks, apart, Among, far, Touched, parted, Within, within_cons, apart_within, apart_cycle, isolated}
+use Rattle.ace_to_owl.proofs.Forest.{Con, con_refl, con_sym, con_trans, con_skip, speaks, apart, Among, far, Touched, parted, Within, within_cons, apart_within, apart_cycle, isolated}
 use Rattle.ace_to_owl.proofs.TreeTruth.{part_true, place, gift, tree_class, linked, passes, is_in-intersection, all_gifts, gifts_all, some_from, some_to, FarEnd, far_end, among_apart, among_whole, apart_shorter, joined_far, joined_ends, loop_cycle, no_gift_by, same_some, none_some}
 
 -- elements for the members in the component of one, which has this element, with all parts there true
@@ -67,7 +67,7 @@ module _ (i : Interpretation) (v x : ℕ) (qs rs : List Part) (e : Part) (b : �
 
   out_there : (c : ℕ) (u : ℕ) → Con qs c u → connected qs b u ≡ false → (n : ℕ) → Con qs c n → connected qs b n ≡ false
   out_there c u con out n on = elim (cases_Bool (connected qs b n)) [
-    | inl is_so ↦ absurd (clash (connected qs b u) out (con_trans qs b n u is_so (con_trans qs n c u (con_sym qs c n on) con)))
+    | inl is_so ↦ absurd (both_ways (connected qs b u) out (con_trans qs b n u is_so (con_trans qs n c u (con_sym qs c n on) con)))
     | inr is_not ↦ is_not
   ]
 
@@ -171,13 +171,13 @@ separate v ps before (e ∷ rs) is forest = (
       let way : Con (before ++ rs) b c = apart_middle v e before rs end.speaks_of b c (subst (λ qs. Con (apart v qs) b c) is con) in
       let joint : Con (before ++ rs) v c = con_behind before rs v c (joined_far v d c rs among other) in
       let round : has_cycle (before ++ e ∷ rs) ≡ true = end.cuts before rs (con_trans (before ++ rs) v c b joint (con_sym (before ++ rs) b c way)) in
-      clash (has_cycle ps) forest (ap has_cycle is ∙ round),
+      both_ways (has_cycle ps) forest (ap has_cycle is ∙ round),
   separate v ps (before ++ e ∷ []) rs (is ∙ sym (append_assoc before (e ∷ []) rs)) forest,
 )
 
 forest_apart : (v : ℕ) (ps : List Part) → has_cycle ps ≡ false → has_cycle (apart v ps) ≡ false
 forest_apart v ps forest = elim (cases_Bool (has_cycle (apart v ps))) [
-  | inl is_so ↦ absurd (clash (has_cycle ps) forest (apart_cycle v ps is_so))
+  | inl is_so ↦ absurd (both_ways (has_cycle ps) forest (apart_cycle v ps is_so))
   | inr is_not ↦ is_not
 ]
 
@@ -213,7 +213,7 @@ module _ (i : Interpretation) (ps : List Part) (v x : ℕ) (forest : has_cycle p
   ]
   part_of_whole (Edge word a b) among con = elim (cases_eq a v) [
     | inl av ↦ elim (cases_eq b v) [
-      | inl bv ↦ absurd (clash (has_cycle ps) forest (loop_cycle word a b ps (av ∙ sym bv) among))
+      | inl bv ↦ absurd (both_ways (has_cycle ps) forest (loop_cycle word a b ps (av ∙ sym bv) among))
       | inr nb ↦ by_edge (Edge word a b) b among (λ j. if eq-eqb a v av j && not (ne_eqb b v nb j) then Some b else if (b == v) && not (a == v) then Some a else None)
     ]
     | inr na ↦ elim (cases_eq b v) [
@@ -237,7 +237,7 @@ pub forth : (i : Interpretation) (depth : ℕ) (ps : List Part) (v x : ℕ) → 
 forth i zero [] v x short forest h = record {
   h = λ u. x;
   at = refl;
-  sized = λ u ne con. absurd (ne (sym (from_eqb v u con)));
+  sized = λ u ne con. absurd (ne (sym (eqb-true v u con)));
   true_parts = λ p among con. absurd among;
 }
 forth i zero (p ∷ ps) v x short forest h = absurd (omega (arith, short))
@@ -252,8 +252,8 @@ forth i (suc depth) ps v x short forest h =
     record {
       y = w.0;
       within = w.1;
-      links = and_l (linked i v e x w.0) (is_in i (cl b) w.0) w.2;
-      model = forth i depth (apart v ps) b w.0 (omega (arith, less, short)) (forest_apart v ps forest) (and_r (linked i v e x w.0) (is_in i (cl b) w.0) w.2);
+      links = and_first (linked i v e x w.0) (is_in i (cl b) w.0) w.2;
+      model = forth i depth (apart v ps) b w.0 (omega (arith, less, short)) (forest_apart v ps forest) (and_second (linked i v e x w.0) (is_in i (cl b) w.0) w.2);
     }) in
     modelled i ps v x forest
     (λ k c among same. sym (ap (λ t. passes i (if t then Some c else None) x) (eq-eqb k v same)) ∙ gifts (At k c) among)
@@ -278,7 +278,7 @@ module _ (i : Interpretation) (depth : ℕ) (ps : List Part) (v : ℕ) (h : ℕ 
       (λ q on con. trues q (among_whole v q ps on) (con_trans ps v b (place q) joint (apart_within v ps b (place q) con))) in
       end.gives i (tree_class depth (apart v ps)) (h v)
       ∙ some_to i.size (λ y. linked i v p (h v) y && is_in i (tree_class depth (apart v ps) b) y) (h b) (sized b end.apart_from joint)
-      (both (linked i v p (h v) (h b)) (is_in i (tree_class depth (apart v ps) b) (h b)) (sym (end.reads i h) ∙ trues p among (near p b among end)) child)
+      (and_from (linked i v p (h v) (h b)) (is_in i (tree_class depth (apart v ps) b) (h b)) (sym (end.reads i h) ∙ trues p among (near p b among end)) child)
   given_by p None among its none = none refl
 
   pub given_each : (p : Part) → Among p ps → passes i (gift (tree_class depth (apart v ps)) v p) (h v) ≡ true

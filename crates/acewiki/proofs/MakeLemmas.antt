@@ -1,6 +1,7 @@
 -- The command `make` among the commands.
 use Rattle.std.proofs.Common.{◌≡◌, ◌⊎◌, ℕ, List, [], Option, Some, refl, sym, ap, subst, ◌∙◌, inl, inr}
 use Rattle.std.specs.Io.KnownBytes.{Appends}
+use Rattle.std.proofs.lemmas.Option.{same_Some}
 use Rattle.making.specs.declared.making.Made.{Made}
 use Rattle.making.specs.declared.making.Made.TheVariants as made
 use Rattle.acewiki.specs.declared.command.Outcome.{Outcome}
@@ -8,11 +9,10 @@ use Rattle.acewiki.specs.declared.command.Outcome.TheVariants as outcomes
 use Rattle.acewiki.specs.Command.{Asked, make, status_of}
 use Rattle.acewiki.specs.Make.{made_outcome, MakesSummary}
 use Rattle.acewiki.specs.Wiki.{Holding, ace_wiki}
-use Rattle.acewiki.proofs.StatusLemmas.{some-same}
 
 -- the command is one alone
 pub other_command : {P : Type 0} (command : Option Asked) (a b : Asked) → command ≡ Some a → command ≡ Some b → (a ≡ b → ⊥) → P
-other_command command a b is given differ = absurd (differ (some-same a b (sym is ∙ given)))
+other_command command a b is given differ = absurd (differ (same_Some a b (sym is ∙ given)))
 
 make-count : (c d s t b e : ℕ) → make c s b ≡ make d t e → c ≡ d
 make-count c d s t b e same = cc
@@ -26,7 +26,7 @@ make-budget c d s t b e same = cc
 pub same_make : (command : Option Asked) (c d s t b e : ℕ) (taken : Option (List ℕ)) (outcome : Outcome) (taken_after : Option (List ℕ)) → command ≡ Some (make c s b) → command ≡ Some (make d t e)
     → MakesSummary (ace_wiki b) c s taken outcome taken_after → MakesSummary (ace_wiki e) d t taken outcome taken_after
 same_make command c d s t b e taken outcome taken_after is given makes =
-    let same = some-same (make c s b) (make d t e) (sym is ∙ given) in
+    let same = same_Some (make c s b) (make d t e) (sym is ∙ given) in
     subst (λ (n : ℕ). MakesSummary (ace_wiki e) d n taken outcome taken_after) (make-seed c d s t b e same)
     (subst (λ (n : ℕ). MakesSummary (ace_wiki e) n s taken outcome taken_after) (make-count c d s t b e same)
     (subst (λ (n : ℕ). MakesSummary (ace_wiki n) c s taken outcome taken_after) (make-budget c d s t b e same) makes))

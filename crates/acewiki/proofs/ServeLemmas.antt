@@ -293,8 +293,3 @@ pub with_line : {E : Type 0} (old : Holding) (request : Request) (new : Holding)
     → IfOk r (λ line. (told : Reply) × KeptStep old request told new × (line ≡ reply_line told))
 with_line old request new reply (Ok line) stepped is = (reply, stepped, is)
 with_line old request new reply (Err e) stepped is = tt
-
--- what holds anyway holds where there is an error
-pub err_with : {A E P : Type 0} (r : Result A E) → P → OnErr r P
-err_with (Ok a) holds = tt
-err_with (Err e) holds = holds

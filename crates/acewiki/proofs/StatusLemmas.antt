@@ -3,6 +3,7 @@ use Rattle.std.proofs.Common.{◌≡◌, ◌⊎◌, ◌↔◌, ℕ, ◌≤◌, L
 use Rattle.std.specs.Prelude.{option_map, IfSome}
 use Rattle.std.proofs.lemmas.List.{length-append}
 use Rattle.std.specs.Io.KnownBytes.{Consumes, Appends}
+use Rattle.std.proofs.lemmas.Option.{same_Some}
 use Rattle.wiki_io.specs.Lines.{InputLine, input_lines}
 use Rattle.wiki_io.specs.declared.links.Event.{Event}
 use Rattle.acewiki.specs.Wiki.{Holding, ace_wiki}
@@ -35,21 +36,18 @@ is_serve found command c d is at_some same = sym is ∙ ap (option_map asked_by)
 pub is_none : (found : Option Command) (command : Option Asked) → option_map asked_by found ≡ command → found ≡ None → command ≡ None
 is_none found command is none = sym is ∙ ap (option_map asked_by) none
 
-pub some-same : {X : Type 0} (x y : X) → Some x ≡ Some y → x ≡ y
-some-same x y same = cc
-
 replay-same : (a b : ℕ) → replay a ≡ replay b → a ≡ b
 replay-same a b same = cc
 
 -- the command is one alone
 pub same_replay : (command : Option Asked) (a b : ℕ) → command ≡ Some (replay a) → command ≡ Some (replay b) → a ≡ b
-same_replay command a b is given = replay-same a b (some-same (replay a) (replay b) (sym is ∙ given))
+same_replay command a b is given = replay-same a b (same_Some (replay a) (replay b) (sym is ∙ given))
 
 replay_or_serve : (a budget most : ℕ) (address : List ℕ) → replay a ≡ serve address budget most → ⊥
 replay_or_serve a budget most address h = cc
 
 pub no_serve : {P : Type 0} (command : Option Asked) (a budget most : ℕ) (address : List ℕ) → command ≡ Some (replay a) → command ≡ Some (serve address budget most) → P
-no_serve command a budget most address is given = absurd (replay_or_serve a budget most address (some-same (replay a) (serve address budget most) (sym is ∙ given)))
+no_serve command a budget most address is given = absurd (replay_or_serve a budget most address (same_Some (replay a) (serve address budget most) (sym is ∙ given)))
 
 help_or_replay : (budget : ℕ) → help ≡ replay budget → ⊥
 help_or_replay budget h = cc
@@ -58,10 +56,10 @@ help_or_serve : (budget most : ℕ) (address : List ℕ) → help ≡ serve addr
 help_or_serve budget most address h = cc
 
 pub help_no_replay : {P : Type 0} (command : Option Asked) (budget : ℕ) → command ≡ Some help → command ≡ Some (replay budget) → P
-help_no_replay command budget is given = absurd (help_or_replay budget (some-same help (replay budget) (sym is ∙ given)))
+help_no_replay command budget is given = absurd (help_or_replay budget (same_Some help (replay budget) (sym is ∙ given)))
 
 pub help_no_serve : {P : Type 0} (command : Option Asked) (budget most : ℕ) (address : List ℕ) → command ≡ Some help → command ≡ Some (serve address budget most) → P
-help_no_serve command budget most address is given = absurd (help_or_serve budget most address (some-same help (serve address budget most) (sym is ∙ given)))
+help_no_serve command budget most address is given = absurd (help_or_serve budget most address (same_Some help (serve address budget most) (sym is ∙ given)))
 
 pub no_command : {P : Type 0} (command : Option Asked) (asked : Asked) → command ≡ None → command ≡ Some asked → P
 no_command command asked none is = absurd (none_or_some (sym none ∙ is))
@@ -76,10 +74,10 @@ serve-most : (x y : List ℕ) (a b m n : ℕ) → serve x a m ≡ serve y b n �
 serve-most x y a b m n same = cc
 
 pub same_budget : (command : Option Asked) (x y : List ℕ) (a b m n : ℕ) → command ≡ Some (serve x a m) → command ≡ Some (serve y b n) → a ≡ b
-same_budget command x y a b m n is given = serve-budget x y a b m n (some-same (serve x a m) (serve y b n) (sym is ∙ given))
+same_budget command x y a b m n is given = serve-budget x y a b m n (same_Some (serve x a m) (serve y b n) (sym is ∙ given))
 
 pub same_most : (command : Option Asked) (x y : List ℕ) (a b m n : ℕ) → command ≡ Some (serve x a m) → command ≡ Some (serve y b n) → m ≡ n
-same_most command x y a b m n is given = serve-most x y a b m n (some-same (serve x a m) (serve y b n) (sym is ∙ given))
+same_most command x y a b m n is given = serve-most x y a b m n (same_Some (serve x a m) (serve y b n) (sym is ∙ given))
 
 -- status 2 comes with no command that was run
 pub not_two : (result : ℕ) (outcome : Outcome) → result ≡ status_of outcome → (outcome ≡ outcomes.Usage → ⊥) → result ≡ 2 → ⊥
@@ -146,7 +144,7 @@ told_words None items words same is = absurd (none_or_some is)
   where
     none_or_some : None ≡ Some words → ⊥
     none_or_some h = cc
-told_words (Some t) items words same is = same ∙ some-same t words is
+told_words (Some t) items words same is = same ∙ same_Some t words is
 
 -- ---- help
 

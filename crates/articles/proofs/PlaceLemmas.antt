@@ -9,7 +9,7 @@ use Rattle.std.proofs.lemmas.Cmp.{ranked}
 use Rattle.std.proofs.lemmas.Bool.{cases_lt, false≢true}
 use Rattle.std.proofs.lemmas.Bool.Decides.{nat_tests}
 use Rattle.wiki_base.specs.declared.numbers.WordId.{WordId}
-use Rattle.articles.proofs.OrderLaws.{find_none, find_first, pairs_tail, pairs_head, filter_all, map_same}
+use Rattle.wiki_base.proofs.ListLaws.{find_none, find_first, AllPairs-tail, AllPairs-head, filter_all, map_same}
 use Rattle.articles.specs.declared.sentences.Sentence.{Sentence}
 use Rattle.articles.specs.declared.article.Article.{Article}
 use Rattle.articles.specs.Articles.{AreInOrder, is_of, article_of, changed, with_change, without_article, sentence_at}
@@ -46,13 +46,13 @@ module _ (articles : List Article) (in_order : AreInOrder articles) (word : Word
 -- an article behind the word's is another word's
 other_after : (first : Article) (articles : List Article) (word : WordId) → AreInOrder (first ∷ articles) → first.word.0 ≡ word.0 → (k : ℕ) (d : Article) → k < length articles → is_of word (get_or articles k d) ≡ false
 other_after first articles word in_order same k d in_range =
-    let above : first.word.0 < (get_or articles k d).word.0 = pairs_head (λ (a b : Article). a.word.0 < b.word.0) first articles in_order k d in_range in
+    let above : first.word.0 < (get_or articles k d).word.0 = AllPairs-head (λ (a b : Article). a.word.0 < b.word.0) first articles in_order k d in_range in
     grind (arith, nat_tests)
 
 -- an article before the word's is another word's
 other_before : (first : Article) (articles : List Article) (word : WordId) → AreInOrder (first ∷ articles) → (place : ℕ) → suc place < length (first ∷ articles) → (get_or articles place first).word.0 ≡ word.0 → is_of word first ≡ false
 other_before first articles word in_order place in_range same =
-    let below : first.word.0 < (get_or articles place first).word.0 = pairs_head (λ (a b : Article). a.word.0 < b.word.0) first articles in_order place first (omega arith) in
+    let below : first.word.0 < (get_or articles place first).word.0 = AllPairs-head (λ (a b : Article). a.word.0 < b.word.0) first articles in_order place first (omega arith) in
     grind (arith, nat_tests)
 
 -- a change of the word's article is a change at its place
@@ -69,7 +69,7 @@ with_change-set (first ∷ articles) in_order word zero is change d =
     by_test false here rest = absurd (false≢true here)
 with_change-set (first ∷ articles) in_order word (suc place) is change d =
     by_test (is_of word first) (other_before first articles word in_order place is.in_range (is.numbered first))
-    (with_change-set articles (pairs_tail (λ (a b : Article). a.word.0 < b.word.0) first articles in_order) word place (record { in_range = omega (arith, is.in_range); numbered = is.numbered }) change d)
+    (with_change-set articles (AllPairs-tail (λ (a b : Article). a.word.0 < b.word.0) first articles in_order) word place (record { in_range = omega (arith, is.in_range); numbered = is.numbered }) change d)
   where
     by_test : (b : Bool) → b ≡ false → with_change articles word change ≡ set articles place (changed change (get_or articles place d)) → cond b (changed change first) first ∷ with_change articles word change ≡ first ∷ set articles place (changed change (get_or articles place d))
     by_test true failed rest = absurd (false≢true (sym failed))
@@ -89,7 +89,7 @@ without_article-remove (first ∷ articles) in_order word zero is =
     by_test false here rest = absurd (false≢true here)
 without_article-remove (first ∷ articles) in_order word (suc place) is =
     by_test (is_of word first) (other_before first articles word in_order place is.in_range (is.numbered first))
-    (without_article-remove articles (pairs_tail (λ (a b : Article). a.word.0 < b.word.0) first articles in_order) word place (record { in_range = omega (arith, is.in_range); numbered = is.numbered }))
+    (without_article-remove articles (AllPairs-tail (λ (a b : Article). a.word.0 < b.word.0) first articles in_order) word place (record { in_range = omega (arith, is.in_range); numbered = is.numbered }))
   where
     by_test : (b : Bool) → b ≡ false → without_article articles word ≡ remove articles place → cond (not b) (first ∷ without_article articles word) (without_article articles word) ≡ first ∷ remove articles place
     by_test true failed rest = absurd (false≢true (sym failed))

@@ -5,7 +5,9 @@ use Rattle.std.specs.List.{list_any, list_all}
 use Rattle.std.specs.Option.{option_and_then}
 use Rattle.std.proofs.lemmas.Bool.{cases_Bool, or_cases, or_left, or_right, or_parts, and_from, and_parts, eqb-true, eq-eqb, ltb-true, lt-ltb, not-true}
 use Rattle.std.proofs.lemmas.Option.{slice_get_within, slice_get-get_or}
+use Rattle.std.proofs.Math.Bool.{not-not}
 use Rattle.wiki_base.specs.declared.numbers.WordId.{WordId}
+use Rattle.wiki_base.proofs.BoolLaws.{same_tests, not_both}
 use Rattle.logic_terms.specs.declared.expressions.Role.{Role}
 use Rattle.logic_terms.specs.Concept.{Concept, Atomic}
 use Rattle.logic_terms.specs.Interpretation.{Interpretation, element_of, elements_of, pairs_of, Relates}
@@ -28,23 +30,11 @@ use Rattle.branch_model.proofs.Truth.{Pictures}
 abbrev pub place_of : List (Option ℕ) → ℕ → ℕ
 place_of stands x = unwrap_or (stand_of stands x) 0
 
-same_test : (a b : Bool) → (a ≡ true → b ≡ true) → (b ≡ true → a ≡ true) → a ≡ b
-same_test true b to from = sym (to refl)
-same_test false true to from = from refl
-same_test false false to from = refl
-
-never : {b : Bool} → b ≡ true → b ≡ false → ⊥
-never t f = cc
-
 one_some : {X : Type 0} {a b : X} → Some a ≡ Some b → a ≡ b
 one_some h = cc
 
-turned_twice : (b : Bool) → not (not b) ≡ b
-turned_twice true = refl
-turned_twice false = refl
-
 inverse_twice : (r : Role) → inverse (inverse r) ≡ r
-inverse_twice r = λ j. record { id = r.id; inverted = turned_twice r.inverted j }
+inverse_twice r = λ j. record { id = r.id; inverted = not-not r.inverted j }
 
 -- a role with the word of another is that role or its inverse
 same_or_turned : (r role : Role) → role.id ≡ r.id → (r ≡ role) ⊎ (r ≡ inverse role)
@@ -145,7 +135,7 @@ module _ (k : Theory) (lawful : IsLawful k) (g : Graph) (sound : IsSound k g) (o
   labels_of : (x z : ℕ) → StandsFor k g x z → (c : Concept) → has_concept (label_at g x) c ≡ has_concept (label_at g z) c
   labels_of x z h c = elim h [
     | inl own ↦ ap (λ w. has_concept (label_at g w) c) own.1
-    | inr twin ↦ same_test (has_concept (label_at g x) c) (has_concept (label_at g z) c) (same_has (label_at g x) (label_at g z) c twin.1.same) (same_has_back (label_at g x) (label_at g z) c twin.1.same)
+    | inr twin ↦ same_tests (has_concept (label_at g x) c) (has_concept (label_at g z) c) (same_has (label_at g x) (label_at g z) c twin.1.same) (same_has_back (label_at g x) (label_at g z) c twin.1.same)
   ]
 
   -- only a node that is not indirectly blocked stands for an element
@@ -350,11 +340,11 @@ module _ (k : Theory) (lawful : IsLawful k) (g : Graph) (sound : IsSound k g) (o
         own_root : (y z : ℕ) → is_anonymous k y ≡ false → StandsFor k g y z → z ≡ y
         own_root y z named h = elim h [
           | inl own ↦ sym own.1
-          | inr twin ↦ absurd (never (and_parts (is_anonymous k y) (has_twin k g y (ancestors g y) && not (blocks k g (ancestors g y))) twin.0).0 named)
+          | inr twin ↦ absurd (not_both (and_parts (is_anonymous k y) (has_twin k g y (ancestors g y) && not (blocks k g (ancestors g y))) twin.0).0 named)
         ]
 
         by_kind : (x y z : ℕ) → z ≡ y → is_anonymous k y ≡ false → StandsFor k g x z → x ≡ y
         by_kind x y z is named h = elim h [
           | inl own ↦ own.1 ∙ is
-          | inr twin ↦ absurd (never (subst (λ w. is_anonymous k w ≡ true) is twin.1.anonymous) named)
+          | inr twin ↦ absurd (not_both (subst (λ w. is_anonymous k w ≡ true) is twin.1.anonymous) named)
         ]

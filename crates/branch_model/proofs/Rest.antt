@@ -5,6 +5,7 @@ use Rattle.std.specs.List.{list_any, list_all}
 use Rattle.std.specs.Option.{option_map, option_map_or, option_and_then, option_or}
 use Rattle.std.proofs.lemmas.Bool.{cases_Bool, cases_eq, and_parts, and_from, and_cases, or_cases, or_parts, or_left, or_right, not-false, not-true, cond-false, eq-eqb}
 use Rattle.wiki_base.specs.declared.numbers.WordId.{WordId}
+use Rattle.wiki_base.proofs.OptionLaws.{option_or-first_none, option_or-second_none, option_map-none}
 use Rattle.logic_terms.specs.declared.expressions.Role.{Role}
 use Rattle.logic_terms.specs.Concept.{Concept, Concepts, Everything, Atomic, ComplementOf, IntersectionOf, UnionOf, SomeValuesFrom, AllValuesFrom, HasValue, no_concept, also_concept}
 use Rattle.logic_terms.specs.Meaning.{some_below}
@@ -22,19 +23,6 @@ use Rattle.tableau_rules.specs.Rules.{lacks_some, lacks_all, unfoldings_of, serv
 use Rattle.tableau_rules.specs.Clashes.{passes, are_joined, clashes_at, has_clash}
 use Rattle.branch_model.proofs.Same.{place_of, each_has, concept_refl}
 
--- of two options neither is there
-left_none : {X : Type 0} (a b : Option X) → option_or a b ≡ None → a ≡ None
-left_none None b h = refl
-left_none (Some x) b h = cc
-
-right_none : {X : Type 0} (a b : Option X) → option_or a b ≡ None → b ≡ None
-right_none None b h = h
-right_none (Some x) b h = cc
-
-map_none : {X Y : Type 0} (f : X → Y) (o : Option X) → option_map f o ≡ None → o ≡ None
-map_none f None h = refl
-map_none f (Some x) h = cc
-
 where_none : {X : Type 0} (test : Bool) (x : X) → where_true test x ≡ None → test ≡ false
 where_none true x h = cc
 where_none false x h = refl
@@ -42,8 +30,8 @@ where_none false x h = refl
 first_none : {X : Type 0} (n : ℕ) (f : ℕ → Option X) → first_below n f ≡ None → (m : ℕ) → m < n → f m ≡ None
 first_none zero f h m lt = absurd (omega arith)
 first_none (suc n) f h m lt = elim (cases_eq m n) [
-  | inl same ↦ ap f same ∙ right_none (first_below n f) (f n) h
-  | inr other ↦ first_none n f (left_none (first_below n f) (f n) h) m (omega arith)
+  | inl same ↦ ap f same ∙ option_or-second_none (first_below n f) (f n) h
+  | inr other ↦ first_none n f (option_or-first_none (first_below n f) (f n) h) m (omega arith)
 ]
 
 none_below : (n : ℕ) (test : ℕ → Bool) → some_below n test ≡ false → (m : ℕ) → m < n → test m ≡ false
@@ -78,23 +66,23 @@ one_there label (c ∷ cs) h = elim (and_cases (not (has_concept label c)) (lack
 
 module _ (k : Theory) (g : Graph) (done : first_step k g ≡ None) where
   no_first : (r : Rule) → first_by k g r ≡ None
-  no_first rule.And = left_none (first_by k g rule.And) rest1 done
+  no_first rule.And = option_or-first_none (first_by k g rule.And) rest1 done
     where
       rest1 : Option Step
       rest1 = option_or (first_by k g rule.Unfold) (option_or (first_by k g rule.All) (option_or (first_by k g rule.Value) (option_or (first_by k g rule.Unit) (option_or (first_by k g rule.Or) (first_by k g rule.Some)))))
-  no_first rule.Unfold = left_none (first_by k g rule.Unfold) _ (right_none (first_by k g rule.And) _ done)
-  no_first rule.All = left_none (first_by k g rule.All) _ (right_none (first_by k g rule.Unfold) _ (right_none (first_by k g rule.And) _ done))
-  no_first rule.Value = left_none (first_by k g rule.Value) _ (right_none (first_by k g rule.All) _ (right_none (first_by k g rule.Unfold) _ (right_none (first_by k g rule.And) _ done)))
-  no_first rule.Unit = left_none (first_by k g rule.Unit) _ (right_none (first_by k g rule.Value) _ (right_none (first_by k g rule.All) _ (right_none (first_by k g rule.Unfold) _ (right_none (first_by k g rule.And) _ done))))
-  no_first rule.Or = left_none (first_by k g rule.Or) _ (right_none (first_by k g rule.Unit) _ (right_none (first_by k g rule.Value) _ (right_none (first_by k g rule.All) _ (right_none (first_by k g rule.Unfold) _ (right_none (first_by k g rule.And) _ done)))))
-  no_first rule.Some = right_none (first_by k g rule.Or) _ (right_none (first_by k g rule.Unit) _ (right_none (first_by k g rule.Value) _ (right_none (first_by k g rule.All) _ (right_none (first_by k g rule.Unfold) _ (right_none (first_by k g rule.And) _ done)))))
+  no_first rule.Unfold = option_or-first_none (first_by k g rule.Unfold) _ (option_or-second_none (first_by k g rule.And) _ done)
+  no_first rule.All = option_or-first_none (first_by k g rule.All) _ (option_or-second_none (first_by k g rule.Unfold) _ (option_or-second_none (first_by k g rule.And) _ done))
+  no_first rule.Value = option_or-first_none (first_by k g rule.Value) _ (option_or-second_none (first_by k g rule.All) _ (option_or-second_none (first_by k g rule.Unfold) _ (option_or-second_none (first_by k g rule.And) _ done)))
+  no_first rule.Unit = option_or-first_none (first_by k g rule.Unit) _ (option_or-second_none (first_by k g rule.Value) _ (option_or-second_none (first_by k g rule.All) _ (option_or-second_none (first_by k g rule.Unfold) _ (option_or-second_none (first_by k g rule.And) _ done))))
+  no_first rule.Or = option_or-first_none (first_by k g rule.Or) _ (option_or-second_none (first_by k g rule.Unit) _ (option_or-second_none (first_by k g rule.Value) _ (option_or-second_none (first_by k g rule.All) _ (option_or-second_none (first_by k g rule.Unfold) _ (option_or-second_none (first_by k g rule.And) _ done)))))
+  no_first rule.Some = option_or-second_none (first_by k g rule.Or) _ (option_or-second_none (first_by k g rule.Unit) _ (option_or-second_none (first_by k g rule.Value) _ (option_or-second_none (first_by k g rule.All) _ (option_or-second_none (first_by k g rule.Unfold) _ (option_or-second_none (first_by k g rule.And) _ done)))))
 
   -- no rule has a row for a class of the label of a node that is not indirectly blocked
   no_row : (r : Rule) (x : ℕ) (c : Concept) → x < length g.nodes → is_indirectly_blocked k g x ≡ false → has_concept (label_at g x) c ≡ true → row k g r x c ≡ None
   no_row r x c lt free has =
       let at = place_of (label_at g x) c has in
       let here = first_none (length g.nodes) (first_at k g r) (no_first r) x lt in
-      let site_none = map_none (λ y. record { rule = r; node = x; class = at.0; other = y }) (site_at k g r x at.0)
+      let site_none = option_map-none (λ y. record { rule = r; node = x; class = at.0; other = y }) (site_at k g r x at.0)
       (first_none (length (label_at g x)) (λ place. option_map (λ y. record { rule = r; node = x; class = place; other = y }) (site_at k g r x place)) here at.0 at.1) in
       sym (cond-false (is_indirectly_blocked k g x) None (row k g r x c) free)
       ∙ sym (ap (λ o. option_and_then (site k g r x) o) at.2) ∙ site_none

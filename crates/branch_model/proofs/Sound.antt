@@ -3,7 +3,7 @@ use Rattle.std.proofs.Common.{◌≡◌, ℕ, zero, suc, ◌+◌, ◌<◌, ◌�
 use Rattle.std.specs.Prelude.{◌⊎◌, filter, not, nat_lt, if◌then◌else◌}
 use Rattle.std.specs.List.{list_any, list_all}
 use Rattle.std.specs.Option.{option_map_or, option_and_then, option_to_list, option_or}
-use Rattle.std.proofs.lemmas.Bool.{cases_eq, cases_lt, cases_Bool, and_parts, and_from, or_cases, or_left, or_right, eqb-true}
+use Rattle.std.proofs.lemmas.Bool.{cases_eq, cases_lt, cases_Bool, and_parts, and_from, or_cases, or_left, or_right, eqb-true, ltb-true, lt-ltb}
 use Rattle.std.proofs.lemmas.Option.{slice_get_within, slice_get_past}
 use Rattle.std.proofs.lemmas.List.Folds.{list_any-append, list_all-append}
 use Rattle.std.proofs.lemmas.List.Elements.{All-push, All-weaker}
@@ -51,22 +51,16 @@ pub record Grows (k : Theory) (g h : Graph) : Type 0 where
   pub labels : (x : ℕ) (c : Concept) → has_concept (label_at g x) c ≡ true → has_concept (label_at h x) c ≡ true
   pub edges : (role : Role) (x y : ℕ) → is_neighbour k g role x y ≡ true → is_neighbour k h role x y ≡ true
 
-lt_true : (a b : ℕ) → nat_lt a b ≡ true → a < b
-lt_true a b h = Rattle.std.proofs.lemmas.Bool.ltb-true a b h
-
-true_lt : (a b : ℕ) → a < b → nat_lt a b ≡ true
-true_lt a b h = Rattle.std.proofs.lemmas.Bool.lt-ltb a b h
-
 -- edges between nodes stay so where nodes are added
 ends_longer : (n m : ℕ) (es : List Edge) → n ≤ m → list_all (λ e. nat_lt e.from n && nat_lt e.to n) es ≡ true → list_all (λ e. nat_lt e.from m && nat_lt e.to m) es ≡ true
 ends_longer n m [] le h = refl
 ends_longer n m (e ∷ es) le h =
     let two = and_parts (nat_lt e.from n && nat_lt e.to n) (list_all (λ e. nat_lt e.from n && nat_lt e.to n) es) h in
     let one = and_parts (nat_lt e.from n) (nat_lt e.to n) two.0 in
-    let a = lt_true e.from n one.0 in
-    let b = lt_true e.to n one.1 in
+    let a = ltb-true e.from n one.0 in
+    let b = ltb-true e.to n one.1 in
     and_from (nat_lt e.from m && nat_lt e.to m) (list_all (λ e. nat_lt e.from m && nat_lt e.to m) es)
-    (and_from (nat_lt e.from m) (nat_lt e.to m) (true_lt e.from m (omega arith)) (true_lt e.to m (omega arith))) (ends_longer n m es le two.1)
+    (and_from (nat_lt e.from m) (nat_lt e.to m) (lt-ltb e.from m (omega arith)) (lt-ltb e.to m (omega arith))) (ends_longer n m es le two.1)
 
 -- a node with a class in its label is there
 pub has_node : (g : Graph) (x : ℕ) (c : Concept) → has_concept (label_at g x) c ≡ true → x < length g.nodes
@@ -173,7 +167,7 @@ ends_more : (n : ℕ) (es : List Edge) (e : Edge) → list_all (λ e. nat_lt e.f
 ends_more n es e h from to =
     list_all-append (λ e. nat_lt e.from n && nat_lt e.to n) es (e ∷ [])
     ∙ and_from (list_all (λ e. nat_lt e.from n && nat_lt e.to n) es) ((nat_lt e.from n && nat_lt e.to n) && true) h
-    (and_from (nat_lt e.from n && nat_lt e.to n) true (and_from (nat_lt e.from n) (nat_lt e.to n) (true_lt e.from n from) (true_lt e.to n to)) refl)
+    (and_from (nat_lt e.from n && nat_lt e.to n) true (and_from (nat_lt e.from n) (nat_lt e.to n) (lt-ltb e.from n from) (lt-ltb e.to n to)) refl)
 
 -- an edge is added
 pub with_edge_sound : (k : Theory) (g : Graph) (e : Edge) → e.from < length g.nodes → e.to < length g.nodes → IsSound k g → IsSound k (with_edge g e)

@@ -6,6 +6,8 @@ use Rattle.std.specs.List.{list_any}
 use Rattle.std.proofs.lemmas.Bool.{cases_lt}
 use Rattle.std.proofs.lemmas.Bool.Decides.{nat_tests}
 use Rattle.std.proofs.lemmas.Option.{option_and_then_some, same_Some}
+use Rattle.wiki_base.proofs.ListLaws.{slice_get-take}
+use Rattle.wiki_base.proofs.NumberLaws.{eqb_refl}
 use Rattle.codeco_terms.specs.declared.values.Value.{Value}
 use Rattle.codeco_terms.specs.declared.values.Value.TheVariants.{Pos}
 use Rattle.codeco_terms.specs.declared.categories.Category.{Category}
@@ -27,7 +29,7 @@ use Rattle.chart_table.specs.declared.asks.Ask.TheVariants as ask
 use Rattle.chart_table.specs.Leading.{ElementLeads, Path, own_past, moved_on}
 use Rattle.chart_table.specs.Branches.{OneOf}
 use Rattle.chart_table.specs.Asks.{takes_terminal, takes_reading, meets, CutMeets, AskLeads, TokenMeets, Follows}
-use Rattle.chart_table.proofs.PassLemmas.{if_some, unless_some, both_true, same_number, passed, stand_at}
+use Rattle.chart_table.proofs.PassLemmas.{if_some, unless_some, both_true, passed, stand_at}
 use Rattle.chart_table.proofs.AskLemmas.{place_some, all_used, front_is, met_in, ask_of_rule, leads_any}
 
 -- a property of all phrases
@@ -121,7 +123,7 @@ one_crosses s n values own (Terminal t) es at found ns after par h le lt =
     if_some (matches_terminal s t at.place) _ after h (λ b is.
     let next : at.place + 1 ≡ after.at.place = ap (λ (st : Stand). st.at.place) is in
     let here : at.place ≡ n = omega arith in
-    record { count = 0; within = omega arith; last = at; path = refl; asks = ask.Terminal t; token = subst (λ m. matches_terminal s t m ≡ true) here b; stop = inl (here, same_number t) })
+    record { count = 0; within = omega arith; last = at; path = refl; asks = ask.Terminal t; token = subst (λ m. matches_terminal s t m ≡ true) here b; stop = inl (here, eqb_refl t) })
 one_crosses s n values own (Preterminal c) es at found ns after par h le lt =
     if_some (matches_preterminal s (under values c) at.place) _ after h (λ b is.
     let next : at.place + 1 ≡ after.at.place = ap (λ (st : Stand). st.at.place) is in
@@ -185,12 +187,6 @@ mutual
 
 -- cut-off nodes
 
-slice_of_take : {X : Type 0} (n i : ℕ) (xs : List X) → i < n → slice_get (take n xs) i ≡ slice_get xs i
-slice_of_take zero i xs lt = absurd (omega arith)
-slice_of_take (suc n) i [] lt = refl
-slice_of_take (suc n) zero (x ∷ xs) lt = refl
-slice_of_take (suc n) (suc i) (x ∷ xs) lt = slice_of_take n i xs (omega arith)
-
 length_of_take : {X : Type 0} (n : ℕ) (xs : List X) → length (take n xs) ≤ n
 length_of_take zero xs = omega arith
 length_of_take (suc n) [] = omega arith
@@ -208,7 +204,7 @@ front_crosses s n number rule values found ns count asked at stand has h le lt =
     let long : length (take count rule.body) ≤ count = length_of_take count rule.body in
     let below : c.count < count = omega arith in
     let few : c.count ≤ count = omega arith in
-    let next = slice_of_take count c.count rule.body below in
+    let next = slice_get-take count c.count rule.body below in
     let path : Path s values (own_values rule values) (take c.count rule.body) at c.last = subst (λ es. Path s values (own_values rule values) es at c.last) (take-take c.count count rule.body few) c.path in
     let stop = subst (λ o. ((c.last.place ≡ n) × (meets values o c.asks ≡ true)) ⊎ ((d : Category) × (option_and_then sub_of o ≡ Some d) × AskLeads s n c.asks (under values d) c.last)) next c.stop in
     (c.asks, c.token, ask_of_rule s n c.asks asked at number rule values has (record { instance = instance; head = head; count = c.count; last = c.last; path = path; stop = stop }))))))

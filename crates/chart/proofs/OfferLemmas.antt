@@ -12,6 +12,7 @@ use Rattle.codeco_terms.specs.declared.categories.Ground.{Ground}
 use Rattle.codeco_terms.specs.GrammarParts.{GrammarParts}
 use Rattle.codeco_checked.specs.Sound.{IsSound}
 use Rattle.wiki_base.specs.declared.numbers.WordId.{WordId}
+use Rattle.wiki_base.proofs.ListLaws.{slice_get_mapped, length_mapped}
 use Rattle.scopes.specs.Resolution.{has_value}
 use Rattle.lexicon.specs.declared.kinds.Kind.{Kind}
 use Rattle.lexicon.specs.declared.kinds.Kind.TheVariants as kind
@@ -30,7 +31,7 @@ use Rattle.chart_table.specs.Asks.{AskLeads, TokenMeets}
 use Rattle.chart_table.proofs.PassLemmas.{same_value_is}
 use Rattle.chart.specs.Offers.{with_last, Told, terminal_asks, some_follows, is_used, class_of, class_readings}
 use Rattle.chart.proofs.SwapLemmas.{Asked, HasWord, BringsNone, swapped, swapped_first, asked_new, asked_old}
-use Rattle.chart.proofs.TurnedLemmas.{turned_ground, length_turned}
+use Rattle.chart.proofs.TurnedLemmas.{turned_ground}
 use Rattle.chart.proofs.LastToken.{last_token}
 use Rattle.chart.proofs.ReadingLemmas.{form_among, form_reads, from_at, from_is, word_in_form, reading_turned, unused_lacks, form_no_terminal, terminal_reads}
 
@@ -49,7 +50,7 @@ AskedOf g l tokens text asks = Asked g tokens (reads l tokens) text (readings_of
 -- a text may follow where it is asked for
 
 reads_long : (l : Listed) (tokens : List (List ℕ)) → length (reads l tokens) ≡ length tokens
-reads_long l tokens = length_turned (readings_of l.live) tokens
+reads_long l tokens = length_mapped (readings_of l.live) tokens
 
 text_setting : (g : GrammarParts) (l : Listed) (tokens : List (List ℕ)) (text : List ℕ) → setting_of g l (tokens ++ text ∷ []) ≡ with_text g l tokens text
 text_setting g l tokens text =
@@ -257,14 +258,9 @@ told_at s n (x ∷ xs) [] k a told h = absurd told
 told_at s n (x ∷ xs) (b ∷ bs) zero a told h = subst (λ y. (b ≡ true → AsksAt s n y) × (AsksAt s n y → b ≡ true)) (same_Some x a h) (told.0.0, told.0.1)
 told_at s n (x ∷ xs) (b ∷ bs) (suc k) a told h = told_at s n xs bs k a told.1 h
 
-slice_map : {X Y : Type 0} (f : X → Y) (xs : List X) (k : ℕ) (x : X) → slice_get xs k ≡ Some x → slice_get (map f xs) k ≡ Some (f x)
-slice_map f [] k x h = absurd (cc)
-slice_map f (y ∷ ys) zero x h = ap (λ z. Some (f z)) (same_Some y x h)
-slice_map f (y ∷ ys) (suc k) x h = slice_map f ys k x h
-
 pub class_told : (s : Setting) (n : ℕ) (bs : List Bool) (k : Kind) (id : WordId) (place : ℕ) (form : List ℕ) → Told s n (map ask.Reading (class_readings id)) bs → (slice_index_or bs (class_of k place form) false ≡ true → AsksAt s n (ask.Reading (reading k id place form))) × (AsksAt s n (ask.Reading (reading k id place form)) → slice_index_or bs (class_of k place form) false ≡ true)
 class_told s n bs k id place form told =
-    told_at s n (map ask.Reading (class_readings id)) bs (class_of k place form) (ask.Reading (reading k id place form)) told (slice_map ask.Reading (class_readings id) (class_of k place form) (reading k id place form) (class_law k id place form))
+    told_at s n (map ask.Reading (class_readings id)) bs (class_of k place form) (ask.Reading (reading k id place form)) told (slice_get_mapped ask.Reading (class_readings id) (class_of k place form) (reading k id place form) (class_law k id place form))
 
 pub used_form_follows : (g : GrammarParts) (l : Listed) (tokens : List (List ℕ)) (place : ℕ) (word : Word) (at : ℕ) (text token : List ℕ) → IsSound g → IsLexicon l → slice_get l.live place ≡ Some word → slice_get word.forms.texts at ≡ Some text → is_used (reads l tokens) word.id ≡ true → Asked g tokens (reads l tokens) token [] (ask.Reading (reading word.forms.kind word.id at text)) → IsBeginning g l (tokens ++ text ∷ [])
 used_form_follows g l tokens place word at text token sound lexicon lives is used a =

@@ -5,6 +5,7 @@ use Rattle.std.specs.Borrow.{Bor}
 use Rattle.std.specs.Str.{bytes_eq}
 use Rattle.std.proofs.lemmas.Bool.{cases_lt}
 use Rattle.std.proofs.lemmas.List.{drop_more}
+use Rattle.wiki_base.proofs.ListLaws.{drop_past, length_mapped, drop_slice_get}
 use Rattle.codeco_terms.specs.declared.categories.Ground.{Ground}
 use Rattle.lexicon.specs.declared.words.Word.{Word}
 use Rattle.lexicon.specs.Readings.{readings_of}
@@ -25,16 +26,10 @@ pub turn : {X Y : Type 0} (F : ℕ → List X → List Y) (xs : List X) (i : ℕ
 turn F xs i d done piece new whole lt unfolds is before =
     ap (λ n. n ++ F (i + 1) (drop (i + 1) xs)) is ∙ append_assoc done piece (F (i + 1) (drop (i + 1) xs)) ∙ ap (λ ys. done ++ ys) (sym unfolds) ∙ ap (λ ys. done ++ F i ys) (sym (drop_more xs i d lt)) ∙ before
 
-drop_whole : {X : Type 0} (xs : List X) (i : ℕ) → length xs ≤ i → drop i xs ≡ []
-drop_whole [] zero le = refl
-drop_whole [] (suc i) le = refl
-drop_whole (x ∷ xs) zero le = absurd (omega arith)
-drop_whole (x ∷ xs) (suc i) le = drop_whole xs i (omega arith)
-
 -- the end of a loop
 pub turned_all : {X Y : Type 0} (F : ℕ → List X → List Y) (xs : List X) (i : ℕ) (done whole : List Y) → length xs ≤ i → F i [] ≡ [] → done ++ F i (drop i xs) ≡ whole → done ≡ whole
 turned_all F xs i done whole le none h =
-    sym (append-nil done) ∙ ap (λ ys. done ++ ys) (sym none) ∙ ap (λ ys. done ++ F i ys) (sym (drop_whole xs i le)) ∙ h
+    sym (append-nil done) ∙ ap (λ ys. done ++ ys) (sym none) ∙ ap (λ ys. done ++ F i ys) (sym (drop_past xs i le)) ∙ h
 
 -- what an element gives where it passes a test
 pub passing : {Y : Type 0} (b : Bool) (y : Y) (rest : List Y) → (if b then y ∷ rest else rest) ≡ (if b then y ∷ [] else []) ++ rest
@@ -65,13 +60,6 @@ map_get f [] i d lt = absurd (omega arith)
 map_get f (x ∷ xs) zero d lt = refl
 map_get f (x ∷ xs) (suc i) d lt = map_get f xs i d (omega arith)
 
-map_length : {X Y : Type 0} (f : X → Y) (xs : List X) → length (map f xs) ≡ length xs
-map_length f [] = refl
-map_length f (x ∷ xs) = let rest = map_length f xs in omega arith
-
-drop_at : {X : Type 0} (xs : List X) (i : ℕ) (x : X) → slice_get xs i ≡ Some x → drop i xs ≡ x ∷ drop (i + 1) xs
-drop_at xs i x h = let r = at_slice xs i x h in drop_more xs i x r.0 ∙ ap (λ y. y ∷ drop (i + 1) xs) r.1
-
 -- putting one more
 pub put_turn : (xs : List (Group × Bor (List ℕ))) (i : ℕ) (d : Group × Bor (List ℕ)) (old new whole : List (Group × List ℕ)) → i < length xs → new ≡ with_entry (shown (get_or xs i d)) old → all_tried (λ e. true) (map shown (drop i xs)) old ≡ whole → all_tried (λ e. true) (map shown (drop (i + 1) xs)) new ≡ whole
 put_turn xs i d old new whole lt is h =
@@ -81,15 +69,15 @@ put_turn xs i d old new whole lt is h =
 
 pub new_step : (rs : List (List Ground)) (told : List Bool) (ws : List Word) (i : ℕ) (w : Word) (old new whole : List (Group × List ℕ)) → slice_get ws i ≡ Some w → new ≡ old ++ (if is_used rs w.id then [] else told_forms told w.forms.kind 0 w.forms.texts) → old ++ new_forms rs told (drop i ws) ≡ whole → new ++ new_forms rs told (drop (i + 1) ws) ≡ whole
 new_step rs told ws i w old new whole at is h =
-    ap (λ n. n ++ new_forms rs told (drop (i + 1) ws)) is ∙ append_assoc old (if is_used rs w.id then [] else told_forms told w.forms.kind 0 w.forms.texts) (new_forms rs told (drop (i + 1) ws)) ∙ ap (λ l. old ++ l) (sym (failing_all (is_used rs w.id) (told_forms told w.forms.kind 0 w.forms.texts) (new_forms rs told (drop (i + 1) ws)))) ∙ ap (λ l. old ++ new_forms rs told l) (sym (drop_at ws i w at)) ∙ h
+    ap (λ n. n ++ new_forms rs told (drop (i + 1) ws)) is ∙ append_assoc old (if is_used rs w.id then [] else told_forms told w.forms.kind 0 w.forms.texts) (new_forms rs told (drop (i + 1) ws)) ∙ ap (λ l. old ++ l) (sym (failing_all (is_used rs w.id) (told_forms told w.forms.kind 0 w.forms.texts) (new_forms rs told (drop (i + 1) ws)))) ∙ ap (λ l. old ++ new_forms rs told l) (sym (drop_slice_get ws i w at)) ∙ h
 
 pub used_step : (rs : List (List Ground)) (ws : List Word) (i : ℕ) (w : Word) (old new whole : List (Group × List ℕ)) → slice_get ws i ≡ Some w → new ≡ old ++ (if is_used rs w.id then forms_in w else []) → old ++ used_forms rs (drop i ws) ≡ whole → new ++ used_forms rs (drop (i + 1) ws) ≡ whole
 used_step rs ws i w old new whole at is h =
-    ap (λ n. n ++ used_forms rs (drop (i + 1) ws)) is ∙ append_assoc old (if is_used rs w.id then forms_in w else []) (used_forms rs (drop (i + 1) ws)) ∙ ap (λ l. old ++ l) (sym (passing_all (is_used rs w.id) (forms_in w) (used_forms rs (drop (i + 1) ws)))) ∙ ap (λ l. old ++ used_forms rs l) (sym (drop_at ws i w at)) ∙ h
+    ap (λ n. n ++ used_forms rs (drop (i + 1) ws)) is ∙ append_assoc old (if is_used rs w.id then forms_in w else []) (used_forms rs (drop (i + 1) ws)) ∙ ap (λ l. old ++ l) (sym (passing_all (is_used rs w.id) (forms_in w) (used_forms rs (drop (i + 1) ws)))) ∙ ap (λ l. old ++ used_forms rs l) (sym (drop_slice_get ws i w at)) ∙ h
 
 pub asks_step : (rs : List (List Ground)) (ws : List Word) (i : ℕ) (w : Word) (old new whole : List Ask) → slice_get ws i ≡ Some w → new ≡ old ++ (if is_used rs w.id then form_asks w.forms.kind w.id 0 w.forms.texts else []) → old ++ used_asks rs (drop i ws) ≡ whole → new ++ used_asks rs (drop (i + 1) ws) ≡ whole
 asks_step rs ws i w old new whole at is h =
-    ap (λ n. n ++ used_asks rs (drop (i + 1) ws)) is ∙ append_assoc old (if is_used rs w.id then form_asks w.forms.kind w.id 0 w.forms.texts else []) (used_asks rs (drop (i + 1) ws)) ∙ ap (λ l. old ++ l) (sym (passing_all (is_used rs w.id) (form_asks w.forms.kind w.id 0 w.forms.texts) (used_asks rs (drop (i + 1) ws)))) ∙ ap (λ l. old ++ used_asks rs l) (sym (drop_at ws i w at)) ∙ h
+    ap (λ n. n ++ used_asks rs (drop (i + 1) ws)) is ∙ append_assoc old (if is_used rs w.id then form_asks w.forms.kind w.id 0 w.forms.texts else []) (used_asks rs (drop (i + 1) ws)) ∙ ap (λ l. old ++ l) (sym (passing_all (is_used rs w.id) (form_asks w.forms.kind w.id 0 w.forms.texts) (used_asks rs (drop (i + 1) ws)))) ∙ ap (λ l. old ++ used_asks rs l) (sym (drop_slice_get ws i w at)) ∙ h
 
 -- what is added where a test says yes, and where it says no
 pub added_if : {Y : Type 0} (b : Bool) (old new piece : List Y) → b ≡ true → new ≡ old ++ piece → new ≡ old ++ (if b then piece else [])
@@ -129,11 +117,6 @@ past [] i le = refl
 past (b ∷ bs) zero le = absurd (omega arith)
 past (b ∷ bs) (suc i) le = past bs i (omega arith)
 
-same_get : {X : Type 0} (xs : List X) (i : ℕ) (d e : X) → i < length xs → get_or xs i d ≡ get_or xs i e
-same_get [] i d e lt = absurd (omega arith)
-same_get (x ∷ xs) zero d e lt = refl
-same_get (x ∷ xs) (suc i) d e lt = same_get xs i d e (omega arith)
-
 -- a search for a terminal, one by one
 
 no_more : (text : List ℕ) (ts : List (List ℕ)) → some_follows text ts [] ≡ false
@@ -141,7 +124,7 @@ no_more text [] = refl
 no_more text (t ∷ ts) = refl
 
 follows_past : (text : List ℕ) (ts : List (List ℕ)) (bs : List Bool) (i : ℕ) → length bs ≤ i → some_follows text ts (drop i bs) ≡ false
-follows_past text ts bs i le = ap (some_follows text ts) (drop_whole bs i le) ∙ no_more text ts
+follows_past text ts bs i le = ap (some_follows text ts) (drop_past bs i le) ∙ no_more text ts
 
 pub follows_turn : (text : List ℕ) (ts : List (List ℕ)) (bs : List Bool) (i : ℕ) (t : List ℕ) → i < length ts → some_follows text (drop i ts) (drop i bs) ≡ ((bytes_eq text (get_or ts i t) && slice_index_or bs i false) || some_follows text (drop (i + 1) ts) (drop (i + 1) bs))
 follows_turn text ts bs i t lt = by (cases_lt i (length bs))
@@ -158,7 +141,7 @@ follows_turn text ts bs i t lt = by (cases_lt i (length bs))
         follows_past text (drop i ts) bs i above ∙ sym (ap (λ b. (bytes_eq text (get_or ts i t) && b) || some_follows text (drop (i + 1) ts) (drop (i + 1) bs)) (past bs i above) ∙ ap (λ b. b || some_follows text (drop (i + 1) ts) (drop (i + 1) bs)) (and_false (bytes_eq text (get_or ts i t))) ∙ follows_past text (drop (i + 1) ts) bs (i + 1) later)
 
 pub follows_end : (text : List ℕ) (ts : List (List ℕ)) (bs : List Bool) (i : ℕ) → length ts ≤ i → some_follows text (drop i ts) (drop i bs) ≡ false
-follows_end text ts bs i le = ap (λ xs. some_follows text xs (drop i bs)) (drop_whole ts i le)
+follows_end text ts bs i le = ap (λ xs. some_follows text xs (drop i bs)) (drop_past ts i le)
 
 -- a choice, one by one
 
@@ -174,15 +157,15 @@ chosen_turn {X = X} xs bs i d lt = by (cases_lt i (length bs))
         ap (λ ys. chosen ys (drop i bs)) (drop_more xs i d lt) ∙ ap (chosen (get_or xs i d ∷ drop (i + 1) xs)) (drop_more bs i false below) ∙ passing (slice_index_or bs i false) (get_or xs i d) (chosen (drop (i + 1) xs) (drop (i + 1) bs))
     by (inr above) =
         let later : length bs ≤ i + 1 = omega arith in
-        ap (chosen (drop i xs)) (drop_whole bs i above) ∙ chosen_none (drop i xs) ∙ sym (ap (λ b. (if b then get_or xs i d ∷ [] else []) ++ chosen (drop (i + 1) xs) (drop (i + 1) bs)) (past bs i above) ∙ ap (chosen (drop (i + 1) xs)) (drop_whole bs (i + 1) later) ∙ chosen_none (drop (i + 1) xs))
+        ap (chosen (drop i xs)) (drop_past bs i above) ∙ chosen_none (drop i xs) ∙ sym (ap (λ b. (if b then get_or xs i d ∷ [] else []) ++ chosen (drop (i + 1) xs) (drop (i + 1) bs)) (past bs i above) ∙ ap (chosen (drop (i + 1) xs)) (drop_past bs (i + 1) later) ∙ chosen_none (drop (i + 1) xs))
 
 pub chosen_end : {X : Type 0} (xs : List X) (bs : List Bool) (i : ℕ) → length xs ≤ i → chosen (drop i xs) bs ≡ []
-chosen_end xs bs i le = ap (λ ys. chosen ys bs) (drop_whole xs i le)
+chosen_end xs bs i le = ap (λ ys. chosen ys bs) (drop_past xs i le)
 
 -- choosing one more, or not
 chosen_step : (xs : List (Group × Bor (List ℕ))) (bs : List Bool) (i : ℕ) (d : Group × Bor (List ℕ)) (old new whole : List (Group × List ℕ)) → i < length xs → new ≡ old ++ (if slice_index_or bs i false then shown (get_or xs i d) ∷ [] else []) → old ++ chosen (drop i (map shown xs)) (drop i bs) ≡ whole → new ++ chosen (drop (i + 1) (map shown xs)) (drop (i + 1) bs) ≡ whole
 chosen_step xs bs i d old new whole lt is h =
-    let long : length (map shown xs) ≡ length xs = map_length shown xs in
+    let long : length (map shown xs) ≡ length xs = length_mapped shown xs in
     let within : i < length (map shown xs) = omega arith in
     let piece = ap (λ x. if slice_index_or bs i false then x ∷ [] else []) (map_get shown xs i d lt) in
     ap (λ n. n ++ chosen (drop (i + 1) (map shown xs)) (drop (i + 1) bs)) is ∙ append_assoc old (if slice_index_or bs i false then shown (get_or xs i d) ∷ [] else []) (chosen (drop (i + 1) (map shown xs)) (drop (i + 1) bs)) ∙ ap (λ p. old ++ (p ++ chosen (drop (i + 1) (map shown xs)) (drop (i + 1) bs))) (sym piece) ∙ ap (λ l. old ++ l) (sym (chosen_turn (map shown xs) bs i (shown d) within)) ∙ h

@@ -3,9 +3,10 @@ use Rattle.std.proofs.Common.{◌≡◌, ℕ, suc, zero, ◌+◌, ◌<◌, List,
 use Rattle.std.specs.Prelude.{if◌then◌else◌, ◌==◌, not, slice_get}
 use Rattle.std.specs.List.{list_all}
 use Rattle.std.specs.Str.{bytes_eq}
-use Rattle.std.proofs.lemmas.Bool.{cases_lt}
+use Rattle.std.proofs.lemmas.Bool.{cases_lt, or_parts}
 use Rattle.std.proofs.lemmas.Option.{same_Some}
 use Rattle.std.proofs.lemmas.Slice.Eq.{bytes_eq-Decides}
+use Rattle.std.proofs.Math.Bool.{and-true, or-false}
 use Rattle.codeco_terms.specs.declared.values.Value.{Value}
 use Rattle.codeco_terms.specs.declared.values.Value.TheVariants.{Atom, Word as TheWord}
 use Rattle.codeco_terms.specs.declared.categories.Ground.{Ground}
@@ -23,7 +24,7 @@ use Rattle.derivation_trees.specs.Cutting.{is_terminal}
 use Rattle.chart_table.specs.Branches.{OneOf}
 use Rattle.chart.specs.Offers.{has_in, is_used}
 use Rattle.chart.proofs.TurnedLemmas.{turned, turned_ground}
-use Rattle.chart.proofs.SwapLemmas.{lacks_value, lacks_in, lacks_word, or_false, HasWord}
+use Rattle.chart.proofs.SwapLemmas.{lacks_value, lacks_in, lacks_word, HasWord}
 
 -- a place in a list
 pub at_slice : {X : Type 0} (xs : List X) (i : ℕ) (x : X) → slice_get xs i ≡ Some x → (i < length xs) × (get_or xs i x ≡ x)
@@ -34,11 +35,11 @@ at_slice (y ∷ ys) (suc i) x h = let r = at_slice ys i x h in let lt : i < leng
 -- the word of a reading
 
 pub reading_has : (k : Kind) (id : WordId) (place : ℕ) (form : List ℕ) (v : Value) → has_value (reading k id place form).vals (3, v) ≡ same_value (TheWord id) v
-reading_has kind.Name id place form v = or_false (same_value (TheWord id) v)
-reading_has kind.Noun id place form v = or_false (same_value (TheWord id) v)
-reading_has kind.Of id place form v = or_false (same_value (TheWord id) v)
-reading_has kind.Verb id place form v = or_false (same_value (TheWord id) v)
-reading_has kind.Adjective id place form v = or_false (same_value (TheWord id) v)
+reading_has kind.Name id place form v = or-false (same_value (TheWord id) v)
+reading_has kind.Noun id place form v = or-false (same_value (TheWord id) v)
+reading_has kind.Of id place form v = or-false (same_value (TheWord id) v)
+reading_has kind.Verb id place form v = or-false (same_value (TheWord id) v)
+reading_has kind.Adjective id place form v = or-false (same_value (TheWord id) v)
 
 from_has : (k : Kind) (id : WordId) (token : List ℕ) (place : ℕ) (forms : List (List ℕ)) (v : Value) → has_in (readings_from k id token place forms) v ≡ (is_among forms token && same_value (TheWord id) v)
 from_has k id token place [] v = refl
@@ -218,17 +219,13 @@ form_lacks a place = at (place == 0) (place == 1)
     at false true = refl
     at false false = refl
 
-and_true : (b : Bool) → (b && true) ≡ b
-and_true true = refl
-and_true false = refl
-
 reading_lacks : (a : ℕ) (k : Kind) (id : WordId) (place : ℕ) (form : List ℕ) → list_all (λ p. lacks_value a p.1) (reading k id place form).vals ≡ not (id.0 == a)
-reading_lacks a kind.Name id place form = and_true (not (id.0 == a))
+reading_lacks a kind.Name id place form = and-true (not (id.0 == a))
 reading_lacks a kind.Noun id place form =
-    ap (λ b. b && (lacks_value a (vow_of form) && (not (id.0 == a) && true))) (number_lacks a place) ∙ ap (λ b. b && (not (id.0 == a) && true)) (vow_lacks a form) ∙ and_true (not (id.0 == a))
-reading_lacks a kind.Of id place form = ap (λ b. b && (not (id.0 == a) && true)) (vow_lacks a form) ∙ and_true (not (id.0 == a))
-reading_lacks a kind.Verb id place form = ap (λ b. b && (not (id.0 == a) && true)) (form_lacks a place) ∙ and_true (not (id.0 == a))
-reading_lacks a kind.Adjective id place form = and_true (not (id.0 == a))
+    ap (λ b. b && (lacks_value a (vow_of form) && (not (id.0 == a) && true))) (number_lacks a place) ∙ ap (λ b. b && (not (id.0 == a) && true)) (vow_lacks a form) ∙ and-true (not (id.0 == a))
+reading_lacks a kind.Of id place form = ap (λ b. b && (not (id.0 == a) && true)) (vow_lacks a form) ∙ and-true (not (id.0 == a))
+reading_lacks a kind.Verb id place form = ap (λ b. b && (not (id.0 == a) && true)) (form_lacks a place) ∙ and-true (not (id.0 == a))
+reading_lacks a kind.Adjective id place form = and-true (not (id.0 == a))
 
 -- the value for the word tells whether the number is among the values
 abbrev AllTell : ℕ → List Ground → Type 0
@@ -252,20 +249,16 @@ all_tell a [] token = tt
 all_tell a (word ∷ live) token =
     tells_append a (readings_of_word token word) (readings_of live token) (from_tells a word.forms.kind word.id token 0 word.forms.texts) (all_tell a live token)
 
-neither : (a b : Bool) → (a || b) ≡ false → (a ≡ false) × (b ≡ false)
-neither true b h = absurd (cc)
-neither false b h = (refl, h)
-
 none_lacks : (a : ℕ) (rs : List Ground) → AllTell a rs → has_in rs (TheWord (record { 0 = a })) ≡ false → lacks_in a rs ≡ true
 none_lacks a [] t h = refl
 none_lacks a (r ∷ rs) t h =
-    let n = neither (has_value r.vals (3, TheWord (record { 0 = a }))) (has_in rs (TheWord (record { 0 = a }))) h in
+    let n = or_parts (has_value r.vals (3, TheWord (record { 0 = a }))) (has_in rs (TheWord (record { 0 = a }))) h in
     ap (λ b. b && lacks_in a rs) (t.0 ∙ ap not n.0) ∙ none_lacks a rs t.1 n.1
 
 pub unused_lacks : (live : List Word) (tokens : List (List ℕ)) (id : WordId) → is_used (map (readings_of live) tokens) id ≡ false → lacks_word id.0 (map (readings_of live) tokens) ≡ true
 unused_lacks live [] id h = refl
 unused_lacks live (token ∷ tokens) id h =
-    let n = neither (has_in (readings_of live token) (TheWord id)) (is_used (map (readings_of live) tokens) id) h in
+    let n = or_parts (has_in (readings_of live token) (TheWord id)) (is_used (map (readings_of live) tokens) id) h in
     ap (λ b. b && lacks_word id.0 (map (readings_of live) tokens)) (none_lacks id.0 (readings_of live token) (all_tell id.0 live token) n.0) ∙ unused_lacks live tokens id n.1
 
 -- terminals and forms
@@ -276,7 +269,7 @@ spelled_reserved (t ∷ ts) token h = at (bytes_eq token t) (is_spelling_of toke
   where
     at : (b c : Bool) → bytes_eq token t ≡ b → is_spelling_of token t ≡ c → (b || is_terminal ts token) ≡ true → (is_terminal ts token ≡ true → is_reserved ts token ≡ true) → (c || is_reserved ts token) ≡ true
     at b true e f g rest = refl
-    at true false e f g rest = absurd (neither_true (neither (bytes_eq token t) (bytes_eq token (raised t)) f).0 e)
+    at true false e f g rest = absurd (neither_true (or_parts (bytes_eq token t) (bytes_eq token (raised t)) f).0 e)
       where
         neither_true : bytes_eq token t ≡ false → bytes_eq token t ≡ true → ⊥
         neither_true x y = let z : true ≡ false = sym y ∙ x in absurd (cc)

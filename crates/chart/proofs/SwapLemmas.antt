@@ -5,7 +5,11 @@ use Rattle.std.specs.Option.{option_map_or}
 use Rattle.std.specs.List.{list_any, list_all}
 use Rattle.std.specs.Str.{bytes_eq}
 use Rattle.std.proofs.lemmas.Bool.Decides.{nat_tests}
-use Rattle.std.proofs.lemmas.Option.{same_Some}
+use Rattle.std.proofs.lemmas.Option.{same_Some, slice_get-map}
+use Rattle.std.proofs.lemmas.Bool.{eqb-true, eqb-false, eq-eqb, ne_eqb}
+use Rattle.std.proofs.lemmas.List.Folds.{list_any-append}
+use Rattle.std.proofs.Math.Bool.{or-false}
+use Rattle.wiki_base.proofs.ListLaws.{slice_get-append}
 use Rattle.codeco_terms.specs.declared.values.Value.{Value}
 use Rattle.codeco_terms.specs.declared.values.Value.TheVariants.{Atom, Word, Pos}
 use Rattle.codeco_terms.specs.declared.values.Term.{Term}
@@ -25,7 +29,7 @@ use Rattle.chart_table.specs.declared.asks.Ask.TheVariants as ask
 use Rattle.chart_table.specs.Asks.{AskLeads}
 use Rattle.chart_table.proofs.PassLemmas.{both_true}
 use Rattle.chart.specs.Offers.{with_last, has_in}
-use Rattle.chart.proofs.TurnedLemmas.{Binds, IsTurn, turned, turned_all, turned_ground, turned_readings, Alike, AllWritten, PatternsWritten, value_same, any_turned, has_turned, slice_turned}
+use Rattle.chart.proofs.TurnedLemmas.{Binds, IsTurn, turned, turned_all, turned_ground, turned_readings, Alike, AllWritten, PatternsWritten, value_same, any_turned, has_turned}
 use Rattle.chart.proofs.TurnedTrees.{ElementWritten, BodyWritten, RuleWritten, RulesWritten, turned_ask, ask_turned}
 
 -- the other of two numbers, or the number itself where it is neither
@@ -48,31 +52,15 @@ lacks_word a readings = list_all (lacks_in a) readings
 
 -- numbers
 
-number_is : (x y : ℕ) → (x == y) ≡ true → x ≡ y
-number_is x y h = grind (arith, nat_tests)
-
-number_not : (x y : ℕ) → (x == y) ≡ false → x ≡ y → ⊥
-number_not x y h e = let z : (x == y) ≡ true = grind (arith, nat_tests) in let c : true ≡ false = sym z ∙ h in absurd (cc)
-
-number_same : (x y : ℕ) → x ≡ y → (x == y) ≡ true
-number_same x y e = grind (arith, nat_tests)
-
-number_apart : (x y : ℕ) → (x ≡ y → ⊥) → (x == y) ≡ false
-number_apart x y n = at (x == y) refl
-  where
-    at : (b : Bool) → (x == y) ≡ b → (x == y) ≡ false
-    at true e = absurd (n (number_is x y e))
-    at false e = e
-
 pub swapped_first : (a b : ℕ) → swapped a b a ≡ b
-swapped_first a b = ap (λ t. if t then b else (if a == b then a else a)) (number_same a a refl)
+swapped_first a b = ap (λ t. if t then b else (if a == b then a else a)) (eq-eqb a a refl)
 
 pub swapped_second : (a b : ℕ) → swapped a b b ≡ a
 swapped_second a b = at (b == a) refl
   where
     at : (t : Bool) → (b == a) ≡ t → swapped a b b ≡ a
-    at true e = ap (λ t. if t then b else (if b == b then a else b)) e ∙ number_is b a e
-    at false e = ap (λ t. if t then b else (if b == b then a else b)) e ∙ ap (λ t. if t then a else b) (number_same b b refl)
+    at true e = ap (λ t. if t then b else (if b == b then a else b)) e ∙ eqb-true b a e
+    at false e = ap (λ t. if t then b else (if b == b then a else b)) e ∙ ap (λ t. if t then a else b) (eq-eqb b b refl)
 
 swapped_other : (a b x : ℕ) → (x == a) ≡ false → (x == b) ≡ false → swapped a b x ≡ x
 swapped_other a b x n m = ap (λ t. if t then b else (if x == b then a else x)) n ∙ ap (λ t. if t then a else x) m
@@ -81,8 +69,8 @@ swapped_twice : (a b x : ℕ) → swapped a b (swapped a b x) ≡ x
 swapped_twice a b x = at (x == a) (x == b) refl refl
   where
     at : (t u : Bool) → (x == a) ≡ t → (x == b) ≡ u → swapped a b (swapped a b x) ≡ x
-    at true u e f = let is = number_is x a e in ap (λ y. swapped a b (swapped a b y)) is ∙ ap (swapped a b) (swapped_first a b) ∙ swapped_second a b ∙ sym is
-    at false true e f = let is = number_is x b f in ap (λ y. swapped a b (swapped a b y)) is ∙ ap (swapped a b) (swapped_second a b) ∙ swapped_first a b ∙ sym is
+    at true u e f = let is = eqb-true x a e in ap (λ y. swapped a b (swapped a b y)) is ∙ ap (swapped a b) (swapped_first a b) ∙ swapped_second a b ∙ sym is
+    at false true e f = let is = eqb-true x b f in ap (λ y. swapped a b (swapped a b y)) is ∙ ap (swapped a b) (swapped_second a b) ∙ swapped_first a b ∙ sym is
     at false false e f = ap (swapped a b) (swapped_other a b x e f) ∙ swapped_other a b x e f
 
 back_same : (a b x y : ℕ) → swapped a b x ≡ swapped a b y → x ≡ y
@@ -92,8 +80,8 @@ same_tests : (x y u v : ℕ) → (x ≡ y → u ≡ v) → (u ≡ v → x ≡ y)
 same_tests x y u v to back = at (u == v) refl
   where
     at : (t : Bool) → (u == v) ≡ t → (x == y) ≡ t
-    at true e = number_same x y (back (number_is u v e))
-    at false e = number_apart x y (λ h. number_not u v e (to h))
+    at true e = eq-eqb x y (back (eqb-true u v e))
+    at false e = ne_eqb x y (λ h. eqb-false u v e (to h))
 
 pub swap_turns : (a b : ℕ) → (a ≡ 0 → ⊥) → (b ≡ 0 → ⊥) → IsTurn (swapped a b)
 swap_turns a b na nb = record {
@@ -102,7 +90,7 @@ swap_turns a b na nb = record {
 }
   where
     zero_stays : swapped a b 0 ≡ 0
-    zero_stays = swapped_other a b 0 (number_apart 0 a (λ e. na (sym e))) (number_apart 0 b (λ e. nb (sym e)))
+    zero_stays = swapped_other a b 0 (ne_eqb 0 a (λ e. na (sym e))) (ne_eqb 0 b (λ e. nb (sym e)))
 
 -- readings
 
@@ -207,31 +195,14 @@ rules_written g sound number rule has = at (number == 0) has
 
 -- settings that differ in the last token
 
-slice_before : {X : Type 0} (xs ys : List X) (i : ℕ) → i < length xs → slice_get (xs ++ ys) i ≡ slice_get xs i
-slice_before [] ys i lt = absurd (omega arith)
-slice_before (x ∷ xs) ys zero lt = refl
-slice_before (x ∷ xs) ys (suc i) lt = slice_before xs ys i (omega arith)
-
-pub any_append : {X : Type 0} (p : X → Bool) (xs ys : List X) → list_any p (xs ++ ys) ≡ (list_any p xs || list_any p ys)
-any_append p [] ys = refl
-any_append p (x ∷ xs) ys = ap (λ b. p x || b) (any_append p xs ys) ∙ at (p x)
-  where
-    at : (b : Bool) → (b || (list_any p xs || list_any p ys)) ≡ ((b || list_any p xs) || list_any p ys)
-    at true = refl
-    at false = refl
-
-pub or_false : (b : Bool) → (b || false) ≡ b
-or_false true = refl
-or_false false = refl
-
 alike_last : (h : ℕ → ℕ) (g : GrammarParts) (tokens : List (List ℕ)) (rs : List (List Ground)) (one other : List ℕ) (q r : List Ground) → length rs ≡ length tokens → turned_readings h rs ≡ rs → ((v : Value) → has_word (with_last g tokens rs other r) (turned h v) ≡ has_word (with_last g tokens rs one q) v) → Alike (length tokens) h (with_last g tokens rs one q) (with_last g tokens rs other r)
 alike_last h g tokens rs one other q r long stays words = record {
   grammar = refl;
   count = length-append tokens (other ∷ []) ∙ sym (length-append tokens (one ∷ []));
-  terminals = λ t place lt. ap (λ o. option_map_or (λ token. option_map_or (bytes_eq token) (slice_get g.terminals t) false) o false) (slice_before tokens (other ∷ []) place lt ∙ sym (slice_before tokens (one ∷ []) place lt));
+  terminals = λ t place lt. ap (λ o. option_map_or (λ token. option_map_or (bytes_eq token) (slice_get g.terminals t) false) o false) (slice_get-append tokens (other ∷ []) place lt ∙ sym (slice_get-append tokens (one ∷ []) place lt));
   readings = λ place lt.
       let below : place < length rs = subst (λ k. place < k) (sym long) lt in
-      slice_before rs (r ∷ []) place below ∙ ap (λ x. slice_get x place) (sym stays) ∙ slice_turned (map (turned_ground h)) rs place ∙ ap (option_map (map (turned_ground h))) (sym (slice_before rs (q ∷ []) place below));
+      slice_get-append rs (r ∷ []) place below ∙ ap (λ x. slice_get x place) (sym stays) ∙ slice_get-map (map (turned_ground h)) rs place ∙ ap (option_map (map (turned_ground h))) (sym (slice_get-append rs (q ∷ []) place below));
   words = words;
 }
 
@@ -241,7 +212,7 @@ words_in rs v = list_any (λ one. has_in one v) rs
 
 pub last_words : (g : GrammarParts) (tokens : List (List ℕ)) (rs : List (List Ground)) (one : List ℕ) (q : List Ground) (v : Value) → has_word (with_last g tokens rs one q) v ≡ (words_in rs v || has_in q v)
 last_words g tokens rs one q v =
-    any_append (λ readings. has_in readings v) rs (q ∷ []) ∙ ap (λ b. words_in rs v || b) (or_false (has_in q v))
+    list_any-append (λ readings. has_in readings v) rs (q ∷ []) ∙ ap (λ b. words_in rs v || b) (or-false (has_in q v))
 
 words_turned : (h : ℕ → ℕ) → IsTurn h → (rs : List (List Ground)) (v : Value) → turned_readings h rs ≡ rs → words_in rs (turned h v) ≡ words_in rs v
 words_turned h t rs v stays =

@@ -4,6 +4,7 @@ use Rattle.std.proofs.Common.{◌≡◌, ℕ, suc, zero, ◌+◌, ◌<◌, List,
 use Rattle.std.specs.Prelude.{if◌then◌else◌, ◌==◌, not, option_map, slice_get, unwrap_or}
 use Rattle.std.specs.Option.{option_map_or}
 use Rattle.std.specs.List.{list_any, list_all, filter_map, cons_option, flat_map, prefix_len, position}
+use Rattle.wiki_base.proofs.ListLaws.{length_mapped}
 use Rattle.codeco_terms.specs.declared.values.Value.{Value}
 use Rattle.codeco_terms.specs.declared.values.Value.TheVariants.{Atom, Word, Pos}
 use Rattle.codeco_terms.specs.declared.values.Term.{Term}
@@ -138,14 +139,10 @@ prefix_turned : {X Y : Type 0} (p : Y → Bool) (q : X → Bool) (f : X → Y) (
 prefix_turned p q f [] h = refl
 prefix_turned p q f (x ∷ xs) h = ap (λ b. cond b (1 + prefix_len p (map f xs)) 0) (h x) ∙ ap (λ n. cond (q x) (1 + n) 0) (prefix_turned p q f xs h)
 
-pub length_turned : {X Y : Type 0} (f : X → Y) (xs : List X) → length (map f xs) ≡ length xs
-length_turned f [] = refl
-length_turned f (x ∷ xs) = let rest = length_turned f xs in omega arith
-
 position_turned : {X Y : Type 0} (p : Y → Bool) (q : X → Bool) (f : X → Y) (xs : List X) → ((x : X) → p (f x) ≡ q x) → position p (map f xs) ≡ position q xs
 position_turned p q f xs h =
     let same = prefix_turned (λ y. not (p y)) (λ x. not (q x)) f xs (λ x. ap not (h x)) in
-    ap (λ n. cond (nat_lt n (length (map f xs))) (Some n) None) same ∙ ap (λ m. cond (nat_lt (prefix_len (λ x. not (q x)) xs) m) (Some (prefix_len (λ x. not (q x)) xs)) None) (length_turned f xs)
+    ap (λ n. cond (nat_lt n (length (map f xs))) (Some n) None) same ∙ ap (λ m. cond (nat_lt (prefix_len (λ x. not (q x)) xs) m) (Some (prefix_len (λ x. not (q x)) xs)) None) (length_mapped f xs)
 
 pub has_turned : (h : ℕ → ℕ) → IsTurn h → (vals : Binds) (p : ℕ × Value) → has_value (turned_all h vals) (turned_pair h p) ≡ has_value vals p
 has_turned h t vals p = any_turned _ _ (turned_pair h) vals (λ q. ap (λ b. (q.0 == p.0) && b) (value_same h t q.1 p.1))
@@ -296,11 +293,6 @@ pub record Alike (n : ℕ) (h : ℕ → ℕ) (s other : Setting) : Type 0 where
   pub terminals : (t place : ℕ) → place < n → matches_terminal other t place ≡ matches_terminal s t place
   pub readings : (place : ℕ) → place < n → slice_get other.readings place ≡ option_map (map (turned_ground h)) (slice_get s.readings place)
   pub words : (v : Value) → has_word other (turned h v) ≡ has_word s v
-
-pub slice_turned : {X Y : Type 0} (f : X → Y) (xs : List X) (i : ℕ) → slice_get (map f xs) i ≡ option_map f (slice_get xs i)
-slice_turned f [] i = refl
-slice_turned f (x ∷ xs) zero = refl
-slice_turned f (x ∷ xs) (suc i) = slice_turned f xs i
 
 pub preterminal_turned : (n : ℕ) (h : ℕ → ℕ) → IsTurn h → (s other : Setting) → Alike n h s other → (asked : Test) (place : ℕ) → place < n → matches_preterminal other (turned_test h asked) place ≡ matches_preterminal s asked place
 preterminal_turned n h t s other a asked place lt =

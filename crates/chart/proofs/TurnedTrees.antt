@@ -4,6 +4,8 @@ use Rattle.std.specs.Prelude.{option_and_then, option_map, slice_get}
 use Rattle.std.specs.List.{list_any}
 use Rattle.std.proofs.lemmas.List.{map-append}
 use Rattle.std.proofs.lemmas.Option.{option_and_then_some, same_Some}
+use Rattle.std.proofs.lemmas.Bool.{and_from}
+use Rattle.wiki_base.proofs.ListLaws.{length_mapped}
 use Rattle.codeco_terms.specs.declared.values.Value.TheVariants.{Pos}
 use Rattle.codeco_terms.specs.declared.categories.Category.{Category}
 use Rattle.codeco_terms.specs.declared.categories.Pattern.{Pattern}
@@ -27,9 +29,9 @@ use Rattle.derivation_trees.specs.Partial.{CutNode, stopped, entered, used_up, f
 use Rattle.chart_table.specs.declared.asks.Ask.{Ask}
 use Rattle.chart_table.specs.declared.asks.Ask.TheVariants as ask
 use Rattle.chart_table.specs.Asks.{takes_reading, meets, CutMeets, AskLeads}
-use Rattle.chart_table.proofs.PassLemmas.{if_some, unless_some, if_true, if_false, both_true, and_both}
+use Rattle.chart_table.proofs.PassLemmas.{if_some, unless_some, if_true, if_false, both_true}
 use Rattle.chart_table.proofs.AskLemmas.{place_some, met_in}
-use Rattle.chart.proofs.TurnedLemmas.{Binds, IsTurn, turned_all, turned_ground, turned_test, turned_entry, turned_list, Alike, AllWritten, PatternsWritten, value_same, value_turned, under_turned, tests_turned, none_turned, closest_turned, closed_turned, drop_turned, length_turned, introduced_turned, rest_turned, referent_turned, fits_turned, found_turned, reference_turned, preterminal_turned, agrees_turned, own_values_turned, instance_turned}
+use Rattle.chart.proofs.TurnedLemmas.{Binds, IsTurn, turned_all, turned_ground, turned_test, turned_entry, turned_list, Alike, AllWritten, PatternsWritten, value_same, value_turned, under_turned, tests_turned, none_turned, closest_turned, closed_turned, drop_turned, introduced_turned, rest_turned, referent_turned, fits_turned, found_turned, reference_turned, preterminal_turned, agrees_turned, own_values_turned, instance_turned}
 
 abbrev pub turned_at : (ℕ → ℕ) → At → At
 turned_at h at = record { place = at.place; list = turned_list h at.list }
@@ -172,7 +174,7 @@ none_left_turned n h (p ∷ ps) (q ∷ qs) par = refl
 
 list_after_turned : (h : ℕ → ℕ) (closing : Bool) (begins list : List Entry) → list_after closing (turned_list h begins) (turned_list h list) ≡ turned_list h (list_after closing begins list)
 list_after_turned h true begins list =
-    ap (λ n. turned_list h begins ++ closed (drop n (turned_list h list))) (length_turned (turned_entry h) begins) ∙ ap (λ l. turned_list h begins ++ closed l) (drop_turned (turned_entry h) (length begins) list) ∙ ap (λ l. turned_list h begins ++ l) (closed_turned h (drop (length begins) list)) ∙ sym (map-append (turned_entry h) begins (closed (drop (length begins) list)))
+    ap (λ n. turned_list h begins ++ closed (drop n (turned_list h list))) (length_mapped (turned_entry h) begins) ∙ ap (λ l. turned_list h begins ++ closed l) (drop_turned (turned_entry h) (length begins) list) ∙ ap (λ l. turned_list h begins ++ l) (closed_turned h (drop (length begins) list)) ∙ sym (map-append (turned_entry h) begins (closed (drop (length begins) list)))
 list_after_turned h false begins list = refl
 
 -- where a node begins
@@ -183,7 +185,7 @@ begun_turned : (n : ℕ) (h : ℕ → ℕ) → IsTurn h → (s other : Setting) 
 begun_turned n h t s other a rule vs found ps qs asked at w b =
     both_true (fits (under vs rule.head) asked) (is_instance s rule vs) b (λ head instance.
     let head_is = ap (λ x. fits x (turned_test h asked)) (under_turned h vs rule.head w) ∙ fits_turned h t (under vs rule.head) asked ∙ head in
-    if_true _ _ _ (and_both _ _ head_is (instance_turned n h t s other a rule vs ∙ instance)) (ap (λ o. record { at = turned_at h at; found = found; own = o; children = qs }) (own_values_turned h rule vs)))
+    if_true _ _ _ (and_from _ _ head_is (instance_turned n h t s other a rule vs ∙ instance)) (ap (λ o. record { at = turned_at h at; found = found; own = o; children = qs }) (own_values_turned h rule vs)))
 
 phrase_turned : (n : ℕ) (h : ℕ → ℕ) → IsTurn h → (s other : Setting) → Alike n h s other → (rule : Rule) (vs : Binds) (found : List ℕ) (ps qs : List Phrase) → RuleWritten rule → AllTurning n h ps qs → Turning n h (phrase s rule vs found ps) (phrase other rule (turned_all h vs) found qs)
 phrase_turned n h t s other a rule vs found ps qs w par asked at after e =

@@ -2,6 +2,7 @@
 use Rattle.std.proofs.Common.{◌≡◌, ℕ, List, [], ◌++◌, true, ◌&&◌, take, Option, Some, None, refl, sym, ap, ◌∙◌, ◌⊎◌, inl, inr}
 use Rattle.std.specs.Prelude.{option_and_then, option_map}
 use Rattle.std.proofs.lemmas.Option.{option_and_then_some, same_Some}
+use Rattle.std.proofs.lemmas.Bool.{and_from}
 use Rattle.codeco_terms.specs.declared.values.Value.{Value}
 use Rattle.codeco_terms.specs.declared.categories.Category.{Category}
 use Rattle.codeco_terms.specs.declared.rules.Rule.{Rule}
@@ -16,7 +17,7 @@ use Rattle.chart_table.specs.declared.asks.Ask.{Ask}
 use Rattle.chart_table.specs.declared.asks.Ask.TheVariants as ask
 use Rattle.chart_table.specs.Leading.{Path, referents}
 use Rattle.chart_table.specs.Asks.{is_met, CutMeets, AskLeads, RuleAsks}
-use Rattle.chart_table.proofs.PassLemmas.{if_some, if_true, both_true, and_both, stand_at, run_path, path_runs}
+use Rattle.chart_table.proofs.PassLemmas.{if_some, if_true, both_true, stand_at, run_path, path_runs}
 use Rattle.chart_table.proofs.OpenerLemmas.{referents-append, relisted, run_adds, nodes_parallel}
 
 pub place_some : {A B P : Type 0} (f : A → B) (o : Option A) (y : B) → option_map f o ≡ Some y → ((x : A) → o ≡ Some x → f x ≡ y → P) → P
@@ -82,7 +83,7 @@ fronting s number rule values count asked at last has instance head path =
     let ran = path_runs s values (take count rule.body) at (own_values rule values) last path in
     let kids = phrases_of s ran.children in
     let begins : begun s rule values ran.found kids asked at ≡ Some (stand_at s at ran.found (own_values rule values) ran.children) =
-    if_true _ _ _ (and_both _ _ head instance) refl in
+    if_true _ _ _ (and_from _ _ head instance) refl in
     record {
       found = ran.found;
       children = ran.children;

@@ -6,6 +6,9 @@ use Rattle.std.proofs.lemmas.Bool.Decides.{nat_tests}
 use Rattle.std.proofs.lemmas.Option.{same_Some}
 use Rattle.std.proofs.lemmas.Grind.{flat_map-append}
 use Rattle.std.proofs.lemmas.List.{append-nil}
+use Rattle.std.proofs.lemmas.Bool.{eqb-true, and_from}
+use Rattle.std.proofs.Math.Bool.{or-true}
+use Rattle.wiki_base.proofs.NumberLaws.{eqb_refl}
 use Rattle.codeco_terms.specs.declared.values.Value.{Value}
 use Rattle.codeco_terms.specs.declared.values.Value.TheVariants.{Atom}
 use Rattle.codeco_terms.specs.declared.values.Term.{Term}
@@ -18,7 +21,7 @@ use Rattle.scopes.specs.Resolution.{has_value, agrees}
 use Rattle.derivation_trees.specs.Instances.{looked_up, value_under, term_value, under, feats_under, tests_under}
 use Rattle.derivation_trees.specs.Derives.{same_where_both}
 use Rattle.chart_table.specs.Branches.{OneOf, Extends, AnyExtends, bound_at, bound_term, restricted, values_at, having, read_as, meeting_one, meeting, chosen_at, chosen_for, closing, closing_patterns, known_value}
-use Rattle.chart_table.proofs.PassLemmas.{if_some, both_true, and_both, same_value_is, same_value-refl, same_number}
+use Rattle.chart_table.proofs.PassLemmas.{if_some, both_true, same_value_is, same_value-refl}
 
 abbrev pub Binds : Type 0
 Binds = List (ℕ × Value)
@@ -40,12 +43,9 @@ pub extends_last : (v b : Binds) (x : ℕ) (value : Value) → Extends v (b ++ (
 extends_last v [] x value h = h.0
 extends_last v (p ∷ b) x value h = extends_last v b x value h.1
 
-pub number_is : (a b : ℕ) → (a == b) ≡ true → a ≡ b
-number_is a b h = grind (arith, nat_tests)
-
 -- a variable has the value that is known of it
 lookup_at : (v : Binds) (p : ℕ × Value) (x : ℕ) (value : Value) (o : Option Value) (b : Bool) → (p.0 == x) ≡ b → value_under v p.0 ≡ p.1 → (o ≡ Some value → value_under v x ≡ value) → (if b then Some p.1 else o) ≡ Some value → value_under v x ≡ value
-lookup_at v p x value o true e first rest h = ap (value_under v) (sym (number_is p.0 x e)) ∙ first ∙ same_Some _ _ h
+lookup_at v p x value o true e first rest h = ap (value_under v) (sym (eqb-true p.0 x e)) ∙ first ∙ same_Some _ _ h
 lookup_at v p x value o false e first rest h = rest h
 
 pub extends_lookup : (v b : Binds) (x : ℕ) (value : Value) → Extends v b → looked_up b x ≡ Some value → value_under v x ≡ value
@@ -144,10 +144,6 @@ values_at_to (p ∷ vals) feature value h = at (values_at_to vals feature value)
     at rest true false e f h = inr (rest h)
     at rest false b e f h = rest h
 
-or_right : (a : Bool) → (a || true) ≡ true
-or_right true = refl
-or_right false = refl
-
 values_at_from : (vals : Binds) (feature : ℕ) (value : Value) → OneOf (values_at vals feature) value → has_value vals (feature, value) ≡ true
 values_at_from [] feature value h = absurd h
 values_at_from (p ∷ vals) feature value h = at (values_at_from vals feature value) (p.0 == feature) h
@@ -157,7 +153,7 @@ values_at_from (p ∷ vals) feature value h = at (values_at_from vals feature va
 
     at : (OneOf (values_at vals feature) value → has_value vals (feature, value) ≡ true) → (a : Bool) → OneOf (cons_option (if a then Some p.1 else None) (values_at vals feature)) value → ((a && same_value p.1 value) || has_value vals (feature, value)) ≡ true
     at rest true (inl is) = found is
-    at rest true (inr later) = ap (λ b. same_value p.1 value || b) (rest later) ∙ or_right (same_value p.1 value)
+    at rest true (inr later) = ap (λ b. same_value p.1 value || b) (rest later) ∙ or-true (same_value p.1 value)
     at rest false later = rest later
 
 pub having_to : (v vals : Binds) (feats : List (ℕ × Term)) (bs : List Binds) → AnyExtends v bs → list_all (has_value vals) (feats_under v feats) ≡ true → AnyExtends v (having vals feats bs)
@@ -171,7 +167,7 @@ having_from v vals [] bs h = (h, refl)
 having_from v vals (q ∷ feats) bs h =
     let r = having_from v vals feats (restricted q.1 (values_at vals q.0) bs) h in
     let one = restricted_from v q.1 (values_at vals q.0) bs r.0 in
-    (one.0, and_both (has_value vals (q.0, term_value v q.1)) (list_all (has_value vals) (feats_under v feats)) (values_at_from vals q.0 (term_value v q.1) one.1) r.1)
+    (one.0, and_from (has_value vals (q.0, term_value v q.1)) (list_all (has_value vals) (feats_under v feats)) (values_at_from vals q.0 (term_value v q.1) one.1) r.1)
 
 pub single : (v b : Binds) → AnyExtends v (b ∷ []) → Extends v b
 single v b (inl h) = h
@@ -207,7 +203,7 @@ both_from v p [] bs h = (h, refl)
 both_from v p (q ∷ feats) bs h =
     let r = both_from v p feats (if p.0 == q.0 then restricted q.1 (p.1 ∷ []) bs else bs) h in
     let one = at (p.0 == q.0) r.0 in
-    (one.0, and_both (same_where_both p (q.0, term_value v q.1)) (list_all (same_where_both p) (feats_under v feats)) one.1 r.1)
+    (one.0, and_from (same_where_both p (q.0, term_value v q.1)) (list_all (same_where_both p) (feats_under v feats)) one.1 r.1)
   where
     value_same : (x : Value) → OneOf (p.1 ∷ []) x → same_value p.1 x ≡ true
     value_same x (inl e) = ap (same_value p.1) (sym e) ∙ same_value-refl p.1
@@ -227,7 +223,7 @@ meeting_from v [] feats bs h = (h, refl)
 meeting_from v (p ∷ vals) feats bs h =
     let r = meeting_from v vals feats (meeting_one p feats bs) h in
     let one = both_from v p feats bs r.0 in
-    (one.0, and_both (list_all (same_where_both p) (feats_under v feats)) (list_all (λ r. list_all (same_where_both r) (feats_under v feats)) vals) one.1 r.1)
+    (one.0, and_from (list_all (same_where_both p) (feats_under v feats)) (list_all (λ r. list_all (same_where_both r) (feats_under v feats)) vals) one.1 r.1)
 
 -- terms that are given each of their choices
 
@@ -311,7 +307,7 @@ lookup_push [] q x value h = absurd (cc)
 lookup_push (p ∷ b) q x value h = lookup_push_at p x value (looked_up b x) (looked_up (b ++ q ∷ []) x) (p.0 == x) (lookup_push b q x value) h
 
 lookup_new : (b : Binds) (x : ℕ) (value : Value) → looked_up b x ≡ None → looked_up (b ++ (x, value) ∷ []) x ≡ Some value
-lookup_new [] x value h = ap (λ t. if t then Some value else None) (same_number x)
+lookup_new [] x value h = ap (λ t. if t then Some value else None) (eqb_refl x)
 lookup_new (p ∷ b) x value h = at (lookup_new b x value) (p.0 == x) h
   where
     at : (looked_up b x ≡ None → looked_up (b ++ (x, value) ∷ []) x ≡ Some value) → (t : Bool) → (if t then Some p.1 else looked_up b x) ≡ None → (if t then Some p.1 else looked_up (b ++ (x, value) ∷ []) x) ≡ Some value

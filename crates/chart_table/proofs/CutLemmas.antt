@@ -2,6 +2,7 @@
 use Rattle.std.proofs.lemmas.List.{take_more}
 use Rattle.std.proofs.Common.{◌≡◌, ℕ, suc, zero, ◌+◌, ◌-◌, ◌<◌, ◌≤◌, get_or, List, [], ◌∷◌, ◌++◌, Bool, true, false, length, take, drop, Some, None, refl, sym, ap, ◌∙◌, subst, arith, inl, inr}
 use Rattle.std.specs.Prelude.{if◌then◌else◌, ◌==◌, slice_get}
+use Rattle.std.proofs.lemmas.Option.{slice_get_within}
 use Rattle.codeco_terms.specs.declared.values.Value.{Value}
 use Rattle.codeco_terms.specs.declared.elements.Element.{Element}
 use Rattle.codeco_terms.specs.declared.rules.Rule.{Rule}
@@ -132,11 +133,6 @@ after_more s rule starts n m i e states news lt is after steps next =
 
 -- all cut-off phrases
 
-slice_below : {X : Type 0} (xs : List X) (i : ℕ) (x : X) → slice_get xs i ≡ Some x → i < length xs
-slice_below [] i x h = absurd (cc)
-slice_below (y ∷ ys) zero x h = omega arith
-slice_below (y ∷ ys) (suc i) x h = let lt = slice_below ys i x h in omega arith
-
 rule_number : (s : Setting) (number : ℕ) (rule : Rule) → rule_with s.grammar number ≡ Some rule → number ≤ length s.grammar.rules
 rule_number s zero rule h = omega arith
 rule_number s (suc n) rule h = by_none (suc n == 0) refl h
@@ -146,7 +142,7 @@ rule_number s (suc n) rule h = by_none (suc n == 0) refl h
 
     by_none : (b : Bool) → (suc n == 0) ≡ b → (if b then None else slice_get s.grammar.rules (suc n - 1)) ≡ Some rule → suc n ≤ length s.grammar.rules
     by_none true e h = absurd (cc)
-    by_none false e h = let lt = slice_below s.grammar.rules (suc n - 1) rule h in omega arith
+    by_none false e h = let lt = slice_get_within s.grammar.rules (suc n - 1) rule h in omega arith
 
 -- the cut-off phrases of all rules with the name are those of the category
 pub cuts_up_to : (s : Setting) (aim : Aims) (name : ℕ) (known : Binds) (at : At) (cuts : List Cut) → HasCutsUpTo s aim name known at (length s.grammar.rules) cuts → AreCuts s aim name known at cuts

@@ -3,7 +3,7 @@ use Rattle.std.proofs.Common.{◌≡◌, ℕ, suc, zero, ◌+◌, ◌-◌, ◌<�
 use Rattle.std.specs.Prelude.{if◌then◌else◌, ◌==◌, not, option_map, unwrap_or, slice_get}
 use Rattle.std.specs.List.{list_all, cons_option, flat_map}
 use Rattle.std.proofs.lemmas.Bool.Decides.{nat_tests}
-use Rattle.std.proofs.lemmas.Option.{same_Some}
+use Rattle.std.proofs.lemmas.Option.{same_Some, slice_get_within}
 use Rattle.codeco_terms.specs.declared.values.Value.{Value}
 use Rattle.codeco_terms.specs.declared.values.Value.TheVariants.{Atom, Word, Pos}
 use Rattle.codeco_terms.specs.declared.values.Term.{Term}
@@ -27,11 +27,13 @@ use Rattle.chart_table.specs.Branches.{OneOf, Extends, AnyExtends, meeting, clos
 use Rattle.chart_table.specs.Steps.{at_of, Covers, placed, sub_steps, starting, plain_steps}
 use Rattle.chart_table.specs.Choices.{choices_in}
 use Rattle.chart_table.specs.Ends.{end_at, end_head, IsEnds, left_of, EndsAt, Agrees, HasRuleEnds, IsEndOf, HasEndsTo, CoversPath, LeadsFrom, values_of_all, as_terms, has_values, end_with, finished_one, finished, HasMore, OwnFrom, IsStep, AreSteps, AreReached, AreLast, HasFinished, HasEndsOfRule, HasEndsUpTo}
-use Rattle.chart_table.proofs.PassLemmas.{both_true, and_both, same_value_is, same_value-refl, same_number, rule_of_leads, leads_of_rule}
+use Rattle.chart_table.proofs.PassLemmas.{both_true, same_value_is, same_value-refl, rule_of_leads, leads_of_rule}
 use Rattle.chart_table.proofs.OpenerLemmas.{leads_alike, referents-twice}
-use Rattle.chart_table.proofs.BranchLemmas.{Binds, either, Each, KnownAll, closing_known, closing_to, closing_from, meeting_to, meeting_from, single, number_is, known_same}
+use Rattle.chart_table.proofs.BranchLemmas.{Binds, either, Each, KnownAll, closing_known, closing_to, closing_from, meeting_to, meeting_from, single, known_same}
 use Rattle.derivation_trees.specs.Stands.{is_sub}
 use Rattle.std.proofs.Math.Seq.{drop-nil}
+use Rattle.std.proofs.lemmas.Bool.{eqb-true, and_from}
+use Rattle.wiki_base.proofs.NumberLaws.{eqb_refl}
 use Rattle.chart_table.proofs.StepLemmas.{covers_left, covers_right, covers_append, placed_to, placed_from, plain_to, plain_from}
 use Rattle.chart_table.proofs.ChoiceLemmas.{chosen, instance_back, parts_of, own_from_drop}
 
@@ -127,7 +129,7 @@ all_at t (y ∷ ys) x h (inr o) = both_true (t y) (list_all t ys) h (λ one rest
 
 all_from : {X : Type 0} (t : X → Bool) (xs : List X) → ((x : X) → OneOf xs x → t x ≡ true) → list_all t xs ≡ true
 all_from t [] h = refl
-all_from t (y ∷ ys) h = and_both (t y) (list_all t ys) (h y (inl refl)) (all_from t ys (λ x o. h x (inr o)))
+all_from t (y ∷ ys) h = and_from (t y) (list_all t ys) (h y (inl refl)) (all_from t ys (λ x o. h x (inr o)))
 
 -- an instance whose head fits a category with the known values agrees with them
 pub agrees_known : (known : Binds) (rule : Rule) (v : Binds) (asked : Test) → fits (under v rule.head) asked ≡ true → ((p : ℕ × Value) → OneOf known p → OneOf asked.values p) → Agrees known rule v
@@ -142,12 +144,7 @@ head_is name rule v e asked n h =
     ap (λ m. fits (record { name = m; values = feats_under v rule.head.feats }) asked) n ∙ ap (λ f. fits (record { name = name; values = f }) asked) (sym h)
 
 pub fits_name : (head asked : Test) → fits head asked ≡ true → head.name ≡ asked.name
-fits_name head asked h = both_true (head.name == asked.name) (list_all (λ p. list_all (same_where_both p) asked.values) head.values) h (λ n _. number_is head.name asked.name n)
-
-slice_below : {X : Type 0} (xs : List X) (i : ℕ) (x : X) → slice_get xs i ≡ Some x → i < length xs
-slice_below [] i x h = absurd (cc)
-slice_below (y ∷ ys) zero x h = omega arith
-slice_below (y ∷ ys) (suc i) x h = let lt = slice_below ys i x h in omega arith
+fits_name head asked h = both_true (head.name == asked.name) (list_all (λ p. list_all (same_where_both p) asked.values) head.values) h (λ n _. eqb-true head.name asked.name n)
 
 pub rule_number : (s : Setting) (number : ℕ) (rule : Rule) → rule_with s.grammar number ≡ Some rule → number ≤ length s.grammar.rules
 rule_number s zero rule h = omega arith
@@ -158,7 +155,7 @@ rule_number s (suc n) rule h = by_none (suc n == 0) refl h
 
     by_none : (b : Bool) → (suc n == 0) ≡ b → (if b then None else slice_get s.grammar.rules (suc n - 1)) ≡ Some rule → suc n ≤ length s.grammar.rules
     by_none true e h = absurd (cc)
-    by_none false e h = let lt = slice_below s.grammar.rules (suc n - 1) rule h in omega arith
+    by_none false e h = let lt = slice_get_within s.grammar.rules (suc n - 1) rule h in omega arith
 
 -- the ends of all rules with the name are the ends of the category
 pub ends_of_rules : (s : Setting) (name : ℕ) (known : Binds) (at : At) (ends : List End) → ((e : End) → OneOf ends e → IsEndOf s name at e) → HasEndsTo s name known at (length s.grammar.rules) ends → IsEnds s name known at ends
@@ -237,7 +234,7 @@ pub sub_back : (s : Setting) (v : Binds) (c : Category) (state : State) (ends : 
 sub_back s v c state ends after is h =
     let r = sub_from v c state ends after h in
     let e = r.1.0 in
-    let leads = is.sound e r.1.1 (under v c) refl (and_both (c.name == c.name) (list_all (λ p. list_all (same_where_both p) (feats_under v c.feats)) e.values) (same_number c.name) r.1.2) in
+    let leads = is.sound e r.1.1 (under v c) refl (and_from (c.name == c.name) (list_all (λ p. list_all (same_where_both p) (feats_under v c.feats)) e.values) (eqb_refl c.name) r.1.2) in
     let alike = leads_alike s (under v c) state.place (referents state.list) state.list _ (referents-twice state.list) leads in
     let tail_is : e.tail ≡ alike.0 = append_cancel (referents state.list) e.tail alike.0 alike.1 in
     (r.0, subst (Leads s (under v c) (at_of state)) (ap (λ t. record { place = e.place; list = state.list ++ t }) (sym tail_is) ∙ sym r.1.3) alike.2)
@@ -295,7 +292,7 @@ has_from v (p ∷ bound) h = both_true (same_value (value_under v p.0) p.1) (has
 
 has_to : (v bound : Binds) → Extends v bound → has_values v bound ≡ true
 has_to v [] h = refl
-has_to v (p ∷ bound) h = and_both (same_value (value_under v p.0) p.1) (has_values v bound) (ap (λ x. same_value x p.1) h.0 ∙ same_value-refl p.1) (has_to v bound h.1)
+has_to v (p ∷ bound) h = and_from (same_value (value_under v p.0) p.1) (has_values v bound) (ap (λ x. same_value x p.1) h.0 ∙ same_value-refl p.1) (has_to v bound h.1)
 
 -- what a finished phrase shows
 pub record IsFinished (s : Setting) (rule : Rule) (before : List Entry) (state : State) (e : End) : Type 0 where
@@ -326,7 +323,7 @@ finished_to : (s : Setting) (rule : Rule) (before : List Entry) (state : State) 
 finished_to s rule before state [] v i known h = absurd h
 finished_to s rule before state (b ∷ bs) v i known (inl h) =
     let same : values_of_all b (variables_of s.grammar rule) ≡ v = all_known s rule v b i h known.0 in
-    subst (λ w. OneOf ((if is_instance s rule w && has_values w b then end_with rule before state w ∷ [] else []) ++ flat_map_ends s rule before state (variables_of s.grammar rule) bs) (end_with rule before state v)) (sym same) (subst (λ t. OneOf ((if t then end_with rule before state v ∷ [] else []) ++ flat_map_ends s rule before state (variables_of s.grammar rule) bs) (end_with rule before state v)) (sym (and_both (is_instance s rule v) (has_values v b) i (has_to v b h))) (inl refl))
+    subst (λ w. OneOf ((if is_instance s rule w && has_values w b then end_with rule before state w ∷ [] else []) ++ flat_map_ends s rule before state (variables_of s.grammar rule) bs) (end_with rule before state v)) (sym same) (subst (λ t. OneOf ((if t then end_with rule before state v ∷ [] else []) ++ flat_map_ends s rule before state (variables_of s.grammar rule) bs) (end_with rule before state v)) (sym (and_from (is_instance s rule v) (has_values v b) i (has_to v b h))) (inl refl))
 finished_to s rule before state (b ∷ bs) v i known (inr h) =
     end_right (finished_one s rule before state (variables_of s.grammar rule) b) (flat_map_ends s rule before state (variables_of s.grammar rule) bs) (end_with rule before state v) (finished_to s rule before state bs v i known.1 h)
 

@@ -3,8 +3,10 @@ use Rattle.std.proofs.Common.{◌≡◌, ℕ, suc, zero, ◌+◌, ◌-◌, ◌<�
 use Rattle.std.specs.Prelude.{◌==◌, if◌then◌else◌, not, option_and_then, slice_get}
 use Rattle.std.specs.List.{list_all}
 use Rattle.std.proofs.lemmas.Bool.Decides.{nat_tests}
-use Rattle.std.proofs.lemmas.Option.{same_Some, slice_get-get_or}
-use Rattle.std.proofs.lemmas.List.{take_more}
+use Rattle.std.proofs.lemmas.Option.{same_Some, slice_get-get_or, slice_get_within, slice_get_past}
+use Rattle.std.proofs.lemmas.List.{take_more, take_all}
+use Rattle.std.proofs.lemmas.Bool.{and_from}
+use Rattle.wiki_base.proofs.NumberLaws.{eqb_refl}
 use Rattle.codeco_terms.specs.declared.categories.Category.{Category}
 use Rattle.codeco_terms.specs.declared.elements.Element.{Element}
 use Rattle.codeco_terms.specs.declared.elements.Element.TheVariants.{Terminal, Preterminal, Sub, Position, Opener, Forward, Strong, Back, NoBack}
@@ -31,7 +33,7 @@ use Rattle.chart_table.specs.Ends.{CoversPath, Agrees, AreLast, finished, end_wi
 use Rattle.chart_table.specs.Asks.{meets, takes_terminal, takes_reading}
 use Rattle.chart_table.specs.Aims.{Aims}
 use Rattle.chart_table.specs.Cuts.{CutLeads, Met, Stops, AreCuts, AreAfter, AreAllAfter, Among, Halts, Enters, CutBefore, HasCut, HasHeads, IsOf, Settles, AllSettle, HasOneMore, IsPossible, OneBefore, MeetsOne, MeetsCut, met_binds, reading_binds, HasRuleCuts, HasCutsOfRule, HasCutsIfNamed, HasCutsUpTo}
-use Rattle.chart_table.proofs.PassLemmas.{and_both, both_true, same_number}
+use Rattle.chart_table.proofs.PassLemmas.{both_true}
 use Rattle.chart_table.proofs.BranchLemmas.{Binds, either, meeting_to, meeting_from, read_to, read_from, single, any_left, any_right, any_append, KnownAll, Each, feats_same, closing_known, closing_to, closing_from}
 use Rattle.chart_table.proofs.ChoiceLemmas.{chosen}
 use Rattle.chart_table.proofs.PlanLemmas.{choices_same}
@@ -123,12 +125,6 @@ head_never s rule number b cuts never = record {
   only = λ j w o. inl o;
 }
 
-all_taken : {X : Type 0} (n : ℕ) (xs : List X) → length xs ≤ n → take n xs ≡ xs
-all_taken zero [] le = refl
-all_taken zero (x ∷ xs) le = absurd (omega arith)
-all_taken (suc n) [] le = refl
-all_taken (suc n) (x ∷ xs) le = ap (λ ys. x ∷ ys) (all_taken n xs (omega arith))
-
 -- whether some instance extends an assignment
 
 pub guess_possible : (s : Setting) (rule : Rule) (guess bound : Binds) (a b : Bool) → a ≡ is_instance s rule guess → b ≡ has_values guess bound → a ≡ true → b ≡ true → IsPossible s rule bound
@@ -166,7 +162,7 @@ of_turn s rule number bs i b first before after lt is one two =
     subst (λ xs. HasHeads s rule (IsOf number xs) first after) (sym grown) (heads_alike s rule (λ j v. IsOf number (take i bs) j v ⊎ IsOf number (b ∷ []) j v) (IsOf number (take i bs ++ b ∷ [])) first after (λ j v k h. either (λ x. (x.0, any_left v (take i bs) (b ∷ []) x.1)) (λ x. (x.0, any_right v (take i bs) (b ∷ []) x.1)) h) (λ j v k h. either (λ x. inl (h.0, x)) (λ x. inr (h.0, x)) (any_append v (take i bs) (b ∷ []) h.1)) (heads_then s rule (IsOf number (take i bs)) (IsOf number (b ∷ [])) first before after one two))
 
 pub of_done : (s : Setting) (rule : Rule) (number : ℕ) (bs : List Binds) (i : ℕ) (first after : List Cut) → length bs ≤ i → HasHeads s rule (IsOf number (take i bs)) first after → HasHeads s rule (IsOf number bs) first after
-of_done s rule number bs i first after le h = subst (λ xs. HasHeads s rule (IsOf number xs) first after) (all_taken i bs le) h
+of_done s rule number bs i first after le h = subst (λ xs. HasHeads s rule (IsOf number xs) first after) (take_all i bs le) h
 
 -- assignments under which all variables of the head are known
 
@@ -275,11 +271,6 @@ met_from v b (Some e) (ask.Terminal number) h = any_if v b (takes_terminal numbe
 met_from v b None (ask.Reading reading) h = absurd h
 met_from v b (Some e) (ask.Reading reading) h = reading_from v b reading e h
 
-slice_below : {X : Type 0} (xs : List X) (i : ℕ) (x : X) → slice_get xs i ≡ Some x → i < length xs
-slice_below [] i x h = absurd (cc)
-slice_below (y ∷ ys) zero x h = omega arith
-slice_below (y ∷ ys) (suc i) x h = let lt = slice_below ys i x h in omega arith
-
 -- one state after another
 
 among_left : (P : State → Type 0) (xs ys : List State) → Among P xs → Among P (xs ++ ys)
@@ -306,7 +297,7 @@ heads_turn s rule P states i state first before after lt is a b =
     subst (λ xs. HasHeads s rule (λ j v. Among (P j v) xs) first after) (sym grown) (heads_alike s rule (λ j v. Among (P j v) (take i states) ⊎ P j v state) (λ j v. Among (P j v) (take i states ++ state ∷ [])) first after (λ j v k h. either (λ x. among_left (P j v) (take i states) (state ∷ []) x) (λ x. among_last (P j v) (take i states) state x) h) (λ j v k h. among_split (P j v) (take i states) state h) (heads_then s rule (λ j v. Among (P j v) (take i states)) (λ j v. P j v state) first before after a b))
 
 pub heads_done : (s : Setting) (rule : Rule) (P : ℕ → Binds → State → Type 0) (states : List State) (i : ℕ) (first after : List Cut) → length states ≤ i → HasHeads s rule (λ j v. Among (P j v) (take i states)) first after → HasHeads s rule (λ j v. Among (P j v) states) first after
-heads_done s rule P states i first after le h = subst (λ xs. HasHeads s rule (λ j v. Among (P j v) xs) first after) (all_taken i states le) h
+heads_done s rule P states i first after le h = subst (λ xs. HasHeads s rule (λ j v. Among (P j v) xs) first after) (take_all i states le) h
 
 -- a state at the place where phrases are cut off, or elsewhere
 
@@ -323,7 +314,7 @@ halts_here s aim rule next state binds before after is same h =
     from : (j : ℕ) (v : Binds) → is_instance s rule v ≡ true → Halts aim next j v state → OneBefore aim.asks (MeetsOne next state.binds) (length aim.asks) j v
     from j v i h =
         let m = h.2 in
-        (j, slice_below aim.asks j m.0 m.1, (m.0, m.1, (refl, met_to v state.binds next m.0 h.0 m.2)))
+        (j, slice_get_within aim.asks j m.0 m.1, (m.0, m.1, (refl, met_to v state.binds next m.0 h.0 m.2)))
 
 pub halts_not : (s : Setting) (aim : Aims) (rule : Rule) (next : Option Element) (state : State) (cuts : List Cut) → (state.place ≡ aim.halt → ⊥) → HasHeads s rule (λ j v. Halts aim next j v state) cuts cuts
 halts_not s aim rule next state cuts not = heads_alike s rule (λ j v. ⊥) (λ j v. Halts aim next j v state) cuts cuts (λ j v i x. absurd x) (λ j v i x. not x.1) (heads_none s rule cuts)
@@ -352,14 +343,14 @@ enters_to s aim j v c state cuts is h =
     let e = cut.0 in
     let at = slice_of_one cuts e cut.1 in
     let all : list_all (λ p. list_all (same_where_both p) (feats_under v c.feats)) e.values ≡ true = ap (list_all (λ p. list_all (same_where_both p) (feats_under v c.feats))) cut.3 ∙ both_true (c.name == c.name) (list_all (λ p. list_all (same_where_both p) (feats_under v c.feats)) found.0) found.2 (λ _ t. t) in
-    (at.0, slice_below cuts at.0 e at.1, (e, at.1, (sym cut.2, meeting_to v e.values c.feats (state.binds ∷ []) (inl h.0) all)))
+    (at.0, slice_get_within cuts at.0 e at.1, (e, at.1, (sym cut.2, meeting_to v e.values c.feats (state.binds ∷ []) (inl h.0) all)))
 
 enters_from : (s : Setting) (aim : Aims) (j : ℕ) (v : Binds) (c : Category) (state : State) (cuts : List Cut) → AreCuts s aim c.name (known_features state.binds c.feats) (stripped state) cuts → OneBefore cuts (MeetsCut c state.binds) (length cuts) j v → Enters s aim (Sub c) j v state
 enters_from s aim j v c state cuts is h =
     let r = h.2 in
     let e = r.0 in
     let m = meeting_from v e.values c.feats (state.binds ∷ []) r.2.1 in
-    let leads = is.sound j e.values (e, cut_of_slice cuts h.0 e r.1, sym r.2.0, refl) (under v c) refl (and_both (c.name == c.name) (list_all (λ p. list_all (same_where_both p) (feats_under v c.feats)) e.values) (same_number c.name) m.1) in
+    let leads = is.sound j e.values (e, cut_of_slice cuts h.0 e r.1, sym r.2.0, refl) (under v c) refl (and_from (c.name == c.name) (list_all (λ p. list_all (same_where_both p) (feats_under v c.feats)) e.values) (eqb_refl c.name) m.1) in
     (single v state.binds m.0, (c, refl, cut_alike s aim j (under v c) state.place (referents state.list) state.list (referents-twice state.list) leads))
 
 pub enters_heads : (s : Setting) (aim : Aims) (rule : Rule) (c : Category) (state : State) (cuts before after : List Cut) → AreCuts s aim c.name (known_features state.binds c.feats) (stripped state) cuts → HasHeads s rule (OneBefore cuts (MeetsCut c state.binds) (length cuts)) before after → HasHeads s rule (λ j v. Enters s aim (Sub c) j v state) before after
@@ -422,15 +413,10 @@ cut_before_more s aim rule starts n i e states first before middle after lt is a
 
 -- all of a rule
 
-slice_past : {X : Type 0} (xs : List X) (k : ℕ) → length xs ≤ k → slice_get xs k ≡ None
-slice_past [] k le = refl
-slice_past (x ∷ xs) zero le = absurd (omega arith)
-slice_past (x ∷ xs) (suc k) le = slice_past xs k (omega arith)
-
 -- the states after all elements, as the ends of phrases see them
 pub all_after_last : (s : Setting) (rule : Rule) (starts states : List State) → AreAllAfter s rule starts states → AreLast s rule starts states
 all_after_last s rule starts states h =
-    let all : take (length rule.body) rule.body ≡ rule.body = all_taken (length rule.body) rule.body (omega arith) in
+    let all : take (length rule.body) rule.body ≡ rule.body = take_all (length rule.body) rule.body (omega arith) in
     let are = h.1 in (
       h.0,
       record {
@@ -456,11 +442,11 @@ cut_of_path s aim rule j v starts states k last are instance path stop = by_coun
   where
     at_end : length rule.body ≤ k → Stops s aim j rule v k last → Among (Halts aim None j v) states
     at_end le (inl is) =
-        let all : take k rule.body ≡ take (length rule.body) rule.body = all_taken k rule.body le ∙ sym (all_taken (length rule.body) rule.body (omega arith)) in
-        let met : Met aim j v None = subst (Met aim j v) (slice_past rule.body k le) is.1 in
+        let all : take k rule.body ≡ take (length rule.body) rule.body = take_all k rule.body le ∙ sym (take_all (length rule.body) rule.body (omega arith)) in
+        let met : Met aim j v None = subst (Met aim j v) (slice_get_past rule.body k le) is.1 in
         among_from (Halts aim None j v) v last states (are.1.forth v last instance (subst (λ es. CoversPath s v (own_values rule v) es last starts) all path)) (λ x ext same. (ext, ap (λ a. a.place) same ∙ is.0, met))
     at_end le (inr c) =
-        let none : None ≡ Some c.0 = sym (ap (option_and_then sub_of) (slice_past rule.body k le)) ∙ c.1 in absurd (cc)
+        let none : None ≡ Some c.0 = sym (ap (option_and_then sub_of) (slice_get_past rule.body k le)) ∙ c.1 in absurd (cc)
 
     by_count : (b : Bool) → nat_lt k (length rule.body) ≡ b → CutBefore s aim rule starts (length rule.body) j v ⊎ Among (Halts aim None j v) states
     by_count true t = let lt : k < length rule.body = grind (arith, nat_tests) in inl (k, lt, (last, path, stop))
@@ -469,7 +455,7 @@ cut_of_path s aim rule j v starts states k last are instance path stop = by_coun
 path_of_cut : (s : Setting) (aim : Aims) (rule : Rule) (j : ℕ) (v : Binds) (starts states : List State) → AreAllAfter s rule starts states → is_instance s rule v ≡ true → CutBefore s aim rule starts (length rule.body) j v ⊎ Among (Halts aim None j v) states → (k : ℕ) × ((last : At) × CoversPath s v (own_values rule v) (take k rule.body) last starts × Stops s aim j rule v k last)
 path_of_cut s aim rule j v starts states are instance (inl h) = (h.0, h.2)
 path_of_cut s aim rule j v starts states are instance (inr h) =
-    let r = halts_at aim None j v states h in (length rule.body, (r.0, are.1.back v r.0 instance r.1, inl (r.2, subst (Met aim j v) (sym (slice_past rule.body (length rule.body) (omega arith))) r.3)))
+    let r = halts_at aim None j v states h in (length rule.body, (r.0, are.1.back v r.0 instance r.1, inl (r.2, subst (Met aim j v) (sym (slice_get_past rule.body (length rule.body) (omega arith))) r.3)))
 
 pub rule_cut : (s : Setting) (aim : Aims) (rule : Rule) (known : Binds) (place : ℕ) (list : List Entry) (starts states : List State) (before middle after : List Cut) → starts ≡ starting known rule.head.feats place list → AreAllAfter s rule starts states → HasHeads s rule (CutBefore s aim rule starts (length rule.body)) before middle → HasHeads s rule (λ j v. Among (Halts aim None j v) states) middle after → HasCutsOfRule s aim rule known (record { place = place; list = list }) before after
 rule_cut s aim rule known place list starts states before middle after e are a b =

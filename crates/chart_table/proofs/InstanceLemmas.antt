@@ -1,6 +1,7 @@
 -- The instances of a rule that lead somewhere are found.
 use Rattle.std.proofs.Common.{◌≡◌, ℕ, zero, suc, ◌+◌, ◌-◌, ◌<◌, ◌≤◌, List, [], ◌∷◌, ◌++◌, true, map, length, take, drop, get_or, refl, sym, ap, ◌∙◌, subst, arith, inl, inr}
-use Rattle.std.proofs.lemmas.List.{take_more}
+use Rattle.std.proofs.lemmas.List.{take_more, take_all}
+use Rattle.wiki_base.proofs.ListLaws.{take_get_or}
 use Rattle.codeco_terms.specs.declared.values.Term.{Term}
 use Rattle.codeco_terms.specs.declared.rules.Rule.{Rule}
 use Rattle.scopes.specs.declared.entries.Entry.{Entry}
@@ -60,15 +61,6 @@ split_one [] x v after (inr h) f g = absurd h
 split_one (y ∷ ys) x v after (inl e) f g = f (inl e)
 split_one (y ∷ ys) x v after (inr h) f g = split_one ys x v after h (λ o. f (inr o)) g
 
-take_turn : {X : Type 0} (xs : List X) (i : ℕ) (x : X) → i < length xs → x ≡ get_or xs i x → take (i + 1) xs ≡ take i xs ++ x ∷ []
-take_turn xs i x lt is = take_more xs i x lt ∙ ap (λ y. take i xs ++ y ∷ []) (sym is)
-
-all_taken : {X : Type 0} (n : ℕ) (xs : List X) → length xs ≤ n → take n xs ≡ xs
-all_taken zero [] le = refl
-all_taken zero (x ∷ xs) le = absurd (omega arith)
-all_taken (suc n) [] le = refl
-all_taken (suc n) (x ∷ xs) le = ap (λ ys. x ∷ ys) (all_taken n xs (omega arith))
-
 map_last : {X : Type 0} (f : X → Binds) (xs : List X) (x : X) → map f (xs ++ x ∷ []) ≡ map f xs ++ f x ∷ []
 map_last f [] x = refl
 map_last f (y ∷ ys) x = ap (λ l. f y ∷ l) (map_last f ys x)
@@ -77,11 +69,11 @@ pub bounds_turn : (f : Binds → Binds) (xs : List Binds) (i : ℕ) (x y : Binds
 bounds_turn f xs i x y first before after lt is made a b = record {
   kept = λ v o. b.kept v (a.kept v o);
   new = λ v o.
-      split_one (map f (take i xs)) (f x) v after (subst (λ l. OneOf l v) (ap (map f) (take_turn xs i x lt is) ∙ map_last f (take i xs) x) o) (λ m. b.kept v (a.new v m)) (λ e. b.new v (inl (made ∙ e)));
+      split_one (map f (take i xs)) (f x) v after (subst (λ l. OneOf l v) (ap (map f) (take_get_or xs i x lt is) ∙ map_last f (take i xs) x) o) (λ m. b.kept v (a.new v m)) (λ e. b.new v (inl (made ∙ e)));
 }
 
 pub bounds_done : (f : Binds → Binds) (xs : List Binds) (i : ℕ) (first after : List Binds) → length xs ≤ i → HasMore first after (map f (take i xs)) → HasMore first after (map f xs)
-bounds_done f xs i first after le h = subst (λ l. HasMore first after (map f l)) (all_taken i xs le) h
+bounds_done f xs i first after le h = subst (λ l. HasMore first after (map f l)) (take_all i xs le) h
 
 -- states
 
@@ -98,11 +90,11 @@ pub states_turn : (s : Setting) (rule : Rule) (states : List State) (i : ℕ) (s
 states_turn s rule states i state first before after lt is a b = record {
   kept = λ v o. b.kept v (a.kept v o);
   new = λ x v o m.
-      state_of (take i states) state x v after (subst (λ l. OneOf l x) (take_turn states i state lt is) o) (λ old. b.kept v (a.new x v old m)) (λ e. b.new v (subst (λ z. OneOf (closed_values s rule z) v) (sym e) m));
+      state_of (take i states) state x v after (subst (λ l. OneOf l x) (take_get_or states i state lt is) o) (λ old. b.kept v (a.new x v old m)) (λ e. b.new v (subst (λ z. OneOf (closed_values s rule z) v) (sym e) m));
 }
 
 pub states_done : (s : Setting) (rule : Rule) (states : List State) (i : ℕ) (first after : List Binds) → length states ≤ i → HasStates s rule (take i states) first after → HasStates s rule states first after
-states_done s rule states i first after le h = subst (λ l. HasStates s rule l first after) (all_taken i states le) h
+states_done s rule states i first after le h = subst (λ l. HasStates s rule l first after) (take_all i states le) h
 
 -- the values of all variables in a state, as the program makes them
 pub closed_is : (s : Setting) (rule : Rule) (state : State) (plan : Plan) (numbers : List ℕ) (feats seen_feats : List (ℕ × Term)) (one bounds seen_bounds : List Binds) → IsPlan s rule plan → numbers ≡ plan.variables → feats ≡ as_terms plan.variables → seen_feats ≡ feats → one ≡ state.binds ∷ [] → bounds ≡ closing (choices s plan.terms plan.places plan.own) seen_feats one → seen_bounds ≡ bounds → map (λ b. values_of_all b numbers) seen_bounds ≡ closed_values s rule state

@@ -4,6 +4,8 @@ use Rattle.std.specs.Prelude.{if◌then◌else◌, ◌==◌, not, option_and_the
 use Rattle.std.specs.List.{list_any}
 use Rattle.std.proofs.lemmas.Bool.Decides.{nat_tests}
 use Rattle.std.proofs.lemmas.Option.{option_and_then_some, same_Some}
+use Rattle.std.proofs.lemmas.Bool.{and_from}
+use Rattle.wiki_base.proofs.NumberLaws.{eqb_refl, eqb_comm}
 use Rattle.codeco_terms.specs.declared.values.Value.{Value}
 use Rattle.codeco_terms.specs.declared.values.Value.TheVariants.{Atom, Word, Pos}
 use Rattle.codeco_terms.specs.declared.values.Term.{Term}
@@ -47,31 +49,25 @@ same_value_is (Pos p) (Atom b) h = absurd (cc)
 same_value_is (Pos p) (Word w) h = absurd (cc)
 same_value_is (Pos p) (Pos q) h = let e : p ≡ q = grind (arith, nat_tests) in ap Pos e
 
-pub same_number : (n : ℕ) → (n == n) ≡ true
-same_number n = grind (arith, nat_tests)
-
 pub same_value-refl : (v : Value) → same_value v v ≡ true
-same_value-refl (Atom a) = same_number a
-same_value-refl (Word w) = same_number w.0
-same_value-refl (Pos p) = same_number p
+same_value-refl (Atom a) = eqb_refl a
+same_value-refl (Word w) = eqb_refl w.0
+same_value-refl (Pos p) = eqb_refl p
 
 -- own variables
-
-swapped : (a b : ℕ) → (a == b) ≡ (b == a)
-swapped a b = grind (arith, nat_tests)
 
 -- a feature is looked up exactly where it is written
 lookup_has_at : (feats : List (ℕ × Term)) (p : ℕ × Term) (f : ℕ) (b : Bool) (o : Option Term) → (p.0 == f) ≡ b → (o ≡ None → has (map (λ q. q.0) feats) f ≡ false) → (if b then Some p.1 else o) ≡ None → has (map (λ q. q.0) (p ∷ feats)) f ≡ false
 lookup_has_at feats p f true o e rest h = absurd (cc)
-lookup_has_at feats p f false o e rest h = ap (λ b. b || has (map (λ q. q.0) feats) f) (swapped f p.0 ∙ e) ∙ rest h
+lookup_has_at feats p f false o e rest h = ap (λ b. b || has (map (λ q. q.0) feats) f) (eqb_comm f p.0 ∙ e) ∙ rest h
 
 lookup_none : (feats : List (ℕ × Term)) (f : ℕ) → looked_up feats f ≡ None → has (map (λ q. q.0) feats) f ≡ false
 lookup_none [] f h = refl
 lookup_none (p ∷ feats) f h = lookup_has_at feats p f (p.0 == f) (looked_up feats f) refl (lookup_none feats f) h
 
 lookup_has_some : (feats : List (ℕ × Term)) (p : ℕ × Term) (f : ℕ) (t : Term) (b : Bool) (o : Option Term) → (p.0 == f) ≡ b → (o ≡ Some t → has (map (λ q. q.0) feats) f ≡ true) → (if b then Some p.1 else o) ≡ Some t → has (map (λ q. q.0) (p ∷ feats)) f ≡ true
-lookup_has_some feats p f t true o e rest h = ap (λ b. b || has (map (λ q. q.0) feats) f) (swapped f p.0 ∙ e)
-lookup_has_some feats p f t false o e rest h = ap (λ b. b || has (map (λ q. q.0) feats) f) (swapped f p.0 ∙ e) ∙ rest h
+lookup_has_some feats p f t true o e rest h = ap (λ b. b || has (map (λ q. q.0) feats) f) (eqb_comm f p.0 ∙ e)
+lookup_has_some feats p f t false o e rest h = ap (λ b. b || has (map (λ q. q.0) feats) f) (eqb_comm f p.0 ∙ e) ∙ rest h
 
 lookup_some : (feats : List (ℕ × Term)) (f : ℕ) (t : Term) → looked_up feats f ≡ Some t → has (map (λ q. q.0) feats) f ≡ true
 lookup_some [] f t h = absurd (cc)
@@ -171,10 +167,6 @@ pub if_false : {X : Type 0} (b : Bool) (x y : X) → b ≡ false → x ≡ y →
 if_false true x y h e = absurd (cc)
 if_false false x y h e = ap Some e
 
-pub and_both : (a b : Bool) → a ≡ true → b ≡ true → (a && b) ≡ true
-and_both true b h k = k
-and_both false b h k = absurd (cc)
-
 pub passes : (s : Setting) (values : List (ℕ × Value)) (e : Element) (at : At) (own : List (ℕ × Value)) (after : At) (to_find : List ℕ) (to_come : Nodes) → ElementLeads s values own e at after → Passes s values e at own after to_find to_come
 passes s values (Terminal t) at own after to_find to_come h = record {
   found = to_find;
@@ -216,7 +208,7 @@ passes s values (Back positive negative) at own after to_find to_come h =
     record {
       found = finding.pos ∷ to_find;
       children = to_come;
-      is = ap (λ o. pass_finding values positive o (finding.pos ∷ to_find) (stand_at s at (finding.pos ∷ to_find) own to_come)) h.0.1.0 ∙ if_true (is_found values positive finding.pos (Some finding)) _ _ (and_both _ _ (same_number finding.pos) h.0.1.1) (ap (λ a. stand_at s a to_find own to_come) (sym h.1));
+      is = ap (λ o. pass_finding values positive o (finding.pos ∷ to_find) (stand_at s at (finding.pos ∷ to_find) own to_come)) h.0.1.0 ∙ if_true (is_found values positive finding.pos (Some finding)) _ _ (and_from _ _ (eqb_refl finding.pos) h.0.1.1) (ap (λ a. stand_at s a to_find own to_come) (sym h.1));
     }
 passes s values (NoBack patterns) at own after to_find to_come h = record {
   found = to_find;
@@ -294,5 +286,5 @@ leads_of_rule s asked at after number rule values has h =
     let ran = path_runs s values rule.body at (own_values rule values) h.last h.path in
     let kids = phrases_of s ran.children in
     let begins : begun s rule values ran.found kids asked at ≡ Some (stand_at s at ran.found (own_values rule values) ran.children) =
-    if_true _ _ _ (and_both _ _ h.head h.instance) refl in
+    if_true _ _ _ (and_from _ _ h.head h.instance) refl in
     (node number values ran.found ran.children, ap (option_and_then (λ r. phrase s r values ran.found kids asked at)) has ∙ ap (option_and_then (λ stand. option_and_then (ended rule at.list) (run s values rule.body stand))) begins ∙ ap (option_and_then (ended rule at.list)) ran.is ∙ ap Some (sym h.end))

@@ -3,7 +3,8 @@ use Rattle.std.proofs.Common.{◌≡◌, ℕ, zero, suc, ◌+◌, ◌<◌, ◌�
 use Rattle.std.specs.Prelude.{slice_get}
 use Rattle.std.specs.List.{list_all, flat_map}
 use Rattle.std.proofs.lemmas.Option.{same_Some, slice_get-get_or}
-use Rattle.std.proofs.lemmas.List.{take_more}
+use Rattle.std.proofs.lemmas.List.{take_more, take_all, map_push}
+use Rattle.wiki_base.proofs.ListLaws.{length_mapped}
 use Rattle.codeco_terms.specs.declared.declarations.Declared.TheVariants as declared
 use Rattle.codeco_terms.specs.declared.elements.Element.{Element}
 use Rattle.codeco_terms.specs.declared.elements.Element.TheVariants.{Terminal, Preterminal, Sub, Position, Opener, Forward, Strong, Back, NoBack}
@@ -45,14 +46,8 @@ pub plans_turn : (g : GrammarParts) (rules : List Rule) (i : ℕ) (rule : Rule) 
 plans_turn g rules i rule plan plans after lt is h p e =
     subst (EachPlan g (take (i + 1) rules)) (sym e) (subst (λ xs. EachPlan g xs (plans ++ plan ∷ [])) (sym (take_more rules i rule lt ∙ ap (λ x. take i rules ++ x ∷ []) (sym is))) (each_push g (take i rules) plans rule plan h p))
 
-all_taken : {X : Type 0} (n : ℕ) (xs : List X) → length xs ≤ n → take n xs ≡ xs
-all_taken zero [] le = refl
-all_taken zero (x ∷ xs) le = absurd (omega arith)
-all_taken (suc n) [] le = refl
-all_taken (suc n) (x ∷ xs) le = ap (λ ys. x ∷ ys) (all_taken n xs (omega arith))
-
 pub plans_done : (g : GrammarParts) (rules all : List Rule) (i : ℕ) (plans : List Plan) → rules ≡ all → length rules ≤ i → EachPlan g (take i rules) plans → EachPlan g all plans
-plans_done g rules all i plans e le h = subst (λ xs. EachPlan g xs plans) (all_taken i rules le ∙ e) h
+plans_done g rules all i plans e le h = subst (λ xs. EachPlan g xs plans) (take_all i rules le ∙ e) h
 
 each_count : (g : GrammarParts) (rules : List Rule) (plans : List Plan) → EachPlan g rules plans → length plans ≡ length rules
 each_count g [] [] h = refl
@@ -105,14 +100,10 @@ map_slice f [] i x y h k = absurd (cc)
 map_slice f (z ∷ zs) zero x y h k = sym (same_Some (f z) y k) ∙ ap f (same_Some z x h)
 map_slice f (z ∷ zs) (suc i) x y h k = map_slice f zs i x y h k
 
-map_length : {X Y : Type 0} (f : X → Y) (xs : List X) → length (map f xs) ≡ length xs
-map_length f [] = refl
-map_length f (x ∷ xs) = ap suc (map_length f xs)
-
 -- the features of the category that an element introduces
 pub features_there : (s : Setting) (rule : Rule) (plan : Plan) (body : List Element) (i : ℕ) → IsPlan s rule plan → body ≡ rule.body → i < length body → i < length plan.features
 features_there s rule plan body i p b lt =
-    let all : length plan.features ≡ length rule.body = ap length p.features ∙ map_length (element_features s.grammar) rule.body in
+    let all : length plan.features ≡ length rule.body = ap length p.features ∙ length_mapped (element_features s.grammar) rule.body in
     let same : length body ≡ length rule.body = ap length b in
     omega arith
 
@@ -135,12 +126,8 @@ own_is g (NoBack patterns) = refl
 pub own_mine : (g : GrammarParts) (e : Element) (found seen mine : List ℕ) → found ≡ element_features g e → seen ≡ found → mine ≡ own_among seen e → mine ≡ own_features g e
 own_mine g e found seen mine f s m = m ∙ ap (λ x. own_among x e) (s ∙ f) ∙ own_is g e
 
-map_last : {X Y : Type 0} (f : X → Y) (ys : List X) (x : X) → map f (ys ++ x ∷ []) ≡ map f ys ++ f x ∷ []
-map_last f [] x = refl
-map_last f (y ∷ ys) x = ap (λ l. f y ∷ l) (map_last f ys x)
-
 map_turn : {X Y : Type 0} (f : X → Y) (xs : List X) (i : ℕ) (x : X) → i < length xs → x ≡ get_or xs i x → map f (take (i + 1) xs) ≡ map f (take i xs) ++ f x ∷ []
-map_turn f xs i x lt is = ap (map f) (take_more xs i x lt ∙ ap (λ y. take i xs ++ y ∷ []) (sym is)) ∙ map_last f (take i xs) x
+map_turn f xs i x lt is = ap (map f) (take_more xs i x lt ∙ ap (λ y. take i xs ++ y ∷ []) (sym is)) ∙ map_push f (take i xs) x
 
 -- one more item of lists that are mapped
 pub mapped_more : {X Y : Type 0} (f : X → Y) (xs : List X) (i : ℕ) (x : X) (y : Y) (out new : List Y) → i < length xs → x ≡ get_or xs i x → y ≡ f x → out ≡ map f (take i xs) → new ≡ out ++ y ∷ [] → new ≡ map f (take (i + 1) xs)

@@ -5,6 +5,10 @@ use Rattle.std.proofs.lemmas.Option.{same_Some}
 use Rattle.chart_table.specs.declared.table.Row.{Row}
 use Rattle.chart_table.specs.Table.{HasRow, IsTextRow}
 use Rattle.std.specs.List.{list_any, list_all, range_with_len}
+use Rattle.std.proofs.Math.Bool.{or-true}
+use Rattle.std.proofs.lemmas.List.FromFn.{length-range_with_len}
+use Rattle.std.proofs.lemmas.Bool.{eqb-true}
+use Rattle.wiki_base.proofs.NumberLaws.{eqb_refl}
 use Rattle.codeco_terms.specs.declared.values.Value.{Value}
 use Rattle.scopes.specs.declared.entries.Entry.{Entry}
 use Rattle.derivation_trees.specs.Trees.{Node}
@@ -21,8 +25,6 @@ use Rattle.chart_table.specs.Asks.{AskLeads}
 use Rattle.chart_table.specs.Aims.{Aims}
 use Rattle.chart_table.specs.Cuts.{AreCuts, CutLeads, HasCut, cut_head}
 use Rattle.derivation_trees.proofs.InstanceLemmas.{range_more}
-use Rattle.chart_table.proofs.PassLemmas.{same_number}
-use Rattle.chart_table.proofs.BranchLemmas.{number_is}
 use Rattle.chart_table.proofs.AskLemmas.{any_leads, leads_any}
 
 -- where sentences begin
@@ -36,22 +38,18 @@ all_fit (p ∷ values) = all_fit values
 fits_text : (e : End) → fits (end_head 5 e) text_category ≡ true
 fits_text e = all_fit e.values
 
-or_right : (a : Bool) → (a || true) ≡ true
-or_right true = refl
-or_right false = refl
-
 any_of : (place : ℕ) (ends : List End) (e : End) → OneOf ends e → e.place ≡ place → list_any (λ x. x.place == place) ends ≡ true
 any_of place [] e o is = absurd o
 any_of place (x ∷ xs) e (inl same) is =
-    ap (λ b. b || list_any (λ y. y.place == place) xs) (ap (λ y. y.place == place) same ∙ ap (λ n. n == place) is ∙ same_number place)
-any_of place (x ∷ xs) e (inr o) is = ap (λ b. (x.place == place) || b) (any_of place xs e o is) ∙ or_right (x.place == place)
+    ap (λ b. b || list_any (λ y. y.place == place) xs) (ap (λ y. y.place == place) same ∙ ap (λ n. n == place) is ∙ eqb_refl place)
+any_of place (x ∷ xs) e (inr o) is = ap (λ b. (x.place == place) || b) (any_of place xs e o is) ∙ or-true (x.place == place)
 
 of_any : (place : ℕ) (ends : List End) → list_any (λ x. x.place == place) ends ≡ true → (e : End) × OneOf ends e × (e.place ≡ place)
 of_any place [] h = absurd (cc)
 of_any place (x ∷ xs) h = at (of_any place xs) (x.place == place) refl h
   where
     at : (list_any (λ y. y.place == place) xs ≡ true → (e : End) × OneOf xs e × (e.place ≡ place)) → (b : Bool) → (x.place == place) ≡ b → (b || list_any (λ y. y.place == place) xs) ≡ true → (e : End) × OneOf (x ∷ xs) e × (e.place ≡ place)
-    at rest true n h = (x, inl refl, number_is x.place place n)
+    at rest true n h = (x, inl refl, eqb-true x.place place n)
     at rest false n h = let r = rest h in (r.0, inr r.1, r.2)
 
 -- an end of `text` at the end of the tokens is that of a derivation, and each derivation has one
@@ -73,14 +71,14 @@ asked_of number [] h = absurd (cc)
 asked_of number (x ∷ xs) h = at (asked_of number xs) (x.ask == number) refl h
   where
     at : (list_any (λ e. e.ask == number) xs ≡ true → (values : List (ℕ × Value)) × HasCut xs number values) → (b : Bool) → (x.ask == number) ≡ b → (b || list_any (λ e. e.ask == number) xs) ≡ true → (values : List (ℕ × Value)) × HasCut (x ∷ xs) number values
-    at rest true n h = (x.values, (x, inl refl, number_is x.ask number n, refl))
+    at rest true n h = (x.values, (x, inl refl, eqb-true x.ask number n, refl))
     at rest false n h = let r = rest h in (r.0, (r.1.0, inr r.1.1, r.1.2, r.1.3))
 
 of_asked : (number : ℕ) (cuts : List Cut) (e : Cut) → OneOf cuts e → e.ask ≡ number → list_any (λ x. x.ask == number) cuts ≡ true
 of_asked number [] e o is = absurd o
 of_asked number (x ∷ xs) e (inl same) is =
-    ap (λ b. b || list_any (λ y. y.ask == number) xs) (ap (λ (y : Cut). y.ask == number) same ∙ ap (λ n. n == number) is ∙ same_number number)
-of_asked number (x ∷ xs) e (inr o) is = ap (λ b. (x.ask == number) || b) (of_asked number xs e o is) ∙ or_right (x.ask == number)
+    ap (λ b. b || list_any (λ y. y.ask == number) xs) (ap (λ (y : Cut). y.ask == number) same ∙ ap (λ n. n == number) is ∙ eqb_refl number)
+of_asked number (x ∷ xs) e (inr o) is = ap (λ b. (x.ask == number) || b) (of_asked number xs e o is) ∙ or-true (x.ask == number)
 
 fits_any : (values : List (ℕ × Value)) → fits (cut_head 5 values) text_category ≡ true
 fits_any values = all_fit values
@@ -130,16 +128,12 @@ range_at f first zero j b h = absurd (cc)
 range_at f first (suc n) zero b h = let z : first ≡ first + 0 = omega arith in sym (same_Some (f first) b h) ∙ ap f z
 range_at f first (suc n) (suc j) b h = let z : (first + 1) + j ≡ first + suc j = omega arith in range_at f (first + 1) n j b h ∙ ap f z
 
-range_length : (first count : ℕ) → length (range_with_len first count) ≡ count
-range_length first zero = refl
-range_length first (suc n) = ap suc (range_length (first + 1) n)
-
 map_length : (f : ℕ → Bool) (xs : List ℕ) → length (map f xs) ≡ length xs
 map_length f [] = refl
 map_length f (x ∷ xs) = ap suc (map_length f xs)
 
 pub answer_count : (f : ℕ → Bool) (count : ℕ) (follows : List Bool) → follows ≡ map f (range_with_len 0 count) → length follows ≡ count
-answer_count f count follows e = ap length e ∙ map_length f (range_with_len 0 count) ∙ range_length 0 count
+answer_count f count follows e = ap length e ∙ map_length f (range_with_len 0 count) ∙ length-range_with_len 0 count
 
 pub answer_is : (s : Setting) (halt : ℕ) (asks : List Ask) (row : Row) (cuts : List Cut) (count : ℕ) (follows : List Bool) → IsTextRow s (record { halt = halt; asks = asks }) row → cuts ≡ row.cuts → follows ≡ map (λ j. list_any (λ e. e.ask == j) cuts) (range_with_len 0 count) → (j : ℕ) (a : Ask) (told : Bool) → slice_get asks j ≡ Some a → slice_get follows j ≡ Some told → IsTrue told ↔ AskLeads s halt a text_category first_at
 answer_is s halt asks row cuts count follows is seen e j a b at has =

@@ -3,6 +3,7 @@ use Rattle.std.proofs.Common.{◌≡◌, ℕ, suc, zero, ◌+◌, List, [], ◌�
 use Rattle.std.specs.Prelude.{if◌then◌else◌, unwrap_or, slice_get}
 use Rattle.std.specs.Option.{option_map_or}
 use Rattle.std.specs.List.{list_any, list_all}
+use Rattle.std.proofs.Math.Bool.{or-true}
 use Rattle.codeco_terms.specs.declared.values.Value.{Value}
 use Rattle.codeco_terms.specs.declared.values.Value.TheVariants.{Pos}
 use Rattle.codeco_terms.specs.declared.values.Term.{Term}
@@ -62,14 +63,10 @@ read_all_to v b c (r ∷ rs) h t = at (agrees r (under v c)) refl (read_all_to v
     at true e rest t = any_left v (read_as c b r) (read_all c b rs) (read_to v b c r h e)
     at false e rest t = any_right v (read_as c b r) (read_all c b rs) (rest t)
 
-or_true : (a : Bool) → (a || true) ≡ true
-or_true true = refl
-or_true false = refl
-
 read_all_from : (v b : Binds) (c : Category) (readings : List Ground) → AnyExtends v (read_all c b readings) → Extends v b × (list_any (λ r. agrees r (under v c)) readings ≡ true)
 read_all_from v b c [] h = absurd h
 read_all_from v b c (r ∷ rs) h =
-    either (λ a. let one = read_from v b c r a in (one.0, ap (λ t. t || list_any (λ r. agrees r (under v c)) rs) one.1)) (λ a. let rest = read_all_from v b c rs a in (rest.0, ap (λ t. agrees r (under v c) || t) rest.1 ∙ or_true (agrees r (under v c)))) (any_append v (read_as c b r) (read_all c b rs) h)
+    either (λ a. let one = read_from v b c r a in (one.0, ap (λ t. t || list_any (λ r. agrees r (under v c)) rs) one.1)) (λ a. let rest = read_all_from v b c rs a in (rest.0, ap (λ t. agrees r (under v c) || t) rest.1 ∙ or-true (agrees r (under v c)))) (any_append v (read_as c b r) (read_all c b rs) h)
 
 matches_is : (s : Setting) (asked : Test) (place : ℕ) → matches_preterminal s asked place ≡ list_any (λ r. agrees r asked) (readings_at s place)
 matches_is s asked place = at (slice_get s.readings place)

@@ -4,6 +4,7 @@ use Rattle.std.specs.Prelude.{if◌then◌else◌, option_and_then}
 use Rattle.std.specs.Option.{option_map_or}
 use Rattle.std.specs.List.{list_any, flat_map}
 use Rattle.std.proofs.lemmas.Grind.{flat_map-append}
+use Rattle.std.proofs.lemmas.Option.{same_Some}
 use Rattle.codeco_terms.specs.declared.values.Value.{Value}
 use Rattle.codeco_terms.specs.declared.values.Value.TheVariants.{Pos}
 use Rattle.codeco_terms.specs.declared.categories.Pattern.{Pattern}
@@ -26,7 +27,7 @@ use Rattle.derivation_trees.specs.Codes.{skeleton_code}
 use Rattle.derivation_trees.specs.Skeletons.{skeleton_of}
 use Rattle.derivation_trees.specs.Sketches.{Sketch, sketch_child, sketch_on, sketch_over, sketched, sketch_from, sketch_of, sketches_of, body_of}
 use Rattle.derivation_trees.proofs.CodeLemmas.{skeleton_code_is}
-use Rattle.derivations.proofs.Members.{some_same, true_is_false}
+use Rattle.derivations.proofs.Members.{true_is_false}
 use Rattle.derivations.proofs.ListingLemmas.{Parts, phrase_parts}
 use Rattle.derivations.proofs.SkeletonLemmas.{skeleton_of_is}
 use Rattle.chart_trees.specs.Order.{node_code, nodes_code}
@@ -75,7 +76,7 @@ record Took (e : Element) (stand mid : Stand) : Type 0 where
   pub children : mid.children ≡ stand.children
 
 took_some : (e : Element) (stand one mid : Stand) → is_back e ≡ false → one.found ≡ stand.found → one.children ≡ stand.children → Some one ≡ Some mid → Took e stand mid
-took_some e stand one mid plain found children h = subst (Took e stand) (some_same one mid h) (record {
+took_some e stand one mid plain found children h = subst (Took e stand) (same_Some one mid h) (record {
   found = ap length (sym found) ∙ ap (λ b. if b then suc (length one.found) else length one.found) (sym plain);
   children = children;
 })
@@ -98,7 +99,7 @@ took_finding values positive negative finding [] stand mid is h = cc
 took_finding values positive negative finding (pos ∷ rest) stand mid is h = by (is_found values positive pos finding) h
   where
     by : (b : Bool) → (if b then Some (record { at = stand.at; found = rest; own = stand.own; children = stand.children }) else None) ≡ Some mid → Took (Back positive negative) stand mid
-    by true k = subst (Took (Back positive negative) stand) (some_same (record { at = stand.at; found = rest; own = stand.own; children = stand.children }) mid k) (record { found = ap length is; children = refl })
+    by true k = subst (Took (Back positive negative) stand) (same_Some (record { at = stand.at; found = rest; own = stand.own; children = stand.children }) mid k) (record { found = ap length is; children = refl })
     by false k = cc
 
 took : (s : Setting) (values : List (ℕ × Value)) (e : Element) (stand mid : Stand) → is_sub e ≡ false → pass s values e stand ≡ Some mid → Took e stand mid
@@ -136,7 +137,7 @@ counted_step s e es ns stand mid plain one later = record {
 
 counted : (s : Setting) (values : List (ℕ × Value)) (es : List Element) (ns : Nodes) (stand after : Stand) → AreFormed s ns → stand.children ≡ phrases_of s ns → run s values es stand ≡ Some after → is_none_left after.found ≡ true → is_none_left after.children ≡ true → Counted s es ns stand
 counted s values [] ns stand after formed children h found empty =
-    none_counted s ns stand children (ap (λ x. is_none_left x.found) (some_same stand after h) ∙ found) (ap (λ x. is_none_left x.children) (some_same stand after h) ∙ empty)
+    none_counted s ns stand children (ap (λ x. is_none_left x.found) (same_Some stand after h) ∙ found) (ap (λ x. is_none_left x.children) (same_Some stand after h) ∙ empty)
 counted s values (Sub c ∷ es) none stand after formed children h found empty =
     by (sym (ap (λ ps. option_and_then (run s values es) (pass_child (under values c) ps stand)) children) ∙ h)
   where

@@ -1,11 +1,12 @@
 -- The least of the derivations among the least trees for `text` is the least of all.
 use Rattle.std.proofs.Common.{◌≡◌, ℕ, zero, suc, ◌+◌, ◌<◌, ◌≤◌, List, [], ◌∷◌, ◌++◌, map, take, length, get_or, inl, inr, Option, Some, None, refl, sym, ap, subst, ◌∙◌, arith}
 use Rattle.std.specs.Prelude.{IfSome, IfNone, slice_get}
-use Rattle.std.proofs.lemmas.List.{take_more}
+use Rattle.std.proofs.lemmas.List.{take_more, take_all, map-append}
 use Rattle.std.specs.declared.cmp.Ordering.{Ordering}
 use Rattle.std.specs.declared.cmp.Ordering.TheVariants.{Less}
 use Rattle.std.specs.Ordering.{nat_cmp}
 use Rattle.std.specs.Cmp.Lexicographic.{slice_cmp, nat_list_cmp_total}
+use Rattle.std.proofs.lemmas.Option.{same_Some}
 use Rattle.derivation_trees.specs.declared.skeletons.Skeleton.{Skeleton}
 use Rattle.derivation_trees.specs.Trees.{Node, node_of}
 use Rattle.derivation_trees.specs.Settings.{Setting}
@@ -14,7 +15,7 @@ use Rattle.derivation_trees.specs.Codes.{skeleton_code}
 use Rattle.derivation_trees.specs.Skeletons.{skeleton_of, IsBelow, IsLeast}
 use Rattle.derivation_trees.specs.Sketches.{sketch_of}
 use Rattle.derivations.specs.Listed.{LeastOf}
-use Rattle.derivations.proofs.Members.{Among, among_map, map_of, some_same}
+use Rattle.derivations.proofs.Members.{Among, among_map}
 use Rattle.derivations.proofs.SkeletonLemmas.{skeleton_of_is}
 use Rattle.chart_trees.specs.declared.outcomes.Outcome.{Outcome}
 use Rattle.chart_trees.specs.Order.{AtMost, node_code}
@@ -39,7 +40,7 @@ is_derivation s o is ends = (o.tail, is.led ∙ ap (λ p. Some (record { place =
 
 pub is_no_derivation : (s : Setting) (o : Outcome) → IsOutcome s text_category (record { place = 0; list = [] }) o → (o.place ≡ length s.tokens → ⊥) → IsDerivation s (node_of o.tree) → ⊥
 is_no_derivation s o is not d =
-    not (ap (λ (a : At). a.place) (some_same (record { place = o.place; list = o.tail }) (record { place = length s.tokens; list = d.0 }) (sym is.led ∙ d.1)))
+    not (ap (λ (a : At). a.place) (same_Some (record { place = o.place; list = o.tail }) (record { place = length s.tokens; list = d.0 }) (sym is.led ∙ d.1)))
 
 pub among_next : (outcomes : List Outcome) (i : ℕ) (o : Outcome) → i < length outcomes → o ≡ get_or outcomes i o → Among outcomes o
 among_next [] i o lt is = absurd (omega arith)
@@ -53,17 +54,11 @@ among_next (y ∷ ys) (suc i) o lt is = inr (among_at ys i o o (omega arith) is)
 
 pub listed_next : (s : Setting) (outcomes : List Outcome) (i : ℕ) (o : Outcome) (next : Option Skeleton) → i < length outcomes → o ≡ get_or outcomes i o → LeastOf s (trees_in (take i outcomes) ++ node_of o.tree ∷ []) next → LeastOf s (trees_in (take (i + 1) outcomes)) next
 listed_next s outcomes i o next lt is h =
-    let whole : trees_in (take (i + 1) outcomes) ≡ trees_in (take i outcomes) ++ node_of o.tree ∷ [] = ap trees_in (take_more outcomes i o lt ∙ ap (λ y. take i outcomes ++ y ∷ []) (sym is)) ∙ map_of (λ x. node_of x.tree) (take i outcomes) (o ∷ []) in
+    let whole : trees_in (take (i + 1) outcomes) ≡ trees_in (take i outcomes) ++ node_of o.tree ∷ [] = ap trees_in (take_more outcomes i o lt ∙ ap (λ y. take i outcomes ++ y ∷ []) (sym is)) ∙ map-append (λ x. node_of x.tree) (take i outcomes) (o ∷ []) in
     subst (λ ts. LeastOf s ts next) (sym whole) h
 
-all_taken : {X : Type 0} (n : ℕ) (xs : List X) → length xs ≤ n → take n xs ≡ xs
-all_taken zero [] le = refl
-all_taken zero (x ∷ xs) le = absurd (omega arith)
-all_taken (suc n) [] le = refl
-all_taken (suc n) (x ∷ xs) le = ap (λ ys. x ∷ ys) (all_taken n xs (omega arith))
-
 pub listed_done : (s : Setting) (outcomes : List Outcome) (i : ℕ) (least : Option Skeleton) → length outcomes ≤ i → LeastOf s (trees_in (take i outcomes)) least → LeastOf s (trees_in outcomes) least
-listed_done s outcomes i least le h = subst (λ l. LeastOf s (trees_in l) least) (all_taken i outcomes le) h
+listed_done s outcomes i least le h = subst (λ l. LeastOf s (trees_in l) least) (take_all i outcomes le) h
 
 -- each derivation has one among the outcomes whose code is no higher
 record Before (s : Setting) (outcomes : List Outcome) (tree : Node) : Type 0 where
@@ -107,7 +102,7 @@ least_is s outcomes least best of sk e =
         let b : Before s outcomes other = before_of s outcomes best other d in
         let tree : Node = node_of b.outcome.tree in
         let kept : (o : Skeleton) × (least ≡ Some o) × (IsBelow (sketch_of s tree 0) o → ⊥) = of.none_below tree (among_map (λ o. node_of o.tree) outcomes b.outcome b.among) b.derives in
-        let same : kept.0 ≡ sk = some_same kept.0 sk (sym kept.1 ∙ e) in
+        let same : kept.0 ≡ sk = same_Some kept.0 sk (sym kept.1 ∙ e) in
         let above : slice_cmp nat_cmp (node_code other) (skeleton_code sk) ≡ Less = subst (λ l. slice_cmp nat_cmp l (skeleton_code sk) ≡ Less) (code_is s other d) h in
         kept.2 (subst (IsBelow (sketch_of s tree 0)) (sym same) (subst (λ l. slice_cmp nat_cmp l (skeleton_code sk) ≡ Less) (sym (sketch_code_is s tree b.derives)) (by (node_code tree) (node_code other) b.code above)))
       where
@@ -138,6 +133,6 @@ not_here place count n e not h = not (h ∙ sym e)
 -- the least trees of the row for `text`
 pub best_in : (s : Setting) (rows : List Best) (number : ℕ) (asked : Test) (list : List Entry) (row : Best) (outcomes : List Outcome) → asked ≡ text_category → list ≡ [] → HasBest s rows number asked (record { place = 0; list = list }) → slice_get rows number ≡ Some row → outcomes ≡ row.outcomes → IsBest s text_category (record { place = 0; list = [] }) outcomes
 best_in s rows number asked list row outcomes a l has at is =
-    let same : has.row ≡ row = some_same has.row row (sym has.is ∙ at) in
+    let same : has.row ≡ row = same_Some has.row row (sym has.is ∙ at) in
     let one : IsBest s asked (record { place = 0; list = list }) outcomes = subst (IsBest s asked (record { place = 0; list = list })) (ap (λ (r : Best). r.outcomes) same ∙ sym is) has.best in
     subst (λ x. IsBest s text_category (record { place = 0; list = x }) outcomes) l (subst (λ t. IsBest s t (record { place = 0; list = list }) outcomes) a one)

@@ -1,9 +1,10 @@
 -- Least trees for each end.
 use Rattle.std.proofs.Common.{◌≡◌, ℕ, zero, suc, ◌+◌, ◌<◌, ◌≤◌, List, [], ◌∷◌, ◌++◌, map, take, drop, length, get_or, Bool, true, false, ◌⊎◌, inl, inr, Option, Some, None, refl, sym, ap, subst, ◌∙◌, arith, nat_lt}
 use Rattle.std.specs.Prelude.{if◌then◌else◌, option_and_then, slice_get, slice_set}
-use Rattle.std.proofs.lemmas.List.{take_more}
+use Rattle.std.proofs.lemmas.List.{take_more, take_all}
 use Rattle.std.proofs.lemmas.Option.{same_Some, slice_get-get_or}
 use Rattle.std.proofs.lemmas.Bool.Decides.{nat_tests}
+use Rattle.wiki_base.proofs.ListLaws.{take_get_or}
 use Rattle.codeco_terms.specs.declared.values.Value.{Value}
 use Rattle.codeco_terms.specs.declared.rules.Rule.{Rule}
 use Rattle.scopes.specs.declared.entries.Entry.{Entry}
@@ -170,21 +171,12 @@ ended_then number rule values begun paths p o first before after a is put = reco
     by q (inr (inr m)) = absurd m
     by q (inr (inl m)) = subst (λ (r : Path). Holds after r.place (left_of rule (drop (length begun) r.list)) (node_code (node number values (path_of r).found (nodes_from (path_of r).children)))) (sym m) (put.new.0, put.new.1, put.new.2 ∙ is.place, put.new.3 ∙ is.tail, subst (AtMost put.new.0.code) (is.coded ∙ ap node_code is.tree) put.new.4)
 
-take_turn : {X : Type 0} (xs : List X) (i : ℕ) (x : X) → i < length xs → x ≡ get_or xs i x → take (i + 1) xs ≡ take i xs ++ x ∷ []
-take_turn xs i x lt is = take_more xs i x lt ∙ ap (λ y. take i xs ++ y ∷ []) (sym is)
-
 pub ended_turn : (number : ℕ) (rule : Rule) (values : List (ℕ × Value)) (begun : List Entry) (paths : List Path) (i : ℕ) (p : Path) (o : Outcome) (first before after : List Outcome) → i < length paths → p ≡ get_or paths i p → HasEnded number rule values begun (take i paths) first before → IsEnded number rule values begun (path_of p) o → IsPut o before after → HasEnded number rule values begun (take (i + 1) paths) first after
 ended_turn number rule values begun paths i p o first before after lt is a b c =
-    subst (λ l. HasEnded number rule values begun l first after) (sym (take_turn paths i p lt is)) (ended_then number rule values begun (take i paths) p o first before after a b c)
-
-all_taken : {X : Type 0} (n : ℕ) (xs : List X) → length xs ≤ n → take n xs ≡ xs
-all_taken zero [] le = refl
-all_taken zero (x ∷ xs) le = absurd (omega arith)
-all_taken (suc n) [] le = refl
-all_taken (suc n) (x ∷ xs) le = ap (λ ys. x ∷ ys) (all_taken n xs (omega arith))
+    subst (λ l. HasEnded number rule values begun l first after) (sym (take_get_or paths i p lt is)) (ended_then number rule values begun (take i paths) p o first before after a b c)
 
 pub ended_done : (number : ℕ) (rule : Rule) (values : List (ℕ × Value)) (begun : List Entry) (paths : List Path) (i : ℕ) (first after : List Outcome) → length paths ≤ i → HasEnded number rule values begun (take i paths) first after → HasEnded number rule values begun paths first after
-ended_done number rule values begun paths i first after le h = subst (λ l. HasEnded number rule values begun l first after) (all_taken i paths le) h
+ended_done number rule values begun paths i first after le h = subst (λ l. HasEnded number rule values begun l first after) (take_all i paths le) h
 
 -- the trees of an instance
 
@@ -292,7 +284,7 @@ trees_turn s asked at number instances i values seen first before after lt is sa
     record {
       sound = both.sound;
       kept = both.kept;
-      new = λ n end of led. both.new n end (by n of.0 (one_split (take i instances) values of.0 (subst (λ l. OneOf l of.0) (take_turn instances i values lt is) of.1)) of.2) led;
+      new = λ n end of led. both.new n end (by n of.0 (one_split (take i instances) values of.0 (subst (λ l. OneOf l of.0) (take_get_or instances i values lt is) of.1)) of.2) led;
     }
   where
     by : (n : Node) (v : List (ℕ × Value)) → OneOf (take i instances) v ⊎ (values ≡ v) → IsOfInstance number v n → IsOfInstances number (take i instances) n ⊎ IsOfInstance number seen n
@@ -300,7 +292,7 @@ trees_turn s asked at number instances i values seen first before after lt is sa
     by n v (inr e) h = inr (subst (λ w. IsOfInstance number w n) (sym (same ∙ e)) h)
 
 pub trees_done : (s : Setting) (asked : Test) (at : At) (number : ℕ) (instances : List (List (ℕ × Value))) (i : ℕ) (first after : List Outcome) → length instances ≤ i → HasTrees s asked at (IsOfInstances number (take i instances)) first after → HasTrees s asked at (IsOfInstances number instances) first after
-trees_done s asked at number instances i first after le h = subst (λ l. HasTrees s asked at (IsOfInstances number l) first after) (all_taken i instances le) h
+trees_done s asked at number instances i first after le h = subst (λ l. HasTrees s asked at (IsOfInstances number l) first after) (take_all i instances le) h
 
 -- all instances of a rule that lead somewhere are all its trees
 pub rule_trees : (s : Setting) (asked : Test) (place : ℕ) (list : List Entry) (number : ℕ) (rule : Rule) (known : List (ℕ × Value)) (instances seen : List (List (ℕ × Value))) (before after : List Outcome) → rule_with s.grammar number ≡ Some rule → known ≡ asked.values → seen ≡ instances → HasInstances s rule known (record { place = place; list = list }) instances → HasTrees s asked (record { place = place; list = list }) (IsOfInstances number seen) before after → HasTrees s asked (record { place = place; list = list }) (IsOfRule number) before after

@@ -3,7 +3,7 @@ use Rattle.std.proofs.Common.{◌≡◌, ℕ, zero, suc, ◌+◌, ◌<◌, ◌�
 use Rattle.std.specs.Prelude.{if◌then◌else◌, option_and_then}
 use Rattle.std.specs.Option.{option_map_or}
 use Rattle.std.specs.List.{flat_map}
-use Rattle.std.proofs.lemmas.List.{take_more}
+use Rattle.std.proofs.lemmas.List.{take_more, take_all, map-append}
 use Rattle.codeco_terms.specs.declared.values.Value.{Value}
 use Rattle.codeco_terms.specs.declared.categories.Category.{Category}
 use Rattle.codeco_terms.specs.declared.elements.Element.{Element}
@@ -16,7 +16,7 @@ use Rattle.derivation_trees.specs.Instances.{under, is_instance, own_values}
 use Rattle.derivation_trees.specs.Stands.{is_sub}
 use Rattle.derivation_trees.specs.Derives.{At, Stand, is_none_left, pass, run, fits, begun, ended, phrase, phrase_of, phrases_of, rule_with, list_after}
 use Rattle.derivations.specs.Enumeration.{Path, Outcome, found_at, passed, joined, steps, all_steps, opened, may_begin}
-use Rattle.derivations.proofs.Members.{Among, among_left, among_right, among_map, among_flat_map, map_of}
+use Rattle.derivations.proofs.Members.{Among, among_left, among_right, among_map, among_flat_map}
 use Rattle.derivations.proofs.StepLemmas.{stand_of, Goes, Knows, all_goes}
 use Rattle.derivations.proofs.SoundLemmas.{Mapped, from_map, Flattened, from_flat_map, either_among, Leads, Sound, step_leads, leads_nowhere, leads_on, whole_run}
 use Rattle.derivations.proofs.ListingLemmas.{node_list, nodes_again, phrases_of-list, Parts, phrase_parts, none_left_nil, none_mapped}
@@ -211,17 +211,11 @@ steps_then s values e paths p before more a b = record { sound = λ x h. sound x
 
 pub steps_turn : (s : Setting) (values : List (ℕ × Value)) (e : Element) (paths : List HeldPath) (i : ℕ) (p : HeldPath) (before after : List Path) → i < length paths → p ≡ get_or paths i p → AreStepsOf s values e (map path_of (take i paths)) before → HasSteps s values e (path_of p) before after → AreStepsOf s values e (map path_of (take (i + 1) paths)) after
 steps_turn s values e paths i p before after lt is a b =
-    let whole : map path_of (take (i + 1) paths) ≡ map path_of (take i paths) ++ path_of p ∷ [] = ap (map path_of) (take_more paths i p lt ∙ ap (λ y. take i paths ++ y ∷ []) (sym is)) ∙ map_of path_of (take i paths) (p ∷ []) in
+    let whole : map path_of (take (i + 1) paths) ≡ map path_of (take i paths) ++ path_of p ∷ [] = ap (map path_of) (take_more paths i p lt ∙ ap (λ y. take i paths ++ y ∷ []) (sym is)) ∙ map-append path_of (take i paths) (p ∷ []) in
     subst (λ l. AreStepsOf s values e l after) (sym whole) (subst (AreStepsOf s values e (map path_of (take i paths) ++ path_of p ∷ [])) (sym b.1) (steps_then s values e (map path_of (take i paths)) (path_of p) before b.0 a b.2))
 
-all_taken : {X : Type 0} (n : ℕ) (xs : List X) → length xs ≤ n → take n xs ≡ xs
-all_taken zero [] le = refl
-all_taken zero (x ∷ xs) le = absurd (omega arith)
-all_taken (suc n) [] le = refl
-all_taken (suc n) (x ∷ xs) le = ap (λ ys. x ∷ ys) (all_taken n xs (omega arith))
-
 pub steps_done : (s : Setting) (values : List (ℕ × Value)) (e : Element) (paths : List HeldPath) (i : ℕ) (after : List Path) → length paths ≤ i → AreStepsOf s values e (map path_of (take i paths)) after → AreStepsOf s values e (map path_of paths) after
-steps_done s values e paths i after le h = subst (λ l. AreStepsOf s values e (map path_of l) after) (all_taken i paths le) h
+steps_done s values e paths i after le h = subst (λ l. AreStepsOf s values e (map path_of l) after) (take_all i paths le) h
 
 -- over one element after another
 
@@ -244,4 +238,4 @@ reached_turn s values body i e first paths seen news lt is same a b =
     subst (λ l. AreReached s values l first news) (sym whole) (reached_then s values (take i body) e first (map path_of paths) news a (subst (λ l. AreStepsOf s values e (map path_of l) news) same b))
 
 pub reached_done : (s : Setting) (values : List (ℕ × Value)) (body : List Element) (i : ℕ) (first : Path) (paths : List Path) → length body ≤ i → AreReached s values (take i body) first paths → AreReached s values body first paths
-reached_done s values body i first paths le h = subst (λ l. AreReached s values l first paths) (all_taken i body le) h
+reached_done s values body i first paths le h = subst (λ l. AreReached s values l first paths) (take_all i body le) h

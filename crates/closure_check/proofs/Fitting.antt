@@ -3,10 +3,12 @@ use Rattle.std.proofs.Common.{◌≡◌, ◌≢◌, ℕ, suc, ◌+◌, ◌<◌, 
 use Rattle.std.specs.Prelude.{not, nat_lt, slice_set, if◌then◌else◌}
 use Rattle.std.specs.List.{list_any, list_all}
 use Rattle.std.specs.Option.{option_map_or, option_and_then, option_map}
-use Rattle.std.proofs.lemmas.Bool.{cases_eq, eqb-true, ltb-true, lt-ltb, eq-eqb, ne_eqb}
+use Rattle.std.proofs.lemmas.Bool.{cases_eq, eqb-true, ltb-true, lt-ltb, eq-eqb, ne_eqb, and_from, or_cases}
 use Rattle.std.proofs.lemmas.List.{length-set, length_push}
 use Rattle.std.proofs.lemmas.Option.{slice_get_within}
 use Rattle.wiki_base.specs.declared.numbers.WordId.{WordId}
+use Rattle.wiki_base.proofs.BoolLaws.{and_first, and_second}
+use Rattle.wiki_base.proofs.ListLaws.{all_slice_get, all_append, all_weaken}
 use Rattle.logic_terms.specs.declared.expressions.Role.{Role}
 use Rattle.logic_terms.specs.Concept.{Concept}
 use Rattle.logic_terms.specs.Interpretation.{Interpretation, element_of, relates, has_pair, is_word}
@@ -19,7 +21,7 @@ use Rattle.tableau_rules.specs.declared.branch.Edge.{Edge}
 use Rattle.tableau_rules.specs.Graph.{Graph, Vertex, label_at, class_at}
 use Rattle.tableau_rules.specs.Neighbours.{roots, place_in, node_of, makes_neighbour, is_neighbour}
 use Rattle.tableau_rules.specs.Rules.{with_class, with_classes, adding, with_edge, with_node}
-use Rattle.closure_check.proofs.Basics.{both_left, both_right, both, either, implied, all_at, all_append, all_weaker, any_with_all, each_at, set_cases, push_cases}
+use Rattle.closure_check.proofs.Basics.{implied, any_with_all, each_at, set_cases, push_cases}
 
 -- an edge of the branch is a pair of its role between the elements of its ends
 abbrev pub pairs_up : Interpretation → (ℕ → ℕ) → Edge → Bool
@@ -41,7 +43,7 @@ pub record Fits (i : Interpretation) (k : Theory) (g : Graph) (f : ℕ → ℕ) 
 
 -- a class of a label has the node's element
 pub class_fits : (i : Interpretation) (k : Theory) (g : Graph) (f : ℕ → ℕ) → Fits i k g f → (x place : ℕ) (c : Concept) → class_at g x place ≡ Some c → is_in i c (f x) ≡ true
-class_fits i k g f fits x place c at = all_at (λ d. is_in i d (f x)) (label_at g x) place c (fits.labels x) at
+class_fits i k g f fits x place c at = all_slice_get (λ d. is_in i d (f x)) (label_at g x) place c (fits.labels x) at
 
 -- a node with a class is a node
 pub class_within : (g : Graph) (x place : ℕ) (c : Concept) → class_at g x place ≡ Some c → x < length g.nodes
@@ -66,12 +68,12 @@ with_class_all test label c p q = go (has_concept label c)
   where
     go : (b : Bool) → list_all test (if b then label else label ++ c ∷ []) ≡ true
     go true = p
-    go false = all_append test label (c ∷ []) p (both (test c) true q refl)
+    go false = all_append test label (c ∷ []) p (and_from (test c) true q refl)
 
 pub with_classes_all : (test : Concept → Bool) (label cs : List Concept) → list_all test label ≡ true → list_all test cs ≡ true → list_all test (with_classes label cs) ≡ true
 with_classes_all test label [] p q = p
 with_classes_all test label (c ∷ cs) p q =
-    with_classes_all test (with_class label c) cs (with_class_all test label c p (both_left (test c) (list_all test cs) q)) (both_right (test c) (list_all test cs) q)
+    with_classes_all test (with_class label c) cs (with_class_all test label c p (and_first (test c) (list_all test cs) q)) (and_second (test c) (list_all test cs) q)
 
 adding_nodes : (g : Graph) (x : ℕ) (cs : List Concept) → length (adding g x cs).nodes ≡ length g.nodes
 adding_nodes g x cs = go (slice_get g.nodes x)
@@ -112,12 +114,12 @@ adding_fits i k g f fits x cs hold = go (slice_get g.nodes x) refl
 
 -- a pair of a role below is a pair of the role above
 sub_role : (i : Interpretation) (k : Theory) → list_all (λ p. holds i (SubPropertyOf p.0 p.1)) k.hierarchy ≡ true → (r s : Role) (a b : ℕ) → a < i.size → b < i.size → is_below k r s ≡ true → relates i r a b ≡ true → relates i s a b ≡ true
-sub_role i k all r s a b la lb below is = elim (either (same_role r s) (list_any (λ p. same_role p.0 r && same_role p.1 s) k.hierarchy) below) [
+sub_role i k all r s a b la lb below is = elim (or_cases (same_role r s) (list_any (λ p. same_role p.0 r && same_role p.1 s) k.hierarchy) below) [
   | inl same ↦ subst (λ t. relates i t a b ≡ true) (role_equal r s same) is
   | inr there ↦ (
       let w = any_with_all (λ p. same_role p.0 r && same_role p.1 s) (λ p. holds i (SubPropertyOf p.0 p.1)) k.hierarchy there all in
-      let low : w.0.0 ≡ r = role_equal w.0.0 r (both_left (same_role w.0.0 r) (same_role w.0.1 s) w.1) in
-      let high : w.0.1 ≡ s = role_equal w.0.1 s (both_right (same_role w.0.0 r) (same_role w.0.1 s) w.1) in
+      let low : w.0.0 ≡ r = role_equal w.0.0 r (and_first (same_role w.0.0 r) (same_role w.0.1 s) w.1) in
+      let high : w.0.1 ≡ s = role_equal w.0.1 s (and_second (same_role w.0.0 r) (same_role w.0.1 s) w.1) in
       let row : each_below i.size (λ y. implies (relates i w.0.0 a y) (relates i w.0.1 a y)) ≡ true = each_at i.size (λ x. each_below i.size (λ y. implies (relates i w.0.0 x y) (relates i w.0.1 x y))) a w.2 la in
       let here : implies (relates i w.0.0 a b) (relates i w.0.1 a b) ≡ true = each_at i.size (λ y. implies (relates i w.0.0 a y) (relates i w.0.1 a y)) b row lb in
       subst (λ t. relates i t a b ≡ true) high (implied (relates i w.0.0 a b) (relates i w.0.1 a b) here (subst (λ t. relates i t a b ≡ true) (sym low) is)))
@@ -134,19 +136,19 @@ inverted i r a b = go r.inverted
 -- neighbours by a role are a pair of it
 module _ (i : Interpretation) (k : Theory) (f : ℕ → ℕ) (elements : (x : ℕ) → f x < i.size) (all : list_all (λ p. holds i (SubPropertyOf p.0 p.1)) k.hierarchy ≡ true) where
   pub makes_pair : (role : Role) (x y : ℕ) (e : Edge) → makes_neighbour k role x y e ≡ true → pairs_up i f e ≡ true → relates i role (f x) (f y) ≡ true
-  makes_pair role x y e makes pair = elim (either ((e.from == x) && ((e.to == y) && is_below k e.role role)) ((e.from == y) && ((e.to == x) && is_below k (inverse e.role) role)) makes) [
+  makes_pair role x y e makes pair = elim (or_cases ((e.from == x) && ((e.to == y) && is_below k e.role role)) ((e.from == y) && ((e.to == x) && is_below k (inverse e.role) role)) makes) [
     | inl along ↦ (
-        let from : e.from ≡ x = eqb-true e.from x (both_left (e.from == x) ((e.to == y) && is_below k e.role role) along) in
-        let rest : ((e.to == y) && is_below k e.role role) ≡ true = both_right (e.from == x) ((e.to == y) && is_below k e.role role) along in
-        let to : e.to ≡ y = eqb-true e.to y (both_left (e.to == y) (is_below k e.role role) rest) in
+        let from : e.from ≡ x = eqb-true e.from x (and_first (e.from == x) ((e.to == y) && is_below k e.role role) along) in
+        let rest : ((e.to == y) && is_below k e.role role) ≡ true = and_second (e.from == x) ((e.to == y) && is_below k e.role role) along in
+        let to : e.to ≡ y = eqb-true e.to y (and_first (e.to == y) (is_below k e.role role) rest) in
         let is : relates i e.role (f x) (f y) ≡ true = subst (λ z. relates i e.role (f x) (f z) ≡ true) to (subst (λ z. relates i e.role (f z) (f e.to) ≡ true) from pair) in
-        sub_role i k all e.role role (f x) (f y) (elements x) (elements y) (both_right (e.to == y) (is_below k e.role role) rest) is)
+        sub_role i k all e.role role (f x) (f y) (elements x) (elements y) (and_second (e.to == y) (is_below k e.role role) rest) is)
     | inr back ↦ (
-        let from : e.from ≡ y = eqb-true e.from y (both_left (e.from == y) ((e.to == x) && is_below k (inverse e.role) role) back) in
-        let rest : ((e.to == x) && is_below k (inverse e.role) role) ≡ true = both_right (e.from == y) ((e.to == x) && is_below k (inverse e.role) role) back in
-        let to : e.to ≡ x = eqb-true e.to x (both_left (e.to == x) (is_below k (inverse e.role) role) rest) in
+        let from : e.from ≡ y = eqb-true e.from y (and_first (e.from == y) ((e.to == x) && is_below k (inverse e.role) role) back) in
+        let rest : ((e.to == x) && is_below k (inverse e.role) role) ≡ true = and_second (e.from == y) ((e.to == x) && is_below k (inverse e.role) role) back in
+        let to : e.to ≡ x = eqb-true e.to x (and_first (e.to == x) (is_below k (inverse e.role) role) rest) in
         let is : relates i e.role (f y) (f x) ≡ true = subst (λ z. relates i e.role (f y) (f z) ≡ true) to (subst (λ z. relates i e.role (f z) (f e.to) ≡ true) from pair) in
-        sub_role i k all (inverse e.role) role (f x) (f y) (elements x) (elements y) (both_right (e.to == x) (is_below k (inverse e.role) role) rest) (sym (inverted i e.role (f y) (f x)) ∙ is))
+        sub_role i k all (inverse e.role) role (f x) (f y) (elements x) (elements y) (and_second (e.to == x) (is_below k (inverse e.role) role) rest) (sym (inverted i e.role (f y) (f x)) ∙ is))
   ]
 
   pub neighbours_pair : (g : Graph) → list_all (pairs_up i f) g.edges ≡ true → (role : Role) (x y : ℕ) → is_neighbour k g role x y ≡ true → relates i role (f x) (f y) ≡ true
@@ -177,10 +179,10 @@ with_edge_fits i k g f fits e pair from to = record {
   elements = fits.elements;
   names = fits.names;
   labels = fits.labels;
-  edges = all_append (pairs_up i f) g.edges (e ∷ []) fits.edges (both (pairs_up i f e) true pair refl);
+  edges = all_append (pairs_up i f) g.edges (e ∷ []) fits.edges (and_from (pairs_up i f e) true pair refl);
   named = fits.named;
   ends = all_append (within (length g.nodes)) g.edges (e ∷ []) fits.ends
-      (both (within (length g.nodes) e) true (both (nat_lt e.from (length g.nodes)) (nat_lt e.to (length g.nodes)) (lt-ltb e.from (length g.nodes) from) (lt-ltb e.to (length g.nodes) to)) refl);
+      (and_from (within (length g.nodes) e) true (and_from (nat_lt e.from (length g.nodes)) (nat_lt e.to (length g.nodes)) (lt-ltb e.from (length g.nodes) from) (lt-ltb e.to (length g.nodes) to)) refl);
 }
 
 -- one more node: its element is a, and every other node keeps its own
@@ -197,20 +199,20 @@ at_old n a f x ne = ap (λ b. if b then a else f x) (ne_eqb x n ne)
 old_pairs : (i : Interpretation) (n a : ℕ) (f : ℕ → ℕ) (es : List Edge) → list_all (within n) es ≡ true → list_all (pairs_up i f) es ≡ true → list_all (pairs_up i (and_at n a f)) es ≡ true
 old_pairs i n a f [] p q = refl
 old_pairs i n a f (e ∷ es) p q =
-    let w : within n e ≡ true = both_left (within n e) (list_all (within n) es) p in
-    let from : e.from < n = ltb-true e.from n (both_left (nat_lt e.from n) (nat_lt e.to n) w) in
-    let to : e.to < n = ltb-true e.to n (both_right (nat_lt e.from n) (nat_lt e.to n) w) in
+    let w : within n e ≡ true = and_first (within n e) (list_all (within n) es) p in
+    let from : e.from < n = ltb-true e.from n (and_first (nat_lt e.from n) (nat_lt e.to n) w) in
+    let to : e.to < n = ltb-true e.to n (and_second (nat_lt e.from n) (nat_lt e.to n) w) in
     let one : f e.from ≡ and_at n a f e.from = sym (at_old n a f e.from (λ z. absurd (omega (arith, from, z)))) in
     let other : f e.to ≡ and_at n a f e.to = sym (at_old n a f e.to (λ z. absurd (omega (arith, to, z)))) in
-    both (pairs_up i (and_at n a f) e) (list_all (pairs_up i (and_at n a f)) es)
-    (subst (λ z. relates i e.role (and_at n a f e.from) z ≡ true) other (subst (λ z. relates i e.role z (f e.to) ≡ true) one (both_left (pairs_up i f e) (list_all (pairs_up i f) es) q)))
-    (old_pairs i n a f es (both_right (within n e) (list_all (within n) es) p) (both_right (pairs_up i f e) (list_all (pairs_up i f) es) q))
+    and_from (pairs_up i (and_at n a f) e) (list_all (pairs_up i (and_at n a f)) es)
+    (subst (λ z. relates i e.role (and_at n a f e.from) z ≡ true) other (subst (λ z. relates i e.role z (f e.to) ≡ true) one (and_first (pairs_up i f e) (list_all (pairs_up i f) es) q)))
+    (old_pairs i n a f es (and_second (within n e) (list_all (within n) es) p) (and_second (pairs_up i f e) (list_all (pairs_up i f) es) q))
 
 within_more : (n : ℕ) (e : Edge) → within n e ≡ true → within (n + 1) e ≡ true
 within_more n e h =
-    let from : e.from < n = ltb-true e.from n (both_left (nat_lt e.from n) (nat_lt e.to n) h) in
-    let to : e.to < n = ltb-true e.to n (both_right (nat_lt e.from n) (nat_lt e.to n) h) in
-    both (nat_lt e.from (n + 1)) (nat_lt e.to (n + 1)) (lt-ltb e.from (n + 1) (omega (arith, from))) (lt-ltb e.to (n + 1) (omega (arith, to)))
+    let from : e.from < n = ltb-true e.from n (and_first (nat_lt e.from n) (nat_lt e.to n) h) in
+    let to : e.to < n = ltb-true e.to n (and_second (nat_lt e.from n) (nat_lt e.to n) h) in
+    and_from (nat_lt e.from (n + 1)) (nat_lt e.to (n + 1)) (lt-ltb e.from (n + 1) (omega (arith, from))) (lt-ltb e.to (n + 1) (omega (arith, to)))
 
 pub with_node_fits : (i : Interpretation) (k : Theory) (g : Graph) (f : ℕ → ℕ) → Fits i k g f → (v : Vertex) (e : Edge) (a : ℕ) → a < i.size → list_all (λ c. is_in i c a) v.label ≡ true → relates i e.role (f e.from) a ≡ true → e.from < length g.nodes → e.to ≡ length g.nodes → Fits i k (with_node g v e) (and_at (length g.nodes) a f)
 with_node_fits i k g f fits v e a small hold pair from to = record {
@@ -222,15 +224,15 @@ with_node_fits i k g f fits v e a small hold pair from to = record {
   labels = λ y. labels_at y (slice_get (g.nodes ++ v ∷ []) y) refl;
   edges = all_append (pairs_up i (and_at (length g.nodes) a f)) g.edges (e ∷ [])
       (old_pairs i (length g.nodes) a f g.edges fits.ends fits.edges)
-      (both (pairs_up i (and_at (length g.nodes) a f) e) true
+      (and_from (pairs_up i (and_at (length g.nodes) a f) e) true
       (subst (λ z. relates i e.role (and_at (length g.nodes) a f e.from) z ≡ true) (sym (at_new (length g.nodes) a f e.to to))
       (subst (λ z. relates i e.role z a ≡ true) (sym (at_old (length g.nodes) a f e.from (λ z. absurd (omega (arith, from, z))))) pair)) refl);
   named = let more : length (g.nodes ++ v ∷ []) ≡ length g.nodes + 1 = length_push g.nodes v in omega (arith, fits.named, more);
   ends = subst (λ m. list_all (within m) (g.edges ++ e ∷ []) ≡ true) (sym (length_push g.nodes v))
       (all_append (within (length g.nodes + 1)) g.edges (e ∷ [])
-      (all_weaker (within (length g.nodes)) (within (length g.nodes + 1)) (within_more (length g.nodes)) g.edges fits.ends)
-      (both (within (length g.nodes + 1) e) true
-      (both (nat_lt e.from (length g.nodes + 1)) (nat_lt e.to (length g.nodes + 1)) (lt-ltb e.from (length g.nodes + 1) (omega (arith, from))) (lt-ltb e.to (length g.nodes + 1) (omega (arith, to)))) refl));
+      (all_weaken (within (length g.nodes)) (within (length g.nodes + 1)) (within_more (length g.nodes)) g.edges fits.ends)
+      (and_from (within (length g.nodes + 1) e) true
+      (and_from (nat_lt e.from (length g.nodes + 1)) (nat_lt e.to (length g.nodes + 1)) (lt-ltb e.from (length g.nodes + 1) (omega (arith, from))) (lt-ltb e.to (length g.nodes + 1) (omega (arith, to)))) refl));
 }
   where
     labels_at : (y : ℕ) (o : Option Vertex) → slice_get (g.nodes ++ v ∷ []) y ≡ o → list_all (λ c. is_in i c (and_at (length g.nodes) a f y)) (option_map_or (λ u. u.label) o []) ≡ true

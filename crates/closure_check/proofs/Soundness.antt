@@ -10,12 +10,12 @@ use Rattle.logic_terms.specs.Theory.{Theory, IsModelOf}
 use Rattle.logic_terms.proofs.MeaningLemmas.{holds-Decides}
 use Rattle.closure_check.specs.NoModel.{HasNoModel}
 use Rattle.std.proofs.lemmas.Bool.Decides.{Decides-by_and}
+use Rattle.wiki_base.proofs.BoolLaws.{and_first, and_second}
 use Rattle.tableau_rules.specs.declared.step.Step.{Step}
 use Rattle.tableau_rules.specs.Graph.{Graph}
 use Rattle.tableau_rules.specs.Rules.{applies, choices, after}
 use Rattle.tableau_rules.specs.Branches.{start}
 use Rattle.tableau_rules.specs.Trees.{Tree, Trees, ends, splits, no_tree, also_tree, closes, close_from, is_closed}
-use Rattle.closure_check.proofs.Basics.{both_left, both_right}
 use Rattle.closure_check.proofs.Fitting.{Fits}
 use Rattle.closure_check.proofs.StepFits.{Obeys, step_fits}
 use Rattle.closure_check.proofs.ClashFits.{clash_breaks}
@@ -48,16 +48,16 @@ mutual
   closes_breaks i k parts (ends c) g f fits h = clash_breaks i k parts.names parts.hierarchy parts.differences g f fits c h
   closes_breaks i k parts (splits s ts) g f fits h =
       let obeys : Obeys i k = record { hierarchy = parts.hierarchy; unfoldings = parts.unfoldings; general = parts.general } in
-      let w = step_fits i k obeys g f fits s (both_left (applies k g s) (close_from k g s 0 ts) h) in
-      from_breaks i k parts ts g s 0 (both_right (applies k g s) (close_from k g s 0 ts) h) w.0 (omega arith) w.1 w.2.0 w.2.1
+      let w = step_fits i k obeys g f fits s (and_first (applies k g s) (close_from k g s 0 ts) h) in
+      from_breaks i k parts ts g s 0 (and_second (applies k g s) (close_from k g s 0 ts) h) w.0 (omega arith) w.1 w.2.0 w.2.1
 
   -- the subtrees from a choice on exclude that a model fits the branch after one of these choices
   pub from_breaks : (i : Interpretation) (k : Theory) → Parts i k → (ts : Trees) (g : Graph) (s : Step) (n : ℕ) → close_from k g s n ts ≡ true → (choice : ℕ) → n ≤ choice → choice < choices g s → (f : ℕ → ℕ) → Fits i k (after k g s choice) f → ⊥
   from_breaks i k parts no_tree g s n h choice low high f fits =
       let all : n ≡ choices g s = eqb-true n (choices g s) h in absurd (omega (arith, all, low, high))
   from_breaks i k parts (also_tree t ts) g s n h choice low high f fits = elim (cases_eq n choice) [
-    | inl same ↦ closes_breaks i k parts t (after k g s n) f (subst (λ m. Fits i k (after k g s m) f) (sym same) fits) (both_left (closes k (after k g s n) t) (close_from k g s (n + 1) ts) h)
-    | inr ne ↦ from_breaks i k parts ts g s (n + 1) (both_right (closes k (after k g s n) t) (close_from k g s (n + 1) ts) h) choice (omega arith) high f fits
+    | inl same ↦ closes_breaks i k parts t (after k g s n) f (subst (λ m. Fits i k (after k g s m) f) (sym same) fits) (and_first (closes k (after k g s n) t) (close_from k g s (n + 1) ts) h)
+    | inr ne ↦ from_breaks i k parts ts g s (n + 1) (and_second (closes k (after k g s n) t) (close_from k g s (n + 1) ts) h) choice (omega arith) high f fits
   ]
 
 -- the law of closed trees: knowledge with a closed tree has no finite model

@@ -4,6 +4,7 @@ use Rattle.std.specs.Prelude.{slice_get}
 use Rattle.std.specs.List.{list_all, list_any}
 use Rattle.std.specs.Option.{option_map_or}
 use Rattle.std.proofs.lemmas.Bool.{both_ways, cases_Bool, or_parts, or_cases, or_left, or_right, and_parts, and_from, or_from, and_right, ltb-true, eqb-true, not-true, not_from_true, true_from_ne_false}
+use Rattle.wiki_base.proofs.BoolLaws.{same_tests}
 use Rattle.codeco_terms.specs.declared.rules.Rule.{Rule}
 use Rattle.codeco_terms.specs.GrammarParts.{GrammarParts}
 use Rattle.codeco_checked.specs.declared.fault.GrammarFault.{GrammarFault}
@@ -84,11 +85,6 @@ not_recursive g rank h name loops =
 
 -- Kinds that fit all rules
 
-same_Bool : (a b : Bool) → (a ≡ true → b ≡ true) → (b ≡ true → a ≡ true) → a ≡ b
-same_Bool true b f g = sym (f refl)
-same_Bool false true f g = g refl
-same_Bool false false f g = refl
-
 -- one of two, where the first is not denied
 second_of : (a b : Bool) → (not a || b) ≡ true → a ≡ true → b ≡ true
 second_of true b h e = h
@@ -125,7 +121,7 @@ all_taken p (x ∷ xs) (suc n) h =
 
 pub kinds_fit : (g : GrammarParts) (rank : ℕ → ℕ) (kinds : List Kind) → PassesTests g rank kinds → (n : ℕ) → FitKinds g.rules n (kind_in kinds)
 kinds_fit g rank kinds t n = record {
-  marks = λ name. same_Bool (is_mark (kind_in kinds name)) (is_mark_in g.rules name) (λ e. subst (λ m. is_mark_in g.rules m ≡ true) (omega arith) (mark_is_marked g.rules 0 kinds name t.marks e)) (marked_is_mark kinds g.rules name t.marked);
+  marks = λ name. same_tests (is_mark (kind_in kinds name)) (is_mark_in g.rules name) (λ e. subst (λ m. is_mark_in g.rules m ≡ true) (omega arith) (mark_is_marked g.rules 0 kinds name t.marks e)) (marked_is_mark kinds g.rules name t.marked);
   text = t.text;
   fit = all_taken (fits_label (kind_in kinds)) g.rules n t.fit;
 }

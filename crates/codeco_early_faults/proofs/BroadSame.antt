@@ -3,7 +3,9 @@ use Rattle.std.proofs.Common.{◌≡◌, ℕ, zero, suc, ◌+◌, ◌<◌, Bool,
 use Rattle.std.specs.List.{list_any, list_all, flat_map, range_with_len}
 use Rattle.std.proofs.lemmas.List.Folds.{flat_map-map}
 use Rattle.std.proofs.lemmas.Bool.{cases_Bool, both_ways, and_parts, or_parts, or_cases, or_right, or_left, not-true, cond-true, cond-false}
+use Rattle.std.proofs.Math.Bool.{or_comm}
 use Rattle.wiki_base.proofs.ListLaws.{all_both as both_all}
+use Rattle.wiki_base.proofs.BoolLaws.{same_tests}
 use Rattle.codeco_terms.specs.declared.rules.Rule.{Rule}
 use Rattle.codeco_text.specs.declared.written.WrittenRule.{WrittenRule}
 use Rattle.codeco_text.specs.declared.written.WrittenItem.{WrittenItem}
@@ -94,11 +96,6 @@ number_at (x ∷ xs) (suc j) h lt =
     let rest = number_at xs j parts.1 (omega arith) in
     cond-false (same_bytes v x) 0 (number_of xs v + 1) other ∙ (ap (λ k. k + 1) rest ∙ omega arith)
 
-both_ways_same : (a b : Bool) → (a ≡ true → b ≡ true) → (b ≡ true → a ≡ true) → a ≡ b
-both_ways_same true b there back = sym (there refl)
-both_ways_same false true there back = back refl
-both_ways_same false false there back = refl
-
 -- The names whose pairs have too many second names are among the first names.
 module _ (ps : List (List ℕ × List ℕ)) where
   abbrev wide : List ℕ → Bool
@@ -144,7 +141,7 @@ module _ (ps : List (List ℕ × List ℕ)) where
       ]
 
   pub wide_names : (names : List (List ℕ)) → list_all (λ (p : List ℕ × List ℕ). is_among names p.0) ps ≡ true → list_any wide names ≡ has_wide ps
-  wide_names names a = both_ways_same (list_any wide names) (has_wide ps) (from_names names) (to_names names ps a)
+  wide_names names a = same_tests (list_any wide names) (has_wide ps) (from_names names) (to_names names ps a)
 
 -- the numbers of the preterminals, and then the others
 or_split : (a b c d e f : Bool) → (a || (b || (c || (d || (e || f))))) ≡ ((a || (b || (c || (d || (e || false))))) || f)
@@ -154,12 +151,6 @@ or_split false false true d e f = refl
 or_split false false false true e f = refl
 or_split false false false false true f = refl
 or_split false false false false false f = refl
-
-or_comm : (a b : Bool) → (a || b) ≡ (b || a)
-or_comm true true = refl
-or_comm true false = refl
-or_comm false true = refl
-or_comm false false = refl
 
 abbrev over : List WrittenItem → ℕ → Bool
 over items n = ltb 16 (count_different (features_written (numbered_of items) n))

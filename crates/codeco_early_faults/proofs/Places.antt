@@ -6,6 +6,7 @@ use Rattle.std.specs.Option.{option_map_or}
 use Rattle.std.proofs.lemmas.List.{at_drop_more, at_drop_all}
 use Rattle.std.proofs.lemmas.Bool.{cases_Bool, cases_order, and_left, and_right, ltb-true, ltb-false, lt-ltb, le-ltb, eqb-true}
 use Rattle.std.proofs.Math.Bool.{or-false as last}
+use Rattle.wiki_base.proofs.ListLaws.{all_same}
 use Rattle.codeco_text.specs.declared.written.Domain.{Domain}
 use Rattle.codeco_text.specs.declared.written.WrittenRule.{WrittenRule}
 use Rattle.codeco_text.specs.declared.written.WrittenItem.{WrittenItem}
@@ -168,10 +169,6 @@ any_not p (x ∷ xs) = ap (λ b. not (p x) || b) (any_not p xs) ∙ both (p x) (
     both : (a b : Bool) → (not a || not b) ≡ not (a && b)
     both true b = refl
     both false b = refl
-
-all_same : {X : Type 0} (p q : X → Bool) → ((x : X) → p x ≡ q x) → (xs : List X) → list_all p xs ≡ list_all q xs
-all_same p q same [] = refl
-all_same p q same (x ∷ xs) = ap (λ b. b && list_all p xs) (same x) ∙ ap (λ b. q x && b) (all_same p q same xs)
 
 pub undeclared_told : (names ds ws : List (List ℕ)) (b : Bool) → names ≡ gathered [] ds → b ≡ list_all (is_among names) ws → list_any (λ w. not (is_among ds w)) ws ≡ not b
 undeclared_told names ds ws b is told =

@@ -19,7 +19,7 @@ use Rattle.codeco_checked.specs.Numbering.{is_declared}
 use Rattle.codeco_checked.specs.Occurrences.{rule_features}
 use Rattle.codeco_checked.specs.Faults.{at_rule, is_large_rule, is_undeclared_rule, values_of}
 use Rattle.codeco_numbering.specs.Numbered.{Tables, number_of, numbered_rule, all_features, atoms_of, rules_of, numbered_of, written_terminals, written_features, category_features, element_categories}
-use Rattle.wiki_base.proofs.ListLaws.{all_flat, all_both as both_all}
+use Rattle.wiki_base.proofs.ListLaws.{all_flat, all_both as both_all, any_same}
 use Rattle.codeco_numbering.proofs.Sound.Declared.{rules_pass}
 use Rattle.codeco_numbering.proofs.Sound.Contents.{terminals_of, tables_of, numbered_in}
 use Rattle.codeco_early_faults.specs.Early.{declared_names, is_large_written_rule, is_undeclared_written_rule, at_written_rule, is_undeclared_place}
@@ -90,10 +90,6 @@ rule_numbers t r test h =
     same_test given (list_any (λ f. test f.0)) (any_move (λ f. test f.0))
     ∙ ap (λ (l : List (ℕ × Term)). list_any (λ f. test f.0) (written_feats t r.head ++ l)) (body_mentioned t r.body)
     ∙ categories_numbers t test (r.head ∷ flat_map element_categories r.body)
-
-any_same : {X : Type 0} (p q : X → Bool) → ((x : X) → p x ≡ q x) → (xs : List X) → list_any p xs ≡ list_any q xs
-any_same p q same [] = refl
-any_same p q same (x ∷ xs) = ap (λ b. b || list_any p xs) (same x) ∙ ap (λ b. q x || b) (any_same p q same xs)
 
 undeclared_rule : (items : List WrittenItem) (r : WrittenRule) → rule_fits r ≡ true → is_undeclared_rule (numbered_of items) (numbered_in items r) ≡ is_undeclared_written_rule (declared_names items) r
 undeclared_rule items r h =

@@ -1,6 +1,7 @@
 -- What is allowed by both.
 use Rattle.std.proofs.Common.{◌≡◌, ℕ, Bool, true, false, eqb, not, ◌&&◌, cond, refl, sym, ap, ◌∙◌}
 use Rattle.std.proofs.lemmas.Bool.{eqb-true, eq-eqb, and_parts}
+use Rattle.std.proofs.Math.Bool.{and_comm}
 use Rattle.codeco_checked.specs.declared.labels.Kind.{Kind}
 use Rattle.codeco_checked.specs.declared.labels.Kind.TheVariants.{Text, Sentence, VerbPhrase, NounPhrase, NounBar, Question, Mark}
 use Rattle.codeco_checked.specs.declared.labels.Heads.{Heads}
@@ -77,10 +78,6 @@ and_twice : (x : Bool) → x ≡ (x && x)
 and_twice true = refl
 and_twice false = refl
 
-and_turned : (x y : Bool) → (x && y) ≡ (y && x)
-and_turned true y = and_true y
-and_turned false y = and_false y
-
 and_same : (s x y : Bool) → (s ≡ true → x ≡ y) → (s && x) ≡ (s && y)
 and_same true x y h = h refl
 and_same false x y h = refl
@@ -98,17 +95,17 @@ pub meet_allows : (a b : Allowed) (k : Kind) → allows (meet a b) k ≡ (allows
 meet_allows NoMark NoMark k = and_twice (allows NoMark k)
 meet_allows NoMark Meanings k = agree_at (allows Meanings) (λ x. allows NoMark x && allows Meanings x) refl k
 meet_allows NoMark Clauses k = agree_at (allows Clauses) (λ x. allows NoMark x && allows Clauses x) refl k
-meet_allows NoMark (Only l) k = keep_allows NoMark l k ∙ and_turned (same_kind k l) (allows NoMark k)
+meet_allows NoMark (Only l) k = keep_allows NoMark l k ∙ and_comm (same_kind k l) (allows NoMark k)
 meet_allows NoMark Nothing k = and_false (allows NoMark k)
 meet_allows Meanings NoMark k = agree_at (allows Meanings) (λ x. allows Meanings x && allows NoMark x) refl k
 meet_allows Meanings Meanings k = and_twice (allows Meanings k)
 meet_allows Meanings Clauses k = agree_at (allows Clauses) (λ x. allows Meanings x && allows Clauses x) refl k
-meet_allows Meanings (Only l) k = keep_allows Meanings l k ∙ and_turned (same_kind k l) (allows Meanings k)
+meet_allows Meanings (Only l) k = keep_allows Meanings l k ∙ and_comm (same_kind k l) (allows Meanings k)
 meet_allows Meanings Nothing k = and_false (allows Meanings k)
 meet_allows Clauses NoMark k = agree_at (allows Clauses) (λ x. allows Clauses x && allows NoMark x) refl k
 meet_allows Clauses Meanings k = agree_at (allows Clauses) (λ x. allows Clauses x && allows Meanings x) refl k
 meet_allows Clauses Clauses k = and_twice (allows Clauses k)
-meet_allows Clauses (Only l) k = keep_allows Clauses l k ∙ and_turned (same_kind k l) (allows Clauses k)
+meet_allows Clauses (Only l) k = keep_allows Clauses l k ∙ and_comm (same_kind k l) (allows Clauses k)
 meet_allows Clauses Nothing k = and_false (allows Clauses k)
 meet_allows (Only l) b k = keep_allows b l k
 meet_allows Nothing b k = refl

@@ -4,8 +4,10 @@ use Rattle.std.specs.Prelude.{slice_get, slice_index, slice_index_or, IsTrue}
 use Rattle.std.specs.List.{list_all}
 use Rattle.std.specs.Option.{option_map_or}
 use Rattle.std.proofs.lemmas.Bool.{both_ways, cases_lt, cases_Bool, lt-ltb, le-ltb, cond-true, cond-false, and_parts, and_from, eqb-true}
-use Rattle.std.proofs.lemmas.List.{get_or_read}
+use Rattle.std.proofs.lemmas.List.{get_or_read, get_or_past}
 use Rattle.std.proofs.lemmas.List.Folds.{list_all_more}
+use Rattle.std.proofs.lemmas.Option.{slice_get_within}
+use Rattle.wiki_base.proofs.ListLaws.{all_same, slice_get_at}
 use Rattle.codeco_terms.specs.declared.rules.Rule.{Rule}
 use Rattle.codeco_terms.specs.declared.rules.Label.{Label}
 use Rattle.codeco_checked.specs.declared.labels.Kind.{Kind}
@@ -22,10 +24,6 @@ use Rattle.codeco_labels.proofs.RowLemmas.{row_same}
 
 -- Lists
 
-all_same : {X : Type 0} (p q : X → Bool) → ((x : X) → p x ≡ q x) → (xs : List X) → list_all p xs ≡ list_all q xs
-all_same p q same [] = refl
-all_same p q same (x ∷ xs) = ap (λ b. b && list_all p xs) (same x) ∙ ap (λ b. q x && b) (all_same p q same xs)
-
 all_fewer : {X : Type 0} (p : X → Bool) (n m : ℕ) (xs : List X) → n ≤ m → list_all p (take m xs) ≡ true → list_all p (take n xs) ≡ true
 all_fewer p zero m xs le h = refl
 all_fewer p (suc n) zero xs le h = absurd (omega arith)
@@ -33,21 +31,6 @@ all_fewer p (suc n) (suc m) [] le h = refl
 all_fewer p (suc n) (suc m) (x ∷ xs) le h =
     let parts = and_parts (p x) (list_all p (take m xs)) h in
     and_from (p x) (list_all p (take n xs)) parts.0 (all_fewer p n m xs (omega arith) parts.1)
-
-beyond : {X : Type 0} (xs : List X) (i : ℕ) (d : X) → length xs ≤ i → get_or xs i d ≡ d
-beyond [] i d le = refl
-beyond (x ∷ xs) zero d le = absurd (omega arith)
-beyond (x ∷ xs) (suc i) d le = beyond xs i d (omega arith)
-
-item_at : {X : Type 0} (xs : List X) (i : ℕ) (x : X) → i < length xs → x ≡ get_or xs i x → slice_get xs i ≡ Some x
-item_at [] i x lt e = absurd (omega arith)
-item_at (y ∷ ys) zero x lt e = ap (λ z. Some z) (sym e)
-item_at (y ∷ ys) (suc i) x lt e = item_at ys i x (omega arith) e
-
-item_in : {X : Type 0} (xs : List X) (i : ℕ) (x : X) → slice_get xs i ≡ Some x → i < length xs
-item_in [] i x e = absurd cc
-item_in (y ∷ ys) zero x e = omega arith
-item_in (y ∷ ys) (suc i) x e = let rest = item_in ys i x e in omega arith
 
 -- Labels
 
@@ -115,7 +98,7 @@ seen_more rules marks start t new place r answer seen lt is same fits n = record
         | inl before ↦ seen.alike k x before e
         | inr after ↦
             let at : k ≡ place = omega arith in
-            ap (differs_from_first rules) (same_item x r (sym e ∙ ap (slice_get rules) at ∙ item_at rules place r lt is)) ∙ same
+            ap (differs_from_first rules) (same_item x r (sym e ∙ ap (slice_get rules) at ∙ slice_get_at rules place r lt is)) ∙ same
       ];
   only = λ kinds met h.
       let parts = and_parts (list_all (λ x. rule_holds marks x kinds) (take place rules)) (rule_holds marks (get_or rules place r) kinds) (sym (list_all_more (λ x. rule_holds marks x kinds) rules place r lt) ∙ h) in
@@ -139,7 +122,7 @@ seen_fit rules marks start t place n known seen le =
     let fit : FitMarks marks (reading t) = λ c.
     elim (cases_lt c (length marks)) [
       | inl below ↦ first.0 c below
-      | inr above ↦ ap is_mark (reading_out t c (omega arith)) ∙ sym (beyond marks c false above)
+      | inr above ↦ ap is_mark (reading_out t c (omega arith)) ∙ sym (get_or_past marks c false above)
     ] in
     record {
       marks = λ c. fit c ∙ known.right c;
@@ -159,7 +142,7 @@ seen_none rules marks start t place known seen n le bad =
 
 pub all_seen : (rules : List Rule) (marks : List Bool) (start t : KindRows) (place : ℕ) → Knows rules marks start → Seen rules marks start t place → length rules ≤ place → FirstMisfit rules None
 all_seen rules marks start t place known seen end = λ n bad.
-    let below = item_in rules (n - 1) bad.0 bad.2 in
+    let below = slice_get_within rules (n - 1) bad.0 bad.2 in
     let some = bad.1 in
     seen_none rules marks start t place known seen n (omega arith) bad
 
@@ -168,7 +151,7 @@ back i = omega arith
 
 pub differs_here : (rules : List Rule) (marks : List Bool) (start t : KindRows) (place : ℕ) (r : Rule) → Knows rules marks start → Seen rules marks start t place → place < length rules → r ≡ get_or rules place r → differs_from_first rules r ≡ true → FirstMisfit rules (Some place)
 differs_here rules marks start t place r known seen lt is differs =
-    ((r, omega arith, ap (slice_get rules) (back place) ∙ item_at rules place r lt is, inl differs), seen_none rules marks start t place known seen)
+    ((r, omega arith, ap (slice_get rules) (back place) ∙ slice_get_at rules place r lt is, inl differs), seen_none rules marks start t place known seen)
 
 pub unfit_here : (rules : List Rule) (marks : List Bool) (start t new : KindRows) (place : ℕ) (r : Rule) (answer : Bool) → Knows rules marks start → Seen rules marks start t place → place < length rules → r ≡ get_or rules place r → answer ≡ false → Narrows t new answer (rule_holds marks r) → FirstMisfit rules (Some place)
 unfit_here rules marks start t new place r answer known seen lt is unfit n =
@@ -177,7 +160,7 @@ unfit_here rules marks start t new place r answer known seen lt is unfit n =
     let parts = and_parts (list_all (λ x. rule_holds marks x kinds) (take place rules)) (rule_holds marks (get_or rules place r) kinds) (sym (list_all_more (λ x. rule_holds marks x kinds) rules place r lt) ∙ holds) in
     let met = seen.only kinds (known.only kinds (fit_marks rules marks (place + 1) kinds known.right fit) fit.text) parts.0 in
     both_ways answer unfit (n.only kinds met (ap (λ x. rule_holds marks x kinds) is ∙ parts.1)).0 in
-    ((r, omega arith, ap (slice_get rules) (back place) ∙ item_at rules place r lt is, inr none), seen_none rules marks start t place known seen)
+    ((r, omega arith, ap (slice_get rules) (back place) ∙ slice_get_at rules place r lt is, inr none), seen_none rules marks start t place known seen)
 
 -- The start
 
@@ -202,7 +185,7 @@ knows_start rules marks fresh t answer six right is may n =
 
 -- where text is a mark, the first rule is a misfit
 pub no_text : (rules : List Rule) (marks : List Bool) (fresh t : KindRows) (answer : Bool) → AreMarks rules marks → IsFresh marks fresh → answer ≡ false → Narrows fresh t answer (λ kinds. allows (Only Text) (kinds 5)) → FirstMisfit rules (first_place rules)
-no_text [] marks fresh t answer right is not n = λ k bad. let below = item_in [] (k - 1) bad.0 bad.2 in omega arith
+no_text [] marks fresh t answer right is not n = λ k bad. let below = slice_get_within [] (k - 1) bad.0 bad.2 in omega arith
 no_text (r ∷ rs) marks fresh t answer right is not n =
     let none : (kinds : ℕ → Kind) → FitKinds (r ∷ rs) 1 kinds → ⊥ = λ kinds fit.
     both_ways answer not (n.only kinds (is.meets kinds (fit_marks (r ∷ rs) marks 1 kinds right fit)) (same_kind_from (kinds 5) Text fit.text)).0 in

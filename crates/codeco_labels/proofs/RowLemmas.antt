@@ -4,6 +4,7 @@ use Rattle.std.specs.Prelude.{slice_index_or, filter, count_by}
 use Rattle.std.specs.List.{list_all}
 use Rattle.std.specs.Option.{option_map_or}
 use Rattle.std.proofs.lemmas.Bool.{and_parts, and_from}
+use Rattle.std.proofs.Math.Bool.{and-true, and-false}
 use Rattle.codeco_terms.specs.declared.elements.Element.{Element}
 use Rattle.codeco_terms.specs.declared.rules.Rule.{Rule}
 use Rattle.codeco_text.specs.Names.{same_bytes}
@@ -20,14 +21,6 @@ use Rattle.codeco_labels.specs.Shapes.{is_no, one_of, two_of, is_one, are_two, i
 use Rattle.codeco_labels.specs.Misfits.{FitMarks}
 use Rattle.codeco_labels.proofs.ShapeLemmas.{has_meaning, meant, and_all, some, words_run, children_run, behind_run, introduced_is, referred_is, late_is, meant_below}
 
-and_true : (x : Bool) → (x && true) ≡ x
-and_true true = refl
-and_true false = refl
-
-and_false : (x : Bool) → (x && false) ≡ false
-and_false true = refl
-and_false false = refl
-
 all_more : (xs : List ℕ) → and_all More xs ≡ More
 all_more [] = refl
 all_more (x ∷ xs) = all_more xs
@@ -42,15 +35,15 @@ no_words (x ∷ y ∷ z ∷ zs) = sym (ap is_no (all_more zs))
 
 one_word : (ws : List ℕ) (k : ℕ) → same_bytes ws (k ∷ []) ≡ is_one (and_all No ws) k
 one_word [] k = refl
-one_word (x ∷ []) k = and_true (eqb x k)
-one_word (x ∷ y ∷ []) k = and_false (eqb x k)
-one_word (x ∷ y ∷ z ∷ zs) k = and_false (eqb x k) ∙ sym (ap (λ f. is_one f k) (all_more zs))
+one_word (x ∷ []) k = and-true (eqb x k)
+one_word (x ∷ y ∷ []) k = and-false (eqb x k)
+one_word (x ∷ y ∷ z ∷ zs) k = and-false (eqb x k) ∙ sym (ap (λ f. is_one f k) (all_more zs))
 
 two_words : (ws : List ℕ) (k l : ℕ) → same_bytes ws (k ∷ l ∷ []) ≡ are_two (and_all No ws) k l
 two_words [] k l = refl
-two_words (x ∷ []) k l = and_false (eqb x k)
-two_words (x ∷ y ∷ []) k l = ap (λ b. eqb x k && b) (and_true (eqb y l))
-two_words (x ∷ y ∷ z ∷ zs) k l = ap (λ b. eqb x k && b) (and_false (eqb y l)) ∙ and_false (eqb x k) ∙ sym (ap (λ f. are_two f k l) (all_more zs))
+two_words (x ∷ []) k l = and-false (eqb x k)
+two_words (x ∷ y ∷ []) k l = ap (λ b. eqb x k && b) (and-true (eqb y l))
+two_words (x ∷ y ∷ z ∷ zs) k l = ap (λ b. eqb x k && b) (and-false (eqb y l)) ∙ and-false (eqb x k) ∙ sym (ap (λ f. are_two f k l) (all_more zs))
 
 -- Children
 
@@ -62,15 +55,15 @@ no_kinds kinds (x ∷ y ∷ z ∷ zs) = sym (ap is_no (all_more zs))
 
 one_kind : (kinds : ℕ → Kind) (xs : List ℕ) (k : Kind) → same_kinds (map kinds xs) (k ∷ []) ≡ option_map_or (λ c. same_kind (kinds c) k) (one_of (and_all No xs)) false
 one_kind kinds [] k = refl
-one_kind kinds (x ∷ []) k = and_true (same_kind (kinds x) k)
-one_kind kinds (x ∷ y ∷ []) k = and_false (same_kind (kinds x) k)
-one_kind kinds (x ∷ y ∷ z ∷ zs) k = and_false (same_kind (kinds x) k) ∙ sym (ap (λ f. option_map_or (λ c. same_kind (kinds c) k) (one_of f) false) (all_more zs))
+one_kind kinds (x ∷ []) k = and-true (same_kind (kinds x) k)
+one_kind kinds (x ∷ y ∷ []) k = and-false (same_kind (kinds x) k)
+one_kind kinds (x ∷ y ∷ z ∷ zs) k = and-false (same_kind (kinds x) k) ∙ sym (ap (λ f. option_map_or (λ c. same_kind (kinds c) k) (one_of f) false) (all_more zs))
 
 two_kinds : (kinds : ℕ → Kind) (xs : List ℕ) (k l : Kind) → same_kinds (map kinds xs) (k ∷ l ∷ []) ≡ option_map_or (λ p. same_kind (kinds p.0) k && same_kind (kinds p.1) l) (two_of (and_all No xs)) false
 two_kinds kinds [] k l = refl
-two_kinds kinds (x ∷ []) k l = and_false (same_kind (kinds x) k)
-two_kinds kinds (x ∷ y ∷ []) k l = ap (λ b. same_kind (kinds x) k && b) (and_true (same_kind (kinds y) l))
-two_kinds kinds (x ∷ y ∷ z ∷ zs) k l = ap (λ b. same_kind (kinds x) k && b) (and_false (same_kind (kinds y) l)) ∙ and_false (same_kind (kinds x) k) ∙ sym (ap (λ f. option_map_or (λ p. same_kind (kinds p.0) k && same_kind (kinds p.1) l) (two_of f) false) (all_more zs))
+two_kinds kinds (x ∷ []) k l = and-false (same_kind (kinds x) k)
+two_kinds kinds (x ∷ y ∷ []) k l = ap (λ b. same_kind (kinds x) k && b) (and-true (same_kind (kinds y) l))
+two_kinds kinds (x ∷ y ∷ z ∷ zs) k l = ap (λ b. same_kind (kinds x) k && b) (and-false (same_kind (kinds y) l)) ∙ and-false (same_kind (kinds x) k) ∙ sym (ap (λ f. option_map_or (λ p. same_kind (kinds p.0) k && same_kind (kinds p.1) l) (two_of f) false) (all_more zs))
 
 children_same : (children : Children) (head : ℕ) (kinds : ℕ → Kind) (xs : List ℕ) → children_fit children (kinds head) (map kinds xs) ≡ children_have children head kinds (and_all No xs)
 children_same child.No head kinds xs = no_kinds kinds xs
@@ -127,8 +120,8 @@ turned : (h c w i r b : Bool) → (((((h && c) && w) && i) && r) && b) ≡ ((((w
 turned h c w i r b = at (h && c)
   where
     at : (x : Bool) → ((((x && w) && i) && r) && b) ≡ ((((w && i) && r) && b) && x)
-    at true = sym (and_true (((w && i) && r) && b))
-    at false = sym (and_false (((w && i) && r) && b))
+    at true = sym (and-true (((w && i) && r) && b))
+    at false = sym (and-false (((w && i) && r) && b))
 
 pub row_same : (marks : List Bool) (kinds : ℕ → Kind) → FitMarks marks kinds → (row : LabelRow) (r : Rule) → fits_row kinds row r ≡ row_holds row r.head.name (shape_of marks r.body) kinds
 row_same marks kinds fit row r =

@@ -3,6 +3,7 @@ use Rattle.std.proofs.Common.{◌≡◌, ℕ, ◌+◌, ◌<◌, Bool, List, subs
 use Rattle.std.specs.Prelude.{◌-◌, IsTrue, IfOk, Result, ◌==◌, slice_get}
 use Rattle.std.specs.List.{list_any}
 use Rattle.std.proofs.lemmas.Result.{IfOk-weaker}
+use Rattle.std.proofs.lemmas.Option.{slice_get_within}
 use Rattle.lists.specs.declared.memory.Memory.{Memory}
 use Rattle.codeco_terms.specs.declared.rules.Rule.{Rule}
 use Rattle.codeco_terms.specs.GrammarParts.{GrammarParts}
@@ -11,7 +12,7 @@ use Rattle.codeco_checked.specs.Faults.{is_bad_rule, is_empty_rule, IsRecursive,
 use Rattle.codeco_checked.specs.FirstFault.{IsFirst}
 use Rattle.codeco_labels.specs.Misfits.{FirstMisfit}
 use Rattle.codeco_late_faults.specs.First.{IsNowhere, IsFirstPlace, FindsFirst}
-use Rattle.codeco_late_faults.proofs.PlaceLemmas.{first_below, finds_same, some_below}
+use Rattle.codeco_late_faults.proofs.PlaceLemmas.{first_below, finds_same}
 use Rattle.codeco_late_faults.specs.Steps.{Reaches, leads, HasFollowers}
 use Rattle.codeco_late_faults.proofs.StepLemmas.{recursive_reaches, reaches_recursive}
 use Rattle.codeco_late_faults.proofs.FirstFaults.{NoneBelow, NoneEarly, none_of, first_of, bad_fault, empty_fault, recursive_fault, taking_fault, first_label, below_start, early_below, early_double, few_rules}
@@ -80,7 +81,7 @@ pub misfit_few : (g : GrammarParts) (xs : List Rule) (o : Option ℕ) (i : ℕ) 
 misfit_few g xs o i early same k h =
     let first = misfit_of xs g.rules o (Some i) same k h in
     let back : (i + 1) - 1 ≡ i = omega arith in
-    let below = some_below g.rules i first.0.0 (ap (slice_get g.rules) (sym back) ∙ first.0.2) in
+    let below = slice_get_within g.rules i first.0.0 (ap (slice_get g.rules) (sym back) ∙ first.0.2) in
     let few = few_rules g early in
     omega arith
 

@@ -6,6 +6,8 @@ use Rattle.std.proofs.lemmas.List.{get_or-set_same}
 use Rattle.std.proofs.lemmas.Bool.{cases_eq, eq-eqb, ne_eqb, eqb-true, not-false, or_left, and_right}
 use Rattle.std.proofs.Math.Bool.{or-false as or_none, or_assoc}
 use Rattle.wiki_base.proofs.BoolLaws.{or-turn as or_turn}
+use Rattle.wiki_base.proofs.NumberLaws.{eqb_comm}
+use Rattle.wiki_base.proofs.ListLaws.{drop_past}
 use Rattle.codeco_terms.specs.declared.values.Term.{Term}
 use Rattle.codeco_terms.specs.declared.values.Term.TheVariants.{Val, Var}
 use Rattle.codeco_terms.specs.declared.values.Value.{Value}
@@ -13,8 +15,6 @@ use Rattle.codeco_terms.specs.GrammarParts.{GrammarParts}
 use Rattle.codeco_checked.specs.Faults.{values_of, same_values, same_variable}
 use Rattle.codeco_late_faults.specs.Tables.{class_in, is_mixed, has_mixed_variable}
 use Rattle.codeco_late_faults.proofs.ClassLemmas.{class_same}
-use Rattle.codeco_late_faults.proofs.PutLemmas.{eqb_sym}
-use Rattle.codeco_late_faults.proofs.ShareLemmas.{drop_past}
 
 -- the term is a variable for which another class is known
 abbrev pub clashes_with : ℕ → List (Option ℕ) → Term → Bool
@@ -55,14 +55,14 @@ variable_sym : (t u : Term) → same_variable t u ≡ same_variable u t
 variable_sym (Val v) (Val w) = refl
 variable_sym (Val v) (Var y) = refl
 variable_sym (Var x) (Val w) = refl
-variable_sym (Var x) (Var y) = ap (λ b. b || false) (eqb_sym x y)
+variable_sym (Var x) (Var y) = ap (λ b. b || false) (eqb_comm x y)
 
 mixed_class : (g : GrammarParts) (f h : ℕ × Term) → is_mixed g f h ≡ (same_variable f.1 h.1 && not (eqb (class_of g f.0) (class_of g h.0)))
 mixed_class g f h = ap (λ b. same_variable f.1 h.1 && not b) (class_same g.features f.0 h.0)
 
 mixed_sym : (g : GrammarParts) (f h : ℕ × Term) → is_mixed g f h ≡ is_mixed g h f
 mixed_sym g f h =
-    mixed_class g f h ∙ ap (λ b. b && not (eqb (class_of g f.0) (class_of g h.0))) (variable_sym f.1 h.1) ∙ ap (λ b. same_variable h.1 f.1 && not b) (eqb_sym (class_of g f.0) (class_of g h.0)) ∙ sym (mixed_class g h f)
+    mixed_class g f h ∙ ap (λ b. b && not (eqb (class_of g f.0) (class_of g h.0))) (variable_sym f.1 h.1) ∙ ap (λ b. same_variable h.1 f.1 && not b) (eqb_comm (class_of g f.0) (class_of g h.0)) ∙ sym (mixed_class g h f)
 
 mixed_self : (g : GrammarParts) (f : ℕ × Term) → is_mixed g f f ≡ false
 mixed_self g f = mixed_class g f f ∙ and_right (same_variable f.1 f.1) (not (eqb (class_of g f.0) (class_of g f.0))) (ap not (eq-eqb (class_of g f.0) (class_of g f.0) refl))

@@ -3,6 +3,7 @@ use Rattle.std.proofs.Common.{◌≡◌, ℕ, ◌<◌, ◌≤◌, Bool, true, fa
 use Rattle.std.specs.List.{list_all}
 use Rattle.std.specs.Option.{option_map_or}
 use Rattle.std.proofs.lemmas.Bool.{and_parts, and_from, or_left}
+use Rattle.wiki_base.proofs.ListLaws.{drop_past}
 use Rattle.codeco_terms.specs.declared.categories.Category.{Category}
 use Rattle.codeco_terms.specs.declared.categories.Pattern.{Pattern}
 use Rattle.codeco_terms.specs.declared.elements.Element.{Element}
@@ -11,7 +12,6 @@ use Rattle.codeco_checked.specs.Faults.{is_double}
 use Rattle.codeco_checked.specs.Sound.{ascends, is_written, is_written_name, is_written_pattern, is_plain_pattern, is_written_element, is_empty, is_written_term}
 use Rattle.codeco_late_faults.specs.Order.{numbers, is_ordered}
 use Rattle.codeco_late_faults.proofs.DoubleLemmas.{repeats_after, repeats_is}
-use Rattle.codeco_late_faults.proofs.ShareLemmas.{drop_past}
 
 pub repeats_stop : {X : Type 0} (last : Option ℕ) (xs : List (ℕ × X)) (i : ℕ) (d : ℕ × X) → ascends (numbers xs) ≡ true → i < length xs → repeats_after last (numbers (drop i xs)) ≡ repeats_after None (numbers xs) → option_map_or (λ y. eqb y (get_or xs i d).0) last false ≡ true → true ≡ is_double (numbers xs)
 repeats_stop last xs i d up lt h here =

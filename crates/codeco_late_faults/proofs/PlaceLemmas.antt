@@ -2,6 +2,8 @@
 use Rattle.std.proofs.Common.{◌≡◌, ℕ, zero, suc, ◌+◌, ◌<◌, ◌≤◌, List, [], ◌∷◌, length, get_or, sym, ap, ◌∙◌, subst, arith, inl, inr, Some, None, Option}
 use Rattle.std.specs.Prelude.{slice_get}
 use Rattle.std.proofs.lemmas.Bool.{cases_lt}
+use Rattle.std.proofs.lemmas.Option.{same_Some, slice_get_within}
+use Rattle.wiki_base.proofs.ListLaws.{slice_get_at}
 use Rattle.codeco_late_faults.specs.First.{IsNowhere, IsFirstPlace, FindsFirst}
 
 -- what holds of the same items has the same first place
@@ -16,21 +18,13 @@ finds_same P Q xs (Some place) f g h = record {
 abbrev pub NotBefore : {X : Type 0} → (X → Type 0) → List X → ℕ → Type 0
 NotBefore {X} P xs i = (k : ℕ) (x : X) → k < i → slice_get xs k ≡ Some x → P x → ⊥
 
-same_item : {X : Type 0} (x y : X) → Some x ≡ Some y → x ≡ y
-same_item x y e = cc
-
-slice_get_at : {X : Type 0} (xs : List X) (i : ℕ) (x : X) → i < length xs → x ≡ get_or xs i x → slice_get xs i ≡ Some x
-slice_get_at [] i x lt e = absurd (omega arith)
-slice_get_at (y ∷ ys) zero x lt e = ap (λ z. Some z) (sym e)
-slice_get_at (y ∷ ys) (suc i) x lt e = slice_get_at ys i x (omega arith) e
-
 pub not_before_more : {X : Type 0} (P : X → Type 0) (xs : List X) (i : ℕ) (y : X) → i < length xs → y ≡ get_or xs i y → (P y → ⊥) → NotBefore P xs i → NotBefore P xs (i + 1)
 not_before_more P xs i y lt is here below = λ k x less e p.
     elim (cases_lt k i) [
       | inl before ↦ below k x before e p
       | inr after ↦
           let same : k ≡ i = omega arith in
-          here (subst P (same_item x y (sym e ∙ ap (slice_get xs) same ∙ slice_get_at xs i y lt is)) p)
+          here (subst P (same_Some x y (sym e ∙ ap (slice_get xs) same ∙ slice_get_at xs i y lt is)) p)
     ]
 
 pub first_here : {X : Type 0} (P : X → Type 0) (xs : List X) (i : ℕ) (y : X) → i < length xs → y ≡ get_or xs i y → P y → NotBefore P xs i → IsFirstPlace P xs i
@@ -39,13 +33,8 @@ first_here P xs i y lt is here below = record {
   before = below;
 }
 
-pub some_below : {X : Type 0} (xs : List X) (k : ℕ) (x : X) → slice_get xs k ≡ Some x → k < length xs
-some_below [] k x e = absurd cc
-some_below (y ∷ ys) zero x e = omega arith
-some_below (y ∷ ys) (suc k) x e = let rest = some_below ys k x e in omega arith
-
 pub nowhere : {X : Type 0} (P : X → Type 0) (xs : List X) (i : ℕ) → length xs ≤ i → NotBefore P xs i → IsNowhere P xs
-nowhere P xs i long below = λ k x e p. let lt = some_below xs k x e in below k x (omega arith) e p
+nowhere P xs i long below = λ k x e p. let lt = slice_get_within xs k x e in below k x (omega arith) e p
 
 pub first_below : {X : Type 0} (P : X → Type 0) (xs : List X) (i : ℕ) → IsFirstPlace P xs i → i < length xs
-first_below P xs i first = some_below xs i first.here.0 first.here.1
+first_below P xs i first = slice_get_within xs i first.here.0 first.here.1

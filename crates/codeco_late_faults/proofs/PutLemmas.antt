@@ -4,6 +4,7 @@ use Rattle.std.specs.Prelude.{if◌then◌else◌}
 use Rattle.std.specs.List.{list_any}
 use Rattle.std.proofs.lemmas.Bool.{cases_eq, eq-eqb, ne_eqb}
 use Rattle.wiki_base.proofs.BoolLaws.{or-swap as or_swap, or-turn as or_turn}
+use Rattle.wiki_base.proofs.NumberLaws.{eqb_comm}
 use Rattle.codeco_terms.specs.declared.values.Term.{Term}
 use Rattle.codeco_terms.specs.declared.values.Term.TheVariants.{Var}
 use Rattle.codeco_checked.specs.Numbering.{has}
@@ -11,13 +12,6 @@ use Rattle.codeco_checked.specs.Occurrences.{put_feature, with_taken}
 use Rattle.codeco_checked.specs.Faults.{is_double}
 use Rattle.codeco_late_faults.specs.Order.{numbers, shares}
 use Rattle.codeco_late_faults.proofs.DoubleLemmas.{double_cons}
-
-pub eqb_sym : (x y : ℕ) → eqb x y ≡ eqb y x
-eqb_sym x y =
-    elim (cases_eq x y) [
-      | inl same ↦ eq-eqb x y same ∙ sym (eq-eqb y x (sym same))
-      | inr other ↦ ne_eqb x y other ∙ sym (ne_eqb y x (λ e. other (sym e)))
-    ]
 
 put_any_at : (p : ℕ × Term → Bool) (b : Bool) (q y : ℕ × Term) (ys : List (ℕ × Term)) → list_any p (put_feature q ys) ≡ (p q || list_any p ys) → list_any p (if b then q ∷ y ∷ ys else y ∷ put_feature q ys) ≡ (p q || (p y || list_any p ys))
 put_any_at p true q y ys h = refl
@@ -39,7 +33,7 @@ put_double_at : (b : Bool) (q y : ℕ × Term) (ys : List (ℕ × Term)) → is_
 put_double_at true q y ys h = double_cons q.0 (numbers (y ∷ ys))
 put_double_at false q y ys h =
     double_cons y.0 (numbers (put_feature q ys))
-    ∙ ap (λ b. b || is_double (numbers (put_feature q ys))) (put_numbers (eqb y.0) q ys ∙ ap (λ b. b || has (numbers ys) y.0) (eqb_sym y.0 q.0))
+    ∙ ap (λ b. b || is_double (numbers (put_feature q ys))) (put_numbers (eqb y.0) q ys ∙ ap (λ b. b || has (numbers ys) y.0) (eqb_comm y.0 q.0))
     ∙ ap (λ b. (eqb q.0 y.0 || has (numbers ys) y.0) || b) h
     ∙ or_turn (eqb q.0 y.0) (has (numbers ys) y.0) (has (numbers ys) q.0) (is_double (numbers ys))
     ∙ ap (λ b. (eqb q.0 y.0 || has (numbers ys) q.0) || b) (sym (double_cons y.0 (numbers ys)))
@@ -50,7 +44,7 @@ put_double q (y ∷ ys) = put_double_at (ltb q.0 y.0) q y ys (put_double q ys)
 
 shares_cons : (xs : List ℕ) (y : ℕ) (ys : List ℕ) → shares xs (y ∷ ys) ≡ (has xs y || shares xs ys)
 shares_cons [] y ys = refl
-shares_cons (x ∷ xs) y ys = ap (λ b. (eqb x y || has ys x) || b) (shares_cons xs y ys) ∙ or_turn (eqb x y) (has ys x) (has xs y) (shares xs ys) ∙ ap (λ b. (b || has xs y) || (has ys x || shares xs ys)) (eqb_sym x y)
+shares_cons (x ∷ xs) y ys = ap (λ b. (eqb x y || has ys x) || b) (shares_cons xs y ys) ∙ or_turn (eqb x y) (has ys x) (has xs y) (shares xs ys) ∙ ap (λ b. (b || has xs y) || (has ys x || shares xs ys)) (eqb_comm x y)
 
 pub shares_none : (xs : List ℕ) → shares xs [] ≡ false
 shares_none [] = refl

@@ -1,12 +1,11 @@
 -- A search by steps: what is reached, and what is open.
 use Rattle.std.proofs.Common.{◌≡◌, ℕ, ◌+◌, ◌<◌, Bool, true, false, not, cond, ◌||◌, eqb, List, [], ◌∷◌, ◌++◌, length, get_or, set, replicate, refl, sym, ap, ◌∙◌, subst, arith, inl, inr, length-set, length-append, get_or-set_other, ◌⊎◌, ◌↔◌, zero, suc}
 use Rattle.std.specs.Prelude.{IsTrue}
-use Rattle.std.proofs.lemmas.List.{get_or-set_same, length-replicate}
+use Rattle.std.proofs.lemmas.List.{get_or-set_same, length-replicate, get_or_default}
 use Rattle.std.proofs.lemmas.List.Sums.{sum_by-set}
 use Rattle.std.proofs.lemmas.List.Folds.{list_any-append}
 use Rattle.std.proofs.lemmas.Bool.{cases_eq, or_cases, or_left, or_right, eqb-true, eq-eqb}
 use Rattle.codeco_checked.specs.Numbering.{has}
-use Rattle.codeco_late_faults.proofs.TableLemmas.{default_any}
 use Rattle.codeco_late_faults.specs.Steps.{leads, IsPath, Reaches, IsIn, count_out, IsFollowed}
 
 -- nothing to follow
@@ -185,7 +184,7 @@ no_length (x ∷ xs) h = absurd (omega arith)
 
 -- the followers of a number are what one step leads to
 pub followed_at : (table : List (List ℕ)) (from : ℕ) (fs : List ℕ) (m n : List Bool) (o p : List ℕ) → from < length table → fs ≡ get_or table from fs → IsFollowed (has fs) m n o p → IsFollowed (leads table from) m n o p
-followed_at table from fs m n o p lt is f = followed_same (has fs) (leads table from) m n o p (λ c. ap (λ xs. has xs c) (sym (is ∙ default_any table from fs [] lt))) f
+followed_at table from fs m n o p lt is f = followed_same (has fs) (leads table from) m n o p (λ c. ap (λ xs. has xs c) (sym (is ∙ get_or_default table from fs [] lt))) f
 
 pub none_pushed : (table : List (List ℕ)) → ((name : ℕ) → get_or table name [] ≡ []) → (name : ℕ) → get_or (table ++ [] ∷ []) name [] ≡ []
 none_pushed [] h zero = refl

@@ -2,6 +2,7 @@
 use Rattle.std.proofs.Common.{◌≡◌, ℕ, zero, suc, ◌+◌, ◌<◌, ◌≤◌, Bool, true, false, ◌||◌, eqb, ltb, leb, List, [], ◌∷◌, length, drop, get_or, refl, sym, ap, ◌∙◌, arith, inl, inr, add-one, drop-cons}
 use Rattle.std.specs.List.{list_all}
 use Rattle.std.proofs.lemmas.Bool.{and_parts, and_from, or_cases, or_left, ltb-true, lt-ltb, leb-true, eqb-true, eq-eqb, ne_eqb, false_from_ne_true}
+use Rattle.wiki_base.proofs.ListLaws.{drop_past}
 use Rattle.codeco_checked.specs.Numbering.{has}
 use Rattle.codeco_checked.specs.Sound.{ascends}
 use Rattle.codeco_late_faults.specs.Order.{numbers, shares}
@@ -10,12 +11,6 @@ use Rattle.codeco_late_faults.proofs.PutLemmas.{shares_none}
 
 at_place : {X : Type 0} (xs : List (ℕ × X)) (i : ℕ) (d : ℕ × X) → i < length xs → numbers (drop i xs) ≡ (get_or xs i d).0 ∷ numbers (drop (i + 1) xs)
 at_place xs i d lt = rw (add-one, drop-cons xs i d) refl
-
-pub drop_past : {X : Type 0} (xs : List X) (n : ℕ) → length xs ≤ n → drop n xs ≡ []
-drop_past [] zero h = refl
-drop_past [] (suc n) h = refl
-drop_past (y ∷ ys) zero h = absurd (omega arith)
-drop_past (y ∷ ys) (suc n) h = drop_past ys n (omega arith)
 
 ascends_drop : {X : Type 0} (xs : List (ℕ × X)) (i : ℕ) → ascends (numbers xs) ≡ true → ascends (numbers (drop i xs)) ≡ true
 ascends_drop [] zero h = refl

@@ -5,13 +5,13 @@ use Rattle.std.specs.Option.{option_to_list}
 use Rattle.std.proofs.lemmas.List.{get_or-set_same}
 use Rattle.std.proofs.lemmas.List.Folds.{list_any-append}
 use Rattle.std.proofs.lemmas.Bool.{cases_Bool, cases_eq, or_cases, or_left, or_right, cond-true, cond-false, eqb-true, eq-eqb, ne_eqb}
+use Rattle.wiki_base.proofs.ListLaws.{drop_past}
 use Rattle.codeco_terms.specs.declared.rules.Rule.{Rule}
 use Rattle.codeco_terms.specs.GrammarParts.{GrammarParts}
 use Rattle.codeco_checked.specs.Numbering.{has}
 use Rattle.codeco_checked.specs.Faults.{first_category, StepsTo, Leads, IsRecursive}
 use Rattle.codeco_late_faults.specs.Steps.{leads, IsPath, Reaches, rule_followers, followers_in, HasFollowers}
 use Rattle.codeco_late_faults.proofs.MarkLemmas.{append_nil}
-use Rattle.codeco_late_faults.proofs.ShareLemmas.{drop_past}
 
 -- a rule whose step this is
 abbrev Gives : ℕ → ℕ → Rule → Type 0

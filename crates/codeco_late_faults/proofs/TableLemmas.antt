@@ -1,7 +1,7 @@
 -- The table of a grammar's features.
 use Rattle.std.proofs.Common.{◌≡◌, ℕ, zero, suc, ◌+◌, ◌<◌, ◌≤◌, Bool, true, false, ◌&&◌, eqb, ltb, List, [], ◌∷◌, ◌++◌, length, map, get_or, replicate, refl, sym, ap, ◌∙◌, subst, arith, inl, inr}
 use Rattle.std.specs.List.{list_all, flat_map}
-use Rattle.std.proofs.lemmas.List.{get_or_past, length-replicate}
+use Rattle.std.proofs.lemmas.List.{get_or_past, length-replicate, get_or_default}
 use Rattle.std.proofs.lemmas.Bool.{cases_Bool, cases_lt, and_parts, and_from, eqb-true, ltb-true, lt-ltb, cond-true, cond-false, ne_eqb, or_from}
 use Rattle.wiki_base.proofs.ListLaws.{all_split}
 use Rattle.codeco_terms.specs.declared.declarations.Declared.{Declared}
@@ -13,11 +13,6 @@ use Rattle.codeco_late_faults.specs.Marks.{marked}
 use Rattle.codeco_late_faults.specs.Tables.{CountsAtoms, HoldsAtoms, values_in, AreSets, class_in, AreClasses}
 use Rattle.codeco_late_faults.proofs.MarkLemmas.{set_has, length_marked}
 
-pub default_any : {X : Type 0} (xs : List X) (i : ℕ) (d e : X) → i < length xs → get_or xs i d ≡ get_or xs i e
-default_any [] i d e lt = absurd (omega arith)
-default_any (x ∷ xs) zero d e lt = refl
-default_any (x ∷ xs) (suc i) d e lt = default_any xs i d e (omega arith)
-
 values_at : (features : List Feature) (f : ℕ) (x : Feature) → f < length features → x ≡ get_or features f x → values_in features f ≡ x.declared
 values_at [] f x lt is = absurd (omega arith)
 values_at (y ∷ ys) zero x lt is = ap (λ (z : Feature). z.declared) (sym is)
@@ -26,10 +21,10 @@ values_at (y ∷ ys) (suc f) x lt is = values_at ys f x (omega arith) is
 -- the set at a place holds the atoms of the feature there
 pub holds_at : (features : List Feature) (sets : List (List Bool)) (f : ℕ) (x : Feature) (s : List Bool) → AreSets features sets → f < length features → f < length sets → x ≡ get_or features f x → s ≡ get_or sets f s → HoldsAtoms s x.declared
 holds_at features sets f x s are lt room x-is s-is = λ a.
-    ap (λ z. get_or z a false) (s-is ∙ default_any sets f s [] room) ∙ are f a ∙ ap (λ d. has (declared_atoms d) a) (values_at features f x lt x-is)
+    ap (λ z. get_or z a false) (s-is ∙ get_or_default sets f s [] room) ∙ are f a ∙ ap (λ d. has (declared_atoms d) a) (values_at features f x lt x-is)
 
 pub has_at : (features : List Feature) (sets : List (List Bool)) (f a : ℕ) (s : List Bool) → AreSets features sets → f < length sets → s ≡ get_or sets f s → get_or s a false ≡ has (declared_atoms (values_in features f)) a
-has_at features sets f a s are room s-is = ap (λ z. get_or z a false) (s-is ∙ default_any sets f s [] room) ∙ are f a
+has_at features sets f a s are room s-is = ap (λ z. get_or z a false) (s-is ∙ get_or_default sets f s [] room) ∙ are f a
 
 pub has_past : (features : List Feature) (sets : List (List Bool)) (f a : ℕ) → AreSets features sets → length sets ≤ f → false ≡ has (declared_atoms (values_in features f)) a
 has_past features sets f a are long = ap (λ z. get_or z a false) (sym (get_or_past sets f [] long)) ∙ are f a

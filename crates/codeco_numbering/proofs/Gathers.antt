@@ -1,8 +1,8 @@
 -- Names that are gathered part by part.
 use Rattle.std.proofs.Common.{◌≡◌, ℕ, ◌+◌, ◌<◌, List, [], ◌∷◌, ◌++◌, length, get_or, drop, cond, refl, sym, ap, ◌∙◌}
+use Rattle.wiki_base.proofs.ListLaws.{drop_get_or}
 use Rattle.codeco_text.specs.Names.{is_among}
 use Rattle.codeco_numbering.specs.Numbered.{gathered}
-use Rattle.codeco_numbering.proofs.Turns.{left_first}
 
 pub gathered_append : (names xs ys : List (List ℕ)) → gathered names (xs ++ ys) ≡ gathered (gathered names xs) ys
 gathered_append names [] ys = refl
@@ -13,7 +13,7 @@ pub gather_turn : {X : Type 0} (F : List X → List (List ℕ)) (G : X → List 
 gather_turn {X} F G split made next whole xs i x lt is before step =
     ap (λ (names : List (List ℕ)). gathered names (F (drop (i + 1) xs))) step
     ∙ sym (gathered_append made (G x) (F (drop (i + 1) xs)))
-    ∙ ap (gathered made) (sym (split x (drop (i + 1) xs)) ∙ ap F (sym (left_first xs i x lt is)))
+    ∙ ap (gathered made) (sym (split x (drop (i + 1) xs)) ∙ ap F (sym (drop_get_or xs i x lt is)))
     ∙ before
 
 -- the same of whatever takes names part by part
@@ -21,5 +21,5 @@ pub fold_turn : {S X : Type 0} (add : S → List (List ℕ) → S) → ((s : S) 
 fold_turn {S} {X} add law F G split made next whole xs i x lt is before step =
     ap (λ (s : S). add s (F (drop (i + 1) xs))) step
     ∙ sym (law made (G x) (F (drop (i + 1) xs)))
-    ∙ ap (add made) (sym (split x (drop (i + 1) xs)) ∙ ap F (sym (left_first xs i x lt is)))
+    ∙ ap (add made) (sym (split x (drop (i + 1) xs)) ∙ ap F (sym (drop_get_or xs i x lt is)))
     ∙ before

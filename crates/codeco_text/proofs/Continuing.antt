@@ -5,6 +5,7 @@ use Rattle.std.specs.List.{list_all, list_any}
 use Rattle.std.proofs.lemmas.List.{append-nil}
 use Rattle.std.proofs.lemmas.List.Folds.{list_all-append}
 use Rattle.std.proofs.lemmas.Bool.{eqb-true, cases_Bool, both_ways, and_parts, and_from, or_cases, or_parts, or_from, not_from_false, false_from_ne_true}
+use Rattle.std.proofs.lemmas.Option.{same_Some}
 use Rattle.codeco_text.specs.declared.symbols.Sign.{Sign}
 use Rattle.codeco_text.specs.declared.symbols.Sign.TheVariants as sign
 use Rattle.codeco_text.specs.declared.symbols.Lexeme.{Lexeme}
@@ -185,9 +186,6 @@ Fits b _ = Unit {0}
 abbrev pub FitsAt : Builder × Mode → Type 0
 FitsAt s = Fits s.0 s.1
 
-some_same : {A : Type 0} (x y : A) → Some x ≡ Some y → x ≡ y
-some_same x y e = cc
-
 behind_fits : (o : Option Builder) (s : Builder × Mode) → behind o ≡ Some s → FitsAt s
 behind_fits o s e = let g = behind_some o s e in subst FitsAt g.2 tt
 
@@ -205,12 +203,12 @@ sign_fits b m y x s e f g fits =
 
 begin_fits : (b : Builder) (x : ℕ) (s : Builder × Mode) → begin b x ≡ Some s → FitsAt s
 begin_fits b x s e = elim (chosen (is_space x) (Some (b, between)) _ (Some s) e) [
-  | inl p ↦ subst FitsAt (some_same (b, between) s p.1) tt
+  | inl p ↦ subst FitsAt (same_Some (b, between) s p.1) tt
   | inr p ↦ elim (chosen (eqb x 37) (Some (b, comment)) _ (Some s) p.1) [
-    | inl q ↦ subst FitsAt (some_same (b, comment) s q.1) tt
+    | inl q ↦ subst FitsAt (same_Some (b, comment) s q.1) tt
     | inr q ↦ elim (chosen (may_begin (wants b.spot) x) (Some (b, word (x ∷ []))) (begin_sign b x) (Some s) q.1) [
       | inl r ↦
-          let is = some_same (b, word (x ∷ [])) s r.1 in
+          let is = same_Some (b, word (x ∷ [])) s r.1 in
           let fits : WordFits b (x ∷ []) = record { reached = reach_one b between x ∙ e ∙ ap Some (sym is); first = x; others = []; parts = refl; begins = r.0; letters = refl; going = begin_goes (wants b.spot) x r.0 } in
           subst FitsAt is fits
       | inr r ↦ elim (chosen (eqb x 91) (guard (takes_terminal b) (b, terminal [])) _ (Some s) r.1) [
@@ -283,7 +281,7 @@ comment_fits false b = tt
 
 pub step_fits : (b : Builder) (m : Mode) (x : ℕ) (s : Builder × Mode) → Fits b m → step b m x ≡ Some s → FitsAt s
 step_fits b between x s fits e = begin_fits b x s e
-step_fits b comment x s fits e = subst FitsAt (some_same (b, cond (eqb x 10) between comment) s e) (comment_fits (eqb x 10) b)
+step_fits b comment x s fits e = subst FitsAt (same_Some (b, cond (eqb x 10) between comment) s e) (comment_fits (eqb x 10) b)
 step_fits b (word w) x s fits e = elim (chosen (is_word_byte x) (guard (may_go_on (wants b.spot) (push w x)) (b, word (push w x))) (finish b (word w) >>= λ d. begin d x) (Some s) e) [
   | inl p ↦ word_goes_on b w x s fits p.0 e p.1
   | inr p ↦ let f = bind_some (finish b (word w)) (λ d. begin d x) s p.1 in begin_fits f.0 x s f.2
@@ -306,7 +304,7 @@ step_fits b greater x s fits e = elim (chosen (eqb x 62) (behind (grow b (lexeme
 ]
 
 pub reach_fits : (text : List ℕ) (b : Builder) (m : Mode) (s : Builder × Mode) → Fits b m → reach b m text ≡ Some s → FitsAt s
-reach_fits [] b m s fits e = subst FitsAt (some_same (b, m) s e) fits
+reach_fits [] b m s fits e = subst FitsAt (same_Some (b, m) s e) fits
 reach_fits (x ∷ xs) b m s fits e =
     let t = bind_some (step b m x) (λ t. reach t.0 t.1 xs) s e in
     reach_fits xs t.0.0 t.0.1 s (step_fits b m x t.0 fits t.1) t.2

@@ -3,6 +3,7 @@ use Rattle.std.proofs.Common.{◌≡◌, ℕ, Bool, true, false, cond, not, eqb,
 use Rattle.std.specs.Prelude.{is_some, codes}
 use Rattle.std.proofs.lemmas.List.{append-nil}
 use Rattle.std.proofs.lemmas.Bool.{eqb-true, eq-eqb, cases_Bool, both_ways, and_parts}
+use Rattle.std.proofs.lemmas.Option.{same_Some}
 use Rattle.codeco_text.specs.declared.symbols.Sign.{Sign}
 use Rattle.codeco_text.specs.declared.symbols.Sign.TheVariants as sign
 use Rattle.codeco_text.specs.declared.symbols.Lexeme.{Lexeme}
@@ -236,16 +237,13 @@ sign_spelled d c b rest s e h = elim (chosen (eqb b 91) (guard (takes_terminal d
   ]
 ]
 
-some_is : {A : Type 0} (x y : A) → Some x ≡ Some y → x ≡ y
-some_is x y e = cc
-
 begin_spelled : (d c : Builder) (b : ℕ) (rest : List ℕ) (s : Builder × Mode) → begin d b ≡ Some s → Behind s rest c → Spelled d between (b ∷ rest) c
 begin_spelled d c b rest s e h = elim (chosen (is_space b) (Some (d, between)) _ (Some s) e) [
-  | inl p ↦ same_builder d c between between (b ∷ rest) rest (λ xs. spells_space b rest xs p.0) (spelled_at s (d, between) rest c (some_is (d, between) s p.1) h).spelled
+  | inl p ↦ same_builder d c between between (b ∷ rest) rest (λ xs. spells_space b rest xs p.0) (spelled_at s (d, between) rest c (same_Some (d, between) s p.1) h).spelled
   | inr p ↦ elim (chosen (eqb b 37) (Some (d, comment)) _ (Some s) p.1) [
-    | inl q ↦ same_builder d c between comment (b ∷ rest) rest (λ xs. spells_comment b rest xs (eqb-true b 37 q.0)) (spelled_at s (d, comment) rest c (some_is (d, comment) s q.1) h).spelled
+    | inl q ↦ same_builder d c between comment (b ∷ rest) rest (λ xs. spells_comment b rest xs (eqb-true b 37 q.0)) (spelled_at s (d, comment) rest c (same_Some (d, comment) s q.1) h).spelled
     | inr q ↦ elim (chosen (may_begin (wants d.spot) b) (Some (d, word (b ∷ []))) (begin_sign d b) (Some s) q.1) [
-      | inl r ↦ begins_by d c (word (b ∷ [])) b rest (λ xs f. f) (spelled_at s (d, word (b ∷ [])) rest c (some_is (d, word (b ∷ [])) s r.1) h).spelled
+      | inl r ↦ begins_by d c (word (b ∷ [])) b rest (λ xs f. f) (spelled_at s (d, word (b ∷ [])) rest c (same_Some (d, word (b ∷ [])) s r.1) h).spelled
       | inr r ↦ sign_spelled d c b rest s r.1 h
     ]
   ]
@@ -332,7 +330,7 @@ step_spelled : (b c : Builder) (m : Mode) (x : ℕ) (rest : List ℕ) (s : Build
 step_spelled b c between x rest s e h = begin_spelled b c x rest s e h
 step_spelled b c comment x rest s e h =
     same_builder b c comment (cond (eqb x 10) between comment) (x ∷ rest) rest (λ xs f. spells_in_comment x rest xs (comment_from (eqb x 10) rest xs f))
-    (spelled_at s (b, cond (eqb x 10) between comment) rest c (some_is (b, cond (eqb x 10) between comment) s e) h).spelled
+    (spelled_at s (b, cond (eqb x 10) between comment) rest c (same_Some (b, cond (eqb x 10) between comment) s e) h).spelled
 step_spelled b c (word w) x rest s e h = word_spelled b c w x rest s e h
 step_spelled b c (terminal t) x rest s e h = terminal_spelled b c t x rest s e h
 step_spelled b c dash x rest s e h = further b c dash dashes 45 x rest s (λ xs f. continues_more (45 ∷ []) 45 rest xs f) e h
@@ -354,8 +352,8 @@ word_ends b c w e =
     new_symbol b c c y.0 (word w) between [] [] y.2 (λ xs k. continues_before w [] y.0 xs is.0 is.1 (ends_all y.0) k) (nothing_left c c between refl refl)
 
 ends_spelled : (b c : Builder) (m : Mode) → finish b m ≡ Some c → Spelled b m [] c
-ends_spelled b c between e = nothing_left b c between refl (some_is b c e)
-ends_spelled b c comment e = nothing_left b c comment refl (some_is b c e)
+ends_spelled b c between e = nothing_left b c between refl (same_Some b c e)
+ends_spelled b c comment e = nothing_left b c comment refl (same_Some b c e)
 ends_spelled b c (word w) e = word_ends b c w e
 ends_spelled b c (terminal t) e = absurd cc
 ends_spelled b c dash e = absurd cc

@@ -18,10 +18,3 @@ skeleton_code_is sk =
 pub code_whole : (sk : Skeleton) (before code : List ℕ) → code ≡ (before ++ (out-Skeleton sk).rule ∷ (out-Skeleton sk).found) ++ flat_map skeleton_code (out-Skeleton sk).children → code ≡ before ++ skeleton_code sk
 code_whole sk before code h =
     h ∙ append_assoc before ((out-Skeleton sk).rule ∷ (out-Skeleton sk).found) (flat_map skeleton_code (out-Skeleton sk).children) ∙ ap (λ ys. before ++ ys) (sym (skeleton_code_is sk))
-
--- one more item
-pub take_next : {X : Type 0} (xs : List X) (n : ℕ) (x : X) → slice_get xs n ≡ Some x → take (n + 1) xs ≡ take n xs ++ x ∷ []
-take_next [] n x h = cc
-take_next (y ∷ ys) zero x h = ap (λ o. unwrap_or o y ∷ []) h
-take_next (y ∷ ys) (suc n) x h =
-    ap (λ k. take k (y ∷ ys)) (add-one (suc n)) ∙ ap (λ zs. y ∷ zs) (ap (λ k. take k ys) (sym (add-one n)) ∙ take_next ys n x h)

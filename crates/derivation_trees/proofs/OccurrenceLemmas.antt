@@ -4,7 +4,7 @@ use Rattle.std.specs.Prelude.{if◌then◌else◌, ◌==◌}
 use Rattle.std.specs.List.{flat_map, list_any, list_all}
 use Rattle.std.proofs.lemmas.Grind.{flat_map-append, common_steps}
 use Rattle.std.proofs.lemmas.List.Folds.{list_any-append, list_all-append}
-use Rattle.std.proofs.Math.Bool.{or-false as or_false}
+use Rattle.std.proofs.Math.Bool.{or-false as or_false, and-true}
 use Rattle.wiki_base.proofs.BoolLaws.{and-swap as and_swap, or-swap as or_swap}
 use Rattle.codeco_terms.specs.declared.values.Term.{Term}
 use Rattle.codeco_terms.specs.declared.values.Term.TheVariants.{Val, Var}
@@ -33,10 +33,6 @@ or_turn true true c = refl
 or_turn true false c = refl
 or_turn false true c = refl
 or_turn false false c = refl
-
-and_true : (a : Bool) → (a && true) ≡ a
-and_true true = refl
-and_true false = refl
 
 and_assoc : (a b c : Bool) → (a && (b && c)) ≡ ((a && b) && c)
 and_assoc true b c = refl
@@ -78,6 +74,6 @@ put_feature_all p q (y ∷ ys) = put_feature_all_at p (nat_lt q.0 y.0) q y ys (p
 
 -- the features of a pattern all pass where those of its terms do and the marked ones
 pub with_taken_all : (p : ℕ × Term → Bool) (feats : List (ℕ × Term)) (taken : List (ℕ × ℕ)) → list_all p (with_taken feats taken) ≡ (list_all p feats && list_all (λ t. p (t.0, Var t.1)) taken)
-with_taken_all p feats [] = sym (and_true (list_all p feats))
+with_taken_all p feats [] = sym (and-true (list_all p feats))
 with_taken_all p feats (t ∷ ts) =
     with_taken_all p (put_feature (t.0, Var t.1) feats) ts ∙ ap (λ b. b && list_all (λ u. p (u.0, Var u.1)) ts) (put_feature_all p (t.0, Var t.1) feats) ∙ and_turn (p (t.0, Var t.1)) (list_all p feats) (list_all (λ u. p (u.0, Var u.1)) ts)

@@ -3,7 +3,7 @@ use Rattle.std.proofs.Common.{◌≡◌, ℕ, suc, zero, ◌+◌, ◌-◌, ◌<�
 use Rattle.std.specs.Prelude.{if◌then◌else◌, ◌==◌, slice_index}
 use Rattle.std.specs.List.{list_all, slice_split, onto_first}
 use Rattle.std.specs.Char.{to_ascii_lowercase, to_ascii_uppercase}
-use Rattle.std.proofs.lemmas.Bool.{cases_lt}
+use Rattle.std.proofs.lemmas.Bool.{cases_lt, and_parts, not-true, and_from}
 use Rattle.std.proofs.lemmas.Bool.Decides.{nat_tests}
 use Rattle.std.proofs.lemmas.List.Splits.{slice_split-cons_no}
 use Rattle.std.proofs.lemmas.List.Elements.{filter-append}
@@ -16,34 +16,23 @@ use Rattle.derivation_trees.specs.Cutting.{is_kept, pieces, is_mark, ends_with_m
 
 -- Texts without a space
 
-pub and_both : (a b : Bool) → (a && b) ≡ true → (a ≡ true) × (b ≡ true)
-and_both true b h = (refl, h)
-and_both false b h = cc
-
-pub not_true : (a : Bool) → not a ≡ true → a ≡ false
-not_true true h = cc
-not_true false h = refl
-
-pub true_and : (a b : Bool) → a ≡ true → b ≡ true → (a && b) ≡ true
-true_and a b h k = ap (λ x. x && b) h ∙ k
-
 pub no_space_take : (n : ℕ) (bs : List ℕ) → has_no_space bs ≡ true → has_no_space (take n bs) ≡ true
 no_space_take zero bs h = refl
 no_space_take (suc n) [] h = refl
 no_space_take (suc n) (b ∷ bs) h =
-    let both = and_both (not (b == 32)) (has_no_space bs) h in
-    true_and (not (b == 32)) (has_no_space (take n bs)) both.0 (no_space_take n bs both.1)
+    let both = and_parts (not (b == 32)) (has_no_space bs) h in
+    and_from (not (b == 32)) (has_no_space (take n bs)) both.0 (no_space_take n bs both.1)
 
 pub no_space_drop : (n : ℕ) (bs : List ℕ) → has_no_space bs ≡ true → has_no_space (drop n bs) ≡ true
 no_space_drop zero bs h = h
 no_space_drop (suc n) [] h = refl
-no_space_drop (suc n) (b ∷ bs) h = no_space_drop n bs (and_both (not (b == 32)) (has_no_space bs) h).1
+no_space_drop (suc n) (b ∷ bs) h = no_space_drop n bs (and_parts (not (b == 32)) (has_no_space bs) h).1
 
 pub no_space_append : (xs ys : List ℕ) → has_no_space xs ≡ true → has_no_space ys ≡ true → has_no_space (xs ++ ys) ≡ true
 no_space_append [] ys h k = k
 no_space_append (x ∷ xs) ys h k =
-    let both = and_both (not (x == 32)) (has_no_space xs) h in
-    true_and (not (x == 32)) (has_no_space (xs ++ ys)) both.0 (no_space_append xs ys both.1 k)
+    let both = and_parts (not (x == 32)) (has_no_space xs) h in
+    and_from (not (x == 32)) (has_no_space (xs ++ ys)) both.0 (no_space_append xs ys both.1 k)
 
 -- each byte differs from a space
 differ : (b : ℕ) → ((b ≡ 32) → ⊥) → not (b == 32) ≡ true
@@ -52,26 +41,26 @@ differ b h = grind (arith, nat_tests)
 pub no_space_from_bytes : (bs : List ℕ) → ((i : ℕ) → i < length bs → get_or bs i 0 ≡ 32 → ⊥) → has_no_space bs ≡ true
 no_space_from_bytes [] h = refl
 no_space_from_bytes (b ∷ bs) h =
-    true_and (not (b == 32)) (has_no_space bs) (differ b (h 0 (omega arith))) (no_space_from_bytes bs (λ i lt. h (suc i) (omega arith)))
+    and_from (not (b == 32)) (has_no_space bs) (differ b (h 0 (omega arith))) (no_space_from_bytes bs (λ i lt. h (suc i) (omega arith)))
 
 none_pass : (bs : List ℕ) → has_no_space bs ≡ true → (i : ℕ) (d : ℕ) → i < length bs → (get_or bs i d == 32) ≡ false
 none_pass [] h i d lt = absurd (omega arith)
-none_pass (b ∷ bs) h zero d lt = not_true (b == 32) (and_both (not (b == 32)) (has_no_space bs) h).0
-none_pass (b ∷ bs) h (suc i) d lt = none_pass bs (and_both (not (b == 32)) (has_no_space bs) h).1 i d (omega arith)
+none_pass (b ∷ bs) h zero d lt = not-true (b == 32) (and_parts (not (b == 32)) (has_no_space bs) h).0
+none_pass (b ∷ bs) h (suc i) d lt = none_pass bs (and_parts (not (b == 32)) (has_no_space bs) h).1 i d (omega arith)
 
 -- a text without a space is one part
 split_one : (bs : List ℕ) → has_no_space bs ≡ true → slice_split (λ b. b == 32) bs ≡ bs ∷ []
 split_one [] h = refl
 split_one (b ∷ bs) h =
-    let both = and_both (not (b == 32)) (has_no_space bs) h in
-    slice_split-cons_no (λ x. x == 32) b bs (not_true (b == 32) both.0) ∙ ap (onto_first b) (split_one bs both.1)
+    let both = and_parts (not (b == 32)) (has_no_space bs) h in
+    slice_split-cons_no (λ x. x == 32) b bs (not-true (b == 32) both.0) ∙ ap (onto_first b) (split_one bs both.1)
 
 -- the first space ends the first part
 split_at_space : (xs ys : List ℕ) → has_no_space xs ≡ true → slice_split (λ b. b == 32) (xs ++ 32 ∷ ys) ≡ xs ∷ slice_split (λ b. b == 32) ys
 split_at_space [] ys h = refl
 split_at_space (x ∷ xs) ys h =
-    let both = and_both (not (x == 32)) (has_no_space xs) h in
-    slice_split-cons_no (λ b. b == 32) x (xs ++ 32 ∷ ys) (not_true (x == 32) both.0) ∙ ap (onto_first x) (split_at_space xs ys both.1)
+    let both = and_parts (not (x == 32)) (has_no_space xs) h in
+    slice_split-cons_no (λ b. b == 32) x (xs ++ 32 ∷ ys) (not-true (x == 32) both.0) ∙ ap (onto_first x) (split_at_space xs ys both.1)
 
 kept_cons : (t : List ℕ) (ts : List (List ℕ)) → filter is_kept (t ∷ ts) ≡ filter is_kept (t ∷ []) ++ filter is_kept ts
 kept_cons t ts = filter-append is_kept (t ∷ []) ts
@@ -119,7 +108,7 @@ parted_mark : (t : List ℕ) (m : ℕ) → is_kept t ≡ true → is_mark m ≡ 
 parted_mark t m k h =
     let long : length (t ++ m ∷ []) - 1 ≡ length t = omega (arith, length_push t m) in
     let at : slice_index (t ++ m ∷ []) (length (t ++ m ∷ []) - 1) ≡ m = ap (slice_index (t ++ m ∷ [])) long ∙ get_or_at t m [] 0 (length t) refl in
-    let marked : ends_with_mark (t ++ m ∷ []) ≡ true = true_and (nat_lt 1 (length (t ++ m ∷ []))) (is_mark (slice_index (t ++ m ∷ []) (length (t ++ m ∷ []) - 1))) (above (length t) (length (t ++ m ∷ [])) k (length_push t m)) (ap is_mark at ∙ h) in
+    let marked : ends_with_mark (t ++ m ∷ []) ≡ true = and_from (nat_lt 1 (length (t ++ m ∷ []))) (is_mark (slice_index (t ++ m ∷ []) (length (t ++ m ∷ []) - 1))) (above (length t) (length (t ++ m ∷ [])) k (length_push t m)) (ap is_mark at ∙ h) in
     ap (λ b. if b then take (length (t ++ m ∷ []) - 1) (t ++ m ∷ []) ∷ drop (length (t ++ m ∷ []) - 1) (t ++ m ∷ []) ∷ [] else (t ++ m ∷ []) ∷ []) marked ∙ ap (λ n. take n (t ++ m ∷ []) ∷ drop n (t ++ m ∷ []) ∷ []) long ∙ ap (λ x. x ∷ drop (length t) (t ++ m ∷ []) ∷ []) (take_at t (m ∷ []) (length t) refl) ∙ ap (λ x. t ∷ x ∷ []) (drop_at t (m ∷ []) (length t) refl)
 
 -- What is shown is cut into the same tokens
@@ -131,13 +120,13 @@ pub record Whole (t : List ℕ) : Type 0 where
 
 whole_parts : (t : List ℕ) → is_whole t ≡ true → Whole t
 whole_parts t h =
-    let outer = and_both (is_kept t && has_no_space t) (not (ends_with_mark t)) h in
-    let inner = and_both (is_kept t) (has_no_space t) outer.0 in
-    record { kept = inner.0; spaceless = inner.1; unmarked = not_true (ends_with_mark t) outer.1 }
+    let outer = and_parts (is_kept t && has_no_space t) (not (ends_with_mark t)) h in
+    let inner = and_parts (is_kept t) (has_no_space t) outer.0 in
+    record { kept = inner.0; spaceless = inner.1; unmarked = not-true (ends_with_mark t) outer.1 }
 
 pub whole_from_parts : (t : List ℕ) → Whole t → is_whole t ≡ true
 whole_from_parts t w =
-    true_and (is_kept t && has_no_space t) (not (ends_with_mark t)) (true_and (is_kept t) (has_no_space t) w.kept w.spaceless) (ap not w.unmarked)
+    and_from (is_kept t && has_no_space t) (not (ends_with_mark t)) (and_from (is_kept t) (has_no_space t) w.kept w.spaceless) (ap not w.unmarked)
 
 back_one : (t : List ℕ) → Whole t → parted_last (pieces (t ++ [])) ≡ t ∷ []
 back_one t w =
@@ -167,9 +156,9 @@ more_left u v vs =
 
 back : (t : List ℕ) (ts : List (List ℕ)) → Whole t → list_all is_whole ts ≡ true → parted_last (pieces (t ++ continued ts)) ≡ t ∷ ts
 back t [] w ws = back_one t w
-back t (u ∷ []) w ws = back_last t u w (whole_parts u (and_both (is_whole u) true ws).0)
+back t (u ∷ []) w ws = back_last t u w (whole_parts u (and_parts (is_whole u) true ws).0)
 back t (u ∷ v ∷ vs) w ws =
-    let both = and_both (is_whole u) (list_all is_whole (v ∷ vs)) ws in
+    let both = and_parts (is_whole u) (list_all is_whole (v ∷ vs)) ws in
     back_more t u (v ∷ vs) w (more_left u v vs) (back u (v ∷ vs) (whole_parts u both.0) both.1)
 
 -- The letter of the first token
@@ -214,10 +203,10 @@ same_end x y (c ∷ cs) =
 whole_raised : (t : List ℕ) → Whole t → Whole (raised t)
 whole_raised [] w = w
 whole_raised (b ∷ bs) w =
-    let both = and_both (not (b == 32)) (has_no_space bs) w.spaceless in
+    let both = and_parts (not (b == 32)) (has_no_space bs) w.spaceless in
     record {
       kept = w.kept;
-      spaceless = true_and (not (to_ascii_uppercase b == 32)) (has_no_space bs) (raised_differs b both.0) both.1;
+      spaceless = and_from (not (to_ascii_uppercase b == 32)) (has_no_space bs) (raised_differs b both.0) both.1;
       unmarked = same_end (to_ascii_uppercase b) b bs ∙ w.unmarked;
     }
 
@@ -260,7 +249,7 @@ read_back_at terminals (b ∷ bs) false is plain =
 pub cut_shown : (terminals tokens : List (List ℕ)) → list_all is_whole tokens ≡ true → FirstIsNotRaised terminals tokens → cut_of terminals (shown terminals tokens) ≡ tokens
 cut_shown terminals [] ws plain = refl
 cut_shown terminals (t ∷ ts) ws plain =
-    let both = and_both (is_whole t) (list_all is_whole ts) ws in
+    let both = and_parts (is_whole t) (list_all is_whole ts) ws in
     ap (lowered_first terminals) (back (shown_first terminals t) ts (whole_first (is_terminal terminals t) t (whole_parts t both.0)) both.1) ∙ ap (λ x. x ∷ ts) (read_back_at terminals t (is_terminal terminals t) refl plain)
 
 -- Steps of the code

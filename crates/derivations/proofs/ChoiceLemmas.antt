@@ -4,6 +4,9 @@ use Rattle.std.specs.Prelude.{if◌then◌else◌, ◌==◌, unwrap_or}
 use Rattle.std.specs.Option.{option_map_or}
 use Rattle.std.specs.List.{flat_map, list_all, range_with_len}
 use Rattle.std.proofs.lemmas.Bool.Decides.{nat_tests}
+use Rattle.std.proofs.lemmas.Bool.{eqb-true}
+use Rattle.wiki_base.proofs.BoolLaws.{and_first, and_second}
+use Rattle.wiki_base.proofs.NumberLaws.{eqb_refl}
 use Rattle.codeco_terms.specs.declared.values.Value.{Value}
 use Rattle.codeco_terms.specs.declared.values.Value.TheVariants.{Atom}
 use Rattle.codeco_terms.specs.declared.values.Term.{Term}
@@ -17,8 +20,8 @@ use Rattle.derivation_trees.specs.Settings.{Setting, is_value, fits_feature}
 use Rattle.derivation_trees.specs.Instances.{looked_up, value_under, term_value, feats_under, under, written_variables, variables_of, same_numbers, term_fits, own_fit, own_values, rule_own_features, is_instance}
 use Rattle.derivation_trees.specs.Derives.{same_where_both, fits}
 use Rattle.derivations.specs.Enumeration.{given, feature_values, position_values, rule_terms, feature_at, fixed_at, free_among, tried_among, tried, own_choices, written_choices, choices, lengthened, chosen, instances}
-use Rattle.derivations.proofs.Members.{Among, among_left, among_right, among_map, among_flat_map, all_among, first_of_and, second_of_and, either_of_or}
-use Rattle.derivations.proofs.ValueLemmas.{same_number, number_is_same, given_fixed, value_has, feature_has, number_has}
+use Rattle.derivations.proofs.Members.{Among, among_left, among_right, among_map, among_flat_map, all_among}
+use Rattle.derivations.proofs.ValueLemmas.{given_fixed, value_has, feature_has, number_has}
 use Rattle.derivations.proofs.TermLemmas.{Stands, Fixed, all_terms, in_rule, feature_some, feature_none, fixed_some}
 
 -- each variable has one of the values that are tried for it
@@ -45,22 +48,22 @@ own_chooses s [] m [] h k = tt
 own_chooses s [] m (p ∷ ps) h k = cc
 own_chooses s (f ∷ fs) m [] h k = cc
 own_chooses s (f ∷ fs) m (p ∷ ps) h k =
-    let same : p.0 ≡ m = same_number p.0 m (first_of_and (p.0 == m) (same_numbers (map (λ q. q.0) ps) (range_with_len (m + 1) (length fs))) h) in
-    let rest : same_numbers (map (λ q. q.0) ps) (range_with_len (m + 1) (length fs)) ≡ true = second_of_and (p.0 == m) (same_numbers (map (λ q. q.0) ps) (range_with_len (m + 1) (length fs))) h in
-    (same, feature_has s f p.1 (first_of_and (fits_feature s f p.1) (own_fit s fs ps) k), own_chooses s fs (m + 1) ps rest (second_of_and (fits_feature s f p.1) (own_fit s fs ps) k))
+    let same : p.0 ≡ m = eqb-true p.0 m (and_first (p.0 == m) (same_numbers (map (λ q. q.0) ps) (range_with_len (m + 1) (length fs))) h) in
+    let rest : same_numbers (map (λ q. q.0) ps) (range_with_len (m + 1) (length fs)) ≡ true = and_second (p.0 == m) (same_numbers (map (λ q. q.0) ps) (range_with_len (m + 1) (length fs))) h in
+    (same, feature_has s f p.1 (and_first (fits_feature s f p.1) (own_fit s fs ps) k), own_chooses s fs (m + 1) ps rest (and_second (fits_feature s f p.1) (own_fit s fs ps) k))
 
 written_chooses : (try : ℕ → List Value) (xs rest : List ℕ) (cs : List (ℕ × List Value)) (values : List (ℕ × Value)) → same_numbers (map (λ p. p.0) values) (xs ++ rest) ≡ true → ((p : ℕ × Value) → Among values p → Among xs p.0 → Among (try p.0) p.1) → Chooses cs (drop (length xs) values) → Chooses (map (λ x. (x, try x)) xs ++ cs) values
 written_chooses try [] rest cs values h good k = k
 written_chooses try (x ∷ xs) rest cs [] h good k = cc
 written_chooses try (x ∷ xs) rest cs (p ∷ ps) h good k =
-    let same : p.0 ≡ x = same_number p.0 x (first_of_and (p.0 == x) (same_numbers (map (λ q. q.0) ps) (xs ++ rest)) h) in
-    (same, subst (λ n. Among (try n) p.1) same (good p (inl refl) (inl same)), written_chooses try xs rest cs ps (second_of_and (p.0 == x) (same_numbers (map (λ q. q.0) ps) (xs ++ rest)) h) (λ q m w. good q (inr m) (inr w)) k)
+    let same : p.0 ≡ x = eqb-true p.0 x (and_first (p.0 == x) (same_numbers (map (λ q. q.0) ps) (xs ++ rest)) h) in
+    (same, subst (λ n. Among (try n) p.1) same (good p (inl refl) (inl same)), written_chooses try xs rest cs ps (and_second (p.0 == x) (same_numbers (map (λ q. q.0) ps) (xs ++ rest)) h) (λ q m w. good q (inr m) (inr w)) k)
 
 same_numbers_rest : (xs rest : List ℕ) (values : List (ℕ × Value)) → same_numbers (map (λ p. p.0) values) (xs ++ rest) ≡ true → same_numbers (map (λ p. p.0) (drop (length xs) values)) rest ≡ true
 same_numbers_rest [] rest values h = h
 same_numbers_rest (x ∷ xs) rest [] h = cc
 same_numbers_rest (x ∷ xs) rest (p ∷ ps) h =
-    same_numbers_rest xs rest ps (second_of_and (p.0 == x) (same_numbers (map (λ q. q.0) ps) (xs ++ rest)) h)
+    same_numbers_rest xs rest ps (and_second (p.0 == x) (same_numbers (map (λ q. q.0) ps) (xs ++ rest)) h)
 
 -- numbers that ascend from one on
 abbrev Ascends : ℕ → List ℕ → Type 0
@@ -94,13 +97,13 @@ looked : (a : ℕ) (ns : List ℕ) (values : List (ℕ × Value)) → Ascends a 
 looked a ns [] asc h p k = absurd k
 looked a [] (q ∷ qs) asc h p k = cc
 looked a (n ∷ ns) (q ∷ qs) asc h p k =
-    let same : q.0 ≡ n = same_number q.0 n (first_of_and (q.0 == n) (same_numbers (map (λ r. r.0) qs) ns) h) in
-    let rest : same_numbers (map (λ r. r.0) qs) ns ≡ true = second_of_and (q.0 == n) (same_numbers (map (λ r. r.0) qs) ns) h in
+    let same : q.0 ≡ n = eqb-true q.0 n (and_first (q.0 == n) (same_numbers (map (λ r. r.0) qs) ns) h) in
+    let rest : same_numbers (map (λ r. r.0) qs) ns ≡ true = and_second (q.0 == n) (same_numbers (map (λ r. r.0) qs) ns) h in
     by (looked (n + 1) ns qs asc.1 rest p) same k
   where
     by : (Among qs p → Looked qs (n + 1) p) → q.0 ≡ n → Among (q ∷ qs) p → Looked (q ∷ qs) a p
     by later same (inl e) = record {
-      found = ap (λ r. looked_up (q ∷ qs) r.0) e ∙ ap (λ b. if b then Some q.1 else looked_up qs q.0) (number_is_same q.0) ∙ ap (λ r. Some r.1) (sym e);
+      found = ap (λ r. looked_up (q ∷ qs) r.0) e ∙ ap (λ b. if b then Some q.1 else looked_up qs q.0) (eqb_refl q.0) ∙ ap (λ r. Some r.1) (sym e);
       above = subst (λ m. a ≤ m) (sym same ∙ ap (λ r. r.0) (sym e)) asc.0;
     }
     by later same (inr m) = record {
@@ -123,10 +126,10 @@ instance_parts s rule values h =
     let c : Bool = list_all (λ x. is_value s declared.Positions (value_under values x)) (flat_map positions rule.body) in
     let d : Bool = own_fit s (rule_own_features s.grammar rule) (own_values rule values) in
     record {
-      numbers = first_of_and a b (first_of_and (a && b) c (first_of_and ((a && b) && c) d h));
-      terms = second_of_and a b (first_of_and (a && b) c (first_of_and ((a && b) && c) d h));
-      places = second_of_and (a && b) c (first_of_and ((a && b) && c) d h);
-      own = second_of_and ((a && b) && c) d h;
+      numbers = and_first a b (and_first (a && b) c (and_first ((a && b) && c) d h));
+      terms = and_second a b (and_first (a && b) c (and_first ((a && b) && c) d h));
+      places = and_second (a && b) c (and_first ((a && b) && c) d h);
+      own = and_second ((a && b) && c) d h;
     }
 
 head_value : (values : List (ℕ × Value)) (feats : List (ℕ × Term)) (f x : ℕ) → Among feats (f, Var x) → Among (feats_under values feats) (f, value_under values x)
@@ -148,7 +151,7 @@ tried_has s rule wanted values x i fit h = by (fixed_at wanted.values x rule.hea
     by : (o : Option ℕ) → fixed_at wanted.values x rule.head.feats ≡ o → Among (option_map_or (given wanted.values) o (free_among s (rule_terms rule) x)) (value_under values x)
     by (Some f) e =
         let at : Fixed wanted.values x rule.head.feats f = fixed_some wanted.values x rule.head.feats f e in
-        let all : list_all (λ p. list_all (same_where_both p) wanted.values) (feats_under values rule.head.feats) ≡ true = second_of_and (rule.head.name == wanted.name) (list_all (λ p. list_all (same_where_both p) wanted.values) (feats_under values rule.head.feats)) fit in
+        let all : list_all (λ p. list_all (same_where_both p) wanted.values) (feats_under values rule.head.feats) ≡ true = and_second (rule.head.name == wanted.name) (list_all (λ p. list_all (same_where_both p) wanted.values) (feats_under values rule.head.feats)) fit in
         given_fixed [] wanted.values f (value_under values x) at.wanted (all_among (λ p. list_all (same_where_both p) wanted.values) (feats_under values rule.head.feats) (f, value_under values x) all (head_value values rule.head.feats f x at.written))
     by None e = free_has s rule values x i h
 

@@ -4,6 +4,9 @@ use Rattle.std.specs.Prelude.{if◌then◌else◌, ◌==◌, option_and_then, op
 use Rattle.std.specs.List.{list_any}
 use Rattle.std.proofs.lemmas.List.{length-map}
 use Rattle.std.proofs.Math.Nat.{mul-le-mul_right}
+use Rattle.std.proofs.lemmas.Option.{same_Some}
+use Rattle.std.proofs.lemmas.Bool.{eqb-true}
+use Rattle.wiki_base.proofs.BoolLaws.{and_first}
 use Rattle.codeco_terms.specs.declared.values.Value.{Value}
 use Rattle.codeco_terms.specs.declared.categories.Category.{Category}
 use Rattle.codeco_terms.specs.declared.elements.Element.{Element}
@@ -18,8 +21,7 @@ use Rattle.derivation_trees.specs.Instances.{under, own_values}
 use Rattle.derivation_trees.specs.Derives.{At, Stand, run, fits, phrase_of, phrases_of, rule_with, text_category}
 use Rattle.derivation_trees.specs.Partial.{CutNode, stopped, entered, front, sub_of, next_category, cut_end, IsPartialDerivation}
 use Rattle.derivations.specs.Beginnings.{depth_of, has_partial}
-use Rattle.derivations.proofs.Members.{Among, first_of_and, some_same, true_is_false, either_of_or}
-use Rattle.derivations.proofs.ValueLemmas.{same_number}
+use Rattle.derivations.proofs.Members.{Among, true_is_false}
 use Rattle.derivations.proofs.ListingLemmas.{Within, AllWithin, node_list, phrases_of-list}
 use Rattle.derivations.proofs.GrowLemmas.{Each}
 use Rattle.derivations.proofs.DepthLemmas.{Ordered, Consumes, Ran, run_moves, rule_contained, nodes_consume, node_consumes, weight, weight_is, weight_more, without, IsHead, Free, asked_free, free_on, shorter_with, heads, all_free, walk, each_within, deep}
@@ -86,7 +88,7 @@ stopped_parts s number values found children count asked at end h = by (rule_wit
       there = there;
       stand = stand;
       parts = front_parts s rule values found children count asked at stand w;
-      ends = some_same stand.at.place end k;
+      ends = same_Some stand.at.place end k;
     }
 
     by : (o : Option Rule) → rule_with s.grammar number ≡ o → option_map (λ stand. stand.at.place) (option_and_then (λ r. front s r values found (phrases_of s children) count asked at) o) ≡ Some end → StoppedParts s number values found children count asked at end
@@ -119,7 +121,7 @@ first_of_take (suc count) (e ∷ es) c h = by (first_of_take count es c) (is_phr
 sub_first : (e : Element) (c : Category) → sub_of e ≡ Some c → (is_phrase e ≡ true) × (sub_name e ≡ Some c.name)
 sub_first (Terminal t) c h = cc
 sub_first (Preterminal d) c h = cc
-sub_first (Sub d) c h = (refl, ap (λ x. Some x.name) (some_same d c h))
+sub_first (Sub d) c h = (refl, ap (λ x. Some x.name) (same_Some d c h))
 sub_first (Position x) c h = cc
 sub_first Opener c h = cc
 sub_first (Forward d) c h = cc
@@ -156,7 +158,7 @@ front_within s ordered last depth number rule values found children count asked 
 
 named_rule : (s : Setting) (rule : Rule) (values : List (ℕ × Value)) (found : List ℕ) (children : Nodes) (count : ℕ) (asked : Test) (at : At) (stand : Stand) → FrontParts s rule values found children count asked at stand → rule.head.name ≡ asked.name
 named_rule s rule values found children count asked at stand parts =
-    same_number rule.head.name asked.name (first_of_and (rule.head.name == asked.name) _ (first_of_and (fits (under values rule.head) asked) _ parts.begins))
+    eqb-true rule.head.name asked.name (and_first (rule.head.name == asked.name) _ (and_first (fits (under values rule.head) asked) _ parts.begins))
 
 short_names : (s : Setting) → Ordered s.grammar → (number : ℕ) (rule : Rule) (asked : Test) (names : List ℕ) → rule_with s.grammar number ≡ Some rule → rule.head.name ≡ asked.name → Free s.grammar names asked.name → length (without asked.name names) + 1 ≤ length names
 short_names s ordered number rule asked names there named free =

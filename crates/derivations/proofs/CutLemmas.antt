@@ -3,6 +3,9 @@ use Rattle.std.proofs.Common.{◌≡◌, ℕ, zero, suc, ◌+◌, ◌-◌, ◌*�
 use Rattle.std.specs.Prelude.{if◌then◌else◌, ◌==◌, option_and_then, option_map, slice_get}
 use Rattle.std.specs.List.{flat_map, list_any}
 use Rattle.std.proofs.lemmas.Bool.Decides.{nat_tests}
+use Rattle.std.proofs.lemmas.Bool.{or_left, or_right, eq-eqb, or_cases, eqb-true}
+use Rattle.std.proofs.lemmas.Option.{same_Some}
+use Rattle.wiki_base.proofs.BoolLaws.{and_first, and_second}
 use Rattle.codeco_terms.specs.declared.values.Value.{Value}
 use Rattle.codeco_terms.specs.declared.categories.Category.{Category}
 use Rattle.codeco_terms.specs.declared.elements.Element.{Element}
@@ -17,8 +20,7 @@ use Rattle.derivation_trees.specs.Derives.{At, Stand, Phrase, run, begun, fits, 
 use Rattle.derivation_trees.specs.Partial.{CutNode, stopped, entered, used_up, front, front_of, sub_of, next_category, cut_end}
 use Rattle.derivations.specs.Enumeration.{Path, Outcome, steps, all_steps, opened, instances, may_begin, trees_of}
 use Rattle.derivations.specs.Beginnings.{is_at_end, enters, goes_from, instance_cut, rule_cut, cut_of}
-use Rattle.derivations.proofs.Members.{Among, among_flat_map, first_of_and, second_of_and, either_of_or, some_same, true_is_false}
-use Rattle.derivations.proofs.ValueLemmas.{same_number}
+use Rattle.derivations.proofs.Members.{Among, among_flat_map, true_is_false}
 use Rattle.derivations.proofs.ChoiceLemmas.{instance_has}
 use Rattle.derivations.proofs.StepLemmas.{stand_of, Goes, Knows, all_goes}
 use Rattle.derivations.proofs.ListingLemmas.{node_list, phrases_of-list, nodes_again, AllWithin, Within, within_among, none_left_nil, none_mapped, tree_has, both_true}
@@ -33,18 +35,11 @@ pub record Passing {X : Type 0} (p : X → Bool) (xs : List X) : Type 0 where
 
 pub any_passes : {X : Type 0} (p : X → Bool) (xs : List X) → list_any p xs ≡ true → Passing p xs
 any_passes p [] h = cc
-any_passes p (x ∷ xs) h = by (any_passes p xs) (either_of_or (p x) (list_any p xs) h)
+any_passes p (x ∷ xs) h = by (any_passes p xs) (or_cases (p x) (list_any p xs) h)
   where
     by : (list_any p xs ≡ true → Passing p xs) → (p x ≡ true) ⊎ (list_any p xs ≡ true) → Passing p (x ∷ xs)
     by later (inl e) = record { one = x; among = inl refl; passes = e }
     by later (inr e) = let k = later e in record { one = k.one; among = inr k.among; passes = k.passes }
-
-or_left : (a b : Bool) → a ≡ true → (a || b) ≡ true
-or_left a b h = ap (λ x. x || b) h
-
-or_right : (a b : Bool) → b ≡ true → (a || b) ≡ true
-or_right true b h = refl
-or_right false b h = h
 
 pub passes_any : {X : Type 0} (p : X → Bool) (xs : List X) (x : X) → Among xs x → p x ≡ true → list_any p xs ≡ true
 passes_any p [] x m h = absurd m
@@ -82,13 +77,13 @@ goes_at_end s cuts values es paths h =
       count = 0;
       next = one.one;
       led = led_here s values es paths one.one one.among;
-      ends = inl (same_number one.one.at.place (length s.tokens) one.passes);
+      ends = inl (eqb-true one.one.at.place (length s.tokens) one.passes);
     }
 
 pub goes_on_from : (s : Setting) (trees : Test → At → List Outcome) (cuts : Test → At → Bool) (values : List (ℕ × Value)) (es : List Element) (paths : List Path) → Sound s trees → goes_from s trees cuts values es paths ≡ true → GoesOn s cuts values es paths
 goes_on_from s trees cuts values [] paths sound h = goes_at_end s cuts values [] paths h
 goes_on_from s trees cuts values (e ∷ es) paths sound h =
-    by (goes_on_from s trees cuts values es (flat_map (steps s trees values e) paths) sound) (either_of_or (list_any (is_at_end s) paths) (list_any (enters cuts values e) paths || goes_from s trees cuts values es (flat_map (steps s trees values e) paths)) h)
+    by (goes_on_from s trees cuts values es (flat_map (steps s trees values e) paths) sound) (or_cases (list_any (is_at_end s) paths) (list_any (enters cuts values e) paths || goes_from s trees cuts values es (flat_map (steps s trees values e) paths)) h)
   where
     further : GoesOn s cuts values es (flat_map (steps s trees values e) paths) → GoesOn s cuts values (e ∷ es) paths
     further on = record {
@@ -112,7 +107,7 @@ goes_on_from s trees cuts values (e ∷ es) paths sound h =
 
     by : (goes_from s trees cuts values es (flat_map (steps s trees values e) paths) ≡ true → GoesOn s cuts values es (flat_map (steps s trees values e) paths)) → (list_any (is_at_end s) paths ≡ true) ⊎ ((list_any (enters cuts values e) paths || goes_from s trees cuts values es (flat_map (steps s trees values e) paths)) ≡ true) → GoesOn s cuts values (e ∷ es) paths
     by later (inl k) = goes_at_end s cuts values (e ∷ es) paths k
-    by later (inr k) = or later (either_of_or (list_any (enters cuts values e) paths) (goes_from s trees cuts values es (flat_map (steps s trees values e) paths)) k)
+    by later (inr k) = or later (or_cases (list_any (enters cuts values e) paths) (goes_from s trees cuts values es (flat_map (steps s trees values e) paths)) k)
 
 -- there is a cut-off node where the test says so
 
@@ -126,7 +121,7 @@ CutsSound s cuts = (asked : Test) (at : At) → cuts asked at ≡ true → Cut s
 
 instance_cut_sound : (s : Setting) (trees : Test → At → List Outcome) (cuts : Test → At → Bool) (wanted : Test) (at : At) (number : ℕ) (rule : Rule) (values : List (ℕ × Value)) → Sound s trees → CutsSound s cuts → rule_with s.grammar number ≡ Some rule → instance_cut s trees cuts wanted at rule values ≡ true → Cut s wanted at
 instance_cut_sound s trees cuts wanted at number rule values sound cut_sound there h =
-    by (goes_on_from s trees cuts values rule.body (opened rule values at ∷ []) sound (second_of_and (may_begin s rule wanted values) _ h))
+    by (goes_on_from s trees cuts values rule.body (opened rule values at ∷ []) sound (and_second (may_begin s rule wanted values) _ h))
   where
     by : GoesOn s cuts values rule.body (opened rule values at ∷ []) → Cut s wanted at
     by on = closes on.ends
@@ -138,7 +133,7 @@ instance_cut_sound s trees cuts wanted at number rule values sound cut_sound the
         ran = whole_run s (take on.count rule.body) rule values at on.next on.led
 
         start : begun s rule values on.next.found (phrases_of s (nodes_from on.next.children)) wanted at ≡ Some (record { at = at; found = on.next.found; own = own_values rule values; children = phrases_of s (nodes_from on.next.children) })
-        start = ap (λ b. if b then Some (record { at = at; found = on.next.found; own = own_values rule values; children = phrases_of s (nodes_from on.next.children) }) else None) (first_of_and (may_begin s rule wanted values) _ h)
+        start = ap (λ b. if b then Some (record { at = at; found = on.next.found; own = own_values rule values; children = phrases_of s (nodes_from on.next.children) }) else None) (and_first (may_begin s rule wanted values) _ h)
 
         fronted : front_of s number values on.next.found (nodes_from on.next.children) on.count wanted at ≡ Some (stand_of s on.next [] [])
         fronted = ap (option_and_then (λ r. front s r values on.next.found (phrases_of s (nodes_from on.next.children)) on.count wanted at)) there
@@ -162,27 +157,24 @@ pub cut_sound : (s : Setting) (depth : ℕ) → CutsSound s (cut_of s depth)
 cut_sound s zero asked at h = cc
 cut_sound s (suc depth) asked at h =
     let rule : Passing (rule_cut s (trees_of s depth) (cut_of s depth) asked at) s.grammar.rules = any_passes (rule_cut s (trees_of s depth) (cut_of s depth) asked at) s.grammar.rules h in
-    let values : Passing (instance_cut s (trees_of s depth) (cut_of s depth) asked at rule.one) (instances s rule.one asked) = any_passes (instance_cut s (trees_of s depth) (cut_of s depth) asked at rule.one) (instances s rule.one asked) (second_of_and (rule.one.head.name == asked.name) _ rule.passes) in
+    let values : Passing (instance_cut s (trees_of s depth) (cut_of s depth) asked at rule.one) (instances s rule.one asked) = any_passes (instance_cut s (trees_of s depth) (cut_of s depth) asked at rule.one) (instances s rule.one asked) (and_second (rule.one.head.name == asked.name) _ rule.passes) in
     let place : (k : ℕ) × (slice_get s.grammar.rules k ≡ Some rule.one) = among_place s.grammar.rules rule.one rule.among in
     instance_cut_sound s (trees_of s depth) (cut_of s depth) asked at (1 + place.0) rule.one values.one (trees_sound s depth) (cut_sound s depth) (rule_numbered s.grammar place.0 rule.one place.1) values.passes
 
 -- the test says so where there is a cut-off node
 
-place_is : (a b : ℕ) → a ≡ b → (a == b) ≡ true
-place_is a b e = grind (arith, nat_tests)
-
 pub goes_end : (s : Setting) (trees : Test → At → List Outcome) (cuts : Test → At → Bool) (values : List (ℕ × Value)) (es : List Element) (paths : List Path) (count : ℕ) (next : Path) → Among (all_steps s trees values (take count es) paths) next → next.at.place ≡ length s.tokens → goes_from s trees cuts values es paths ≡ true
-goes_end s trees cuts values [] paths zero next m e = passes_any (is_at_end s) paths next m (place_is next.at.place (length s.tokens) e)
-goes_end s trees cuts values [] paths (suc count) next m e = passes_any (is_at_end s) paths next m (place_is next.at.place (length s.tokens) e)
+goes_end s trees cuts values [] paths zero next m e = passes_any (is_at_end s) paths next m (eq-eqb next.at.place (length s.tokens) e)
+goes_end s trees cuts values [] paths (suc count) next m e = passes_any (is_at_end s) paths next m (eq-eqb next.at.place (length s.tokens) e)
 goes_end s trees cuts values (x ∷ es) paths zero next m e =
-    or_left (list_any (is_at_end s) paths) _ (passes_any (is_at_end s) paths next m (place_is next.at.place (length s.tokens) e))
+    or_left (list_any (is_at_end s) paths) _ (passes_any (is_at_end s) paths next m (eq-eqb next.at.place (length s.tokens) e))
 goes_end s trees cuts values (x ∷ es) paths (suc count) next m e =
     or_right (list_any (is_at_end s) paths) _ (or_right (list_any (enters cuts values x) paths) _ (goes_end s trees cuts values es (flat_map (steps s trees values x) paths) count next m e))
 
 enters_sub : (cuts : Test → At → Bool) (values : List (ℕ × Value)) (e : Element) (c : Category) (path : Path) → sub_of e ≡ Some c → cuts (under values c) path.at ≡ true → enters cuts values e path ≡ true
 enters_sub cuts values (Terminal t) c path h k = cc
 enters_sub cuts values (Preterminal d) c path h k = cc
-enters_sub cuts values (Sub d) c path h k = ap (λ x. cuts (under values x) path.at) (some_same d c h) ∙ k
+enters_sub cuts values (Sub d) c path h k = ap (λ x. cuts (under values x) path.at) (same_Some d c h) ∙ k
 enters_sub cuts values (Position x) c path h k = cc
 enters_sub cuts values Opener c path h k = cc
 enters_sub cuts values (Forward d) c path h k = cc
@@ -213,12 +205,12 @@ front_parts s rule values found children count asked at stand h = by (may_begin 
     done : may_begin s rule asked values ≡ true → (last : Stand) → run s values (take count rule.body) (record { at = at; found = found; own = own_values rule values; children = phrases_of s children }) ≡ Some last → (b : Bool) → (is_none_left last.found && is_none_left last.children) ≡ b → (if b then Some last else None) ≡ Some stand → FrontParts s rule values found children count asked at stand
     done e last w false x k = cc
     done e last w true x k =
-        let same : last ≡ stand = some_same last stand k in
+        let same : last ≡ stand = same_Some last stand k in
         record {
           begins = e;
           ran = w ∙ ap Some same;
-          no_found = subst (λ y. is_none_left y.found ≡ true) same (first_of_and (is_none_left last.found) (is_none_left last.children) x);
-          no_children = subst (λ y. is_none_left y.children ≡ true) same (second_of_and (is_none_left last.found) (is_none_left last.children) x);
+          no_found = subst (λ y. is_none_left y.found ≡ true) same (and_first (is_none_left last.found) (is_none_left last.children) x);
+          no_children = subst (λ y. is_none_left y.children ≡ true) same (and_second (is_none_left last.found) (is_none_left last.children) x);
         }
 
     led : may_begin s rule asked values ≡ true → (o : Option Stand) → run s values (take count rule.body) (record { at = at; found = found; own = own_values rule values; children = phrases_of s children }) ≡ o → option_and_then used_up o ≡ Some stand → FrontParts s rule values found children count asked at stand
@@ -258,15 +250,15 @@ number_rule g number rule h = by (number == 0) h
 
 got_among : (rules : List Rule) (k : ℕ) (rule : Rule) → slice_get rules k ≡ Some rule → Among rules rule
 got_among [] k rule h = cc
-got_among (r ∷ rs) zero rule h = inl (sym (some_same r rule h))
+got_among (r ∷ rs) zero rule h = inl (sym (same_Some r rule h))
 got_among (r ∷ rs) (suc k) rule h = inr (got_among rs k rule h)
 
 -- the test is true where an instance of a rule goes on
 cut_has : (s : Setting) (depth : ℕ) (wanted : Test) (at : At) (number : ℕ) (rule : Rule) (values : List (ℕ × Value)) → rule_with s.grammar number ≡ Some rule → may_begin s rule wanted values ≡ true → goes_from s (trees_of s depth) (cut_of s depth) values rule.body (opened rule values at ∷ []) ≡ true → cut_of s (suc depth) wanted at ≡ true
 cut_has s depth wanted at number rule values there begins goes =
-    let fit : fits (under values rule.head) wanted ≡ true = first_of_and (fits (under values rule.head) wanted) (is_instance s rule values) begins in
-    let instance : is_instance s rule values ≡ true = second_of_and (fits (under values rule.head) wanted) (is_instance s rule values) begins in
-    let named : (rule.head.name == wanted.name) ≡ true = first_of_and (rule.head.name == wanted.name) _ fit in
+    let fit : fits (under values rule.head) wanted ≡ true = and_first (fits (under values rule.head) wanted) (is_instance s rule values) begins in
+    let instance : is_instance s rule values ≡ true = and_second (fits (under values rule.head) wanted) (is_instance s rule values) begins in
+    let named : (rule.head.name == wanted.name) ≡ true = and_first (rule.head.name == wanted.name) _ fit in
     let place : (k : ℕ) × (slice_get s.grammar.rules k ≡ Some rule) = number_rule s.grammar number rule there in
     let any : list_any (instance_cut s (trees_of s depth) (cut_of s depth) wanted at rule) (instances s rule wanted) ≡ true = passes_any (instance_cut s (trees_of s depth) (cut_of s depth) wanted at rule) (instances s rule wanted) values (instance_has s rule wanted values instance fit) (both_true begins goes) in
     passes_any (rule_cut s (trees_of s depth) (cut_of s depth) wanted at) s.grammar.rules rule (got_among s.grammar.rules place.0 rule place.1) (both_true named any)
@@ -284,7 +276,7 @@ cut_complete s (suc depth) (stopped number values found children count) wanted a
     led rule there (Some stand) w k =
         let parts : FrontParts s rule values found children count wanted at stand = front_parts s rule values found children count wanted at stand w in
         let path : FrontPath s (trees_of s depth) rule values count at stand = front_path s (trees_of s depth) rule values found children count wanted at stand (knows_all s depth children within) parts in
-        cut_has s depth wanted at number rule values there parts.begins (goes_end s (trees_of s depth) (cut_of s depth) values rule.body (opened rule values at ∷ []) count path.next path.among (ap (λ x. x.place) (sym path.at_is) ∙ some_same stand.at.place (length s.tokens) k))
+        cut_has s depth wanted at number rule values there parts.begins (goes_end s (trees_of s depth) (cut_of s depth) values rule.body (opened rule values at ∷ []) count path.next path.among (ap (λ x. x.place) (sym path.at_is) ∙ same_Some stand.at.place (length s.tokens) k))
 
     by : (o : Option Rule) → rule_with s.grammar number ≡ o → option_map (λ stand. stand.at.place) (option_and_then (λ r. front s r values found (phrases_of s children) count wanted at) o) ≡ Some (length s.tokens) → cut_of s (suc depth) wanted at ≡ true
     by None w k = cc

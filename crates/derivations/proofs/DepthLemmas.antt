@@ -5,6 +5,9 @@ use Rattle.std.specs.Option.{option_map_or}
 use Rattle.std.specs.List.{list_any}
 use Rattle.std.proofs.lemmas.Bool.Decides.{nat_tests}
 use Rattle.std.proofs.Math.Nat.{suc-mul, mul-le-mul_right}
+use Rattle.std.proofs.lemmas.Bool.{eq-eqb, or_cases, eqb-true}
+use Rattle.std.proofs.lemmas.Option.{same_Some}
+use Rattle.wiki_base.proofs.BoolLaws.{and_first}
 use Rattle.codeco_terms.specs.declared.values.Value.{Value}
 use Rattle.codeco_terms.specs.declared.values.Value.TheVariants.{Pos}
 use Rattle.codeco_terms.specs.declared.categories.Category.{Category}
@@ -24,8 +27,7 @@ use Rattle.derivation_trees.specs.Settings.{Setting, matches_terminal, matches_p
 use Rattle.derivation_trees.specs.Instances.{value_under, under, tests_under, own_values}
 use Rattle.derivation_trees.specs.Stands.{is_sub}
 use Rattle.derivation_trees.specs.Derives.{At, Stand, Phrase, pass, pass_token, pass_child, pass_finding, run, phrase, phrase_of, phrases_of, rule_with, is_none_left, is_found, reference_tests, fits}
-use Rattle.derivations.proofs.Members.{Among, first_of_and, second_of_and, either_of_or, some_same, true_is_false}
-use Rattle.derivations.proofs.ValueLemmas.{same_number}
+use Rattle.derivations.proofs.Members.{Among, true_is_false}
 use Rattle.derivations.proofs.ListingLemmas.{Within, AllWithin, node_list, phrases_of-list, Parts, phrase_parts}
 use Rattle.derivations.proofs.GrowLemmas.{Each}
 
@@ -50,11 +52,11 @@ pub record Moves (e : Element) (stand after : Stand) : Type 0 where
 moved_on : (e : Element) (b : Bool) (stand after : Stand) → is_phrase e ≡ true → Each Consumes stand.children → pass_token b stand ≡ Some after → Moves e stand after
 moved_on e false stand after phrasal all h = cc
 moved_on e true stand after phrasal all h =
-    subst (Moves e stand) (some_same (record { at = record { place = stand.at.place + 1; list = stand.at.list }; found = stand.found; own = stand.own; children = stand.children }) after h) (record { on = omega arith; token = λ _. omega arith; same = λ w. true_is_false (sym phrasal ∙ w); rest = all; children = λ _. refl })
+    subst (Moves e stand) (same_Some (record { at = record { place = stand.at.place + 1; list = stand.at.list }; found = stand.found; own = stand.own; children = stand.children }) after h) (record { on = omega arith; token = λ _. omega arith; same = λ w. true_is_false (sym phrasal ∙ w); rest = all; children = λ _. refl })
 
 stays : (e : Element) (stand mid after : Stand) → is_phrase e ≡ false → mid.at.place ≡ stand.at.place → mid.children ≡ stand.children → Each Consumes stand.children → Some mid ≡ Some after → Moves e stand after
 stays e stand mid after special place children all h =
-    subst (Moves e stand) (some_same mid after h) (record { on = omega (arith, place); token = λ w. true_is_false (sym w ∙ special); same = λ _. place; rest = subst (Each Consumes) (sym children) all; children = λ _. children })
+    subst (Moves e stand) (same_Some mid after h) (record { on = omega (arith, place); token = λ w. true_is_false (sym w ∙ special); same = λ _. place; rest = subst (Each Consumes) (sym children) all; children = λ _. children })
 
 tested : (e : Element) (b : Bool) (stand mid after : Stand) → is_phrase e ≡ false → mid.at.place ≡ stand.at.place → mid.children ≡ stand.children → Each Consumes stand.children → (if b then Some mid else None) ≡ Some after → Moves e stand after
 tested e true stand mid after special place children all h = stays e stand mid after special place children all h
@@ -77,7 +79,7 @@ child_moves c asked (p ∷ ps) stand after all h = by (p asked stand.at) refl h
     by None w k = cc
     by (Some at) w k =
         let on : stand.at.place + 1 ≤ at.place = all.0 asked stand.at at w in
-        subst (Moves (Sub c) stand) (some_same (record { at = at; found = stand.found; own = stand.own; children = ps }) after k) (record { on = omega (arith, on); token = λ _. on; same = λ v. true_is_false v; rest = all.1; children = λ v. true_is_false v })
+        subst (Moves (Sub c) stand) (same_Some (record { at = at; found = stand.found; own = stand.own; children = ps }) after k) (record { on = omega (arith, on); token = λ _. on; same = λ v. true_is_false v; rest = all.1; children = λ v. true_is_false v })
 
 pub pass_moves : (s : Setting) (values : List (ℕ × Value)) (e : Element) (stand after : Stand) → Each Consumes stand.children → pass s values e stand ≡ Some after → Moves e stand after
 pass_moves s values (Terminal t) stand after all h = moved_on (Terminal t) (matches_terminal s t stand.at.place) stand after refl all h
@@ -96,7 +98,7 @@ pub record Ran (es : List Element) (stand after : Stand) : Type 0 where
   pub token : list_any is_phrase es ≡ true → stand.at.place + 1 ≤ after.at.place
 
 pub run_moves : (s : Setting) (values : List (ℕ × Value)) (es : List Element) (stand after : Stand) → Each Consumes stand.children → run s values es stand ≡ Some after → Ran es stand after
-run_moves s values [] stand after all h = subst (Ran [] stand) (some_same stand after h) (record { on = omega arith; token = λ w. true_is_false (sym w) })
+run_moves s values [] stand after all h = subst (Ran [] stand) (same_Some stand after h) (record { on = omega arith; token = λ w. true_is_false (sym w) })
 run_moves s values (e ∷ es) stand after all h = by (λ mid rest k. run_moves s values es mid after rest k) (pass s values e stand) refl h
   where
     by : ((mid : Stand) → Each Consumes mid.children → run s values es mid ≡ Some after → Ran es mid after) → (o : Option Stand) → pass s values e stand ≡ o → option_and_then (run s values es) o ≡ Some after → Ran (e ∷ es) stand after
@@ -106,12 +108,12 @@ run_moves s values (e ∷ es) stand after all h = by (λ mid rest k. run_moves s
         let two : Ran es mid after = later mid one.rest k in
         record {
           on = omega (arith, one.on, two.on);
-          token = λ v. elim (either_of_or (is_phrase e) (list_any is_phrase es) v) [ inl x ↦ omega (arith, one.token x, two.on) | inr y ↦ omega (arith, one.on, two.token y) ];
+          token = λ v. elim (or_cases (is_phrase e) (list_any is_phrase es) v) [ inl x ↦ omega (arith, one.token x, two.on) | inr y ↦ omega (arith, one.on, two.token y) ];
         }
 
 got_contained : (rules : List Rule) (k : ℕ) (r : Rule) → slice_get rules k ≡ Some r → Contains rules r
 got_contained [] k r h = cc
-got_contained (x ∷ xs) zero r h = (0, omega arith, some_same x r h)
+got_contained (x ∷ xs) zero r h = (0, omega arith, same_Some x r h)
 got_contained (x ∷ xs) (suc k) r h = (suc (got_contained xs k r h).0, omega (arith, (got_contained xs k r h).1), (got_contained xs k r h).2)
 
 -- the rule with a number is one of the grammar's
@@ -163,16 +165,13 @@ shorter x (y ∷ ys) = by (shorter x ys) (x == y)
     by later true = omega (arith, later)
     by later false = omega (arith, later)
 
-number_turns : (a b : ℕ) → a ≡ b → (a == b) ≡ true
-number_turns a b e = grind (arith, nat_tests)
-
 pub shorter_with : (x : ℕ) (ys : List ℕ) → Among ys x → length (without x ys) + 1 ≤ length ys
 shorter_with x [] h = absurd h
 shorter_with x (y ∷ ys) h = by (shorter_with x ys) (x == y) refl h
   where
     by : (Among ys x → length (without x ys) + 1 ≤ length ys) → (b : Bool) → (x == y) ≡ b → Among (y ∷ ys) x → length (if b then without x ys else y ∷ without x ys) + 1 ≤ length (y ∷ ys)
     by later true e k = omega (arith, shorter x ys)
-    by later false e (inl same) = true_is_false (sym (number_turns x y same) ∙ e)
+    by later false e (inl same) = true_is_false (sym (eq-eqb x y same) ∙ e)
     by later false e (inr k) = omega (arith, later k)
 
 kept : (x h : ℕ) (ys : List ℕ) → (x == h) ≡ false → Among ys h → Among (without x ys) h
@@ -211,7 +210,7 @@ pub free_on : (g : GrammarParts) (names : List ℕ) (asked next : ℕ) → Free 
 free_on g names asked next free step name head = by (asked == name) refl (free name head)
   where
     by : (b : Bool) → (asked == name) ≡ b → Among names name ⊎ Reaches g name asked → Among (without asked names) name ⊎ Reaches g name next
-    by true e k = inr ([], subst (λ n. StepsTo g n next) (same_number asked name e) step)
+    by true e k = inr ([], subst (λ n. StepsTo g n next) (eqb-true asked name e) step)
     by false e (inl k) = inl (kept asked name names e k)
     by false e (inr r) = inr (r.0 ++ asked ∷ [], leads_on g name r.0 asked next r.1 step)
 
@@ -235,7 +234,7 @@ all_free g asked name head = inl (subst (Among (heads g)) head.2 (contains_among
 pub walk : (s : Setting) → Ordered s.grammar → (values : List (ℕ × Value)) (depth last begun : ℕ) (step : ℕ → Type 0) → ((n : Node) (c : Category) (at after : At) → phrase_of s n (under values c) at ≡ Some after → after.place ≤ last → ((at.place ≡ begun) × step c.name) ⊎ (begun + 1 ≤ at.place) → Within depth n) → (es : List Element) (nodes : List Node) (stand after : Stand) → stand.children ≡ map (phrase_of s) nodes → Each Consumes stand.children → run s values es stand ≡ Some after → is_none_left after.children ≡ true → after.at.place ≤ last → ((stand.at.place ≡ begun) × ((c : ℕ) → first_category es ≡ Some c → step c)) ⊎ (begun + 1 ≤ stand.at.place) → Each (Within depth) nodes
 walk s ordered values depth last begun step deep [] [] stand after children all h empty le mode = tt
 walk s ordered values depth last begun step deep [] (n ∷ ns) stand after children all h empty le mode =
-    true_is_false (sym empty ∙ ap (λ x. is_none_left x.children) (sym (some_same stand after h)) ∙ ap is_none_left children)
+    true_is_false (sym empty ∙ ap (λ x. is_none_left x.children) (sym (same_Some stand after h)) ∙ ap is_none_left children)
 walk s ordered values depth last begun step deep (Sub c ∷ es) [] stand after children all h empty le mode = tt
 walk s ordered values depth last begun step deep (Sub c ∷ es) (n ∷ ns) stand after children all h empty le mode =
     by (λ at rest k mode'. walk s ordered values depth last begun step deep es ns (record { at = at; found = stand.found; own = stand.own; children = map (phrase_of s) ns }) after refl rest k empty le mode') (subst (Each Consumes) children all) (phrase_of s n (under values c) stand.at) refl (sym (ap (λ ps. option_and_then (run s values es) (pass_child (under values c) ps stand)) children) ∙ h)
@@ -289,7 +288,7 @@ deep s ordered last (suc depth) (node number values found children) asked at aft
     by each (Some rule) w k =
         let parts : Parts s rule values found (phrases_of s children) asked at after = phrase_parts s rule values found (phrases_of s children) asked at after k in
         let contained : Contains s.grammar.rules rule = rule_contained s.grammar number rule w in
-        let name : rule.head.name ≡ asked.name = same_number rule.head.name asked.name (first_of_and (rule.head.name == asked.name) _ parts.fit) in
+        let name : rule.head.name ≡ asked.name = eqb-true rule.head.name asked.name (and_first (rule.head.name == asked.name) _ parts.fit) in
         let head : IsHead s.grammar asked.name = (rule, contained, name) in
         let short : length (without asked.name names) + 1 ≤ length names = shorter_with asked.name names (asked_free s.grammar ordered names asked.name free head) in
         each_within depth children (walk s ordered values depth last at.place (StepsTo s.grammar asked.name) (each short) rule.body (node_list children) (record { at = at; found = found; own = own_values rule values; children = phrases_of s children }) parts.stand (phrases_of-list s children) (nodes_consume s ordered children) parts.ran parts.no_children (subst (λ a. a.place ≤ last) parts.ends le) (inl (refl, λ c v. (rule, contained, name, v))))

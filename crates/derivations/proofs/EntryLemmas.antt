@@ -15,7 +15,7 @@ use Rattle.derivation_trees.specs.declared.menus.Group.{Group}
 use Rattle.derivation_trees.specs.declared.menus.Group.TheVariants.{Function, Name, Noun, Of, Verb, Adjective}
 use Rattle.derivation_trees.specs.Menus.{group_number, entry_cmp}
 use Rattle.derivations.specs.Entries.{shown, put_by, with_entry, AllBefore, IsInOrder, IsPlaceFor, tried, all_tried}
-use Rattle.derivations.proofs.Members.{Among, some_same}
+use Rattle.derivations.proofs.Members.{Among}
 
 -- the order of entries
 

@@ -1,11 +1,12 @@
 -- The least of the skeletons of listed trees.
 use Rattle.std.proofs.Common.{◌≡◌, ℕ, ◌+◌, ◌*◌, ◌<◌, List, [], ◌∷◌, ◌++◌, map, take, length, get_or, Bool, true, false, not, ◌⊎◌, inl, inr, Option, Some, None, refl, sym, ap, subst, ◌∙◌}
 use Rattle.std.specs.Prelude.{IfSome, IfNone}
-use Rattle.std.proofs.lemmas.List.{take_more, length-map}
+use Rattle.std.proofs.lemmas.List.{take_more, length-map, map-append}
 use Rattle.std.specs.declared.cmp.Ordering.{Ordering}
 use Rattle.std.specs.declared.cmp.Ordering.TheVariants.{Less, Equal, Greater}
 use Rattle.std.specs.Ordering.{nat_cmp, ordering_reverse}
 use Rattle.std.specs.Cmp.Lexicographic.{slice_cmp, nat_list_cmp_total}
+use Rattle.std.proofs.lemmas.Option.{same_Some}
 use Rattle.derivation_trees.specs.declared.skeletons.Skeleton.{Skeleton}
 use Rattle.derivation_trees.specs.Trees.{Node, node_of}
 use Rattle.derivation_trees.specs.Settings.{Setting}
@@ -17,7 +18,7 @@ use Rattle.derivations.specs.declared.paths.Outcome.{Outcome}
 use Rattle.derivations.specs.Enumeration as enumeration
 use Rattle.derivations.specs.Paths.{outcome_of}
 use Rattle.derivations.specs.Listed.{listed, LeastOf, IsLesser}
-use Rattle.derivations.proofs.Members.{Among, among_map, some_same, map_of}
+use Rattle.derivations.proofs.Members.{Among, among_map}
 use Rattle.derivations.proofs.ListingLemmas.{tree_has}
 use Rattle.derivations.proofs.DepthLemmas.{Ordered, heads, derivation_within}
 use Rattle.derivations.proofs.SkeletonLemmas.{skeleton_of_is}
@@ -64,14 +65,14 @@ pub lesser_other : (old other : Skeleton) (least : Option Skeleton) → least �
 lesser_other old other least e h = record {
   either = inl refl;
   other_not = below_not_itself other;
-  least_not = λ o w k. below_not_back other old h (subst (λ x. IsBelow x other) (some_same o old (sym w ∙ e)) k);
+  least_not = λ o w k. below_not_back other old h (subst (λ x. IsBelow x other) (same_Some o old (sym w ∙ e)) k);
 }
 
 pub lesser_old : (old other : Skeleton) (least : Option Skeleton) → least ≡ Some old → (IsBelow other old → ⊥) → IsLesser least other old
 lesser_old old other least e h = record {
   either = inr e;
   other_not = h;
-  least_not = λ o w k. below_not_itself old (subst (λ x. IsBelow x old) (some_same o old (sym w ∙ e)) k);
+  least_not = λ o w k. below_not_itself old (subst (λ x. IsBelow x old) (same_Some o old (sym w ∙ e)) k);
 }
 
 -- listing on
@@ -99,7 +100,7 @@ least_of_more s trees t least sk d lesser old = record { is = is; none_below = n
   where
     is : (one : Skeleton) → Some sk ≡ Some one → (tree : Node) × IsDerivation s tree × (one ≡ sketch_of s tree 0)
     is one w = elim lesser.either [
-      | inl e ↦ (t, d, sym (some_same sk one w) ∙ e)
+      | inl e ↦ (t, d, sym (same_Some sk one w) ∙ e)
       | inr e ↦ old.is one (e ∙ w)
     ]
 
@@ -116,7 +117,7 @@ least_of_more s trees t least sk d lesser old = record { is = is; none_below = n
 
 pub listed_next : (s : Setting) (outcomes : List Outcome) (i : ℕ) (o : Outcome) (next : Option Skeleton) → i < length outcomes → o ≡ get_or outcomes i o → LeastOf s (listed (take i outcomes) ++ node_of o.tree ∷ []) next → LeastOf s (listed (take (i + 1) outcomes)) next
 listed_next s outcomes i o next lt is h =
-    let whole : listed (take (i + 1) outcomes) ≡ listed (take i outcomes) ++ node_of o.tree ∷ [] = ap listed (take_more outcomes i o lt ∙ ap (λ y. take i outcomes ++ y ∷ []) (sym is)) ∙ map_of (λ x. node_of x.tree) (take i outcomes) (o ∷ []) in
+    let whole : listed (take (i + 1) outcomes) ≡ listed (take i outcomes) ++ node_of o.tree ∷ [] = ap listed (take_more outcomes i o lt ∙ ap (λ y. take i outcomes ++ y ∷ []) (sym is)) ∙ map-append (λ x. node_of x.tree) (take i outcomes) (o ∷ []) in
     subst (λ ts. LeastOf s ts next) (sym whole) h
 
 -- all derivations are listed
@@ -149,7 +150,7 @@ least_is s ordered depth outcomes least deep made of sk e =
     below : (other : Node) → IsDerivation s other → IsBelow (skeleton_of s other) sk → ⊥
     below other d h =
         let one : (o : Skeleton) × (least ≡ Some o) × (IsBelow (sketch_of s other 0) o → ⊥) = of.none_below other (all_listed s ordered depth outcomes deep made other d) d in
-        one.2 (subst (λ x. IsBelow (sketch_of s other 0) x) (some_same sk one.0 (sym e ∙ one.1)) (subst (λ x. IsBelow x sk) (skeleton_of_is s other d) h))
+        one.2 (subst (λ x. IsBelow (sketch_of s other 0) x) (same_Some sk one.0 (sym e ∙ one.1)) (subst (λ x. IsBelow x sk) (skeleton_of_is s other d) h))
 
 pub least_none : (s : Setting) → Ordered s.grammar → (depth : ℕ) (outcomes : List Outcome) (least : Option Skeleton) → depth ≡ (length s.tokens + 1) * (length s.grammar.rules + 1) → map outcome_of outcomes ≡ enumeration.trees_of s depth text_category (record { place = 0; list = [] }) → LeastOf s (listed outcomes) least → least ≡ None → (tree : Node) → IsDerivation s tree → ⊥
 least_none s ordered depth outcomes least deep made of e tree d =
@@ -171,14 +172,6 @@ told s ordered depth outcomes least deep made of =
     by : (o : Option Skeleton) → ((sk : Skeleton) → o ≡ Some sk → IsLeast s sk) → (o ≡ None → (tree : Node) → IsDerivation s tree → ⊥) → Told s o
     by None f g = record { some = tt; none = g refl }
     by (Some sk) f g = record { some = f sk refl; none = tt }
-
-pub not_false : (b : Bool) → not b ≡ true → b ≡ false
-not_false true h = cc
-not_false false h = refl
-
-pub not_true : (b : Bool) → not b ≡ false → b ≡ true
-not_true true h = refl
-not_true false h = cc
 
 pub none_told : (least : Option Skeleton) (s t : Setting) → s ≡ t → IfNone least ((tree : Node) → IsDerivation s tree → ⊥) → IfNone least ((tree : Node) × IsDerivation t tree → ⊥)
 none_told None s t e h = λ found. h found.0 (subst (λ x. IsDerivation x found.0) (sym e) found.1)

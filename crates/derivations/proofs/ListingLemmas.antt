@@ -2,6 +2,8 @@
 use Rattle.std.proofs.Common.{◌≡◌, ℕ, zero, suc, ◌+◌, ◌-◌, ◌<◌, ◌≤◌, List, [], ◌∷◌, ◌++◌, map, Bool, true, false, ◌&&◌, ◌⊎◌, inl, inr, Option, Some, None, refl, sym, ap, subst, ◌∙◌, arith, append-nil, add-zero, add-one}
 use Rattle.std.specs.Prelude.{if◌then◌else◌, ◌==◌, option_and_then, option_map, slice_get, unwrap_or}
 use Rattle.std.specs.List.{flat_map}
+use Rattle.std.proofs.lemmas.Option.{same_Some}
+use Rattle.wiki_base.proofs.BoolLaws.{and_first, and_second}
 use Rattle.codeco_terms.specs.declared.values.Value.{Value}
 use Rattle.codeco_terms.specs.declared.rules.Rule.{Rule}
 use Rattle.codeco_terms.specs.GrammarParts.{GrammarParts}
@@ -12,7 +14,7 @@ use Rattle.derivation_trees.specs.Settings.{Setting}
 use Rattle.derivation_trees.specs.Instances.{under, is_instance, own_values}
 use Rattle.derivation_trees.specs.Derives.{At, Stand, Phrase, run, fits, begun, ended, phrase, phrase_of, phrases_of, rule_with, is_none_left, list_after, same_where_both}
 use Rattle.derivations.specs.Enumeration.{Path, Outcome, opened, ended_path, all_steps, instances, instance_trees, rule_trees, rules_trees, trees_of}
-use Rattle.derivations.proofs.Members.{Among, among_left, among_right, among_map, among_flat_map, first_of_and, second_of_and, some_same}
+use Rattle.derivations.proofs.Members.{Among, among_left, among_right, among_map, among_flat_map}
 use Rattle.derivations.proofs.ChoiceLemmas.{instance_has}
 use Rattle.derivations.proofs.StartLemmas.{run_starts}
 use Rattle.derivations.proofs.StepLemmas.{stand_of, Goes, Knows, all_goes}
@@ -63,13 +65,13 @@ phrase_parts s rule values found children asked at after h = by (fits (under val
     done : (fits (under values rule.head) asked && is_instance s rule values) ≡ true → (stand : Stand) → run s values rule.body (record { at = at; found = found; own = own_values rule values; children = children }) ≡ Some stand → (b : Bool) → (is_none_left stand.found && is_none_left stand.children) ≡ b → (if b then Some (record { place = stand.at.place; list = list_after rule.closing at.list stand.at.list }) else None) ≡ Some after → Parts s rule values found children asked at after
     done e stand w false x n = cc
     done e stand w true x n = record {
-      fit = first_of_and (fits (under values rule.head) asked) (is_instance s rule values) e;
-      instance = second_of_and (fits (under values rule.head) asked) (is_instance s rule values) e;
+      fit = and_first (fits (under values rule.head) asked) (is_instance s rule values) e;
+      instance = and_second (fits (under values rule.head) asked) (is_instance s rule values) e;
       stand = stand;
       ran = w;
-      no_found = first_of_and (is_none_left stand.found) (is_none_left stand.children) x;
-      no_children = second_of_and (is_none_left stand.found) (is_none_left stand.children) x;
-      ends = sym (some_same (record { place = stand.at.place; list = list_after rule.closing at.list stand.at.list }) after n);
+      no_found = and_first (is_none_left stand.found) (is_none_left stand.children) x;
+      no_children = and_second (is_none_left stand.found) (is_none_left stand.children) x;
+      ends = sym (same_Some (record { place = stand.at.place; list = list_after rule.closing at.list stand.at.list }) after n);
     }
 
     led : (fits (under values rule.head) asked && is_instance s rule values) ≡ true → (o : Option Stand) → run s values rule.body (record { at = at; found = found; own = own_values rule values; children = children }) ≡ o → option_and_then (ended rule at.list) o ≡ Some after → Parts s rule values found children asked at after
@@ -106,7 +108,7 @@ instance_tree_has s trees wanted at after number rule values found children know
     let listed : Among (map (ended_path number rule values at.list) (all_steps s trees values rule.body (start ∷ []))) (record { tree = node number values found children; at = after }) = subst (Among (map (ended_path number rule values at.list) (all_steps s trees values rule.body (start ∷ [])))) same (among_map (ended_path number rule values at.list) (all_steps s trees values rule.body (start ∷ [])) goes.next goes.among) in
     let of_instance : Among (instance_trees s trees wanted at number rule values) (record { tree = node number values found children; at = after }) = subst (λ b. Among (if b then map (ended_path number rule values at.list) (all_steps s trees values rule.body (start ∷ [])) else []) (record { tree = node number values found children; at = after })) (sym (both_true parts.fit parts.instance)) listed in
     let all : Among (flat_map (instance_trees s trees wanted at number rule) (instances s rule wanted)) (record { tree = node number values found children; at = after }) = among_flat_map (instance_trees s trees wanted at number rule) (instances s rule wanted) values (record { tree = node number values found children; at = after }) (instance_has s rule wanted values parts.instance parts.fit) of_instance in
-    subst (λ b. Among (if b then flat_map (instance_trees s trees wanted at number rule) (instances s rule wanted) else []) (record { tree = node number values found children; at = after })) (sym (both_true (first_of_and (rule.head.name == wanted.name) _ parts.fit) (run_starts s values rule.body (record { at = at; found = found; own = own_values rule values; children = phrases_of s children }) parts.stand parts.ran))) all
+    subst (λ b. Among (if b then flat_map (instance_trees s trees wanted at number rule) (instances s rule wanted) else []) (record { tree = node number values found children; at = after })) (sym (both_true (and_first (rule.head.name == wanted.name) _ parts.fit) (run_starts s values rule.body (record { at = at; found = found; own = own_values rule values; children = phrases_of s children }) parts.stand parts.ran))) all
 
 rules_has : (s : Setting) (trees : Test → At → List Outcome) (wanted : Test) (at : At) (first : ℕ) (rules : List Rule) (k : ℕ) (rule : Rule) (o : Outcome) → slice_get rules k ≡ Some rule → Among (rule_trees s trees wanted at (first + k) rule) o → Among (rules_trees s trees wanted at first rules) o
 rules_has s trees wanted at first [] k rule o h m = cc

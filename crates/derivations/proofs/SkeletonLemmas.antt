@@ -3,6 +3,7 @@ use Rattle.std.proofs.Common.{◌≡◌, ℕ, ◌+◌, List, [], ◌∷◌, ◌+
 use Rattle.std.specs.Prelude.{if◌then◌else◌, option_and_then}
 use Rattle.std.specs.Option.{option_map_or}
 use Rattle.std.specs.List.{list_any}
+use Rattle.std.proofs.lemmas.Option.{same_Some}
 use Rattle.wiki_base.specs.declared.numbers.WordId.{WordId}
 use Rattle.codeco_terms.specs.declared.values.Value.{Value}
 use Rattle.codeco_terms.specs.declared.values.Value.TheVariants.{Pos}
@@ -22,7 +23,6 @@ use Rattle.derivation_trees.specs.Instances.{value_under, under, tests_under, ow
 use Rattle.derivation_trees.specs.Derives.{At, Stand, Phrase, pass, pass_token, pass_child, pass_finding, run, phrase, phrase_of, phrases_of, rule_with, is_found, reference_tests, text_category, IsDerivation}
 use Rattle.derivation_trees.specs.Skeletons.{word_at, word_here, child_here, met, start, end_place, skeleton, skeleton_at, skeletons_at, skeleton_of}
 use Rattle.derivation_trees.specs.Sketches.{Sketch, Later, sketch_token, sketch_child, sketch_on, sketch_over, sketched, sketch_from, sketch_of, sketches_of, body_of}
-use Rattle.derivations.proofs.Members.{some_same}
 use Rattle.derivations.proofs.ListingLemmas.{Parts, phrase_parts}
 
 -- what an element that is no category does to places and children
@@ -33,10 +33,10 @@ record Kept (e : Element) (k : Sketch) (s : Setting) (stand mid : Stand) : Type 
 of_token : (e : Element) (k : Sketch) (s : Setting) (b : Bool) (stand mid : Stand) → (sketch_on s e k).place ≡ stand.at.place + 1 → pass_token b stand ≡ Some mid → Kept e k s stand mid
 of_token e k s false stand mid at h = cc
 of_token e k s true stand mid at h =
-    subst (Kept e k s stand) (some_same (record { at = record { place = stand.at.place + 1; list = stand.at.list }; found = stand.found; own = stand.own; children = stand.children }) mid h) (record { place = sym at; children = refl })
+    subst (Kept e k s stand) (same_Some (record { at = record { place = stand.at.place + 1; list = stand.at.list }; found = stand.found; own = stand.own; children = stand.children }) mid h) (record { place = sym at; children = refl })
 
 of_some : (e : Element) (k : Sketch) (s : Setting) (stand one mid : Stand) → (sketch_on s e k).place ≡ one.at.place → one.children ≡ stand.children → Some one ≡ Some mid → Kept e k s stand mid
-of_some e k s stand one mid at same h = subst (Kept e k s stand) (some_same one mid h) (record { place = sym at; children = same })
+of_some e k s stand one mid at same h = subst (Kept e k s stand) (same_Some one mid h) (record { place = sym at; children = same })
 
 of_test : (e : Element) (k : Sketch) (s : Setting) (b : Bool) (stand one mid : Stand) → (sketch_on s e k).place ≡ one.at.place → one.children ≡ stand.children → (if b then Some one else None) ≡ Some mid → Kept e k s stand mid
 of_test e k s true stand one mid at same h = of_some e k s stand one mid at same h
@@ -121,7 +121,7 @@ plain_parts s (NoBack ps) at k p plain = record { words = sym (append-nil k.word
 
 walk_sketch : (s : Setting) (values : List (ℕ × Value)) (es : List Element) (ns : Nodes) (stand after : Stand) (k : Sketch) → SameNodes s ns → stand.children ≡ phrases_of s ns → k.place ≡ stand.at.place → k.left ≡ sketches_of s ns → run s values es stand ≡ Some after → Sketched s values es ns stand after k
 walk_sketch s values [] ns stand after k same children p left h = record {
-  place = p ∙ ap (λ x. x.at.place) (some_same stand after h);
+  place = p ∙ ap (λ x. x.at.place) (same_Some stand after h);
   words = sym (append-nil k.words);
   children = sym (append-nil k.children) ∙ ap (λ cs. k.children ++ cs) (sym (none_at s ns));
 }

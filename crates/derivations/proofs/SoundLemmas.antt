@@ -22,7 +22,7 @@ use Rattle.derivation_trees.specs.Instances.{value_under, under, tests_under, is
 use Rattle.derivation_trees.specs.Derives.{At, Stand, Phrase, pass, pass_token, pass_child, pass_finding, run, begun, ended, phrase, phrase_of, phrases_of, rule_with, fits, is_found, is_none_left, list_after, reference_tests}
 use Rattle.derivation_scenes.specs.Starts.{may_start}
 use Rattle.derivations.specs.Enumeration.{Path, Outcome, found_at, passed, joined, steps, all_steps, opened, ended_path, instances, may_begin, instance_trees, rule_trees, rules_trees, trees_of}
-use Rattle.derivations.proofs.Members.{Among, first_of_and, second_of_and, some_same, true_is_false}
+use Rattle.derivations.proofs.Members.{Among, true_is_false}
 use Rattle.derivations.proofs.StepLemmas.{stand_of, token_commutes, test_commutes, no_test_commutes, refit, Commutes}
 
 -- members

@@ -3,6 +3,9 @@ use Rattle.std.proofs.Common.{◌≡◌, ℕ, ◌+◌, List, [], ◌∷◌, Bool
 use Rattle.std.specs.Prelude.{if◌then◌else◌, ◌==◌, option_and_then, slice_get}
 use Rattle.std.specs.Option.{option_map_or}
 use Rattle.std.specs.List.{list_any, list_all}
+use Rattle.std.proofs.lemmas.Bool.{or_right, or_cases}
+use Rattle.std.proofs.lemmas.Option.{same_Some}
+use Rattle.wiki_base.proofs.BoolLaws.{and_first}
 use Rattle.codeco_terms.specs.declared.values.Value.{Value}
 use Rattle.codeco_terms.specs.declared.values.Value.TheVariants.{Pos}
 use Rattle.codeco_terms.specs.declared.categories.Ground.{Ground}
@@ -16,21 +19,16 @@ use Rattle.derivation_trees.specs.Settings.{Setting, matches_terminal, matches_p
 use Rattle.derivation_trees.specs.Instances.{value_under, under, tests_under}
 use Rattle.derivation_trees.specs.Derives.{Stand, pass, pass_token, pass_finding, run, is_found, reference_tests}
 use Rattle.derivation_scenes.specs.Starts.{has_kind, may_start}
-use Rattle.derivations.proofs.Members.{first_of_and, either_of_or, some_same}
 
 token_matched : (b : Bool) (stand mid : Stand) → pass_token b stand ≡ Some mid → b ≡ true
 token_matched true stand mid h = refl
 token_matched false stand mid h = cc
 
-or_true : (a b : Bool) → b ≡ true → (a || b) ≡ true
-or_true true b h = refl
-or_true false b h = h
-
 some_named : (readings : List Ground) (asked : Test) → list_any (λ reading. agrees reading asked) readings ≡ true → list_any (λ reading. reading.name == asked.name) readings ≡ true
 some_named [] asked h = h
-some_named (r ∷ rs) asked h = elim (either_of_or (agrees r asked) (list_any (λ reading. agrees reading asked) rs) h) [
-  | inl k ↦ ap (λ b. b || list_any (λ reading. reading.name == asked.name) rs) (first_of_and (r.name == asked.name) (list_all (has_value r.vals) asked.values) k)
-  | inr k ↦ or_true (r.name == asked.name) _ (some_named rs asked k)
+some_named (r ∷ rs) asked h = elim (or_cases (agrees r asked) (list_any (λ reading. agrees reading asked) rs) h) [
+  | inl k ↦ ap (λ b. b || list_any (λ reading. reading.name == asked.name) rs) (and_first (r.name == asked.name) (list_all (has_value r.vals) asked.values) k)
+  | inr k ↦ or_right (r.name == asked.name) _ (some_named rs asked k)
 ]
 
 kind_there : (s : Setting) (asked : Test) (place : ℕ) → matches_preterminal s asked place ≡ true → has_kind s asked.name place ≡ true
@@ -42,7 +40,7 @@ kind_there s asked place h = by (slice_get s.readings place) h
 
 -- what a special element does to the place
 at_some : (stand one mid : Stand) → one.at.place ≡ stand.at.place → Some one ≡ Some mid → mid.at.place ≡ stand.at.place
-at_some stand one mid same h = ap (λ x. x.at.place) (sym (some_same one mid h)) ∙ same
+at_some stand one mid same h = ap (λ x. x.at.place) (sym (same_Some one mid h)) ∙ same
 
 at_test : (b : Bool) (stand one mid : Stand) → one.at.place ≡ stand.at.place → (if b then Some one else None) ≡ Some mid → mid.at.place ≡ stand.at.place
 at_test true stand one mid same h = at_some stand one mid same h

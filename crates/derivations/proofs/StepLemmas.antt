@@ -3,6 +3,9 @@ use Rattle.std.proofs.Common.{◌≡◌, ℕ, ◌+◌, List, [], ◌∷◌, ◌+
 use Rattle.std.specs.Prelude.{if◌then◌else◌, ◌==◌, option_and_then, option_map}
 use Rattle.std.specs.Option.{option_map_or}
 use Rattle.std.specs.List.{flat_map, list_any}
+use Rattle.std.proofs.lemmas.Option.{same_Some}
+use Rattle.std.proofs.lemmas.Bool.{eqb-true}
+use Rattle.wiki_base.proofs.BoolLaws.{and_first}
 use Rattle.codeco_terms.specs.declared.values.Value.{Value}
 use Rattle.codeco_terms.specs.declared.values.Value.TheVariants.{Pos}
 use Rattle.codeco_terms.specs.declared.categories.Category.{Category}
@@ -18,8 +21,7 @@ use Rattle.derivation_trees.specs.Settings.{Setting, matches_terminal, matches_p
 use Rattle.derivation_trees.specs.Instances.{value_under, under, tests_under}
 use Rattle.derivation_trees.specs.Derives.{At, Stand, Phrase, pass, pass_token, pass_child, pass_finding, run, moved, phrase_of, reference_tests, is_found, takes}
 use Rattle.derivations.specs.Enumeration.{Path, Outcome, found_at, passed, joined, steps, all_steps}
-use Rattle.derivations.proofs.Members.{Among, among_left, among_map, among_flat_map, first_of_and, some_same}
-use Rattle.derivations.proofs.ValueLemmas.{same_number}
+use Rattle.derivations.proofs.Members.{Among, among_left, among_map, among_flat_map}
 
 -- where the path stands with what is still to come
 abbrev pub stand_of : Setting → Path → List ℕ → List Node → Stand
@@ -58,7 +60,7 @@ no_test_commutes false at own found children = refl
 
 some_of_map : {A B : Type 0} (f : A → B) (o : Option A) (y : B) → option_map f o ≡ Some y → (x : A) × (o ≡ Some x) × (y ≡ f x)
 some_of_map f None y h = cc
-some_of_map f (Some x) y h = (x, refl, sym (some_same (f x) y h))
+some_of_map f (Some x) y h = (x, refl, sym (same_Some (f x) y h))
 
 -- a step over such an element
 plain_goes : (s : Setting) (values : List (ℕ × Value)) (e : Element) (path : Path) (found : List ℕ) (nodes : List Node) (after : Stand) → found_at values e path.at.list ≡ [] → Commutes (pass s values e (stand_of s path found nodes)) (pass s values e (record { at = path.at; found = []; own = path.own; children = [] })) found (map (phrase_of s) nodes) → pass s values e (stand_of s path found nodes) ≡ Some after → Goes s (passed s values e path) path found nodes after
@@ -89,7 +91,7 @@ child_goes s trees asked path found (n ∷ ns) after knows h = by (phrase_of s n
       left = found;
       rest = ns;
       among = among_map (joined path) (trees asked path.at) (record { tree = n; at = at }) (knows n at (inl refl) e);
-      stands = sym (some_same (record { at = at; found = found; own = path.own; children = map (phrase_of s) ns }) after k);
+      stands = sym (same_Some (record { at = at; found = found; own = path.own; children = map (phrase_of s) ns }) after k);
       found_is = refl;
       children_is = append_assoc path.children (n ∷ []) ns;
       later = λ m w. inr w;
@@ -111,7 +113,7 @@ positions_of o = option_map_or (λ f. f.pos ∷ []) o []
 
 found_here : (values : List (ℕ × Value)) (positive : List Pattern) (finding : Finding) (pos : ℕ) (path : Path) → is_found values positive pos (Some finding) ≡ true → Among (option_map_or (moved_path path (finding.pos ∷ [])) (if is_found values positive finding.pos (Some finding) then Some (bare path [] []) else None) []) (after_found path pos)
 found_here values positive finding pos path w =
-    let same : finding.pos ≡ pos = same_number finding.pos pos (first_of_and (finding.pos == pos) _ w) in
+    let same : finding.pos ≡ pos = eqb-true finding.pos pos (and_first (finding.pos == pos) _ w) in
     let here : Among (option_map_or (moved_path path (pos ∷ [])) (if is_found values positive pos (Some finding) then Some (bare path [] []) else None) []) (after_found path pos) = subst (λ b. Among (option_map_or (moved_path path (pos ∷ [])) (if b then Some (bare path [] []) else None) []) (after_found path pos)) (sym w) (inl refl) in
     subst (λ q. Among (option_map_or (moved_path path (q ∷ [])) (if is_found values positive q (Some finding) then Some (bare path [] []) else None) []) (after_found path pos)) (sym same) here
 
@@ -127,7 +129,7 @@ back_goes s values positive negative path (pos ∷ found) nodes after h =
       left = found;
       rest = nodes;
       among = subst (λ o. Among (option_map_or (moved_path path (positions_of o)) (pass_finding values positive o (positions_of o) (bare path (positions_of o) [])) []) (after_found path pos)) (sym e) (found_here values positive finding pos path w);
-      stands = sym (some_same (bare path found (map (phrase_of s) nodes)) after m);
+      stands = sym (same_Some (bare path found (map (phrase_of s) nodes)) after m);
       found_is = append_assoc path.found (pos ∷ []) found;
       children_is = refl;
       later = λ n x. x;
@@ -164,7 +166,7 @@ all_goes s trees values [] paths path found nodes after m knows h = record {
   left = found;
   rest = nodes;
   among = m;
-  stands = sym (some_same (stand_of s path found nodes) after h);
+  stands = sym (same_Some (stand_of s path found nodes) after h);
   found_is = refl;
   children_is = refl;
   later = λ n w. w;

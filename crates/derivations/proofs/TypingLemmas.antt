@@ -2,13 +2,16 @@
 use Rattle.std.proofs.Common.{◌≡◌, ℕ, zero, suc, ◌+◌, ◌-◌, ◌<◌, ◌≤◌, List, [], ◌∷◌, ◌++◌, map, length, take, drop, get_or, Some, ◌&&◌, Bool, true, false, ◌⊎◌, inl, inr, refl, sym, ap, subst, ◌∙◌, arith, IsTrue, Contains, All, take-take, length-take-le}
 use Rattle.std.specs.Prelude.{IsUtf8, slice_index_or, slice_get}
 use Rattle.std.specs.Borrow.{Bor}
-use Rattle.std.proofs.lemmas.List.{length-map, take_more, drop_more}
+use Rattle.std.proofs.lemmas.List.{length-map, take_more, drop_more, map-append}
 use Rattle.wiki_base.specs.Token.{IsToken}
 use Rattle.codeco_text.specs.Names.{is_terminal as is_terminal_text}
 use Rattle.std.specs.List.{list_any, list_all, flat_map}
 use Rattle.std.specs.Str.{bytes_eq}
 use Rattle.std.proofs.lemmas.Slice.Eq.{bytes_eq-Decides}
 use Rattle.std.proofs.lemmas.Bool.{cases_lt}
+use Rattle.std.proofs.lemmas.Option.{same_Some}
+use Rattle.wiki_base.proofs.ListLaws.{drop_get_or}
+use Rattle.wiki_base.proofs.BoolLaws.{and_first, and_second}
 use Rattle.codeco_terms.specs.GrammarParts.{GrammarParts}
 use Rattle.codeco_checked.specs.Sound.{IsSound}
 use Rattle.lexicon.specs.Words.{Listed, has_form}
@@ -24,12 +27,11 @@ use Rattle.derivation_trees.specs.Sentences.{setting_of}
 use Rattle.derivations.specs.Beginnings.{has_partial}
 use Rattle.derivations.specs.Entries.{IsInOrder, goes_on, tried, all_tried, forms_in, forms_among, functions_in, texts_of, AreTexts}
 use Rattle.derivations.specs.Typing.{IsTextMenu, IsTypeableCount}
-use Rattle.derivations.proofs.Members.{Among, among_left, among_right, among_map, among_flat_map, map_of, some_same, first_of_and, second_of_and}
+use Rattle.derivations.proofs.Members.{Among, among_left, among_right, among_map, among_flat_map}
 use Rattle.derivations.proofs.SoundLemmas.{Mapped, from_map, Flattened, from_flat_map, either_among}
 use Rattle.derivations.proofs.CutLemmas.{Passing, any_passes, passes_any}
 use Rattle.derivations.proofs.CutDepthLemmas.{partial_test}
 use Rattle.derivations.proofs.DepthLemmas.{ordered_from_sound}
-use Rattle.derivations.proofs.LoopLemmas.{next_in}
 use Rattle.derivations.proofs.EntryLemmas.{all_tried-append, all_tried_in_order, all_tried_keeps, all_tried_has, all_tried_from, all_pairs_in_order, contains_among, among_contains}
 
 -- the test of tokens
@@ -189,7 +191,7 @@ taken_in all i t text lt is h =
     subst (λ xs. Among xs text) (sym (take_more all i t lt ∙ ap (λ y. take i all ++ y ∷ []) (sym is))) (elim h [ inl k ↦ among_left (take i all) (t ∷ []) text k | inr e ↦ among_right (take i all) (t ∷ []) text (inl e) ])
 
 texts_push : (ts : List (Bor (List ℕ))) (x : Bor (List ℕ)) → texts_of (ts ++ x ∷ []) ≡ texts_of ts ++ x.now ∷ []
-texts_push ts x = map_of (λ t. t.now) ts (x ∷ [])
+texts_push ts x = map-append (λ t. t.now) ts (x ∷ [])
 
 pub are_more : (ts : List (Bor (List ℕ))) (x : Bor (List ℕ)) (all : List (List ℕ)) (i : ℕ) (t : List ℕ) → i < length all → t ≡ get_or all i t → x.now ≡ t → AreTexts (texts_of ts) (take i all) → AreTexts (texts_of (ts ++ x ∷ [])) (take (i + 1) all)
 are_more ts x all i t lt is same old = subst (λ us. AreTexts us (take (i + 1) all)) (sym (texts_push ts x)) (record {
@@ -223,8 +225,8 @@ tokens_more ts x all one = subst (All IsToken) (sym (texts_push ts x)) (by (text
 
 pub spelled_at : (all : List (List ℕ)) (i : ℕ) (t : List ℕ) → list_all is_terminal_text all ≡ true → i < length all → t ≡ get_or all i t → is_terminal_text t ≡ true
 spelled_at [] i t h lt is = absurd (omega (arith, lt))
-spelled_at (x ∷ xs) zero t h lt is = ap is_terminal_text is ∙ first_of_and (is_terminal_text x) (list_all is_terminal_text xs) h
-spelled_at (x ∷ xs) (suc i) t h lt is = spelled_at xs i t (second_of_and (is_terminal_text x) (list_all is_terminal_text xs) h) (omega (arith, lt)) is
+spelled_at (x ∷ xs) zero t h lt is = ap is_terminal_text is ∙ and_first (is_terminal_text x) (list_all is_terminal_text xs) h
+spelled_at (x ∷ xs) (suc i) t h lt is = spelled_at xs i t (and_second (is_terminal_text x) (list_all is_terminal_text xs) h) (omega (arith, lt)) is
 
 -- candidates, one by one
 
@@ -237,7 +239,7 @@ pub texts_length : (xs : List (Bor (List ℕ))) → length (texts_of xs) ≡ len
 texts_length xs = length-map xs (λ t. t.now)
 
 pub one_tried : (test : Group × List ℕ → Bool) (group : Group) (xs : List (List ℕ)) (i : ℕ) (x : List ℕ) (es : List (Group × List ℕ)) → i < length xs → x ≡ get_or xs i x → all_tried test (map (λ t. (group, t)) (drop (i + 1) xs)) (tried test (group, x) es) ≡ all_tried test (map (λ t. (group, t)) (drop i xs)) es
-one_tried test group xs i x es lt is = sym (ap (λ ys. all_tried test (map (λ t. (group, t)) ys) es) (next_in xs i x lt is))
+one_tried test group xs i x es lt is = sym (ap (λ ys. all_tried test (map (λ t. (group, t)) ys) es) (drop_get_or xs i x lt is))
 
 texts_drop : (n : ℕ) (xs : List (Bor (List ℕ))) → texts_of (drop n xs) ≡ drop n (texts_of xs)
 texts_drop zero [] = refl
@@ -256,5 +258,5 @@ one_word_tried test live i word es lt got =
   where
     got_here : (ws : List Word) (i : ℕ) (w : Word) → slice_get ws i ≡ Some w → get_or ws i w ≡ w
     got_here [] i w h = refl
-    got_here (x ∷ xs) zero w h = some_same x w h
+    got_here (x ∷ xs) zero w h = same_Some x w h
     got_here (x ∷ xs) (suc i) w h = got_here xs i w h

@@ -3,7 +3,9 @@ use Rattle.std.proofs.Common.{◌≡◌, ℕ, suc, Bool, true, false, cond, List
 use Rattle.std.specs.Prelude.{◌==◌, ◌||◌, not, filter, slice_get, Contains, option_and_then}
 use Rattle.std.specs.Option.{option_map_or}
 use Rattle.std.specs.List.{list_any}
+use Rattle.std.proofs.lemmas.Bool.{and_parts, eqb-true}
 use Rattle.wiki_base.specs.declared.numbers.WordId.{WordId}
+use Rattle.wiki_base.proofs.NumberLaws.{eqb_refl}
 use Rattle.codeco_terms.specs.declared.rules.Label.{Label}
 use Rattle.codeco_terms.specs.declared.rules.Label.TheVariants as label
 use Rattle.codeco_terms.specs.declared.rules.Rule.{Rule}
@@ -21,7 +23,6 @@ use Rattle.logic_terms.specs.Free.{is_bound}
 use Rattle.drs_build.specs.Joining.{◌⊕◌, only, introduced}
 use Rattle.drs_build.specs.Meanings.{Meaning, nothing, Made, meaning}
 use Rattle.drs_build.specs.Nodes.{is_meant, meaning_in, meant_children, made_in, label_of}
-use Rattle.drs_build.proofs.OrderLemmas.{both_true, eq_true}
 use Rattle.drs_build.proofs.NodeLemmas.{meaning_by}
 
 -- Kinds
@@ -65,7 +66,7 @@ like_asks k NounPhrase h a = cc
 like_asks k Mark h a = cc
 
 same_back : (k l : Kind) → same_kind k l ≡ true → same_kind l k ≡ true
-same_back k l h = eq-eqb (kind_number l) (kind_number k) (sym (eq_true (kind_number k) (kind_number l) h))
+same_back k l h = eq-eqb (kind_number l) (kind_number k) (sym (eqb-true (kind_number k) (kind_number l) h))
 
 -- a head that asks fits no row for another kind
 wrong : (X : Type 0) (k head : Kind) → is_asking k ≡ false → same_kind head k ≡ true → is_asking head ≡ true → X
@@ -82,7 +83,7 @@ clause_wrong X Mark h a = absurd cc
 
 -- a label is that of marks where the head that it fits is one
 mark_same : (heads : Heads) (kind : Kind) → head_fits heads kind ≡ true → makes_mark heads ≡ is_mark kind
-mark_same (Only k) kind h = ap (λ n. n == 6) (sym (eq_true (kind_number kind) (kind_number k) h))
+mark_same (Only k) kind h = ap (λ n. n == 6) (sym (eqb-true (kind_number kind) (kind_number k) h))
 mark_same Clauses Text h = refl
 mark_same Clauses Sentence h = refl
 mark_same Clauses VerbPhrase h = refl
@@ -104,9 +105,6 @@ mark_same Meanings Mark h = cc
 abbrev pub Asks : Meaning → Type 0
 Asks m = is_bound (referents_in m.says) m.referent ≡ true
 
-same_self : (x : ℕ) → (x == x) ≡ true
-same_self x = eq-eqb x x refl
-
 any_left : (p : ℕ) (xs ys : List ℕ) → list_any (λ q. q == p) xs ≡ true → list_any (λ q. q == p) (xs ++ ys) ≡ true
 any_left p [] ys h = cc
 any_left p (x ∷ xs) ys h = by (x == p) refl (any_left p xs ys)
@@ -119,7 +117,7 @@ left_bound : (k l : Structure) (p : ℕ) → is_bound (referents_in k) p ≡ tru
 left_bound (structure rs cs) (structure qs ds) p h = any_left p rs qs h
 
 here_bound : (p : ℕ) (k : Structure) → is_bound (referents_in (introduced p ⊕ k)) p ≡ true
-here_bound p k = left_bound (introduced p) k p (ap (λ b. b || false) (same_self p))
+here_bound p k = left_bound (introduced p) k p (ap (λ b. b || false) (eqb_refl p))
 
 noun_bound : (p : ℕ) (c : Condition) (k : Structure) → is_bound (referents_in ((introduced p ⊕ only c) ⊕ k)) p ≡ true
 noun_bound p c k = left_bound (introduced p ⊕ only c) k p (here_bound p (only c))
@@ -130,7 +128,7 @@ contained [] r h = absurd cc
 contained (x ∷ xs) r h = by (x == r) refl (contained xs r)
   where
     by : (b : Bool) → (x == r) ≡ b → (is_bound xs r ≡ true → Contains xs r) → Contains (x ∷ xs) r
-    by true e later = (0, omega arith, eq_true x r e)
+    by true e later = (0, omega arith, eqb-true x r e)
     by false e later =
         let there : Contains xs r = later (sym (ap (λ b. b || is_bound xs r) e) ∙ h) in
         (suc there.0, omega (arith, there.1), there.2)
@@ -165,7 +163,7 @@ child_asks : (g : GrammarParts) (sks : List Skeleton) (ks : List Kind) (l : Kind
 child_asks g [] [] l ls all h f names = absurd cc
 child_asks g [] (k ∷ ks) l ls all h f names = absurd all
 child_asks g (sk ∷ sks) [] l ls all h f names = absurd all
-child_asks g (sk ∷ sks) (k ∷ ks) l ls all h f names = all.0.asks (f k (both_true (same_kind k l) (same_kinds ks ls) h).0) names
+child_asks g (sk ∷ sks) (k ∷ ks) l ls all h f names = all.0.asks (f k (and_parts (same_kind k l) (same_kinds ks ls) h).0) names
 
 -- the first child asks where its kind does
 abbrev First : Made → List Kind → Type 0

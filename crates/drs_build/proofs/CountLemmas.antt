@@ -3,6 +3,7 @@ use Rattle.std.proofs.Common.{◌≡◌, ℕ, ◌+◌, ◌≤◌, Bool, true, fa
 use Rattle.std.specs.Prelude.{◌==◌, ◌&&◌, ◌||◌, not}
 use Rattle.std.specs.List.{list_any}
 use Rattle.std.proofs.lemmas.Bool.Decides.{nat_tests}
+use Rattle.wiki_base.proofs.NumberLaws.{eqb_refl}
 use Rattle.logic_terms.specs.Structure.{Condition, Conditions, Structure, Negation, Implication, Disjunction, no_condition, also_condition, structure}
 use Rattle.logic_terms.specs.Introduced.{introduced_in, introduced_in_all, introduced_in_condition, all_distinct}
 use Rattle.drs_build.specs.Joining.{both, ◌⊕◌, only}
@@ -52,13 +53,10 @@ not_there r (x ∷ xs) h = by (x == r) refl (λ le. not_there r xs le)
     by true e later = let k : one (x == r) ≡ 1 = ap one e in absurd (omega (arith, k))
     by false e later = ap (λ b. b || list_any (λ q. q == r) xs) e ∙ later (omega arith)
 
-same_self : (x : ℕ) → (x == x) ≡ true
-same_self x = grind (arith, nat_tests)
-
 -- a list in which nothing stands twice
 pub distinct_from_times : (xs : List ℕ) → ((r : ℕ) → times r xs ≤ 1) → all_distinct xs ≡ true
 distinct_from_times [] h = refl
 distinct_from_times (x ∷ xs) h =
-    let one_more : one (x == x) ≡ 1 = ap one (same_self x) in
+    let one_more : one (x == x) ≡ 1 = ap one (eqb_refl x) in
     let none : times x xs ≤ 0 = omega (arith, h x, one_more) in
     ap (λ b. not b && all_distinct xs) (not_there x xs none) ∙ distinct_from_times xs (λ r. omega (arith, h r))

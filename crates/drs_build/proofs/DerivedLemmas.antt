@@ -3,6 +3,7 @@ use Rattle.std.proofs.Common.{◌≡◌, ℕ, ◌+◌, ◌≤◌, Bool, true, Li
 use Rattle.std.specs.Prelude.{◌&&◌, ◌==◌, nat_le}
 use Rattle.std.specs.List.{list_all}
 use Rattle.std.proofs.lemmas.Bool.Decides.{nat_tests}
+use Rattle.std.proofs.lemmas.Bool.{le-leb, and_from}
 use Rattle.wiki_base.specs.declared.numbers.WordId.{WordId}
 use Rattle.codeco_terms.specs.declared.elements.Element.{Element}
 use Rattle.codeco_terms.specs.declared.elements.Element.TheVariants.{Terminal, Preterminal, Sub, Position, Opener, Forward, Strong, Back, NoBack}
@@ -29,12 +30,6 @@ use Rattle.drs_build.proofs.CountLemmas.{distinct_from_times}
 use Rattle.drs_build.proofs.WeightLemmas.{inside_small}
 use Rattle.drs_build.proofs.GrammarLemmas.{introducing}
 use Rattle.drs_build.proofs.SpanLemmas.{LightIn, AllLight, node_light}
-
-le_is : (m n : ℕ) → m ≤ n → nat_le m n ≡ true
-le_is m n h = grind (arith, nat_tests)
-
-both_are : (a b : Bool) → a ≡ true → b ≡ true → (a && b) ≡ true
-both_are a b p q = ap (λ x. x && b) p ∙ q
 
 -- a sketch of these parts
 abbrev at : ℕ → List WordId → List Skeleton → List (ℕ → Skeleton) → Sketch
@@ -87,8 +82,8 @@ walk s (Sub c ∷ es) (more n ns) place words children orders =
     record {
       more = child ∷ later.more;
       added = later.added ∙ append_assoc children (child ∷ []) later.more;
-      in_order = both_are (is_in_order s.grammar child) (list_all (is_in_order s.grammar) later.more) one.in_order later.in_order;
-      leads = both_are ((out-Skeleton child).start == place) (nat_le (out-Skeleton child).start (out-Skeleton child).end && leads es (out-Skeleton child).end (map span_of later.more) (sketch_over s es (at (out-Skeleton child).end words (children ++ child ∷ []) (sketches_of s ns))).place) (eq-eqb (out-Skeleton child).start place one.start) (both_are (nat_le (out-Skeleton child).start (out-Skeleton child).end) (leads es (out-Skeleton child).end (map span_of later.more) (sketch_over s es (at (out-Skeleton child).end words (children ++ child ∷ []) (sketches_of s ns))).place) (ap (λ x. nat_le x (out-Skeleton child).end) one.start ∙ le_is place (out-Skeleton child).end one.up) later.leads);
+      in_order = and_from (is_in_order s.grammar child) (list_all (is_in_order s.grammar) later.more) one.in_order later.in_order;
+      leads = and_from ((out-Skeleton child).start == place) (nat_le (out-Skeleton child).start (out-Skeleton child).end && leads es (out-Skeleton child).end (map span_of later.more) (sketch_over s es (at (out-Skeleton child).end words (children ++ child ∷ []) (sketches_of s ns))).place) (eq-eqb (out-Skeleton child).start place one.start) (and_from (nat_le (out-Skeleton child).start (out-Skeleton child).end) (leads es (out-Skeleton child).end (map span_of later.more) (sketch_over s es (at (out-Skeleton child).end words (children ++ child ∷ []) (sketches_of s ns))).place) (ap (λ x. nat_le x (out-Skeleton child).end) one.start ∙ le-leb place (out-Skeleton child).end one.up) later.leads);
       light = (one.light, later.light);
     }
 walk s (Position x ∷ es) ns place words children orders = let later = walk s es ns place words children orders in record { more = later.more; added = later.added; in_order = later.in_order; leads = later.leads; light = later.light }
@@ -108,7 +103,7 @@ node_in_order s number place found after w =
     in_order_is s.grammar (skeleton number place after.place found after.words after.children)
     ∙ ap (layer_in_order s.grammar) (out-roll-Skeleton (record { rule = number; start = place; end = after.place; found = found; words = after.words; children = after.children }))
     ∙ ap (λ cs. leads (body_of s.grammar number) place (map span_of cs) after.place && list_all (is_in_order s.grammar) cs) w.added
-    ∙ both_are (leads (body_of s.grammar number) place (map span_of w.more) after.place) (list_all (is_in_order s.grammar) w.more) w.leads w.in_order
+    ∙ and_from (leads (body_of s.grammar number) place (map span_of w.more) after.place) (list_all (is_in_order s.grammar) w.more) w.leads w.in_order
 
 -- what a node means whose children are sketched
 node_sketched : (s : Setting) (number place : ℕ) (found : List ℕ) (after : Sketch) → Walked s (body_of s.grammar number) place [] after → LightIn s.grammar (skeleton number place after.place found after.words after.children)

@@ -4,8 +4,10 @@ use Rattle.std.specs.Prelude.{◌==◌, ◌&&◌, slice_get, Contains, if◌then
 use Rattle.std.specs.Option.{option_map_or}
 use Rattle.std.specs.List.{list_all, list_any, count_by}
 use Rattle.std.proofs.lemmas.List.{take_all}
-use Rattle.std.proofs.lemmas.Option.{slice_get-get_or, slice_get_within}
+use Rattle.std.proofs.lemmas.Option.{slice_get-get_or, slice_get_within, same_Some}
+use Rattle.std.proofs.lemmas.Bool.{and_parts, eqb-true}
 use Rattle.wiki_base.specs.declared.numbers.WordId.{WordId}
+use Rattle.wiki_base.proofs.ListLaws.{all_slice_get}
 use Rattle.codeco_terms.specs.declared.values.Value.{Value}
 use Rattle.codeco_terms.specs.declared.values.Value.TheVariants.{Pos}
 use Rattle.codeco_terms.specs.declared.categories.Pattern.{Pattern}
@@ -32,21 +34,19 @@ use Rattle.derivation_trees.specs.Stands.{is_sub}
 use Rattle.derivation_trees.specs.Sentences.{setting_of}
 use Rattle.derivation_trees.specs.Skeletons.{skeleton}
 use Rattle.derivation_trees.specs.Sketches.{Sketch, sketch_on, sketch_over, sketch_from, sketch_of, sketches_of, body_of}
-use Rattle.derivations.proofs.Members.{some_same}
 use Rattle.derivations.proofs.ListingLemmas.{Parts, phrase_parts}
 use Rattle.derivations.proofs.SkeletonLemmas.{skeleton_of_is}
 use Rattle.logic_terms.specs.Structure.{Structure, referents_in}
 use Rattle.logic_terms.specs.Free.{is_bound}
 use Rattle.drs_build.specs.Built.{IsDerived, is_ask, is_question}
 use Rattle.drs_build.specs.Nodes.{label_of, names_of, meaning_of}
-use Rattle.drs_build.proofs.OrderLemmas.{both_true, eq_true}
 use Rattle.drs_build.proofs.GrammarLemmas.{found}
 use Rattle.drs_build.proofs.AskedLemmas.{Good, AllGood, node_good, contained}
 
 -- Elements that are no category leave the children
 
 of_one : (stand one mid : Stand) → one.children ≡ stand.children → Some one ≡ Some mid → mid.children ≡ stand.children
-of_one stand one mid same h = ap (λ (x : Stand). x.children) (sym (some_same one mid h)) ∙ same
+of_one stand one mid same h = ap (λ (x : Stand). x.children) (sym (same_Some one mid h)) ∙ same
 
 of_token : (b : Bool) (stand mid : Stand) → pass_token b stand ≡ Some mid → mid.children ≡ stand.children
 of_token false stand mid h = cc
@@ -124,11 +124,6 @@ pub record AllFit (g : GrammarParts) (kinds : ℕ → Kind) : Type 0 where
   pub labelled : is_labelled g ≡ true
   pub fit : list_all (fits_label kinds) g.rules ≡ true
 
-each : {X : Type 0} (p : X → Bool) (xs : List X) (i : ℕ) (x : X) → list_all p xs ≡ true → slice_get xs i ≡ Some x → p x ≡ true
-each p [] i x all is = absurd cc
-each p (y ∷ ys) zero x all is = let same : y ≡ x = cc in ap p (sym same) ∙ (both_true (p y) (list_all p ys) all).0
-each p (y ∷ ys) (suc i) x all is = each p ys i x (both_true (p y) (list_all p ys) all).1 is
-
 -- a rule's label, and what fits of its row
 record Fit (kinds : ℕ → Kind) (r : Rule) : Type 0 where
   pub label : Label
@@ -143,20 +138,20 @@ rule_fits g kinds n r all h = by r.label refl
     there = (found g n r h).at
 
     by : (o : Option Label) → r.label ≡ o → Fit kinds r
-    by None e = let no : false ≡ true = sym (ap is_some e) ∙ each (λ (x : Rule). is_some x.label) g.rules (n - 1) r all.labelled there in absurd cc
+    by None e = let no : false ≡ true = sym (ap is_some e) ∙ all_slice_get (λ (x : Rule). is_some x.label) g.rules (n - 1) r all.labelled there in absurd cc
     by (Some l) e =
-        let row : fits_row kinds (label_row l) r ≡ true = ap (λ o. option_map_or (λ x. fits_row kinds (label_row x) r) o true) (sym e) ∙ each (fits_label kinds) g.rules (n - 1) r all.fit there in
+        let row : fits_row kinds (label_row l) r ≡ true = ap (λ o. option_map_or (λ x. fits_row kinds (label_row x) r) o true) (sym e) ∙ all_slice_get (fits_label kinds) g.rules (n - 1) r all.fit there in
         let heads = head_fits (label_row l).heads (kinds r.head.name) in
         let children = children_fit (label_row l).children (kinds r.head.name) (child_kinds kinds r.body) in
         let words = words_fit (label_row l).words kinds r.body in
         let once = count_by is_introduction r.body == one_if (label_row l).introduces in
         let refers = count_by is_reference r.body == one_if (label_row l).refers in
         let behind = introduces_behind_tokens false r.body in
-        let p = both_true (heads && children && words && once && refers) behind row in
-        let q = both_true (heads && children && words && once) refers p.0 in
-        let s = both_true (heads && children && words) once q.0 in
-        let t = both_true (heads && children) words s.0 in
-        let u = both_true heads children t.0 in
+        let p = and_parts (heads && children && words && once && refers) behind row in
+        let q = and_parts (heads && children && words && once) refers p.0 in
+        let s = and_parts (heads && children && words) once q.0 in
+        let t = and_parts (heads && children) words s.0 in
+        let u = and_parts heads children t.0 in
         record { label = l; is = e; heads = u.0; children = u.1 }
 
 -- Nodes
@@ -173,7 +168,7 @@ one_good : (s : Setting) (kinds : ℕ → Kind) (number : ℕ) (values : List (�
 one_good s kinds number values found_at children asked from after place r all good h k =
     let parts : Parts s r values found_at (phrases_of s children) asked from after = phrase_parts s r values found_at (phrases_of s children) asked from after k in
     let first : Stand = record { at = from; found = found_at; own = own_values r values; children = phrases_of s children } in
-    let name : r.head.name ≡ asked.name = eq_true r.head.name asked.name (both_true (r.head.name == asked.name) (list_all (λ p. list_all (same_where_both p) asked.values) (under values r.head).values) parts.fit).0 in
+    let name : r.head.name ≡ asked.name = eqb-true r.head.name asked.name (and_parts (r.head.name == asked.name) (list_all (λ p. list_all (same_where_both p) asked.values) (under values r.head).values) parts.fit).0 in
     let added : Added s kinds r.body [] (sketch_over s r.body (sketch_from place (sketches_of s children))) = children_good s kinds values r.body children first parts.stand place [] [] good refl parts.ran in
     let body : r.body ≡ body_of s.grammar number = sym (ap (λ o. option_map_or (λ (x : Rule). x.body) o []) h) in
     let here : Good s.grammar (skeleton number place (sketch_over s r.body (sketch_from place (sketches_of s children))).place found_at (sketch_over s r.body (sketch_from place (sketches_of s children))).words (sketch_over s r.body (sketch_from place (sketches_of s children))).children) (kinds r.head.name) = sketched_good s kinds number place found_at r (sketch_over s r.body (sketch_from place (sketches_of s children))) all h added in

@@ -1,6 +1,6 @@
 -- Tokens that are typeable as they are kept, as they come and go.
 use Rattle.std.proofs.Common.{◌≡◌, ℕ, zero, suc, ◌+◌, ◌-◌, ◌<◌, ◌≤◌, List, [], ◌∷◌, ◌++◌, Bool, true, false, length, take, get_or, length-append, ◌⊎◌, inl, inr, refl, sym, ap, subst, ◌∙◌, arith, IsTrue, ◌↔◌, Result, Ok, Err, OnOk, OnErr}
-use Rattle.std.proofs.lemmas.List.{take-map, take_more, length-take-le, length-map}
+use Rattle.std.proofs.lemmas.List.{take-map, take_more, length-take-le, length-map, take-append-le, take-take, take_all}
 use Rattle.std.proofs.lemmas.Bool.{cases_lt}
 use Rattle.wiki_base.specs.declared.tokens.TheConstants.{MOST_TOKENS}
 use Rattle.codeco_terms.specs.declared.categories.Ground.{Ground}
@@ -24,23 +24,6 @@ abbrev setting : GrammarParts → List (List ℕ) → List (List Ground) → Set
 setting g tokens readings = record { grammar = g; tokens = tokens; readings = readings }
 
 -- Fronts of lists
-
-take_front : {X : Type 0} (n : ℕ) (xs ys : List X) → n ≤ length xs → take n (xs ++ ys) ≡ take n xs
-take_front zero xs ys le = refl
-take_front (suc n) [] ys le = absurd (omega arith)
-take_front (suc n) (x ∷ xs) ys le = ap (λ l. x ∷ l) (take_front n xs ys (omega arith))
-
-take_less : {X : Type 0} (n m : ℕ) (xs : List X) → n ≤ m → take n (take m xs) ≡ take n xs
-take_less zero m xs le = refl
-take_less (suc n) zero xs le = absurd (omega arith)
-take_less (suc n) (suc m) [] le = refl
-take_less (suc n) (suc m) (x ∷ xs) le = ap (λ l. x ∷ l) (take_less n m xs (omega arith))
-
-take_whole : {X : Type 0} (n : ℕ) (xs : List X) → length xs ≤ n → take n xs ≡ xs
-take_whole zero [] le = refl
-take_whole zero (x ∷ xs) le = absurd (omega arith)
-take_whole (suc n) [] le = refl
-take_whole (suc n) (x ∷ xs) le = ap (λ ys. x ∷ ys) (take_whole n xs (omega arith))
 
 take_short : {X : Type 0} (n : ℕ) (xs : List X) → length (take n xs) ≤ length xs
 take_short zero xs = omega arith
@@ -71,7 +54,7 @@ typeable_by g l s kept h = typeable_from_kept g l s.tokens (subst IsTypeableAsKe
 
 -- typeable tokens have a partial derivation
 pub whole_begins : (g : GrammarParts) (l : Listed) (tokens : List (List ℕ)) → IsTypeable g l tokens → IsBeginning g l tokens
-whole_begins g l tokens h = subst (IsBeginning g l) (take_whole (length tokens) tokens (omega arith)) (h (length tokens) (omega arith))
+whole_begins g l tokens h = subst (IsBeginning g l) (take_all (length tokens) tokens (omega arith)) (h (length tokens) (omega arith))
 
 pub nothing_typeable : (g : GrammarParts) (l : Listed) → IsSound g → IsTypeable g l []
 nothing_typeable g l sound zero le = begins_with_nothing g l sound
@@ -90,9 +73,9 @@ one_typeable_more g l tokens token h begins count le = by (cases_lt (length toke
   where
     by : (length tokens < count) ⊎ (count ≤ length tokens) → IsBeginning g l (take count (tokens ++ token ∷ []))
     by (inl lt) =
-        let all : take count (tokens ++ token ∷ []) ≡ tokens ++ token ∷ [] = take_whole count (tokens ++ token ∷ []) (omega (arith, length-append tokens (token ∷ []))) in
+        let all : take count (tokens ++ token ∷ []) ≡ tokens ++ token ∷ [] = take_all count (tokens ++ token ∷ []) (omega (arith, length-append tokens (token ∷ []))) in
         subst (IsBeginning g l) (sym all) begins
-    by (inr within) = subst (IsBeginning g l) (sym (take_front count tokens (token ∷ []) within)) (h count within)
+    by (inr within) = subst (IsBeginning g l) (sym (take-append-le count tokens (token ∷ []) within)) (h count within)
 
 pub edited_more : (g : GrammarParts) (l : Listed) (old new : Setting) (token : List ℕ) → old ≡ setting_of g l old.tokens → length old.tokens < MOST_TOKENS → IsEdited old
     → new ≡ setting_of g l (old.tokens ++ token ∷ []) → IsBeginning g l (old.tokens ++ token ∷ []) → IsEdited new
@@ -108,7 +91,7 @@ pub typeable_less : (s : Setting) (n : ℕ) → IsTypeableAsKept s → IsTypeabl
 typeable_less s n h count le =
     let less : count ≤ n = let short = take_at_most n s.tokens in omega (arith, le, short) in
     let within : count ≤ length s.tokens = let short = take_short n s.tokens in omega (arith, le, short) in
-    subst HasBeginning (sym (ap (λ t. setting s.grammar t (take count (take n s.readings))) (take_less count n s.tokens less) ∙ ap (setting s.grammar (take count s.tokens)) (take_less count n s.readings less))) (h count within)
+    subst HasBeginning (sym (ap (λ t. setting s.grammar t (take count (take n s.readings))) (take-take count n s.tokens less) ∙ ap (setting s.grammar (take count s.tokens)) (take-take count n s.readings less))) (h count within)
   where
     take_at_most : {X : Type 0} (m : ℕ) (xs : List X) → length (take m xs) ≤ m
     take_at_most zero xs = omega arith
@@ -142,7 +125,7 @@ pub record IsFront (old new : Setting) : Type 0 where
 
 pub front_all : (s : Setting) → length s.readings ≡ length s.tokens → IsFront s s
 front_all s read = record {
-  is = sym (ap (λ t. setting s.grammar t (take (length s.tokens) s.readings)) (take_whole (length s.tokens) s.tokens (omega arith)) ∙ ap (setting s.grammar s.tokens) (take_whole (length s.tokens) s.readings (omega (arith, read))));
+  is = sym (ap (λ t. setting s.grammar t (take (length s.tokens) s.readings)) (take_all (length s.tokens) s.tokens (omega arith)) ∙ ap (setting s.grammar s.tokens) (take_all (length s.tokens) s.readings (omega (arith, read))));
   within = omega arith;
 }
 
@@ -153,7 +136,7 @@ front_less old mid new front some e =
     let count : length new.tokens ≡ n - 1 = ap (λ x. length x.tokens) e ∙ long in
     let less : n - 1 ≤ n = omega arith in
     let first : first_of (first_of old n) (n - 1) ≡ first_of old (n - 1) =
-    ap (λ t. setting old.grammar t (take (n - 1) (take n old.readings))) (take_less (n - 1) n old.tokens less) ∙ ap (setting old.grammar (take (n - 1) old.tokens)) (take_less (n - 1) n old.readings less)
+    ap (λ t. setting old.grammar t (take (n - 1) (take n old.readings))) (take-take (n - 1) n old.tokens less) ∙ ap (setting old.grammar (take (n - 1) old.tokens)) (take-take (n - 1) n old.readings less)
     in
     let within = front.within in (
       record {
@@ -172,7 +155,7 @@ dropped_again g l old added new token kept more e =
     let tokens_are : added.tokens ≡ old.tokens ++ token ∷ [] = ap (λ x. x.tokens) more in
     let count : length added.tokens - 1 ≡ length old.tokens = ap (λ t. length t - 1) tokens_are ∙ (let long = length-append old.tokens (token ∷ []) in omega (arith, long)) in
     e ∙ ap (first_of added) count ∙ ap (λ s. first_of s (length old.tokens)) more ∙ first_set g l (old.tokens ++ token ∷ []) (length old.tokens)
-    ∙ ap (setting_of g l) (take_front (length old.tokens) old.tokens (token ∷ []) (omega arith) ∙ take_whole (length old.tokens) old.tokens (omega arith)) ∙ sym kept
+    ∙ ap (setting_of g l) (take-append-le (length old.tokens) old.tokens (token ∷ []) (omega arith) ∙ take_all (length old.tokens) old.tokens (omega arith)) ∙ sym kept
 
 -- a list with one more token isn't empty
 pub not_empty : (g : GrammarParts) (l : Listed) (tokens : List (List ℕ)) (token : List ℕ) (added : Setting) → added ≡ setting_of g l (tokens ++ token ∷ []) → added.tokens ≡ [] → ⊥
@@ -212,15 +195,15 @@ rebased_before g l tokens rebased k lt e typeable stops =
     by : (count : ℕ) → count ≤ length tokens → IsTypeable g l (take count tokens) → length (take k tokens) ≡ k → (k < count) ⊎ (count ≤ k) → count ≤ length (take k tokens)
     by count le h long (inl more) =
         let whole : length (take count tokens) ≡ count = length-take-le count tokens le in
-        absurd (stops (subst (IsBeginning g l) (take_less (k + 1) count tokens (omega (arith, more))) (h (k + 1) (omega (arith, more, whole)))))
+        absurd (stops (subst (IsBeginning g l) (take-take (k + 1) count tokens (omega (arith, more))) (h (k + 1) (omega (arith, more, whole)))))
     by count le h long (inr less) = omega (arith, less, long)
 
 pub rebased_all : (g : GrammarParts) (l : Listed) (tokens rebased : List (List ℕ)) (k : ℕ) → length tokens ≤ k → rebased ≡ take k tokens → IsTypeable g l (take k tokens) → IsRebased g l tokens rebased
 rebased_all g l tokens rebased k all e typeable =
-    let same : rebased ≡ tokens = e ∙ take_whole k tokens all in
+    let same : rebased ≡ tokens = e ∙ take_all k tokens all in
     subst (IsRebased g l tokens) (sym same) (record {
-      prefix = take_whole (length tokens) tokens (omega arith);
-      typeable = subst (IsTypeable g l) (take_whole k tokens all) typeable;
+      prefix = take_all (length tokens) tokens (omega arith);
+      typeable = subst (IsTypeable g l) (take_all k tokens all) typeable;
       longest = λ count le h. le;
     })
 

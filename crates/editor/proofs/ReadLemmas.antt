@@ -6,6 +6,7 @@ use Rattle.std.specs.Option.{option_map_or}
 use Rattle.std.specs.Str.{bytes_eq}
 use Rattle.std.proofs.lemmas.Bool.{cases_lt}
 use Rattle.std.proofs.lemmas.Option.{option_and_then_some, same_Some}
+use Rattle.wiki_base.proofs.ListLaws.{slice_get_mapped}
 use Rattle.codeco_terms.specs.declared.values.Value.{Value}
 use Rattle.codeco_terms.specs.declared.values.Value.TheVariants.{Pos}
 use Rattle.codeco_terms.specs.declared.categories.Pattern.{Pattern}
@@ -167,11 +168,6 @@ among_place [] x h = absurd h
 among_place (y ∷ ys) x (inl e) = (0, omega arith, ap Some (sym e))
 among_place (y ∷ ys) x (inr h) = let one = among_place ys x h in (suc one.0, omega (arith, one.1), one.2)
 
-mapped_place : {X Y : Type 0} (f : X → Y) (xs : List X) (k : ℕ) (x : X) → slice_get xs k ≡ Some x → slice_get (map f xs) k ≡ Some (f x)
-mapped_place f [] k x h = cc
-mapped_place f (y ∷ ys) zero x h = ap (λ o. option_map f o) h
-mapped_place f (y ∷ ys) (suc k) x h = mapped_place f ys k x h
-
 terminal_at : (terminals : List (List ℕ)) (t : ℕ) (token : List ℕ) → option_map_or (bytes_eq token) (slice_get terminals t) false ≡ true → is_terminal terminals token ≡ true
 terminal_at [] t token h = h
 terminal_at (x ∷ xs) zero token h = ap (λ b. b || is_terminal xs token) h
@@ -197,6 +193,6 @@ beginning_readable g l tokens h token k =
         inl (terminal_at g.terminals terminal.0 token (sym (ap (λ o. option_map_or (λ (t : List ℕ). option_map_or (bytes_eq t) (slice_get g.terminals terminal.0) false) o false) at) ∙ terminal.1))
     by n at (inr asked) =
         let reads : list_any (λ reading. agrees reading asked.0) (readings_of l.live token) ≡ true =
-        sym (ap (λ o. option_map_or (λ (readings : List Ground). list_any (λ reading. agrees reading asked.0) readings) o false) (mapped_place (readings_of l.live) tokens n token at)) ∙ asked.1
+        sym (ap (λ o. option_map_or (λ (readings : List Ground). list_any (λ reading. agrees reading asked.0) readings) o false) (slice_get_mapped (readings_of l.live) tokens n token at)) ∙ asked.1
         in
         inr (λ empty. true_is_false (sym reads ∙ ap (λ (readings : List Ground). list_any (λ reading. agrees reading asked.0) readings) empty))

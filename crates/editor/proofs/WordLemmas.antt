@@ -6,6 +6,7 @@ use Rattle.std.specs.Option.{option_or}
 use Rattle.std.specs.Str.{bytes_eq}
 use Rattle.std.proofs.lemmas.Slice.Eq.{bytes_eq-Decides}
 use Rattle.wiki_base.specs.declared.numbers.WordId.{WordId}
+use Rattle.wiki_base.proofs.OptionLaws.{option_or-first_none, option_or-second_none}
 use Rattle.codeco_terms.specs.declared.categories.Ground.{Ground}
 use Rattle.codeco_terms.specs.GrammarParts.{GrammarParts}
 use Rattle.lexicon.specs.declared.kinds.Kind.{Kind}
@@ -54,14 +55,6 @@ flat_map_last f (y ∷ ys) x h = ap (λ zs. f y ++ zs) (flat_map_last f ys x h)
 
 -- Causes that don't stand
 
-neither_first : {X : Type 0} (a b : Option X) → option_or a b ≡ None → a ≡ None
-neither_first (Some x) b h = h
-neither_first None b h = refl
-
-neither_second : {X : Type 0} (a b : Option X) → option_or a b ≡ None → b ≡ None
-neither_second (Some x) b h = cc
-neither_second None b h = h
-
 no_owner_taken : (text : List ℕ) (o : Option WordId) → option_map (Taken text) o ≡ None → o ≡ None
 no_owner_taken text None h = refl
 no_owner_taken text (Some id) h = cc
@@ -72,10 +65,10 @@ same_bytes xs ys h = (bytes_eq-Decides xs ys).0 h
 -- a form that is not taken has no owner
 not_taken : (live : List Word) (texts : List (List ℕ)) (token : List ℕ) → first_taken live texts ≡ None → is_among texts token ≡ true → owner live token ≡ None
 not_taken live [] token h k = true_is_false (sym k)
-not_taken live (text ∷ texts) token h k = by (bytes_eq token text) refl k (not_taken live texts token (neither_second (option_map (Taken text) (owner live text)) (first_taken live texts) h))
+not_taken live (text ∷ texts) token h k = by (bytes_eq token text) refl k (not_taken live texts token (option_or-second_none (option_map (Taken text) (owner live text)) (first_taken live texts) h))
   where
     by : (b : Bool) → bytes_eq token text ≡ b → (b || is_among texts token) ≡ true → (is_among texts token ≡ true → owner live token ≡ None) → owner live token ≡ None
-    by true e k later = ap (owner live) (same_bytes token text e) ∙ no_owner_taken text (owner live text) (neither_first (option_map (Taken text) (owner live text)) (first_taken live texts) h)
+    by true e k later = ap (owner live) (same_bytes token text e) ∙ no_owner_taken text (owner live text) (option_or-first_none (option_map (Taken text) (owner live text)) (first_taken live texts) h)
     by false e k later = later k
 
 reserved_none : (b : Bool) (text : List ℕ) (o : Option LexFault) → (if b then Some (Reserved text) else o) ≡ None → (b ≡ false) × (o ≡ None)
@@ -108,9 +101,9 @@ not_reserved terminals (text ∷ texts) token h k =
 not_a_new_form : (g : GrammarParts) (l : Listed) (forms : Forms) (token : List ℕ) → l.terminals ≡ g.terminals → add_refusal l forms ≡ None → IsReadable g l token → (b : Bool) → is_among forms.texts token ≡ b → b ≡ false
 not_a_new_form g l forms token same free readable false e = refl
 not_a_new_form g l forms token same free readable true e =
-    let given = neither_first (forms_refusal l.live l.terminals forms) (fullness l) free in
-    let owned : owner l.live token ≡ None = not_taken l.live forms.texts token (neither_first (first_taken l.live forms.texts) (first_reserved l.terminals forms.texts) given) e in
-    let spelled : is_terminal l.terminals token ≡ false = not_reserved l.terminals forms.texts token (neither_second (first_taken l.live forms.texts) (first_reserved l.terminals forms.texts) given) e in
+    let given = option_or-first_none (forms_refusal l.live l.terminals forms) (fullness l) free in
+    let owned : owner l.live token ≡ None = not_taken l.live forms.texts token (option_or-first_none (first_taken l.live forms.texts) (first_reserved l.terminals forms.texts) given) e in
+    let spelled : is_terminal l.terminals token ≡ false = not_reserved l.terminals forms.texts token (option_or-second_none (first_taken l.live forms.texts) (first_reserved l.terminals forms.texts) given) e in
     by owned (ap (λ ts. is_terminal ts token) (sym same) ∙ spelled) readable
   where
     by : owner l.live token ≡ None → is_terminal g.terminals token ≡ false → IsReadable g l token → true ≡ false

@@ -3,6 +3,7 @@ use Rattle.std.proofs.Common.{◌≡◌, ◌⊎◌, ℕ, ◌+◌, ◌≤◌, Lis
 use Rattle.std.specs.Prelude.{if◌then◌else◌, nat_lt}
 use Rattle.std.proofs.lemmas.Bool.Decides.{nat_tests}
 use Rattle.std.proofs.lemmas.List.{take-append-le, drop-append-le}
+use Rattle.std.proofs.lemmas.Bool.{ltb-false, le-ltb}
 use Rattle.httparse.specs.Grammar.{RequestHead, print_request, ReadsRequest, HasNoRequest, NeverHasRequest, MayBecomeRequest, EndsInTarget}
 use Rattle.httparse.proofs.GrammarLemmas.{request_unique}
 use Rattle.http_front.specs.declared.seen.Head.{Head}
@@ -15,12 +16,6 @@ use Rattle.http_front.specs.Asked.{asked}
 use Rattle.http_front.specs.Front.{refused, half_begun, begun_by_head, head_part, HasTooManyFields, IsNoHead, IsHalfHead, BeginsWith, Begins, Sees, seen_of, seen_after, seen_by}
 use Rattle.http_front.specs.Cuts.{HasHead, IsWaitOr, IsRefusedHead, IsCutAnywhere}
 use Rattle.http_front.proofs.HeadLemmas.{prefix_stays}
-
-not_below : (a b : ℕ) → nat_lt a b ≡ false → b ≤ a
-not_below a b h = grind (arith, nat_tests)
-
-is_not_below : (a b : ℕ) → b ≤ a → nat_lt a b ≡ false
-is_not_below a b h = grind (arith, nat_tests)
 
 -- ---- the bytes in which the head must end
 
@@ -66,7 +61,7 @@ half_cases : (before : List ℕ) (b : Begun) → b ≡ half_begun (length before
 half_cases before b is =
     elim (half_by (nat_lt (length before) MOST_HEAD) b is) [
       | inl waits ↦ inl waits
-      | inr late ↦ inr (late.0, not_below (length before) MOST_HEAD late.1)
+      | inr late ↦ inr (late.0, ltb-false (length before) MOST_HEAD late.1)
     ]
 
 same_head : (bytes : List ℕ) (h k : RequestHead) → BeginsWith h (head_part bytes) → BeginsWith k (head_part bytes) → k ≡ h
@@ -97,15 +92,15 @@ choose false false c d x y f g h =
 after_more : (head : Head) (before more : List ℕ) → (seen_after head before ≡ seen.Wait) ⊎ (seen_after head before ≡ seen_after head (before ++ more))
 unfolding seen_after
 after_more head before more =
-    let there : nat_lt (length before) head.start ≡ false → head.start ≤ length before = not_below (length before) head.start in
+    let there : nat_lt (length before) head.start ≡ false → head.start ≤ length before = ltb-false (length before) head.start in
     let longer : length (before ++ more) ≡ length before + length more = length-append before more in
     let body : nat_lt (length before) head.start ≡ false → drop head.start (before ++ more) ≡ drop head.start before ++ more = λ a. drop-append-le head.start before more (there a) in
-    let whole : nat_lt (length (drop head.start before)) head.length ≡ false → head.length ≤ length (drop head.start before) = not_below (length (drop head.start before)) head.length in
+    let whole : nat_lt (length (drop head.start before)) head.length ≡ false → head.length ≤ length (drop head.start before) = ltb-false (length (drop head.start before)) head.length in
     choose (nat_lt (length before) head.start) (nat_lt (length (drop head.start before)) head.length) (nat_lt (length (before ++ more)) head.start) (nat_lt (length (drop head.start (before ++ more))) head.length)
     (seen_of head.goal (asked head.goal head.word head.session (take head.length (drop head.start before))))
     (seen_of head.goal (asked head.goal head.word head.session (take head.length (drop head.start (before ++ more)))))
-    (λ a. is_not_below (length (before ++ more)) head.start (omega (arith, there a, longer)))
-    (λ a b. is_not_below (length (drop head.start (before ++ more))) head.length (omega (arith, whole b, ap length (body a), length-append (drop head.start before) more)))
+    (λ a. le-ltb (length (before ++ more)) head.start (omega (arith, there a, longer)))
+    (λ a b. le-ltb (length (drop head.start (before ++ more))) head.length (omega (arith, whole b, ap length (body a), length-append (drop head.start before) more)))
     (λ a b. ap (λ bs. seen_of head.goal (asked head.goal head.word head.session bs)) (sym (ap (take head.length) (body a) ∙ take-append-le head.length (drop head.start before) more (whole b))))
 
 seen_more : (b : Begun) (before more : List ℕ) → (seen_by b before ≡ seen.Wait) ⊎ (seen_by b before ≡ seen_by b (before ++ more))
@@ -164,7 +159,7 @@ half_now before more bytes b was now e none full half told (inl now_refuses) is 
     half_refused before bytes was now (full_part before more bytes e full) half.1 now_refuses.0
 half_now before more bytes b was now e none full half told (inr (inl now_half)) is =
     let long : MOST_HEAD ≤ length bytes = omega (arith, full, ap length e, length-append before more) in
-    let late : half_begun (length bytes) ≡ refused 413 = ap (λ t. if t then begun.Wait else refused 413) (is_not_below (length bytes) MOST_HEAD long) in
+    let late : half_begun (length bytes) ≡ refused 413 = ap (λ t. if t then begun.Wait else refused 413) (le-ltb (length bytes) MOST_HEAD long) in
     inl (told ∙ sym (is ∙ ap (λ x. seen_by x bytes) (now_half.1 ∙ late)))
 half_now before more bytes b was now e none full half told (inr (inr whole)) is = absurd (none (whole.0, whole.1))
 

@@ -3,6 +3,7 @@ use Rattle.std.proofs.Common.{◌≡◌, ℕ, List, [], ◌∷◌, Bool, true, f
 use Rattle.std.specs.Prelude.{◌==◌, if◌then◌else◌, codes, unwrap_or, option_and_then}
 use Rattle.std.specs.List.{list_all}
 use Rattle.std.proofs.lemmas.Bool.Decides.{nat_tests}
+use Rattle.std.proofs.lemmas.Bool.{eqb-true}
 use Rattle.http_front.specs.Numbers.{number_of}
 use Rattle.http_front.specs.Fields.{is_named, is_same, common, lengths_told, body_length, agreed, with_field, told_after}
 
@@ -19,9 +20,6 @@ either_same false n = refl
 common_none : (found : Option ℕ) (ns : List (Option ℕ)) → common (before found (None ∷ ns)) ≡ None
 common_none None ns = either_same (list_all (is_same None) ns) None
 common_none (Some n) ns = refl
-
-equals : (n m : ℕ) → (n == m) ≡ true → n ≡ m
-equals n m h = grind (arith, nat_tests)
 
 -- two numbers that differ have nothing in common
 common_unequal : (n m : ℕ) (ns : List (Option ℕ)) → (n == m) ≡ false → common (Some n ∷ Some m ∷ ns) ≡ None
@@ -46,7 +44,7 @@ told_end (Some n) = refl
 told_pair : (t : Bool) (m n : ℕ) (fs : List (List ℕ × List ℕ)) → ((next : Option ℕ) → told_after next fs ≡ common (before next (lengths_told fs))) → (m == n) ≡ t
     → option_and_then (λ next. told_after next fs) (if t then Some (Some n) else None) ≡ common (Some m ∷ Some n ∷ lengths_told fs)
 told_pair true m n fs rest same =
-    let equal : m ≡ n = equals m n same in
+    let equal : m ≡ n = eqb-true m n same in
     rest (Some n) ∙ sym (common_twice n (lengths_told fs)) ∙ ap (λ k. common (Some k ∷ Some n ∷ lengths_told fs)) (sym equal)
 told_pair false m n fs rest other = sym (common_unequal m n (lengths_told fs) other)
 

@@ -7,8 +7,10 @@ use Rattle.std.proofs.lemmas.Bool.Decides.{nat_tests}
 use Rattle.std.proofs.lemmas.List.Elements.{All-push}
 use Rattle.std.proofs.lemmas.List.Quantifiers.{all_pairs_push}
 use Rattle.std.proofs.lemmas.Slice.Eq.{bytes_eq-Decides}
+use Rattle.std.proofs.lemmas.List.Folds.{find-append}
 use Rattle.wiki_base.specs.declared.numbers.WordId.{WordId}
 use Rattle.wiki_base.specs.Text.{IsText}
+use Rattle.wiki_base.proofs.OptionLaws.{option_or-none}
 use Rattle.lexicon.specs.declared.kinds.Forms.{Forms}
 use Rattle.lexicon.specs.declared.words.Word.{Word}
 use Rattle.lexicon.specs.declared.words.LexFault.TheVariants.{Taken, Reserved}
@@ -17,20 +19,6 @@ use Rattle.lexicon.specs.Kinds.{IsComplete}
 use Rattle.lexicon.specs.declared.words.TheConstants.{MOST_WORDS}
 use Rattle.lexicon.specs.Words.{Listed, is_among, has_form, owner, SharesNoForm, HasNoTerminal, IsLexicon, next_word, with_word, first_taken, first_reserved, fullness, forms_refusal}
 use Rattle.lexicon.specs.Terminals.{is_reserved}
-
--- where neither of two is there, no choice of them is
-pub none_of_both : {X : Type 0} (a b : Option X) → option_or a b ≡ None → (a ≡ None) × (b ≡ None)
-none_of_both None b none = (refl, none)
-none_of_both (Some x) b none = cc
-
--- a search of joined lists goes on in the second
-pub find-append : {X : Type 0} (p : X → Bool) (xs ys : List X) → find p (xs ++ ys) ≡ option_or (find p xs) (find p ys)
-find-append p [] ys = refl
-find-append p (x ∷ xs) ys = by_test (p x) (find-append p xs ys)
-  where
-    by_test : (b : Bool) → find p (xs ++ ys) ≡ option_or (find p xs) (find p ys) → cond b (Some x) (find p (xs ++ ys)) ≡ option_or (cond b (Some x) (find p xs)) (find p ys)
-    by_test true rest = refl
-    by_test false rest = rest
 
 -- where none is found, each element fails
 pub fails_from_find : {X : Type 0} (p : X → Bool) (xs : List X) → find p xs ≡ None → (k : ℕ) (d : X) → k < length xs → p (get_or xs k d) ≡ false
@@ -58,7 +46,7 @@ no_word_has live text none = fails_from_find (has_form text) live (unmapped (fin
 pub free_texts : (live : List Word) (texts : List (List ℕ)) → first_taken live texts ≡ None → (text : List ℕ) → is_among texts text ≡ true → owner live text ≡ None
 free_texts live [] free text among = absurd (false≢true among)
 free_texts live (first ∷ texts) free text among =
-    let both = none_of_both (option_map (Taken first) (owner live first)) (first_taken live texts) free in
+    let both = option_or-none (option_map (Taken first) (owner live first)) (first_taken live texts) free in
     by_test (bytes_eq text first) (bytes_eq-Decides text first).0 among (unmapped (owner live first) both.0) (free_texts live texts both.1 text)
   where
     unmapped : (o : Option WordId) → option_map (Taken first) o ≡ None → o ≡ None
@@ -93,7 +81,7 @@ unreserved_texts terminals (first ∷ texts) free text among =
 module _ (listed : Listed) (forms : Forms) (lexicon : IsLexicon listed) (complete : IsComplete forms) (texts : All IsText forms.texts) (free : forms_refusal listed.live listed.terminals forms ≡ None) (room : fullness listed ≡ None) where
   -- no form is taken, and none is reserved
   free_and_unreserved : (first_taken listed.live forms.texts ≡ None) × (first_reserved listed.terminals forms.texts ≡ None)
-  free_and_unreserved = none_of_both (first_taken listed.live forms.texts) (first_reserved listed.terminals forms.texts) free
+  free_and_unreserved = option_or-none (first_taken listed.live forms.texts) (first_reserved listed.terminals forms.texts) free
 
   -- the forms of the new word are no other word's
   pub new_forms : (text : List ℕ) → is_among forms.texts text ≡ true → owner listed.live text ≡ None

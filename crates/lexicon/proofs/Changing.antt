@@ -15,16 +15,10 @@ use Rattle.lexicon.specs.Kinds.{IsComplete}
 use Rattle.lexicon.specs.Words.{Listed, is_among, has_form, has_number, owner, others, SharesNoForm, HasNoTerminal, IsLexicon, IsPlaceOf, forms_of, forms_refusal, reword_refusal, first_taken, first_reserved, with_forms, without_word}
 use Rattle.lexicon.specs.declared.words.LexFault.TheVariants.{NoWord}
 use Rattle.std.specs.Option.{option_map_or}
-use Rattle.lexicon.proofs.Adding.{none_of_both, free_texts, unreserved_texts, no_word_has}
-use Rattle.lexicon.proofs.Others.{pairs_tail, pairs_head, others-remove, owner-place, owner-removed}
-
--- a map that leaves each element as it is leaves the list
-map_same : {X : Type 0} (f : X → X) (xs : List X) → ((k : ℕ) (d : X) → k < length xs → f (get_or xs k d) ≡ get_or xs k d) → map f xs ≡ xs
-map_same f [] same = refl
-map_same {X} f (x ∷ xs) same = join (same zero x (omega arith)) (map_same f xs (λ k d in_range. same (suc k) d (omega arith)))
-  where
-    join : {y : X} {ys : List X} → y ≡ x → ys ≡ xs → y ∷ ys ≡ x ∷ xs
-    join {y} {ys} head tail = cc
+use Rattle.wiki_base.proofs.ListLaws.{map_same, AllPairs-tail, AllPairs-head}
+use Rattle.wiki_base.proofs.OptionLaws.{option_or-none}
+use Rattle.lexicon.proofs.Adding.{free_texts, unreserved_texts, no_word_has}
+use Rattle.lexicon.proofs.Others.{others-remove, owner-place, owner-removed}
 
 -- what holds of each two elements in turn holds with one replaced, where it holds of that one and the others
 pairs_set : {X : Type 0} (R : X → X → Type 0) (xs : List X) (place : ℕ) (y : X) → place < length xs → AllPairs R xs → ((k : ℕ) (d : X) → k < place → R (get_or xs k d) y) → ((k : ℕ) (d : X) → place < k → k < length xs → R y (get_or xs k d)) → AllPairs R (set xs place y)
@@ -54,7 +48,7 @@ with_forms-set (first ∷ live) in_order id zero is forms word at = by_test (has
   where
     unchanged : (k : ℕ) (d : Word) → k < length live → cond (has_number id (get_or live k d)) (record (get_or live k d) { forms = forms }) (get_or live k d) ≡ get_or live k d
     unchanged k d in_range =
-        let above : first.id.0 < (get_or live k d).id.0 = pairs_head (λ (w v : Word). w.id.0 < v.id.0) first live in_order k d in_range in
+        let above : first.id.0 < (get_or live k d).id.0 = AllPairs-head (λ (w v : Word). w.id.0 < v.id.0) first live in_order k d in_range in
         let same : first.id.0 ≡ id.0 = is.numbered first in
         let no : eqb (get_or live k d).id.0 id.0 ≡ false = grind (arith, nat_tests) in
         rw no refl
@@ -63,11 +57,11 @@ with_forms-set (first ∷ live) in_order id zero is forms word at = by_test (has
     by_test true here rest = rw rest (subst (λ (w : Word). record { id = first.id; forms = forms } ∷ live ≡ record { id = w.id; forms = forms } ∷ live) (sym at) refl)
     by_test false here rest = absurd (false≢true here)
 with_forms-set (first ∷ live) in_order id (suc place) is forms word at =
-    by_test (has_number id first) earlier (with_forms-set live (pairs_tail (λ (w v : Word). w.id.0 < v.id.0) first live in_order) id place (record { in_range = omega (arith, is.in_range); numbered = is.numbered }) forms word at)
+    by_test (has_number id first) earlier (with_forms-set live (AllPairs-tail (λ (w v : Word). w.id.0 < v.id.0) first live in_order) id place (record { in_range = omega (arith, is.in_range); numbered = is.numbered }) forms word at)
   where
     earlier : has_number id first ≡ false
     earlier =
-        let below : first.id.0 < (get_or live place first).id.0 = pairs_head (λ (w v : Word). w.id.0 < v.id.0) first live in_order place first (omega (arith, is.in_range)) in
+        let below : first.id.0 < (get_or live place first).id.0 = AllPairs-head (λ (w v : Word). w.id.0 < v.id.0) first live in_order place first (omega (arith, is.in_range)) in
         let same : (get_or live place first).id.0 ≡ id.0 = is.numbered first in
         grind (arith, nat_tests)
 
@@ -108,7 +102,7 @@ module _ (listed : Listed) (lexicon : IsLexicon listed) (id : WordId) (place : �
 
     -- no form is another word's, and none is reserved
     free_and_unreserved : (first_taken (others listed.live id) forms.texts ≡ None) × (first_reserved listed.terminals forms.texts ≡ None)
-    free_and_unreserved = none_of_both (first_taken (others listed.live id) forms.texts) (first_reserved listed.terminals forms.texts) free
+    free_and_unreserved = option_or-none (first_taken (others listed.live id) forms.texts) (first_reserved listed.terminals forms.texts) free
 
     new_forms : (text : List ℕ) → is_among forms.texts text ≡ true → owner (remove listed.live place) text ≡ None
     new_forms text has = subst (λ (live : List Word). owner live text ≡ None) others_are (free_texts (others listed.live id) forms.texts free_and_unreserved.0 text has)

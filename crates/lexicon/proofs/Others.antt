@@ -4,25 +4,9 @@ use Rattle.std.specs.List.{remove}
 use Rattle.std.proofs.lemmas.Bool.{false≢true}
 use Rattle.std.proofs.lemmas.Bool.Decides.{nat_tests}
 use Rattle.wiki_base.specs.declared.numbers.WordId.{WordId}
+use Rattle.wiki_base.proofs.ListLaws.{AllPairs-tail, AllPairs-head, filter_all, find_none}
 use Rattle.lexicon.specs.declared.words.Word.{Word}
 use Rattle.lexicon.specs.Words.{has_form, has_number, owner, others, SharesNoForm, IsPlaceOf}
-use Rattle.lexicon.proofs.Places.{find_none}
-
--- what holds of each word and each later one holds in the tail, and of the head with each in the tail
-pub pairs_tail : {X : Type 0} (R : X → X → Type 0) (x : X) (xs : List X) → AllPairs R (x ∷ xs) → AllPairs R xs
-pairs_tail R x xs pairs i j d lt in_range = pairs (suc i) (suc j) d (omega arith) (omega arith)
-
-pub pairs_head : {X : Type 0} (R : X → X → Type 0) (x : X) (xs : List X) → AllPairs R (x ∷ xs) → (k : ℕ) (d : X) → k < length xs → R x (get_or xs k d)
-pairs_head R x xs pairs k d in_range = pairs zero (suc k) d (omega arith) (omega arith)
-
--- a filter that each element passes keeps all
-pub filter_all : {X : Type 0} (p : X → Bool) (xs : List X) → ((k : ℕ) (d : X) → k < length xs → p (get_or xs k d) ≡ true) → filter p xs ≡ xs
-filter_all p [] passes = refl
-filter_all p (x ∷ xs) passes = by_test (p x) (passes zero x (omega arith)) (filter_all p xs (λ k d in_range. passes (suc k) d (omega arith)))
-  where
-    by_test : (b : Bool) → b ≡ true → filter p xs ≡ xs → cond b (x ∷ filter p xs) (filter p xs) ≡ x ∷ xs
-    by_test true passed rest = ap (λ ys. x ∷ ys) rest
-    by_test false passed rest = absurd (false≢true passed)
 
 -- where each element fails, a search of what a filter keeps finds none
 find_none_kept : {X : Type 0} (p q : X → Bool) (xs : List X) → ((k : ℕ) (d : X) → k < length xs → p (get_or xs k d) ≡ false) → find p (filter q xs) ≡ None
@@ -48,13 +32,13 @@ no_owner words text none = ap (option_map (λ (word : Word). word.id)) none
 
 -- the words that share no form with the one before them have none of its forms
 none_after : (word : Word) (words : List Word) (text : List ℕ) → AllPairs SharesNoForm (word ∷ words) → has_form text word ≡ true → (k : ℕ) (d : Word) → k < length words → has_form text (get_or words k d) ≡ false
-none_after word words text apart has k d in_range = pairs_head SharesNoForm word words apart k d in_range text has
+none_after word words text apart has k d in_range = AllPairs-head SharesNoForm word words apart k d in_range text has
 
 -- the owner among the other words is the owner, if that is another word
 pub owner-others : (live : List Word) → AllPairs SharesNoForm live → (id : WordId) (text : List ℕ) → owner (others live id) text ≡ other_than id (owner live text)
 owner-others [] apart id text = refl
 owner-others (word ∷ live) apart id text =
-    by_tests (has_number id word) refl (has_form text word) refl (owner-others live (pairs_tail SharesNoForm word live apart) id text) (none_after word live text apart)
+    by_tests (has_number id word) refl (has_form text word) refl (owner-others live (AllPairs-tail SharesNoForm word live apart) id text) (none_after word live text apart)
   where
     kept : (f n : Bool) → owner (others live id) text ≡ other_than id (owner live text) → n ≡ false → has_number id word ≡ n → option_map (λ (w : Word). w.id) (cond f (Some word) (find (has_form text) (others live id))) ≡ other_than id (option_map (λ (w : Word). w.id) (cond f (Some word) (find (has_form text) live)))
     kept true true rest failed is = absurd (false≢true (sym failed))
@@ -84,7 +68,7 @@ others-remove (word ∷ live) in_order id zero is = by_test (has_number id word)
   where
     unequal : (k : ℕ) (d : Word) → k < length live → not (has_number id (get_or live k d)) ≡ true
     unequal k d in_range =
-        let above : word.id.0 < (get_or live k d).id.0 = pairs_head (λ (w v : Word). w.id.0 < v.id.0) word live in_order k d in_range in
+        let above : word.id.0 < (get_or live k d).id.0 = AllPairs-head (λ (w v : Word). w.id.0 < v.id.0) word live in_order k d in_range in
         let same : word.id.0 ≡ id.0 = is.numbered word in
         let no : eqb (get_or live k d).id.0 id.0 ≡ false = grind (arith, nat_tests) in
         rw no refl
@@ -93,11 +77,11 @@ others-remove (word ∷ live) in_order id zero is = by_test (has_number id word)
     by_test true here rest = rest
     by_test false here rest = absurd (false≢true here)
 others-remove (word ∷ live) in_order id (suc place) is =
-    by_test (has_number id word) (before word) (others-remove live (pairs_tail (λ (w v : Word). w.id.0 < v.id.0) word live in_order) id place (record { in_range = omega (arith, is.in_range); numbered = is.numbered }))
+    by_test (has_number id word) (before word) (others-remove live (AllPairs-tail (λ (w v : Word). w.id.0 < v.id.0) word live in_order) id place (record { in_range = omega (arith, is.in_range); numbered = is.numbered }))
   where
     before : (d : Word) → has_number id word ≡ false
     before d =
-        let below : word.id.0 < (get_or live place d).id.0 = pairs_head (λ (w v : Word). w.id.0 < v.id.0) word live in_order place d (omega (arith, is.in_range)) in
+        let below : word.id.0 < (get_or live place d).id.0 = AllPairs-head (λ (w v : Word). w.id.0 < v.id.0) word live in_order place d (omega (arith, is.in_range)) in
         let same : (get_or live place d).id.0 ≡ id.0 = is.numbered d in
         grind (arith, nat_tests)
 
@@ -110,7 +94,7 @@ pub owner_gone : (live : List Word) → AllPairs SharesNoForm live → (place : 
 owner_gone [] apart place d in_range text has = absurd (omega arith)
 owner_gone (word ∷ live) apart zero d in_range text has = no_owner live text (find_none (has_form text) live (none_after word live text apart has))
 owner_gone (word ∷ live) apart (suc place) d in_range text has =
-    by_test (has_form text word) (λ first. false≢true (sym (none_after word live text apart first place d (omega arith)) ∙ has)) (owner_gone live (pairs_tail SharesNoForm word live apart) place d (omega arith) text has)
+    by_test (has_form text word) (λ first. false≢true (sym (none_after word live text apart first place d (omega arith)) ∙ has)) (owner_gone live (AllPairs-tail SharesNoForm word live apart) place d (omega arith) text has)
   where
     by_test : (b : Bool) → (b ≡ true → ⊥) → owner (remove live place) text ≡ None → option_map (λ (w : Word). w.id) (cond b (Some word) (find (has_form text) (remove live place))) ≡ None
     by_test true not rest = absurd (not refl)
@@ -125,7 +109,7 @@ owner-place (word ∷ live) apart zero d in_range text = by_test (has_form text 
     by_test true = refl
     by_test false = refl
 owner-place (word ∷ live) apart (suc place) d in_range text =
-    by_tests (has_form text word) (has_form text (get_or live place d)) (λ first. none_after word live text apart first place d (omega arith)) (owner-place live (pairs_tail SharesNoForm word live apart) place d (omega arith) text)
+    by_tests (has_form text word) (has_form text (get_or live place d)) (λ first. none_after word live text apart first place d (omega arith)) (owner-place live (AllPairs-tail SharesNoForm word live apart) place d (omega arith) text)
   where
     by_tests : (b c : Bool) → (b ≡ true → c ≡ false) → owner live text ≡ cond c (Some (get_or live place d).id) (owner (remove live place) text) → option_map (λ (w : Word). w.id) (cond b (Some word) (find (has_form text) live)) ≡ cond c (Some (get_or live place d).id) (option_map (λ (w : Word). w.id) (cond b (Some word) (find (has_form text) (remove live place))))
     by_tests true true apart rest = absurd (false≢true (sym (apart refl)))

@@ -8,17 +8,9 @@ use Rattle.std.proofs.lemmas.Bool.{cases_lt}
 use Rattle.std.proofs.lemmas.Bool.Decides.{nat_tests}
 use Rattle.std.proofs.lemmas.List.Recursion.{found_at, found_nowhere}
 use Rattle.wiki_base.specs.declared.numbers.WordId.{WordId}
+use Rattle.wiki_base.proofs.ListLaws.{find_none, find_first}
 use Rattle.lexicon.specs.declared.words.Word.{Word}
 use Rattle.lexicon.specs.Words.{forms_of, IsPlaceOf}
-
--- a test that no element passes finds none
-pub find_none : {X : Type 0} (p : X → Bool) (xs : List X) → ((k : ℕ) (d : X) → k < length xs → p (get_or xs k d) ≡ false) → find p xs ≡ None
-find_none p [] fails = refl
-find_none p (x ∷ xs) fails = found_nowhere (find p) p Some None refl (λ _ _. refl) (x ∷ xs) x (λ k in_range. fails k x in_range)
-
--- a test finds the first element that passes
-pub find_first : {X : Type 0} (p : X → Bool) (xs : List X) (i : ℕ) (d : X) → i < length xs → ((k : ℕ) → k < i → p (get_or xs k d) ≡ false) → p (get_or xs i d) ≡ true → find p xs ≡ Some (get_or xs i d)
-find_first p xs i d in_range before here = found_at (find p) p Some None refl (λ _ _. refl) xs i d in_range before here
 
 module _ (live : List Word) (in_order : AllPairs (λ word later. word.id.0 < later.id.0) live) (id : WordId) where
   -- the numbers rise along the list, as a binary search asks

@@ -4,8 +4,8 @@ use Rattle.std.specs.Prelude.{nat_lt, not, if◌then◌else◌}
 use Rattle.std.specs.List.{list_any, list_all}
 use Rattle.std.specs.Map.{lookup}
 use Rattle.std.proofs.lemmas.Bool.{ltb-true, and_parts, eq-eqb, ne_eqb, cases_eq}
-use Rattle.std.proofs.Math.Bool.{or-false as or_none}
-use Rattle.wiki_base.proofs.BoolLaws.{or-turn as swap_or}
+use Rattle.std.proofs.Math.Bool.{or-false as or_none, and_comm}
+use Rattle.wiki_base.proofs.BoolLaws.{or-turn as swap_or, and-not}
 use Rattle.wiki_base.specs.declared.numbers.WordId.{WordId}
 use Rattle.logic_terms.specs.declared.expressions.Role.{Role}
 use Rattle.logic_terms.specs.Interpretation.{Interpretation, is_interpretation, is_word, words_rise, pairs_of, relates}
@@ -46,13 +46,9 @@ not_or : (a b : Bool) → (not (not a) && not b) ≡ not (not a || b)
 not_or true b = refl
 not_or false b = refl
 
-both_not : (a b : Bool) → (a && not b) ≡ not (not a || b)
-both_not true b = refl
-both_not false b = refl
-
 each_below-not : (n : ℕ) (test : ℕ → Bool) → each_below n test ≡ not (some_below n (λ k. not (test k)))
 each_below-not zero test = refl
-each_below-not (suc n) test = ap (λ b. test n && b) (each_below-not n test) ∙ both_not (test n) (some_below n (λ k. not (test k)))
+each_below-not (suc n) test = ap (λ b. test n && b) (each_below-not n test) ∙ and-not (test n) (some_below n (λ k. not (test k)))
 
 not_implies : (a b : Bool) → not (implies a b) ≡ (a && not b)
 not_implies true b = refl
@@ -107,20 +103,14 @@ list_all-map : {X Y : Type 0} (f : X → Y) (test : Y → Bool) (xs : List X) �
 list_all-map f test [] = refl
 list_all-map f test (x ∷ xs) = ap (λ b. test (f x) && b) (list_all-map f test xs)
 
-and_swap : (a b : Bool) → (a && b) ≡ (b && a)
-and_swap true true = refl
-and_swap true false = refl
-and_swap false true = refl
-and_swap false false = refl
-
 paired_swapped : (ps : List (ℕ × ℕ)) (x y : ℕ) → paired (map swapped ps) x y ≡ paired ps y x
 paired_swapped ps x y =
-    list_any-map swapped (λ p. (p.0 == x) && (p.1 == y)) ps ∙ ap (λ t. list_any t ps) (λ j p. and_swap (p.1 == x) (p.0 == y) j)
+    list_any-map swapped (λ p. (p.0 == x) && (p.1 == y)) ps ∙ ap (λ t. list_any t ps) (λ j p. and_comm (p.1 == x) (p.0 == y) j)
 
 fit_swapped : (n : ℕ) (ps : List (ℕ × ℕ)) → ends_fit n ps ≡ true → ends_fit n (map swapped ps) ≡ true
 fit_swapped n ps fit =
     list_all-map swapped (λ p. nat_lt p.0 n && nat_lt p.1 n) ps
-    ∙ (ap (λ t. list_all t ps) (λ j p. and_swap (nat_lt p.1 n) (nat_lt p.0 n) j) ∙ fit)
+    ∙ (ap (λ t. list_all t ps) (λ j p. and_comm (nat_lt p.1 n) (nat_lt p.0 n) j) ∙ fit)
 
 along_by : (b : Bool) (ps : List (ℕ × ℕ)) (x y : ℕ) → paired (if b then map swapped ps else ps) x y ≡ (if b then paired ps y x else paired ps x y)
 along_by true ps x y = paired_swapped ps x y

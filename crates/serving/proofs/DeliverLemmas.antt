@@ -4,6 +4,7 @@ use Rattle.std.proofs.lemmas.Bool.{cases_lt}
 use Rattle.std.proofs.lemmas.Grind.{flat_map-append}
 use Rattle.std.proofs.lemmas.List.{map_push, map-append, take_rest}
 use Rattle.std.specs.List.{flat_map}
+use Rattle.std.proofs.lemmas.Option.{same_Some}
 use Rattle.wiki_io.specs.Faults.{Rose}
 use Rattle.wiki_io.specs.Link.{with_more, sent_on}
 use Rattle.serving.specs.Delivering.{Delivery, response, front_sent, lacking, cut, Delivers}
@@ -139,14 +140,11 @@ cut-none (d ∷ deliveries) none =
     let one : front_sent d ≡ response d = ap (λ bs. (d.number, bs)) (sym (append-nil d.sent) ∙ ap (λ bs. d.sent ++ bs) (sym all_sent)) in
     ap (λ r. r ∷ map front_sent deliveries) one ∙ ap (λ rs. response d ∷ rs) (cut-none deliveries (omega arith))
 
-some-same : {X : Type 0} (x y : X) → Some x ≡ Some y → x ≡ y
-some-same x y same = cc
-
 -- where no send failed, the bytes sent on each connection are those of its responses
 pub Delivers-whole : (responses : List (ℕ × List ℕ)) (sent sent_after : Option (List (ℕ × List ℕ))) (faults faults_after : ℕ) → Delivers responses sent faults sent_after faults_after
     → ¬ Rose faults faults_after → (n : ℕ) (told told_after : List (ℕ × List ℕ)) → sent ≡ Some told → sent_after ≡ Some told_after → sent_on n told_after ≡ sent_on n told ++ sent_on n responses
 Delivers-whole responses sent sent_after faults faults_after delivers no_fault n told told_after is is_after =
     let none : cut delivers.deliveries ≡ 0 = elim (cases_lt 0 (cut delivers.deliveries)) [ inl some ↦ absurd (no_fault (omega (arith, delivers.few))) | inr few ↦ omega arith ] in
-    let after : told_after ≡ told ++ delivers.pieces = some-same told_after (told ++ delivers.pieces) (sym is_after ∙ delivers.taken ∙ ap (λ s. with_more s delivers.pieces) is) in
+    let after : told_after ≡ told ++ delivers.pieces = same_Some told_after (told ++ delivers.pieces) (sym is_after ∙ delivers.taken ∙ ap (λ s. with_more s delivers.pieces) is) in
     ap (sent_on n) after ∙ flat_map-append (λ (p : ℕ × List ℕ). if p.0 == n then p.1 else []) told delivers.pieces
     ∙ ap (λ bs. sent_on n told ++ bs) (delivers.on_each n ∙ ap (sent_on n) (cut-none delivers.deliveries none ∙ delivers.whole))

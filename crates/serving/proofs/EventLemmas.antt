@@ -149,8 +149,3 @@ pub with_reply : {A E : Type 0} (P Q : A → Reply → Type 0) (steps : Reply �
     → IfOk r (λ a. (told : Reply) × steps told × P a told × Q a told)
 with_reply P Q steps (Ok a) reply stepped is = (reply, stepped, is.0, is.1)
 with_reply P Q steps (Err e) reply stepped is = tt
-
--- what holds anyway holds where there is an error
-pub err_with : {A E P : Type 0} (r : Result A E) → P → OnErr r P
-err_with (Ok a) holds = tt
-err_with (Err e) holds = holds

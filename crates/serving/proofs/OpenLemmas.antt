@@ -1,7 +1,8 @@
 -- The connections that a link has open, and those that a server keeps.
 use Rattle.std.proofs.Common.{◌≡◌, ℕ, ◌==◌, ◌||◌, eqb, Bool, true, false, not, List, [], ◌∷◌, ◌++◌, map, refl, sym, ap, subst, ◌∙◌, IsTrue, inl, inr, length, ◌<◌, ◌≤◌}
-use Rattle.std.proofs.lemmas.Bool.{false≢true, cases_lt, eq-eqb}
+use Rattle.std.proofs.lemmas.Bool.{false≢true, cases_lt, eq-eqb, not-true}
 use Rattle.std.proofs.lemmas.List.{map-append}
+use Rattle.wiki_base.proofs.NumberLaws.{eqb_refl}
 use Rattle.wiki_io.specs.declared.links.Event.{Event}
 use Rattle.wiki_io.specs.declared.links.Event.TheVariants.{Opened, Piece, Ended}
 use Rattle.wiki_io.specs.Link.{is_among, without, can_come, connections_after}
@@ -18,15 +19,12 @@ use Rattle.server.proofs.OwnLemmas.{by_number, numbers-piece}
 
 -- ---- lists of numbers
 
-same_number : (n : ℕ) → (n == n) ≡ true
-same_number n = eq-eqb n n refl
-
 among_push : (n : ℕ) (ns : List ℕ) → is_among (ns ++ n ∷ []) n ≡ true
-among_push n [] = rw (same_number n) refl
+among_push n [] = rw (eqb_refl n) refl
 among_push n (m ∷ ns) = by_number m n (is_among ((m ∷ ns) ++ n ∷ []) n ≡ true) (λ is. rw is refl) (λ is. rw is (among_push n ns))
 
 without_push : (n : ℕ) (ns : List ℕ) → is_among ns n ≡ false → without n (ns ++ n ∷ []) ≡ ns
-without_push n [] none = rw (same_number n) refl
+without_push n [] none = rw (eqb_refl n) refl
 without_push n (m ∷ ns) none = by_number m n (without n ((m ∷ ns) ++ n ∷ []) ≡ m ∷ ns)
     (λ is. absurd (false≢true (sym none ∙ ap (λ b. b || is_among ns n) is)))
     (λ is. rw is (ap (λ l. m ∷ l) (without_push n ns (sym (ap (λ b. b || is_among ns n) is) ∙ none))))
@@ -36,10 +34,6 @@ numbers_closed n [] = refl
 numbers_closed n (c ∷ kept) = by_number c.number n (numbers (closed n (c ∷ kept)) ≡ without n (numbers (c ∷ kept)))
     (λ is. rw is (numbers_closed n kept))
     (λ is. rw is (ap (λ l. c.number ∷ l) (numbers_closed n kept)))
-
-not_true : (b : Bool) → not b ≡ true → b ≡ false
-not_true true h = absurd (false≢true h)
-not_true false h = refl
 
 -- ---- a turn with a response on a connection
 
@@ -85,7 +79,7 @@ module _ (old new : List Kept) (n : ℕ) where
 answered_by : (old : List Kept) (event : Event) (turn : Turn) (new : List Kept) (n : ℕ) → IsTrue (can_come (numbers old) event) → Takes old event turn new → IsOn n turn
     → IsAnswered old new n (connections_after (numbers old) event)
 unfolding IsOn
-answered_by old (Opened m) turn new n comes takes on = on_opening old new n m turn (not_true (is_among (numbers old) m) comes) takes on
+answered_by old (Opened m) turn new n comes takes on = on_opening old new n m turn (not-true (is_among (numbers old) m) comes) takes on
 answered_by old (Piece m piece) turn new n comes takes on = on_piece old new n m piece turn comes takes on
 answered_by old (Ended m) turn new n comes takes on = absurd (subst (IsOn n) takes.turn_is on)
 

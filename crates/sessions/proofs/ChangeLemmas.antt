@@ -8,11 +8,11 @@ use Rattle.std.proofs.lemmas.List.Edits.{length-remove}
 use Rattle.std.proofs.lemmas.List.{length-map, length-set, set-get_or, map-append}
 use Rattle.wiki_base.specs.declared.numbers.SessionId.{SessionId}
 use Rattle.wiki_base.specs.declared.numbers.WordId.{WordId}
+use Rattle.wiki_base.proofs.ListLaws.{AllPairs-tail, AllPairs-head}
 use Rattle.codeco_terms.specs.GrammarParts.{GrammarParts}
 use Rattle.lexicon.specs.Words.{Listed}
 use Rattle.derivation_trees.specs.Settings.{Setting}
 use Rattle.editor.specs.Editing.{IsEdited}
-use Rattle.sessions.proofs.OrderLaws.{pairs_tail, pairs_head}
 use Rattle.sessions.proofs.PlaceLemmas.{session_at, with_change-set, without_session-remove}
 use Rattle.sessions.specs.declared.session.Session.{Session}
 use Rattle.sessions.specs.declared.sessions.TheConstants.{MOST_SESSIONS}
@@ -48,10 +48,10 @@ pairs_push : {X : Type 0} (R : X → X → Type 0) (xs : List X) (y : X) → All
 pairs_push R [] y pairs below i j d lt in_range = absurd (omega (arith, lt, in_range))
 pairs_push R (x ∷ xs) y pairs below zero zero d lt in_range = absurd (omega arith)
 pairs_push R (x ∷ xs) y pairs below zero (suc j) d lt in_range =
-    All-append (R x) xs (y ∷ []) (pairs_head R x xs pairs) (one_holds (R x) y (below zero x (omega arith))) j d (omega (arith, in_range))
+    All-append (R x) xs (y ∷ []) (AllPairs-head R x xs pairs) (one_holds (R x) y (below zero x (omega arith))) j d (omega (arith, in_range))
 pairs_push R (x ∷ xs) y pairs below (suc i) zero d lt in_range = absurd (omega arith)
 pairs_push R (x ∷ xs) y pairs below (suc i) (suc j) d lt in_range =
-    pairs_push R xs y (pairs_tail R x xs pairs) (λ k e bound. below (suc k) e (omega (arith, bound))) i j d (omega (arith, lt)) (omega (arith, in_range))
+    pairs_push R xs y (AllPairs-tail R x xs pairs) (λ k e bound. below (suc k) e (omega (arith, bound))) i j d (omega (arith, lt)) (omega (arith, in_range))
 
 all_remove : {X : Type 0} (P : X → Type 0) (xs : List X) (place : ℕ) → All P xs → All P (remove xs place)
 all_remove P [] zero h = h

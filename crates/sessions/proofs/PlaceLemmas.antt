@@ -8,7 +8,7 @@ use Rattle.std.proofs.lemmas.Cmp.{ranked}
 use Rattle.std.proofs.lemmas.Bool.{cases_lt, false≢true}
 use Rattle.std.proofs.lemmas.Bool.Decides.{nat_tests}
 use Rattle.wiki_base.specs.declared.numbers.SessionId.{SessionId}
-use Rattle.sessions.proofs.OrderLaws.{find_none, find_first, pairs_tail, pairs_head}
+use Rattle.wiki_base.proofs.ListLaws.{find_none, find_first, AllPairs-tail, AllPairs-head}
 use Rattle.sessions.specs.declared.session.Session.{Session}
 use Rattle.sessions.specs.Sessions.{PlainSession, plain, all_plain, session_of, AreInOrder, with_change, without_session}
 use Rattle.sessions.specs.Places.{IsPlaceOf}
@@ -63,13 +63,13 @@ module _ (sessions : List Session) (in_order : AreInOrder sessions) (number : Se
 -- a session behind the one with the number has another number
 other_after : (first : Session) (sessions : List Session) (number : SessionId) → AreInOrder (first ∷ sessions) → first.number.0 ≡ number.0 → (k : ℕ) (d : Session) → k < length sessions → is_numbered number (get_or sessions k d) ≡ false
 other_after first sessions number in_order same k d in_range =
-    let above : first.number.0 < (get_or sessions k d).number.0 = pairs_head (λ (a b : Session). a.number.0 < b.number.0) first sessions in_order k d in_range in
+    let above : first.number.0 < (get_or sessions k d).number.0 = AllPairs-head (λ (a b : Session). a.number.0 < b.number.0) first sessions in_order k d in_range in
     grind (arith, nat_tests)
 
 -- a session before the one with the number has another number
 other_before : (first : Session) (sessions : List Session) (number : SessionId) → AreInOrder (first ∷ sessions) → (place : ℕ) → suc place < length (first ∷ sessions) → (get_or sessions place first).number.0 ≡ number.0 → is_numbered number first ≡ false
 other_before first sessions number in_order place in_range same =
-    let below : first.number.0 < (get_or sessions place first).number.0 = pairs_head (λ (a b : Session). a.number.0 < b.number.0) first sessions in_order place first (omega arith) in
+    let below : first.number.0 < (get_or sessions place first).number.0 = AllPairs-head (λ (a b : Session). a.number.0 < b.number.0) first sessions in_order place first (omega arith) in
     grind (arith, nat_tests)
 
 -- where no session has the number, a change of it changes nothing
@@ -101,7 +101,7 @@ with_change-set (first ∷ sessions) in_order number zero is change after d chan
     by_test false here rest = absurd (false≢true here)
 with_change-set (first ∷ sessions) in_order number (suc place) is change after d changed =
     by_test (is_numbered number first) (other_before first sessions number in_order place is.in_range (is.numbered first))
-    (with_change-set sessions (pairs_tail (λ (a b : Session). a.number.0 < b.number.0) first sessions in_order) number place (record { in_range = omega (arith, is.in_range); numbered = is.numbered }) change after d changed)
+    (with_change-set sessions (AllPairs-tail (λ (a b : Session). a.number.0 < b.number.0) first sessions in_order) number place (record { in_range = omega (arith, is.in_range); numbered = is.numbered }) change after d changed)
   where
     by_test : (b : Bool) → b ≡ false → all_plain (set sessions place after) ≡ with_change (all_plain sessions) number change → plain first ∷ all_plain (set sessions place after) ≡ cond b (change (plain first)) (plain first) ∷ with_change (all_plain sessions) number change
     by_test true failed rest = absurd (false≢true (sym failed))
@@ -118,7 +118,7 @@ without_session-remove (first ∷ sessions) in_order number zero is =
     by_test false here rest = absurd (false≢true here)
 without_session-remove (first ∷ sessions) in_order number (suc place) is =
     by_test (is_numbered number first) (other_before first sessions number in_order place is.in_range (is.numbered first))
-    (without_session-remove sessions (pairs_tail (λ (a b : Session). a.number.0 < b.number.0) first sessions in_order) number place (record { in_range = omega (arith, is.in_range); numbered = is.numbered }))
+    (without_session-remove sessions (AllPairs-tail (λ (a b : Session). a.number.0 < b.number.0) first sessions in_order) number place (record { in_range = omega (arith, is.in_range); numbered = is.numbered }))
   where
     by_test : (b : Bool) → b ≡ false → all_plain (remove sessions place) ≡ without_session (all_plain sessions) number → plain first ∷ all_plain (remove sessions place) ≡ cond (not b) (plain first ∷ without_session (all_plain sessions) number) (without_session (all_plain sessions) number)
     by_test true failed rest = absurd (false≢true (sym failed))

@@ -3,6 +3,8 @@ use Rattle.std.proofs.Common.{◌≡◌, ℕ, zero, suc, ◌+◌, ◌<◌, ◌�
 use Rattle.std.specs.Prelude.{nat_lt, is_some, IsTrue, not, ◌⊎◌}
 use Rattle.std.specs.Option.{option_and_then, option_map, option_map_or, option_or}
 use Rattle.std.proofs.lemmas.Bool.{and_from, cond-true, cond-false, lt-ltb, le-ltb, eq-eqb, not_from_false}
+use Rattle.std.proofs.lemmas.List.{map_push}
+use Rattle.wiki_base.proofs.ListLaws.{length_mapped}
 use Rattle.logic_terms.specs.Theory.{Theory}
 use Rattle.tableau_rules.specs.declared.branch.Branch.{Branch}
 use Rattle.tableau_rules.specs.declared.step.Step.{Step}
@@ -85,14 +87,6 @@ tree_of-Clash clash = ap tree_of (sym (closed.rolls-Clash clash)) ∙ fold-roll-
 pub tree_of-Step : (step : Step) (ts : List Closed) → tree_of (closed.Step step ts) ≡ splits step (trees_from (map tree_of ts))
 tree_of-Step step ts = ap tree_of (sym (closed.rolls-Step step ts)) ∙ fold-roll-Closed Tree tree_layer (layers.Step step ts)
 
-map_push : {X Y : Type 0} (f : X → Y) (xs : List X) (x : X) → map f (xs ++ x ∷ []) ≡ map f xs ++ f x ∷ []
-map_push f [] x = refl
-map_push f (y ∷ xs) x = ap (λ zs. f y ∷ zs) (map_push f xs x)
-
-map_length : {X Y : Type 0} (f : X → Y) (xs : List X) → length (map f xs) ≡ length xs
-map_length f [] = refl
-map_length f (x ∷ xs) = ap suc (map_length f xs)
-
 -- one tree more closes one choice more
 each_push : (k : Theory) (g : Graph) (step : Step) (n m : ℕ) (ts : List Tree) (t : Tree) → n + length ts ≡ m → CloseEach k g step n ts → closes k (after k g step m) t ≡ true → CloseEach k g step n (ts ++ t ∷ [])
 each_push k g step n m [] t sum each here =
@@ -114,7 +108,7 @@ closes_clash k g clash there = ap (closes k g) (tree_of-Clash clash) ∙ there
 
 pub closes_step : (k : Theory) (g : Graph) (step : Step) (ts : List Closed) → first_step k g ≡ Some step → length ts ≡ choices g step → CloseEach k g step 0 (map tree_of ts) → closes k g (tree_of (closed.Step step ts)) ≡ true
 closes_step k g step ts first count each =
-    let sum : 0 + length (map tree_of ts) ≡ choices g step = omega (arith, map_length tree_of ts, count) in
+    let sum : 0 + length (map tree_of ts) ≡ choices g step = omega (arith, length_mapped tree_of ts, count) in
     ap (closes k g) (tree_of-Step step ts)
     ∙ and_from (applies k g step) (close_from k g step 0 (trees_from (map tree_of ts))) (first_applies k g step first) (each_from k g step 0 (map tree_of ts) sum each)
 
@@ -208,7 +202,7 @@ module _ (k : Theory) (waiting : List OpenChoice) (old new : List Taken) (t : Ta
 
   tried : CloseEach k (reached k new).graph t.step 0 (map tree_of trees)
   tried =
-      let sum : 0 + length (map tree_of t.trees) ≡ length t.trees = omega (arith, map_length tree_of t.trees) in
+      let sum : 0 + length (map tree_of t.trees) ≡ length t.trees = omega (arith, length_mapped tree_of t.trees) in
       subst (CloseEach k (reached k new).graph t.step 0) (sym (ap (map tree_of) grown ∙ map_push tree_of t.trees tree))
       (each_push k (reached k new).graph t.step 0 (length t.trees) (map tree_of t.trees) (tree_of tree) sum last.choice.tried (sym (ap (λ s. closes k s.graph (tree_of tree)) before) ∙ shut.shut))
 

@@ -4,6 +4,7 @@ use Rattle.std.proofs.Common.{◌≡◌, ℕ, zero, suc, ◌+◌, ◌-◌, ◌*�
 use Rattle.std.specs.Prelude.{not}
 use Rattle.std.proofs.Math.Nat.{pow-zero}
 use Rattle.std.proofs.lemmas.Bool.{and_from, and_parts, eq-eqb, eqb-true, false_from_ne_true, not_from_false}
+use Rattle.wiki_base.proofs.BoolLaws.{not_both}
 use Rattle.logic_terms.specs.declared.expressions.Role.{Role}
 use Rattle.logic_terms.specs.Concept.{Concept}
 use Rattle.logic_terms.specs.Meaning.{some_below}
@@ -74,9 +75,6 @@ is_same (Some y) x h = ap Some (eqb-true y x h)
 same_is : (o : Option ℕ) (x : ℕ) → o ≡ Some x → passes o (λ z. z == x) ≡ true
 same_is o x h = ap (λ q. passes q (λ z. z == x)) h ∙ eq-eqb x x refl
 
-both : {b : Bool} → b ≡ true → b ≡ false → ⊥
-both t f = cc
-
 module _ (k : Theory) (g h : Graph) (step : IsStep k g h) (down : ParentsBelow g) (within : (y : ℕ) → Within (label_at g y) (class_occurrences k)) (unique : (y : ℕ) → Unique (label_at g y)) where
   m : ℕ
   m = class_count k
@@ -137,7 +135,7 @@ module _ (k : Theory) (g h : Graph) (step : IsStep k g h) (down : ParentsBelow g
               let one = and_parts (passes (parent_of g found.0) (λ z. z == x)) (is_neighbour k g p.0 x found.0 && has_concept (label_at g found.0) p.1) found.2 in
               let two = and_parts (is_neighbour k g p.0 x found.0) (has_concept (label_at g found.0) p.1) one.1 in
               let open_there : is_indirectly_blocked k g found.0 ≡ false = indirectly-some k g down found.0 x (is_same (parent_of g found.0) x one.0) ∙ free in
-              both (some_below_passes (serves k g p.0 p.1 x) found.0 (length g.nodes) found.1
+              not_both (some_below_passes (serves k g p.0 p.1 x) found.0 (length g.nodes) found.1
               (and_from (is_neighbour k g p.0 x found.0) (not (is_indirectly_blocked k g found.0) && has_concept (label_at g found.0) p.1) two.0
               (and_from (not (is_indirectly_blocked k g found.0)) (has_concept (label_at g found.0) p.1) (not_from_false (is_indirectly_blocked k g found.0) open_there) two.1))) alone
 

@@ -3,6 +3,7 @@ use Rattle.std.proofs.Common.{◌≡◌, ℕ, zero, suc, ◌+◌, ◌-◌, ◌*�
 use Rattle.std.specs.Prelude.{nat_lt, is_some}
 use Rattle.std.specs.Option.{option_and_then, option_map_or}
 use Rattle.std.proofs.lemmas.Bool.{ltb-true, ltb-false}
+use Rattle.std.proofs.lemmas.Option.{same_Some}
 use Rattle.logic_terms.specs.Theory.{Theory}
 use Rattle.tableau_rules.specs.declared.step.Step.{Step}
 use Rattle.tableau_rules.specs.Graph.{Graph}
@@ -35,9 +36,6 @@ EachOpen k (o ∷ os) = IsOpenAt k o × EachOpen k os
 abbrev pub IsReady : Theory → Searching → Type 0
 IsReady k s = IsBranch k s.graph × EachOpen k s.waiting
 
-some_same : {X : Type 0} (a b : X) → Some a ≡ Some b → a ≡ b
-some_same a b e = cc
-
 -- the bounds: the rank of each branch is at most d, each step that applies raises it, and has fewer than b choices
 pub record IsRanked (k : Theory) (rank : Graph → ℕ) (b d : ℕ) : Type 0 where
   pub base : 0 < b
@@ -62,7 +60,7 @@ module _ (k : Theory) (rank : Graph → ℕ) (b d : ℕ) (ranked : IsRanked k ra
   resumed_less [] s each h = cc
   resumed_less (o ∷ others) s each h =
       let t : Searching = record { graph = after k o.graph o.step o.next; waiting = remaining (record { graph = o.graph; step = o.step; next = o.next + 1 }) ++ others } in
-      let same : t ≡ s = some_same t s h in
+      let same : t ≡ s = same_Some t s h in
       let rest = from_choice o.graph o.step (o.next + 1) others (nat_lt (o.next + 1) (choices o.graph o.step)) refl each.0.0 each.0.1 each.1 in
       let up : rank o.graph < rank (after k o.graph o.step o.next) = ranked.rises o.graph o.step o.next each.0.0 each.0.1 each.0.2 in
       let low : b ^ (d - rank (after k o.graph o.step o.next)) ≤ b ^ (d - (rank o.graph + 1)) =
@@ -110,7 +108,7 @@ module _ (k : Theory) (rank : Graph → ℕ) (b d : ℕ) (ranked : IsRanked k ra
       stepping (Some step) is e =
           let there : applies k s.graph step ≡ true = first_applies k s.graph step is in
           let rest = from_choice s.graph step 0 s.waiting (nat_lt 0 (choices s.graph step)) refl ready.0 there ready.1 in
-          let same = some_same (remaining (record { graph = s.graph; step = step; next = 0 }) ++ s.waiting) os e in
+          let same = same_Some (remaining (record { graph = s.graph; step = step; next = 0 }) ++ s.waiting) os e in
           let least = choices_less s.graph step (nat_lt 0 (choices s.graph step)) refl ready.0 there in
           subst (λ z. EachOpen k z × (waiting_left rank b d z < search_left rank b d s)) same
           (rest.0, sum (waiting_left rank b d (remaining (record { graph = s.graph; step = step; next = 0 }) ++ s.waiting)) ((choices s.graph step - 0) * b ^ (d - (rank s.graph + 1))) (waiting_left rank b d s.waiting) (b ^ (d - rank s.graph)) rest.1 least)
@@ -120,7 +118,7 @@ module _ (k : Theory) (rank : Graph → ℕ) (b d : ℕ) (ranked : IsRanked k ra
 
       go : (t : Bool) → cond t (Some s.waiting) (option_map_or (λ step. Some (remaining (record { graph = s.graph; step = step; next = 0 }) ++ s.waiting)) (first_step k s.graph) None) ≡ Some os → EachOpen k os × (waiting_left rank b d os < search_left rank b d s)
       go true e =
-          let same : s.waiting ≡ os = some_same s.waiting os e in
+          let same : s.waiting ≡ os = same_Some s.waiting os e in
           subst (λ z. EachOpen k z × (waiting_left rank b d z < search_left rank b d s)) same
           (ready.1, more (b ^ (d - rank s.graph)) (waiting_left rank b d s.waiting) (power_pos b (d - rank s.graph) ranked.base))
         where
@@ -143,7 +141,7 @@ module _ (k : Theory) (rank : Graph → ℕ) (b d : ℕ) (ranked : IsRanked k ra
 
   searched_less : (n : ℕ) (s : Searching) → searched k n ≡ Some s → IsReady k s × (search_left rank b d s + n ≤ b ^ d)
   searched_less zero s h =
-      let same : begun_search k ≡ s = some_same (begun_search k) s h in
+      let same : begun_search k ≡ s = same_Some (begun_search k) s h in
       subst (λ z. IsReady k z × (search_left rank b d z + zero ≤ b ^ d)) same
       ((begun, tt), first (b ^ (d - rank (start k))) (b ^ d) (power_up b (d - rank (start k)) d ranked.base (less d (rank (start k)))))
     where

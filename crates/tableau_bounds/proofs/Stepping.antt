@@ -3,7 +3,7 @@ use Rattle.std.proofs.Common.{◌≡◌, ℕ, zero, suc, ◌+◌, ◌<◌, ◌�
 use Rattle.std.specs.Prelude.{not, nat_lt, option_to_list}
 use Rattle.std.specs.List.{list_any}
 use Rattle.std.specs.Option.{option_map_or, option_and_then, option_or}
-use Rattle.std.proofs.lemmas.Bool.{cases_eq, cases_lt, and_parts, and_from, or_cases, or_left, or_right, eqb-true, eq-eqb}
+use Rattle.std.proofs.lemmas.Bool.{cases_eq, cases_lt, and_parts, and_from, or_cases, or_left, or_right, eqb-true, eq-eqb, not-true}
 use Rattle.std.proofs.lemmas.Option.{slice_get_within, slice_get_past}
 use Rattle.std.proofs.lemmas.List.Folds.{list_any-append}
 use Rattle.wiki_base.specs.declared.numbers.WordId.{WordId}
@@ -27,7 +27,7 @@ use Rattle.tableau_rules.specs.Blocking.{is_blocked, is_indirectly_blocked}
 use Rattle.tableau_rules.specs.Rules.{lacks_some, lacks_all, unfoldings_of, open_members, unit_member, serves, needs, row, site, applies, with_classes, adding, with_edge, with_node, choices_for, choices, effect, after}
 use Rattle.tableau_bounds.specs.Enough.{class_occurrences}
 use Rattle.tableau_bounds.proofs.Parts.{Within, general_within, unfoldings_within, intersection_within, union_within, some_within, all_class_within}
-use Rattle.tableau_bounds.proofs.Labels.{get_set_same, get_set_other, get_push_old, get_push_new, there_is, has_here, filter_within, one_within, new_classes, only_classes, BeginsWith, with_classes_begins, lacking_grows, lacks_one, lacks_member, not_true, Unique, unique_classes}
+use Rattle.tableau_bounds.proofs.Labels.{get_set_same, get_set_other, get_push_old, get_push_new, there_is, has_here, filter_within, one_within, new_classes, only_classes, BeginsWith, with_classes_begins, lacking_grows, lacks_one, lacks_member, Unique, unique_classes}
 
 -- whether the node of a value class is a neighbour by its role
 abbrev pub is_linked : Theory → Graph → ℕ → Concept → Bool
@@ -305,7 +305,7 @@ module _ (k : Theory) (g : Graph) (filled : UnionsHaveMembers k) (inside : (y : 
           let one = and_parts (is_neighbour k g p.0 x found.0) (not (is_indirectly_blocked k g found.0) && not (has_concept (label_at g found.0) p.1)) is.0 in
           let two = and_parts (not (is_indirectly_blocked k g found.0)) (not (has_concept (label_at g found.0) p.1)) one.1 in
           subst (λ z. IsStep k g (adding g z (p.1 ∷ []))) is.1
-          (adding_step k g found.0 (p.1 ∷ []) found.1 (lacks_one (label_at g found.0) p.1 (not_true (has_concept (label_at g found.0) p.1) two.1))
+          (adding_step k g found.0 (p.1 ∷ []) found.1 (lacks_one (label_at g found.0) p.1 (not-true (has_concept (label_at g found.0) p.1) two.1))
           (one_within p.1 (class_occurrences k) (all_class_within k c p (inside x c has) part)))
   effect_step rule.Value x c y choice has applies choose = go (value_part c) refl applies
     where
@@ -313,7 +313,7 @@ module _ (k : Theory) (g : Graph) (filled : UnionsHaveMembers k) (inside : (y : 
       inner p part None node on = cc
       inner p part (Some z) node on =
           let is = where_parts (not (is_blocked k g x) && not (is_neighbour k g p.0 x z)) 0 y on in
-          with_edge_step k g x c p z has part node (not_true (is_neighbour k g p.0 x z) (and_parts (not (is_blocked k g x)) (not (is_neighbour k g p.0 x z)) is.0).1)
+          with_edge_step k g x c p z has part node (not-true (is_neighbour k g p.0 x z) (and_parts (not (is_blocked k g x)) (not (is_neighbour k g p.0 x z)) is.0).1)
 
       go : (o : Option (Role × WordId)) → value_part c ≡ o → option_and_then (λ p. option_and_then (λ z. where_true (not (is_blocked k g x) && not (is_neighbour k g p.0 x z)) 0) (node_of k p.1)) o ≡ Some y → IsStep k g (option_map_or (λ p. option_map_or (λ z. with_edge g (record { from = x; role = p.0; to = z })) (node_of k p.1) g) o g)
       go None part on = cc
@@ -343,7 +343,7 @@ module _ (k : Theory) (g : Graph) (filled : UnionsHaveMembers k) (inside : (y : 
       go (Some p) part on =
           let is = where_parts (not (is_blocked k g x) && not (some_below (length g.nodes) (serves k g p.0 p.1 x))) 0 y on in
           let two = and_parts (not (is_blocked k g x)) (not (some_below (length g.nodes) (serves k g p.0 p.1 x))) is.0 in
-          larger_step k g x c p has part (some_within k c p (inside x c has) part) (not_true (is_blocked k g x) two.0) (not_true (some_below (length g.nodes) (serves k g p.0 p.1 x)) two.1)
+          larger_step k g x c p has part (some_within k c p (inside x c has) part) (not-true (is_blocked k g x) two.0) (not-true (some_below (length g.nodes) (serves k g p.0 p.1 x)) two.1)
 
   site_parts : (r : Rule) (x : ℕ) (c : Concept) (y : ℕ) (b : Bool) → cond b None (row k g r x c) ≡ Some y → row k g r x c ≡ Some y
   site_parts r x c y true h = cc

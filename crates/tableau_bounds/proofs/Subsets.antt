@@ -2,7 +2,7 @@
 use Rattle.std.proofs.Common.{◌≡◌, ℕ, suc, ◌+◌, ◌*◌, ◌^◌, ◌≤◌, ◌&&◌, Bool, true, false, List, [], ◌∷◌, filter, length, cond, refl, sym, ap, ◌∙◌, arith, pow-suc}
 use Rattle.std.specs.Prelude.{not}
 use Rattle.std.specs.List.{list_any}
-use Rattle.std.proofs.lemmas.Bool.{or_parts}
+use Rattle.std.proofs.lemmas.Bool.{or_parts, not-true}
 use Rattle.std.proofs.lemmas.Bool.{or_from}
 use Rattle.std.proofs.lemmas.List.Filters.{length-filter_both}
 
@@ -52,10 +52,6 @@ module _ {X C : Type 0} (has : X → C → Bool) (c : C) (cs : List C) (p : X �
       go true is rest = (none_agrees x (kept x is) xs apart.0, rest)
       go false is rest = rest
 
-not_true_false : (b : Bool) → not b ≡ true → b ≡ false
-not_true_false true h = cc
-not_true_false false h = refl
-
 -- so many tests tell apart at most two to the power of their number
 pub most_apart : {X C : Type 0} (has : X → C → Bool) (cs : List C) (xs : List X) → Apart has cs xs → length xs ≤ 2 ^ length cs
 most_apart has [] [] apart = omega arith
@@ -67,6 +63,6 @@ most_apart has [] (x ∷ (y ∷ ys)) apart = absurd (never apart.0)
 most_apart has (c ∷ cs) xs apart =
     double (length (filter (λ x. has x c) xs)) (length (filter (λ x. not (has x c)) xs)) (length xs) (2 ^ length cs) (2 ^ suc (length cs))
     (most_apart has cs (filter (λ x. has x c) xs) (apart_kept has c cs (λ x. has x c) true (λ x h. h) xs apart))
-    (most_apart has cs (filter (λ x. not (has x c)) xs) (apart_kept has c cs (λ x. not (has x c)) false (λ x h. not_true_false (has x c) h) xs apart))
+    (most_apart has cs (filter (λ x. not (has x c)) xs) (apart_kept has c cs (λ x. not (has x c)) false (λ x h. not-true (has x c) h) xs apart))
     (length-filter_both (λ x. has x c) (λ x. not (has x c)) (λ x. refl) xs)
     (pow-suc 2 (length cs))

@@ -5,6 +5,7 @@ use Rattle.std.specs.List.{list_any, list_all}
 use Rattle.std.specs.Option.{option_map_or}
 use Rattle.std.proofs.lemmas.Bool.{and_from, and_parts, or_cases, or_left, or_right, or_parts, or_from, false_from_ne_true, not_from_false}
 use Rattle.std.proofs.lemmas.List.{length-map}
+use Rattle.wiki_base.proofs.BoolLaws.{not_both}
 use Rattle.logic_terms.specs.Concept.{Concept}
 use Rattle.logic_terms.specs.Same.{same_concept, has_concept}
 use Rattle.logic_terms.specs.Theory.{Theory}
@@ -110,9 +111,6 @@ agree_same all cs ds one other same =
     (all_from (has_concept ds) cs (λ e h. both_true (has_concept cs e) (has_concept ds e) (agree_at all cs ds e same (one e h)) h))
     (all_from (has_concept cs) ds (λ e h. both_back (has_concept cs e) (has_concept ds e) (agree_at all cs ds e same (other e h)) h))
 
-both : {b : Bool} → b ≡ true → b ≡ false → ⊥
-both t f = cc
-
 module _ (k : Theory) (g : Graph) (within : (y : ℕ) → Within (label_at g y) (class_occurrences k)) where
   -- the labels of the anonymous nodes of a way
   abbrev labels_on : List ℕ → List (List Concept)
@@ -127,7 +125,7 @@ module _ (k : Theory) (g : Graph) (within : (y : ℕ) → Within (label_at g y) 
       go : (b : Bool) → (b && same_classes (label_at g x) (label_at g z)) ≡ false → list_any (agree has_concept (class_occurrences k) (label_at g x)) (labels_on zs) ≡ false → list_any (agree has_concept (class_occurrences k) (label_at g x)) (map (label_at g) (cond b (z ∷ filter (is_anonymous k) zs) (filter (is_anonymous k) zs))) ≡ false
       go true differ rest =
           or_from (agree has_concept (class_occurrences k) (label_at g x) (label_at g z)) (list_any (agree has_concept (class_occurrences k) (label_at g x)) (labels_on zs))
-          (false_from_ne_true (agree has_concept (class_occurrences k) (label_at g x) (label_at g z)) (λ t. both (agree_same (class_occurrences k) (label_at g x) (label_at g z) (within x) (within z) t) differ)) rest
+          (false_from_ne_true (agree has_concept (class_occurrences k) (label_at g x) (label_at g z)) (λ t. not_both (agree_same (class_occurrences k) (label_at g x) (label_at g z) (within x) (within z) t) differ)) rest
       go false differ rest = rest
 
   labels_apart : (zs : List ℕ) → blocks k g zs ≡ false → Apart has_concept (class_occurrences k) (labels_on zs)
@@ -137,7 +135,7 @@ module _ (k : Theory) (g : Graph) (within : (y : ℕ) → Within (label_at g y) 
       go (is_anonymous k z) parts.0 parts.1 (labels_apart zs parts.1)
     where
       twin_free : (t b : Bool) → (t && not b) ≡ false → b ≡ false → t ≡ false
-      twin_free true b h f = absurd (both (not_from_false b f) h)
+      twin_free true b h f = absurd (not_both (not_from_false b f) h)
       twin_free false b h f = refl
 
       go : (b : Bool) → (b && (has_twin k g z zs && not (blocks k g zs))) ≡ false → blocks k g zs ≡ false → Apart has_concept (class_occurrences k) (labels_on zs) → Apart has_concept (class_occurrences k) (map (label_at g) (cond b (z ∷ filter (is_anonymous k) zs) (filter (is_anonymous k) zs)))

@@ -43,10 +43,6 @@ stays nodes edges i old label at same =
     ∙ (sym (map-set vertex_of nodes i old)
     ∙ ap (map vertex_of) (ap (slice_set nodes i) at ∙ set-get_or nodes i old))))
 
-pub on_err : {T E P : Type 0} (r : Result T E) → P → OnErr r P
-on_err (Ok x) p = tt
-on_err (Err e) p = p
-
 -- the first of those that are kept
 pub first_kept : {X : Type 0} (keep : X → Bool) (xs : List X) (i : ℕ) (x : X) → filter keep (take i xs) ≡ [] → slice_get xs i ≡ Some x → keep x ≡ true → slice_get (filter keep xs) 0 ≡ Some x
 first_kept keep [] i x none at is = cc

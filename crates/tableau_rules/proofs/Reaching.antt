@@ -7,6 +7,8 @@ use Rattle.std.proofs.Math.Bool.{and_assoc}
 use Rattle.std.proofs.lemmas.Bool.{eqb-true, ltb-true, lt-ltb, or_cases, or_left, or_right, and_parts, and_from, and_right, or_from, cases_Bool, cond-true, cond-false, false_from_ne_true}
 use Rattle.std.proofs.lemmas.List.{take_all, take_more}
 use Rattle.std.proofs.lemmas.List.Folds.{list_any-append, list_any_more, list_any_at}
+use Rattle.wiki_base.proofs.BoolLaws.{same_tests}
+use Rattle.wiki_base.proofs.ListLaws.{any_same, list_any-filter}
 use Rattle.logic_terms.specs.declared.expressions.Role.{Role}
 use Rattle.logic_terms.specs.Meaning.{some_below}
 use Rattle.logic_terms.specs.Theory.{Theory, is_below}
@@ -17,13 +19,6 @@ use Rattle.tableau_rules.specs.First.{first_below, where_true}
 use Rattle.tableau_rules.specs.Neighbours.{makes_neighbour}
 use Rattle.tableau_rules.specs.Touching.{touches, edges_at, far_end, reaches}
 use Rattle.tableau_rules.proofs.Firsts.{first_found, first_none, where_is, where_not}
-use Rattle.tableau_rules.proofs.Lists.{list_any-filter, list_any-same}
-
--- two tests are one where each gives the other
-pub same_tests : (a b : Bool) → (a ≡ true → b ≡ true) → (b ≡ true → a ≡ true) → a ≡ b
-same_tests true b there back = sym (there refl)
-same_tests false true there back = back refl
-same_tests false false there back = refl
 
 pub last_fails : (a b c d : Bool) → d ≡ false → false ≡ (a && (b && (c && d)))
 last_fails a b c d e = sym (and_right a (b && (c && d)) (and_right b (c && d) (and_right c d e)))
@@ -69,7 +64,7 @@ both_true false false h = refl
 
 pub any_at : (p : Edge → Bool) (x : ℕ) → ((e : Edge) → p e ≡ true → touches x e ≡ true) → (edges : List Edge) → list_any p (edges_at edges x) ≡ list_any p edges
 any_at p x only edges =
-    list_any-filter p (touches x) edges ∙ list_any-same (λ e. touches x e && p e) p (λ e. both_true (touches x e) (p e) (only e)) edges
+    list_any-filter p (touches x) edges ∙ any_same (λ e. touches x e && p e) p (λ e. both_true (touches x e) (p e) (only e)) edges
 
 pub neighbours_at : (k : Theory) (role : Role) (x y : ℕ) (edges : List Edge) → list_any (makes_neighbour k role x y) (edges_at edges x) ≡ list_any (makes_neighbour k role x y) edges
 neighbours_at k role x y edges = any_at (makes_neighbour k role x y) x (touching k role x y) edges

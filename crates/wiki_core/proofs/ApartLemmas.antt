@@ -2,8 +2,8 @@
 use Rattle.std.proofs.Common.{◌≡◌, ℕ, ◌+◌, ◌-◌, ◌<◌, ◌≤◌, ◌==◌, Bool, true, false, cond, List, [], ◌∷◌, ◌++◌, length, Option, Some, None, option_map, refl, sym, ap, subst, ◌∙◌, arith}
 use Rattle.std.specs.List.{flat_map}
 use Rattle.std.specs.Option.{option_map_or}
-use Rattle.std.proofs.lemmas.Bool.{false≢true}
-use Rattle.std.proofs.lemmas.Option.{none-some}
+use Rattle.std.proofs.lemmas.Bool.{false≢true, eqb-true, ne_eqb}
+use Rattle.std.proofs.lemmas.Option.{none-some, same_Some}
 use Rattle.codeco_terms.specs.GrammarParts.{GrammarParts}
 use Rattle.lexicon.specs.Words.{Listed}
 use Rattle.sessions.specs.Sessions.{PlainSession, session_of}
@@ -18,7 +18,6 @@ use Rattle.wiki_core.specs.State.{State, first_state}
 use Rattle.wiki_core.specs.Causes.{session_numbered}
 use Rattle.wiki_core.specs.Step.{StepsSession, Step}
 use Rattle.wiki_core.specs.Apart as apart
-use Rattle.wiki_core.proofs.KeyLaws.{eq_is, eq_other, some_is}
 use Rattle.wiki_core.proofs.SeenLemmas.{Own, own, own_of, RebasesOwn, ended}
 use Rattle.wiki_core.proofs.HearLemmas.{Seen, Follows, follows_one, follows_append}
 use Rattle.wiki_core.proofs.RunLemmas.{seen, IsApt, Shows, shows_same, session_told, tells_commit, tells_begin, word_shows, reword_shows, unword_shows, other_shows, put_shows, back_shows, drop_shows, commit_shows, put_other, back_other, drop_other, commit_other, commit_refused, menu_shows, refresh_shows, begin_other, begin_shows}
@@ -39,29 +38,29 @@ module _ (g : GrammarParts) (old new : State) (number : ℕ) (over : old.pages.g
   open_step below (requests.Reassert article place) reply step = other_shows g old new number over apt (requests.Reassert article place) reply refl step.pages step.sessions step.last
   open_step below (requests.Read article) reply step = other_shows g old new number over apt (requests.Read article) reply refl step.pages step.sessions step.last
   open_step below (requests.Axioms article place) reply step = other_shows g old new number over apt (requests.Axioms article place) reply refl step.pages step.sessions step.last
-  open_step below (requests.Begin form) reply step = begin_other g old new number over apt form reply (eq_other (old.last + 1) number (λ same. omega (arith, same, below))) step
+  open_step below (requests.Begin form) reply step = begin_other g old new number over apt form reply (ne_eqb (old.last + 1) number (λ same. omega (arith, same, below))) step
   open_step below (requests.Put n text) reply step = by_test (n == number) refl
     where
       by_test : (b : Bool) → (n == number) ≡ b → Shows g old new number (cond b (apart.typed text ∷ []) [])
-      by_test true is = put_shows g old new number over apt text reply (subst (λ (k : ℕ). StepsSession old (requests.Put k text) reply new) (eq_is n number is) step)
+      by_test true is = put_shows g old new number over apt text reply (subst (λ (k : ℕ). StepsSession old (requests.Put k text) reply new) (eqb-true n number is) step)
       by_test false is = put_other g old new number over apt n text reply is step
   open_step below (requests.Back n) reply step = by_test (n == number) refl
     where
       by_test : (b : Bool) → (n == number) ≡ b → Shows g old new number (cond b (apart.stepped_back ∷ []) [])
-      by_test true is = back_shows g old new number over apt reply (subst (λ (k : ℕ). StepsSession old (requests.Back k) reply new) (eq_is n number is) step)
+      by_test true is = back_shows g old new number over apt reply (subst (λ (k : ℕ). StepsSession old (requests.Back k) reply new) (eqb-true n number is) step)
       by_test false is = back_other g old new number over apt n reply is step
   open_step below (requests.Menu n) reply step = menu_shows g old new number over apt n reply step
   open_step below (requests.Commit n) (replies.Commit form status text) step = by_test (n == number) refl
     where
       by_test : (b : Bool) → (n == number) ≡ b → Shows g old new number (cond b (apart.committed ∷ []) [])
-      by_test true is = commit_shows g old new number over apt form status text (subst (λ (k : ℕ). StepsSession old (requests.Commit k) (replies.Commit form status text) new) (eq_is n number is) step)
+      by_test true is = commit_shows g old new number over apt form status text (subst (λ (k : ℕ). StepsSession old (requests.Commit k) (replies.Commit form status text) new) (eqb-true n number is) step)
       by_test false is = commit_other g old new number over apt n form status text is step
   open_step below (requests.Commit n) reply step = commit_refused g old new number over apt n reply refl step
   open_step below (requests.Refresh n) reply step = refresh_shows g old new number over apt n reply step
   open_step below (requests.Drop n) reply step = by_test (n == number) refl
     where
       by_test : (b : Bool) → (n == number) ≡ b → Shows g old new number (cond b (apart.dropped ∷ []) [])
-      by_test true is = drop_shows g old new number over apt reply (subst (λ (k : ℕ). StepsSession old (requests.Drop k) reply new) (eq_is n number is) step)
+      by_test true is = drop_shows g old new number over apt reply (subst (λ (k : ℕ). StepsSession old (requests.Drop k) reply new) (eqb-true n number is) step)
       by_test false is = drop_other g old new number over apt n reply is step
 
   -- ---- before the session is open
@@ -69,18 +68,18 @@ module _ (g : GrammarParts) (old new : State) (number : ℕ) (over : old.pages.g
   module _ (none : session_numbered old number ≡ None) where
     put_none : (n : ℕ) (text : List ℕ) (reply : Reply) → (n == number) ≡ true → StepsSession old (requests.Put n text) reply new → Shows g old new number []
     put_none n text (replies.Refused refusal) is step = shows_same g old new number over apt step.1
-    put_none n text reply is step = absurd (none-some step.1.session (sym none ∙ ap (session_numbered old) (sym (eq_is n number is)) ∙ step.1.named))
+    put_none n text reply is step = absurd (none-some step.1.session (sym none ∙ ap (session_numbered old) (sym (eqb-true n number is)) ∙ step.1.named))
 
     back_none : (n : ℕ) (reply : Reply) → (n == number) ≡ true → StepsSession old (requests.Back n) reply new → Shows g old new number []
     back_none n (replies.Refused refusal) is step = shows_same g old new number over apt step.1
-    back_none n reply is step = absurd (none-some step.1.session (sym none ∙ ap (session_numbered old) (sym (eq_is n number is)) ∙ step.1.named))
+    back_none n reply is step = absurd (none-some step.1.session (sym none ∙ ap (session_numbered old) (sym (eqb-true n number is)) ∙ step.1.named))
 
     drop_none : (n : ℕ) (reply : Reply) → (n == number) ≡ true → StepsSession old (requests.Drop n) reply new → Shows g old new number []
     drop_none n (replies.Refused refusal) is step = shows_same g old new number over apt step.1
-    drop_none n reply is step = absurd (step.0 (NoSession n) (record { none = ap (session_numbered old) (eq_is n number is) ∙ none; told = refl }))
+    drop_none n reply is step = absurd (step.0 (NoSession n) (record { none = ap (session_numbered old) (eqb-true n number is) ∙ none; told = refl }))
 
     commit_none : (n : ℕ) (form : List ℕ) (status : Status) (text : List ℕ) → (n == number) ≡ true → StepsSession old (requests.Commit n) (replies.Commit form status text) new → Shows g old new number []
-    commit_none n form status text is step = absurd (none-some step.1.session (sym none ∙ ap (session_numbered old) (sym (eq_is n number is)) ∙ step.1.named))
+    commit_none n form status text is step = absurd (none-some step.1.session (sym none ∙ ap (session_numbered old) (sym (eqb-true n number is)) ∙ step.1.named))
 
     begin_none : (form : List ℕ) (reply : Reply) → apart.opened_by number (answered (requests.Begin form) reply) ≡ None → StepsSession old (requests.Begin form) reply new → Shows g old new number []
     begin_none form (replies.Refused refusal) not_this step = shows_same g old new number over apt step.1
@@ -160,10 +159,10 @@ pub record Opens (number : ℕ) (request : Request) (reply : Reply) (form : List
   pub told : reply ≡ replies.Begin number
 
 opens_by : (number : ℕ) (request : Request) (reply : Reply) (form : List ℕ) → apart.opened_by number (answered request reply) ≡ Some form → Opens number request reply form
-opens_by number (requests.Begin article) (replies.Begin session) form is = by_test (session == number) (eq_is session number) is
+opens_by number (requests.Begin article) (replies.Begin session) form is = by_test (session == number) (eqb-true session number) is
   where
     by_test : (b : Bool) → (b ≡ true → session ≡ number) → cond b (Some article) None ≡ Some form → Opens number (requests.Begin article) (replies.Begin session) form
-    by_test true same is = record { asked = ap requests.Begin (some_is article form is); told = ap replies.Begin (same refl) }
+    by_test true same is = record { asked = ap requests.Begin (same_Some article form is); told = ap replies.Begin (same refl) }
     by_test false same is = absurd (none-some form is)
 opens_by number request reply form is = absurd (none-some form is)
 

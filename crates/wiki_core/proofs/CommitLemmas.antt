@@ -1,5 +1,6 @@
 -- A session's tokens that become a sentence.
 use Rattle.std.proofs.Common.{◌≡◌, ℕ, ◌+◌, ◌≤◌, ◌==◌, Bool, cond, List, [], ◌∷◌, length, Option, Some, None, option_map, IfSome, refl, sym, ap, subst, ◌∙◌, arith}
+use Rattle.std.proofs.lemmas.Option.{same_Some}
 use Rattle.wiki_base.specs.declared.numbers.WordId.{WordId}
 use Rattle.wiki_base.specs.declared.numbers.Rev.{Rev}
 use Rattle.wiki_base.specs.declared.numbers.SessionId.{SessionId}
@@ -29,7 +30,7 @@ use Rattle.wiki_core.specs.Step.{CommitsSession}
 use Rattle.wiki_core.specs.Spending.{CommitSpendsBeyondKept}
 use Rattle.wiki_core.specs.Drafts.{IsDraftOf}
 use Rattle.wiki_core.specs.Keeping.{AreHeld}
-use Rattle.wiki_core.proofs.KeyLaws.{changed_at, find_changed, found_passes, some_is}
+use Rattle.wiki_core.proofs.KeyLaws.{changed_at, find_changed, found_passes}
 use Rattle.wiki_core.proofs.PagesLemmas.{GoOn, go_on_changed}
 use Rattle.wiki_core.proofs.HeldLemmas.{Fits, on_there, plain_in_order, held_changed}
 
@@ -81,7 +82,7 @@ pub commit_spends : (old : Holding) (number : ℕ) (draft : Draft) (status : Sta
 commit_spends old number draft status is spends told =
     subst (λ (o : Option PlainSession). IfSome (option_map (λ session. with_appended old.state.pages session.article session.tokens Asserted) o) (λ taken. (claims : List Claim) → Knows taken claims → IsModel old.interpretation claims → ⊥))
     (sym is.named)
-    (λ claims known. spends (some_is status RedBudget told) claims
+    (λ claims known. spends (same_Some status RedBudget told) claims
     (subst (λ (word : WordId). Knows (with_appended old.state.pages word draft.tokens Asserted) claims) (sym is.word)
     (subst (λ (tokens : List (List ℕ)). Knows (with_appended old.state.pages is.session.article tokens Asserted) claims) (sym is.tokens) known)))
 

@@ -1,7 +1,7 @@
 -- What a session sees after what it hears is one thing.
 use Rattle.std.proofs.Common.{◌≡◌, ℕ, ◌+◌, ◌-◌, ◌<◌, ◌≤◌, ◌==◌, ◌⊎◌, Bool, true, false, cond, List, [], ◌∷◌, ◌++◌, length, map, take, min, Option, Some, None, option_map, refl, sym, ap, subst, ◌∙◌, arith, inl, inr}
 use Rattle.std.proofs.lemmas.List.{length-take}
-use Rattle.std.proofs.lemmas.Option.{none-some}
+use Rattle.std.proofs.lemmas.Option.{none-some, same_Some}
 use Rattle.wiki_base.specs.declared.numbers.WordId.{WordId}
 use Rattle.wiki_base.specs.declared.tokens.TheConstants.{MOST_TOKENS}
 use Rattle.codeco_terms.specs.GrammarParts.{GrammarParts}
@@ -14,7 +14,6 @@ use Rattle.wiki_talk.specs.declared.requests.Request.{Request}
 use Rattle.wiki_talk.specs.declared.requests.Request.TheVariants as requests
 use Rattle.wiki_parts.specs.Words.{forms_given}
 use Rattle.wiki_core.specs.Apart as apart
-use Rattle.wiki_core.proofs.KeyLaws.{some_is}
 use Rattle.wiki_core.proofs.SeenLemmas.{Own, RebasesOwn, ended}
 
 -- what a session sees: the words, and itself where it is open
@@ -89,18 +88,18 @@ own_rebased_one g words (Some old) one other (tokens, rebased, is) (its_tokens, 
 words_one : (old : Listed) (request : Request) (one other : Listed) → WordsChange old request one → WordsChange old request other → other ≡ one
 words_one old (requests.Word kind forms) one other is its = its ∙ sym is
 words_one old (requests.Reword form texts) one other (word, forms, named, of_word, is) (its_word, its_forms, its_named, its_of_word, its) =
-    let same_word : its_word ≡ word = some_is its_word word (sym its_named ∙ named) in
-    let same_forms : its_forms ≡ forms = some_is its_forms forms (sym its_of_word ∙ ap (forms_of old.live) same_word ∙ of_word) in
+    let same_word : its_word ≡ word = same_Some its_word word (sym its_named ∙ named) in
+    let same_forms : its_forms ≡ forms = same_Some its_forms forms (sym its_of_word ∙ ap (forms_of old.live) same_word ∙ of_word) in
     its ∙ ap (λ (w : WordId). with_forms old w (forms_given its_forms.kind texts)) same_word ∙ ap (λ (f : Forms). with_forms old word (forms_given f.kind texts)) same_forms ∙ sym is
 words_one old (requests.Unword form) one other (word, named, is) (its_word, its_named, its) =
-    let same_word : its_word ≡ word = some_is its_word word (sym its_named ∙ named) in
+    let same_word : its_word ≡ word = same_Some its_word word (sym its_named ∙ named) in
     its ∙ ap (without_word old) same_word ∙ sym is
 words_one old request one other is its = absurd is
 
 -- where words change to the same, the session sees the same of itself
 own_one : (g : GrammarParts) (old : Listed) (request : Request) (words : Listed) (was one other : Option Own) → OwnChanges g old request words was one → OwnChanges g old request words was other → other ≡ one
 own_one g old (requests.Unword form) words was one other (word, mid, named, rebased, is) (its_word, its_mid, its_named, its_rebased, its) =
-    let same_word : its_word ≡ word = some_is its_word word (sym its_named ∙ named) in
+    let same_word : its_word ≡ word = same_Some its_word word (sym its_named ∙ named) in
     let same_mid = own_rebased_one g words was mid its_mid rebased its_rebased in
     its ∙ ap (λ (w : WordId). ended w its_mid) same_word ∙ ap (ended word) same_mid ∙ sym is
 own_one g old request words was one other is its = own_rebased_one g words was one other is its
@@ -115,7 +114,7 @@ typed_one g words text (Some own) one other (inr (free, is)) (inr (its_free, its
 -- after what is heard the same is seen
 pub goes_one : (g : GrammarParts) (old : Seen) (heard : apart.Heard) (one other : Seen) → Goes g old heard one → Goes g old heard other → other ≡ one
 goes_one g old (apart.opened form) one other (same, (word, named, is)) (its_same, (its_word, its_named, its)) =
-    let same_word : its_word ≡ word = some_is its_word word (sym its_named ∙ named) in
+    let same_word : its_word ≡ word = same_Some its_word word (sym its_named ∙ named) in
     seen_is other one (its_same ∙ sym same) (its ∙ ap (λ (w : WordId). Some (record { article = w; tokens = [] })) same_word ∙ sym is)
 goes_one g old (apart.typed text) one other is its = seen_is other one (its.0 ∙ sym is.0) (typed_one g old.words text old.own one.own other.own is.1 its.1)
 goes_one g old apart.stepped_back one other is its = seen_is other one (its.0 ∙ sym is.0) (its.1 ∙ sym is.1)

@@ -8,6 +8,7 @@ use Rattle.wiki_base.specs.declared.numbers.WordId.{WordId}
 use Rattle.wiki_base.specs.declared.numbers.Rev.{Rev}
 use Rattle.wiki_base.specs.declared.numbers.SessionId.{SessionId}
 use Rattle.wiki_base.specs.declared.tokens.TheConstants.{MOST_TOKENS}
+use Rattle.wiki_base.proofs.ListLaws.{AllPairs-tail}
 use Rattle.codeco_terms.specs.GrammarParts.{GrammarParts}
 use Rattle.lexicon.specs.declared.words.Word.{Word}
 use Rattle.lexicon.specs.Words.{Listed, forms_of}
@@ -25,7 +26,7 @@ use Rattle.wiki_parts.specs.Holding as holding
 use Rattle.wiki_core.specs.State.{State, IsOnArticle, AreInOrder}
 use Rattle.wiki_core.specs.Holding.{Holding, IsKeptSession, IsKept as IsKeptWiki}
 use Rattle.wiki_core.specs.Keeping.{AreHeld}
-use Rattle.wiki_core.proofs.KeyLaws.{changed_at, find_changed, found_has, only_one, all_changed, all_filtered, pairs_head, pairs_tail}
+use Rattle.wiki_core.proofs.KeyLaws.{changed_at, find_changed, found_has, only_one, all_changed, all_filtered, pairs_head}
 use Rattle.wiki_core.proofs.PagesLemmas.{GoOn, KeepsWords, go_on_ended}
 
 -- the first of some numbers, and the numbers behind it
@@ -147,7 +148,7 @@ plain_in_order [] in_order = λ i j d before in_range. absurd (omega (arith, in_
 plain_in_order (s ∷ sessions) in_order =
     AllPairs-cons (λ session later. session.number.0 < later.number.0) (plain s) (all_plain sessions)
     (All-map (λ (later : PlainSession). s.number.0 < later.number.0) plain sessions (pairs_head (λ (session later : Session). session.number.0 < later.number.0) s sessions in_order))
-    (plain_in_order sessions (pairs_tail (λ (session later : Session). session.number.0 < later.number.0) s sessions in_order))
+    (plain_in_order sessions (AllPairs-tail (λ (session later : Session). session.number.0 < later.number.0) s sessions in_order))
 
 -- what the program keeps of each session is what the wiki promises of it
 kept_each : (state : State) (list : List PlainSession) → All (λ session. IsTypeable state.pages.grammar state.pages.words session.tokens) list

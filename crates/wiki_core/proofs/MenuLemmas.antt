@@ -5,8 +5,9 @@ use Rattle.std.specs.Str.{IsUtf8}
 use Rattle.std.specs.Ordering.{ordering_reverse}
 use Rattle.std.specs.declared.cmp.Ordering.TheVariants.{Less, Greater}
 use Rattle.std.proofs.lemmas.Bool.{false≢true}
-use Rattle.std.proofs.lemmas.Option.{none-some}
+use Rattle.std.proofs.lemmas.Option.{none-some, same_Some}
 use Rattle.std.proofs.lemmas.List.Elements.{All-head, All-tail, All-contains, All-contains_itself}
+use Rattle.wiki_base.proofs.ListLaws.{AllPairs-tail}
 use Rattle.codeco_terms.specs.GrammarParts.{GrammarParts}
 use Rattle.lexicon.specs.Words.{Listed}
 use Rattle.derivation_trees.specs.declared.menus.Group.{Group}
@@ -30,7 +31,7 @@ use Rattle.wiki_core.specs.State.{State}
 use Rattle.wiki_core.specs.Causes.{session_numbered}
 use Rattle.wiki_core.specs.Step.{Step, StepsSession, TellsMenu, TellsSession}
 use Rattle.wiki_core.specs.Apart.{tokens_in, AreAlike, MenuIsOwn}
-use Rattle.wiki_core.proofs.KeyLaws.{some_is, pairs_head, pairs_tail}
+use Rattle.wiki_core.proofs.KeyLaws.{pairs_head}
 
 -- what is in a list is its head, or in its tail
 head_or_later : {X : Type 0} (y : X) (ys : List X) (x : X) → Contains (y ∷ ys) x → (y ≡ x) ⊎ Contains ys x
@@ -70,7 +71,7 @@ module _ {X : Type 0} (R : X → X → Type 0) (never : (x : X) → R x x → �
       let its_rise_x = subst (λ (h : X). AllPairs R (h ∷ ys)) same its_rise in
       let there_x = subst (λ (h : X). (e : X) → Contains (x ∷ xs) e → Contains (h ∷ ys) e) same there in
       let its_there_x = subst (λ (h : X). (e : X) → Contains (h ∷ ys) e → Contains (x ∷ xs) e) same its_there in
-      let rest = ordered_one xs ys (pairs_tail R x xs rise) (pairs_tail R x ys its_rise_x) (rest_there x xs ys rise there_x) (rest_there x ys xs its_rise_x its_there_x) in
+      let rest = ordered_one xs ys (AllPairs-tail R x xs rise) (AllPairs-tail R x ys its_rise_x) (rest_there x xs ys rise there_x) (rest_there x ys xs its_rise_x its_there_x) in
       ap (λ (h : X). h ∷ ys) same ∙ ap (λ (t : List X). x ∷ t) rest
 
 less_greater : Less ≡ Greater → ⊥
@@ -105,7 +106,7 @@ told_of : (state new : State) (number : ℕ) (tokens : List (List ℕ)) (reply :
 told_of state new number tokens (replies.Refused refusal) there step =
     absurd (none-some tokens (ap (option_map (λ (s : PlainSession). s.tokens)) (sym step.0.none) ∙ there))
 told_of state new number tokens reply there step =
-    let same : step.1.session.tokens ≡ tokens = some_is step.1.session.tokens tokens (ap (option_map (λ (s : PlainSession). s.tokens)) (sym step.1.named) ∙ there) in
+    let same : step.1.session.tokens ≡ tokens = same_Some step.1.session.tokens tokens (ap (option_map (λ (s : PlainSession). s.tokens)) (sym step.1.named) ∙ there) in
     subst (λ (ts : List (List ℕ)). TellsMenu state.pages.grammar state.pages.words ts reply) same step.1.tells
 
 -- so it is a function of the grammar, the words and the tokens

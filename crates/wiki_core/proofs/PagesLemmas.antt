@@ -1,7 +1,7 @@
 -- What becomes of words and of the articles that sessions are on, by a step on words and sentences.
 use Rattle.std.proofs.Common.{◌≡◌, ℕ, ◌+◌, ◌<◌, ◌≤◌, ◌==◌, ◌⊎◌, Bool, true, false, not, cond, List, [], ◌∷◌, ◌++◌, length, map, filter, find, All, Option, Some, None, option_map, IsTrue, refl, sym, ap, subst, ◌∙◌, arith, inl, inr}
 use Rattle.std.specs.Option.{option_or, option_map_or}
-use Rattle.std.proofs.lemmas.Bool.{false≢true}
+use Rattle.std.proofs.lemmas.Bool.{false≢true, eqb-true}
 use Rattle.std.proofs.lemmas.List.Folds.{find-append}
 use Rattle.std.proofs.lemmas.Option.{none-some}
 use Rattle.wiki_base.specs.declared.numbers.WordId.{WordId}
@@ -20,7 +20,7 @@ use Rattle.wiki_parts.specs.State as parts
 use Rattle.wiki_store.specs.Step as store
 use Rattle.wiki_core.specs.State.{IsOnArticle}
 use Rattle.wiki_core.specs.Keeping.{changes_words}
-use Rattle.wiki_core.proofs.KeyLaws.{changed_at, find_changed, find_filter, eq_is, eq_same, eq_not, some_is}
+use Rattle.wiki_core.proofs.KeyLaws.{changed_at, find_changed, find_filter}
 
 -- a session that was on an article is on it still
 abbrev pub GoOn : List Article → List Article → Type 0
@@ -61,7 +61,7 @@ go_on_ended old word session other on = record {
 }
   where
     stays : (a : Article) → is_of session.article a ≡ true → not (is_of word a) ≡ true
-    stays a is = ap (λ (n : ℕ). not (n == word.0)) (eq_is a.word.0 session.article.0 is) ∙ ap not other
+    stays a is = ap (λ (n : ℕ). not (n == word.0)) (eqb-true a.word.0 session.article.0 is) ∙ ap not other
 
 -- what a step that changes no words leaves of words, and of the articles that sessions are on
 pub record KeepsWords (old new : parts.State) : Type 0 where

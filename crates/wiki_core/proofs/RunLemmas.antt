@@ -2,8 +2,8 @@
 use Rattle.std.proofs.Common.{◌≡◌, ℕ, ◌+◌, ◌-◌, ◌<◌, ◌≤◌, ◌==◌, ◌⊎◌, Bool, true, false, not, cond, List, [], ◌∷◌, ◌++◌, length, map, filter, take, find, Option, Some, None, option_map, refl, sym, ap, subst, ◌∙◌, arith, inl, inr}
 use Rattle.std.specs.List.{flat_map}
 use Rattle.std.specs.Option.{option_or, option_map_or}
-use Rattle.std.proofs.lemmas.Bool.{false≢true}
-use Rattle.std.proofs.lemmas.Option.{none-some}
+use Rattle.std.proofs.lemmas.Bool.{false≢true, eq-eqb}
+use Rattle.std.proofs.lemmas.Option.{none-some, same_Some}
 use Rattle.wiki_base.specs.declared.numbers.WordId.{WordId}
 use Rattle.wiki_base.specs.declared.tokens.TheConstants.{MOST_TOKENS}
 use Rattle.codeco_terms.specs.GrammarParts.{GrammarParts}
@@ -29,7 +29,7 @@ use Rattle.wiki_core.specs.Causes.{session_numbered, NamesNoSession, IsFullOfTok
 use Rattle.wiki_core.specs.Step.{CarriesSessions, StepsPages, AreRebasedTo, EndOnArticle, Refuses, IsFree, Does, StepsSession, Step, begun_again}
 use Rattle.wiki_core.specs.Apart as apart
 use Rattle.wiki_core.specs.Keeping.{changes_words}
-use Rattle.wiki_core.proofs.KeyLaws.{changed_at, find_changed, eq_is, eq_same, some_is}
+use Rattle.wiki_core.proofs.KeyLaws.{changed_at, find_changed}
 use Rattle.wiki_core.proofs.PagesLemmas.{KeepsWords, keeps_same, step_keeps}
 use Rattle.wiki_core.proofs.SeenLemmas.{Own, own, own_of, RiseTo, rise_lower, rise_filter, rise_append, rise_changed, rise_rebased, changed_own, changed_other, without_own, without_other, opened_own, opened_other, RebasesOwn, rebased_own, ended, ended_own}
 use Rattle.wiki_core.proofs.HearLemmas.{Seen, WordsChange, OwnChanges, IsNotTyped, OwnTypes, own_back, own_emptied, Goes, seen_is, Follows, follows_one, follows_append}
@@ -166,7 +166,7 @@ module _ (g : GrammarParts) (old new : State) (number : ℕ) (over : old.pages.g
   not_typed text refusal refused = by_case (session_of old.sessions (record { 0 = number })) refl
     where
       same_session : (s t : PlainSession) → session_of old.sessions (record { 0 = number }) ≡ Some s → session_numbered old number ≡ Some t → t ≡ s
-      same_session s t is its = some_is t s (sym its ∙ is)
+      same_session s t is its = same_Some t s (sym its ∙ is)
 
       why : (s : PlainSession) → session_of old.sessions (record { 0 = number }) ≡ Some s → Refuses old (requests.Put number text) refusal → IsNotTyped g old.pages.words text s.tokens
       why s is (inl gone) = absurd (none-some s (sym gone.none ∙ is))
@@ -198,7 +198,7 @@ module _ (g : GrammarParts) (old new : State) (number : ℕ) (over : old.pages.g
           free (NotOffered text) (inr (
             λ other gone. none-some session (sym gone.none ∙ is),
             inr (
-              λ other full. not_full (subst (λ (t : PlainSession). MOST_TOKENS ≤ length t.tokens) (some_is full.session session (sym full.named ∙ is)) full.full),
+              λ other full. not_full (subst (λ (t : PlainSession). MOST_TOKENS ≤ length t.tokens) (same_Some full.session session (sym full.named ∙ is)) full.full),
               inl (record {
                 session = session;
                 named = is;
@@ -230,7 +230,7 @@ module _ (g : GrammarParts) (old new : State) (number : ℕ) (over : old.pages.g
       by_case None is refused = refl
       by_case (Some s) is (inl gone) = absurd (none-some s (sym gone.none ∙ is))
       by_case (Some s) is (inr (there, inl nothing)) =
-          let empty : s.tokens ≡ [] = ap (λ (t : PlainSession). t.tokens) (some_is s nothing.session (sym is ∙ nothing.named)) ∙ nothing.none in
+          let empty : s.tokens ≡ [] = ap (λ (t : PlainSession). t.tokens) (same_Some s nothing.session (sym is ∙ nothing.named)) ∙ nothing.none in
           ap (λ (tokens : List (List ℕ)). Some (record { article = s.article; tokens = tokens })) (empty ∙ ap (λ (tokens : List (List ℕ)). take (length tokens - 1) tokens) (sym empty))
       by_case (Some s) is (inr (there, inr (some, never))) = absurd never
 
@@ -353,7 +353,7 @@ module _ (g : GrammarParts) (old new : State) (number : ℕ) (over : old.pages.g
   begin_shows form none step =
       let session = new_session (record { 0 = old.last + 1 }) step.1.word step.1.article.revision in
       let is_next : number ≡ old.last + 1 = ap session_told step.1.answer in
-      let same : (old.last + 1 == number) ≡ true = eq_same (old.last + 1) number (sym is_next) in
+      let same : (old.last + 1 == number) ≡ true = eq-eqb (old.last + 1) number (sym is_next) in
       subst (λ (s : State). Shows g old s number (apart.opened form ∷ []) × (number ≤ s.last)) (sym step.1.after) (
         record {
           grammar = over;

@@ -1,7 +1,7 @@
 -- What one session sees of a wiki, and how each change of sessions shows there.
 use Rattle.std.proofs.Common.{◌≡◌, ℕ, ◌+◌, ◌-◌, ◌<◌, ◌≤◌, ◌==◌, ◌⊎◌, Bool, true, false, not, cond, List, [], ◌∷◌, ◌++◌, length, map, filter, take, find, Option, Some, None, option_map, refl, sym, ap, subst, ◌∙◌, arith, inl, inr}
 use Rattle.std.specs.Option.{option_or, option_map_or}
-use Rattle.std.proofs.lemmas.Bool.{false≢true}
+use Rattle.std.proofs.lemmas.Bool.{false≢true, eqb-true, eqb-false}
 use Rattle.std.proofs.lemmas.List.Folds.{find-append}
 use Rattle.std.proofs.lemmas.Option.{none-some}
 use Rattle.wiki_base.specs.declared.numbers.WordId.{WordId}
@@ -11,7 +11,7 @@ use Rattle.lexicon.specs.Words.{Listed}
 use Rattle.editor.specs.Rebasing.{IsRebased}
 use Rattle.sessions.specs.Sessions.{PlainSession, has_number, session_of, with_change, without_session, without_article, is_on, AreRebased, IsRebasedSession}
 use Rattle.wiki_core.specs.State.{State}
-use Rattle.wiki_core.proofs.KeyLaws.{changed_at, key_stays, find_changed, find_filter, find_filtered, found_passes, eq_is, eq_same, eq_not, some_is}
+use Rattle.wiki_core.proofs.KeyLaws.{changed_at, key_stays, find_changed, find_filter, find_filtered, found_passes}
 
 -- a session as it is seen from outside of its article: the word of that, and the tokens
 pub record Own : Type 0 where
@@ -74,7 +74,7 @@ none_above p m low last (s ∷ sessions) below rise = by_tests (p s) (s.number.0
     above = let first = rise.0 in omega (arith, below, first)
 
     apart : (s.number.0 == m) ≡ true → ⊥
-    apart same = let is = eq_is s.number.0 m same in let first = rise.0 in omega (arith, below, first, is)
+    apart same = let is = eqb-true s.number.0 m same in let first = rise.0 in omega (arith, below, first, is)
 
     by_tests : (b c : Bool) → (s.number.0 == m) ≡ c → find (has_number (record { 0 = m })) (filter p sessions) ≡ None
         → find (has_number (record { 0 = m })) (cond b (s ∷ filter p sessions) (filter p sessions)) ≡ None
@@ -105,7 +105,7 @@ changed_other sessions n m change keeps apart =
   where
     not_same : (k : ℕ) → (k == m) ≡ true → (b : Bool) → (k == n) ≡ b → b ≡ false
     not_same k is false other = refl
-    not_same k is true same = absurd (eq_not n m apart (sym (eq_is k n same) ∙ eq_is k m is))
+    not_same k is true same = absurd (eqb-false n m apart (sym (eqb-true k n same) ∙ eqb-true k m is))
 
     by_case : (o : Option PlainSession) → ((s : PlainSession) → o ≡ Some s → (s.number.0 == m) ≡ true)
         → option_map (changed_at (λ (s : PlainSession). s.number.0) n change) o ≡ o
@@ -127,7 +127,7 @@ without_other sessions n m apart = find_filter (has_number (record { 0 = m })) (
   where
     not_same : (k : ℕ) → (k == m) ≡ true → (b : Bool) → (k == n) ≡ b → b ≡ false
     not_same k is false other = refl
-    not_same k is true same = absurd (eq_not n m apart (sym (eq_is k n same) ∙ eq_is k m is))
+    not_same k is true same = absurd (eqb-false n m apart (sym (eqb-true k n same) ∙ eqb-true k m is))
 
     stays : (s : PlainSession) → (s.number.0 == m) ≡ true → not (s.number.0 == n) ≡ true
     stays s is = ap not (not_same s.number.0 is (s.number.0 == n) refl)
@@ -182,7 +182,7 @@ ended_own word m low last [] rise = refl
 ended_own word m low last (s ∷ sessions) rise = by_tests (s.number.0 == m) (is_on word s) refl refl (ended_own word m s.number.0 last sessions rise.1)
   where
     none_later : (s.number.0 == m) ≡ true → own_of (without_article sessions word) m ≡ None
-    none_later is = let same = eq_is s.number.0 m is in ap (option_map own) (none_above (λ (t : PlainSession). not (is_on word t)) m s.number.0 last sessions (omega (arith, same)) rise.1)
+    none_later is = let same = eqb-true s.number.0 m is in ap (option_map own) (none_above (λ (t : PlainSession). not (is_on word t)) m s.number.0 last sessions (omega (arith, same)) rise.1)
 
     by_tests : (b c : Bool) → (s.number.0 == m) ≡ b → is_on word s ≡ c → own_of (without_article sessions word) m ≡ ended word (own_of sessions m)
         → own_of (cond (not c) (s ∷ without_article sessions word) (without_article sessions word)) m ≡ ended word (option_map own (cond b (Some s) (session_of sessions (record { 0 = m }))))

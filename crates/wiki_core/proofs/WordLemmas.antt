@@ -22,6 +22,7 @@ use Rattle.sessions.specs.declared.session.Session.{Session}
 use Rattle.sessions.specs.Sessions.{PlainSession, all_plain, AreSessions, AreKept, AreTypeable, AreRebased}
 use Rattle.sessions.proofs.KeepingLaws.{kept_by_word, kept_typeable}
 use Rattle.wiki_base.specs.declared.numbers.WordId.{WordId}
+use Rattle.wiki_base.proofs.OptionLaws.{option_or-second_none}
 use Rattle.lists.specs.declared.memory.Memory.{Memory}
 use Rattle.articles.specs.Articles.{new_article}
 use Rattle.wiki_talk.specs.declared.refusals.Refusal.{Refusal}
@@ -80,10 +81,6 @@ never_memory words forms is =
     (either_or (first_taken words.live forms.texts) (first_reserved words.terminals forms.texts) (never_taken words.live forms.texts) (never_reserved words.terminals forms.texts))
     (never_full words) is
 
-second_none : {X : Type 0} (a b : Option X) → option_or a b ≡ None → b ≡ None
-second_none None b none = none
-second_none (Some x) b none = absurd (none-some x (sym none))
-
 -- a word that is told as the owner of a form lives
 told_taken : (text : List ℕ) (o : Option Forms) → IsSome o → option_map (λ (f : Forms). refusals.Taken text (canonical f)) o ≡ None → ⊥
 told_taken text None lives none = false≢true lives
@@ -104,8 +101,8 @@ free_of : (words : Listed) (kind : Kind) (texts : List (List ℕ)) → word_refu
 unfolding word_refusal
 free_of words kind texts none =
     free_by words (forms_given kind texts) (add_refusal words (forms_given kind texts)) refl
-    (second_none (bad_count kind texts) (lexicon_refusal words (add_refusal words (forms_given kind texts)))
-    (second_none (bad_text texts) (option_or (bad_count kind texts) (lexicon_refusal words (add_refusal words (forms_given kind texts)))) none))
+    (option_or-second_none (bad_count kind texts) (lexicon_refusal words (add_refusal words (forms_given kind texts)))
+    (option_or-second_none (bad_text texts) (option_or (bad_count kind texts) (lexicon_refusal words (add_refusal words (forms_given kind texts)))) none))
 
 none_of : {X : Type 0} (o : Option X) → ((x : X) → o ≡ Some x → ⊥) → o ≡ None
 none_of None never = refl

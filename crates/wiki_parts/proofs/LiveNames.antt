@@ -5,7 +5,11 @@ use Rattle.std.specs.Option.{option_map_or}
 use Rattle.std.specs.Str.{bytes_eq}
 use Rattle.std.specs.List.{list_all, list_any}
 use Rattle.std.proofs.lemmas.List.Folds.{list_all-append}
+use Rattle.std.proofs.lemmas.Bool.{and_from, or_cases, and_parts, eqb-true}
+use Rattle.std.proofs.lemmas.Option.{same_Some}
 use Rattle.wiki_base.specs.declared.numbers.WordId.{WordId}
+use Rattle.wiki_base.proofs.ListLaws.{AllPairs-head, AllPairs-tail}
+use Rattle.wiki_base.proofs.BoolLaws.{and_first, and_second}
 use Rattle.codeco_text.specs.Names.{same_bytes}
 use Rattle.codeco_terms.specs.declared.values.Value.{Value}
 use Rattle.codeco_terms.specs.declared.values.Value.TheVariants.{Pos}
@@ -41,26 +45,17 @@ use Rattle.derivation_trees.specs.Instances.{value_under, under, tests_under}
 use Rattle.derivation_trees.specs.Derives.{At, Stand, moved, pass, pass_token, pass_child, pass_finding, is_found, reference_tests, run, phrase, phrase_of, phrases_of, rule_with, text_category, IsDerivation}
 use Rattle.derivation_trees.specs.Skeletons.{word_among, word_in, word_at, word_here, child_here, met, start, end_place, skeleton, skeleton_at, skeletons_at, skeleton_of}
 use Rattle.derivation_trees.specs.Stands.{is_sub}
-use Rattle.derivations.proofs.Members.{either_of_or, some_same}
 use Rattle.derivations.proofs.ListingLemmas.{Parts, phrase_parts}
 use Rattle.drs_build.specs.Nodes.{label_of, is_naming, no_word, own_name, introduced_at, ends_of, names_of}
 use Rattle.drs_build.specs.Nodes.{is_name as is_name_word}
 use Rattle.derivation_trees.specs.Sketches.{body_of}
 use Rattle.drs_build.proofs.NodeLemmas.{names_of_is}
 use Rattle.drs_build.proofs.GrammarLemmas.{Found, found}
-use Rattle.drs_build.proofs.OrderLemmas.{both_true, eq_true}
-use Rattle.ace_to_owl.proofs.Forest.{and_l, and_r, both}
 use Rattle.wiki_parts.specs.Knowledge.{is_name, live_names}
 use Rattle.wiki_parts.proofs.NameLemmas.{names_among}
 use Rattle.wiki_parts.proofs.PassingLemmas.{words_pass}
 
 -- Readings
-
-pairs_head : {X : Type 0} (R : X → X → Type 0) (x : X) (xs : List X) → AllPairs R (x ∷ xs) → (k : ℕ) (d : X) → k < length xs → R x (get_or xs k d)
-pairs_head R x xs pairs k d in_range = pairs zero (suc k) d (omega arith) (omega arith)
-
-pairs_tail : {X : Type 0} (R : X → X → Type 0) (x : X) (xs : List X) → AllPairs R (x ∷ xs) → AllPairs R xs
-pairs_tail R x xs pairs i j d before in_range = pairs (suc i) (suc j) d (omega arith) (omega arith)
 
 -- a token that is none of the forms has no readings
 readings_from_none : (kind : Kind) (id : WordId) (token : List ℕ) (place : ℕ) (forms : List (List ℕ)) → is_form forms token ≡ false
@@ -80,7 +75,7 @@ readings_none [] token lacks = refl
 readings_none (word ∷ live) token lacks = rw (readings_from_none word.forms.kind word.id token 0 word.forms.texts (lacks zero word (omega arith))) (readings_none live token (λ k d in_range. lacks (suc k) d (omega arith)))
 
 not_name : (n : ℕ) (b : Bool) (asked : Test) → asked.name ≡ 0 → 0 < n → ((n == asked.name) && b) ≡ true → ⊥
-not_name n b asked named positive h = let e : n ≡ asked.name = eq_true n asked.name (and_l (n == asked.name) b h) in omega arith
+not_name n b asked named positive h = let e : n ≡ asked.name = eqb-true n asked.name (and_first (n == asked.name) b h) in omega arith
 
 -- only a name has a reading as $name
 reading_name : (kind : Kind) (id : WordId) (place : ℕ) (form : List ℕ) (asked : Test) → asked.name ≡ 0 → agrees (reading kind id place form) asked ≡ true
@@ -102,7 +97,7 @@ from_name kind id token place (form ∷ forms) asked named h = by (from_name kin
     by : (reads_as asked (readings_from kind id token (place + 1) forms) ≡ true → is_name kind ≡ true)
         → (b : Bool) → reads_as asked (cond b (reading kind id place form ∷ readings_from kind id token (place + 1) forms) (readings_from kind id token (place + 1) forms)) ≡ true → is_name kind ≡ true
     by later true k =
-        elim (either_of_or (agrees (reading kind id place form) asked) (reads_as asked (readings_from kind id token (place + 1) forms)) k) [
+        elim (or_cases (agrees (reading kind id place form) asked) (reads_as asked (readings_from kind id token (place + 1) forms)) k) [
           | inl e ↦ reading_name kind id place form asked named e
           | inr e ↦ later e
         ]
@@ -131,8 +126,8 @@ first_word kind id token place (form ∷ forms) others h = by (first_word kind i
 
 taken : {X : Type 0} (p : X → Bool) (xs : List X) (i : ℕ) (x : X) → slice_get xs i ≡ Some x → list_all p (take (suc i) xs) ≡ true → p x ≡ true
 taken p [] i x at all = absurd cc
-taken p (y ∷ ys) zero x at all = let same : y ≡ x = cc in ap p (sym same) ∙ (both_true (p y) (list_all p (take 0 ys)) all).0
-taken p (y ∷ ys) (suc i) x at all = taken p ys i x at (both_true (p y) (list_all p (take (suc i) ys)) all).1
+taken p (y ∷ ys) zero x at all = let same : y ≡ x = cc in ap p (sym same) ∙ (and_parts (p y) (list_all p (take 0 ys)) all).0
+taken p (y ∷ ys) (suc i) x at all = taken p ys i x at (and_parts (p y) (list_all p (take (suc i) ys)) all).1
 
 -- one preterminal, $name
 abbrev names_once : List Element → Bool
@@ -150,10 +145,10 @@ row_names kinds row r naming h =
     let once = count_by is_introduction r.body == one_if row.introduces in
     let refers = count_by is_reference r.body == one_if row.refers in
     let behind = introduces_behind_tokens false r.body in
-    let last = both_true (heads && children && fit && once && refers) behind h in
-    let before = both_true (heads && children && fit && once) refers last.0 in
-    let here = both_true (heads && children && fit) once before.0 in
-    words_by row.words kinds r.body naming (both_true (heads && children) fit here.0).1
+    let last = and_parts (heads && children && fit && once && refers) behind h in
+    let before = and_parts (heads && children && fit && once) refers last.0 in
+    let here = and_parts (heads && children && fit) once before.0 in
+    words_by row.words kinds r.body naming (and_parts (heads && children) fit here.0).1
 
 -- in a sound grammar the rule of a label that names has the one preterminal $name
 pub naming_body : (g : GrammarParts) (n : ℕ) (r : Rule) (l : Label) → IsSound g → Found g n r → r.label ≡ Some l → is_name_word (label_row l).words ≡ true
@@ -181,7 +176,7 @@ naming_rule g n r sound at naming = by r.label refl (sym (ap (λ o. is_naming (o
 module _ (test : WordId → Bool) where
   head_passes : (w : Word) (ws : List Word) → is_name w.forms.kind ≡ true → list_all test (names_among (w ∷ ws)) ≡ true → test w.id ≡ true
   head_passes w ws named all =
-      and_l (test w.id) (list_all test (names_among ws))
+      and_first (test w.id) (list_all test (names_among ws))
       (sym (ap (λ b. list_all test (map (λ (word : Word). word.id) (cond b (w ∷ filter (λ word. is_name word.forms.kind) ws) (filter (λ word. is_name word.forms.kind) ws)))) named) ∙ all)
 
   tail_passes : (w : Word) (ws : List Word) → list_all test (names_among (w ∷ ws)) ≡ true → list_all test (names_among ws) ≡ true
@@ -190,7 +185,7 @@ module _ (test : WordId → Bool) where
       by : (b : Bool)
           → list_all test (map (λ (word : Word). word.id) (cond b (w ∷ filter (λ word. is_name word.forms.kind) ws) (filter (λ word. is_name word.forms.kind) ws))) ≡ true
           → list_all test (names_among ws) ≡ true
-      by true k = and_r (test w.id) (list_all test (names_among ws)) k
+      by true k = and_second (test w.id) (list_all test (names_among ws)) k
       by false k = k
 
   -- a token that reads as $name is a form of a live name
@@ -198,12 +193,12 @@ module _ (test : WordId → Bool) where
       → reads_as asked (readings_of live token) ≡ true → test (word_in (readings_of live token)) ≡ true
   token_passes asked named token [] apart all h = absurd cc
   token_passes asked named token (w ∷ ws) apart all h =
-      by (token_passes asked named token ws (pairs_tail SharesNoForm w ws apart) (tail_passes w ws all)) (has_form token w) refl
+      by (token_passes asked named token ws (AllPairs-tail SharesNoForm w ws apart) (tail_passes w ws all)) (has_form token w) refl
     where
       by : (reads_as asked (readings_of ws token) ≡ true → test (word_in (readings_of ws token)) ≡ true)
           → (b : Bool) → has_form token w ≡ b → test (word_in (readings_of_word token w ++ readings_of ws token)) ≡ true
       by later true e =
-          let none_behind : readings_of ws token ≡ [] = readings_none ws token (λ k d bound. pairs_head SharesNoForm w ws apart k d bound token e) in
+          let none_behind : readings_of ws token ≡ [] = readings_none ws token (λ k d bound. AllPairs-head SharesNoForm w ws apart k d bound token e) in
           let alone : readings_of_word token w ++ readings_of ws token ≡ readings_of_word token w = ap (λ rs. readings_of_word token w ++ rs) none_behind ∙ append-nil (readings_of_word token w) in
           let own : reads_as asked (readings_of_word token w) ≡ true = sym (ap (reads_as asked) alone) ∙ h in
           let is : is_name w.forms.kind ≡ true = from_name w.forms.kind w.id token 0 w.forms.texts asked named own in
@@ -220,7 +215,7 @@ module _ (test : WordId → Bool) where
   place_passes asked named live apart all (token ∷ tokens) (suc place) h = place_passes asked named live apart all tokens place h
 
   joined_words : (xs ys : List (ℕ × WordId)) → words_pass test xs ≡ true → words_pass test ys ≡ true → words_pass test (xs ++ ys) ≡ true
-  joined_words xs ys h k = list_all-append (λ n. test n.1) xs ys ∙ both (words_pass test xs) (words_pass test ys) h k
+  joined_words xs ys h k = list_all-append (λ n. test n.1) xs ys ∙ and_from (words_pass test xs) (words_pass test ys) h k
 
   module _ (g : GrammarParts) (sound : IsSound g) (lexicon : Listed) (apart : AllPairs SharesNoForm lexicon.live) (all : list_all test (live_names lexicon) ≡ true) (tokens : List (List ℕ)) where
     abbrev s : Setting
@@ -236,7 +231,7 @@ module _ (test : WordId → Bool) where
     word_passes values (Preterminal c ∷ es) stand after once h = by (matches_preterminal s (under values c) stand.at.place) refl h
       where
         named : c.name ≡ 0
-        named = eq_true c.name 0 (and_l (c.name == 0) (same_bytes (word_names es) []) once)
+        named = eqb-true c.name 0 (and_first (c.name == 0) (same_bytes (word_names es) []) once)
 
         by : (b : Bool) → matches_preterminal s (under values c) stand.at.place ≡ b → option_and_then (run s values es) (pass_token b stand) ≡ Some after
             → test (word_at s stand.at.place) ≡ true
@@ -251,7 +246,7 @@ module _ (test : WordId → Bool) where
 
     -- an element that is no category keeps the children to come
     of_some : (stand one mid : Stand) → one.children ≡ stand.children → Some one ≡ Some mid → mid.children ≡ stand.children
-    of_some stand one mid same h = ap (λ (x : Stand). x.children) (sym (some_same one mid h)) ∙ same
+    of_some stand one mid same h = ap (λ (x : Stand). x.children) (sym (same_Some one mid h)) ∙ same
 
     of_test : (b : Bool) (stand one mid : Stand) → one.children ≡ stand.children → cond b (Some one) None ≡ Some mid → mid.children ≡ stand.children
     of_test true stand one mid same h = of_some stand one mid same h
@@ -325,7 +320,7 @@ module _ (test : WordId → Bool) where
       where
         by : (b : Bool) → is_naming (label_of g number) ≡ b
             → words_pass test (cond b ((introduced_at (body_of g number) first ends, slice_index_or given 0 no_word) ∷ []) []) ≡ true
-        by true e = both (test (slice_index_or given 0 no_word)) true (passes e) refl
+        by true e = and_from (test (slice_index_or given 0 no_word)) true (passes e) refl
         by false e = refl
 
     layer_live : (number first end : ℕ) (positions : List ℕ) (given : List WordId) (kids : List Skeleton)

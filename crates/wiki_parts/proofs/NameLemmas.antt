@@ -43,12 +43,6 @@ names_below live i word in_order at =
         subst (λ (w : Word). (get_or (take i live) k d).id.0 < w.id.0) there
         (subst (λ (w : Word). w.id.0 < (get_or live i d).id.0) (sym (get_or-take i live k d below)) (in_order k i d below (slice_get_within live i word at)))
 
--- one more item is mapped
-pub mapped_more : {X Y : Type 0} (f : X → Y) (xs : List X) (i : ℕ) (x : X) → slice_get xs i ≡ Some x → map f (take (i + 1) xs) ≡ map f (take i xs) ++ f x ∷ []
-mapped_more f xs i x at =
-    ap (map f) (take_more xs i x (slice_get_within xs i x at)) ∙ map-append f (take i xs) (get_or xs i x ∷ [])
-    ∙ ap (λ y. map f (take i xs) ++ f y ∷ []) (get_or_from_slice_get xs i x x at)
-
 -- names behind one that rise above it have higher numbers
 above_all : (n : WordId) (ns : List WordId) → names_above n ns ≡ true → All (λ later. n.0 < later.0) ns
 above_all n [] up j d within = absurd (omega arith)

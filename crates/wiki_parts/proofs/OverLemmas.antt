@@ -3,13 +3,15 @@ use Rattle.std.proofs.Common.{◌≡◌, ℕ, ◌&&◌, ◌||◌, Bool, true, fa
 use Rattle.std.specs.Prelude.{IsTrue, Result, Ok, Err}
 use Rattle.std.specs.List.{list_all}
 use Rattle.std.proofs.lemmas.List.Folds.{list_all-append}
+use Rattle.std.proofs.lemmas.Bool.{or_right, and_from}
 use Rattle.wiki_base.specs.declared.numbers.WordId.{WordId}
+use Rattle.wiki_base.proofs.BoolLaws.{and_first, and_second}
+use Rattle.wiki_base.proofs.NumberLaws.{eqb_refl}
 use Rattle.codeco_terms.specs.GrammarParts.{GrammarParts}
 use Rattle.codeco_checked.specs.Sound.{IsSound}
 use Rattle.lexicon.specs.Words.{Listed, SharesNoForm}
 use Rattle.derivation_trees.specs.declared.skeletons.Skeleton.{Skeleton}
 use Rattle.derivation_trees.specs.Skeletons.{IsLeastSkeleton}
-use Rattle.derivations.proofs.ValueLemmas.{number_is_same}
 use Rattle.logic_terms.specs.declared.cause.Cause.{Cause}
 use Rattle.logic_terms.specs.Concept.{Concept, Claim}
 use Rattle.logic_terms.specs.Free.{free_in}
@@ -18,7 +20,6 @@ use Rattle.logic_terms.specs.Plain.{is_plain, is_plain_claim, are_plain}
 use Rattle.logic_terms.specs.Structure.{Structure}
 use Rattle.absorb.specs.Mentioned.{names_in, names_in_claim, is_among, are_over}
 use Rattle.ace_to_owl.specs.Mapping.{axioms_stated, class_asked}
-use Rattle.ace_to_owl.proofs.Forest.{and_l, and_r, both}
 use Rattle.ace_to_owl.proofs.PlainLemmas.{statement_plain, question_plain}
 use Rattle.articles.specs.declared.sentences.Sentence.{Sentence}
 use Rattle.articles.specs.declared.article.Article.{Article}
@@ -36,19 +37,15 @@ use Rattle.wiki_parts.proofs.PassingLemmas.{words_pass, meaning_passes}
 
 -- Names among themselves
 
-or_right : (a b : Bool) → b ≡ true → (a || b) ≡ true
-or_right true b h = refl
-or_right false b h = h
-
 among_more : (n : WordId) (names xs : List WordId) → list_all (is_among names) xs ≡ true → list_all (is_among (n ∷ names)) xs ≡ true
 among_more n names [] h = refl
 among_more n names (x ∷ xs) h =
-    both (is_among (n ∷ names) x) (list_all (is_among (n ∷ names)) xs) (or_right (is_word x n) (is_among names x) (and_l (is_among names x) (list_all (is_among names) xs) h))
-    (among_more n names xs (and_r (is_among names x) (list_all (is_among names) xs) h))
+    and_from (is_among (n ∷ names) x) (list_all (is_among (n ∷ names)) xs) (or_right (is_word x n) (is_among names x) (and_first (is_among names x) (list_all (is_among names) xs) h))
+    (among_more n names xs (and_second (is_among names x) (list_all (is_among names) xs) h))
 
 each_among : (names : List WordId) → list_all (is_among names) names ≡ true
 each_among [] = refl
-each_among (n ∷ ns) = both (is_among (n ∷ ns) n) (list_all (is_among (n ∷ ns)) ns) (ap (λ b. b || is_among ns n) (number_is_same n.0)) (among_more n ns ns (each_among ns))
+each_among (n ∷ ns) = and_from (is_among (n ∷ ns) n) (list_all (is_among (n ∷ ns)) ns) (ap (λ b. b || is_among ns n) (eqb_refl n.0)) (among_more n ns ns (each_among ns))
 
 -- What holds of all axioms of a structure, and of the class that it asks for, holds of its meaning.
 
@@ -132,7 +129,7 @@ module _ (g : GrammarParts) (sound : IsSound g) (words : Listed) (apart : AllPai
 -- What the axioms of each sentence pass, those of many pass.
 module _ (g : GrammarParts) (words : Listed) (p : Claim → Bool) (each : (tokens : List (List ℕ)) (m : Meaning) → Means g words tokens m → list_all p (stated_by m) ≡ true) where
   joined : (cs ds : List Claim) → list_all p cs ≡ true → list_all p ds ≡ true → list_all p (cs ++ ds) ≡ true
-  joined cs ds h k = list_all-append p cs ds ∙ both (list_all p cs) (list_all p ds) h k
+  joined cs ds h k = list_all-append p cs ds ∙ and_from (list_all p cs) (list_all p ds) h k
 
   pub known_of_pass : (sentences : List Sentence) (meanings : List Meaning) → MeanEach g words sentences meanings
       → list_all p (known_of sentences meanings) ≡ true
@@ -190,8 +187,8 @@ module _ (g : GrammarParts) (words : Listed) (articles : List Article) (senses :
   module _ (tokens : List (List ℕ)) (concept : Concept) (means : Means g words tokens (asking concept)) where
     pub answers_over : IsTrue (are_over names claims && list_all (is_among names) (names_in concept))
     answers_over =
-        both (are_over names claims) (list_all (is_among names) (names_in concept)) verdict_over
+        and_from (are_over names claims) (list_all (is_among names) (names_in concept)) verdict_over
         (ap (λ ns. list_all (is_among ns) (names_in concept)) are_names ∙ asked_over g sound words apart tokens concept means)
 
     pub answers_plain : IsTrue (are_plain claims && is_plain concept)
-    answers_plain = both (are_plain claims) (is_plain concept) verdict_plain (asked_plain g words tokens concept means)
+    answers_plain = and_from (are_plain claims) (is_plain concept) verdict_plain (asked_plain g words tokens concept means)

@@ -4,7 +4,9 @@ use Rattle.std.specs.Prelude.{◌==◌, filter, flat_map, slice_get, slice_index
 use Rattle.std.specs.Option.{option_map_or}
 use Rattle.std.specs.List.{list_all}
 use Rattle.std.proofs.lemmas.List.Folds.{list_all-append}
+use Rattle.std.proofs.lemmas.Bool.{and_from}
 use Rattle.wiki_base.specs.declared.numbers.WordId.{WordId}
+use Rattle.wiki_base.proofs.BoolLaws.{and_first, and_second}
 use Rattle.codeco_terms.specs.declared.rules.Label.{Label}
 use Rattle.codeco_terms.specs.declared.rules.Label.TheVariants as label
 use Rattle.codeco_terms.specs.GrammarParts.{GrammarParts}
@@ -27,7 +29,6 @@ use Rattle.drs_build.specs.Joining as joining
 use Rattle.drs_build.specs.Meanings.{Meaning, nothing, saying, bar, verb_phrase, noun_phrase, Made, meaning}
 use Rattle.drs_build.specs.Nodes.{label_of, is_meant, is_naming, names_of, own_name_in, no_word, term_at, meaning_in, meaning_of, meant_children, made_in, position_in}
 use Rattle.drs_build.proofs.NodeLemmas.{meaning_by, meaning_none, names_of_is}
-use Rattle.ace_to_owl.proofs.Forest.{and_l, and_r, both}
 use Rattle.wiki_parts.specs.Mentions.{thing_passes, names_pass, names_pass_all, names_pass_in}
 
 module _ (test : WordId → Bool) where
@@ -39,13 +40,13 @@ module _ (test : WordId → Bool) where
     pub around : (k : Structure) → names_pass test k ≡ true → names_pass test (m.around k) ≡ true
 
   alone : (b : Bool) → b ≡ true → (b && true) ≡ true
-  alone b h = both b true h refl
+  alone b h = and_from b true h refl
 
   conditions_pass : (cs ds : Conditions) → names_pass_all test cs ≡ true → names_pass_all test ds ≡ true → names_pass_all test (joining.both cs ds) ≡ true
   conditions_pass no_condition ds h g = g
   conditions_pass (also_condition c cs) ds h g =
-      both (names_pass_in test c) (names_pass_all test (joining.both cs ds)) (and_l (names_pass_in test c) (names_pass_all test cs) h)
-      (conditions_pass cs ds (and_r (names_pass_in test c) (names_pass_all test cs) h) g)
+      and_from (names_pass_in test c) (names_pass_all test (joining.both cs ds)) (and_first (names_pass_in test c) (names_pass_all test cs) h)
+      (conditions_pass cs ds (and_second (names_pass_in test c) (names_pass_all test cs) h) g)
 
   joined : (j k : Structure) → names_pass test j ≡ true → names_pass test k ≡ true → names_pass test (j ⊕ k) ≡ true
   joined (structure rs cs) (structure qs ds) h g = conditions_pass cs ds h g
@@ -55,19 +56,19 @@ module _ (test : WordId → Bool) where
   isa noun t h = alone (thing_passes test t) h
 
   related : (word : WordId) (t u : Thing) → thing_passes test t ≡ true → thing_passes test u ≡ true → names_pass test (only (AreRelated word t u)) ≡ true
-  related word t u h g = alone (thing_passes test t && thing_passes test u) (both (thing_passes test t) (thing_passes test u) h g)
+  related word t u h g = alone (thing_passes test t && thing_passes test u) (and_from (thing_passes test t) (thing_passes test u) h g)
 
   same : (t u : Thing) → thing_passes test t ≡ true → thing_passes test u ≡ true → names_pass test (only (AreSame t u)) ≡ true
-  same t u h g = alone (thing_passes test t && thing_passes test u) (both (thing_passes test t) (thing_passes test u) h g)
+  same t u h g = alone (thing_passes test t && thing_passes test u) (and_from (thing_passes test t) (thing_passes test u) h g)
 
   negation : (k : Structure) → names_pass test k ≡ true → names_pass test (only (Negation k)) ≡ true
   negation k h = alone (names_pass test k) h
 
   implication : (k l : Structure) → names_pass test k ≡ true → names_pass test l ≡ true → names_pass test (only (Implication k l)) ≡ true
-  implication k l h g = alone (names_pass test k && names_pass test l) (both (names_pass test k) (names_pass test l) h g)
+  implication k l h g = alone (names_pass test k && names_pass test l) (and_from (names_pass test k) (names_pass test l) h g)
 
   disjunction : (k l : Structure) → names_pass test k ≡ true → names_pass test l ≡ true → names_pass test (only (Disjunction k l)) ≡ true
-  disjunction k l h g = alone (names_pass test k && names_pass test l) (both (names_pass test k) (names_pass test l) h g)
+  disjunction k l h g = alone (names_pass test k && names_pass test l) (and_from (names_pass test k) (names_pass test l) h g)
 
   -- meanings of each kind
   passing_nothing : Passing nothing
@@ -153,17 +154,17 @@ module _ (test : WordId → Bool) where
 
   term_passes : (names : List (ℕ × WordId)) (p : ℕ) → words_pass names ≡ true → thing_passes test (term_at names p) ≡ true
   term_passes [] p h = refl
-  term_passes (n ∷ ns) p h = by (n.0 == p) (term_passes ns p (and_r (test n.1) (words_pass ns) h))
+  term_passes (n ∷ ns) p h = by (n.0 == p) (term_passes ns p (and_second (test n.1) (words_pass ns) h))
     where
       by : (b : Bool) → thing_passes test (term_at ns p) ≡ true → thing_passes test (cond b (Name n.1) (term_at ns p)) ≡ true
-      by true later = and_l (test n.1) (words_pass ns) h
+      by true later = and_first (test n.1) (words_pass ns) h
       by false later = later
 
   first_passes : (xs ys : List (ℕ × WordId)) → words_pass (xs ++ ys) ≡ true → words_pass xs ≡ true
-  first_passes xs ys h = and_l (words_pass xs) (words_pass ys) (sym (list_all-append (λ n. test n.1) xs ys) ∙ h)
+  first_passes xs ys h = and_first (words_pass xs) (words_pass ys) (sym (list_all-append (λ n. test n.1) xs ys) ∙ h)
 
   second_passes : (xs ys : List (ℕ × WordId)) → words_pass (xs ++ ys) ≡ true → words_pass ys ≡ true
-  second_passes xs ys h = and_r (words_pass xs) (words_pass ys) (sym (list_all-append (λ n. test n.1) xs ys) ∙ h)
+  second_passes xs ys h = and_second (words_pass xs) (words_pass ys) (sym (list_all-append (λ n. test n.1) xs ys) ∙ h)
 
   -- Skeletons
 
@@ -200,7 +201,7 @@ module _ (test : WordId → Bool) where
         own = first_passes (own_name_in g sk) (flat_map (names_of g) (out-Skeleton sk).children) parts
 
         here : (o : Option Label) → is_naming o ≡ true → words_pass (cond (is_naming o) ((position_in g sk, slice_index_or (out-Skeleton sk).words 0 no_word) ∷ []) []) ≡ true → test (slice_index_or (out-Skeleton sk).words 0 no_word) ≡ true
-        here o e w = and_l (test (slice_index_or (out-Skeleton sk).words 0 no_word)) true (ap (λ b. words_pass (cond b ((position_in g sk, slice_index_or (out-Skeleton sk).words 0 no_word) ∷ []) [])) (sym e) ∙ w)
+        here o e w = and_first (test (slice_index_or (out-Skeleton sk).words 0 no_word)) true (ap (λ b. words_pass (cond b ((position_in g sk, slice_index_or (out-Skeleton sk).words 0 no_word) ∷ []) [])) (sym e) ∙ w)
 
         by : (o : Option Label) → label_of g (out-Skeleton sk).rule ≡ o → Passing (meaning_in g names sk)
         by None e = subst Passing (sym (meaning_none g names sk e)) passing_nothing

@@ -9,6 +9,7 @@ use Rattle.std.proofs.lemmas.List.{drop_more}
 use Rattle.std.proofs.lemmas.List.Folds.{find-append}
 use Rattle.wiki_base.specs.declared.numbers.WordId.{WordId}
 use Rattle.wiki_base.specs.declared.numbers.Place.{Place}
+use Rattle.wiki_base.proofs.ListLaws.{drop_slice_get}
 use Rattle.lexicon.specs.declared.kinds.Forms.{Forms}
 use Rattle.lexicon.specs.declared.words.Word.{Word}
 use Rattle.lexicon.specs.Words.{is_among, has_number, forms_of}
@@ -40,22 +41,18 @@ pub find-next : (test : Placed → Bool) (articles : List Article) (i : ℕ) (d 
 find-next test articles i d below =
     ap (λ (some_articles : List Article). find test (all_placed some_articles)) (drop_more articles i d below) ∙ find-append test (placed_in (get_or articles i d)) (all_placed (drop (i + 1) articles))
 
--- the sentences from a place on are the one there and those behind it
-drop_at : {X : Type 0} (xs : List X) (i : ℕ) (x : X) → slice_get xs i ≡ Some x → drop i xs ≡ x ∷ drop (i + 1) xs
-drop_at xs i x at = drop_more xs i x (slice_get_within xs i x at) ∙ ap (λ y. y ∷ drop (i + 1) xs) (get_or_from_slice_get xs i x x at)
-
 -- the first of them is the one there, where that passes
 pub find-here : (test : Placed → Bool) (word : WordId) (sentences : List Sentence) (i : ℕ) (sentence : Sentence) → slice_get sentences i ≡ Some sentence
     → test (record { word = word; place = i; sentence = sentence }) ≡ true → find test (placed_from word i (drop i sentences)) ≡ Some (record { word = word; place = i; sentence = sentence })
 find-here test word sentences i sentence at passes =
-    ap (λ (some_sentences : List Sentence). find test (placed_from word i some_sentences)) (drop_at sentences i sentence at)
+    ap (λ (some_sentences : List Sentence). find test (placed_from word i some_sentences)) (drop_slice_get sentences i sentence at)
     ∙ ap (λ (b : Bool). cond b (Some (record { word = word; place = i; sentence = sentence })) (find test (placed_from word (i + 1) (drop (i + 1) sentences)))) passes
 
 -- and else it is the first behind it
 pub find-past : (test : Placed → Bool) (word : WordId) (sentences : List Sentence) (i : ℕ) (sentence : Sentence) → slice_get sentences i ≡ Some sentence
     → test (record { word = word; place = i; sentence = sentence }) ≡ false → find test (placed_from word i (drop i sentences)) ≡ find test (placed_from word (i + 1) (drop (i + 1) sentences))
 find-past test word sentences i sentence at fails =
-    ap (λ (some_sentences : List Sentence). find test (placed_from word i some_sentences)) (drop_at sentences i sentence at)
+    ap (λ (some_sentences : List Sentence). find test (placed_from word i some_sentences)) (drop_slice_get sentences i sentence at)
     ∙ ap (λ (b : Bool). cond b (Some (record { word = word; place = i; sentence = sentence })) (find test (placed_from word (i + 1) (drop (i + 1) sentences)))) fails
 
 -- the first of two that may be there, where the first is

@@ -6,6 +6,7 @@ use Rattle.std.proofs.lemmas.Bool.{false≢true}
 use Rattle.std.proofs.lemmas.Bool.Decides.{nat_tests}
 use Rattle.std.proofs.lemmas.Option.{none-some, slice_get-get_or, get_or_from_slice_get, slice_get_within, slice_get-map}
 use Rattle.wiki_base.specs.declared.numbers.WordId.{WordId}
+use Rattle.wiki_base.proofs.NumberLaws.{lt-eqb}
 use Rattle.lexicon.specs.declared.words.Word.{Word}
 use Rattle.lexicon.specs.declared.kinds.Kind.{Kind}
 use Rattle.lexicon.specs.Words.{Listed, IsLexicon}
@@ -43,10 +44,6 @@ articles-below state sound lexicon k d within =
     let same : under.word.id.0 ≡ (get_or state.articles k d).word.0 = ap (λ (w : WordId). w.0) under.number in
     omega (arith, known, same)
 
--- no article of words below a number is that of the number
-differs : (n m : ℕ) → n < m → (n == m) ≡ false
-differs n m below = grind (arith, nat_tests)
-
 rest-below : (word : WordId) (article : Article) (articles : List Article) → All (λ (a : Article). a.word.0 < word.0) (article ∷ articles) → All (λ (a : Article). a.word.0 < word.0) articles
 rest-below word article articles below k d within = below (suc k) d (omega (arith, within))
 
@@ -58,7 +55,7 @@ new-is-empty word [] below = by_test (word.0 == word.0) (grind (arith, nat_tests
     by_test true is = refl
     by_test false is = absurd (false≢true is)
 new-is-empty word (article ∷ articles) below =
-    by_test (article.word.0 == word.0) (differs article.word.0 word.0 (below 0 article (omega arith))) (new-is-empty word articles (rest-below word article articles below))
+    by_test (article.word.0 == word.0) (lt-eqb article.word.0 word.0 (below 0 article (omega arith))) (new-is-empty word articles (rest-below word article articles below))
   where
     by_test : (b : Bool) → b ≡ false → IsSomeAnd (find (is_of word) (articles ++ new_article word ∷ [])) (λ found. found.sentences ≡ [])
         → IsSomeAnd (cond b (Some article) (find (is_of word) (articles ++ new_article word ∷ []))) (λ found. found.sentences ≡ [])
@@ -73,7 +70,7 @@ new-taken-out word [] below = by_test (word.0 == word.0) (grind (arith, nat_test
     by_test true is = refl
     by_test false is = absurd (false≢true is)
 new-taken-out word (article ∷ articles) below =
-    by_test (article.word.0 == word.0) (differs article.word.0 word.0 (below 0 article (omega arith))) (new-taken-out word articles (rest-below word article articles below))
+    by_test (article.word.0 == word.0) (lt-eqb article.word.0 word.0 (below 0 article (omega arith))) (new-taken-out word articles (rest-below word article articles below))
   where
     by_test : (b : Bool) → b ≡ false → without_article (articles ++ new_article word ∷ []) word ≡ articles
         → cond (not b) (article ∷ without_article (articles ++ new_article word ∷ []) word) (without_article (articles ++ new_article word ∷ []) word) ≡ article ∷ articles
@@ -87,10 +84,6 @@ pub refused-step : {E : Type 0} (result : Result Reply E) (fault : Fault) (old n
 refused-step (Ok reply) fault old new kind texts told cause same =
     subst (λ (r : Reply). Step old (requests.Word kind texts) r new) (sym told.2) (subst (IsCause (word_refusal old.words kind texts)) told.1 cause, same)
 refused-step (Err fault) other old new kind texts told cause same = tt
-
-pub kept-on-error : {T E : Type 0} {P : Type 0} (result : Result T E) → P → OnErr result P
-kept-on-error (Ok value) same = tt
-kept-on-error (Err fault) same = same
 
 -- the number after the last one given, where there is one, is above those of all articles
 pub next-is : (state : State) → IsSound state → IsLexicon state.words → (last : ℕ) → last ≡ state.words.last → (o : Option ℕ) → SomeIff o (last + 1 < 4294967296) (last + 1)

@@ -4,14 +4,14 @@ use Rattle.std.specs.List.{slice_get}
 use Rattle.std.proofs.lemmas.Bool.{false≢true}
 use Rattle.std.proofs.lemmas.List.{length-map}
 use Rattle.std.proofs.lemmas.List.Elements.{All-nil, All-cons}
-use Rattle.std.proofs.lemmas.Option.{none-some, slice_get-get_or}
+use Rattle.std.proofs.lemmas.Option.{none-some, slice_get-get_or, same_Some}
 use Rattle.wiki_base.specs.declared.numbers.WordId.{WordId}
 use Rattle.wiki_base.specs.declared.numbers.Place.{Place}
+use Rattle.wiki_base.proofs.ListLaws.{drop_slice_get}
 use Rattle.codeco_terms.specs.GrammarParts.{GrammarParts}
 use Rattle.lexicon.specs.Words.{Listed, forms_of}
 use Rattle.derivation_trees.specs.Sentences.{IsSentence}
-use Rattle.derivations.proofs.Members.{some_same}
-use Rattle.logic_terms.proofs.Walks.{drop_get, left_none}
+use Rattle.logic_terms.proofs.Walks.{left_none}
 use Rattle.wiki_talk.specs.declared.refusals.Refusal.{Refusal}
 use Rattle.wiki_talk.specs.declared.refusals.Refusal.TheVariants.{Breaks}
 use Rattle.articles.specs.declared.sentences.Sentence.{Sentence}
@@ -52,7 +52,7 @@ module _ (P : Placed → Type 0) where
           let r = rest k.1 in
           record { count = suc r.count; here = r.here; holds = r.holds; earlier = All-cons (λ placed. ¬ (¬ P placed)) x (take r.count xs) (λ n. n k.0) r.earlier }
       by (inr n) rest =
-          record { count = 0; here = sym n.1; holds = subst (λ placed. ¬ P placed) (some_same x found (sym n.1)) n.0; earlier = All-nil (λ placed. ¬ (¬ P placed)) }
+          record { count = 0; here = sym n.1; holds = subst (λ placed. ¬ P placed) (same_Some x found (sym n.1)) n.0; earlier = All-nil (λ placed. ¬ (¬ P placed)) }
 
   -- a search of joined lists
   finds_behind : (xs ys : List Placed) (found : Option Placed) → Finds P xs None → Finds P ys found → Finds P (xs ++ ys) found
@@ -88,12 +88,12 @@ module _ (P : Placed → Type 0) where
 
   pub next_kept : (word : WordId) (sentences : List Sentence) (at : ℕ) (s : Sentence) (found : Option Placed) → slice_get sentences at ≡ Some s → P (record { word = word; place = at; sentence = s })
       → Finds P (placed_from word (at + 1) (drop (at + 1) sentences)) found → Finds P (placed_from word at (drop at sentences)) found
-  next_kept word sentences at s found here holds rest = subst (λ ss. Finds P (placed_from word at ss) found) (sym (drop_get sentences at s here)) (inl (holds, rest))
+  next_kept word sentences at s found here holds rest = subst (λ ss. Finds P (placed_from word at ss) found) (sym (drop_slice_get sentences at s here)) (inl (holds, rest))
 
   pub next_broken : (word : WordId) (sentences : List Sentence) (at : ℕ) (s : Sentence) → slice_get sentences at ≡ Some s → ¬ P (record { word = word; place = at; sentence = s })
       → Finds P (placed_from word at (drop at sentences)) (Some (record { word = word; place = at; sentence = s }))
   next_broken word sentences at s here lacks =
-      subst (λ ss. Finds P (placed_from word at ss) (Some (record { word = word; place = at; sentence = s }))) (sym (drop_get sentences at s here)) (inr (lacks, refl))
+      subst (λ ss. Finds P (placed_from word at ss) (Some (record { word = word; place = at; sentence = s }))) (sym (drop_slice_get sentences at s here)) (inr (lacks, refl))
 
   pub none_left : (word : WordId) (sentences : List Sentence) (at : ℕ) → length sentences ≤ at → Finds P (placed_from word at (drop at sentences)) None
   none_left word sentences at past = by (placed_from word at (drop at sentences)) (left_none (placed_from word at) sentences at past)
@@ -106,12 +106,12 @@ module _ (P : Placed → Type 0) where
   pub next_whole : (articles : List Article) (i : ℕ) (a : Article) (found : Option Placed) → slice_get articles i ≡ Some a → Finds P (placed_in a) None
       → Finds P (all_placed (drop (i + 1) articles)) found → Finds P (all_placed (drop i articles)) found
   next_whole articles i a found here none rest =
-      subst (λ xs. Finds P (all_placed xs) found) (sym (drop_get articles i a here)) (finds_behind (placed_in a) (all_placed (drop (i + 1) articles)) found none rest)
+      subst (λ xs. Finds P (all_placed xs) found) (sym (drop_slice_get articles i a here)) (finds_behind (placed_in a) (all_placed (drop (i + 1) articles)) found none rest)
 
   pub next_found : (articles : List Article) (i : ℕ) (a : Article) (found : Placed) → slice_get articles i ≡ Some a → Finds P (placed_in a) (Some found)
       → Finds P (all_placed (drop i articles)) (Some found)
   next_found articles i a found here finds =
-      subst (λ xs. Finds P (all_placed xs) (Some found)) (sym (drop_get articles i a here)) (finds_before (placed_in a) (all_placed (drop (i + 1) articles)) found finds)
+      subst (λ xs. Finds P (all_placed xs) (Some found)) (sym (drop_slice_get articles i a here)) (finds_before (placed_in a) (all_placed (drop (i + 1) articles)) found finds)
 
   pub none_left_in : (articles : List Article) (i : ℕ) → length articles ≤ i → Finds P (all_placed (drop i articles)) None
   none_left_in articles i past = by (all_placed (drop i articles)) (left_none all_placed articles i past)
@@ -131,7 +131,7 @@ module _ (P : Placed → Type 0) where
       by : (P first × Finds P (placed_from word (place + 1) ss) (Some found)) ⊎ ((¬ P first) × (Some found ≡ Some first)) → (Finds P (placed_from word (place + 1) ss) (Some found) → found.word ≡ word)
           → found.word ≡ word
       by (inl a) rest = rest a.1
-      by (inr n) rest = ap (λ (p : Placed). p.word) (some_same found first n.1)
+      by (inr n) rest = ap (λ (p : Placed). p.word) (same_Some found first n.1)
 
   article_word : (articles : List Article) (found : Placed) → Finds P (all_placed articles) (Some found) → (k : ℕ) × (slice_get (map (λ (a : Article). a.word) articles) k ≡ Some found.word)
   article_word [] found h = absurd h
@@ -204,17 +204,13 @@ pub mean_each-at : (g : GrammarParts) (words : Listed) (sentences : List Sentenc
 mean_each-at g words [] senses at s m mean here meant = absurd (none-some s here)
 mean_each-at g words (t ∷ ts) [] at s m mean here meant = absurd mean
 mean_each-at g words (t ∷ ts) (n ∷ ns) zero s m mean here meant =
-    subst (λ (u : Sentence). Means g words u.tokens (meaning_shown m)) (some_same t s here) (subst (λ (k : Sense). Means g words t.tokens (meaning_shown k)) (some_same n m meant) mean.0.0)
+    subst (λ (u : Sentence). Means g words u.tokens (meaning_shown m)) (same_Some t s here) (subst (λ (k : Sense). Means g words t.tokens (meaning_shown k)) (same_Some n m meant) mean.0.0)
 mean_each-at g words (t ∷ ts) (n ∷ ns) (suc at) s m mean here meant = mean_each-at g words ts ns at s m mean.1 here meant
-
--- the item that stands at a place
-pub item_at : {X : Type 0} (xs : List X) (i : ℕ) (x : X) → i < length xs → x ≡ get_or xs i x → slice_get xs i ≡ Some x
-item_at xs i x within is = slice_get-get_or xs i x within ∙ ap Some (sym is)
 
 -- what is true of all sentences is true of those of the article at a place
 pub all_at : (P : Sentence → Type 0) (articles : List Article) (i : ℕ) (a : Article) → slice_get articles i ≡ Some a → All P (sentences_in articles) → All P a.sentences
 all_at P [] i a here all = absurd (none-some a here)
-all_at P (b ∷ articles) zero a here all = subst (λ (c : Article). All P c.sentences) (some_same b a here) (all_parts P b.sentences (sentences_in articles) all).0
+all_at P (b ∷ articles) zero a here all = subst (λ (c : Article). All P c.sentences) (same_Some b a here) (all_parts P b.sentences (sentences_in articles) all).0
 all_at P (b ∷ articles) (suc i) a here all = all_at P articles i a here (all_parts P b.sentences (sentences_in articles) all).1
 
 module _ (g : GrammarParts) (words new : Listed) (article : Article) (senses : List Sense) (at : ℕ) (s : Sentence) (m : Sense) (kept : Bool)

@@ -3,10 +3,12 @@ use Rattle.std.proofs.Common.{◌≡◌, ℕ, zero, suc, ◌+◌, ◌<◌, ◌�
 use Rattle.std.specs.List.{slice_get, list_any}
 use Rattle.std.specs.Option.{option_map_or, option_or}
 use Rattle.std.specs.Str.{bytes_eq}
-use Rattle.std.proofs.lemmas.Bool.{false≢true}
-use Rattle.std.proofs.lemmas.Option.{none-some, slice_get_within, slice_get-map}
+use Rattle.std.proofs.lemmas.Bool.{false≢true, or_right, eqb-true}
+use Rattle.std.proofs.lemmas.Option.{none-some, slice_get_within, slice_get-map, same_Some}
 use Rattle.std.proofs.lemmas.Slice.Eq.{bytes_eq-Decides}
 use Rattle.wiki_base.specs.declared.numbers.WordId.{WordId}
+use Rattle.wiki_base.proofs.OptionLaws.{option_or-none}
+use Rattle.wiki_base.proofs.ListLaws.{AllPairs-head, AllPairs-tail}
 use Rattle.codeco_terms.specs.declared.categories.Ground.{Ground}
 use Rattle.codeco_terms.specs.GrammarParts.{GrammarParts}
 use Rattle.scopes.specs.declared.agreement.Test.{Test}
@@ -24,8 +26,6 @@ use Rattle.derivation_trees.specs.Settings.{Setting}
 use Rattle.derivation_trees.specs.Derives.{IsDerivation}
 use Rattle.derivation_trees.specs.Sentences.{setting_of}
 use Rattle.derivation_trees.specs.Skeletons.{IsLeast}
-use Rattle.derivations.proofs.Members.{some_same}
-use Rattle.drs_build.proofs.OrderLemmas.{eq_true}
 use Rattle.wiki_parts.specs.Meanings.{Meaning, Means}
 use Rattle.wiki_store.proofs.PassedLemmas.{IsPassed, derivation_passes}
 
@@ -33,15 +33,11 @@ use Rattle.wiki_store.proofs.PassedLemmas.{IsPassed, derivation_passes}
 abbrev pub StandsFor : List (List ℕ) → List Word → List ℕ → Type 0
 StandsFor terminals live token = (is_reserved terminals token ≡ true) ⊎ (readings_of live token ≡ [] → ⊥)
 
-true_or : (a b : Bool) → b ≡ true → (a || b) ≡ true
-true_or true b is = refl
-true_or false b is = is
-
 -- a token that is the terminal at a place is reserved
 reserved_at : (terminals : List (List ℕ)) (token : List ℕ) (t : ℕ) → option_map_or (bytes_eq token) (slice_get terminals t) false ≡ true → is_reserved terminals token ≡ true
 reserved_at [] token t is = absurd (false≢true is)
 reserved_at (terminal ∷ terminals) token zero is = ap (λ b. (b || bytes_eq token (raised terminal)) || is_reserved terminals token) is
-reserved_at (terminal ∷ terminals) token (suc t) is = true_or (is_spelling_of token terminal) (is_reserved terminals token) (reserved_at terminals token t is)
+reserved_at (terminal ∷ terminals) token (suc t) is = or_right (is_spelling_of token terminal) (is_reserved terminals token) (reserved_at terminals token t is)
 
 -- each token of a derivation stands for something
 token_stands : (g : GrammarParts) (words : Listed) (tokens : List (List ℕ)) (tree : Node) → IsDerivation (setting_of g words tokens) tree
@@ -101,15 +97,11 @@ unowned_reads_none (word ∷ live) token none = by_test (has_form token word) re
     by_test true is taken rest = absurd (none-some word.id (sym taken))
     by_test false is free rest = ap (λ rs. rs ++ readings_of live token) (word_reads_none token word is) ∙ rest free
 
-none_of_both : {X : Type 0} (a b : Option X) → option_or a b ≡ None → (a ≡ None) × (b ≡ None)
-none_of_both None b none = (refl, none)
-none_of_both (Some x) b none = absurd (none-some x (sym none))
-
 -- where none of the texts is taken, no word has any of them
 free_texts : (live : List Word) (texts : List (List ℕ)) → first_taken live texts ≡ None → (text : List ℕ) → is_among texts text ≡ true → owner live text ≡ None
 free_texts live [] free text among = absurd (false≢true among)
 free_texts live (first ∷ texts) free text among =
-    let both = none_of_both (option_map (Taken first) (owner live first)) (first_taken live texts) free in
+    let both = option_or-none (option_map (Taken first) (owner live first)) (first_taken live texts) free in
     by_test (bytes_eq text first) (bytes_eq-Decides text first).0 among (unmapped (owner live first) both.0) (free_texts live texts both.1 text)
   where
     unmapped : (o : Option WordId) → option_map (Taken first) o ≡ None → o ≡ None
@@ -136,7 +128,7 @@ unreserved_texts terminals (first ∷ texts) free text among =
 free_form : (live : List Word) (terminals : List (List ℕ)) (forms : Forms) (token : List ℕ) → forms_refusal live terminals forms ≡ None → is_among forms.texts token ≡ true
     → (owner live token ≡ None) × (is_reserved terminals token ≡ false)
 free_form live terminals forms token free among =
-    let both = none_of_both (first_taken live forms.texts) (first_reserved terminals forms.texts) free in
+    let both = option_or-none (first_taken live forms.texts) (first_reserved terminals forms.texts) free in
     (free_texts live forms.texts both.0 token among, unreserved_texts terminals forms.texts both.1 token among)
 
 stands_for_none : (terminals : List (List ℕ)) (live : List Word) (token : List ℕ) → is_reserved terminals token ≡ false → readings_of live token ≡ [] → StandsFor terminals live token → ⊥
@@ -165,7 +157,7 @@ readings-with_word words forms token free stands = by_test (is_among forms.texts
 pub means-with_word : (g : GrammarParts) (words : Listed) (forms : Forms) (tokens : List (List ℕ)) (meaning : Meaning) → words.terminals ≡ g.terminals → add_refusal words forms ≡ None
     → Means g words tokens meaning → Means g (with_word words forms) tokens meaning
 means-with_word g words forms tokens meaning own free means =
-    let fits = (none_of_both (forms_refusal words.live words.terminals forms) (fullness words) free).0 in
+    let fits = (option_or-none (forms_refusal words.live words.terminals forms) (fullness words) free).0 in
     means_by g words (with_word words forms) tokens meaning
     (λ k token here stands. readings-with_word words forms token fits (subst (λ (ts : List (List ℕ)). StandsFor ts words.live token) (sym own) stands)) means
 
@@ -181,13 +173,7 @@ lacks_later : (id : WordId) (token : List ℕ) (n : ℕ) (live : List Word) → 
 lacks_later id token n [] is later = tt
 lacks_later id token n (word ∷ live) is later =
     let above = later zero word (omega arith) in
-    ((λ same. let equal = eq_true word.id.0 id.0 same in absurd (omega (arith, above, equal, is))), lacks_later id token n live is (λ k d within. later (suc k) d (omega (arith, within))))
-
-pairs_head : {X : Type 0} (R : X → X → Type 0) (x : X) (xs : List X) → AllPairs R (x ∷ xs) → (k : ℕ) (d : X) → k < length xs → R x (get_or xs k d)
-pairs_head R x xs pairs k d in_range = pairs zero (suc k) d (omega arith) (omega arith)
-
-pairs_tail : {X : Type 0} (R : X → X → Type 0) (x : X) (xs : List X) → AllPairs R (x ∷ xs) → AllPairs R xs
-pairs_tail R x xs pairs i j d before in_range = pairs (suc i) (suc j) d (omega arith) (omega arith)
+    ((λ same. let equal = eqb-true word.id.0 id.0 same in absurd (omega (arith, above, equal, is))), lacks_later id token n live is (λ k d within. later (suc k) d (omega (arith, within))))
 
 abbrev rises : Word → Word → Type 0
 rises word later = word.id.0 < later.id.0
@@ -196,14 +182,14 @@ rises word later = word.id.0 < later.id.0
 lacks_form : (live : List Word) → AllPairs rises live → (id : WordId) (forms : Forms) (token : List ℕ) → forms_of live id ≡ Some forms → is_among forms.texts token ≡ false → Lacks id token live
 lacks_form [] in_order id forms token of_word lacks = tt
 lacks_form (word ∷ live) in_order id forms token of_word lacks =
-    by_test (has_number id word) refl of_word (λ later. lacks_form live (pairs_tail rises word live in_order) id forms token later lacks)
+    by_test (has_number id word) refl of_word (λ later. lacks_form live (AllPairs-tail rises word live in_order) id forms token later lacks)
   where
     by_test : (b : Bool) → has_number id word ≡ b → option_map (λ (w : Word). w.forms) (cond b (Some word) (find (has_number id) live)) ≡ Some forms
         → (forms_of live id ≡ Some forms → Lacks id token live) → Lacks id token (word ∷ live)
     by_test true is here rest =
         let own : word.forms ≡ forms = ap (λ (o : Option Forms). option_map_or (λ (f : Forms). f) o word.forms) here in (
           (λ same. ap (λ (f : Forms). is_among f.texts token) own ∙ lacks),
-          lacks_later id token word.id.0 live (eq_true word.id.0 id.0 is) (λ k d within. pairs_head rises word live in_order k d within),
+          lacks_later id token word.id.0 live (eqb-true word.id.0 id.0 is) (λ k d within. AllPairs-head rises word live in_order k d within),
         )
     by_test false is there rest = ((λ same. absurd (false≢true (sym is ∙ same))), rest there)
 
@@ -252,7 +238,7 @@ none_passes {X} p (y ∷ ys) k x fails here = by_test (p y) refl fails k here (n
     by_test : (b : Bool) → p y ≡ b → (b || list_any p ys) ≡ false → (n : ℕ) → slice_get (y ∷ ys) n ≡ Some x
         → ((n : ℕ) (z : X) → list_any p ys ≡ false → slice_get ys n ≡ Some z → p z ≡ false) → p x ≡ false
     by_test true is none n at rest = absurd (false≢true (sym none))
-    by_test false is none zero at rest = ap p (sym (some_same y x at)) ∙ is
+    by_test false is none zero at rest = ap p (sym (same_Some y x at)) ∙ is
     by_test false is none (suc n) at rest = rest n x none at
 
 -- a sentence that has no form of the word keeps its meaning without it

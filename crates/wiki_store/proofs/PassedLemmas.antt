@@ -3,7 +3,7 @@ use Rattle.std.proofs.Common.{◌≡◌, ℕ, ◌+◌, ◌<◌, ◌≤◌, ◌�
 use Rattle.std.specs.Prelude.{option_and_then}
 use Rattle.std.specs.List.{list_any}
 use Rattle.std.proofs.lemmas.Bool.{cases_lt}
-use Rattle.std.proofs.lemmas.Option.{none-some}
+use Rattle.std.proofs.lemmas.Option.{none-some, same_Some}
 use Rattle.codeco_terms.specs.declared.values.Value.{Value}
 use Rattle.codeco_terms.specs.declared.values.Value.TheVariants.{Pos}
 use Rattle.codeco_terms.specs.declared.categories.Pattern.{Pattern}
@@ -19,7 +19,6 @@ use Rattle.derivation_trees.specs.Instances.{value_under, under, tests_under}
 use Rattle.derivation_trees.specs.Derives.{At, Stand, moved, pass, pass_token, pass_child, pass_finding, is_found, reference_tests, run, phrase, phrase_of, phrases_of, rule_with, text_category, list_after, IsDerivation}
 use Rattle.derivation_trees.specs.Skeletons.{start}
 use Rattle.derivation_trees.specs.Stands.{is_sub}
-use Rattle.derivations.proofs.Members.{some_same}
 use Rattle.derivations.proofs.ListingLemmas.{Parts, phrase_parts}
 
 -- the token at the place is a terminal of the grammar, or has a reading
@@ -54,7 +53,7 @@ record IsNext (s : Setting) (stand next : Stand) : Type 0 where
 
 next_some : (s : Setting) (stand one next : Stand) → one.at.place ≡ stand.at.place → one.children ≡ stand.children → Some one ≡ Some next → IsNext s stand next
 next_some s stand one next place children h =
-    let same = some_same one next h in
+    let same = same_Some one next h in
     record {
       children = ap (λ (x : Stand). x.children) (sym same) ∙ children;
       passed = subst (λ (n : ℕ). ArePassed s stand.at.place n) (sym place ∙ ap (λ (x : Stand). x.at.place) same) (passed_none s stand.at.place);
@@ -62,7 +61,7 @@ next_some s stand one next place children h =
 
 next_token : (s : Setting) (b : Bool) (stand next : Stand) → (b ≡ true → IsPassed s stand.at.place) → pass_token b stand ≡ Some next → IsNext s stand next
 next_token s true stand next passes h =
-    let same = some_same (moved stand (stand.at.place + 1) stand.at.list) next h in
+    let same = same_Some (moved stand (stand.at.place + 1) stand.at.list) next h in
     record {
       children = ap (λ (x : Stand). x.children) (sym same);
       passed = subst (λ (n : ℕ). ArePassed s stand.at.place n) (ap (λ (x : Stand). x.at.place) same) (passed_one s stand.at.place (passes refl));
@@ -105,7 +104,7 @@ AreWhole s (more n ns) = IsWhole s n × AreWhole s ns
 
 walk : (s : Setting) (values : List (ℕ × Value)) (es : List Element) (ns : Nodes) (stand after : Stand) → AreWhole s ns → stand.children ≡ phrases_of s ns
     → run s values es stand ≡ Some after → ArePassed s stand.at.place after.at.place
-walk s values [] ns stand after whole children h = subst (λ (x : Stand). ArePassed s stand.at.place x.at.place) (some_same stand after h) (passed_none s stand.at.place)
+walk s values [] ns stand after whole children h = subst (λ (x : Stand). ArePassed s stand.at.place x.at.place) (same_Some stand after h) (passed_none s stand.at.place)
 walk s values (Sub c ∷ es) none stand after whole children h =
     absurd (none-some after (sym (ap (λ ps. option_and_then (run s values es) (pass_child (under values c) ps stand)) children) ∙ h))
 walk s values (Sub c ∷ es) (more n ns) stand after whole children h =

@@ -4,10 +4,9 @@ use Rattle.std.specs.List.{slice_get, list_any}
 use Rattle.std.specs.Option.{option_map_or, option_or, option_and_then, IsSomeAnd}
 use Rattle.std.proofs.lemmas.Bool.{false≢true}
 use Rattle.std.proofs.lemmas.List.Elements.{All-nil, All-cons, All-head, All-tail, All-append}
-use Rattle.std.proofs.lemmas.Option.{none-some, slice_get_within, get_or_from_slice_get}
+use Rattle.std.proofs.lemmas.Option.{none-some, slice_get_within, get_or_from_slice_get, same_Some}
 use Rattle.wiki_base.specs.declared.numbers.WordId.{WordId}
 use Rattle.codeco_terms.specs.GrammarParts.{GrammarParts}
-use Rattle.derivations.proofs.Members.{some_same}
 use Rattle.lexicon.specs.declared.kinds.Forms.{Forms}
 use Rattle.lexicon.specs.declared.words.Word.{Word}
 use Rattle.lexicon.specs.declared.words.LexFault.{LexFault}
@@ -161,10 +160,10 @@ keeps_others state sound lexicon word old forms of_word free new is tokens meani
 -- ---- why not
 
 same_word : (o : Option WordId) (one other : WordId) → o ≡ Some one → o ≡ Some other → one ≡ other
-same_word o one other a b = some_same one other (sym a ∙ b)
+same_word o one other a b = same_Some one other (sym a ∙ b)
 
 same_forms : (live : List Word) (one other : WordId) (forms old : Forms) → one ≡ other → forms_of live one ≡ Some forms → forms_of live other ≡ Some old → forms ≡ old
-same_forms live one other forms old same a b = some_same forms old (sym a ∙ ap (forms_of live) same ∙ b)
+same_forms live one other forms old same a b = same_Some forms old (sym a ∙ ap (forms_of live) same ∙ b)
 
 module _ (state : State) (text : List ℕ) (texts : List (List ℕ)) (word : WordId) (old : Forms) (named : word_named state text ≡ Some word) (of_word : forms_of state.words.live word ≡ Some old) where
   -- texts against which nothing stands

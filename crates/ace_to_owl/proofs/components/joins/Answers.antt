@@ -1,15 +1,15 @@
 use Rattle.std.proofs.Common.{◌≡◌, ℕ, ◌+◌, ◌-◌, ◌<◌, ◌≤◌, List, ◌∷◌, drop, length, get_or, sym, ap, ◌∙◌, arith}
+use Rattle.wiki_base.proofs.ListLaws.{drop_get_or}
 use Rattle.ace_to_owl.specs.Moves.{moved_by, gathered}
 use Rattle.ace_to_owl.specs.Mapping.{joined}
 use Rattle.ace_to_owl.proofs.GroupLemmas.{joined_more}
-use Rattle.ace_to_owl.proofs.Passed.{drop_here}
 use Rattle.ace_to_owl.proofs.components.joins.Goals as goal
 
 -- the group before what is left
 group_before : (gs : List (List ℕ)) (left : ℕ) (g : List ℕ) → 0 < left → left ≤ length gs → g ≡ get_or gs (left - 1) g → drop (left - 1) gs ≡ g ∷ drop left gs
 group_before gs left g positive within is =
     let step : (left - 1) + 1 ≡ left = omega arith in
-    drop_here gs (left - 1) g (omega arith) is ∙ ap (λ n. g ∷ drop n gs) step
+    drop_get_or gs (left - 1) g (omega arith) is ∙ ap (λ n. g ∷ drop n gs) step
 
 pub loop-left-preserved : goal.loop-left-preserved
 loop-left-preserved c = record {

@@ -1,10 +1,10 @@
 use Rattle.std.proofs.lemmas.List.{map-append}
 use Rattle.std.proofs.Common.{◌+◌, List, [], ◌∷◌, map, drop, ap, ◌∙◌, subst}
+use Rattle.wiki_base.proofs.ListLaws.{drop_slice_get}
 use Rattle.logic_terms.specs.Shown.{concept_of, structure_of, condition_of, conditions_of}
 use Rattle.logic_terms.specs.Structure.{Condition, conditions_from}
 use Rattle.ace_to_owl.specs.Answers.{part_shown, Agrees}
 use Rattle.ace_to_owl.specs.Rolling.{roll, negation_part, parts}
-use Rattle.ace_to_owl.proofs.Passed.{drop_at}
 use Rattle.ace_to_owl.proofs.RollingLemmas.{roll_by, roll_with_by, parts_stop, parts_go}
 use Rattle.ace_to_owl.proofs.rolling.+rolling.Goals as goal
 
@@ -24,11 +24,11 @@ pub parts_of-returns-in-Err : goal.parts_of-returns-in-Err
 parts_of-returns-in-Err t c =
     let cs : List Condition = conditions_of c.args.conditions.now in
     let k = c.loop-place.place in
-    parts_stop c.args.root c.args.referents.now (parts c.args.root c.args.referents.now (conditions_from cs)) (drop k cs) (drop (k + 1) cs) (condition_of c.get.result.now) (map part_shown c.loop-place.given) (drop_at cs k (condition_of c.get.result.now) c.get.ensures.item) c.loop-place.invariant part_shown c.in-Err.fault c.in-Err.ensures
+    parts_stop c.args.root c.args.referents.now (parts c.args.root c.args.referents.now (conditions_from cs)) (drop k cs) (drop (k + 1) cs) (condition_of c.get.result.now) (map part_shown c.loop-place.given) (drop_slice_get cs k (condition_of c.get.result.now) c.get.ensures.item) c.loop-place.invariant part_shown c.in-Err.fault c.in-Err.ensures
 
 pub parts_of-loop-place-preserved : goal.parts_of-loop-place-preserved
 parts_of-loop-place-preserved t c =
     let cs : List Condition = conditions_of c.args.conditions.now in
     let k = c.loop-place.place in
-    parts_go c.args.root c.args.referents.now (parts c.args.root c.args.referents.now (conditions_from cs)) (drop k cs) (drop (k + 1) cs) (condition_of c.get.result.now) (map part_shown c.loop-place.given) (drop_at cs k (condition_of c.get.result.now) c.get.ensures.item) c.loop-place.invariant (part_shown c.in-Ok.part) (map part_shown c.push.new.self) c.in-Ok.ensures
+    parts_go c.args.root c.args.referents.now (parts c.args.root c.args.referents.now (conditions_from cs)) (drop k cs) (drop (k + 1) cs) (condition_of c.get.result.now) (map part_shown c.loop-place.given) (drop_slice_get cs k (condition_of c.get.result.now) c.get.ensures.item) c.loop-place.invariant (part_shown c.in-Ok.part) (map part_shown c.push.new.self) c.in-Ok.ensures
     (ap (map part_shown) c.in_ok-push-in-Ok.ensures.ok ∙ map-append part_shown c.loop-place.given (c.in-Ok.part ∷ []))

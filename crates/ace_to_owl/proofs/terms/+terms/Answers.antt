@@ -1,10 +1,10 @@
 use Rattle.std.proofs.Common.{List, ◌++◌, drop, ◌+◌, sym, ap, ◌∙◌, append_assoc}
+use Rattle.wiki_base.proofs.ListLaws.{drop_slice_get}
 use Rattle.logic_terms.specs.declared.structures.Thing.{Thing}
 use Rattle.logic_terms.specs.Shown.{structure_of, condition_of, conditions_of}
 use Rattle.logic_terms.specs.Structure.{Condition, conditions_from}
 use Rattle.ace_to_owl.specs.Terms.{terms_in_all, terms_in_condition}
 use Rattle.ace_to_owl.proofs.TermsLemmas.{terms_of_structure}
-use Rattle.ace_to_owl.proofs.Passed.{drop_at}
 use Rattle.ace_to_owl.proofs.terms.+terms.Goals as goal
 
 pub add_conditions-loop-place-preserved : goal.add_conditions-loop-place-preserved
@@ -17,7 +17,7 @@ add_conditions-loop-place-preserved t c =
       left =
           ap (λ ts. ts ++ rest) (c.in_ok-add_condition.ensures.found ∙ ap (λ b. c.loop-place.found ++ terms_in_condition b (condition_of c.get.result.now)) c.loop-place.invariant.kept)
           ∙ append_assoc c.loop-place.found here rest
-          ∙ ap (λ ds. c.loop-place.found ++ terms_in_all bound (conditions_from ds)) (sym (drop_at cs c.loop-place.place (condition_of c.get.result.now) c.get.ensures.item))
+          ∙ ap (λ ds. c.loop-place.found ++ terms_in_all bound (conditions_from ds)) (sym (drop_slice_get cs c.loop-place.place (condition_of c.get.result.now) c.get.ensures.item))
           ∙ c.loop-place.invariant.left;
       kept = c.in_ok-add_condition.ensures.kept ∙ c.loop-place.invariant.kept;
     }

@@ -1,7 +1,8 @@
 use Rattle.std.proofs.Common.{◌≡◌, ◌==◌, ◌&&◌, filter, ap, ◌∙◌}
 use Rattle.std.specs.List.{list_any, list_all}
+use Rattle.wiki_base.proofs.ListLaws.{list_any-filter}
 use Rattle.logic_terms.specs.Meaning.{implies}
-use Rattle.owl_eval.proofs.Filters.{list_any-filter, list_all-filter}
+use Rattle.owl_eval.proofs.Filters.{list_all-filter}
 use Rattle.owl_eval.proofs.Successors.{straight}
 use Rattle.owl_eval.proofs.interp.successors_in.Goals as goal
 

@@ -1,6 +1,7 @@
 use Rattle.std.proofs.Common.{◌<◌, length, arith}
+use Rattle.wiki_base.proofs.OptionLaws.{OnErr_any}
 use Rattle.logic_terms.specs.Shown.{concepts_of}
-use Rattle.tableau_rules.proofs.Growing.{grows, stays, on_err}
+use Rattle.tableau_rules.proofs.Growing.{grows, stays}
 use Rattle.tableau_rules.proofs.branch.Branch.grow.Goals as goal
 
 pub returns-in_ok-append-clause-ok : goal.returns-in_ok-append-clause-ok
@@ -12,4 +13,4 @@ returns-in_ok-append-clause-ok c =
 pub returns-in_err-append-clause-err : goal.returns-in_err-append-clause-err
 returns-in_err-append-clause-err c =
     let same = c.in_err-append.ensures {u = tt} in
-    on_err c.from_residual.result (stays c.args.self.now.nodes.items c.args.self.now.edges c.args.node c.index_mut-found.result.now c.append.new.self c.index_mut-found.ensures.value same.err)
+    OnErr_any c.from_residual.result (stays c.args.self.now.nodes.items c.args.self.now.edges c.args.node c.index_mut-found.result.now c.append.new.self c.index_mut-found.ensures.value same.err)

@@ -1,7 +1,7 @@
 -- What the pieces of axioms say is what the axioms say.
-use Rattle.std.proofs.Common.{◌≡◌, ℕ, zero, suc, ◌<◌, ◌&&◌, ◌||◌, Bool, true, false, List, [], ◌∷◌, ◌++◌, Option, Some, None, refl, sym, ap, ◌∙◌, Decides}
-use Rattle.std.specs.Prelude.{not, if◌then◌else◌, MatchBool, Contains}
-use Rattle.std.specs.List.{list_all, flat_map}
+use Rattle.std.proofs.Common.{◌≡◌, ℕ, zero, suc, ◌<◌, ◌&&◌, ◌||◌, Bool, true, false, List, [], ◌∷◌, ◌++◌, Option, Some, None, refl, sym, ap, ◌∙◌}
+use Rattle.std.specs.Prelude.{not, if◌then◌else◌, MatchBool}
+use Rattle.std.specs.List.{list_all}
 use Rattle.std.specs.Option.{option_map_or}
 use Rattle.std.proofs.lemmas.List.Folds.{list_all-append}
 use Rattle.std.proofs.lemmas.Bool.Decides.{same_from_decides}
@@ -11,12 +11,12 @@ use Rattle.logic_terms.specs.declared.expressions.Role.{Role}
 use Rattle.logic_terms.specs.Concept.{Concept, Concepts, Everything, Atomic, ComplementOf, IntersectionOf, UnionOf, SomeValuesFrom, AllValuesFrom, HasValue, no_concept, also_concept, Claim, SubClassOf, SubPropertyOf, ClassAssertion, PropertyAssertion, NegativePropertyAssertion, SameIndividual, DifferentIndividuals}
 use Rattle.logic_terms.specs.Interpretation.{Interpretation, element_of, relates, Relates, has_pair}
 use Rattle.logic_terms.specs.Meaning.{each_below, implies, is_in, is_in_each, is_in_some, holds, all_hold}
-use Rattle.logic_terms.specs.Reading.{IsIn, Holds}
+use Rattle.logic_terms.specs.Reading.{Holds}
 use Rattle.logic_terms.specs.Complement.{complement}
-use Rattle.logic_terms.proofs.ComplementLemmas.{is_in-complement, not_and}
+use Rattle.logic_terms.proofs.ComplementLemmas.{is_in-complement}
 use Rattle.logic_terms.proofs.MeaningLemmas.{holds-Decides}
 use Rattle.logic_terms.specs.Same.{inverse}
-use Rattle.absorb.specs.Pieces.{Piece, Equality, RoleInclusion, Assertion, Related, Difference, Unfolding, General, claim_in, either, word_of, first_word, without_first_word, together, general, guarded, inclusion, inclusions, pieces_of, all_pieces}
+use Rattle.absorb.specs.Pieces.{Piece, claim_in, either, word_of, first_word, without_first_word, together, general, guarded, inclusion, inclusions, pieces_of, all_pieces}
 
 -- whether a piece is true
 abbrev pub piece_holds : Interpretation → Piece → Bool

@@ -1,17 +1,16 @@
 -- Lists, gone over place by place.
-use Rattle.std.proofs.Common.{◌≡◌, ℕ, zero, suc, ◌<◌, ◌+◌, ◌&&◌, ◌||◌, Bool, true, false, List, [], ◌∷◌, ◌++◌, map, length, get_or, take, drop, Option, Some, None, slice_get, refl, sym, ap, ◌∙◌, subst, arith}
-use Rattle.std.specs.Prelude.{remove, fold}
-use Rattle.std.specs.List.{flat_map}
+use Rattle.std.proofs.Common.{◌≡◌, ℕ, zero, suc, ◌<◌, ◌+◌, ◌&&◌, ◌||◌, List, [], ◌∷◌, ◌++◌, map, length, take, Option, Some, None, slice_get, refl, sym, ap, ◌∙◌, arith}
+use Rattle.std.specs.Prelude.{remove}
 use Rattle.std.specs.Option.{option_map_or}
-use Rattle.std.proofs.lemmas.List.{take_more, append-nil}
+use Rattle.std.proofs.lemmas.List.{append-nil}
 use Rattle.std.proofs.lemmas.List.Sums.{fold-append}
 use Rattle.std.proofs.lemmas.List.Concat.{flat_map-append}
-use Rattle.std.proofs.lemmas.Option.{slice_get_within, get_or_from_slice_get}
+use Rattle.std.proofs.lemmas.Option.{slice_get_within}
 use Rattle.wiki_base.specs.declared.numbers.WordId.{WordId}
 use Rattle.wiki_base.proofs.ListLaws.{take_slice_get}
-use Rattle.logic_terms.specs.Concept.{Concept, Concepts, no_concept, also_concept, concepts_from, Claim}
+use Rattle.logic_terms.specs.Concept.{Concept, Concepts, also_concept, concepts_from, Claim}
 use Rattle.absorb.specs.FirstWord.{IsFirstWord}
-use Rattle.absorb.specs.Pieces.{Piece, word_of, first_word, without_first_word, together, inclusion, inclusions, pieces_of, all_pieces}
+use Rattle.absorb.specs.Pieces.{word_of, first_word, without_first_word, together, inclusion, inclusions, pieces_of, all_pieces}
 use Rattle.absorb.specs.Sorted.{Sorted, no_pieces, with_pieces, sorted}
 
 inclusions-append : (cs ds : List Concept) (d : Concept) → inclusions (concepts_from (cs ++ ds)) d ≡ inclusions (concepts_from cs) d ++ inclusions (concepts_from ds) d

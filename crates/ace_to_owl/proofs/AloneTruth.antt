@@ -1,7 +1,7 @@
 -- The axiom of a condition that stands alone is true exactly where the condition is.
 use Rattle.std.proofs.Common.{◌≡◌, ℕ, zero, suc, ◌<◌, ◌==◌, ◌&&◌, ◌||◌, Bool, true, false, List, [], ◌∷◌, ◌++◌, Option, Some, None, Result, Ok, Err, Contains, Decides, refl, sym, ap, ◌∙◌, subst, inl, inr, arith}
 use Rattle.std.specs.Prelude.{◌⊎◌, not, if◌then◌else◌}
-use Rattle.std.specs.List.{list_any, list_all, filter}
+use Rattle.std.specs.List.{list_all, filter}
 use Rattle.std.proofs.lemmas.Bool.{cases_eq, eq-eqb, ne_eqb, or_cases, or_right, and_from, eqb-true, both_ways}
 use Rattle.std.proofs.lemmas.Option.{same_Some}
 use Rattle.std.proofs.Math.Bool.{and-true}
@@ -26,7 +26,7 @@ use Rattle.ace_to_owl.specs.Parts.{straight, inverse}
 use Rattle.ace_to_owl.specs.Rolling.{roll}
 use Rattle.ace_to_owl.specs.Mapping.{without, subclass_claim, member_claim, only_condition, only_fact, denied_claim, is_pair, role_claim, plain_claim, alone, other_claim, leading_claim, nameless_claim, named_claim, used_claim, compound_claim, claim_alone}
 use Rattle.ace_to_owl.proofs.RollMeaning.{Went, went, no_err, ok_same, fresh_in, fresh_in_all, fresh_in_condition}
-use Rattle.ace_to_owl.proofs.Fresh.{Among, not_both, not_from, fresh_less, fresh_less_all, fresh_less_condition, bound_cases, bound_filter, filter_bound}
+use Rattle.ace_to_owl.proofs.Fresh.{Among, not_both, not_from, fresh_less, fresh_less_all, bound_filter, filter_bound}
 use Rattle.ace_to_owl.proofs.RollTruth.{roll_true}
 
 no_claim : {X : Type 0} (x : X) → ◌≡◌ {A = Option X} None (Some x) → ⊥

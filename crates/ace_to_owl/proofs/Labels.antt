@@ -2,7 +2,6 @@
 use Rattle.std.proofs.Common.{◌≡◌, ℕ, zero, suc, drop, ◌==◌, ◌+◌, ◌&&◌, ◌||◌, Bool, true, false, Some, None, List, [], ◌∷◌, ◌++◌, refl, sym, ap, ◌∙◌}
 use Rattle.std.specs.Prelude.{if◌then◌else◌}
 use Rattle.std.proofs.lemmas.Bool.{eq-eqb, ne_eqb, or_right, eqb-true, both_ways}
-use Rattle.std.proofs.lemmas.Bool.Decides.{Decides-eqb, Decides-like, same_from_decides}
 use Rattle.ace_to_owl.specs.Moves.{moved, moved_by}
 use Rattle.ace_to_owl.specs.Parts.{Part, At, Edge, connected, has_cycle, each_reached, tree_fault}
 use Rattle.std.specs.List.{list_all}

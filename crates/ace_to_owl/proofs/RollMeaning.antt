@@ -1,8 +1,7 @@
 -- An element is in the class of a structure where the structure is true with it for the root.
 use Rattle.std.proofs.Common.{◌≡◌, ℕ, ◌+◌, ◌==◌, ◌&&◌, ◌||◌, Bool, true, false, List, [], ◌∷◌, ◌++◌, Option, Some, None, Result, Ok, Err, refl, sym, ap, ◌∙◌, subst, inl, inr}
 use Rattle.std.specs.Prelude.{◌⊎◌, not, if◌then◌else◌}
-use Rattle.std.specs.List.{list_any, list_all, filter}
-use Rattle.std.specs.Option.{is_none}
+use Rattle.std.specs.List.{list_any, list_all}
 use Rattle.std.proofs.lemmas.Bool.{cases_Bool, eq-eqb, ne_eqb, or_right as or_more, and_from, eqb-true, both_ways}
 use Rattle.std.proofs.lemmas.List.Folds.{list_any-append}
 use Rattle.wiki_base.specs.declared.numbers.WordId.{WordId}
@@ -17,7 +16,6 @@ use Rattle.logic_terms.specs.Free.{is_bound}
 use Rattle.logic_terms.specs.Interpretation.{Interpretation, element_of, has_element, has_pair}
 use Rattle.logic_terms.specs.Meaning.{some_below, implies}
 use Rattle.logic_terms.specs.Truth.{giving, some_extension, each_extension, thing_in, condition_true}
-use Rattle.logic_terms.proofs.ComplementLemmas.{is_in-complement}
 use Rattle.logic_terms.proofs.Extensions.{other_at}
 use Rattle.ace_to_owl.specs.Outcomes.{next}
 use Rattle.ace_to_owl.specs.Terms.{same_thing, is_root}

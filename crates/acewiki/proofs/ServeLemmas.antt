@@ -10,7 +10,7 @@ use Rattle.wiki_talk.specs.declared.requests.Request.{Request}
 use Rattle.wiki_talk.specs.declared.replies.Reply.{Reply}
 use Rattle.wiki_talk.specs.Turns.{Exchange, answered as answered_by, no_request}
 use Rattle.wire_json.specs.Replies.{reply_line}
-use Rattle.std.specs.Prelude.{Result, Ok, Err, IfOk, OnErr}
+use Rattle.std.specs.Prelude.{Result, Ok, Err, IfOk}
 use Rattle.wiki_io.specs.Link.{with_more}
 use Rattle.wiki_io.specs.Lines.{InputLine, input_lines}
 use Rattle.acewiki.specs.Wiki.{Holding, KeptStep}

@@ -3,7 +3,7 @@ use Rattle.std.proofs.Common.{◌≡◌, ℕ, zero, suc, ◌+◌, ◌<◌, ◌�
 use Rattle.std.specs.Prelude.{◌⊎◌, ◌↔◌, nat_lt, if◌then◌else◌, not}
 use Rattle.std.specs.List.{list_any, list_all}
 use Rattle.std.specs.Option.{option_and_then}
-use Rattle.std.proofs.lemmas.Bool.{cases_Bool, or_cases, or_left, or_right, or_parts, and_from, and_parts, eqb-true, eq-eqb, ltb-true, lt-ltb, not-true}
+use Rattle.std.proofs.lemmas.Bool.{or_cases, or_left, or_right, and_from, and_parts, eqb-true, eq-eqb, ltb-true, lt-ltb}
 use Rattle.std.proofs.lemmas.Option.{slice_get_within, slice_get-get_or}
 use Rattle.std.proofs.Math.Bool.{not-not}
 use Rattle.wiki_base.specs.declared.numbers.WordId.{WordId}
@@ -16,14 +16,14 @@ use Rattle.logic_terms.specs.Theory.{Theory, is_below, IsLawful}
 use Rattle.tableau_rules.specs.declared.branch.Edge.{Edge}
 use Rattle.tableau_rules.specs.Graph.{Graph, label_at}
 use Rattle.tableau_rules.specs.Neighbours.{roots, node_of, makes_neighbour, is_neighbour}
-use Rattle.tableau_rules.specs.Blocking.{is_anonymous, same_classes, is_blocked, is_directly_blocked, is_indirectly_blocked, has_twin, ancestors, blocks}
-use Rattle.branch_model.specs.Elements.{IsTwin, StandsFor, ArePlaced}
-use Rattle.branch_model.specs.Extents.{extents, stand_of, links}
+use Rattle.tableau_rules.specs.Blocking.{is_anonymous, is_indirectly_blocked, has_twin, ancestors, blocks}
+use Rattle.branch_model.specs.Elements.{StandsFor, ArePlaced}
+use Rattle.branch_model.specs.Extents.{stand_of, links}
 use Rattle.branch_model.proofs.Same.{same_has, same_has_back, role_true, role_refl}
 use Rattle.branch_model.proofs.Sound.{IsSound}
 use Rattle.branch_model.proofs.Start.{noded}
 use Rattle.branch_model.proofs.EntriesLemmas.{items_of, Adds}
-use Rattle.branch_model.proofs.ExtentsLemmas.{Labels, IsPair, IsPairAbove, IsLink, AreLinks}
+use Rattle.branch_model.proofs.ExtentsLemmas.{Labels, IsPair, IsPairAbove, AreLinks}
 use Rattle.branch_model.proofs.Truth.{Pictures}
 
 -- the element that a node stands for

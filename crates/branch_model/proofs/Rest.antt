@@ -1,27 +1,27 @@
 -- What a branch has where no step applies and no clash is there.
-use Rattle.std.proofs.Common.{◌≡◌, ℕ, zero, suc, ◌+◌, ◌<◌, ◌≤◌, ◌==◌, ◌&&◌, ◌||◌, Bool, true, false, List, [], ◌∷◌, map, length, Option, Some, None, slice_get, refl, sym, ap, ◌∙◌, subst, inl, inr, arith}
-use Rattle.std.specs.Prelude.{not, ◌⊎◌, if◌then◌else◌, filter}
+use Rattle.std.proofs.Common.{◌≡◌, ℕ, zero, suc, ◌+◌, ◌<◌, ◌≤◌, ◌==◌, ◌&&◌, ◌||◌, Bool, true, false, List, [], ◌∷◌, length, Option, Some, None, refl, sym, ap, ◌∙◌, inl, inr, arith}
+use Rattle.std.specs.Prelude.{not, ◌⊎◌, if◌then◌else◌}
 use Rattle.std.specs.List.{list_any, list_all}
-use Rattle.std.specs.Option.{option_map, option_map_or, option_and_then, option_or}
-use Rattle.std.proofs.lemmas.Bool.{cases_Bool, cases_eq, and_parts, and_from, and_cases, or_cases, or_parts, or_left, or_right, not-false, not-true, cond-false, eq-eqb}
+use Rattle.std.specs.Option.{option_map, option_and_then, option_or}
+use Rattle.std.proofs.lemmas.Bool.{cases_eq, and_parts, and_from, and_cases, or_cases, or_parts, or_left, or_right, not-false, not-true, cond-false}
 use Rattle.wiki_base.specs.declared.numbers.WordId.{WordId}
 use Rattle.wiki_base.proofs.OptionLaws.{option_or-first_none, option_or-second_none, option_map-none}
 use Rattle.logic_terms.specs.declared.expressions.Role.{Role}
-use Rattle.logic_terms.specs.Concept.{Concept, Concepts, Everything, Atomic, ComplementOf, IntersectionOf, UnionOf, SomeValuesFrom, AllValuesFrom, HasValue, no_concept, also_concept}
+use Rattle.logic_terms.specs.Concept.{Concept, Concepts, Everything, Atomic, ComplementOf, IntersectionOf, UnionOf, SomeValuesFrom, AllValuesFrom, HasValue}
 use Rattle.logic_terms.specs.Meaning.{some_below}
 use Rattle.logic_terms.specs.Parts.{members_in}
 use Rattle.logic_terms.specs.Same.{same_concept, has_concept}
-use Rattle.logic_terms.specs.Theory.{Theory, representative}
+use Rattle.logic_terms.specs.Theory.{Theory}
 use Rattle.tableau_rules.specs.declared.step.Rule.{Rule}
 use Rattle.tableau_rules.specs.declared.step.Rule.TheVariants as rule
 use Rattle.tableau_rules.specs.declared.step.Step.{Step}
 use Rattle.tableau_rules.specs.First.{first_below, where_true}
-use Rattle.tableau_rules.specs.Graph.{Graph, label_at, class_at}
+use Rattle.tableau_rules.specs.Graph.{Graph, label_at}
 use Rattle.tableau_rules.specs.Neighbours.{node_of, is_neighbour}
 use Rattle.tableau_rules.specs.Blocking.{is_blocked, is_indirectly_blocked}
 use Rattle.tableau_rules.specs.Rules.{lacks_some, lacks_all, unfoldings_of, serves, needs, row, site, site_at, first_at, first_by, first_step}
 use Rattle.tableau_rules.specs.Clashes.{passes, are_joined, clashes_at, has_clash}
-use Rattle.branch_model.proofs.Same.{place_of, each_has, concept_refl}
+use Rattle.branch_model.proofs.Same.{place_of, each_has}
 
 where_none : {X : Type 0} (test : Bool) (x : X) → where_true test x ≡ None → test ≡ false
 where_none true x h = cc

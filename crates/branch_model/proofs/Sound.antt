@@ -1,20 +1,19 @@
 -- What every branch of lawful knowledge keeps.
-use Rattle.std.proofs.Common.{◌≡◌, ℕ, zero, suc, ◌+◌, ◌<◌, ◌≤◌, ◌==◌, ◌&&◌, ◌||◌, Bool, true, false, List, [], ◌∷◌, ◌++◌, map, length, set, All, Contains, Option, Some, None, slice_get, refl, sym, ap, ◌∙◌, subst, inl, inr, arith, length-append, length-set}
+use Rattle.std.proofs.Common.{◌≡◌, ℕ, zero, suc, ◌+◌, ◌<◌, ◌≤◌, ◌==◌, ◌&&◌, ◌||◌, Bool, true, false, List, [], ◌∷◌, ◌++◌, map, length, set, All, Option, Some, None, slice_get, refl, sym, ap, ◌∙◌, subst, inl, inr, arith, length-append, length-set}
 use Rattle.std.specs.Prelude.{◌⊎◌, filter, not, nat_lt, if◌then◌else◌}
 use Rattle.std.specs.List.{list_any, list_all}
 use Rattle.std.specs.Option.{option_map_or, option_and_then, option_to_list, option_or}
-use Rattle.std.proofs.lemmas.Bool.{cases_eq, cases_lt, cases_Bool, and_parts, and_from, or_cases, or_left, or_right, eqb-true, ltb-true, lt-ltb}
-use Rattle.std.proofs.lemmas.Option.{slice_get_within, slice_get_past}
+use Rattle.std.proofs.lemmas.Bool.{cases_eq, cases_lt, and_parts, and_from, or_left, or_right, ltb-true, lt-ltb}
+use Rattle.std.proofs.lemmas.Option.{slice_get_past}
 use Rattle.std.proofs.lemmas.List.Folds.{list_any-append, list_all-append}
-use Rattle.std.proofs.lemmas.List.Elements.{All-push, All-weaker}
 use Rattle.wiki_base.specs.declared.numbers.WordId.{WordId}
 use Rattle.logic_terms.specs.declared.expressions.Role.{Role}
-use Rattle.logic_terms.specs.Concept.{Concept, Concepts, Everything, Atomic, ComplementOf, IntersectionOf, UnionOf, SomeValuesFrom, AllValuesFrom, HasValue, no_concept, also_concept}
+use Rattle.logic_terms.specs.Concept.{Concept, Concepts, IntersectionOf, UnionOf, SomeValuesFrom, AllValuesFrom, no_concept, also_concept}
 use Rattle.logic_terms.specs.Complement.{complement, is_normal, each_normal}
 use Rattle.logic_terms.specs.Interpretation.{is_word}
 use Rattle.logic_terms.specs.Parts.{members_in, word_part, intersection_part, union_part, some_part, all_part, value_part}
 use Rattle.logic_terms.specs.Same.{has_concept}
-use Rattle.logic_terms.specs.Theory.{Theory, names_given, each_names_given, is_given}
+use Rattle.logic_terms.specs.Theory.{Theory, names_given, each_names_given}
 use Rattle.tableau_rules.specs.declared.branch.Edge.{Edge}
 use Rattle.tableau_rules.specs.declared.step.Rule.{Rule}
 use Rattle.tableau_rules.specs.declared.step.Rule.TheVariants as rule
@@ -22,7 +21,7 @@ use Rattle.tableau_rules.specs.declared.step.Step.{Step}
 use Rattle.tableau_rules.specs.Graph.{Graph, Vertex, label_at, class_at, parent_of}
 use Rattle.tableau_rules.specs.Neighbours.{roots, node_of, makes_neighbour, is_neighbour}
 use Rattle.tableau_rules.specs.Rules.{unfoldings_of, open_members, unit_member, with_classes, adding, with_edge, with_node, effect, after}
-use Rattle.branch_model.proofs.Same.{place_of, each_has, has_here}
+use Rattle.branch_model.proofs.Same.{each_has, has_here}
 use Rattle.branch_model.proofs.Labels.{get_set_same, get_set_other, get_push_old, get_push_new, kept_classes, new_classes, only_classes}
 use Rattle.branch_model.specs.Elements.{ParentsBelow}
 

@@ -17,7 +17,6 @@ use Rattle.derivation_trees.specs.Settings.{Setting}
 use Rattle.derivations.specs.Entries.{shown, forms_in, functions_in, with_entry, all_tried}
 use Rattle.chart_table.specs.declared.asks.Ask.{Ask}
 use Rattle.chart_table.specs.Asks.{AskLeads}
-use Rattle.chart.proofs.ReadingLemmas.{at_slice}
 use Rattle.chart_table.specs.declared.asks.Ask.TheVariants as ask
 use Rattle.chart.specs.Offers.{terminal_asks, with_last, class_readings, KnownFound, NewFound, Told, some_follows, is_used, form_asks, used_asks, used_forms, chosen, told_forms, new_forms}
 

@@ -1,6 +1,6 @@
 -- Words without a form among the earlier tokens differ by their numbers alone: where other numbers are given to words, one to
 -- one, all derivations stay, with those numbers.
-use Rattle.std.proofs.Common.{◌≡◌, ℕ, suc, zero, ◌+◌, ◌<◌, List, [], ◌∷◌, Bool, true, false, ◌&&◌, ◌||◌, map, length, drop, Option, Some, None, refl, ap, ◌∙◌, arith, cond, nat_lt, nat_le}
+use Rattle.std.proofs.Common.{◌≡◌, ℕ, suc, zero, ◌+◌, ◌<◌, List, [], ◌∷◌, Bool, true, false, ◌&&◌, ◌||◌, map, length, drop, Option, Some, None, refl, ap, ◌∙◌, cond, nat_lt, nat_le}
 use Rattle.std.specs.Prelude.{if◌then◌else◌, ◌==◌, not, option_map, slice_get, unwrap_or}
 use Rattle.std.specs.Option.{option_map_or}
 use Rattle.std.specs.List.{list_any, list_all, filter_map, cons_option, flat_map, prefix_len, position}

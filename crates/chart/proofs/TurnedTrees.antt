@@ -52,15 +52,13 @@ AllTurning n h (p ∷ ps) (q ∷ qs) = Turning n h p q × AllTurning n h ps qs
 
 -- terms are atoms or variables
 abbrev pub ElementWritten : Element → Type 0
-ElementWritten (Terminal t) = Unit {0}
 ElementWritten (Preterminal c) = AllWritten c.feats
 ElementWritten (Sub c) = AllWritten c.feats
-ElementWritten (Position x) = Unit {0}
-ElementWritten Opener = Unit {0}
 ElementWritten (Forward c) = AllWritten c.feats
 ElementWritten (Strong c) = AllWritten c.feats
 ElementWritten (Back positive negative) = PatternsWritten positive × PatternsWritten negative
 ElementWritten (NoBack patterns) = PatternsWritten patterns
+ElementWritten _ = Unit {0}
 
 abbrev pub BodyWritten : List Element → Type 0
 BodyWritten [] = Unit {0}

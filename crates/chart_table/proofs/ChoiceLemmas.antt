@@ -1,5 +1,5 @@
 -- An instance gives each variable one of its choices, and is what it gives to the rule's variables.
-use Rattle.std.proofs.Common.{◌≡◌, ℕ, suc, zero, ◌+◌, ◌-◌, ◌<◌, ◌≤◌, List, [], ◌∷◌, ◌++◌, Bool, true, false, ◌&&◌, ◌||◌, map, filter, length, drop, Option, Some, None, refl, sym, ap, ◌∙◌, subst, arith, cond, ◌⊎◌, inl, inr, append_assoc, nat_lt, nat_le, length-append, length-drop}
+use Rattle.std.proofs.Common.{◌≡◌, ℕ, suc, zero, ◌+◌, ◌-◌, ◌<◌, ◌≤◌, List, [], ◌∷◌, ◌++◌, Bool, true, false, ◌&&◌, ◌||◌, map, filter, length, drop, Option, Some, None, refl, sym, ap, ◌∙◌, subst, arith, cond, ◌⊎◌, inl, inr, nat_lt, length-append, length-drop}
 use Rattle.std.proofs.lemmas.List.{length-map}
 use Rattle.std.proofs.Math.Seq.{drop-nil}
 use Rattle.std.specs.Prelude.{if◌then◌else◌, ◌==◌, not, unwrap_or, slice_get}

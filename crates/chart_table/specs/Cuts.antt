@@ -4,7 +4,7 @@ use Rattle.codeco_terms.specs.declared.values.Value.{Value}
 use Rattle.codeco_terms.specs.declared.categories.Category.{Category}
 use Rattle.codeco_terms.specs.declared.categories.Ground.{Ground}
 use Rattle.codeco_terms.specs.declared.elements.Element.{Element}
-use Rattle.codeco_terms.specs.declared.elements.Element.TheVariants.{Terminal, Preterminal, Sub, Position, Opener, Forward, Strong, Back, NoBack}
+use Rattle.codeco_terms.specs.declared.elements.Element.TheVariants.{Preterminal}
 use Rattle.codeco_terms.specs.declared.rules.Rule.{Rule}
 use Rattle.scopes.specs.declared.agreement.Test.{Test}
 use Rattle.derivation_trees.specs.Settings.{Setting}
@@ -132,15 +132,8 @@ OneBefore {X = X} xs P count j v = (k : ℕ) × (k < count) × ((x : X) × (slic
 
 -- the assignments under which the element takes a token that reads so
 abbrev pub reading_binds : Ground → Element → List (ℕ × Value) → List (List (ℕ × Value))
-reading_binds reading (Terminal t) bound = []
 reading_binds reading (Preterminal c) bound = read_as c bound reading
-reading_binds reading (Sub c) bound = []
-reading_binds reading (Position x) bound = []
-reading_binds reading Opener bound = []
-reading_binds reading (Forward c) bound = []
-reading_binds reading (Strong c) bound = []
-reading_binds reading (Back positive negative) bound = []
-reading_binds reading (NoBack patterns) bound = []
+reading_binds _ _ _ = []
 
 -- the assignments under which the next element meets the ask
 abbrev pub met_binds : Option Element → List (ℕ × Value) → Ask → List (List (ℕ × Value))

@@ -35,15 +35,8 @@ use Rattle.chart_trees.specs.Order.{node_code, nodes_code}
 -- how many references and categories
 
 abbrev is_back : Element → Bool
-is_back (Terminal t) = false
-is_back (Preterminal c) = false
-is_back (Sub c) = false
-is_back (Position x) = false
-is_back Opener = false
-is_back (Forward c) = false
-is_back (Strong c) = false
 is_back (Back positive negative) = true
-is_back (NoBack patterns) = false
+is_back _ = false
 
 -- how many of the elements pass
 abbrev tally : (Element → Bool) → List Element → ℕ

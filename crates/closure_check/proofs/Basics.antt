@@ -4,7 +4,7 @@ use Rattle.std.specs.Prelude.{not, ◌⊎◌, nat_lt, slice_set}
 use Rattle.std.specs.List.{list_any, list_all}
 use Rattle.std.specs.Option.{option_or}
 use Rattle.std.specs.Map.{lookup}
-use Rattle.std.proofs.lemmas.Bool.{cases_eq, ltb-true, and_from, or_cases}
+use Rattle.std.proofs.lemmas.Bool.{cases_eq, ltb-true, or_cases}
 use Rattle.wiki_base.proofs.BoolLaws.{and_first, and_second}
 use Rattle.logic_terms.specs.Meaning.{some_below, each_below, implies}
 use Rattle.tableau_rules.specs.First.{first_below, where_true}

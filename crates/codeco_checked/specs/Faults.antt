@@ -9,7 +9,7 @@ use Rattle.codeco_terms.specs.declared.values.Term.TheVariants.{Val, Var}
 use Rattle.codeco_terms.specs.declared.categories.Category.{Category}
 use Rattle.codeco_terms.specs.declared.categories.Pattern.{Pattern}
 use Rattle.codeco_terms.specs.declared.elements.Element.{Element}
-use Rattle.codeco_terms.specs.declared.elements.Element.TheVariants.{Terminal, Preterminal, Sub, Position, Opener, Forward, Strong, Back, NoBack}
+use Rattle.codeco_terms.specs.declared.elements.Element.TheVariants.{Terminal, Preterminal, Sub}
 use Rattle.codeco_terms.specs.declared.declarations.Declared.{Declared}
 use Rattle.codeco_terms.specs.declared.declarations.Declared.TheVariants as declared
 use Rattle.codeco_terms.specs.declared.rules.Rule.{Rule}
@@ -66,21 +66,10 @@ is_undeclared_rule g r = list_any (λ f. not (is_declared (values_of g f.0))) (r
 -- the same values, atoms as a set
 abbrev pub same_values : Declared → Declared → Bool
 same_values declared.Undeclared declared.Undeclared = true
-same_values declared.Undeclared declared.Words = false
-same_values declared.Undeclared declared.Positions = false
-same_values declared.Undeclared (declared.Atoms ys) = false
-same_values declared.Words declared.Undeclared = false
 same_values declared.Words declared.Words = true
-same_values declared.Words declared.Positions = false
-same_values declared.Words (declared.Atoms ys) = false
-same_values declared.Positions declared.Undeclared = false
-same_values declared.Positions declared.Words = false
 same_values declared.Positions declared.Positions = true
-same_values declared.Positions (declared.Atoms ys) = false
-same_values (declared.Atoms xs) declared.Undeclared = false
-same_values (declared.Atoms xs) declared.Words = false
-same_values (declared.Atoms xs) declared.Positions = false
 same_values (declared.Atoms xs) (declared.Atoms ys) = list_all (has ys) xs && list_all (has xs) ys
+same_values _ _ = false
 
 abbrev pub value_fits : Declared → Value → Bool
 value_fits d (Atom a) = has (declared_atoms d) a
@@ -123,15 +112,8 @@ abbrev pub given_values : ℕ → Declared
 given_values f = if f == 0 then declared.Atoms (0 ∷ 1 ∷ []) else (if f == 1 then declared.Atoms (2 ∷ 3 ∷ []) else (if f == 2 then declared.Atoms (4 ∷ 5 ∷ 6 ∷ []) else declared.Words))
 
 abbrev pub preterminals : Element → List Category
-preterminals (Terminal t) = []
 preterminals (Preterminal c) = c ∷ []
-preterminals (Sub c) = []
-preterminals (Position x) = []
-preterminals Opener = []
-preterminals (Forward c) = []
-preterminals (Strong c) = []
-preterminals (Back ps ns) = []
-preterminals (NoBack ps) = []
+preterminals _ = []
 
 abbrev pub is_wrong_preterminal : GrammarParts → Category → Bool
 is_wrong_preterminal g c = list_any (λ f. not (has (given_features c.name) f.0 && same_values (values_of g f.0) (given_values f.0))) c.feats
@@ -157,12 +139,7 @@ abbrev pub is_phrase : Element → Bool
 is_phrase (Terminal t) = true
 is_phrase (Preterminal c) = true
 is_phrase (Sub c) = true
-is_phrase (Position x) = false
-is_phrase Opener = false
-is_phrase (Forward c) = false
-is_phrase (Strong c) = false
-is_phrase (Back ps ns) = false
-is_phrase (NoBack ps) = false
+is_phrase _ = false
 
 abbrev pub is_empty_rule : Rule → Bool
 is_empty_rule r = not (list_any is_phrase r.body)
@@ -170,15 +147,8 @@ is_empty_rule r = not (list_any is_phrase r.body)
 -- LeftRecursion
 
 abbrev pub sub_name : Element → Option ℕ
-sub_name (Terminal t) = None
-sub_name (Preterminal c) = None
 sub_name (Sub c) = Some c.name
-sub_name (Position x) = None
-sub_name Opener = None
-sub_name (Forward c) = None
-sub_name (Strong c) = None
-sub_name (Back ps ns) = None
-sub_name (NoBack ps) = None
+sub_name _ = None
 
 -- the category that stands first in a body, where special elements are passed over
 abbrev pub first_category : List Element → Option ℕ

@@ -104,15 +104,13 @@ abbrev pub numbered_plain : Tables → WrittenCategory → ℕ × WrittenCategor
 numbered_plain t c = (5 + number_of t.categories c.name, c)
 
 abbrev pub numbered_mentions : Tables → WrittenElement → List (ℕ × WrittenCategory)
-numbered_mentions t (element.Terminal w) = []
 numbered_mentions t (element.Preterminal c) = (number_of kinds c.name, c) ∷ []
 numbered_mentions t (element.Sub c) = numbered_plain t c ∷ []
-numbered_mentions t (element.Position w) = []
-numbered_mentions t element.Opener = []
 numbered_mentions t (element.Forward c) = numbered_plain t c ∷ []
 numbered_mentions t (element.Strong c) = numbered_plain t c ∷ []
 numbered_mentions t (element.Back ps ns) = map (numbered_plain t) (ps ++ ns)
 numbered_mentions t (element.NoBack ps) = map (numbered_plain t) ps
+numbered_mentions _ _ = []
 
 -- without the numbers
 pub mentioned : {Y : Type 0} (h : WrittenCategory → List Y) (t : Tables) (e : WrittenElement) → flat_map (λ m. h m.1) (numbered_mentions t e) ≡ flat_map h (element_categories e)

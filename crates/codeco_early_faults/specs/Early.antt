@@ -54,27 +54,18 @@ category_pairs c = named_pairs c.name c
 -- The features of an element's categories that are no preterminals, each with the name of its category. A preterminal
 -- that is none of the five would have the number of `text`.
 abbrev pub plain_pairs : WrittenElement → List (List ℕ × List ℕ)
-plain_pairs (element.Terminal w) = []
 plain_pairs (element.Preterminal c) = if is_among kinds c.name then [] else named_pairs (codes "text") c
 plain_pairs (element.Sub c) = category_pairs c
-plain_pairs (element.Position w) = []
-plain_pairs element.Opener = []
 plain_pairs (element.Forward c) = category_pairs c
 plain_pairs (element.Strong c) = category_pairs c
 plain_pairs (element.Back ps ns) = flat_map category_pairs (ps ++ ns)
 plain_pairs (element.NoBack ps) = flat_map category_pairs ps
+plain_pairs _ = []
 
 -- the features of an element's preterminal, each with its name
 abbrev pub kind_pairs : WrittenElement → List (List ℕ × List ℕ)
-kind_pairs (element.Terminal w) = []
 kind_pairs (element.Preterminal c) = if is_among kinds c.name then category_pairs c else []
-kind_pairs (element.Sub c) = []
-kind_pairs (element.Position w) = []
-kind_pairs element.Opener = []
-kind_pairs (element.Forward c) = []
-kind_pairs (element.Strong c) = []
-kind_pairs (element.Back ps ns) = []
-kind_pairs (element.NoBack ps) = []
+kind_pairs _ = []
 
 abbrev pub rule_plain_pairs : WrittenRule → List (List ℕ × List ℕ)
 rule_plain_pairs r = category_pairs r.head ++ flat_map plain_pairs r.body
@@ -102,27 +93,14 @@ has_broad_written_category items = has_wide (written_plain_pairs items) || has_w
 
 -- the patterns of a reference
 abbrev pub written_patterns : WrittenElement → List WrittenCategory
-written_patterns (element.Terminal w) = []
-written_patterns (element.Preterminal c) = []
-written_patterns (element.Sub c) = []
-written_patterns (element.Position w) = []
-written_patterns element.Opener = []
-written_patterns (element.Forward c) = []
-written_patterns (element.Strong c) = []
 written_patterns (element.Back ps ns) = ps ++ ns
 written_patterns (element.NoBack ps) = ps
+written_patterns _ = []
 
 -- the variables of #X
 abbrev pub written_positions : WrittenElement → List (List ℕ)
-written_positions (element.Terminal w) = []
-written_positions (element.Preterminal c) = []
-written_positions (element.Sub c) = []
 written_positions (element.Position w) = w ∷ []
-written_positions element.Opener = []
-written_positions (element.Forward c) = []
-written_positions (element.Strong c) = []
-written_positions (element.Back ps ns) = []
-written_positions (element.NoBack ps) = []
+written_positions _ = []
 
 abbrev pub category_variables : WrittenCategory → List (List ℕ)
 category_variables c = flat_map (λ f. term_names f.term) c.feats

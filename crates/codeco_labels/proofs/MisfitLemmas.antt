@@ -1,10 +1,10 @@
 -- The first rule that doesn't fit, from tables of kinds.
-use Rattle.std.proofs.Common.{◌≡◌, ℕ, zero, suc, ◌+◌, ◌-◌, ◌<◌, ◌≤◌, Bool, true, false, ltb, ◌&&◌, cond, List, [], ◌∷◌, length, take, get_or, refl, sym, ap, ◌∙◌, subst, arith, inl, inr, Option, Some, None}
-use Rattle.std.specs.Prelude.{slice_get, slice_index, slice_index_or, IsTrue}
+use Rattle.std.proofs.Common.{◌≡◌, ℕ, zero, suc, ◌+◌, ◌-◌, ◌<◌, ◌≤◌, Bool, true, false, ltb, ◌&&◌, cond, List, [], ◌∷◌, length, take, get_or, refl, sym, ap, ◌∙◌, arith, inl, inr, Option, Some, None}
+use Rattle.std.specs.Prelude.{slice_get, slice_index_or}
 use Rattle.std.specs.List.{list_all}
 use Rattle.std.specs.Option.{option_map_or}
-use Rattle.std.proofs.lemmas.Bool.{both_ways, cases_lt, cases_Bool, lt-ltb, le-ltb, cond-true, cond-false, and_parts, and_from, eqb-true}
-use Rattle.std.proofs.lemmas.List.{get_or_read, get_or_past}
+use Rattle.std.proofs.lemmas.Bool.{both_ways, cases_lt, lt-ltb, le-ltb, cond-true, cond-false, and_parts, and_from}
+use Rattle.std.proofs.lemmas.List.{get_or_past}
 use Rattle.std.proofs.lemmas.List.Folds.{list_all_more}
 use Rattle.std.proofs.lemmas.Option.{slice_get_within}
 use Rattle.wiki_base.proofs.ListLaws.{all_same, slice_get_at}
@@ -12,8 +12,7 @@ use Rattle.codeco_terms.specs.declared.rules.Rule.{Rule}
 use Rattle.codeco_terms.specs.declared.rules.Label.{Label}
 use Rattle.codeco_checked.specs.declared.labels.Kind.{Kind}
 use Rattle.codeco_checked.specs.declared.labels.Kind.TheVariants.{Text, Sentence}
-use Rattle.codeco_checked.specs.Labels.{is_mark, is_mark_in, label_row, fits_row, fits_label, FitKinds, differs_from_first, IsMisfit}
-use Rattle.codeco_labels.specs.declared.allowed.Allowed.{Allowed}
+use Rattle.codeco_checked.specs.Labels.{is_mark, label_row, fits_row, fits_label, FitKinds, differs_from_first, IsMisfit}
 use Rattle.codeco_labels.specs.declared.allowed.Allowed.TheVariants.{Only, Nothing}
 use Rattle.codeco_labels.specs.Kinds.{allows, pick}
 use Rattle.codeco_labels.specs.Shapes.{shape_of, row_holds}

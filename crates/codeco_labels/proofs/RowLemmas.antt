@@ -1,6 +1,6 @@
 -- A rule fits a row exactly where its head, its children and what its body has do.
 use Rattle.std.proofs.Common.{◌≡◌, ℕ, Bool, true, false, eqb, ltb, not, ◌&&◌, ◌||◌, cond, List, [], ◌∷◌, map, refl, sym, ap, ◌∙◌}
-use Rattle.std.specs.Prelude.{slice_index_or, filter, count_by}
+use Rattle.std.specs.Prelude.{filter, count_by}
 use Rattle.std.specs.List.{list_all}
 use Rattle.std.specs.Option.{option_map_or}
 use Rattle.std.proofs.lemmas.Bool.{and_parts, and_from}
@@ -15,9 +15,8 @@ use Rattle.codeco_checked.specs.declared.labels.Words.{Words}
 use Rattle.codeco_checked.specs.declared.labels.Words.TheVariants as word
 use Rattle.codeco_checked.specs.declared.labels.LabelRow.{LabelRow}
 use Rattle.codeco_checked.specs.Labels.{is_mark, same_kind, same_kinds, subs, child_kinds, word_names, behind_word, is_introduction, is_reference, introduces_behind_tokens, one_if, head_fits, children_fit, words_fit, fits_row}
-use Rattle.codeco_labels.specs.declared.found.Found.{Found}
-use Rattle.codeco_labels.specs.declared.found.Found.TheVariants.{No, One, Two, More}
-use Rattle.codeco_labels.specs.Shapes.{is_no, one_of, two_of, is_one, are_two, is_times, empty_shape, shape_of, has_words, has_shape, children_have, row_holds, element_below, found_below}
+use Rattle.codeco_labels.specs.declared.found.Found.TheVariants.{No, More}
+use Rattle.codeco_labels.specs.Shapes.{is_no, one_of, two_of, is_one, are_two, is_times, empty_shape, shape_of, has_words, children_have, row_holds, element_below, found_below}
 use Rattle.codeco_labels.specs.Misfits.{FitMarks}
 use Rattle.codeco_labels.proofs.ShapeLemmas.{has_meaning, meant, and_all, some, words_run, children_run, behind_run, introduced_is, referred_is, late_is, meant_below}
 

@@ -33,23 +33,17 @@ once_more Often = Often
 
 abbrev pub is_no : Found → Bool
 is_no No = true
-is_no (One x) = false
-is_no (Two x y) = false
-is_no More = false
+is_no _ = false
 
 -- the one, where there is one
 abbrev pub one_of : Found → Option ℕ
-one_of No = None
 one_of (One x) = Some x
-one_of (Two x y) = None
-one_of More = None
+one_of _ = None
 
 -- the two, where there are two
 abbrev pub two_of : Found → Option (ℕ × ℕ)
-two_of No = None
-two_of (One x) = None
 two_of (Two x y) = Some (x, y)
-two_of More = None
+two_of _ = None
 
 -- once, or never
 abbrev pub is_times : Bool → Times → Bool

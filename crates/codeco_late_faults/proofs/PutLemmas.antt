@@ -1,8 +1,7 @@
 -- A feature put among others, and the features of a pattern.
-use Rattle.std.proofs.Common.{◌≡◌, ℕ, Bool, true, false, ◌||◌, eqb, ltb, List, [], ◌∷◌, map, refl, sym, ap, ◌∙◌, inl, inr}
+use Rattle.std.proofs.Common.{◌≡◌, ℕ, Bool, true, false, ◌||◌, eqb, ltb, List, [], ◌∷◌, map, refl, sym, ap, ◌∙◌}
 use Rattle.std.specs.Prelude.{if◌then◌else◌}
 use Rattle.std.specs.List.{list_any}
-use Rattle.std.proofs.lemmas.Bool.{cases_eq, eq-eqb, ne_eqb}
 use Rattle.wiki_base.proofs.BoolLaws.{or-swap as or_swap, or-turn as or_turn}
 use Rattle.wiki_base.proofs.NumberLaws.{eqb_comm}
 use Rattle.codeco_terms.specs.declared.values.Term.{Term}

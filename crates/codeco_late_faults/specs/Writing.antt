@@ -4,7 +4,7 @@ use Rattle.codeco_terms.specs.declared.values.Term.{Term}
 use Rattle.codeco_terms.specs.declared.values.Term.TheVariants.{Var}
 use Rattle.codeco_terms.specs.declared.categories.Pattern.{Pattern}
 use Rattle.codeco_terms.specs.declared.elements.Element.{Element}
-use Rattle.codeco_terms.specs.declared.elements.Element.TheVariants.{Terminal, Preterminal, Sub, Position, Opener, Forward, Strong, Back, NoBack}
+use Rattle.codeco_terms.specs.declared.elements.Element.TheVariants.{Preterminal, Sub, Forward, Strong, Back, NoBack}
 use Rattle.codeco_terms.specs.declared.rules.Rule.{Rule}
 
 -- the features of a pattern, the marked ones last
@@ -13,15 +13,13 @@ pattern_feats p = p.cat.feats ++ map (λ t. (t.0, Var t.1)) p.taken
 
 -- the features that an element writes
 abbrev pub element_feats : Element → List (ℕ × Term)
-element_feats (Terminal t) = []
 element_feats (Preterminal c) = c.feats
 element_feats (Sub c) = c.feats
-element_feats (Position x) = []
-element_feats Opener = []
 element_feats (Forward c) = c.feats
 element_feats (Strong c) = c.feats
 element_feats (Back ps ns) = flat_map pattern_feats ps ++ flat_map pattern_feats ns
 element_feats (NoBack ps) = flat_map pattern_feats ps
+element_feats _ = []
 
 -- the features that a rule writes, those of the head first
 abbrev pub rule_feats : Rule → List (ℕ × Term)

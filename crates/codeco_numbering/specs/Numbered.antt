@@ -68,15 +68,13 @@ with_items fs [] = fs
 with_items fs (i ∷ is) = with_items (with_item fs i) is
 
 abbrev pub element_categories : WrittenElement → List WrittenCategory
-element_categories (element.Terminal w) = []
 element_categories (element.Preterminal c) = c ∷ []
 element_categories (element.Sub c) = c ∷ []
-element_categories (element.Position w) = []
-element_categories element.Opener = []
 element_categories (element.Forward c) = c ∷ []
 element_categories (element.Strong c) = c ∷ []
 element_categories (element.Back ps ns) = ps ++ ns
 element_categories (element.NoBack ps) = ps
+element_categories _ = []
 
 abbrev pub item_rules : WrittenItem → List WrittenRule
 item_rules (item.Feature name d) = []
@@ -230,15 +228,12 @@ numbered_rule t r = record {
 
 -- the categories of an element that are no preterminals
 abbrev pub plain_categories : WrittenElement → List WrittenCategory
-plain_categories (element.Terminal w) = []
-plain_categories (element.Preterminal c) = []
 plain_categories (element.Sub c) = c ∷ []
-plain_categories (element.Position w) = []
-plain_categories element.Opener = []
 plain_categories (element.Forward c) = c ∷ []
 plain_categories (element.Strong c) = c ∷ []
 plain_categories (element.Back ps ns) = ps ++ ns
 plain_categories (element.NoBack ps) = ps
+plain_categories _ = []
 
 -- the names of the categories that a rule writes and that are no preterminals, the head first
 abbrev pub rule_names : WrittenRule → List (List ℕ)
@@ -246,14 +241,7 @@ rule_names r = map (λ c. c.name) (r.head ∷ flat_map plain_categories r.body)
 
 abbrev pub written_terminals : WrittenElement → List (List ℕ)
 written_terminals (element.Terminal w) = w ∷ []
-written_terminals (element.Preterminal c) = []
-written_terminals (element.Sub c) = []
-written_terminals (element.Position w) = []
-written_terminals element.Opener = []
-written_terminals (element.Forward c) = []
-written_terminals (element.Strong c) = []
-written_terminals (element.Back ps ns) = []
-written_terminals (element.NoBack ps) = []
+written_terminals _ = []
 
 -- the grammar that declarations and rules make
 abbrev pub numbered_of : List WrittenItem → GrammarParts

@@ -20,13 +20,9 @@ use Rattle.codeco_printer.proofs.WriteLaws.{category_closed}
 use Rattle.std.proofs.Common.{Option, Some, None}
 
 abbrev pub is_word : Lexeme → Bool
-is_word (lexeme.Identifier w) = true
-is_word (lexeme.Variable w) = true
-is_word (lexeme.Keyword w) = true
-is_word (lexeme.Label w) = true
-is_word (lexeme.Kind w) = true
 is_word (lexeme.Terminal t) = false
 is_word (lexeme.Sign s) = false
+is_word _ = true
 
 abbrev pub leads_sign : Sign → Bool
 leads_sign sign.Weak = true

@@ -1,10 +1,10 @@
 -- Each reading can go on to a sentence.
-use Rattle.std.proofs.Common.{◌≡◌, ℕ, ◌+◌, ◌<◌, ◌≤◌, Bool, true, false, cond, not, eqb, ◌&&◌, ◌||◌, ◌⊎◌, List, [], ◌∷◌, ◌++◌, Option, Some, None, refl, sym, ap, subst, ◌∙◌, append_assoc, arith, inl, inr}
+use Rattle.std.proofs.Common.{◌≡◌, ℕ, ◌+◌, ◌<◌, ◌≤◌, Bool, true, false, cond, eqb, ◌&&◌, ◌||◌, ◌⊎◌, List, [], ◌∷◌, ◌++◌, Option, Some, None, refl, sym, ap, subst, ◌∙◌, append_assoc, inl, inr}
 use Rattle.std.specs.Prelude.{is_some, codes, flat_map}
-use Rattle.std.specs.List.{list_all, list_any}
+use Rattle.std.specs.List.{list_all}
 use Rattle.std.proofs.lemmas.List.{append-nil}
 use Rattle.std.proofs.lemmas.List.Folds.{list_all-append}
-use Rattle.std.proofs.lemmas.Bool.{eqb-true, cases_Bool, both_ways, and_parts, and_from, or_cases, or_parts, or_from, not_from_false, false_from_ne_true}
+use Rattle.std.proofs.lemmas.Bool.{eqb-true, cases_Bool, both_ways, and_parts, and_from, or_cases, or_from, not_from_false}
 use Rattle.std.proofs.lemmas.Option.{same_Some}
 use Rattle.codeco_text.specs.declared.symbols.Sign.{Sign}
 use Rattle.codeco_text.specs.declared.symbols.Sign.TheVariants as sign
@@ -21,8 +21,8 @@ use Rattle.codeco_text.specs.declared.spot.Wanted.TheVariants as wanted
 use Rattle.codeco_text.specs.declared.builder.Builder.{Builder}
 use Rattle.codeco_text.specs.Names.{same_bytes, is_among, is_space, is_lower, is_upper, is_word_byte, is_lower_word, is_identifier, is_variable, is_terminal, is_terminal_byte, ends_well, keywords}
 use Rattle.codeco_text.specs.Notation.{labels, kinds, lexeme_bytes, is_symbol, goes_on, Begins, SpellsFrom}
-use Rattle.codeco_text.specs.Reading.{◌>>=◌, wants, may_begin, may_go_on, is_front_among, next_spot}
-use Rattle.codeco_text.specs.Building.{push, grow, name_lexeme}
+use Rattle.codeco_text.specs.Reading.{◌>>=◌, wants, may_begin, may_go_on, next_spot}
+use Rattle.codeco_text.specs.Building.{push, grow}
 use Rattle.codeco_text.specs.Scanning.{Mode, between, comment, word, terminal, dash, dashes, tilde, tildes, slash, greater, takes_sign, takes_terminal, guard, behind, single, begin, begin_sign, begin_dash, begin_single, finish, step, if_terminal}
 use Rattle.codeco_text.proofs.Growth.{same_is}
 use Rattle.codeco_text.proofs.Trees.{runs}

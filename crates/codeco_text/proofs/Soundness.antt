@@ -1,30 +1,22 @@
 -- What a reading takes is spelled by the text.
-use Rattle.std.proofs.Common.{◌≡◌, ℕ, Bool, true, false, cond, not, eqb, ◌&&◌, ◌||◌, ◌⊎◌, List, [], ◌∷◌, ◌++◌, Option, Some, None, refl, sym, ap, subst, ◌∙◌, append_assoc, arith, inl, inr}
-use Rattle.std.specs.Prelude.{is_some, codes}
+use Rattle.std.proofs.Common.{◌≡◌, ℕ, Bool, true, false, cond, ◌&&◌, ◌||◌, ◌⊎◌, List, [], ◌∷◌, ◌++◌, Option, Some, None, refl, sym, ap, ◌∙◌, inl, inr}
+use Rattle.std.specs.Prelude.{codes}
 use Rattle.std.specs.Option.{option_map}
-use Rattle.std.proofs.lemmas.List.{append-nil}
-use Rattle.std.proofs.lemmas.Bool.{eqb-true, cases_Bool, both_ways}
-use Rattle.codeco_text.specs.declared.symbols.Sign.{Sign}
+use Rattle.std.proofs.lemmas.Bool.{cases_Bool}
 use Rattle.codeco_text.specs.declared.symbols.Sign.TheVariants as sign
 use Rattle.codeco_text.specs.declared.symbols.Lexeme.{Lexeme}
 use Rattle.codeco_text.specs.declared.symbols.Lexeme.TheVariants as lexeme
-use Rattle.codeco_text.specs.declared.spot.Role.{Role}
-use Rattle.codeco_text.specs.declared.spot.Role.TheVariants as role
-use Rattle.codeco_text.specs.declared.spot.Part.{Part}
 use Rattle.codeco_text.specs.declared.spot.Part.TheVariants as part
 use Rattle.codeco_text.specs.declared.spot.Spot.{Spot}
 use Rattle.codeco_text.specs.declared.spot.Spot.TheVariants as spot
 use Rattle.codeco_text.specs.declared.spot.Wanted.{Wanted}
 use Rattle.codeco_text.specs.declared.spot.Wanted.TheVariants as wanted
 use Rattle.codeco_text.specs.declared.builder.Builder.{Builder}
-use Rattle.codeco_text.specs.Names.{same_bytes, is_among, is_space, is_word_byte, is_identifier, is_variable, is_terminal, is_terminal_byte, keywords}
-use Rattle.codeco_text.specs.Notation.{labels, kinds, lexeme_bytes, is_symbol, goes_on, has_front, SpellsFrom}
-use Rattle.codeco_text.specs.Reading.{◌>>=◌, wants, as_word, identifier, may_begin, may_go_on, advance, is_sign, begins_pattern, settled, closed, ready_spot, next_spot}
-use Rattle.codeco_text.specs.Building.{push, so_far, settle_at, settled_builder, close_at, closed_builder, is_named, ready, moved, with_lexeme, take_ready, grow}
-use Rattle.codeco_text.specs.Scanning.{Mode, between, comment, word, terminal, dash, dashes, tilde, tildes, slash, greater, takes_sign, takes_terminal, guard, behind, single, begin, begin_sign, begin_dash, begin_single, finish, step, if_terminal}
-use Rattle.codeco_text.proofs.Growth.{grow_adds}
-use Rattle.codeco_text.proofs.Trees.{runs}
-use Rattle.codeco_text.proofs.Gaps.{Continues, spells_space, spells_comment, spells_in_comment, continues_more, continues_whole, continues_before, begins_here}
+use Rattle.codeco_text.specs.Names.{same_bytes, is_among, is_word_byte, is_identifier, is_variable, keywords}
+use Rattle.codeco_text.specs.Notation.{labels, kinds, lexeme_bytes, is_symbol, goes_on}
+use Rattle.codeco_text.specs.Reading.{◌>>=◌, as_word, identifier, advance, is_sign, begins_pattern, settled, closed, ready_spot, next_spot}
+use Rattle.codeco_text.specs.Building.{settle_at, settled_builder, close_at, is_named, ready, moved, with_lexeme, grow}
+use Rattle.codeco_text.specs.Scanning.{Mode, between, word, guard, behind}
 
 pub bind_some : {A B : Type 0} (o : Option A) (f : A → Option B) (y : B) → (o >>= f) ≡ Some y → (x : A) × (o ≡ Some x) × (f x ≡ Some y)
 bind_some None f y e = absurd cc
@@ -178,13 +170,9 @@ word_some wanted.Term w x e = variable_some (is_variable w) w x (λ h. h) e
 
 -- a word, which goes on with bytes of words alone
 abbrev pub is_word : Lexeme → Bool
-is_word (lexeme.Identifier w) = true
-is_word (lexeme.Variable w) = true
-is_word (lexeme.Keyword w) = true
-is_word (lexeme.Label w) = true
-is_word (lexeme.Kind w) = true
 is_word (lexeme.Terminal t) = false
 is_word (lexeme.Sign s) = false
+is_word _ = true
 
 identifier_word : (w : List ℕ) (x : Lexeme) → identifier w ≡ Some x → is_word x ≡ true
 identifier_word w x e = ap is_word (sym (guard_some (is_identifier w) (lexeme.Identifier w) x e).1)

@@ -1,6 +1,6 @@
 -- Reading a text from left to right: where it stands, and what it has read. Only calls inside the crate speak of it.
-use Rattle.std.specs.Prelude.{◌≡◌, ℕ, Bool, true, false, not, ◌&&◌, ◌||◌, ◌==◌, List, [], ◌∷◌, ◌++◌, map, flat_map, codes, Option, Some, None, option_map, option_and_then, is_some, if◌then◌else◌, Result, Ok, Err, ◌+◌}
-use Rattle.std.specs.List.{list_all, list_any}
+use Rattle.std.specs.Prelude.{◌≡◌, ℕ, Bool, true, false, ◌&&◌, ◌||◌, ◌==◌, List, [], ◌∷◌, ◌++◌, codes, Option, Some, None, if◌then◌else◌, ◌+◌}
+use Rattle.std.specs.List.{list_any}
 use Rattle.codeco_text.specs.declared.symbols.Sign.{Sign}
 use Rattle.codeco_text.specs.declared.symbols.Sign.TheVariants as sign
 use Rattle.codeco_text.specs.declared.symbols.Lexeme.{Lexeme}
@@ -13,7 +13,7 @@ use Rattle.codeco_text.specs.declared.spot.Spot.{Spot}
 use Rattle.codeco_text.specs.declared.spot.Spot.TheVariants as spot
 use Rattle.codeco_text.specs.declared.spot.Wanted.{Wanted}
 use Rattle.codeco_text.specs.declared.spot.Wanted.TheVariants as wanted
-use Rattle.codeco_text.specs.Names.{same_bytes, is_among, is_space, is_lower, is_upper, is_word_byte, is_identifier, is_variable, is_terminal_byte, is_terminal}
+use Rattle.codeco_text.specs.Names.{same_bytes, is_among, is_lower, is_upper, is_identifier, is_variable}
 use Rattle.codeco_text.specs.Notation.{labels, kinds, has_front}
 
 infixl 10 ◌>>=◌
@@ -46,23 +46,17 @@ part_wants part.Whole r = follower_wanted r
 abbrev pub wants : Spot → Wanted
 wants spot.Items = wanted.Item
 wants spot.LabelName = wanted.Label
-wants spot.LabelEnd = wanted.Nothing
 wants spot.RuleHead = wanted.Identifier
 wants spot.FeatureName = wanted.Identifier
-wants spot.FeatureColon = wanted.Nothing
 wants spot.FeatureValue = wanted.Value
-wants spot.AtomNext = wanted.Nothing
 wants spot.AtomName = wanted.Identifier
-wants spot.FeatureEnd = wanted.Nothing
 wants (spot.Category p r) = part_wants p r
-wants spot.Arrow = wanted.Nothing
 wants spot.Body = wanted.Identifier
 wants spot.PositionName = wanted.Variable
-wants spot.BackPattern = wanted.Nothing
 wants spot.Positives = wanted.Identifier
 wants spot.Negatives = wanted.Identifier
-wants spot.AbsentPattern = wanted.Nothing
 wants spot.Absents = wanted.Identifier
+wants _ = wanted.Nothing
 
 abbrev pub identifier : List ℕ → Option Lexeme
 identifier w = if is_identifier w then Some (lexeme.Identifier w) else None
@@ -95,26 +89,18 @@ may_begin wanted.Term b = is_upper b || is_lower b
 
 -- with a further byte of words, a wanted word may still begin so
 abbrev pub may_go_on : Wanted → List ℕ → Bool
-may_go_on wanted.Nothing w = true
-may_go_on wanted.Item w = true
-may_go_on wanted.Identifier w = true
-may_go_on wanted.Value w = true
 may_go_on wanted.Label w = is_front_among labels w
 may_go_on wanted.Kind w = is_front_among kinds w
-may_go_on wanted.Variable w = true
-may_go_on wanted.Term w = true
+may_go_on _ _ = true
 
 -- Stands
 
 abbrev pub after_category : Role → Spot
 after_category role.Head = spot.Arrow
-after_category role.Preterminal = spot.Body
-after_category role.Sub = spot.Body
-after_category role.Forward = spot.Body
-after_category role.Strong = spot.Body
 after_category role.Positive = spot.Positives
 after_category role.Negative = spot.Negatives
 after_category role.Absent = spot.Absents
+after_category _ = spot.Body
 
 abbrev pub after_part_identifier : Part → Role → Option Spot
 after_part_identifier part.Name role.Preterminal = None

@@ -20,7 +20,7 @@ use Rattle.codeco_text.specs.Names.{is_terminal_byte, ends_well, is_terminal}
 use Rattle.codeco_terms.specs.GrammarParts.{GrammarParts}
 use Rattle.codeco_checked.specs.Sound.{IsSound}
 use Rattle.derivation_trees.specs.Cutting as cutting
-use Rattle.derivation_trees.specs.Cutting.{is_kept, is_mark, ends_with_mark, is_whole, shown, cut_of, FirstIsNotRaised, IsWord, AreWords, gap, continued, shown_first}
+use Rattle.derivation_trees.specs.Cutting.{is_kept, is_mark, ends_with_mark, is_whole, shown, cut_of, IsWord, AreWords, gap, continued, shown_first}
 use Rattle.derivation_trees.proofs.PieceLemmas.{above_zero, Whole, whole_from_parts, no_space_from_bytes, cut_shown, more_left}
 
 -- Terminals

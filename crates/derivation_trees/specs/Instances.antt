@@ -1,16 +1,15 @@
 -- Instances of a rule: a value for each of its variables.
-use Rattle.std.specs.Prelude.{◌≡◌, ℕ, ◌+◌, ◌-◌, ◌==◌, nat_lt, ◌&&◌, not, if◌then◌else◌, Bool, true, false, List, [], ◌∷◌, ◌++◌, length, map, filter, flat_map, drop, Option, Some, None, option_map, unwrap_or}
-use Rattle.std.specs.List.{list_all, list_any, range_with_len}
+use Rattle.std.specs.Prelude.{◌≡◌, ℕ, ◌+◌, ◌-◌, ◌==◌, nat_lt, ◌&&◌, not, if◌then◌else◌, Bool, true, false, List, [], ◌∷◌, ◌++◌, length, map, filter, flat_map, drop, Option, Some, None, unwrap_or}
+use Rattle.std.specs.List.{list_all, range_with_len}
 use Rattle.codeco_terms.specs.declared.values.Value.{Value}
-use Rattle.codeco_terms.specs.declared.values.Value.TheVariants.{Atom, Word, Pos}
+use Rattle.codeco_terms.specs.declared.values.Value.TheVariants.{Atom}
 use Rattle.codeco_terms.specs.declared.values.Term.{Term}
 use Rattle.codeco_terms.specs.declared.values.Term.TheVariants.{Val, Var}
 use Rattle.codeco_terms.specs.declared.categories.Category.{Category}
 use Rattle.codeco_terms.specs.declared.categories.Pattern.{Pattern}
-use Rattle.codeco_terms.specs.declared.categories.Ground.{Ground}
 use Rattle.codeco_terms.specs.declared.declarations.Declared.TheVariants as declared
 use Rattle.codeco_terms.specs.declared.elements.Element.{Element}
-use Rattle.codeco_terms.specs.declared.elements.Element.TheVariants.{Terminal, Preterminal, Sub, Position, Opener, Forward, Strong, Back, NoBack}
+use Rattle.codeco_terms.specs.declared.elements.Element.TheVariants.{Forward, Strong}
 use Rattle.codeco_terms.specs.declared.rules.Rule.{Rule}
 use Rattle.codeco_terms.specs.GrammarParts.{GrammarParts}
 use Rattle.scopes.specs.declared.agreement.Test.{Test}
@@ -73,15 +72,9 @@ left_out g category = filter (λ f. not (has (map (λ p. p.0) category.feats) f)
 
 -- the features that an introduction leaves out
 abbrev pub own_features : GrammarParts → Element → List ℕ
-own_features g (Terminal t) = []
-own_features g (Preterminal c) = []
-own_features g (Sub c) = []
-own_features g (Position x) = []
-own_features g Opener = []
 own_features g (Forward c) = left_out g c
 own_features g (Strong c) = left_out g c
-own_features g (Back ps ns) = []
-own_features g (NoBack ps) = []
+own_features _ _ = []
 
 -- the features of a rule's own variables, in order of elements and features
 abbrev pub rule_own_features : GrammarParts → Rule → List ℕ

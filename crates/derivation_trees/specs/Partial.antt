@@ -3,7 +3,7 @@ use Rattle.std.specs.Prelude.{◌≡◌, ℕ, ◌≤◌, ◌&&◌, if◌then◌e
 use Rattle.codeco_terms.specs.declared.values.Value.{Value}
 use Rattle.codeco_terms.specs.declared.categories.Category.{Category}
 use Rattle.codeco_terms.specs.declared.elements.Element.{Element}
-use Rattle.codeco_terms.specs.declared.elements.Element.TheVariants.{Terminal, Preterminal, Sub, Position, Opener, Forward, Strong, Back, NoBack}
+use Rattle.codeco_terms.specs.declared.elements.Element.TheVariants.{Sub}
 use Rattle.codeco_terms.specs.declared.rules.Rule.{Rule}
 use Rattle.codeco_terms.specs.GrammarParts.{GrammarParts}
 use Rattle.lexicon.specs.Words.{Listed}
@@ -33,15 +33,8 @@ front s rule values found children count asked at =
 
 -- the category that an element is
 abbrev pub sub_of : Element → Option Category
-sub_of (Terminal t) = None
-sub_of (Preterminal c) = None
 sub_of (Sub c) = Some c
-sub_of (Position x) = None
-sub_of Opener = None
-sub_of (Forward c) = None
-sub_of (Strong c) = None
-sub_of (Back positive negative) = None
-sub_of (NoBack patterns) = None
+sub_of _ = None
 
 -- the category that is the next element after the first `count`
 abbrev pub next_category : Rule → ℕ → Option Category

@@ -1,5 +1,5 @@
 -- Each instance whose head fits is among those that are tried.
-use Rattle.std.proofs.Common.{◌≡◌, ℕ, zero, suc, ◌+◌, ◌<◌, ◌≤◌, List, [], ◌∷◌, ◌++◌, map, filter, drop, length, Bool, true, false, ◌&&◌, ◌||◌, not, ◌⊎◌, inl, inr, Option, Some, None, refl, sym, ap, subst, ◌∙◌, arith, append_assoc, append-nil}
+use Rattle.std.proofs.Common.{◌≡◌, ℕ, zero, suc, ◌+◌, ◌<◌, ◌≤◌, List, [], ◌∷◌, ◌++◌, map, filter, drop, length, Bool, true, false, ◌&&◌, ◌||◌, ◌⊎◌, inl, inr, Option, Some, None, refl, sym, ap, subst, ◌∙◌, arith, append_assoc, append-nil}
 use Rattle.std.specs.Prelude.{if◌then◌else◌, ◌==◌, unwrap_or}
 use Rattle.std.specs.Option.{option_map_or}
 use Rattle.std.specs.List.{flat_map, list_all, range_with_len}
@@ -10,7 +10,7 @@ use Rattle.wiki_base.proofs.NumberLaws.{eqb_refl}
 use Rattle.codeco_terms.specs.declared.values.Value.{Value}
 use Rattle.codeco_terms.specs.declared.values.Value.TheVariants.{Atom}
 use Rattle.codeco_terms.specs.declared.values.Term.{Term}
-use Rattle.codeco_terms.specs.declared.values.Term.TheVariants.{Val, Var}
+use Rattle.codeco_terms.specs.declared.values.Term.TheVariants.{Var}
 use Rattle.codeco_terms.specs.declared.declarations.Declared.TheVariants as declared
 use Rattle.codeco_terms.specs.declared.rules.Rule.{Rule}
 use Rattle.scopes.specs.declared.agreement.Test.{Test}
@@ -19,10 +19,10 @@ use Rattle.codeco_checked.specs.Occurrences.{rule_features, rule_variables, posi
 use Rattle.derivation_trees.specs.Settings.{Setting, is_value, fits_feature}
 use Rattle.derivation_trees.specs.Instances.{looked_up, value_under, term_value, feats_under, under, written_variables, variables_of, same_numbers, term_fits, own_fit, own_values, rule_own_features, is_instance}
 use Rattle.derivation_trees.specs.Derives.{same_where_both, fits}
-use Rattle.derivations.specs.Enumeration.{given, feature_values, position_values, rule_terms, feature_at, fixed_at, free_among, tried_among, tried, own_choices, written_choices, choices, lengthened, chosen, instances}
-use Rattle.derivations.proofs.Members.{Among, among_left, among_right, among_map, among_flat_map, all_among}
+use Rattle.derivations.specs.Enumeration.{given, feature_values, position_values, rule_terms, feature_at, fixed_at, free_among, tried, own_choices, choices, lengthened, chosen, instances}
+use Rattle.derivations.proofs.Members.{Among, among_map, among_flat_map, all_among}
 use Rattle.derivations.proofs.ValueLemmas.{given_fixed, value_has, feature_has, number_has}
-use Rattle.derivations.proofs.TermLemmas.{Stands, Fixed, all_terms, in_rule, feature_some, feature_none, fixed_some}
+use Rattle.derivations.proofs.TermLemmas.{Fixed, all_terms, in_rule, feature_some, feature_none, fixed_some}
 
 -- each variable has one of the values that are tried for it
 abbrev pub Chooses : List (ℕ × List Value) → List (ℕ × Value) → Type 0

@@ -1,5 +1,5 @@
 -- How deep partial derivations are.
-use Rattle.std.proofs.Common.{◌≡◌, ℕ, zero, suc, ◌+◌, ◌-◌, ◌*◌, ◌<◌, ◌≤◌, List, [], ◌∷◌, ◌++◌, map, length, take, Bool, true, false, ◌&&◌, ◌||◌, ◌⊎◌, inl, inr, Option, Some, None, Contains, refl, sym, ap, subst, ◌∙◌, arith}
+use Rattle.std.proofs.Common.{◌≡◌, ℕ, zero, suc, ◌+◌, ◌-◌, ◌*◌, ◌<◌, ◌≤◌, List, [], ◌∷◌, ◌++◌, length, take, Bool, true, false, ◌&&◌, ◌||◌, ◌⊎◌, inl, inr, Option, Some, None, refl, sym, ap, subst, ◌∙◌, arith}
 use Rattle.std.specs.Prelude.{if◌then◌else◌, ◌==◌, option_and_then, option_map, slice_get}
 use Rattle.std.specs.List.{list_any}
 use Rattle.std.proofs.lemmas.List.{length-map}
@@ -12,19 +12,17 @@ use Rattle.codeco_terms.specs.declared.categories.Category.{Category}
 use Rattle.codeco_terms.specs.declared.elements.Element.{Element}
 use Rattle.codeco_terms.specs.declared.elements.Element.TheVariants.{Terminal, Preterminal, Sub, Position, Opener, Forward, Strong, Back, NoBack}
 use Rattle.codeco_terms.specs.declared.rules.Rule.{Rule}
-use Rattle.codeco_terms.specs.GrammarParts.{GrammarParts}
 use Rattle.codeco_checked.specs.Faults.{is_phrase, sub_name, first_category, StepsTo}
 use Rattle.scopes.specs.declared.agreement.Test.{Test}
-use Rattle.derivation_trees.specs.Trees.{Node, Nodes, node, none, more}
+use Rattle.derivation_trees.specs.Trees.{Node, Nodes}
 use Rattle.derivation_trees.specs.Settings.{Setting}
 use Rattle.derivation_trees.specs.Instances.{under, own_values}
-use Rattle.derivation_trees.specs.Derives.{At, Stand, run, fits, phrase_of, phrases_of, rule_with, text_category}
+use Rattle.derivation_trees.specs.Derives.{At, Stand, fits, phrase_of, phrases_of, rule_with, text_category}
 use Rattle.derivation_trees.specs.Partial.{CutNode, stopped, entered, front, sub_of, next_category, cut_end, IsPartialDerivation}
 use Rattle.derivations.specs.Beginnings.{depth_of, has_partial}
-use Rattle.derivations.proofs.Members.{Among, true_is_false}
+use Rattle.derivations.proofs.Members.{true_is_false}
 use Rattle.derivations.proofs.ListingLemmas.{Within, AllWithin, node_list, phrases_of-list}
-use Rattle.derivations.proofs.GrowLemmas.{Each}
-use Rattle.derivations.proofs.DepthLemmas.{Ordered, Consumes, Ran, run_moves, rule_contained, nodes_consume, node_consumes, weight, weight_is, weight_more, without, IsHead, Free, asked_free, free_on, shorter_with, heads, all_free, walk, each_within, deep}
+use Rattle.derivations.proofs.DepthLemmas.{Ordered, Ran, run_moves, rule_contained, nodes_consume, node_consumes, weight, weight_is, weight_more, without, IsHead, Free, asked_free, free_on, shorter_with, heads, all_free, walk, each_within, deep}
 use Rattle.derivations.proofs.CutLemmas.{FrontParts, front_parts, CutWithin, cut_sound, cut_complete}
 
 -- where a front stands

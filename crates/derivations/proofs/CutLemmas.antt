@@ -1,8 +1,7 @@
 -- The test for cut-off nodes says whether there is one.
-use Rattle.std.proofs.Common.{◌≡◌, ℕ, zero, suc, ◌+◌, ◌-◌, ◌*◌, ◌<◌, ◌≤◌, List, [], ◌∷◌, ◌++◌, map, length, take, Bool, true, false, ◌&&◌, ◌||◌, ◌⊎◌, inl, inr, Option, Some, None, IsTrue, Contains, refl, sym, ap, subst, ◌∙◌, arith, append-nil}
+use Rattle.std.proofs.Common.{◌≡◌, ℕ, zero, suc, ◌+◌, ◌-◌, ◌*◌, ◌<◌, ◌≤◌, List, [], ◌∷◌, ◌++◌, length, take, Bool, true, false, ◌&&◌, ◌||◌, ◌⊎◌, inl, inr, Option, Some, None, refl, sym, ap, subst, ◌∙◌}
 use Rattle.std.specs.Prelude.{if◌then◌else◌, ◌==◌, option_and_then, option_map, slice_get}
 use Rattle.std.specs.List.{flat_map, list_any}
-use Rattle.std.proofs.lemmas.Bool.Decides.{nat_tests}
 use Rattle.std.proofs.lemmas.Bool.{or_left, or_right, eq-eqb, or_cases, eqb-true}
 use Rattle.std.proofs.lemmas.Option.{same_Some}
 use Rattle.wiki_base.proofs.BoolLaws.{and_first, and_second}
@@ -13,18 +12,18 @@ use Rattle.codeco_terms.specs.declared.elements.Element.TheVariants.{Terminal, P
 use Rattle.codeco_terms.specs.declared.rules.Rule.{Rule}
 use Rattle.codeco_terms.specs.GrammarParts.{GrammarParts}
 use Rattle.scopes.specs.declared.agreement.Test.{Test}
-use Rattle.derivation_trees.specs.Trees.{Node, Nodes, node, none, more, nodes_from}
+use Rattle.derivation_trees.specs.Trees.{Nodes, nodes_from}
 use Rattle.derivation_trees.specs.Settings.{Setting}
 use Rattle.derivation_trees.specs.Instances.{under, is_instance, own_values}
-use Rattle.derivation_trees.specs.Derives.{At, Stand, Phrase, run, begun, fits, phrase_of, phrases_of, rule_with, is_none_left}
+use Rattle.derivation_trees.specs.Derives.{At, Stand, run, begun, fits, phrases_of, rule_with, is_none_left}
 use Rattle.derivation_trees.specs.Partial.{CutNode, stopped, entered, used_up, front, front_of, sub_of, next_category, cut_end}
 use Rattle.derivations.specs.Enumeration.{Path, Outcome, steps, all_steps, opened, instances, may_begin, trees_of}
 use Rattle.derivations.specs.Beginnings.{is_at_end, enters, goes_from, instance_cut, rule_cut, cut_of}
-use Rattle.derivations.proofs.Members.{Among, among_flat_map, true_is_false}
+use Rattle.derivations.proofs.Members.{Among}
 use Rattle.derivations.proofs.ChoiceLemmas.{instance_has}
 use Rattle.derivations.proofs.StepLemmas.{stand_of, Goes, Knows, all_goes}
-use Rattle.derivations.proofs.ListingLemmas.{node_list, phrases_of-list, nodes_again, AllWithin, Within, within_among, none_left_nil, none_mapped, tree_has, both_true}
-use Rattle.derivations.proofs.SoundLemmas.{Leads, Led, Sound, leads_nowhere, led_on, whole_run, phrases_from, rule_numbered, trees_sound}
+use Rattle.derivations.proofs.ListingLemmas.{node_list, phrases_of-list, AllWithin, within_among, tree_has, both_true}
+use Rattle.derivations.proofs.SoundLemmas.{Led, Sound, leads_nowhere, led_on, whole_run, rule_numbered, trees_sound}
 
 -- tests of lists
 

@@ -26,7 +26,7 @@ use Rattle.derivation_trees.specs.Trees.{Node, Nodes, node, none, more}
 use Rattle.derivation_trees.specs.Settings.{Setting, matches_terminal, matches_preterminal}
 use Rattle.derivation_trees.specs.Instances.{value_under, under, tests_under, own_values}
 use Rattle.derivation_trees.specs.Stands.{is_sub}
-use Rattle.derivation_trees.specs.Derives.{At, Stand, Phrase, pass, pass_token, pass_child, pass_finding, run, phrase, phrase_of, phrases_of, rule_with, is_none_left, is_found, reference_tests, fits}
+use Rattle.derivation_trees.specs.Derives.{At, Stand, Phrase, pass, pass_token, pass_child, pass_finding, run, phrase, phrase_of, phrases_of, rule_with, is_none_left, is_found, reference_tests}
 use Rattle.derivations.proofs.Members.{Among, true_is_false}
 use Rattle.derivations.proofs.ListingLemmas.{Within, AllWithin, node_list, phrases_of-list, Parts, phrase_parts}
 use Rattle.derivations.proofs.GrowLemmas.{Each}

@@ -1,8 +1,7 @@
 -- Entries stay in order as they are gathered, and each candidate that may follow becomes one.
-use Rattle.std.proofs.Common.{◌≡◌, ℕ, zero, suc, ◌+◌, ◌-◌, ◌<◌, ◌≤◌, List, [], ◌∷◌, ◌++◌, map, length, take, drop, get_or, Bool, true, false, ◌⊎◌, inl, inr, refl, sym, ap, subst, ◌∙◌, arith, IsTrue, Contains, All, append-nil}
-use Rattle.std.specs.Prelude.{if◌then◌else◌, slice_index_or, AllPairs, IsUtf8, ◌==◌}
-use Rattle.std.specs.List.{list_any, flat_map, insert}
-use Rattle.std.specs.Str.{bytes_eq}
+use Rattle.std.proofs.Common.{◌≡◌, ℕ, zero, suc, ◌+◌, ◌-◌, ◌<◌, ◌≤◌, List, [], ◌∷◌, ◌++◌, map, length, get_or, Bool, true, false, ◌⊎◌, inl, inr, refl, sym, ap, subst, ◌∙◌, arith, Contains}
+use Rattle.std.specs.Prelude.{if◌then◌else◌, slice_index_or, AllPairs, ◌==◌}
+use Rattle.std.specs.List.{insert}
 use Rattle.std.specs.Borrow.{Bor}
 use Rattle.std.proofs.lemmas.List.{length-map}
 use Rattle.std.proofs.lemmas.Bool.{cases_lt}

@@ -1,18 +1,16 @@
 -- Each tree up to a depth is listed.
-use Rattle.std.proofs.Common.{◌≡◌, ℕ, zero, suc, ◌+◌, ◌-◌, ◌<◌, ◌≤◌, List, [], ◌∷◌, ◌++◌, map, Bool, true, false, ◌&&◌, ◌⊎◌, inl, inr, Option, Some, None, refl, sym, ap, subst, ◌∙◌, arith, append-nil, add-zero, add-one}
-use Rattle.std.specs.Prelude.{if◌then◌else◌, ◌==◌, option_and_then, option_map, slice_get, unwrap_or}
+use Rattle.std.proofs.Common.{◌≡◌, ℕ, zero, suc, ◌+◌, ◌-◌, ◌<◌, ◌≤◌, List, [], ◌∷◌, ◌++◌, map, Bool, true, false, ◌&&◌, ◌⊎◌, inl, inr, Option, Some, None, refl, sym, ap, subst, ◌∙◌, arith, append-nil, add-zero}
+use Rattle.std.specs.Prelude.{if◌then◌else◌, ◌==◌, option_and_then, slice_get, unwrap_or}
 use Rattle.std.specs.List.{flat_map}
 use Rattle.std.proofs.lemmas.Option.{same_Some}
 use Rattle.wiki_base.proofs.BoolLaws.{and_first, and_second}
 use Rattle.codeco_terms.specs.declared.values.Value.{Value}
 use Rattle.codeco_terms.specs.declared.rules.Rule.{Rule}
-use Rattle.codeco_terms.specs.GrammarParts.{GrammarParts}
-use Rattle.scopes.specs.declared.entries.Entry.{Entry}
 use Rattle.scopes.specs.declared.agreement.Test.{Test}
 use Rattle.derivation_trees.specs.Trees.{Node, Nodes, node, none, more, nodes_from}
 use Rattle.derivation_trees.specs.Settings.{Setting}
 use Rattle.derivation_trees.specs.Instances.{under, is_instance, own_values}
-use Rattle.derivation_trees.specs.Derives.{At, Stand, Phrase, run, fits, begun, ended, phrase, phrase_of, phrases_of, rule_with, is_none_left, list_after, same_where_both}
+use Rattle.derivation_trees.specs.Derives.{At, Stand, Phrase, run, fits, ended, phrase, phrase_of, phrases_of, is_none_left, list_after}
 use Rattle.derivations.specs.Enumeration.{Path, Outcome, opened, ended_path, all_steps, instances, instance_trees, rule_trees, rules_trees, trees_of}
 use Rattle.derivations.proofs.Members.{Among, among_left, among_right, among_map, among_flat_map}
 use Rattle.derivations.proofs.ChoiceLemmas.{instance_has}

@@ -1,8 +1,7 @@
 -- Members of lists.
 pub use Rattle.derivations.specs.Among.{Among}
-use Rattle.std.proofs.Common.{◌≡◌, ℕ, Option, Some, None, List, [], ◌∷◌, ◌++◌, map, Bool, true, false, ◌&&◌, ◌||◌, ◌⊎◌, inl, inr, refl, sym, ap, subst, ◌∙◌}
-use Rattle.std.specs.Prelude.{unwrap_or}
-use Rattle.std.specs.List.{flat_map, list_all, list_any}
+use Rattle.std.proofs.Common.{◌≡◌, List, [], ◌∷◌, ◌++◌, map, Bool, true, false, ◌&&◌, ◌||◌, ◌⊎◌, inl, inr, ap, subst, ◌∙◌}
+use Rattle.std.specs.List.{flat_map, list_all}
 use Rattle.wiki_base.proofs.BoolLaws.{and_first, and_second}
 
 pub among_left : {X : Type 0} (xs ys : List X) (x : X) → Among xs x → Among (xs ++ ys) x

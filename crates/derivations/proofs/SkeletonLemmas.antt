@@ -1,10 +1,9 @@
 -- The sketch of a derivation is its skeleton.
-use Rattle.std.proofs.Common.{◌≡◌, ℕ, ◌+◌, List, [], ◌∷◌, ◌++◌, map, length, Bool, true, false, Option, Some, None, refl, sym, ap, subst, ◌∙◌, append_assoc, append-nil}
+use Rattle.std.proofs.Common.{◌≡◌, ℕ, ◌+◌, List, [], ◌∷◌, ◌++◌, length, Bool, true, false, Option, Some, None, refl, sym, ap, subst, ◌∙◌, append_assoc, append-nil}
 use Rattle.std.specs.Prelude.{if◌then◌else◌, option_and_then}
 use Rattle.std.specs.Option.{option_map_or}
 use Rattle.std.specs.List.{list_any}
 use Rattle.std.proofs.lemmas.Option.{same_Some}
-use Rattle.wiki_base.specs.declared.numbers.WordId.{WordId}
 use Rattle.codeco_terms.specs.declared.values.Value.{Value}
 use Rattle.codeco_terms.specs.declared.values.Value.TheVariants.{Pos}
 use Rattle.codeco_terms.specs.declared.categories.Pattern.{Pattern}
@@ -20,9 +19,9 @@ use Rattle.derivation_trees.specs.declared.skeletons.Skeleton.TheViews.{out-roll
 use Rattle.derivation_trees.specs.Trees.{Node, Nodes, node, none, more}
 use Rattle.derivation_trees.specs.Settings.{Setting, matches_terminal, matches_preterminal}
 use Rattle.derivation_trees.specs.Instances.{value_under, under, tests_under, own_values}
-use Rattle.derivation_trees.specs.Derives.{At, Stand, Phrase, pass, pass_token, pass_child, pass_finding, run, phrase, phrase_of, phrases_of, rule_with, is_found, reference_tests, text_category, IsDerivation}
+use Rattle.derivation_trees.specs.Derives.{At, Stand, pass, pass_token, pass_child, pass_finding, run, phrase, phrase_of, phrases_of, rule_with, is_found, reference_tests, text_category, IsDerivation}
 use Rattle.derivation_trees.specs.Skeletons.{word_at, word_here, child_here, met, start, end_place, skeleton, skeleton_at, skeletons_at, skeleton_of}
-use Rattle.derivation_trees.specs.Sketches.{Sketch, Later, sketch_token, sketch_child, sketch_on, sketch_over, sketched, sketch_from, sketch_of, sketches_of, body_of}
+use Rattle.derivation_trees.specs.Sketches.{Sketch, sketch_child, sketch_on, sketch_over, sketched, sketch_from, sketch_of, sketches_of, body_of}
 use Rattle.derivations.proofs.ListingLemmas.{Parts, phrase_parts}
 
 -- what an element that is no category does to places and children

@@ -1,6 +1,6 @@
 -- What is listed is so: each path is a run over the elements, and each tree a phrase.
-use Rattle.std.proofs.Common.{◌≡◌, ℕ, zero, suc, ◌+◌, ◌-◌, ◌<◌, ◌≤◌, List, [], ◌∷◌, ◌++◌, map, length, Bool, true, false, ◌&&◌, ◌||◌, ◌⊎◌, inl, inr, Option, Some, None, refl, sym, ap, subst, ◌∙◌, arith, append_assoc, append-nil, add-zero, add-one}
-use Rattle.std.specs.Prelude.{if◌then◌else◌, ◌==◌, option_and_then, option_map, slice_get, nat_lt}
+use Rattle.std.proofs.Common.{◌≡◌, ℕ, zero, suc, ◌+◌, ◌-◌, ◌<◌, ◌≤◌, List, [], ◌∷◌, ◌++◌, map, Bool, true, false, ◌&&◌, ◌||◌, ◌⊎◌, inl, inr, Option, Some, None, refl, sym, ap, subst, ◌∙◌, arith, append_assoc, append-nil, add-zero}
+use Rattle.std.specs.Prelude.{if◌then◌else◌, ◌==◌, option_and_then, option_map, slice_get}
 use Rattle.std.specs.Option.{option_map_or}
 use Rattle.std.specs.List.{flat_map, list_any}
 use Rattle.std.proofs.lemmas.Bool.Decides.{nat_tests}
@@ -13,16 +13,15 @@ use Rattle.codeco_terms.specs.declared.elements.Element.TheVariants.{Terminal, P
 use Rattle.codeco_terms.specs.declared.rules.Rule.{Rule}
 use Rattle.codeco_terms.specs.GrammarParts.{GrammarParts}
 use Rattle.codeco_terms.specs.Values.{same_value}
-use Rattle.scopes.specs.declared.entries.Entry.{Entry}
 use Rattle.scopes.specs.declared.agreement.Test.{Test}
 use Rattle.scopes.specs.Resolution.{Finding, closest_finding, is_agreeing}
-use Rattle.derivation_trees.specs.Trees.{Node, Nodes, node, none, more, nodes_from}
+use Rattle.derivation_trees.specs.Trees.{Node, nodes_from}
 use Rattle.derivation_trees.specs.Settings.{Setting, matches_terminal, matches_preterminal}
-use Rattle.derivation_trees.specs.Instances.{value_under, under, tests_under, is_instance, own_values}
-use Rattle.derivation_trees.specs.Derives.{At, Stand, Phrase, pass, pass_token, pass_child, pass_finding, run, begun, ended, phrase, phrase_of, phrases_of, rule_with, fits, is_found, is_none_left, list_after, reference_tests}
+use Rattle.derivation_trees.specs.Instances.{value_under, under, tests_under, own_values}
+use Rattle.derivation_trees.specs.Derives.{At, Stand, pass, pass_finding, run, begun, ended, phrase, phrase_of, phrases_of, rule_with, is_found, reference_tests}
 use Rattle.derivation_scenes.specs.Starts.{may_start}
 use Rattle.derivations.specs.Enumeration.{Path, Outcome, found_at, passed, joined, steps, all_steps, opened, ended_path, instances, may_begin, instance_trees, rule_trees, rules_trees, trees_of}
-use Rattle.derivations.proofs.Members.{Among, true_is_false}
+use Rattle.derivations.proofs.Members.{Among}
 use Rattle.derivations.proofs.StepLemmas.{stand_of, token_commutes, test_commutes, no_test_commutes, refit, Commutes}
 
 -- members

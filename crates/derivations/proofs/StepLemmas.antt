@@ -8,20 +8,18 @@ use Rattle.std.proofs.lemmas.Bool.{eqb-true}
 use Rattle.wiki_base.proofs.BoolLaws.{and_first}
 use Rattle.codeco_terms.specs.declared.values.Value.{Value}
 use Rattle.codeco_terms.specs.declared.values.Value.TheVariants.{Pos}
-use Rattle.codeco_terms.specs.declared.categories.Category.{Category}
 use Rattle.codeco_terms.specs.declared.categories.Pattern.{Pattern}
 use Rattle.codeco_terms.specs.declared.elements.Element.{Element}
 use Rattle.codeco_terms.specs.declared.elements.Element.TheVariants.{Terminal, Preterminal, Sub, Position, Opener, Forward, Strong, Back, NoBack}
 use Rattle.codeco_terms.specs.Values.{same_value}
-use Rattle.scopes.specs.declared.entries.Entry.{Entry}
 use Rattle.scopes.specs.declared.agreement.Test.{Test}
 use Rattle.scopes.specs.Resolution.{Finding, closest_finding, is_agreeing}
 use Rattle.derivation_trees.specs.Trees.{Node}
 use Rattle.derivation_trees.specs.Settings.{Setting, matches_terminal, matches_preterminal}
 use Rattle.derivation_trees.specs.Instances.{value_under, under, tests_under}
-use Rattle.derivation_trees.specs.Derives.{At, Stand, Phrase, pass, pass_token, pass_child, pass_finding, run, moved, phrase_of, reference_tests, is_found, takes}
+use Rattle.derivation_trees.specs.Derives.{At, Stand, Phrase, pass, pass_token, pass_child, pass_finding, run, phrase_of, reference_tests, is_found}
 use Rattle.derivations.specs.Enumeration.{Path, Outcome, found_at, passed, joined, steps, all_steps}
-use Rattle.derivations.proofs.Members.{Among, among_left, among_map, among_flat_map}
+use Rattle.derivations.proofs.Members.{Among, among_map, among_flat_map}
 
 -- where the path stands with what is still to come
 abbrev pub stand_of : Setting → Path → List ℕ → List Node → Stand

@@ -1,7 +1,7 @@
 -- The features that are written in a rule.
-use Rattle.std.proofs.Common.{◌≡◌, ℕ, List, [], ◌∷◌, ◌++◌, map, Bool, true, false, ◌&&◌, ◌||◌, ◌⊎◌, inl, inr, Option, Some, None, refl, sym, ap, subst, ◌∙◌, append-nil}
+use Rattle.std.proofs.Common.{◌≡◌, ℕ, List, [], ◌∷◌, ◌++◌, map, Bool, true, false, ◌&&◌, ◌||◌, ◌⊎◌, inl, inr, Some, None, refl, sym, ap, subst, ◌∙◌, append-nil}
 use Rattle.std.specs.Prelude.{if◌then◌else◌, ◌==◌}
-use Rattle.std.specs.List.{flat_map, list_all, list_any}
+use Rattle.std.specs.List.{flat_map, list_all}
 use Rattle.std.proofs.lemmas.Grind.{flat_map-append}
 use Rattle.std.proofs.lemmas.Bool.{and_from, or_cases, eqb-true}
 use Rattle.std.proofs.lemmas.Option.{same_Some}
@@ -17,7 +17,7 @@ use Rattle.codeco_terms.specs.declared.elements.Element.{Element}
 use Rattle.codeco_terms.specs.declared.elements.Element.TheVariants.{Terminal, Preterminal, Sub, Position, Opener, Forward, Strong, Back, NoBack}
 use Rattle.codeco_terms.specs.declared.rules.Rule.{Rule}
 use Rattle.codeco_checked.specs.Numbering.{has}
-use Rattle.codeco_checked.specs.Occurrences.{whole, with_taken, mentions, rule_mentions, rule_features, rule_variables, element_variables, category_variables, term_variables, positions}
+use Rattle.codeco_checked.specs.Occurrences.{whole, mentions, rule_features, rule_variables, element_variables, category_variables, term_variables, positions}
 use Rattle.derivation_trees.proofs.OccurrenceLemmas.{has_append, all_append, with_taken_has, with_taken_all}
 use Rattle.derivations.specs.Enumeration.{taken_terms, pattern_terms, element_terms, rule_terms, is_variable, feature_at, has_feature, fixed_at}
 use Rattle.derivations.proofs.Members.{Among, among_left, among_right, true_is_false}

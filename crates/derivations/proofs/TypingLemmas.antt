@@ -1,11 +1,11 @@
 -- What is gathered is the menu, and what is counted is the number of typeable tokens.
-use Rattle.std.proofs.Common.{◌≡◌, ℕ, zero, suc, ◌+◌, ◌-◌, ◌<◌, ◌≤◌, List, [], ◌∷◌, ◌++◌, map, length, take, drop, get_or, Some, ◌&&◌, Bool, true, false, ◌⊎◌, inl, inr, refl, sym, ap, subst, ◌∙◌, arith, IsTrue, Contains, All, take-take, length-take-le}
+use Rattle.std.proofs.Common.{◌≡◌, ℕ, zero, suc, ◌+◌, ◌-◌, ◌<◌, ◌≤◌, List, [], ◌∷◌, ◌++◌, map, length, take, drop, get_or, Some, ◌&&◌, Bool, true, ◌⊎◌, inl, inr, refl, sym, ap, subst, ◌∙◌, arith, All, take-take, length-take-le}
 use Rattle.std.specs.Prelude.{IsUtf8, slice_index_or, slice_get}
 use Rattle.std.specs.Borrow.{Bor}
 use Rattle.std.proofs.lemmas.List.{length-map, take_more, drop_more, map-append}
 use Rattle.wiki_base.specs.Token.{IsToken}
 use Rattle.codeco_text.specs.Names.{is_terminal as is_terminal_text}
-use Rattle.std.specs.List.{list_any, list_all, flat_map}
+use Rattle.std.specs.List.{list_all}
 use Rattle.std.specs.Str.{bytes_eq}
 use Rattle.std.proofs.lemmas.Slice.Eq.{bytes_eq-Decides}
 use Rattle.std.proofs.lemmas.Bool.{cases_lt}
@@ -14,7 +14,7 @@ use Rattle.wiki_base.proofs.ListLaws.{drop_get_or}
 use Rattle.wiki_base.proofs.BoolLaws.{and_first, and_second}
 use Rattle.codeco_terms.specs.GrammarParts.{GrammarParts}
 use Rattle.codeco_checked.specs.Sound.{IsSound}
-use Rattle.lexicon.specs.Words.{Listed, has_form}
+use Rattle.lexicon.specs.Words.{Listed}
 use Rattle.lexicon.specs.declared.kinds.Kind.{Kind}
 use Rattle.lexicon.specs.declared.kinds.Kind.TheVariants as kind
 use Rattle.lexicon.specs.declared.words.Word.{Word}

@@ -27,7 +27,7 @@ use Rattle.derivation_trees.specs.Trees.{Node, Nodes, node, none, more}
 use Rattle.derivation_trees.specs.Settings.{Setting, matches_terminal, matches_preterminal}
 use Rattle.derivation_trees.specs.Instances.{value_under, under, tests_under, own_values}
 use Rattle.derivation_trees.specs.Stands.{is_sub}
-use Rattle.derivation_trees.specs.Derives.{At, Stand, Phrase, pass, pass_token, pass_child, pass_finding, run, phrase, phrase_of, phrases_of, rule_with, is_found, is_none_left, reference_tests, text_category, IsDerivation}
+use Rattle.derivation_trees.specs.Derives.{At, Stand, pass, pass_token, pass_child, pass_finding, run, phrase, phrase_of, phrases_of, rule_with, is_found, is_none_left, reference_tests, text_category, IsDerivation}
 use Rattle.derivation_trees.specs.Codes.{skeleton_code}
 use Rattle.derivation_trees.specs.Sentences.{setting_of}
 use Rattle.derivation_trees.specs.Skeletons.{skeleton_of, IsBelow, IsLeast}
@@ -41,15 +41,8 @@ use Rattle.derivations.proofs.SkeletonLemmas.{skeleton_of_is}
 -- how many references and categories
 
 abbrev is_back : Element → Bool
-is_back (Terminal t) = false
-is_back (Preterminal c) = false
-is_back (Sub c) = false
-is_back (Position x) = false
-is_back Opener = false
-is_back (Forward c) = false
-is_back (Strong c) = false
 is_back (Back positive negative) = true
-is_back (NoBack patterns) = false
+is_back _ = false
 
 -- how many of the elements pass
 abbrev tally : (Element → Bool) → List Element → ℕ

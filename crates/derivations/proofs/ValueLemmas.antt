@@ -1,5 +1,5 @@
 -- The values to be tried for a feature are all its values.
-use Rattle.std.proofs.Common.{◌≡◌, ℕ, zero, suc, ◌+◌, ◌<◌, ◌≤◌, List, [], ◌∷◌, ◌++◌, map, length, Bool, true, false, not, ◌&&◌, ◌||◌, ◌⊎◌, inl, inr, refl, sym, ap, subst, ◌∙◌, arith, nat_lt, nat_le}
+use Rattle.std.proofs.Common.{◌≡◌, ℕ, zero, suc, ◌+◌, ◌<◌, ◌≤◌, List, [], ◌∷◌, ◌++◌, length, Bool, true, false, not, ◌&&◌, ◌||◌, ◌⊎◌, inl, inr, refl, sym, ap, subst, ◌∙◌, arith, nat_lt, nat_le}
 use Rattle.std.specs.Prelude.{if◌then◌else◌, ◌==◌}
 use Rattle.std.specs.List.{list_all, list_any, range_with_len}
 use Rattle.std.proofs.lemmas.Bool.Decides.{nat_tests}
@@ -16,7 +16,7 @@ use Rattle.codeco_checked.specs.Numbering.{has}
 use Rattle.codeco_checked.specs.Faults.{values_of}
 use Rattle.derivation_trees.specs.Settings.{Setting, has_word, is_value, fits_feature}
 use Rattle.derivation_trees.specs.Derives.{same_where_both}
-use Rattle.derivations.specs.Enumeration.{with_value, with_given, given, with_words, with_all_words, word_values, position_values, atom_values, declared_values, feature_values, has_feature}
+use Rattle.derivations.specs.Enumeration.{with_value, with_given, with_words, with_all_words, declared_values, feature_values, has_feature}
 use Rattle.derivations.proofs.Members.{Among, among_left, among_right, among_map}
 
 number_turned : (x y : ℕ) → (x == y) ≡ true → (y == x) ≡ true

@@ -29,13 +29,9 @@ use Rattle.drs_build.proofs.NodeLemmas.{meaning_by}
 
 -- a noun bar or a question
 abbrev pub is_asking : Kind → Bool
-is_asking Text = false
-is_asking Sentence = false
-is_asking VerbPhrase = false
-is_asking NounPhrase = false
 is_asking NounBar = true
 is_asking Question = true
-is_asking Mark = false
+is_asking _ = false
 
 pub bar_asks : (k : Kind) → same_kind k NounBar ≡ true → is_asking k ≡ true
 bar_asks Text h = cc

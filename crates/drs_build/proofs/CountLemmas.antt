@@ -2,7 +2,6 @@
 use Rattle.std.proofs.Common.{◌≡◌, ℕ, ◌+◌, ◌≤◌, Bool, true, false, cond, List, [], ◌∷◌, ◌++◌, refl, ap, ◌∙◌, arith, append-nil}
 use Rattle.std.specs.Prelude.{◌==◌, ◌&&◌, ◌||◌, not}
 use Rattle.std.specs.List.{list_any}
-use Rattle.std.proofs.lemmas.Bool.Decides.{nat_tests}
 use Rattle.wiki_base.proofs.NumberLaws.{eqb_refl}
 use Rattle.logic_terms.specs.Structure.{Condition, Conditions, Structure, Negation, Implication, Disjunction, no_condition, also_condition, structure}
 use Rattle.logic_terms.specs.Introduced.{introduced_in, introduced_in_all, introduced_in_condition, all_distinct}

@@ -2,7 +2,6 @@
 use Rattle.std.proofs.Common.{◌≡◌, ℕ, ◌+◌, ◌≤◌, Bool, true, List, [], ◌∷◌, ◌++◌, map, refl, sym, ap, subst, ◌∙◌, arith, append_assoc, append-nil, eq-eqb}
 use Rattle.std.specs.Prelude.{◌&&◌, ◌==◌, nat_le}
 use Rattle.std.specs.List.{list_all}
-use Rattle.std.proofs.lemmas.Bool.Decides.{nat_tests}
 use Rattle.std.proofs.lemmas.Bool.{le-leb, and_from}
 use Rattle.wiki_base.specs.declared.numbers.WordId.{WordId}
 use Rattle.codeco_terms.specs.declared.elements.Element.{Element}

@@ -1,6 +1,6 @@
 -- Digits as the parser of numbers sees them.
-use Rattle.std.proofs.Common.{◌≡◌, ℕ, ◌<◌, ◌≤◌, ◌^◌, List, [], ◌∷◌, Bool, true, false, ◌&&◌, length, drop, refl, sym, subst, ap, ◌∙◌, arith, Option, None, Some, Result, Ok, Err}
-use Rattle.std.specs.Prelude.{IsUtf8, ◌==◌, cond, if◌then◌else◌, nat_lt, nat_le, not}
+use Rattle.std.proofs.Common.{◌≡◌, ℕ, ◌<◌, ◌≤◌, ◌^◌, List, [], ◌∷◌, true, false, ◌&&◌, length, drop, refl, sym, subst, ap, ◌∙◌, arith, None, Some, Result, Ok, Err}
+use Rattle.std.specs.Prelude.{IsUtf8, ◌==◌, cond, if◌then◌else◌, nat_le, not}
 use Rattle.std.specs.Result.{result_ok}
 use Rattle.std.specs.List.{list_all}
 use Rattle.http_front.specs.Numbers.{are_digits, number_of}

@@ -1,7 +1,6 @@
 -- What is left of a list decides: one item further, and at the end.
 use Rattle.std.proofs.Common.{◌≡◌, ℕ, ◌+◌, ◌≤◌, List, [], ◌∷◌, length, drop, Some, slice_get, ap, ◌∙◌}
-use Rattle.std.proofs.lemmas.List.{drop_more, drop_all}
-use Rattle.std.proofs.lemmas.Option.{slice_get_within, get_or_from_slice_get}
+use Rattle.std.proofs.lemmas.List.{drop_all}
 use Rattle.wiki_base.proofs.ListLaws.{drop_slice_get}
 
 pub left_more : {X Y : Type 0} (F : List X → Y) (xs : List X) (k : ℕ) (x : X) → slice_get xs k ≡ Some x → F (drop k xs) ≡ F (x ∷ drop (k + 1) xs)

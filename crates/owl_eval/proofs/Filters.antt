@@ -3,7 +3,6 @@ use Rattle.std.proofs.Common.{◌≡◌, Bool, true, false, ◌&&◌, ◌||◌, 
 use Rattle.std.specs.Prelude.{not}
 use Rattle.std.specs.List.{list_any, list_all}
 use Rattle.std.proofs.lemmas.List.Sorted.{list_any-IsPermutation}
-use Rattle.wiki_base.proofs.ListLaws.{list_any-cond}
 use Rattle.wiki_base.proofs.BoolLaws.{and-not}
 use Rattle.logic_terms.specs.Meaning.{implies}
 

@@ -1,17 +1,17 @@
 -- Runs of events, one after another.
-use Rattle.std.proofs.Common.{◌≡◌, ◌⊎◌, ℕ, Bool, true, List, [], ◌∷◌, ◌++◌, map, Option, refl, sym, ap, subst, ◌∙◌, append-nil, IsTrue, arith, ◌≤◌, length, take, inl, inr}
+use Rattle.std.proofs.Common.{◌≡◌, ◌⊎◌, ℕ, Bool, true, List, [], ◌∷◌, ◌++◌, map, Option, refl, sym, subst, ◌∙◌, append-nil, IsTrue, arith, ◌≤◌, length, take, inl, inr}
 use Rattle.std.proofs.lemmas.Grind.{flat_map-append}
 use Rattle.std.proofs.lemmas.List.{map-append}
 use Rattle.std.specs.List.{flat_map}
 use Rattle.std.specs.Bool.{OnTrue}
-use Rattle.std.specs.Prelude.{Result, Ok, Err, IfOk, OnErr}
+use Rattle.std.specs.Prelude.{Result, Ok, Err, IfOk}
 use Rattle.std.specs.Io.KnownBytes.{Appends}
 use Rattle.wiki_io.specs.declared.links.Event.{Event}
 use Rattle.wiki_io.specs.Link.{can_come}
 use Rattle.wiki_io.proofs.KnownLemmas.{Appends-nil, Appends-trans}
 use Rattle.wiki_talk.specs.declared.requests.Request.{Request}
 use Rattle.wiki_talk.specs.declared.replies.Reply.{Reply}
-use Rattle.wiki_talk.specs.Turns.{Exchange, Turn as Exchanged, Turns}
+use Rattle.wiki_talk.specs.Turns.{Exchange, Turns}
 use Rattle.http_front.specs.declared.seen.Then.{Then}
 use Rattle.server.specs.declared.turns.Turn.{Turn}
 use Rattle.server.specs.declared.turns.Turn.TheVariants as turns

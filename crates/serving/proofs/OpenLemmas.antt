@@ -1,6 +1,6 @@
 -- The connections that a link has open, and those that a server keeps.
-use Rattle.std.proofs.Common.{◌≡◌, ℕ, ◌==◌, ◌||◌, eqb, Bool, true, false, not, List, [], ◌∷◌, ◌++◌, map, refl, sym, ap, subst, ◌∙◌, IsTrue, inl, inr, length, ◌<◌, ◌≤◌}
-use Rattle.std.proofs.lemmas.Bool.{false≢true, cases_lt, eq-eqb, not-true}
+use Rattle.std.proofs.Common.{◌≡◌, ℕ, ◌==◌, ◌||◌, true, false, List, [], ◌∷◌, ◌++◌, refl, sym, ap, subst, ◌∙◌, IsTrue, inl, inr, length, ◌<◌, ◌≤◌}
+use Rattle.std.proofs.lemmas.Bool.{false≢true, cases_lt, not-true}
 use Rattle.std.proofs.lemmas.List.{map-append}
 use Rattle.wiki_base.proofs.NumberLaws.{eqb_refl}
 use Rattle.wiki_io.specs.declared.links.Event.{Event}
@@ -13,8 +13,8 @@ use Rattle.http_front.specs.declared.seen.Seen.TheVariants as seen
 use Rattle.server.specs.declared.limits.TheConstants.{MOST_OPEN}
 use Rattle.server.specs.declared.turns.Turn.{Turn}
 use Rattle.server.specs.declared.turns.Turn.TheVariants as turns
-use Rattle.server.specs.Kept.{Kept, numbers, fresh, with_piece, closed}
-use Rattle.server.specs.Taking.{Takes, TakesOpening, TakesPiece, TakesEnd, turn_of}
+use Rattle.server.specs.Kept.{Kept, numbers, fresh, closed}
+use Rattle.server.specs.Taking.{Takes, TakesOpening, TakesPiece, turn_of}
 use Rattle.server.proofs.OwnLemmas.{by_number, numbers-piece}
 
 -- ---- lists of numbers

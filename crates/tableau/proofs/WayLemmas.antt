@@ -15,7 +15,7 @@ use Rattle.tableau_rules.specs.declared.step.Closed.{Closed}
 use Rattle.tableau_rules.specs.declared.step.Closed.TheVariants as closed
 use Rattle.tableau_rules.specs.declared.step.Closed.TheOpen as layers
 use Rattle.tableau_rules.specs.declared.step.Closed.TheFolds.{fold-roll-Closed}
-use Rattle.tableau_rules.specs.Graph.{Graph, class_at}
+use Rattle.tableau_rules.specs.Graph.{Graph}
 use Rattle.tableau_rules.specs.First.{first_below}
 use Rattle.tableau_rules.specs.Clashes.{is_clash, has_clash}
 use Rattle.tableau_rules.specs.Rules.{site_at, first_at, first_by, first_step, applies, choices, after}

@@ -1,8 +1,6 @@
 -- What a branch is after its nodes or their labels grew.
 use Rattle.std.proofs.Common.{◌≡◌, ℕ, zero, suc, ◌<◌, Bool, true, false, List, [], ◌∷◌, ◌++◌, map, filter, length, take, get_or, cond, Some, slice_get, refl, sym, ap, ◌∙◌}
-use Rattle.std.specs.Prelude.{slice_set, OnErr}
-use Rattle.std.specs.declared.result.Result.{Result}
-use Rattle.std.specs.declared.result.Result.TheVariants.{Ok, Err}
+use Rattle.std.specs.Prelude.{slice_set}
 use Rattle.std.specs.Option.{option_map_or}
 use Rattle.std.proofs.lemmas.List.{map-set, set-get_or}
 use Rattle.logic_terms.specs.Concept.{Concept}

@@ -3,7 +3,7 @@ use Rattle.std.proofs.Common.{◌≡◌, ◌&&◌, ◌||◌, Bool, true, false, 
 use Rattle.std.specs.Prelude.{not}
 use Rattle.std.specs.List.{list_any, list_all}
 use Rattle.wiki_base.specs.declared.numbers.WordId.{WordId}
-use Rattle.wiki_base.proofs.ListLaws.{list_any-cond, list_any-filter}
+use Rattle.wiki_base.proofs.ListLaws.{list_any-filter}
 use Rattle.logic_terms.specs.Concept.{Concept}
 use Rattle.logic_terms.specs.Interpretation.{is_word}
 use Rattle.logic_terms.specs.Same.{has_concept}

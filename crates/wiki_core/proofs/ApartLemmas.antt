@@ -1,26 +1,26 @@
 -- What a session sees is a function of what it hears, over whole runs.
-use Rattle.std.proofs.Common.{◌≡◌, ℕ, ◌+◌, ◌-◌, ◌<◌, ◌≤◌, ◌==◌, Bool, true, false, cond, List, [], ◌∷◌, ◌++◌, length, Option, Some, None, option_map, refl, sym, ap, subst, ◌∙◌, arith}
+use Rattle.std.proofs.Common.{◌≡◌, ℕ, ◌+◌, ◌-◌, ◌<◌, ◌≤◌, ◌==◌, Bool, true, false, cond, List, [], ◌∷◌, ◌++◌, Option, Some, None, option_map, refl, sym, ap, subst, ◌∙◌, arith}
 use Rattle.std.specs.List.{flat_map}
 use Rattle.std.specs.Option.{option_map_or}
 use Rattle.std.proofs.lemmas.Bool.{false≢true, eqb-true, ne_eqb}
 use Rattle.std.proofs.lemmas.Option.{none-some, same_Some}
 use Rattle.codeco_terms.specs.GrammarParts.{GrammarParts}
 use Rattle.lexicon.specs.Words.{Listed}
-use Rattle.sessions.specs.Sessions.{PlainSession, session_of}
+use Rattle.sessions.specs.Sessions.{PlainSession}
 use Rattle.wiki_talk.specs.declared.statuses.Status.{Status}
 use Rattle.wiki_talk.specs.declared.refusals.Refusal.TheVariants.{NoSession}
 use Rattle.wiki_talk.specs.declared.replies.Reply.{Reply}
 use Rattle.wiki_talk.specs.declared.replies.Reply.TheVariants as replies
 use Rattle.wiki_talk.specs.declared.requests.Request.{Request}
 use Rattle.wiki_talk.specs.declared.requests.Request.TheVariants as requests
-use Rattle.wiki_talk.specs.Turns.{Exchange, answered, no_request, Turn, Turns}
+use Rattle.wiki_talk.specs.Turns.{Exchange, answered, no_request, Turns}
 use Rattle.wiki_core.specs.State.{State, first_state}
 use Rattle.wiki_core.specs.Causes.{session_numbered}
 use Rattle.wiki_core.specs.Step.{StepsSession, Step}
 use Rattle.wiki_core.specs.Apart as apart
-use Rattle.wiki_core.proofs.SeenLemmas.{Own, own, own_of, RebasesOwn, ended}
+use Rattle.wiki_core.proofs.SeenLemmas.{Own, own, RebasesOwn, ended}
 use Rattle.wiki_core.proofs.HearLemmas.{Seen, Follows, follows_one, follows_append}
-use Rattle.wiki_core.proofs.RunLemmas.{seen, IsApt, Shows, shows_same, session_told, tells_commit, tells_begin, word_shows, reword_shows, unword_shows, other_shows, put_shows, back_shows, drop_shows, commit_shows, put_other, back_other, drop_other, commit_other, commit_refused, menu_shows, refresh_shows, begin_other, begin_shows}
+use Rattle.wiki_core.proofs.RunLemmas.{seen, IsApt, Shows, shows_same, session_told, tells_begin, word_shows, reword_shows, unword_shows, other_shows, put_shows, back_shows, drop_shows, commit_shows, put_other, back_other, drop_other, commit_other, commit_refused, menu_shows, refresh_shows, begin_other, begin_shows}
 
 module _ (g : GrammarParts) (old new : State) (number : ℕ) (over : old.pages.grammar ≡ g) (apt : IsApt old) where
   -- a step while the session is open

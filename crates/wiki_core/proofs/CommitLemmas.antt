@@ -1,15 +1,13 @@
 -- A session's tokens that become a sentence.
-use Rattle.std.proofs.Common.{◌≡◌, ℕ, ◌+◌, ◌≤◌, ◌==◌, Bool, cond, List, [], ◌∷◌, length, Option, Some, None, option_map, IfSome, refl, sym, ap, subst, ◌∙◌, arith}
+use Rattle.std.proofs.Common.{◌≡◌, ℕ, ◌+◌, ◌≤◌, ◌==◌, Bool, cond, List, [], ◌∷◌, Option, Some, option_map, IfSome, refl, sym, ap, subst, ◌∙◌, arith}
 use Rattle.std.proofs.lemmas.Option.{same_Some}
 use Rattle.wiki_base.specs.declared.numbers.WordId.{WordId}
 use Rattle.wiki_base.specs.declared.numbers.Rev.{Rev}
-use Rattle.wiki_base.specs.declared.numbers.SessionId.{SessionId}
 use Rattle.logic_terms.specs.Concept.{Claim}
 use Rattle.logic_terms.specs.Reading.{IsModel}
 use Rattle.wiki_talk.specs.declared.statuses.Status.{Status}
 use Rattle.wiki_talk.specs.declared.statuses.Status.TheVariants.{Asserted, RedBudget}
 use Rattle.wiki_talk.specs.declared.refusals.Refusal.{Refusal}
-use Rattle.wiki_talk.specs.declared.replies.Reply.{Reply}
 use Rattle.wiki_talk.specs.declared.replies.Reply.TheVariants as replies
 use Rattle.articles.specs.declared.sentences.Sentence.{Sentence}
 use Rattle.articles.specs.declared.article.Article.{Article}
@@ -25,13 +23,12 @@ use Rattle.wiki_store.specs.Appending.{with_appended, SpendsAtEnd}
 use Rattle.wiki_core.specs.declared.committing.Draft.{Draft}
 use Rattle.wiki_core.specs.State.{State}
 use Rattle.wiki_core.specs.Holding.{Holding, pages_held}
-use Rattle.wiki_core.specs.Causes.{session_numbered}
 use Rattle.wiki_core.specs.Step.{CommitsSession}
 use Rattle.wiki_core.specs.Spending.{CommitSpendsBeyondKept}
 use Rattle.wiki_core.specs.Drafts.{IsDraftOf}
 use Rattle.wiki_core.specs.Keeping.{AreHeld}
 use Rattle.wiki_core.proofs.KeyLaws.{changed_at, find_changed, found_passes}
-use Rattle.wiki_core.proofs.PagesLemmas.{GoOn, go_on_changed}
+use Rattle.wiki_core.proofs.PagesLemmas.{go_on_changed}
 use Rattle.wiki_core.proofs.HeldLemmas.{Fits, on_there, plain_in_order, held_changed}
 
 -- the session that begins its next sentence

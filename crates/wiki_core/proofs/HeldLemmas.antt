@@ -1,5 +1,5 @@
 -- What is kept of sessions, over each change of them.
-use Rattle.std.proofs.Common.{◌≡◌, ℕ, ◌+◌, ◌<◌, ◌≤◌, ◌==◌, Bool, true, false, not, cond, List, [], ◌∷◌, ◌++◌, length, map, filter, take, min, find, All, AllPairs, Option, Some, None, option_map, is_some, Result, Ok, Err, OnOk, OnErr, refl, sym, ap, subst, ◌∙◌, arith}
+use Rattle.std.proofs.Common.{◌≡◌, ℕ, ◌+◌, ◌<◌, ◌≤◌, ◌==◌, Bool, true, false, not, cond, List, [], ◌∷◌, ◌++◌, length, map, find, All, AllPairs, Option, Some, None, option_map, is_some, Result, Ok, Err, OnOk, OnErr, refl, sym, ap, subst, ◌∙◌, arith}
 use Rattle.std.proofs.lemmas.List.{length-map}
 use Rattle.std.proofs.lemmas.List.Kept.{AllPairs-cons}
 use Rattle.std.specs.Option.{IsSomeAnd}
@@ -15,16 +15,15 @@ use Rattle.lexicon.specs.Words.{Listed, forms_of}
 use Rattle.editor.specs.declared.faults.TypeFault.{TypeFault}
 use Rattle.articles.specs.declared.article.Article.{Article}
 use Rattle.articles.specs.Articles.{article_of, without_article as without}
-use Rattle.editor.specs.Rebasing.{IsRebased}
 use Rattle.sessions.specs.declared.session.Session.{Session}
-use Rattle.sessions.specs.Sessions.{PlainSession, plain, all_plain, session_of, new_session, with_change, with_tokens, without_session, without_article, is_on, has_number, HasSession, AreSessions, AreRebased, IsRebasedSession, IsKept, AreKept}
+use Rattle.sessions.specs.Sessions.{PlainSession, plain, all_plain, session_of, new_session, with_change, with_tokens, without_session, without_article, is_on, has_number, HasSession, AreSessions, AreRebased, IsRebasedSession, AreKept}
 use Rattle.wiki_parts.specs.State as parts
 use Rattle.logic_terms.specs.Interpretation.{Interpretation}
 use Rattle.derivation_trees.specs.Partial.{IsTypeable}
 use Rattle.sessions.proofs.KeepingLaws.{kept_typeable}
 use Rattle.wiki_parts.specs.Holding as holding
 use Rattle.wiki_core.specs.State.{State, IsOnArticle, AreInOrder}
-use Rattle.wiki_core.specs.Holding.{Holding, IsKeptSession, IsKept as IsKeptWiki}
+use Rattle.wiki_core.specs.Holding.{IsKeptSession, IsKept as IsKeptWiki}
 use Rattle.wiki_core.specs.Keeping.{AreHeld}
 use Rattle.wiki_core.proofs.KeyLaws.{changed_at, find_changed, found_has, only_one, all_changed, all_filtered, pairs_head}
 use Rattle.wiki_core.proofs.PagesLemmas.{GoOn, KeepsWords, go_on_ended}

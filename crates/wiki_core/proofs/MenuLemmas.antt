@@ -1,19 +1,17 @@
 -- What is told of tokens is one thing.
-use Rattle.std.proofs.Common.{◌≡◌, ℕ, zero, suc, ◌<◌, ◌⊎◌, Bool, true, false, List, [], ◌∷◌, ◌++◌, length, All, AllPairs, Option, Some, None, option_map, IsTrue, ◌↔◌, refl, sym, ap, subst, ◌∙◌, arith, inl, inr}
+use Rattle.std.proofs.Common.{◌≡◌, ℕ, zero, suc, ◌<◌, ◌⊎◌, Bool, true, false, List, [], ◌∷◌, ◌++◌, All, AllPairs, Some, option_map, IsTrue, ◌↔◌, refl, sym, ap, subst, ◌∙◌, arith, inl, inr}
 use Rattle.std.specs.List.{Contains}
 use Rattle.std.specs.Str.{IsUtf8}
 use Rattle.std.specs.Ordering.{ordering_reverse}
 use Rattle.std.specs.declared.cmp.Ordering.TheVariants.{Less, Greater}
-use Rattle.std.proofs.lemmas.Bool.{false≢true}
 use Rattle.std.proofs.lemmas.Option.{none-some, same_Some}
-use Rattle.std.proofs.lemmas.List.Elements.{All-head, All-tail, All-contains, All-contains_itself}
+use Rattle.std.proofs.lemmas.List.Elements.{All-contains}
 use Rattle.wiki_base.proofs.ListLaws.{AllPairs-tail}
 use Rattle.codeco_terms.specs.GrammarParts.{GrammarParts}
 use Rattle.lexicon.specs.Words.{Listed}
 use Rattle.derivation_trees.specs.declared.menus.Group.{Group}
 use Rattle.derivation_trees.specs.Cutting.{shown}
 use Rattle.derivation_trees.specs.Menus.{entry_cmp}
-use Rattle.derivation_trees.specs.Sentences.{IsSentence}
 use Rattle.derivations.proofs.EntryLemmas.{entry_total, entry_trans}
 use Rattle.derivation_trees.specs.Trees.{Node}
 use Rattle.derivation_trees.specs.Settings.{Setting}
@@ -30,7 +28,7 @@ use Rattle.wiki_parts.specs.Parsing.{told_menu}
 use Rattle.wiki_core.specs.State.{State}
 use Rattle.wiki_core.specs.Causes.{session_numbered}
 use Rattle.wiki_core.specs.Step.{Step, StepsSession, TellsMenu, TellsSession}
-use Rattle.wiki_core.specs.Apart.{tokens_in, AreAlike, MenuIsOwn}
+use Rattle.wiki_core.specs.Apart.{tokens_in, MenuIsOwn}
 use Rattle.wiki_core.proofs.KeyLaws.{pairs_head}
 
 -- what is in a list is its head, or in its tail

@@ -1,38 +1,33 @@
 -- What each step of a wiki shows to one session.
-use Rattle.std.proofs.Common.{◌≡◌, ℕ, ◌+◌, ◌-◌, ◌<◌, ◌≤◌, ◌==◌, ◌⊎◌, Bool, true, false, not, cond, List, [], ◌∷◌, ◌++◌, length, map, filter, take, find, Option, Some, None, option_map, refl, sym, ap, subst, ◌∙◌, arith, inl, inr}
-use Rattle.std.specs.List.{flat_map}
-use Rattle.std.specs.Option.{option_or, option_map_or}
+use Rattle.std.proofs.Common.{◌≡◌, ℕ, ◌+◌, ◌-◌, ◌<◌, ◌≤◌, ◌==◌, ◌⊎◌, Bool, true, false, not, cond, List, [], ◌∷◌, ◌++◌, length, take, Option, Some, None, option_map, refl, sym, ap, subst, ◌∙◌, arith, inl, inr}
 use Rattle.std.proofs.lemmas.Bool.{false≢true, eq-eqb}
 use Rattle.std.proofs.lemmas.Option.{none-some, same_Some}
-use Rattle.wiki_base.specs.declared.numbers.WordId.{WordId}
 use Rattle.wiki_base.specs.declared.tokens.TheConstants.{MOST_TOKENS}
 use Rattle.codeco_terms.specs.GrammarParts.{GrammarParts}
 use Rattle.lexicon.specs.declared.kinds.Kind.{Kind}
-use Rattle.lexicon.specs.Words.{Listed, owner, forms_of, with_word, with_forms, without_word}
 use Rattle.editor.specs.Editing.{typed, IsInMenu}
-use Rattle.sessions.specs.Sessions.{PlainSession, has_number, session_of, with_change, with_tokens, with_revision, new_session, without_session, without_article, is_on, AreRebased}
+use Rattle.sessions.specs.Sessions.{PlainSession, has_number, session_of, with_change, with_tokens, with_revision, new_session, without_session, is_on, AreRebased}
 use Rattle.wiki_talk.specs.declared.statuses.Status.{Status}
 use Rattle.wiki_talk.specs.declared.refusals.Refusal.{Refusal}
-use Rattle.wiki_talk.specs.declared.refusals.Refusal.TheVariants.{NotOffered, Nothing}
+use Rattle.wiki_talk.specs.declared.refusals.Refusal.TheVariants.{NotOffered}
 use Rattle.wiki_talk.specs.declared.limits.Limit.TheVariants as limits
 use Rattle.wiki_talk.specs.declared.replies.Reply.{Reply}
 use Rattle.wiki_talk.specs.declared.replies.Reply.TheVariants as replies
 use Rattle.wiki_talk.specs.declared.requests.Request.{Request}
 use Rattle.wiki_talk.specs.declared.requests.Request.TheVariants as requests
-use Rattle.wiki_talk.specs.Turns.{Exchange, answered, no_request, Turn, Turns}
-use Rattle.articles.specs.declared.article.Article.{Article}
+use Rattle.wiki_talk.specs.Turns.{answered}
 use Rattle.wiki_parts.specs.State as parts
 use Rattle.wiki_parts.specs.Words.{full_at}
 use Rattle.wiki_store.specs.Step as store
-use Rattle.wiki_core.specs.State.{State, first_state}
-use Rattle.wiki_core.specs.Causes.{session_numbered, NamesNoSession, IsFullOfTokens, IsNotOffered, HasNoToken}
-use Rattle.wiki_core.specs.Step.{CarriesSessions, StepsPages, AreRebasedTo, EndOnArticle, Refuses, IsFree, Does, StepsSession, Step, begun_again}
+use Rattle.wiki_core.specs.State.{State}
+use Rattle.wiki_core.specs.Causes.{session_numbered}
+use Rattle.wiki_core.specs.Step.{StepsPages, AreRebasedTo, Refuses, IsFree, StepsSession, begun_again}
 use Rattle.wiki_core.specs.Apart as apart
 use Rattle.wiki_core.specs.Keeping.{changes_words}
 use Rattle.wiki_core.proofs.KeyLaws.{changed_at, find_changed}
 use Rattle.wiki_core.proofs.PagesLemmas.{KeepsWords, keeps_same, step_keeps}
-use Rattle.wiki_core.proofs.SeenLemmas.{Own, own, own_of, RiseTo, rise_lower, rise_filter, rise_append, rise_changed, rise_rebased, changed_own, changed_other, without_own, without_other, opened_own, opened_other, RebasesOwn, rebased_own, ended, ended_own}
-use Rattle.wiki_core.proofs.HearLemmas.{Seen, WordsChange, OwnChanges, IsNotTyped, OwnTypes, own_back, own_emptied, Goes, seen_is, Follows, follows_one, follows_append}
+use Rattle.wiki_core.proofs.SeenLemmas.{Own, own, own_of, RiseTo, rise_filter, rise_append, rise_changed, rise_rebased, changed_own, changed_other, without_own, without_other, opened_own, opened_other, rebased_own, ended_own}
+use Rattle.wiki_core.proofs.HearLemmas.{Seen, WordsChange, OwnChanges, IsNotTyped, OwnTypes, own_back, own_emptied, Goes, seen_is, Follows}
 
 -- what the session with the number sees of a wiki
 abbrev pub seen : State → ℕ → Seen

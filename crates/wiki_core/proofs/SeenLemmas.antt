@@ -1,16 +1,14 @@
 -- What one session sees of a wiki, and how each change of sessions shows there.
-use Rattle.std.proofs.Common.{◌≡◌, ℕ, ◌+◌, ◌-◌, ◌<◌, ◌≤◌, ◌==◌, ◌⊎◌, Bool, true, false, not, cond, List, [], ◌∷◌, ◌++◌, length, map, filter, take, find, Option, Some, None, option_map, refl, sym, ap, subst, ◌∙◌, arith, inl, inr}
-use Rattle.std.specs.Option.{option_or, option_map_or}
-use Rattle.std.proofs.lemmas.Bool.{false≢true, eqb-true, eqb-false}
+use Rattle.std.proofs.Common.{◌≡◌, ℕ, ◌+◌, ◌-◌, ◌<◌, ◌≤◌, ◌==◌, ◌⊎◌, Bool, true, false, not, cond, List, [], ◌∷◌, ◌++◌, map, filter, find, Option, Some, None, option_map, refl, sym, ap, subst, ◌∙◌, arith}
+use Rattle.std.specs.Option.{option_or}
+use Rattle.std.proofs.lemmas.Bool.{eqb-true, eqb-false}
 use Rattle.std.proofs.lemmas.List.Folds.{find-append}
-use Rattle.std.proofs.lemmas.Option.{none-some}
 use Rattle.wiki_base.specs.declared.numbers.WordId.{WordId}
 use Rattle.wiki_base.specs.declared.numbers.SessionId.{SessionId}
 use Rattle.codeco_terms.specs.GrammarParts.{GrammarParts}
 use Rattle.lexicon.specs.Words.{Listed}
 use Rattle.editor.specs.Rebasing.{IsRebased}
-use Rattle.sessions.specs.Sessions.{PlainSession, has_number, session_of, with_change, without_session, without_article, is_on, AreRebased, IsRebasedSession}
-use Rattle.wiki_core.specs.State.{State}
+use Rattle.sessions.specs.Sessions.{PlainSession, has_number, session_of, with_change, without_session, without_article, is_on, AreRebased}
 use Rattle.wiki_core.proofs.KeyLaws.{changed_at, key_stays, find_changed, find_filter, find_filtered, found_passes}
 
 -- a session as it is seen from outside of its article: the word of that, and the tokens

@@ -1,6 +1,6 @@
 -- What a word that is added leaves of sessions.
-use Rattle.std.proofs.Common.{◌≡◌, ℕ, ◌+◌, ◌<◌, ◌≤◌, ◌==◌, Bool, true, false, cond, List, [], ◌∷◌, ◌++◌, length, take, All, Option, Some, None, option_map, Result, Ok, Err, IfOk, OnErr, IsSome, is_some, IsTrue, refl, sym, ap, subst, ◌∙◌, arith}
-use Rattle.std.specs.Option.{option_or, option_map_or, option_and_then}
+use Rattle.std.proofs.Common.{◌≡◌, ℕ, ◌+◌, ◌<◌, ◌≤◌, ◌==◌, Bool, true, false, cond, List, [], ◌∷◌, ◌++◌, length, Option, Some, None, option_map, Result, Ok, Err, IfOk, OnErr, IsSome, is_some, refl, sym, ap, subst, ◌∙◌, arith}
+use Rattle.std.specs.Option.{option_or}
 use Rattle.std.proofs.lemmas.Bool.{false≢true}
 use Rattle.std.proofs.lemmas.Option.{none-some}
 use Rattle.std.proofs.lemmas.List.{take_all}
@@ -17,15 +17,13 @@ use Rattle.lexicon.specs.Terminals.{is_reserved}
 use Rattle.lexicon.specs.Words.{Listed, owner, forms_of, with_word, next_word, first_taken, first_reserved, fullness, forms_refusal, add_refusal}
 use Rattle.lexicon.proofs.Owners.{owner_lives, owner-add_refusal, add_refusal_names_none}
 use Rattle.derivation_trees.specs.Partial.{IsTypeable}
-use Rattle.editor.specs.Rebasing.{IsRebased}
 use Rattle.sessions.specs.declared.session.Session.{Session}
-use Rattle.sessions.specs.Sessions.{PlainSession, all_plain, AreSessions, AreKept, AreTypeable, AreRebased}
+use Rattle.sessions.specs.Sessions.{PlainSession, all_plain, AreSessions, AreTypeable, AreRebased}
 use Rattle.sessions.proofs.KeepingLaws.{kept_by_word, kept_typeable}
 use Rattle.wiki_base.specs.declared.numbers.WordId.{WordId}
 use Rattle.wiki_base.proofs.OptionLaws.{option_or-second_none}
 use Rattle.lists.specs.declared.memory.Memory.{Memory}
 use Rattle.articles.specs.Articles.{new_article}
-use Rattle.wiki_talk.specs.declared.refusals.Refusal.{Refusal}
 use Rattle.wiki_talk.specs.declared.refusals.Refusal.TheVariants as refusals
 use Rattle.wiki_talk.specs.declared.replies.Reply.{Reply}
 use Rattle.wiki_talk.specs.declared.replies.Reply.TheVariants as replies
@@ -33,10 +31,9 @@ use Rattle.wiki_talk.specs.declared.requests.Request.{Request}
 use Rattle.wiki_talk.specs.declared.requests.Request.TheVariants as requests
 use Rattle.wiki_parts.specs.State as parts
 use Rattle.wiki_parts.specs.Holding as holding
-use Rattle.wiki_parts.specs.Words.{canonical, bad_text, bad_count, lexicon_refusal, taken_refusal, told_fault, forms_given, word_refusal}
+use Rattle.wiki_parts.specs.Words.{canonical, bad_text, bad_count, lexicon_refusal, forms_given, word_refusal}
 use Rattle.wiki_store.specs.Step as store
-use Rattle.wiki_core.specs.State.{State}
-use Rattle.wiki_core.specs.Step.{StepsPages, CarriesSessions}
+use Rattle.wiki_core.specs.Step.{StepsPages}
 use Rattle.wiki_core.specs.Keeping.{is_word, changes_words, AreHeld}
 use Rattle.wiki_core.proofs.PagesLemmas.{keeps_same, step_keeps, go_on_begun}
 use Rattle.wiki_core.proofs.HeldLemmas.{Fits, fits_each, held_by, held_over}

@@ -29,7 +29,7 @@ use Rattle.wiki_parts.specs.declared.meanings.Sense.{Sense}
 use Rattle.wiki_parts.specs.State.{State}
 use Rattle.wiki_parts.specs.Knowledge.{is_asserted, StatesFirst, AreStated, Knows, sentences_in, live_names}
 use Rattle.wiki_parts.specs.Kept.{stated_by, known_of, known_in, meanings_in, MeanEach, MeanInEach}
-use Rattle.wiki_parts.specs.Meanings.{Meaning, stating, outside, asking, asking_outside, statement_by, question_by, statement_meaning, question_meaning, Means}
+use Rattle.wiki_parts.specs.Meanings.{Meaning, stating, asking, statement_by, question_by, statement_meaning, question_meaning, Means}
 use Rattle.wiki_parts.specs.Mentions.{names_pass}
 use Rattle.wiki_parts.proofs.LiveNames.{names_pass_live}
 use Rattle.wiki_parts.proofs.MentionLemmas.{statement_passes, question_passes}
@@ -67,10 +67,8 @@ stated_meaning p says asked h false (Some referent) = refl
 
 -- the class that is asked for, if one is, passes
 abbrev class_passes : (Concept → Bool) → Meaning → Bool
-class_passes q (stating claims) = true
-class_passes q (outside cause) = true
 class_passes q (asking concept) = q concept
-class_passes q (asking_outside cause) = true
+class_passes _ _ = true
 
 of_asked : (q : Concept → Bool) (r : Result Concept Cause) → ((c : Concept) → r ≡ Ok c → q c ≡ true) → class_passes q (question_by r) ≡ true
 of_asked q (Ok c) h = h c refl

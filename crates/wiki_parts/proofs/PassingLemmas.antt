@@ -12,7 +12,7 @@ use Rattle.codeco_terms.specs.declared.rules.Label.TheVariants as label
 use Rattle.codeco_terms.specs.GrammarParts.{GrammarParts}
 use Rattle.logic_terms.specs.declared.structures.Thing.{Thing}
 use Rattle.logic_terms.specs.declared.structures.Thing.TheVariants.{Ref, Name}
-use Rattle.logic_terms.specs.Structure.{Condition, Conditions, Structure, IsA, AreRelated, AreSame, Negation, Implication, Disjunction, no_condition, also_condition, structure}
+use Rattle.logic_terms.specs.Structure.{Conditions, Structure, IsA, AreRelated, AreSame, Negation, Implication, Disjunction, no_condition, also_condition, structure}
 use Rattle.codeco_terms.specs.declared.elements.Element.{Element}
 use Rattle.codeco_terms.specs.declared.elements.Element.TheVariants.{Terminal, Preterminal, Sub, Position, Opener, Forward, Strong, Back, NoBack}
 use Rattle.derivation_trees.specs.declared.skeletons.Skeleton.{Skeleton, out-Skeleton}
@@ -20,14 +20,14 @@ use Rattle.derivation_trees.specs.declared.skeletons.Skeleton.TheViews.{out-roll
 use Rattle.derivation_trees.specs.Trees.{Node, Nodes, node, none, more}
 use Rattle.derivation_trees.specs.Settings.{Setting}
 use Rattle.derivation_trees.specs.Sentences.{setting_of}
-use Rattle.derivation_trees.specs.Skeletons.{word_at, skeleton}
+use Rattle.derivation_trees.specs.Skeletons.{skeleton}
 use Rattle.derivation_trees.specs.Sketches.{Sketch, sketch_on, sketch_child, sketch_over, sketch_from, sketch_of, sketches_of, body_of}
 use Rattle.derivations.proofs.SkeletonLemmas.{skeleton_of_is}
 use Rattle.drs_build.specs.Built.{IsDerived}
 use Rattle.drs_build.specs.Joining.{◌⊕◌, empty, only, introduced}
 use Rattle.drs_build.specs.Joining as joining
 use Rattle.drs_build.specs.Meanings.{Meaning, nothing, saying, bar, verb_phrase, noun_phrase, Made, meaning}
-use Rattle.drs_build.specs.Nodes.{label_of, is_meant, is_naming, names_of, own_name_in, no_word, term_at, meaning_in, meaning_of, meant_children, made_in, position_in}
+use Rattle.drs_build.specs.Nodes.{label_of, is_meant, is_naming, names_of, own_name_in, no_word, term_at, meaning_in, meaning_of, made_in, position_in}
 use Rattle.drs_build.proofs.NodeLemmas.{meaning_by, meaning_none, names_of_is}
 use Rattle.wiki_parts.specs.Mentions.{thing_passes, names_pass, names_pass_all, names_pass_in}
 

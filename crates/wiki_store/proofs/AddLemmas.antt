@@ -1,5 +1,5 @@
 -- What adding a word with its article asks, and what it leaves.
-use Rattle.std.proofs.Common.{◌≡◌, ℕ, zero, suc, ◌+◌, ◌<◌, ◌≤◌, ◌==◌, Bool, true, false, not, cond, List, [], ◌∷◌, ◌++◌, length, map, filter, find, get_or, All, Option, Some, None, Result, Ok, Err, OnErr, IfOk, IfSome, refl, sym, ap, subst, ◌∙◌, arith, option_map, unwrap_or}
+use Rattle.std.proofs.Common.{◌≡◌, ℕ, suc, ◌+◌, ◌<◌, ◌≤◌, ◌==◌, Bool, true, false, not, cond, List, [], ◌∷◌, ◌++◌, find, get_or, All, Option, Some, None, Result, Ok, Err, IfOk, IfSome, refl, sym, ap, subst, ◌∙◌, arith, option_map, unwrap_or}
 use Rattle.std.specs.List.{slice_get}
 use Rattle.std.specs.Option.{IsSomeAnd, SomeIff}
 use Rattle.std.proofs.lemmas.Bool.{false≢true}
@@ -9,7 +9,7 @@ use Rattle.wiki_base.specs.declared.numbers.WordId.{WordId}
 use Rattle.wiki_base.proofs.NumberLaws.{lt-eqb}
 use Rattle.lexicon.specs.declared.words.Word.{Word}
 use Rattle.lexicon.specs.declared.kinds.Kind.{Kind}
-use Rattle.lexicon.specs.Words.{Listed, IsLexicon}
+use Rattle.lexicon.specs.Words.{IsLexicon}
 use Rattle.wiki_talk.specs.declared.refusals.Refusal.{Refusal}
 use Rattle.wiki_talk.specs.declared.replies.Reply.{Reply}
 use Rattle.wiki_talk.specs.declared.replies.Reply.TheVariants as replies

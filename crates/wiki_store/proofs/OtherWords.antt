@@ -1,7 +1,7 @@
 -- Sentences by other words: where each token that stands for something reads as before, so does the sentence.
-use Rattle.std.proofs.Common.{◌≡◌, ℕ, zero, suc, ◌+◌, ◌<◌, ◌⊎◌, ◌||◌, ◌==◌, Bool, true, false, not, cond, List, [], ◌∷◌, ◌++◌, length, get_or, map, filter, find, Option, Some, None, AllPairs, inl, inr, refl, sym, ap, subst, ◌∙◌, arith, option_map}
+use Rattle.std.proofs.Common.{◌≡◌, ℕ, zero, suc, ◌+◌, ◌<◌, ◌⊎◌, ◌||◌, ◌==◌, Bool, true, false, not, cond, List, [], ◌∷◌, ◌++◌, length, get_or, map, find, Option, Some, None, AllPairs, inl, inr, refl, sym, ap, subst, ◌∙◌, arith, option_map}
 use Rattle.std.specs.List.{slice_get, list_any}
-use Rattle.std.specs.Option.{option_map_or, option_or}
+use Rattle.std.specs.Option.{option_map_or}
 use Rattle.std.specs.Str.{bytes_eq}
 use Rattle.std.proofs.lemmas.Bool.{false≢true, or_right, eqb-true}
 use Rattle.std.proofs.lemmas.Option.{none-some, slice_get_within, slice_get-map, same_Some}
@@ -11,18 +11,15 @@ use Rattle.wiki_base.proofs.OptionLaws.{option_or-none}
 use Rattle.wiki_base.proofs.ListLaws.{AllPairs-head, AllPairs-tail}
 use Rattle.codeco_terms.specs.declared.categories.Ground.{Ground}
 use Rattle.codeco_terms.specs.GrammarParts.{GrammarParts}
-use Rattle.scopes.specs.declared.agreement.Test.{Test}
 use Rattle.scopes.specs.Resolution.{agrees}
 use Rattle.lexicon.specs.declared.kinds.Kind.{Kind}
 use Rattle.lexicon.specs.declared.kinds.Forms.{Forms}
 use Rattle.lexicon.specs.declared.words.Word.{Word}
-use Rattle.lexicon.specs.declared.words.LexFault.{LexFault}
-use Rattle.lexicon.specs.declared.words.LexFault.TheVariants.{Taken, Reserved, NoWord}
+use Rattle.lexicon.specs.declared.words.LexFault.TheVariants.{Taken, Reserved}
 use Rattle.lexicon.specs.Terminals.{is_spelling_of, is_reserved, raised}
-use Rattle.lexicon.specs.Words.{Listed, is_among, has_form, has_number, owner, forms_of, others, next_word, with_word, with_forms, without_word, first_taken, first_reserved, fullness, forms_refusal, add_refusal, reword_refusal}
+use Rattle.lexicon.specs.Words.{Listed, is_among, has_form, has_number, owner, forms_of, others, next_word, with_word, with_forms, without_word, first_taken, first_reserved, fullness, forms_refusal, add_refusal}
 use Rattle.lexicon.specs.Readings.{reading, readings_from, readings_of_word, readings_of}
 use Rattle.derivation_trees.specs.Trees.{Node}
-use Rattle.derivation_trees.specs.Settings.{Setting}
 use Rattle.derivation_trees.specs.Derives.{IsDerivation}
 use Rattle.derivation_trees.specs.Sentences.{setting_of}
 use Rattle.derivation_trees.specs.Skeletons.{IsLeast}

@@ -16,10 +16,10 @@ use Rattle.scopes.specs.Resolution.{Finding, is_agreeing, closest_finding}
 use Rattle.derivation_trees.specs.Trees.{Node, Nodes, node, none, more}
 use Rattle.derivation_trees.specs.Settings.{Setting, matches_terminal, matches_preterminal}
 use Rattle.derivation_trees.specs.Instances.{value_under, under, tests_under}
-use Rattle.derivation_trees.specs.Derives.{At, Stand, moved, pass, pass_token, pass_child, pass_finding, is_found, reference_tests, run, phrase, phrase_of, phrases_of, rule_with, text_category, list_after, IsDerivation}
+use Rattle.derivation_trees.specs.Derives.{At, Stand, moved, pass, pass_token, pass_child, pass_finding, is_found, reference_tests, run, phrase, phrase_of, phrases_of, rule_with, text_category, IsDerivation}
 use Rattle.derivation_trees.specs.Skeletons.{start}
 use Rattle.derivation_trees.specs.Stands.{is_sub}
-use Rattle.derivations.proofs.ListingLemmas.{Parts, phrase_parts}
+use Rattle.derivations.proofs.ListingLemmas.{phrase_parts}
 
 -- the token at the place is a terminal of the grammar, or has a reading
 abbrev pub IsPassed : Setting → ℕ → Type 0

@@ -48,10 +48,8 @@ meant-at g words (t ∷ ss) (n ∷ ms) mean (suc k) s m within here meant = mean
 
 -- whether it asks for a class
 abbrev pub is_asking : Sense → Bool
-is_asking (senses.Stating axioms) = false
-is_asking (senses.Outside cause) = false
 is_asking (senses.Asking class) = true
-is_asking (senses.AskingOutside cause) = false
+is_asking _ = false
 
 -- the status of a sentence tells whether it asks for a class
 pub asks-same : (status : Status) (sense : Sense) → FitsMeaning status (meaning_shown sense) → is_question status ≡ is_asking sense

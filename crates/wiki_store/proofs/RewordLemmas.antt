@@ -1,22 +1,19 @@
 -- When a word gets other forms, and when not.
-use Rattle.std.proofs.Common.{◌≡◌, ℕ, zero, suc, ◌+◌, ◌<◌, Bool, true, false, not, cond, List, [], ◌∷◌, ◌++◌, length, map, find, get_or, take, All, AllPairs, Option, Some, None, IsSome, is_some, inl, inr, refl, sym, ap, subst, ◌∙◌, arith, option_map}
-use Rattle.std.specs.List.{slice_get, list_any}
+use Rattle.std.proofs.Common.{◌≡◌, ℕ, ◌+◌, ◌<◌, Bool, true, false, not, cond, List, [], ◌∷◌, ◌++◌, map, find, All, Option, Some, None, IsSome, inl, inr, refl, sym, ap, subst, ◌∙◌, option_map}
 use Rattle.std.specs.Option.{option_map_or, option_or, option_and_then, IsSomeAnd}
 use Rattle.std.proofs.lemmas.Bool.{false≢true}
 use Rattle.std.proofs.lemmas.List.Elements.{All-nil, All-cons, All-head, All-tail, All-append}
 use Rattle.std.proofs.lemmas.Option.{none-some, slice_get_within, get_or_from_slice_get, same_Some}
 use Rattle.wiki_base.specs.declared.numbers.WordId.{WordId}
-use Rattle.codeco_terms.specs.GrammarParts.{GrammarParts}
 use Rattle.lexicon.specs.declared.kinds.Forms.{Forms}
 use Rattle.lexicon.specs.declared.words.Word.{Word}
 use Rattle.lexicon.specs.declared.words.LexFault.{LexFault}
 use Rattle.lexicon.specs.declared.words.LexLimit.{LexLimit}
 use Rattle.lexicon.specs.declared.words.LexFault.TheVariants.{Taken, Reserved, NoWord, Full}
 use Rattle.lexicon.specs.Terminals.{is_reserved}
-use Rattle.lexicon.specs.Words.{Listed, IsLexicon, is_among, has_number, owner, forms_of, others, with_forms, first_taken, first_reserved, forms_refusal, reword_refusal}
+use Rattle.lexicon.specs.Words.{Listed, IsLexicon, has_number, owner, forms_of, others, with_forms, first_taken, first_reserved, forms_refusal, reword_refusal}
 use Rattle.lexicon.proofs.Owners.{owner_lives, owner-forms_refusal}
 use Rattle.wiki_talk.specs.declared.refusals.Refusal.{Refusal}
-use Rattle.wiki_talk.specs.declared.refusals.Refusal.TheVariants.{Breaks}
 use Rattle.articles.specs.declared.sentences.Sentence.{Sentence}
 use Rattle.articles.specs.declared.article.Article.{Article}
 use Rattle.articles.specs.Articles.{article_of, HasArticle}
@@ -24,11 +21,11 @@ use Rattle.wiki_parts.specs.declared.faults.Fault.{Fault}
 use Rattle.wiki_parts.specs.declared.faults.Fault.TheVariants.{Refused, Memory}
 use Rattle.wiki_parts.specs.Faults.{IsAbsent, IsCause, IsFault}
 use Rattle.wiki_parts.specs.Knowledge.{sentences_in}
-use Rattle.wiki_parts.specs.Meanings.{Meaning, Means}
+use Rattle.wiki_parts.specs.Meanings.{Means}
 use Rattle.wiki_parts.specs.Places.{word_named, Placed, placed_from, placed_in, all_placed, IsFirstPlaced}
-use Rattle.wiki_parts.specs.Refusing.{FirstOf, NamesNoWord, IsBadReword, BreaksSentence, IsInUse, KeepsMeaning, TellsPlace, reword_cause, uses_word}
+use Rattle.wiki_parts.specs.Refusing.{FirstOf, NamesNoWord, IsBadReword, BreaksSentence, IsInUse, KeepsMeaning, reword_cause, uses_word}
 use Rattle.wiki_parts.specs.State.{State, IsSound}
-use Rattle.wiki_parts.specs.Words.{forms_given, word_with}
+use Rattle.wiki_parts.specs.Words.{forms_given}
 use Rattle.wiki_parts.proofs.FirstLemmas.{none_stands, nothing_stands}
 use Rattle.wiki_parts.proofs.UseLemmas.{lives-article}
 use Rattle.wiki_store.specs.Rewording.{KeepsSentences, KeepsOthers, IsBroken}

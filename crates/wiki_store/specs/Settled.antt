@@ -1,11 +1,9 @@
 -- Statements that need no search.
 use Rattle.logic_terms.specs.Interpretation.{Interpretation}
 use Rattle.logic_terms.specs.Reading.{IsModel}
-use Rattle.wiki_parts.specs.Meanings.{Meaning, stating, outside, asking, asking_outside}
+use Rattle.wiki_parts.specs.Meanings.{Meaning, stating}
 
 -- a statement whose axioms are true in the interpretation
 abbrev pub IsTrueIn : Interpretation → Meaning → Type 0
 IsTrueIn i (stating claims) = IsModel i claims
-IsTrueIn i (outside cause) = ⊥
-IsTrueIn i (asking concept) = ⊥
-IsTrueIn i (asking_outside cause) = ⊥
+IsTrueIn _ _ = ⊥

@@ -1,4 +1,4 @@
-use Rattle.std.proofs.Common.{◌≡◌, ◌++◌, [], ◌∷◌, sym, ap, ◌∙◌}
+use Rattle.std.proofs.Common.{◌≡◌, ◌++◌, [], ◌∷◌, sym, ◌∙◌}
 use Rattle.wiki_base.proofs.ListLaws.{map_take}
 use Rattle.lexicon.specs.Words.{canonical_form_of}
 use Rattle.logic_terms.specs.Shown.{claims_of, claim_of}

@@ -1,8 +1,7 @@
-use Rattle.std.proofs.Common.{◌≡◌, ◌<◌, ◌≤◌, List, Some, None, length, min, sym, ap, subst, arith}
+use Rattle.std.proofs.Common.{◌≡◌, ◌<◌, ◌≤◌, List, Some, None, length, ap, subst, arith}
 use Rattle.std.specs.List.{slice_get}
 use Rattle.wiki_base.proofs.ListLaws.{slice_get_at}
 use Rattle.articles.specs.declared.sentences.Sentence.{Sentence}
-use Rattle.wiki_parts.specs.Kept.{meanings_in}
 use Rattle.wiki_parts.specs.Places.{placed_in}
 use Rattle.wiki_parts.specs.Refusing.{KeepsMeaning}
 use Rattle.wiki_store.proofs.FindLemmas.{as_many_sense}

@@ -11,8 +11,8 @@ ghost use Rattle.codeco_printer.specs.Unnumbered.{written_of};
 ghost use Rattle.codeco_reader.specs.Texts.{is_in_size, Makes, IsFaultless, SaysOf, Gives};
 
 use codeco_checked::{CheckedGrammar, GrammarFault};
-use codeco_late_faults::first_fault;
 use codeco_early_faults::first_early_fault;
+use codeco_late_faults::first_fault;
 use codeco_numbering::number_items;
 use codeco_text::{SyntaxFault, WrittenItems, read_items};
 use std::alloc::Global;

@@ -114,15 +114,9 @@ numbered_mentions _ _ = []
 
 -- without the numbers
 pub mentioned : {Y : Type 0} (h : WrittenCategory → List Y) (t : Tables) (e : WrittenElement) → flat_map (λ m. h m.1) (numbered_mentions t e) ≡ flat_map h (element_categories e)
-mentioned h t (element.Terminal w) = refl
-mentioned h t (element.Preterminal c) = refl
-mentioned h t (element.Sub c) = refl
-mentioned h t (element.Position w) = refl
-mentioned h t element.Opener = refl
-mentioned h t (element.Forward c) = refl
-mentioned h t (element.Strong c) = refl
 mentioned h t (element.Back ps ns) = flat_map-map (λ m. h m.1) (numbered_plain t) (ps ++ ns)
 mentioned h t (element.NoBack ps) = flat_map-map (λ m. h m.1) (numbered_plain t) ps
+mentioned h t e = refl
 
 -- what a rule's categories give, each by its number and its features, where the order of the features doesn't count
 module _ {Y : Type 0} (g : ℕ → List (ℕ × Term) → List Y) (kept : (n : ℕ) (xs ys : List (ℕ × Term)) → Same xs ys → Same (g n xs) (g n ys)) (t : Tables) where

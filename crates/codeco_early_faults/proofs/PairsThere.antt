@@ -107,15 +107,8 @@ plain_second q (element.Back ps ns) h = categories_second q (ps ++ ns) h
 plain_second q (element.NoBack ps) h = categories_second q ps h
 
 kind_second : (q : List ℕ → Bool) (e : WrittenElement) → list_all q (flat_map category_features (element_categories e)) ≡ true → list_all (λ (p : List ℕ × List ℕ). q p.1) (kind_pairs e) ≡ true
-kind_second q (element.Terminal w) h = refl
 kind_second q (element.Preterminal c) h = pick (λ (p : List ℕ × List ℕ). q p.1) (is_among kinds c.name) (category_pairs c) [] (one_second q c h c.name) refl
-kind_second q (element.Sub c) h = refl
-kind_second q (element.Position w) h = refl
-kind_second q element.Opener h = refl
-kind_second q (element.Forward c) h = refl
-kind_second q (element.Strong c) h = refl
-kind_second q (element.Back ps ns) h = refl
-kind_second q (element.NoBack ps) h = refl
+kind_second q e h = refl
 
 body_second : (q : List ℕ → Bool) (f : WrittenElement → List (List ℕ × List ℕ)) → ((e : WrittenElement) → list_all q (flat_map category_features (element_categories e)) ≡ true → list_all (λ (p : List ℕ × List ℕ). q p.1) (f e) ≡ true) → (es : List WrittenElement) → list_all q (flat_map category_features (flat_map element_categories es)) ≡ true → list_all (λ (p : List ℕ × List ℕ). q p.1) (flat_map f es) ≡ true
 body_second q f each [] h = refl
@@ -165,19 +158,12 @@ named_first q name [] h = refl
 named_first q name (f ∷ fs) h = and_from (q name) (list_all (λ (p : List ℕ × List ℕ). q p.0) (map (λ x. (name, x.name)) fs)) h (named_first q name fs h)
 
 kind_first : (e : WrittenElement) → list_all (λ (p : List ℕ × List ℕ). is_among kinds p.0) (kind_pairs e) ≡ true
-kind_first (element.Terminal w) = refl
 kind_first (element.Preterminal c) = by (is_among kinds c.name) refl
   where
     by : (b : Bool) → is_among kinds c.name ≡ b → list_all (λ (p : List ℕ × List ℕ). is_among kinds p.0) (cond b (category_pairs c) []) ≡ true
     by true e = named_first (is_among kinds) c.name c.feats e
     by false e = refl
-kind_first (element.Sub c) = refl
-kind_first (element.Position w) = refl
-kind_first element.Opener = refl
-kind_first (element.Forward c) = refl
-kind_first (element.Strong c) = refl
-kind_first (element.Back ps ns) = refl
-kind_first (element.NoBack ps) = refl
+kind_first e = refl
 
 kind_body_first : (es : List WrittenElement) → list_all (λ (p : List ℕ × List ℕ). is_among kinds p.0) (flat_map kind_pairs es) ≡ true
 kind_body_first [] = refl

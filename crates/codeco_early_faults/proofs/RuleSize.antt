@@ -55,14 +55,7 @@ categories_numbers t (c ∷ cs) =
 
 position_numbers : (t : Tables) (e : WrittenElement) → positions (numbered_element t e) ≡ map (number_of t.variables) (written_positions e)
 position_numbers t (element.Terminal w) = refl
-position_numbers t (element.Preterminal c) = refl
-position_numbers t (element.Sub c) = refl
-position_numbers t (element.Position w) = refl
-position_numbers t element.Opener = refl
-position_numbers t (element.Forward c) = refl
-position_numbers t (element.Strong c) = refl
-position_numbers t (element.Back ps ns) = refl
-position_numbers t (element.NoBack ps) = refl
+position_numbers t e = refl
 
 element_numbers : (t : Tables) (e : WrittenElement) → element_fits e ≡ true → Same (numbered.element_variables (numbered_element t e)) (map (number_of t.variables) (element_variables e))
 element_numbers t e h =
@@ -129,15 +122,9 @@ variables_counted t r h is =
 -- Patterns
 
 pattern_length : (t : Tables) (e : WrittenElement) → length (patterns (numbered_element t e)) ≡ length (written_patterns e)
-pattern_length t (element.Terminal w) = refl
-pattern_length t (element.Preterminal c) = refl
-pattern_length t (element.Sub c) = refl
-pattern_length t (element.Position w) = refl
-pattern_length t element.Opener = refl
-pattern_length t (element.Forward c) = refl
-pattern_length t (element.Strong c) = refl
 pattern_length t (element.Back ps ns) = omega (arith, length-append (map (numbered_pattern t) ps) (map (numbered_pattern t) ns), length-append ps ns, length-map ps (numbered_pattern t), length-map ns (numbered_pattern t))
 pattern_length t (element.NoBack ps) = length-map ps (numbered_pattern t)
+pattern_length t e = refl
 
 patterns_length : (t : Tables) (es : List WrittenElement) → length (flat_map patterns (map (numbered_element t) es)) ≡ length (flat_map written_patterns es)
 patterns_length t [] = refl
@@ -147,14 +134,7 @@ patterns_length t (e ∷ es) = omega (arith, length-append (patterns (numbered_e
 
 element_terminal : (t : Tables) (e : WrittenElement) → element_terminals (numbered_element t e) ≡ map (number_of t.terminals) (written_terminals e)
 element_terminal t (element.Terminal w) = refl
-element_terminal t (element.Preterminal c) = refl
-element_terminal t (element.Sub c) = refl
-element_terminal t (element.Position w) = refl
-element_terminal t element.Opener = refl
-element_terminal t (element.Forward c) = refl
-element_terminal t (element.Strong c) = refl
-element_terminal t (element.Back ps ns) = refl
-element_terminal t (element.NoBack ps) = refl
+element_terminal t e = refl
 
 body_terminals : (t : Tables) (es : List WrittenElement) → flat_map element_terminals (map (numbered_element t) es) ≡ map (number_of t.terminals) (flat_map written_terminals es)
 body_terminals t [] = refl

@@ -19,12 +19,7 @@ kind_of n = cond (eqb n 0) Text (cond (eqb n 1) Sentence (cond (eqb n 2) VerbPhr
 kind_back : (k : Kind) → kind_of (kind_number k) ≡ k
 unfolding kind_of
 kind_back Text = refl
-kind_back Sentence = refl
-kind_back VerbPhrase = refl
-kind_back NounPhrase = refl
-kind_back NounBar = refl
-kind_back Question = refl
-kind_back Mark = refl
+kind_back k = refl
 
 pub same_kind_is : (k l : Kind) → same_kind k l ≡ true → k ≡ l
 same_kind_is k l h = sym (kind_back k) ∙ ap kind_of (eqb-true (kind_number k) (kind_number l) h) ∙ kind_back l
@@ -123,11 +118,8 @@ pick_allowed (Only k) h = same_kind_from k k refl
 pick_allowed Nothing h = sym h
 
 pub something_allowed : (a : Allowed) (k : Kind) → allows a k ≡ true → is_nothing a ≡ false
-something_allowed NoMark k h = refl
-something_allowed Meanings k h = refl
-something_allowed Clauses k h = refl
-something_allowed (Only l) k h = refl
 something_allowed Nothing k h = sym h
+something_allowed a k h = refl
 
 pub of_mark_allows : (mark : Bool) (k : Kind) → allows (of_mark mark) k ≡ true → is_mark k ≡ mark
 of_mark_allows true k h = h

@@ -40,23 +40,12 @@ same_refl (Atoms xs) = and_from (list_all (has xs) xs) (list_all (has xs) xs) (a
 
 same_sym : (d e : Declared) → same_values d e ≡ true → same_values e d ≡ true
 same_sym Undeclared Undeclared h = refl
-same_sym Undeclared Words h = absurd cc
-same_sym Undeclared Positions h = absurd cc
-same_sym Undeclared (Atoms ys) h = absurd cc
-same_sym Words Undeclared h = absurd cc
 same_sym Words Words h = refl
-same_sym Words Positions h = absurd cc
-same_sym Words (Atoms ys) h = absurd cc
-same_sym Positions Undeclared h = absurd cc
-same_sym Positions Words h = absurd cc
 same_sym Positions Positions h = refl
-same_sym Positions (Atoms ys) h = absurd cc
-same_sym (Atoms xs) Undeclared h = absurd cc
-same_sym (Atoms xs) Words h = absurd cc
-same_sym (Atoms xs) Positions h = absurd cc
 same_sym (Atoms xs) (Atoms ys) h =
     let parts = and_parts (list_all (has ys) xs) (list_all (has xs) ys) h in
     and_from (list_all (has xs) ys) (list_all (has ys) xs) parts.1 parts.0
+same_sym d e h = absurd cc
 
 atoms_trans : (xs ys : List ℕ) (k : Declared) → same_values (Atoms xs) (Atoms ys) ≡ true → same_values (Atoms ys) k ≡ true → same_values (Atoms xs) k ≡ true
 atoms_trans xs ys Undeclared h e = absurd cc
@@ -69,21 +58,10 @@ atoms_trans xs ys (Atoms zs) h e =
 
 same_trans : (d e k : Declared) → same_values d e ≡ true → same_values e k ≡ true → same_values d k ≡ true
 same_trans Undeclared Undeclared k h l = l
-same_trans Undeclared Words k h l = absurd cc
-same_trans Undeclared Positions k h l = absurd cc
-same_trans Undeclared (Atoms ys) k h l = absurd cc
-same_trans Words Undeclared k h l = absurd cc
 same_trans Words Words k h l = l
-same_trans Words Positions k h l = absurd cc
-same_trans Words (Atoms ys) k h l = absurd cc
-same_trans Positions Undeclared k h l = absurd cc
-same_trans Positions Words k h l = absurd cc
 same_trans Positions Positions k h l = l
-same_trans Positions (Atoms ys) k h l = absurd cc
-same_trans (Atoms xs) Undeclared k h l = absurd cc
-same_trans (Atoms xs) Words k h l = absurd cc
-same_trans (Atoms xs) Positions k h l = absurd cc
 same_trans (Atoms xs) (Atoms ys) k h l = atoms_trans xs ys k h l
+same_trans d e k h l = absurd cc
 
 -- both have the same values as the same others
 same_others : (d e k : Declared) → same_values d e ≡ true → same_values d k ≡ same_values e k

@@ -81,20 +81,12 @@ place_at test rules i x e h =
 
 -- a value that its feature doesn't have, or the like, where no declaration is double
 bad_only : (g : GrammarParts) → (Holds g (BadValue 0) → ⊥) → (f : GrammarFault) → fault_number f ≡ 4 → Holds g f → (x : Rule) × (0 < fault_place f) × (slice_get g.rules (fault_place f - 1) ≡ Some x) × IsTrue (is_bad_rule g x)
-bad_only g none (Syntax n) e h = absurd (omega arith)
-bad_only g none (TooLarge n) e h = absurd (omega arith)
-bad_only g none (Undeclared n) e h = absurd (omega arith)
 bad_only g none (BadValue n) e h =
     elim (or_cases (eqb n 0 && has_double_declaration g) (at_rule (is_bad_rule g) g.rules n) h) [
       | inl double ↦ absurd (none (subst (λ m. Holds g (BadValue m)) (eqb-true n 0 (and_parts (eqb n 0) (has_double_declaration g) double).0) h))
       | inr rule ↦ at_place (is_bad_rule g) g.rules n rule
     ]
-bad_only g none (EmptyRule n) e h = absurd (omega arith)
-bad_only g none (LeftRecursion n) e h = absurd (omega arith)
-bad_only g none (TakenVariable n) e h = absurd (omega arith)
-bad_only g none (LabelKind n) e h = absurd (omega arith)
-bad_only g none NoStart e h = absurd (omega arith)
-bad_only g none Memory e h = absurd (omega arith)
+bad_only g none x e h = absurd (omega arith)
 
 pub bad_fault : (g : GrammarParts) → (Holds g (BadValue 0) → ⊥) → IsRuleFault g 4 BadValue (λ r. IsTrue (is_bad_rule g r))
 bad_fault g none = record {
@@ -105,16 +97,8 @@ bad_fault g none = record {
 }
 
 empty_only : (g : GrammarParts) (f : GrammarFault) → fault_number f ≡ 5 → Holds g f → (x : Rule) × (0 < fault_place f) × (slice_get g.rules (fault_place f - 1) ≡ Some x) × IsTrue (is_empty_rule x)
-empty_only g (Syntax n) e h = absurd (omega arith)
-empty_only g (TooLarge n) e h = absurd (omega arith)
-empty_only g (Undeclared n) e h = absurd (omega arith)
-empty_only g (BadValue n) e h = absurd (omega arith)
 empty_only g (EmptyRule n) e h = at_place is_empty_rule g.rules n h
-empty_only g (LeftRecursion n) e h = absurd (omega arith)
-empty_only g (TakenVariable n) e h = absurd (omega arith)
-empty_only g (LabelKind n) e h = absurd (omega arith)
-empty_only g NoStart e h = absurd (omega arith)
-empty_only g Memory e h = absurd (omega arith)
+empty_only g f e h = absurd (omega arith)
 
 pub empty_fault : (g : GrammarParts) → IsRuleFault g 5 EmptyRule (λ r. IsTrue (is_empty_rule r))
 empty_fault g = record {
@@ -128,16 +112,8 @@ back : (i : ℕ) → (i + 1) - 1 ≡ i
 back i = omega arith
 
 recursive_only : (g : GrammarParts) (f : GrammarFault) → fault_number f ≡ 6 → Holds g f → (x : Rule) × (0 < fault_place f) × (slice_get g.rules (fault_place f - 1) ≡ Some x) × IsRecursive g x.head.name
-recursive_only g (Syntax n) e h = absurd (omega arith)
-recursive_only g (TooLarge n) e h = absurd (omega arith)
-recursive_only g (Undeclared n) e h = absurd (omega arith)
-recursive_only g (BadValue n) e h = absurd (omega arith)
-recursive_only g (EmptyRule n) e h = absurd (omega arith)
 recursive_only g (LeftRecursion n) e h = (h.0, h.1, h.2, h.3)
-recursive_only g (TakenVariable n) e h = absurd (omega arith)
-recursive_only g (LabelKind n) e h = absurd (omega arith)
-recursive_only g NoStart e h = absurd (omega arith)
-recursive_only g Memory e h = absurd (omega arith)
+recursive_only g f e h = absurd (omega arith)
 
 pub recursive_fault : (g : GrammarParts) → IsRuleFault g 6 LeftRecursion (λ r. IsRecursive g r.head.name)
 recursive_fault g = record {
@@ -148,16 +124,8 @@ recursive_fault g = record {
 }
 
 taking_only : (g : GrammarParts) (f : GrammarFault) → fault_number f ≡ 7 → Holds g f → (x : Rule) × (0 < fault_place f) × (slice_get g.rules (fault_place f - 1) ≡ Some x) × IsTrue (is_taking_rule x)
-taking_only g (Syntax n) e h = absurd (omega arith)
-taking_only g (TooLarge n) e h = absurd (omega arith)
-taking_only g (Undeclared n) e h = absurd (omega arith)
-taking_only g (BadValue n) e h = absurd (omega arith)
-taking_only g (EmptyRule n) e h = absurd (omega arith)
-taking_only g (LeftRecursion n) e h = absurd (omega arith)
 taking_only g (TakenVariable n) e h = at_place is_taking_rule g.rules n h
-taking_only g (LabelKind n) e h = absurd (omega arith)
-taking_only g NoStart e h = absurd (omega arith)
-taking_only g Memory e h = absurd (omega arith)
+taking_only g f e h = absurd (omega arith)
 
 pub taking_fault : (g : GrammarParts) → IsRuleFault g 7 TakenVariable (λ r. IsTrue (is_taking_rule r))
 taking_fault g = record {
@@ -169,16 +137,8 @@ taking_fault g = record {
 
 -- the labels don't fit
 label_only : (g : GrammarParts) (f : GrammarFault) → fault_number f ≡ 8 → Holds g f → IsMisfit g.rules (fault_place f)
-label_only g (Syntax n) e h = absurd (omega arith)
-label_only g (TooLarge n) e h = absurd (omega arith)
-label_only g (Undeclared n) e h = absurd (omega arith)
-label_only g (BadValue n) e h = absurd (omega arith)
-label_only g (EmptyRule n) e h = absurd (omega arith)
-label_only g (LeftRecursion n) e h = absurd (omega arith)
-label_only g (TakenVariable n) e h = absurd (omega arith)
 label_only g (LabelKind n) e h = h
-label_only g NoStart e h = absurd (omega arith)
-label_only g Memory e h = absurd (omega arith)
+label_only g f e h = absurd (omega arith)
 
 pub first_label : (g : GrammarParts) → NoneBelow g 8 → (i : ℕ) → FirstMisfit g.rules (Some i) → IsFirst g (LabelKind (i + 1))
 first_label g below i first =
@@ -188,16 +148,8 @@ pub below_start : (g : GrammarParts) → NoneBelow g 8 → FirstMisfit g.rules N
 below_start g below none = none_more g 8 below (λ f e h. none (fault_place f) (label_only g f e h))
 
 start_only : (g : GrammarParts) (f : GrammarFault) → fault_number f ≡ 9 → Holds g f → IsTrue (not (has_start g)) × (fault_place f ≡ 0)
-start_only g (Syntax n) e h = absurd (omega arith)
-start_only g (TooLarge n) e h = absurd (omega arith)
-start_only g (Undeclared n) e h = absurd (omega arith)
-start_only g (BadValue n) e h = absurd (omega arith)
-start_only g (EmptyRule n) e h = absurd (omega arith)
-start_only g (LeftRecursion n) e h = absurd (omega arith)
-start_only g (TakenVariable n) e h = absurd (omega arith)
-start_only g (LabelKind n) e h = absurd (omega arith)
 start_only g NoStart e h = (h, refl)
-start_only g Memory e h = absurd (omega arith)
+start_only g f e h = absurd (omega arith)
 
 pub first_start : (g : GrammarParts) → NoneBelow g 9 → has_start g ≡ false → IsFirst g NoStart
 first_start g below none =

@@ -17,13 +17,8 @@ sign_ends_at_space sign.Minus rest = refl
 sign_ends_at_space _ rest = refl
 
 ends_at_space : (x : Lexeme) (rest : List ℕ) → goes_on x (32 ∷ rest) ≡ false
-ends_at_space (lexeme.Identifier w) rest = refl
-ends_at_space (lexeme.Variable w) rest = refl
-ends_at_space (lexeme.Keyword w) rest = refl
-ends_at_space (lexeme.Label w) rest = refl
-ends_at_space (lexeme.Kind w) rest = refl
-ends_at_space (lexeme.Terminal t) rest = refl
 ends_at_space (lexeme.Sign s) rest = sign_ends_at_space s rest
+ends_at_space x rest = refl
 
 ends_spaced : (x : Lexeme) (rest : List ℕ) (long : Bool) → goes_on x rest ≡ long → goes_on x (cond long (32 ∷ rest) rest) ≡ false
 ends_spaced x rest true h = ends_at_space x rest
@@ -99,24 +94,7 @@ lower_front (b ∷ bs) rest h = lower_no_gap b (bs ++ rest) h
 
 sign_front : (s : Sign) (rest : List ℕ) → begins_gap (sign_bytes s ++ rest) ≡ false
 sign_front sign.Colon rest = refl
-sign_front sign.Comma rest = refl
-sign_front sign.Stop rest = refl
-sign_front sign.OpenBrace rest = refl
-sign_front sign.CloseBrace rest = refl
-sign_front sign.OpenParen rest = refl
-sign_front sign.CloseParen rest = refl
-sign_front sign.Normal rest = refl
-sign_front sign.Closing rest = refl
-sign_front sign.Dollar rest = refl
-sign_front sign.Hash rest = refl
-sign_front sign.Scope rest = refl
-sign_front sign.Weak rest = refl
-sign_front sign.Strong rest = refl
-sign_front sign.Back rest = refl
-sign_front sign.NoBack rest = refl
-sign_front sign.Plus rest = refl
-sign_front sign.Minus rest = refl
-sign_front sign.Question rest = refl
+sign_front s rest = refl
 
 -- a symbol begins with a byte that no gap begins with, whatever stands behind it
 front_no_gap : (x : Lexeme) (rest : List ℕ) → is_symbol x ≡ true → begins_gap (lexeme_bytes x ++ rest) ≡ false

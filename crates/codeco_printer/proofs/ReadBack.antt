@@ -251,14 +251,7 @@ rules_back g (r ∷ rs) d h =
 
 element_names_of_terminals : (g : GrammarParts) (e : Element) → written_terminals (written_element g e) ≡ map (name_at g.terminals) (element_terminals e)
 element_names_of_terminals g (Terminal t) = refl
-element_names_of_terminals g (Preterminal c) = refl
-element_names_of_terminals g (Sub c) = refl
-element_names_of_terminals g (Position x) = refl
-element_names_of_terminals g Opener = refl
-element_names_of_terminals g (Forward c) = refl
-element_names_of_terminals g (Strong c) = refl
-element_names_of_terminals g (Back ps ns) = refl
-element_names_of_terminals g (NoBack ps) = refl
+element_names_of_terminals g e = refl
 
 body_terminals : (g : GrammarParts) (es : List Element) → flat_map written_terminals (map (written_element g) es) ≡ map (name_at g.terminals) (flat_map element_terminals es)
 body_terminals g [] = refl

@@ -334,35 +334,7 @@ body_letters g k (e ∷ es) d w m =
 
 label_back : (l : Label) → numbered_label (Some (label_name l)) ≡ Some l
 label_back label.Statement = refl
-label_back label.Ask = refl
-label_back label.If = refl
-label_back label.Say = refl
-label_back label.And = refl
-label_back label.Or = refl
-label_back label.Pass = refl
-label_back label.Not = refl
-label_back label.Does = refl
-label_back label.Done = refl
-label_back label.Class = refl
-label_back label.Top = refl
-label_back label.Same = refl
-label_back label.Only = refl
-label_back label.Gap = refl
-label_back label.Name = refl
-label_back label.Refer = refl
-label_back label.Var = refl
-label_back label.Noun = refl
-label_back label.Part = refl
-label_back label.Some = refl
-label_back label.Every = refl
-label_back label.No = refl
-label_back label.Something = refl
-label_back label.Everything = refl
-label_back label.Nothing = refl
-label_back label.What = refl
-label_back label.Which = refl
-label_back label.Whichobj = refl
-label_back label.Mark = refl
+label_back l = refl
 
 option_label_back : (l : Option Label) → numbered_label (option_map label_name l) ≡ l
 option_label_back None = refl

@@ -36,35 +36,7 @@ letter_variable x =
 
 pub label_named : (l : Label) → is_among labels (label_name l) ≡ true
 label_named label.Statement = refl
-label_named label.Ask = refl
-label_named label.If = refl
-label_named label.Say = refl
-label_named label.And = refl
-label_named label.Or = refl
-label_named label.Pass = refl
-label_named label.Not = refl
-label_named label.Does = refl
-label_named label.Done = refl
-label_named label.Class = refl
-label_named label.Top = refl
-label_named label.Same = refl
-label_named label.Only = refl
-label_named label.Gap = refl
-label_named label.Name = refl
-label_named label.Refer = refl
-label_named label.Var = refl
-label_named label.Noun = refl
-label_named label.Part = refl
-label_named label.Some = refl
-label_named label.Every = refl
-label_named label.No = refl
-label_named label.Something = refl
-label_named label.Everything = refl
-label_named label.Nothing = refl
-label_named label.What = refl
-label_named label.Which = refl
-label_named label.Whichobj = refl
-label_named label.Mark = refl
+label_named l = refl
 
 begins_at : (xs names : List (List ℕ)) (n : ℕ) → begins_with xs names ≡ true → n < length xs → name_at names n ≡ name_at xs n
 begins_at [] names n h lt = absurd (omega arith)
@@ -73,12 +45,8 @@ begins_at (x ∷ xs) (y ∷ ys) zero h lt = sym (same_is x y (and_parts (same_by
 begins_at (x ∷ xs) (y ∷ ys) (suc n) h lt = begins_at xs ys n (and_parts (same_bytes x y) (begins_with xs ys) h).1 (omega arith)
 
 first_kind : (n : ℕ) → n < 5 → is_among kinds (name_at first_categories n) ≡ true
-first_kind zero h = refl
-first_kind (suc zero) h = refl
-first_kind (suc (suc zero)) h = refl
-first_kind (suc (suc (suc zero))) h = refl
-first_kind (suc (suc (suc (suc zero)))) h = refl
 first_kind (suc (suc (suc (suc (suc n))))) h = absurd (omega arith)
+first_kind n h = refl
 
 -- the preterminals have their names
 pub kind_named : (names : List (List ℕ)) (n : ℕ) → begins_with first_categories names ≡ true → ltb n 5 ≡ true → is_among kinds (name_at names n) ≡ true

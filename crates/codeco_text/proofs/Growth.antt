@@ -43,38 +43,21 @@ same_is (x ∷ xs) (y ∷ ys) h =
 -- an identifier
 adds_identifier : (s : Spot) (b : Builder) (w : List ℕ) → IfSome (after_identifier s) (λ v. so_far_at v (identifier_at s b w) ≡ push (so_far_at s b) (lexeme.Identifier w))
 adds_identifier spot.Items b w = simp append-nil
-adds_identifier spot.LabelName b w = tt
-adds_identifier spot.LabelEnd b w = tt
 adds_identifier spot.RuleHead b w = refl
 adds_identifier spot.FeatureName b w = refl
-adds_identifier spot.FeatureColon b w = tt
 adds_identifier spot.FeatureValue b w = simp (append_assoc, append-nil)
-adds_identifier spot.AtomNext b w = tt
 adds_identifier spot.AtomName b w = refl
-adds_identifier spot.FeatureEnd b w = tt
 adds_identifier (spot.Category part.Name role.Head) b w = simp (append_assoc, append-nil)
-adds_identifier (spot.Category part.Name role.Preterminal) b w = tt
 adds_identifier (spot.Category part.Name role.Sub) b w = simp (append_assoc, append-nil)
 adds_identifier (spot.Category part.Name role.Forward) b w = simp (append_assoc, append-nil)
 adds_identifier (spot.Category part.Name role.Strong) b w = simp (append_assoc, append-nil)
 adds_identifier (spot.Category part.Name role.Positive) b w = simp (append_assoc, append-nil)
 adds_identifier (spot.Category part.Name role.Negative) b w = simp (append_assoc, append-nil)
 adds_identifier (spot.Category part.Name role.Absent) b w = simp (append_assoc, append-nil)
-adds_identifier (spot.Category part.Named r) b w = tt
 adds_identifier (spot.Category part.Feature r) b w = simp append_assoc
-adds_identifier (spot.Category part.Colon r) b w = tt
 adds_identifier (spot.Category part.Term r) b w = simp append_assoc
-adds_identifier (spot.Category part.Taken r) b w = tt
-adds_identifier (spot.Category part.Next r) b w = tt
-adds_identifier (spot.Category part.Whole r) b w = tt
-adds_identifier spot.Arrow b w = tt
 adds_identifier spot.Body b w = refl
-adds_identifier spot.PositionName b w = tt
-adds_identifier spot.BackPattern b w = tt
-adds_identifier spot.Positives b w = tt
-adds_identifier spot.Negatives b w = tt
-adds_identifier spot.AbsentPattern b w = tt
-adds_identifier spot.Absents b w = tt
+adds_identifier s b w = tt
 
 body_more : (es : List WrittenElement) (e : WrittenElement) → flat_map element_lexemes (push es e) ≡ flat_map element_lexemes es ++ element_lexemes e
 body_more es e = flat_map-append element_lexemes es (e ∷ []) ∙ ap (λ (x : List Lexeme). flat_map element_lexemes es ++ x) (append-nil (element_lexemes e))
@@ -86,32 +69,10 @@ signed_more : (s : Sign) (cs : List WrittenCategory) (c : WrittenCategory) → s
 signed_more s cs c = flat_map-append (λ c. lexeme.Sign s ∷ named c) cs (c ∷ []) ∙ ap (λ (x : List Lexeme). signed s cs ++ x) (append-nil (lexeme.Sign s ∷ named c))
 
 adds_variable : (s : Spot) (b : Builder) (w : List ℕ) → IfSome (after_variable s) (λ v. so_far_at v (variable_at s b w) ≡ push (so_far_at s b) (lexeme.Variable w))
-adds_variable spot.Items b w = tt
-adds_variable spot.LabelName b w = tt
-adds_variable spot.LabelEnd b w = tt
-adds_variable spot.RuleHead b w = tt
-adds_variable spot.FeatureName b w = tt
-adds_variable spot.FeatureColon b w = tt
-adds_variable spot.FeatureValue b w = tt
-adds_variable spot.AtomNext b w = tt
-adds_variable spot.AtomName b w = tt
-adds_variable spot.FeatureEnd b w = tt
-adds_variable (spot.Category part.Name r) b w = tt
-adds_variable (spot.Category part.Named r) b w = tt
-adds_variable (spot.Category part.Feature r) b w = tt
-adds_variable (spot.Category part.Colon r) b w = tt
 adds_variable (spot.Category part.Term r) b w = simp append_assoc
 adds_variable (spot.Category part.Taken r) b w = simp append_assoc
-adds_variable (spot.Category part.Next r) b w = tt
-adds_variable (spot.Category part.Whole r) b w = tt
-adds_variable spot.Arrow b w = tt
-adds_variable spot.Body b w = tt
 adds_variable spot.PositionName b w = rw (body_more b.rule.body) (simp append_assoc)
-adds_variable spot.BackPattern b w = tt
-adds_variable spot.Positives b w = tt
-adds_variable spot.Negatives b w = tt
-adds_variable spot.AbsentPattern b w = tt
-adds_variable spot.Absents b w = tt
+adds_variable s b w = tt
 
 if_some_guard : {A : Type 0} (t : Bool) (v : A) (P : A → Type 0) → (t ≡ true → P v) → IfSome (cond t (Some v) None) P
 if_some_guard true v P h = h refl
@@ -233,13 +194,10 @@ adds_sign spot.Absents b _ = tt
 
 settles : (r : Role) (b : Builder) (feats : List WrittenFeat) → so_far_at (after_category r) (settle_into b r feats) ≡ role_front r b.items b.rule ++ category_lexemes (name_lexeme r b.category.name) feats
 settles role.Head b feats = refl
-settles role.Preterminal b feats = rw (body_more b.rule.body) (simp append_assoc)
-settles role.Sub b feats = rw (body_more b.rule.body) (simp append_assoc)
-settles role.Forward b feats = rw (body_more b.rule.body) (simp append_assoc)
-settles role.Strong b feats = rw (body_more b.rule.body) (simp append_assoc)
 settles role.Positive b feats = rw (signed_more sign.Plus b.rule.positives) (simp append_assoc)
 settles role.Negative b feats = rw (signed_more sign.Minus b.rule.negatives) (simp append_assoc)
 settles role.Absent b feats = rw (signed_more sign.Plus b.rule.positives) (simp append_assoc)
+settles r b feats = rw (body_more b.rule.body) (simp append_assoc)
 
 settled_adds : (s : Spot) (b : Builder) → b.spot ≡ s → so_far (settle_at s b) ≡ so_far b
 settled_adds (spot.Category part.Named r) b e = settles r b [] ∙ sym (ap (λ (t : Spot). so_far_at t b) e)
@@ -273,24 +231,7 @@ adds_lexeme b (lexeme.Sign s) = adds_sign b.spot b s
 
 moved_same : (v t : Spot) (b : Builder) → so_far_at v (moved b t) ≡ so_far_at v b
 moved_same spot.Items t b = refl
-moved_same spot.LabelName t b = refl
-moved_same spot.LabelEnd t b = refl
-moved_same spot.RuleHead t b = refl
-moved_same spot.FeatureName t b = refl
-moved_same spot.FeatureColon t b = refl
-moved_same spot.FeatureValue t b = refl
-moved_same spot.AtomNext t b = refl
-moved_same spot.AtomName t b = refl
-moved_same spot.FeatureEnd t b = refl
-moved_same (spot.Category p r) t b = refl
-moved_same spot.Arrow t b = refl
-moved_same spot.Body t b = refl
-moved_same spot.PositionName t b = refl
-moved_same spot.BackPattern t b = refl
-moved_same spot.Positives t b = refl
-moved_same spot.Negatives t b = refl
-moved_same spot.AbsentPattern t b = refl
-moved_same spot.Absents t b = refl
+moved_same v t b = refl
 
 taken_adds : (o : Option Spot) (b c : Builder) (x : Lexeme) → IfSome o (λ v. so_far_at v c ≡ push (so_far b) x) → (d : Builder) → option_map (moved c) o ≡ Some d → so_far d ≡ push (so_far b) x
 taken_adds None b c x h d e = absurd cc

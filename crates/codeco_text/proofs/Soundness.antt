@@ -37,33 +37,9 @@ chosen false x y z e = inr (refl, e)
 -- The stand of what takes a symbol
 
 settled_is : (s : Spot) (b : Builder) (o : Bool) → b.spot ≡ s → (cond (is_named s && o) b (settle_at s b)).spot ≡ settled s o
-settled_is (spot.Category part.Named r) b true e = e
 settled_is (spot.Category part.Named r) b false e = refl
 settled_is (spot.Category part.Whole r) b o e = refl
-settled_is (spot.Category part.Name r) b o e = e
-settled_is (spot.Category part.Feature r) b o e = e
-settled_is (spot.Category part.Colon r) b o e = e
-settled_is (spot.Category part.Term r) b o e = e
-settled_is (spot.Category part.Taken r) b o e = e
-settled_is (spot.Category part.Next r) b o e = e
-settled_is spot.Items b o e = e
-settled_is spot.LabelName b o e = e
-settled_is spot.LabelEnd b o e = e
-settled_is spot.RuleHead b o e = e
-settled_is spot.FeatureName b o e = e
-settled_is spot.FeatureColon b o e = e
-settled_is spot.FeatureValue b o e = e
-settled_is spot.AtomNext b o e = e
-settled_is spot.AtomName b o e = e
-settled_is spot.FeatureEnd b o e = e
-settled_is spot.Arrow b o e = e
-settled_is spot.Body b o e = e
-settled_is spot.PositionName b o e = e
-settled_is spot.BackPattern b o e = e
-settled_is spot.Positives b o e = e
-settled_is spot.Negatives b o e = e
-settled_is spot.AbsentPattern b o e = e
-settled_is spot.Absents b o e = e
+settled_is s b o e = e
 
 same_either : (p : Bool) (b : Builder) (s : Spot) → b.spot ≡ s → (cond p b b).spot ≡ s
 same_either true b s e = e
@@ -194,13 +170,9 @@ word_is wanted.Variable w x e = ap is_word (sym (guard_some (is_variable w) (lex
 word_is wanted.Term w x e = either_word (is_variable w) w (lexeme.Variable w) x refl e
 
 pub word_stops : (x : Lexeme) (b : ℕ) (bs : List ℕ) → is_word x ≡ true → is_word_byte b ≡ false → goes_on x (b ∷ bs) ≡ false
-word_stops (lexeme.Identifier w) b bs h n = n
-word_stops (lexeme.Variable w) b bs h n = n
-word_stops (lexeme.Keyword w) b bs h n = n
-word_stops (lexeme.Label w) b bs h n = n
-word_stops (lexeme.Kind w) b bs h n = n
 word_stops (lexeme.Terminal t) b bs h n = absurd cc
 word_stops (lexeme.Sign s) b bs h n = absurd cc
+word_stops x b bs h n = n
 
 pub ends_all : (x : Lexeme) → goes_on x [] ≡ false
 ends_all (lexeme.Identifier w) = refl

@@ -76,46 +76,13 @@ new_symbol b d c x m k text rest grown h s = record {
 
 -- only a reference's patterns have a - before them
 pub minus_spot : (s t : Spot) → next_spot s (lexeme.Sign sign.Minus) ≡ Some t → t ≡ spot.Category part.Name role.Negative
-minus_spot spot.Items t e = absurd cc
-minus_spot spot.LabelName t e = absurd cc
-minus_spot spot.LabelEnd t e = absurd cc
-minus_spot spot.RuleHead t e = absurd cc
-minus_spot spot.FeatureName t e = absurd cc
-minus_spot spot.FeatureColon t e = absurd cc
-minus_spot spot.FeatureValue t e = absurd cc
-minus_spot spot.AtomNext t e = absurd cc
-minus_spot spot.AtomName t e = absurd cc
-minus_spot spot.FeatureEnd t e = absurd cc
-minus_spot (spot.Category part.Name r) t e = absurd cc
 minus_spot (spot.Category part.Named role.Positive) t e = cc
 minus_spot (spot.Category part.Named role.Negative) t e = cc
-minus_spot (spot.Category part.Named role.Head) t e = absurd cc
-minus_spot (spot.Category part.Named role.Preterminal) t e = absurd cc
-minus_spot (spot.Category part.Named role.Sub) t e = absurd cc
-minus_spot (spot.Category part.Named role.Forward) t e = absurd cc
-minus_spot (spot.Category part.Named role.Strong) t e = absurd cc
-minus_spot (spot.Category part.Named role.Absent) t e = absurd cc
-minus_spot (spot.Category part.Feature r) t e = absurd cc
-minus_spot (spot.Category part.Colon r) t e = absurd cc
-minus_spot (spot.Category part.Term r) t e = absurd cc
-minus_spot (spot.Category part.Taken r) t e = absurd cc
-minus_spot (spot.Category part.Next r) t e = absurd cc
 minus_spot (spot.Category part.Whole role.Positive) t e = cc
 minus_spot (spot.Category part.Whole role.Negative) t e = cc
-minus_spot (spot.Category part.Whole role.Head) t e = absurd cc
-minus_spot (spot.Category part.Whole role.Preterminal) t e = absurd cc
-minus_spot (spot.Category part.Whole role.Sub) t e = absurd cc
-minus_spot (spot.Category part.Whole role.Forward) t e = absurd cc
-minus_spot (spot.Category part.Whole role.Strong) t e = absurd cc
-minus_spot (spot.Category part.Whole role.Absent) t e = absurd cc
-minus_spot spot.Arrow t e = absurd cc
-minus_spot spot.Body t e = absurd cc
-minus_spot spot.PositionName t e = absurd cc
-minus_spot spot.BackPattern t e = absurd cc
 minus_spot spot.Positives t e = cc
 minus_spot spot.Negatives t e = cc
-minus_spot spot.AbsentPattern t e = absurd cc
-minus_spot spot.Absents t e = absurd cc
+minus_spot s t e = absurd cc
 
 -- where a name comes, no - stands
 no_dash : (d : Builder) → d.spot ≡ spot.Category part.Name role.Negative → begin d 45 ≡ None

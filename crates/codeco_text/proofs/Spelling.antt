@@ -132,24 +132,16 @@ identifier_is : (w : List ℕ) → is_identifier w ≡ true → identifier w ≡
 identifier_is w h = rw h refl
 
 pub as_name : (k : Wanted) (w : List ℕ) → wants_names k ≡ true → is_identifier w ≡ true → as_word k w ≡ Some (lexeme.Identifier w)
-as_name wanted.Nothing w k h = absurd cc
 as_name wanted.Item w k h = cond-false (same_bytes w (codes "feature")) (Some (lexeme.Keyword w)) (identifier w) (not_feature w h) ∙ identifier_is w h
 as_name wanted.Identifier w k h = identifier_is w h
 as_name wanted.Value w k h = cond-false (same_bytes w (codes "word") || same_bytes w (codes "position")) (Some (lexeme.Keyword w)) (identifier w) (not_value w h) ∙ identifier_is w h
-as_name wanted.Label w k h = absurd cc
-as_name wanted.Kind w k h = absurd cc
-as_name wanted.Variable w k h = absurd cc
 as_name wanted.Term w k h = cond-false (is_variable w) (Some (lexeme.Variable w)) (identifier w) (lower_no_variable w (identifier_lower w h)) ∙ identifier_is w h
+as_name k w x h = absurd cc
 
 pub as_variable : (k : Wanted) (w : List ℕ) → wants_variables k ≡ true → is_variable w ≡ true → as_word k w ≡ Some (lexeme.Variable w)
-as_variable wanted.Nothing w k h = absurd cc
-as_variable wanted.Item w k h = absurd cc
-as_variable wanted.Identifier w k h = absurd cc
-as_variable wanted.Value w k h = absurd cc
-as_variable wanted.Label w k h = absurd cc
-as_variable wanted.Kind w k h = absurd cc
 as_variable wanted.Variable w k h = rw h refl
 as_variable wanted.Term w k h = rw h refl
+as_variable k w x h = absurd cc
 
 -- How a word goes along
 
@@ -203,24 +195,16 @@ pub keyword_lower : (w : List ℕ) → is_among keywords w ≡ true → is_lower
 keyword_lower w h = among_lower keywords w refl h
 
 pub name_readable : (k : Wanted) (w : List ℕ) → wants_names k ≡ true → is_lower_word w ≡ true → IsReadable k w
-name_readable wanted.Nothing w k h = absurd cc
 name_readable wanted.Item w k h = lower_readable wanted.Item (λ b e. e) (λ w. refl) w h
 name_readable wanted.Identifier w k h = lower_readable wanted.Identifier (λ b e. e) (λ w. refl) w h
 name_readable wanted.Value w k h = lower_readable wanted.Value (λ b e. e) (λ w. refl) w h
-name_readable wanted.Label w k h = absurd cc
-name_readable wanted.Kind w k h = absurd cc
-name_readable wanted.Variable w k h = absurd cc
 name_readable wanted.Term w k h = lower_readable wanted.Term (λ b e. or_right (is_upper b) (is_lower b) e) (λ w. refl) w h
+name_readable k w x h = absurd cc
 
 pub variable_readable : (k : Wanted) (w : List ℕ) → wants_variables k ≡ true → is_variable w ≡ true → IsReadable k w
-variable_readable wanted.Nothing w k h = absurd cc
-variable_readable wanted.Item w k h = absurd cc
-variable_readable wanted.Identifier w k h = absurd cc
-variable_readable wanted.Value w k h = absurd cc
-variable_readable wanted.Label w k h = absurd cc
-variable_readable wanted.Kind w k h = absurd cc
 variable_readable wanted.Variable w k h = upper_readable wanted.Variable (λ b e. e) (λ w. refl) w h
 variable_readable wanted.Term w k h = upper_readable wanted.Term (λ b e. or_left (is_upper b) (is_lower b) e) (λ w. refl) w h
+variable_readable k w x h = absurd cc
 
 pub label_readable : (w : List ℕ) → is_among labels w ≡ true → IsReadable wanted.Label w
 label_readable w h = among_readable wanted.Label labels refl (λ b. refl) (λ w. refl) w h

@@ -92,23 +92,11 @@ category_features name (f ∷ fs) = refl
 
 named_next : (r : Role) (x : Lexeme) → is_sign sign.OpenParen x ≡ false → next_spot (spot.Category part.Named r) x ≡ next_spot (after_category r) x
 named_next role.Head x h = rw h refl
-named_next role.Preterminal x h = rw h refl
-named_next role.Sub x h = rw h refl
-named_next role.Forward x h = rw h refl
-named_next role.Strong x h = rw h refl
-named_next role.Positive x h = rw h refl
-named_next role.Negative x h = rw h refl
-named_next role.Absent x h = rw h refl
+named_next r x h = rw h refl
 
 whole_next : (r : Role) (x : Lexeme) → next_spot (spot.Category part.Whole r) x ≡ next_spot (after_category r) x
 whole_next role.Head x = refl
-whole_next role.Preterminal x = refl
-whole_next role.Sub x = refl
-whole_next role.Forward x = refl
-whole_next role.Strong x = refl
-whole_next role.Positive x = refl
-whole_next role.Negative x = refl
-whole_next role.Absent x = refl
+whole_next r x = refl
 
 named_rest : (r : Role) (rest : List Lexeme) → starts_plain rest ≡ true → runs (spot.Category part.Named r) rest ≡ runs (after_category r) rest
 named_rest r [] h = absurd cc
@@ -127,13 +115,7 @@ named_runs r (f ∷ fs) rest h =
 
 name_runs : (r : Role) (w : List ℕ) (rest : List Lexeme) → runs (spot.Category part.Name r) (name_lexeme r w ∷ rest) ≡ runs (spot.Category part.Named r) rest
 name_runs role.Head w rest = refl
-name_runs role.Preterminal w rest = refl
-name_runs role.Sub w rest = refl
-name_runs role.Forward w rest = refl
-name_runs role.Strong w rest = refl
-name_runs role.Positive w rest = refl
-name_runs role.Negative w rest = refl
-name_runs role.Absent w rest = refl
+name_runs r w rest = refl
 
 category_runs : (r : Role) (w : List ℕ) (fs : List WrittenFeat) (rest : List Lexeme) → starts_plain rest ≡ true → runs (spot.Category part.Name r) (category_lexemes (name_lexeme r w) fs ++ rest) ≡ only_if (feats_fit r fs) (runs (after_category r) rest)
 category_runs r w fs rest h = ap (λ (xs : List Lexeme). runs (spot.Category part.Name r) (xs ++ rest)) (category_features (name_lexeme r w) fs) ∙ name_runs r w (features fs ++ rest) ∙ named_runs r fs rest h
@@ -276,15 +258,8 @@ category_starts w [] rest = refl
 category_starts w (f ∷ fs) rest = refl
 
 element_starts : (e : WrittenElement) (rest : List Lexeme) → starts_body (element_lexemes e ++ rest) ≡ true
-element_starts (element.Terminal t) rest = refl
-element_starts (element.Preterminal c) rest = refl
 element_starts (element.Sub c) rest = category_starts c.name c.feats rest
-element_starts (element.Position x) rest = refl
-element_starts element.Opener rest = refl
-element_starts (element.Forward c) rest = refl
-element_starts (element.Strong c) rest = refl
-element_starts (element.Back ps ns) rest = refl
-element_starts (element.NoBack ps) rest = refl
+element_starts e rest = refl
 
 body_starts : (es : List WrittenElement) (rest : List Lexeme) → starts_body rest ≡ true → starts_body (body_lexemes es ++ rest) ≡ true
 body_starts [] rest h = h

@@ -167,11 +167,6 @@ pattern_room (e ∷ es) (suc k) d lt =
     omega (arith, length-append (patterns e) (flat_map patterns es))
 
 within_at : (g : GrammarParts) → IsSound g → (n : ℕ) (rule : Rule) → (n == 0) ≡ false → slice_get g.rules (n - 1) ≡ Some rule → (k : ℕ) (d : Element) → k < length rule.body → (e : Element) → get_or rule.body k d ≡ e → IsWithin g e
-within_at g sound n rule above at k d lt (Terminal t) is = tt
-within_at g sound n rule above at k d lt (Preterminal c) is = tt
-within_at g sound n rule above at k d lt (Sub c) is = tt
-within_at g sound n rule above at k d lt (Position x) is = tt
-within_at g sound n rule above at k d lt Opener is = tt
 within_at g sound n rule above at k d lt (Forward c) is =
     features_within g sound c.name (has_rule g.rules (n - 1) rule c.name at (or_right (c.name == rule.head.name) (has (map (λ q. q.name) (flat_map mentions rule.body)) c.name) (has_mention rule.body k d c lt (ap mentions is))))
 within_at g sound n rule above at k d lt (Strong c) is =
@@ -182,7 +177,7 @@ within_at g sound n rule above at k d lt (Back positive negative) is =
     let room = pattern_room rule.body k d lt in
     let long : length (patterns (get_or rule.body k d)) ≡ length (positive ++ negative) = ap (λ e. length (patterns e)) is in
     omega (arith, length-append positive negative)
-within_at g sound n rule above at k d lt (NoBack patterns) is = tt
+within_at g sound n rule above at k d lt x is = tt
 
 -- the rules of a checked grammar are within the limits
 pub IsLimited-from_sound : (g : GrammarParts) → IsSound g → IsLimited g

@@ -40,15 +40,8 @@ pub Begins-take : (xs ys : List Entry) → Begins xs ys → take (length xs) ys 
 Begins-take xs ys a = ap (take (length xs)) a.is ∙ take_at xs a.added (length xs) refl
 
 pub not_sub : (e : Element) → ((c : Category) → e ≡ Sub c → ⊥) → is_sub e ≡ false
-not_sub (Terminal t) h = refl
-not_sub (Preterminal c) h = refl
 not_sub (Sub c) h = absurd (h c refl)
-not_sub (Position x) h = refl
-not_sub Opener h = refl
-not_sub (Forward c) h = refl
-not_sub (Strong c) h = refl
-not_sub (Back ps ns) h = refl
-not_sub (NoBack ps) h = refl
+not_sub e h = refl
 
 -- what a stand gives, if it is there, has the list or more of it
 abbrev Keeps : Stand → Option Stand → Type 0

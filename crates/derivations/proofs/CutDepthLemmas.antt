@@ -117,15 +117,8 @@ first_of_take (suc count) (e ∷ es) c h = by (first_of_take count es c) (is_phr
     by later false k = later k
 
 sub_first : (e : Element) (c : Category) → sub_of e ≡ Some c → (is_phrase e ≡ true) × (sub_name e ≡ Some c.name)
-sub_first (Terminal t) c h = cc
-sub_first (Preterminal d) c h = cc
 sub_first (Sub d) c h = (refl, ap (λ x. Some x.name) (same_Some d c h))
-sub_first (Position x) c h = cc
-sub_first Opener c h = cc
-sub_first (Forward d) c h = cc
-sub_first (Strong d) c h = cc
-sub_first (Back positive negative) c h = cc
-sub_first (NoBack patterns) c h = cc
+sub_first e c h = cc
 
 -- a category behind special elements alone stands first
 first_after : (count : ℕ) (es : List Element) (c : Category) → list_any is_phrase (take count es) ≡ false → option_and_then sub_of (slice_get es count) ≡ Some c → first_category es ≡ Some c.name

@@ -59,15 +59,8 @@ led_here s values [] paths next m = record { path = next; among = m; leads = lea
 led_here s values (e ∷ es) paths next m = record { path = next; among = m; leads = leads_nowhere s values next }
 
 entered_category : (cuts : Test → At → Bool) (values : List (ℕ × Value)) (e : Element) (path : Path) → enters cuts values e path ≡ true → (c : Category) × (sub_of e ≡ Some c) × (cuts (under values c) path.at ≡ true)
-entered_category cuts values (Terminal t) path h = cc
-entered_category cuts values (Preterminal c) path h = cc
 entered_category cuts values (Sub c) path h = (c, refl, h)
-entered_category cuts values (Position x) path h = cc
-entered_category cuts values Opener path h = cc
-entered_category cuts values (Forward c) path h = cc
-entered_category cuts values (Strong c) path h = cc
-entered_category cuts values (Back positive negative) path h = cc
-entered_category cuts values (NoBack patterns) path h = cc
+entered_category cuts values e path h = cc
 
 goes_at_end : (s : Setting) (cuts : Test → At → Bool) (values : List (ℕ × Value)) (es : List Element) (paths : List Path) → list_any (is_at_end s) paths ≡ true → GoesOn s cuts values es paths
 goes_at_end s cuts values es paths h =
@@ -171,15 +164,8 @@ goes_end s trees cuts values (x ∷ es) paths (suc count) next m e =
     or_right (list_any (is_at_end s) paths) _ (or_right (list_any (enters cuts values x) paths) _ (goes_end s trees cuts values es (flat_map (steps s trees values x) paths) count next m e))
 
 enters_sub : (cuts : Test → At → Bool) (values : List (ℕ × Value)) (e : Element) (c : Category) (path : Path) → sub_of e ≡ Some c → cuts (under values c) path.at ≡ true → enters cuts values e path ≡ true
-enters_sub cuts values (Terminal t) c path h k = cc
-enters_sub cuts values (Preterminal d) c path h k = cc
 enters_sub cuts values (Sub d) c path h k = ap (λ x. cuts (under values x) path.at) (same_Some d c h) ∙ k
-enters_sub cuts values (Position x) c path h k = cc
-enters_sub cuts values Opener c path h k = cc
-enters_sub cuts values (Forward d) c path h k = cc
-enters_sub cuts values (Strong d) c path h k = cc
-enters_sub cuts values (Back positive negative) c path h k = cc
-enters_sub cuts values (NoBack patterns) c path h k = cc
+enters_sub cuts values e c path h k = cc
 
 pub goes_enter : (s : Setting) (trees : Test → At → List Outcome) (cuts : Test → At → Bool) (values : List (ℕ × Value)) (es : List Element) (paths : List Path) (count : ℕ) (next : Path) (c : Category) → Among (all_steps s trees values (take count es) paths) next → option_and_then sub_of (slice_get es count) ≡ Some c → cuts (under values c) next.at ≡ true → goes_from s trees cuts values es paths ≡ true
 goes_enter s trees cuts values [] paths count next c m h k = cc

@@ -48,11 +48,7 @@ group_at (suc (suc (suc (suc (suc n))))) = Adjective
 group_back : (g : Group) → group_at (group_number g) ≡ g
 unfolding group_at
 group_back Function = refl
-group_back Name = refl
-group_back Noun = refl
-group_back Of = refl
-group_back Verb = refl
-group_back Adjective = refl
+group_back g = refl
 
 both_equal : (a b : Ordering) → ordering_then a b ≡ Equal → (a ≡ Equal) × (b ≡ Equal)
 both_equal Less b h = less_equal h

@@ -111,12 +111,7 @@ plain_parts : (s : Setting) (e : Element) (at : At) (k : Sketch) → k.place ≡
 plain_parts s (Terminal t) at k p plain = record { words = refl; children = refl; here = refl; left = refl }
 plain_parts s (Preterminal c) at k p plain = record { words = ap (λ x. k.words ++ word_at s x ∷ []) p; children = refl; here = refl; left = refl }
 plain_parts s (Sub c) at k p plain = cc
-plain_parts s (Position x) at k p plain = record { words = sym (append-nil k.words); children = refl; here = refl; left = refl }
-plain_parts s Opener at k p plain = record { words = sym (append-nil k.words); children = refl; here = refl; left = refl }
-plain_parts s (Forward c) at k p plain = record { words = sym (append-nil k.words); children = refl; here = refl; left = refl }
-plain_parts s (Strong c) at k p plain = record { words = sym (append-nil k.words); children = refl; here = refl; left = refl }
-plain_parts s (Back ps ns) at k p plain = record { words = sym (append-nil k.words); children = refl; here = refl; left = refl }
-plain_parts s (NoBack ps) at k p plain = record { words = sym (append-nil k.words); children = refl; here = refl; left = refl }
+plain_parts s e at k p plain = record { words = sym (append-nil k.words); children = refl; here = refl; left = refl }
 
 walk_sketch : (s : Setting) (values : List (ℕ × Value)) (es : List Element) (ns : Nodes) (stand after : Stand) (k : Sketch) → SameNodes s ns → stand.children ≡ phrases_of s ns → k.place ≡ stand.at.place → k.left ≡ sketches_of s ns → run s values es stand ≡ Some after → Sketched s values es ns stand after k
 walk_sketch s values [] ns stand after k same children p left h = record {

@@ -54,10 +54,7 @@ among_terminal terminals token h = passes_any (bytes_eq token) terminals token h
 
 form_of_group : (g : GrammarParts) (lexicon : Listed) (k : Kind) (token : List ℕ) → IsFormIn lexicon.live (group_of k) token → IsOfGroup g lexicon (group_of k) token
 form_of_group g lexicon kind.Name token h = h
-form_of_group g lexicon kind.Noun token h = h
-form_of_group g lexicon kind.Of token h = h
-form_of_group g lexicon kind.Verb token h = h
-form_of_group g lexicon kind.Adjective token h = h
+form_of_group g lexicon k token h = h
 
 word_form : (g : GrammarParts) (lexicon : Listed) (word : Word) (token : List ℕ) → Among lexicon.live word → Among word.forms.texts token → IsOfGroup g lexicon (group_of word.forms.kind) token
 word_form g lexicon word token m n =

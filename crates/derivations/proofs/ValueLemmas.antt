@@ -24,14 +24,9 @@ number_turned x y h = grind (arith, nat_tests)
 
 pub same_value_is : (v w : Value) → same_value v w ≡ true → v ≡ w
 same_value_is (Atom a) (Atom b) h = ap (λ n. Atom n) (eqb-true a b h)
-same_value_is (Atom a) (Word w) h = cc
-same_value_is (Atom a) (Pos q) h = cc
-same_value_is (Word v) (Atom b) h = cc
 same_value_is (Word v) (Word w) h = ap (λ n. Word (record { 0 = n })) (eqb-true v.0 w.0 h)
-same_value_is (Word v) (Pos q) h = cc
-same_value_is (Pos p) (Atom b) h = cc
-same_value_is (Pos p) (Word w) h = cc
 same_value_is (Pos p) (Pos q) h = ap (λ n. Pos n) (eqb-true p q h)
+same_value_is v w h = cc
 
 add_keeps : (vs : List Value) (w v : Value) → Among vs v → Among (with_value vs w) v
 add_keeps vs w v h = by (list_any (same_value w) vs)
@@ -135,21 +130,15 @@ word_zero n h = eqb-true n 0 h
 
 -- each value of what is declared is among those that are tried
 pub value_has : (s : Setting) (d : Declared) (v : Value) → is_value s d v ≡ true → Among (declared_values s d) v
-value_has s declared.Undeclared v h = cc
-value_has s declared.Words (Atom a) h = cc
 value_has s declared.Words (Word w) h =
     elim (or_cases (w.0 == 0) (has_word s (Word w)) h) [
       | inl e ↦ all_words_keep (Word (record { 0 = 0 }) ∷ []) s.readings (Word w) (inl (ap (λ n. Word (record { 0 = n })) (word_zero w.0 e)))
       | inr k ↦ all_words_has (Word (record { 0 = 0 }) ∷ []) s.readings (Word w) k
     ]
-value_has s declared.Words (Pos p) h = cc
-value_has s declared.Positions (Atom a) h = cc
-value_has s declared.Positions (Word w) h = cc
 value_has s declared.Positions (Pos p) h =
     among_map (λ q. Pos q) (range_with_len 0 (length s.tokens + 1)) p (range_has (length s.tokens + 1) 0 p (omega arith) (at_most p (length s.tokens) h))
 value_has s (declared.Atoms atoms) (Atom a) h = among_map (λ b. Atom b) atoms a (number_has atoms a h)
-value_has s (declared.Atoms atoms) (Word w) h = cc
-value_has s (declared.Atoms atoms) (Pos p) h = cc
+value_has s d v h = cc
 
 pub feature_has : (s : Setting) (f : ℕ) (v : Value) → fits_feature s f v ≡ true → Among (feature_values s f) v
 feature_has s f v h = value_has s (values_of s.grammar f) v h

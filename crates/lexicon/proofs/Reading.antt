@@ -17,10 +17,7 @@ use Rattle.lexicon.proofs.Owners.{owner_lives}
 -- a word has at most three forms
 pub form_count_le : (kind : Kind) → form_count kind ≤ 3
 form_count_le Name = omega arith
-form_count_le Noun = omega arith
-form_count_le Of = omega arith
-form_count_le Verb = omega arith
-form_count_le Adjective = omega arith
+form_count_le kind = omega arith
 
 -- the readings at the forms from a place on: at that form, and at those after it
 pub readings_from-drop : (kind : Kind) (id : WordId) (token : List ℕ) (forms : List (List ℕ)) (i : ℕ) (form : List ℕ) → i < length forms → form ≡ get_or forms i form → readings_from kind id token i (drop i forms) ≡ cond (bytes_eq token form) (reading kind id i form ∷ readings_from kind id token (i + 1) (drop (i + 1) forms)) (readings_from kind id token (i + 1) (drop (i + 1) forms))

@@ -66,14 +66,7 @@ atoms_count_up items =
 
 element_numbers : (t : Tables) (e : WrittenElement) → element_terminals (numbered_element t e) ≡ map (number_of t.terminals) (written_terminals e)
 element_numbers t (element.Terminal w) = refl
-element_numbers t (element.Preterminal c) = refl
-element_numbers t (element.Sub c) = refl
-element_numbers t (element.Position w) = refl
-element_numbers t element.Opener = refl
-element_numbers t (element.Forward c) = refl
-element_numbers t (element.Strong c) = refl
-element_numbers t (element.Back ps ns) = refl
-element_numbers t (element.NoBack ps) = refl
+element_numbers t e = refl
 
 body_numbers : (t : Tables) (es : List WrittenElement) → flat_map element_terminals (map (numbered_element t) es) ≡ map (number_of t.terminals) (flat_map written_terminals es)
 body_numbers t [] = refl

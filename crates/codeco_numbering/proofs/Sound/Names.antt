@@ -156,17 +156,14 @@ one_name : (c : WrittenCategory) → category_spelled c ≡ true → list_all (�
 one_name c h = and_from (is_identifier c.name) true (category_name c h) refl
 
 element_name : (e : WrittenElement) → element_spelled e ≡ true → list_all (λ c. is_identifier c.name) (plain_categories e) ≡ true
-element_name (element.Terminal w) h = refl
-element_name (element.Preterminal c) h = refl
 element_name (element.Sub c) h = one_name c h
-element_name (element.Position w) h = refl
-element_name element.Opener h = refl
 element_name (element.Forward c) h = one_name c h
 element_name (element.Strong c) h = one_name c h
 element_name (element.Back ps ns) h =
     let parts = and_parts (list_all category_spelled ps) (list_all category_spelled ns) h in
     all_append (λ c. is_identifier c.name) ps ns (all_weaken category_spelled (λ c. is_identifier c.name) category_name ps parts.0) (all_weaken category_spelled (λ c. is_identifier c.name) category_name ns parts.1)
 element_name (element.NoBack ps) h = all_weaken category_spelled (λ c. is_identifier c.name) category_name ps h
+element_name e h = refl
 
 rule_named : (r : WrittenRule) → is_spelled_rule r ≡ true → list_all is_identifier (rule_names r) ≡ true
 rule_named r h =
@@ -184,14 +181,7 @@ categories_named items h =
 
 element_terminals_named : (e : WrittenElement) → element_spelled e ≡ true → list_all is_terminal (written_terminals e) ≡ true
 element_terminals_named (element.Terminal w) h = and_from (is_terminal w) true h refl
-element_terminals_named (element.Preterminal c) h = refl
-element_terminals_named (element.Sub c) h = refl
-element_terminals_named (element.Position w) h = refl
-element_terminals_named element.Opener h = refl
-element_terminals_named (element.Forward c) h = refl
-element_terminals_named (element.Strong c) h = refl
-element_terminals_named (element.Back ps ns) h = refl
-element_terminals_named (element.NoBack ps) h = refl
+element_terminals_named e h = refl
 
 pub terminals_named : (items : List WrittenItem) → list_all item_spelled items ≡ true → list_all is_terminal (terminals_of items) ≡ true
 terminals_named items h =

@@ -27,7 +27,7 @@ use Rattle.scopes.specs.declared.agreement.Tests.{Tests}
 use Rattle.scopes.specs.AccessList.{closed, strong_referents, introduced}
 use Rattle.scopes.specs.Resolution.{Finding, finding, finding_at, has_value, agrees, is_agreeing, closest_finding, last_of}
 use Rattle.derivation_trees.specs.Settings.{Setting, matches_terminal, matches_preterminal, has_word, is_value, fits_feature}
-use Rattle.derivation_trees.specs.Instances.{looked_up, value_under, term_value, feats_under, under, tests_under, term_fits, own_fit, own_values, variables_of, same_numbers, rule_own_features, written_variables, is_instance, features_of}
+use Rattle.derivation_trees.specs.Instances.{looked_up, unwritten, value_under, term_value, feats_under, under, tests_under, term_fits, own_fit, own_values, variables_of, same_numbers, rule_own_features, written_variables, is_instance, features_of}
 use Rattle.derivation_trees.specs.Derives.{first_value, filled_value, own_after, filled, own_rest, referent, takes, is_found, reference_tests, fits}
 
 abbrev pub Binds : Type 0
@@ -251,8 +251,7 @@ filled_turned h vs feats (f ∷ fs) own w =
     ap (λ v. (f, v) ∷ filled (turned_all h vs) feats fs (own_after (turned_all h own) (looked_up feats f))) (filled_value_turned h vs own (looked_up feats f) (looked_written feats f w)) ∙ ap (λ o. (f, turned h (filled_value vs own (looked_up feats f))) ∷ filled (turned_all h vs) feats fs o) (own_after_turned h own (looked_up feats f)) ∙ ap (λ l. (f, turned h (filled_value vs own (looked_up feats f))) ∷ l) (filled_turned h vs feats fs (own_after own (looked_up feats f)) w)
 
 pub rest_turned : (h : ℕ → ℕ) (feats : List (ℕ × Term)) (fs : List ℕ) (own : Binds) → own_rest feats fs (turned_all h own) ≡ turned_all h (own_rest feats fs own)
-rest_turned h feats [] own = refl
-rest_turned h feats (f ∷ fs) own = ap (own_rest feats fs) (own_after_turned h own (looked_up feats f)) ∙ rest_turned h feats fs (own_after own (looked_up feats f))
+rest_turned h feats fs own = drop_turned (turned_pair h) (length (unwritten feats fs)) own
 
 pub referent_turned : (h : ℕ → ℕ) (g : GrammarParts) (vs : Binds) (c : Category) (own : Binds) → AllWritten c.feats → referent g (turned_all h vs) c (turned_all h own) ≡ turned_ground h (referent g vs c own)
 referent_turned h g vs c own w = ap (λ l. record { name = c.name; vals = l }) (filled_turned h vs c.feats (features_of g c.name) own w)

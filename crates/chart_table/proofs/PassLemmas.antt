@@ -1,14 +1,13 @@
 -- Elements of a tree, and where they lead.
-use Rattle.std.proofs.Common.{◌≡◌, ℕ, suc, zero, List, [], ◌∷◌, Bool, true, false, ◌&&◌, ◌||◌, map, filter, length, drop, Option, Some, None, refl, sym, ap, ◌∙◌, arith, cond}
-use Rattle.std.specs.Prelude.{if◌then◌else◌, ◌==◌, not, option_and_then, slice_get}
+use Rattle.std.proofs.Common.{◌≡◌, ℕ, List, [], ◌∷◌, Bool, true, false, ◌&&◌, ◌||◌, Option, Some, None, refl, sym, ap, ◌∙◌, arith}
+use Rattle.std.specs.Prelude.{if◌then◌else◌, ◌==◌, option_and_then, slice_get}
 use Rattle.std.specs.List.{list_any}
 use Rattle.std.proofs.lemmas.Bool.Decides.{nat_tests}
 use Rattle.std.proofs.lemmas.Option.{option_and_then_some, same_Some}
 use Rattle.std.proofs.lemmas.Bool.{and_from}
-use Rattle.wiki_base.proofs.NumberLaws.{eqb_refl, eqb_comm}
+use Rattle.wiki_base.proofs.NumberLaws.{eqb_refl}
 use Rattle.codeco_terms.specs.declared.values.Value.{Value}
 use Rattle.codeco_terms.specs.declared.values.Value.TheVariants.{Atom, Word, Pos}
-use Rattle.codeco_terms.specs.declared.values.Term.{Term}
 use Rattle.codeco_terms.specs.declared.categories.Category.{Category}
 use Rattle.codeco_terms.specs.declared.categories.Pattern.{Pattern}
 use Rattle.codeco_terms.specs.declared.elements.Element.{Element}
@@ -21,8 +20,8 @@ use Rattle.scopes.specs.declared.agreement.Test.{Test}
 use Rattle.scopes.specs.Resolution.{Finding, is_agreeing, closest_finding}
 use Rattle.derivation_trees.specs.Trees.{Nodes, node, none, more}
 use Rattle.derivation_trees.specs.Settings.{Setting, matches_terminal, matches_preterminal}
-use Rattle.derivation_trees.specs.Instances.{looked_up, value_under, under, tests_under, is_instance, own_values, features_of}
-use Rattle.derivation_trees.specs.Derives.{At, Stand, pass, run, pass_child, pass_finding, is_found, takes, own_after, own_rest, reference_tests, phrase_of, phrases_of, phrase, begun, ended, is_none_left, rule_with, fits}
+use Rattle.derivation_trees.specs.Instances.{value_under, under, tests_under, is_instance, own_values, features_of}
+use Rattle.derivation_trees.specs.Derives.{At, Stand, pass, run, pass_child, pass_finding, is_found, takes, own_rest, reference_tests, phrase_of, phrases_of, phrase, begun, ended, is_none_left, rule_with, fits}
 use Rattle.chart_table.specs.Leading.{Leads, ElementLeads, Path, RuleLeads, own_past, closed_at}
 
 -- what holds where a choice gives something
@@ -53,45 +52,6 @@ pub same_value-refl : (v : Value) → same_value v v ≡ true
 same_value-refl (Atom a) = eqb_refl a
 same_value-refl (Word w) = eqb_refl w.0
 same_value-refl (Pos p) = eqb_refl p
-
--- own variables
-
--- a feature is looked up exactly where it is written
-lookup_has_at : (feats : List (ℕ × Term)) (p : ℕ × Term) (f : ℕ) (b : Bool) (o : Option Term) → (p.0 == f) ≡ b → (o ≡ None → has (map (λ q. q.0) feats) f ≡ false) → (if b then Some p.1 else o) ≡ None → has (map (λ q. q.0) (p ∷ feats)) f ≡ false
-lookup_has_at feats p f true o e rest h = absurd (cc)
-lookup_has_at feats p f false o e rest h = ap (λ b. b || has (map (λ q. q.0) feats) f) (eqb_comm f p.0 ∙ e) ∙ rest h
-
-lookup_none : (feats : List (ℕ × Term)) (f : ℕ) → looked_up feats f ≡ None → has (map (λ q. q.0) feats) f ≡ false
-lookup_none [] f h = refl
-lookup_none (p ∷ feats) f h = lookup_has_at feats p f (p.0 == f) (looked_up feats f) refl (lookup_none feats f) h
-
-lookup_has_some : (feats : List (ℕ × Term)) (p : ℕ × Term) (f : ℕ) (t : Term) (b : Bool) (o : Option Term) → (p.0 == f) ≡ b → (o ≡ Some t → has (map (λ q. q.0) feats) f ≡ true) → (if b then Some p.1 else o) ≡ Some t → has (map (λ q. q.0) (p ∷ feats)) f ≡ true
-lookup_has_some feats p f t true o e rest h = ap (λ b. b || has (map (λ q. q.0) feats) f) (eqb_comm f p.0 ∙ e)
-lookup_has_some feats p f t false o e rest h = ap (λ b. b || has (map (λ q. q.0) feats) f) (eqb_comm f p.0 ∙ e) ∙ rest h
-
-lookup_some : (feats : List (ℕ × Term)) (f : ℕ) (t : Term) → looked_up feats f ≡ Some t → has (map (λ q. q.0) feats) f ≡ true
-lookup_some [] f t h = absurd (cc)
-lookup_some (p ∷ feats) f t h = lookup_has_some feats p f t (p.0 == f) (looked_up feats f) refl (lookup_some feats f t) h
-
--- the features of a list that aren't written
-abbrev others : List (ℕ × Term) → List ℕ → List ℕ
-others feats fs = filter (λ f. not (has (map (λ p. p.0) feats) f)) fs
-
-own_rest_at : (feats : List (ℕ × Term)) (f : ℕ) (fs : List ℕ) (own : List (ℕ × Value)) (o : Option Term) → looked_up feats f ≡ o → ((own2 : List (ℕ × Value)) → own_rest feats fs own2 ≡ drop (length (others feats fs)) own2) → own_rest feats fs (own_after own o) ≡ drop (length (others feats (f ∷ fs))) own
-own_rest_at feats f fs own (Some t) e rest =
-    rest own ∙ ap (λ b. drop (length (cond (not b) (f ∷ others feats fs) (others feats fs))) own) (sym (lookup_some feats f t e))
-own_rest_at feats f fs own None e rest =
-    rest (drop 1 own) ∙ drop_drop (length (others feats fs)) own ∙ ap (λ b. drop (length (cond (not b) (f ∷ others feats fs) (others feats fs))) own) (sym (lookup_none feats f e))
-  where
-    drop_drop : (n : ℕ) (own : List (ℕ × Value)) → drop n (drop 1 own) ≡ drop (suc n) own
-    drop_drop zero [] = refl
-    drop_drop (suc n) [] = refl
-    drop_drop n (p ∷ own) = refl
-
--- what is left of the own variables after the features
-pub own_rest_is : (feats : List (ℕ × Term)) (fs : List ℕ) (own : List (ℕ × Value)) → own_rest feats fs own ≡ drop (length (others feats fs)) own
-own_rest_is feats [] own = refl
-own_rest_is feats (f ∷ fs) own = own_rest_at feats f fs own (looked_up feats f) refl (own_rest_is feats fs)
 
 -- From a tree to where its elements lead
 
@@ -142,10 +102,10 @@ passed s values Opener at found own ns after h =
     record { leads = sym (ap (λ x. x.at) same); own_is = sym (ap (λ x. x.own) same); left = ns; children = sym (ap (λ x. x.children) same) }
 passed s values (Forward c) at found own ns after h =
     let same = same_Some _ _ h in
-    record { leads = sym (ap (λ x. x.at) same); own_is = sym (ap (λ x. x.own) same) ∙ own_rest_is c.feats (features_of s.grammar c.name) own; left = ns; children = sym (ap (λ x. x.children) same) }
+    record { leads = sym (ap (λ x. x.at) same); own_is = sym (ap (λ x. x.own) same); left = ns; children = sym (ap (λ x. x.children) same) }
 passed s values (Strong c) at found own ns after h =
     let same = same_Some _ _ h in
-    record { leads = sym (ap (λ x. x.at) same); own_is = sym (ap (λ x. x.own) same) ∙ own_rest_is c.feats (features_of s.grammar c.name) own; left = ns; children = sym (ap (λ x. x.children) same) }
+    record { leads = sym (ap (λ x. x.at) same); own_is = sym (ap (λ x. x.own) same); left = ns; children = sym (ap (λ x. x.children) same) }
 passed s values (Back positive negative) at found own ns after h =
     found_passed s values positive negative at own ns after (closest_finding (reference_tests values positive negative) at.list) found refl (stand_at s at found own ns) refl h
 passed s values (NoBack patterns) at found own ns after h =
@@ -196,12 +156,12 @@ passes s values Opener at own after to_find to_come h = record {
 passes s values (Forward c) at own after to_find to_come h = record {
   found = to_find;
   children = to_come;
-  is = ap (λ a. Some (stand_at s a to_find (own_rest c.feats (features_of s.grammar c.name) own) to_come)) (sym h) ∙ ap (λ o. Some (stand_at s after to_find o to_come)) (own_rest_is c.feats (features_of s.grammar c.name) own);
+  is = ap (λ a. Some (stand_at s a to_find (own_rest c.feats (features_of s.grammar c.name) own) to_come)) (sym h);
 }
 passes s values (Strong c) at own after to_find to_come h = record {
   found = to_find;
   children = to_come;
-  is = ap (λ a. Some (stand_at s a to_find (own_rest c.feats (features_of s.grammar c.name) own) to_come)) (sym h) ∙ ap (λ o. Some (stand_at s after to_find o to_come)) (own_rest_is c.feats (features_of s.grammar c.name) own);
+  is = ap (λ a. Some (stand_at s a to_find (own_rest c.feats (features_of s.grammar c.name) own) to_come)) (sym h);
 }
 passes s values (Back positive negative) at own after to_find to_come h =
     let finding = h.0.0 in

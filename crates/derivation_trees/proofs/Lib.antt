@@ -3,6 +3,7 @@ pub mod OccurrenceLemmas
 pub mod InstanceLemmas
 pub mod StandLemmas
 pub mod LimitLemmas
+pub mod OwnLemmas
 pub mod PieceLemmas
 pub mod WordLemmas
 pub mod CodeLemmas

@@ -20,7 +20,7 @@ use Rattle.scopes.specs.AccessList.{closed, introduced}
 use Rattle.scopes.specs.Resolution.{has_value, is_agreeing, Finding, closest_finding}
 use Rattle.derivation_trees.specs.Trees.{Node, Nodes, node, none, more}
 use Rattle.derivation_trees.specs.Settings.{Setting, matches_terminal, matches_preterminal}
-use Rattle.derivation_trees.specs.Instances.{looked_up, value_under, term_value, under, tests_under, features_of, left_out, written_variables, own_values, is_instance}
+use Rattle.derivation_trees.specs.Instances.{looked_up, unwritten, value_under, term_value, under, tests_under, features_of, left_out, written_variables, own_values, is_instance}
 
 -- a place in the tokens, the number of tokens before it, and the access list there
 pub record At : Type 0 where
@@ -74,10 +74,9 @@ filled values feats [] own = []
 filled values feats (f ∷ fs) own =
     (f, filled_value values own (looked_up feats f)) ∷ filled values feats fs (own_after own (looked_up feats f))
 
--- the own variables to come after the features
+-- the own variables to come after the features: one has gone for each that isn't written
 abbrev pub own_rest : List (ℕ × Term) → List ℕ → List (ℕ × Value) → List (ℕ × Value)
-own_rest feats [] own = own
-own_rest feats (f ∷ fs) own = own_rest feats fs (own_after own (looked_up feats f))
+own_rest feats features own = drop (length (unwritten feats features)) own
 
 -- the referent that a category introduces: it has all features of the category
 abbrev pub referent : GrammarParts → List (ℕ × Value) → Category → List (ℕ × Value) → Ground

@@ -66,9 +66,13 @@ features_in name category = if category.name == name then map (λ f. f.0) catego
 abbrev pub features_of : GrammarParts → ℕ → List ℕ
 features_of g name = put_all [] (features_written g name)
 
+-- those of the features that aren't written
+abbrev pub unwritten : List (ℕ × Term) → List ℕ → List ℕ
+unwritten feats features = filter (λ f. not (has (map (λ p. p.0) feats) f)) features
+
 -- the features that a category leaves out
 abbrev pub left_out : GrammarParts → Category → List ℕ
-left_out g category = filter (λ f. not (has (map (λ p. p.0) category.feats) f)) (features_of g category.name)
+left_out g category = unwritten category.feats (features_of g category.name)
 
 -- the features that an introduction leaves out
 abbrev pub own_features : GrammarParts → Element → List ℕ

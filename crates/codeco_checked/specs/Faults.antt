@@ -90,11 +90,13 @@ same_variable (Var x) u = has (term_variables u) x
 
 -- a variable in two features of different values
 abbrev pub has_mixed_variable : GrammarParts → Rule → Bool
-has_mixed_variable g r = list_any (λ f. list_any (λ h. same_variable f.1 h.1 && not (same_values (values_of g f.0) (values_of g h.0))) (rule_features r)) (rule_features r)
+has_mixed_variable g r = list_any (λ f. list_any (λ h. same_variable f.1 h.1 && not (same_values (values_of g f.0) (values_of g h.0))) (rule_features r))
+    (rule_features r)
 
 -- #X where X stands in a feature that isn't of positions
 abbrev pub has_wrong_position : GrammarParts → Rule → Bool
-has_wrong_position g r = list_any (λ x. list_any (λ f. has (term_variables f.1) x && not (same_values (values_of g f.0) declared.Positions)) (rule_features r)) (flat_map positions r.body)
+has_wrong_position g r = list_any (λ x. list_any (λ f. has (term_variables f.1) x && not (same_values (values_of g f.0) declared.Positions)) (rule_features r))
+    (flat_map positions r.body)
 
 abbrev pub is_double : List ℕ → Bool
 is_double xs = nat_lt (count_different xs) (length xs)
@@ -105,11 +107,13 @@ has_double_feature r = list_any (λ c. is_double (map (λ f. f.0) c.feats)) (rul
 
 -- the features that the words of a kind give, by the number of the preterminal
 abbrev pub given_features : ℕ → List ℕ
-given_features name = if name == 0 then 3 ∷ [] else (if name == 1 then 0 ∷ 1 ∷ 3 ∷ [] else (if name == 2 then 1 ∷ 3 ∷ [] else (if name == 3 then 2 ∷ 3 ∷ [] else (if name == 4 then 3 ∷ [] else []))))
+given_features name = if name == 0 then 3 ∷ []
+    else (if name == 1 then 0 ∷ 1 ∷ 3 ∷ [] else (if name == 2 then 1 ∷ 3 ∷ [] else (if name == 3 then 2 ∷ 3 ∷ [] else (if name == 4 then 3 ∷ [] else []))))
 
 -- the values of the features that words give: num is sg or pl, vow yes or no, form third, inf or part, and w a word
 abbrev pub given_values : ℕ → Declared
-given_values f = if f == 0 then declared.Atoms (0 ∷ 1 ∷ []) else (if f == 1 then declared.Atoms (2 ∷ 3 ∷ []) else (if f == 2 then declared.Atoms (4 ∷ 5 ∷ 6 ∷ []) else declared.Words))
+given_values f = if f == 0 then declared.Atoms (0 ∷ 1 ∷ [])
+    else (if f == 1 then declared.Atoms (2 ∷ 3 ∷ []) else (if f == 2 then declared.Atoms (4 ∷ 5 ∷ 6 ∷ []) else declared.Words))
 
 abbrev pub preterminals : Element → List Category
 preterminals (Preterminal c) = c ∷ []

@@ -207,4 +207,5 @@ differs_from_first (first ∷ rules) r = if is_some first.label then not (is_som
 
 -- rule n has a label and rule 1 has none, or the other way round; or no kinds of the categories fit the first n rules
 abbrev pub IsMisfit : List Rule → ℕ → Type 0
-IsMisfit rules n = (r : Rule) × (0 < n) × (slice_get rules (n - 1) ≡ Some r) × (IsTrue (differs_from_first rules r) ⊎ ((kinds : ℕ → Kind) → FitKinds rules n kinds → ⊥))
+IsMisfit rules n = (r : Rule) × (0 < n) × (slice_get rules (n - 1) ≡ Some r)
+    × (IsTrue (differs_from_first rules r) ⊎ ((kinds : ℕ → Kind) → FitKinds rules n kinds → ⊥))

@@ -30,24 +30,33 @@ use Rattle.codeco_early_faults.proofs.RulesSame.{rules_fit}
 use Rattle.codeco_early_faults.proofs.PairsThere.{feature_table, rule_categories_there, plain_features, kind_features, kind_names, plain_rules_first}
 
 -- the features that rules give to a name, rule by rule
-joined_rules : (num : List ℕ → ℕ) (w : List ℕ) (f : WrittenRule → List (List ℕ × List ℕ)) (rs : List WrittenRule) → flat_map (λ r. map num (names_with w (f r))) rs ≡ map num (names_with w (flat_map f rs))
+joined_rules : (num : List ℕ → ℕ) (w : List ℕ) (f : WrittenRule → List (List ℕ × List ℕ)) (rs : List WrittenRule)
+    → flat_map (λ r. map num (names_with w (f r))) rs ≡ map num (names_with w (flat_map f rs))
 joined_rules num w f [] = refl
-joined_rules num w f (r ∷ rs) = joined num w (f r) (flat_map f rs) (map num (names_with w (f r))) (flat_map (λ x. map num (names_with w (f x))) rs) refl (joined_rules num w f rs)
+joined_rules num w f (r ∷ rs) = joined num w (f r) (flat_map f rs) (map num (names_with w (f r))) (flat_map (λ x. map num (names_with w (f x))) rs) refl
+    (joined_rules num w f rs)
 
 abbrev rule_gives : ℕ → Rule → List ℕ
 rule_gives n r = flat_map (λ c. given_at n c.name c.feats) (rule_mentions r)
 
-written_same : (items : List WrittenItem) (n : ℕ) (w : List ℕ) (f : WrittenRule → List (List ℕ × List ℕ)) (fits : WrittenRule → Bool) → ((r : WrittenRule) → fits r ≡ true → Same (rule_gives n (numbered_in items r)) (map (number_of (feature_table items)) (names_with w (f r)))) → list_all fits (rules_of items) ≡ true → Same (features_written (numbered_of items) n) (map (number_of (feature_table items)) (names_with w (flat_map f (rules_of items))))
+written_same : (items : List WrittenItem) (n : ℕ) (w : List ℕ) (f : WrittenRule → List (List ℕ × List ℕ)) (fits : WrittenRule → Bool)
+    → ((r : WrittenRule) → fits r ≡ true → Same (rule_gives n (numbered_in items r)) (map (number_of (feature_table items)) (names_with w (f r))))
+    → list_all fits (rules_of items) ≡ true
+    → Same (features_written (numbered_of items) n) (map (number_of (feature_table items)) (names_with w (flat_map f (rules_of items))))
 written_same items n w f fits each h =
     same_trans (same_from (flat_map-map (rule_gives n) (numbered_in items) (rules_of items)))
-    (same_trans (same_flat fits (λ r. rule_gives n (numbered_in items r)) (λ r. map (number_of (feature_table items)) (names_with w (f r))) each (rules_of items) h)
+    (same_trans (same_flat fits (λ r. rule_gives n (numbered_in items r)) (λ r. map (number_of (feature_table items)) (names_with w (f r))) each
+    (rules_of items) h)
     (same_from (joined_rules (number_of (feature_table items)) w f (rules_of items))))
 
 -- a preterminal
-kind_count : (items : List WrittenItem) → list_all item_fits items ≡ true → (w : List ℕ) → is_among kinds w ≡ true → count_different (features_written (numbered_of items) (number_of kinds w)) ≡ count_texts (names_with w (written_kind_pairs items))
+kind_count : (items : List WrittenItem) → list_all item_fits items ≡ true → (w : List ℕ) → is_among kinds w ≡ true
+    → count_different (features_written (numbered_of items) (number_of kinds w)) ≡ count_texts (names_with w (written_kind_pairs items))
 kind_count items h w here =
     let n = number_of kinds w in
-    let same = written_same items n w rule_kind_pairs rule_fits (λ r e. same_trans (rule_given (given_at n) (given_kept n) (tables_of items r) r e) (same_from (kind_rule (tables_of items r) w here r))) (rules_fit items h) in
+    let same = written_same items n w rule_kind_pairs rule_fits
+    (λ r e. same_trans (rule_given (given_at n) (given_kept n) (tables_of items r) r e) (same_from (kind_rule (tables_of items r) w here r)))
+    (rules_fit items h) in
     same.moved count_different count_different_move ∙ numbers_differ (feature_table items) (names_with w (written_kind_pairs items)) (kind_features items w)
 
 text_there : (items : List WrittenItem) → is_among (categories_of items) (codes "text") ≡ true
@@ -57,19 +66,23 @@ text_first : (items : List WrittenItem) → number_of (categories_of items) (cod
 text_first items = number_kept (codes "text" ∷ []) (flat_map rule_names (rules_of items)) (codes "text") refl
 
 -- another category
-plain_count : (items : List WrittenItem) → list_all item_fits items ≡ true → (w : List ℕ) → is_among (categories_of items) w ≡ true → count_different (features_written (numbered_of items) (5 + number_of (categories_of items) w)) ≡ count_texts (names_with w (written_plain_pairs items))
+plain_count : (items : List WrittenItem) → list_all item_fits items ≡ true → (w : List ℕ) → is_among (categories_of items) w ≡ true
+    → count_different (features_written (numbered_of items) (5 + number_of (categories_of items) w)) ≡ count_texts (names_with w (written_plain_pairs items))
 plain_count items h w here =
     let n = 5 + number_of (categories_of items) w in
     let named : WrittenRule → Bool = λ r. list_all (λ c. is_among (categories_of items) c.name) (r.head ∷ flat_map plain_categories r.body) in
     let same = written_same items n w rule_plain_pairs (λ r. rule_fits r && named r)
-    (λ r e. let parts = and_parts (rule_fits r) (named r) e in same_trans (rule_given (given_at n) (given_kept n) (tables_of items r) r parts.0) (same_from (plain_rule (tables_of items r) w here (text_first items) (text_there items) r parts.1)))
+    (λ r e. let parts = and_parts (rule_fits r) (named r) e in
+    same_trans (rule_given (given_at n) (given_kept n) (tables_of items r) r parts.0)
+    (same_from (plain_rule (tables_of items r) w here (text_first items) (text_there items) r parts.1)))
     (both_all rule_fits named (rules_of items) (rules_fit items h) (rule_categories_there items)) in
     same.moved count_different count_different_move ∙ numbers_differ (feature_table items) (names_with w (written_plain_pairs items)) (plain_features items w)
 
 -- Over all names
 
 -- a test of the numbers from k on, where it is a test of names
-range_any : (P : ℕ → Bool) (q : List ℕ → Bool) (xs : List (List ℕ)) (k : ℕ) → ((j : ℕ) → j < length xs → P (k + j) ≡ q (get_or xs j [])) → list_any P (range_with_len k (length xs)) ≡ list_any q xs
+range_any : (P : ℕ → Bool) (q : List ℕ → Bool) (xs : List (List ℕ)) (k : ℕ) → ((j : ℕ) → j < length xs → P (k + j) ≡ q (get_or xs j []))
+    → list_any P (range_with_len k (length xs)) ≡ list_any q xs
 range_any P q [] k same = refl
 range_any P q (x ∷ xs) k same =
     let here : k + 0 ≡ k = omega arith in
@@ -131,7 +144,8 @@ module _ (ps : List (List ℕ × List ℕ)) where
     | inr s ↦ or_right (wide x) (list_any wide xs) (any_among xs w s h)
   ]
 
-  to_names : (names : List (List ℕ)) (qs : List (List ℕ × List ℕ)) → list_all (λ (p : List ℕ × List ℕ). is_among names p.0) qs ≡ true → list_any (λ (p : List ℕ × List ℕ). wide p.0) qs ≡ true → list_any wide names ≡ true
+  to_names : (names : List (List ℕ)) (qs : List (List ℕ × List ℕ)) → list_all (λ (p : List ℕ × List ℕ). is_among names p.0) qs ≡ true
+      → list_any (λ (p : List ℕ × List ℕ). wide p.0) qs ≡ true → list_any wide names ≡ true
   to_names names [] a h = absurd cc
   to_names names (q ∷ qs) a h =
       let parts = and_parts (is_among names q.0) (list_all (λ (p : List ℕ × List ℕ). is_among names p.0) qs) a in
@@ -155,7 +169,8 @@ or_split false false false false false f = refl
 abbrev over : List WrittenItem → ℕ → Bool
 over items n = ltb 16 (count_different (features_written (numbered_of items) n))
 
-kinds_over : (items : List WrittenItem) → list_all item_fits items ≡ true → list_any (over items) (range_with_len 0 (length kinds)) ≡ has_wide (written_kind_pairs items)
+kinds_over : (items : List WrittenItem) → list_all item_fits items ≡ true
+    → list_any (over items) (range_with_len 0 (length kinds)) ≡ has_wide (written_kind_pairs items)
 kinds_over items h =
     range_any (over items) (wide (written_kind_pairs items)) kinds 0 (λ j lt.
     let w = get_or kinds j [] in
@@ -163,18 +178,21 @@ kinds_over items h =
     ap (over items) number ∙ ap (ltb 16) (kind_count items h w (among_at kinds j lt)))
     ∙ wide_names (written_kind_pairs items) kinds (kind_names items)
 
-plains_over : (items : List WrittenItem) → list_all item_fits items ≡ true → list_any (over items) (range_with_len 5 (length (categories_of items))) ≡ has_wide (written_plain_pairs items)
+plains_over : (items : List WrittenItem) → list_all item_fits items ≡ true
+    → list_any (over items) (range_with_len 5 (length (categories_of items))) ≡ has_wide (written_plain_pairs items)
 plains_over items h =
     let cats = categories_of items in
     range_any (over items) (wide (written_plain_pairs items)) cats 5 (λ j lt.
     let w = get_or cats j [] in
-    let number : 5 + j ≡ 5 + number_of cats w = ap (λ k. 5 + k) (sym (number_at cats j (differ_gathered (codes "text" ∷ []) (flat_map rule_names (rules_of items)) refl) lt)) in
+    let number : 5 + j ≡ 5 + number_of cats w =
+    ap (λ k. 5 + k) (sym (number_at cats j (differ_gathered (codes "text" ∷ []) (flat_map rule_names (rules_of items)) refl) lt)) in
     ap (over items) number ∙ ap (ltb 16) (plain_count items h w (among_at cats j lt)))
     ∙ wide_names (written_plain_pairs items) cats (plain_rules_first cats (text_there items) (rules_of items) (rule_categories_there items))
 
 pub broad_category : (items : List WrittenItem) → list_all item_fits items ≡ true → has_broad_category (numbered_of items) ≡ has_broad_written_category items
 broad_category items h =
-    or_split (over items 0) (over items 1) (over items 2) (over items 3) (over items 4) (list_any (over items) (range_with_len 5 (length (categories_of items))))
+    or_split (over items 0) (over items 1) (over items 2) (over items 3) (over items 4)
+    (list_any (over items) (range_with_len 5 (length (categories_of items))))
     ∙ ap (λ b. b || list_any (over items) (range_with_len 5 (length (categories_of items)))) (kinds_over items h)
     ∙ ap (λ b. has_wide (written_kind_pairs items) || b) (plains_over items h)
     ∙ or_comm (has_wide (written_kind_pairs items)) (has_wide (written_plain_pairs items))

@@ -59,7 +59,8 @@ module _ {X : Type 0} (same : X → X → Bool) (d : Decides same) where
             omega arith
         | inr e ↦
             let left : zero_if (list_any (same x) (xs ++ w ∷ ys)) ≡ zero_if others = ap zero_if (member ∙ ap (λ b. b || others) e) in
-            let right : zero_if (same w x || list_any (same w) (xs ++ ys)) ≡ zero_if (list_any (same w) (xs ++ ys)) = ap (λ (b : Bool). zero_if (b || list_any (same w) (xs ++ ys))) (differs_comm x w e) in
+            let right : zero_if (same w x || list_any (same w) (xs ++ ys)) ≡ zero_if (list_any (same w) (xs ++ ys)) =
+            ap (λ (b : Bool). zero_if (b || list_any (same w) (xs ++ ys))) (differs_comm x w e) in
             omega arith
       ]
 
@@ -101,7 +102,8 @@ differ_counts (w ∷ ws) =
 differ_move_not : (xs ys : List (List ℕ)) (w : List ℕ) → not (differ (xs ++ w ∷ ys)) ≡ not (differ (w ∷ (xs ++ ys)))
 differ_move_not xs ys w =
     let long : length (xs ++ w ∷ ys) ≡ length (w ∷ (xs ++ ys)) = omega (arith, length-append xs (w ∷ ys), length-append xs ys) in
-    sym (differ_counts (xs ++ w ∷ ys)) ∙ ap (λ n. ltb n (length (xs ++ w ∷ ys))) (count_texts_move xs ys w) ∙ ap (λ n. ltb (count_texts (w ∷ (xs ++ ys))) n) long ∙ differ_counts (w ∷ (xs ++ ys))
+    sym (differ_counts (xs ++ w ∷ ys)) ∙ ap (λ n. ltb n (length (xs ++ w ∷ ys))) (count_texts_move xs ys w)
+    ∙ ap (λ n. ltb (count_texts (w ∷ (xs ++ ys))) n) long ∙ differ_counts (w ∷ (xs ++ ys))
 
 not_back : (a b : Bool) → not a ≡ not b → a ≡ b
 not_back true true h = refl

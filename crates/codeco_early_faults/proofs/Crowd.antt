@@ -43,7 +43,8 @@ module _ {X : Type 0} (f : X → List ℕ) (xs : List X) (i : ℕ) (d : X) (lt :
       let long : i < length names = omega (arith, length-map xs f) in
       let at : get_or names i (f d) ≡ here = get_or-map f xs i d in
       let one : one_if (same_bytes here (get_or names i (f d))) ≡ 1 = ap one_if (ap (same_bytes here) at ∙ same_bytes_refl here) in
-      let more : times here (take i names) + one_if (same_bytes here (get_or names i (f d))) ≤ times here names = sum_by_more_le (λ x. one_if (same_bytes here x)) names i (f d) long in
+      let more : times here (take i names) + one_if (same_bytes here (get_or names i (f d))) ≤ times here names =
+      sum_by_more_le (λ x. one_if (same_bytes here x)) names i (f d) long in
       let same : times here (take i names) ≡ times here (map f (take i xs)) = ap (times here) (take-map f i xs) in
       let full : 16 < times here names = omega arith in
       sym (list_any_at (λ v. ltb 16 (times v names)) names i (f d) long (ap (λ v. ltb 16 (times v names)) at ∙ lt-ltb 16 (times here names) full))
@@ -52,13 +53,15 @@ none_full : (names ws : List (List ℕ)) → ((w : List ℕ) → times w names �
 none_full names [] few = refl
 none_full names (w ∷ ws) few = ap (λ b. b || list_any (λ v. ltb 16 (times v names)) ws) (le-ltb 16 (times w names) (few w)) ∙ none_full names ws few
 
-pub no_crowd : {X : Type 0} (f : X → List ℕ) (xs : List X) (i : ℕ) → length xs ≤ i → ((w : List ℕ) → times w (map f (take i xs)) ≤ 16) → false ≡ has_crowd 16 (map f xs)
+pub no_crowd : {X : Type 0} (f : X → List ℕ) (xs : List X) (i : ℕ) → length xs ≤ i → ((w : List ℕ) → times w (map f (take i xs)) ≤ 16)
+    → false ≡ has_crowd 16 (map f xs)
 no_crowd f xs i past few =
     let all : take i xs ≡ xs = take_all i xs past in
     sym (none_full (map f xs) (map f xs) (λ w. subst (λ ys. times w (map f ys) ≤ 16) all (few w)))
 
 -- what a table counts of the name w, after one more of the name v, of which it counted n
-pub counted_more : (w v : List ℕ) (names : List (List ℕ)) (n : ℕ) (old new : Option ℕ) → new ≡ cond (pointwise nat_eq v w) (Some (n + 1)) old → n ≡ times v names → unwrap_or old 0 ≡ times w names → unwrap_or new 0 ≡ times w names + one_if (same_bytes w v)
+pub counted_more : (w v : List ℕ) (names : List (List ℕ)) (n : ℕ) (old new : Option ℕ) → new ≡ cond (pointwise nat_eq v w) (Some (n + 1)) old
+    → n ≡ times v names → unwrap_or old 0 ≡ times w names → unwrap_or new 0 ≡ times w names + one_if (same_bytes w v)
 counted_more w v names n old new put had before = by (same_bytes v w) (pointwise_same v w)
   where
     by : (b : Bool) → pointwise nat_eq v w ≡ b → unwrap_or new 0 ≡ times w names + one_if (same_bytes w v)

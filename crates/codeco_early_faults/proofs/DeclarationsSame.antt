@@ -24,7 +24,8 @@ use Rattle.codeco_early_faults.proofs.Declared.{declared_of, declarations, with_
 
 -- Limits
 
-names_counted : (items : List WrittenItem) → count_texts (map (λ f. f.name) (filter (λ f. is_declared f.declared) (numbered_of items).features)) ≡ count_texts (declared_names items)
+names_counted : (items : List WrittenItem)
+    → count_texts (map (λ f. f.name) (filter (λ f. is_declared f.declared) (numbered_of items).features)) ≡ count_texts (declared_names items)
 names_counted items =
     let fs = all_features items in
     let same : Same (map (λ p. p.0) (declared_of fs)) (map (λ p. p.0) (declarations items)) = same_map (λ p. p.0) (features_declared items) in
@@ -36,7 +37,8 @@ domain_numbers atoms (Some domain.Words) = refl
 domain_numbers atoms (Some domain.Positions) = refl
 domain_numbers atoms (Some (domain.Atoms ws)) = refl
 
-feature_numbers : (atoms : List (List ℕ)) (fs : List NamedFeature) → flat_map (λ f. declared_atoms f.declared) (map (numbered_feature atoms) fs) ≡ map (number_of atoms) (atoms_in fs)
+feature_numbers : (atoms : List (List ℕ)) (fs : List NamedFeature)
+    → flat_map (λ f. declared_atoms f.declared) (map (numbered_feature atoms) fs) ≡ map (number_of atoms) (atoms_in fs)
 feature_numbers atoms [] = refl
 feature_numbers atoms (f ∷ fs) =
     ap (λ (l : List ℕ). l ++ flat_map (λ x. declared_atoms x.declared) (map (numbered_feature atoms) fs)) (domain_numbers atoms f.domain)
@@ -49,7 +51,8 @@ atoms_there fs = all_gathered first_atoms (atoms_in fs)
 atoms_counted : (items : List WrittenItem) → count_different (grammar_atoms (numbered_of items)) ≡ count_texts (early.declared_atoms items)
 atoms_counted items =
     let fs = all_features items in
-    let same : Same (flat_map (λ p. domain_atoms p.1) (declared_of fs)) (flat_map (λ p. domain_atoms p.1) (declarations items)) = same_parts (λ p. domain_atoms p.1) (features_declared items) in
+    let same : Same (flat_map (λ p. domain_atoms p.1) (declared_of fs)) (flat_map (λ p. domain_atoms p.1) (declarations items)) =
+    same_parts (λ p. domain_atoms p.1) (features_declared items) in
     ap count_different (feature_numbers (atoms_of fs) fs)
     ∙ numbers_differ (atoms_of fs) (atoms_in fs) (atoms_there fs)
     ∙ ap count_texts (sym (feature_atoms_in fs))
@@ -88,7 +91,8 @@ filled_names (f ∷ fs) name d h =
           ∙ ap (λ (l : List (List ℕ)). f.name ∷ l) (filled_names fs name d (sym (ap (λ b. b || has_open fs name) e) ∙ h))
     ]
 
-pushed_names : (fs : List NamedFeature) (name : List ℕ) (d : Domain) → has_open fs name ≡ false → names_in (with_declaration fs name d) ≡ names_in fs ++ name ∷ []
+pushed_names : (fs : List NamedFeature) (name : List ℕ) (d : Domain) → has_open fs name ≡ false
+    → names_in (with_declaration fs name d) ≡ names_in fs ++ name ∷ []
 pushed_names [] name d h = refl
 pushed_names (f ∷ fs) name d h =
     let test = same_bytes name f.name && is_open f.domain in
@@ -104,7 +108,8 @@ closed_among (f ∷ fs) name h =
     let parts = or_parts (same_bytes name f.name && is_open f.domain) (has_open fs name) h in
     by f.domain parts.0 (closed_among fs name parts.1)
   where
-    by : (o : Option Domain) → (same_bytes name f.name && is_open o) ≡ false → is_among (names_in fs) name ≡ is_among (declared_in fs) name → (same_bytes name f.name || is_among (names_in fs) name) ≡ is_among (map (λ p. p.0) (with_domain f.name o ++ declared_of fs)) name
+    by : (o : Option Domain) → (same_bytes name f.name && is_open o) ≡ false → is_among (names_in fs) name ≡ is_among (declared_in fs) name
+        → (same_bytes name f.name || is_among (names_in fs) name) ≡ is_among (map (λ p. p.0) (with_domain f.name o ++ declared_of fs)) name
     by None e rest = ap (λ b. b || is_among (names_in fs) name) (sym (last (same_bytes name f.name)) ∙ e) ∙ rest
       where
         last : (a : Bool) → (a && true) ≡ a
@@ -141,28 +146,37 @@ declared_differ (f ∷ fs) h =
         let parts = or_parts (same_bytes w g.name) (is_among (names_in gs) w) e in
         one g.domain parts.0 (fewer gs w parts.1)
       where
-        one : (o : Option Domain) → same_bytes w g.name ≡ false → is_among (declared_in gs) w ≡ false → is_among (map (λ p. p.0) (with_domain g.name o ++ declared_of gs)) w ≡ false
+        one : (o : Option Domain) → same_bytes w g.name ≡ false → is_among (declared_in gs) w ≡ false
+            → is_among (map (λ p. p.0) (with_domain g.name o ++ declared_of gs)) w ≡ false
         one None e rest = rest
         one (Some d) e rest = ap (λ b. b || is_among (declared_in gs) w) e ∙ rest
 
-    by : (o : Option Domain) → is_among (names_in fs) f.name ≡ false → differ (declared_in fs) ≡ true → differ (map (λ p. p.0) (with_domain f.name o ++ declared_of fs)) ≡ true
+    by : (o : Option Domain) → is_among (names_in fs) f.name ≡ false → differ (declared_in fs) ≡ true
+        → differ (map (λ p. p.0) (with_domain f.name o ++ declared_of fs)) ≡ true
     by None e rest = rest
     by (Some d) e rest = ap (λ b. not b && differ (declared_in fs)) (fewer fs f.name e) ∙ rest
 
-items_differ : (items : List WrittenItem) (fs : List NamedFeature) → differ (names_in fs) ≡ true → differ (names_in (with_items fs items)) ≡ differ (declared_names items ++ declared_in fs)
+items_differ : (items : List WrittenItem) (fs : List NamedFeature) → differ (names_in fs) ≡ true
+    → differ (names_in (with_items fs items)) ≡ differ (declared_names items ++ declared_in fs)
 items_differ [] fs h = h ∙ sym (declared_differ fs h)
 items_differ (item.Rule r ∷ items) fs h = items_differ items fs h
 items_differ (item.Feature name d ∷ items) fs h =
     by (has_open fs name) (is_among (names_in fs) name) refl refl (λ k. items_differ items (with_declaration fs name d) k)
   where
     moved : Same (declared_names items ++ declared_in (with_declaration fs name d)) (name ∷ (declared_names items ++ declared_in fs))
-    moved = same_trans (same_append (same_refl (declared_names items)) (same_map (λ p. p.0) (declare_put fs name d))) (same_put (declared_names items) (declared_in fs) name)
+    moved = same_trans (same_append (same_refl (declared_names items)) (same_map (λ p. p.0) (declare_put fs name d)))
+        (same_put (declared_names items) (declared_in fs) name)
 
-    by : (a b : Bool) → has_open fs name ≡ a → is_among (names_in fs) name ≡ b → (differ (names_in (with_declaration fs name d)) ≡ true → differ (names_in (with_items (with_declaration fs name d) items)) ≡ differ (declared_names items ++ declared_in (with_declaration fs name d))) → differ (names_in (with_items (with_declaration fs name d) items)) ≡ differ (name ∷ (declared_names items ++ declared_in fs))
+    by : (a b : Bool) → has_open fs name ≡ a → is_among (names_in fs) name ≡ b
+        → (differ (names_in (with_declaration fs name d)) ≡ true
+        → differ (names_in (with_items (with_declaration fs name d) items)) ≡ differ (declared_names items ++ declared_in (with_declaration fs name d)))
+        → differ (names_in (with_items (with_declaration fs name d) items)) ≡ differ (name ∷ (declared_names items ++ declared_in fs))
     by true b e f rest = rest (ap differ (filled_names fs name d e) ∙ h) ∙ same_test moved differ differ_move
     by false false e f rest = rest (ap differ (pushed_names fs name d e) ∙ differ_push (names_in fs) name h f) ∙ same_test moved differ differ_move
     by false true e f rest =
-        let there : is_among (declared_names items ++ declared_in fs) name ≡ true = among-append (declared_names items) (declared_in fs) name ∙ or_right (is_among (declared_names items) name) (is_among (declared_in fs) name) (sym (closed_among fs name e) ∙ f) in
+        let there : is_among (declared_names items ++ declared_in fs) name ≡ true =
+        among-append (declared_names items) (declared_in fs) name
+        ∙ or_right (is_among (declared_names items) name) (is_among (declared_in fs) name) (sym (closed_among fs name e) ∙ f) in
         items_stay_double items (with_declaration fs name d) (ap differ (pushed_names fs name d e) ∙ stands_before (names_in fs) [] name f)
         ∙ sym (ap (λ b. not b && differ (declared_names items ++ declared_in fs)) there)
 
@@ -194,19 +208,23 @@ double_numbers atoms ws h =
     ∙ ap (ltb (count_texts ws)) (length-map ws (number_of atoms))
     ∙ differ_counts ws
 
-doubles_numbered : (atoms : List (List ℕ)) (fs : List NamedFeature) → list_all (λ f. all_among atoms (feature_atoms f.domain)) fs ≡ true → list_any (λ f. is_double (declared_atoms f.declared)) (map (numbered_feature atoms) fs) ≡ list_any (λ p. not (differ (domain_atoms p.1))) (declared_of fs)
+doubles_numbered : (atoms : List (List ℕ)) (fs : List NamedFeature) → list_all (λ f. all_among atoms (feature_atoms f.domain)) fs ≡ true
+    → list_any (λ f. is_double (declared_atoms f.declared)) (map (numbered_feature atoms) fs) ≡ list_any (λ p. not (differ (domain_atoms p.1))) (declared_of fs)
 doubles_numbered atoms [] h = refl
 doubles_numbered atoms (f ∷ fs) h =
     let parts = and_parts (all_among atoms (feature_atoms f.domain)) (list_all (λ x. all_among atoms (feature_atoms x.domain)) fs) h in
-    ap (λ b. b || list_any (λ x. is_double (declared_atoms x.declared)) (map (numbered_feature atoms) fs)) (ap is_double (domain_numbers atoms f.domain) ∙ double_numbers atoms (feature_atoms f.domain) parts.0)
+    ap (λ b. b || list_any (λ x. is_double (declared_atoms x.declared)) (map (numbered_feature atoms) fs))
+    (ap is_double (domain_numbers atoms f.domain) ∙ double_numbers atoms (feature_atoms f.domain) parts.0)
     ∙ ap (λ b. not (differ (feature_atoms f.domain)) || b) (doubles_numbered atoms fs parts.1)
     ∙ one f.domain
   where
-    one : (o : Option Domain) → (not (differ (feature_atoms o)) || list_any (λ p. not (differ (domain_atoms p.1))) (declared_of fs)) ≡ list_any (λ p. not (differ (domain_atoms p.1))) (with_domain f.name o ++ declared_of fs)
+    one : (o : Option Domain) → (not (differ (feature_atoms o)) || list_any (λ p. not (differ (domain_atoms p.1))) (declared_of fs))
+        ≡ list_any (λ p. not (differ (domain_atoms p.1))) (with_domain f.name o ++ declared_of fs)
     one None = refl
     one (Some d) = refl
 
-doubles_declared : (items : List WrittenItem) → list_any (λ p. not (differ (domain_atoms p.1))) (declarations items) ≡ list_any (λ i. not (differ (item_atoms i))) items
+doubles_declared : (items : List WrittenItem)
+    → list_any (λ p. not (differ (domain_atoms p.1))) (declarations items) ≡ list_any (λ i. not (differ (item_atoms i))) items
 doubles_declared [] = refl
 doubles_declared (item.Rule r ∷ items) = doubles_declared items
 doubles_declared (item.Feature name d ∷ items) = ap (λ b. not (differ (domain_atoms d)) || b) (doubles_declared items)
@@ -216,5 +234,9 @@ double_declaration items =
     let fs = all_features items in
     let atoms = atoms_of fs in
     let there = all_flat (is_among atoms) (λ f. feature_atoms f.domain) fs (atoms_there fs) in
-    ap (λ b. not b || list_any (λ f. is_double (declared_atoms f.declared)) (map (numbered_feature atoms) fs)) (ap differ (numbered_names atoms fs) ∙ features_differ items)
-    ∙ ap (λ b. not (differ (declared_names items)) || b) (doubles_numbered atoms fs there ∙ same_test (features_declared items) (list_any (λ p. not (differ (domain_atoms p.1)))) (any_move (λ p. not (differ (domain_atoms p.1)))) ∙ doubles_declared items)
+    ap (λ b. not b || list_any (λ f. is_double (declared_atoms f.declared)) (map (numbered_feature atoms) fs))
+    (ap differ (numbered_names atoms fs) ∙ features_differ items)
+    ∙ ap (λ b. not (differ (declared_names items)) || b)
+    (doubles_numbered atoms fs there
+    ∙ same_test (features_declared items) (list_any (λ p. not (differ (domain_atoms p.1)))) (any_move (λ p. not (differ (domain_atoms p.1))))
+    ∙ doubles_declared items)

@@ -65,7 +65,8 @@ undeclared_none fs (w ∷ ws) =
     let more : List NamedFeature = fs ++ undeclared w ∷ [] in
     undeclared_none (cond there fs more) ws ∙ elim (cases_Bool there) [
       | inl e ↦ ap declared_of (cond-true there fs more e)
-      | inr e ↦ ap declared_of (cond-false there fs more e) ∙ flat_map-append (λ f. with_domain f.name f.domain) fs (undeclared w ∷ []) ∙ append-nil (declared_of fs)
+      | inr e ↦ ap declared_of (cond-false there fs more e) ∙ flat_map-append (λ f. with_domain f.name f.domain) fs (undeclared w ∷ [])
+          ∙ append-nil (declared_of fs)
     ]
 
 pub features_declared : (items : List WrittenItem) → Same (declared_of (all_features items)) (declarations items)
@@ -86,18 +87,21 @@ declaration_atoms [] = refl
 declaration_atoms (item.Rule r ∷ items) = declaration_atoms items
 declaration_atoms (item.Feature name d ∷ items) = ap (λ (l : List (List ℕ)). domain_atoms d ++ l) (declaration_atoms items)
 
-feature_named : (atoms : List (List ℕ)) (name : List ℕ) (o : Option Domain) (rest : List (List ℕ)) → cond (is_declared (numbered_domain atoms o)) (name ∷ rest) rest ≡ map (λ p. p.0) (with_domain name o) ++ rest
+feature_named : (atoms : List (List ℕ)) (name : List ℕ) (o : Option Domain) (rest : List (List ℕ))
+    → cond (is_declared (numbered_domain atoms o)) (name ∷ rest) rest ≡ map (λ p. p.0) (with_domain name o) ++ rest
 feature_named atoms name None rest = refl
 feature_named atoms name (Some domain.Words) rest = refl
 feature_named atoms name (Some domain.Positions) rest = refl
 feature_named atoms name (Some (domain.Atoms ws)) rest = refl
 
-names_filtered : (f : Feature) (b : Bool) (fs : List Feature) → map (λ x. x.name) (cond b (f ∷ fs) fs) ≡ cond b (f.name ∷ map (λ x. x.name) fs) (map (λ x. x.name) fs)
+names_filtered : (f : Feature) (b : Bool) (fs : List Feature)
+    → map (λ x. x.name) (cond b (f ∷ fs) fs) ≡ cond b (f.name ∷ map (λ x. x.name) fs) (map (λ x. x.name) fs)
 names_filtered f true fs = refl
 names_filtered f false fs = refl
 
 -- the names of the numbered features that are declared
-pub feature_names : (atoms : List (List ℕ)) (fs : List NamedFeature) → map (λ f. f.name) (filter (λ f. is_declared f.declared) (map (numbered_feature atoms) fs)) ≡ map (λ p. p.0) (declared_of fs)
+pub feature_names : (atoms : List (List ℕ)) (fs : List NamedFeature)
+    → map (λ f. f.name) (filter (λ f. is_declared f.declared) (map (numbered_feature atoms) fs)) ≡ map (λ p. p.0) (declared_of fs)
 feature_names atoms [] = refl
 feature_names atoms (f ∷ fs) =
     let rest = filter (λ x. is_declared x.declared) (map (numbered_feature atoms) fs) in

@@ -61,7 +61,8 @@ module _ (items : List WrittenItem) (fits : list_all item_fits items ≡ true) w
         least : (other : GrammarFault) → IsTrue (is_before other (Undeclared place)) → Holds (numbered_of items) other → ⊥
         least (Syntax n) b h = h
         least (TooLarge n) b h = no_large small n h
-        least (Undeclared n) b h = both_ways (at_rule (is_undeclared_rule (numbered_of items)) (numbered_of items).rules n) (undeclared_places items fits n ∙ finds.least n (ltb-true n place b)) h
+        least (Undeclared n) b h = both_ways (at_rule (is_undeclared_rule (numbered_of items)) (numbered_of items).rules n)
+            (undeclared_places items fits n ∙ finds.least n (ltb-true n place b)) h
         least (BadValue n) b h = true≢false (sym b)
         least (EmptyRule n) b h = true≢false (sym b)
         least (LeftRecursion n) b h = true≢false (sym b)
@@ -104,6 +105,7 @@ module _ (items : List WrittenItem) (fits : list_all item_fits items ≡ true) w
 -- where no place is too large, the rules are at most 500
 pub few_rules : (items : List WrittenItem) → ((n : ℕ) → is_too_large_place items n ≡ false) → length (rules_of items) ≤ 500
 few_rules items small =
-    let all = or_parts ((eqb 501 0 && has_large_written_declarations items) || (eqb 501 1 && has_broad_written_category items)) (is_large_place (rules_of items) 501) (small 501) in
+    let all = or_parts ((eqb 501 0 && has_large_written_declarations items) || (eqb 501 1 && has_broad_written_category items))
+    (is_large_place (rules_of items) 501) (small 501) in
     let many = or_parts (at_written_rule is_large_written_rule (rules_of items) 501) (eqb 501 501 && ltb 500 (length (rules_of items))) all.1 in
     ltb-false 500 (length (rules_of items)) many.1

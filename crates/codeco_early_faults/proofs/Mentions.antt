@@ -82,7 +82,8 @@ numbered_feat features f = (number_of features f.name, f.term)
 abbrev pub written_feats : Tables → WrittenCategory → List (ℕ × Term)
 written_feats t c = with_terms t (map (numbered_feat t.features) c.feats)
 
-unmarked_feats : (features : List (List ℕ)) (fs : List WrittenFeat) → list_all is_unmarked (map (numbered_feat features) fs) ≡ list_all (λ f. not (is_marked f.term)) fs
+unmarked_feats : (features : List (List ℕ)) (fs : List WrittenFeat)
+    → list_all is_unmarked (map (numbered_feat features) fs) ≡ list_all (λ f. not (is_marked f.term)) fs
 unmarked_feats features [] = refl
 unmarked_feats features (f ∷ fs) = ap (λ b. not (is_marked f.term) && b) (unmarked_feats features fs)
 
@@ -91,7 +92,8 @@ terms_same t c = same_map (λ f. (f.0, numbered_term t f.1)) (order_same (map (n
 
 pub category_feats : (t : Tables) (c : WrittenCategory) → is_plain c ≡ true → Same (numbered_category t c).feats (written_feats t c)
 category_feats t c h =
-    let moved : list_all is_unmarked (ordered t.features c) ≡ true = same_test (order_same (map (numbered_feat t.features) c.feats)) (list_all is_unmarked) (all_move is_unmarked) ∙ unmarked_feats t.features c.feats ∙ h in
+    let moved : list_all is_unmarked (ordered t.features c) ≡ true =
+    same_test (order_same (map (numbered_feat t.features) c.feats)) (list_all is_unmarked) (all_move is_unmarked) ∙ unmarked_feats t.features c.feats ∙ h in
     same_trans (same_from (plain_all t (ordered t.features c) moved)) (terms_same t c)
 
 pub pattern_feats : (t : Tables) (c : WrittenCategory) → Same (whole (numbered_pattern t c)).feats (written_feats t c)
@@ -113,7 +115,8 @@ numbered_mentions t (element.NoBack ps) = map (numbered_plain t) ps
 numbered_mentions _ _ = []
 
 -- without the numbers
-pub mentioned : {Y : Type 0} (h : WrittenCategory → List Y) (t : Tables) (e : WrittenElement) → flat_map (λ m. h m.1) (numbered_mentions t e) ≡ flat_map h (element_categories e)
+pub mentioned : {Y : Type 0} (h : WrittenCategory → List Y) (t : Tables) (e : WrittenElement)
+    → flat_map (λ m. h m.1) (numbered_mentions t e) ≡ flat_map h (element_categories e)
 mentioned h t (element.Back ps ns) = flat_map-map (λ m. h m.1) (numbered_plain t) (ps ++ ns)
 mentioned h t (element.NoBack ps) = flat_map-map (λ m. h m.1) (numbered_plain t) ps
 mentioned h t e = refl
@@ -133,7 +136,8 @@ module _ {Y : Type 0} (g : ℕ → List (ℕ × Term) → List Y) (kept : (n : �
   patterns_given [] = same_refl []
   patterns_given (c ∷ cs) = same_append (kept (5 + number_of t.categories c.name) _ _ (pattern_feats t c)) (patterns_given cs)
 
-  pub element_given : (e : WrittenElement) → element_fits e ≡ true → Same (flat_map given (mentions (numbered_element t e))) (flat_map written (numbered_mentions t e))
+  pub element_given : (e : WrittenElement) → element_fits e ≡ true
+      → Same (flat_map given (mentions (numbered_element t e))) (flat_map written (numbered_mentions t e))
   element_given (element.Terminal w) h = same_refl []
   element_given (element.Preterminal c) h = same_append (kept (number_of kinds c.name) _ _ (category_feats t c h)) (same_refl [])
   element_given (element.Sub c) h = plain_given c h
@@ -144,17 +148,21 @@ module _ {Y : Type 0} (g : ℕ → List (ℕ × Term) → List Y) (kept : (n : �
   element_given (element.Back ps ns) h =
       same_trans (same_from (flat_map-append given (map whole (map (numbered_pattern t) ps)) (map whole (map (numbered_pattern t) ns))))
       (same_trans (same_append (patterns_given ps) (patterns_given ns))
-      (same_trans (same_from (sym (flat_map-append written (map (numbered_plain t) ps) (map (numbered_plain t) ns)))) (same_from (ap (flat_map written) (sym (map-append (numbered_plain t) ps ns))))))
+      (same_trans (same_from (sym (flat_map-append written (map (numbered_plain t) ps) (map (numbered_plain t) ns))))
+      (same_from (ap (flat_map written) (sym (map-append (numbered_plain t) ps ns))))))
   element_given (element.NoBack ps) h = patterns_given ps
 
-  body_given : (es : List WrittenElement) → list_all element_fits es ≡ true → Same (flat_map given (flat_map mentions (map (numbered_element t) es))) (flat_map written (flat_map (numbered_mentions t) es))
+  body_given : (es : List WrittenElement) → list_all element_fits es ≡ true
+      → Same (flat_map given (flat_map mentions (map (numbered_element t) es))) (flat_map written (flat_map (numbered_mentions t) es))
   body_given [] h = same_refl []
   body_given (e ∷ es) h =
       let parts = and_parts (element_fits e) (list_all element_fits es) h in
       same_trans (same_from (flat_map-append given (mentions (numbered_element t e)) (flat_map mentions (map (numbered_element t) es))))
-      (same_trans (same_append (element_given e parts.0) (body_given es parts.1)) (same_from (sym (flat_map-append written (numbered_mentions t e) (flat_map (numbered_mentions t) es)))))
+      (same_trans (same_append (element_given e parts.0) (body_given es parts.1))
+      (same_from (sym (flat_map-append written (numbered_mentions t e) (flat_map (numbered_mentions t) es)))))
 
-  pub rule_given : (r : WrittenRule) → (is_plain r.head && list_all element_fits r.body) ≡ true → Same (flat_map given (rule_mentions (numbered_rule t r))) (flat_map written (numbered_plain t r.head ∷ flat_map (numbered_mentions t) r.body))
+  pub rule_given : (r : WrittenRule) → (is_plain r.head && list_all element_fits r.body) ≡ true
+      → Same (flat_map given (rule_mentions (numbered_rule t r))) (flat_map written (numbered_plain t r.head ∷ flat_map (numbered_mentions t) r.body))
   rule_given r h =
       let parts = and_parts (is_plain r.head) (list_all element_fits r.body) h in
       same_append (kept (5 + number_of t.categories r.head.name) _ _ (category_feats t r.head parts.0)) (body_given r.body parts.1)

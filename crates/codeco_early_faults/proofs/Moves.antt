@@ -35,7 +35,8 @@ same_append {X} {ps} {qs} {rs} {ss} a c = record { moved = λ F m. a.moved (λ l
     left F m xs ys x = ap F (append_assoc xs (x ∷ ys) rs) ∙ m xs (ys ++ rs) x ∙ sym (ap (λ (l : List X). F (x ∷ l)) (append_assoc xs ys rs))
 
     right : (F : List X → ℕ) → Movable F → Movable (λ l. F (qs ++ l))
-    right F m xs ys x = ap F (sym (append_assoc qs xs (x ∷ ys))) ∙ m (qs ++ xs) ys x ∙ ap (λ (l : List X). F (x ∷ l)) (append_assoc qs xs ys) ∙ sym (m qs (xs ++ ys) x)
+    right F m xs ys x = ap F (sym (append_assoc qs xs (x ∷ ys))) ∙ m (qs ++ xs) ys x ∙ ap (λ (l : List X). F (x ∷ l)) (append_assoc qs xs ys)
+        ∙ sym (m qs (xs ++ ys) x)
 
 pub same_cons : {X : Type 0} (x : X) {xs ys : List X} → Same xs ys → Same (x ∷ xs) (x ∷ ys)
 same_cons x s = same_append (same_refl (x ∷ [])) s
@@ -47,7 +48,8 @@ same_map {X} {Y} f s = record { moved = λ F m. s.moved (λ l. F (map f l)) (map
     mapped F m xs ys x = ap F (map-append f xs (x ∷ ys)) ∙ m (map f xs) (map f ys) (f x) ∙ sym (ap (λ (l : List Y). F (f x ∷ l)) (map-append f xs ys))
 
 -- of members that pass a test
-pub same_flat : {X Y : Type 0} (p : X → Bool) (f g : X → List Y) → ((x : X) → p x ≡ true → Same (f x) (g x)) → (xs : List X) → list_all p xs ≡ true → Same (flat_map f xs) (flat_map g xs)
+pub same_flat : {X Y : Type 0} (p : X → Bool) (f g : X → List Y) → ((x : X) → p x ≡ true → Same (f x) (g x)) → (xs : List X) → list_all p xs ≡ true
+    → Same (flat_map f xs) (flat_map g xs)
 same_flat p f g each [] h = same_refl []
 same_flat p f g each (x ∷ xs) h =
     let parts = and_parts (p x) (list_all p xs) h in
@@ -82,7 +84,8 @@ same_parts {X} {Y} f s = record { moved = λ F m. s.moved (λ l. F (flat_map f l
   where
     parted : (F : List Y → ℕ) → Movable F → Movable (λ l. F (flat_map f l))
     parted F m xs ys x =
-        ap F (flat_map-append f xs (x ∷ ys)) ∙ (same_block (flat_map f xs) (f x) (flat_map f ys)).moved F m ∙ sym (ap (λ (l : List Y). F (f x ++ l)) (flat_map-append f xs ys))
+        ap F (flat_map-append f xs (x ∷ ys)) ∙ (same_block (flat_map f xs) (f x) (flat_map f ys)).moved F m
+        ∙ sym (ap (λ (l : List Y). F (f x ++ l)) (flat_map-append f xs ys))
 
 pub all_move : {X : Type 0} (p : X → Bool) → Movable (list_all p)
 all_move p [] ys x = refl

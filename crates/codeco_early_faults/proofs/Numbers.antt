@@ -21,41 +21,52 @@ eqb_suc a b = elim (cases_Bool (eqb a b)) [
 ]
 
 -- two names in a table have one number where they are the same
-pub same_numbers : (names : List (List ℕ)) (v w : List ℕ) → is_among names v ≡ true → is_among names w ≡ true → eqb (number_of names v) (number_of names w) ≡ same_bytes v w
+pub same_numbers : (names : List (List ℕ)) (v w : List ℕ) → is_among names v ≡ true → is_among names w ≡ true
+    → eqb (number_of names v) (number_of names w) ≡ same_bytes v w
 same_numbers [] v w hv hw = absurd cc
 same_numbers (x ∷ xs) v w hv hw = by (same_bytes v x) (same_bytes w x) refl refl (λ iv iw. same_numbers xs v w iv iw)
   where
-    by : (b c : Bool) → same_bytes v x ≡ b → same_bytes w x ≡ c → (is_among xs v ≡ true → is_among xs w ≡ true → eqb (number_of xs v) (number_of xs w) ≡ same_bytes v w) → eqb (number_of (x ∷ xs) v) (number_of (x ∷ xs) w) ≡ same_bytes v w
+    by : (b c : Bool) → same_bytes v x ≡ b → same_bytes w x ≡ c
+        → (is_among xs v ≡ true → is_among xs w ≡ true → eqb (number_of xs v) (number_of xs w) ≡ same_bytes v w)
+        → eqb (number_of (x ∷ xs) v) (number_of (x ∷ xs) w) ≡ same_bytes v w
     by true true ev ew rest =
         let left = same_is v x ev in
         let right = same_is w x ew in
         let same : same_bytes v w ≡ true = subst (λ y. same_bytes y w ≡ true) (sym left) (subst (λ y. same_bytes x y ≡ true) (sym right) (same_bytes_refl x)) in
-        ap (λ (b : Bool). eqb (cond b 0 (number_of xs v + 1)) (number_of (x ∷ xs) w)) ev ∙ ap (λ (b : Bool). eqb 0 (cond b 0 (number_of xs w + 1))) ew ∙ sym same
+        ap (λ (b : Bool). eqb (cond b 0 (number_of xs v + 1)) (number_of (x ∷ xs) w)) ev ∙ ap (λ (b : Bool). eqb 0 (cond b 0 (number_of xs w + 1))) ew
+        ∙ sym same
     by true false ev ew rest =
         let left = same_is v x ev in
         let other : same_bytes v w ≡ false = subst (λ y. same_bytes y w ≡ false) (sym left) (differs_comm same_bytes texts_decide w x ew) in
-        ap (λ (b : Bool). eqb (cond b 0 (number_of xs v + 1)) (number_of (x ∷ xs) w)) ev ∙ ap (λ (b : Bool). eqb 0 (cond b 0 (number_of xs w + 1))) ew ∙ ne_eqb 0 (number_of xs w + 1) (λ e. absurd (omega arith)) ∙ sym other
+        ap (λ (b : Bool). eqb (cond b 0 (number_of xs v + 1)) (number_of (x ∷ xs) w)) ev ∙ ap (λ (b : Bool). eqb 0 (cond b 0 (number_of xs w + 1))) ew
+        ∙ ne_eqb 0 (number_of xs w + 1) (λ e. absurd (omega arith)) ∙ sym other
     by false true ev ew rest =
         let right = same_is w x ew in
         let other : same_bytes v w ≡ false = subst (λ y. same_bytes v y ≡ false) (sym right) ev in
-        ap (λ (b : Bool). eqb (cond b 0 (number_of xs v + 1)) (number_of (x ∷ xs) w)) ev ∙ ap (λ (b : Bool). eqb (number_of xs v + 1) (cond b 0 (number_of xs w + 1))) ew ∙ ne_eqb (number_of xs v + 1) 0 (λ e. absurd (omega arith)) ∙ sym other
+        ap (λ (b : Bool). eqb (cond b 0 (number_of xs v + 1)) (number_of (x ∷ xs) w)) ev
+        ∙ ap (λ (b : Bool). eqb (number_of xs v + 1) (cond b 0 (number_of xs w + 1))) ew ∙ ne_eqb (number_of xs v + 1) 0 (λ e. absurd (omega arith))
+        ∙ sym other
     by false false ev ew rest =
         let inv : is_among xs v ≡ true = sym (ap (λ b. b || is_among xs v) ev) ∙ hv in
         let inw : is_among xs w ≡ true = sym (ap (λ b. b || is_among xs w) ew) ∙ hw in
-        ap (λ (b : Bool). eqb (cond b 0 (number_of xs v + 1)) (number_of (x ∷ xs) w)) ev ∙ ap (λ (b : Bool). eqb (number_of xs v + 1) (cond b 0 (number_of xs w + 1))) ew ∙ eqb_suc (number_of xs v) (number_of xs w) ∙ rest inv inw
+        ap (λ (b : Bool). eqb (cond b 0 (number_of xs v + 1)) (number_of (x ∷ xs) w)) ev
+        ∙ ap (λ (b : Bool). eqb (number_of xs v + 1) (cond b 0 (number_of xs w + 1))) ew ∙ eqb_suc (number_of xs v) (number_of xs w) ∙ rest inv inw
 
-pub has_numbers : (names : List (List ℕ)) (v : List ℕ) (ws : List (List ℕ)) → is_among names v ≡ true → all_among names ws ≡ true → has (map (number_of names) ws) (number_of names v) ≡ is_among ws v
+pub has_numbers : (names : List (List ℕ)) (v : List ℕ) (ws : List (List ℕ)) → is_among names v ≡ true → all_among names ws ≡ true
+    → has (map (number_of names) ws) (number_of names v) ≡ is_among ws v
 has_numbers names v [] hv h = refl
 has_numbers names v (w ∷ ws) hv h =
     let parts = and_parts (is_among names w) (all_among names ws) h in
-    ap (λ b. b || has (map (number_of names) ws) (number_of names v)) (same_numbers names v w hv parts.0) ∙ ap (λ b. same_bytes v w || b) (has_numbers names v ws hv parts.1)
+    ap (λ b. b || has (map (number_of names) ws) (number_of names v)) (same_numbers names v w hv parts.0)
+    ∙ ap (λ b. same_bytes v w || b) (has_numbers names v ws hv parts.1)
 
 -- as many numbers are different as names are
 pub numbers_differ : (names ws : List (List ℕ)) → all_among names ws ≡ true → count_different (map (number_of names) ws) ≡ count_texts ws
 numbers_differ names [] h = refl
 numbers_differ names (w ∷ ws) h =
     let parts = and_parts (is_among names w) (all_among names ws) h in
-    ap (λ n. n + zero_if (has (map (number_of names) ws) (number_of names w))) (numbers_differ names ws parts.1) ∙ ap (λ (b : Bool). count_texts ws + zero_if b) (has_numbers names w ws parts.0 parts.1)
+    ap (λ n. n + zero_if (has (map (number_of names) ws) (number_of names w))) (numbers_differ names ws parts.1)
+    ∙ ap (λ (b : Bool). count_texts ws + zero_if b) (has_numbers names w ws parts.0 parts.1)
 
 -- the name at a name's number
 pub name_back : (names : List (List ℕ)) (w d : List ℕ) → is_among names w ≡ true → get_or names (number_of names w) d ≡ w
@@ -92,7 +103,8 @@ among_gathered names (x ∷ xs) w = by (is_among names x) refl (λ ns. among_gat
     old false true c h = absurd (both_ways false refl (h refl))
     old false false c h = refl
 
-    by : (b : Bool) → is_among names x ≡ b → ((ns : List (List ℕ)) → is_among (gathered ns xs) w ≡ (is_among ns w || is_among xs w)) → is_among (gathered names (x ∷ xs)) w ≡ (is_among names w || (same_bytes w x || is_among xs w))
+    by : (b : Bool) → is_among names x ≡ b → ((ns : List (List ℕ)) → is_among (gathered ns xs) w ≡ (is_among ns w || is_among xs w))
+        → is_among (gathered names (x ∷ xs)) w ≡ (is_among names w || (same_bytes w x || is_among xs w))
     by true e rest =
         ap (λ b. is_among (gathered (cond b names (names ++ x ∷ [])) xs) w) e ∙ rest names
         ∙ old (is_among names w) (same_bytes w x) (is_among xs w) (λ s. subst (λ y. is_among names y ≡ true) (sym (same_is w x s)) e)
@@ -104,7 +116,8 @@ among_gathered names (x ∷ xs) w = by (is_among names x) refl (λ ns. among_gat
 pub all_in : (names ws : List (List ℕ)) → ((w : List ℕ) → is_among ws w ≡ true → is_among names w ≡ true) → all_among names ws ≡ true
 all_in names [] h = refl
 all_in names (w ∷ ws) h =
-    ap (λ b. b && all_among names ws) (h w (ap (λ b. b || is_among ws w) (same_bytes_refl w))) ∙ all_in names ws (λ v e. h v (or_right (same_bytes v w) (is_among ws v) e))
+    ap (λ b. b && all_among names ws) (h w (ap (λ b. b || is_among ws w) (same_bytes_refl w)))
+    ∙ all_in names ws (λ v e. h v (or_right (same_bytes v w) (is_among ws v) e))
 
 -- each name that is gathered is in the table
 pub all_gathered : (names ws : List (List ℕ)) → all_among (gathered names ws) ws ≡ true
@@ -117,7 +130,8 @@ pub differ_gathered : (names ws : List (List ℕ)) → differ names ≡ true →
 differ_gathered names [] h = h
 differ_gathered names (w ∷ ws) h = by (is_among names w) refl (λ ns k. differ_gathered ns ws k)
   where
-    by : (b : Bool) → is_among names w ≡ b → ((ns : List (List ℕ)) → differ ns ≡ true → differ (gathered ns ws) ≡ true) → differ (gathered names (w ∷ ws)) ≡ true
+    by : (b : Bool) → is_among names w ≡ b → ((ns : List (List ℕ)) → differ ns ≡ true → differ (gathered ns ws) ≡ true)
+        → differ (gathered names (w ∷ ws)) ≡ true
     by true e rest = ap (λ b. differ (gathered (cond b names (names ++ w ∷ [])) ws)) e ∙ rest names h
     by false e rest = ap (λ b. differ (gathered (cond b names (names ++ w ∷ [])) ws)) e ∙ rest (names ++ w ∷ []) (differ_push names w h e)
 
@@ -133,7 +147,8 @@ count_behind : (names ws : List (List ℕ)) → differ names ≡ true → count_
 count_behind names [] h = ap count_texts (append-nil names) ∙ differ_count names h
 count_behind names (w ∷ ws) h = by (is_among names w) refl (λ ns k. count_behind ns ws k)
   where
-    by : (b : Bool) → is_among names w ≡ b → ((ns : List (List ℕ)) → differ ns ≡ true → count_texts (ns ++ ws) ≡ length (gathered ns ws)) → count_texts (names ++ w ∷ ws) ≡ length (gathered names (w ∷ ws))
+    by : (b : Bool) → is_among names w ≡ b → ((ns : List (List ℕ)) → differ ns ≡ true → count_texts (ns ++ ws) ≡ length (gathered ns ws))
+        → count_texts (names ++ w ∷ ws) ≡ length (gathered names (w ∷ ws))
     by true e rest =
         let there : is_among (names ++ ws) w ≡ true = among-append names ws w ∙ ap (λ b. b || is_among ws w) e in
         count_texts_move names ws w ∙ ap (λ (b : Bool). count_texts (names ++ ws) + zero_if b) there ∙ add-zero (count_texts (names ++ ws)) ∙ rest names h

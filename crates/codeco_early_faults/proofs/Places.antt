@@ -37,12 +37,15 @@ finds_same P Q same None h = λ n. sym (same n) ∙ h n
 finds_same P Q same (Some p) h = record { holds = sym (same p) ∙ h.holds; least = λ n lt. sym (same n) ∙ h.least n lt }
 
 -- a rule that fails may be passed over
-passed : (test : ℕ → WrittenRule → Bool) (k : ℕ) (r : WrittenRule) (rs : List WrittenRule) → test (k + 1) r ≡ false → (n : ℕ) → at_place test (k + 1) rs n ≡ at_place test k (r ∷ rs) n
+passed : (test : ℕ → WrittenRule → Bool) (k : ℕ) (r : WrittenRule) (rs : List WrittenRule) → test (k + 1) r ≡ false → (n : ℕ)
+    → at_place test (k + 1) rs n ≡ at_place test k (r ∷ rs) n
 passed test k r rs fails n = elim (cases_order n (k + 1)) [
   | inl e ↦
-      let left : at_place test (k + 1) rs n ≡ false = and_left (ltb (k + 1) n) (option_map_or (test n) (slice_get rs (n - (k + 1) - 1)) false) (le-ltb (k + 1) n (omega arith)) in
+      let left : at_place test (k + 1) rs n ≡ false =
+      and_left (ltb (k + 1) n) (option_map_or (test n) (slice_get rs (n - (k + 1) - 1)) false) (le-ltb (k + 1) n (omega arith)) in
       let first : n - k - 1 ≡ 0 = omega arith in
-      let here : option_map_or (test n) (slice_get (r ∷ rs) (n - k - 1)) false ≡ false = ap (λ j. option_map_or (test n) (slice_get (r ∷ rs) j) false) first ∙ ap (λ m. test m r) e ∙ fails in
+      let here : option_map_or (test n) (slice_get (r ∷ rs) (n - k - 1)) false ≡ false =
+      ap (λ j. option_map_or (test n) (slice_get (r ∷ rs) j) false) first ∙ ap (λ m. test m r) e ∙ fails in
       left ∙ sym (and_right (ltb k n) (option_map_or (test n) (slice_get (r ∷ rs) (n - k - 1)) false) here)
   | inr (inl lt) ↦
       and_left (ltb (k + 1) n) (option_map_or (test n) (slice_get rs (n - (k + 1) - 1)) false) (le-ltb (k + 1) n (omega arith))
@@ -57,11 +60,13 @@ pub finds_from : (test : ℕ → WrittenRule → Bool) (k : ℕ) (rules : List W
 finds_from test k [] = λ n. and_right (ltb k n) false refl
 finds_from test k (r ∷ rs) = by (test (k + 1) r) refl (finds_from test (k + 1) rs)
   where
-    by : (b : Bool) → test (k + 1) r ≡ b → FindsFirst (at_place test (k + 1) rs) (first_rule test (k + 1) rs) → FindsFirst (at_place test k (r ∷ rs)) (cond (test (k + 1) r) (Some (k + 1)) (first_rule test (k + 1) rs))
+    by : (b : Bool) → test (k + 1) r ≡ b → FindsFirst (at_place test (k + 1) rs) (first_rule test (k + 1) rs)
+        → FindsFirst (at_place test k (r ∷ rs)) (cond (test (k + 1) r) (Some (k + 1)) (first_rule test (k + 1) rs))
     by true e rest =
         let first : k + 1 - k - 1 ≡ 0 = omega arith in
         subst (FindsFirst (at_place test k (r ∷ rs))) (sym (ap (λ b. cond b (Some (k + 1)) (first_rule test (k + 1) rs)) e)) (record {
-          holds = ap (λ b. b && option_map_or (test (k + 1)) (slice_get (r ∷ rs) (k + 1 - k - 1)) false) (lt-ltb k (k + 1) (omega arith)) ∙ ap (λ j. option_map_or (test (k + 1)) (slice_get (r ∷ rs) j) false) first ∙ e;
+          holds = ap (λ b. b && option_map_or (test (k + 1)) (slice_get (r ∷ rs) (k + 1 - k - 1)) false) (lt-ltb k (k + 1) (omega arith))
+              ∙ ap (λ j. option_map_or (test (k + 1)) (slice_get (r ∷ rs) j) false) first ∙ e;
           least = λ n lt. and_left (ltb k n) (option_map_or (test n) (slice_get (r ∷ rs) (n - k - 1)) false) (le-ltb k n (omega arith));
         })
     by false e rest =
@@ -106,7 +111,8 @@ large_places rules n = by (eqb n 501) refl
     by : (b : Bool) → eqb n 501 ≡ b → at_start large_at rules n ≡ is_large_place rules n
     by false e =
         ap (λ b. ltb 0 n && option_map_or (λ r. b || is_large_written_rule r) (slice_get rules (n - 1)) false) e
-        ∙ sym (ap (λ b. at_written_rule is_large_written_rule rules n || (b && ltb 500 (length rules))) e ∙ last (at_written_rule is_large_written_rule rules n))
+        ∙ sym (ap (λ b. at_written_rule is_large_written_rule rules n || (b && ltb 500 (length rules))) e
+        ∙ last (at_written_rule is_large_written_rule rules n))
     by true e =
         let is = eqb-true n 501 e in
         let below : is_some (slice_get rules (n - 1)) ≡ ltb 500 (length rules) = some_below rules (n - 1) ∙ ap (λ m. ltb (m - 1) (length rules)) is in
@@ -120,46 +126,53 @@ large_places rules n = by (eqb n 501) refl
 
 -- the place of the first large rule
 pub finds_large : (rules : List WrittenRule) (o : Option ℕ) → first_rule large_at 0 rules ≡ o → FindsFirst (is_large_place rules) o
-finds_large rules o is = subst (FindsFirst (is_large_place rules)) is (finds_same (at_start large_at rules) (is_large_place rules) (large_places rules) (first_rule large_at 0 rules) (finds large_at rules))
+finds_large rules o is = subst (FindsFirst (is_large_place rules)) is
+    (finds_same (at_start large_at rules) (is_large_place rules) (large_places rules) (first_rule large_at 0 rules) (finds large_at rules))
 
 -- the place of the first rule with an undeclared feature
-pub finds_undeclared : (names : List (List ℕ)) (rules : List WrittenRule) (o : Option ℕ) → first_rule (undeclared_at names) 0 rules ≡ o → FindsFirst (at_written_rule (is_undeclared_written_rule names) rules) o
+pub finds_undeclared : (names : List (List ℕ)) (rules : List WrittenRule) (o : Option ℕ) → first_rule (undeclared_at names) 0 rules ≡ o
+    → FindsFirst (at_written_rule (is_undeclared_written_rule names) rules) o
 finds_undeclared names rules o is = subst (FindsFirst (at_written_rule (is_undeclared_written_rule names) rules)) is (finds (undeclared_at names) rules)
 
 -- one turn of a loop over items that looks for a rule
-module _ (test : ℕ → WrittenRule → Bool) (xs : List WrittenItem) (i n : ℕ) (left : first_rule test n (rules_of (drop i xs)) ≡ first_rule test 0 (rules_of xs)) where
-  pub none_left : length xs ≤ i → first_rule test 0 (rules_of xs) ≡ None
-  none_left past = sym left ∙ at_drop_all (λ ys. first_rule test n (rules_of ys)) xs i past
+module _ (test : ℕ → WrittenRule → Bool) (xs : List WrittenItem) (i n : ℕ) (left : first_rule test n (rules_of (drop i xs)) ≡ first_rule test 0 (rules_of xs))
+  where
+    pub none_left : length xs ≤ i → first_rule test 0 (rules_of xs) ≡ None
+    none_left past = sym left ∙ at_drop_all (λ ys. first_rule test n (rules_of ys)) xs i past
 
-  module _ (x : WrittenItem) (lt : i < length xs) (is : x ≡ get_or xs i x) where
-    pub rules_left : rules_of (drop i xs) ≡ item_rules x ++ rules_of (drop (i + 1) xs)
-    rules_left = at_drop_more rules_of xs i x lt ∙ sym (ap (λ y. item_rules y ++ rules_of (drop (i + 1) xs)) is)
+    module _ (x : WrittenItem) (lt : i < length xs) (is : x ≡ get_or xs i x) where
+      pub rules_left : rules_of (drop i xs) ≡ item_rules x ++ rules_of (drop (i + 1) xs)
+      rules_left = at_drop_more rules_of xs i x lt ∙ sym (ap (λ y. item_rules y ++ rules_of (drop (i + 1) xs)) is)
 
-    turned : first_rule test n (item_rules x ++ rules_of (drop (i + 1) xs)) ≡ first_rule test 0 (rules_of xs)
-    turned = ap (first_rule test n) (sym rules_left) ∙ left
+      turned : first_rule test n (item_rules x ++ rules_of (drop (i + 1) xs)) ≡ first_rule test 0 (rules_of xs)
+      turned = ap (first_rule test n) (sym rules_left) ∙ left
 
-    module _ (r : WrittenRule) (rule : x ≡ item.Rule r) where
-      rule_turned : cond (test (n + 1) r) (Some (n + 1)) (first_rule test (n + 1) (rules_of (drop (i + 1) xs))) ≡ first_rule test 0 (rules_of xs)
-      rule_turned = ap (λ y. first_rule test n (item_rules y ++ rules_of (drop (i + 1) xs))) (sym rule) ∙ turned
+      module _ (r : WrittenRule) (rule : x ≡ item.Rule r) where
+        rule_turned : cond (test (n + 1) r) (Some (n + 1)) (first_rule test (n + 1) (rules_of (drop (i + 1) xs))) ≡ first_rule test 0 (rules_of xs)
+        rule_turned = ap (λ y. first_rule test n (item_rules y ++ rules_of (drop (i + 1) xs))) (sym rule) ∙ turned
 
-      pub rule_passes : test (n + 1) r ≡ true → first_rule test 0 (rules_of xs) ≡ Some (n + 1)
-      rule_passes e = sym rule_turned ∙ ap (λ b. cond b (Some (n + 1)) (first_rule test (n + 1) (rules_of (drop (i + 1) xs)))) e
+        pub rule_passes : test (n + 1) r ≡ true → first_rule test 0 (rules_of xs) ≡ Some (n + 1)
+        rule_passes e = sym rule_turned ∙ ap (λ b. cond b (Some (n + 1)) (first_rule test (n + 1) (rules_of (drop (i + 1) xs)))) e
 
-      pub rule_fails : test (n + 1) r ≡ false → first_rule test (n + 1) (rules_of (drop (i + 1) xs)) ≡ first_rule test 0 (rules_of xs)
-      rule_fails e = sym (ap (λ b. cond b (Some (n + 1)) (first_rule test (n + 1) (rules_of (drop (i + 1) xs)))) e) ∙ rule_turned
+        pub rule_fails : test (n + 1) r ≡ false → first_rule test (n + 1) (rules_of (drop (i + 1) xs)) ≡ first_rule test 0 (rules_of xs)
+        rule_fails e = sym (ap (λ b. cond b (Some (n + 1)) (first_rule test (n + 1) (rules_of (drop (i + 1) xs)))) e) ∙ rule_turned
 
-      pub fewer : n + length (rules_of (drop i xs)) ≤ 500 → n + 1 + length (rules_of (drop (i + 1) xs)) ≤ 500
-      fewer few =
-          let count : length (rules_of (drop i xs)) ≡ length (rules_of (drop (i + 1) xs)) + 1 = ap length (rules_left ∙ ap (λ y. item_rules y ++ rules_of (drop (i + 1) xs)) rule) ∙ omega arith in
+        pub fewer : n + length (rules_of (drop i xs)) ≤ 500 → n + 1 + length (rules_of (drop (i + 1) xs)) ≤ 500
+        fewer few =
+            let count : length (rules_of (drop i xs)) ≡ length (rules_of (drop (i + 1) xs)) + 1 =
+            ap length (rules_left ∙ ap (λ y. item_rules y ++ rules_of (drop (i + 1) xs)) rule) ∙ omega arith in
+            omega arith
+
+      pub feature_passed : (name : List ℕ) (d : Domain) → x ≡ item.Feature name d
+          → first_rule test n (rules_of (drop (i + 1) xs)) ≡ first_rule test 0 (rules_of xs)
+      feature_passed name d feature = ap (λ y. first_rule test n (item_rules y ++ rules_of (drop (i + 1) xs))) (sym feature) ∙ turned
+
+      pub as_few : (name : List ℕ) (d : Domain) → x ≡ item.Feature name d → n + length (rules_of (drop i xs)) ≤ 500
+          → n + length (rules_of (drop (i + 1) xs)) ≤ 500
+      as_few name d feature few =
+          let count : length (rules_of (drop i xs)) ≡ length (rules_of (drop (i + 1) xs)) =
+          ap length (rules_left ∙ ap (λ y. item_rules y ++ rules_of (drop (i + 1) xs)) feature) in
           omega arith
-
-    pub feature_passed : (name : List ℕ) (d : Domain) → x ≡ item.Feature name d → first_rule test n (rules_of (drop (i + 1) xs)) ≡ first_rule test 0 (rules_of xs)
-    feature_passed name d feature = ap (λ y. first_rule test n (item_rules y ++ rules_of (drop (i + 1) xs))) (sym feature) ∙ turned
-
-    pub as_few : (name : List ℕ) (d : Domain) → x ≡ item.Feature name d → n + length (rules_of (drop i xs)) ≤ 500 → n + length (rules_of (drop (i + 1) xs)) ≤ 500
-    as_few name d feature few =
-        let count : length (rules_of (drop i xs)) ≡ length (rules_of (drop (i + 1) xs)) = ap length (rules_left ∙ ap (λ y. item_rules y ++ rules_of (drop (i + 1) xs)) feature) in
-        omega arith
 
 -- what a test of all features tells of the one that isn't declared
 any_not : {X : Type 0} (p : X → Bool) (xs : List X) → list_any (λ x. not (p x)) xs ≡ not (list_all p xs)
@@ -170,6 +183,8 @@ any_not p (x ∷ xs) = ap (λ b. not (p x) || b) (any_not p xs) ∙ both (p x) (
     both true b = refl
     both false b = refl
 
-pub undeclared_told : (names ds ws : List (List ℕ)) (b : Bool) → names ≡ gathered [] ds → b ≡ list_all (is_among names) ws → list_any (λ w. not (is_among ds w)) ws ≡ not b
+pub undeclared_told : (names ds ws : List (List ℕ)) (b : Bool) → names ≡ gathered [] ds → b ≡ list_all (is_among names) ws
+    → list_any (λ w. not (is_among ds w)) ws ≡ not b
 undeclared_told names ds ws b is told =
-    any_not (is_among ds) ws ∙ ap not (sym (told ∙ all_same (is_among names) (is_among ds) (λ w. ap (λ (l : List (List ℕ)). is_among l w) is ∙ among_gathered [] ds w) ws))
+    any_not (is_among ds) ws ∙ ap not (sym
+    (told ∙ all_same (is_among names) (is_among ds) (λ w. ap (λ (l : List (List ℕ)). is_among l w) is ∙ among_gathered [] ds w) ws))

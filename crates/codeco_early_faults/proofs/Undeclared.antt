@@ -27,30 +27,40 @@ filled_domain atoms (Some domain.Positions) = refl
 filled_domain atoms (Some (domain.Atoms ws)) = refl
 
 -- what the feature of a number is declared with, where the number is a name's
-pub number_filled : (atoms : List (List ℕ)) (fs : List NamedFeature) (w : List ℕ) → is_declared (option_map_or (λ x. x.declared) (slice_get (map (numbered_feature atoms) fs) (number_of (map (λ f. f.name) fs) w)) declared.Undeclared) ≡ is_filled fs w
+pub number_filled : (atoms : List (List ℕ)) (fs : List NamedFeature) (w : List ℕ)
+    → is_declared (option_map_or (λ x. x.declared) (slice_get (map (numbered_feature atoms) fs) (number_of (map (λ f. f.name) fs) w)) declared.Undeclared)
+    ≡ is_filled fs w
 number_filled atoms [] w = refl
 number_filled atoms (f ∷ fs) w = by (same_bytes w f.name) refl (number_filled atoms fs w)
   where
-    by : (b : Bool) → same_bytes w f.name ≡ b → is_declared (option_map_or (λ x. x.declared) (slice_get (map (numbered_feature atoms) fs) (number_of (map (λ f. f.name) fs) w)) declared.Undeclared) ≡ is_filled fs w → is_declared (option_map_or (λ x. x.declared) (slice_get (map (numbered_feature atoms) (f ∷ fs)) (number_of (map (λ f. f.name) (f ∷ fs)) w)) declared.Undeclared) ≡ is_filled (f ∷ fs) w
+    by : (b : Bool) → same_bytes w f.name ≡ b
+        → is_declared (option_map_or (λ x. x.declared) (slice_get (map (numbered_feature atoms) fs) (number_of (map (λ f. f.name) fs) w)) declared.Undeclared)
+        ≡ is_filled fs w → is_declared (option_map_or (λ x. x.declared)
+        (slice_get (map (numbered_feature atoms) (f ∷ fs)) (number_of (map (λ f. f.name) (f ∷ fs)) w)) declared.Undeclared) ≡ is_filled (f ∷ fs) w
     by true e rest =
-        ap (λ (b : Bool). is_declared (option_map_or (λ x. x.declared) (slice_get (map (numbered_feature atoms) (f ∷ fs)) (cond b 0 (number_of (map (λ f. f.name) fs) w + 1))) declared.Undeclared)) e
+        ap (λ (b : Bool). is_declared (option_map_or (λ x. x.declared)
+        (slice_get (map (numbered_feature atoms) (f ∷ fs)) (cond b 0 (number_of (map (λ f. f.name) fs) w + 1))) declared.Undeclared)) e
         ∙ filled_domain atoms f.domain ∙ sym (ap (λ (b : Bool). cond b (not (is_open f.domain)) (is_filled fs w)) e)
     by false e rest =
-        ap (λ (b : Bool). is_declared (option_map_or (λ x. x.declared) (slice_get (map (numbered_feature atoms) (f ∷ fs)) (cond b 0 (number_of (map (λ f. f.name) fs) w + 1))) declared.Undeclared)) e
+        ap (λ (b : Bool). is_declared (option_map_or (λ x. x.declared)
+        (slice_get (map (numbered_feature atoms) (f ∷ fs)) (cond b 0 (number_of (map (λ f. f.name) fs) w + 1))) declared.Undeclared)) e
         ∙ rw add-one rest ∙ sym (ap (λ (b : Bool). cond b (not (is_open f.domain)) (is_filled fs w)) e)
 
 -- A declaration fills the first feature of its name.
-filled_here : (n w m : List ℕ) (o : Option Domain) (rest : Bool) → (same_bytes n m && is_open o) ≡ true → cond (same_bytes w n) true rest ≡ (same_bytes w n || cond (same_bytes w m) (not (is_open o)) rest)
+filled_here : (n w m : List ℕ) (o : Option Domain) (rest : Bool) → (same_bytes n m && is_open o) ≡ true
+    → cond (same_bytes w n) true rest ≡ (same_bytes w n || cond (same_bytes w m) (not (is_open o)) rest)
 filled_here n w m o rest h =
     let parts = and_parts (same_bytes n m) (is_open o) h in
     let same : n ≡ m = same_is n m parts.0 in
-    subst (λ x. cond (same_bytes w n) true rest ≡ (same_bytes w n || cond (same_bytes w x) (not (is_open o)) rest)) same (pick (same_bytes w n) (not (is_open o)) rest)
+    subst (λ x. cond (same_bytes w n) true rest ≡ (same_bytes w n || cond (same_bytes w x) (not (is_open o)) rest)) same
+    (pick (same_bytes w n) (not (is_open o)) rest)
   where
     pick : (a b c : Bool) → cond a true c ≡ (a || cond a b c)
     pick true b c = refl
     pick false b c = refl
 
-filled_there : (n w m : List ℕ) (o : Option Domain) (rest : Bool) → (same_bytes n m && is_open o) ≡ false → cond (same_bytes w m) (not (is_open o)) (same_bytes w n || rest) ≡ (same_bytes w n || cond (same_bytes w m) (not (is_open o)) rest)
+filled_there : (n w m : List ℕ) (o : Option Domain) (rest : Bool) → (same_bytes n m && is_open o) ≡ false
+    → cond (same_bytes w m) (not (is_open o)) (same_bytes w n || rest) ≡ (same_bytes w n || cond (same_bytes w m) (not (is_open o)) rest)
 filled_there n w m o rest h = by (same_bytes w m) (same_bytes w n) (is_open o) refl refl refl
   where
     by : (a b p : Bool) → same_bytes w m ≡ a → same_bytes w n ≡ b → is_open o ≡ p → cond a (not p) (b || rest) ≡ (b || cond a (not p) rest)
@@ -62,7 +72,8 @@ filled_there n w m o rest h = by (same_bytes w m) (same_bytes w n) (is_open o) r
         let nm : same_bytes n m ≡ true = subst (λ x. same_bytes x m ≡ true) first ea in
         absurd (both_ways (same_bytes n m && is_open o) h (and_from (same_bytes n m) (is_open o) nm ep))
 
-filled_declaration : (fs : List NamedFeature) (n : List ℕ) (d : Domain) (w : List ℕ) → is_filled (with_declaration fs n d) w ≡ (same_bytes w n || is_filled fs w)
+filled_declaration : (fs : List NamedFeature) (n : List ℕ) (d : Domain) (w : List ℕ)
+    → is_filled (with_declaration fs n d) w ≡ (same_bytes w n || is_filled fs w)
 filled_declaration [] n d w = pick (same_bytes w n)
   where
     pick : (a : Bool) → cond a true false ≡ (a || false)
@@ -86,7 +97,8 @@ or_move true false c = refl
 or_move false true c = refl
 or_move false false c = refl
 
-filled_items : (items : List WrittenItem) (fs : List NamedFeature) (w : List ℕ) → is_filled (with_items fs items) w ≡ (is_among (declared_names items) w || is_filled fs w)
+filled_items : (items : List WrittenItem) (fs : List NamedFeature) (w : List ℕ)
+    → is_filled (with_items fs items) w ≡ (is_among (declared_names items) w || is_filled fs w)
 filled_items [] fs w = refl
 filled_items (item.Rule r ∷ items) fs w = filled_items items fs w
 filled_items (item.Feature n d ∷ items) fs w =

@@ -19,7 +19,8 @@ pub names_with-append : (w : List ℕ) (xs ys : List (List ℕ × List ℕ)) →
 names_with-append w [] ys = refl
 names_with-append w (x ∷ xs) ys = by (same_bytes w x.0) (names_with-append w xs ys)
   where
-    by : (b : Bool) → names_with w (xs ++ ys) ≡ names_with w xs ++ names_with w ys → cond b (x.1 ∷ names_with w (xs ++ ys)) (names_with w (xs ++ ys)) ≡ cond b (x.1 ∷ names_with w xs) (names_with w xs) ++ names_with w ys
+    by : (b : Bool) → names_with w (xs ++ ys) ≡ names_with w xs ++ names_with w ys
+        → cond b (x.1 ∷ names_with w (xs ++ ys)) (names_with w (xs ++ ys)) ≡ cond b (x.1 ∷ names_with w xs) (names_with w xs) ++ names_with w ys
     by true rest = ap (λ (l : List (List ℕ)). x.1 ∷ l) rest
     by false rest = rest
 
@@ -28,7 +29,8 @@ among_with : (w v : List ℕ) (ps : List (List ℕ × List ℕ)) → is_among (n
 among_with w v [] = refl
 among_with w v (p ∷ ps) = by (same_bytes w p.0) (among_with w v ps)
   where
-    by : (b : Bool) → is_among (names_with w ps) v ≡ has_pair ps (w, v) → is_among (cond b (p.1 ∷ names_with w ps) (names_with w ps)) v ≡ ((b && same_bytes v p.1) || has_pair ps (w, v))
+    by : (b : Bool) → is_among (names_with w ps) v ≡ has_pair ps (w, v)
+        → is_among (cond b (p.1 ∷ names_with w ps) (names_with w ps)) v ≡ ((b && same_bytes v p.1) || has_pair ps (w, v))
     by true rest = ap (λ b. same_bytes v p.1 || b) rest
     by false rest = rest
 
@@ -71,20 +73,25 @@ push_differ (q ∷ qs) p h e =
     ap (λ b. not b && pairs_differ (qs ++ p ∷ [])) none ∙ push_differ qs p parts.1 split.1
 
 -- as many names stand with a first one as pairs with it are gathered
-count_with : (w : List ℕ) (ps qs : List (List ℕ × List ℕ)) → pairs_differ ps ≡ true → count_texts (names_with w ps ++ names_with w qs) ≡ length (names_with w (gathered_pairs ps qs))
+count_with : (w : List ℕ) (ps qs : List (List ℕ × List ℕ)) → pairs_differ ps ≡ true
+    → count_texts (names_with w ps ++ names_with w qs) ≡ length (names_with w (gathered_pairs ps qs))
 count_with w ps [] h = ap count_texts (append-nil (names_with w ps)) ∙ differ_count (names_with w ps) (with_differ w ps h)
 count_with w ps (q ∷ qs) h = by (has_pair ps q) refl (λ rs k. count_with w rs qs k)
   where
-    old : has_pair ps q ≡ true → (b : Bool) → same_bytes w q.0 ≡ b → count_texts (names_with w ps ++ cond b (q.1 ∷ names_with w qs) (names_with w qs)) ≡ count_texts (names_with w ps ++ names_with w qs)
+    old : has_pair ps q ≡ true → (b : Bool) → same_bytes w q.0 ≡ b
+        → count_texts (names_with w ps ++ cond b (q.1 ∷ names_with w qs) (names_with w qs)) ≡ count_texts (names_with w ps ++ names_with w qs)
     old e true f =
         let same : w ≡ q.0 = same_is w q.0 f in
         let there : is_among (names_with w ps) q.1 ≡ true = among_with w q.1 ps ∙ ap (λ (v : List ℕ). has_pair ps (v, q.1)) same ∙ e in
         count_texts_move (names_with w ps) (names_with w qs) q.1
-        ∙ ap (λ (b : Bool). count_texts (names_with w ps ++ names_with w qs) + zero_if b) (among-append (names_with w ps) (names_with w qs) q.1 ∙ ap (λ b. b || is_among (names_with w qs) q.1) there)
+        ∙ ap (λ (b : Bool). count_texts (names_with w ps ++ names_with w qs) + zero_if b)
+        (among-append (names_with w ps) (names_with w qs) q.1 ∙ ap (λ b. b || is_among (names_with w qs) q.1) there)
         ∙ add-zero (count_texts (names_with w ps ++ names_with w qs))
     old e false f = refl
 
-    by : (b : Bool) → has_pair ps q ≡ b → ((rs : List (List ℕ × List ℕ)) → pairs_differ rs ≡ true → count_texts (names_with w rs ++ names_with w qs) ≡ length (names_with w (gathered_pairs rs qs))) → count_texts (names_with w ps ++ names_with w (q ∷ qs)) ≡ length (names_with w (gathered_pairs ps (q ∷ qs)))
+    by : (b : Bool) → has_pair ps q ≡ b → ((rs : List (List ℕ × List ℕ)) → pairs_differ rs ≡ true
+        → count_texts (names_with w rs ++ names_with w qs) ≡ length (names_with w (gathered_pairs rs qs)))
+        → count_texts (names_with w ps ++ names_with w (q ∷ qs)) ≡ length (names_with w (gathered_pairs ps (q ∷ qs)))
     by true e rest =
         old e (same_bytes w q.0) refl ∙ rest ps h ∙ sym (ap (λ b. length (names_with w (gathered_pairs (cond b ps (ps ++ q ∷ [])) qs))) e)
     by false e rest =
@@ -98,12 +105,14 @@ times_with : (w : List ℕ) (ps : List (List ℕ × List ℕ)) → times w (map 
 times_with w [] = refl
 times_with w (p ∷ ps) = sum_by-cons (λ x. cond (same_bytes w x) 1 0) p.0 (map (λ x. x.0) ps) ∙ by (same_bytes w p.0) (times_with w ps)
   where
-    by : (b : Bool) → times w (map (λ x. x.0) ps) ≡ length (names_with w ps) → one_if b + times w (map (λ x. x.0) ps) ≡ length (cond b (p.1 ∷ names_with w ps) (names_with w ps))
+    by : (b : Bool) → times w (map (λ x. x.0) ps) ≡ length (names_with w ps)
+        → one_if b + times w (map (λ x. x.0) ps) ≡ length (cond b (p.1 ∷ names_with w ps) (names_with w ps))
     by true rest = omega arith
     by false rest = omega arith
 
 -- a test of the first names, over gathered pairs
-any_gathered : (test : List ℕ → Bool) (ps qs : List (List ℕ × List ℕ)) → list_any (λ p. test p.0) (gathered_pairs ps qs) ≡ (list_any (λ p. test p.0) ps || list_any (λ p. test p.0) qs)
+any_gathered : (test : List ℕ → Bool) (ps qs : List (List ℕ × List ℕ))
+    → list_any (λ p. test p.0) (gathered_pairs ps qs) ≡ (list_any (λ p. test p.0) ps || list_any (λ p. test p.0) qs)
 any_gathered test ps [] = none (list_any (λ p. test p.0) ps)
   where
     none : (a : Bool) → a ≡ (a || false)
@@ -114,7 +123,8 @@ any_gathered test ps (q ∷ qs) = by (has_pair ps q) refl (λ rs. any_gathered t
     passes : (rs : List (List ℕ × List ℕ)) → has_pair rs q ≡ true → test q.0 ≡ true → list_any (λ p. test p.0) rs ≡ true
     passes [] e t = absurd cc
     passes (r ∷ rs) e t = elim (cases_Bool (same_pair q r)) [
-      | inl s ↦ ap (λ b. b || list_any (λ p. test p.0) rs) (subst (λ (v : List ℕ). test v ≡ true) (same_is q.0 r.0 (and_parts (same_bytes q.0 r.0) (same_bytes q.1 r.1) s).0) t)
+      | inl s ↦ ap (λ b. b || list_any (λ p. test p.0) rs)
+          (subst (λ (v : List ℕ). test v ≡ true) (same_is q.0 r.0 (and_parts (same_bytes q.0 r.0) (same_bytes q.1 r.1) s).0) t)
       | inr s ↦ or_right (test r.0) (list_any (λ p. test p.0) rs) (passes rs (sym (ap (λ b. b || has_pair rs q) s) ∙ e) t)
     ]
 
@@ -128,7 +138,9 @@ any_gathered test ps (q ∷ qs) = by (has_pair ps q) refl (λ rs. any_gathered t
     new false true c = refl
     new false false c = refl
 
-    by : (b : Bool) → has_pair ps q ≡ b → ((rs : List (List ℕ × List ℕ)) → list_any (λ p. test p.0) (gathered_pairs rs qs) ≡ (list_any (λ p. test p.0) rs || list_any (λ p. test p.0) qs)) → list_any (λ p. test p.0) (gathered_pairs ps (q ∷ qs)) ≡ (list_any (λ p. test p.0) ps || (test q.0 || list_any (λ p. test p.0) qs))
+    by : (b : Bool) → has_pair ps q ≡ b → ((rs : List (List ℕ × List ℕ))
+        → list_any (λ p. test p.0) (gathered_pairs rs qs) ≡ (list_any (λ p. test p.0) rs || list_any (λ p. test p.0) qs))
+        → list_any (λ p. test p.0) (gathered_pairs ps (q ∷ qs)) ≡ (list_any (λ p. test p.0) ps || (test q.0 || list_any (λ p. test p.0) qs))
     by true e rest =
         ap (λ b. list_any (λ p. test p.0) (gathered_pairs (cond b ps (ps ++ q ∷ [])) qs)) e ∙ rest ps
         ∙ old (list_any (λ p. test p.0) ps) (test q.0) (list_any (λ p. test p.0) qs) (passes ps e)
@@ -137,7 +149,8 @@ any_gathered test ps (q ∷ qs) = by (has_pair ps q) refl (λ rs. any_gathered t
         ∙ ap (λ b. b || list_any (λ p. test p.0) qs) (list_any-append (λ p. test p.0) ps (q ∷ []))
         ∙ new (list_any (λ p. test p.0) ps) (test q.0) (list_any (λ p. test p.0) qs)
 
-any_map_same : {X : Type 0} (f : X → List ℕ) (p q : List ℕ → Bool) → ((w : List ℕ) → p w ≡ q w) → (xs : List X) → list_any p (map f xs) ≡ list_any (λ x. q (f x)) xs
+any_map_same : {X : Type 0} (f : X → List ℕ) (p q : List ℕ → Bool) → ((w : List ℕ) → p w ≡ q w) → (xs : List X)
+    → list_any p (map f xs) ≡ list_any (λ x. q (f x)) xs
 any_map_same f p q same [] = refl
 any_map_same f p q same (x ∷ xs) = ap (λ b. b || list_any p (map f xs)) (same (f x)) ∙ ap (λ b. q (f x) || b) (any_map_same f p q same xs)
 

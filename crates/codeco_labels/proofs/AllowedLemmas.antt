@@ -14,7 +14,8 @@ use Rattle.codeco_labels.specs.Kinds.{allows, of_heads, of_mark, is_nothing, kee
 -- Kinds
 
 kind_of : ℕ → Kind
-kind_of n = cond (eqb n 0) Text (cond (eqb n 1) Sentence (cond (eqb n 2) VerbPhrase (cond (eqb n 3) NounPhrase (cond (eqb n 4) NounBar (cond (eqb n 5) Question Mark)))))
+kind_of n = cond (eqb n 0) Text (cond (eqb n 1) Sentence
+    (cond (eqb n 2) VerbPhrase (cond (eqb n 3) NounPhrase (cond (eqb n 4) NounBar (cond (eqb n 5) Question Mark)))))
 
 kind_back : (k : Kind) → kind_of (kind_number k) ≡ k
 unfolding kind_of
@@ -39,7 +40,10 @@ same_Bool_is false false h = refl
 
 -- two tests give one answer for each kind
 abbrev agree : (Kind → Bool) → (Kind → Bool) → Bool
-agree f g = same_Bool (f Text) (g Text) && (same_Bool (f Sentence) (g Sentence) && (same_Bool (f VerbPhrase) (g VerbPhrase) && (same_Bool (f NounPhrase) (g NounPhrase) && (same_Bool (f NounBar) (g NounBar) && (same_Bool (f Question) (g Question) && same_Bool (f Mark) (g Mark))))))
+agree f g = same_Bool (f Text) (g Text) && (same_Bool (f Sentence) (g Sentence)
+    && (same_Bool (f VerbPhrase) (g VerbPhrase)
+    && (same_Bool (f NounPhrase) (g NounPhrase)
+    && (same_Bool (f NounBar) (g NounBar) && (same_Bool (f Question) (g Question) && same_Bool (f Mark) (g Mark))))))
 
 agree_at : (f g : Kind → Bool) → agree f g ≡ true → (k : Kind) → f k ≡ g k
 agree_at f g h k =

@@ -36,7 +36,8 @@ all_fewer p (suc n) (suc m) (x ∷ xs) le h =
 label_same : (marks : List Bool) (kinds : ℕ → Kind) → FitMarks marks kinds → (r : Rule) → fits_label kinds r ≡ rule_holds marks r kinds
 label_same marks kinds fit r = at r.label
   where
-    at : (o : Option Label) → option_map_or (λ l. fits_row kinds (label_row l) r) o true ≡ option_map_or (λ l. row_holds (label_row l) r.head.name (shape_of marks r.body) kinds) o true
+    at : (o : Option Label) → option_map_or (λ l. fits_row kinds (label_row l) r) o true
+        ≡ option_map_or (λ l. row_holds (label_row l) r.head.name (shape_of marks r.body) kinds) o true
     at None = refl
     at (Some l) = row_same marks kinds fit (label_row l) r
 
@@ -49,7 +50,8 @@ fit_marks rules marks n kinds right fit = λ c. fit.marks c ∙ sym (right c)
 
 fit_holds : (rules : List Rule) (marks : List Bool) (n : ℕ) (kinds : ℕ → Kind) → AreMarks rules marks → FitKinds rules n kinds → Hold marks rules n kinds
 fit_holds rules marks n kinds right fit =
-    sym (all_same (fits_label kinds) (λ r. rule_holds marks r kinds) (label_same marks kinds (fit_marks rules marks n kinds right fit)) (take n rules)) ∙ fit.fit
+    sym (all_same (fits_label kinds) (λ r. rule_holds marks r kinds) (label_same marks kinds (fit_marks rules marks n kinds right fit)) (take n rules))
+    ∙ fit.fit
 
 -- Kinds that a table gives
 
@@ -87,7 +89,9 @@ seen_start rules marks t whole alive = record {
   all = λ kinds met. (met, refl);
 }
 
-pub seen_more : (rules : List Rule) (marks : List Bool) (start t new : KindRows) (place : ℕ) (r : Rule) (answer : Bool) → Seen rules marks start t place → place < length rules → r ≡ get_or rules place r → differs_from_first rules r ≡ false → answer ≡ true → Narrows t new answer (rule_holds marks r) → Seen rules marks start new (place + 1)
+pub seen_more : (rules : List Rule) (marks : List Bool) (start t new : KindRows) (place : ℕ) (r : Rule) (answer : Bool) → Seen rules marks start t place
+    → place < length rules → r ≡ get_or rules place r → differs_from_first rules r ≡ false → answer ≡ true → Narrows t new answer (rule_holds marks r)
+    → Seen rules marks start new (place + 1)
 seen_more rules marks start t new place r answer seen lt is same fits n = record {
   whole = n.whole seen.whole;
   alive = n.alive fits seen.alive;
@@ -100,19 +104,25 @@ seen_more rules marks start t new place r answer seen lt is same fits n = record
             ap (differs_from_first rules) (same_item x r (sym e ∙ ap (slice_get rules) at ∙ slice_get_at rules place r lt is)) ∙ same
       ];
   only = λ kinds met h.
-      let parts = and_parts (list_all (λ x. rule_holds marks x kinds) (take place rules)) (rule_holds marks (get_or rules place r) kinds) (sym (list_all_more (λ x. rule_holds marks x kinds) rules place r lt) ∙ h) in
+      let parts = and_parts (list_all (λ x. rule_holds marks x kinds) (take place rules)) (rule_holds marks (get_or rules place r) kinds)
+      (sym (list_all_more (λ x. rule_holds marks x kinds) rules place r lt) ∙ h) in
       (n.only kinds (seen.only kinds met parts.0) (ap (λ x. rule_holds marks x kinds) is ∙ parts.1)).1;
   all = λ kinds met.
       let later = n.all fits kinds met in
-      let earlier = seen.all kinds later.0 in
-      (earlier.0, list_all_more (λ x. rule_holds marks x kinds) rules place r lt ∙ and_from (list_all (λ x. rule_holds marks x kinds) (take place rules)) (rule_holds marks (get_or rules place r) kinds) earlier.1 (ap (λ x. rule_holds marks x kinds) (sym is) ∙ later.1));
+      let earlier = seen.all kinds later.0 in (
+        earlier.0,
+        list_all_more (λ x. rule_holds marks x kinds) rules place r lt
+            ∙ and_from (list_all (λ x. rule_holds marks x kinds) (take place rules)) (rule_holds marks (get_or rules place r) kinds) earlier.1
+            (ap (λ x. rule_holds marks x kinds) (sym is) ∙ later.1),
+      );
 }
   where
     same_item : (x y : Rule) → Some x ≡ Some y → x ≡ y
     same_item x y e = cc
 
 -- the kinds of the table fit the rules that were seen
-seen_fit : (rules : List Rule) (marks : List Bool) (start t : KindRows) (place n : ℕ) → Knows rules marks start → Seen rules marks start t place → n ≤ place → FitKinds rules n (reading t)
+seen_fit : (rules : List Rule) (marks : List Bool) (start t : KindRows) (place n : ℕ) → Knows rules marks start → Seen rules marks start t place → n ≤ place
+    → FitKinds rules n (reading t)
 seen_fit rules marks start t place n known seen le =
     let met = reading_meets t seen.alive in
     let both = seen.all (reading t) met in
@@ -126,11 +136,13 @@ seen_fit rules marks start t place n known seen le =
     record {
       marks = λ c. fit c ∙ known.right c;
       text = first.1;
-      fit = all_fewer (fits_label (reading t)) n place rules le (all_same (fits_label (reading t)) (λ r. rule_holds marks r (reading t)) (label_same marks (reading t) fit) (take place rules) ∙ both.1);
+      fit = all_fewer (fits_label (reading t)) n place rules le
+          (all_same (fits_label (reading t)) (λ r. rule_holds marks r (reading t)) (label_same marks (reading t) fit) (take place rules) ∙ both.1);
     }
 
 -- nothing up to this place is a misfit
-pub seen_none : (rules : List Rule) (marks : List Bool) (start t : KindRows) (place : ℕ) → Knows rules marks start → Seen rules marks start t place → (n : ℕ) → n ≤ place → IsMisfit rules n → ⊥
+pub seen_none : (rules : List Rule) (marks : List Bool) (start t : KindRows) (place : ℕ) → Knows rules marks start → Seen rules marks start t place → (n : ℕ)
+    → n ≤ place → IsMisfit rules n → ⊥
 seen_none rules marks start t place known seen n le bad =
     elim bad.3 [
       | inl differs ↦
@@ -139,7 +151,8 @@ seen_none rules marks start t place known seen n le bad =
       | inr none ↦ none (reading t) (seen_fit rules marks start t place n known seen le)
     ]
 
-pub all_seen : (rules : List Rule) (marks : List Bool) (start t : KindRows) (place : ℕ) → Knows rules marks start → Seen rules marks start t place → length rules ≤ place → FirstMisfit rules None
+pub all_seen : (rules : List Rule) (marks : List Bool) (start t : KindRows) (place : ℕ) → Knows rules marks start → Seen rules marks start t place
+    → length rules ≤ place → FirstMisfit rules None
 all_seen rules marks start t place known seen end = λ n bad.
     let below = slice_get_within rules (n - 1) bad.0 bad.2 in
     let some = bad.1 in
@@ -148,15 +161,19 @@ all_seen rules marks start t place known seen end = λ n bad.
 back : (i : ℕ) → (i + 1) - 1 ≡ i
 back i = omega arith
 
-pub differs_here : (rules : List Rule) (marks : List Bool) (start t : KindRows) (place : ℕ) (r : Rule) → Knows rules marks start → Seen rules marks start t place → place < length rules → r ≡ get_or rules place r → differs_from_first rules r ≡ true → FirstMisfit rules (Some place)
+pub differs_here : (rules : List Rule) (marks : List Bool) (start t : KindRows) (place : ℕ) (r : Rule) → Knows rules marks start
+    → Seen rules marks start t place → place < length rules → r ≡ get_or rules place r → differs_from_first rules r ≡ true → FirstMisfit rules (Some place)
 differs_here rules marks start t place r known seen lt is differs =
     ((r, omega arith, ap (slice_get rules) (back place) ∙ slice_get_at rules place r lt is, inl differs), seen_none rules marks start t place known seen)
 
-pub unfit_here : (rules : List Rule) (marks : List Bool) (start t new : KindRows) (place : ℕ) (r : Rule) (answer : Bool) → Knows rules marks start → Seen rules marks start t place → place < length rules → r ≡ get_or rules place r → answer ≡ false → Narrows t new answer (rule_holds marks r) → FirstMisfit rules (Some place)
+pub unfit_here : (rules : List Rule) (marks : List Bool) (start t new : KindRows) (place : ℕ) (r : Rule) (answer : Bool) → Knows rules marks start
+    → Seen rules marks start t place → place < length rules → r ≡ get_or rules place r → answer ≡ false → Narrows t new answer (rule_holds marks r)
+    → FirstMisfit rules (Some place)
 unfit_here rules marks start t new place r answer known seen lt is unfit n =
     let none : (kinds : ℕ → Kind) → FitKinds rules (place + 1) kinds → ⊥ = λ kinds fit.
     let holds = fit_holds rules marks (place + 1) kinds known.right fit in
-    let parts = and_parts (list_all (λ x. rule_holds marks x kinds) (take place rules)) (rule_holds marks (get_or rules place r) kinds) (sym (list_all_more (λ x. rule_holds marks x kinds) rules place r lt) ∙ holds) in
+    let parts = and_parts (list_all (λ x. rule_holds marks x kinds) (take place rules)) (rule_holds marks (get_or rules place r) kinds)
+    (sym (list_all_more (λ x. rule_holds marks x kinds) rules place r lt) ∙ holds) in
     let met = seen.only kinds (known.only kinds (fit_marks rules marks (place + 1) kinds known.right fit) fit.text) parts.0 in
     both_ways answer unfit (n.only kinds met (ap (λ x. rule_holds marks x kinds) is ∙ parts.1)).0 in
     ((r, omega arith, ap (slice_get rules) (back place) ∙ slice_get_at rules place r lt is, inr none), seen_none rules marks start t place known seen)
@@ -169,7 +186,8 @@ pub record IsFresh (marks : List Bool) (t : KindRows) : Type 0 where
   pub meets : (kinds : ℕ → Kind) → FitMarks marks kinds → Meets t kinds
   pub marked : (kinds : ℕ → Kind) → Meets t kinds → (c : ℕ) → c < length marks → is_mark (kinds c) ≡ slice_index_or marks c false
 
-pub knows_start : (rules : List Rule) (marks : List Bool) (fresh t : KindRows) (answer : Bool) → 6 ≤ length marks → AreMarks rules marks → IsFresh marks fresh → answer ≡ true → Narrows fresh t answer (λ kinds. allows (Only Text) (kinds 5)) → Knows rules marks t
+pub knows_start : (rules : List Rule) (marks : List Bool) (fresh t : KindRows) (answer : Bool) → 6 ≤ length marks → AreMarks rules marks → IsFresh marks fresh
+    → answer ≡ true → Narrows fresh t answer (λ kinds. allows (Only Text) (kinds 5)) → Knows rules marks t
 knows_start rules marks fresh t answer six right is may n =
     let size : length marks ≡ length t.groups = sym is.size ∙ sym n.size in
     record {
@@ -183,7 +201,8 @@ knows_start rules marks fresh t answer six right is may n =
     }
 
 -- where text is a mark, the first rule is a misfit
-pub no_text : (rules : List Rule) (marks : List Bool) (fresh t : KindRows) (answer : Bool) → AreMarks rules marks → IsFresh marks fresh → answer ≡ false → Narrows fresh t answer (λ kinds. allows (Only Text) (kinds 5)) → FirstMisfit rules (first_place rules)
+pub no_text : (rules : List Rule) (marks : List Bool) (fresh t : KindRows) (answer : Bool) → AreMarks rules marks → IsFresh marks fresh → answer ≡ false
+    → Narrows fresh t answer (λ kinds. allows (Only Text) (kinds 5)) → FirstMisfit rules (first_place rules)
 no_text [] marks fresh t answer right is not n = λ k bad. let below = slice_get_within [] (k - 1) bad.0 bad.2 in omega arith
 no_text (r ∷ rs) marks fresh t answer right is not n =
     let none : (kinds : ℕ → Kind) → FitKinds (r ∷ rs) 1 kinds → ⊥ = λ kinds fit.

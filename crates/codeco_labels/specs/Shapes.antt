@@ -105,7 +105,8 @@ children_have (child.One k) head kinds found = option_map_or (λ c. same_kind (k
 children_have (child.Maybe k) head kinds found = is_no found || option_map_or (λ c. same_kind (kinds c) k) (one_of found) false
 children_have (child.Two k l) head kinds found = option_map_or (λ p. same_kind (kinds p.0) k && same_kind (kinds p.1) l) (two_of found) false
 children_have child.Alike head kinds found = option_map_or (λ c. same_kind (kinds c) (kinds head)) (one_of found) false
-children_have child.TwoAlike head kinds found = option_map_or (λ p. same_kind (kinds p.0) (kinds head) && same_kind (kinds p.1) (kinds head)) (two_of found) false
+children_have child.TwoAlike head kinds found =
+    option_map_or (λ p. same_kind (kinds p.0) (kinds head) && same_kind (kinds p.1) (kinds head)) (two_of found) false
 
 -- the rule has all that a row asks for
 abbrev pub row_holds : LabelRow → ℕ → Shape → (ℕ → Kind) → Bool

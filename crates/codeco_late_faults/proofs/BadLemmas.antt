@@ -68,30 +68,44 @@ body_same p (e ∷ es) =
 -- a test passes for one of the features of a rule where it does for one of the list
 rule_same : (p : ℕ × Term → Bool) (r : Rule) → list_any p (rule_feats r) ≡ list_any p (rule_features r)
 rule_same p r =
-    list_any-append p r.head.feats (flat_map element_feats r.body) ∙ ap (λ b. list_any p r.head.feats || b) (body_same p r.body) ∙ sym (list_any-append p r.head.feats (feats_in (flat_map mentions r.body)))
+    list_any-append p r.head.feats (flat_map element_feats r.body) ∙ ap (λ b. list_any p r.head.feats || b) (body_same p r.body)
+    ∙ sym (list_any-append p r.head.feats (feats_in (flat_map mentions r.body)))
 
 atom_same : (g : GrammarParts) (r : Rule) → has_wrong_atom g (rule_feats r) ≡ faults.has_wrong_atom g r
 atom_same g r = rule_same (λ f. not (faults.fits_declared (faults.values_of g f.0) f.1)) r
 
 mixed_same : (g : GrammarParts) (r : Rule) → has_mixed_variable g (rule_feats r) ≡ faults.has_mixed_variable g r
 mixed_same g r =
-    any_same (λ f. list_any (is_mixed g f) (rule_feats r)) (λ f. list_any (is_mixed g f) (rule_features r)) (rule_feats r) (λ f. rule_same (is_mixed g f) r) ∙ rule_same (λ f. list_any (is_mixed g f) (rule_features r)) r
+    any_same (λ f. list_any (is_mixed g f) (rule_feats r)) (λ f. list_any (is_mixed g f) (rule_features r)) (rule_feats r) (λ f. rule_same (is_mixed g f) r)
+    ∙ rule_same (λ f. list_any (is_mixed g f) (rule_features r)) r
 
 misplaced_same : (g : GrammarParts) (r : Rule) → list_any (is_misplaced g (rule_feats r)) (flat_map positions r.body) ≡ faults.has_wrong_position g r
 misplaced_same g r =
-    any_same (is_misplaced g (rule_feats r)) (is_misplaced g (rule_features r)) (flat_map positions r.body) (λ x. rule_same (λ f. has (term_variables f.1) x && not (faults.same_values (faults.values_of g f.0) declared.Positions)) r)
+    any_same (is_misplaced g (rule_feats r)) (is_misplaced g (rule_features r)) (flat_map positions r.body)
+    (λ x. rule_same (λ f. has (term_variables f.1) x && not (faults.same_values (faults.values_of g f.0) declared.Positions)) r)
 
 pub bad_double : (g : GrammarParts) (r : Rule) → faults.has_double_feature r ≡ true → true ≡ faults.is_bad_rule g r
 bad_double g r h =
-    sym (or_left (((faults.has_wrong_atom g r || faults.has_mixed_variable g r) || faults.has_wrong_position g r) || faults.has_double_feature r) (faults.has_wrong_preterminal g r) (or_right ((faults.has_wrong_atom g r || faults.has_mixed_variable g r) || faults.has_wrong_position g r) (faults.has_double_feature r) h))
+    sym (or_left (((faults.has_wrong_atom g r || faults.has_mixed_variable g r) || faults.has_wrong_position g r) || faults.has_double_feature r)
+    (faults.has_wrong_preterminal g r)
+    (or_right ((faults.has_wrong_atom g r || faults.has_mixed_variable g r) || faults.has_wrong_position g r) (faults.has_double_feature r) h))
 
-pub bad_others : (g : GrammarParts) (r : Rule) (feats : List (ℕ × Term)) (body : List Element) (found : Bool) → faults.has_double_feature r ≡ false → feats ≡ rule_feats r → body ≡ r.body → found ≡ (((has_wrong_atom g feats || has_mixed_variable g feats) || list_any (is_misplaced g feats) (flat_map positions body)) || list_any (faults.is_wrong_preterminal g) (flat_map faults.preterminals body)) → found ≡ faults.is_bad_rule g r
+pub bad_others : (g : GrammarParts) (r : Rule) (feats : List (ℕ × Term)) (body : List Element) (found : Bool) → faults.has_double_feature r ≡ false
+    → feats ≡ rule_feats r → body ≡ r.body
+    → found ≡ (((has_wrong_atom g feats || has_mixed_variable g feats) || list_any (is_misplaced g feats) (flat_map positions body))
+    || list_any (faults.is_wrong_preterminal g) (flat_map faults.preterminals body)) → found ≡ faults.is_bad_rule g r
 bad_others g r feats body found single is same h =
     h
-    ∙ ap (λ fs. ((has_wrong_atom g fs || has_mixed_variable g fs) || list_any (is_misplaced g fs) (flat_map positions body)) || list_any (faults.is_wrong_preterminal g) (flat_map faults.preterminals body)) is
-    ∙ ap (λ es. ((has_wrong_atom g (rule_feats r) || has_mixed_variable g (rule_feats r)) || list_any (is_misplaced g (rule_feats r)) (flat_map positions es)) || list_any (faults.is_wrong_preterminal g) (flat_map faults.preterminals es)) same
-    ∙ ap (λ b. ((b || has_mixed_variable g (rule_feats r)) || list_any (is_misplaced g (rule_feats r)) (flat_map positions r.body)) || faults.has_wrong_preterminal g r) (atom_same g r)
-    ∙ ap (λ b. ((faults.has_wrong_atom g r || b) || list_any (is_misplaced g (rule_feats r)) (flat_map positions r.body)) || faults.has_wrong_preterminal g r) (mixed_same g r)
+    ∙ ap (λ fs. ((has_wrong_atom g fs || has_mixed_variable g fs) || list_any (is_misplaced g fs) (flat_map positions body))
+    || list_any (faults.is_wrong_preterminal g) (flat_map faults.preterminals body)) is
+    ∙ ap (λ es. ((has_wrong_atom g (rule_feats r) || has_mixed_variable g (rule_feats r)) || list_any (is_misplaced g (rule_feats r)) (flat_map positions es))
+    || list_any (faults.is_wrong_preterminal g) (flat_map faults.preterminals es)) same
+    ∙ ap (λ b. ((b || has_mixed_variable g (rule_feats r)) || list_any (is_misplaced g (rule_feats r)) (flat_map positions r.body))
+    || faults.has_wrong_preterminal g r) (atom_same g r)
+    ∙ ap (λ b. ((faults.has_wrong_atom g r || b) || list_any (is_misplaced g (rule_feats r)) (flat_map positions r.body)) || faults.has_wrong_preterminal g r)
+    (mixed_same g r)
     ∙ ap (λ b. ((faults.has_wrong_atom g r || faults.has_mixed_variable g r) || b) || faults.has_wrong_preterminal g r) (misplaced_same g r)
-    ∙ ap (λ b. b || faults.has_wrong_preterminal g r) (sym (or_none ((faults.has_wrong_atom g r || faults.has_mixed_variable g r) || faults.has_wrong_position g r)))
-    ∙ ap (λ b. (((faults.has_wrong_atom g r || faults.has_mixed_variable g r) || faults.has_wrong_position g r) || b) || faults.has_wrong_preterminal g r) (sym single)
+    ∙ ap (λ b. b || faults.has_wrong_preterminal g r)
+    (sym (or_none ((faults.has_wrong_atom g r || faults.has_mixed_variable g r) || faults.has_wrong_position g r)))
+    ∙ ap (λ b. (((faults.has_wrong_atom g r || faults.has_mixed_variable g r) || faults.has_wrong_position g r) || b) || faults.has_wrong_preterminal g r)
+    (sym single)

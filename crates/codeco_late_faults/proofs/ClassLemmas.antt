@@ -18,7 +18,8 @@ all_weaken p q (x ∷ xs) f h =
 all_self : (xs : List ℕ) → list_all (has xs) xs ≡ true
 all_self [] = refl
 all_self (x ∷ xs) =
-    and_from (has (x ∷ xs) x) (list_all (has (x ∷ xs)) xs) (or_left (eqb x x) (has xs x) (eq-eqb x x refl)) (all_weaken (has xs) (has (x ∷ xs)) xs (λ y h. or_right (eqb y x) (has xs y) h) (all_self xs))
+    and_from (has (x ∷ xs) x) (list_all (has (x ∷ xs)) xs) (or_left (eqb x x) (has xs x) (eq-eqb x x refl))
+    (all_weaken (has xs) (has (x ∷ xs)) xs (λ y h. or_right (eqb y x) (has xs y) h) (all_self xs))
 
 all_has : (p : ℕ → Bool) (ys : List ℕ) (x : ℕ) → list_all p ys ≡ true → has ys x ≡ true → p x ≡ true
 all_has p [] x h k = absurd cc
@@ -87,7 +88,8 @@ class_later : (x : Feature) (xs : List Feature) (d : Declared) → same_values d
 class_later x xs d h = ap (λ b. cond (not b) (1 + class_in xs d) 0) h
 
 -- where both have one class that is a feature's, they have its values
-class_common : (features : List Feature) (d e : Declared) → class_in features d ≡ class_in features e → class_in features d < length features → (x : Feature) × (same_values d x.declared ≡ true) × (same_values e x.declared ≡ true)
+class_common : (features : List Feature) (d e : Declared) → class_in features d ≡ class_in features e → class_in features d < length features
+    → (x : Feature) × (same_values d x.declared ≡ true) × (same_values e x.declared ≡ true)
 class_common [] d e h lt = absurd (omega arith)
 class_common (x ∷ xs) d e h lt =
     elim (cases_Bool (same_values d x.declared)) [
@@ -120,7 +122,8 @@ class_or_none (x ∷ xs) (suc f) d e =
     ]
 
 -- two features have the same values where they have one class
-pub class_same : (features : List Feature) (f h : ℕ) → same_values (values_in features f) (values_in features h) ≡ eqb (class_in features (values_in features f)) (class_in features (values_in features h))
+pub class_same : (features : List Feature) (f h : ℕ)
+    → same_values (values_in features f) (values_in features h) ≡ eqb (class_in features (values_in features f)) (class_in features (values_in features h))
 class_same features f h =
     let d = values_in features f in
     let e = values_in features h in
@@ -129,7 +132,8 @@ class_same features f h =
       | inr none ↦ none ∙ sym (ne_eqb (class_in features d) (class_in features e) (differ none))
     ]
   where
-    differ : same_values (values_in features f) (values_in features h) ≡ false → class_in features (values_in features f) ≡ class_in features (values_in features h) → ⊥
+    differ : same_values (values_in features f) (values_in features h) ≡ false
+        → class_in features (values_in features f) ≡ class_in features (values_in features h) → ⊥
     differ none one =
         let d = values_in features f in
         let e = values_in features h in

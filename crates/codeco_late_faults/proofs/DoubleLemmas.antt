@@ -19,7 +19,8 @@ different_le (x ∷ xs) = more (has xs x) (different_le xs)
 pub double_cons : (x : ℕ) (xs : List ℕ) → is_double (x ∷ xs) ≡ (has xs x || is_double xs)
 double_cons x xs = more (has xs x) (different_le xs)
   where
-    more : (b : Bool) → count_different xs ≤ length xs → ltb (count_different xs + (if b then 0 else 1)) (suc (length xs)) ≡ (b || ltb (count_different xs) (length xs))
+    more : (b : Bool) → count_different xs ≤ length xs
+        → ltb (count_different xs + (if b then 0 else 1)) (suc (length xs)) ≡ (b || ltb (count_different xs) (length xs))
     more true h = lt-ltb (count_different xs + 0) (suc (length xs)) (omega arith)
     more false h =
         elim (cases_Bool (ltb (count_different xs) (length xs))) [

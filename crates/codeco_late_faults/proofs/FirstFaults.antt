@@ -37,23 +37,27 @@ none_more g k below here f lt h =
     ]
 
 -- where a fault of rules holds nowhere
-pub none_of : (g : GrammarParts) (k : ℕ) (F : ℕ → GrammarFault) (P : Rule → Type 0) → IsRuleFault g k F P → NoneBelow g k → IsNowhere P g.rules → NoneBelow g (k + 1)
+pub none_of : (g : GrammarParts) (k : ℕ) (F : ℕ → GrammarFault) (P : Rule → Type 0) → IsRuleFault g k F P → NoneBelow g k → IsNowhere P g.rules
+    → NoneBelow g (k + 1)
 none_of g k F P is below nowhere =
     none_more g k below (λ f e h. let at = is.only f e h in nowhere (fault_place f - 1) at.0 at.2 at.3)
 
-pub is_first : (g : GrammarParts) (fault : GrammarFault) → Holds g fault → NoneBelow g (fault_number fault) → ((f : GrammarFault) → fault_number f ≡ fault_number fault → fault_place f < fault_place fault → Holds g f → ⊥) → IsFirst g fault
+pub is_first : (g : GrammarParts) (fault : GrammarFault) → Holds g fault → NoneBelow g (fault_number fault)
+    → ((f : GrammarFault) → fault_number f ≡ fault_number fault → fault_place f < fault_place fault → Holds g f → ⊥) → IsFirst g fault
 is_first g fault h below same = record {
   holds = h;
-  least = λ other before holds. elim (or_cases (ltb (fault_number other) (fault_number fault)) (eqb (fault_number other) (fault_number fault) && ltb (fault_place other) (fault_place fault)) before) [
-    | inl less ↦ below other (ltb-true (fault_number other) (fault_number fault) less) holds
-    | inr place ↦
-        let parts = and_parts (eqb (fault_number other) (fault_number fault)) (ltb (fault_place other) (fault_place fault)) place in
-        same other (eqb-true (fault_number other) (fault_number fault) parts.0) (ltb-true (fault_place other) (fault_place fault) parts.1) holds
-  ];
+  least = λ other before holds. elim (or_cases (ltb (fault_number other) (fault_number fault))
+      (eqb (fault_number other) (fault_number fault) && ltb (fault_place other) (fault_place fault)) before) [
+        | inl less ↦ below other (ltb-true (fault_number other) (fault_number fault) less) holds
+        | inr place ↦
+            let parts = and_parts (eqb (fault_number other) (fault_number fault)) (ltb (fault_place other) (fault_place fault)) place in
+            same other (eqb-true (fault_number other) (fault_number fault) parts.0) (ltb-true (fault_place other) (fault_place fault) parts.1) holds
+      ];
 }
 
 -- where a fault of rules holds at a first place
-pub first_of : (g : GrammarParts) (k : ℕ) (F : ℕ → GrammarFault) (P : Rule → Type 0) → IsRuleFault g k F P → NoneBelow g k → (i : ℕ) → IsFirstPlace P g.rules i → IsFirst g (F (i + 1))
+pub first_of : (g : GrammarParts) (k : ℕ) (F : ℕ → GrammarFault) (P : Rule → Type 0) → IsRuleFault g k F P → NoneBelow g k → (i : ℕ) → IsFirstPlace P g.rules i
+    → IsFirst g (F (i + 1))
 first_of g k F P is below i first =
     is_first g (F (i + 1)) (is.holds i first.here.0 first.here.1 first.here.2)
     (subst (λ n. NoneBelow g n) (sym (is.number (i + 1))) below)
@@ -64,7 +68,8 @@ first_of g k F P is below i first =
 
 -- The faults of rules that a test decides.
 
-at_place : (test : Rule → Bool) (rules : List Rule) (n : ℕ) → at_rule test rules n ≡ true → (x : Rule) × (0 < n) × (slice_get rules (n - 1) ≡ Some x) × IsTrue (test x)
+at_place : (test : Rule → Bool) (rules : List Rule) (n : ℕ) → at_rule test rules n ≡ true
+    → (x : Rule) × (0 < n) × (slice_get rules (n - 1) ≡ Some x) × IsTrue (test x)
 at_place test rules n h =
     let parts = and_parts (ltb 0 n) (option_map_or test (slice_get rules (n - 1)) false) h in
     let found = some_at (slice_get rules (n - 1)) parts.1 in
@@ -77,10 +82,12 @@ at_place test rules n h =
 place_at : (test : Rule → Bool) (rules : List Rule) (i : ℕ) (x : Rule) → slice_get rules i ≡ Some x → IsTrue (test x) → at_rule test rules (i + 1) ≡ true
 place_at test rules i x e h =
     let back : (i + 1) - 1 ≡ i = omega arith in
-    and_from (ltb 0 (i + 1)) (option_map_or test (slice_get rules ((i + 1) - 1)) false) (lt-ltb 0 (i + 1) (omega arith)) (ap (λ n. option_map_or test (slice_get rules n) false) back ∙ ap (λ o. option_map_or test o false) e ∙ h)
+    and_from (ltb 0 (i + 1)) (option_map_or test (slice_get rules ((i + 1) - 1)) false) (lt-ltb 0 (i + 1) (omega arith))
+    (ap (λ n. option_map_or test (slice_get rules n) false) back ∙ ap (λ o. option_map_or test o false) e ∙ h)
 
 -- a value that its feature doesn't have, or the like, where no declaration is double
-bad_only : (g : GrammarParts) → (Holds g (BadValue 0) → ⊥) → (f : GrammarFault) → fault_number f ≡ 4 → Holds g f → (x : Rule) × (0 < fault_place f) × (slice_get g.rules (fault_place f - 1) ≡ Some x) × IsTrue (is_bad_rule g x)
+bad_only : (g : GrammarParts) → (Holds g (BadValue 0) → ⊥) → (f : GrammarFault) → fault_number f ≡ 4 → Holds g f
+    → (x : Rule) × (0 < fault_place f) × (slice_get g.rules (fault_place f - 1) ≡ Some x) × IsTrue (is_bad_rule g x)
 bad_only g none (BadValue n) e h =
     elim (or_cases (eqb n 0 && has_double_declaration g) (at_rule (is_bad_rule g) g.rules n) h) [
       | inl double ↦ absurd (none (subst (λ m. Holds g (BadValue m)) (eqb-true n 0 (and_parts (eqb n 0) (has_double_declaration g) double).0) h))
@@ -96,7 +103,8 @@ bad_fault g none = record {
   holds = λ i x e h. or_right (eqb (i + 1) 0 && has_double_declaration g) (at_rule (is_bad_rule g) g.rules (i + 1)) (place_at (is_bad_rule g) g.rules i x e h);
 }
 
-empty_only : (g : GrammarParts) (f : GrammarFault) → fault_number f ≡ 5 → Holds g f → (x : Rule) × (0 < fault_place f) × (slice_get g.rules (fault_place f - 1) ≡ Some x) × IsTrue (is_empty_rule x)
+empty_only : (g : GrammarParts) (f : GrammarFault) → fault_number f ≡ 5 → Holds g f
+    → (x : Rule) × (0 < fault_place f) × (slice_get g.rules (fault_place f - 1) ≡ Some x) × IsTrue (is_empty_rule x)
 empty_only g (EmptyRule n) e h = at_place is_empty_rule g.rules n h
 empty_only g f e h = absurd (omega arith)
 
@@ -111,7 +119,8 @@ empty_fault g = record {
 back : (i : ℕ) → (i + 1) - 1 ≡ i
 back i = omega arith
 
-recursive_only : (g : GrammarParts) (f : GrammarFault) → fault_number f ≡ 6 → Holds g f → (x : Rule) × (0 < fault_place f) × (slice_get g.rules (fault_place f - 1) ≡ Some x) × IsRecursive g x.head.name
+recursive_only : (g : GrammarParts) (f : GrammarFault) → fault_number f ≡ 6 → Holds g f
+    → (x : Rule) × (0 < fault_place f) × (slice_get g.rules (fault_place f - 1) ≡ Some x) × IsRecursive g x.head.name
 recursive_only g (LeftRecursion n) e h = (h.0, h.1, h.2, h.3)
 recursive_only g f e h = absurd (omega arith)
 
@@ -123,7 +132,8 @@ recursive_fault g = record {
   holds = λ i x e h. (x, omega arith, ap (slice_get g.rules) (back i) ∙ e, h);
 }
 
-taking_only : (g : GrammarParts) (f : GrammarFault) → fault_number f ≡ 7 → Holds g f → (x : Rule) × (0 < fault_place f) × (slice_get g.rules (fault_place f - 1) ≡ Some x) × IsTrue (is_taking_rule x)
+taking_only : (g : GrammarParts) (f : GrammarFault) → fault_number f ≡ 7 → Holds g f
+    → (x : Rule) × (0 < fault_place f) × (slice_get g.rules (fault_place f - 1) ≡ Some x) × IsTrue (is_taking_rule x)
 taking_only g (TakenVariable n) e h = at_place is_taking_rule g.rules n h
 taking_only g f e h = absurd (omega arith)
 

@@ -30,7 +30,8 @@ set_at : (m : List Bool) (y x : ℕ) → x < length m → get_or (set m y true) 
 set_at m y x lt =
     elim (cases_eq x y) [
       | inl same ↦
-          subst (λ z. get_or (set m z true) x false ≡ true) same (get_or-set_same m x true false lt) ∙ sym (or_right (get_or m x false) (eqb x y) (eq-eqb x y same))
+          subst (λ z. get_or (set m z true) x false ≡ true) same (get_or-set_same m x true false lt)
+          ∙ sym (or_right (get_or m x false) (eqb x y) (eq-eqb x y same))
       | inr other ↦ get_or-set_other m y x true false other ∙ sym (or_none (get_or m x false) (eqb x y) (ne_eqb x y other))
     ]
   where
@@ -63,38 +64,48 @@ pub set_both : (size : ℕ) (m n : List Bool) (xs ys : List ℕ) → IsSetOf siz
 set_both size m n xs ys h k = k ∙ ap (λ z. marked z ys) h ∙ sym (marked_append (replicate size false) xs ys)
 
 -- one of the numbers that stand beside others passes, or the others decide
-pub any_second_stop : (p : ℕ → Bool) (ts : List (ℕ × ℕ)) (i : ℕ) (d : ℕ × ℕ) (all : Bool) → i < length ts → list_any p (map (λ t. t.1) (drop i ts)) ≡ all → p (get_or ts i d).1 ≡ true → true ≡ all
+pub any_second_stop : (p : ℕ → Bool) (ts : List (ℕ × ℕ)) (i : ℕ) (d : ℕ × ℕ) (all : Bool) → i < length ts → list_any p (map (λ t. t.1) (drop i ts)) ≡ all
+    → p (get_or ts i d).1 ≡ true → true ≡ all
 any_second_stop p ts i d all lt h here =
-    let step : list_any p (map (λ t. t.1) (drop i ts)) ≡ (p (get_or ts i d).1 || list_any p (map (λ t. t.1) (drop (i + 1) ts))) = rw (add-one, drop-cons ts i d) refl in
+    let step : list_any p (map (λ t. t.1) (drop i ts)) ≡ (p (get_or ts i d).1 || list_any p (map (λ t. t.1) (drop (i + 1) ts))) =
+    rw (add-one, drop-cons ts i d) refl in
     sym (step ∙ or_left _ _ here) ∙ h
 
-pub any_second_go : (p : ℕ → Bool) (ts : List (ℕ × ℕ)) (i : ℕ) (d : ℕ × ℕ) (all : Bool) → i < length ts → list_any p (map (λ t. t.1) (drop i ts)) ≡ all → p (get_or ts i d).1 ≡ false → list_any p (map (λ t. t.1) (drop (i + 1) ts)) ≡ all
+pub any_second_go : (p : ℕ → Bool) (ts : List (ℕ × ℕ)) (i : ℕ) (d : ℕ × ℕ) (all : Bool) → i < length ts → list_any p (map (λ t. t.1) (drop i ts)) ≡ all
+    → p (get_or ts i d).1 ≡ false → list_any p (map (λ t. t.1) (drop (i + 1) ts)) ≡ all
 any_second_go p ts i d all lt h here =
-    let step : list_any p (map (λ t. t.1) (drop i ts)) ≡ (p (get_or ts i d).1 || list_any p (map (λ t. t.1) (drop (i + 1) ts))) = rw (add-one, drop-cons ts i d) refl in
+    let step : list_any p (map (λ t. t.1) (drop i ts)) ≡ (p (get_or ts i d).1 || list_any p (map (λ t. t.1) (drop (i + 1) ts))) =
+    rw (add-one, drop-cons ts i d) refl in
     sym (step ∙ ap (λ b. b || list_any p (map (λ t. t.1) (drop (i + 1) ts))) here) ∙ h
 
 -- a set with the numbers of one more item
-pub mark_step : {X : Type 0} (F : X → List ℕ) (xs : List X) (i : ℕ) (x : X) (m n all : List Bool) → i < length xs → x ≡ get_or xs i x → n ≡ marked m (F x) → marked m (flat_map F (drop i xs)) ≡ all → marked n (flat_map F (drop (i + 1) xs)) ≡ all
+pub mark_step : {X : Type 0} (F : X → List ℕ) (xs : List X) (i : ℕ) (x : X) (m n all : List Bool) → i < length xs → x ≡ get_or xs i x → n ≡ marked m (F x)
+    → marked m (flat_map F (drop i xs)) ≡ all → marked n (flat_map F (drop (i + 1) xs)) ≡ all
 mark_step F xs i x m n all lt is new h =
     let step : drop i xs ≡ x ∷ drop (i + 1) xs = rw (add-one, drop-cons xs i x) (ap (λ y. y ∷ drop (suc i) xs) (sym is)) in
-    let more : marked m (flat_map F (drop i xs)) ≡ marked (marked m (F x)) (flat_map F (drop (i + 1) xs)) = ap (λ ys. marked m (flat_map F ys)) step ∙ marked_append m (F x) (flat_map F (drop (i + 1) xs)) in
+    let more : marked m (flat_map F (drop i xs)) ≡ marked (marked m (F x)) (flat_map F (drop (i + 1) xs)) =
+    ap (λ ys. marked m (flat_map F ys)) step ∙ marked_append m (F x) (flat_map F (drop (i + 1) xs)) in
     ap (λ z. marked z (flat_map F (drop (i + 1) xs))) new ∙ sym more ∙ h
 
 -- std's law, under a name that an attribute can write
 pub any_append : {X : Type 0} (p : X → Bool) (xs ys : List X) → list_any p (xs ++ ys) ≡ (list_any p xs || list_any p ys)
 any_append p xs ys = list_any-append p xs ys
 
-taken_both : {X : Type 0} (F G : X → List ℕ) (ps ns : List X) → list_any (has (flat_map F (ps ++ ns))) (flat_map G (ps ++ ns)) ≡ (list_any (has (flat_map F ps ++ flat_map F ns)) (flat_map G ps) || list_any (has (flat_map F ps ++ flat_map F ns)) (flat_map G ns))
+taken_both : {X : Type 0} (F G : X → List ℕ) (ps ns : List X)
+    → list_any (has (flat_map F (ps ++ ns))) (flat_map G (ps ++ ns))
+    ≡ (list_any (has (flat_map F ps ++ flat_map F ns)) (flat_map G ps) || list_any (has (flat_map F ps ++ flat_map F ns)) (flat_map G ns))
 taken_both F G ps ns =
     ap (λ zs. list_any (has zs) (flat_map G (ps ++ ns))) (flat_map-append F ps ns)
     ∙ ap (list_any (has (flat_map F ps ++ flat_map F ns))) (flat_map-append G ps ns)
     ∙ list_any-append (has (flat_map F ps ++ flat_map F ns)) (flat_map G ps) (flat_map G ns)
 
 -- whether one of the taken numbers of two lists is among the plain ones of both
-pub taken_first : {X : Type 0} (F G : X → List ℕ) (ps ns : List X) (r : Bool) → r ≡ list_any (has (flat_map F ps ++ flat_map F ns)) (flat_map G ps) → r ≡ true → r ≡ list_any (has (flat_map F (ps ++ ns))) (flat_map G (ps ++ ns))
+pub taken_first : {X : Type 0} (F G : X → List ℕ) (ps ns : List X) (r : Bool) → r ≡ list_any (has (flat_map F ps ++ flat_map F ns)) (flat_map G ps) → r ≡ true
+    → r ≡ list_any (has (flat_map F (ps ++ ns))) (flat_map G (ps ++ ns))
 taken_first F G ps ns r h here =
     here ∙ sym (or_left _ _ (sym h ∙ here)) ∙ sym (taken_both F G ps ns)
 
-pub taken_second : {X : Type 0} (F G : X → List ℕ) (ps ns : List X) (r q : Bool) → q ≡ list_any (has (flat_map F ps ++ flat_map F ns)) (flat_map G ps) → q ≡ false → r ≡ list_any (has (flat_map F ps ++ flat_map F ns)) (flat_map G ns) → r ≡ list_any (has (flat_map F (ps ++ ns))) (flat_map G (ps ++ ns))
+pub taken_second : {X : Type 0} (F G : X → List ℕ) (ps ns : List X) (r q : Bool) → q ≡ list_any (has (flat_map F ps ++ flat_map F ns)) (flat_map G ps)
+    → q ≡ false → r ≡ list_any (has (flat_map F ps ++ flat_map F ns)) (flat_map G ns) → r ≡ list_any (has (flat_map F (ps ++ ns))) (flat_map G (ps ++ ns))
 taken_second F G ps ns r q h none k =
     k ∙ ap (λ b. b || list_any (has (flat_map F ps ++ flat_map F ns)) (flat_map G ns)) (sym none ∙ h) ∙ sym (taken_both F G ps ns)

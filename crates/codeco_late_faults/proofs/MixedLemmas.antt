@@ -62,26 +62,33 @@ mixed_class g f h = ap (λ b. same_variable f.1 h.1 && not b) (class_same g.feat
 
 mixed_sym : (g : GrammarParts) (f h : ℕ × Term) → is_mixed g f h ≡ is_mixed g h f
 mixed_sym g f h =
-    mixed_class g f h ∙ ap (λ b. b && not (eqb (class_of g f.0) (class_of g h.0))) (variable_sym f.1 h.1) ∙ ap (λ b. same_variable h.1 f.1 && not b) (eqb_comm (class_of g f.0) (class_of g h.0)) ∙ sym (mixed_class g h f)
+    mixed_class g f h ∙ ap (λ b. b && not (eqb (class_of g f.0) (class_of g h.0))) (variable_sym f.1 h.1)
+    ∙ ap (λ b. same_variable h.1 f.1 && not b) (eqb_comm (class_of g f.0) (class_of g h.0)) ∙ sym (mixed_class g h f)
 
 mixed_self : (g : GrammarParts) (f : ℕ × Term) → is_mixed g f f ≡ false
-mixed_self g f = mixed_class g f f ∙ and_right (same_variable f.1 f.1) (not (eqb (class_of g f.0) (class_of g f.0))) (ap not (eq-eqb (class_of g f.0) (class_of g f.0) refl))
+mixed_self g f = mixed_class g f f ∙ and_right (same_variable f.1 f.1) (not (eqb (class_of g f.0) (class_of g f.0)))
+    (ap not (eq-eqb (class_of g f.0) (class_of g f.0) refl))
 
 -- a variable is mixed where it is in the first feature and a later one, or in two later ones
-mixed_cons : (g : GrammarParts) (f : ℕ × Term) (rest : List (ℕ × Term)) → has_mixed_variable g (f ∷ rest) ≡ (list_any (is_mixed g f) rest || has_mixed_variable g rest)
+mixed_cons : (g : GrammarParts) (f : ℕ × Term) (rest : List (ℕ × Term))
+    → has_mixed_variable g (f ∷ rest) ≡ (list_any (is_mixed g f) rest || has_mixed_variable g rest)
 mixed_cons g f rest =
     ap (λ b. (b || list_any (is_mixed g f) rest) || list_any (λ h. is_mixed g h f || list_any (is_mixed g h) rest) rest) (mixed_self g f)
-    ∙ ap (λ b. list_any (is_mixed g f) rest || b) (any_or (λ h. is_mixed g h f) (λ h. list_any (is_mixed g h) rest) rest ∙ ap (λ b. b || has_mixed_variable g rest) (any_same (λ h. is_mixed g h f) (is_mixed g f) rest (λ h. mixed_sym g h f)))
+    ∙ ap (λ b. list_any (is_mixed g f) rest || b)
+    (any_or (λ h. is_mixed g h f) (λ h. list_any (is_mixed g h) rest) rest
+    ∙ ap (λ b. b || has_mixed_variable g rest) (any_same (λ h. is_mixed g h f) (is_mixed g f) rest (λ h. mixed_sym g h f)))
     ∙ or_twice (list_any (is_mixed g f) rest) (has_mixed_variable g rest)
 
-known_class : (o : Option ℕ) (c d : ℕ) → option_map_or (λ k. not (eqb k c)) o false ≡ false → (option_map_or (λ k. not (eqb k d)) o false || not (eqb c d)) ≡ not (eqb c d)
+known_class : (o : Option ℕ) (c d : ℕ) → option_map_or (λ k. not (eqb k c)) o false ≡ false
+    → (option_map_or (λ k. not (eqb k d)) o false || not (eqb c d)) ≡ not (eqb c d)
 known_class None c d h = refl
 known_class (Some k) c d h =
     let same = eqb-true k c (not-false (eqb k c) h) in
     ap (λ n. not (eqb n d) || not (eqb c d)) same ∙ or_self (not (eqb c d))
 
 -- once a class is known for the variable, it clashes with what clashed before and with what is mixed with this
-clash_at : (c d x : ℕ) (m : List (Option ℕ)) (t : Term) → x < length m → option_map_or (λ k. not (eqb k c)) (get_or m x None) false ≡ false → clashes_with d (set m x (Some c)) t ≡ (clashes_with d m t || (same_variable (Var x) t && not (eqb c d)))
+clash_at : (c d x : ℕ) (m : List (Option ℕ)) (t : Term) → x < length m → option_map_or (λ k. not (eqb k c)) (get_or m x None) false ≡ false
+    → clashes_with d (set m x (Some c)) t ≡ (clashes_with d m t || (same_variable (Var x) t && not (eqb c d)))
 clash_at c d x m (Val v) lt h = refl
 clash_at c d x m (Var y) lt h =
     elim (cases_eq y x) [
@@ -101,16 +108,21 @@ at_place : (feats : List (ℕ × Term)) (i : ℕ) (d : ℕ × Term) → i < leng
 at_place feats i d lt = rw (add-one, drop-cons feats i d) refl
 
 -- at a feature with a variable for which no other class is known
-pub mixed_next : (g : GrammarParts) (feats : List (ℕ × Term)) (i : ℕ) (d : ℕ × Term) (x : ℕ) (m : List (Option ℕ)) (c : ℕ) (all : Bool) → i < length feats → (get_or feats i d).1 ≡ Var x → x < length m → c ≡ class_of g (get_or feats i d).0 → option_map_or (λ k. not (eqb k c)) (get_or m x None) false ≡ false → LeftDecides g feats i m all → LeftDecides g feats (i + 1) (set m x (Some c)) all
+pub mixed_next : (g : GrammarParts) (feats : List (ℕ × Term)) (i : ℕ) (d : ℕ × Term) (x : ℕ) (m : List (Option ℕ)) (c : ℕ) (all : Bool) → i < length feats
+    → (get_or feats i d).1 ≡ Var x → x < length m → c ≡ class_of g (get_or feats i d).0 → option_map_or (λ k. not (eqb k c)) (get_or m x None) false ≡ false
+    → LeftDecides g feats i m all → LeftDecides g feats (i + 1) (set m x (Some c)) all
 mixed_next g feats i d x m c all lt is room class none left =
     let f = get_or feats i d in
     let rest = drop (i + 1) feats in
     let old = list_any (clashes g m) rest in
     let with_f = list_any (is_mixed g f) rest in
-    let here : clashes g m f ≡ false = ap (clashes_with (class_of g f.0) m) is ∙ ap (λ n. option_map_or (λ k. not (eqb k n)) (get_or m x None) false) (sym class) ∙ none in
+    let here : clashes g m f ≡ false = ap (clashes_with (class_of g f.0) m) is
+    ∙ ap (λ n. option_map_or (λ k. not (eqb k n)) (get_or m x None) false) (sym class) ∙ none in
     let each : (h : ℕ × Term) → clashes g (set m x (Some c)) h ≡ (clashes g m h || is_mixed g f h) = λ h.
-    clash_at c (class_of g h.0) x m h.1 room none ∙ ap (λ t. clashes g m h || (same_variable t h.1 && not (eqb c (class_of g h.0)))) (sym is) ∙ ap (λ n. clashes g m h || (same_variable f.1 h.1 && not (eqb n (class_of g h.0)))) class ∙ ap (λ b. clashes g m h || b) (sym (mixed_class g f h)) in
-    ap (λ b. b || has_mixed_variable g rest) (any_same (clashes g (set m x (Some c))) (λ h. clashes g m h || is_mixed g f h) rest each ∙ any_or (clashes g m) (is_mixed g f) rest)
+    clash_at c (class_of g h.0) x m h.1 room none ∙ ap (λ t. clashes g m h || (same_variable t h.1 && not (eqb c (class_of g h.0)))) (sym is)
+    ∙ ap (λ n. clashes g m h || (same_variable f.1 h.1 && not (eqb n (class_of g h.0)))) class ∙ ap (λ b. clashes g m h || b) (sym (mixed_class g f h)) in
+    ap (λ b. b || has_mixed_variable g rest)
+    (any_same (clashes g (set m x (Some c))) (λ h. clashes g m h || is_mixed g f h) rest each ∙ any_or (clashes g m) (is_mixed g f) rest)
     ∙ or_assoc old with_f (has_mixed_variable g rest)
     ∙ ap (λ b. old || b) (sym (mixed_cons g f rest))
     ∙ ap (λ b. (b || old) || has_mixed_variable g (f ∷ rest)) (sym here)
@@ -118,19 +130,22 @@ mixed_next g feats i d x m c all lt is room class none left =
     ∙ left
 
 -- at a feature with a value
-pub mixed_skip : (g : GrammarParts) (feats : List (ℕ × Term)) (i : ℕ) (d : ℕ × Term) (v : Value) (m : List (Option ℕ)) (all : Bool) → i < length feats → (get_or feats i d).1 ≡ Val v → LeftDecides g feats i m all → LeftDecides g feats (i + 1) m all
+pub mixed_skip : (g : GrammarParts) (feats : List (ℕ × Term)) (i : ℕ) (d : ℕ × Term) (v : Value) (m : List (Option ℕ)) (all : Bool) → i < length feats
+    → (get_or feats i d).1 ≡ Val v → LeftDecides g feats i m all → LeftDecides g feats (i + 1) m all
 mixed_skip g feats i d v m all lt is left =
     let f = get_or feats i d in
     let rest = drop (i + 1) feats in
     let here : clashes g m f ≡ false = ap (clashes_with (class_of g f.0) m) is in
-    let none : list_any (is_mixed g f) rest ≡ false = any_none (is_mixed g f) rest (λ h. ap (λ t. same_variable t h.1 && not (same_values (values_of g f.0) (values_of g h.0))) is) in
+    let none : list_any (is_mixed g f) rest ≡ false =
+    any_none (is_mixed g f) rest (λ h. ap (λ t. same_variable t h.1 && not (same_values (values_of g f.0) (values_of g h.0))) is) in
     ap (λ b. list_any (clashes g m) rest || (b || has_mixed_variable g rest)) (sym none)
     ∙ ap (λ b. list_any (clashes g m) rest || b) (sym (mixed_cons g f rest))
     ∙ ap (λ b. (b || list_any (clashes g m) rest) || has_mixed_variable g (f ∷ rest)) (sym here)
     ∙ ap (λ fs. list_any (clashes g m) fs || has_mixed_variable g fs) (sym (at_place feats i d lt))
     ∙ left
 
-pub mixed_other : (g : GrammarParts) (feats : List (ℕ × Term)) (i : ℕ) (d : ℕ × Term) (m : List (Option ℕ)) (all : Bool) → i < length feats → ((x : ℕ) → (get_or feats i d).1 ≡ Var x → ⊥) → LeftDecides g feats i m all → LeftDecides g feats (i + 1) m all
+pub mixed_other : (g : GrammarParts) (feats : List (ℕ × Term)) (i : ℕ) (d : ℕ × Term) (m : List (Option ℕ)) (all : Bool) → i < length feats
+    → ((x : ℕ) → (get_or feats i d).1 ≡ Var x → ⊥) → LeftDecides g feats i m all → LeftDecides g feats (i + 1) m all
 mixed_other g feats i d m all lt none left = by_term (get_or feats i d).1 refl
   where
     by_term : (t : Term) → (get_or feats i d).1 ≡ t → LeftDecides g feats (i + 1) m all
@@ -138,14 +153,19 @@ mixed_other g feats i d m all lt none left = by_term (get_or feats i d).1 refl
     by_term (Var x) e = absurd (none x e)
 
 -- at a feature with a variable for which another class is known
-pub mixed_stop : (g : GrammarParts) (feats : List (ℕ × Term)) (i : ℕ) (d : ℕ × Term) (x : ℕ) (m : List (Option ℕ)) (c : ℕ) (all : Bool) → i < length feats → (get_or feats i d).1 ≡ Var x → c ≡ class_of g (get_or feats i d).0 → option_map_or (λ k. not (eqb k c)) (get_or m x None) false ≡ true → LeftDecides g feats i m all → true ≡ all
+pub mixed_stop : (g : GrammarParts) (feats : List (ℕ × Term)) (i : ℕ) (d : ℕ × Term) (x : ℕ) (m : List (Option ℕ)) (c : ℕ) (all : Bool) → i < length feats
+    → (get_or feats i d).1 ≡ Var x → c ≡ class_of g (get_or feats i d).0 → option_map_or (λ k. not (eqb k c)) (get_or m x None) false ≡ true
+    → LeftDecides g feats i m all → true ≡ all
 mixed_stop g feats i d x m c all lt is class clash left =
     let f = get_or feats i d in
     let rest = drop (i + 1) feats in
-    let here : clashes g m f ≡ true = ap (clashes_with (class_of g f.0) m) is ∙ ap (λ n. option_map_or (λ k. not (eqb k n)) (get_or m x None) false) (sym class) ∙ clash in
-    sym (ap (λ b. (b || list_any (clashes g m) rest) || has_mixed_variable g (f ∷ rest)) here) ∙ ap (λ fs. list_any (clashes g m) fs || has_mixed_variable g fs) (sym (at_place feats i d lt)) ∙ left
+    let here : clashes g m f ≡ true = ap (clashes_with (class_of g f.0) m) is ∙ ap (λ n. option_map_or (λ k. not (eqb k n)) (get_or m x None) false) (sym class)
+    ∙ clash in
+    sym (ap (λ b. (b || list_any (clashes g m) rest) || has_mixed_variable g (f ∷ rest)) here)
+    ∙ ap (λ fs. list_any (clashes g m) fs || has_mixed_variable g fs) (sym (at_place feats i d lt)) ∙ left
 
-pub mixed_end : (g : GrammarParts) (feats : List (ℕ × Term)) (i : ℕ) (m : List (Option ℕ)) (all : Bool) → length feats ≤ i → LeftDecides g feats i m all → false ≡ all
+pub mixed_end : (g : GrammarParts) (feats : List (ℕ × Term)) (i : ℕ) (m : List (Option ℕ)) (all : Bool) → length feats ≤ i → LeftDecides g feats i m all
+    → false ≡ all
 mixed_end g feats i m all le left = ap (λ fs. list_any (clashes g m) fs || has_mixed_variable g fs) (sym (drop_past feats i le)) ∙ left
 
 nothing_known : (n x : ℕ) → ◌≡◌ {A = Option ℕ} (get_or (replicate n None) x None) None

@@ -13,12 +13,16 @@ use Rattle.codeco_checked.specs.Sound.{ascends, is_written, is_written_name, is_
 use Rattle.codeco_late_faults.specs.Order.{numbers, is_ordered}
 use Rattle.codeco_late_faults.proofs.DoubleLemmas.{repeats_after, repeats_is}
 
-pub repeats_stop : {X : Type 0} (last : Option ℕ) (xs : List (ℕ × X)) (i : ℕ) (d : ℕ × X) → ascends (numbers xs) ≡ true → i < length xs → repeats_after last (numbers (drop i xs)) ≡ repeats_after None (numbers xs) → option_map_or (λ y. eqb y (get_or xs i d).0) last false ≡ true → true ≡ is_double (numbers xs)
+pub repeats_stop : {X : Type 0} (last : Option ℕ) (xs : List (ℕ × X)) (i : ℕ) (d : ℕ × X) → ascends (numbers xs) ≡ true → i < length xs
+    → repeats_after last (numbers (drop i xs)) ≡ repeats_after None (numbers xs) → option_map_or (λ y. eqb y (get_or xs i d).0) last false ≡ true
+    → true ≡ is_double (numbers xs)
 repeats_stop last xs i d up lt h here =
     let at : numbers (drop i xs) ≡ (get_or xs i d).0 ∷ numbers (drop (i + 1) xs) = rw (add-one, drop-cons xs i d) refl in
-    sym (ap (repeats_after last) at ∙ or_left (option_map_or (λ y. eqb y (get_or xs i d).0) last false) (repeats_after (Some (get_or xs i d).0) (numbers (drop (i + 1) xs))) here) ∙ h ∙ repeats_is (numbers xs) up
+    sym (ap (repeats_after last) at ∙ or_left (option_map_or (λ y. eqb y (get_or xs i d).0) last false)
+    (repeats_after (Some (get_or xs i d).0) (numbers (drop (i + 1) xs))) here) ∙ h ∙ repeats_is (numbers xs) up
 
-pub repeats_done : {X : Type 0} (last : Option ℕ) (xs : List (ℕ × X)) (i : ℕ) → ascends (numbers xs) ≡ true → length xs ≤ i → repeats_after last (numbers (drop i xs)) ≡ repeats_after None (numbers xs) → false ≡ is_double (numbers xs)
+pub repeats_done : {X : Type 0} (last : Option ℕ) (xs : List (ℕ × X)) (i : ℕ) → ascends (numbers xs) ≡ true → length xs ≤ i
+    → repeats_after last (numbers (drop i xs)) ≡ repeats_after None (numbers xs) → false ≡ is_double (numbers xs)
 repeats_done last xs i up le h = ap (λ zs. repeats_after last (numbers zs)) (sym (drop_past xs i le)) ∙ h ∙ repeats_is (numbers xs) up
 
 all_weaken : {X : Type 0} (p q : X → Bool) (xs : List X) → ((x : X) → p x ≡ true → q x ≡ true) → list_all p xs ≡ true → list_all q xs ≡ true
@@ -28,7 +32,8 @@ all_weaken p q (x ∷ xs) f h =
     and_from (q x) (list_all q xs) (f x parts.0) (all_weaken p q xs f parts.1)
 
 written_ascends : (c : Category) → is_written_name c ≡ true → ascends (numbers c.feats) ≡ true
-written_ascends c h = (and_parts (ascends (map (λ f. f.0) c.feats)) (list_all (λ f. is_written_term f.1) c.feats) (and_parts (leb 5 c.name) (is_written c) h).1).0
+written_ascends c h = (and_parts (ascends (map (λ f. f.0) c.feats)) (list_all (λ f. is_written_term f.1) c.feats)
+    (and_parts (leb 5 c.name) (is_written c) h).1).0
 
 written_ordered : (p : Pattern) → is_written_pattern p ≡ true → is_ordered p ≡ true
 written_ordered p h =
@@ -58,7 +63,8 @@ back_second e ps ns xs is h same = ap (list_all is_ordered) same ∙ (back_parts
 
 pub noback_all : (e : Element) (ps xs : List Pattern) → e ≡ NoBack ps → is_written_element e ≡ true → xs ≡ ps → list_all is_ordered xs ≡ true
 noback_all e ps xs is h same =
-    ap (list_all is_ordered) same ∙ all_weaken is_plain_pattern is_ordered ps plain_ordered (and_parts (not (is_empty ps)) (list_all is_plain_pattern ps) (ap is_written_element (sym is) ∙ h)).1
+    ap (list_all is_ordered) same ∙ all_weaken is_plain_pattern is_ordered ps plain_ordered
+    (and_parts (not (is_empty ps)) (list_all is_plain_pattern ps) (ap is_written_element (sym is) ∙ h)).1
 
 pub all_item : {X : Type 0} (p : X → Bool) (xs : List X) (i : ℕ) (x : X) → list_all p xs ≡ true → i < length xs → x ≡ get_or xs i x → p x ≡ true
 all_item p [] i x h lt is = absurd (omega arith)

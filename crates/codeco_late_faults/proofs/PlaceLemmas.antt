@@ -7,7 +7,8 @@ use Rattle.wiki_base.proofs.ListLaws.{slice_get_at}
 use Rattle.codeco_late_faults.specs.First.{IsNowhere, IsFirstPlace, FindsFirst}
 
 -- what holds of the same items has the same first place
-pub finds_same : {X : Type 0} (P Q : X → Type 0) (xs : List X) (found : Option ℕ) → ((x : X) → P x → Q x) → ((x : X) → Q x → P x) → FindsFirst P xs found → FindsFirst Q xs found
+pub finds_same : {X : Type 0} (P Q : X → Type 0) (xs : List X) (found : Option ℕ) → ((x : X) → P x → Q x) → ((x : X) → Q x → P x) → FindsFirst P xs found
+    → FindsFirst Q xs found
 finds_same P Q xs None f g h = λ k x e q. h k x e (g x q)
 finds_same P Q xs (Some place) f g h = record {
   here = (h.here.0, h.here.1, f h.here.0 h.here.2);
@@ -18,7 +19,8 @@ finds_same P Q xs (Some place) f g h = record {
 abbrev pub NotBefore : {X : Type 0} → (X → Type 0) → List X → ℕ → Type 0
 NotBefore {X} P xs i = (k : ℕ) (x : X) → k < i → slice_get xs k ≡ Some x → P x → ⊥
 
-pub not_before_more : {X : Type 0} (P : X → Type 0) (xs : List X) (i : ℕ) (y : X) → i < length xs → y ≡ get_or xs i y → (P y → ⊥) → NotBefore P xs i → NotBefore P xs (i + 1)
+pub not_before_more : {X : Type 0} (P : X → Type 0) (xs : List X) (i : ℕ) (y : X) → i < length xs → y ≡ get_or xs i y → (P y → ⊥) → NotBefore P xs i
+    → NotBefore P xs (i + 1)
 not_before_more P xs i y lt is here below = λ k x less e p.
     elim (cases_lt k i) [
       | inl before ↦ below k x before e p

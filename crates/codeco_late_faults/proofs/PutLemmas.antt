@@ -12,7 +12,8 @@ use Rattle.codeco_checked.specs.Faults.{is_double}
 use Rattle.codeco_late_faults.specs.Order.{numbers, shares}
 use Rattle.codeco_late_faults.proofs.DoubleLemmas.{double_cons}
 
-put_any_at : (p : ℕ × Term → Bool) (b : Bool) (q y : ℕ × Term) (ys : List (ℕ × Term)) → list_any p (put_feature q ys) ≡ (p q || list_any p ys) → list_any p (if b then q ∷ y ∷ ys else y ∷ put_feature q ys) ≡ (p q || (p y || list_any p ys))
+put_any_at : (p : ℕ × Term → Bool) (b : Bool) (q y : ℕ × Term) (ys : List (ℕ × Term)) → list_any p (put_feature q ys) ≡ (p q || list_any p ys)
+    → list_any p (if b then q ∷ y ∷ ys else y ∷ put_feature q ys) ≡ (p q || (p y || list_any p ys))
 put_any_at p true q y ys h = refl
 put_any_at p false q y ys h = ap (λ b. p y || b) h ∙ or_swap (p y) (p q) (list_any p ys)
 
@@ -28,7 +29,8 @@ any_numbers p (x ∷ xs) = ap (λ b. p x.0 || b) (any_numbers p xs)
 pub put_numbers : (p : ℕ → Bool) (q : ℕ × Term) (ys : List (ℕ × Term)) → list_any p (numbers (put_feature q ys)) ≡ (p q.0 || list_any p (numbers ys))
 put_numbers p q ys = any_numbers p (put_feature q ys) ∙ put_any (λ x. p x.0) q ys ∙ ap (λ b. p q.0 || b) (sym (any_numbers p ys))
 
-put_double_at : (b : Bool) (q y : ℕ × Term) (ys : List (ℕ × Term)) → is_double (numbers (put_feature q ys)) ≡ (has (numbers ys) q.0 || is_double (numbers ys)) → is_double (numbers (if b then q ∷ y ∷ ys else y ∷ put_feature q ys)) ≡ (has (numbers (y ∷ ys)) q.0 || is_double (numbers (y ∷ ys)))
+put_double_at : (b : Bool) (q y : ℕ × Term) (ys : List (ℕ × Term)) → is_double (numbers (put_feature q ys)) ≡ (has (numbers ys) q.0 || is_double (numbers ys))
+    → is_double (numbers (if b then q ∷ y ∷ ys else y ∷ put_feature q ys)) ≡ (has (numbers (y ∷ ys)) q.0 || is_double (numbers (y ∷ ys)))
 put_double_at true q y ys h = double_cons q.0 (numbers (y ∷ ys))
 put_double_at false q y ys h =
     double_cons y.0 (numbers (put_feature q ys))
@@ -43,7 +45,8 @@ put_double q (y ∷ ys) = put_double_at (ltb q.0 y.0) q y ys (put_double q ys)
 
 shares_cons : (xs : List ℕ) (y : ℕ) (ys : List ℕ) → shares xs (y ∷ ys) ≡ (has xs y || shares xs ys)
 shares_cons [] y ys = refl
-shares_cons (x ∷ xs) y ys = ap (λ b. (eqb x y || has ys x) || b) (shares_cons xs y ys) ∙ or_turn (eqb x y) (has ys x) (has xs y) (shares xs ys) ∙ ap (λ b. (b || has xs y) || (has ys x || shares xs ys)) (eqb_comm x y)
+shares_cons (x ∷ xs) y ys = ap (λ b. (eqb x y || has ys x) || b) (shares_cons xs y ys) ∙ or_turn (eqb x y) (has ys x) (has xs y) (shares xs ys)
+    ∙ ap (λ b. (b || has xs y) || (has ys x || shares xs ys)) (eqb_comm x y)
 
 pub shares_none : (xs : List ℕ) → shares xs [] ≡ false
 shares_none [] = refl
@@ -88,7 +91,8 @@ or_nothing true = refl
 or_nothing false = refl
 
 -- a feature stands twice in a pattern where it does among the plain ones, among the marked ones, or once in each
-pub taken_double : (feats : List (ℕ × Term)) (taken : List (ℕ × ℕ)) → is_double (numbers (with_taken feats taken)) ≡ ((is_double (numbers feats) || is_double (numbers taken)) || shares (numbers feats) (numbers taken))
+pub taken_double : (feats : List (ℕ × Term)) (taken : List (ℕ × ℕ))
+    → is_double (numbers (with_taken feats taken)) ≡ ((is_double (numbers feats) || is_double (numbers taken)) || shares (numbers feats) (numbers taken))
 taken_double feats [] = or_nothing (is_double (numbers feats)) ∙ ap (λ b. (is_double (numbers feats) || false) || b) (sym (shares_none (numbers feats)))
 taken_double feats (t ∷ ts) =
     let q : ℕ × Term = (t.0, Var t.1) in
@@ -114,8 +118,10 @@ or_false true = refl
 or_false false = refl
 
 -- a test passes for a feature of a pattern where it does for a plain or for a marked one
-pub taken_any : (p : ℕ × Term → Bool) (feats : List (ℕ × Term)) (taken : List (ℕ × ℕ)) → list_any p (with_taken feats taken) ≡ (list_any p feats || list_any p (map (λ t. (t.0, Var t.1)) taken))
+pub taken_any : (p : ℕ × Term → Bool) (feats : List (ℕ × Term)) (taken : List (ℕ × ℕ))
+    → list_any p (with_taken feats taken) ≡ (list_any p feats || list_any p (map (λ t. (t.0, Var t.1)) taken))
 taken_any p feats [] = or_false (list_any p feats)
 taken_any p feats (t ∷ ts) =
     let q : ℕ × Term = (t.0, Var t.1) in
-    taken_any p (put_feature q feats) ts ∙ ap (λ b. b || list_any p (map (λ u. (u.0, Var u.1)) ts)) (put_any p q feats) ∙ or_shift (p q) (list_any p feats) (list_any p (map (λ u. (u.0, Var u.1)) ts))
+    taken_any p (put_feature q feats) ts ∙ ap (λ b. b || list_any p (map (λ u. (u.0, Var u.1)) ts)) (put_any p q feats)
+    ∙ or_shift (p q) (list_any p feats) (list_any p (map (λ u. (u.0, Var u.1)) ts))

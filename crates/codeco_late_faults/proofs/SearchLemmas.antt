@@ -69,11 +69,16 @@ count_set m to lt h =
     omega (arith, moved, was)
 
 -- what wasn't reached before
-pub followed_new : (to : ℕ) (m : List Bool) (o : List ℕ) → to < length m → get_or m to false ≡ false → IsFollowed (λ c. eqb c to) m (set m to true) o (o ++ to ∷ [])
+pub followed_new : (to : ℕ) (m : List Bool) (o : List ℕ) → to < length m → get_or m to false ≡ false
+    → IsFollowed (λ c. eqb c to) m (set m to true) o (o ++ to ∷ [])
 followed_new to m o lt out = record {
   kept = λ c h. set_kept m to c lt h;
   every = λ c h. subst (IsIn (set m to true)) (sym (eqb-true c to h)) (set_in m to lt);
-  only = λ c h. elim (set_only m to c h) [ inl was ↦ inl was | inr same ↦ inr (eq-eqb c to same, subst (λ x. IsTrue (has (o ++ to ∷ []) x)) (sym same) (has_last o to)) ];
+  only = λ c h. elim (set_only m to c h) [
+    | inl was ↦ inl was
+    | inr same ↦
+        inr (eq-eqb c to same, subst (λ x. IsTrue (has (o ++ to ∷ []) x)) (sym same) (has_last o to))
+  ];
   still_waiting = λ c h. has_front o to c h;
   listed = λ c h. elim (has_cases o to c h) [ inl was ↦ inl was | inr same ↦ inr (subst (IsIn (set m to true)) (sym same) (set_in m to lt)) ];
   count = omega (arith, count_set m to lt out, length-append o (to ∷ []));
@@ -81,7 +86,8 @@ followed_new to m o lt out = record {
 }
 
 -- one after the other
-pub followed_both : (s t u : ℕ → Bool) (m n k : List Bool) (o p q : List ℕ) → ((c : ℕ) → u c ≡ (s c || t c)) → IsFollowed s m n o p → IsFollowed t n k p q → IsFollowed u m k o q
+pub followed_both : (s t u : ℕ → Bool) (m n k : List Bool) (o p q : List ℕ) → ((c : ℕ) → u c ≡ (s c || t c)) → IsFollowed s m n o p → IsFollowed t n k p q
+    → IsFollowed u m k o q
 followed_both s t u m n k o p q both f g = record {
   kept = λ c h. g.kept c (f.kept c h);
   every = λ c h. elim (or_cases (s c) (t c) (sym (both c) ∙ h)) [ inl x ↦ g.kept c (f.every c x) | inr x ↦ g.every c x ];
@@ -124,7 +130,8 @@ none_in zero c h = absurd cc
 none_in (suc n) zero h = absurd cc
 none_in (suc n) (suc c) h = none_in n c h
 
-searches_first : (steps : ℕ → ℕ → Bool) (from : ℕ) (size : ℕ) (m : List Bool) (o : List ℕ) → size ≡ 65536 → IsFollowed (steps from) (replicate size false) m [] o → Searches steps from m o
+searches_first : (steps : ℕ → ℕ → Bool) (from : ℕ) (size : ℕ) (m : List Bool) (o : List ℕ) → size ≡ 65536
+    → IsFollowed (steps from) (replicate size false) m [] o → Searches steps from m o
 searches_first steps from size m o large f = record {
   sound = λ c h. elim (f.only c h) [ inl was ↦ absurd (none_in size c was) | inr new ↦ ([], new.0) ];
   begun = f.every;
@@ -133,15 +140,19 @@ searches_first steps from size m o large f = record {
   room = f.room ∙ length-replicate size false ∙ large;
 }
 
-pub searches_begun : (steps : ℕ → ℕ → Bool) (from size : ℕ) (m n : List Bool) (o p : List ℕ) → size ≡ 65536 → m ≡ replicate size false → o ≡ [] → IsFollowed (steps from) m n o p → Searches steps from n p
+pub searches_begun : (steps : ℕ → ℕ → Bool) (from size : ℕ) (m n : List Bool) (o p : List ℕ) → size ≡ 65536 → m ≡ replicate size false → o ≡ []
+    → IsFollowed (steps from) m n o p → Searches steps from n p
 searches_begun steps from size m n o p large e k f =
-    searches_first steps from size n p large (subst (λ z. IsFollowed (steps from) (replicate size false) n z p) k (subst (λ z. IsFollowed (steps from) z n o p) e f))
+    searches_first steps from size n p large
+    (subst (λ z. IsFollowed (steps from) (replicate size false) n z p) k (subst (λ z. IsFollowed (steps from) z n o p) e f))
 
-path_more : (steps : ℕ → ℕ → Bool) (from : ℕ) (between : List ℕ) (c d : ℕ) → IsPath steps from between c → IsTrue (steps c d) → IsPath steps from (between ++ c ∷ []) d
+path_more : (steps : ℕ → ℕ → Bool) (from : ℕ) (between : List ℕ) (c d : ℕ) → IsPath steps from between c → IsTrue (steps c d)
+    → IsPath steps from (between ++ c ∷ []) d
 path_more steps from [] c d p h = (p, h)
 path_more steps from (b ∷ bs) c d p h = (p.0, path_more steps b bs c d p.1 h)
 
-searches_next : (steps : ℕ → ℕ → Bool) (from next : ℕ) (m n : List Bool) (o p : List ℕ) → Searches steps from m (o ++ next ∷ []) → IsFollowed (steps next) m n o p → Searches steps from n p
+searches_next : (steps : ℕ → ℕ → Bool) (from next : ℕ) (m n : List Bool) (o p : List ℕ) → Searches steps from m (o ++ next ∷ [])
+    → IsFollowed (steps next) m n o p → Searches steps from n p
 searches_next steps from next m n o p s f = record {
   sound = λ c h. elim (f.only c h) [
     | inl was ↦ s.sound c was
@@ -162,10 +173,12 @@ searches_next steps from next m n o p s f = record {
   room = f.room ∙ s.room;
 }
 
-pub searches_step : (steps : ℕ → ℕ → Bool) (from next : ℕ) (m n : List Bool) (q o p : List ℕ) → q ≡ o ++ next ∷ [] → Searches steps from m q → IsFollowed (steps next) m n o p → Searches steps from n p
+pub searches_step : (steps : ℕ → ℕ → Bool) (from next : ℕ) (m n : List Bool) (q o p : List ℕ) → q ≡ o ++ next ∷ [] → Searches steps from m q
+    → IsFollowed (steps next) m n o p → Searches steps from n p
 searches_step steps from next m n q o p e s f = searches_next steps from next m n o p (subst (λ z. Searches steps from m z) e s) f
 
-path_in : (steps : ℕ → ℕ → Bool) (m : List Bool) → ((c d : ℕ) → IsIn m c → IsTrue (steps c d) → IsIn m d) → (c : ℕ) (between : List ℕ) (d : ℕ) → IsIn m c → IsPath steps c between d → IsIn m d
+path_in : (steps : ℕ → ℕ → Bool) (m : List Bool) → ((c d : ℕ) → IsIn m c → IsTrue (steps c d) → IsIn m d) → (c : ℕ) (between : List ℕ) (d : ℕ) → IsIn m c
+    → IsPath steps c between d → IsIn m d
 path_in steps m all c [] d h p = all c d h p
 path_in steps m all c (b ∷ bs) d h p = path_in steps m all b bs d (all c b h p.0) p.1
 
@@ -183,8 +196,10 @@ no_length [] h = refl
 no_length (x ∷ xs) h = absurd (omega arith)
 
 -- the followers of a number are what one step leads to
-pub followed_at : (table : List (List ℕ)) (from : ℕ) (fs : List ℕ) (m n : List Bool) (o p : List ℕ) → from < length table → fs ≡ get_or table from fs → IsFollowed (has fs) m n o p → IsFollowed (leads table from) m n o p
-followed_at table from fs m n o p lt is f = followed_same (has fs) (leads table from) m n o p (λ c. ap (λ xs. has xs c) (sym (is ∙ get_or_default table from fs [] lt))) f
+pub followed_at : (table : List (List ℕ)) (from : ℕ) (fs : List ℕ) (m n : List Bool) (o p : List ℕ) → from < length table → fs ≡ get_or table from fs
+    → IsFollowed (has fs) m n o p → IsFollowed (leads table from) m n o p
+followed_at table from fs m n o p lt is f =
+    followed_same (has fs) (leads table from) m n o p (λ c. ap (λ xs. has xs c) (sym (is ∙ get_or_default table from fs [] lt))) f
 
 pub none_pushed : (table : List (List ℕ)) → ((name : ℕ) → get_or table name [] ≡ []) → (name : ℕ) → get_or (table ++ [] ∷ []) name [] ≡ []
 none_pushed [] h zero = refl

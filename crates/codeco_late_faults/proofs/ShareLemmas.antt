@@ -40,32 +40,43 @@ skip t ts (z ∷ zs) h =
     ap (λ b. has ts z || b) (skip t ts zs parts.1) ∙ ap (λ b. (b || has ts z) || shares zs (t ∷ ts)) (sym (ne_eqb z t (λ e. omega arith)))
 
 -- the first number of the one list is below those of the other
-pub shares_low : {X Y : Type 0} (xs : List (ℕ × X)) (ys : List (ℕ × Y)) (i j : ℕ) (d : ℕ × X) (e : ℕ × Y) (all : Bool) → ascends (numbers ys) ≡ true → i < length xs → j < length ys → (get_or xs i d).0 < (get_or ys j e).0 → shares (numbers (drop i xs)) (numbers (drop j ys)) ≡ all → shares (numbers (drop (i + 1) xs)) (numbers (drop j ys)) ≡ all
+pub shares_low : {X Y : Type 0} (xs : List (ℕ × X)) (ys : List (ℕ × Y)) (i j : ℕ) (d : ℕ × X) (e : ℕ × Y) (all : Bool) → ascends (numbers ys) ≡ true
+    → i < length xs → j < length ys → (get_or xs i d).0 < (get_or ys j e).0 → shares (numbers (drop i xs)) (numbers (drop j ys)) ≡ all
+    → shares (numbers (drop (i + 1) xs)) (numbers (drop j ys)) ≡ all
 shares_low xs ys i j d e all up lt low less h =
     let f = (get_or xs i d).0 in
     let t = (get_or ys j e).0 in
     let rest = numbers (drop (i + 1) xs) in
     let others = numbers (drop j ys) in
-    let out : has others f ≡ false = ap (λ zs. has zs f) (at_place ys j e low) ∙ low_out f t (numbers (drop (j + 1) ys)) (ap ascends (sym (at_place ys j e low)) ∙ ascends_drop ys j up) less in
+    let out : has others f ≡ false = ap (λ zs. has zs f) (at_place ys j e low)
+    ∙ low_out f t (numbers (drop (j + 1) ys)) (ap ascends (sym (at_place ys j e low)) ∙ ascends_drop ys j up) less in
     sym (ap (λ zs. shares zs others) (at_place xs i d lt) ∙ ap (λ b. b || shares rest others) out) ∙ h
 
 -- the first number of the other list is below those of the one
-pub shares_high : {X Y : Type 0} (xs : List (ℕ × X)) (ys : List (ℕ × Y)) (i j : ℕ) (d : ℕ × X) (e : ℕ × Y) (all : Bool) → ascends (numbers xs) ≡ true → i < length xs → j < length ys → (get_or ys j e).0 < (get_or xs i d).0 → shares (numbers (drop i xs)) (numbers (drop j ys)) ≡ all → shares (numbers (drop i xs)) (numbers (drop (j + 1) ys)) ≡ all
+pub shares_high : {X Y : Type 0} (xs : List (ℕ × X)) (ys : List (ℕ × Y)) (i j : ℕ) (d : ℕ × X) (e : ℕ × Y) (all : Bool) → ascends (numbers xs) ≡ true
+    → i < length xs → j < length ys → (get_or ys j e).0 < (get_or xs i d).0 → shares (numbers (drop i xs)) (numbers (drop j ys)) ≡ all
+    → shares (numbers (drop i xs)) (numbers (drop (j + 1) ys)) ≡ all
 shares_high xs ys i j d e all up lt low less h =
     let t = (get_or ys j e).0 in
     let zs = numbers (drop i xs) in
-    let above : list_all (ltb t) zs ≡ true = ap (list_all (ltb t)) (at_place xs i d lt) ∙ all_above t (get_or xs i d).0 (numbers (drop (i + 1) xs)) (ap ascends (sym (at_place xs i d lt)) ∙ ascends_drop xs i up) less in
+    let above : list_all (ltb t) zs ≡ true =
+    ap (list_all (ltb t)) (at_place xs i d lt)
+    ∙ all_above t (get_or xs i d).0 (numbers (drop (i + 1) xs)) (ap ascends (sym (at_place xs i d lt)) ∙ ascends_drop xs i up) less in
     skip t (numbers (drop (j + 1) ys)) zs above ∙ ap (shares zs) (sym (at_place ys j e low)) ∙ h
 
-pub shares_here : {X Y : Type 0} (xs : List (ℕ × X)) (ys : List (ℕ × Y)) (i j : ℕ) (d : ℕ × X) (e : ℕ × Y) (all : Bool) → i < length xs → j < length ys → (get_or xs i d).0 ≡ (get_or ys j e).0 → shares (numbers (drop i xs)) (numbers (drop j ys)) ≡ all → true ≡ all
+pub shares_here : {X Y : Type 0} (xs : List (ℕ × X)) (ys : List (ℕ × Y)) (i j : ℕ) (d : ℕ × X) (e : ℕ × Y) (all : Bool) → i < length xs → j < length ys
+    → (get_or xs i d).0 ≡ (get_or ys j e).0 → shares (numbers (drop i xs)) (numbers (drop j ys)) ≡ all → true ≡ all
 shares_here xs ys i j d e all lt low same h =
     let f = (get_or xs i d).0 in
     let others = numbers (drop j ys) in
-    let in_it : has others f ≡ true = ap (λ zs. has zs f) (at_place ys j e low) ∙ or_left (eqb f (get_or ys j e).0) (has (numbers (drop (j + 1) ys)) f) (eq-eqb f (get_or ys j e).0 same) in
+    let in_it : has others f ≡ true = ap (λ zs. has zs f) (at_place ys j e low)
+    ∙ or_left (eqb f (get_or ys j e).0) (has (numbers (drop (j + 1) ys)) f) (eq-eqb f (get_or ys j e).0 same) in
     sym (ap (λ zs. shares zs others) (at_place xs i d lt) ∙ or_left (has others f) (shares (numbers (drop (i + 1) xs)) others) in_it) ∙ h
 
-pub shares_end : {X Y : Type 0} (xs : List (ℕ × X)) (ys : List (ℕ × Y)) (i j : ℕ) (all : Bool) → length xs ≤ i → shares (numbers (drop i xs)) (numbers (drop j ys)) ≡ all → false ≡ all
+pub shares_end : {X Y : Type 0} (xs : List (ℕ × X)) (ys : List (ℕ × Y)) (i j : ℕ) (all : Bool) → length xs ≤ i
+    → shares (numbers (drop i xs)) (numbers (drop j ys)) ≡ all → false ≡ all
 shares_end xs ys i j all le h = ap (λ zs. shares (numbers zs) (numbers (drop j ys))) (sym (drop_past xs i le)) ∙ h
 
-pub shares_out : {X Y : Type 0} (xs : List (ℕ × X)) (ys : List (ℕ × Y)) (i j : ℕ) (all : Bool) → length ys ≤ j → shares (numbers (drop i xs)) (numbers (drop j ys)) ≡ all → false ≡ all
+pub shares_out : {X Y : Type 0} (xs : List (ℕ × X)) (ys : List (ℕ × Y)) (i j : ℕ) (all : Bool) → length ys ≤ j
+    → shares (numbers (drop i xs)) (numbers (drop j ys)) ≡ all → false ≡ all
 shares_out xs ys i j all le h = sym (shares_none (numbers (drop i xs))) ∙ ap (λ zs. shares (numbers (drop i xs)) (numbers zs)) (sym (drop_past ys j le)) ∙ h

@@ -57,7 +57,8 @@ names_element t (element.Back ps ns) =
 names_element t (element.NoBack ps) = let c = length-map ps (numbered_pattern t) in omega arith
 names_element t e = omega arith
 
-names_body : (t : Tables) (es : List WrittenElement) → length (flat_map plain_categories es) ≤ length es + length (flat_map patterns (map (numbered_element t) es))
+names_body : (t : Tables) (es : List WrittenElement)
+    → length (flat_map plain_categories es) ≤ length es + length (flat_map patterns (map (numbered_element t) es))
 names_body t [] = omega arith
 names_body t (e ∷ es) =
     let one = names_element t e in
@@ -83,7 +84,8 @@ rule_names_few t r small =
     omega arith
 
 -- where each part has at most 33, all have at most 33 times their number
-pub parts_few : {X Y : Type 0} (F : X → List Y) (good : X → Bool) → ((x : X) → good x ≡ true → length (F x) ≤ 33) → (xs : List X) → list_all good xs ≡ true → length (flat_map F xs) ≤ 33 * length xs
+pub parts_few : {X Y : Type 0} (F : X → List Y) (good : X → Bool) → ((x : X) → good x ≡ true → length (F x) ≤ 33) → (xs : List X) → list_all good xs ≡ true
+    → length (flat_map F xs) ≤ 33 * length xs
 parts_few F good few [] h = omega arith
 parts_few F good few (x ∷ xs) h =
     let parts = and_parts (good x) (list_all good xs) h in

@@ -57,7 +57,8 @@ is_open (Some d) = false
 -- with a declaration: at the feature of this name that has none yet, or else behind the others
 abbrev pub with_declaration : List NamedFeature → List ℕ → Domain → List NamedFeature
 with_declaration [] name d = record { name = name; domain = Some d } ∷ []
-with_declaration (f ∷ fs) name d = if same_bytes name f.name && is_open f.domain then record { name = name; domain = Some d } ∷ fs else f ∷ with_declaration fs name d
+with_declaration (f ∷ fs) name d = if same_bytes name f.name && is_open f.domain then record { name = name; domain = Some d } ∷ fs
+    else f ∷ with_declaration fs name d
 
 abbrev pub with_item : List NamedFeature → WrittenItem → List NamedFeature
 with_item fs (item.Feature name d) = with_declaration fs name d
@@ -257,5 +258,11 @@ numbered_of items =
       atoms = atoms;
       terminals = terminals;
       categories = kinds ++ categories;
-      rules = map (λ r. numbered_rule (record { features = names; atoms = atoms; terminals = terminals; categories = categories; variables = variable_names names r }) r) rules;
+      rules = map (λ r. numbered_rule (record {
+        features = names;
+        atoms = atoms;
+        terminals = terminals;
+        categories = categories;
+        variables = variable_names names r;
+      }) r) rules;
     }

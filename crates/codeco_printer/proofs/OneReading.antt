@@ -19,5 +19,6 @@ one_spelling text is js s t =
     lexemes_same is js (sym a.3 ∙ ap so_far same ∙ b.3)
 
 -- whatever the text of a sound grammar spells makes that grammar
-pub read_back : (g : GrammarParts) (text : List ℕ) → IsSound g → IsSpelling text (written_of g) → (items : List WrittenItem) → IsSpelling text items → numbered_of items ≡ g
+pub read_back : (g : GrammarParts) (text : List ℕ) → IsSound g → IsSpelling text (written_of g) → (items : List WrittenItem) → IsSpelling text items
+    → numbered_of items ≡ g
 read_back g text s printed items other = ap numbered_of (one_spelling text items (written_of g) other printed) ∙ numbered_of-written_of g s

@@ -55,7 +55,8 @@ kind_named names n h low =
     ap (is_among kinds) (begins_at first_categories names n h (omega arith)) ∙ first_kind n lt
 
 -- a feature that is declared has a name
-declared_named : (features : List Feature) (f : ℕ) → list_all (λ x. is_identifier x.name) features ≡ true → is_declared (option_map_or (λ x. x.declared) (slice_get features f) declared.Undeclared) ≡ true → is_identifier (feature_name features f) ≡ true
+declared_named : (features : List Feature) (f : ℕ) → list_all (λ x. is_identifier x.name) features ≡ true
+    → is_declared (option_map_or (λ x. x.declared) (slice_get features f) declared.Undeclared) ≡ true → is_identifier (feature_name features f) ≡ true
 declared_named [] f all h = absurd cc
 declared_named (x ∷ xs) zero all h = (and_parts (is_identifier x.name) (list_all (λ y. is_identifier y.name) xs) all).0
 declared_named (x ∷ xs) (suc f) all h = declared_named xs f (and_parts (is_identifier x.name) (list_all (λ y. is_identifier y.name) xs) all).1 h
@@ -67,10 +68,13 @@ has_all p (x ∷ xs) a all h =
     elim (or_cases (eqb a x) (has xs a) h) [ inl e ↦ ap p (eqb-true a x e) ∙ parts.0 | inr e ↦ has_all p xs a parts.1 e ]
 
 -- the atoms of a feature's values
-pub values_at : (p : ℕ → Bool) (features : List Feature) (f a : ℕ) → list_all (λ x. list_all p (declared_atoms x.declared)) features ≡ true → has (declared_atoms (option_map_or (λ x. x.declared) (slice_get features f) declared.Undeclared)) a ≡ true → p a ≡ true
+pub values_at : (p : ℕ → Bool) (features : List Feature) (f a : ℕ) → list_all (λ x. list_all p (declared_atoms x.declared)) features ≡ true
+    → has (declared_atoms (option_map_or (λ x. x.declared) (slice_get features f) declared.Undeclared)) a ≡ true → p a ≡ true
 values_at p [] f a all h = absurd cc
-values_at p (x ∷ xs) zero a all h = has_all p (declared_atoms x.declared) a (and_parts (list_all p (declared_atoms x.declared)) (list_all (λ y. list_all p (declared_atoms y.declared)) xs) all).0 h
-values_at p (x ∷ xs) (suc f) a all h = values_at p xs f a (and_parts (list_all p (declared_atoms x.declared)) (list_all (λ y. list_all p (declared_atoms y.declared)) xs) all).1 h
+values_at p (x ∷ xs) zero a all h = has_all p (declared_atoms x.declared) a
+    (and_parts (list_all p (declared_atoms x.declared)) (list_all (λ y. list_all p (declared_atoms y.declared)) xs) all).0 h
+values_at p (x ∷ xs) (suc f) a all h = values_at p xs f a
+    (and_parts (list_all p (declared_atoms x.declared)) (list_all (λ y. list_all p (declared_atoms y.declared)) xs) all).1 h
 
 abbrev pub term_named : GrammarParts → Term → Bool
 term_named g (Val v) = is_identifier (value_name g v)
@@ -84,10 +88,13 @@ abbrev pub category_named : GrammarParts → Category → Bool
 category_named g c = is_identifier (name_at g.categories c.name) && list_all (feat_named g) c.feats
 
 -- the atoms of declarations have names
-pub atoms_named : (g : GrammarParts) → IsSound g → list_all (λ x. list_all (λ a. is_identifier (name_at g.atoms a)) (declared_atoms x.declared)) g.features ≡ true
+pub atoms_named : (g : GrammarParts) → IsSound g
+    → list_all (λ x. list_all (λ a. is_identifier (name_at g.atoms a)) (declared_atoms x.declared)) g.features ≡ true
 atoms_named g s =
     all_flat (λ a. is_identifier (name_at g.atoms a)) (λ x. declared_atoms x.declared) g.features
-    (all_weaken (λ x. ltb x (length g.atoms)) (λ a. is_identifier (name_at g.atoms a)) (λ a lt. all_at is_identifier g.atoms a [] s.written.atoms (ltb-true a (length g.atoms) lt)) (grammar_atoms g) (counted 7 (length g.atoms) (grammar_atoms g) s.numbered.atoms).1)
+    (all_weaken (λ x. ltb x (length g.atoms)) (λ a. is_identifier (name_at g.atoms a))
+    (λ a lt. all_at is_identifier g.atoms a [] s.written.atoms (ltb-true a (length g.atoms) lt)) (grammar_atoms g)
+    (counted 7 (length g.atoms) (grammar_atoms g) s.numbered.atoms).1)
 
 fits_declared_named : (g : GrammarParts) (f : ℕ) (t : Term) → IsSound g → fits_declared (values_of g f) t ≡ true → term_named g t ≡ true
 fits_declared_named g f (Val (Atom a)) s h = values_at (λ x. is_identifier (name_at g.atoms x)) g.features f a (atoms_named g s) h
@@ -99,7 +106,8 @@ pub no_undeclared : (g : GrammarParts) → IsSound g → list_any (is_undeclared
 no_undeclared g s = at_no_rule (is_undeclared_rule g) g.rules (λ n h. s.faultless (fault.Undeclared n) h)
 
 pub no_bad : (g : GrammarParts) → IsSound g → list_any (is_bad_rule g) g.rules ≡ false
-no_bad g s = at_no_rule (is_bad_rule g) g.rules (λ n h. s.faultless (fault.BadValue n) (or_right (eqb n 0 && has_double_declaration g) (at_rule (is_bad_rule g) g.rules n) h))
+no_bad g s = at_no_rule (is_bad_rule g) g.rules
+    (λ n h. s.faultless (fault.BadValue n) (or_right (eqb n 0 && has_double_declaration g) (at_rule (is_bad_rule g) g.rules n) h))
 
 pub not_wrong : (g : GrammarParts) (r : Rule) → is_bad_rule g r ≡ false → list_all (λ f. fits_declared (values_of g f.0) f.1) (rule_features r) ≡ true
 not_wrong g r h =
@@ -112,7 +120,8 @@ not_wrong g r h =
 -- the features that rules write have names
 features_named : (g : GrammarParts) → IsSound g → list_all (λ r. list_all (feat_named g) (rule_features r)) g.rules ≡ true
 features_named g s =
-    let named = none_each (is_undeclared_rule g) (λ r. list_all (λ f. is_declared (values_of g f.0)) (rule_features r)) (λ r h. all_from_none (λ f. is_declared (values_of g f.0)) (rule_features r) h) g.rules (no_undeclared g s) in
+    let named = none_each (is_undeclared_rule g) (λ r. list_all (λ f. is_declared (values_of g f.0)) (rule_features r))
+    (λ r h. all_from_none (λ f. is_declared (values_of g f.0)) (rule_features r) h) g.rules (no_undeclared g s) in
     let fits = none_each (is_bad_rule g) (λ r. list_all (λ f. fits_declared (values_of g f.0) f.1) (rule_features r)) (not_wrong g) g.rules (no_bad g s) in
     let P : Rule → Bool = λ r. list_all (λ f. is_declared (values_of g f.0)) (rule_features r) in
     let Q : Rule → Bool = λ r. list_all (λ f. fits_declared (values_of g f.0) f.1) (rule_features r) in
@@ -122,16 +131,21 @@ features_named g s =
     all_weaken (λ f. is_declared (values_of g f.0) && fits_declared (values_of g f.0) f.1) (feat_named g)
     (λ f k.
     let both = and_parts (is_declared (values_of g f.0)) (fits_declared (values_of g f.0) f.1) k in
-    and_from (is_identifier (feature_name g.features f.0)) (term_named g f.1) (declared_named g.features f.0 s.written.features both.0) (fits_declared_named g f.0 f.1 s both.1))
+    and_from (is_identifier (feature_name g.features f.0)) (term_named g f.1) (declared_named g.features f.0 s.written.features both.0)
+    (fits_declared_named g f.0 f.1 s both.1))
     (rule_features r) (all_both (λ f. is_declared (values_of g f.0)) (λ f. fits_declared (values_of g f.0) f.1) (rule_features r) parts.0 parts.1))
     g.rules (all_both P Q g.rules named fits)
 
 names_named : (g : GrammarParts) → IsSound g → list_all (λ r. list_all (λ c. is_identifier (name_at g.categories c.name)) (rule_mentions r)) g.rules ≡ true
 names_named g s =
     let q : ℕ → Bool = λ n. is_identifier (name_at g.categories n) in
-    let below : list_all (λ x. ltb x (length g.categories)) (grammar_names g) ≡ true = (counted 6 (length g.categories) (grammar_names g) s.numbered.categories).1 in
-    let all : list_all q (grammar_names g) ≡ true = all_weaken (λ x. ltb x (length g.categories)) q (λ n lt. all_at is_identifier g.categories n [] s.written.categories (ltb-true n (length g.categories) lt)) (grammar_names g) below in
-    all_weaken (λ r. list_all q (map (λ c. c.name) (rule_mentions r))) (λ r. list_all (λ c. q c.name) (rule_mentions r)) (λ r h. sym (all-map q (λ c. c.name) (rule_mentions r)) ∙ h) g.rules (all_flat q (λ r. map (λ c. c.name) (rule_mentions r)) g.rules all)
+    let below : list_all (λ x. ltb x (length g.categories)) (grammar_names g) ≡ true =
+    (counted 6 (length g.categories) (grammar_names g) s.numbered.categories).1 in
+    let all : list_all q (grammar_names g) ≡ true =
+    all_weaken (λ x. ltb x (length g.categories)) q
+    (λ n lt. all_at is_identifier g.categories n [] s.written.categories (ltb-true n (length g.categories) lt)) (grammar_names g) below in
+    all_weaken (λ r. list_all q (map (λ c. c.name) (rule_mentions r))) (λ r. list_all (λ c. q c.name) (rule_mentions r))
+    (λ r h. sym (all-map q (λ c. c.name) (rule_mentions r)) ∙ h) g.rules (all_flat q (λ r. map (λ c. c.name) (rule_mentions r)) g.rules all)
 
 -- the categories that rules write have names
 pub mentions_named : (g : GrammarParts) → IsSound g → list_all (λ r. list_all (category_named g) (rule_mentions r)) g.rules ≡ true
@@ -141,11 +155,13 @@ mentions_named g s =
     all_weaken (λ r. P r && Q r) (λ r. list_all (category_named g) (rule_mentions r))
     (λ r h.
     let parts = and_parts (P r) (Q r) h in
-    all_both (λ c. is_identifier (name_at g.categories c.name)) (λ c. list_all (feat_named g) c.feats) (rule_mentions r) parts.0 (all_flat (feat_named g) (λ c. c.feats) (rule_mentions r) parts.1))
+    all_both (λ c. is_identifier (name_at g.categories c.name)) (λ c. list_all (feat_named g) c.feats) (rule_mentions r) parts.0
+    (all_flat (feat_named g) (λ c. c.feats) (rule_mentions r) parts.1))
     g.rules (all_both P Q g.rules (names_named g s) (features_named g s))
 
 pub terminals_named : (g : GrammarParts) → IsSound g → list_all (λ r. list_all (λ t. is_terminal (name_at g.terminals t)) (rule_terminals r)) g.rules ≡ true
 terminals_named g s =
     let q : ℕ → Bool = λ n. is_terminal (name_at g.terminals n) in
     all_flat q rule_terminals g.rules
-    (all_weaken (λ x. ltb x (length g.terminals)) q (λ n lt. all_at is_terminal g.terminals n [] s.written.terminals (ltb-true n (length g.terminals) lt)) (grammar_terminals g) (counted 0 (length g.terminals) (grammar_terminals g) s.numbered.terminals).1)
+    (all_weaken (λ x. ltb x (length g.terminals)) q (λ n lt. all_at is_terminal g.terminals n [] s.written.terminals (ltb-true n (length g.terminals) lt))
+    (grammar_terminals g) (counted 0 (length g.terminals) (grammar_terminals g) s.numbered.terminals).1)

@@ -61,7 +61,8 @@ pub fn read_grammar(alloc: Global, text: &str) -> Result<CheckedGrammar, Grammar
     ensures accepts { (grammar : GrammarParts) → IsTrue (is_in_size text.now) → Makes text.now grammar → IsFaultless grammar → Gives grammar result }
 
     // The printed text of a grammar is read back as an equal one, where it is in size.
-    ensures printed { (grammar : GrammarParts) → IsSound grammar → text.now ≡ printed (lexemes (written_of grammar)) → IsTrue (is_in_size text.now) → Gives grammar result }
+    ensures printed { (grammar : GrammarParts) → IsSound grammar → text.now ≡ printed (lexemes (written_of grammar)) → IsTrue (is_in_size text.now)
+        → Gives grammar result }
 {
     if text.len() > SIZE_LIMIT {
         return Err(GrammarFault::TooLarge(0));

@@ -46,12 +46,18 @@ begin_comment b x h = subst (λ (n : ℕ). begin b n ≡ Some (b, comment)) (sym
 final_step : (b : Builder) (m : Mode) (x : ℕ) (rest : List ℕ) (s : Builder × Mode) → step b m x ≡ Some s → final b m (x ∷ rest) ≡ final s.0 s.1 rest
 final_step b m x rest s e = ap (λ (o : Option (Builder × Mode)). o >>= λ s. final s.0 s.1 rest) e
 
-gap_byte : (b : Builder) (cm : Bool) (last : Bool) (x : ℕ) (gap rest : List ℕ) → is_gap last cm (x ∷ gap) ≡ true → (next : Bool) × (is_gap last next gap ≡ true) × (final b (gap_mode cm) (x ∷ rest) ≡ final b (gap_mode next) rest)
+gap_byte : (b : Builder) (cm : Bool) (last : Bool) (x : ℕ) (gap rest : List ℕ) → is_gap last cm (x ∷ gap) ≡ true
+    → (next : Bool) × (is_gap last next gap ≡ true) × (final b (gap_mode cm) (x ∷ rest) ≡ final b (gap_mode next) rest)
 gap_byte b true last x gap rest h = (not (eqb x 10), h, ap (λ (m : Mode). final b m rest) (line_mode (eqb x 10)))
 gap_byte b false last x gap rest h = elim (cases_Bool (eqb x 37)) [
-  | inl e ↦ (true, sym (cond-true (eqb x 37) (is_gap last true gap) (is_space x && is_gap last false gap) e) ∙ h, final_step b between x rest (b, comment) (begin_comment b x e))
+  | inl e ↦ (
+    true,
+    sym (cond-true (eqb x 37) (is_gap last true gap) (is_space x && is_gap last false gap) e) ∙ h,
+    final_step b between x rest (b, comment) (begin_comment b x e),
+  )
   | inr e ↦
-      let both = and_parts (is_space x) (is_gap last false gap) (sym (cond-false (eqb x 37) (is_gap last true gap) (is_space x && is_gap last false gap) e) ∙ h) in
+      let both = and_parts (is_space x) (is_gap last false gap)
+      (sym (cond-false (eqb x 37) (is_gap last true gap) (is_space x && is_gap last false gap) e) ∙ h) in
       (false, both.1, final_step b between x rest (b, between) (begin_space b x both.0))
 ]
 
@@ -79,7 +85,8 @@ along_final b u [] rest h = ap (λ (w : List ℕ). final b (word w) rest) (sym (
 along_final b u (x ∷ v) rest h =
     let first = and_parts (is_word_byte x) _ h in
     let then = and_parts (may_go_on (wants b.spot) (push u x)) _ first.1 in
-    let step_is : step b (word u) x ≡ Some (b, word (push u x)) = cond-true (is_word_byte x) _ _ first.0 ∙ cond-true (may_go_on (wants b.spot) (push u x)) (Some (b, word (push u x))) None then.0 in
+    let step_is : step b (word u) x ≡ Some (b, word (push u x)) =
+    cond-true (is_word_byte x) _ _ first.0 ∙ cond-true (may_go_on (wants b.spot) (push u x)) (Some (b, word (push u x))) None then.0 in
     final_step b (word u) x (v ++ rest) (b, word (push u x)) step_is
     ∙ along_final b (push u x) v rest then.1
     ∙ ap (λ (w : List ℕ). final b (word w) rest) (append_assoc u (x ∷ []) v)
@@ -104,7 +111,8 @@ word_whole b d w (x ∷ rest) e h =
     let step_is : step b (word w) x ≡ begin d x = cond-false (is_word_byte x) _ _ h ∙ ap (λ (o : Option Builder). o >>= λ c. begin c x) e in
     ap (λ (o : Option (Builder × Mode)). o >>= λ s. final s.0 s.1 rest) step_is
 
-word_final : (b d : Builder) (x : Lexeme) (w rest : List ℕ) → IsReadable (wants b.spot) w → as_word (wants b.spot) w ≡ Some x → grow b x ≡ Some d → begins_by is_word_byte rest ≡ false → final b between (w ++ rest) ≡ final d between rest
+word_final : (b d : Builder) (x : Lexeme) (w rest : List ℕ) → IsReadable (wants b.spot) w → as_word (wants b.spot) w ≡ Some x → grow b x ≡ Some d
+    → begins_by is_word_byte rest ≡ false → final b between (w ++ rest) ≡ final d between rest
 word_final b d x w rest r e g h =
     let done : finish b (word w) ≡ Some d = ap (λ (o : Option Lexeme). o >>= λ y. grow b y) e ∙ g in
     readable_final b w rest r ∙ word_whole b d w rest done h
@@ -113,9 +121,12 @@ guarded : {A : Type 0} (t : Bool) (x y : A) → cond t (Some x) None ≡ Some y 
 guarded true x y e = refl
 guarded false x y e = absurd cc
 
-keyword_wanted : (s : Spot) (w : List ℕ) (t : Spot) → next_spot s (lexeme.Keyword w) ≡ Some t → (wants_names (wants s) ≡ true) × (as_word (wants s) w ≡ Some (lexeme.Keyword w))
-keyword_wanted spot.Items w t e = let h = guarded (same_bytes w (codes "feature")) spot.FeatureName t e in (refl, cond-true (same_bytes w (codes "feature")) (Some (lexeme.Keyword w)) (identifier w) h)
-keyword_wanted spot.FeatureValue w t e = let h = guarded (same_bytes w (codes "word") || same_bytes w (codes "position")) spot.FeatureEnd t e in (refl, cond-true (same_bytes w (codes "word") || same_bytes w (codes "position")) (Some (lexeme.Keyword w)) (identifier w) h)
+keyword_wanted : (s : Spot) (w : List ℕ) (t : Spot) → next_spot s (lexeme.Keyword w) ≡ Some t
+    → (wants_names (wants s) ≡ true) × (as_word (wants s) w ≡ Some (lexeme.Keyword w))
+keyword_wanted spot.Items w t e = let h = guarded (same_bytes w (codes "feature")) spot.FeatureName t e in
+    (refl, cond-true (same_bytes w (codes "feature")) (Some (lexeme.Keyword w)) (identifier w) h)
+keyword_wanted spot.FeatureValue w t e = let h = guarded (same_bytes w (codes "word") || same_bytes w (codes "position")) spot.FeatureEnd t e in
+    (refl, cond-true (same_bytes w (codes "word") || same_bytes w (codes "position")) (Some (lexeme.Keyword w)) (identifier w) h)
 keyword_wanted (spot.Category part.Name role.Head) w t e = absurd cc
 keyword_wanted (spot.Category part.Named role.Head) w t e = absurd cc
 keyword_wanted (spot.Category part.Feature role.Head) w t e = absurd cc
@@ -128,7 +139,8 @@ keyword_wanted s w t e = absurd cc
 
 -- a byte that begins no word
 
-no_word : (k : Wanted) (n : ℕ) → is_lower n ≡ false → is_upper n ≡ false → is_front_among labels (n ∷ []) ≡ false → is_front_among kinds (n ∷ []) ≡ false → may_begin k n ≡ false
+no_word : (k : Wanted) (n : ℕ) → is_lower n ≡ false → is_upper n ≡ false → is_front_among labels (n ∷ []) ≡ false → is_front_among kinds (n ∷ []) ≡ false
+    → may_begin k n ≡ false
 no_word wanted.Nothing n l u a b = refl
 no_word wanted.Item n l u a b = l
 no_word wanted.Identifier n l u a b = l
@@ -138,21 +150,25 @@ no_word wanted.Kind n l u a b = b
 no_word wanted.Variable n l u a b = u
 no_word wanted.Term n l u a b = rw (u, l) refl
 
-sign_begins : (b : Builder) (n : ℕ) → is_space n ≡ false → eqb n 37 ≡ false → is_lower n ≡ false → is_upper n ≡ false → is_front_among labels (n ∷ []) ≡ false → is_front_among kinds (n ∷ []) ≡ false → begin b n ≡ begin_sign b n
+sign_begins : (b : Builder) (n : ℕ) → is_space n ≡ false → eqb n 37 ≡ false → is_lower n ≡ false → is_upper n ≡ false → is_front_among labels (n ∷ []) ≡ false
+    → is_front_among kinds (n ∷ []) ≡ false → begin b n ≡ begin_sign b n
 sign_begins b n s c l u labels kinds =
     cond-false (is_space n) (Some (b, between)) _ s
     ∙ cond-false (eqb n 37) (Some (b, comment)) _ c
     ∙ cond-false (may_begin (wants b.spot) n) (Some (b, word (n ∷ []))) (begin_sign b n) (no_word (wants b.spot) n l u labels kinds)
 
 -- a sign of one byte
-single_final : (b d : Builder) (x : Sign) (n : ℕ) (rest : List ℕ) → begin b n ≡ behind (grow b (lexeme.Sign x)) → grow b (lexeme.Sign x) ≡ Some d → final b between (n ∷ rest) ≡ final d between rest
+single_final : (b d : Builder) (x : Sign) (n : ℕ) (rest : List ℕ) → begin b n ≡ behind (grow b (lexeme.Sign x)) → grow b (lexeme.Sign x) ≡ Some d
+    → final b between (n ∷ rest) ≡ final d between rest
 single_final b d x n rest e g = final_step b between n rest (d, between) (e ∙ ap behind g)
 
 takes_it : (b d : Builder) (x : Lexeme) → grow b x ≡ Some d → is_some (next_spot b.spot x) ≡ true
 takes_it b d x g = ap is_some (grow_spot b x d g)
 
 minus_final : (b d : Builder) (rest : List ℕ) → grow b (lexeme.Sign sign.Minus) ≡ Some d → final b between (45 ∷ rest) ≡ final d between rest
-minus_final b d rest g = single_final b d sign.Minus 45 rest (sign_begins b 45 refl refl refl refl refl refl ∙ cond-true (takes_sign b sign.Minus) (behind (grow b (lexeme.Sign sign.Minus))) _ (takes_it b d (lexeme.Sign sign.Minus) g)) g
+minus_final b d rest g = single_final b d sign.Minus 45 rest
+    (sign_begins b 45 refl refl refl refl refl refl
+    ∙ cond-true (takes_sign b sign.Minus) (behind (grow b (lexeme.Sign sign.Minus))) _ (takes_it b d (lexeme.Sign sign.Minus) g)) g
 
 normal_final : (b d : Builder) (rest : List ℕ) → grow b (lexeme.Sign sign.Normal) ≡ Some d → final b between (45 ∷ 45 ∷ 62 ∷ rest) ≡ final d between rest
 normal_final b d rest g =
@@ -165,38 +181,47 @@ normal_final b d rest g =
 
 closing_final : (b d : Builder) (rest : List ℕ) → grow b (lexeme.Sign sign.Closing) ≡ Some d → final b between (126 ∷ 126 ∷ 62 ∷ rest) ≡ final d between rest
 closing_final b d rest g =
-    let first : begin b 126 ≡ Some (b, tilde) = sign_begins b 126 refl refl refl refl refl refl ∙ cond-true (takes_sign b sign.Closing) (Some (b, tilde)) None (takes_it b d (lexeme.Sign sign.Closing) g) in
+    let first : begin b 126 ≡ Some (b, tilde) =
+    sign_begins b 126 refl refl refl refl refl refl
+    ∙ cond-true (takes_sign b sign.Closing) (Some (b, tilde)) None (takes_it b d (lexeme.Sign sign.Closing) g) in
     final_step b between 126 (126 ∷ 62 ∷ rest) (b, tilde) first ∙ final_step b tildes 62 rest (d, between) (ap behind g)
 
 slash_begins : (b : Builder) → takes_sign b sign.Scope ≡ true → begin b 47 ≡ Some (b, slash)
 slash_begins b h = sign_begins b 47 refl refl refl refl refl refl ∙ cond-true (takes_sign b sign.Scope) (Some (b, slash)) None h
 
 scope_final : (b d : Builder) (rest : List ℕ) → grow b (lexeme.Sign sign.Scope) ≡ Some d → final b between (47 ∷ 47 ∷ rest) ≡ final d between rest
-scope_final b d rest g = final_step b between 47 (47 ∷ rest) (b, slash) (slash_begins b (takes_it b d (lexeme.Sign sign.Scope) g)) ∙ final_step b slash 47 rest (d, between) (ap behind g)
+scope_final b d rest g = final_step b between 47 (47 ∷ rest) (b, slash) (slash_begins b (takes_it b d (lexeme.Sign sign.Scope) g))
+    ∙ final_step b slash 47 rest (d, between) (ap behind g)
 
 absent_final : (b d : Builder) (rest : List ℕ) → grow b (lexeme.Sign sign.NoBack) ≡ Some d → final b between (47 ∷ 60 ∷ rest) ≡ final d between rest
-absent_final b d rest g = final_step b between 47 (60 ∷ rest) (b, slash) (slash_begins b (absent_scope b.spot d.spot (grow_spot b (lexeme.Sign sign.NoBack) d g))) ∙ final_step b slash 60 rest (d, between) (ap behind g)
+absent_final b d rest g = final_step b between 47 (60 ∷ rest) (b, slash)
+    (slash_begins b (absent_scope b.spot d.spot (grow_spot b (lexeme.Sign sign.NoBack) d g))) ∙ final_step b slash 60 rest (d, between) (ap behind g)
 
 greater_begins : (b : Builder) → takes_sign b sign.Weak ≡ true → begin b 62 ≡ Some (b, greater)
 greater_begins b h = sign_begins b 62 refl refl refl refl refl refl ∙ cond-true (takes_sign b sign.Weak) (Some (b, greater)) None h
 
 strong_final : (b d : Builder) (rest : List ℕ) → grow b (lexeme.Sign sign.Strong) ≡ Some d → final b between (62 ∷ 62 ∷ rest) ≡ final d between rest
-strong_final b d rest g = final_step b between 62 (62 ∷ rest) (b, greater) (greater_begins b (strong_weak b.spot d.spot (grow_spot b (lexeme.Sign sign.Strong) d g))) ∙ final_step b greater 62 rest (d, between) (ap behind g)
+strong_final b d rest g = final_step b between 62 (62 ∷ rest) (b, greater)
+    (greater_begins b (strong_weak b.spot d.spot (grow_spot b (lexeme.Sign sign.Strong) d g))) ∙ final_step b greater 62 rest (d, between) (ap behind g)
 
-weak_whole : (b d : Builder) (rest : List ℕ) → grow b (lexeme.Sign sign.Weak) ≡ Some d → has_front (codes ">") rest ≡ false → final b greater rest ≡ final d between rest
+weak_whole : (b d : Builder) (rest : List ℕ) → grow b (lexeme.Sign sign.Weak) ≡ Some d → has_front (codes ">") rest ≡ false
+    → final b greater rest ≡ final d between rest
 weak_whole b d [] g h = g
 weak_whole b d (x ∷ rest) g h =
     let apart : eqb x 62 ≡ false = elim (cases_Bool (eqb x 62)) [
-      | inl e ↦ absurd (both_ways (has_front (codes ">") (x ∷ rest)) h (subst (λ (n : ℕ). has_front (codes ">") (n ∷ rest) ≡ true) (sym (eqb-true x 62 e)) refl))
+      | inl e ↦ absurd (both_ways (has_front (codes ">") (x ∷ rest)) h
+          (subst (λ (n : ℕ). has_front (codes ">") (n ∷ rest) ≡ true) (sym (eqb-true x 62 e)) refl))
       | inr e ↦ e
     ] in
     let step_is : step b greater x ≡ begin d x = cond-false (eqb x 62) _ _ apart ∙ ap (λ (o : Option Builder). o >>= λ c. begin c x) g in
     ap (λ (o : Option (Builder × Mode)). o >>= λ s. final s.0 s.1 rest) step_is
 
-weak_final : (b d : Builder) (rest : List ℕ) → grow b (lexeme.Sign sign.Weak) ≡ Some d → has_front (codes ">") rest ≡ false → final b between (62 ∷ rest) ≡ final d between rest
+weak_final : (b d : Builder) (rest : List ℕ) → grow b (lexeme.Sign sign.Weak) ≡ Some d → has_front (codes ">") rest ≡ false
+    → final b between (62 ∷ rest) ≡ final d between rest
 weak_final b d rest g h = final_step b between 62 rest (b, greater) (greater_begins b (takes_it b d (lexeme.Sign sign.Weak) g)) ∙ weak_whole b d rest g h
 
-sign_final : (b d : Builder) (x : Sign) (rest : List ℕ) → grow b (lexeme.Sign x) ≡ Some d → goes_on (lexeme.Sign x) rest ≡ false → final b between (sign_bytes x ++ rest) ≡ final d between rest
+sign_final : (b d : Builder) (x : Sign) (rest : List ℕ) → grow b (lexeme.Sign x) ≡ Some d → goes_on (lexeme.Sign x) rest ≡ false
+    → final b between (sign_bytes x ++ rest) ≡ final d between rest
 sign_final b d sign.Colon rest g h = single_final b d sign.Colon 58 rest (sign_begins b 58 refl refl refl refl refl refl) g
 sign_final b d sign.Comma rest g h = single_final b d sign.Comma 44 rest (sign_begins b 44 refl refl refl refl refl refl) g
 sign_final b d sign.Stop rest g h = single_final b d sign.Stop 46 rest (sign_begins b 46 refl refl refl refl refl refl) g
@@ -226,7 +251,8 @@ terminal_bytes : (b : Builder) (u v rest : List ℕ) → list_all is_terminal_by
 terminal_bytes b u [] rest h = ap (λ (w : List ℕ). final b (terminal w) rest) (sym (append-nil u))
 terminal_bytes b u (x ∷ v) rest h =
     let parts = and_parts (is_terminal_byte x) (list_all is_terminal_byte v) h in
-    let step_is : step b (terminal u) x ≡ Some (b, terminal (push u x)) = cond-false (eqb x 93) (if_terminal b u) _ (no_bracket x parts.0) ∙ cond-true (is_terminal_byte x) (Some (b, terminal (push u x))) None parts.0 in
+    let step_is : step b (terminal u) x ≡ Some (b, terminal (push u x)) =
+    cond-false (eqb x 93) (if_terminal b u) _ (no_bracket x parts.0) ∙ cond-true (is_terminal_byte x) (Some (b, terminal (push u x))) None parts.0 in
     final_step b (terminal u) x (v ++ rest) (b, terminal (push u x)) step_is
     ∙ terminal_bytes b (push u x) v rest parts.1
     ∙ ap (λ (w : List ℕ). final b (terminal w) rest) (append_assoc u (x ∷ []) v)
@@ -239,7 +265,8 @@ terminal_all (x ∷ y ∷ t) h = (and_parts (is_terminal_byte x && list_all is_t
 terminal_begins : (b : Builder) → takes_terminal b ≡ true → begin b 91 ≡ Some (b, terminal [])
 terminal_begins b h = sign_begins b 91 refl refl refl refl refl refl ∙ cond-true (takes_terminal b) (Some (b, terminal [])) None h
 
-terminal_final : (b d : Builder) (t rest : List ℕ) → grow b (lexeme.Terminal t) ≡ Some d → is_terminal t ≡ true → final b between (lexeme_bytes (lexeme.Terminal t) ++ rest) ≡ final d between rest
+terminal_final : (b d : Builder) (t rest : List ℕ) → grow b (lexeme.Terminal t) ≡ Some d → is_terminal t ≡ true
+    → final b between (lexeme_bytes (lexeme.Terminal t) ++ rest) ≡ final d between rest
 terminal_final b d t rest g h =
     let shape : t ++ (93 ∷ []) ++ rest ≡ t ++ (93 ∷ rest) = append_assoc t (93 ∷ []) rest in
     let last : step b (terminal t) 93 ≡ Some (d, between) = cond-true (is_terminal t) (behind (grow b (lexeme.Terminal t))) None h ∙ ap behind g in
@@ -250,7 +277,8 @@ terminal_final b d t rest g h =
 
 -- Symbols
 
-symbol_final : (b d : Builder) (x : Lexeme) (rest : List ℕ) → grow b x ≡ Some d → is_symbol x ≡ true → goes_on x rest ≡ false → final b between (lexeme_bytes x ++ rest) ≡ final d between rest
+symbol_final : (b d : Builder) (x : Lexeme) (rest : List ℕ) → grow b x ≡ Some d → is_symbol x ≡ true → goes_on x rest ≡ false
+    → final b between (lexeme_bytes x ++ rest) ≡ final d between rest
 symbol_final b d (lexeme.Identifier w) rest g s h =
     let wanted = name_wanted b.spot w d.spot (grow_spot b (lexeme.Identifier w) d g) in
     word_final b d (lexeme.Identifier w) w rest (name_readable (wants b.spot) w wanted (identifier_lower w s)) (as_name (wants b.spot) w wanted s) g h
@@ -262,15 +290,18 @@ symbol_final b d (lexeme.Keyword w) rest g s h =
     word_final b d (lexeme.Keyword w) w rest (name_readable (wants b.spot) w wanted.0 (keyword_lower w s)) wanted.1 g h
 symbol_final b d (lexeme.Label w) rest g s h =
     let is = label_wanted b.spot w d.spot (grow_spot b (lexeme.Label w) d g) in
-    word_final b d (lexeme.Label w) w rest (subst (λ (k : Wanted). IsReadable k w) (sym is) (label_readable w s)) (ap (λ (k : Wanted). as_word k w) is ∙ cond-true (is_among labels w) (Some (lexeme.Label w)) None s) g h
+    word_final b d (lexeme.Label w) w rest (subst (λ (k : Wanted). IsReadable k w) (sym is) (label_readable w s))
+    (ap (λ (k : Wanted). as_word k w) is ∙ cond-true (is_among labels w) (Some (lexeme.Label w)) None s) g h
 symbol_final b d (lexeme.Kind w) rest g s h =
     let is = kind_wanted b.spot w d.spot (grow_spot b (lexeme.Kind w) d g) in
-    word_final b d (lexeme.Kind w) w rest (subst (λ (k : Wanted). IsReadable k w) (sym is) (kind_readable w s)) (ap (λ (k : Wanted). as_word k w) is ∙ cond-true (is_among kinds w) (Some (lexeme.Kind w)) None s) g h
+    word_final b d (lexeme.Kind w) w rest (subst (λ (k : Wanted). IsReadable k w) (sym is) (kind_readable w s))
+    (ap (λ (k : Wanted). as_word k w) is ∙ cond-true (is_among kinds w) (Some (lexeme.Kind w)) None s) g h
 symbol_final b d (lexeme.Terminal t) rest g s h = terminal_final b d t rest g s
 symbol_final b d (lexeme.Sign x) rest g s h = sign_final b d x rest g h
 
 -- a text that spells symbols which may stand here is taken to its end
-pub spelled_final : (xs : List Lexeme) (text : List ℕ) (cm : Bool) (b : Builder) (t : Spot) → SpellsFrom cm text xs → runs b.spot xs ≡ Some t → (d : Builder) × (final b (gap_mode cm) text ≡ Some d) × (d.spot ≡ t) × (so_far d ≡ so_far b ++ xs)
+pub spelled_final : (xs : List Lexeme) (text : List ℕ) (cm : Bool) (b : Builder) (t : Spot) → SpellsFrom cm text xs → runs b.spot xs ≡ Some t
+    → (d : Builder) × (final b (gap_mode cm) text ≡ Some d) × (d.spot ≡ t) × (so_far d ≡ so_far b ++ xs)
 spelled_final [] text cm b t spells e = (b, gap_ends text cm b spells, some_spot b.spot t e, sym (append-nil (so_far b))) where
   some_spot : (s t : Spot) → Some s ≡ Some t → s ≡ t
   some_spot s t e = cc

@@ -117,7 +117,8 @@ spaced_spells : (xs : List Lexeme) → list_all is_symbol xs ≡ true → Spells
 spaced_spells [] h = refl
 spaced_spells (x ∷ xs) h =
     let parts = and_parts (is_symbol x) (list_all is_symbol xs) h in
-    let begins : Begins false (spaced (x ∷ xs)) x (spaced xs) = record { gap = 32 ∷ []; between = refl; symbol = parts.0; longest = spaced_stops x xs; parts = refl } in
+    let begins : Begins false (spaced (x ∷ xs)) x (spaced xs) =
+    record { gap = 32 ∷ []; between = refl; symbol = parts.0; longest = spaced_stops x xs; parts = refl } in
     (spaced xs, begins, spaced_spells xs parts.1)
 
 -- Where a reading is
@@ -140,11 +141,13 @@ bind_some_is (Some x) = refl
 
 pub reach_final : (xs ys : List ℕ) (b : Builder) (m : Mode) → final b m (xs ++ ys) ≡ (reach b m xs >>= λ s. final s.0 s.1 ys)
 reach_final [] ys b m = refl
-reach_final (x ∷ xs) ys b m = bind_same (step b m x) (λ s. final s.0 s.1 (xs ++ ys)) (λ s. reach s.0 s.1 xs >>= λ t. final t.0 t.1 ys) (λ s. reach_final xs ys s.0 s.1) ∙ sym (bind-assoc (step b m x) (λ s. reach s.0 s.1 xs) (λ t. final t.0 t.1 ys))
+reach_final (x ∷ xs) ys b m = bind_same (step b m x) (λ s. final s.0 s.1 (xs ++ ys)) (λ s. reach s.0 s.1 xs >>= λ t. final t.0 t.1 ys)
+    (λ s. reach_final xs ys s.0 s.1) ∙ sym (bind-assoc (step b m x) (λ s. reach s.0 s.1 xs) (λ t. final t.0 t.1 ys))
 
 pub reach_append : (xs ys : List ℕ) (b : Builder) (m : Mode) → reach b m (xs ++ ys) ≡ (reach b m xs >>= λ s. reach s.0 s.1 ys)
 reach_append [] ys b m = refl
-reach_append (x ∷ xs) ys b m = bind_same (step b m x) (λ s. reach s.0 s.1 (xs ++ ys)) (λ s. reach s.0 s.1 xs >>= λ t. reach t.0 t.1 ys) (λ s. reach_append xs ys s.0 s.1) ∙ sym (bind-assoc (step b m x) (λ s. reach s.0 s.1 xs) (λ t. reach t.0 t.1 ys))
+reach_append (x ∷ xs) ys b m = bind_same (step b m x) (λ s. reach s.0 s.1 (xs ++ ys)) (λ s. reach s.0 s.1 xs >>= λ t. reach t.0 t.1 ys)
+    (λ s. reach_append xs ys s.0 s.1) ∙ sym (bind-assoc (step b m x) (λ s. reach s.0 s.1 xs) (λ t. reach t.0 t.1 ys))
 
 reach_one : (b : Builder) (m : Mode) (x : ℕ) → reach b m (x ∷ []) ≡ step b m x
 reach_one b m x = bind_some_is (step b m x)
@@ -195,7 +198,8 @@ begin_goes wanted.Kind x h = h
 begin_goes k x h = refl
 
 -- a sign begins
-sign_fits : (b : Builder) (m : Mode) (y : Sign) (x : ℕ) (s : Builder × Mode) → begin b x ≡ Some s → front m ≡ x ∷ [] → guard (takes_sign b y) (b, m) ≡ Some s → (SignFits b m y → Fits b m) → FitsAt s
+sign_fits : (b : Builder) (m : Mode) (y : Sign) (x : ℕ) (s : Builder × Mode) → begin b x ≡ Some s → front m ≡ x ∷ [] → guard (takes_sign b y) (b, m) ≡ Some s
+    → (SignFits b m y → Fits b m) → FitsAt s
 sign_fits b m y x s e f g fits =
     let h = guard_some (takes_sign b y) (b, m) s g in
     let reached : reach b between (front m) ≡ Some (b, m) = ap (reach b between) f ∙ reach_one b between x ∙ e ∙ ap Some (sym h.1) in
@@ -209,19 +213,34 @@ begin_fits b x s e = elim (chosen (is_space x) (Some (b, between)) _ (Some s) e)
     | inr q ↦ elim (chosen (may_begin (wants b.spot) x) (Some (b, word (x ∷ []))) (begin_sign b x) (Some s) q.1) [
       | inl r ↦
           let is = same_Some (b, word (x ∷ [])) s r.1 in
-          let fits : WordFits b (x ∷ []) = record { reached = reach_one b between x ∙ e ∙ ap Some (sym is); first = x; others = []; parts = refl; begins = r.0; letters = refl; going = begin_goes (wants b.spot) x r.0 } in
+          let fits : WordFits b (x ∷ []) =
+          record {
+            reached = reach_one b between x ∙ e ∙ ap Some (sym is);
+            first = x;
+            others = [];
+            parts = refl;
+            begins = r.0;
+            letters = refl;
+            going = begin_goes (wants b.spot) x r.0;
+          } in
           subst FitsAt is fits
       | inr r ↦ elim (chosen (eqb x 91) (guard (takes_terminal b) (b, terminal [])) _ (Some s) r.1) [
         | inl t ↦
             let h = guard_some (takes_terminal b) (b, terminal []) s t.1 in
             let byte = eqb-true x 91 t.0 in
-            let fits : TerminalFits b [] = record { reached = ap (λ (n : ℕ). reach b between (n ∷ [])) (sym byte) ∙ reach_one b between x ∙ e ∙ ap Some (sym h.1); takes = h.0; bytes = refl } in
+            let fits : TerminalFits b [] =
+            record {
+              reached = ap (λ (n : ℕ). reach b between (n ∷ [])) (sym byte) ∙ reach_one b between x ∙ e ∙ ap Some (sym h.1);
+              takes = h.0;
+              bytes = refl;
+            } in
             subst FitsAt h.1 fits
         | inr t ↦ elim (chosen (eqb x 45) (begin_dash b) _ (Some s) t.1) [
-          | inl u ↦ elim (chosen (takes_sign b sign.Minus) (behind (grow b (lexeme.Sign sign.Minus))) (guard (takes_sign b sign.Normal) (b, dash)) (Some s) u.1) [
-            | inl v ↦ behind_fits (grow b (lexeme.Sign sign.Minus)) s v.1
-            | inr v ↦ sign_fits b dash sign.Normal x s e (ap (λ (n : ℕ). n ∷ []) (sym (eqb-true x 45 u.0))) v.1 (λ f. f)
-          ]
+          | inl u ↦ elim (chosen (takes_sign b sign.Minus) (behind (grow b (lexeme.Sign sign.Minus))) (guard (takes_sign b sign.Normal) (b, dash)) (Some s)
+              u.1) [
+                | inl v ↦ behind_fits (grow b (lexeme.Sign sign.Minus)) s v.1
+                | inr v ↦ sign_fits b dash sign.Normal x s e (ap (λ (n : ℕ). n ∷ []) (sym (eqb-true x 45 u.0))) v.1 (λ f. f)
+              ]
           | inr u ↦ elim (chosen (eqb x 126) (guard (takes_sign b sign.Closing) (b, tilde)) _ (Some s) u.1) [
             | inl v ↦ sign_fits b tilde sign.Closing x s e (ap (λ (n : ℕ). n ∷ []) (sym (eqb-true x 126 v.0))) v.1 (λ f. f)
             | inr v ↦ elim (chosen (eqb x 47) (guard (takes_sign b sign.Scope) (b, slash)) _ (Some s) v.1) [
@@ -240,7 +259,8 @@ begin_fits b x s e = elim (chosen (is_space x) (Some (b, between)) _ (Some s) e)
   ]
 ]
 
-word_goes_on : (b : Builder) (w : List ℕ) (x : ℕ) (s : Builder × Mode) → WordFits b w → is_word_byte x ≡ true → step b (word w) x ≡ Some s → guard (may_go_on (wants b.spot) (push w x)) (b, word (push w x)) ≡ Some s → FitsAt s
+word_goes_on : (b : Builder) (w : List ℕ) (x : ℕ) (s : Builder × Mode) → WordFits b w → is_word_byte x ≡ true → step b (word w) x ≡ Some s
+    → guard (may_go_on (wants b.spot) (push w x)) (b, word (push w x)) ≡ Some s → FitsAt s
 word_goes_on b w x s fits letter e g =
     let h = guard_some (may_go_on (wants b.spot) (push w x)) (b, word (push w x)) s g in
     let next : WordFits b (push w x) = record {
@@ -249,26 +269,31 @@ word_goes_on b w x s fits letter e g =
       others = push fits.others x;
       parts = ap (λ (v : List ℕ). push v x) fits.parts;
       begins = fits.begins;
-      letters = list_all-append is_word_byte fits.others (x ∷ []) ∙ and_from (list_all is_word_byte fits.others) (is_word_byte x && true) fits.letters (and_from (is_word_byte x) true letter refl);
+      letters = list_all-append is_word_byte fits.others (x ∷ [])
+          ∙ and_from (list_all is_word_byte fits.others) (is_word_byte x && true) fits.letters (and_from (is_word_byte x) true letter refl);
       going = h.0;
     } in
     subst FitsAt h.1 next
 
-terminal_goes_on : (b : Builder) (t : List ℕ) (x : ℕ) (s : Builder × Mode) → TerminalFits b t → step b (terminal t) x ≡ Some s → guard (is_terminal_byte x) (b, terminal (push t x)) ≡ Some s → FitsAt s
+terminal_goes_on : (b : Builder) (t : List ℕ) (x : ℕ) (s : Builder × Mode) → TerminalFits b t → step b (terminal t) x ≡ Some s
+    → guard (is_terminal_byte x) (b, terminal (push t x)) ≡ Some s → FitsAt s
 terminal_goes_on b t x s fits e g =
     let h = guard_some (is_terminal_byte x) (b, terminal (push t x)) s g in
     let next : TerminalFits b (push t x) = record {
       reached = reach_push (91 ∷ t) x b b between (terminal t) fits.reached ∙ e ∙ ap Some (sym h.1);
       takes = fits.takes;
-      bytes = list_all-append is_terminal_byte t (x ∷ []) ∙ and_from (list_all is_terminal_byte t) (is_terminal_byte x && true) fits.bytes (and_from (is_terminal_byte x) true h.0 refl);
+      bytes = list_all-append is_terminal_byte t (x ∷ [])
+          ∙ and_from (list_all is_terminal_byte t) (is_terminal_byte x && true) fits.bytes (and_from (is_terminal_byte x) true h.0 refl);
     } in
     subst FitsAt h.1 next
 
-sign_goes_on_to : (b : Builder) (m k : Mode) (y : Sign) (n x : ℕ) (s : Builder × Mode) → SignFits b m y → front k ≡ push (front m) n → step b m x ≡ Some s → guard (eqb x n) (b, k) ≡ Some s → (SignFits b k y → Fits b k) → FitsAt s
+sign_goes_on_to : (b : Builder) (m k : Mode) (y : Sign) (n x : ℕ) (s : Builder × Mode) → SignFits b m y → front k ≡ push (front m) n → step b m x ≡ Some s
+    → guard (eqb x n) (b, k) ≡ Some s → (SignFits b k y → Fits b k) → FitsAt s
 sign_goes_on_to b m k y n x s fits f e g to =
     let h = guard_some (eqb x n) (b, k) s g in
     let byte = eqb-true x n h.0 in
-    let reached : reach b between (front k) ≡ Some (b, k) = ap (reach b between) (f ∙ ap (push (front m)) (sym byte)) ∙ reach_push (front m) x b b between m fits.reached ∙ e ∙ ap Some (sym h.1) in
+    let reached : reach b between (front k) ≡ Some (b, k) =
+    ap (reach b between) (f ∙ ap (push (front m)) (sym byte)) ∙ reach_push (front m) x b b between m fits.reached ∙ e ∙ ap Some (sym h.1) in
     subst FitsAt h.1 (to (record { reached = reached; takes = fits.takes }))
 
 either_behind : (t : Bool) (o : Option Builder) (s : Builder × Mode) → cond t (behind o) None ≡ Some s → FitsAt s
@@ -282,10 +307,11 @@ comment_fits false b = tt
 pub step_fits : (b : Builder) (m : Mode) (x : ℕ) (s : Builder × Mode) → Fits b m → step b m x ≡ Some s → FitsAt s
 step_fits b between x s fits e = begin_fits b x s e
 step_fits b comment x s fits e = subst FitsAt (same_Some (b, cond (eqb x 10) between comment) s e) (comment_fits (eqb x 10) b)
-step_fits b (word w) x s fits e = elim (chosen (is_word_byte x) (guard (may_go_on (wants b.spot) (push w x)) (b, word (push w x))) (finish b (word w) >>= λ d. begin d x) (Some s) e) [
-  | inl p ↦ word_goes_on b w x s fits p.0 e p.1
-  | inr p ↦ let f = bind_some (finish b (word w)) (λ d. begin d x) s p.1 in begin_fits f.0 x s f.2
-]
+step_fits b (word w) x s fits e = elim (chosen (is_word_byte x) (guard (may_go_on (wants b.spot) (push w x)) (b, word (push w x)))
+    (finish b (word w) >>= λ d. begin d x) (Some s) e) [
+      | inl p ↦ word_goes_on b w x s fits p.0 e p.1
+      | inr p ↦ let f = bind_some (finish b (word w)) (λ d. begin d x) s p.1 in begin_fits f.0 x s f.2
+    ]
 step_fits b (terminal t) x s fits e = elim (chosen (eqb x 93) (if_terminal b t) (guard (is_terminal_byte x) (b, terminal (push t x))) (Some s) e) [
   | inl p ↦ either_behind (is_terminal t) (grow b (lexeme.Terminal t)) s p.1
   | inr p ↦ terminal_goes_on b t x s fits e p.1
@@ -294,10 +320,11 @@ step_fits b dash x s fits e = sign_goes_on_to b dash dashes sign.Normal 45 x s f
 step_fits b dashes x s fits e = either_behind (eqb x 62) (grow b (lexeme.Sign sign.Normal)) s e
 step_fits b tilde x s fits e = sign_goes_on_to b tilde tildes sign.Closing 126 x s fits refl e e (λ f. f)
 step_fits b tildes x s fits e = either_behind (eqb x 62) (grow b (lexeme.Sign sign.Closing)) s e
-step_fits b slash x s fits e = elim (chosen (eqb x 47) (behind (grow b (lexeme.Sign sign.Scope))) (cond (eqb x 60) (behind (grow b (lexeme.Sign sign.NoBack))) None) (Some s) e) [
-  | inl p ↦ behind_fits (grow b (lexeme.Sign sign.Scope)) s p.1
-  | inr p ↦ either_behind (eqb x 60) (grow b (lexeme.Sign sign.NoBack)) s p.1
-]
+step_fits b slash x s fits e = elim (chosen (eqb x 47) (behind (grow b (lexeme.Sign sign.Scope)))
+    (cond (eqb x 60) (behind (grow b (lexeme.Sign sign.NoBack))) None) (Some s) e) [
+      | inl p ↦ behind_fits (grow b (lexeme.Sign sign.Scope)) s p.1
+      | inr p ↦ either_behind (eqb x 60) (grow b (lexeme.Sign sign.NoBack)) s p.1
+    ]
 step_fits b greater x s fits e = elim (chosen (eqb x 62) (behind (grow b (lexeme.Sign sign.Strong))) (finish b greater >>= λ d. begin d x) (Some s) e) [
   | inl p ↦ behind_fits (grow b (lexeme.Sign sign.Strong)) s p.1
   | inr p ↦ let f = bind_some (finish b greater) (λ d. begin d x) s p.1 in begin_fits f.0 x s f.2
@@ -343,7 +370,8 @@ pub record Completes (b : Builder) (front : List ℕ) : Type 0 where
   pub whole : is_symbol symbol ≡ true
   pub stands : next_spot b.spot symbol ≡ Some next
 
-completes_by : (b : Builder) (front : List ℕ) (x : Lexeme) (more : List ℕ) → lexeme_bytes x ≡ front ++ more → is_symbol x ≡ true → is_some (next_spot b.spot x) ≡ true → Completes b front
+completes_by : (b : Builder) (front : List ℕ) (x : Lexeme) (more : List ℕ) → lexeme_bytes x ≡ front ++ more → is_symbol x ≡ true
+    → is_some (next_spot b.spot x) ≡ true → Completes b front
 completes_by b front x more bytes whole stands =
     let next = there (next_spot b.spot x) stands in
     record { symbol = x; more = more; next = next.0; bytes = bytes; whole = whole; stands = next.1 } where
@@ -355,8 +383,10 @@ name_ends : (w : List ℕ) → is_lower_word w ≡ true → is_identifier (push 
 name_ends [] h = absurd cc
 name_ends (x ∷ xs) h =
     let parts = and_parts (is_lower x) (list_all is_word_byte xs) h in
-    let letters : list_all is_word_byte (push xs 48) ≡ true = list_all-append is_word_byte xs (48 ∷ []) ∙ and_from (list_all is_word_byte xs) true parts.1 refl in
-    and_from (is_lower x && list_all is_word_byte (push xs 48)) _ (and_from (is_lower x) _ parts.0 letters) (not_from_false (is_among keywords (push (x ∷ xs) 48)) (no_keyword (x ∷ xs)))
+    let letters : list_all is_word_byte (push xs 48) ≡ true =
+    list_all-append is_word_byte xs (48 ∷ []) ∙ and_from (list_all is_word_byte xs) true parts.1 refl in
+    and_from (is_lower x && list_all is_word_byte (push xs 48)) _ (and_from (is_lower x) _ parts.0 letters)
+    (not_from_false (is_among keywords (push (x ∷ xs) 48)) (no_keyword (x ∷ xs)))
 
 name_completes : (b : Builder) (w : List ℕ) (fits : WordFits b w) → wants_names (wants b.spot) ≡ true → is_lower fits.first ≡ true → Completes b w
 name_completes b w fits wanted lower =
@@ -369,7 +399,8 @@ variable_completes b w fits wanted upper =
     completes_by b w (lexeme.Variable w) [] (sym (append-nil w)) whole (variable_next b.spot w wanted)
 
 word_completes : (k : Wanted) (b : Builder) (w : List ℕ) → wants b.spot ≡ k → WordFits b w → Completes b w
-word_completes wanted.Nothing b w e fits = absurd (both_ways (may_begin wanted.Nothing fits.first) refl (ap (λ (k : Wanted). may_begin k fits.first) (sym e) ∙ fits.begins))
+word_completes wanted.Nothing b w e fits =
+    absurd (both_ways (may_begin wanted.Nothing fits.first) refl (ap (λ (k : Wanted). may_begin k fits.first) (sym e) ∙ fits.begins))
 word_completes wanted.Item b w e fits = name_completes b w fits (ap wants_names e) (ap (λ (k : Wanted). may_begin k fits.first) (sym e) ∙ fits.begins)
 word_completes wanted.Identifier b w e fits = name_completes b w fits (ap wants_names e) (ap (λ (k : Wanted). may_begin k fits.first) (sym e) ∙ fits.begins)
 word_completes wanted.Value b w e fits = name_completes b w fits (ap wants_names e) (ap (λ (k : Wanted). may_begin k fits.first) (sym e) ∙ fits.begins)
@@ -379,17 +410,20 @@ word_completes wanted.Label b w e fits =
 word_completes wanted.Kind b w e fits =
     let rest = front_among kinds w (ap (λ (k : Wanted). may_go_on k w) (sym e) ∙ fits.going) in
     completes_by b w (lexeme.Kind (w ++ rest.0)) rest.0 refl rest.1 (kind_next b.spot (w ++ rest.0) e)
-word_completes wanted.Variable b w e fits = variable_completes b w fits (ap wants_variables e) (ap (λ (k : Wanted). may_begin k fits.first) (sym e) ∙ fits.begins)
-word_completes wanted.Term b w e fits = elim (or_cases (is_upper fits.first) (is_lower fits.first) (ap (λ (k : Wanted). may_begin k fits.first) (sym e) ∙ fits.begins)) [
-  | inl u ↦ variable_completes b w fits (ap wants_variables e) u
-  | inr l ↦ name_completes b w fits (ap wants_names e) l
-]
+word_completes wanted.Variable b w e fits =
+    variable_completes b w fits (ap wants_variables e) (ap (λ (k : Wanted). may_begin k fits.first) (sym e) ∙ fits.begins)
+word_completes wanted.Term b w e fits = elim (or_cases (is_upper fits.first) (is_lower fits.first)
+    (ap (λ (k : Wanted). may_begin k fits.first) (sym e) ∙ fits.begins)) [
+      | inl u ↦ variable_completes b w fits (ap wants_variables e) u
+      | inr l ↦ name_completes b w fits (ap wants_names e) l
+    ]
 
 ends_by_letter : (t : List ℕ) → list_all is_terminal_byte t ≡ true → is_terminal (push t 120) ≡ true
 ends_by_letter [] h = refl
 ends_by_letter (x ∷ []) h = let parts = and_parts (is_terminal_byte x) true h in rw parts.0 refl
 ends_by_letter (x ∷ y ∷ t) h =
-    let bytes : list_all is_terminal_byte (push (x ∷ y ∷ t) 120) ≡ true = list_all-append is_terminal_byte (x ∷ y ∷ t) (120 ∷ []) ∙ and_from (list_all is_terminal_byte (x ∷ y ∷ t)) true h refl in
+    let bytes : list_all is_terminal_byte (push (x ∷ y ∷ t) 120) ≡ true =
+    list_all-append is_terminal_byte (x ∷ y ∷ t) (120 ∷ []) ∙ and_from (list_all is_terminal_byte (x ∷ y ∷ t)) true h refl in
     and_from (list_all is_terminal_byte (push (x ∷ y ∷ t) 120)) (ends_well (push (y ∷ t) 120)) bytes (well (y ∷ t)) where
       well : (t : List ℕ) → ends_well (push t 120) ≡ true
       well [] = refl
@@ -397,10 +431,12 @@ ends_by_letter (x ∷ y ∷ t) h =
       well (x ∷ y ∷ t) = well (y ∷ t)
 
 terminal_completes : (b : Builder) (t : List ℕ) → TerminalFits b t → Completes b (91 ∷ t)
-terminal_completes b t fits = completes_by b (91 ∷ t) (lexeme.Terminal (push t 120)) (120 ∷ 93 ∷ []) (ap (λ (v : List ℕ). 91 ∷ v) (append_assoc t (120 ∷ []) (93 ∷ []))) (ends_by_letter t fits.bytes) fits.takes
+terminal_completes b t fits = completes_by b (91 ∷ t) (lexeme.Terminal (push t 120)) (120 ∷ 93 ∷ [])
+    (ap (λ (v : List ℕ). 91 ∷ v) (append_assoc t (120 ∷ []) (93 ∷ []))) (ends_by_letter t fits.bytes) fits.takes
 
 -- a reading that is in a symbol goes on by what completes it
-behind_symbol : (b : Builder) (m : Mode) → reach b between (front m) ≡ Some (b, m) → Completes b (front m) → (more : List ℕ) × (d : Builder) × (final b m more ≡ Some d) × (d.spot ≡ spot.Items)
+behind_symbol : (b : Builder) (m : Mode) → reach b between (front m) ≡ Some (b, m) → Completes b (front m)
+    → (more : List ℕ) × (d : Builder) × (final b m more ≡ Some d) × (d.spot ≡ spot.Items)
 behind_symbol b m reached c =
     let rest = spaced (ending c.next) in
     let begins : Begins false (front m ++ (c.more ++ rest)) c.symbol rest = record {
@@ -410,22 +446,28 @@ behind_symbol b m reached c =
       longest = spaced_stops c.symbol (ending c.next);
       parts = sym (append_assoc (front m) c.more rest) ∙ ap (λ (v : List ℕ). v ++ rest) (sym c.bytes);
     } in
-    let spells : SpellsFrom false (front m ++ (c.more ++ rest)) (c.symbol ∷ ending c.next) = (rest, begins, spaced_spells (ending c.next) (ending_symbols c.next)) in
-    let leads : runs b.spot (c.symbol ∷ ending c.next) ≡ Some spot.Items = ap (λ (o : Option Spot). o >>= λ t. runs t (ending c.next)) c.stands ∙ ending_leads c.next in
+    let spells : SpellsFrom false (front m ++ (c.more ++ rest)) (c.symbol ∷ ending c.next) =
+    (rest, begins, spaced_spells (ending c.next) (ending_symbols c.next)) in
+    let leads : runs b.spot (c.symbol ∷ ending c.next) ≡ Some spot.Items =
+    ap (λ (o : Option Spot). o >>= λ t. runs t (ending c.next)) c.stands ∙ ending_leads c.next in
     let end = spelled_final (c.symbol ∷ ending c.next) (front m ++ (c.more ++ rest)) false b spot.Items spells leads in
-    let here : final b between (front m ++ (c.more ++ rest)) ≡ final b m (c.more ++ rest) = reach_final (front m) (c.more ++ rest) b between ∙ ap (λ (o : Option (Builder × Mode)). o >>= λ s. final s.0 s.1 (c.more ++ rest)) reached in
+    let here : final b between (front m ++ (c.more ++ rest)) ≡ final b m (c.more ++ rest) =
+    reach_final (front m) (c.more ++ rest) b between ∙ ap (λ (o : Option (Builder × Mode)). o >>= λ s. final s.0 s.1 (c.more ++ rest)) reached in
     (c.more ++ rest, end.0, sym here ∙ end.1, end.2)
 
-sign_behind : (b : Builder) (m : Mode) (y : Sign) (more : List ℕ) → lexeme_bytes (lexeme.Sign y) ≡ front m ++ more → SignFits b m y → (more : List ℕ) × (d : Builder) × (final b m more ≡ Some d) × (d.spot ≡ spot.Items)
+sign_behind : (b : Builder) (m : Mode) (y : Sign) (more : List ℕ) → lexeme_bytes (lexeme.Sign y) ≡ front m ++ more → SignFits b m y
+    → (more : List ℕ) × (d : Builder) × (final b m more ≡ Some d) × (d.spot ≡ spot.Items)
 sign_behind b m y more bytes fits = behind_symbol b m fits.reached (completes_by b (front m) (lexeme.Sign y) more bytes refl fits.takes)
 
 -- every reading goes on to between items
 pub continuation : (b : Builder) (m : Mode) → Fits b m → (more : List ℕ) × (d : Builder) × (final b m more ≡ Some d) × (d.spot ≡ spot.Items)
 continuation b between fits =
-    let end = spelled_final (ending b.spot) (spaced (ending b.spot)) false b spot.Items (spaced_spells (ending b.spot) (ending_symbols b.spot)) (ending_leads b.spot) in
+    let end = spelled_final (ending b.spot) (spaced (ending b.spot)) false b spot.Items (spaced_spells (ending b.spot) (ending_symbols b.spot))
+    (ending_leads b.spot) in
     (spaced (ending b.spot), end.0, end.1, end.2)
 continuation b comment fits =
-    let end = spelled_final (ending b.spot) (spaced (ending b.spot)) false b spot.Items (spaced_spells (ending b.spot) (ending_symbols b.spot)) (ending_leads b.spot) in
+    let end = spelled_final (ending b.spot) (spaced (ending b.spot)) false b spot.Items (spaced_spells (ending b.spot) (ending_symbols b.spot))
+    (ending_leads b.spot) in
     (10 ∷ spaced (ending b.spot), end.0, end.1, end.2)
 continuation b (word w) fits = behind_symbol b (word w) fits.reached (word_completes (wants b.spot) b w refl fits)
 continuation b (terminal t) fits = behind_symbol b (terminal t) fits.reached (terminal_completes b t fits)

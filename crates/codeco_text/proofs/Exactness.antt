@@ -44,7 +44,8 @@ place_ok : (o : Option (List WrittenItem)) (n : ℕ) (items : List WrittenItem) 
 place_ok None n items e = absurd cc
 place_ok (Some x) n items e = let is : x ≡ items = cc in ap Some is
 
-carry_ok : (o : Option (Builder × Mode)) (n : ℕ) (f : Builder × Mode → Result (List WrittenItem) ℕ) (items : List WrittenItem) → carry o n f ≡ Ok items → (s : Builder × Mode) × (o ≡ Some s) × (f s ≡ Ok items)
+carry_ok : (o : Option (Builder × Mode)) (n : ℕ) (f : Builder × Mode → Result (List WrittenItem) ℕ) (items : List WrittenItem) → carry o n f ≡ Ok items
+    → (s : Builder × Mode) × (o ≡ Some s) × (f s ≡ Ok items)
 carry_ok None n f items e = absurd cc
 carry_ok (Some s) n f items e = (s, refl, e)
 
@@ -53,7 +54,12 @@ reading_ok [] b m n items e = ended_ends b m items (place_ok (ended b m) n items
 reading_ok (x ∷ xs) b m n items e =
     let s = carry_ok (step b m x) n (λ s. reading s.0 s.1 xs (n + 1)) items e in
     let rest = reading_ok xs s.0.0 s.0.1 (n + 1) items s.2 in
-    record { last = rest.last; taken = ap (λ (o : Option (Builder × Mode)). o >>= λ t. final t.0 t.1 xs) s.1 ∙ rest.taken; stands = rest.stands; has = rest.has }
+    record {
+      last = rest.last;
+      taken = ap (λ (o : Option (Builder × Mode)). o >>= λ t. final t.0 t.1 xs) s.1 ∙ rest.taken;
+      stands = rest.stands;
+      has = rest.has;
+    }
 
 -- what the reading has is spelled
 pub ends_spelling : (text : List ℕ) (items : List WrittenItem) → EndsBetween fresh between text items → IsSpelling text items
@@ -70,7 +76,8 @@ ends_spelling text items e =
       fits_from false h = absurd cc
 
 -- what is spelled is taken
-pub spelling_ends : (text : List ℕ) (items : List WrittenItem) → IsSpelling text items → (d : Builder) × (final fresh between text ≡ Some d) × (d.spot ≡ spot.Items) × (so_far d ≡ lexemes items)
+pub spelling_ends : (text : List ℕ) (items : List WrittenItem) → IsSpelling text items
+    → (d : Builder) × (final fresh between text ≡ Some d) × (d.spot ≡ spot.Items) × (so_far d ≡ lexemes items)
 spelling_ends text items s =
     let leads : runs spot.Items (lexemes items) ≡ Some spot.Items = items_run items ∙ ap (λ (t : Bool). only_if t (Some spot.Items)) s.fits in
     spelled_final (lexemes items) text false fresh spot.Items s.spells leads
@@ -90,7 +97,8 @@ place_err : (o : Option (List WrittenItem)) (n place : ℕ) → ok_or_place o n 
 place_err None n place e = (refl, cc)
 place_err (Some x) n place e = absurd cc
 
-carry_err : (o : Option (Builder × Mode)) (n place : ℕ) (f : Builder × Mode → Result (List WrittenItem) ℕ) → carry o n f ≡ Err place → ((o ≡ None) × (n ≡ place)) ⊎ ((s : Builder × Mode) × (o ≡ Some s) × (f s ≡ Err place))
+carry_err : (o : Option (Builder × Mode)) (n place : ℕ) (f : Builder × Mode → Result (List WrittenItem) ℕ) → carry o n f ≡ Err place
+    → ((o ≡ None) × (n ≡ place)) ⊎ ((s : Builder × Mode) × (o ≡ Some s) × (f s ≡ Err place))
 carry_err None n place f e = inl (refl, cc)
 carry_err (Some s) n place f e = inr (s, refl, e)
 
@@ -116,7 +124,8 @@ reading_err (x ∷ xs) b m n place e = elim (carry_err (step b m x) n place (λ 
 ]
 
 -- no sentence goes on from where a step fails
-dead_end : (front : List ℕ) (x : ℕ) (more : List ℕ) (c : Builder) (k : Mode) → reach fresh between front ≡ Some (c, k) → step c k x ≡ None → IsSentence ((front ++ x ∷ []) ++ more) → ⊥
+dead_end : (front : List ℕ) (x : ℕ) (more : List ℕ) (c : Builder) (k : Mode) → reach fresh between front ≡ Some (c, k) → step c k x ≡ None
+    → IsSentence ((front ++ x ∷ []) ++ more) → ⊥
 dead_end front x more c k reached stops sentence =
     let d = spelling_ends ((front ++ x ∷ []) ++ more) sentence.0 sentence.1 in
     let here : final fresh between ((front ++ x ∷ []) ++ more) ≡ None =
@@ -209,7 +218,8 @@ spelling_read text items s =
     let same : d.0.items ≡ items = lexemes_same d.0.items items (sym (ap (λ (t : Spot). so_far_at t d.0) d.2) ∙ d.3) in
     reading_from text fresh between 0 d.0 d.1 d.2 ∙ ap (λ (x : List WrittenItem). Ok x) same
 
-pub is_only : (text : List ℕ) (r : Result (List WrittenItem) SyntaxFault) → Reads r (reading fresh between text 0) → (items : List WrittenItem) → IsSpelling text items → Finds items r
+pub is_only : (text : List ℕ) (r : Result (List WrittenItem) SyntaxFault) → Reads r (reading fresh between text 0) → (items : List WrittenItem)
+    → IsSpelling text items → Finds items r
 is_only text (Ok found) h items s = let clash = sym h ∙ spelling_read text items s in cc
 is_only text (Err (fault.At place)) h items s = absurd (let clash = sym h ∙ spelling_read text items s in cc)
 is_only text (Err fault.Memory) h items s = tt

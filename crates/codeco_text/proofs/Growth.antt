@@ -41,7 +41,8 @@ same_is (x ∷ xs) (y ∷ ys) h =
     cc
 
 -- an identifier
-adds_identifier : (s : Spot) (b : Builder) (w : List ℕ) → IfSome (after_identifier s) (λ v. so_far_at v (identifier_at s b w) ≡ push (so_far_at s b) (lexeme.Identifier w))
+adds_identifier : (s : Spot) (b : Builder) (w : List ℕ)
+    → IfSome (after_identifier s) (λ v. so_far_at v (identifier_at s b w) ≡ push (so_far_at s b) (lexeme.Identifier w))
 adds_identifier spot.Items b w = simp append-nil
 adds_identifier spot.RuleHead b w = refl
 adds_identifier spot.FeatureName b w = refl
@@ -66,9 +67,11 @@ items_more : (is : List WrittenItem) (i : WrittenItem) → lexemes (push is i) �
 items_more is i = flat_map-append item_lexemes is (i ∷ []) ∙ ap (λ (x : List Lexeme). lexemes is ++ x) (append-nil (item_lexemes i))
 
 signed_more : (s : Sign) (cs : List WrittenCategory) (c : WrittenCategory) → signed s (push cs c) ≡ signed s cs ++ (lexeme.Sign s ∷ named c)
-signed_more s cs c = flat_map-append (λ c. lexeme.Sign s ∷ named c) cs (c ∷ []) ∙ ap (λ (x : List Lexeme). signed s cs ++ x) (append-nil (lexeme.Sign s ∷ named c))
+signed_more s cs c = flat_map-append (λ c. lexeme.Sign s ∷ named c) cs (c ∷ [])
+    ∙ ap (λ (x : List Lexeme). signed s cs ++ x) (append-nil (lexeme.Sign s ∷ named c))
 
-adds_variable : (s : Spot) (b : Builder) (w : List ℕ) → IfSome (after_variable s) (λ v. so_far_at v (variable_at s b w) ≡ push (so_far_at s b) (lexeme.Variable w))
+adds_variable : (s : Spot) (b : Builder) (w : List ℕ)
+    → IfSome (after_variable s) (λ v. so_far_at v (variable_at s b w) ≡ push (so_far_at s b) (lexeme.Variable w))
 adds_variable (spot.Category part.Term r) b w = simp append_assoc
 adds_variable (spot.Category part.Taken r) b w = simp append_assoc
 adds_variable spot.PositionName b w = rw (body_more b.rule.body) (simp append_assoc)
@@ -84,9 +87,14 @@ keyword_is w h = elim (or_cases (same_bytes w (codes "word")) (same_bytes w (cod
   | inr e ↦ ap values_word e ∙ sym (same_is w (codes "position") e)
 ]
 
-adds_keyword : (s : Spot) (b : Builder) (w : List ℕ) → IfSome (after_keyword s w) (λ v. so_far_at v (with_keyword b w) ≡ push (so_far_at s b) (lexeme.Keyword w))
-adds_keyword spot.Items b w = if_some_guard (same_bytes w (codes "feature")) spot.FeatureName (λ v. so_far_at v (with_keyword b w) ≡ push (so_far_at spot.Items b) (lexeme.Keyword w)) (λ e. ap (λ (v : List ℕ). push (lexemes b.items) (lexeme.Keyword v)) (sym (same_is w (codes "feature") e)))
-adds_keyword spot.FeatureValue b w = if_some_guard (same_bytes w (codes "word") || same_bytes w (codes "position")) spot.FeatureEnd (λ v. so_far_at v (with_keyword b w) ≡ push (so_far_at spot.FeatureValue b) (lexeme.Keyword w)) (λ e. ap (λ (v : List ℕ). push (so_far_at spot.FeatureValue b) (lexeme.Keyword v)) (keyword_is w e))
+adds_keyword : (s : Spot) (b : Builder) (w : List ℕ)
+    → IfSome (after_keyword s w) (λ v. so_far_at v (with_keyword b w) ≡ push (so_far_at s b) (lexeme.Keyword w))
+adds_keyword spot.Items b w = if_some_guard (same_bytes w (codes "feature")) spot.FeatureName
+    (λ v. so_far_at v (with_keyword b w) ≡ push (so_far_at spot.Items b) (lexeme.Keyword w))
+    (λ e. ap (λ (v : List ℕ). push (lexemes b.items) (lexeme.Keyword v)) (sym (same_is w (codes "feature") e)))
+adds_keyword spot.FeatureValue b w = if_some_guard (same_bytes w (codes "word") || same_bytes w (codes "position")) spot.FeatureEnd
+    (λ v. so_far_at v (with_keyword b w) ≡ push (so_far_at spot.FeatureValue b) (lexeme.Keyword w))
+    (λ e. ap (λ (v : List ℕ). push (so_far_at spot.FeatureValue b) (lexeme.Keyword v)) (keyword_is w e))
 adds_keyword _ b w = tt
 
 adds_label : (s : Spot) (b : Builder) (w : List ℕ) → IfSome (after_label s) (λ v. so_far_at v (with_label b w) ≡ push (so_far_at s b) (lexeme.Label w))
@@ -97,7 +105,8 @@ adds_kind : (s : Spot) (b : Builder) (w : List ℕ) → IfSome (after_kind s) (�
 adds_kind (spot.Category part.Name role.Preterminal) b w = simp (append_assoc, append-nil)
 adds_kind _ b w = tt
 
-adds_terminal : (s : Spot) (b : Builder) (w : List ℕ) → IfSome (after_terminal s) (λ v. so_far_at v (with_terminal b w) ≡ push (so_far_at s b) (lexeme.Terminal w))
+adds_terminal : (s : Spot) (b : Builder) (w : List ℕ)
+    → IfSome (after_terminal s) (λ v. so_far_at v (with_terminal b w) ≡ push (so_far_at s b) (lexeme.Terminal w))
 adds_terminal spot.Body b w = rw (body_more b.rule.body) (simp append_assoc)
 adds_terminal _ b w = tt
 
@@ -112,26 +121,37 @@ atoms_more all a = flat_map-append (λ a. lexeme.Identifier a ∷ lexeme.Sign si
 comma_step : (y f x : List Lexeme) → y ++ lexeme.Sign sign.Comma ∷ (f ++ x) ≡ ((y ++ lexeme.Sign sign.Comma ∷ []) ++ f) ++ x
 comma_step y f x = simp append_assoc
 
-listed_feats : (fs : List WrittenFeat) (f : WrittenFeat) → listed (map feat_lexemes (push fs f)) ≡ flat_map (λ f. push (feat_lexemes f) (lexeme.Sign sign.Comma)) fs ++ feat_lexemes f
+listed_feats : (fs : List WrittenFeat) (f : WrittenFeat)
+    → listed (map feat_lexemes (push fs f)) ≡ flat_map (λ f. push (feat_lexemes f) (lexeme.Sign sign.Comma)) fs ++ feat_lexemes f
 listed_feats [] f = refl
 listed_feats (g ∷ []) f = simp (append_assoc, append-nil)
-listed_feats (g ∷ h ∷ hs) f = ap (λ (t : List Lexeme). feat_lexemes g ++ lexeme.Sign sign.Comma ∷ t) (listed_feats (h ∷ hs) f) ∙ comma_step (feat_lexemes g) (flat_map (λ f. push (feat_lexemes f) (lexeme.Sign sign.Comma)) (h ∷ hs)) (feat_lexemes f)
+listed_feats (g ∷ h ∷ hs) f = ap (λ (t : List Lexeme). feat_lexemes g ++ lexeme.Sign sign.Comma ∷ t) (listed_feats (h ∷ hs) f)
+    ∙ comma_step (feat_lexemes g) (flat_map (λ f. push (feat_lexemes f) (lexeme.Sign sign.Comma)) (h ∷ hs)) (feat_lexemes f)
 
-opened_more : (name : Lexeme) (fs : List WrittenFeat) (f : WrittenFeat) → opened name (push fs f) ≡ opened name fs ++ push (feat_lexemes f) (lexeme.Sign sign.Comma)
-opened_more name fs f = ap (λ (t : List Lexeme). name ∷ lexeme.Sign sign.OpenParen ∷ t) (flat_map-append (λ f. push (feat_lexemes f) (lexeme.Sign sign.Comma)) fs (f ∷ []) ∙ ap (λ (t : List Lexeme). flat_map (λ f. push (feat_lexemes f) (lexeme.Sign sign.Comma)) fs ++ t) (append-nil (push (feat_lexemes f) (lexeme.Sign sign.Comma))))
+opened_more : (name : Lexeme) (fs : List WrittenFeat) (f : WrittenFeat)
+    → opened name (push fs f) ≡ opened name fs ++ push (feat_lexemes f) (lexeme.Sign sign.Comma)
+opened_more name fs f = ap (λ (t : List Lexeme). name ∷ lexeme.Sign sign.OpenParen ∷ t)
+    (flat_map-append (λ f. push (feat_lexemes f) (lexeme.Sign sign.Comma)) fs (f ∷ [])
+    ∙ ap (λ (t : List Lexeme). flat_map (λ f. push (feat_lexemes f) (lexeme.Sign sign.Comma)) fs ++ t)
+    (append-nil (push (feat_lexemes f) (lexeme.Sign sign.Comma))))
 
-category_is : (name : Lexeme) (fs : List WrittenFeat) (f : WrittenFeat) → category_lexemes name (push fs f) ≡ name ∷ lexeme.Sign sign.OpenParen ∷ listed (map feat_lexemes (push fs f)) ++ lexeme.Sign sign.CloseParen ∷ []
+category_is : (name : Lexeme) (fs : List WrittenFeat) (f : WrittenFeat)
+    → category_lexemes name (push fs f) ≡ name ∷ lexeme.Sign sign.OpenParen ∷ listed (map feat_lexemes (push fs f)) ++ lexeme.Sign sign.CloseParen ∷ []
 category_is name [] f = refl
 category_is name (g ∷ gs) f = refl
 
-category_more : (name : Lexeme) (fs : List WrittenFeat) (f : WrittenFeat) → category_lexemes name (push fs f) ≡ push (opened name fs ++ feat_lexemes f) (lexeme.Sign sign.CloseParen)
-category_more name fs f = category_is name fs f ∙ ap (λ (t : List Lexeme). name ∷ lexeme.Sign sign.OpenParen ∷ t ++ lexeme.Sign sign.CloseParen ∷ []) (listed_feats fs f)
+category_more : (name : Lexeme) (fs : List WrittenFeat) (f : WrittenFeat)
+    → category_lexemes name (push fs f) ≡ push (opened name fs ++ feat_lexemes f) (lexeme.Sign sign.CloseParen)
+category_more name fs f = category_is name fs f
+    ∙ ap (λ (t : List Lexeme). name ∷ lexeme.Sign sign.OpenParen ∷ t ++ lexeme.Sign sign.CloseParen ∷ []) (listed_feats fs f)
 
-values_end : (p : Bool) (b : Builder) → so_far_at spot.Items (with_declaration b (values_domain p)) ≡ push (push (value_front b.items b.declaration.name) (lexeme.Keyword (values_word p))) (lexeme.Sign sign.Stop)
+values_end : (p : Bool) (b : Builder) → so_far_at spot.Items (with_declaration b (values_domain p))
+    ≡ push (push (value_front b.items b.declaration.name) (lexeme.Keyword (values_word p))) (lexeme.Sign sign.Stop)
 values_end true b = rw (items_more b.items) (simp append_assoc)
 values_end false b = rw (items_more b.items) (simp append_assoc)
 
-atoms_end : (b : Builder) → so_far_at spot.Items (with_declaration b (domain.Atoms (push b.declaration.atoms b.declaration.atom))) ≡ push (push (value_front b.items b.declaration.name ++ atoms_open b.declaration.atoms) (lexeme.Identifier b.declaration.atom)) (lexeme.Sign sign.Stop)
+atoms_end : (b : Builder) → so_far_at spot.Items (with_declaration b (domain.Atoms (push b.declaration.atoms b.declaration.atom)))
+    ≡ push (push (value_front b.items b.declaration.name ++ atoms_open b.declaration.atoms) (lexeme.Identifier b.declaration.atom)) (lexeme.Sign sign.Stop)
 atoms_end b = rw (items_more b.items, listed_atoms b.declaration.atoms b.declaration.atom) (simp append_assoc)
 
 adds_sign : (s : Spot) (b : Builder) (x : Sign) → IfSome (after_sign s x) (λ v. so_far_at v (sign_at s b x) ≡ push (so_far_at s b) (lexeme.Sign x))
@@ -192,7 +212,8 @@ adds_sign spot.Absents b _ = tt
 
 -- What becomes whole adds nothing.
 
-settles : (r : Role) (b : Builder) (feats : List WrittenFeat) → so_far_at (after_category r) (settle_into b r feats) ≡ role_front r b.items b.rule ++ category_lexemes (name_lexeme r b.category.name) feats
+settles : (r : Role) (b : Builder) (feats : List WrittenFeat)
+    → so_far_at (after_category r) (settle_into b r feats) ≡ role_front r b.items b.rule ++ category_lexemes (name_lexeme r b.category.name) feats
 settles role.Head b feats = refl
 settles role.Positive b feats = rw (signed_more sign.Plus b.rule.positives) (simp append_assoc)
 settles role.Negative b feats = rw (signed_more sign.Minus b.rule.negatives) (simp append_assoc)
@@ -205,8 +226,10 @@ settled_adds (spot.Category part.Whole r) b e = settles r b b.category.feats ∙
 settled_adds _ b e = refl
 
 closed_adds : (s : Spot) (b : Builder) → b.spot ≡ s → so_far (close_at s b) ≡ so_far b
-closed_adds spot.Positives b e = rw (body_more b.rule.body (element.Back b.rule.positives [])) (simp (append_assoc, append-nil)) ∙ sym (ap (λ (t : Spot). so_far_at t b) e)
-closed_adds spot.Negatives b e = rw (body_more b.rule.body (element.Back b.rule.positives b.rule.negatives)) (simp append_assoc) ∙ sym (ap (λ (t : Spot). so_far_at t b) e)
+closed_adds spot.Positives b e = rw (body_more b.rule.body (element.Back b.rule.positives [])) (simp (append_assoc, append-nil))
+    ∙ sym (ap (λ (t : Spot). so_far_at t b) e)
+closed_adds spot.Negatives b e = rw (body_more b.rule.body (element.Back b.rule.positives b.rule.negatives)) (simp append_assoc)
+    ∙ sym (ap (λ (t : Spot). so_far_at t b) e)
 closed_adds spot.Absents b e = rw (body_more b.rule.body (element.NoBack b.rule.positives)) (simp append_assoc) ∙ sym (ap (λ (t : Spot). so_far_at t b) e)
 closed_adds _ b e = refl
 
@@ -233,7 +256,8 @@ moved_same : (v t : Spot) (b : Builder) → so_far_at v (moved b t) ≡ so_far_a
 moved_same spot.Items t b = refl
 moved_same v t b = refl
 
-taken_adds : (o : Option Spot) (b c : Builder) (x : Lexeme) → IfSome o (λ v. so_far_at v c ≡ push (so_far b) x) → (d : Builder) → option_map (moved c) o ≡ Some d → so_far d ≡ push (so_far b) x
+taken_adds : (o : Option Spot) (b c : Builder) (x : Lexeme) → IfSome o (λ v. so_far_at v c ≡ push (so_far b) x) → (d : Builder)
+    → option_map (moved c) o ≡ Some d → so_far d ≡ push (so_far b) x
 taken_adds None b c x h d e = absurd cc
 taken_adds (Some v) b c x h d e =
     let is : moved c v ≡ d = cc in

@@ -116,13 +116,15 @@ value_among w h = elim (cases_Bool (same_bytes w (codes "feature"))) [
   ])
 ]
 
-keyword_some : (t : Bool) (w : List ℕ) (x : Lexeme) → (t ≡ true → is_among keywords w ≡ true) → cond t (Some (lexeme.Keyword w)) (identifier w) ≡ Some x → (lexeme_bytes x ≡ w) × (is_symbol x ≡ true)
+keyword_some : (t : Bool) (w : List ℕ) (x : Lexeme) → (t ≡ true → is_among keywords w ≡ true) → cond t (Some (lexeme.Keyword w)) (identifier w) ≡ Some x
+    → (lexeme_bytes x ≡ w) × (is_symbol x ≡ true)
 keyword_some true w x h e =
     let is : lexeme.Keyword w ≡ x = cc in
     (ap lexeme_bytes (sym is), ap is_symbol (sym is) ∙ h refl)
 keyword_some false w x h e = identifier_some w x e
 
-variable_some : (t : Bool) (w : List ℕ) (x : Lexeme) → (t ≡ true → is_variable w ≡ true) → cond t (Some (lexeme.Variable w)) (identifier w) ≡ Some x → (lexeme_bytes x ≡ w) × (is_symbol x ≡ true)
+variable_some : (t : Bool) (w : List ℕ) (x : Lexeme) → (t ≡ true → is_variable w ≡ true) → cond t (Some (lexeme.Variable w)) (identifier w) ≡ Some x
+    → (lexeme_bytes x ≡ w) × (is_symbol x ≡ true)
 variable_some true w x h e =
     let is : lexeme.Variable w ≡ x = cc in
     (ap lexeme_bytes (sym is), ap is_symbol (sym is) ∙ h refl)

@@ -18,7 +18,8 @@ use Rattle.codeco_text.proofs.Standing.{wants_names, wants_variables}
 
 -- Letters
 
-space_cases : (b : ℕ) (P : Bool) → is_space b ≡ true → (is_word_byte 32 ≡ is_word_byte b → ⊥) → (is_word_byte 9 ≡ is_word_byte b → ⊥) → (is_word_byte 13 ≡ is_word_byte b → ⊥) → (is_word_byte 10 ≡ is_word_byte b → ⊥) → ⊥
+space_cases : (b : ℕ) (P : Bool) → is_space b ≡ true → (is_word_byte 32 ≡ is_word_byte b → ⊥) → (is_word_byte 9 ≡ is_word_byte b → ⊥)
+    → (is_word_byte 13 ≡ is_word_byte b → ⊥) → (is_word_byte 10 ≡ is_word_byte b → ⊥) → ⊥
 space_cases b P h p q r s = elim (or_cases ((eqb b 32) || (eqb b 9) || (eqb b 13)) (eqb b 10) h) [
   | inr e ↦ s (ap is_word_byte (sym (eqb-true b 10 e)))
   | inl f ↦ elim (or_cases ((eqb b 32) || (eqb b 9)) (eqb b 13) f) [
@@ -90,8 +91,11 @@ pub front_among : (names : List (List ℕ)) (p : List ℕ) → is_front_among na
 front_among [] p h = absurd cc
 front_among (t ∷ names) p h = elim (or_cases (has_front p t) (is_front_among names p) h) [
   | inl e ↦
-      let rest = front_rest p t e in
-      (rest.0, or_left (same_bytes (p ++ rest.0) t) (is_among names (p ++ rest.0)) (ap (λ (u : List ℕ). same_bytes (p ++ rest.0) u) rest.1 ∙ same_self (p ++ rest.0)))
+      let rest = front_rest p t e in (
+        rest.0,
+        or_left (same_bytes (p ++ rest.0) t) (is_among names (p ++ rest.0))
+            (ap (λ (u : List ℕ). same_bytes (p ++ rest.0) u) rest.1 ∙ same_self (p ++ rest.0)),
+      )
   | inr e ↦
       let rest = front_among names p e in
       (rest.0, or_right (same_bytes (p ++ rest.0) t) (is_among names (p ++ rest.0)) rest.1)
@@ -134,8 +138,10 @@ identifier_is w h = rw h refl
 pub as_name : (k : Wanted) (w : List ℕ) → wants_names k ≡ true → is_identifier w ≡ true → as_word k w ≡ Some (lexeme.Identifier w)
 as_name wanted.Item w k h = cond-false (same_bytes w (codes "feature")) (Some (lexeme.Keyword w)) (identifier w) (not_feature w h) ∙ identifier_is w h
 as_name wanted.Identifier w k h = identifier_is w h
-as_name wanted.Value w k h = cond-false (same_bytes w (codes "word") || same_bytes w (codes "position")) (Some (lexeme.Keyword w)) (identifier w) (not_value w h) ∙ identifier_is w h
-as_name wanted.Term w k h = cond-false (is_variable w) (Some (lexeme.Variable w)) (identifier w) (lower_no_variable w (identifier_lower w h)) ∙ identifier_is w h
+as_name wanted.Value w k h = cond-false (same_bytes w (codes "word") || same_bytes w (codes "position")) (Some (lexeme.Keyword w)) (identifier w)
+    (not_value w h) ∙ identifier_is w h
+as_name wanted.Term w k h = cond-false (is_variable w) (Some (lexeme.Variable w)) (identifier w) (lower_no_variable w (identifier_lower w h))
+    ∙ identifier_is w h
 as_name k w x h = absurd cc
 
 pub as_variable : (k : Wanted) (w : List ℕ) → wants_variables k ≡ true → is_variable w ≡ true → as_word k w ≡ Some (lexeme.Variable w)
@@ -156,12 +162,14 @@ along_free k free u (x ∷ v) h =
     let parts = and_parts (is_word_byte x) (list_all is_word_byte v) h in
     and_from (is_word_byte x) _ parts.0 (and_from (may_go_on k (push u x)) _ (free (push u x)) (along_free k free (push u x) v parts.1))
 
-along_among : (k : Wanted) (names : List (List ℕ)) → ((w : List ℕ) → may_go_on k w ≡ is_front_among names w) → (u v : List ℕ) → list_all is_word_byte v ≡ true → is_among names (u ++ v) ≡ true → goes_along k u v ≡ true
+along_among : (k : Wanted) (names : List (List ℕ)) → ((w : List ℕ) → may_go_on k w ≡ is_front_among names w) → (u v : List ℕ) → list_all is_word_byte v ≡ true
+    → is_among names (u ++ v) ≡ true → goes_along k u v ≡ true
 along_among k names same u [] h among = refl
 along_among k names same u (x ∷ v) h among =
     let parts = and_parts (is_word_byte x) (list_all is_word_byte v) h in
     let next : is_among names (push u x ++ v) ≡ true = ap (is_among names) (append_assoc u (x ∷ []) v) ∙ among in
-    and_from (is_word_byte x) _ parts.0 (and_from (may_go_on k (push u x)) _ (same (push u x) ∙ among_front names (push u x) v next) (along_among k names same (push u x) v parts.1 next))
+    and_from (is_word_byte x) _ parts.0 (and_from (may_go_on k (push u x)) _ (same (push u x) ∙ among_front names (push u x) v next)
+    (along_among k names same (push u x) v parts.1 next))
 
 -- a word that is wanted begins and goes along
 pub record IsReadable (k : Wanted) (w : List ℕ) : Type 0 where
@@ -172,24 +180,34 @@ pub record IsReadable (k : Wanted) (w : List ℕ) : Type 0 where
   pub begins : may_begin k first ≡ true
   pub along : goes_along k (first ∷ []) others ≡ true
 
-lower_readable : (k : Wanted) → ((b : ℕ) → is_lower b ≡ true → may_begin k b ≡ true) → ((w : List ℕ) → may_go_on k w ≡ true) → (w : List ℕ) → is_lower_word w ≡ true → IsReadable k w
+lower_readable : (k : Wanted) → ((b : ℕ) → is_lower b ≡ true → may_begin k b ≡ true) → ((w : List ℕ) → may_go_on k w ≡ true) → (w : List ℕ)
+    → is_lower_word w ≡ true → IsReadable k w
 lower_readable k begins free [] h = absurd cc
 lower_readable k begins free (b ∷ bs) h =
     let parts = and_parts (is_lower b) (list_all is_word_byte bs) h in
     record { first = b; others = bs; parts = refl; letter = lower_letter b parts.0; begins = begins b parts.0; along = along_free k free (b ∷ []) bs parts.1 }
 
-upper_readable : (k : Wanted) → ((b : ℕ) → is_upper b ≡ true → may_begin k b ≡ true) → ((w : List ℕ) → may_go_on k w ≡ true) → (w : List ℕ) → is_variable w ≡ true → IsReadable k w
+upper_readable : (k : Wanted) → ((b : ℕ) → is_upper b ≡ true → may_begin k b ≡ true) → ((w : List ℕ) → may_go_on k w ≡ true) → (w : List ℕ)
+    → is_variable w ≡ true → IsReadable k w
 upper_readable k begins free [] h = absurd cc
 upper_readable k begins free (b ∷ bs) h =
     let parts = and_parts (is_upper b) (list_all is_word_byte bs) h in
     record { first = b; others = bs; parts = refl; letter = upper_letter b parts.0; begins = begins b parts.0; along = along_free k free (b ∷ []) bs parts.1 }
 
-among_readable : (k : Wanted) (names : List (List ℕ)) → list_all is_lower_word names ≡ true → ((b : ℕ) → may_begin k b ≡ is_front_among names (b ∷ [])) → ((w : List ℕ) → may_go_on k w ≡ is_front_among names w) → (w : List ℕ) → is_among names w ≡ true → IsReadable k w
+among_readable : (k : Wanted) (names : List (List ℕ)) → list_all is_lower_word names ≡ true → ((b : ℕ) → may_begin k b ≡ is_front_among names (b ∷ []))
+    → ((w : List ℕ) → may_go_on k w ≡ is_front_among names w) → (w : List ℕ) → is_among names w ≡ true → IsReadable k w
 among_readable k names all begins same [] h = absurd (let low = among_lower names [] all h in cc)
 among_readable k names all begins same (b ∷ bs) h =
     let low = among_lower names (b ∷ bs) all h in
     let parts = and_parts (is_lower b) (list_all is_word_byte bs) low in
-    record { first = b; others = bs; parts = refl; letter = lower_letter b parts.0; begins = begins b ∙ among_front names (b ∷ []) bs h; along = along_among k names same (b ∷ []) bs parts.1 h }
+    record {
+      first = b;
+      others = bs;
+      parts = refl;
+      letter = lower_letter b parts.0;
+      begins = begins b ∙ among_front names (b ∷ []) bs h;
+      along = along_among k names same (b ∷ []) bs parts.1 h;
+    }
 
 pub keyword_lower : (w : List ℕ) → is_among keywords w ≡ true → is_lower_word w ≡ true
 keyword_lower w h = among_lower keywords w refl h

@@ -92,7 +92,10 @@ values_domain false = domain.Words
 
 -- a declaration at the end of the items
 abbrev pub with_declaration : Builder → Domain → Builder
-with_declaration b d = record b { items = push b.items (item.Feature b.declaration.name d); declaration = record b.declaration { name = []; atom = []; atoms = [] } }
+with_declaration b d = record b {
+  items = push b.items (item.Feature b.declaration.name d);
+  declaration = record b.declaration { name = []; atom = []; atoms = [] };
+}
 
 abbrev pub nothing : WrittenCategory
 nothing = record { name = []; feats = [] }
@@ -237,7 +240,8 @@ part_lexemes part.Named r c = name_lexeme r c.name ∷ []
 part_lexemes part.Feature r c = opened (name_lexeme r c.name) c.feats
 part_lexemes part.Colon r c = push (opened (name_lexeme r c.name) c.feats) (lexeme.Identifier c.feature)
 part_lexemes part.Term r c = push (push (opened (name_lexeme r c.name) c.feats) (lexeme.Identifier c.feature)) (lexeme.Sign sign.Colon)
-part_lexemes part.Taken r c = push (push (push (opened (name_lexeme r c.name) c.feats) (lexeme.Identifier c.feature)) (lexeme.Sign sign.Colon)) (lexeme.Sign sign.Question)
+part_lexemes part.Taken r c = push (push (push (opened (name_lexeme r c.name) c.feats) (lexeme.Identifier c.feature)) (lexeme.Sign sign.Colon))
+    (lexeme.Sign sign.Question)
 part_lexemes part.Next r c = opened (name_lexeme r c.name) c.feats ++ feat_lexemes (record { name = c.feature; term = c.term })
 part_lexemes part.Whole r c = category_lexemes (name_lexeme r c.name) c.feats
 

@@ -170,7 +170,8 @@ domain_lexemes domain.Positions = lexeme.Keyword (codes "position") ∷ []
 domain_lexemes (domain.Atoms atoms) = listed (map (λ a. lexeme.Identifier a ∷ []) atoms)
 
 abbrev pub item_lexemes : WrittenItem → List Lexeme
-item_lexemes (item.Feature name d) = lexeme.Keyword (codes "feature") ∷ lexeme.Identifier name ∷ lexeme.Sign sign.Colon ∷ domain_lexemes d ++ lexeme.Sign sign.Stop ∷ []
+item_lexemes (item.Feature name d) = lexeme.Keyword (codes "feature") ∷ lexeme.Identifier name ∷ lexeme.Sign sign.Colon ∷ domain_lexemes d
+    ++ lexeme.Sign sign.Stop ∷ []
 item_lexemes (item.Rule r) = label_lexemes r.label ++ (named r.head ++ (arrow r.closing ∷ (body_lexemes r.body ++ lexeme.Sign sign.Stop ∷ [])))
 
 -- the symbols of declarations and rules

@@ -61,7 +61,8 @@ count_put_at w s n false same le = omega (arith, length_put w s)
 count_put : (ws : List ℕ) → length (put_all [] ws) ≤ count_different ws
 count_put [] = omega arith
 count_put (w ∷ ws) =
-    subst (λ zs. length zs ≤ count_different (w ∷ ws)) (sym (put_all_put w [] ws)) (count_put_at w (put_all [] ws) (count_different ws) (has ws w) (put_again w ws) (count_put ws))
+    subst (λ zs. length zs ≤ count_different (w ∷ ws)) (sym (put_all_put w [] ws))
+    (count_put_at w (put_all [] ws) (count_different ws) (has ws w) (put_again w ws) (count_put ws))
 
 -- Names that are numbered by occurrence
 
@@ -76,9 +77,11 @@ total_at false p q false next total h hp hq = cc
 counts_up_total : (xs : List ℕ) (next total : ℕ) → counts_up next total xs ≡ true → next ≤ total
 counts_up_total [] next total h = let same = eqb-true next total h in omega arith
 counts_up_total (y ∷ ys) next total h =
-    total_at (nat_lt y next) (counts_up next total ys) (counts_up (next + 1) total ys) (y == next) next total h (counts_up_total ys next total) (counts_up_total ys (next + 1) total)
+    total_at (nat_lt y next) (counts_up next total ys) (counts_up (next + 1) total ys) (y == next) next total h (counts_up_total ys next total)
+    (counts_up_total ys (next + 1) total)
 
-below_at : (b a r p q e : Bool) (x y next total : ℕ) → nat_lt y next ≡ b → (x == y) ≡ a → (y == next) ≡ e → (a || r) ≡ true → (if b then p else (e && q)) ≡ true → (p ≡ true → next ≤ total) → (q ≡ true → next + 1 ≤ total) → (p ≡ true → r ≡ true → x < total) → (q ≡ true → r ≡ true → x < total) → x < total
+below_at : (b a r p q e : Bool) (x y next total : ℕ) → nat_lt y next ≡ b → (x == y) ≡ a → (y == next) ≡ e → (a || r) ≡ true → (if b then p else (e && q)) ≡ true
+    → (p ≡ true → next ≤ total) → (q ≡ true → next + 1 ≤ total) → (p ≡ true → r ≡ true → x < total) → (q ≡ true → r ≡ true → x < total) → x < total
 below_at true true r p q e x y next total lt is at or h hp hq kp kq =
     let same = eqb-true x y is in
     let less = ltb-true y next lt in
@@ -97,23 +100,32 @@ below_at false a r p q false x y next total lt is at or h hp hq kp kq = cc
 counts_up_below : (xs : List ℕ) (next total x : ℕ) → counts_up next total xs ≡ true → has xs x ≡ true → x < total
 counts_up_below [] next total x h in_it = cc
 counts_up_below (y ∷ ys) next total x h in_it =
-    below_at (nat_lt y next) (x == y) (has ys x) (counts_up next total ys) (counts_up (next + 1) total ys) (y == next) x y next total refl refl refl in_it h (counts_up_total ys next total) (counts_up_total ys (next + 1) total) (counts_up_below ys next total x) (counts_up_below ys (next + 1) total x)
+    below_at (nat_lt y next) (x == y) (has ys x) (counts_up next total ys) (counts_up (next + 1) total ys) (y == next) x y next total refl refl refl in_it h
+    (counts_up_total ys next total) (counts_up_total ys (next + 1) total) (counts_up_below ys next total x) (counts_up_below ys (next + 1) total x)
 
 -- a category that an element writes alone is among those of the body
-has_mention : (body : List Element) (k : ℕ) (d : Element) (c : Category) → k < length body → mentions (get_or body k d) ≡ c ∷ [] → has (map (λ q. q.name) (flat_map mentions body)) c.name ≡ true
+has_mention : (body : List Element) (k : ℕ) (d : Element) (c : Category) → k < length body → mentions (get_or body k d) ≡ c ∷ []
+    → has (map (λ q. q.name) (flat_map mentions body)) c.name ≡ true
 has_mention [] k d c lt is = absurd (omega arith)
 has_mention (e ∷ es) zero d c lt is =
-    ap (λ ms. has (map (λ q. q.name) (ms ++ flat_map mentions es)) c.name) is ∙ or_left (c.name == c.name) (has (map (λ q. q.name) (flat_map mentions es)) c.name) (eqb_refl c.name)
+    ap (λ ms. has (map (λ q. q.name) (ms ++ flat_map mentions es)) c.name) is
+    ∙ or_left (c.name == c.name) (has (map (λ q. q.name) (flat_map mentions es)) c.name) (eqb_refl c.name)
 has_mention (e ∷ es) (suc k) d c lt is =
-    ap (λ ns. has ns c.name) (map-append (λ (q : Category). q.name) (mentions e) (flat_map mentions es)) ∙ has_append (map (λ q. q.name) (mentions e)) (map (λ q. q.name) (flat_map mentions es)) c.name ∙ or_right (has (map (λ q. q.name) (mentions e)) c.name) (has (map (λ q. q.name) (flat_map mentions es)) c.name) (has_mention es k d c (omega arith) is)
+    ap (λ ns. has ns c.name) (map-append (λ (q : Category). q.name) (mentions e) (flat_map mentions es))
+    ∙ has_append (map (λ q. q.name) (mentions e)) (map (λ q. q.name) (flat_map mentions es)) c.name
+    ∙ or_right (has (map (λ q. q.name) (mentions e)) c.name) (has (map (λ q. q.name) (flat_map mentions es)) c.name) (has_mention es k d c (omega arith) is)
 
-has_rule : (rules : List Rule) (i : ℕ) (rule : Rule) (x : ℕ) → slice_get rules i ≡ Some rule → has (map (λ q. q.name) (rule_mentions rule)) x ≡ true → has (flat_map (λ r. map (λ q. q.name) (rule_mentions r)) rules) x ≡ true
+has_rule : (rules : List Rule) (i : ℕ) (rule : Rule) (x : ℕ) → slice_get rules i ≡ Some rule → has (map (λ q. q.name) (rule_mentions rule)) x ≡ true
+    → has (flat_map (λ r. map (λ q. q.name) (rule_mentions r)) rules) x ≡ true
 has_rule [] i rule x at h = cc
 has_rule (r ∷ rs) zero rule x at h =
     let same : r ≡ rule = cc in
-    has_append (map (λ q. q.name) (rule_mentions r)) (flat_map (λ q. map (λ c. c.name) (rule_mentions q)) rs) x ∙ or_left (has (map (λ q. q.name) (rule_mentions r)) x) (has (flat_map (λ q. map (λ c. c.name) (rule_mentions q)) rs) x) (ap (λ q. has (map (λ c. c.name) (rule_mentions q)) x) same ∙ h)
+    has_append (map (λ q. q.name) (rule_mentions r)) (flat_map (λ q. map (λ c. c.name) (rule_mentions q)) rs) x
+    ∙ or_left (has (map (λ q. q.name) (rule_mentions r)) x) (has (flat_map (λ q. map (λ c. c.name) (rule_mentions q)) rs) x)
+    (ap (λ q. has (map (λ c. c.name) (rule_mentions q)) x) same ∙ h)
 has_rule (r ∷ rs) (suc i) rule x at h =
-    has_append (map (λ q. q.name) (rule_mentions r)) (flat_map (λ q. map (λ c. c.name) (rule_mentions q)) rs) x ∙ or_right (has (map (λ q. q.name) (rule_mentions r)) x) (has (flat_map (λ q. map (λ c. c.name) (rule_mentions q)) rs) x) (has_rule rs i rule x at h)
+    has_append (map (λ q. q.name) (rule_mentions r)) (flat_map (λ q. map (λ c. c.name) (rule_mentions q)) rs) x
+    ∙ or_right (has (map (λ q. q.name) (rule_mentions r)) x) (has (flat_map (λ q. map (λ c. c.name) (rule_mentions q)) rs) x) (has_rule rs i rule x at h)
 
 -- No fault TooLarge
 
@@ -147,7 +159,8 @@ above_zero : (n : ℕ) → (n == 0) ≡ false → nat_lt 0 n ≡ true
 above_zero n h = grind (arith, nat_tests)
 
 -- the rule with a number stands at the place before it
-rule_at : (g : GrammarParts) (n : ℕ) (rule : Rule) (b : Bool) → (n == 0) ≡ b → rule_with g n ≡ Some rule → ((n == 0) ≡ false) × (slice_get g.rules (n - 1) ≡ Some rule)
+rule_at : (g : GrammarParts) (n : ℕ) (rule : Rule) (b : Bool) → (n == 0) ≡ b → rule_with g n ≡ Some rule
+    → ((n == 0) ≡ false) × (slice_get g.rules (n - 1) ≡ Some rule)
 rule_at g n rule true zero_is at =
     let none : None ≡ Some rule = sym (ap (λ b. if b then None else slice_get g.rules (n - 1)) zero_is) ∙ at in
     cc
@@ -157,7 +170,8 @@ rule_at g n rule false above at =
 rule_small : (g : GrammarParts) → IsSound g → (n : ℕ) (rule : Rule) → (n == 0) ≡ false → slice_get g.rules (n - 1) ≡ Some rule → is_large_rule g rule ≡ false
 rule_small g sound n rule above at =
     let here : at_rule (is_large_rule g) g.rules n ≡ false = (or_parts _ _ (or_parts _ _ (not_large g sound n)).0).1 in
-    sym (ap (λ o. option_map_or (is_large_rule g) o false) at) ∙ sym (ap (λ b. b && option_map_or (is_large_rule g) (slice_get g.rules (n - 1)) false) (above_zero n above)) ∙ here
+    sym (ap (λ o. option_map_or (is_large_rule g) o false) at)
+    ∙ sym (ap (λ b. b && option_map_or (is_large_rule g) (slice_get g.rules (n - 1)) false) (above_zero n above)) ∙ here
 
 pattern_room : (body : List Element) (k : ℕ) (d : Element) → k < length body → length (patterns (get_or body k d)) ≤ length (flat_map patterns body)
 pattern_room [] k d lt = absurd (omega arith)
@@ -166,13 +180,17 @@ pattern_room (e ∷ es) (suc k) d lt =
     let rest = pattern_room es k d (omega arith) in
     omega (arith, length-append (patterns e) (flat_map patterns es))
 
-within_at : (g : GrammarParts) → IsSound g → (n : ℕ) (rule : Rule) → (n == 0) ≡ false → slice_get g.rules (n - 1) ≡ Some rule → (k : ℕ) (d : Element) → k < length rule.body → (e : Element) → get_or rule.body k d ≡ e → IsWithin g e
+within_at : (g : GrammarParts) → IsSound g → (n : ℕ) (rule : Rule) → (n == 0) ≡ false → slice_get g.rules (n - 1) ≡ Some rule → (k : ℕ) (d : Element)
+    → k < length rule.body → (e : Element) → get_or rule.body k d ≡ e → IsWithin g e
 within_at g sound n rule above at k d lt (Forward c) is =
-    features_within g sound c.name (has_rule g.rules (n - 1) rule c.name at (or_right (c.name == rule.head.name) (has (map (λ q. q.name) (flat_map mentions rule.body)) c.name) (has_mention rule.body k d c lt (ap mentions is))))
+    features_within g sound c.name (has_rule g.rules (n - 1) rule c.name at
+    (or_right (c.name == rule.head.name) (has (map (λ q. q.name) (flat_map mentions rule.body)) c.name) (has_mention rule.body k d c lt (ap mentions is))))
 within_at g sound n rule above at k d lt (Strong c) is =
-    features_within g sound c.name (has_rule g.rules (n - 1) rule c.name at (or_right (c.name == rule.head.name) (has (map (λ q. q.name) (flat_map mentions rule.body)) c.name) (has_mention rule.body k d c lt (ap mentions is))))
+    features_within g sound c.name (has_rule g.rules (n - 1) rule c.name at
+    (or_right (c.name == rule.head.name) (has (map (λ q. q.name) (flat_map mentions rule.body)) c.name) (has_mention rule.body k d c lt (ap mentions is))))
 within_at g sound n rule above at k d lt (Back positive negative) is =
-    let few : nat_lt 16 (length (flat_map patterns rule.body)) ≡ false = (or_parts _ _ (or_parts _ _ (or_parts _ _ (rule_small g sound n rule above at)).0).0).1 in
+    let few : nat_lt 16 (length (flat_map patterns rule.body)) ≡ false =
+    (or_parts _ _ (or_parts _ _ (or_parts _ _ (rule_small g sound n rule above at)).0).0).1 in
     let most = at_most (length (flat_map patterns rule.body)) 16 few in
     let room = pattern_room rule.body k d lt in
     let long : length (patterns (get_or rule.body k d)) ≡ length (positive ++ negative) = ap (λ e. length (patterns e)) is in

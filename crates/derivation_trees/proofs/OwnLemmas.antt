@@ -9,7 +9,8 @@ use Rattle.derivation_trees.specs.Instances.{looked_up, unwritten}
 use Rattle.derivation_trees.specs.Derives.{own_after, own_rest}
 
 -- a feature is looked up exactly where it is written
-lookup_has_at : (feats : List (ℕ × Term)) (p : ℕ × Term) (f : ℕ) (b : Bool) (o : Option Term) → (p.0 == f) ≡ b → (o ≡ None → has (map (λ q. q.0) feats) f ≡ false) → (if b then Some p.1 else o) ≡ None → has (map (λ q. q.0) (p ∷ feats)) f ≡ false
+lookup_has_at : (feats : List (ℕ × Term)) (p : ℕ × Term) (f : ℕ) (b : Bool) (o : Option Term) → (p.0 == f) ≡ b
+    → (o ≡ None → has (map (λ q. q.0) feats) f ≡ false) → (if b then Some p.1 else o) ≡ None → has (map (λ q. q.0) (p ∷ feats)) f ≡ false
 lookup_has_at feats p f true o e rest h = absurd (cc)
 lookup_has_at feats p f false o e rest h = ap (λ b. b || has (map (λ q. q.0) feats) f) (eqb_comm f p.0 ∙ e) ∙ rest h
 
@@ -17,7 +18,8 @@ lookup_none : (feats : List (ℕ × Term)) (f : ℕ) → looked_up feats f ≡ N
 lookup_none [] f h = refl
 lookup_none (p ∷ feats) f h = lookup_has_at feats p f (p.0 == f) (looked_up feats f) refl (lookup_none feats f) h
 
-lookup_has_some : (feats : List (ℕ × Term)) (p : ℕ × Term) (f : ℕ) (t : Term) (b : Bool) (o : Option Term) → (p.0 == f) ≡ b → (o ≡ Some t → has (map (λ q. q.0) feats) f ≡ true) → (if b then Some p.1 else o) ≡ Some t → has (map (λ q. q.0) (p ∷ feats)) f ≡ true
+lookup_has_some : (feats : List (ℕ × Term)) (p : ℕ × Term) (f : ℕ) (t : Term) (b : Bool) (o : Option Term) → (p.0 == f) ≡ b
+    → (o ≡ Some t → has (map (λ q. q.0) feats) f ≡ true) → (if b then Some p.1 else o) ≡ Some t → has (map (λ q. q.0) (p ∷ feats)) f ≡ true
 lookup_has_some feats p f t true o e rest h = ap (λ b. b || has (map (λ q. q.0) feats) f) (eqb_comm f p.0 ∙ e)
 lookup_has_some feats p f t false o e rest h = ap (λ b. b || has (map (λ q. q.0) feats) f) (eqb_comm f p.0 ∙ e) ∙ rest h
 
@@ -30,12 +32,15 @@ drop_drop zero [] = refl
 drop_drop (suc n) [] = refl
 drop_drop n (p ∷ own) = refl
 
-own_rest_at : (feats : List (ℕ × Term)) (f : ℕ) (fs : List ℕ) (own : List (ℕ × Value)) (o : Option Term) → looked_up feats f ≡ o → own_rest feats (f ∷ fs) own ≡ own_rest feats fs (own_after own o)
+own_rest_at : (feats : List (ℕ × Term)) (f : ℕ) (fs : List ℕ) (own : List (ℕ × Value)) (o : Option Term) → looked_up feats f ≡ o
+    → own_rest feats (f ∷ fs) own ≡ own_rest feats fs (own_after own o)
 own_rest_at feats f fs own (Some t) e =
     ap (λ b. drop (length (cond (not b) (f ∷ unwritten feats fs) (unwritten feats fs))) own) (lookup_some feats f t e)
 own_rest_at feats f fs own None e =
-    ap (λ b. drop (length (cond (not b) (f ∷ unwritten feats fs) (unwritten feats fs))) own) (lookup_none feats f e) ∙ sym (drop_drop (length (unwritten feats fs)) own)
+    ap (λ b. drop (length (cond (not b) (f ∷ unwritten feats fs) (unwritten feats fs))) own) (lookup_none feats f e)
+    ∙ sym (drop_drop (length (unwritten feats fs)) own)
 
 -- what is left after a feature and the others
-pub own_rest_more : (feats : List (ℕ × Term)) (f : ℕ) (fs : List ℕ) (own : List (ℕ × Value)) → own_rest feats (f ∷ fs) own ≡ own_rest feats fs (own_after own (looked_up feats f))
+pub own_rest_more : (feats : List (ℕ × Term)) (f : ℕ) (fs : List ℕ) (own : List (ℕ × Value))
+    → own_rest feats (f ∷ fs) own ≡ own_rest feats fs (own_after own (looked_up feats f))
 own_rest_more feats f fs own = own_rest_at feats f fs own (looked_up feats f) refl

@@ -77,9 +77,11 @@ pub pieces_space : (xs ys : List ℕ) → has_no_space xs ≡ true → pieces (x
 pieces_space xs ys h = ap (filter is_kept) (split_at_space xs ys h) ∙ kept_cons xs (slice_split (λ b. b == 32) ys)
 
 -- one more piece is taken off
-pub pieces_step : (tokens : List (List ℕ)) (text piece rest : List ℕ) → has_no_space piece ≡ true → text ≡ piece ++ 32 ∷ rest → (tokens ++ filter is_kept (piece ∷ [])) ++ pieces rest ≡ tokens ++ pieces text
+pub pieces_step : (tokens : List (List ℕ)) (text piece rest : List ℕ) → has_no_space piece ≡ true → text ≡ piece ++ 32 ∷ rest
+    → (tokens ++ filter is_kept (piece ∷ [])) ++ pieces rest ≡ tokens ++ pieces text
 pieces_step tokens text piece rest h e =
-    append_assoc tokens (filter is_kept (piece ∷ [])) (pieces rest) ∙ ap (λ x. tokens ++ x) (sym (pieces_space piece rest h)) ∙ ap (λ x. tokens ++ pieces x) (sym e)
+    append_assoc tokens (filter is_kept (piece ∷ [])) (pieces rest) ∙ ap (λ x. tokens ++ x) (sym (pieces_space piece rest h))
+    ∙ ap (λ x. tokens ++ pieces x) (sym e)
 
 pub pieces_end : (tokens : List (List ℕ)) (text : List ℕ) → has_no_space text ≡ true → tokens ++ filter is_kept (text ∷ []) ≡ tokens ++ pieces text
 pieces_end tokens text h = ap (λ x. tokens ++ x) (sym (pieces_last text h))
@@ -108,8 +110,12 @@ parted_mark : (t : List ℕ) (m : ℕ) → is_kept t ≡ true → is_mark m ≡ 
 parted_mark t m k h =
     let long : length (t ++ m ∷ []) - 1 ≡ length t = omega (arith, length_push t m) in
     let at : slice_index (t ++ m ∷ []) (length (t ++ m ∷ []) - 1) ≡ m = ap (slice_index (t ++ m ∷ [])) long ∙ get_or_at t m [] 0 (length t) refl in
-    let marked : ends_with_mark (t ++ m ∷ []) ≡ true = and_from (nat_lt 1 (length (t ++ m ∷ []))) (is_mark (slice_index (t ++ m ∷ []) (length (t ++ m ∷ []) - 1))) (above (length t) (length (t ++ m ∷ [])) k (length_push t m)) (ap is_mark at ∙ h) in
-    ap (λ b. if b then take (length (t ++ m ∷ []) - 1) (t ++ m ∷ []) ∷ drop (length (t ++ m ∷ []) - 1) (t ++ m ∷ []) ∷ [] else (t ++ m ∷ []) ∷ []) marked ∙ ap (λ n. take n (t ++ m ∷ []) ∷ drop n (t ++ m ∷ []) ∷ []) long ∙ ap (λ x. x ∷ drop (length t) (t ++ m ∷ []) ∷ []) (take_at t (m ∷ []) (length t) refl) ∙ ap (λ x. t ∷ x ∷ []) (drop_at t (m ∷ []) (length t) refl)
+    let marked : ends_with_mark (t ++ m ∷ []) ≡ true =
+    and_from (nat_lt 1 (length (t ++ m ∷ []))) (is_mark (slice_index (t ++ m ∷ []) (length (t ++ m ∷ []) - 1)))
+    (above (length t) (length (t ++ m ∷ [])) k (length_push t m)) (ap is_mark at ∙ h) in
+    ap (λ b. if b then take (length (t ++ m ∷ []) - 1) (t ++ m ∷ []) ∷ drop (length (t ++ m ∷ []) - 1) (t ++ m ∷ []) ∷ [] else (t ++ m ∷ []) ∷ []) marked
+    ∙ ap (λ n. take n (t ++ m ∷ []) ∷ drop n (t ++ m ∷ []) ∷ []) long
+    ∙ ap (λ x. x ∷ drop (length t) (t ++ m ∷ []) ∷ []) (take_at t (m ∷ []) (length t) refl) ∙ ap (λ x. t ∷ x ∷ []) (drop_at t (m ∷ []) (length t) refl)
 
 -- What is shown is cut into the same tokens
 
@@ -132,15 +138,22 @@ back_one : (t : List ℕ) → Whole t → parted_last (pieces (t ++ [])) ≡ t �
 back_one t w =
     ap (λ x. parted_last (pieces x)) (append-nil t) ∙ ap parted_last (pieces_last t w.spaceless ∙ kept_one t w.kept) ∙ parted_unmarked t w.unmarked
 
-back_more : (t u : List ℕ) (us : List (List ℕ)) → Whole t → gap u us ≡ 32 ∷ [] → parted_last (pieces (u ++ continued us)) ≡ u ∷ us → parted_last (pieces (t ++ continued (u ∷ us))) ≡ t ∷ u ∷ us
+back_more : (t u : List ℕ) (us : List (List ℕ)) → Whole t → gap u us ≡ 32 ∷ [] → parted_last (pieces (u ++ continued us)) ≡ u ∷ us
+    → parted_last (pieces (t ++ continued (u ∷ us))) ≡ t ∷ u ∷ us
 back_more t u us w g h =
-    ap (λ x. parted_last (pieces (t ++ (x ++ u ++ continued us)))) g ∙ ap parted_last (pieces_space t (u ++ continued us) w.spaceless ∙ ap (λ x. x ++ pieces (u ++ continued us)) (kept_one t w.kept)) ∙ parted_cons t (pieces (u ++ continued us)) u us h
+    ap (λ x. parted_last (pieces (t ++ (x ++ u ++ continued us)))) g
+    ∙ ap parted_last (pieces_space t (u ++ continued us) w.spaceless ∙ ap (λ x. x ++ pieces (u ++ continued us)) (kept_one t w.kept))
+    ∙ parted_cons t (pieces (u ++ continued us)) u us h
 
-back_mark : (t : List ℕ) (m : ℕ) → Whole t → has_no_space (m ∷ []) ≡ true → is_mark m ≡ true → parted_last (pieces (t ++ continued ((m ∷ []) ∷ []))) ≡ t ∷ (m ∷ []) ∷ []
+back_mark : (t : List ℕ) (m : ℕ) → Whole t → has_no_space (m ∷ []) ≡ true → is_mark m ≡ true
+    → parted_last (pieces (t ++ continued ((m ∷ []) ∷ []))) ≡ t ∷ (m ∷ []) ∷ []
 back_mark t m w k h =
-    ap (λ b. parted_last (pieces (t ++ ((if b then [] else 32 ∷ []) ++ (m ∷ []) ++ [])))) h ∙ ap parted_last (pieces_last (t ++ m ∷ []) (no_space_append t (m ∷ []) w.spaceless k) ∙ kept_one (t ++ m ∷ []) (above_zero (length t) (length (t ++ m ∷ [])) (length_push t m))) ∙ parted_mark t m w.kept h
+    ap (λ b. parted_last (pieces (t ++ ((if b then [] else 32 ∷ []) ++ (m ∷ []) ++ [])))) h
+    ∙ ap parted_last (pieces_last (t ++ m ∷ []) (no_space_append t (m ∷ []) w.spaceless k)
+    ∙ kept_one (t ++ m ∷ []) (above_zero (length t) (length (t ++ m ∷ [])) (length_push t m))) ∙ parted_mark t m w.kept h
 
-back_last_at : (t : List ℕ) (m : ℕ) (b : Bool) → is_mark m ≡ b → Whole t → Whole (m ∷ []) → parted_last (pieces (t ++ continued ((m ∷ []) ∷ []))) ≡ t ∷ (m ∷ []) ∷ []
+back_last_at : (t : List ℕ) (m : ℕ) (b : Bool) → is_mark m ≡ b → Whole t → Whole (m ∷ [])
+    → parted_last (pieces (t ++ continued ((m ∷ []) ∷ []))) ≡ t ∷ (m ∷ []) ∷ []
 back_last_at t m true h w v = back_mark t m w v.spaceless h
 back_last_at t m false h w v = back_more t (m ∷ []) [] w (ap (λ b. if b then [] else 32 ∷ []) h) (back_one (m ∷ []) v)
 
@@ -198,7 +211,8 @@ same_end : (x y : ℕ) (bs : List ℕ) → ends_with_mark (x ∷ bs) ≡ ends_wi
 same_end x y [] = refl
 same_end x y (c ∷ cs) =
     let e : length (x ∷ c ∷ cs) - 1 ≡ suc (length cs) = omega arith in
-    ap (λ n. nat_lt 1 (length (x ∷ c ∷ cs)) && is_mark (slice_index (x ∷ c ∷ cs) n)) e ∙ sym (ap (λ n. nat_lt 1 (length (x ∷ c ∷ cs)) && is_mark (slice_index (y ∷ c ∷ cs) n)) e)
+    ap (λ n. nat_lt 1 (length (x ∷ c ∷ cs)) && is_mark (slice_index (x ∷ c ∷ cs) n)) e
+    ∙ sym (ap (λ n. nat_lt 1 (length (x ∷ c ∷ cs)) && is_mark (slice_index (y ∷ c ∷ cs) n)) e)
 
 whole_raised : (t : List ℕ) → Whole t → Whole (raised t)
 whole_raised [] w = w
@@ -218,7 +232,8 @@ one_branch : (b : Bool) (t : List ℕ) → (if b then t else t) ≡ t
 one_branch true t = refl
 one_branch false t = refl
 
-read_plain_at : (terminals : List (List ℕ)) (b : ℕ) (bs : List ℕ) (c : Bool) → is_terminal terminals (lowered (b ∷ bs)) ≡ c → IsNotRaised terminals (b ∷ bs) → read_first terminals (b ∷ bs) ≡ b ∷ bs
+read_plain_at : (terminals : List (List ℕ)) (b : ℕ) (bs : List ℕ) (c : Bool) → is_terminal terminals (lowered (b ∷ bs)) ≡ c → IsNotRaised terminals (b ∷ bs)
+    → read_first terminals (b ∷ bs) ≡ b ∷ bs
 read_plain_at terminals b bs false is plain = ap (λ x. if x then lowered (b ∷ bs) else b ∷ bs) is
 read_plain_at terminals b bs true is plain =
     ap (λ x. if x then lowered (b ∷ bs) else b ∷ bs) is ∙ elim (raise_lowered b) [
@@ -230,14 +245,16 @@ read_plain : (terminals : List (List ℕ)) (t : List ℕ) → IsNotRaised termin
 read_plain terminals [] plain = one_branch (is_terminal terminals []) []
 read_plain terminals (b ∷ bs) plain = read_plain_at terminals b bs (is_terminal terminals (lowered (b ∷ bs))) refl plain
 
-read_raised : (terminals : List (List ℕ)) (b : ℕ) (bs : List ℕ) → is_terminal terminals (b ∷ bs) ≡ true → IsNotRaised terminals (b ∷ bs) → read_first terminals (raised (b ∷ bs)) ≡ b ∷ bs
+read_raised : (terminals : List (List ℕ)) (b : ℕ) (bs : List ℕ) → is_terminal terminals (b ∷ bs) ≡ true → IsNotRaised terminals (b ∷ bs)
+    → read_first terminals (raised (b ∷ bs)) ≡ b ∷ bs
 read_raised terminals b bs is plain =
     elim (lower_raised b) [
       | inl e ↦ ap (λ x. if is_terminal terminals (x ∷ bs) then x ∷ bs else raised (b ∷ bs)) e ∙ ap (λ x. if x then b ∷ bs else raised (b ∷ bs)) is
       | inr e ↦ ap (λ x. read_first terminals (x ∷ bs)) e ∙ read_plain terminals (b ∷ bs) plain
     ]
 
-read_back_at : (terminals : List (List ℕ)) (t : List ℕ) (c : Bool) → is_terminal terminals t ≡ c → IsNotRaised terminals t → read_first terminals (shown_first terminals t) ≡ t
+read_back_at : (terminals : List (List ℕ)) (t : List ℕ) (c : Bool) → is_terminal terminals t ≡ c → IsNotRaised terminals t
+    → read_first terminals (shown_first terminals t) ≡ t
 read_back_at terminals [] c is plain =
     ap (read_first terminals) (one_branch (is_terminal terminals []) []) ∙ read_plain terminals [] plain
 read_back_at terminals (b ∷ bs) true is plain =
@@ -246,15 +263,20 @@ read_back_at terminals (b ∷ bs) false is plain =
     ap (λ x. read_first terminals (if x then raised (b ∷ bs) else b ∷ bs)) is ∙ read_plain terminals (b ∷ bs) plain
 
 -- tokens that are shown and cut are the same
-pub cut_shown : (terminals tokens : List (List ℕ)) → list_all is_whole tokens ≡ true → FirstIsNotRaised terminals tokens → cut_of terminals (shown terminals tokens) ≡ tokens
+pub cut_shown : (terminals tokens : List (List ℕ)) → list_all is_whole tokens ≡ true → FirstIsNotRaised terminals tokens
+    → cut_of terminals (shown terminals tokens) ≡ tokens
 cut_shown terminals [] ws plain = refl
 cut_shown terminals (t ∷ ts) ws plain =
     let both = and_parts (is_whole t) (list_all is_whole ts) ws in
-    ap (lowered_first terminals) (back (shown_first terminals t) ts (whole_first (is_terminal terminals t) t (whole_parts t both.0)) both.1) ∙ ap (λ x. x ∷ ts) (read_back_at terminals t (is_terminal terminals t) refl plain)
+    ap (lowered_first terminals) (back (shown_first terminals t) ts (whole_first (is_terminal terminals t) t (whole_parts t both.0)) both.1)
+    ∙ ap (λ x. x ∷ ts) (read_back_at terminals t (is_terminal terminals t) refl plain)
 
 -- Steps of the code
 
-pub split_cases : (text : List ℕ) (r : Option (Bor (List ℕ) × Bor (List ℕ))) → MatchOption r ((i : ℕ) → i < length text → get_or text i 0 ≢ 32) (λ x. (text ≡ x.0.now ++ (32 ∷ x.1.now)) × ((i : ℕ) → i < length x.0.now → get_or x.0.now i 0 ≢ 32)) → MatchOption r (has_no_space text ≡ true) (λ parts. (has_no_space parts.0.now ≡ true) × (text ≡ parts.0.now ++ 32 ∷ parts.1.now))
+pub split_cases : (text : List ℕ) (r : Option (Bor (List ℕ) × Bor (List ℕ)))
+    → MatchOption r ((i : ℕ) → i < length text → get_or text i 0 ≢ 32)
+    (λ x. (text ≡ x.0.now ++ (32 ∷ x.1.now)) × ((i : ℕ) → i < length x.0.now → get_or x.0.now i 0 ≢ 32))
+    → MatchOption r (has_no_space text ≡ true) (λ parts. (has_no_space parts.0.now ≡ true) × (text ≡ parts.0.now ++ 32 ∷ parts.1.now))
 split_cases text None h = no_space_from_bytes text h
 split_cases text (Some x) h = (no_space_from_bytes x.0.now h.1, h.0)
 

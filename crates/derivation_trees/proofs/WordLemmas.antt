@@ -65,7 +65,8 @@ whole_terminal (b ∷ c ∷ bs) h =
       unmarked = unmarked_from_last b (c ∷ bs) (unmarked_end c bs outer.1);
     }
 
-spelled_at : (terminals : List (List ℕ)) (x t : List ℕ) (b : Bool) → bytes_eq t x ≡ b → is_terminal x ≡ true → (b || cutting.is_terminal terminals t) ≡ true → (cutting.is_terminal terminals t ≡ true → is_terminal t ≡ true) → is_terminal t ≡ true
+spelled_at : (terminals : List (List ℕ)) (x t : List ℕ) (b : Bool) → bytes_eq t x ≡ b → is_terminal x ≡ true → (b || cutting.is_terminal terminals t) ≡ true
+    → (cutting.is_terminal terminals t ≡ true → is_terminal t ≡ true) → is_terminal t ≡ true
 spelled_at terminals x t true is one among rest = ap is_terminal ((bytes_eq-Decides t x).0 is) ∙ one
 spelled_at terminals x t false is one among rest = rest among
 
@@ -98,7 +99,8 @@ out_of_place : (after : Bool) (d : ℕ) (rest : List ℕ) → is_letter d ≡ fa
 out_of_place after d rest unlettered other =
     ap (λ x. x || (d == 45 && (after && begins_with_letter rest))) unlettered ∙ ap (λ x. x && (after && begins_with_letter rest)) other
 
-excluded : (d : ℕ) (after : Bool) (c : ℕ) (rest : List ℕ) (b : Bool) → (c == d) ≡ b → is_letter d ≡ false → (d == 45) ≡ false → is_in_place after c rest ≡ true → (c == d) ≡ false
+excluded : (d : ℕ) (after : Bool) (c : ℕ) (rest : List ℕ) (b : Bool) → (c == d) ≡ b → is_letter d ≡ false → (d == 45) ≡ false → is_in_place after c rest ≡ true
+    → (c == d) ≡ false
 excluded d after c rest false is unlettered other h = is
 excluded d after c rest true is unlettered other h =
     let at : true ≡ false = sym h ∙ ap (λ x. is_in_place after x rest) (eqb-true c d is) ∙ out_of_place after d rest unlettered other in
@@ -106,11 +108,17 @@ excluded d after c rest true is unlettered other h =
 
 letter_fails : (after : Bool) (c : ℕ) (rest : List ℕ) → is_in_place after c rest ≡ true → is_other c ≡ false
 letter_fails after c rest h =
-    or_from (c == 32) (is_mark c) (excluded 32 after c rest (c == 32) refl letter-space refl h) (or_from (c == 46) (c == 63) (excluded 46 after c rest (c == 46) refl letter-stop refl h) (excluded 63 after c rest (c == 63) refl letter-question refl h))
+    or_from (c == 32) (is_mark c) (excluded 32 after c rest (c == 32) refl letter-space refl h)
+    (or_from (c == 46) (c == 63) (excluded 46 after c rest (c == 46) refl letter-stop refl h)
+    (excluded 63 after c rest (c == 63) refl letter-question refl h))
 
-placed_step : (after : Bool) (d : ℕ) (ds : List ℕ) (b : Bool) → is_in_place after d ds ≡ b → misplaced after (d ∷ ds) ≡ None → (is_in_place after d ds ≡ true) × (misplaced (is_letter d) ds ≡ None)
-placed_step after d ds true is h =
-    (is, none_inside (λ n. length (encode_utf8 d) + n) (misplaced (is_letter d) ds) (sym (ap (λ b. if b then option_map (λ n. length (encode_utf8 d) + n) (misplaced (is_letter d) ds) else Some 0) is) ∙ h))
+placed_step : (after : Bool) (d : ℕ) (ds : List ℕ) (b : Bool) → is_in_place after d ds ≡ b → misplaced after (d ∷ ds) ≡ None
+    → (is_in_place after d ds ≡ true) × (misplaced (is_letter d) ds ≡ None)
+placed_step after d ds true is h = (
+  is,
+  none_inside (λ n. length (encode_utf8 d) + n) (misplaced (is_letter d) ds)
+      (sym (ap (λ b. if b then option_map (λ n. length (encode_utf8 d) + n) (misplaced (is_letter d) ds) else Some 0) is) ∙ h),
+)
 placed_step after d ds false is h =
     let here : Option ℕ = Some 0 in
     let at : here ≡ None = sym (ap (λ b. if b then option_map (λ n. length (encode_utf8 d) + n) (misplaced (is_letter d) ds) else Some 0) is) ∙ h in
@@ -150,8 +158,11 @@ whole_text (b ∷ bs) utf8 h =
     let none : NoCharPasses is_other (b ∷ bs) = (chars (b ∷ bs), encodes-chars (b ∷ bs) utf8, none_other false (chars (b ∷ bs)) placed) in
     record {
       kept = kept_here b bs;
-      spaceless = no_space_from_bytes (b ∷ bs) (λ i lt e. no_space_there (get_or (b ∷ bs) i 0) e (NoCharPasses-byte is_other (b ∷ bs) i none lt (omega (arith, e))));
-      unmarked = unmarked_from_last b bs (mark_fails (get_or (b ∷ bs) (length bs) 0) (is_mark (get_or (b ∷ bs) (length bs) 0)) refl (λ low. NoCharPasses-byte is_other (b ∷ bs) (length bs) none (omega arith) low));
+      spaceless = no_space_from_bytes (b ∷ bs)
+          (λ i lt e. no_space_there (get_or (b ∷ bs) i 0) e (NoCharPasses-byte is_other (b ∷ bs) i none lt (omega (arith, e))));
+      unmarked = unmarked_from_last b bs
+          (mark_fails (get_or (b ∷ bs) (length bs) 0) (is_mark (get_or (b ∷ bs) (length bs) 0)) refl
+          (λ low. NoCharPasses-byte is_other (b ∷ bs) (length bs) none (omega arith) low));
     }
 
 -- Each token of a text in UTF-8 is in UTF-8
@@ -164,8 +175,12 @@ split_utf8 : (xs ys : List ℕ) (b : ℕ) → b < 128 → IsUtf8 (xs ++ b ∷ ys
 split_utf8 xs ys b low utf8 =
     let there : length xs < length (xs ++ b ∷ ys) = omega (arith, length-append xs (b ∷ ys)) in
     let small : get_or (xs ++ b ∷ ys) (length xs) 0 < 128 = omega (arith, get_or_at xs b ys 0 (length xs) refl) in
-    let rest : drop (length xs + 1) (xs ++ b ∷ ys) ≡ ys = ap (drop (length xs + 1)) (sym (append_assoc xs (b ∷ []) ys)) ∙ drop_at (xs ++ b ∷ []) ys (length xs + 1) (length_push xs b) in
-    (subst IsUtf8 (take_at xs (b ∷ ys) (length xs) refl) (IsUtf8-take (xs ++ b ∷ ys) (length xs) utf8 (IsCharBoundary-before_ascii (xs ++ b ∷ ys) (length xs) there small)), subst IsUtf8 rest (IsUtf8-drop (xs ++ b ∷ ys) (length xs + 1) utf8 (IsCharBoundary-after_ascii (xs ++ b ∷ ys) (length xs) utf8 there small)))
+    let rest : drop (length xs + 1) (xs ++ b ∷ ys) ≡ ys =
+    ap (drop (length xs + 1)) (sym (append_assoc xs (b ∷ []) ys)) ∙ drop_at (xs ++ b ∷ []) ys (length xs + 1) (length_push xs b) in (
+      subst IsUtf8 (take_at xs (b ∷ ys) (length xs) refl)
+          (IsUtf8-take (xs ++ b ∷ ys) (length xs) utf8 (IsCharBoundary-before_ascii (xs ++ b ∷ ys) (length xs) there small)),
+      subst IsUtf8 rest (IsUtf8-drop (xs ++ b ∷ ys) (length xs + 1) utf8 (IsCharBoundary-after_ascii (xs ++ b ∷ ys) (length xs) utf8 there small)),
+    )
 
 utf8_space : (t u : List ℕ) (us : List (List ℕ)) → gap u us ≡ 32 ∷ [] → IsUtf8 (t ++ continued (u ∷ us)) → IsUtf8 t × IsUtf8 (u ++ continued us)
 utf8_space t u us g h =
@@ -203,24 +218,31 @@ whole_word : (terminals : List (List ℕ)) (t : List ℕ) → list_all is_termin
 whole_word terminals t written utf8 (inl among) = whole_terminal t (spelled terminals t written among)
 whole_word terminals t written utf8 (inr text) = whole_text t utf8 text
 
-whole_words : (terminals tokens : List (List ℕ)) → list_all is_terminal terminals ≡ true → AllUtf8 tokens → All (IsWord terminals) tokens → list_all is_whole tokens ≡ true
+whole_words : (terminals tokens : List (List ℕ)) → list_all is_terminal terminals ≡ true → AllUtf8 tokens → All (IsWord terminals) tokens
+    → list_all is_whole tokens ≡ true
 whole_words terminals [] written utf8 words = refl
 whole_words terminals (t ∷ ts) written utf8 words =
-    and_from (is_whole t) (list_all is_whole ts) (whole_from_parts t (whole_word terminals t written utf8.0 (words 0 t (omega arith)))) (whole_words terminals ts written utf8.1 (λ k d lt. words (suc k) d (omega arith)))
+    and_from (is_whole t) (list_all is_whole ts) (whole_from_parts t (whole_word terminals t written utf8.0 (words 0 t (omega arith))))
+    (whole_words terminals ts written utf8.1 (λ k d lt. words (suc k) d (omega arith)))
 
 -- the first token, where the token as shown is in UTF-8
-whole_first : (terminals : List (List ℕ)) (t : List ℕ) (b : Bool) → cutting.is_terminal terminals t ≡ b → list_all is_terminal terminals ≡ true → IsUtf8 (shown_first terminals t) → IsWord terminals t → Whole t
+whole_first : (terminals : List (List ℕ)) (t : List ℕ) (b : Bool) → cutting.is_terminal terminals t ≡ b → list_all is_terminal terminals ≡ true
+    → IsUtf8 (shown_first terminals t) → IsWord terminals t → Whole t
 whole_first terminals t true is written utf8 word = whole_terminal t (spelled terminals t written is)
 whole_first terminals t false is written utf8 word =
     whole_word terminals t written (subst IsUtf8 (ap (λ b. if b then raised t else t) is) utf8) word
 
-all_whole : (terminals tokens : List (List ℕ)) → list_all is_terminal terminals ≡ true → IsUtf8 (shown terminals tokens) → All (IsWord terminals) tokens → list_all is_whole tokens ≡ true
+all_whole : (terminals tokens : List (List ℕ)) → list_all is_terminal terminals ≡ true → IsUtf8 (shown terminals tokens) → All (IsWord terminals) tokens
+    → list_all is_whole tokens ≡ true
 all_whole terminals [] written utf8 words = refl
 all_whole terminals (t ∷ ts) written utf8 words =
     let each = utf8_tokens (shown_first terminals t) ts utf8 in
-    and_from (is_whole t) (list_all is_whole ts) (whole_from_parts t (whole_first terminals t (cutting.is_terminal terminals t) refl written each.0 (words 0 t (omega arith)))) (whole_words terminals ts written each.1 (λ k d lt. words (suc k) d (omega arith)))
+    and_from (is_whole t) (list_all is_whole ts)
+    (whole_from_parts t (whole_first terminals t (cutting.is_terminal terminals t) refl written each.0 (words 0 t (omega arith))))
+    (whole_words terminals ts written each.1 (λ k d lt. words (suc k) d (omega arith)))
 
 -- terminals of a checked grammar and forms that are shown and cut are the same tokens
-pub cut_shown_words : (g : GrammarParts) (tokens : List (List ℕ)) → IsSound g → IsUtf8 (shown g.terminals tokens) → AreWords g.terminals tokens → cut_of g.terminals (shown g.terminals tokens) ≡ tokens
+pub cut_shown_words : (g : GrammarParts) (tokens : List (List ℕ)) → IsSound g → IsUtf8 (shown g.terminals tokens) → AreWords g.terminals tokens
+    → cut_of g.terminals (shown g.terminals tokens) ≡ tokens
 cut_shown_words g tokens sound utf8 words =
     cut_shown g.terminals tokens (all_whole g.terminals tokens sound.written.terminals utf8 words.1) words.2

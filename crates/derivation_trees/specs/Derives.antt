@@ -142,7 +142,8 @@ list_after closing begun list = if closing then begun ++ closed (drop (length be
 -- where a phrase ends after its last element: no found position and no child is left over
 abbrev pub ended : Rule → List Entry → Stand → Option At
 ended rule begun stand =
-    if is_none_left stand.found && is_none_left stand.children then Some (record { place = stand.at.place; list = list_after rule.closing begun stand.at.list }) else None
+    if is_none_left stand.found && is_none_left stand.children then Some (record { place = stand.at.place; list = list_after rule.closing begun stand.at.list })
+    else None
 
 -- where the features are one, the values are the same
 abbrev pub same_where_both : (ℕ × Value) → (ℕ × Value) → Bool
@@ -155,7 +156,8 @@ fits head asked = (head.name == asked.name) && list_all (λ p. list_all (same_wh
 -- where a node begins, at a place with a list: its rule's head fits the category, and its values are an instance
 abbrev pub begun : Setting → Rule → List (ℕ × Value) → List ℕ → List Phrase → Test → At → Option Stand
 begun s rule values found children asked at =
-    if fits (under values rule.head) asked && is_instance s rule values then Some (record { at = at; found = found; own = own_values rule values; children = children }) else None
+    if fits (under values rule.head) asked && is_instance s rule values
+    then Some (record { at = at; found = found; own = own_values rule values; children = children }) else None
 
 -- what a node does whose rule, instance, found positions and children are these
 abbrev pub phrase : Setting → Rule → List (ℕ × Value) → List ℕ → List Phrase → Phrase

@@ -119,4 +119,6 @@ own_values rule values = drop (length (written_variables rule)) values
 -- An instance of a rule gives each of its variables one value of its feature, and a variable of `#` a position.
 unfoldable pub is_instance : Setting → Rule → List (ℕ × Value) → Bool
 is_instance s rule values =
-    same_numbers (map (λ p. p.0) values) (variables_of s.grammar rule) && list_all (term_fits s values) (rule_features rule) && list_all (λ x. is_value s declared.Positions (value_under values x)) (flat_map positions rule.body) && own_fit s (rule_own_features s.grammar rule) (own_values rule values)
+    same_numbers (map (λ p. p.0) values) (variables_of s.grammar rule) && list_all (term_fits s values) (rule_features rule)
+    && list_all (λ x. is_value s declared.Positions (value_under values x)) (flat_map positions rule.body)
+    && own_fit s (rule_own_features s.grammar rule) (own_values rule values)

@@ -50,7 +50,8 @@ abbrev pub cut_end : Setting → CutNode → Test → At → Option ℕ
 cut_end s (stopped rule values found children count) asked at =
     option_map (λ stand. stand.at.place) (front_of s rule values found children count asked at)
 cut_end s (entered rule values found children count child) asked at =
-    option_and_then (λ stand. option_and_then (λ category. cut_end s child (under values category) stand.at) (option_and_then (λ r. next_category r count) (rule_with s.grammar rule)))
+    option_and_then (λ stand. option_and_then (λ category. cut_end s child (under values category) stand.at)
+    (option_and_then (λ r. next_category r count) (rule_with s.grammar rule)))
     (front_of s rule values found children count asked at)
 
 -- The cut-off node is a partial derivation of the tokens: one with a rule for `text`, from place 0 and the empty list, that

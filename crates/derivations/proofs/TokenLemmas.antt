@@ -47,7 +47,8 @@ out_of_place : (after : Bool) (d : ℕ) (rest : List ℕ) → is_letter d ≡ fa
 out_of_place after d rest unlettered other =
     ap (λ x. x || (d == 45 && (after && begins_with_letter rest))) unlettered ∙ ap (λ x. x && (after && begins_with_letter rest)) other
 
-excluded : (d : ℕ) (after : Bool) (c : ℕ) (rest : List ℕ) (b : Bool) → (c == d) ≡ b → is_letter d ≡ false → (d == 45) ≡ false → is_in_place after c rest ≡ true → (c == d) ≡ false
+excluded : (d : ℕ) (after : Bool) (c : ℕ) (rest : List ℕ) (b : Bool) → (c == d) ≡ b → is_letter d ≡ false → (d == 45) ≡ false → is_in_place after c rest ≡ true
+    → (c == d) ≡ false
 excluded d after c rest false is unlettered other h = is
 excluded d after c rest true is unlettered other h =
     let at : true ≡ false = sym h ∙ ap (λ x. is_in_place after x rest) (eqb-true c d is) ∙ out_of_place after d rest unlettered other in
@@ -56,9 +57,13 @@ excluded d after c rest true is unlettered other h =
 letter_fails : (after : Bool) (c : ℕ) (rest : List ℕ) → is_in_place after c rest ≡ true → is_space c ≡ false
 letter_fails after c rest h = excluded 32 after c rest (c == 32) refl letter-space refl h
 
-placed_step : (after : Bool) (d : ℕ) (ds : List ℕ) (b : Bool) → is_in_place after d ds ≡ b → misplaced after (d ∷ ds) ≡ None → (is_in_place after d ds ≡ true) × (misplaced (is_letter d) ds ≡ None)
-placed_step after d ds true is h =
-    (is, none_inside (λ n. length (encode_utf8 d) + n) (misplaced (is_letter d) ds) (sym (ap (λ b. if b then option_map (λ n. length (encode_utf8 d) + n) (misplaced (is_letter d) ds) else Some 0) is) ∙ h))
+placed_step : (after : Bool) (d : ℕ) (ds : List ℕ) (b : Bool) → is_in_place after d ds ≡ b → misplaced after (d ∷ ds) ≡ None
+    → (is_in_place after d ds ≡ true) × (misplaced (is_letter d) ds ≡ None)
+placed_step after d ds true is h = (
+  is,
+  none_inside (λ n. length (encode_utf8 d) + n) (misplaced (is_letter d) ds)
+      (sym (ap (λ b. if b then option_map (λ n. length (encode_utf8 d) + n) (misplaced (is_letter d) ds) else Some 0) is) ∙ h),
+)
 placed_step after d ds false is h =
     let here : Option ℕ = Some 0 in
     let at : here ≡ None = sym (ap (λ b. if b then option_map (λ n. length (encode_utf8 d) + n) (misplaced (is_letter d) ds) else Some 0) is) ∙ h in
@@ -84,5 +89,8 @@ pub text_token : (t : List ℕ) → IsUtf8 t → IsText t → IsToken t
 text_token [] utf8 h = cc
 text_token (b ∷ bs) utf8 h =
     let placed : misplaced false (chars (b ∷ bs)) ≡ None = no_fault (nat_lt 64 (length (b ∷ bs))) (misplaced false (chars (b ∷ bs))) h in
-    let none : NoCharPasses is_space (b ∷ bs) = (chars (b ∷ bs), encodes-chars (b ∷ bs) utf8, none_space false (chars (b ∷ bs)) placed) in
-    (omega arith, no_space_from_bytes (b ∷ bs) (λ i lt e. no_space_there (get_or (b ∷ bs) i 0) e (NoCharPasses-byte is_space (b ∷ bs) i none lt (omega (arith, e)))))
+    let none : NoCharPasses is_space (b ∷ bs) = (chars (b ∷ bs), encodes-chars (b ∷ bs) utf8, none_space false (chars (b ∷ bs)) placed) in (
+      omega arith,
+      no_space_from_bytes (b ∷ bs)
+          (λ i lt e. no_space_there (get_or (b ∷ bs) i 0) e (NoCharPasses-byte is_space (b ∷ bs) i none lt (omega (arith, e)))),
+    )

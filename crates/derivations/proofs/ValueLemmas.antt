@@ -63,7 +63,8 @@ given_has : (vs : List Value) (ps : List (ℕ × Value)) (f : ℕ) (v : Value) �
 given_has vs [] f v h = cc
 given_has vs (p ∷ ps) f v h =
     elim (or_cases ((p.0 == f) && same_value p.1 v) (has_value ps (f, v)) h) [
-      | inl e ↦ given_keeps (if p.0 == f then with_value vs p.1 else vs) ps f v (given_here vs p f v (and_first (p.0 == f) (same_value p.1 v) e) (same_value_is p.1 v (and_second (p.0 == f) (same_value p.1 v) e)))
+      | inl e ↦ given_keeps (if p.0 == f then with_value vs p.1 else vs) ps f v
+          (given_here vs p f v (and_first (p.0 == f) (same_value p.1 v) e) (same_value_is p.1 v (and_second (p.0 == f) (same_value p.1 v) e)))
       | inr k ↦ given_has (if p.0 == f then with_value vs p.1 else vs) ps f v k
     ]
 
@@ -72,12 +73,15 @@ same_where f v p e h =
     sym (same_value_is v p.1 (subst (λ b. (not b || same_value v p.1) ≡ true) (number_turned p.0 f e) h))
 
 -- a feature that a category fixes has its value among those that are given
-pub given_fixed : (vs : List Value) (ps : List (ℕ × Value)) (f : ℕ) (v : Value) → has_feature ps f ≡ true → list_all (same_where_both (f, v)) ps ≡ true → Among (with_given vs ps f) v
+pub given_fixed : (vs : List Value) (ps : List (ℕ × Value)) (f : ℕ) (v : Value) → has_feature ps f ≡ true → list_all (same_where_both (f, v)) ps ≡ true
+    → Among (with_given vs ps f) v
 given_fixed vs [] f v h all = cc
 given_fixed vs (p ∷ ps) f v h all =
     elim (or_cases (p.0 == f) (has_feature ps f) h) [
-      | inl e ↦ given_keeps (if p.0 == f then with_value vs p.1 else vs) ps f v (given_here vs p f v e (same_where f v p e (and_first (same_where_both (f, v) p) (list_all (same_where_both (f, v)) ps) all)))
-      | inr k ↦ given_fixed (if p.0 == f then with_value vs p.1 else vs) ps f v k (and_second (same_where_both (f, v) p) (list_all (same_where_both (f, v)) ps) all)
+      | inl e ↦ given_keeps (if p.0 == f then with_value vs p.1 else vs) ps f v
+          (given_here vs p f v e (same_where f v p e (and_first (same_where_both (f, v) p) (list_all (same_where_both (f, v)) ps) all)))
+      | inr k ↦ given_fixed (if p.0 == f then with_value vs p.1 else vs) ps f v k
+          (and_second (same_where_both (f, v) p) (list_all (same_where_both (f, v)) ps) all)
     ]
 
 words_keep : (vs : List Value) (rs : List Ground) (v : Value) → Among vs v → Among (with_words vs rs) v
@@ -96,10 +100,12 @@ all_words_keep : (vs : List Value) (all : List (List Ground)) (v : Value) → Am
 all_words_keep vs [] v h = h
 all_words_keep vs (rs ∷ all) v h = all_words_keep (with_words vs rs) all v (words_keep vs rs v h)
 
-all_words_has : (vs : List Value) (all : List (List Ground)) (v : Value) → list_any (λ readings. list_any (λ reading. has_value reading.vals (3, v)) readings) all ≡ true → Among (with_all_words vs all) v
+all_words_has : (vs : List Value) (all : List (List Ground)) (v : Value)
+    → list_any (λ readings. list_any (λ reading. has_value reading.vals (3, v)) readings) all ≡ true → Among (with_all_words vs all) v
 all_words_has vs [] v h = cc
 all_words_has vs (rs ∷ all) v h =
-    elim (or_cases (list_any (λ reading. has_value reading.vals (3, v)) rs) (list_any (λ readings. list_any (λ reading. has_value reading.vals (3, v)) readings) all) h) [
+    elim (or_cases (list_any (λ reading. has_value reading.vals (3, v)) rs)
+    (list_any (λ readings. list_any (λ reading. has_value reading.vals (3, v)) readings) all) h) [
       | inl e ↦ all_words_keep (with_words vs rs) all v (words_has vs rs v e)
       | inr k ↦ all_words_has (with_words vs rs) all v k
     ]

@@ -249,7 +249,8 @@ instance_trees s trees wanted at number rule values =
 -- the trees with a rule, of which the first element that takes tokens may stand at the place
 abbrev pub rule_trees : Setting → (Test → At → List Outcome) → Test → At → ℕ → Rule → List Outcome
 rule_trees s trees wanted at number rule =
-    if (rule.head.name == wanted.name) && may_start s at.place rule.body then flat_map (instance_trees s trees wanted at number rule) (instances s rule wanted) else []
+    if (rule.head.name == wanted.name) && may_start s at.place rule.body then flat_map (instance_trees s trees wanted at number rule) (instances s rule wanted)
+    else []
 
 -- the trees with any of the rules, of which the first has the number
 abbrev pub rules_trees : Setting → (Test → At → List Outcome) → Test → At → ℕ → List Rule → List Outcome

@@ -21,11 +21,14 @@ module _ (live : List Word) (in_order : AllPairs (λ word later. word.id.0 < lat
   -- the word at the place of the number is the one that has it
   pub forms_at_place : (place : ℕ) (d : Word) → IsPlaceOf live id place → forms_of live id ≡ Some (get_or live place d).forms
   forms_at_place place d is_place =
-      let first = find_first (λ word. eqb word.id.0 id.0) live place d is_place.in_range (λ k before. grind (arith, nat_tests, in_order k place d before is_place.in_range, is_place.numbered d)) (grind (arith, nat_tests, is_place.numbered d)) in
+      let first = find_first (λ word. eqb word.id.0 id.0) live place d is_place.in_range
+      (λ k before. grind (arith, nat_tests, in_order k place d before is_place.in_range, is_place.numbered d))
+      (grind (arith, nat_tests, is_place.numbered d)) in
       rw first refl
 
   -- a binary search by number ends at the word that has it, or no word has it
-  pub searched : (r : Result ℕ ℕ) → IsSearchInRange r (length live) → IsBinarySearchResult (λ word. nat_cmp word.id.0 id.0) live r → MatchOption (result_ok r) (forms_of live id ≡ None) (IsPlaceOf live id)
+  pub searched : (r : Result ℕ ℕ) → IsSearchInRange r (length live) → IsBinarySearchResult (λ word. nat_cmp word.id.0 id.0) live r
+      → MatchOption (result_ok r) (forms_of live id ≡ None) (IsPlaceOf live id)
   searched (Ok place) in_range equal = record { in_range = in_range; numbered = λ d. ranked _ id.0 _ (sym (equal d)) }
   searched (Err gap) in_range parted =
       let absent = find_none (λ word. eqb word.id.0 id.0) live (λ k d bound. unequal k d bound (cases_lt k gap)) in

@@ -32,7 +32,8 @@ pub record Finding : Type 0 where
 -- what a reference finds at a referent: it agrees with a positive test and with no negative one
 abbrev pub finding_at : Tests → Ground → ℕ → Option Finding
 finding_at tests referent pos =
-    if list_any (agrees referent) tests.negative then None else option_map (λ k. record { pos = pos; referent = referent; pattern = k }) (position (agrees referent) tests.positive)
+    if list_any (agrees referent) tests.negative then None
+    else option_map (λ k. record { pos = pos; referent = referent; pattern = k }) (position (agrees referent) tests.positive)
 
 abbrev pub finding : Tests → Entry → Option Finding
 finding tests Opener = None

@@ -70,7 +70,8 @@ find_none p [] fails = refl
 find_none p (x ∷ xs) fails = found_nowhere (find p) p Some None refl (λ _ _. refl) (x ∷ xs) x (λ k in_range. fails k x in_range)
 
 -- a test finds the first item that passes
-pub find_first : {X : Type 0} (p : X → Bool) (xs : List X) (i : ℕ) (d : X) → i < length xs → ((k : ℕ) → k < i → p (get_or xs k d) ≡ false) → p (get_or xs i d) ≡ true → find p xs ≡ Some (get_or xs i d)
+pub find_first : {X : Type 0} (p : X → Bool) (xs : List X) (i : ℕ) (d : X) → i < length xs → ((k : ℕ) → k < i → p (get_or xs k d) ≡ false)
+    → p (get_or xs i d) ≡ true → find p xs ≡ Some (get_or xs i d)
 find_first p xs i d in_range before here = found_at (find p) p Some None refl (λ _ _. refl) xs i d in_range before here
 
 -- a filter that each item passes keeps all
@@ -170,7 +171,8 @@ all_slice_get p (y ∷ ys) zero x all is = ap p (sym (same_Some y x is)) ∙ (an
 all_slice_get p (y ∷ ys) (suc i) x all is = all_slice_get p ys i x (and_parts (p y) (list_all p ys) all).1 is
 
 -- a test of what a filter keeps is a test of both
-pub list_any-cond : {X : Type 0} (test : X → Bool) (b : Bool) (x : X) (rest : List X) (other : Bool) → list_any test rest ≡ other → list_any test (cond b (x ∷ rest) rest) ≡ ((b && test x) || other)
+pub list_any-cond : {X : Type 0} (test : X → Bool) (b : Bool) (x : X) (rest : List X) (other : Bool) → list_any test rest ≡ other
+    → list_any test (cond b (x ∷ rest) rest) ≡ ((b && test x) || other)
 list_any-cond test true x rest other h = ap (λ o. test x || o) h
 list_any-cond test false x rest other h = h
 

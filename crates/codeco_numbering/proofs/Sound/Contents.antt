@@ -50,7 +50,8 @@ domain_numbers atoms (Some domain.Words) = refl
 domain_numbers atoms (Some domain.Positions) = refl
 domain_numbers atoms (Some (domain.Atoms names)) = refl
 
-pub atoms_numbered : (atoms : List (List ℕ)) (fs : List NamedFeature) → flat_map (λ f. declared_atoms f.declared) (map (numbered_feature atoms) fs) ≡ map (number_of atoms) (flat_map (λ f. feature_atoms f.domain) fs)
+pub atoms_numbered : (atoms : List (List ℕ)) (fs : List NamedFeature)
+    → flat_map (λ f. declared_atoms f.declared) (map (numbered_feature atoms) fs) ≡ map (number_of atoms) (flat_map (λ f. feature_atoms f.domain) fs)
 atoms_numbered atoms [] = refl
 atoms_numbered atoms (f ∷ fs) =
     ap (λ (x : List ℕ). x ++ flat_map (λ y. declared_atoms y.declared) (map (numbered_feature atoms) fs)) (domain_numbers atoms f.domain)
@@ -68,14 +69,16 @@ element_numbers : (t : Tables) (e : WrittenElement) → element_terminals (numbe
 element_numbers t (element.Terminal w) = refl
 element_numbers t e = refl
 
-body_numbers : (t : Tables) (es : List WrittenElement) → flat_map element_terminals (map (numbered_element t) es) ≡ map (number_of t.terminals) (flat_map written_terminals es)
+body_numbers : (t : Tables) (es : List WrittenElement)
+    → flat_map element_terminals (map (numbered_element t) es) ≡ map (number_of t.terminals) (flat_map written_terminals es)
 body_numbers t [] = refl
 body_numbers t (e ∷ es) =
     ap (λ (x : List ℕ). x ++ flat_map element_terminals (map (numbered_element t) es)) (element_numbers t e)
     ∙ ap (λ (x : List ℕ). map (number_of t.terminals) (written_terminals e) ++ x) (body_numbers t es)
     ∙ sym (map-append (number_of t.terminals) (written_terminals e) (flat_map written_terminals es))
 
-terminals_numbered : (items : List WrittenItem) (rs : List WrittenRule) → flat_map rule_terminals (map (numbered_in items) rs) ≡ map (number_of (terminals_of items)) (flat_map (λ r. flat_map written_terminals r.body) rs)
+terminals_numbered : (items : List WrittenItem) (rs : List WrittenRule)
+    → flat_map rule_terminals (map (numbered_in items) rs) ≡ map (number_of (terminals_of items)) (flat_map (λ r. flat_map written_terminals r.body) rs)
 terminals_numbered items [] = refl
 terminals_numbered items (r ∷ rs) =
     ap (λ (x : List ℕ). x ++ flat_map rule_terminals (map (numbered_in items) rs)) (body_numbers (tables_of items r) r.body)
@@ -84,7 +87,8 @@ terminals_numbered items (r ∷ rs) =
 
 pub terminals_count_up : (items : List WrittenItem) → counts_up 0 (length (terminals_of items)) (grammar_terminals (numbered_of items)) ≡ true
 terminals_count_up items =
-    ap (counts_up 0 (length (terminals_of items))) (terminals_numbered items (rules_of items)) ∙ gathered_counts_up [] (flat_map (λ r. flat_map written_terminals r.body) (rules_of items))
+    ap (counts_up 0 (length (terminals_of items))) (terminals_numbered items (rules_of items))
+    ∙ gathered_counts_up [] (flat_map (λ r. flat_map written_terminals r.body) (rules_of items))
 
 -- Categories
 
@@ -103,13 +107,15 @@ raised n ns =
 kind_below : (w : List ℕ) → is_among kinds w ≡ true → number_of kinds w < 5
 kind_below w h = number_below kinds w h
 
-patterns_lowered : (t : Tables) (cs : List WrittenCategory) → lowered (names_in (map whole (map (numbered_pattern t) cs))) ≡ map (number_of t.categories) (written_names cs)
+patterns_lowered : (t : Tables) (cs : List WrittenCategory)
+    → lowered (names_in (map whole (map (numbered_pattern t) cs))) ≡ map (number_of t.categories) (written_names cs)
 patterns_lowered t [] = refl
 patterns_lowered t (c ∷ cs) =
     let n = number_of t.categories c.name in
     raised n (names_in (map whole (map (numbered_pattern t) cs))) ∙ ap (λ (x : List ℕ). n ∷ x) (patterns_lowered t cs)
 
-element_lowered : (t : Tables) (e : WrittenElement) → element_spelled e ≡ true → lowered (names_in (mentions (numbered_element t e))) ≡ map (number_of t.categories) (written_names (plain_categories e))
+element_lowered : (t : Tables) (e : WrittenElement) → element_spelled e ≡ true
+    → lowered (names_in (mentions (numbered_element t e))) ≡ map (number_of t.categories) (written_names (plain_categories e))
 element_lowered t (element.Terminal w) h = refl
 element_lowered t (element.Preterminal c) h =
     let n = number_of kinds c.name in
@@ -131,7 +137,8 @@ element_lowered t (element.Back ps ns) h =
     ∙ ap (map (number_of t.categories)) (sym (map-append (λ c. c.name) ps ns))
 element_lowered t (element.NoBack ps) h = patterns_lowered t ps
 
-body_lowered : (t : Tables) (es : List WrittenElement) → list_all element_spelled es ≡ true → lowered (names_in (flat_map mentions (map (numbered_element t) es))) ≡ map (number_of t.categories) (written_names (flat_map plain_categories es))
+body_lowered : (t : Tables) (es : List WrittenElement) → list_all element_spelled es ≡ true
+    → lowered (names_in (flat_map mentions (map (numbered_element t) es))) ≡ map (number_of t.categories) (written_names (flat_map plain_categories es))
 body_lowered t [] h = refl
 body_lowered t (e ∷ es) h =
     let parts = and_parts (element_spelled e) (list_all element_spelled es) h in
@@ -147,7 +154,9 @@ body_lowered t (e ∷ es) h =
 abbrev pub body_spelled : WrittenRule → Bool
 body_spelled r = list_all element_spelled r.body
 
-rules_lowered : (items : List WrittenItem) (rs : List WrittenRule) → list_all body_spelled rs ≡ true → lowered (flat_map (λ r. map (λ c. c.name) (rule_mentions r)) (map (numbered_in items) rs)) ≡ map (number_of (categories_of items)) (flat_map rule_names rs)
+rules_lowered : (items : List WrittenItem) (rs : List WrittenRule) → list_all body_spelled rs ≡ true
+    → lowered (flat_map (λ r. map (λ c. c.name) (rule_mentions r)) (map (numbered_in items) rs))
+    ≡ map (number_of (categories_of items)) (flat_map rule_names rs)
 rules_lowered items [] h = refl
 rules_lowered items (r ∷ rs) h =
     let parts = and_parts (body_spelled r) (list_all body_spelled rs) h in
@@ -155,16 +164,21 @@ rules_lowered items (r ∷ rs) h =
     let here = names_in (rule_mentions (numbered_in items r)) in
     let rest = flat_map (λ y. map (λ c. c.name) (rule_mentions y)) (map (numbered_in items) rs) in
     let n = number_of (categories_of items) r.head.name in
-    let first : lowered here ≡ map (number_of (categories_of items)) (rule_names r) = raised n (names_in (flat_map mentions (map (numbered_element t) r.body))) ∙ ap (λ (x : List ℕ). n ∷ x) (body_lowered t r.body parts.0) in
+    let first : lowered here ≡ map (number_of (categories_of items)) (rule_names r) =
+    raised n (names_in (flat_map mentions (map (numbered_element t) r.body))) ∙ ap (λ (x : List ℕ). n ∷ x) (body_lowered t r.body parts.0) in
     lowered_append here rest
     ∙ ap (λ (x : List ℕ). x ++ lowered rest) first
     ∙ ap (λ (x : List ℕ). map (number_of (categories_of items)) (rule_names r) ++ x) (rules_lowered items rs parts.1)
     ∙ sym (map-append (number_of (categories_of items)) (rule_names r) (flat_map rule_names rs))
 
-pub categories_count_up : (items : List WrittenItem) → list_all body_spelled (rules_of items) ≡ true → counts_up 6 (length (kinds ++ categories_of items)) (grammar_names (numbered_of items)) ≡ true
+pub categories_count_up : (items : List WrittenItem) → list_all body_spelled (rules_of items) ≡ true
+    → counts_up 6 (length (kinds ++ categories_of items)) (grammar_names (numbered_of items)) ≡ true
 categories_count_up items h =
     let others = categories_of items in
     let long : length (kinds ++ others) ≡ 5 + length others = length-append kinds others in
     let total : length others + 5 ≡ length (kinds ++ others) = omega arith in
-    let counts : counts_up 1 (length others) (lowered (grammar_names (numbered_of items))) ≡ true = ap (counts_up 1 (length others)) (rules_lowered items (rules_of items) h) ∙ gathered_counts_up (codes "text" ∷ []) (flat_map rule_names (rules_of items)) in
-    subst (λ (n : ℕ). counts_up 6 n (grammar_names (numbered_of items)) ≡ true) total (raised_counts 1 (length others) (grammar_names (numbered_of items)) counts)
+    let counts : counts_up 1 (length others) (lowered (grammar_names (numbered_of items))) ≡ true =
+    ap (counts_up 1 (length others)) (rules_lowered items (rules_of items) h)
+    ∙ gathered_counts_up (codes "text" ∷ []) (flat_map rule_names (rules_of items)) in
+    subst (λ (n : ℕ). counts_up 6 n (grammar_names (numbered_of items)) ≡ true) total
+    (raised_counts 1 (length others) (grammar_names (numbered_of items)) counts)

@@ -21,7 +21,8 @@ counted next total (x ∷ xs) h =
           let lt = ltb-true x next low in
           (rest.0, and_from (ltb x total) (list_all (λ y. ltb y total) xs) (lt-ltb x total (omega (arith, rest.0))) rest.1)
       | inr high ↦
-          let parts = and_parts (eqb x next) (counts_up (next + 1) total xs) (sym (cond-false (ltb x next) (counts_up next total xs) (eqb x next && counts_up (next + 1) total xs) high) ∙ h) in
+          let parts = and_parts (eqb x next) (counts_up (next + 1) total xs)
+          (sym (cond-false (ltb x next) (counts_up next total xs) (eqb x next && counts_up (next + 1) total xs) high) ∙ h) in
           let rest = counted (next + 1) total xs parts.1 in
           let same = eqb-true x next parts.0 in
           (omega (arith, rest.0), and_from (ltb x total) (list_all (λ y. ltb y total) xs) (lt-ltb x total (omega (arith, rest.0))) rest.1)
@@ -60,7 +61,8 @@ pub count_numbers : (names ws : List (List ℕ)) → list_all (is_among names) w
 count_numbers names [] h = refl
 count_numbers names (w ∷ ws) h =
     let parts = and_parts (is_among names w) (list_all (is_among names) ws) h in
-    ap (λ n. n + fresh_count (has (map (number_of names) ws) (number_of names w))) (count_numbers names ws parts.1) ∙ ap (λ b. count_texts ws + fresh_count b) (has_number names ws w parts.0)
+    ap (λ n. n + fresh_count (has (map (number_of names) ws) (number_of names w))) (count_numbers names ws parts.1)
+    ∙ ap (λ b. count_texts ws + fresh_count b) (has_number names ws w parts.0)
 
 -- how many words there are that aren't among the names, each counted once
 abbrev others : List (List ℕ) → List (List ℕ) → ℕ
@@ -76,10 +78,14 @@ others_push names (u ∷ us) w h =
       | inl e ↦
           let same = same_is w u e in
           let new : is_among names u ≡ false = ap (is_among names) (sym same) ∙ h in
-          let old : is_among grown u ≡ true = among_append names (w ∷ []) u ∙ or_right (is_among names u) (is_among (w ∷ []) u) (or_left (same_bytes u w) false (is_same u w (sym same))) in
-          let left : fresh_count (is_among names u || is_among us u) ≡ fresh_count (is_among us w) = ap (λ b. fresh_count (b || is_among us u)) new ∙ ap (λ v. fresh_count (is_among us v)) (sym same) in
-          let right : fresh_count (is_among grown u || is_among us u) ≡ 0 = cond-true {A = ℕ} (is_among grown u || is_among us u) 0 1 (or_left (is_among grown u) (is_among us u) old) in
-          let one : known_count (same_bytes w u || is_among us w) ≡ 1 = cond-true {A = ℕ} (same_bytes w u || is_among us w) 1 0 (or_left (same_bytes w u) (is_among us w) e) in
+          let old : is_among grown u ≡ true =
+          among_append names (w ∷ []) u ∙ or_right (is_among names u) (is_among (w ∷ []) u) (or_left (same_bytes u w) false (is_same u w (sym same))) in
+          let left : fresh_count (is_among names u || is_among us u) ≡ fresh_count (is_among us w) =
+          ap (λ b. fresh_count (b || is_among us u)) new ∙ ap (λ v. fresh_count (is_among us v)) (sym same) in
+          let right : fresh_count (is_among grown u || is_among us u) ≡ 0 =
+          cond-true {A = ℕ} (is_among grown u || is_among us u) 0 1 (or_left (is_among grown u) (is_among us u) old) in
+          let one : known_count (same_bytes w u || is_among us w) ≡ 1 =
+          cond-true {A = ℕ} (same_bytes w u || is_among us w) 1 0 (or_left (same_bytes w u) (is_among us w) e) in
           elim (cases_Bool (is_among us w)) [
             | inl more ↦
                 let a = cond-true {A = ℕ} (is_among us w) 1 0 more in
@@ -92,7 +98,8 @@ others_push names (u ∷ us) w h =
           ]
       | inr e ↦
           let one : is_among grown u ≡ is_among names u = among_append names (w ∷ []) u ∙ plain (is_among names u) (same_bytes u w) (differs_comm w u e) in
-          let left : fresh_count (is_among grown u || is_among us u) ≡ fresh_count (is_among names u || is_among us u) = ap (λ b. fresh_count (b || is_among us u)) one in
+          let left : fresh_count (is_among grown u || is_among us u) ≡ fresh_count (is_among names u || is_among us u) =
+          ap (λ b. fresh_count (b || is_among us u)) one in
           let right : known_count (same_bytes w u || is_among us w) ≡ known_count (is_among us w) = ap (λ b. known_count (b || is_among us w)) e in
           omega arith
     ]
@@ -106,7 +113,8 @@ length_gathered names [] = omega arith
 length_gathered names (u ∷ us) =
     elim (cases_Bool (is_among names u)) [
       | inl old ↦
-          let none : fresh_count (is_among names u || is_among us u) ≡ 0 = cond-true {A = ℕ} (is_among names u || is_among us u) 0 1 (or_left (is_among names u) (is_among us u) old) in
+          let none : fresh_count (is_among names u || is_among us u) ≡ 0 =
+          cond-true {A = ℕ} (is_among names u || is_among us u) 0 1 (or_left (is_among names u) (is_among us u) old) in
           let rest = length_gathered names us in
           ap (λ x. length (gathered x us)) (cond-true (is_among names u) names (names ++ u ∷ []) old) ∙ omega arith
       | inr new ↦

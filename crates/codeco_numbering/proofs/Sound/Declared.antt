@@ -29,7 +29,8 @@ abbrev pub NoneUndeclared : List WrittenItem → Type 0
 NoneUndeclared items = (n : ℕ) → Holds (numbered_of items) (fault.Undeclared n) → ⊥
 
 -- what each rule of the items passes
-pub rules_pass : (p : WrittenItem → Bool) (q : WrittenRule → Bool) → ((r : WrittenRule) → p (item.Rule r) ≡ true → q r ≡ true) → (items : List WrittenItem) → list_all p items ≡ true → list_all q (rules_of items) ≡ true
+pub rules_pass : (p : WrittenItem → Bool) (q : WrittenRule → Bool) → ((r : WrittenRule) → p (item.Rule r) ≡ true → q r ≡ true) → (items : List WrittenItem)
+    → list_all p items ≡ true → list_all q (rules_of items) ≡ true
 rules_pass p q step [] h = refl
 rules_pass p q step (item.Feature name d ∷ is) h = rules_pass p q step is (and_parts (p (item.Feature name d)) (list_all p is) h).1
 rules_pass p q step (item.Rule r ∷ is) h =
@@ -42,15 +43,18 @@ declared_of items = with_items (map undeclared first_features) items
 abbrev is_declared_in : List WrittenItem → ℕ → Bool
 is_declared_in items n = is_declared (values_of (numbered_of items) n)
 
-rules_declared : (items : List WrittenItem) → NoneUndeclared items → list_all (λ r. list_all (λ f. is_declared_in items f.0) (rule_features (numbered_in items r))) (rules_of items) ≡ true
+rules_declared : (items : List WrittenItem) → NoneUndeclared items
+    → list_all (λ r. list_all (λ f. is_declared_in items f.0) (rule_features (numbered_in items r))) (rules_of items) ≡ true
 rules_declared items none =
     let g = numbered_of items in
     let P : Rule → Bool = λ r. list_all (λ f. is_declared (values_of g f.0)) (rule_features r) in
     let nowhere : list_any (is_undeclared_rule g) g.rules ≡ false = at_no_rule (is_undeclared_rule g) g.rules none in
-    let each : list_all P g.rules ≡ true = none_each (is_undeclared_rule g) P (λ r h. all_from_none (λ f. is_declared (values_of g f.0)) (rule_features r) h) g.rules nowhere in
+    let each : list_all P g.rules ≡ true =
+    none_each (is_undeclared_rule g) P (λ r h. all_from_none (λ f. is_declared (values_of g f.0)) (rule_features r) h) g.rules nowhere in
     sym (all-map P (numbered_in items) (rules_of items)) ∙ each
 
-written_declared : (items : List WrittenItem) → list_all item_fits items ≡ true → NoneUndeclared items → list_all (λ w. is_among (feature_names (declared_of items)) w) (flat_map written_features (rules_of items)) ≡ true
+written_declared : (items : List WrittenItem) → list_all item_fits items ≡ true → NoneUndeclared items
+    → list_all (λ w. is_among (feature_names (declared_of items)) w) (flat_map written_features (rules_of items)) ≡ true
 written_declared items fits none =
     let fs = declared_of items in
     let ws = flat_map written_features (rules_of items) in
@@ -62,7 +66,8 @@ written_declared items fits none =
     (all_weaken (λ r. P r && Q r) (λ r. list_all (λ w. is_among (feature_names fs) w) (written_features r))
     (λ r h.
     let parts = and_parts (P r) (Q r) h in
-    all_weaken (λ w. q (number_of names w)) (λ w. is_among (feature_names fs) w) (λ w k. declared_among (atoms_of (all_features items)) fs ws w k) (written_features r) (rule_passes q (tables_of items r) r parts.0 parts.1))
+    all_weaken (λ w. q (number_of names w)) (λ w. is_among (feature_names fs) w) (λ w k. declared_among (atoms_of (all_features items)) fs ws w k)
+    (written_features r) (rule_passes q (tables_of items r) r parts.0 parts.1))
     (rules_of items)
     (all_both P Q (rules_of items) (rules_pass item_fits P (λ r h. h) items fits) (rules_declared items none)))
 
@@ -80,11 +85,14 @@ domain_declared atoms f h = by f.domain h
     by (Some (domain.Atoms names)) k = refl
 
 -- those behind the first four are declared
-pub behind_declared : (items : List WrittenItem) → list_all item_fits items ≡ true → NoneUndeclared items → list_all (λ f. is_declared f.declared) (drop 4 (map (numbered_feature (atoms_of (all_features items))) (all_features items))) ≡ true
+pub behind_declared : (items : List WrittenItem) → list_all item_fits items ≡ true → NoneUndeclared items
+    → list_all (λ f. is_declared f.declared) (drop 4 (map (numbered_feature (atoms_of (all_features items))) (all_features items))) ≡ true
 behind_declared items fits none =
     let atoms = atoms_of (all_features items) in
     let fs = all_features items in
-    let behind : list_all has_domain (drop 4 fs) ≡ true = ap (λ (x : List NamedFeature). list_all has_domain (drop 4 x)) (features_declared items fits none) ∙ items_behind 4 (map undeclared first_features) items (omega arith) refl in
+    let behind : list_all has_domain (drop 4 fs) ≡ true =
+    ap (λ (x : List NamedFeature). list_all has_domain (drop 4 x)) (features_declared items fits none)
+    ∙ items_behind 4 (map undeclared first_features) items (omega arith) refl in
     ap (list_all (λ f. is_declared f.declared)) (drop-map (numbered_feature atoms) 4 fs)
     ∙ all-map (λ f. is_declared f.declared) (numbered_feature atoms) (drop 4 fs)
     ∙ all_weaken has_domain (λ f. is_declared (numbered_domain atoms f.domain)) (domain_declared atoms) (drop 4 fs) behind
@@ -97,4 +105,5 @@ numbered_names atoms (f ∷ fs) = ap (λ (x : List (List ℕ)). f.name ∷ x) (n
 
 -- the first four keep their names
 pub begins_features : (items : List WrittenItem) → begins_with first_features (feature_names (all_features items)) ≡ true
-begins_features items = undeclared_names first_features (declared_of items) (flat_map written_features (rules_of items)) (items_names first_features (map undeclared first_features) items refl)
+begins_features items = undeclared_names first_features (declared_of items) (flat_map written_features (rules_of items))
+    (items_names first_features (map undeclared first_features) items refl)

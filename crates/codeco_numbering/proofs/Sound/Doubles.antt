@@ -47,7 +47,8 @@ put_has : (x : ℕ × Term) (ys : List (ℕ × Term)) (n : ℕ) → has (numbers
 put_has x [] n h = absurd cc
 put_has x (y ∷ ys) n h =
     elim (cases_Bool (ltb x.0 y.0)) [
-      | inl low ↦ ap (λ (zs : List (ℕ × Term)). has (numbers zs) n) (cond-true (ltb x.0 y.0) (x ∷ y ∷ ys) (y ∷ put_feature x ys) low) ∙ or_right (eqb n x.0) (has (numbers (y ∷ ys)) n) h
+      | inl low ↦ ap (λ (zs : List (ℕ × Term)). has (numbers zs) n) (cond-true (ltb x.0 y.0) (x ∷ y ∷ ys) (y ∷ put_feature x ys) low)
+          ∙ or_right (eqb n x.0) (has (numbers (y ∷ ys)) n) h
       | inr high ↦
           ap (λ (zs : List (ℕ × Term)). has (numbers zs) n) (cond-false (ltb x.0 y.0) (x ∷ y ∷ ys) (y ∷ put_feature x ys) high)
           ∙ elim (or_cases (eqb n y.0) (has (numbers ys) n) h) [
@@ -60,8 +61,10 @@ put_has_it : (x : ℕ × Term) (ys : List (ℕ × Term)) → has (numbers (put_f
 put_has_it x [] = or_left (eqb x.0 x.0) false (eq-eqb x.0 x.0 refl)
 put_has_it x (y ∷ ys) =
     elim (cases_Bool (ltb x.0 y.0)) [
-      | inl low ↦ ap (λ (zs : List (ℕ × Term)). has (numbers zs) x.0) (cond-true (ltb x.0 y.0) (x ∷ y ∷ ys) (y ∷ put_feature x ys) low) ∙ or_left (eqb x.0 x.0) (has (numbers (y ∷ ys)) x.0) (eq-eqb x.0 x.0 refl)
-      | inr high ↦ ap (λ (zs : List (ℕ × Term)). has (numbers zs) x.0) (cond-false (ltb x.0 y.0) (x ∷ y ∷ ys) (y ∷ put_feature x ys) high) ∙ or_right (eqb x.0 y.0) (has (numbers (put_feature x ys)) x.0) (put_has_it x ys)
+      | inl low ↦ ap (λ (zs : List (ℕ × Term)). has (numbers zs) x.0) (cond-true (ltb x.0 y.0) (x ∷ y ∷ ys) (y ∷ put_feature x ys) low)
+          ∙ or_left (eqb x.0 x.0) (has (numbers (y ∷ ys)) x.0) (eq-eqb x.0 x.0 refl)
+      | inr high ↦ ap (λ (zs : List (ℕ × Term)). has (numbers zs) x.0) (cond-false (ltb x.0 y.0) (x ∷ y ∷ ys) (y ∷ put_feature x ys) high)
+          ∙ or_right (eqb x.0 y.0) (has (numbers (put_feature x ys)) x.0) (put_has_it x ys)
     ]
 
 -- a number that isn't there with a feature put among the others isn't there without it
@@ -73,15 +76,21 @@ put_apart x [] h = (refl, refl)
 put_apart x (y ∷ ys) h =
     elim (cases_Bool (ltb x.0 y.0)) [
       | inl low ↦
-          let parts = and_parts (not (has (numbers (y ∷ ys)) x.0)) (apart (numbers (y ∷ ys))) (ap (λ (zs : List (ℕ × Term)). apart (numbers zs)) (sym (cond-true (ltb x.0 y.0) (x ∷ y ∷ ys) (y ∷ put_feature x ys) low)) ∙ h) in
+          let parts = and_parts (not (has (numbers (y ∷ ys)) x.0)) (apart (numbers (y ∷ ys)))
+          (ap (λ (zs : List (ℕ × Term)). apart (numbers zs)) (sym (cond-true (ltb x.0 y.0) (x ∷ y ∷ ys) (y ∷ put_feature x ys) low)) ∙ h) in
           (not-true (has (numbers (y ∷ ys)) x.0) parts.0, parts.1)
       | inr high ↦
           let more = put_feature x ys in
-          let parts = and_parts (not (has (numbers more) y.0)) (apart (numbers more)) (ap (λ (zs : List (ℕ × Term)). apart (numbers zs)) (sym (cond-false (ltb x.0 y.0) (x ∷ y ∷ ys) (y ∷ more) high)) ∙ h) in
+          let parts = and_parts (not (has (numbers more) y.0)) (apart (numbers more))
+          (ap (λ (zs : List (ℕ × Term)). apart (numbers zs)) (sym (cond-false (ltb x.0 y.0) (x ∷ y ∷ ys) (y ∷ more) high)) ∙ h) in
           let rest = put_apart x ys parts.1 in
           let lacks = not-true (has (numbers more) y.0) parts.0 in
-          let other : eqb x.0 y.0 ≡ false = false_from_ne_true (eqb x.0 y.0) (λ e. both_ways (has (numbers more) y.0) lacks (ap (has (numbers more)) (sym (eqb-true x.0 y.0 e)) ∙ put_has_it x ys)) in
-          (or_from (eqb x.0 y.0) (has (numbers ys) x.0) other rest.0, and_from (not (has (numbers ys) y.0)) (apart (numbers ys)) (not_from_false (has (numbers ys) y.0) (put_lacks x ys y.0 lacks)) rest.1)
+          let other : eqb x.0 y.0 ≡ false =
+          false_from_ne_true (eqb x.0 y.0)
+          (λ e. both_ways (has (numbers more) y.0) lacks (ap (has (numbers more)) (sym (eqb-true x.0 y.0 e)) ∙ put_has_it x ys)) in (
+            or_from (eqb x.0 y.0) (has (numbers ys) x.0) other rest.0,
+            and_from (not (has (numbers ys) y.0)) (apart (numbers ys)) (not_from_false (has (numbers ys) y.0) (put_lacks x ys y.0 lacks)) rest.1,
+          )
     ]
 
 -- none of these numbers is a marked feature's
@@ -95,7 +104,8 @@ taken_apart fs (t ∷ ts) h =
     let rest = taken_apart (put_feature it fs) ts h in
     let here = put_apart it fs rest.1 in (
       and_from (not (has (numbers fs) t.0)) (lacks_taken fs ts) (not_from_false (has (numbers fs) t.0) here.0)
-          (all_weaken (λ u. not (has (numbers (put_feature it fs)) u.0)) (λ u. not (has (numbers fs) u.0)) (λ u k. not_from_false (has (numbers fs) u.0) (put_lacks it fs u.0 (not-true (has (numbers (put_feature it fs)) u.0) k))) ts rest.0),
+          (all_weaken (λ u. not (has (numbers (put_feature it fs)) u.0)) (λ u. not (has (numbers fs) u.0))
+          (λ u k. not_from_false (has (numbers fs) u.0) (put_lacks it fs u.0 (not-true (has (numbers (put_feature it fs)) u.0) k))) ts rest.0),
       here.1,
     )
 
@@ -104,7 +114,8 @@ one_above m n le h =
     let ne = eqb-false m n h in
     lt-ltb m n (omega arith)
 
-above : (t : Tables) (m n : ℕ) (w : List ℕ) (fs : List (ℕ × WrittenTerm)) → m ≤ n → rises n fs ≡ true → has (numbers (plain_feats t fs)) m ≡ false → list_all (goes_before (m, term.Taken w)) fs ≡ true
+above : (t : Tables) (m n : ℕ) (w : List ℕ) (fs : List (ℕ × WrittenTerm)) → m ≤ n → rises n fs ≡ true → has (numbers (plain_feats t fs)) m ≡ false
+    → list_all (goes_before (m, term.Taken w)) fs ≡ true
 above t m n w [] le h k = refl
 above t m n w ((i, term.Atom v) ∷ fs) le h k =
     let parts = and_parts (leb n i) (rises i fs) h in
@@ -123,24 +134,32 @@ above t m n w ((i, term.Taken v) ∷ fs) le h k =
 
 all_before : (x : ℕ × WrittenTerm) (fs : List (ℕ × WrittenTerm)) → is_marked x.1 ≡ false → list_all (goes_before x) fs ≡ true
 all_before x [] h = refl
-all_before x (f ∷ fs) h = and_from (goes_before x f) (list_all (goes_before x) fs) (or_left (not (is_marked x.1)) (is_marked f.1 || ltb x.0 f.0) (not_from_false (is_marked x.1) h)) (all_before x fs h)
+all_before x (f ∷ fs) h = and_from (goes_before x f) (list_all (goes_before x) fs)
+    (or_left (not (is_marked x.1)) (is_marked f.1 || ltb x.0 f.0) (not_from_false (is_marked x.1) h)) (all_before x fs h)
 
 lacks_tail : (f : ℕ × Term) (fs : List (ℕ × Term)) (ts : List (ℕ × ℕ)) → lacks_taken (f ∷ fs) ts ≡ true → lacks_taken fs ts ≡ true
-lacks_tail f fs ts h = all_weaken (λ u. not (has (numbers (f ∷ fs)) u.0)) (λ u. not (has (numbers fs) u.0)) (λ u k. not_from_false (has (numbers fs) u.0) (or_parts (eqb u.0 f.0) (has (numbers fs) u.0) (not-true (has (numbers (f ∷ fs)) u.0) k)).1) ts h
+lacks_tail f fs ts h = all_weaken (λ u. not (has (numbers (f ∷ fs)) u.0)) (λ u. not (has (numbers fs) u.0))
+    (λ u k. not_from_false (has (numbers fs) u.0) (or_parts (eqb u.0 f.0) (has (numbers fs) u.0) (not-true (has (numbers (f ∷ fs)) u.0) k)).1) ts h
 
-stand_apart : (t : Tables) (n : ℕ) (fs : List (ℕ × WrittenTerm)) → rises n fs ≡ true → lacks_taken (plain_feats t fs) (taken_feats t fs) ≡ true → stands fs ≡ true
+stand_apart : (t : Tables) (n : ℕ) (fs : List (ℕ × WrittenTerm)) → rises n fs ≡ true → lacks_taken (plain_feats t fs) (taken_feats t fs) ≡ true
+    → stands fs ≡ true
 stand_apart t n [] h k = refl
 stand_apart t n ((i, term.Atom w) ∷ fs) h k =
     let parts = and_parts (leb n i) (rises i fs) h in
-    and_from (list_all (goes_before (i, term.Atom w)) fs) (stands fs) (all_before (i, term.Atom w) fs refl) (stand_apart t i fs parts.1 (lacks_tail (i, numbered_term t (term.Atom w)) (plain_feats t fs) (taken_feats t fs) k))
+    and_from (list_all (goes_before (i, term.Atom w)) fs) (stands fs) (all_before (i, term.Atom w) fs refl)
+    (stand_apart t i fs parts.1 (lacks_tail (i, numbered_term t (term.Atom w)) (plain_feats t fs) (taken_feats t fs) k))
 stand_apart t n ((i, term.Variable w) ∷ fs) h k =
     let parts = and_parts (leb n i) (rises i fs) h in
-    and_from (list_all (goes_before (i, term.Variable w)) fs) (stands fs) (all_before (i, term.Variable w) fs refl) (stand_apart t i fs parts.1 (lacks_tail (i, numbered_term t (term.Variable w)) (plain_feats t fs) (taken_feats t fs) k))
+    and_from (list_all (goes_before (i, term.Variable w)) fs) (stands fs) (all_before (i, term.Variable w) fs refl)
+    (stand_apart t i fs parts.1 (lacks_tail (i, numbered_term t (term.Variable w)) (plain_feats t fs) (taken_feats t fs) k))
 stand_apart t n ((i, term.Taken w) ∷ fs) h k =
     let parts = and_parts (leb n i) (rises i fs) h in
     let ks = and_parts (not (has (numbers (plain_feats t fs)) i)) (lacks_taken (plain_feats t fs) (taken_feats t fs)) k in
-    and_from (list_all (goes_before (i, term.Taken w)) fs) (stands fs) (above t i i w fs (omega arith) parts.1 (not-true (has (numbers (plain_feats t fs)) i) ks.0)) (stand_apart t i fs parts.1 ks.1)
+    and_from (list_all (goes_before (i, term.Taken w)) fs) (stands fs)
+    (above t i i w fs (omega arith) parts.1 (not-true (has (numbers (plain_feats t fs)) i) ks.0)) (stand_apart t i fs parts.1 ks.1)
 
 -- where no feature stands twice among all, those in order stand as the notation wants
-pub stands_apart : (t : Tables) (fs : List (ℕ × WrittenTerm)) → rises 0 fs ≡ true → is_double (numbers (with_taken (plain_feats t fs) (taken_feats t fs))) ≡ false → stands fs ≡ true
-stands_apart t fs h d = stand_apart t 0 fs h (taken_apart (plain_feats t fs) (taken_feats t fs) (not_double (numbers (with_taken (plain_feats t fs) (taken_feats t fs))) d)).0
+pub stands_apart : (t : Tables) (fs : List (ℕ × WrittenTerm)) → rises 0 fs ≡ true
+    → is_double (numbers (with_taken (plain_feats t fs) (taken_feats t fs))) ≡ false → stands fs ≡ true
+stands_apart t fs h d = stand_apart t 0 fs h
+    (taken_apart (plain_feats t fs) (taken_feats t fs) (not_double (numbers (with_taken (plain_feats t fs) (taken_feats t fs))) d)).0

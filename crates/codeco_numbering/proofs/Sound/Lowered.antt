@@ -12,7 +12,8 @@ pub lowered_append : (xs ys : List ℕ) → lowered (xs ++ ys) ≡ lowered xs ++
 lowered_append [] ys = refl
 lowered_append (x ∷ xs) ys =
     elim (cases_Bool (ltb x 5)) [
-      | inl low ↦ cond-true (ltb x 5) (lowered (xs ++ ys)) ((x - 5) ∷ lowered (xs ++ ys)) low ∙ lowered_append xs ys ∙ ap (λ (z : List ℕ). z ++ lowered ys) (sym (cond-true (ltb x 5) (lowered xs) ((x - 5) ∷ lowered xs) low))
+      | inl low ↦ cond-true (ltb x 5) (lowered (xs ++ ys)) ((x - 5) ∷ lowered (xs ++ ys)) low ∙ lowered_append xs ys
+          ∙ ap (λ (z : List ℕ). z ++ lowered ys) (sym (cond-true (ltb x 5) (lowered xs) ((x - 5) ∷ lowered xs) low))
       | inr high ↦
           cond-false (ltb x 5) (lowered (xs ++ ys)) ((x - 5) ∷ lowered (xs ++ ys)) high
           ∙ ap (λ (z : List ℕ). (x - 5) ∷ z) (lowered_append xs ys)
@@ -36,13 +37,15 @@ lowered_counts next total (x ∷ xs) h =
           ∙ elim (cases_Bool (ltb x (next + 5))) [
             | inl known ↦
                 let lt = ltb-true x (next + 5) known in
-                cond-true (ltb (x - 5) next) (counts_up next total rest) (eqb (x - 5) next && counts_up (next + 1) total rest) (lt-ltb (x - 5) next (omega arith))
+                cond-true (ltb (x - 5) next) (counts_up next total rest) (eqb (x - 5) next && counts_up (next + 1) total rest)
+                (lt-ltb (x - 5) next (omega arith))
                 ∙ lowered_counts next total xs (sym (cond-true (ltb x (next + 5)) old new known) ∙ h)
             | inr fresh ↦
                 let parts = and_parts (eqb x (next + 5)) (counts_up (next + 5 + 1) (total + 5) xs) (sym (cond-false (ltb x (next + 5)) old new fresh) ∙ h) in
                 let same = eqb-true x (next + 5) parts.0 in
                 let more : counts_up (next + 1 + 5) (total + 5) xs ≡ true = subst (λ (n : ℕ). counts_up n (total + 5) xs ≡ true) (omega arith) parts.1 in
-                cond-false (ltb (x - 5) next) (counts_up next total rest) (eqb (x - 5) next && counts_up (next + 1) total rest) (le-ltb (x - 5) next (omega arith))
+                cond-false (ltb (x - 5) next) (counts_up next total rest) (eqb (x - 5) next && counts_up (next + 1) total rest)
+                (le-ltb (x - 5) next (omega arith))
                 ∙ and_from (eqb (x - 5) next) (counts_up (next + 1) total rest) (eq-eqb (x - 5) next (omega arith)) (lowered_counts (next + 1) total xs more)
           ]
     ]
@@ -57,7 +60,8 @@ raised_counts next total (x ∷ xs) h =
     elim (cases_Bool (ltb x 5)) [
       | inl low ↦
           let lt = ltb-true x 5 low in
-          cond-true (ltb x (next + 5)) old new (lt-ltb x (next + 5) (omega arith)) ∙ raised_counts next total xs (ap (counts_up next total) (sym (cond-true (ltb x 5) rest ((x - 5) ∷ rest) low)) ∙ h)
+          cond-true (ltb x (next + 5)) old new (lt-ltb x (next + 5) (omega arith))
+          ∙ raised_counts next total xs (ap (counts_up next total) (sym (cond-true (ltb x 5) rest ((x - 5) ∷ rest) low)) ∙ h)
       | inr high ↦
           let le = ltb-false x 5 high in
           let here : counts_up next total ((x - 5) ∷ rest) ≡ true = ap (counts_up next total) (sym (cond-false (ltb x 5) rest ((x - 5) ∷ rest) high)) ∙ h in
@@ -66,11 +70,15 @@ raised_counts next total (x ∷ xs) h =
           elim (cases_Bool (ltb (x - 5) next)) [
             | inl known ↦
                 let lt = ltb-true (x - 5) next known in
-                cond-true (ltb x (next + 5)) old new (lt-ltb x (next + 5) (omega arith)) ∙ raised_counts next total xs (sym (cond-true (ltb (x - 5) next) known_rest fresh_rest known) ∙ here)
+                cond-true (ltb x (next + 5)) old new (lt-ltb x (next + 5) (omega arith))
+                ∙ raised_counts next total xs (sym (cond-true (ltb (x - 5) next) known_rest fresh_rest known) ∙ here)
             | inr fresh ↦
-                let parts = and_parts (eqb (x - 5) next) (counts_up (next + 1) total rest) (sym (cond-false (ltb (x - 5) next) known_rest fresh_rest fresh) ∙ here) in
+                let parts = and_parts (eqb (x - 5) next) (counts_up (next + 1) total rest)
+                (sym (cond-false (ltb (x - 5) next) known_rest fresh_rest fresh) ∙ here) in
                 let same = eqb-true (x - 5) next parts.0 in
-                let more : counts_up (next + 5 + 1) (total + 5) xs ≡ true = subst (λ (n : ℕ). counts_up n (total + 5) xs ≡ true) (omega arith) (raised_counts (next + 1) total xs parts.1) in
-                cond-false (ltb x (next + 5)) old new (le-ltb x (next + 5) (omega arith)) ∙ and_from (eqb x (next + 5)) (counts_up (next + 5 + 1) (total + 5) xs) (eq-eqb x (next + 5) (omega arith)) more
+                let more : counts_up (next + 5 + 1) (total + 5) xs ≡ true =
+                subst (λ (n : ℕ). counts_up n (total + 5) xs ≡ true) (omega arith) (raised_counts (next + 1) total xs parts.1) in
+                cond-false (ltb x (next + 5)) old new (le-ltb x (next + 5) (omega arith))
+                ∙ and_from (eqb x (next + 5)) (counts_up (next + 5 + 1) (total + 5) xs) (eq-eqb x (next + 5) (omega arith)) more
           ]
     ]

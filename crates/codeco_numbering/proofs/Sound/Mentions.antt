@@ -27,12 +27,14 @@ put_all p x (y ∷ ys) h =
     elim (cases_Bool (ltb x.0 y.0)) [
       | inl low ↦ and_parts (p x) (list_all p (y ∷ ys)) (ap (list_all p) (sym (cond-true (ltb x.0 y.0) (x ∷ y ∷ ys) (y ∷ put_feature x ys) low)) ∙ h)
       | inr high ↦
-          let parts = and_parts (p y) (list_all p (put_feature x ys)) (ap (list_all p) (sym (cond-false (ltb x.0 y.0) (x ∷ y ∷ ys) (y ∷ put_feature x ys) high)) ∙ h) in
+          let parts = and_parts (p y) (list_all p (put_feature x ys))
+          (ap (list_all p) (sym (cond-false (ltb x.0 y.0) (x ∷ y ∷ ys) (y ∷ put_feature x ys) high)) ∙ h) in
           let rest = put_all p x ys parts.1 in
           (rest.0, and_from (p y) (list_all p ys) parts.0 rest.1)
     ]
 
-pub with_taken_all : (p : ℕ × Term → Bool) (feats : List (ℕ × Term)) (ts : List (ℕ × ℕ)) → list_all p (with_taken feats ts) ≡ true → (list_all p feats ≡ true) × (list_all (λ t. p (t.0, Var t.1)) ts ≡ true)
+pub with_taken_all : (p : ℕ × Term → Bool) (feats : List (ℕ × Term)) (ts : List (ℕ × ℕ)) → list_all p (with_taken feats ts) ≡ true
+    → (list_all p feats ≡ true) × (list_all (λ t. p (t.0, Var t.1)) ts ≡ true)
 with_taken_all p feats [] h = (h, refl)
 with_taken_all p feats (t ∷ ts) h =
     let rest = with_taken_all p (put_feature (t.0, Var t.1) feats) ts h in
@@ -41,12 +43,14 @@ with_taken_all p feats (t ∷ ts) h =
 
 -- Features in order
 
-put_gives : (p : ℕ × WrittenTerm → Bool) (x : ℕ × WrittenTerm) (ys : List (ℕ × WrittenTerm)) → list_all p (put_in_order x ys) ≡ true → (p x ≡ true) × (list_all p ys ≡ true)
+put_gives : (p : ℕ × WrittenTerm → Bool) (x : ℕ × WrittenTerm) (ys : List (ℕ × WrittenTerm)) → list_all p (put_in_order x ys) ≡ true
+    → (p x ≡ true) × (list_all p ys ≡ true)
 put_gives p x [] h = ((and_parts (p x) true h).0, refl)
 put_gives p x (y ∷ ys) h =
     elim (cases_Bool (ltb y.0 x.0)) [
       | inl low ↦
-          let parts = and_parts (p y) (list_all p (put_in_order x ys)) (ap (list_all p) (sym (cond-true (ltb y.0 x.0) (y ∷ put_in_order x ys) (x ∷ y ∷ ys) low)) ∙ h) in
+          let parts = and_parts (p y) (list_all p (put_in_order x ys))
+          (ap (list_all p) (sym (cond-true (ltb y.0 x.0) (y ∷ put_in_order x ys) (x ∷ y ∷ ys) low)) ∙ h) in
           let rest = put_gives p x ys parts.1 in
           (rest.0, and_from (p y) (list_all p ys) parts.0 rest.1)
       | inr high ↦ and_parts (p x) (list_all p (y ∷ ys)) (ap (list_all p) (sym (cond-false (ltb y.0 x.0) (y ∷ put_in_order x ys) (x ∷ y ∷ ys) high)) ∙ h)
@@ -59,7 +63,8 @@ order_gives p (x ∷ xs) h =
     and_from (p x) (list_all p xs) parts.0 (order_gives p xs parts.1)
 
 -- the marked and the other features are all
-parts_all : (q : ℕ → Bool) (t : Tables) (fs : List (ℕ × WrittenTerm)) → list_all (λ f. q f.0) (plain_feats t fs) ≡ true → list_all (λ u. q u.0) (taken_feats t fs) ≡ true → list_all (λ f. q f.0) fs ≡ true
+parts_all : (q : ℕ → Bool) (t : Tables) (fs : List (ℕ × WrittenTerm)) → list_all (λ f. q f.0) (plain_feats t fs) ≡ true
+    → list_all (λ u. q u.0) (taken_feats t fs) ≡ true → list_all (λ f. q f.0) fs ≡ true
 parts_all q t [] h k = refl
 parts_all q t ((n, term.Atom w) ∷ fs) h k =
     let parts = and_parts (q n) (list_all (λ f. q f.0) (plain_feats t fs)) h in
@@ -85,7 +90,8 @@ ordered_pass q t c h =
     let numbered = order_gives (λ f. q f.0) (map (λ f. (number_of t.features f.name, f.term)) c.feats) h in
     all-map (λ w. q (number_of t.features w)) (λ f. f.name) c.feats ∙ sym (all-map (λ f. q f.0) (λ f. (number_of t.features f.name, f.term)) c.feats) ∙ numbered
 
-category_passes : (q : ℕ → Bool) (t : Tables) (c : WrittenCategory) → is_plain c ≡ true → list_all (λ f. q f.0) (plain_feats t (ordered t.features c)) ≡ true → writes_pass q t c ≡ true
+category_passes : (q : ℕ → Bool) (t : Tables) (c : WrittenCategory) → is_plain c ≡ true → list_all (λ f. q f.0) (plain_feats t (ordered t.features c)) ≡ true
+    → writes_pass q t c ≡ true
 category_passes q t c p h =
     let fs = ordered t.features c in
     let every = ap (list_all (λ f. q f.0)) (sym (plain_every t fs (ordered_plain t.features c p))) ∙ h in
@@ -97,16 +103,19 @@ pattern_passes q t c h =
     let parts = with_taken_all (λ f. q f.0) (plain_feats t fs) (taken_feats t fs) h in
     ordered_pass q t c (parts_all q t fs parts.0 parts.1)
 
-patterns_pass : (q : ℕ → Bool) (t : Tables) (cs : List WrittenCategory) → list_all (numbers_pass q) (map whole (map (numbered_pattern t) cs)) ≡ true → list_all (writes_pass q t) cs ≡ true
+patterns_pass : (q : ℕ → Bool) (t : Tables) (cs : List WrittenCategory) → list_all (numbers_pass q) (map whole (map (numbered_pattern t) cs)) ≡ true
+    → list_all (writes_pass q t) cs ≡ true
 patterns_pass q t [] h = refl
 patterns_pass q t (c ∷ cs) h =
     let parts = and_parts (numbers_pass q (whole (numbered_pattern t c))) (list_all (numbers_pass q) (map whole (map (numbered_pattern t) cs))) h in
     and_from (writes_pass q t c) (list_all (writes_pass q t) cs) (pattern_passes q t c parts.0) (patterns_pass q t cs parts.1)
 
-one_passes : (q : ℕ → Bool) (t : Tables) (c : WrittenCategory) → is_plain c ≡ true → list_all (numbers_pass q) (numbered_category t c ∷ []) ≡ true → list_all (writes_pass q t) (c ∷ []) ≡ true
+one_passes : (q : ℕ → Bool) (t : Tables) (c : WrittenCategory) → is_plain c ≡ true → list_all (numbers_pass q) (numbered_category t c ∷ []) ≡ true
+    → list_all (writes_pass q t) (c ∷ []) ≡ true
 one_passes q t c p h = and_from (writes_pass q t c) true (category_passes q t c p (and_parts (numbers_pass q (numbered_category t c)) true h).0) refl
 
-element_passes : (q : ℕ → Bool) (t : Tables) (e : WrittenElement) → element_fits e ≡ true → list_all (numbers_pass q) (mentions (numbered_element t e)) ≡ true → list_all (writes_pass q t) (element_categories e) ≡ true
+element_passes : (q : ℕ → Bool) (t : Tables) (e : WrittenElement) → element_fits e ≡ true → list_all (numbers_pass q) (mentions (numbered_element t e)) ≡ true
+    → list_all (writes_pass q t) (element_categories e) ≡ true
 element_passes q t (element.Terminal w) p h = refl
 element_passes q t (element.Preterminal c) p h = one_passes q t c p h
 element_passes q t (element.Sub c) p h = one_passes q t c p h
@@ -119,18 +128,23 @@ element_passes q t (element.Back ps ns) p h =
     all_append (writes_pass q t) ps ns (patterns_pass q t ps parts.0) (patterns_pass q t ns parts.1)
 element_passes q t (element.NoBack ps) p h = patterns_pass q t ps h
 
-body_passes : (q : ℕ → Bool) (t : Tables) (es : List WrittenElement) → list_all element_fits es ≡ true → list_all (numbers_pass q) (flat_map mentions (map (numbered_element t) es)) ≡ true → list_all (writes_pass q t) (flat_map element_categories es) ≡ true
+body_passes : (q : ℕ → Bool) (t : Tables) (es : List WrittenElement) → list_all element_fits es ≡ true
+    → list_all (numbers_pass q) (flat_map mentions (map (numbered_element t) es)) ≡ true → list_all (writes_pass q t) (flat_map element_categories es) ≡ true
 body_passes q t [] p h = refl
 body_passes q t (e ∷ es) p h =
     let fits = and_parts (element_fits e) (list_all element_fits es) p in
     let parts = all_split (numbers_pass q) (mentions (numbered_element t e)) (flat_map mentions (map (numbered_element t) es)) h in
-    all_append (writes_pass q t) (element_categories e) (flat_map element_categories es) (element_passes q t e fits.0 parts.0) (body_passes q t es fits.1 parts.1)
+    all_append (writes_pass q t) (element_categories e) (flat_map element_categories es) (element_passes q t e fits.0 parts.0)
+    (body_passes q t es fits.1 parts.1)
 
 -- a test of numbers that the features of a rule pass is passed by the numbers of those that it writes
-pub rule_passes : (q : ℕ → Bool) (t : Tables) (r : WrittenRule) → item_fits (item.Rule r) ≡ true → list_all (λ f. q f.0) (rule_features (numbered_rule t r)) ≡ true → list_all (λ w. q (number_of t.features w)) (written_features r) ≡ true
+pub rule_passes : (q : ℕ → Bool) (t : Tables) (r : WrittenRule) → item_fits (item.Rule r) ≡ true
+    → list_all (λ f. q f.0) (rule_features (numbered_rule t r)) ≡ true → list_all (λ w. q (number_of t.features w)) (written_features r) ≡ true
 rule_passes q t r p h =
     let fits = and_parts (is_plain r.head) (list_all element_fits r.body) p in
     let each = all_flat (λ f. q f.0) (λ c. c.feats) (rule_mentions (numbered_rule t r)) h in
-    let parts = and_parts (numbers_pass q (numbered_category t r.head)) (list_all (numbers_pass q) (flat_map mentions (map (numbered_element t) r.body))) each in
+    let parts = and_parts (numbers_pass q (numbered_category t r.head)) (list_all (numbers_pass q) (flat_map mentions (map (numbered_element t) r.body)))
+    each in
     flat_all (λ w. q (number_of t.features w)) category_features (r.head ∷ flat_map element_categories r.body)
-    (and_from (writes_pass q t r.head) (list_all (writes_pass q t) (flat_map element_categories r.body)) (category_passes q t r.head fits.0 parts.0) (body_passes q t r.body fits.1 parts.1))
+    (and_from (writes_pass q t r.head) (list_all (writes_pass q t) (flat_map element_categories r.body)) (category_passes q t r.head fits.0 parts.0)
+    (body_passes q t r.body fits.1 parts.1))

@@ -30,7 +30,8 @@ gathered_all p names [] h k = h
 gathered_all p names (w ∷ ws) h k =
     let parts = and_parts (p w) (list_all p ws) k in
     elim (cases_Bool (is_among names w)) [
-      | inl old ↦ ap (λ (x : List (List ℕ)). list_all p (gathered x ws)) (cond-true (is_among names w) names (names ++ w ∷ []) old) ∙ gathered_all p names ws h parts.1
+      | inl old ↦ ap (λ (x : List (List ℕ)). list_all p (gathered x ws)) (cond-true (is_among names w) names (names ++ w ∷ []) old)
+          ∙ gathered_all p names ws h parts.1
       | inr new ↦
           ap (λ (x : List (List ℕ)). list_all p (gathered x ws)) (cond-false (is_among names w) names (names ++ w ∷ []) new)
           ∙ gathered_all p (names ++ w ∷ []) ws (all_append p names (w ∷ []) h (and_from (p w) true parts.0 refl)) parts.1
@@ -45,11 +46,13 @@ rules_spelled items h = rules_pass item_spelled is_spelled_rule (λ r k. k) item
 pub bodies_spelled : (items : List WrittenItem) → list_all item_spelled items ≡ true → list_all (λ r. list_all element_spelled r.body) (rules_of items) ≡ true
 bodies_spelled items h =
     all_weaken is_spelled_rule (λ r. list_all element_spelled r.body)
-    (λ r k. (and_parts (category_spelled r.head) (list_all element_spelled r.body) (and_parts (label_spelled r.label) (category_spelled r.head && list_all element_spelled r.body) k).1).1)
+    (λ r k. (and_parts (category_spelled r.head) (list_all element_spelled r.body)
+    (and_parts (label_spelled r.label) (category_spelled r.head && list_all element_spelled r.body) k).1).1)
     (rules_of items) (rules_spelled items h)
 
 heads_spelled : (r : WrittenRule) → is_spelled_rule r ≡ true → (category_spelled r.head ≡ true) × (list_all element_spelled r.body ≡ true)
-heads_spelled r k = and_parts (category_spelled r.head) (list_all element_spelled r.body) (and_parts (label_spelled r.label) (category_spelled r.head && list_all element_spelled r.body) k).1
+heads_spelled r k = and_parts (category_spelled r.head) (list_all element_spelled r.body)
+    (and_parts (label_spelled r.label) (category_spelled r.head && list_all element_spelled r.body) k).1
 
 -- Features
 
@@ -57,7 +60,8 @@ abbrev feats_named : WrittenCategory → Bool
 feats_named c = list_all is_identifier (category_features c)
 
 named : (c : WrittenCategory) → list_all feat_spelled c.feats ≡ true → feats_named c ≡ true
-named c h = all-map is_identifier (λ f. f.name) c.feats ∙ all_weaken feat_spelled (λ f. is_identifier f.name) (λ f k. (and_parts (is_identifier f.name) (term_spelled f.term) k).0) c.feats h
+named c h = all-map is_identifier (λ f. f.name) c.feats
+    ∙ all_weaken feat_spelled (λ f. is_identifier f.name) (λ f k. (and_parts (is_identifier f.name) (term_spelled f.term) k).0) c.feats h
 
 category_named : (c : WrittenCategory) → category_spelled c ≡ true → feats_named c ≡ true
 category_named c h = named c (and_parts (is_identifier c.name) (list_all feat_spelled c.feats) h).1
@@ -75,7 +79,8 @@ element_named (element.Forward c) h = one_named c h
 element_named (element.Strong c) h = one_named c h
 element_named (element.Back ps ns) h =
     let parts = and_parts (list_all category_spelled ps) (list_all category_spelled ns) h in
-    all_append feats_named ps ns (all_weaken category_spelled feats_named category_named ps parts.0) (all_weaken category_spelled feats_named category_named ns parts.1)
+    all_append feats_named ps ns (all_weaken category_spelled feats_named category_named ps parts.0)
+    (all_weaken category_spelled feats_named category_named ns parts.1)
 element_named (element.NoBack ps) h = all_weaken category_spelled feats_named category_named ps h
 
 rule_features_named : (r : WrittenRule) → is_spelled_rule r ≡ true → list_all is_identifier (written_features r) ≡ true
@@ -83,11 +88,14 @@ rule_features_named r h =
     let parts = heads_spelled r h in
     flat_all is_identifier category_features (r.head ∷ flat_map element_categories r.body)
     (and_from (feats_named r.head) (list_all feats_named (flat_map element_categories r.body)) (category_named r.head parts.0)
-    (flat_all feats_named element_categories r.body (all_weaken element_spelled (λ e. list_all feats_named (element_categories e)) element_named r.body parts.1)))
+    (flat_all feats_named element_categories r.body
+    (all_weaken element_spelled (λ e. list_all feats_named (element_categories e)) element_named r.body parts.1)))
 
 -- what a feature's declaration and each feature that rules write pass, all features pass
-features_pass : (p : NamedFeature → Bool) (items : List WrittenItem) → list_all p (map undeclared first_features) ≡ true → list_all (item_passes p) items ≡ true → list_all (λ w. p (undeclared w)) (flat_map written_features (rules_of items)) ≡ true → list_all p (all_features items) ≡ true
-features_pass p items first declared rules = undeclared_all p (declared_of items) (flat_map written_features (rules_of items)) rules (items_all p (map undeclared first_features) items declared first)
+features_pass : (p : NamedFeature → Bool) (items : List WrittenItem) → list_all p (map undeclared first_features) ≡ true → list_all (item_passes p) items ≡ true
+    → list_all (λ w. p (undeclared w)) (flat_map written_features (rules_of items)) ≡ true → list_all p (all_features items) ≡ true
+features_pass p items first declared rules =
+    undeclared_all p (declared_of items) (flat_map written_features (rules_of items)) rules (items_all p (map undeclared first_features) items declared first)
 
 item_named : (i : WrittenItem) → item_spelled i ≡ true → item_passes (λ f. is_identifier f.name) i ≡ true
 item_named (item.Feature name d) h = (and_parts (is_identifier name) (domain_spelled d) h).0
@@ -96,7 +104,8 @@ item_named (item.Rule r) h = refl
 pub features_named : (items : List WrittenItem) → list_all item_spelled items ≡ true → list_all (λ f. is_identifier f.name) (all_features items) ≡ true
 features_named items h =
     features_pass (λ f. is_identifier f.name) items refl (all_weaken item_spelled (item_passes (λ f. is_identifier f.name)) item_named items h)
-    (flat_all is_identifier written_features (rules_of items) (all_weaken is_spelled_rule (λ r. list_all is_identifier (written_features r)) rule_features_named (rules_of items) (rules_spelled items h)))
+    (flat_all is_identifier written_features (rules_of items)
+    (all_weaken is_spelled_rule (λ r. list_all is_identifier (written_features r)) rule_features_named (rules_of items) (rules_spelled items h)))
 
 all_pass : {X : Type 0} (xs : List X) → list_all (λ x. true) xs ≡ true
 all_pass [] = refl
@@ -122,10 +131,12 @@ option_valued atoms (Some domain.Words) h = refl
 option_valued atoms (Some domain.Positions) h = refl
 option_valued atoms (Some (domain.Atoms names)) h = some_atoms atoms names h
 
-pub features_valued : (items : List WrittenItem) → list_all item_fits items ≡ true → list_all (λ f. has_values f.declared) (map (numbered_feature (atoms_of (all_features items))) (all_features items)) ≡ true
+pub features_valued : (items : List WrittenItem) → list_all item_fits items ≡ true
+    → list_all (λ f. has_values f.declared) (map (numbered_feature (atoms_of (all_features items))) (all_features items)) ≡ true
 features_valued items h =
     let atoms = atoms_of (all_features items) in
-    let fit = features_pass (λ f. option_fits f.domain) items refl (all_weaken item_fits (item_passes (λ f. option_fits f.domain)) item_valued items h) (all_pass (flat_map written_features (rules_of items))) in
+    let fit = features_pass (λ f. option_fits f.domain) items refl (all_weaken item_fits (item_passes (λ f. option_fits f.domain)) item_valued items h)
+    (all_pass (flat_map written_features (rules_of items))) in
     all-map (λ f. has_values f.declared) (numbered_feature atoms) (all_features items)
     ∙ all_weaken (λ f. option_fits f.domain) (λ f. has_values (numbered_domain atoms f.domain)) (λ f k. option_valued atoms f.domain k) (all_features items) fit
 
@@ -161,7 +172,8 @@ element_name (element.Forward c) h = one_name c h
 element_name (element.Strong c) h = one_name c h
 element_name (element.Back ps ns) h =
     let parts = and_parts (list_all category_spelled ps) (list_all category_spelled ns) h in
-    all_append (λ c. is_identifier c.name) ps ns (all_weaken category_spelled (λ c. is_identifier c.name) category_name ps parts.0) (all_weaken category_spelled (λ c. is_identifier c.name) category_name ns parts.1)
+    all_append (λ c. is_identifier c.name) ps ns (all_weaken category_spelled (λ c. is_identifier c.name) category_name ps parts.0)
+    (all_weaken category_spelled (λ c. is_identifier c.name) category_name ns parts.1)
 element_name (element.NoBack ps) h = all_weaken category_spelled (λ c. is_identifier c.name) category_name ps h
 element_name e h = refl
 
@@ -170,12 +182,15 @@ rule_named r h =
     let parts = heads_spelled r h in
     all-map is_identifier (λ c. c.name) (r.head ∷ flat_map plain_categories r.body)
     ∙ and_from (is_identifier r.head.name) (list_all (λ c. is_identifier c.name) (flat_map plain_categories r.body)) (category_name r.head parts.0)
-    (flat_all (λ c. is_identifier c.name) plain_categories r.body (all_weaken element_spelled (λ e. list_all (λ c. is_identifier c.name) (plain_categories e)) element_name r.body parts.1))
+    (flat_all (λ c. is_identifier c.name) plain_categories r.body
+    (all_weaken element_spelled (λ e. list_all (λ c. is_identifier c.name) (plain_categories e)) element_name r.body parts.1))
 
 pub categories_named : (items : List WrittenItem) → list_all item_spelled items ≡ true → list_all is_identifier (kinds ++ categories_of items) ≡ true
 categories_named items h =
     all_append is_identifier kinds (categories_of items) refl
-    (gathered_all is_identifier (codes "text" ∷ []) (flat_map rule_names (rules_of items)) refl (flat_all is_identifier rule_names (rules_of items) (all_weaken is_spelled_rule (λ r. list_all is_identifier (rule_names r)) rule_named (rules_of items) (rules_spelled items h))))
+    (gathered_all is_identifier (codes "text" ∷ []) (flat_map rule_names (rules_of items)) refl
+    (flat_all is_identifier rule_names (rules_of items)
+    (all_weaken is_spelled_rule (λ r. list_all is_identifier (rule_names r)) rule_named (rules_of items) (rules_spelled items h))))
 
 -- Terminals
 
@@ -188,5 +203,6 @@ terminals_named items h =
     gathered_all is_terminal [] (flat_map (λ r. flat_map written_terminals r.body) (rules_of items)) refl
     (flat_all is_terminal (λ r. flat_map written_terminals r.body) (rules_of items)
     (all_weaken (λ r. list_all element_spelled r.body) (λ r. list_all is_terminal (flat_map written_terminals r.body))
-    (λ r k. flat_all is_terminal written_terminals r.body (all_weaken element_spelled (λ e. list_all is_terminal (written_terminals e)) element_terminals_named r.body k))
+    (λ r k. flat_all is_terminal written_terminals r.body
+    (all_weaken element_spelled (λ e. list_all is_terminal (written_terminals e)) element_terminals_named r.body k))
     (rules_of items) (bodies_spelled items h)))

@@ -57,17 +57,21 @@ begins_gathered : (xs names ws : List (List ℕ)) → begins_with xs names ≡ t
 begins_gathered xs names [] h = h
 begins_gathered xs names (w ∷ ws) h =
     elim (cases_Bool (is_among names w)) [
-      | inl old ↦ ap (λ (x : List (List ℕ)). begins_with xs (gathered x ws)) (cond-true (is_among names w) names (names ++ w ∷ []) old) ∙ begins_gathered xs names ws h
-      | inr new ↦ ap (λ (x : List (List ℕ)). begins_with xs (gathered x ws)) (cond-false (is_among names w) names (names ++ w ∷ []) new) ∙ begins_gathered xs (names ++ w ∷ []) ws (begins_append xs names (w ∷ []) h)
+      | inl old ↦ ap (λ (x : List (List ℕ)). begins_with xs (gathered x ws)) (cond-true (is_among names w) names (names ++ w ∷ []) old)
+          ∙ begins_gathered xs names ws h
+      | inr new ↦ ap (λ (x : List (List ℕ)). begins_with xs (gathered x ws)) (cond-false (is_among names w) names (names ++ w ∷ []) new)
+          ∙ begins_gathered xs (names ++ w ∷ []) ws (begins_append xs names (w ∷ []) h)
     ]
 
 -- the variables of a rule without a double feature are numbered by first occurrence
-pub variables_are_numbered : (items : List WrittenItem) (r : WrittenRule) → item_fits (item.Rule r) ≡ true → has_double_feature (numbered_in items r) ≡ false → variables_count_up (numbered_in items r) ≡ true
+pub variables_are_numbered : (items : List WrittenItem) (r : WrittenRule) → item_fits (item.Rule r) ≡ true → has_double_feature (numbered_in items r) ≡ false
+    → variables_count_up (numbered_in items r) ≡ true
 variables_are_numbered items r h d =
     let names = feature_names (all_features items) in
     let ws = category_names names r.head ++ flat_map (element_names names) r.body in
     let numbers = map (number_of (gathered [] ws)) ws in
-    let counts : counts_up 0 (count_different numbers) numbers ≡ true = subst (λ (n : ℕ). counts_up 0 n numbers ≡ true) (sym (count_gathered ws)) (gathered_counts_up [] ws) in
+    let counts : counts_up 0 (count_different numbers) numbers ≡ true =
+    subst (λ (n : ℕ). counts_up 0 n numbers ≡ true) (sym (count_gathered ws)) (gathered_counts_up [] ws) in
     subst (λ (xs : List ℕ). counts_up 0 (count_different xs) xs ≡ true) (sym (variables_numbered (tables_of items r) r h d)) counts
 
 -- no rule writes a feature twice in a category
@@ -91,7 +95,8 @@ rules_numbered items h d =
     not_single false e = refl
 
 -- its numbers are those that the notation gives
-pub numbered_is_numbered : (text : List ℕ) (items : List WrittenItem) → IsSpelling text items → NoneUndeclared items → NoneDouble items → IsNumbered (numbered_of items)
+pub numbered_is_numbered : (text : List ℕ) (items : List WrittenItem) → IsSpelling text items → NoneUndeclared items → NoneDouble items
+    → IsNumbered (numbered_of items)
 numbered_is_numbered text items s none double =
     let fs = all_features items in
     let atoms = atoms_of fs in
@@ -131,9 +136,18 @@ none_double items none =
 
 -- The grammar that the declarations and rules of a text make is one of the notation with its numbers, where no fault
 -- before a rule's `BadValue` holds, and no rule writes a feature twice in a category.
-pub sound_without_doubles : (text : List ℕ) (items : List WrittenItem) → IsSpelling text items → ((f : GrammarFault) → IsTrue (is_before f (fault.BadValue 1)) → Holds (numbered_of items) f → ⊥) → NoneDouble items → IsWritten (numbered_of items) × IsNumbered (numbered_of items)
-sound_without_doubles text items s none double = (numbered_is_written text items s, numbered_is_numbered text items s (λ n h. none (fault.Undeclared n) refl h) double)
+pub sound_without_doubles : (text : List ℕ) (items : List WrittenItem) → IsSpelling text items
+    → ((f : GrammarFault) → IsTrue (is_before f (fault.BadValue 1)) → Holds (numbered_of items) f → ⊥) → NoneDouble items
+    → IsWritten (numbered_of items) × IsNumbered (numbered_of items)
+sound_without_doubles text items s none double =
+    (numbered_is_written text items s, numbered_is_numbered text items s (λ n h. none (fault.Undeclared n) refl h) double)
 
 -- The same where no `BadValue` holds.
-pub sound_without_bad_values : (text : List ℕ) (items : List WrittenItem) → IsSpelling text items → ((f : GrammarFault) → IsTrue (is_before f (fault.EmptyRule 0)) → Holds (numbered_of items) f → ⊥) → IsWritten (numbered_of items) × IsNumbered (numbered_of items)
-sound_without_bad_values text items s none = (numbered_is_written text items s, numbered_is_numbered text items s (λ n h. none (fault.Undeclared n) refl h) (none_double items (λ n h. none (fault.BadValue n) refl h)))
+pub sound_without_bad_values : (text : List ℕ) (items : List WrittenItem) → IsSpelling text items
+    → ((f : GrammarFault) → IsTrue (is_before f (fault.EmptyRule 0)) → Holds (numbered_of items) f → ⊥)
+    → IsWritten (numbered_of items) × IsNumbered (numbered_of items)
+sound_without_bad_values text items s none = (
+  numbered_is_written text items s,
+  numbered_is_numbered text items s (λ n h. none (fault.Undeclared n) refl h)
+      (none_double items (λ n h. none (fault.BadValue n) refl h)),
+)

@@ -26,10 +26,12 @@ put_rises n x (y ∷ ys) le h =
     elim (cases_Bool (ltb y.0 x.0)) [
       | inl low ↦
           let lt = ltb-true y.0 x.0 low in
-          ap (rises n) (cond-true (ltb y.0 x.0) (y ∷ put_in_order x ys) (x ∷ y ∷ ys) low) ∙ and_from (leb n y.0) (rises y.0 (put_in_order x ys)) parts.0 (put_rises y.0 x ys (omega arith) parts.1)
+          ap (rises n) (cond-true (ltb y.0 x.0) (y ∷ put_in_order x ys) (x ∷ y ∷ ys) low)
+          ∙ and_from (leb n y.0) (rises y.0 (put_in_order x ys)) parts.0 (put_rises y.0 x ys (omega arith) parts.1)
       | inr high ↦
           ap (rises n) (cond-false (ltb y.0 x.0) (y ∷ put_in_order x ys) (x ∷ y ∷ ys) high)
-          ∙ and_from (leb n x.0) (rises x.0 (y ∷ ys)) (le-leb n x.0 le) (and_from (leb x.0 y.0) (rises y.0 ys) (le-leb x.0 y.0 (ltb-false y.0 x.0 high)) parts.1)
+          ∙ and_from (leb n x.0) (rises x.0 (y ∷ ys)) (le-leb n x.0 le)
+          (and_from (leb x.0 y.0) (rises y.0 ys) (le-leb x.0 y.0 (ltb-false y.0 x.0 high)) parts.1)
     ]
 
 -- features that are put in order stand in order of number
@@ -37,12 +39,14 @@ pub order_rises : (xs : List (ℕ × WrittenTerm)) → rises 0 (in_order xs) ≡
 order_rises [] = refl
 order_rises (x ∷ xs) = put_rises 0 x (in_order xs) (omega arith) (order_rises xs)
 
-put_keeps : (p : ℕ × WrittenTerm → Bool) (x : ℕ × WrittenTerm) (ys : List (ℕ × WrittenTerm)) → p x ≡ true → list_all p ys ≡ true → list_all p (put_in_order x ys) ≡ true
+put_keeps : (p : ℕ × WrittenTerm → Bool) (x : ℕ × WrittenTerm) (ys : List (ℕ × WrittenTerm)) → p x ≡ true → list_all p ys ≡ true
+    → list_all p (put_in_order x ys) ≡ true
 put_keeps p x [] h k = and_from (p x) true h refl
 put_keeps p x (y ∷ ys) h k =
     let parts = and_parts (p y) (list_all p ys) k in
     elim (cases_Bool (ltb y.0 x.0)) [
-      | inl low ↦ ap (list_all p) (cond-true (ltb y.0 x.0) (y ∷ put_in_order x ys) (x ∷ y ∷ ys) low) ∙ and_from (p y) (list_all p (put_in_order x ys)) parts.0 (put_keeps p x ys h parts.1)
+      | inl low ↦ ap (list_all p) (cond-true (ltb y.0 x.0) (y ∷ put_in_order x ys) (x ∷ y ∷ ys) low)
+          ∙ and_from (p y) (list_all p (put_in_order x ys)) parts.0 (put_keeps p x ys h parts.1)
       | inr high ↦ ap (list_all p) (cond-false (ltb y.0 x.0) (y ∷ put_in_order x ys) (x ∷ y ∷ ys) high) ∙ and_from (p x) (list_all p (y ∷ ys)) h k
     ]
 
@@ -106,7 +110,8 @@ takes_from t m n ((k, term.Taken w) ∷ fs) le h =
     let here = leb-true n k parts.0 in
     and_from (leb m k) (list_all (λ u. leb m u.0) (taken_feats t fs)) (le-leb m k (omega arith)) (takes_from t m k fs (omega arith) parts.1)
 
-plain_above : (t : Tables) (k : ℕ) (w : List ℕ) (fs : List (ℕ × WrittenTerm)) → list_all (goes_before (k, term.Taken w)) fs ≡ true → list_all (λ f. ltb k f.0) (plain_feats t fs) ≡ true
+plain_above : (t : Tables) (k : ℕ) (w : List ℕ) (fs : List (ℕ × WrittenTerm)) → list_all (goes_before (k, term.Taken w)) fs ≡ true
+    → list_all (λ f. ltb k f.0) (plain_feats t fs) ≡ true
 plain_above t k w [] h = refl
 plain_above t k w ((n, term.Atom v) ∷ fs) h =
     let parts = and_parts (ltb k n) (list_all (goes_before (k, term.Taken w)) fs) h in
@@ -117,18 +122,21 @@ plain_above t k w ((n, term.Variable v) ∷ fs) h =
 plain_above t k w ((n, term.Taken v) ∷ fs) h = plain_above t k w fs h
 
 -- the marked features put among the others are the features as they are ordered
-pub whole_every : (t : Tables) (n : ℕ) (fs : List (ℕ × WrittenTerm)) → rises n fs ≡ true → stands fs ≡ true → with_taken (plain_feats t fs) (taken_feats t fs) ≡ every_feat t fs
+pub whole_every : (t : Tables) (n : ℕ) (fs : List (ℕ × WrittenTerm)) → rises n fs ≡ true → stands fs ≡ true
+    → with_taken (plain_feats t fs) (taken_feats t fs) ≡ every_feat t fs
 whole_every t n [] h s = refl
 whole_every t n ((k, term.Atom w) ∷ fs) h s =
     let parts = and_parts (leb n k) (rises k fs) h in
     let ss = and_parts (list_all (goes_before (k, term.Atom w)) fs) (stands fs) s in
     let x : ℕ × Term = (k, Val (Atom (number_of t.atoms w))) in
-    with_first x (plain_feats t fs) (taken_feats t fs) (takes_from t k k fs (omega arith) parts.1) ∙ ap (λ (ys : List (ℕ × Term)). x ∷ ys) (whole_every t k fs parts.1 ss.1)
+    with_first x (plain_feats t fs) (taken_feats t fs) (takes_from t k k fs (omega arith) parts.1)
+    ∙ ap (λ (ys : List (ℕ × Term)). x ∷ ys) (whole_every t k fs parts.1 ss.1)
 whole_every t n ((k, term.Variable w) ∷ fs) h s =
     let parts = and_parts (leb n k) (rises k fs) h in
     let ss = and_parts (list_all (goes_before (k, term.Variable w)) fs) (stands fs) s in
     let x : ℕ × Term = (k, Var (number_of t.variables w)) in
-    with_first x (plain_feats t fs) (taken_feats t fs) (takes_from t k k fs (omega arith) parts.1) ∙ ap (λ (ys : List (ℕ × Term)). x ∷ ys) (whole_every t k fs parts.1 ss.1)
+    with_first x (plain_feats t fs) (taken_feats t fs) (takes_from t k k fs (omega arith) parts.1)
+    ∙ ap (λ (ys : List (ℕ × Term)). x ∷ ys) (whole_every t k fs parts.1 ss.1)
 whole_every t n ((k, term.Taken w) ∷ fs) h s =
     let parts = and_parts (leb n k) (rises k fs) h in
     let ss = and_parts (list_all (goes_before (k, term.Taken w)) fs) (stands fs) s in
@@ -144,7 +152,8 @@ term_numbered t (term.Atom w) = refl
 term_numbered t (term.Variable w) = refl
 term_numbered t (term.Taken w) = refl
 
-pub every_variables : (t : Tables) (fs : List (ℕ × WrittenTerm)) → flat_map (λ f. term_variables f.1) (every_feat t fs) ≡ map (number_of t.variables) (flat_map (λ f. term_names f.1) fs)
+pub every_variables : (t : Tables) (fs : List (ℕ × WrittenTerm))
+    → flat_map (λ f. term_variables f.1) (every_feat t fs) ≡ map (number_of t.variables) (flat_map (λ f. term_names f.1) fs)
 every_variables t [] = refl
 every_variables t (f ∷ fs) =
     ap (λ (x : List ℕ). x ++ flat_map (λ y. term_variables y.1) (every_feat t fs)) (term_numbered t f.1)

@@ -72,10 +72,12 @@ none_taken t ((k, term.Taken w) ∷ fs) h = absurd cc
 ordered_rises : (t : Tables) (c : WrittenCategory) → rises 0 (ordered t.features c) ≡ true
 ordered_rises t c = order_rises (map (λ f. (number_of t.features f.name, f.term)) c.feats)
 
-feats_written : (t : Tables) (c : WrittenCategory) → (ascends (map (λ f. f.0) (plain_feats t (ordered t.features c))) && list_all (λ f. is_written_term f.1) (plain_feats t (ordered t.features c))) ≡ true
+feats_written : (t : Tables) (c : WrittenCategory)
+    → (ascends (map (λ f. f.0) (plain_feats t (ordered t.features c))) && list_all (λ f. is_written_term f.1) (plain_feats t (ordered t.features c))) ≡ true
 feats_written t c =
     let fs = plain_feats t (ordered t.features c) in
-    and_from (ascends (map (λ f. f.0) fs)) (list_all (λ f. is_written_term f.1) fs) (ascends_tail 0 (map (λ f. f.0) fs) (plain_ascends t 0 (ordered t.features c) (ordered_rises t c))) (plain_terms t (ordered t.features c))
+    and_from (ascends (map (λ f. f.0) fs)) (list_all (λ f. is_written_term f.1) fs)
+    (ascends_tail 0 (map (λ f. f.0) fs) (plain_ascends t 0 (ordered t.features c) (ordered_rises t c))) (plain_terms t (ordered t.features c))
 
 name_written : (t : Tables) (c : WrittenCategory) → is_written_name (numbered_category t c) ≡ true
 name_written t c =
@@ -85,20 +87,24 @@ name_written t c =
 pattern_written : (t : Tables) (c : WrittenCategory) → is_written_pattern (numbered_pattern t c) ≡ true
 pattern_written t c =
     let ts = taken_feats t (ordered t.features c) in
-    and_from (is_written_name (numbered_category t c)) (ascends (map (λ u. u.0) ts)) (name_written t c) (ascends_tail 0 (map (λ u. u.0) ts) (taken_ascends t 0 (ordered t.features c) (ordered_rises t c)))
+    and_from (is_written_name (numbered_category t c)) (ascends (map (λ u. u.0) ts)) (name_written t c)
+    (ascends_tail 0 (map (λ u. u.0) ts) (taken_ascends t 0 (ordered t.features c) (ordered_rises t c)))
 
 plain_written : (t : Tables) (c : WrittenCategory) → is_plain c ≡ true → is_plain_pattern (numbered_pattern t c) ≡ true
-plain_written t c h = and_from (is_written_name (numbered_category t c)) (is_empty (taken_feats t (ordered t.features c))) (name_written t c) (none_taken t (ordered t.features c) (ordered_plain t.features c h))
+plain_written t c h = and_from (is_written_name (numbered_category t c)) (is_empty (taken_feats t (ordered t.features c))) (name_written t c)
+    (none_taken t (ordered t.features c) (ordered_plain t.features c h))
 
 patterns_written : (t : Tables) (cs : List WrittenCategory) → list_all is_written_pattern (map (numbered_pattern t) cs) ≡ true
 patterns_written t [] = refl
-patterns_written t (c ∷ cs) = and_from (is_written_pattern (numbered_pattern t c)) (list_all is_written_pattern (map (numbered_pattern t) cs)) (pattern_written t c) (patterns_written t cs)
+patterns_written t (c ∷ cs) = and_from (is_written_pattern (numbered_pattern t c)) (list_all is_written_pattern (map (numbered_pattern t) cs))
+    (pattern_written t c) (patterns_written t cs)
 
 plains_written : (t : Tables) (cs : List WrittenCategory) → list_all is_plain cs ≡ true → list_all is_plain_pattern (map (numbered_pattern t) cs) ≡ true
 plains_written t [] h = refl
 plains_written t (c ∷ cs) h =
     let parts = and_parts (is_plain c) (list_all is_plain cs) h in
-    and_from (is_plain_pattern (numbered_pattern t c)) (list_all is_plain_pattern (map (numbered_pattern t) cs)) (plain_written t c parts.0) (plains_written t cs parts.1)
+    and_from (is_plain_pattern (numbered_pattern t c)) (list_all is_plain_pattern (map (numbered_pattern t) cs)) (plain_written t c parts.0)
+    (plains_written t cs parts.1)
 
 some_patterns : (t : Tables) (cs : List WrittenCategory) → not (notation.is_empty cs) ≡ true → not (is_empty (map (numbered_pattern t) cs)) ≡ true
 some_patterns t [] h = absurd cc
@@ -111,7 +117,8 @@ element_written t (element.Terminal w) h s = refl
 element_written t (element.Preterminal c) h s =
     let n = number_of kinds c.name in
     let lt : n < 5 = number_below kinds c.name (and_parts (is_among kinds c.name) (list_all feat_spelled c.feats) s).0 in
-    and_from (ltb n 5) (ascends (map (λ f. f.0) (plain_feats t (ordered t.features c))) && list_all (λ f. is_written_term f.1) (plain_feats t (ordered t.features c))) (lt-ltb n 5 lt) (feats_written t c)
+    and_from (ltb n 5) (ascends (map (λ f. f.0) (plain_feats t (ordered t.features c)))
+    && list_all (λ f. is_written_term f.1) (plain_feats t (ordered t.features c))) (lt-ltb n 5 lt) (feats_written t c)
 element_written t (element.Sub c) h s = name_written t c
 element_written t (element.Position w) h s = refl
 element_written t element.Opener h s = refl
@@ -122,20 +129,25 @@ element_written t (element.Back ps ns) h s =
     let positive = map (numbered_pattern t) ps in
     let negative = map (numbered_pattern t) ns in
     and_from (not (is_empty positive) && list_all is_written_pattern positive) (list_all is_plain_pattern negative)
-    (and_from (not (is_empty positive)) (list_all is_written_pattern positive) (some_patterns t ps parts.0) (patterns_written t ps)) (plains_written t ns parts.1)
+    (and_from (not (is_empty positive)) (list_all is_written_pattern positive) (some_patterns t ps parts.0) (patterns_written t ps))
+    (plains_written t ns parts.1)
 element_written t (element.NoBack ps) h s =
     let parts = and_parts (not (notation.is_empty ps)) (list_all is_plain ps) h in
     let all = map (numbered_pattern t) ps in
     and_from (not (is_empty all)) (list_all is_plain_pattern all) (some_patterns t ps parts.0) (plains_written t ps parts.1)
 
-body_written : (t : Tables) (es : List WrittenElement) → list_all element_fits es ≡ true → list_all element_spelled es ≡ true → list_all is_written_element (map (numbered_element t) es) ≡ true
+body_written : (t : Tables) (es : List WrittenElement) → list_all element_fits es ≡ true → list_all element_spelled es ≡ true
+    → list_all is_written_element (map (numbered_element t) es) ≡ true
 body_written t [] h s = refl
 body_written t (e ∷ es) h s =
     let fits = and_parts (element_fits e) (list_all element_fits es) h in
     let spelled = and_parts (element_spelled e) (list_all element_spelled es) s in
-    and_from (is_written_element (numbered_element t e)) (list_all is_written_element (map (numbered_element t) es)) (element_written t e fits.0 spelled.0) (body_written t es fits.1 spelled.1)
+    and_from (is_written_element (numbered_element t e)) (list_all is_written_element (map (numbered_element t) es)) (element_written t e fits.0 spelled.0)
+    (body_written t es fits.1 spelled.1)
 
-pub rule_written : (t : Tables) (r : WrittenRule) → item_fits (item.Rule r) ≡ true → list_all element_spelled r.body ≡ true → is_written_rule (numbered_rule t r) ≡ true
+pub rule_written : (t : Tables) (r : WrittenRule) → item_fits (item.Rule r) ≡ true → list_all element_spelled r.body ≡ true
+    → is_written_rule (numbered_rule t r) ≡ true
 rule_written t r h s =
     let fits = and_parts (is_plain r.head) (list_all element_fits r.body) h in
-    and_from (is_written_name (numbered_category t r.head)) (list_all is_written_element (map (numbered_element t) r.body)) (name_written t r.head) (body_written t r.body fits.1 s)
+    and_from (is_written_name (numbered_category t r.head)) (list_all is_written_element (map (numbered_element t) r.body)) (name_written t r.head)
+    (body_written t r.body fits.1 s)

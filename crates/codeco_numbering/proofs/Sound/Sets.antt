@@ -37,7 +37,8 @@ count_without n (x ∷ xs) h =
     elim (cases_Bool (eqb n x)) [
       | inl e ↦
           let same = eqb-true n x e in
-          let less : count_different (without n (x ∷ xs)) ≡ count_different (without n xs) = ap count_different (cond-true (eqb n x) (without n xs) (x ∷ without n xs) e) in
+          let less : count_different (without n (x ∷ xs)) ≡ count_different (without n xs) =
+          ap count_different (cond-true (eqb n x) (without n xs) (x ∷ without n xs) e) in
           elim (cases_Bool (has xs n)) [
             | inl more ↦
                 let rest = count_without n xs more in
@@ -53,9 +54,11 @@ count_without n (x ∷ xs) h =
       | inr e ↦
           let more : has xs n ≡ true = sym (ap (λ b. b || has xs n) e) ∙ h in
           let rest = count_without n xs more in
-          let less : count_different (without n (x ∷ xs)) ≡ count_different (x ∷ without n xs) = ap count_different (cond-false (eqb n x) (without n xs) (x ∷ without n xs) e) in
+          let less : count_different (without n (x ∷ xs)) ≡ count_different (x ∷ without n xs) =
+          ap count_different (cond-false (eqb n x) (without n xs) (x ∷ without n xs) e) in
           let other : eqb x n ≡ false = ne_eqb x n (λ p. eqb-false n x e (sym p)) in
-          let here : count_different (x ∷ without n xs) ≡ count_different (without n xs) + cond (has xs x) 0 1 = ap (λ b. count_different (without n xs) + cond b 0 1) (without_other n x xs other) in
+          let here : count_different (x ∷ without n xs) ≡ count_different (without n xs) + cond (has xs x) 0 1 =
+          ap (λ b. count_different (without n xs) + cond b 0 1) (without_other n x xs other) in
           omega arith
     ]
 

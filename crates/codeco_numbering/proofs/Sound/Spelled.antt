@@ -142,7 +142,8 @@ item_is (item.Rule r) h =
     let heads = all_split is_symbol (named r.head) tail front.1 in
     let rest = and_parts (is_symbol (arrow r.closing)) (list_all is_symbol (body_lexemes r.body ++ stop)) heads.1 in
     and_from (label_spelled r.label) (category_spelled r.head && list_all element_spelled r.body) (label_is r.label front.0)
-    (and_from (category_spelled r.head) (list_all element_spelled r.body) (named_is r.head heads.0) (body_is r.body (all_split is_symbol (body_lexemes r.body) stop rest.1).0))
+    (and_from (category_spelled r.head) (list_all element_spelled r.body) (named_is r.head heads.0)
+    (body_is r.body (all_split is_symbol (body_lexemes r.body) stop rest.1).0))
 
 items_are : (items : List WrittenItem) → AreSymbols (lexemes items) → list_all item_spelled items ≡ true
 items_are [] h = refl

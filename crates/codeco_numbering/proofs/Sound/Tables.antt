@@ -65,7 +65,8 @@ among_neither names (u ∷ ws) w h k =
       | inl old ↦ ap (λ x. is_among (gathered x ws) w) (cond-true (is_among names u) names (names ++ u ∷ []) old) ∙ among_neither names ws w h parts.1
       | inr new ↦
           ap (λ x. is_among (gathered x ws) w) (cond-false (is_among names u) names (names ++ u ∷ []) new)
-          ∙ among_neither (names ++ u ∷ []) ws w (among_append names (u ∷ []) w ∙ or_from (is_among names w) (is_among (u ∷ []) w) h (or_from (same_bytes w u) false parts.0 refl)) parts.1
+          ∙ among_neither (names ++ u ∷ []) ws w
+          (among_append names (u ∷ []) w ∙ or_from (is_among names w) (is_among (u ∷ []) w) h (or_from (same_bytes w u) false parts.0 refl)) parts.1
     ]
 
 -- a word is among the names that are gathered if it is among the first ones or the words
@@ -139,7 +140,8 @@ number_append (x ∷ xs) more w h =
       | inl here ↦ cond-true (same_bytes w x) 0 (number_of (xs ++ more) w + 1) here ∙ sym (cond-true (same_bytes w x) 0 (number_of xs w + 1) here)
       | inr other ↦
           let among : is_among xs w ≡ true = sym (ap (λ b. b || is_among xs w) other) ∙ h in
-          cond-false (same_bytes w x) 0 (number_of (xs ++ more) w + 1) other ∙ ap (λ n. n + 1) (number_append xs more w among) ∙ sym (cond-false (same_bytes w x) 0 (number_of xs w + 1) other)
+          cond-false (same_bytes w x) 0 (number_of (xs ++ more) w + 1) other ∙ ap (λ n. n + 1) (number_append xs more w among)
+          ∙ sym (cond-false (same_bytes w x) 0 (number_of xs w + 1) other)
     ]
 
 number_new : (names : List (List ℕ)) (w : List ℕ) → is_among names w ≡ false → number_of (names ++ w ∷ []) w ≡ length names
@@ -169,7 +171,9 @@ differ_push [] w d h = refl
 differ_push (x ∷ xs) w d h =
     let ds = and_parts (not (is_among xs x)) (differ xs) d in
     let hs = or_parts (same_bytes w x) (is_among xs w) h in
-    let fresh : is_among (xs ++ w ∷ []) x ≡ false = among_append xs (w ∷ []) x ∙ or_from (is_among xs x) (is_among (w ∷ []) x) (not-true (is_among xs x) ds.0) (or_from (same_bytes x w) false (differs_comm w x hs.0) refl) in
+    let fresh : is_among (xs ++ w ∷ []) x ≡ false =
+    among_append xs (w ∷ []) x ∙ or_from (is_among xs x) (is_among (w ∷ []) x) (not-true (is_among xs x) ds.0)
+    (or_from (same_bytes x w) false (differs_comm w x hs.0) refl) in
     and_from (not (is_among (xs ++ w ∷ []) x)) (differ (xs ++ w ∷ [])) (not_from_false (is_among (xs ++ w ∷ []) x) fresh) (differ_push xs w ds.1 hs.1)
 
 -- no name stands twice among those that are gathered
@@ -178,7 +182,8 @@ differ_gathered names [] d = d
 differ_gathered names (u ∷ ws) d =
     elim (cases_Bool (is_among names u)) [
       | inl old ↦ ap (λ x. differ (gathered x ws)) (cond-true (is_among names u) names (names ++ u ∷ []) old) ∙ differ_gathered names ws d
-      | inr new ↦ ap (λ x. differ (gathered x ws)) (cond-false (is_among names u) names (names ++ u ∷ []) new) ∙ differ_gathered (names ++ u ∷ []) ws (differ_push names u d new)
+      | inr new ↦ ap (λ x. differ (gathered x ws)) (cond-false (is_among names u) names (names ++ u ∷ []) new)
+          ∙ differ_gathered (names ++ u ∷ []) ws (differ_push names u d new)
     ]
 
 -- the numbers of words are given by first occurrence
@@ -191,17 +196,26 @@ gathered_counts_up names (u ∷ ws) =
           let lt = number_below names u old in
           let number = number_kept names ws u old in
           let rest = map (number_of table) ws in
-          subst (λ x. counts_up (length names) (length (gathered x ws)) (map (number_of (gathered x ws)) (u ∷ ws)) ≡ true) (sym (cond-true (is_among names u) names (names ++ u ∷ []) old))
-          (cond-true (ltb (number_of table u) (length names)) (counts_up (length names) (length table) rest) (eqb (number_of table u) (length names) && counts_up (length names + 1) (length table) rest) (lt-ltb (number_of table u) (length names) (omega arith)) ∙ gathered_counts_up names ws)
+          subst (λ x. counts_up (length names) (length (gathered x ws)) (map (number_of (gathered x ws)) (u ∷ ws)) ≡ true)
+          (sym (cond-true (is_among names u) names (names ++ u ∷ []) old))
+          (cond-true (ltb (number_of table u) (length names)) (counts_up (length names) (length table) rest)
+          (eqb (number_of table u) (length names) && counts_up (length names + 1) (length table) rest)
+          (lt-ltb (number_of table u) (length names) (omega arith)) ∙ gathered_counts_up names ws)
       | inr new ↦
           let grown = names ++ u ∷ [] in
           let table = gathered grown ws in
-          let among : is_among grown u ≡ true = among_append names (u ∷ []) u ∙ or_right (is_among names u) (is_among (u ∷ []) u) (or_left (same_bytes u u) false (same_bytes_refl u)) in
+          let among : is_among grown u ≡ true =
+          among_append names (u ∷ []) u ∙ or_right (is_among names u) (is_among (u ∷ []) u) (or_left (same_bytes u u) false (same_bytes_refl u)) in
           let number : number_of table u ≡ length names = number_kept grown ws u among ∙ number_new names u new in
           let rest = map (number_of table) ws in
           let more : length grown ≡ length names + 1 = length-append names (u ∷ []) in
-          let next : counts_up (length names + 1) (length table) rest ≡ true = subst (λ n. counts_up n (length table) rest ≡ true) more (gathered_counts_up grown ws) in
-          subst (λ x. counts_up (length names) (length (gathered x ws)) (map (number_of (gathered x ws)) (u ∷ ws)) ≡ true) (sym (cond-false (is_among names u) names (names ++ u ∷ []) new))
-          (cond-false (ltb (number_of table u) (length names)) (counts_up (length names) (length table) rest) (eqb (number_of table u) (length names) && counts_up (length names + 1) (length table) rest) (le-ltb (number_of table u) (length names) (omega arith))
-          ∙ and_from (eqb (number_of table u) (length names)) (counts_up (length names + 1) (length table) rest) (eq-eqb (number_of table u) (length names) number) next)
+          let next : counts_up (length names + 1) (length table) rest ≡ true =
+          subst (λ n. counts_up n (length table) rest ≡ true) more (gathered_counts_up grown ws) in
+          subst (λ x. counts_up (length names) (length (gathered x ws)) (map (number_of (gathered x ws)) (u ∷ ws)) ≡ true)
+          (sym (cond-false (is_among names u) names (names ++ u ∷ []) new))
+          (cond-false (ltb (number_of table u) (length names)) (counts_up (length names) (length table) rest)
+          (eqb (number_of table u) (length names) && counts_up (length names + 1) (length table) rest)
+          (le-ltb (number_of table u) (length names) (omega arith))
+          ∙ and_from (eqb (number_of table u) (length names)) (counts_up (length names + 1) (length table) rest)
+          (eq-eqb (number_of table u) (length names) number) next)
     ]

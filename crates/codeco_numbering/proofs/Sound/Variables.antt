@@ -26,16 +26,19 @@ variable_numbers t ws = map (number_of t.variables) ws
 abbrev pub is_single : Category → Bool
 is_single c = not (is_double (map (λ f. f.0) c.feats))
 
-pub category_numbered : (t : Tables) (c : WrittenCategory) → is_plain c ≡ true → category_variables (numbered_category t c) ≡ variable_numbers t (category_names t.features c)
+pub category_numbered : (t : Tables) (c : WrittenCategory) → is_plain c ≡ true
+    → category_variables (numbered_category t c) ≡ variable_numbers t (category_names t.features c)
 category_numbered t c h =
     let fs = ordered t.features c in
     ap (λ xs. flat_map (λ f. term_variables f.1) xs) (plain_every t fs (ordered_plain t.features c h)) ∙ every_variables t fs
 
-pub one_numbered : (t : Tables) (c : WrittenCategory) → is_plain c ≡ true → category_variables (numbered_category t c) ++ [] ≡ variable_numbers t (category_names t.features c)
+pub one_numbered : (t : Tables) (c : WrittenCategory) → is_plain c ≡ true
+    → category_variables (numbered_category t c) ++ [] ≡ variable_numbers t (category_names t.features c)
 one_numbered t c h = append-nil (category_variables (numbered_category t c)) ∙ category_numbered t c h
 
 -- the features of a pattern are those that it writes, in order
-pub pattern_feats : (t : Tables) (c : WrittenCategory) → is_single (whole (numbered_pattern t c)) ≡ true → (whole (numbered_pattern t c)).feats ≡ every_feat t (ordered t.features c)
+pub pattern_feats : (t : Tables) (c : WrittenCategory) → is_single (whole (numbered_pattern t c)) ≡ true
+    → (whole (numbered_pattern t c)).feats ≡ every_feat t (ordered t.features c)
 pattern_feats t c h =
     let fs = ordered t.features c in
     let rises = order_rises (map (λ f. (number_of t.features f.name, f.term)) c.feats) in
@@ -45,17 +48,20 @@ pattern_feats t c h =
     not_single true e = sym e
     not_single false e = refl
 
-patterns_numbered : (t : Tables) (cs : List WrittenCategory) → list_all is_single (map whole (map (numbered_pattern t) cs)) ≡ true → flat_map category_variables (map whole (map (numbered_pattern t) cs)) ≡ variable_numbers t (flat_map (category_names t.features) cs)
+patterns_numbered : (t : Tables) (cs : List WrittenCategory) → list_all is_single (map whole (map (numbered_pattern t) cs)) ≡ true
+    → flat_map category_variables (map whole (map (numbered_pattern t) cs)) ≡ variable_numbers t (flat_map (category_names t.features) cs)
 patterns_numbered t [] h = refl
 patterns_numbered t (c ∷ cs) h =
     let parts = and_parts (is_single (whole (numbered_pattern t c))) (list_all is_single (map whole (map (numbered_pattern t) cs))) h in
     let fs = ordered t.features c in
-    let here : category_variables (whole (numbered_pattern t c)) ≡ variable_numbers t (category_names t.features c) = ap (λ xs. flat_map (λ f. term_variables f.1) xs) (pattern_feats t c parts.0) ∙ every_variables t fs in
+    let here : category_variables (whole (numbered_pattern t c)) ≡ variable_numbers t (category_names t.features c) =
+    ap (λ xs. flat_map (λ f. term_variables f.1) xs) (pattern_feats t c parts.0) ∙ every_variables t fs in
     ap (λ (x : List ℕ). x ++ flat_map category_variables (map whole (map (numbered_pattern t) cs))) here
     ∙ ap (λ (x : List ℕ). variable_numbers t (category_names t.features c) ++ x) (patterns_numbered t cs parts.1)
     ∙ sym (map-append (number_of t.variables) (category_names t.features c) (flat_map (category_names t.features) cs))
 
-element_numbered : (t : Tables) (e : WrittenElement) → element_fits e ≡ true → list_all is_single (mentions (numbered_element t e)) ≡ true → element_variables (numbered_element t e) ≡ variable_numbers t (element_names t.features e)
+element_numbered : (t : Tables) (e : WrittenElement) → element_fits e ≡ true → list_all is_single (mentions (numbered_element t e)) ≡ true
+    → element_variables (numbered_element t e) ≡ variable_numbers t (element_names t.features e)
 element_numbered t (element.Terminal w) h s = refl
 element_numbered t (element.Preterminal c) h s = one_numbered t c h
 element_numbered t (element.Sub c) h s = one_numbered t c h
@@ -73,7 +79,9 @@ element_numbered t (element.Back ps ns) h s =
     ∙ sym (map-append (number_of t.variables) (flat_map (category_names t.features) ps) (flat_map (category_names t.features) ns))
 element_numbered t (element.NoBack ps) h s = patterns_numbered t ps s
 
-body_numbered : (t : Tables) (es : List WrittenElement) → list_all element_fits es ≡ true → list_all is_single (flat_map mentions (map (numbered_element t) es)) ≡ true → flat_map element_variables (map (numbered_element t) es) ≡ variable_numbers t (flat_map (element_names t.features) es)
+body_numbered : (t : Tables) (es : List WrittenElement) → list_all element_fits es ≡ true
+    → list_all is_single (flat_map mentions (map (numbered_element t) es)) ≡ true
+    → flat_map element_variables (map (numbered_element t) es) ≡ variable_numbers t (flat_map (element_names t.features) es)
 body_numbered t [] h s = refl
 body_numbered t (e ∷ es) h s =
     let parts = and_parts (element_fits e) (list_all element_fits es) h in
@@ -86,11 +94,13 @@ all_single : (cs : List Category) → list_any (λ c. is_double (map (λ f. f.0)
 all_single cs h = none_each (λ c. is_double (map (λ f. f.0) c.feats)) is_single (λ c e. not_from_false (is_double (map (λ f. f.0) c.feats)) e) cs h
 
 -- In a rule that writes no feature twice in a category, the variables are those that it writes, in order.
-pub variables_numbered : (t : Tables) (r : WrittenRule) → item_fits (item.Rule r) ≡ true → has_double_feature (numbered_rule t r) ≡ false → rule_variables (numbered_rule t r) ≡ map (number_of t.variables) (category_names t.features r.head ++ flat_map (element_names t.features) r.body)
+pub variables_numbered : (t : Tables) (r : WrittenRule) → item_fits (item.Rule r) ≡ true → has_double_feature (numbered_rule t r) ≡ false
+    → rule_variables (numbered_rule t r) ≡ map (number_of t.variables) (category_names t.features r.head ++ flat_map (element_names t.features) r.body)
 variables_numbered t r h d =
     let parts = and_parts (is_plain r.head) (list_all element_fits r.body) h in
     let heads = numbered_category t r.head in
-    let singles = and_parts (is_single heads) (list_all is_single (flat_map mentions (map (numbered_element t) r.body))) (all_single (rule_mentions (numbered_rule t r)) d) in
+    let singles = and_parts (is_single heads) (list_all is_single (flat_map mentions (map (numbered_element t) r.body)))
+    (all_single (rule_mentions (numbered_rule t r)) d) in
     ap (λ (x : List ℕ). x ++ flat_map element_variables (map (numbered_element t) r.body)) (category_numbered t r.head parts.0)
     ∙ ap (λ (x : List ℕ). variable_numbers t (category_names t.features r.head) ++ x) (body_numbered t r.body parts.1 singles.1)
     ∙ sym (map-append (number_of t.variables) (category_names t.features r.head) (flat_map (element_names t.features) r.body))

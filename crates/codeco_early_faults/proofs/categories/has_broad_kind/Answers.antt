@@ -7,4 +7,5 @@ use Rattle.codeco_early_faults.proofs.categories.has_broad_kind.Goals as goal
 
 pub returns : goal.returns
 returns c =
-    c.in_ok-found.ensures ∙ ap (has_crowd 16) (firsts c.as_slice.result.now ∙ ap (map (λ p. p.0)) (c.as_slice.ensures ∙ c.in_ok-pairs.ensures)) ∙ crowd_wide (written_kind_pairs c.args.items.now)
+    c.in_ok-found.ensures ∙ ap (has_crowd 16) (firsts c.as_slice.result.now ∙ ap (map (λ p. p.0)) (c.as_slice.ensures ∙ c.in_ok-pairs.ensures))
+    ∙ crowd_wide (written_kind_pairs c.args.items.now)

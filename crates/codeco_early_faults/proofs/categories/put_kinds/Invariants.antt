@@ -5,4 +5,5 @@ use Rattle.codeco_early_faults.specs.Early.{kind_pairs}
 use Rattle.codeco_early_faults.proofs.categories.put_kinds.Given as goal
 
 abbrev pub invariant-loop-element : goal.invariant-loop-element
-invariant-loop-element l = gathered_pairs l.pairs (flat_map kind_pairs (drop l.element-index l.body)) ≡ gathered_pairs l.initial.pairs (flat_map kind_pairs l.body)
+invariant-loop-element l = gathered_pairs l.pairs (flat_map kind_pairs (drop l.element-index l.body))
+    ≡ gathered_pairs l.initial.pairs (flat_map kind_pairs l.body)

@@ -7,7 +7,8 @@ use Rattle.codeco_early_faults.proofs.categories.put_rule.Goals as goal
 
 pub loop-element-preserved : goal.loop-element-preserved
 loop-element-preserved c =
-    pairs_turn plain_pairs c.put_category.new.pairs c.loop-element.pairs c.put_element.new.pairs c.as_slice-element-items.result.now c.loop-element.element-index c.element-item.result c.loop-element-test.true c.element-item.is c.loop-element.invariant c.in_ok-put_element.ensures
+    pairs_turn plain_pairs c.put_category.new.pairs c.loop-element.pairs c.put_element.new.pairs c.as_slice-element-items.result.now
+    c.loop-element.element-index c.element-item.result c.loop-element-test.true c.element-item.is c.loop-element.invariant c.in_ok-put_element.ensures
 
 pub returns : goal.returns
 returns c =

@@ -13,5 +13,6 @@ pub loop-name-preserved : goal.loop-name-preserved
 loop-name-preserved c =
     let before = c.loop-name.before in
     let told = told_new before c.in_ok-put.field-0 c.as_bytes.result.now c.name-item.result c.in_ok-put.ensures.new c.as_bytes.ensures c.if-not-branch.false in
-    let both = turn_new before c.args.names.now c.loop-name.name-index c.name-item.result c.loop-name-test.true c.name-item.is c.loop-name.invariant.left c.put.new.self told (c.in_ok-put.ensures.names ∙ ap (λ w. gathered before (w ∷ [])) c.as_bytes.ensures) c.loop-name.invariant.different in
+    let both = turn_new before c.args.names.now c.loop-name.name-index c.name-item.result c.loop-name-test.true c.name-item.is c.loop-name.invariant.left
+    c.put.new.self told (c.in_ok-put.ensures.names ∙ ap (λ w. gathered before (w ∷ [])) c.as_bytes.ensures) c.loop-name.invariant.different in
     record { different = both.0; left = both.1 }

@@ -17,6 +17,7 @@ returns c =
           ∙ sym (ap (λ b. b || atoms) (ap (ltb 1000) (sym names) ∙ lt-ltb 1000 c.len.result w.if-len-gt-MOST_FEATURES.true))
       | else-len-gt-MOST_FEATURES w ↦
           w.result-is
-          ∙ ap (ltb 10000) (is_count w.len-else-len-gt-MOST_FEATURES.result c.in_ok-atoms.atoms (declared_atoms items) w.len-else-len-gt-MOST_FEATURES.ensures c.in_ok-atoms.ensures)
+          ∙ ap (ltb 10000) (is_count w.len-else-len-gt-MOST_FEATURES.result c.in_ok-atoms.atoms (declared_atoms items) w.len-else-len-gt-MOST_FEATURES.ensures
+          c.in_ok-atoms.ensures)
           ∙ sym (ap (λ b. b || atoms) (ap (ltb 1000) (sym names) ∙ le-ltb 1000 c.len.result w.if-len-gt-MOST_FEATURES.false))
     ]

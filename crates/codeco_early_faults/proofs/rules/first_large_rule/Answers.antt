@@ -10,12 +10,15 @@ pub returns-then-number-eq-ONE_TOO_MANY : goal.returns-then-number-eq-ONE_TOO_MA
 returns-then-number-eq-ONE_TOO_MANY c =
     let n = c.loop-item.number in
     let passes : large_at (n + 1) c.in-Rule.rule ≡ true = elim c.then-number-eq-ONE_TOO_MANY.branch [
-      | then-number-eq-ONE_TOO_MANY-via-then-number-eq-ONE_TOO_MANY w ↦ or_left (eqb (n + 1) 501) (is_large_written_rule c.in-Rule.rule) (eq-eqb (n + 1) 501 w.if-number-eq-ONE_TOO_MANY.true)
-      | then-number-eq-ONE_TOO_MANY-via-else-number-eq-ONE_TOO_MANY+in_ok-is_large_rule+then-branch w ↦ or_right (eqb (n + 1) 501) (is_large_written_rule c.in-Rule.rule) (sym w.in_ok-is_large_rule.ensures ∙ w.if-branch.true)
+      | then-number-eq-ONE_TOO_MANY-via-then-number-eq-ONE_TOO_MANY w ↦
+          or_left (eqb (n + 1) 501) (is_large_written_rule c.in-Rule.rule) (eq-eqb (n + 1) 501 w.if-number-eq-ONE_TOO_MANY.true)
+      | then-number-eq-ONE_TOO_MANY-via-else-number-eq-ONE_TOO_MANY+in_ok-is_large_rule+then-branch w ↦
+          or_right (eqb (n + 1) 501) (is_large_written_rule c.in-Rule.rule) (sym w.in_ok-is_large_rule.ensures ∙ w.if-branch.true)
     ] in
     finds_large (rules_of c.args.items.now) (Some (n + 1))
     (ap (λ items. first_rule large_at 0 (rules_of items)) (sym c.as_slice-item-items.ensures)
-    ∙ rule_passes large_at c.as_slice-item-items.result.now c.loop-item.item-index n c.loop-item.invariant.left c.item-item.result c.loop-item-test.true c.item-item.is c.in-Rule.rule c.in-Rule.is passes)
+    ∙ rule_passes large_at c.as_slice-item-items.result.now c.loop-item.item-index n c.loop-item.invariant.left c.item-item.result c.loop-item-test.true
+    c.item-item.is c.in-Rule.rule c.in-Rule.is passes)
 
 pub returns : goal.returns
 returns c =

@@ -4,4 +4,5 @@ use Rattle.codeco_numbering.specs.Numbered.{written_terminals}
 use Rattle.codeco_early_faults.proofs.rules.has_long_terminal.Given as goal
 
 abbrev pub invariant-loop-element : goal.invariant-loop-element
-invariant-loop-element l = list_any (λ w. ltb 64 (length w)) (flat_map written_terminals (drop l.element-index l.body)) ≡ list_any (λ w. ltb 64 (length w)) (flat_map written_terminals l.body)
+invariant-loop-element l = list_any (λ w. ltb 64 (length w)) (flat_map written_terminals (drop l.element-index l.body))
+    ≡ list_any (λ w. ltb 64 (length w)) (flat_map written_terminals l.body)

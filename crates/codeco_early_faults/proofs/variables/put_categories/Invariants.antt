@@ -5,4 +5,5 @@ use Rattle.codeco_early_faults.specs.Early.{category_variables}
 use Rattle.codeco_early_faults.proofs.variables.put_categories.Given as goal
 
 abbrev pub invariant-loop-category : goal.invariant-loop-category
-invariant-loop-category l = gathered l.names (flat_map category_variables (drop l.category-index l.category-items)) ≡ gathered l.initial.names (flat_map category_variables l.category-items)
+invariant-loop-category l = gathered l.names (flat_map category_variables (drop l.category-index l.category-items))
+    ≡ gathered l.initial.names (flat_map category_variables l.category-items)

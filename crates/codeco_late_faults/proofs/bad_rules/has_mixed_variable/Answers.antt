@@ -21,14 +21,18 @@ loop-feature-preserved c =
     record {
       left = elim c.match-term.branch [
         | in-Var+else-differs w ↦
-            subst (λ m. LeftDecides c.args.table.now c.args.feats.now (c.loop-feature.feature-index + 1) m (has_mixed_variable c.args.table.now c.args.feats.now)) (sym w.classes-is)
-            (mixed_next g feats i (0, Val (Atom 0)) w.in-Var.variable c.loop-feature.classes w.class-class.result all c.loop-feature-test.true w.in-Var.is (omega (arith, c.loop-feature.invariant.room)) w.class-class.ensures (sym w.differs.ensures ∙ w.if-differs.false) c.loop-feature.invariant.left)
+            subst (λ m. LeftDecides c.args.table.now c.args.feats.now (c.loop-feature.feature-index + 1) m
+            (has_mixed_variable c.args.table.now c.args.feats.now)) (sym w.classes-is)
+            (mixed_next g feats i (0, Val (Atom 0)) w.in-Var.variable c.loop-feature.classes w.class-class.result all c.loop-feature-test.true w.in-Var.is
+            (omega (arith, c.loop-feature.invariant.room)) w.class-class.ensures (sym w.differs.ensures ∙ w.if-differs.false) c.loop-feature.invariant.left)
         | in_default w ↦
-            subst (λ m. LeftDecides c.args.table.now c.args.feats.now (c.loop-feature.feature-index + 1) m (has_mixed_variable c.args.table.now c.args.feats.now)) (sym w.classes-is)
+            subst (λ m. LeftDecides c.args.table.now c.args.feats.now (c.loop-feature.feature-index + 1) m
+            (has_mixed_variable c.args.table.now c.args.feats.now)) (sym w.classes-is)
             (mixed_other g feats i (0, Val (Atom 0)) c.loop-feature.classes all c.loop-feature-test.true w.in_default.not-Var c.loop-feature.invariant.left)
       ];
       room = elim c.match-term.branch [
-        | in-Var+else-differs w ↦ ap length w.classes-is ∙ length-set c.loop-feature.classes w.in-Var.variable (Some w.class-class.result) ∙ c.loop-feature.invariant.room
+        | in-Var+else-differs w ↦ ap length w.classes-is ∙ length-set c.loop-feature.classes w.in-Var.variable (Some w.class-class.result)
+            ∙ c.loop-feature.invariant.room
         | in_default w ↦ ap length w.classes-is ∙ c.loop-feature.invariant.room
       ];
     }

@@ -6,4 +6,6 @@ use Rattle.codeco_late_faults.proofs.bad_rules.is_wrong_preterminal.Given as goa
 
 abbrev pub invariant-loop-feature : goal.invariant-loop-feature
 invariant-loop-feature l =
-    list_any (λ f. not (has (given_features l.category.name) f.0 && same_values (values_of l.table f.0) (given_values f.0))) (drop l.feature-index l.feature-items) ≡ list_any (λ f. not (has (given_features l.category.name) f.0 && same_values (values_of l.table f.0) (given_values f.0))) l.feature-items
+    list_any (λ f. not (has (given_features l.category.name) f.0 && same_values (values_of l.table f.0) (given_values f.0)))
+    (drop l.feature-index l.feature-items)
+    ≡ list_any (λ f. not (has (given_features l.category.name) f.0 && same_values (values_of l.table f.0) (given_values f.0))) l.feature-items

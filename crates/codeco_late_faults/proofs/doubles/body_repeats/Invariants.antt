@@ -5,4 +5,5 @@ use Rattle.codeco_late_faults.specs.Order.{is_double_category}
 use Rattle.codeco_late_faults.proofs.doubles.body_repeats.Given as goal
 
 abbrev pub invariant-loop-element : goal.invariant-loop-element
-invariant-loop-element l = list_any is_double_category (flat_map mentions (drop l.element-index l.body)) ≡ list_any is_double_category (flat_map mentions l.body)
+invariant-loop-element l = list_any is_double_category (flat_map mentions (drop l.element-index l.body))
+    ≡ list_any is_double_category (flat_map mentions l.body)

@@ -5,4 +5,5 @@ use Rattle.codeco_late_faults.proofs.references.mark_patterns.Goals as goal
 
 pub loop-pattern-preserved : goal.loop-pattern-preserved
 loop-pattern-preserved c =
-    mark_step (λ p. category_variables p.cat) c.args.patterns.now c.loop-pattern.pattern-index c.pattern-item.result c.loop-pattern.plain c.mark_variables.new.plain _ (omega arith) c.pattern-item.is (search rules) c.loop-pattern.invariant
+    mark_step (λ p. category_variables p.cat) c.args.patterns.now c.loop-pattern.pattern-index c.pattern-item.result c.loop-pattern.plain
+    c.mark_variables.new.plain _ (omega arith) c.pattern-item.is (search rules) c.loop-pattern.invariant

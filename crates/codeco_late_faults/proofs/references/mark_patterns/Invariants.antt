@@ -6,4 +6,5 @@ use Rattle.codeco_late_faults.proofs.references.mark_patterns.Given as goal
 
 abbrev pub invariant-loop-pattern : goal.invariant-loop-pattern
 invariant-loop-pattern l =
-    marked l.plain (flat_map (λ p. category_variables p.cat) (drop l.pattern-index l.patterns)) ≡ marked l.initial.plain (flat_map (λ p. category_variables p.cat) l.patterns)
+    marked l.plain (flat_map (λ p. category_variables p.cat) (drop l.pattern-index l.patterns))
+    ≡ marked l.initial.plain (flat_map (λ p. category_variables p.cat) l.patterns)

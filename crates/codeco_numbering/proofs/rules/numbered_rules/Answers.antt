@@ -22,7 +22,8 @@ add_rule-requires c =
     let i = c.loop-item.item-index in
     let x = c.item-item.result in
     all_front (λ r. HasRoom (rule_tables g r)) (item_rules x) (rules_of (drop (i + 1) items))
-    (subst (λ (is : List WrittenItem). All (λ r. HasRoom (rule_tables g r)) (rules_of is)) (drop_get_or items i x c.loop-item-test.true c.item-item.is) c.loop-item.invariant.room)
+    (subst (λ (is : List WrittenItem). All (λ r. HasRoom (rule_tables g r)) (rules_of is)) (drop_get_or items i x c.loop-item-test.true c.item-item.is)
+    c.loop-item.invariant.room)
 
 pub loop-item-preserved : goal.loop-item-preserved
 loop-item-preserved c =
@@ -32,6 +33,11 @@ loop-item-preserved c =
     let x = c.item-item.result in
     record {
       room = all_back (λ r. HasRoom (rule_tables g r)) (item_rules x) (rules_of (drop (i + 1) items))
-          (subst (λ (is : List WrittenItem). All (λ r. HasRoom (rule_tables g r)) (rules_of is)) (drop_get_or items i x c.loop-item-test.true c.item-item.is) c.loop-item.invariant.room);
-      left = turn_by (λ (is : List WrittenItem). map (λ r. numbered_rule (rule_tables g r) r) (rules_of is)) (λ (y : WrittenItem). map (λ r. numbered_rule (rule_tables g r) r) (item_rules y)) (λ y ys. map-append (λ r. numbered_rule (rule_tables g r) r) (item_rules y) (rules_of ys)) c.loop-item.rules c.add_rule.new.rules (map (λ r. numbered_rule (rule_tables g r) r) (rules_of items)) items i x c.loop-item-test.true c.item-item.is c.loop-item.invariant.left c.in_ok-add_rule.ensures;
+          (subst (λ (is : List WrittenItem). All (λ r. HasRoom (rule_tables g r)) (rules_of is)) (drop_get_or items i x c.loop-item-test.true c.item-item.is)
+          c.loop-item.invariant.room);
+      left = turn_by (λ (is : List WrittenItem). map (λ r. numbered_rule (rule_tables g r) r) (rules_of is))
+          (λ (y : WrittenItem). map (λ r. numbered_rule (rule_tables g r) r) (item_rules y))
+          (λ y ys. map-append (λ r. numbered_rule (rule_tables g r) r) (item_rules y) (rules_of ys)) c.loop-item.rules c.add_rule.new.rules
+          (map (λ r. numbered_rule (rule_tables g r) r) (rules_of items)) items i x c.loop-item-test.true c.item-item.is c.loop-item.invariant.left
+          c.in_ok-add_rule.ensures;
     }

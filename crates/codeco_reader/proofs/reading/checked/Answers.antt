@@ -18,7 +18,12 @@ first_fault-requires-clause-atoms c =
 
 pub admit-requires : goal.admit-requires
 admit-requires c =
-    let none : IsFaultless c.in_ok-grammar.grammar = subst (λ found. IfNone found (IsFaultless c.in_ok-grammar.grammar)) c.in-None.is c.in_ok-fault-2.ensures.none in
+    let none : IsFaultless c.in_ok-grammar.grammar =
+    subst (λ found. IfNone found (IsFaultless c.in_ok-grammar.grammar)) c.in-None.is c.in_ok-fault-2.ensures.none in
     let none_spelled = subst IsFaultless c.in_ok-grammar.ensures none in
     let sound = sound_without_bad_values c.requires.0 c.args.items.now c.requires.1 (λ f before. none_spelled f) in
-    record { written = subst IsWritten (sym c.in_ok-grammar.ensures) sound.0; numbered = subst IsNumbered (sym c.in_ok-grammar.ensures) sound.1; faultless = none }
+    record {
+      written = subst IsWritten (sym c.in_ok-grammar.ensures) sound.0;
+      numbered = subst IsNumbered (sym c.in_ok-grammar.ensures) sound.1;
+      faultless = none;
+    }

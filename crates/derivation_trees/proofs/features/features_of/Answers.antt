@@ -8,4 +8,6 @@ use Rattle.derivation_trees.proofs.features.features_of.Goals as goal
 
 pub loop-rule-preserved : goal.loop-rule-preserved
 loop-rule-preserved c =
-    put_step (λ r. flat_map (features_in c.args.name) (rule_mentions r)) (λ rs. flat_map (λ r. flat_map (features_in c.args.name) (rule_mentions r)) rs) (λ x ys. refl) c.as_slice-rule-items.result.now c.loop-rule.rule-index c.rule-item.result c.loop-rule.features.items c.put_body.new.features.items _ (omega arith) c.rule-item.is (grind (arith, put_all_append)) c.loop-rule.invariant
+    put_step (λ r. flat_map (features_in c.args.name) (rule_mentions r)) (λ rs. flat_map (λ r. flat_map (features_in c.args.name) (rule_mentions r)) rs)
+    (λ x ys. refl) c.as_slice-rule-items.result.now c.loop-rule.rule-index c.rule-item.result c.loop-rule.features.items c.put_body.new.features.items _
+    (omega arith) c.rule-item.is (grind (arith, put_all_append)) c.loop-rule.invariant

@@ -6,4 +6,5 @@ use Rattle.derivation_trees.proofs.features.features_of.Given as goal
 
 abbrev pub invariant-loop-rule : goal.invariant-loop-rule
 invariant-loop-rule l =
-    put_all l.features.items (flat_map (λ r. flat_map (features_in l.name) (rule_mentions r)) (drop l.rule-index l.rule-items)) ≡ put_all [] (flat_map (λ r. flat_map (features_in l.name) (rule_mentions r)) l.rule-items)
+    put_all l.features.items (flat_map (λ r. flat_map (features_in l.name) (rule_mentions r)) (drop l.rule-index l.rule-items))
+    ≡ put_all [] (flat_map (λ r. flat_map (features_in l.name) (rule_mentions r)) l.rule-items)

@@ -6,4 +6,5 @@ use Rattle.derivation_trees.proofs.features.put_body.Given as goal
 
 abbrev pub invariant-loop-element : goal.invariant-loop-element
 invariant-loop-element l =
-    put_all l.features.items (flat_map (features_in l.name) (flat_map mentions (drop l.element-index l.body))) ≡ put_all l.initial.features.items (flat_map (features_in l.name) (flat_map mentions l.body))
+    put_all l.features.items (flat_map (features_in l.name) (flat_map mentions (drop l.element-index l.body)))
+    ≡ put_all l.initial.features.items (flat_map (features_in l.name) (flat_map mentions l.body))

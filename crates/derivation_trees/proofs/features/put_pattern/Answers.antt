@@ -17,4 +17,5 @@ returns-in_ok-put_taken c =
     ∙ ap (λ (sorted : List ℕ). put_all sorted (map (λ (t : ℕ × ℕ). t.0) taken))
     (c.in_ok-put_feats.ensures ∙ ap (λ (fs : List (ℕ × Term)). put_all before (map (λ f. f.0) fs)) c.as_slice.ensures)
     ∙ sym (put_all_taken before feats taken)
-    ∙ ap (λ (b : Bool). put_all before (if b then map (λ (f : ℕ × Term). f.0) (with_taken feats taken) else [])) (sym (eq-eqb c.args.pattern.now.cat.name c.args.name c.if-pattern-name.true))
+    ∙ ap (λ (b : Bool). put_all before (if b then map (λ (f : ℕ × Term). f.0) (with_taken feats taken) else []))
+    (sym (eq-eqb c.args.pattern.now.cat.name c.args.name c.if-pattern-name.true))

@@ -6,4 +6,5 @@ use Rattle.derivation_trees.proofs.features.put_patterns.Given as goal
 
 abbrev pub invariant-loop-pattern : goal.invariant-loop-pattern
 invariant-loop-pattern l =
-    put_all l.features.items (flat_map (features_in l.name) (map whole (drop l.pattern-index l.patterns))) ≡ put_all l.initial.features.items (flat_map (features_in l.name) (map whole l.patterns))
+    put_all l.features.items (flat_map (features_in l.name) (map whole (drop l.pattern-index l.patterns)))
+    ≡ put_all l.initial.features.items (flat_map (features_in l.name) (map whole l.patterns))

@@ -15,6 +15,10 @@ pub invariant_of-result : goal.invariant_of-result
 invariant_of-result c =
     let same = c.as_slice-features.ensures ∙ c.features.ensures in
     record {
-      held = subst (λ z. AreSets z c.in_ok-sets.sets.items) same (sets_hold c.args.grammar.now c.len.result c.as_slice-features.result.now c.in_ok-sets.sets.items c.requires (search rules) same c.in_ok-sets.ensures);
-      classed = subst (λ z. AreClasses z c.in_ok-classes.classes.items c.class_of-undeclared.result) same (classes_hold c.as_slice-features.result.now c.in_ok-classes.classes.items c.class_of-undeclared.result c.in_ok-classes.ensures c.class_of-undeclared.ensures);
+      held = subst (λ z. AreSets z c.in_ok-sets.sets.items) same
+          (sets_hold c.args.grammar.now c.len.result c.as_slice-features.result.now c.in_ok-sets.sets.items c.requires (search rules) same
+          c.in_ok-sets.ensures);
+      classed = subst (λ z. AreClasses z c.in_ok-classes.classes.items c.class_of-undeclared.result) same
+          (classes_hold c.as_slice-features.result.now c.in_ok-classes.classes.items c.class_of-undeclared.result c.in_ok-classes.ensures
+          c.class_of-undeclared.ensures);
     }

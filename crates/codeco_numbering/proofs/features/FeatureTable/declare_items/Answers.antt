@@ -12,5 +12,7 @@ declare_item-requires c =
     let x = c.item-item.result in
     let i = c.loop-item.item-index in
     let left : with_items (with_item c.loop-item.table x) (drop (i + 1) items) ≡ with_items c.args.self c.args.items.now =
-    ap (with_items c.loop-item.table) (sym (drop_get_or items i x c.loop-item-test.true c.item-item.is)) ∙ c.loop-item.invariant ∙ ap (with_items c.args.self) c.as_slice-item-items.ensures in
-    items_differ (drop (i + 1) items) (with_item c.loop-item.table x) (subst (λ (fs : List NamedFeature). differ (map (λ f. f.name) fs) ≡ true) (sym left) c.requires)
+    ap (with_items c.loop-item.table) (sym (drop_get_or items i x c.loop-item-test.true c.item-item.is)) ∙ c.loop-item.invariant
+    ∙ ap (with_items c.args.self) c.as_slice-item-items.ensures in
+    items_differ (drop (i + 1) items) (with_item c.loop-item.table x)
+    (subst (λ (fs : List NamedFeature). differ (map (λ f. f.name) fs) ≡ true) (sym left) c.requires)

@@ -1,7 +1,7 @@
 -- Laws on options and results, which std has not.
-use Rattle.std.proofs.Common.{◌≡◌, Option, None, Some, option_map, refl}
+use Rattle.std.proofs.Common.{◌≡◌, Option, None, Some, option_map, Result, Ok, Err, refl}
 use Rattle.std.specs.Option.{option_or}
-use Rattle.std.specs.Result.{Result, Ok, Err, OnErr}
+use Rattle.std.specs.Result.{OnErr}
 
 -- what is mapped to none is none
 pub option_map-none : {X Y : Type 0} (f : X → Y) (o : Option X) → option_map f o ≡ None → o ≡ None

@@ -1,4 +1,5 @@
 pub mod PutLemmas
+pub mod RangeLemmas
 pub mod OccurrenceLemmas
 pub mod InstanceLemmas
 pub mod StandLemmas

@@ -19,10 +19,12 @@ use Rattle.codeco_checked.specs.Numbering.{has, counts_up, count_different, gram
 use Rattle.codeco_checked.specs.Occurrences.{mentions, rule_mentions, patterns}
 use Rattle.codeco_checked.specs.Faults.{features_written, has_broad_category, is_large_rule, is_too_large, at_rule}
 use Rattle.codeco_checked.specs.Sound.{IsSound}
-use Rattle.derivation_trees.specs.Instances.{put, put_all, features_of}
+use Rattle.derivation_trees.specs.Instances.{features_of}
+use Rattle.derivation_trees.specs.Putting.{put, put_all}
 use Rattle.derivation_trees.specs.Derives.{rule_with}
 use Rattle.derivation_trees.specs.Stands.{IsWithin, IsLimited}
 use Rattle.derivation_trees.proofs.PutLemmas.{put_comm, put_all_put}
+use Rattle.derivation_trees.proofs.RangeLemmas.{put_all_range}
 use Rattle.derivation_trees.proofs.OccurrenceLemmas.{has_append}
 
 -- Numbers that are put once
@@ -149,7 +151,8 @@ features_within g sound name there =
     let at : get_or (range_with_len 0 (length g.categories)) name 0 ≡ name = get_or-range_with_len 0 (length g.categories) name 0 low ∙ zero_plus name in
     let few : nat_lt 16 (count_different (features_written g name)) ≡ false = ap (λ x. nat_lt 16 (count_different (features_written g x))) (sym at) ∙ one in
     let most = at_most (count_different (features_written g name)) 16 few in
-    let count = count_put (features_written g name) in
+    let count : length (features_of g name) ≤ count_different (features_written g name) =
+    subst (λ fs. length fs ≤ count_different (features_written g name)) (put_all_range (features_written g name)) (count_put (features_written g name)) in
     omega arith
   where
     zero_plus : (n : ℕ) → 0 + n ≡ n

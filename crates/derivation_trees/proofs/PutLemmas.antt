@@ -9,7 +9,7 @@ use Rattle.codeco_terms.specs.declared.values.Term.{Term}
 use Rattle.codeco_terms.specs.declared.values.Term.TheVariants.{Var}
 use Rattle.codeco_terms.specs.declared.categories.Category.{Category}
 use Rattle.codeco_checked.specs.Occurrences.{put_feature, with_taken}
-use Rattle.derivation_trees.specs.Instances.{put, put_all, features_in}
+use Rattle.derivation_trees.specs.Putting.{put, put_all, features_in}
 
 put_comm_step : (x y z : ℕ) (zs : List ℕ) → put x (put y zs) ≡ put y (put x zs) → put x (put y (z ∷ zs)) ≡ put y (put x (z ∷ zs))
 put_comm_step x y z zs h = grind (arith, nat_tests)

@@ -1,5 +1,5 @@
 -- Instances of a rule: a value for each of its variables.
-use Rattle.std.specs.Prelude.{◌≡◌, ℕ, ◌+◌, ◌-◌, ◌==◌, nat_lt, ◌&&◌, not, if◌then◌else◌, Bool, true, false, List, [], ◌∷◌, ◌++◌, length, map, filter, flat_map, drop, Option, Some, None, unwrap_or}
+use Rattle.std.specs.Prelude.{◌≡◌, ℕ, ◌+◌, max, ◌-◌, ◌==◌, nat_lt, ◌&&◌, not, if◌then◌else◌, Bool, true, false, List, [], ◌∷◌, ◌++◌, length, map, filter, flat_map, drop, Option, Some, None, unwrap_or}
 use Rattle.std.specs.List.{list_all, range_with_len}
 use Rattle.codeco_terms.specs.declared.values.Value.{Value}
 use Rattle.codeco_terms.specs.declared.values.Value.TheVariants.{Atom}
@@ -48,23 +48,14 @@ tests_under values patterns = map (λ p. under values p.cat) patterns
 
 -- Features that a category leaves out
 
--- a number put among numbers that stand in order, where it isn't there yet
-abbrev pub put : ℕ → List ℕ → List ℕ
-put x [] = x ∷ []
-put x (y ∷ ys) = if nat_lt y x then y ∷ put x ys else (if x == y then y ∷ ys else x ∷ y ∷ ys)
-
--- numbers put among others, one after another
-abbrev pub put_all : List ℕ → List ℕ → List ℕ
-put_all sorted [] = sorted
-put_all sorted (x ∷ xs) = put_all (put x sorted) xs
-
--- the features that a written category has, where its name is this
-abbrev pub features_in : ℕ → Category → List ℕ
-features_in name category = if category.name == name then map (λ f. f.0) category.feats else []
+-- one more than the greatest of the numbers, and 0 of none
+abbrev pub past_all : List ℕ → ℕ
+past_all [] = 0
+past_all (x ∷ xs) = max (x + 1) (past_all xs)
 
 -- the features of a category, which are those written with its name anywhere in the grammar, in order of number
 abbrev pub features_of : GrammarParts → ℕ → List ℕ
-features_of g name = put_all [] (features_written g name)
+features_of g name = filter (has (features_written g name)) (range_with_len 0 (past_all (features_written g name)))
 
 -- those of the features that aren't written
 abbrev pub unwritten : List (ℕ × Term) → List ℕ → List ℕ

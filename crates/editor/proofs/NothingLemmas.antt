@@ -28,7 +28,9 @@ use Rattle.codeco_checked.specs.Sound.{IsSound, has_values}
 use Rattle.lexicon.specs.Words.{Listed}
 use Rattle.derivation_trees.specs.Trees.{none}
 use Rattle.derivation_trees.specs.Settings.{Setting, is_value, fits_feature}
-use Rattle.derivation_trees.specs.Instances.{looked_up, value_under, under, put, put_all, features_of, left_out, own_features, rule_own_features, written_variables, variables_of, same_numbers, term_fits, own_fit, own_values, is_instance}
+use Rattle.derivation_trees.specs.Instances.{looked_up, value_under, under, features_of, left_out, own_features, rule_own_features, written_variables, variables_of, same_numbers, term_fits, own_fit, own_values, is_instance}
+use Rattle.derivation_trees.specs.Putting.{put, put_all}
+use Rattle.derivation_trees.proofs.RangeLemmas.{put_all_range}
 use Rattle.derivation_trees.specs.Derives.{Stand, fits, run, same_where_both, rule_with, text_category}
 use Rattle.derivation_trees.specs.Partial.{stopped, used_up, front, cut_end, IsBeginning}
 use Rattle.derivation_trees.specs.Sentences.{setting_of}
@@ -375,7 +377,7 @@ written_is_declared g sound name f h =
 
 left_out_is_declared : (g : GrammarParts) → IsSound g → (c : Category) (f : ℕ) → Among (left_out g c) f → is_declared (values_of g f) ≡ true
 left_out_is_declared g sound c f h =
-    written_is_declared g sound c.name f (by (put_all_from [] (features_written g c.name) f (from_filter (λ n. not (has (map (λ (p : ℕ × Term). p.0) c.feats) n)) (features_of g c.name) f h)))
+    written_is_declared g sound c.name f (by (put_all_from [] (features_written g c.name) f (subst (λ fs. Among fs f) (sym (put_all_range (features_written g c.name))) (from_filter (λ n. not (has (map (λ (p : ℕ × Term). p.0) c.feats) n)) (features_of g c.name) f h))))
   where
     by : ⊥ ⊎ Among (features_written g c.name) f → Among (features_written g c.name) f
     by (inl k) = absurd k

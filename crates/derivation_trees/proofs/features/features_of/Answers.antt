@@ -2,7 +2,7 @@ use Rattle.std.proofs.Common.{◌≡◌, [], ◌∷◌, ◌++◌, List, map, ref
 use Rattle.std.specs.List.{flat_map}
 use Rattle.std.proofs.lemmas.Grind.{flat_map-append}
 use Rattle.codeco_checked.specs.Occurrences.{mentions, rule_mentions, whole}
-use Rattle.derivation_trees.specs.Instances.{put_all, features_in}
+use Rattle.derivation_trees.specs.Putting.{put_all, features_in}
 use Rattle.derivation_trees.proofs.PutLemmas.{put_step, put_all_append}
 use Rattle.derivation_trees.proofs.features.features_of.Goals as goal
 

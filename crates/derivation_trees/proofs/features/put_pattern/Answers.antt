@@ -3,7 +3,7 @@ use Rattle.std.specs.Prelude.{if◌then◌else◌}
 use Rattle.std.proofs.lemmas.Bool.{eq-eqb}
 use Rattle.codeco_terms.specs.declared.values.Term.{Term}
 use Rattle.codeco_checked.specs.Occurrences.{with_taken}
-use Rattle.derivation_trees.specs.Instances.{put_all}
+use Rattle.derivation_trees.specs.Putting.{put_all}
 use Rattle.derivation_trees.proofs.PutLemmas.{put_all_taken}
 use Rattle.derivation_trees.proofs.features.put_pattern.Goals as goal
 

@@ -106,14 +106,18 @@ moved true false c = refl
 moved false true c = refl
 moved false false c = refl
 
-first_step : (i : Interpretation) (c : Concept) (cs : Concepts) (word : WordId) (x : ℕ) (o : Option WordId) → word_of c ≡ o → (first_word cs ≡ Some word → is_in_each i cs x ≡ (is_in i (Atomic word) x && is_in_each i (without_first_word cs) x)) → option_map_or (λ w. Some w) o (first_word cs) ≡ Some word → (is_in i c x && is_in_each i cs x) ≡ (is_in i (Atomic word) x && is_in_each i (option_map_or (λ w. cs) o (also_concept c (without_first_word cs))) x)
+first_step : (i : Interpretation) (c : Concept) (cs : Concepts) (word : WordId) (x : ℕ) (o : Option WordId) → word_of c ≡ o
+    → (first_word cs ≡ Some word → is_in_each i cs x ≡ (is_in i (Atomic word) x && is_in_each i (without_first_word cs) x))
+    → option_map_or (λ w. Some w) o (first_word cs) ≡ Some word
+    → (is_in i c x && is_in_each i cs x) ≡ (is_in i (Atomic word) x && is_in_each i (option_map_or (λ w. cs) o (also_concept c (without_first_word cs))) x)
 first_step i c cs word x None e later h =
     ap (λ b. is_in i c x && b) (later h) ∙ moved (is_in i c x) (is_in i (Atomic word) x) (is_in_each i (without_first_word cs) x)
 first_step i c cs word x (Some w) e later h =
     let same : w ≡ word = cc in
     ap (λ k. is_in i k x && is_in_each i cs x) (word_of_is c w e ∙ ap Atomic same)
 
-pub is_in_each-first : (i : Interpretation) (cs : Concepts) (word : WordId) (x : ℕ) → first_word cs ≡ Some word → is_in_each i cs x ≡ (is_in i (Atomic word) x && is_in_each i (without_first_word cs) x)
+pub is_in_each-first : (i : Interpretation) (cs : Concepts) (word : WordId) (x : ℕ) → first_word cs ≡ Some word
+    → is_in_each i cs x ≡ (is_in i (Atomic word) x && is_in_each i (without_first_word cs) x)
 is_in_each-first i no_concept word x h = cc
 is_in_each-first i (also_concept c cs) word x h =
     first_step i c cs word x (word_of c) refl (is_in_each-first i cs word x) h
@@ -122,7 +126,8 @@ implies_twice : (a b c : Bool) → implies a (implies b c) ≡ implies (a && b) 
 implies_twice true b c = refl
 implies_twice false b c = refl
 
-holds-guarded : (i : Interpretation) (cs : Concepts) (d : Concept) (word : WordId) → first_word cs ≡ Some word → piece_holds i (guarded cs d word) ≡ holds i (SubClassOf (IntersectionOf cs) d)
+holds-guarded : (i : Interpretation) (cs : Concepts) (d : Concept) (word : WordId) → first_word cs ≡ Some word
+    → piece_holds i (guarded cs d word) ≡ holds i (SubClassOf (IntersectionOf cs) d)
 holds-guarded i cs d word h =
     each_below-same i.size
     (λ x. implies (is_in i (Atomic word) x) (is_in i (either (complement (together (without_first_word cs))) d) x))
@@ -132,22 +137,28 @@ holds-guarded i cs d word h =
     ∙ implies_twice (is_in i (Atomic word) x) (is_in_each i (without_first_word cs) x) (is_in i d x)
     ∙ ap (λ b. implies b (is_in i d x)) (sym (is_in_each-first i cs word x h)))
 
-holds_by_word : (i : Interpretation) (cs : Concepts) (d : Concept) (o : Option WordId) → first_word cs ≡ o → list_all (piece_holds i) (option_map_or (guarded cs d) o (general (IntersectionOf cs) d) ∷ []) ≡ holds i (SubClassOf (IntersectionOf cs) d)
+holds_by_word : (i : Interpretation) (cs : Concepts) (d : Concept) (o : Option WordId) → first_word cs ≡ o
+    → list_all (piece_holds i) (option_map_or (guarded cs d) o (general (IntersectionOf cs) d) ∷ []) ≡ holds i (SubClassOf (IntersectionOf cs) d)
 holds_by_word i cs d None h = and_true (piece_holds i (general (IntersectionOf cs) d)) ∙ holds-general i (IntersectionOf cs) d
 holds_by_word i cs d (Some word) h = and_true (piece_holds i (guarded cs d word)) ∙ holds-guarded i cs d word h
 
 -- an inclusion of the elements with a successor in c is one of c in those whose predecessors are all in d
-holds-turned : (i : Interpretation) (role : Role) (c d : Concept) → holds i (SubClassOf c (AllValuesFrom (inverse role) d)) ≡ holds i (SubClassOf (SomeValuesFrom role c) d)
+holds-turned : (i : Interpretation) (role : Role) (c d : Concept)
+    → holds i (SubClassOf c (AllValuesFrom (inverse role) d)) ≡ holds i (SubClassOf (SomeValuesFrom role c) d)
 holds-turned i role c d =
-    same_from_decides {P = Holds i (SubClassOf (SomeValuesFrom role c) d)} (holds i (SubClassOf c (AllValuesFrom (inverse role) d))) (holds i (SubClassOf (SomeValuesFrom role c) d)) (
+    same_from_decides {P = Holds i (SubClassOf (SomeValuesFrom role c) d)} (holds i (SubClassOf c (AllValuesFrom (inverse role) d)))
+    (holds i (SubClassOf (SomeValuesFrom role c) d)) (
       λ t x lt w. (holds-Decides i (SubClassOf c (AllValuesFrom (inverse role) d))).0 t w.0 w.1 w.3 x lt (Relates-inverse i role x w.0 w.2),
-      λ all. (holds-Decides i (SubClassOf c (AllValuesFrom (inverse role) d))).1 (λ x lt inside y below related. all y below (x, lt, Relates-turned i role y x related, inside)),
+      λ all. (holds-Decides i (SubClassOf c (AllValuesFrom (inverse role) d))).1
+          (λ x lt inside y below related. all y below (x, lt, Relates-turned i role y x related, inside)),
     )
     (holds-Decides i (SubClassOf (SomeValuesFrom role c) d))
 
-holds-value : (i : Interpretation) (role : Role) (name : WordId) (d : Concept) → holds i (ClassAssertion (AllValuesFrom (inverse role) d) name) ≡ holds i (SubClassOf (HasValue role name) d)
+holds-value : (i : Interpretation) (role : Role) (name : WordId) (d : Concept)
+    → holds i (ClassAssertion (AllValuesFrom (inverse role) d) name) ≡ holds i (SubClassOf (HasValue role name) d)
 holds-value i role name d =
-    each_below-same i.size (λ y. implies (relates i (inverse role) (element_of i name) y) (is_in i d y)) (λ x. implies (relates i role x (element_of i name)) (is_in i d x))
+    each_below-same i.size (λ y. implies (relates i (inverse role) (element_of i name) y) (is_in i d y))
+    (λ x. implies (relates i role x (element_of i name)) (is_in i d x))
     (λ x. ap (λ b. implies b (is_in i d x)) (relates-inverse i role (element_of i name) x))
 
 -- the pieces of an inclusion say the same
@@ -168,7 +179,9 @@ mutual
       list_all-append (piece_holds i) (inclusion c d) (inclusions cs d)
       ∙ ap (λ b. b && list_all (piece_holds i) (inclusions cs d)) (holds-inclusion i c d)
       ∙ ap (λ b. holds i (SubClassOf c d) && b) (holds-inclusions i cs d)
-      ∙ sym (each_below-same i.size (λ x. implies (is_in i c x || is_in_some i cs x) (is_in i d x)) (λ x. implies (is_in i c x) (is_in i d x) && implies (is_in_some i cs x) (is_in i d x)) (λ x. implies_or (is_in i c x) (is_in_some i cs x) (is_in i d x))
+      ∙ sym (each_below-same i.size (λ x. implies (is_in i c x || is_in_some i cs x) (is_in i d x))
+      (λ x. implies (is_in i c x) (is_in i d x) && implies (is_in_some i cs x) (is_in i d x))
+      (λ x. implies_or (is_in i c x) (is_in_some i cs x) (is_in i d x))
       ∙ each_below-and i.size (λ x. implies (is_in i c x) (is_in i d x)) (λ x. implies (is_in_some i cs x) (is_in i d x)))
 
 holds-pieces_of : (i : Interpretation) (claim : Claim) → list_all (piece_holds i) (pieces_of claim) ≡ holds i claim

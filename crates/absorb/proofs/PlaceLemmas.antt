@@ -13,14 +13,17 @@ use Rattle.absorb.specs.FirstWord.{IsFirstWord}
 use Rattle.absorb.specs.Pieces.{word_of, first_word, without_first_word, together, inclusion, inclusions, pieces_of, all_pieces}
 use Rattle.absorb.specs.Sorted.{Sorted, no_pieces, with_pieces, sorted}
 
-inclusions-append : (cs ds : List Concept) (d : Concept) → inclusions (concepts_from (cs ++ ds)) d ≡ inclusions (concepts_from cs) d ++ inclusions (concepts_from ds) d
+inclusions-append : (cs ds : List Concept) (d : Concept)
+    → inclusions (concepts_from (cs ++ ds)) d ≡ inclusions (concepts_from cs) d ++ inclusions (concepts_from ds) d
 inclusions-append [] ds d = refl
 inclusions-append (c ∷ cs) ds d =
     ap (λ ps. inclusion c d ++ ps) (inclusions-append cs ds d)
     ∙ sym (Rattle.std.proofs.Common.append_assoc (inclusion c d) (inclusions (concepts_from cs) d) (inclusions (concepts_from ds) d))
 
 -- the pieces of one more member
-pub inclusions_more : (s t : Sorted) (cs : List Concept) (k : ℕ) (c d : Concept) → slice_get cs k ≡ Some c → t ≡ with_pieces s (inclusions (concepts_from (take k cs)) d) → with_pieces t (inclusion c d) ≡ with_pieces s (inclusions (concepts_from (take (k + 1) cs)) d)
+pub inclusions_more : (s t : Sorted) (cs : List Concept) (k : ℕ) (c d : Concept) → slice_get cs k ≡ Some c
+    → t ≡ with_pieces s (inclusions (concepts_from (take k cs)) d)
+    → with_pieces t (inclusion c d) ≡ with_pieces s (inclusions (concepts_from (take (k + 1) cs)) d)
 inclusions_more s t cs k c d at before =
     ap (λ u. with_pieces u (inclusion c d)) before
     ∙ sym (fold-append Rattle.absorb.specs.Sorted.with_piece s (inclusions (concepts_from (take k cs)) d) (inclusion c d))
@@ -29,7 +32,8 @@ inclusions_more s t cs k c d at before =
     ∙ sym (inclusions-append (take k cs) (c ∷ []) d) ∙ ap (λ xs. inclusions (concepts_from xs) d) (sym (take_slice_get cs k c at)))
 
 -- the pieces of one more axiom
-pub sorted_more : (t : Sorted) (claims : List Claim) (k : ℕ) (claim : Claim) → slice_get claims k ≡ Some claim → t ≡ sorted (take k claims) → with_pieces t (pieces_of claim) ≡ sorted (take (k + 1) claims)
+pub sorted_more : (t : Sorted) (claims : List Claim) (k : ℕ) (claim : Claim) → slice_get claims k ≡ Some claim → t ≡ sorted (take k claims)
+    → with_pieces t (pieces_of claim) ≡ sorted (take (k + 1) claims)
 sorted_more t claims k claim at before =
     ap (λ u. with_pieces u (pieces_of claim)) before
     ∙ sym (fold-append Rattle.absorb.specs.Sorted.with_piece no_pieces (all_pieces (take k claims)) (pieces_of claim))
@@ -42,7 +46,8 @@ none_before : (c : Concept) (cs : Concepts) (o : Option WordId) → option_map_o
 none_before c cs None h = (refl, h)
 none_before c cs (Some w) h = cc
 
-pub first_none : (cs : List Concept) (k : ℕ) (c : Concept) → slice_get cs k ≡ Some c → word_of c ≡ None → first_word (concepts_from (take k cs)) ≡ None → first_word (concepts_from (take (k + 1) cs)) ≡ None
+pub first_none : (cs : List Concept) (k : ℕ) (c : Concept) → slice_get cs k ≡ Some c → word_of c ≡ None → first_word (concepts_from (take k cs)) ≡ None
+    → first_word (concepts_from (take (k + 1) cs)) ≡ None
 first_none cs k c at none before =
     ap (λ xs. first_word (concepts_from xs)) (take_slice_get cs k c at) ∙ go (take k cs) before
   where
@@ -52,14 +57,16 @@ first_none cs k c at none before =
         let parts = none_before x (concepts_from xs) (word_of x) h in
         ap (λ o. option_map_or (λ w. Some w) o (first_word (concepts_from (xs ++ c ∷ [])))) parts.0 ∙ go xs parts.1
 
-pub first_found : (cs : List Concept) (k : ℕ) (c : Concept) (word : WordId) → slice_get cs k ≡ Some c → word_of c ≡ Some word → first_word (concepts_from (take k cs)) ≡ None → IsFirstWord cs k word
+pub first_found : (cs : List Concept) (k : ℕ) (c : Concept) (word : WordId) → slice_get cs k ≡ Some c → word_of c ≡ Some word
+    → first_word (concepts_from (take k cs)) ≡ None → IsFirstWord cs k word
 first_found cs k c word at is before = record {
   within = slice_get_within cs k c at;
   first = (go cs k at before).0;
   others = (go cs k at before).1;
 }
   where
-    go : (xs : List Concept) (j : ℕ) → slice_get xs j ≡ Some c → first_word (concepts_from (take j xs)) ≡ None → (first_word (concepts_from xs) ≡ Some word) × (without_first_word (concepts_from xs) ≡ concepts_from (remove xs j))
+    go : (xs : List Concept) (j : ℕ) → slice_get xs j ≡ Some c → first_word (concepts_from (take j xs)) ≡ None
+        → (first_word (concepts_from xs) ≡ Some word) × (without_first_word (concepts_from xs) ≡ concepts_from (remove xs j))
     go [] j at' none = absurd (nothing j at')
       where
         nothing : (j : ℕ) → slice_get {X = Concept} [] j ≡ Some c → ⊥

@@ -38,11 +38,18 @@ with_piece-all test s (Equality one other) =
     ∙ first (list_all (λ e. test (Equality e.0 e.1)) s.equalities) (test (Equality one other)) rest
   where
     rest : Bool
-    rest = list_all (λ e. test (RoleInclusion e.0 e.1)) s.role_inclusions && (list_all (λ e. test (Assertion e.0 e.1)) s.assertions && (list_all (λ e. test (Related e.0 e.1 e.2)) s.edges && (list_all (λ e. test (Difference e.0 e.1)) s.differences && (list_all (λ e. test (Unfolding e.0 e.1)) s.unfoldings && list_all (λ c. test (General c)) s.general))))
+    rest = list_all (λ e. test (RoleInclusion e.0 e.1)) s.role_inclusions
+        && (list_all (λ e. test (Assertion e.0 e.1)) s.assertions
+        && (list_all (λ e. test (Related e.0 e.1 e.2)) s.edges
+        && (list_all (λ e. test (Difference e.0 e.1)) s.differences
+        && (list_all (λ e. test (Unfolding e.0 e.1)) s.unfoldings && list_all (λ c. test (General c)) s.general))))
 with_piece-all test s (RoleInclusion one other) =
     let e = list_all (λ e. test (Equality e.0 e.1)) s.equalities in
     let r = list_all (λ e. test (RoleInclusion e.0 e.1)) s.role_inclusions in
-    let rest = list_all (λ e. test (Assertion e.0 e.1)) s.assertions && (list_all (λ e. test (Related e.0 e.1 e.2)) s.edges && (list_all (λ e. test (Difference e.0 e.1)) s.differences && (list_all (λ e. test (Unfolding e.0 e.1)) s.unfoldings && list_all (λ c. test (General c)) s.general))) in
+    let rest = list_all (λ e. test (Assertion e.0 e.1)) s.assertions
+    && (list_all (λ e. test (Related e.0 e.1 e.2)) s.edges
+    && (list_all (λ e. test (Difference e.0 e.1)) s.differences
+    && (list_all (λ e. test (Unfolding e.0 e.1)) s.unfoldings && list_all (λ c. test (General c)) s.general))) in
     ap (λ b. e && (b && rest)) (list_all-push (λ e. test (RoleInclusion e.0 e.1)) s.role_inclusions (one, other))
     ∙ ap (λ b. e && b) (first r (test (RoleInclusion one other)) rest) ∙ inside e (r && rest) (test (RoleInclusion one other))
 with_piece-all test s (Assertion name c) =
@@ -50,7 +57,9 @@ with_piece-all test s (Assertion name c) =
     let e = list_all (λ e. test (Equality e.0 e.1)) s.equalities in
     let r = list_all (λ e. test (RoleInclusion e.0 e.1)) s.role_inclusions in
     let a = list_all (λ e. test (Assertion e.0 e.1)) s.assertions in
-    let rest = list_all (λ e. test (Related e.0 e.1 e.2)) s.edges && (list_all (λ e. test (Difference e.0 e.1)) s.differences && (list_all (λ e. test (Unfolding e.0 e.1)) s.unfoldings && list_all (λ c. test (General c)) s.general)) in
+    let rest = list_all (λ e. test (Related e.0 e.1 e.2)) s.edges
+    && (list_all (λ e. test (Difference e.0 e.1)) s.differences
+    && (list_all (λ e. test (Unfolding e.0 e.1)) s.unfoldings && list_all (λ c. test (General c)) s.general)) in
     ap (λ b. e && (r && (b && rest))) (list_all-push (λ e. test (Assertion e.0 e.1)) s.assertions (name, c))
     ∙ ap (λ b. e && (r && b)) (first a t rest) ∙ ap (λ b. e && b) (inside r (a && rest) t) ∙ inside e (r && (a && rest)) t
 with_piece-all test s (Related role from to) =
@@ -59,9 +68,11 @@ with_piece-all test s (Related role from to) =
     let r = list_all (λ e. test (RoleInclusion e.0 e.1)) s.role_inclusions in
     let a = list_all (λ e. test (Assertion e.0 e.1)) s.assertions in
     let g = list_all (λ e. test (Related e.0 e.1 e.2)) s.edges in
-    let rest = list_all (λ e. test (Difference e.0 e.1)) s.differences && (list_all (λ e. test (Unfolding e.0 e.1)) s.unfoldings && list_all (λ c. test (General c)) s.general) in
+    let rest = list_all (λ e. test (Difference e.0 e.1)) s.differences
+    && (list_all (λ e. test (Unfolding e.0 e.1)) s.unfoldings && list_all (λ c. test (General c)) s.general) in
     ap (λ b. e && (r && (a && (b && rest)))) (list_all-push (λ e. test (Related e.0 e.1 e.2)) s.edges (role, from, to))
-    ∙ ap (λ b. e && (r && (a && b))) (first g t rest) ∙ ap (λ b. e && (r && b)) (inside a (g && rest) t) ∙ ap (λ b. e && b) (inside r (a && (g && rest)) t) ∙ inside e (r && (a && (g && rest))) t
+    ∙ ap (λ b. e && (r && (a && b))) (first g t rest) ∙ ap (λ b. e && (r && b)) (inside a (g && rest) t) ∙ ap (λ b. e && b) (inside r (a && (g && rest)) t)
+    ∙ inside e (r && (a && (g && rest))) t
 with_piece-all test s (Difference one other) =
     let t = test (Difference one other) in
     let e = list_all (λ e. test (Equality e.0 e.1)) s.equalities in
@@ -71,7 +82,8 @@ with_piece-all test s (Difference one other) =
     let d = list_all (λ e. test (Difference e.0 e.1)) s.differences in
     let rest = list_all (λ e. test (Unfolding e.0 e.1)) s.unfoldings && list_all (λ c. test (General c)) s.general in
     ap (λ b. e && (r && (a && (g && (b && rest))))) (list_all-push (λ e. test (Difference e.0 e.1)) s.differences (one, other))
-    ∙ ap (λ b. e && (r && (a && (g && b)))) (first d t rest) ∙ ap (λ b. e && (r && (a && b))) (inside g (d && rest) t) ∙ ap (λ b. e && (r && b)) (inside a (g && (d && rest)) t)
+    ∙ ap (λ b. e && (r && (a && (g && b)))) (first d t rest) ∙ ap (λ b. e && (r && (a && b))) (inside g (d && rest) t)
+    ∙ ap (λ b. e && (r && b)) (inside a (g && (d && rest)) t)
     ∙ ap (λ b. e && b) (inside r (a && (g && (d && rest))) t) ∙ inside e (r && (a && (g && (d && rest)))) t
 with_piece-all test s (Unfolding word c) =
     let t = test (Unfolding word c) in
@@ -83,8 +95,10 @@ with_piece-all test s (Unfolding word c) =
     let u = list_all (λ e. test (Unfolding e.0 e.1)) s.unfoldings in
     let rest = list_all (λ c. test (General c)) s.general in
     ap (λ b. e && (r && (a && (g && (d && (b && rest)))))) (list_all-push (λ e. test (Unfolding e.0 e.1)) s.unfoldings (word, c))
-    ∙ ap (λ b. e && (r && (a && (g && (d && b))))) (first u t rest) ∙ ap (λ b. e && (r && (a && (g && b)))) (inside d (u && rest) t) ∙ ap (λ b. e && (r && (a && b))) (inside g (d && (u && rest)) t)
-    ∙ ap (λ b. e && (r && b)) (inside a (g && (d && (u && rest))) t) ∙ ap (λ b. e && b) (inside r (a && (g && (d && (u && rest)))) t) ∙ inside e (r && (a && (g && (d && (u && rest))))) t
+    ∙ ap (λ b. e && (r && (a && (g && (d && b))))) (first u t rest) ∙ ap (λ b. e && (r && (a && (g && b)))) (inside d (u && rest) t)
+    ∙ ap (λ b. e && (r && (a && b))) (inside g (d && (u && rest)) t)
+    ∙ ap (λ b. e && (r && b)) (inside a (g && (d && (u && rest))) t) ∙ ap (λ b. e && b) (inside r (a && (g && (d && (u && rest)))) t)
+    ∙ inside e (r && (a && (g && (d && (u && rest))))) t
 with_piece-all test s (General c) =
     let t = test (General c) in
     let e = list_all (λ e. test (Equality e.0 e.1)) s.equalities in
@@ -95,8 +109,10 @@ with_piece-all test s (General c) =
     let u = list_all (λ e. test (Unfolding e.0 e.1)) s.unfoldings in
     let n = list_all (λ c. test (General c)) s.general in
     ap (λ b. e && (r && (a && (g && (d && (u && b)))))) (list_all-push (λ c. test (General c)) s.general c)
-    ∙ ap (λ b. e && (r && (a && (g && (d && b))))) (inside u n t) ∙ ap (λ b. e && (r && (a && (g && b)))) (inside d (u && n) t) ∙ ap (λ b. e && (r && (a && b))) (inside g (d && (u && n)) t)
-    ∙ ap (λ b. e && (r && b)) (inside a (g && (d && (u && n))) t) ∙ ap (λ b. e && b) (inside r (a && (g && (d && (u && n)))) t) ∙ inside e (r && (a && (g && (d && (u && n))))) t
+    ∙ ap (λ b. e && (r && (a && (g && (d && b))))) (inside u n t) ∙ ap (λ b. e && (r && (a && (g && b)))) (inside d (u && n) t)
+    ∙ ap (λ b. e && (r && (a && b))) (inside g (d && (u && n)) t)
+    ∙ ap (λ b. e && (r && b)) (inside a (g && (d && (u && n))) t) ∙ ap (λ b. e && b) (inside r (a && (g && (d && (u && n)))) t)
+    ∙ inside e (r && (a && (g && (d && (u && n))))) t
 
 with_pieces-all : (test : Piece → Bool) (s : Sorted) (ps : List Piece) → all_sorted test (with_pieces s ps) ≡ (all_sorted test s && list_all test ps)
 with_pieces-all test s [] = sym (and-true (all_sorted test s))

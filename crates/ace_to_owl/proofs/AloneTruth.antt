@@ -65,7 +65,8 @@ denied_says i (Negation k) claim e f = absurd (no_claim claim e)
 denied_says i (Implication k l) claim e f = absurd (no_claim claim e)
 denied_says i (Disjunction k l) claim e f = absurd (no_claim claim e)
 
-negation_by : (i : Interpretation) (k : Structure) (claim : Claim) (o : Option Condition) → only_fact k ≡ o → (elim o [ Some d ↦ denied_claim d | None ↦ None ]) ≡ Some claim → Says i claim (Negation k)
+negation_by : (i : Interpretation) (k : Structure) (claim : Claim) (o : Option Condition) → only_fact k ≡ o
+    → (elim o [ Some d ↦ denied_claim d | None ↦ None ]) ≡ Some claim → Says i claim (Negation k)
 negation_by i k claim (Some d) is e = record { truth = λ f. denied_says i d claim e f ∙ sym (ap not (fact_true i k d is f)) }
 negation_by i k claim None is e = absurd (no_claim claim e)
 
@@ -78,7 +79,8 @@ record Two (rs : List ℕ) (x y : ℕ) : Type 0 where
 
 two_by : (p q x y : ℕ) → all_distinct (p ∷ q ∷ []) ≡ true → (((x ≡ p) × (y ≡ q)) ⊎ ((x ≡ q) × (y ≡ p))) → Two (p ∷ q ∷ []) x y
 two_by p q x y once which =
-    let apart : ¬ (p ≡ q) = λ same. not_both (is_bound (q ∷ []) p) (and_first (not (is_bound (q ∷ []) p)) (all_distinct (q ∷ [])) once) (ap (λ b. b || false) (eq-eqb q p (sym same))) in
+    let apart : ¬ (p ≡ q) = λ same. not_both (is_bound (q ∷ []) p) (and_first (not (is_bound (q ∷ []) p)) (all_distinct (q ∷ [])) once)
+    (ap (λ b. b || false) (eq-eqb q p (sym same))) in
     let one : is_bound (p ∷ q ∷ []) p ≡ true = ap (λ b. b || is_bound (q ∷ []) p) (eq-eqb p p refl) in
     let two : is_bound (p ∷ q ∷ []) q ≡ true = or_right (p == q) (is_bound (q ∷ []) q) (ap (λ b. b || false) (eq-eqb q q refl)) in
     let all : (r : ℕ) → is_bound (p ∷ q ∷ []) r ≡ true → (p ≡ r) ⊎ (q ≡ r) =
@@ -113,7 +115,8 @@ two_of (p ∷ q ∷ []) x y once h =
 two_of (p ∷ q ∷ r ∷ rs) x y once h = let flip : false ≡ true = h in absurd (both_ways false refl flip)
 
 -- each of two numbers below a size passes where each extension to two referents does
-pairs_same : (n : ℕ) (rs : List ℕ) (x y : ℕ) (test : ℕ → ℕ → Bool) (other : (ℕ → ℕ) → Bool) (f : ℕ → ℕ) → Two rs x y → ((g : ℕ → ℕ) → other g ≡ test (g x) (g y)) → each_below n (λ a. each_below n (λ b. test a b)) ≡ each_extension n rs other f
+pairs_same : (n : ℕ) (rs : List ℕ) (x y : ℕ) (test : ℕ → ℕ → Bool) (other : (ℕ → ℕ) → Bool) (f : ℕ → ℕ) → Two rs x y
+    → ((g : ℕ → ℕ) → other g ≡ test (g x) (g y)) → each_below n (λ a. each_below n (λ b. test a b)) ≡ each_extension n rs other f
 pairs_same n rs x y test other f two same =
     let all : Decides (each_below n (λ a. each_below n (λ b. test a b))) ((a : ℕ) → a < n → (b : ℕ) → b < n → test a b ≡ true) =
     each_below-Decides n (λ a. each_below n (λ b. test a b)) (λ a. (b : ℕ) → b < n → test a b ≡ true)
@@ -139,23 +142,40 @@ pairs_same n rs x y test other f two same =
     sym (λ j. test (at_x j) (at_y j)) ∙ sym (same (giving (giving f x a) y b)) ∙ each.0 h (giving (giving f x a) y b) extends))
 
 -- an implication between two relations
-pair_says : (i : Interpretation) (rs : List ℕ) (below : WordId) (x y : ℕ) (above : WordId) (u v : ℕ) (claim : Claim) (l : Structure) (pair straight_on swapped : Bool) → all_distinct rs ≡ true → is_pair rs x y ≡ pair → ((u == x) && (v == y)) ≡ straight_on → ((u == y) && (v == x)) ≡ swapped → ((f : ℕ → ℕ) → is_true i l f ≡ has_pair i above (f u) (f v)) → (if not pair then None else if straight_on then Some (SubPropertyOf (straight below) (straight above)) else if swapped then Some (SubPropertyOf (straight below) (inverse above)) else None) ≡ Some claim → Says i claim (Implication (structure rs (also_condition (AreRelated below (Ref x) (Ref y)) no_condition)) l)
+pair_says : (i : Interpretation) (rs : List ℕ) (below : WordId) (x y : ℕ) (above : WordId) (u v : ℕ) (claim : Claim) (l : Structure)
+    (pair straight_on swapped : Bool) → all_distinct rs ≡ true → is_pair rs x y ≡ pair → ((u == x) && (v == y)) ≡ straight_on → ((u == y) && (v == x)) ≡ swapped
+    → ((f : ℕ → ℕ) → is_true i l f ≡ has_pair i above (f u) (f v))
+    → (if not pair then None else if straight_on then Some (SubPropertyOf (straight below) (straight above)) else if swapped
+    then Some (SubPropertyOf (straight below) (inverse above)) else None) ≡ Some claim
+    → Says i claim (Implication (structure rs (also_condition (AreRelated below (Ref x) (Ref y)) no_condition)) l)
 pair_says i rs below x y above u v claim l false straight_on swapped once is_p is_s is_w right e = absurd (no_claim claim e)
 pair_says i rs below x y above u v claim l true true swapped once is_p is_s is_w right e =
-    says_at i (SubPropertyOf (straight below) (straight above)) claim (Implication (structure rs (also_condition (AreRelated below (Ref x) (Ref y)) no_condition)) l) (same_Some (SubPropertyOf (straight below) (straight above)) claim e)
+    says_at i (SubPropertyOf (straight below) (straight above)) claim
+    (Implication (structure rs (also_condition (AreRelated below (Ref x) (Ref y)) no_condition)) l)
+    (same_Some (SubPropertyOf (straight below) (straight above)) claim e)
     (record {
-      truth = λ f. pairs_same i.size rs x y (λ a b. implies (has_pair i below a b) (has_pair i above a b)) (λ g. implies (has_pair i below (g x) (g y) && true) (is_true i l g)) f (two_of rs x y once is_p)
-          (λ g j. implies (and-true (has_pair i below (g x) (g y)) j) ((right g ∙ (λ k. has_pair i above (g (eqb-true u x (and_first (u == x) (v == y) is_s) k)) (g (eqb-true v y (and_second (u == x) (v == y) is_s) k)))) j));
+      truth = λ f. pairs_same i.size rs x y (λ a b. implies (has_pair i below a b) (has_pair i above a b))
+          (λ g. implies (has_pair i below (g x) (g y) && true) (is_true i l g)) f (two_of rs x y once is_p)
+          (λ g j. implies (and-true (has_pair i below (g x) (g y)) j)
+          ((right g ∙ (λ k. has_pair i above (g (eqb-true u x (and_first (u == x) (v == y) is_s) k))
+          (g (eqb-true v y (and_second (u == x) (v == y) is_s) k)))) j));
     })
 pair_says i rs below x y above u v claim l true false true once is_p is_s is_w right e =
-    says_at i (SubPropertyOf (straight below) (inverse above)) claim (Implication (structure rs (also_condition (AreRelated below (Ref x) (Ref y)) no_condition)) l) (same_Some (SubPropertyOf (straight below) (inverse above)) claim e)
+    says_at i (SubPropertyOf (straight below) (inverse above)) claim
+    (Implication (structure rs (also_condition (AreRelated below (Ref x) (Ref y)) no_condition)) l)
+    (same_Some (SubPropertyOf (straight below) (inverse above)) claim e)
     (record {
-      truth = λ f. pairs_same i.size rs x y (λ a b. implies (has_pair i below a b) (has_pair i above b a)) (λ g. implies (has_pair i below (g x) (g y) && true) (is_true i l g)) f (two_of rs x y once is_p)
-          (λ g j. implies (and-true (has_pair i below (g x) (g y)) j) ((right g ∙ (λ k. has_pair i above (g (eqb-true u y (and_first (u == y) (v == x) is_w) k)) (g (eqb-true v x (and_second (u == y) (v == x) is_w) k)))) j));
+      truth = λ f. pairs_same i.size rs x y (λ a b. implies (has_pair i below a b) (has_pair i above b a))
+          (λ g. implies (has_pair i below (g x) (g y) && true) (is_true i l g)) f (two_of rs x y once is_p)
+          (λ g j. implies (and-true (has_pair i below (g x) (g y)) j)
+          ((right g ∙ (λ k. has_pair i above (g (eqb-true u y (and_first (u == y) (v == x) is_w) k))
+          (g (eqb-true v x (and_second (u == y) (v == x) is_w) k)))) j));
     })
 pair_says i rs below x y above u v claim l true false false once is_p is_s is_w right e = absurd (no_claim claim e)
 
-role_says : (i : Interpretation) (rs : List ℕ) (c d : Condition) (claim : Claim) (l : Structure) → all_distinct rs ≡ true → ((f : ℕ → ℕ) → is_true i l f ≡ condition_true i d f) → role_claim rs c d ≡ Some claim → Says i claim (Implication (structure rs (also_condition c no_condition)) l)
+role_says : (i : Interpretation) (rs : List ℕ) (c d : Condition) (claim : Claim) (l : Structure) → all_distinct rs ≡ true
+    → ((f : ℕ → ℕ) → is_true i l f ≡ condition_true i d f) → role_claim rs c d ≡ Some claim
+    → Says i claim (Implication (structure rs (also_condition c no_condition)) l)
 role_says i rs (AreRelated below (Ref x) (Ref y)) (AreRelated above (Ref u) (Ref v)) claim l once right e =
     pair_says i rs below x y above u v claim l (is_pair rs x y) ((u == x) && (v == y)) ((u == y) && (v == x)) once refl refl refl right e
 role_says i rs (AreRelated below (Ref x) (Ref y)) (AreRelated above (Ref u) (Name b)) claim l once right e = absurd (no_claim claim e)
@@ -173,19 +193,23 @@ role_says i rs (Negation k) d claim l once right e = absurd (no_claim claim e)
 role_says i rs (Implication k m) d claim l once right e = absurd (no_claim claim e)
 role_says i rs (Disjunction k m) d claim l once right e = absurd (no_claim claim e)
 
-subrole_by : (i : Interpretation) (k l : Structure) (claim : Claim) (o p : Option Condition) → all_distinct (referents_in k) ≡ true → only_condition k ≡ o → only_fact l ≡ p → (elim o [ Some c ↦ elim p [ Some d ↦ role_claim (referents_in k) c d | None ↦ None ] | None ↦ None ]) ≡ Some claim → Says i claim (Implication k l)
+subrole_by : (i : Interpretation) (k l : Structure) (claim : Claim) (o p : Option Condition) → all_distinct (referents_in k) ≡ true → only_condition k ≡ o
+    → only_fact l ≡ p → (elim o [ Some c ↦ elim p [ Some d ↦ role_claim (referents_in k) c d | None ↦ None ] | None ↦ None ]) ≡ Some claim
+    → Says i claim (Implication k l)
 subrole_by i k l claim (Some c) (Some d) once is_c is_d e =
     subst (λ s. Says i claim (Implication s l)) (sym (only_is k c is_c)) (role_says i (referents_in k) c d claim l once (λ f. fact_true i l d is_d f) e)
 subrole_by i k l claim (Some c) None once is_c is_d e = absurd (no_claim claim e)
 subrole_by i k l claim None p once is_c is_d e = absurd (no_claim claim e)
 
 -- a condition that is an axiom as it stands
-pub plain_says : (i : Interpretation) (c : Condition) (claim : Claim) → all_distinct (introduced_in_condition c) ≡ true → plain_claim c ≡ Some claim → Says i claim c
+pub plain_says : (i : Interpretation) (c : Condition) (claim : Claim) → all_distinct (introduced_in_condition c) ≡ true → plain_claim c ≡ Some claim
+    → Says i claim c
 plain_says i (IsA noun (Name a)) claim once e =
     says_at i (ClassAssertion (Atomic noun) a) claim (IsA noun (Name a)) (same_Some (ClassAssertion (Atomic noun) a) claim e) (record { truth = λ f. refl })
 plain_says i (IsA noun (Ref r)) claim once e = absurd (no_claim claim e)
 plain_says i (AreRelated word (Name a) (Name b)) claim once e =
-    says_at i (PropertyAssertion (straight word) a b) claim (AreRelated word (Name a) (Name b)) (same_Some (PropertyAssertion (straight word) a b) claim e) (record { truth = λ f. refl })
+    says_at i (PropertyAssertion (straight word) a b) claim (AreRelated word (Name a) (Name b)) (same_Some (PropertyAssertion (straight word) a b) claim e)
+    (record { truth = λ f. refl })
 plain_says i (AreRelated word (Name a) (Ref r)) claim once e = absurd (no_claim claim e)
 plain_says i (AreRelated word (Ref r) t) claim once e = absurd (no_claim claim e)
 plain_says i (AreSame (Name a) (Name b)) claim once e =
@@ -194,7 +218,8 @@ plain_says i (AreSame (Name a) (Ref r)) claim once e = absurd (no_claim claim e)
 plain_says i (AreSame (Ref r) t) claim once e = absurd (no_claim claim e)
 plain_says i (Negation k) claim once e = negation_by i k claim (only_fact k) refl e
 plain_says i (Implication k l) claim once e =
-    subrole_by i k l claim (only_condition k) (only_fact l) (distinct_in k (Rattle.ace_to_owl.proofs.Fresh.apart_of (introduced_in k) (introduced_in l) once).first) refl refl e
+    subrole_by i k l claim (only_condition k) (only_fact l)
+    (distinct_in k (Rattle.ace_to_owl.proofs.Fresh.apart_of (introduced_in k) (introduced_in l) once).first) refl refl e
   where
     distinct_in : (s : Structure) → all_distinct (introduced_in s) ≡ true → all_distinct (referents_in s) ≡ true
     distinct_in (structure rs cs) h = (Rattle.ace_to_owl.proofs.Fresh.apart_of rs (introduced_in_all cs) h).first
@@ -204,11 +229,16 @@ plain_says i (Disjunction k l) claim once e = absurd (no_claim claim e)
 alone_fresh : (c : Condition) → fresh_in_condition [] c ≡ true → fresh_in [] (alone c) ≡ true
 alone_fresh c h = and-true (fresh_in_condition [] c) ∙ h
 
-pub member_says : (i : Interpretation) (name : WordId) (c : Condition) (claim : Claim) → fresh_in_condition [] c ≡ true → member_claim name (alone c) ≡ Ok claim → Says i claim c
+pub member_says : (i : Interpretation) (name : WordId) (c : Condition) (claim : Claim) → fresh_in_condition [] c ≡ true → member_claim name (alone c) ≡ Ok claim
+    → Says i claim c
 member_says i name c claim fresh e =
-    let w : Went (roll (Some (Name name)) (alone c)) (λ d. Ok (ClassAssertion d name)) claim = went (roll (Some (Name name)) (alone c)) (λ d. Ok (ClassAssertion d name)) claim e in
+    let w : Went (roll (Some (Name name)) (alone c)) (λ d. Ok (ClassAssertion d name)) claim =
+    went (roll (Some (Name name)) (alone c)) (λ d. Ok (ClassAssertion d name)) claim e in
     says_at i (ClassAssertion w.from name) claim c (ok_same (ClassAssertion w.from name) claim w.after)
-    (record { truth = λ f. roll_true i [] (Some (Name name)) (alone c) w.from (alone_fresh c fresh) tt w.first f (element_of i name) refl ∙ and-true (condition_true i c f) })
+    (record {
+      truth = λ f. roll_true i [] (Some (Name name)) (alone c) w.from (alone_fresh c fresh) tt w.first f (element_of i name) refl
+          ∙ and-true (condition_true i c f);
+    })
 
 constant : (n : ℕ) (b : Bool) → each_below n (λ x. b) ≡ true → 0 < n → b ≡ true
 constant zero b h pos = absurd (omega arith)
@@ -244,7 +274,8 @@ without_fresh x (structure rs cs) fresh own =
       | inr later ↦ (bound_filter (λ p. not (p == x)) rs q later).0
     ]
 
-    out_cond : (t : Bool) (p : ℕ) (more : List ℕ) → (p == x) ≡ t → list_all (λ r. not (is_bound (x ∷ []) r)) more ≡ true → list_all (λ r. not (is_bound (x ∷ []) r)) (Rattle.std.specs.Prelude.cond (not t) (p ∷ more) more) ≡ true
+    out_cond : (t : Bool) (p : ℕ) (more : List ℕ) → (p == x) ≡ t → list_all (λ r. not (is_bound (x ∷ []) r)) more ≡ true
+        → list_all (λ r. not (is_bound (x ∷ []) r)) (Rattle.std.specs.Prelude.cond (not t) (p ∷ more) more) ≡ true
     out_cond true p more is h = h
     out_cond false p more is h =
         and_from (not ((x == p) || false)) (list_all (λ r. not (is_bound (x ∷ []) r)) more)
@@ -258,34 +289,48 @@ without_fresh x (structure rs cs) fresh own =
     out (p ∷ ps) = out_cond (p == x) p (filter (λ q. not (q == x)) ps) refl (out ps)
 
 -- each element for which the left side is true is one for which the right side is
-implication_same : (i : Interpretation) (x : ℕ) (rs : List ℕ) (cs : Conditions) (l : Structure) (c d : Concept) → is_bound rs x ≡ true → ((g : ℕ → ℕ) (y : ℕ) → g x ≡ y → is_in i c y ≡ is_true i (without x (structure rs cs)) g) → ((g : ℕ → ℕ) (y : ℕ) → g x ≡ y → is_in i d y ≡ is_true i l g) → (f : ℕ → ℕ) → holds i (SubClassOf c d) ≡ condition_true i (Implication (structure rs cs) l) f
+implication_same : (i : Interpretation) (x : ℕ) (rs : List ℕ) (cs : Conditions) (l : Structure) (c d : Concept) → is_bound rs x ≡ true
+    → ((g : ℕ → ℕ) (y : ℕ) → g x ≡ y → is_in i c y ≡ is_true i (without x (structure rs cs)) g) → ((g : ℕ → ℕ) (y : ℕ) → g x ≡ y → is_in i d y ≡ is_true i l g)
+    → (f : ℕ → ℕ) → holds i (SubClassOf c d) ≡ condition_true i (Implication (structure rs cs) l) f
 implication_same i x rs cs l c d own left right f =
     let others : List ℕ = filter (λ q. not (q == x)) rs in
     let all : Decides (each_below i.size (λ y. implies (is_in i c y) (is_in i d y))) ((y : ℕ) → y < i.size → is_in i c y ≡ true → is_in i d y ≡ true) =
     each_below-Decides i.size (λ y. implies (is_in i c y) (is_in i d y)) (λ y. is_in i c y ≡ true → is_in i d y ≡ true)
     (λ y. implication (is_in i c y) (is_in i d y)) in
-    let each : Decides (each_extension i.size rs (λ g. implies (all_true i cs g) (is_true i l g)) f) ((g : ℕ → ℕ) → Extends i.size rs f g → all_true i cs g ≡ true → is_true i l g ≡ true) =
+    let each : Decides (each_extension i.size rs (λ g. implies (all_true i cs g) (is_true i l g)) f)
+    ((g : ℕ → ℕ) → Extends i.size rs f g → all_true i cs g ≡ true → is_true i l g ≡ true) =
     each_extension-Decides i.size rs (λ g. implies (all_true i cs g) (is_true i l g)) (λ g. all_true i cs g ≡ true → is_true i l g ≡ true)
     (λ g. implication (all_true i cs g) (is_true i l g)) f in
     same_tests (each_below i.size (λ y. implies (is_in i c y) (is_in i d y))) (each_extension i.size rs (λ g. implies (all_true i cs g) (is_true i l g)) f)
     (λ h. each.1 (λ g extends trues.
     let some : some_extension i.size (filter (λ q. not (q == x)) rs) (λ k. all_true i cs k) g ≡ true =
-    (some_extension-Decides i.size (filter (λ q. not (q == x)) rs) (λ k. all_true i cs k) (λ k. all_true i cs k ≡ true) (λ k. (λ t. t, λ t. t)) g).1
-    (g, record { introduced = λ q in_others. extends.introduced q ((list_any-Contains rs q).0 (bound_filter (λ p. not (p == x)) rs q ((list_any-Contains (filter (λ p. not (p == x)) rs) q).1 in_others)).0); others = λ q out. refl }, trues) in
+    (some_extension-Decides i.size (filter (λ q. not (q == x)) rs) (λ k. all_true i cs k) (λ k. all_true i cs k ≡ true) (λ k. (λ t. t, λ t. t)) g).1 (
+      g,
+      record {
+        introduced = λ q in_others. extends.introduced q
+            ((list_any-Contains rs q).0 (bound_filter (λ p. not (p == x)) rs q ((list_any-Contains (filter (λ p. not (p == x)) rs) q).1 in_others)).0);
+        others = λ q out. refl;
+      },
+      trues,
+    ) in
     sym (right g (g x) refl) ∙ all.0 h (g x) (extends.introduced x ((list_any-Contains rs x).0 own)) (left g (g x) refl ∙ some)))
     (λ h. all.1 (λ y less inside.
     let start : giving f x y x ≡ y = same_at f x y x refl in
     let w : (g : ℕ → ℕ) × Extends i.size (filter (λ q. not (q == x)) rs) (giving f x y) g × (all_true i cs g ≡ true) =
-    (some_extension-Decides i.size (filter (λ q. not (q == x)) rs) (λ k. all_true i cs k) (λ k. all_true i cs k ≡ true) (λ k. (λ t. t, λ t. t)) (giving f x y)).0
+    (some_extension-Decides i.size (filter (λ q. not (q == x)) rs) (λ k. all_true i cs k) (λ k. all_true i cs k ≡ true) (λ k. (λ t. t, λ t. t))
+    (giving f x y)).0
     (sym (left (giving f x y) y start) ∙ inside) in
-    let kept : w.0 x ≡ y = w.1.others x (λ in_others. not_both (x == x) (bound_filter (λ p. not (p == x)) rs x ((list_any-Contains (filter (λ p. not (p == x)) rs) x).1 in_others)).1 (eq-eqb x x refl)) ∙ start in
+    let kept : w.0 x ≡ y = w.1.others x (λ in_others. not_both (x == x)
+    (bound_filter (λ p. not (p == x)) rs x ((list_any-Contains (filter (λ p. not (p == x)) rs) x).1 in_others)).1 (eq-eqb x x refl)) ∙ start in
     let extends : Extends i.size rs f w.0 = record {
       introduced = λ q own_q. elim (cases_eq q x) [
         | inl same ↦ subst (λ m. m < i.size) (sym (ap w.0 same ∙ kept)) less
-        | inr ne ↦ w.1.introduced q ((list_any-Contains (filter (λ p. not (p == x)) rs) q).0 (filter_bound (λ p. not (p == x)) rs q ((list_any-Contains rs q).1 own_q) (ap not (ne_eqb q x ne))))
+        | inr ne ↦ w.1.introduced q ((list_any-Contains (filter (λ p. not (p == x)) rs) q).0
+            (filter_bound (λ p. not (p == x)) rs q ((list_any-Contains rs q).1 own_q) (ap not (ne_eqb q x ne))))
       ];
       others = λ q out.
-          w.1.others q (λ in_others. out ((list_any-Contains rs q).0 (bound_filter (λ p. not (p == x)) rs q ((list_any-Contains (filter (λ p. not (p == x)) rs) q).1 in_others)).0))
+          w.1.others q (λ in_others. out
+          ((list_any-Contains rs q).0 (bound_filter (λ p. not (p == x)) rs q ((list_any-Contains (filter (λ p. not (p == x)) rs) q).1 in_others)).0))
           ∙ other_at f x y q (λ same. out (subst (Contains rs) same ((list_any-Contains rs x).0 own)));
     } in
     right w.0 y kept ∙ each.0 h w.0 extends w.2))
@@ -294,19 +339,27 @@ implication_same i x rs cs l c d own left right f =
     implication true b = (λ h t. h, λ h. h refl)
     implication false b = (λ h t. absurd (both_ways false refl t), λ h. refl)
 
-subclass_by : (i : Interpretation) (x : ℕ) (k l : Structure) (c d : Concept) → is_bound (referents_in k) x ≡ true → ((g : ℕ → ℕ) (y : ℕ) → g x ≡ y → is_in i c y ≡ is_true i (without x k) g) → ((g : ℕ → ℕ) (y : ℕ) → g x ≡ y → is_in i d y ≡ is_true i l g) → (f : ℕ → ℕ) → holds i (SubClassOf c d) ≡ condition_true i (Implication k l) f
+subclass_by : (i : Interpretation) (x : ℕ) (k l : Structure) (c d : Concept) → is_bound (referents_in k) x ≡ true
+    → ((g : ℕ → ℕ) (y : ℕ) → g x ≡ y → is_in i c y ≡ is_true i (without x k) g) → ((g : ℕ → ℕ) (y : ℕ) → g x ≡ y → is_in i d y ≡ is_true i l g) → (f : ℕ → ℕ)
+    → holds i (SubClassOf c d) ≡ condition_true i (Implication k l) f
 subclass_by i x (structure rs cs) l c d own left right f = implication_same i x rs cs l c d own left right f
 
 one_covered : (x : ℕ) → is_bound (x ∷ []) x ≡ true
 one_covered x = ap (λ b. b || false) (eq-eqb x x refl)
 
-pub subclass_says : (i : Interpretation) (x : ℕ) (k l : Structure) (claim : Claim) → fresh_in_condition [] (Implication k l) ≡ true → is_bound (referents_in k) x ≡ true → subclass_claim x k l ≡ Ok claim → Says i claim (Implication k l)
+pub subclass_says : (i : Interpretation) (x : ℕ) (k l : Structure) (claim : Claim) → fresh_in_condition [] (Implication k l) ≡ true
+    → is_bound (referents_in k) x ≡ true → subclass_claim x k l ≡ Ok claim → Says i claim (Implication k l)
 subclass_says i x k l claim fresh own e =
-    let w : Went (roll (Some (Ref x)) (without x k)) (λ c. next (roll (Some (Ref x)) l) (λ d. Ok (SubClassOf c d))) claim = went (roll (Some (Ref x)) (without x k)) (λ c. next (roll (Some (Ref x)) l) (λ d. Ok (SubClassOf c d))) claim e in
+    let w : Went (roll (Some (Ref x)) (without x k)) (λ c. next (roll (Some (Ref x)) l) (λ d. Ok (SubClassOf c d))) claim =
+    went (roll (Some (Ref x)) (without x k)) (λ c. next (roll (Some (Ref x)) l) (λ d. Ok (SubClassOf c d))) claim e in
     let v : Went (roll (Some (Ref x)) l) (λ d. Ok (SubClassOf w.from d)) claim = went (roll (Some (Ref x)) l) (λ d. Ok (SubClassOf w.from d)) claim w.after in
     let left : fresh_in (x ∷ []) (without x k) ≡ true = without_fresh x k (and_first (fresh_in [] k) (fresh_in (referents_in k) l) fresh) own in
     let right : fresh_in (x ∷ []) l ≡ true = fresh_less (x ∷ []) (referents_in k) l
-    (λ q h. elim (or_cases (x == q) false h) [ inl here ↦ sym (ap (is_bound (referents_in k)) (eqb-true x q here)) ∙ own | inr is_not ↦ absurd (both_ways false refl is_not) ])
+    (λ q h. elim (or_cases (x == q) false h) [
+      | inl here ↦ sym (ap (is_bound (referents_in k)) (eqb-true x q here)) ∙ own
+      | inr is_not ↦
+          absurd (both_ways false refl is_not)
+    ])
     (and_second (fresh_in [] k) (fresh_in (referents_in k) l) fresh) in
     says_at i (SubClassOf w.from v.from) claim (Implication k l) (ok_same (SubClassOf w.from v.from) claim v.after)
     (record {
@@ -316,12 +369,14 @@ subclass_says i x k l claim fresh own e =
     })
 
 -- the cases, one after another
-leading_by : (i : Interpretation) (k l : Structure) (rs : List ℕ) (claim : Claim) → 0 < i.size → fresh_in_condition [] (Implication k l) ≡ true → referents_in k ≡ rs → leading_claim k l rs ≡ Ok claim → Says i claim (Implication k l)
+leading_by : (i : Interpretation) (k l : Structure) (rs : List ℕ) (claim : Claim) → 0 < i.size → fresh_in_condition [] (Implication k l) ≡ true
+    → referents_in k ≡ rs → leading_claim k l rs ≡ Ok claim → Says i claim (Implication k l)
 leading_by i k l [] claim pos fresh is e = other_says i (Implication k l) claim pos fresh e
 leading_by i k l (x ∷ xs) claim pos fresh is e =
     subclass_says i x k l claim fresh (ap (λ rs. is_bound rs x) is ∙ ap (λ b. b || is_bound xs x) (eq-eqb x x refl)) e
 
-nameless_says : (i : Interpretation) (c : Condition) (claim : Claim) → 0 < i.size → fresh_in_condition [] c ≡ true → nameless_claim c ≡ Ok claim → Says i claim c
+nameless_says : (i : Interpretation) (c : Condition) (claim : Claim) → 0 < i.size → fresh_in_condition [] c ≡ true → nameless_claim c ≡ Ok claim
+    → Says i claim c
 nameless_says i (Implication k l) claim pos fresh e = leading_by i k l (referents_in k) claim pos fresh refl e
 nameless_says i (IsA noun t) claim pos fresh e = other_says i (IsA noun t) claim pos fresh e
 nameless_says i (AreRelated word t u) claim pos fresh e = other_says i (AreRelated word t u) claim pos fresh e
@@ -329,14 +384,16 @@ nameless_says i (AreSame t u) claim pos fresh e = other_says i (AreSame t u) cla
 nameless_says i (Negation k) claim pos fresh e = other_says i (Negation k) claim pos fresh e
 nameless_says i (Disjunction k l) claim pos fresh e = other_says i (Disjunction k l) claim pos fresh e
 
-named_by : (i : Interpretation) (c : Condition) (claim : Claim) (o : Option WordId) → 0 < i.size → fresh_in_condition [] c ≡ true → ◌≡◌ {A = Result Claim Cause} (elim o [ Some name ↦ member_claim name (alone c) | None ↦ nameless_claim c ]) (Ok claim) → Says i claim c
+named_by : (i : Interpretation) (c : Condition) (claim : Claim) (o : Option WordId) → 0 < i.size → fresh_in_condition [] c ≡ true
+    → ◌≡◌ {A = Result Claim Cause} (elim o [ Some name ↦ member_claim name (alone c) | None ↦ nameless_claim c ]) (Ok claim) → Says i claim c
 named_by i c claim (Some name) pos fresh e = member_says i name c claim fresh e
 named_by i c claim None pos fresh e = nameless_says i c claim pos fresh e
 
 named_says : (i : Interpretation) (c : Condition) (claim : Claim) → 0 < i.size → fresh_in_condition [] c ≡ true → named_claim c ≡ Ok claim → Says i claim c
 named_says i c claim pos fresh e = named_by i c claim (first_name (terms_in_condition [] c)) pos fresh e
 
-used_by : (i : Interpretation) (k l : Structure) (used : List ℕ) (claim : Claim) → 0 < i.size → fresh_in_condition [] (Implication k l) ≡ true → ((q : ℕ) → is_bound used q ≡ true → is_bound (referents_in k) q ≡ true) → used_claim k l used ≡ Ok claim → Says i claim (Implication k l)
+used_by : (i : Interpretation) (k l : Structure) (used : List ℕ) (claim : Claim) → 0 < i.size → fresh_in_condition [] (Implication k l) ≡ true
+    → ((q : ℕ) → is_bound used q ≡ true → is_bound (referents_in k) q ≡ true) → used_claim k l used ≡ Ok claim → Says i claim (Implication k l)
 used_by i k l [] claim pos fresh own e = named_says i (Implication k l) claim pos fresh e
 used_by i k l (x ∷ xs) claim pos fresh own e = by (list_all (λ q. q == x) xs) e
   where
@@ -344,18 +401,23 @@ used_by i k l (x ∷ xs) claim pos fresh own e = by (list_all (λ q. q == x) xs)
     by true h = subclass_says i x k l claim fresh (own x (ap (λ b. b || is_bound xs x) (eq-eqb x x refl))) h
     by false h = absurd (no_err Shared claim h)
 
-compound_says : (i : Interpretation) (c : Condition) (claim : Claim) → 0 < i.size → fresh_in_condition [] c ≡ true → compound_claim c ≡ Ok claim → Says i claim c
+compound_says : (i : Interpretation) (c : Condition) (claim : Claim) → 0 < i.size → fresh_in_condition [] c ≡ true → compound_claim c ≡ Ok claim
+    → Says i claim c
 compound_says i (Implication k l) claim pos fresh e =
-    used_by i k l (referents_among (referents_in k) (terms_in [] l)) claim pos fresh (λ q h. Rattle.ace_to_owl.proofs.TermsTruth.own_bound (referents_in k) (terms_in [] l) q h) e
+    used_by i k l (referents_among (referents_in k) (terms_in [] l)) claim pos fresh
+    (λ q h. Rattle.ace_to_owl.proofs.TermsTruth.own_bound (referents_in k) (terms_in [] l) q h) e
 compound_says i (IsA noun t) claim pos fresh e = named_says i (IsA noun t) claim pos fresh e
 compound_says i (AreRelated word t u) claim pos fresh e = named_says i (AreRelated word t u) claim pos fresh e
 compound_says i (AreSame t u) claim pos fresh e = named_says i (AreSame t u) claim pos fresh e
 compound_says i (Negation k) claim pos fresh e = named_says i (Negation k) claim pos fresh e
 compound_says i (Disjunction k l) claim pos fresh e = named_says i (Disjunction k l) claim pos fresh e
 
-alone_by : (i : Interpretation) (c : Condition) (claim : Claim) (o : Option Claim) → 0 < i.size → all_distinct (introduced_in_condition c) ≡ true → fresh_in_condition [] c ≡ true → plain_claim c ≡ o → ◌≡◌ {A = Result Claim Cause} (elim o [ Some plain ↦ Ok plain | None ↦ compound_claim c ]) (Ok claim) → Says i claim c
+alone_by : (i : Interpretation) (c : Condition) (claim : Claim) (o : Option Claim) → 0 < i.size → all_distinct (introduced_in_condition c) ≡ true
+    → fresh_in_condition [] c ≡ true → plain_claim c ≡ o → ◌≡◌ {A = Result Claim Cause} (elim o [ Some plain ↦ Ok plain | None ↦ compound_claim c ]) (Ok claim)
+    → Says i claim c
 alone_by i c claim (Some plain) pos once fresh is e = says_at i plain claim c (ok_same plain claim e) (plain_says i c plain once is)
 alone_by i c claim None pos once fresh is e = compound_says i c claim pos fresh e
 
-pub alone_says : (i : Interpretation) (c : Condition) (claim : Claim) → 0 < i.size → all_distinct (introduced_in_condition c) ≡ true → fresh_in_condition [] c ≡ true → claim_alone c ≡ Ok claim → Says i claim c
+pub alone_says : (i : Interpretation) (c : Condition) (claim : Claim) → 0 < i.size → all_distinct (introduced_in_condition c) ≡ true
+    → fresh_in_condition [] c ≡ true → claim_alone c ≡ Ok claim → Says i claim c
 alone_says i c claim pos once fresh e = alone_by i c claim (plain_claim c) pos once fresh refl e

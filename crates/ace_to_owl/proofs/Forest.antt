@@ -37,7 +37,8 @@ con_against word a b ps n m h g =
     or_right (connected ps n m) ((connected ps n a && connected ps b m) || (connected ps n b && connected ps a m))
     (or_right (connected ps n a && connected ps b m) (connected ps n b && connected ps a m) (and_from (connected ps n b) (connected ps a m) h g))
 
-pub con_cases : (word : WordId) (a b : ℕ) (ps : List Part) (n m : ℕ) → Con (Edge word a b ∷ ps) n m → Con ps n m ⊎ ((Con ps n a × Con ps b m) ⊎ (Con ps n b × Con ps a m))
+pub con_cases : (word : WordId) (a b : ℕ) (ps : List Part) (n m : ℕ) → Con (Edge word a b ∷ ps) n m
+    → Con ps n m ⊎ ((Con ps n a × Con ps b m) ⊎ (Con ps n b × Con ps a m))
 con_cases word a b ps n m h = elim (or_cases (connected ps n m) ((connected ps n a && connected ps b m) || (connected ps n b && connected ps a m)) h) [
   | inl x ↦ inl x
   | inr x ↦ elim (or_cases (connected ps n a && connected ps b m) (connected ps n b && connected ps a m) x) [
@@ -95,15 +96,28 @@ module _ (v : ℕ) (word : WordId) (a b : ℕ) (ps : List Part) (ih : Parted v p
   kept = λ j. cond (not (ne_eqb a v na j || ne_eqb b v nb j)) (Edge word a b ∷ apart v ps) (apart v ps)
 
   via_along : (n : ℕ) → Touched v ps a → Con (apart v ps) b n → Touched v (Edge word a b ∷ ps) n
-  via_along n t h = record { end = t.end; edge = t.edge; among = inr t.among; is = t.is; on = con_at (Edge word a b ∷ apart v ps) (apart v (Edge word a b ∷ ps)) t.end n (sym kept) (con_along word a b (apart v ps) t.end n t.on h) }
+  via_along n t h = record {
+    end = t.end;
+    edge = t.edge;
+    among = inr t.among;
+    is = t.is;
+    on = con_at (Edge word a b ∷ apart v ps) (apart v (Edge word a b ∷ ps)) t.end n (sym kept) (con_along word a b (apart v ps) t.end n t.on h);
+  }
 
   via_against : (n : ℕ) → Touched v ps b → Con (apart v ps) a n → Touched v (Edge word a b ∷ ps) n
-  via_against n t h = record { end = t.end; edge = t.edge; among = inr t.among; is = t.is; on = con_at (Edge word a b ∷ apart v ps) (apart v (Edge word a b ∷ ps)) t.end n (sym kept) (con_against word a b (apart v ps) t.end n t.on h) }
+  via_against n t h = record {
+    end = t.end;
+    edge = t.edge;
+    among = inr t.among;
+    is = t.is;
+    on = con_at (Edge word a b ∷ apart v ps) (apart v (Edge word a b ∷ ps)) t.end n (sym kept) (con_against word a b (apart v ps) t.end n t.on h);
+  }
 
   skip : (n : ℕ) → Touched v ps n → Touched v (Edge word a b ∷ ps) n
   skip n t = touched_skip v (Edge word a b) ps n t
 
-  beside_two : (n u : ℕ) → ¬ (n ≡ v) → ¬ (u ≡ v) → Con (Edge word a b ∷ ps) n u → Con (apart v (Edge word a b ∷ ps)) n u ⊎ (Touched v (Edge word a b ∷ ps) n × Touched v (Edge word a b ∷ ps) u)
+  beside_two : (n u : ℕ) → ¬ (n ≡ v) → ¬ (u ≡ v) → Con (Edge word a b ∷ ps) n u
+      → Con (apart v (Edge word a b ∷ ps)) n u ⊎ (Touched v (Edge word a b ∷ ps) n × Touched v (Edge word a b ∷ ps) u)
   beside_two n u nn nu h = elim (con_cases word a b ps n u h) [
     | inl x ↦ elim (ih.two n u nn nu x) [
       | inl y ↦ inl (apart_skip v (Edge word a b) ps n u y)
@@ -143,7 +157,8 @@ module _ (v : ℕ) (word : WordId) (a b : ℕ) (ps : List Part) (ih : Parted v p
   ]
 
 -- an edge from the member to another
-module _ (v : ℕ) (e : Part) (b : ℕ) (ps : List Part) (ih : Parted v ps) (nb : ¬ (b ≡ v)) (is : far v e ≡ Some b) (left : apart v (e ∷ ps) ≡ apart v ps) (cases : (n u : ℕ) → Con (e ∷ ps) n u → Con ps n u ⊎ ((Con ps n v × Con ps b u) ⊎ (Con ps n b × Con ps v u))) where
+module _ (v : ℕ) (e : Part) (b : ℕ) (ps : List Part) (ih : Parted v ps) (nb : ¬ (b ≡ v)) (is : far v e ≡ Some b) (left : apart v (e ∷ ps) ≡ apart v ps)
+    (cases : (n u : ℕ) → Con (e ∷ ps) n u → Con ps n u ⊎ ((Con ps n v × Con ps b u) ⊎ (Con ps n b × Con ps v u))) where
   by_it : (n : ℕ) → Con (apart v ps) b n → Touched v (e ∷ ps) n
   by_it n h = record { end = b; edge = e; among = inl refl; is = is; on = con_at (apart v ps) (apart v (e ∷ ps)) b n (sym left) h }
 
@@ -169,7 +184,8 @@ module _ (v : ℕ) (e : Part) (b : ℕ) (ps : List Part) (ih : Parted v ps) (nb 
   ]
 
 -- an edge from the member to itself
-module _ (v : ℕ) (e : Part) (ps : List Part) (ih : Parted v ps) (cases : (n u : ℕ) → Con (e ∷ ps) n u → Con ps n u ⊎ ((Con ps n v × Con ps v u) ⊎ (Con ps n v × Con ps v u))) where
+module _ (v : ℕ) (e : Part) (ps : List Part) (ih : Parted v ps)
+    (cases : (n u : ℕ) → Con (e ∷ ps) n u → Con ps n u ⊎ ((Con ps n v × Con ps v u) ⊎ (Con ps n v × Con ps v u))) where
   loop_two : (n u : ℕ) → ¬ (n ≡ v) → ¬ (u ≡ v) → Con (e ∷ ps) n u → Con (apart v (e ∷ ps)) n u ⊎ (Touched v (e ∷ ps) n × Touched v (e ∷ ps) u)
   loop_two n u nn nu h =
       let through : Con ps n v × Con ps v u → Touched v (e ∷ ps) n × Touched v (e ∷ ps) u =
@@ -185,7 +201,8 @@ module _ (v : ℕ) (e : Part) (ps : List Part) (ih : Parted v ps) (cases : (n u 
     | inr x ↦ elim x [ inl y ↦ touched_skip v e ps n (ih.one n nn y.1) | inr y ↦ touched_skip v e ps n (ih.one n nn y.1) ]
   ]
 
-con_swap : (word : WordId) (a b : ℕ) (ps : List Part) (n m : ℕ) → Con (Edge word a b ∷ ps) n m → Con ps n m ⊎ ((Con ps n b × Con ps a m) ⊎ (Con ps n a × Con ps b m))
+con_swap : (word : WordId) (a b : ℕ) (ps : List Part) (n m : ℕ) → Con (Edge word a b ∷ ps) n m
+    → Con ps n m ⊎ ((Con ps n b × Con ps a m) ⊎ (Con ps n a × Con ps b m))
 con_swap word a b ps n m h = elim (con_cases word a b ps n m h) [ inl x ↦ inl x | inr x ↦ elim x [ inl y ↦ inr (inr y) | inr y ↦ inr (inl y) ] ]
 
 -- what is connected goes round the member or comes by way of it
@@ -250,7 +267,8 @@ apart_within v [] n m h = h
 apart_within v (e ∷ ps) n m h = cond_within (not (speaks v e)) e (apart v ps) ps (apart_within v ps) n m h
 
 -- no cycle stays where parts are taken away
-cond_forest : (t : Bool) (e : Part) (ps qs : List Part) → Within ps qs → (has_cycle ps ≡ true → has_cycle qs ≡ true) → has_cycle (cond t (e ∷ ps) ps) ≡ true → has_cycle (e ∷ qs) ≡ true
+cond_forest : (t : Bool) (e : Part) (ps qs : List Part) → Within ps qs → (has_cycle ps ≡ true → has_cycle qs ≡ true) → has_cycle (cond t (e ∷ ps) ps) ≡ true
+    → has_cycle (e ∷ qs) ≡ true
 cond_forest true (At k c) ps qs w f h = f h
 cond_forest true (Edge word a b) ps qs w f h = elim (or_cases (connected ps a b) (has_cycle ps) h) [
   | inl x ↦ ap (λ z. z || has_cycle qs) (w a b x)
@@ -264,7 +282,8 @@ apart_cycle v [] h = h
 apart_cycle v (e ∷ ps) h = cond_forest (not (speaks v e)) e (apart v ps) ps (apart_within v ps) (apart_cycle v ps) h
 
 -- a member that was taken away is connected to itself alone
-isolated_by : (v : ℕ) (t : Bool) (e : Part) (ps : List Part) → t ≡ not (speaks v e) → ((n : ℕ) → Con ps n v → n ≡ v) → (n : ℕ) → Con (cond t (e ∷ ps) ps) n v → n ≡ v
+isolated_by : (v : ℕ) (t : Bool) (e : Part) (ps : List Part) → t ≡ not (speaks v e) → ((n : ℕ) → Con ps n v → n ≡ v) → (n : ℕ) → Con (cond t (e ∷ ps) ps) n v
+    → n ≡ v
 isolated_by v true (At k c) ps is ih n h = ih n h
 isolated_by v true (Edge word a b) ps is ih n h = elim (con_cases word a b ps n v h) [
   | inl x ↦ ih n x
@@ -290,7 +309,8 @@ cut (Edge other x y ∷ before) word a b after h =
     elim (con_cases other x y (before ++ after) a b h) [
       | inl z ↦ or_right (connected all x y) (has_cycle all) (cut before word a b after z)
       | inr z ↦ elim z [
-        | inl p ↦ ap (λ w. w || has_cycle all) (con_trans all x a y (con_sym all a x (rest a x p.0)) (con_trans all a b y joint (con_sym all y b (rest y b p.1))))
+        | inl p ↦ ap (λ w. w || has_cycle all)
+            (con_trans all x a y (con_sym all a x (rest a x p.0)) (con_trans all a b y joint (con_sym all y b (rest y b p.1))))
         | inr p ↦ ap (λ w. w || has_cycle all) (con_trans all x b y (rest x b p.1) (con_trans all b a y (con_sym all a b joint) (rest a y p.0)))
       ]
     ]

@@ -43,7 +43,8 @@ apart_of (x ∷ xs) ys h =
     let out : not (is_bound (xs ++ ys) x) ≡ true = and_first (not (is_bound (xs ++ ys) x)) (all_distinct (xs ++ ys)) h in
     let rest : Apart xs ys = apart_of xs ys (and_second (not (is_bound (xs ++ ys) x)) (all_distinct (xs ++ ys)) h) in
     record {
-      first = and_from (not (is_bound xs x)) (all_distinct xs) (not_from (is_bound xs x) (λ g. not_both (is_bound (xs ++ ys) x) out (bound_left xs ys x g))) rest.first;
+      first = and_from (not (is_bound xs x)) (all_distinct xs) (not_from (is_bound xs x) (λ g. not_both (is_bound (xs ++ ys) x) out (bound_left xs ys x g)))
+          rest.first;
       second = rest.second;
       disjoint = λ q in_xs in_ys. elim (or_cases (x == q) (is_bound xs q) in_xs) [
         | inl here ↦ not_both (is_bound (xs ++ ys) x) out (bound_right xs ys x (subst (λ z. is_bound ys z ≡ true) (sym (eqb-true x q here)) in_ys))
@@ -75,7 +76,8 @@ mutual
         | inr inside ↦ two.disjoint q inside h
       ]))
 
-  pub fresh_once_all : (bound : List ℕ) (cs : Conditions) → all_distinct (introduced_in_all cs) ≡ true → Disjoint bound (introduced_in_all cs) → fresh_in_all bound cs ≡ true
+  pub fresh_once_all : (bound : List ℕ) (cs : Conditions) → all_distinct (introduced_in_all cs) ≡ true → Disjoint bound (introduced_in_all cs)
+      → fresh_in_all bound cs ≡ true
   fresh_once_all bound no_condition once out = refl
   fresh_once_all bound (also_condition c cs) once out =
       let two : Apart (introduced_in_condition c) (introduced_in_all cs) = apart_of (introduced_in_condition c) (introduced_in_all cs) once in
@@ -83,7 +85,8 @@ mutual
       (fresh_once_condition bound c two.first (λ q g h. out q g (bound_left (introduced_in_condition c) (introduced_in_all cs) q h)))
       (fresh_once_all bound cs two.second (λ q g h. out q g (bound_right (introduced_in_condition c) (introduced_in_all cs) q h)))
 
-  pub fresh_once_condition : (bound : List ℕ) (c : Condition) → all_distinct (introduced_in_condition c) ≡ true → Disjoint bound (introduced_in_condition c) → fresh_in_condition bound c ≡ true
+  pub fresh_once_condition : (bound : List ℕ) (c : Condition) → all_distinct (introduced_in_condition c) ≡ true → Disjoint bound (introduced_in_condition c)
+      → fresh_in_condition bound c ≡ true
   fresh_once_condition bound (IsA noun thing) once out = refl
   fresh_once_condition bound (AreRelated word from to) once out = refl
   fresh_once_condition bound (AreSame one other) once out = refl
@@ -117,7 +120,8 @@ out_less : (fewer bound rs : List ℕ) → Among fewer bound → list_all (λ r.
 out_less fewer bound [] less h = refl
 out_less fewer bound (r ∷ rs) less h =
     and_from (not (is_bound fewer r)) (list_all (λ p. not (is_bound fewer p)) rs)
-    (not_from (is_bound fewer r) (λ g. not_both (is_bound bound r) (and_first (not (is_bound bound r)) (list_all (λ p. not (is_bound bound p)) rs) h) (less r g)))
+    (not_from (is_bound fewer r) (λ g. not_both (is_bound bound r) (and_first (not (is_bound bound r)) (list_all (λ p. not (is_bound bound p)) rs) h)
+    (less r g)))
     (out_less fewer bound rs less (and_second (not (is_bound bound r)) (list_all (λ p. not (is_bound bound p)) rs) h))
 
 -- what is fresh stays so where less is bound
@@ -126,7 +130,8 @@ mutual
   fresh_less fewer bound (structure rs cs) less h =
       and_from (list_all (λ r. not (is_bound fewer r)) rs) (fresh_in_all (fewer ++ rs) cs)
       (out_less fewer bound rs less (and_first (list_all (λ r. not (is_bound bound r)) rs) (fresh_in_all (bound ++ rs) cs) h))
-      (fresh_less_all (fewer ++ rs) (bound ++ rs) cs (among_more fewer bound rs less) (and_second (list_all (λ r. not (is_bound bound r)) rs) (fresh_in_all (bound ++ rs) cs) h))
+      (fresh_less_all (fewer ++ rs) (bound ++ rs) cs (among_more fewer bound rs less)
+      (and_second (list_all (λ r. not (is_bound bound r)) rs) (fresh_in_all (bound ++ rs) cs) h))
 
   pub fresh_less_all : (fewer bound : List ℕ) (cs : Conditions) → Among fewer bound → fresh_in_all bound cs ≡ true → fresh_in_all fewer cs ≡ true
   fresh_less_all fewer bound no_condition less h = refl
@@ -143,7 +148,8 @@ mutual
   fresh_less_condition fewer bound (Implication k l) less h =
       and_from (fresh_in fewer k) (fresh_in (fewer ++ referents_in k) l)
       (fresh_less fewer bound k less (and_first (fresh_in bound k) (fresh_in (bound ++ referents_in k) l) h))
-      (fresh_less (fewer ++ referents_in k) (bound ++ referents_in k) l (among_more fewer bound (referents_in k) less) (and_second (fresh_in bound k) (fresh_in (bound ++ referents_in k) l) h))
+      (fresh_less (fewer ++ referents_in k) (bound ++ referents_in k) l (among_more fewer bound (referents_in k) less)
+      (and_second (fresh_in bound k) (fresh_in (bound ++ referents_in k) l) h))
   fresh_less_condition fewer bound (Disjunction k l) less h =
       and_from (fresh_in fewer k) (fresh_in fewer l)
       (fresh_less fewer bound k less (and_first (fresh_in bound k) (fresh_in bound l) h))
@@ -168,6 +174,7 @@ add_cond false p kept q h = h
 pub filter_bound : (test : ℕ → Bool) (rs : List ℕ) (q : ℕ) → is_bound rs q ≡ true → test q ≡ true → is_bound (filter test rs) q ≡ true
 filter_bound test [] q h t = h
 filter_bound test (r ∷ rs) q h t = elim (or_cases (r == q) (is_bound rs q) h) [
-  | inl here ↦ ap (λ b. is_bound (cond b (r ∷ filter test rs) (filter test rs)) q) (ap test (eqb-true r q here) ∙ t) ∙ ap (λ b. b || is_bound (filter test rs) q) here
+  | inl here ↦ ap (λ b. is_bound (cond b (r ∷ filter test rs) (filter test rs)) q) (ap test (eqb-true r q here) ∙ t)
+      ∙ ap (λ b. b || is_bound (filter test rs) q) here
   | inr later ↦ add_cond (test r) r (filter test rs) q (filter_bound test rs q later t)
 ]

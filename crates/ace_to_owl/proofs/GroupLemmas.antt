@@ -13,7 +13,8 @@ use Rattle.ace_to_owl.specs.Mapping.{joined}
 abbrev pub gathered_to : (ℕ → ℕ) → ℕ → List ℕ → ℕ → ℕ
 gathered_to label target qs n = if list_any (λ r. label r == label n) qs then target else label n
 
-step_by : (hit_n hit_q same : Bool) (t n q : ℕ) → same ≡ (q == n) → (hit_q ≡ true → same ≡ true → hit_n ≡ true) → moved (if hit_q then t else q) t (if hit_n then t else n) ≡ (if hit_n || same then t else n)
+step_by : (hit_n hit_q same : Bool) (t n q : ℕ) → same ≡ (q == n) → (hit_q ≡ true → same ≡ true → hit_n ≡ true)
+    → moved (if hit_q then t else q) t (if hit_n then t else n) ≡ (if hit_n || same then t else n)
 step_by true hit_q same t n q is carry = by (t == (if hit_q then t else q))
   where
     by : (b : Bool) → (if b then t else t) ≡ t
@@ -27,20 +28,24 @@ step_by false true false t n q is carry = by (n == t) (λ e. eqb-true n t e)
     by false h = refl
 step_by false false same t n q is carry = ap (λ b. if b then t else n) (eqb_comm n q ∙ sym is)
 
-hit_like : (label : ℕ → ℕ) (qs : List ℕ) (q n : ℕ) → label q ≡ label n → list_any (λ r. label r == label q) qs ≡ true → list_any (λ r. label r == label n) qs ≡ true
+hit_like : (label : ℕ → ℕ) (qs : List ℕ) (q n : ℕ) → label q ≡ label n → list_any (λ r. label r == label q) qs ≡ true
+    → list_any (λ r. label r == label n) qs ≡ true
 hit_like label qs q n same hit = ap (λ x. list_any (λ r. label r == x) qs) (sym same) ∙ hit
 
 any_more : (test : ℕ → Bool) (qs : List ℕ) (q : ℕ) → list_any test (qs ++ q ∷ []) ≡ (list_any test qs || test q)
 any_more test qs q = list_any-append test qs (q ∷ []) ∙ ap (λ b. list_any test qs || b) (or-false (test q))
 
-pub gathered_more : (label : ℕ → ℕ) (target : ℕ) (qs : List ℕ) (q n : ℕ) → moved (gathered_to label target qs q) target (gathered_to label target qs n) ≡ gathered_to label target (qs ++ q ∷ []) n
+pub gathered_more : (label : ℕ → ℕ) (target : ℕ) (qs : List ℕ) (q n : ℕ)
+    → moved (gathered_to label target qs q) target (gathered_to label target qs n) ≡ gathered_to label target (qs ++ q ∷ []) n
 gathered_more label target qs q n =
     step_by (list_any (λ r. label r == label n) qs) (list_any (λ r. label r == label q) qs) (label q == label n) target (label n) (label q) refl
     (λ hit same. hit_like label qs q n (eqb-true (label q) (label n) same) hit)
     ∙ ap (λ b. if b then target else label n) (sym (any_more (λ r. label r == label n) qs q))
 
 -- two have one label after a group was gathered where they had before, or where both are with the group
-same_by : (hq hp e : Bool) (t q p : ℕ) → e ≡ (q == p) → (hq ≡ true → hp ≡ false → e ≡ false) → (hq ≡ false → hp ≡ true → e ≡ false) → (hq ≡ true → hp ≡ false → (t == p) ≡ false) → (hq ≡ false → hp ≡ true → (q == t) ≡ false) → ((if hq then t else q) == (if hp then t else p)) ≡ (e || (hq && hp))
+same_by : (hq hp e : Bool) (t q p : ℕ) → e ≡ (q == p) → (hq ≡ true → hp ≡ false → e ≡ false) → (hq ≡ false → hp ≡ true → e ≡ false)
+    → (hq ≡ true → hp ≡ false → (t == p) ≡ false) → (hq ≡ false → hp ≡ true → (q == t) ≡ false)
+    → ((if hq then t else q) == (if hp then t else p)) ≡ (e || (hq && hp))
 same_by true true true t q p is a b c d = eq-eqb t t refl
 same_by true true false t q p is a b c d = eq-eqb t t refl
 same_by true false e t q p is a b c d = c refl refl ∙ sym (ap (λ z. z || false) (a refl refl))
@@ -54,7 +59,9 @@ first_missed label g gs n miss = or_missed (label g == label n) (list_any (λ r.
     or_missed true b h = h
     or_missed false b h = refl
 
-gathered_same : (label : ℕ → ℕ) (g : ℕ) (gs : List ℕ) (q p : ℕ) → (gathered label (g ∷ gs) q == gathered label (g ∷ gs) p) ≡ ((label q == label p) || (list_any (λ r. label r == label q) (g ∷ gs) && list_any (λ r. label r == label p) (g ∷ gs)))
+gathered_same : (label : ℕ → ℕ) (g : ℕ) (gs : List ℕ) (q p : ℕ)
+    → (gathered label (g ∷ gs) q == gathered label (g ∷ gs) p)
+    ≡ ((label q == label p) || (list_any (λ r. label r == label q) (g ∷ gs) && list_any (λ r. label r == label p) (g ∷ gs)))
 gathered_same label g gs q p =
     same_by (list_any (λ r. label r == label q) (g ∷ gs)) (list_any (λ r. label r == label p) (g ∷ gs)) (label q == label p) (label g) (label q) (label p) refl
     (λ hq hp. ne_eqb (label q) (label p) (λ e. both_ways (list_any (λ r. label r == label p) (g ∷ gs)) hp (hit_like label (g ∷ gs) q p e hq)))
@@ -63,7 +70,8 @@ gathered_same label g gs q p =
     (λ hq hp. eqb_comm (label q) (label g) ∙ first_missed label g gs q hq)
 
 -- one more group is gathered in front of those that the labels join already
-pub joined_more : (label next : ℕ → ℕ) (group : List ℕ) (gs : List (List ℕ)) → ((q p : ℕ) → (label q == label p) ≡ joined gs q p) → ((n : ℕ) → next n ≡ gathered label group n) → (q p : ℕ) → (next q == next p) ≡ joined (group ∷ gs) q p
+pub joined_more : (label next : ℕ → ℕ) (group : List ℕ) (gs : List (List ℕ)) → ((q p : ℕ) → (label q == label p) ≡ joined gs q p)
+    → ((n : ℕ) → next n ≡ gathered label group n) → (q p : ℕ) → (next q == next p) ≡ joined (group ∷ gs) q p
 joined_more label next [] gs join gather q p =
     (λ j. gather q j == gather p j) ∙ join q p ∙ sym (or-false (joined gs q p))
 joined_more label next (g ∷ hs) gs join gather q p =

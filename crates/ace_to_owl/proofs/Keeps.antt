@@ -38,7 +38,8 @@ roll_keeps (Some (Ref r)) k c made once outside i f x stands =
 -- an interpretation has an element
 first_of_all : (a b c d e f g : Bool) → ((((((a && b) && c) && d) && e) && f) && g) ≡ true → a ≡ true
 first_of_all a b c d e f g h =
-    and_first a b (and_first (a && b) c (and_first ((a && b) && c) d (and_first (((a && b) && c) && d) e (and_first ((((a && b) && c) && d) && e) f (and_first (((((a && b) && c) && d) && e) && f) g h)))))
+    and_first a b (and_first (a && b) c (and_first ((a && b) && c) d
+    (and_first (((a && b) && c) && d) e (and_first ((((a && b) && c) && d) && e) f (and_first (((((a && b) && c) && d) && e) && f) g h)))))
 
 positive : (i : Interpretation) → is_interpretation i ≡ true → 0 < i.size
 positive i lawful = ltb-true 0 i.size (first_of_all _ _ _ _ _ _ _ lawful)
@@ -60,5 +61,6 @@ pub question_reads : (k : Structure) (asked : ℕ) (c : Concept) → class_asked
 question_reads k asked c made once own i f x =
     let same : is_in i c x ≡ is_true i (without asked k) (giving f asked x) = question_keeps k asked c made once own i f x in
     let left : Decides (is_in i c x) (IsIn i c x) = is_in-Decides i c x in
-    let right : Decides (is_true i (without asked k) (giving f asked x)) (IsTrueUnder i (without asked k) (giving f asked x)) = is_true-Decides i (without asked k) (giving f asked x) in
+    let right : Decides (is_true i (without asked k) (giving f asked x)) (IsTrueUnder i (without asked k) (giving f asked x)) =
+    is_true-Decides i (without asked k) (giving f asked x) in
     (λ h. right.0 (sym same ∙ left.1 h), λ h. left.0 (same ∙ right.1 h))

@@ -17,7 +17,8 @@ label [] n = n
 label (At k c ∷ ps) n = label ps n
 label (Edge word a b ∷ ps) n = moved (label ps a) (label ps b) (label ps n)
 
-chosen_same : (p q e x y : Bool) (b n m : ℕ) → (p ≡ true → q ≡ true → e ≡ true) → (p ≡ true → q ≡ false → e ≡ false) → (p ≡ false → q ≡ true → e ≡ false) → e ≡ (n == m) → ((if p then b else n) == (if q then b else m)) ≡ (e || ((p && (b == m)) || ((n == b) && q)))
+chosen_same : (p q e x y : Bool) (b n m : ℕ) → (p ≡ true → q ≡ true → e ≡ true) → (p ≡ true → q ≡ false → e ≡ false) → (p ≡ false → q ≡ true → e ≡ false)
+    → e ≡ (n == m) → ((if p then b else n) == (if q then b else m)) ≡ (e || ((p && (b == m)) || ((n == b) && q)))
 chosen_same true true e x y b n m tt_ tf ft ff = eq-eqb b b refl ∙ sym (ap (λ z. z || ((b == m) || ((n == b) && true))) (tt_ refl refl))
 chosen_same true false e x y b n m tt_ tf ft ff =
     sym (ap (λ z. z || ((b == m) || ((n == b) && false))) (tf refl refl) ∙ (ap (λ z. (b == m) || z) (and-false (n == b)) ∙ or-false (b == m)))
@@ -74,11 +75,13 @@ module _ (word : WordId) (a b : ℕ) (ps D : List Part) (ms : List (ℕ × ℕ))
       ∙ forest
 
 -- and when it comes to a class
-pub labels_past : (k : ℕ) (c : Concept) (ps D : List Part) (ms : List (ℕ × ℕ)) → ps ≡ At k c ∷ D → ((n : ℕ) → moved_by ms n ≡ label D n) → (n : ℕ) → moved_by ms n ≡ label ps n
+pub labels_past : (k : ℕ) (c : Concept) (ps D : List Part) (ms : List (ℕ × ℕ)) → ps ≡ At k c ∷ D → ((n : ℕ) → moved_by ms n ≡ label D n) → (n : ℕ)
+    → moved_by ms n ≡ label ps n
 labels_past k c ps D ms here labels n = labels n ∙ sym (ap (λ qs. label qs n) here)
 
 -- which members are reached, by their labels
-pub reached_by_labels : (rs : List ℕ) (ps : List Part) (ms : List (ℕ × ℕ)) → ((n : ℕ) → moved_by ms n ≡ label ps n) → list_all (λ q. moved_by ms 0 == moved_by ms (q + 1)) rs ≡ each_reached rs ps
+pub reached_by_labels : (rs : List ℕ) (ps : List Part) (ms : List (ℕ × ℕ)) → ((n : ℕ) → moved_by ms n ≡ label ps n)
+    → list_all (λ q. moved_by ms 0 == moved_by ms (q + 1)) rs ≡ each_reached rs ps
 reached_by_labels rs ps ms labels =
     ap (λ test. list_all test rs) (λ j q. ((λ i. labels 0 i == labels (q + 1) i) ∙ sym (connected-label ps 0 (q + 1))) j)
 
@@ -86,7 +89,8 @@ reached_by_labels rs ps ms labels =
 pub fault_cycle : (rs : List ℕ) (ps : List Part) → has_cycle ps ≡ true → tree_fault rs ps ≡ Some Cycle
 fault_cycle rs ps cycle = ap (λ b. if b then Some Cycle else if each_reached rs ps then None else Some NoRoot) cycle
 
-pub fault_reached : (rs : List ℕ) (ps : List Part) (b : Bool) → has_cycle ps ≡ false → each_reached rs ps ≡ b → tree_fault rs ps ≡ (if b then None else Some NoRoot)
+pub fault_reached : (rs : List ℕ) (ps : List Part) (b : Bool) → has_cycle ps ≡ false → each_reached rs ps ≡ b
+    → tree_fault rs ps ≡ (if b then None else Some NoRoot)
 fault_reached rs ps b forest reached =
     ap (λ c. if c then Some Cycle else if each_reached rs ps then None else Some NoRoot) forest
     ∙ ap (λ c. if c then None else Some NoRoot) reached

@@ -65,7 +65,8 @@ abbrev mutual
   fresh_in_condition bound (Disjunction k l) = fresh_in bound k && fresh_in bound l
 
 -- a root keeps its element where others are given theirs
-pub stands_on : (i : Interpretation) (f g : ℕ → ℕ) (root : Option Thing) (bound rs : List ℕ) (x : ℕ) → list_all (λ r. not (is_bound bound r)) rs ≡ true → Covered root bound → ((q : ℕ) → is_bound rs q ≡ false → g q ≡ f q) → Stands i f root x → Stands i g root x
+pub stands_on : (i : Interpretation) (f g : ℕ → ℕ) (root : Option Thing) (bound rs : List ℕ) (x : ℕ) → list_all (λ r. not (is_bound bound r)) rs ≡ true
+    → Covered root bound → ((q : ℕ) → is_bound rs q ≡ false → g q ≡ f q) → Stands i f root x → Stands i g root x
 stands_on i f g None bound rs x fresh cover keep stands = tt
 stands_on i f g (Some (Name name)) bound rs x fresh cover keep stands = stands
 stands_on i f g (Some (Ref q)) bound rs x fresh cover keep stands = keep q (out rs fresh) ∙ stands
@@ -77,14 +78,18 @@ stands_on i f g (Some (Ref q)) bound rs x fresh cover keep stands = keep q (out 
     out : (rs : List ℕ) → list_all (λ r. not (is_bound bound r)) rs ≡ true → is_bound rs q ≡ false
     out [] h = refl
     out (r ∷ rs) h =
-        ap (λ b. b || is_bound rs q) (ne_eqb r q (λ same. not_true (is_bound bound r) (and_first (not (is_bound bound r)) (list_all (λ p. not (is_bound bound p)) rs) h) (ap (is_bound bound) same ∙ cover)))
+        ap (λ b. b || is_bound rs q) (ne_eqb r q
+        (λ same. not_true (is_bound bound r) (and_first (not (is_bound bound r)) (list_all (λ p. not (is_bound bound p)) rs) h)
+        (ap (is_bound bound) same ∙ cover)))
         ∙ out rs (and_second (not (is_bound bound r)) (list_all (λ p. not (is_bound bound p)) rs) h)
 
 -- tests that agree on the extensions of an assignment
-pub extension_same : (n : ℕ) (rs : List ℕ) (test other : (ℕ → ℕ) → Bool) (f : ℕ → ℕ) → ((g : ℕ → ℕ) → ((q : ℕ) → is_bound rs q ≡ false → g q ≡ f q) → test g ≡ other g) → some_extension n rs test f ≡ some_extension n rs other f
+pub extension_same : (n : ℕ) (rs : List ℕ) (test other : (ℕ → ℕ) → Bool) (f : ℕ → ℕ)
+    → ((g : ℕ → ℕ) → ((q : ℕ) → is_bound rs q ≡ false → g q ≡ f q) → test g ≡ other g) → some_extension n rs test f ≡ some_extension n rs other f
 extension_same n [] test other f same = same f (λ q h. refl)
 extension_same n (r ∷ rs) test other f same =
-    ap (some_below n) (λ j x. extension_same n rs test other (giving f r x) (λ g keep. same g (λ q out. keep q (later q out) ∙ other_at f r x q (differ q out))) j)
+    ap (some_below n) (λ j x. extension_same n rs test other (giving f r x) (λ g keep. same g (λ q out. keep q (later q out) ∙ other_at f r x q (differ q out)))
+    j)
   where
     differ : (q : ℕ) → ((r == q) || is_bound rs q) ≡ false → r ≡ q → ⊥
     differ q out same_ = both_ways ((r == q) || is_bound rs q) out (ap (λ b. b || is_bound rs q) (eq-eqb r q same_))
@@ -157,7 +162,8 @@ own_membership i root bound rs (Ref q) n e = elim (cases_Bool (is_bound rs q)) [
   | inr free ↦ absurd (none_some n (sym (ap (λ b. if b then Some (q + 1) else None) free) ∙ e))
 ]
 
-pub membership : (i : Interpretation) (root : Option Thing) (bound rs : List ℕ) (t : Thing) (n : ℕ) → Covered root bound → member root rs t ≡ Some n → Membership i root bound rs t n
+pub membership : (i : Interpretation) (root : Option Thing) (bound rs : List ℕ) (t : Thing) (n : ℕ) → Covered root bound → member root rs t ≡ Some n
+    → Membership i root bound rs t n
 membership i root bound rs t n cover e = elim (cases_Bool (is_root root t)) [
   | inl is_so ↦ (let same : 0 ≡ n = some_same 0 n (sym (ap (λ b. if b then Some 0 else own_member rs t) is_so) ∙ e) in
       record {
@@ -176,7 +182,9 @@ pub record Sound (i : Interpretation) (root : Option Thing) (rs : List ℕ) (p :
 pub sound_at : (i : Interpretation) (root : Option Thing) (rs : List ℕ) (p q : Part) (c : Condition) → q ≡ p → Sound i root rs q c → Sound i root rs p c
 sound_at i root rs p q c same s = subst (λ r. Sound i root rs r c) same s
 
-pub noun_by : (i : Interpretation) (root : Option Thing) (bound rs : List ℕ) (noun : WordId) (t : Thing) (p : Part) (foreign : Bool) (o : Option ℕ) → Covered root bound → member root rs t ≡ o → (if foreign then Err Shared else elim o [ Some n ↦ Ok (At n (Atomic noun)) | None ↦ Err NoRoot ]) ≡ Ok p → Sound i root rs p (IsA noun t)
+pub noun_by : (i : Interpretation) (root : Option Thing) (bound rs : List ℕ) (noun : WordId) (t : Thing) (p : Part) (foreign : Bool) (o : Option ℕ)
+    → Covered root bound → member root rs t ≡ o → (if foreign then Err Shared else elim o [ Some n ↦ Ok (At n (Atomic noun)) | None ↦ Err NoRoot ]) ≡ Ok p
+    → Sound i root rs p (IsA noun t)
 noun_by i root bound rs noun t p true o cover is e = absurd (no_err Shared p e)
 noun_by i root bound rs noun t p false None cover is e = absurd (no_err NoRoot p e)
 noun_by i root bound rs noun t p false (Some n) cover is e =
@@ -184,25 +192,39 @@ noun_by i root bound rs noun t p false (Some n) cover is e =
     sound_at i root rs p (At n (Atomic noun)) (IsA noun t) (ok_same (At n (Atomic noun)) p e)
     (record { inside = m.inside; truth = λ g x stands. ap (has_element i noun) (sym (m.element g x stands)) })
 
-value_of : (i : Interpretation) (root : Option Thing) (rs : List ℕ) (word : WordId) (t u : Thing) (n : ℕ) (p : Part) → is_member rs n ≡ true → ((g : ℕ → ℕ) (x : ℕ) → Stands i g root x → thing_in i g t ≡ value x g n) → value_part n (straight word) u ≡ Ok p → Sound i root rs p (AreRelated word t u)
+value_of : (i : Interpretation) (root : Option Thing) (rs : List ℕ) (word : WordId) (t u : Thing) (n : ℕ) (p : Part) → is_member rs n ≡ true
+    → ((g : ℕ → ℕ) (x : ℕ) → Stands i g root x → thing_in i g t ≡ value x g n) → value_part n (straight word) u ≡ Ok p → Sound i root rs p (AreRelated word t u)
 value_of i root rs word t (Ref q) n p inside element e = absurd (no_err Shared p e)
 value_of i root rs word t (Name b) n p inside element e =
     sound_at i root rs p (At n (HasValue (straight word) b)) (AreRelated word t (Name b)) (ok_same (At n (HasValue (straight word) b)) p e)
     (record { inside = inside; truth = λ g x stands. ap (λ y. has_pair i word y (element_of i b)) (sym (element g x stands)) })
 
-inverse_of : (i : Interpretation) (root : Option Thing) (rs : List ℕ) (word : WordId) (t u : Thing) (n : ℕ) (p : Part) → is_member rs n ≡ true → ((g : ℕ → ℕ) (x : ℕ) → Stands i g root x → thing_in i g u ≡ value x g n) → value_part n (inverse word) t ≡ Ok p → Sound i root rs p (AreRelated word t u)
+inverse_of : (i : Interpretation) (root : Option Thing) (rs : List ℕ) (word : WordId) (t u : Thing) (n : ℕ) (p : Part) → is_member rs n ≡ true
+    → ((g : ℕ → ℕ) (x : ℕ) → Stands i g root x → thing_in i g u ≡ value x g n) → value_part n (inverse word) t ≡ Ok p → Sound i root rs p (AreRelated word t u)
 inverse_of i root rs word (Ref q) u n p inside element e = absurd (no_err Shared p e)
 inverse_of i root rs word (Name a) u n p inside element e =
     sound_at i root rs p (At n (HasValue (inverse word) a)) (AreRelated word (Name a) u) (ok_same (At n (HasValue (inverse word) a)) p e)
     (record { inside = inside; truth = λ g x stands. ap (has_pair i word (element_of i a)) (sym (element g x stands)) })
 
-edge_of : (i : Interpretation) (root : Option Thing) (rs : List ℕ) (word : WordId) (t u : Thing) (n m : ℕ) (p : Part) (same : Bool) → is_member rs n ≡ true → is_member rs m ≡ true → ((g : ℕ → ℕ) (x : ℕ) → Stands i g root x → thing_in i g t ≡ value x g n) → ((g : ℕ → ℕ) (x : ℕ) → Stands i g root x → thing_in i g u ≡ value x g m) → (if same then Err Cycle else Ok (Edge word n m)) ≡ Ok p → Sound i root rs p (AreRelated word t u)
+edge_of : (i : Interpretation) (root : Option Thing) (rs : List ℕ) (word : WordId) (t u : Thing) (n m : ℕ) (p : Part) (same : Bool) → is_member rs n ≡ true
+    → is_member rs m ≡ true → ((g : ℕ → ℕ) (x : ℕ) → Stands i g root x → thing_in i g t ≡ value x g n)
+    → ((g : ℕ → ℕ) (x : ℕ) → Stands i g root x → thing_in i g u ≡ value x g m) → (if same then Err Cycle else Ok (Edge word n m)) ≡ Ok p
+    → Sound i root rs p (AreRelated word t u)
 edge_of i root rs word t u n m p true inn inm elt elu e = absurd (no_err Cycle p e)
 edge_of i root rs word t u n m p false inn inm elt elu e =
     sound_at i root rs p (Edge word n m) (AreRelated word t u) (ok_same (Edge word n m) p e)
-    (record { inside = and_from (is_member rs n) (is_member rs m) inn inm; truth = λ g x stands. λ j. has_pair i word (sym (elt g x stands) j) (sym (elu g x stands) j) })
+    (record {
+      inside = and_from (is_member rs n) (is_member rs m) inn inm;
+      truth = λ g x stands. λ j. has_pair i word (sym (elt g x stands) j) (sym (elu g x stands) j);
+    })
 
-pub relation_by : (i : Interpretation) (root : Option Thing) (bound rs : List ℕ) (word : WordId) (t u : Thing) (p : Part) (foreign : Bool) (o q : Option ℕ) → Covered root bound → member root rs t ≡ o → member root rs u ≡ q → (if foreign then Err Shared else elim o [ Some n ↦ elim q [ Some m ↦ edge_part word n m | None ↦ value_part n (straight word) u ] | None ↦ elim q [ Some m ↦ value_part m (inverse word) t | None ↦ Err NoRoot ] ]) ≡ Ok p → Sound i root rs p (AreRelated word t u)
+pub relation_by : (i : Interpretation) (root : Option Thing) (bound rs : List ℕ) (word : WordId) (t u : Thing) (p : Part) (foreign : Bool) (o q : Option ℕ)
+    → Covered root bound → member root rs t ≡ o → member root rs u ≡ q
+    → (if foreign then Err Shared else elim o [
+      | Some n ↦ elim q [ Some m ↦ edge_part word n m | None ↦ value_part n (straight word) u ]
+      | None ↦
+          elim q [ Some m ↦ value_part m (inverse word) t | None ↦ Err NoRoot ]
+    ]) ≡ Ok p → Sound i root rs p (AreRelated word t u)
 relation_by i root bound rs word t u p true o q cover is_t is_u e = absurd (no_err Shared p e)
 relation_by i root bound rs word t u p false (Some n) (Some m) cover is_t is_u e =
     let a : Membership i root bound rs t n = membership i root bound rs t n cover is_t in
@@ -231,25 +253,30 @@ covered_more None bound rs cover = tt
 covered_more (Some (Ref q)) bound rs cover = bound_left bound rs q cover
 covered_more (Some (Name a)) bound rs cover = tt
 
-held_by : (i : Interpretation) (root : Option Thing) (bound rs : List ℕ) (t : Thing) (h : Option Thing × ℕ) (o : Option ℕ) → Covered root bound → member root rs t ≡ o → ◌≡◌ {A = Result (Option Thing × ℕ) Cause} (elim o [ Some n ↦ Ok (Some t, n) | None ↦ Err Shared ]) (Ok h) → Holding i root bound rs h
+held_by : (i : Interpretation) (root : Option Thing) (bound rs : List ℕ) (t : Thing) (h : Option Thing × ℕ) (o : Option ℕ) → Covered root bound
+    → member root rs t ≡ o → ◌≡◌ {A = Result (Option Thing × ℕ) Cause} (elim o [ Some n ↦ Ok (Some t, n) | None ↦ Err Shared ]) (Ok h)
+    → Holding i root bound rs h
 held_by i root bound rs t h None cover is e = absurd (no_err Shared h e)
 held_by i root bound rs t h (Some n) cover is e =
     let m : Membership i root bound rs t n = membership i root bound rs t n cover is in
     subst (Holding i root bound rs) (ok_same (Some t, n) h e)
     (record { stands = m.element; inside = m.inside; covered = m.covered })
 
-holder_by : (i : Interpretation) (root : Option Thing) (bound rs : List ℕ) (t : Thing) (h : Option Thing × ℕ) (alone : Bool) → Covered root bound → (if alone then held_at root rs t else Err Shared) ≡ Ok h → Holding i root bound rs h
+holder_by : (i : Interpretation) (root : Option Thing) (bound rs : List ℕ) (t : Thing) (h : Option Thing × ℕ) (alone : Bool) → Covered root bound
+    → (if alone then held_at root rs t else Err Shared) ≡ Ok h → Holding i root bound rs h
 holder_by i root bound rs t h true cover e = held_by i root bound rs t h (member root rs t) cover refl e
 holder_by i root bound rs t h false cover e = absurd (no_err Shared h e)
 
-pub holding : (i : Interpretation) (root : Option Thing) (bound rs : List ℕ) (ts : List Thing) (h : Option Thing × ℕ) → Covered root bound → holder root rs ts ≡ Ok h → Holding i root bound rs h
+pub holding : (i : Interpretation) (root : Option Thing) (bound rs : List ℕ) (ts : List Thing) (h : Option Thing × ℕ) → Covered root bound
+    → holder root rs ts ≡ Ok h → Holding i root bound rs h
 holding i root bound rs [] h cover e =
     subst (Holding i root bound rs) (ok_same (root, 0) h e)
     (record { stands = λ g x stands. stands; inside = refl; covered = covered_more root bound rs cover })
 holding i root bound rs (t ∷ ts) h cover e = holder_by i root bound rs t h (list_all (same_thing t) ts) cover e
 
 -- an extension that makes one true and another false, and the lack of one
-pub not_each : (n : ℕ) (rs : List ℕ) (a b : (ℕ → ℕ) → Bool) (f : ℕ → ℕ) → some_extension n rs (λ g. a g && not (b g)) f ≡ not (each_extension n rs (λ g. implies (a g) (b g)) f)
+pub not_each : (n : ℕ) (rs : List ℕ) (a b : (ℕ → ℕ) → Bool) (f : ℕ → ℕ)
+    → some_extension n rs (λ g. a g && not (b g)) f ≡ not (each_extension n rs (λ g. implies (a g) (b g)) f)
 not_each n [] a b f = by (a f) (b f)
   where
     by : (p q : Bool) → (p && not q) ≡ not (implies p q)

@@ -28,7 +28,8 @@ alone_leads v n m = ap (λ b. (n == v) && not b) (or-false (v == m) ∙ eqb_comm
 alone_gift : (cl : ℕ → Concept) (v : ℕ) (p : Part) → part_at cl (v ∷ []) v p ≡ gift cl v p
 alone_gift cl v (At k c) = refl
 alone_gift cl v (Edge word a b) =
-    λ j. if alone_leads v a b j then Some (SomeValuesFrom (straight word) (cl b)) else if alone_leads v b a j then Some (SomeValuesFrom (inverse word) (cl a)) else None
+    λ j. if alone_leads v a b j then Some (SomeValuesFrom (straight word) (cl b)) else if alone_leads v b a j then Some (SomeValuesFrom (inverse word) (cl a))
+    else None
 
 -- one more member on the way
 more_leads : (way : List ℕ) (a v n m : ℕ) → (a == m) ≡ false → leads (a ∷ way) v n m ≡ leads way v n m
@@ -48,7 +49,8 @@ left_false false b h = refl
 part_more : (cl : ℕ → Concept) (way : List ℕ) (a v : ℕ) (p : Part) → speaks a p ≡ false → part_at cl (a ∷ way) v p ≡ part_at cl way v p
 part_more cl way a v (At k c) silent = refl
 part_more cl way a v (Edge word x y) silent =
-    λ j. if more_leads way a v x y (eqb_comm a y ∙ left_false (y == a) (x == a) (or_comm (y == a) (x == a) ∙ silent)) j then Some (SomeValuesFrom (straight word) (cl y))
+    λ j. if more_leads way a v x y (eqb_comm a y ∙ left_false (y == a) (x == a) (or_comm (y == a) (x == a) ∙ silent)) j
+    then Some (SomeValuesFrom (straight word) (cl y))
     else if more_leads way a v y x (eqb_comm a x ∙ left_false (x == a) (y == a) silent) j then Some (SomeValuesFrom (inverse word) (cl x)) else None
 
 part_none : (cl : ℕ → Concept) (way : List ℕ) (a v : ℕ) → ¬ (a ≡ v) → (p : Part) → speaks a p ≡ true → part_at cl (a ∷ way) v p ≡ None
@@ -61,7 +63,8 @@ part_none cl way a v ne (Edge word x y) spoken =
     else if none_leads way a v y x ne (or_comm (y == a) (x == a) ∙ spoken) j then Some (SomeValuesFrom (inverse word) (cl x)) else None
 
 -- a member on the way may be taken away with the parts that speak of it
-one_away : (cl : ℕ → Concept) (way : List ℕ) (a v : ℕ) → ¬ (a ≡ v) → (ps : List Part) → filter_map (part_at cl (a ∷ way) v) ps ≡ filter_map (part_at cl way v) (apart a ps)
+one_away : (cl : ℕ → Concept) (way : List ℕ) (a v : ℕ) → ¬ (a ≡ v) → (ps : List Part)
+    → filter_map (part_at cl (a ∷ way) v) ps ≡ filter_map (part_at cl way v) (apart a ps)
 one_away cl way a v ne [] = refl
 one_away cl way a v ne (p ∷ ps) = elim (cases_Bool (speaks a p)) [
   | inl spoken ↦
@@ -73,7 +76,8 @@ one_away cl way a v ne (p ∷ ps) = elim (cases_Bool (speaks a p)) [
       ∙ ap (λ b. filter_map (part_at cl way v) (cond (not b) (p ∷ apart a ps) (apart a ps))) (sym silent)
 ]
 
-away : (cl : ℕ → Concept) (above : List ℕ) (v : ℕ) → list_any (λ a. a == v) above ≡ false → (ps : List Part) → filter_map (part_at cl (above ++ v ∷ []) v) ps ≡ filter_map (gift cl v) (clear above ps)
+away : (cl : ℕ → Concept) (above : List ℕ) (v : ℕ) → list_any (λ a. a == v) above ≡ false → (ps : List Part)
+    → filter_map (part_at cl (above ++ v ∷ []) v) ps ≡ filter_map (gift cl v) (clear above ps)
 away cl [] v out ps = ap (λ f. filter_map f ps) (λ j p. alone_gift cl v p j)
 away cl (a ∷ above) v out ps =
     one_away cl (above ++ v ∷ []) a v (λ same. differs (a == v) (left_false (a == v) (list_any (λ b. b == v) above) out) (eq-eqb a v same)) ps
@@ -91,13 +95,16 @@ gift_same : (cl dl : ℕ → Concept) (v : ℕ) (p : Part) → ((b : ℕ) → fa
 gift_same cl dl v (At k c) same = refl
 gift_same cl dl v (Edge word a b) same = by (a == v) (b == v) same
   where
-    by : (s t : Bool) → ((m : ℕ) → (if s && not t then Some b else if t && not s then Some a else None) ≡ Some m → cl m ≡ dl m) → (if s && not t then Some (SomeValuesFrom (straight word) (cl b)) else if t && not s then Some (SomeValuesFrom (inverse word) (cl a)) else None) ≡ (if s && not t then Some (SomeValuesFrom (straight word) (dl b)) else if t && not s then Some (SomeValuesFrom (inverse word) (dl a)) else None)
+    by : (s t : Bool) → ((m : ℕ) → (if s && not t then Some b else if t && not s then Some a else None) ≡ Some m → cl m ≡ dl m)
+        → (if s && not t then Some (SomeValuesFrom (straight word) (cl b)) else if t && not s then Some (SomeValuesFrom (inverse word) (cl a)) else None)
+        ≡ (if s && not t then Some (SomeValuesFrom (straight word) (dl b)) else if t && not s then Some (SomeValuesFrom (inverse word) (dl a)) else None)
     by true false h = ap (λ c. Some (SomeValuesFrom (straight word) c)) (h b refl)
     by false true h = ap (λ c. Some (SomeValuesFrom (inverse word) c)) (h a refl)
     by true true h = refl
     by false false h = refl
 
-gifts_same : (cl dl : ℕ → Concept) (v : ℕ) (ps : List Part) → ((p : Part) → Among p ps → (b : ℕ) → far v p ≡ Some b → cl b ≡ dl b) → filter_map (gift cl v) ps ≡ filter_map (gift dl v) ps
+gifts_same : (cl dl : ℕ → Concept) (v : ℕ) (ps : List Part) → ((p : Part) → Among p ps → (b : ℕ) → far v p ≡ Some b → cl b ≡ dl b)
+    → filter_map (gift cl v) ps ≡ filter_map (gift dl v) ps
 gifts_same cl dl v [] same = refl
 gifts_same cl dl v (p ∷ ps) same =
     λ j. cons_option (gift_same cl dl v p (λ b is. same p (inl refl) b is) j) (gifts_same cl dl v ps (λ q among. same q (inr among)) j)
@@ -113,7 +120,8 @@ silent_far v (Edge word x y) b a is silent = by (x == v) (y == v) is
     by true true h = absurd (none_some b h)
     by false false h = absurd (none_some b h)
 
-silent_cond : (t : Bool) (a : ℕ) (q p : Part) (qs : List Part) → t ≡ not (speaks a q) → (Among p qs → speaks a p ≡ false) → Among p (cond t (q ∷ qs) qs) → speaks a p ≡ false
+silent_cond : (t : Bool) (a : ℕ) (q p : Part) (qs : List Part) → t ≡ not (speaks a q) → (Among p qs → speaks a p ≡ false) → Among p (cond t (q ∷ qs) qs)
+    → speaks a p ≡ false
 silent_cond true a q p qs is f among = elim among [ inl same ↦ not_true (speaks a p) (is ∙ ap (λ r. not (speaks a r)) (sym same)) | inr later ↦ f later ]
   where
     not_true : (b : Bool) → true ≡ not b → b ≡ false
@@ -139,12 +147,15 @@ clear_far (a ∷ above) v p b ps among is =
     ∙ clear_far above v p b (apart a ps) among is
 
 -- the class at a member
-pub class_at-tree : (depth : ℕ) (ps : List Part) (above : List ℕ) (v : ℕ) → list_any (λ a. a == v) above ≡ false → class_at depth ps above v ≡ tree_class depth (clear above ps) v
+pub class_at-tree : (depth : ℕ) (ps : List Part) (above : List ℕ) (v : ℕ) → list_any (λ a. a == v) above ≡ false
+    → class_at depth ps above v ≡ tree_class depth (clear above ps) v
 class_at-tree zero ps above v out = refl
 class_at-tree (suc depth) ps above v out =
     ap intersection
     (away (class_at depth ps (above ++ v ∷ [])) above v out ps
     ∙ gifts_same (class_at depth ps (above ++ v ∷ [])) (tree_class depth (apart v (clear above ps))) v (clear above ps)
     (λ p among b is.
-    class_at-tree depth ps (above ++ v ∷ []) b (list_any-append (λ a. a == b) above (v ∷ []) ∙ ap (λ t. t || ((v == b) || false)) (clear_far above v p b ps among is) ∙ or-false (v == b) ∙ far_differs v p b is)
+    class_at-tree depth ps (above ++ v ∷ []) b
+    (list_any-append (λ a. a == b) above (v ∷ []) ∙ ap (λ t. t || ((v == b) || false)) (clear_far above v p b ps among is) ∙ or-false (v == b)
+    ∙ far_differs v p b is)
     ∙ ap (λ qs. tree_class depth qs b) (clear-append above v ps)))

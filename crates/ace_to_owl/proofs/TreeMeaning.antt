@@ -47,7 +47,8 @@ pub con_spoken : (ps : List Part) (n m : ℕ) → Con ps n m → (n ≡ m) ⊎ (
 con_spoken [] n m h = inl (eqb-true n m h)
 con_spoken (At k c ∷ ps) n m h = con_spoken ps n m h
 con_spoken (Edge word a b ∷ ps) n m h =
-    let more : list_any (λ p. spoken p m) ps ≡ true → (((a == m) || (b == m)) || list_any (λ p. spoken p m) ps) ≡ true = λ g. or_more ((a == m) || (b == m)) (list_any (λ p. spoken p m) ps) g in
+    let more : list_any (λ p. spoken p m) ps ≡ true → (((a == m) || (b == m)) || list_any (λ p. spoken p m) ps) ≡ true =
+    λ g. or_more ((a == m) || (b == m)) (list_any (λ p. spoken p m) ps) g in
     elim (con_cases word a b ps n m h) [
       | inl x ↦ elim (con_spoken ps n m x) [ inl same ↦ inl same | inr g ↦ inr (more g) ]
       | inr x ↦ elim x [
@@ -109,7 +110,8 @@ reached_at (r ∷ rs) ps all q h = elim (or_cases (r == q) (is_bound rs q) h) [
   | inr later ↦ reached_at rs ps (and_second (connected ps 0 (r + 1)) (each_reached rs ps) all) q later
 ]
 
-module _ (i : Interpretation) (rs : List ℕ) (ps : List Part) (forest : has_cycle ps ≡ false) (reached : each_reached rs ps ≡ true) (inside : list_all (within rs) ps ≡ true) (f : ℕ → ℕ) (x : ℕ) where
+module _ (i : Interpretation) (rs : List ℕ) (ps : List Part) (forest : has_cycle ps ≡ false) (reached : each_reached rs ps ≡ true)
+    (inside : list_all (within rs) ps ≡ true) (f : ℕ → ℕ) (x : ℕ) where
   con_member : (n : ℕ) → is_member rs n ≡ true → Con ps 0 n
   con_member n h = elim (or_cases (n == 0) (list_any (λ q. (q + 1) == n) rs) h) [
     | inl zero_ ↦ subst (λ z. Con ps 0 z) (sym (eqb-true n 0 zero_)) (con_refl ps 0)
@@ -151,11 +153,13 @@ module _ (i : Interpretation) (rs : List ℕ) (ps : List Part) (forest : has_cyc
   same_part_true : (h : ℕ → ℕ) → h 0 ≡ x → (p : Part) → within rs p ≡ true → part_true i (value x (given h)) p ≡ part_true i h p
   same_part_true h at (At k c) m = ap (is_in i c) (same_values h at k m)
   same_part_true h at (Edge word a b) m =
-      λ j. has_pair i word (same_values h at a (and_first (is_member rs a) (is_member rs b) m) j) (same_values h at b (and_second (is_member rs a) (is_member rs b) m) j)
+      λ j. has_pair i word (same_values h at a (and_first (is_member rs a) (is_member rs b) m) j)
+      (same_values h at b (and_second (is_member rs a) (is_member rs b) m) j)
 
   pub down : is_in i (class_at (length ps) ps [] 0) x ≡ true → (g : ℕ → ℕ) × Extends i.size rs f g × (list_all (part_true i (value x g)) ps ≡ true)
   down h =
-      let model : Modelled i ps 0 x = forth i (length ps) ps 0 x (omega arith) forest (sym (ap (λ c. is_in i c x) (class_at-tree (length ps) ps [] 0 refl)) ∙ h) in (
+      let model : Modelled i ps 0 x = forth i (length ps) ps 0 x (omega arith) forest
+      (sym (ap (λ c. is_in i c x) (class_at-tree (length ps) ps [] 0 refl)) ∙ h) in (
         given model.h,
         record {
           introduced = λ q own.
@@ -172,16 +176,22 @@ module _ (i : Interpretation) (rs : List ℕ) (ps : List Part) (forest : has_cyc
       )
 
 -- an element is in the class of a tree where some elements for its referents make the parts true
-pub tree_meaning : (i : Interpretation) (rs : List ℕ) (ps : List Part) (c : Concept) → class_of_tree rs ps ≡ Ok c → list_all (within rs) ps ≡ true → (f : ℕ → ℕ) (x : ℕ) → is_in i c x ≡ some_extension i.size rs (λ g. list_all (part_true i (value x g)) ps) f
+pub tree_meaning : (i : Interpretation) (rs : List ℕ) (ps : List Part) (c : Concept) → class_of_tree rs ps ≡ Ok c → list_all (within rs) ps ≡ true
+    → (f : ℕ → ℕ) (x : ℕ) → is_in i c x ≡ some_extension i.size rs (λ g. list_all (part_true i (value x g)) ps) f
 tree_meaning i rs ps c made inside f x = by (has_cycle ps) (each_reached rs ps) refl refl made
   where
     test : (ℕ → ℕ) → Bool
     test g = list_all (part_true i (value x g)) ps
 
-    decided : Decides (some_extension i.size rs (λ g. list_all (part_true i (value x g)) ps) f) ((g : ℕ → ℕ) × Extends i.size rs f g × (list_all (part_true i (value x g)) ps ≡ true))
-    decided = some_extension-Decides i.size rs (λ g. list_all (part_true i (value x g)) ps) (λ g. list_all (part_true i (value x g)) ps ≡ true) (λ g. (λ h. h, λ h. h)) f
+    decided : Decides (some_extension i.size rs (λ g. list_all (part_true i (value x g)) ps) f)
+        ((g : ℕ → ℕ) × Extends i.size rs f g × (list_all (part_true i (value x g)) ps ≡ true))
+    decided = some_extension-Decides i.size rs (λ g. list_all (part_true i (value x g)) ps) (λ g. list_all (part_true i (value x g)) ps ≡ true)
+        (λ g. (λ h. h, λ h. h)) f
 
-    by : (cycle reached : Bool) → has_cycle ps ≡ cycle → each_reached rs ps ≡ reached → ◌≡◌ {A = Result Concept Cause} (elim (if cycle then Some Cycle else if reached then None else Some NoRoot) [ Some cause ↦ Err cause | None ↦ Ok (class_at (length ps) ps [] 0) ]) (Ok c) → is_in i c x ≡ some_extension i.size rs (λ g. list_all (part_true i (value x g)) ps) f
+    by : (cycle reached : Bool) → has_cycle ps ≡ cycle → each_reached rs ps ≡ reached
+        → ◌≡◌ {A = Result Concept Cause}
+        (elim (if cycle then Some Cycle else if reached then None else Some NoRoot) [ Some cause ↦ Err cause | None ↦ Ok (class_at (length ps) ps [] 0) ])
+        (Ok c) → is_in i c x ≡ some_extension i.size rs (λ g. list_all (part_true i (value x g)) ps) f
     by true reached is_c is_r e = let flip : true ≡ false = ap (λ r. elim r [ Ok v ↦ false | Err v ↦ true ]) e in cc
     by false false is_c is_r e = let flip : true ≡ false = ap (λ r. elim r [ Ok v ↦ false | Err v ↦ true ]) e in cc
     by false true is_c is_r e =
@@ -189,4 +199,5 @@ tree_meaning i rs ps c made inside f x = by (has_cycle ps) (each_reached rs ps) 
         sym (ap (λ k. is_in i k x) same)
         ∙ same_tests (is_in i (class_at (length ps) ps [] 0) x) (some_extension i.size rs (λ g. list_all (part_true i (value x g)) ps) f)
         (λ h. decided.1 (down i rs ps is_c is_r inside f x h))
-        (λ h. (let w : (g : ℕ → ℕ) × Extends i.size rs f g × (list_all (part_true i (value x g)) ps ≡ true) = decided.0 h in up i rs ps is_c is_r inside f x w.0 w.1 w.2))
+        (λ h. (let w : (g : ℕ → ℕ) × Extends i.size rs f g × (list_all (part_true i (value x g)) ps ≡ true) = decided.0 h in
+        up i rs ps is_c is_r inside f x w.0 w.1 w.2))

@@ -54,11 +54,13 @@ abbrev pub passes : Interpretation → Option Concept → ℕ → Bool
 passes i (Some c) x = is_in i c x
 passes i None x = true
 
-gift_front : (i : Interpretation) (x : ℕ) (o : Option Concept) (cs : List Concept) → list_all (λ c. is_in i c x) (cons_option o cs) ≡ (passes i o x && list_all (λ c. is_in i c x) cs)
+gift_front : (i : Interpretation) (x : ℕ) (o : Option Concept) (cs : List Concept)
+    → list_all (λ c. is_in i c x) (cons_option o cs) ≡ (passes i o x && list_all (λ c. is_in i c x) cs)
 gift_front i x (Some c) cs = refl
 gift_front i x None cs = refl
 
-pub all_gifts : (i : Interpretation) (f : Part → Option Concept) (x : ℕ) (ps : List Part) → list_all (λ c. is_in i c x) (filter_map f ps) ≡ true → (p : Part) → Among p ps → passes i (f p) x ≡ true
+pub all_gifts : (i : Interpretation) (f : Part → Option Concept) (x : ℕ) (ps : List Part) → list_all (λ c. is_in i c x) (filter_map f ps) ≡ true → (p : Part)
+    → Among p ps → passes i (f p) x ≡ true
 all_gifts i f x [] h p among = absurd among
 all_gifts i f x (q ∷ ps) h p among =
     let two : (passes i (f q) x && list_all (λ c. is_in i c x) (filter_map f ps)) ≡ true = sym (gift_front i x (f q) (filter_map f ps)) ∙ h in
@@ -67,7 +69,8 @@ all_gifts i f x (q ∷ ps) h p among =
       | inr later ↦ all_gifts i f x ps (and_second (passes i (f q) x) (list_all (λ c. is_in i c x) (filter_map f ps)) two) p later
     ]
 
-pub gifts_all : (i : Interpretation) (f : Part → Option Concept) (x : ℕ) (ps : List Part) → ((p : Part) → Among p ps → passes i (f p) x ≡ true) → list_all (λ c. is_in i c x) (filter_map f ps) ≡ true
+pub gifts_all : (i : Interpretation) (f : Part → Option Concept) (x : ℕ) (ps : List Part) → ((p : Part) → Among p ps → passes i (f p) x ≡ true)
+    → list_all (λ c. is_in i c x) (filter_map f ps) ≡ true
 gifts_all i f x [] each = refl
 gifts_all i f x (q ∷ ps) each =
     gift_front i x (f q) (filter_map f ps)
@@ -107,7 +110,8 @@ pub record FarEnd (v : ℕ) (p : Part) (b : ℕ) : Type 0 where
   pub joins : (ps : List Part) → Con (p ∷ ps) v b
   pub cuts : (before after : List Part) → Con (before ++ after) v b → has_cycle (before ++ p ∷ after) ≡ true
 
-far_end_by : (v : ℕ) (word : WordId) (a c b : ℕ) (s t : Bool) → (a == v) ≡ s → (c == v) ≡ t → (if s && not t then Some c else if t && not s then Some a else None) ≡ Some b → FarEnd v (Edge word a c) b
+far_end_by : (v : ℕ) (word : WordId) (a c b : ℕ) (s t : Bool) → (a == v) ≡ s → (c == v) ≡ t
+    → (if s && not t then Some c else if t && not s then Some a else None) ≡ Some b → FarEnd v (Edge word a c) b
 far_end_by v word a c b true false sa tc e =
     let cb : c ≡ b = same_some c b e in
     let av : a ≡ v = eqb-true a v sa in
@@ -115,7 +119,8 @@ far_end_by v word a c b true false sa tc e =
       apart_from = λ bv. not_same c v tc (cb ∙ bv);
       speaks_of = ap (λ z. z || (c == v)) sa;
       gives = λ i cl x.
-          (λ j. passes i (if sa j && not (tc j) then Some (SomeValuesFrom (straight word) (cl c)) else if tc j && not (sa j) then Some (SomeValuesFrom (inverse word) (cl a)) else None) x)
+          (λ j. passes i (if sa j && not (tc j) then Some (SomeValuesFrom (straight word) (cl c)) else if tc j && not (sa j)
+          then Some (SomeValuesFrom (inverse word) (cl a)) else None) x)
           ∙ ap (λ m. some_below i.size (λ y. has_pair i word x y && is_in i (cl m) y)) cb
           ∙ (λ j. some_below i.size (λ y. (if sym sa j then has_pair i word x y else has_pair i word y x) && is_in i (cl b) y));
       reads = λ i h. (λ j. has_pair i word (h (av j)) (h (cb j))) ∙ (λ j. if sym sa j then has_pair i word (h v) (h b) else has_pair i word (h b) (h v));
@@ -130,13 +135,15 @@ far_end_by v word a c b false true sa tc e =
       apart_from = λ bv. not_same a v sa (ab ∙ bv);
       speaks_of = or_right (a == v) (c == v) tc;
       gives = λ i cl x.
-          (λ j. passes i (if sa j && not (tc j) then Some (SomeValuesFrom (straight word) (cl c)) else if tc j && not (sa j) then Some (SomeValuesFrom (inverse word) (cl a)) else None) x)
+          (λ j. passes i (if sa j && not (tc j) then Some (SomeValuesFrom (straight word) (cl c)) else if tc j && not (sa j)
+          then Some (SomeValuesFrom (inverse word) (cl a)) else None) x)
           ∙ ap (λ m. some_below i.size (λ y. has_pair i word y x && is_in i (cl m) y)) ab
           ∙ (λ j. some_below i.size (λ y. (if sym sa j then has_pair i word x y else has_pair i word y x) && is_in i (cl b) y));
       reads = λ i h. (λ j. has_pair i word (h (ab j)) (h (cv j))) ∙ (λ j. if sym sa j then has_pair i word (h v) (h b) else has_pair i word (h b) (h v));
       ends = inr ab;
       joins = λ ps. con_against word a c ps v b (subst (λ z. Con ps v z) (sym cv) (con_refl ps v)) (subst (λ z. Con ps z b) (sym ab) (con_refl ps b));
-      cuts = λ before after h. cut before word a c after (subst (λ z. Con (before ++ after) z c) (sym ab) (subst (λ z. Con (before ++ after) b z) (sym cv) (con_sym (before ++ after) v b h)));
+      cuts = λ before after h. cut before word a c after
+          (subst (λ z. Con (before ++ after) z c) (sym ab) (subst (λ z. Con (before ++ after) b z) (sym cv) (con_sym (before ++ after) v b h)));
     }
 far_end_by v word a c b true true sa tc e = absurd (none_some b e)
 far_end_by v word a c b false false sa tc e = absurd (none_some b e)
@@ -145,7 +152,10 @@ pub far_end : (v : ℕ) (p : Part) (b : ℕ) → far v p ≡ Some b → FarEnd v
 far_end v (At k c) b e = absurd (none_some b e)
 far_end v (Edge word a c) b e = far_end_by v word a c b (a == v) (c == v) refl refl e
 
-pub no_gift_by : (i : Interpretation) (v : ℕ) (word : WordId) (a c : ℕ) (cl : ℕ → Concept) (x : ℕ) (s t : Bool) → ((if s && not t then Some c else if t && not s then Some a else None) ≡ None) → passes i (if s && not t then Some (SomeValuesFrom (straight word) (cl c)) else if t && not s then Some (SomeValuesFrom (inverse word) (cl a)) else None) x ≡ true
+pub no_gift_by : (i : Interpretation) (v : ℕ) (word : WordId) (a c : ℕ) (cl : ℕ → Concept) (x : ℕ) (s t : Bool)
+    → ((if s && not t then Some c else if t && not s then Some a else None) ≡ None)
+    → passes i (if s && not t then Some (SomeValuesFrom (straight word) (cl c)) else if t && not s then Some (SomeValuesFrom (inverse word) (cl a)) else None) x
+    ≡ true
 no_gift_by i v word a c cl x true false e = absurd (none_some c (sym e))
 no_gift_by i v word a c cl x false true e = absurd (none_some a (sym e))
 no_gift_by i v word a c cl x true true e = refl

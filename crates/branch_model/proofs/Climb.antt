@@ -59,9 +59,12 @@ pub indirectly-some : (k : Theory) (g : Graph) → ParentsBelow g → (x p : ℕ
 indirectly-some k g down x p up = ap (blocks k g) (ancestors-some g down x p up)
 
 -- one step up in search of a twin: the parent is one, or one is above it
-pub twin_step : (k : Theory) (g : Graph) → ParentsBelow g → (x y p : ℕ) → parent_of g y ≡ Some p → has_twin k g x (ancestors g y) ≡ true → is_indirectly_blocked k g y ≡ false → (is_anonymous k p && same_classes (label_at g x) (label_at g p)) ≡ false → (has_twin k g x (ancestors g p) ≡ true) × (is_indirectly_blocked k g p ≡ false)
+pub twin_step : (k : Theory) (g : Graph) → ParentsBelow g → (x y p : ℕ) → parent_of g y ≡ Some p → has_twin k g x (ancestors g y) ≡ true
+    → is_indirectly_blocked k g y ≡ false → (is_anonymous k p && same_classes (label_at g x) (label_at g p)) ≡ false
+    → (has_twin k g x (ancestors g p) ≡ true) × (is_indirectly_blocked k g p ≡ false)
 twin_step k g down x y p up twin free other =
-    let here : ((is_anonymous k p && same_classes (label_at g x) (label_at g p)) || has_twin k g x (ancestors g p)) ≡ true = sym (ap (has_twin k g x) (ancestors-some g down y p up)) ∙ twin in
+    let here : ((is_anonymous k p && same_classes (label_at g x) (label_at g p)) || has_twin k g x (ancestors g p)) ≡ true =
+    sym (ap (has_twin k g x) (ancestors-some g down y p up)) ∙ twin in
     let above : is_blocked k g p ≡ false = sym (indirectly-some k g down y p up) ∙ free in
     (sym (ap (λ b. b || has_twin k g x (ancestors g p)) other) ∙ here, (or_parts (is_directly_blocked k g p) (is_indirectly_blocked k g p) above).1)
 
@@ -69,7 +72,8 @@ twin_step k g down x y p up twin free other =
 pub twin_top : (k : Theory) (g : Graph) (x y : ℕ) → parent_of g y ≡ None → has_twin k g x (ancestors g y) ≡ true → ⊥
 twin_top k g x y up twin = let none : has_twin k g x (ancestors g y) ≡ false = ap (has_twin k g x) (ancestors-none g y up) in cc
 
-pub twin_here : (k : Theory) (g : Graph) → ParentsBelow g → (x y p : ℕ) → y ≤ x → parent_of g y ≡ Some p → is_indirectly_blocked k g y ≡ false → (is_anonymous k p && same_classes (label_at g x) (label_at g p)) ≡ true → IsTwin k g x p
+pub twin_here : (k : Theory) (g : Graph) → ParentsBelow g → (x y p : ℕ) → y ≤ x → parent_of g y ≡ Some p → is_indirectly_blocked k g y ≡ false
+    → (is_anonymous k p && same_classes (label_at g x) (label_at g p)) ≡ true → IsTwin k g x p
 twin_here k g down x y p low up free is =
     let two = and_parts (is_anonymous k p) (same_classes (label_at g x) (label_at g p)) is in
     let lt = down y p up in
@@ -81,7 +85,8 @@ twin_here k g down x y p low up free is =
     }
 
 -- what a directly blocked node has
-pub directly_parts : (k : Theory) (g : Graph) (x : ℕ) → is_directly_blocked k g x ≡ true → (is_anonymous k x ≡ true) × ((has_twin k g x (ancestors g x) ≡ true) × (is_indirectly_blocked k g x ≡ false))
+pub directly_parts : (k : Theory) (g : Graph) (x : ℕ) → is_directly_blocked k g x ≡ true
+    → (is_anonymous k x ≡ true) × ((has_twin k g x (ancestors g x) ≡ true) × (is_indirectly_blocked k g x ≡ false))
 directly_parts k g x h =
     let one = and_parts (is_anonymous k x) (has_twin k g x (ancestors g x) && not (blocks k g (ancestors g x))) h in
     let two = and_parts (has_twin k g x (ancestors g x)) (not (blocks k g (ancestors g x))) one.1 in

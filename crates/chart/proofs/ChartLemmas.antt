@@ -40,12 +40,17 @@ none_told g told_of is = record {
     at zero b le h = subst (λ x. IsTrue x ↔ Derived (setting g [] [])) (same_Some told_of b h) is
     at (suc count) b le h = absurd (omega arith)
 
-pub chart_none : (g : GrammarParts) (tokens : List (List ℕ)) (readings : List (List Ground)) (derives : List Bool) (told_of : Bool) → tokens ≡ [] → readings ≡ [] → derives ≡ told_of ∷ [] → IsTrue told_of ↔ Derived (setting g [] []) → IsChart (setting g tokens readings) derives
+pub chart_none : (g : GrammarParts) (tokens : List (List ℕ)) (readings : List (List Ground)) (derives : List Bool) (told_of : Bool) → tokens ≡ []
+    → readings ≡ [] → derives ≡ told_of ∷ [] → IsTrue told_of ↔ Derived (setting g [] []) → IsChart (setting g tokens readings) derives
 chart_none g tokens readings derives told_of t r d is =
-    subst (λ x. IsChart (setting g x readings) derives) (sym t) (subst (λ x. IsChart (setting g [] x) derives) (sym r) (subst (IsChart (setting g [] [])) (sym d) (none_told g told_of is)))
+    subst (λ x. IsChart (setting g x readings) derives) (sym t)
+    (subst (λ x. IsChart (setting g [] x) derives) (sym r) (subst (IsChart (setting g [] [])) (sym d) (none_told g told_of is)))
 
 -- one more token, whose readings a function of tokens gives
-pub chart_more : (g : GrammarParts) (f : List ℕ → List Ground) (tokens : List (List ℕ)) (token : List ℕ) (derives : List Bool) (told_of : Bool) → length tokens < MOST_TOKENS → IsChart (setting g tokens (map f tokens)) derives → IsTrue told_of ↔ Derived (setting g (tokens ++ token ∷ []) (map f (tokens ++ token ∷ []))) → IsChart (setting g (tokens ++ token ∷ []) (map f (tokens ++ token ∷ []))) (derives ++ told_of ∷ [])
+pub chart_more : (g : GrammarParts) (f : List ℕ → List Ground) (tokens : List (List ℕ)) (token : List ℕ) (derives : List Bool) (told_of : Bool)
+    → length tokens < MOST_TOKENS → IsChart (setting g tokens (map f tokens)) derives
+    → IsTrue told_of ↔ Derived (setting g (tokens ++ token ∷ []) (map f (tokens ++ token ∷ [])))
+    → IsChart (setting g (tokens ++ token ∷ []) (map f (tokens ++ token ∷ []))) (derives ++ told_of ∷ [])
 chart_more g f tokens token derives told_of room chart is = record {
   few = omega (arith, length-append tokens (token ∷ []));
   read = length_mapped f (tokens ++ token ∷ []);
@@ -53,26 +58,33 @@ chart_more g f tokens token derives told_of room chart is = record {
   told = λ count b le h. by_last count b le h (nat_lt (length tokens) count) refl;
 }
   where
-    by_last : (count : ℕ) (b : Bool) → count ≤ length (tokens ++ token ∷ []) → slice_get (derives ++ told_of ∷ []) count ≡ Some b → (last : Bool) → nat_lt (length tokens) count ≡ last → IsTrue b ↔ Derived (first_of (setting g (tokens ++ token ∷ []) (map f (tokens ++ token ∷ []))) count)
+    by_last : (count : ℕ) (b : Bool) → count ≤ length (tokens ++ token ∷ []) → slice_get (derives ++ told_of ∷ []) count ≡ Some b → (last : Bool)
+        → nat_lt (length tokens) count ≡ last → IsTrue b ↔ Derived (first_of (setting g (tokens ++ token ∷ []) (map f (tokens ++ token ∷ []))) count)
     by_last count b le h true t =
         let lt : length tokens < count = grind (arith, nat_tests) in
         let all = chart.all in
         let here : count ≡ length derives = omega (arith, length-append tokens (token ∷ [])) in
         let same : told_of ≡ b = same_Some told_of b (sym (slice_end derives told_of) ∙ ap (slice_get (derives ++ told_of ∷ [])) (sym here) ∙ h) in
-        let whole : take count (tokens ++ token ∷ []) ≡ tokens ++ token ∷ [] = take_all count (tokens ++ token ∷ []) (omega (arith, length-append tokens (token ∷ []))) in
-        let whole_readings : take count (map f (tokens ++ token ∷ [])) ≡ map f (tokens ++ token ∷ []) = take_all count (map f (tokens ++ token ∷ [])) (omega (arith, length-append tokens (token ∷ []), length_mapped f (tokens ++ token ∷ []))) in
-        subst (λ x. IsTrue x ↔ Derived (first_of (setting g (tokens ++ token ∷ []) (map f (tokens ++ token ∷ []))) count)) same (subst (λ s. IsTrue told_of ↔ Derived s) (sym (setting_same g _ _ _ _ whole whole_readings)) is)
+        let whole : take count (tokens ++ token ∷ []) ≡ tokens ++ token ∷ [] =
+        take_all count (tokens ++ token ∷ []) (omega (arith, length-append tokens (token ∷ []))) in
+        let whole_readings : take count (map f (tokens ++ token ∷ [])) ≡ map f (tokens ++ token ∷ []) =
+        take_all count (map f (tokens ++ token ∷ [])) (omega (arith, length-append tokens (token ∷ []), length_mapped f (tokens ++ token ∷ []))) in
+        subst (λ x. IsTrue x ↔ Derived (first_of (setting g (tokens ++ token ∷ []) (map f (tokens ++ token ∷ []))) count)) same
+        (subst (λ s. IsTrue told_of ↔ Derived s) (sym (setting_same g _ _ _ _ whole whole_readings)) is)
     by_last count b le h false t =
         let within : count ≤ length tokens = grind (arith, nat_tests) in
         let all = chart.all in
         let lt : count < length derives = omega arith in
         let front : take count (tokens ++ token ∷ []) ≡ take count tokens = take-append-le count tokens (token ∷ []) within in
         let in_readings : count ≤ length (map f tokens) = omega (arith, length_mapped f tokens) in
-        let front_readings : take count (map f (tokens ++ token ∷ [])) ≡ take count (map f tokens) = ap (take count) (map_push f tokens token) ∙ take-append-le count (map f tokens) (f token ∷ []) in_readings in
-        subst (λ s. IsTrue b ↔ Derived s) (sym (setting_same g _ _ _ _ front front_readings)) (chart.told count b within (sym (slice_get-append derives (told_of ∷ []) count lt) ∙ h))
+        let front_readings : take count (map f (tokens ++ token ∷ [])) ≡ take count (map f tokens) =
+        ap (take count) (map_push f tokens token) ∙ take-append-le count (map f tokens) (f token ∷ []) in_readings in
+        subst (λ s. IsTrue b ↔ Derived s) (sym (setting_same g _ _ _ _ front front_readings))
+        (chart.told count b within (sym (slice_get-append derives (told_of ∷ []) count lt) ∙ h))
 
 -- all but the last token
-pub chart_less : (s : Setting) (derives : List Bool) (count : ℕ) → count ≤ length s.tokens → IsChart s derives → IsChart (first_of s count) (take (count + 1) derives)
+pub chart_less : (s : Setting) (derives : List Bool) (count : ℕ) → count ≤ length s.tokens → IsChart s derives
+    → IsChart (first_of s count) (take (count + 1) derives)
 chart_less s derives count le chart =
     let all = chart.all in
     let few = chart.few in
@@ -87,39 +99,55 @@ chart_less s derives count le chart =
           let less : k ≤ count = omega (arith, length-take-le count s.tokens le) in
           let lt : k < count + 1 = omega arith in
           let inside : k ≤ length s.tokens = omega arith in
-          subst (λ x. IsTrue b ↔ Derived x) (sym (setting_same s.grammar _ _ _ _ (take-take k count s.tokens less) (take-take k count s.readings less))) (chart.told k b inside (sym (slice_get-take (count + 1) k derives lt) ∙ h));
+          subst (λ x. IsTrue b ↔ Derived x) (sym (setting_same s.grammar _ _ _ _ (take-take k count s.tokens less) (take-take k count s.readings less)))
+          (chart.told k b inside (sym (slice_get-take (count + 1) k derives lt) ∙ h));
     }
 
 -- all tokens
-pub chart_told : (s : Setting) (derives : List Bool) (told_of : Bool) → IsChart s derives → slice_get derives (length s.tokens) ≡ Some told_of → IsTrue told_of ↔ Derived s
+pub chart_told : (s : Setting) (derives : List Bool) (told_of : Bool) → IsChart s derives → slice_get derives (length s.tokens) ≡ Some told_of
+    → IsTrue told_of ↔ Derived s
 chart_told s derives told_of chart h =
     let read = chart.read in
-    subst (λ x. IsTrue told_of ↔ Derived x) (setting_same s.grammar _ _ _ _ (take_all (length s.tokens) s.tokens (omega arith)) (take_all (length s.tokens) s.readings (omega arith))) (chart.told (length s.tokens) told_of (omega arith) h)
+    subst (λ x. IsTrue told_of ↔ Derived x)
+    (setting_same s.grammar _ _ _ _ (take_all (length s.tokens) s.tokens (omega arith)) (take_all (length s.tokens) s.readings (omega arith)))
+    (chart.told (length s.tokens) told_of (omega arith) h)
 
 -- the chart after an advance, by what it kept
-pub chart_grown : (g kept : GrammarParts) (f : List ℕ → List Ground) (s : Setting) (old : List (List ℕ)) (old_readings : List (List Ground)) (token : List ℕ) (tokens : List (List ℕ)) (readings : List (List Ground)) (derives grown : List Bool) (b : Bool) → setting kept old old_readings ≡ s → s ≡ setting g s.tokens (map f s.tokens) → length s.tokens < MOST_TOKENS → IsChart (setting kept old old_readings) derives → tokens ≡ old ++ token ∷ [] → readings ≡ map f tokens → grown ≡ derives ++ b ∷ [] → IsTrue b ↔ Derived (setting g tokens (map f tokens)) → IsChart (setting kept tokens readings) grown
+pub chart_grown : (g kept : GrammarParts) (f : List ℕ → List Ground) (s : Setting) (old : List (List ℕ)) (old_readings : List (List Ground)) (token : List ℕ)
+    (tokens : List (List ℕ)) (readings : List (List Ground)) (derives grown : List Bool) (b : Bool) → setting kept old old_readings ≡ s
+    → s ≡ setting g s.tokens (map f s.tokens) → length s.tokens < MOST_TOKENS → IsChart (setting kept old old_readings) derives → tokens ≡ old ++ token ∷ []
+    → readings ≡ map f tokens → grown ≡ derives ++ b ∷ [] → IsTrue b ↔ Derived (setting g tokens (map f tokens)) → IsChart (setting kept tokens readings) grown
 chart_grown g kept f s old old_readings token tokens readings derives grown b view is_kept room chart t r d is =
     let grammar_is : kept ≡ g = ap (λ x. x.grammar) (view ∙ is_kept) in
     let old_is : old ≡ s.tokens = ap (λ x. x.tokens) view in
     let readings_are : old_readings ≡ map f old = ap (λ x. x.readings) (view ∙ is_kept) ∙ ap (map f) (sym old_is) in
     let below : length old < MOST_TOKENS = subst (λ x. length x < MOST_TOKENS) (sym old_is) room in
-    let before : IsChart (setting g old (map f old)) derives = subst (λ x. IsChart x derives) (ap (λ x. setting x old old_readings) grammar_is ∙ ap (setting g old) readings_are) chart in
+    let before : IsChart (setting g old (map f old)) derives =
+    subst (λ x. IsChart x derives) (ap (λ x. setting x old old_readings) grammar_is ∙ ap (setting g old) readings_are) chart in
     let told : IsTrue b ↔ Derived (setting g (old ++ token ∷ []) (map f (old ++ token ∷ []))) = subst (λ x. IsTrue b ↔ Derived (setting g x (map f x))) t is in
     let after = chart_more g f old token derives b below before told in
-    let same : setting kept tokens readings ≡ setting g (old ++ token ∷ []) (map f (old ++ token ∷ [])) = ap (λ x. setting x tokens readings) grammar_is ∙ ap (setting g tokens) r ∙ ap (λ x. setting g x (map f x)) t in
+    let same : setting kept tokens readings ≡ setting g (old ++ token ∷ []) (map f (old ++ token ∷ [])) =
+    ap (λ x. setting x tokens readings) grammar_is ∙ ap (setting g tokens) r ∙ ap (λ x. setting g x (map f x)) t in
     subst (λ x. IsChart x grown) (sym same) (subst (IsChart (setting g (old ++ token ∷ []) (map f (old ++ token ∷ [])))) (sym d) after)
 
 -- a chart by its own tokens
-pub kept_on : (g : GrammarParts) (f : List ℕ → List Ground) (s : Setting) (tokens : List (List ℕ)) → s ≡ setting g tokens (map f tokens) → s ≡ setting g s.tokens (map f s.tokens)
+pub kept_on : (g : GrammarParts) (f : List ℕ → List Ground) (s : Setting) (tokens : List (List ℕ)) → s ≡ setting g tokens (map f tokens)
+    → s ≡ setting g s.tokens (map f s.tokens)
 kept_on g f s tokens e = e ∙ ap (λ t. setting g t (map f t)) (sym (ap (λ x. x.tokens) e))
 
 -- the readings that a chart keeps are those that the lexicon gives
-pub readings_kept : (g kept : GrammarParts) (f : List ℕ → List Ground) (s : Setting) (old : List (List ℕ)) (old_readings : List (List Ground)) → setting kept old old_readings ≡ s → s ≡ setting g s.tokens (map f s.tokens) → old_readings ≡ map f old
+pub readings_kept : (g kept : GrammarParts) (f : List ℕ → List Ground) (s : Setting) (old : List (List ℕ)) (old_readings : List (List Ground))
+    → setting kept old old_readings ≡ s → s ≡ setting g s.tokens (map f s.tokens) → old_readings ≡ map f old
 readings_kept g kept f s old old_readings view is_kept =
     ap (λ x. x.readings) (view ∙ is_kept) ∙ ap (map f) (sym (ap (λ x. x.tokens) view))
 
 -- the first tokens, which read as before
-pub chart_unchanged : (s : Setting) (derives : List Bool) (f : List ℕ → List Ground) (n : ℕ) (g : GrammarParts) (tokens : List (List ℕ)) (readings : List (List Ground)) (told_of : List Bool) → g ≡ s.grammar → tokens ≡ take n s.tokens → readings ≡ map f tokens → take n s.readings ≡ map f (take n s.tokens) → told_of ≡ take (n + 1) derives → n ≤ length s.tokens → IsChart s derives → IsChart (setting g tokens readings) told_of
+pub chart_unchanged : (s : Setting) (derives : List Bool) (f : List ℕ → List Ground) (n : ℕ) (g : GrammarParts) (tokens : List (List ℕ))
+    (readings : List (List Ground)) (told_of : List Bool) → g ≡ s.grammar → tokens ≡ take n s.tokens → readings ≡ map f tokens
+    → take n s.readings ≡ map f (take n s.tokens) → told_of ≡ take (n + 1) derives → n ≤ length s.tokens → IsChart s derives
+    → IsChart (setting g tokens readings) told_of
 chart_unchanged s derives f n g tokens readings told_of same first read alike told_is within chart =
-    let is : setting g tokens readings ≡ first_of s n = ap (λ x. setting x tokens readings) same ∙ setting_same s.grammar tokens (take n s.tokens) readings (take n s.readings) first (read ∙ ap (map f) first ∙ sym alike) in
+    let is : setting g tokens readings ≡ first_of s n =
+    ap (λ x. setting x tokens readings) same
+    ∙ setting_same s.grammar tokens (take n s.tokens) readings (take n s.readings) first (read ∙ ap (map f) first ∙ sym alike) in
     subst (λ x. IsChart x told_of) (sym is) (subst (IsChart (first_of s n)) (sym told_is) (chart_less s derives n within chart))

@@ -126,7 +126,8 @@ grounds_stay a b [] h k = refl
 grounds_stay a b (r ∷ rs) h k =
     both_true (list_all (λ p. lacks_value a p.1) r.vals) (lacks_in a rs) h (λ h1 h2.
     both_true (list_all (λ p. lacks_value b p.1) r.vals) (lacks_in b rs) k (λ k1 k2.
-    ap (λ vs. record { name = r.name; vals = vs } ∷ map (turned_ground (swapped a b)) rs) (all_stay a b r.vals h1 k1) ∙ ap (λ l. r ∷ l) (grounds_stay a b rs h2 k2)))
+    ap (λ vs. record { name = r.name; vals = vs } ∷ map (turned_ground (swapped a b)) rs) (all_stay a b r.vals h1 k1)
+    ∙ ap (λ l. r ∷ l) (grounds_stay a b rs h2 k2)))
 
 readings_stay : (a b : ℕ) (rss : List (List Ground)) → lacks_word a rss ≡ true → lacks_word b rss ≡ true → turned_readings (swapped a b) rss ≡ rss
 readings_stay a b [] h k = refl
@@ -170,7 +171,8 @@ element_written Opener h = tt
 element_written (Forward c) h = both_true _ (is_written c) h (λ _ b. category_written c b)
 element_written (Strong c) h = both_true _ (is_written c) h (λ _ b. category_written c b)
 element_written (Back ps ns) h =
-    both_true (not (is_empty ps) && list_all is_written_pattern ps) (list_all is_plain_pattern ns) h (λ a b. both_true (not (is_empty ps)) (list_all is_written_pattern ps) a (λ _ c. (patterns_written ps c, plains_written ns b)))
+    both_true (not (is_empty ps) && list_all is_written_pattern ps) (list_all is_plain_pattern ns) h
+    (λ a b. both_true (not (is_empty ps)) (list_all is_written_pattern ps) a (λ _ c. (patterns_written ps c, plains_written ns b)))
 element_written (NoBack ps) h = both_true (not (is_empty ps)) (list_all is_plain_pattern ps) h (λ _ b. plains_written ps b)
 
 body_written : (es : List Element) → list_all is_written_element es ≡ true → BodyWritten es
@@ -178,7 +180,8 @@ body_written [] h = tt
 body_written (e ∷ es) h = both_true (is_written_element e) (list_all is_written_element es) h (λ a b. (element_written e a, body_written es b))
 
 rule_written : (r : Rule) → is_written_rule r ≡ true → RuleWritten r
-rule_written r h = both_true (is_written_name r.head) (list_all is_written_element r.body) h (λ a b. (both_true _ (is_written r.head) a (λ _ c. category_written r.head c), body_written r.body b))
+rule_written r h = both_true (is_written_name r.head) (list_all is_written_element r.body) h
+    (λ a b. (both_true _ (is_written r.head) a (λ _ c. category_written r.head c), body_written r.body b))
 
 all_at : (xs : List Rule) (i : ℕ) (r : Rule) → list_all is_written_rule xs ≡ true → slice_get xs i ≡ Some r → is_written_rule r ≡ true
 all_at [] i r h e = absurd (cc)
@@ -194,14 +197,19 @@ rules_written g sound number rule has = at (number == 0) has
 
 -- settings that differ in the last token
 
-alike_last : (h : ℕ → ℕ) (g : GrammarParts) (tokens : List (List ℕ)) (rs : List (List Ground)) (one other : List ℕ) (q r : List Ground) → length rs ≡ length tokens → turned_readings h rs ≡ rs → ((v : Value) → has_word (with_last g tokens rs other r) (turned h v) ≡ has_word (with_last g tokens rs one q) v) → Alike (length tokens) h (with_last g tokens rs one q) (with_last g tokens rs other r)
+alike_last : (h : ℕ → ℕ) (g : GrammarParts) (tokens : List (List ℕ)) (rs : List (List Ground)) (one other : List ℕ) (q r : List Ground)
+    → length rs ≡ length tokens → turned_readings h rs ≡ rs
+    → ((v : Value) → has_word (with_last g tokens rs other r) (turned h v) ≡ has_word (with_last g tokens rs one q) v)
+    → Alike (length tokens) h (with_last g tokens rs one q) (with_last g tokens rs other r)
 alike_last h g tokens rs one other q r long stays words = record {
   grammar = refl;
   count = length-append tokens (other ∷ []) ∙ sym (length-append tokens (one ∷ []));
-  terminals = λ t place lt. ap (λ o. option_map_or (λ token. option_map_or (bytes_eq token) (slice_get g.terminals t) false) o false) (slice_get-append tokens (other ∷ []) place lt ∙ sym (slice_get-append tokens (one ∷ []) place lt));
+  terminals = λ t place lt. ap (λ o. option_map_or (λ token. option_map_or (bytes_eq token) (slice_get g.terminals t) false) o false)
+      (slice_get-append tokens (other ∷ []) place lt ∙ sym (slice_get-append tokens (one ∷ []) place lt));
   readings = λ place lt.
       let below : place < length rs = subst (λ k. place < k) (sym long) lt in
-      slice_get-append rs (r ∷ []) place below ∙ ap (λ x. slice_get x place) (sym stays) ∙ slice_get-map (map (turned_ground h)) rs place ∙ ap (option_map (map (turned_ground h))) (sym (slice_get-append rs (q ∷ []) place below));
+      slice_get-append rs (r ∷ []) place below ∙ ap (λ x. slice_get x place) (sym stays) ∙ slice_get-map (map (turned_ground h)) rs place
+      ∙ ap (option_map (map (turned_ground h))) (sym (slice_get-append rs (q ∷ []) place below));
   words = words;
 }
 
@@ -209,17 +217,22 @@ alike_last h g tokens rs one other q r long stays words = record {
 abbrev words_in : List (List Ground) → Value → Bool
 words_in rs v = list_any (λ one. has_in one v) rs
 
-pub last_words : (g : GrammarParts) (tokens : List (List ℕ)) (rs : List (List Ground)) (one : List ℕ) (q : List Ground) (v : Value) → has_word (with_last g tokens rs one q) v ≡ (words_in rs v || has_in q v)
+pub last_words : (g : GrammarParts) (tokens : List (List ℕ)) (rs : List (List Ground)) (one : List ℕ) (q : List Ground) (v : Value)
+    → has_word (with_last g tokens rs one q) v ≡ (words_in rs v || has_in q v)
 last_words g tokens rs one q v =
     list_any-append (λ readings. has_in readings v) rs (q ∷ []) ∙ ap (λ b. words_in rs v || b) (or-false (has_in q v))
 
 words_turned : (h : ℕ → ℕ) → IsTurn h → (rs : List (List Ground)) (v : Value) → turned_readings h rs ≡ rs → words_in rs (turned h v) ≡ words_in rs v
 words_turned h t rs v stays =
-    ap (λ x. words_in x (turned h v)) (sym stays) ∙ any_turned _ _ (map (turned_ground h)) rs (λ readings. any_turned _ _ (turned_ground h) readings (λ r. has_turned h t r.vals (3, v)))
+    ap (λ x. words_in x (turned h v)) (sym stays)
+    ∙ any_turned _ _ (map (turned_ground h)) rs (λ readings. any_turned _ _ (turned_ground h) readings (λ r. has_turned h t r.vals (3, v)))
 
-last_turned : (h : ℕ → ℕ) → IsTurn h → (g : GrammarParts) (tokens : List (List ℕ)) (rs : List (List Ground)) (one other : List ℕ) (q r : List Ground) → turned_readings h rs ≡ rs → ((v : Value) → has_in r (turned h v) ≡ has_in q v) → (v : Value) → has_word (with_last g tokens rs other r) (turned h v) ≡ has_word (with_last g tokens rs one q) v
+last_turned : (h : ℕ → ℕ) → IsTurn h → (g : GrammarParts) (tokens : List (List ℕ)) (rs : List (List Ground)) (one other : List ℕ) (q r : List Ground)
+    → turned_readings h rs ≡ rs → ((v : Value) → has_in r (turned h v) ≡ has_in q v) → (v : Value)
+    → has_word (with_last g tokens rs other r) (turned h v) ≡ has_word (with_last g tokens rs one q) v
 last_turned h t g tokens rs one other q r stays same v =
-    last_words g tokens rs other r (turned h v) ∙ ap (λ b. b || has_in r (turned h v)) (words_turned h t rs v stays) ∙ ap (λ b. words_in rs v || b) (same v) ∙ sym (last_words g tokens rs one q v)
+    last_words g tokens rs other r (turned h v) ∙ ap (λ b. b || has_in r (turned h v)) (words_turned h t rs v stays) ∙ ap (λ b. words_in rs v || b) (same v)
+    ∙ sym (last_words g tokens rs one q v)
 
 -- what is asked for, of the category of sentences, at the place of the last token
 abbrev pub Asked : GrammarParts → List (List ℕ) → List (List Ground) → List ℕ → List Ground → Ask → Type 0
@@ -232,30 +245,41 @@ Asked g tokens rs token read asks =
 abbrev pub HasWord : List Ground → ℕ → Type 0
 HasWord q w = (v : Value) → has_in q v ≡ same_value (Word (record { 0 = w })) v
 
-value_of_swapped : (a b : ℕ) (q r : List Ground) → (a ≡ 0 → ⊥) → (b ≡ 0 → ⊥) → HasWord q a → HasWord r b → (v : Value) → has_in r (turned (swapped a b) v) ≡ has_in q v
+value_of_swapped : (a b : ℕ) (q r : List Ground) → (a ≡ 0 → ⊥) → (b ≡ 0 → ⊥) → HasWord q a → HasWord r b → (v : Value)
+    → has_in r (turned (swapped a b) v) ≡ has_in q v
 value_of_swapped a b q r na nb hq hr v =
-    hr (turned (swapped a b) v) ∙ ap (λ x. same_value (Word (record { 0 = x })) (turned (swapped a b) v)) (sym (swapped_first a b)) ∙ same (Word (record { 0 = a })) v ∙ sym (hq v)
+    hr (turned (swapped a b) v) ∙ ap (λ x. same_value (Word (record { 0 = x })) (turned (swapped a b) v)) (sym (swapped_first a b))
+    ∙ same (Word (record { 0 = a })) v ∙ sym (hq v)
   where
     same : (x y : Value) → same_value (turned (swapped a b) x) (turned (swapped a b) y) ≡ same_value x y
     same x y = value_same (swapped a b) (swap_turns a b na nb) x y
 
-value_of_swapped_back : (a b : ℕ) (q r : List Ground) → (a ≡ 0 → ⊥) → (b ≡ 0 → ⊥) → HasWord q a → HasWord r b → (v : Value) → has_in q (turned (swapped a b) v) ≡ has_in r v
+value_of_swapped_back : (a b : ℕ) (q r : List Ground) → (a ≡ 0 → ⊥) → (b ≡ 0 → ⊥) → HasWord q a → HasWord r b → (v : Value)
+    → has_in q (turned (swapped a b) v) ≡ has_in r v
 value_of_swapped_back a b q r na nb hq hr v =
-    hq (turned (swapped a b) v) ∙ ap (λ x. same_value (Word (record { 0 = x })) (turned (swapped a b) v)) (sym (swapped_second a b)) ∙ same (Word (record { 0 = b })) v ∙ sym (hr v)
+    hq (turned (swapped a b) v) ∙ ap (λ x. same_value (Word (record { 0 = x })) (turned (swapped a b) v)) (sym (swapped_second a b))
+    ∙ same (Word (record { 0 = b })) v ∙ sym (hr v)
   where
     same : (x y : Value) → same_value (turned (swapped a b) x) (turned (swapped a b) y) ≡ same_value x y
     same x y = value_same (swapped a b) (swap_turns a b na nb) x y
 
 -- two new words may change places in what is asked for
-pub asked_new : (g : GrammarParts) (tokens : List (List ℕ)) (rs : List (List Ground)) (one other : List ℕ) (q r : List Ground) (a b : ℕ) → IsSound g → length rs ≡ length tokens → (a ≡ 0 → ⊥) → (b ≡ 0 → ⊥) → lacks_word a rs ≡ true → lacks_word b rs ≡ true → HasWord q a → HasWord r b → (x : Ground) → (Asked g tokens rs one q (ask.Reading x) → Asked g tokens rs other r (ask.Reading (turned_ground (swapped a b) x))) × (Asked g tokens rs other r (ask.Reading (turned_ground (swapped a b) x)) → Asked g tokens rs one q (ask.Reading x))
+pub asked_new : (g : GrammarParts) (tokens : List (List ℕ)) (rs : List (List Ground)) (one other : List ℕ) (q r : List Ground) (a b : ℕ) → IsSound g
+    → length rs ≡ length tokens → (a ≡ 0 → ⊥) → (b ≡ 0 → ⊥) → lacks_word a rs ≡ true → lacks_word b rs ≡ true → HasWord q a → HasWord r b → (x : Ground)
+    → (Asked g tokens rs one q (ask.Reading x) → Asked g tokens rs other r (ask.Reading (turned_ground (swapped a b) x)))
+    × (Asked g tokens rs other r (ask.Reading (turned_ground (swapped a b) x)) → Asked g tokens rs one q (ask.Reading x))
 asked_new g tokens rs one other q r a b sound long na nb la lb hq hr x =
     let h = swapped a b in
     let t = swap_turns a b na nb in
     let stays = readings_stay a b rs la lb in
     let forth = alike_last h g tokens rs one other q r long stays (last_turned h t g tokens rs one other q r stays (value_of_swapped a b q r na nb hq hr)) in
-    let back = alike_last h g tokens rs other one r q long stays (last_turned h t g tokens rs other one r q stays (value_of_swapped_back a b q r na nb hq hr)) in (
-      λ l. ask_turned (length tokens) h t (with_last g tokens rs one q) (with_last g tokens rs other r) forth (rules_written g sound) (ask.Reading x) text_category (record { place = 0; list = [] }) l,
-      λ l. subst (λ y. Asked g tokens rs one q (ask.Reading y)) (ground_twice a b x) (ask_turned (length tokens) h t (with_last g tokens rs other r) (with_last g tokens rs one q) back (rules_written g sound) (ask.Reading (turned_ground h x)) text_category (record { place = 0; list = [] }) l),
+    let back = alike_last h g tokens rs other one r q long stays
+    (last_turned h t g tokens rs other one r q stays (value_of_swapped_back a b q r na nb hq hr)) in (
+      λ l. ask_turned (length tokens) h t (with_last g tokens rs one q) (with_last g tokens rs other r) forth (rules_written g sound) (ask.Reading x)
+          text_category (record { place = 0; list = [] }) l,
+      λ l. subst (λ y. Asked g tokens rs one q (ask.Reading y)) (ground_twice a b x)
+          (ask_turned (length tokens) h t (with_last g tokens rs other r) (with_last g tokens rs one q) back (rules_written g sound)
+          (ask.Reading (turned_ground h x)) text_category (record { place = 0; list = [] }) l),
     )
 
 -- a last token that brings no new word, and another that has no readings
@@ -288,16 +312,22 @@ ask_kept (ask.Reading r) = ap ask.Reading (ground_kept r)
 none_turns : IsTurn (λ x. x)
 none_turns = record { same = λ x y. refl; none = λ x. refl }
 
-asked_kept : (g : GrammarParts) (tokens : List (List ℕ)) (rs : List (List Ground)) (one other : List ℕ) (q r : List Ground) → IsSound g → length rs ≡ length tokens → ((v : Value) → has_word (with_last g tokens rs other r) v ≡ has_word (with_last g tokens rs one q) v) → (asks : Ask) → Asked g tokens rs one q asks → Asked g tokens rs other r asks
+asked_kept : (g : GrammarParts) (tokens : List (List ℕ)) (rs : List (List Ground)) (one other : List ℕ) (q r : List Ground) → IsSound g
+    → length rs ≡ length tokens → ((v : Value) → has_word (with_last g tokens rs other r) v ≡ has_word (with_last g tokens rs one q) v) → (asks : Ask)
+    → Asked g tokens rs one q asks → Asked g tokens rs other r asks
 asked_kept g tokens rs one other q r sound long same asks l =
-    let alike = alike_last (λ x. x) g tokens rs one other q r long (readings_kept rs) (λ v. ap (has_word (with_last g tokens rs other r)) (value_kept v) ∙ same v) in
-    subst (Asked g tokens rs other r) (ask_kept asks) (ask_turned (length tokens) (λ x. x) none_turns (with_last g tokens rs one q) (with_last g tokens rs other r) alike (rules_written g sound) asks text_category (record { place = 0; list = [] }) l)
+    let alike = alike_last (λ x. x) g tokens rs one other q r long (readings_kept rs)
+    (λ v. ap (has_word (with_last g tokens rs other r)) (value_kept v) ∙ same v) in
+    subst (Asked g tokens rs other r) (ask_kept asks)
+    (ask_turned (length tokens) (λ x. x) none_turns (with_last g tokens rs one q) (with_last g tokens rs other r) alike (rules_written g sound) asks
+    text_category (record { place = 0; list = [] }) l)
 
 -- the words of the last token are among those of the others
 abbrev pub BringsNone : List (List Ground) → List Ground → Type 0
 BringsNone rs q = (v : Value) → has_in q v ≡ true → list_any (λ one. has_in one v) rs ≡ true
 
-same_words : (g : GrammarParts) (tokens : List (List ℕ)) (rs : List (List Ground)) (one other : List ℕ) (q : List Ground) → BringsNone rs q → (v : Value) → has_word (with_last g tokens rs other []) v ≡ has_word (with_last g tokens rs one q) v
+same_words : (g : GrammarParts) (tokens : List (List ℕ)) (rs : List (List Ground)) (one other : List ℕ) (q : List Ground) → BringsNone rs q → (v : Value)
+    → has_word (with_last g tokens rs other []) v ≡ has_word (with_last g tokens rs one q) v
 same_words g tokens rs one other q brings v =
     last_words g tokens rs other [] v ∙ at (words_in rs v) (has_in q v) (brings v) ∙ sym (last_words g tokens rs one q v)
   where
@@ -306,6 +336,10 @@ same_words g tokens rs one other q brings v =
     at false true h = h refl
     at false false h = refl
 
-pub asked_old : (g : GrammarParts) (tokens : List (List ℕ)) (rs : List (List Ground)) (one other : List ℕ) (q : List Ground) → IsSound g → length rs ≡ length tokens → BringsNone rs q → (asks : Ask) → (Asked g tokens rs one q asks → Asked g tokens rs other [] asks) × (Asked g tokens rs other [] asks → Asked g tokens rs one q asks)
-asked_old g tokens rs one other q sound long brings asks =
-    (λ l. asked_kept g tokens rs one other q [] sound long (same_words g tokens rs one other q brings) asks l, λ l. asked_kept g tokens rs other one [] q sound long (λ v. sym (same_words g tokens rs one other q brings v)) asks l)
+pub asked_old : (g : GrammarParts) (tokens : List (List ℕ)) (rs : List (List Ground)) (one other : List ℕ) (q : List Ground) → IsSound g
+    → length rs ≡ length tokens → BringsNone rs q → (asks : Ask)
+    → (Asked g tokens rs one q asks → Asked g tokens rs other [] asks) × (Asked g tokens rs other [] asks → Asked g tokens rs one q asks)
+asked_old g tokens rs one other q sound long brings asks = (
+  λ l. asked_kept g tokens rs one other q [] sound long (same_words g tokens rs one other q brings) asks l,
+  λ l. asked_kept g tokens rs other one [] q sound long (λ v. sym (same_words g tokens rs one other q brings v)) asks l,
+)

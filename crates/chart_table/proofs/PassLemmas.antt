@@ -64,7 +64,8 @@ pub record Passed (s : Setting) (values : List (ℕ × Value)) (e : Element) (at
 abbrev pub stand_at : Setting → At → List ℕ → List (ℕ × Value) → Nodes → Stand
 stand_at s at found own ns = record { at = at; found = found; own = own; children = phrases_of s ns }
 
-child_passed : (s : Setting) (values : List (ℕ × Value)) (c : Category) (at : At) (found : List ℕ) (own : List (ℕ × Value)) (ns : Nodes) (after : Stand) → pass_child (under values c) (phrases_of s ns) (stand_at s at found own ns) ≡ Some after → Passed s values (Sub c) at own after
+child_passed : (s : Setting) (values : List (ℕ × Value)) (c : Category) (at : At) (found : List ℕ) (own : List (ℕ × Value)) (ns : Nodes) (after : Stand)
+    → pass_child (under values c) (phrases_of s ns) (stand_at s at found own ns) ≡ Some after → Passed s values (Sub c) at own after
 child_passed s values c at found own none after h = absurd (cc)
 child_passed s values c at found own (more n ns) after h =
     option_and_then_some _ (phrase_of s n (under values c) at) after h (λ a led e.
@@ -76,7 +77,9 @@ child_passed s values c at found own (more n ns) after h =
       children = sym (ap (λ st. st.children) same);
     })
 
-found_passed : (s : Setting) (values : List (ℕ × Value)) (positive negative : List Pattern) (at : At) (own : List (ℕ × Value)) (ns : Nodes) (after : Stand) (o : Option Finding) (found : List ℕ) → closest_finding (reference_tests values positive negative) at.list ≡ o → (stand : Stand) → stand ≡ stand_at s at found own ns → pass_finding values positive o found stand ≡ Some after → Passed s values (Back positive negative) at own after
+found_passed : (s : Setting) (values : List (ℕ × Value)) (positive negative : List Pattern) (at : At) (own : List (ℕ × Value)) (ns : Nodes) (after : Stand)
+    (o : Option Finding) (found : List ℕ) → closest_finding (reference_tests values positive negative) at.list ≡ o → (stand : Stand)
+    → stand ≡ stand_at s at found own ns → pass_finding values positive o found stand ≡ Some after → Passed s values (Back positive negative) at own after
 found_passed s values positive negative at own ns after o [] is stand st h = absurd (cc)
 found_passed s values positive negative at own ns after None (pos ∷ rest) is stand st h = absurd (cc)
 found_passed s values positive negative at own ns after (Some finding) (pos ∷ rest) is stand st h =
@@ -89,14 +92,33 @@ found_passed s values positive negative at own ns after (Some finding) (pos ∷ 
       children = sym (ap (λ x. x.children) same) ∙ ap (λ x. x.children) st;
     }))
 
-pub passed : (s : Setting) (values : List (ℕ × Value)) (e : Element) (at : At) (found : List ℕ) (own : List (ℕ × Value)) (ns : Nodes) (after : Stand) → pass s values e (stand_at s at found own ns) ≡ Some after → Passed s values e at own after
+pub passed : (s : Setting) (values : List (ℕ × Value)) (e : Element) (at : At) (found : List ℕ) (own : List (ℕ × Value)) (ns : Nodes) (after : Stand)
+    → pass s values e (stand_at s at found own ns) ≡ Some after → Passed s values e at own after
 passed s values (Terminal t) at found own ns after h =
-    if_some (matches_terminal s t at.place) _ after h (λ b same. record { leads = (b, sym (ap (λ x. x.at) same)); own_is = sym (ap (λ x. x.own) same); left = ns; children = sym (ap (λ x. x.children) same) })
+    if_some (matches_terminal s t at.place) _ after h
+    (λ b same. record {
+      leads = (b, sym (ap (λ x. x.at) same));
+      own_is = sym (ap (λ x. x.own) same);
+      left = ns;
+      children = sym (ap (λ x. x.children) same);
+    })
 passed s values (Preterminal c) at found own ns after h =
-    if_some (matches_preterminal s (under values c) at.place) _ after h (λ b same. record { leads = (b, sym (ap (λ x. x.at) same)); own_is = sym (ap (λ x. x.own) same); left = ns; children = sym (ap (λ x. x.children) same) })
+    if_some (matches_preterminal s (under values c) at.place) _ after h
+    (λ b same. record {
+      leads = (b, sym (ap (λ x. x.at) same));
+      own_is = sym (ap (λ x. x.own) same);
+      left = ns;
+      children = sym (ap (λ x. x.children) same);
+    })
 passed s values (Sub c) at found own ns after h = child_passed s values c at found own ns after h
 passed s values (Position x) at found own ns after h =
-    if_some (same_value (value_under values x) (Pos at.place)) _ after h (λ b same. record { leads = (same_value_is _ _ b, sym (ap (λ x. x.at) same)); own_is = sym (ap (λ x. x.own) same); left = ns; children = sym (ap (λ x. x.children) same) })
+    if_some (same_value (value_under values x) (Pos at.place)) _ after h
+    (λ b same. record {
+      leads = (same_value_is _ _ b, sym (ap (λ x. x.at) same));
+      own_is = sym (ap (λ x. x.own) same);
+      left = ns;
+      children = sym (ap (λ x. x.children) same);
+    })
 passed s values Opener at found own ns after h =
     let same = same_Some _ _ h in
     record { leads = sym (ap (λ x. x.at) same); own_is = sym (ap (λ x. x.own) same); left = ns; children = sym (ap (λ x. x.children) same) }
@@ -107,14 +129,22 @@ passed s values (Strong c) at found own ns after h =
     let same = same_Some _ _ h in
     record { leads = sym (ap (λ x. x.at) same); own_is = sym (ap (λ x. x.own) same); left = ns; children = sym (ap (λ x. x.children) same) }
 passed s values (Back positive negative) at found own ns after h =
-    found_passed s values positive negative at own ns after (closest_finding (reference_tests values positive negative) at.list) found refl (stand_at s at found own ns) refl h
+    found_passed s values positive negative at own ns after (closest_finding (reference_tests values positive negative) at.list) found refl
+    (stand_at s at found own ns) refl h
 passed s values (NoBack patterns) at found own ns after h =
-    unless_some (list_any (is_agreeing (tests_under values patterns)) at.list) _ after h (λ b same. record { leads = (b, sym (ap (λ x. x.at) same)); own_is = sym (ap (λ x. x.own) same); left = ns; children = sym (ap (λ x. x.children) same) })
+    unless_some (list_any (is_agreeing (tests_under values patterns)) at.list) _ after h
+    (λ b same. record {
+      leads = (b, sym (ap (λ x. x.at) same));
+      own_is = sym (ap (λ x. x.own) same);
+      left = ns;
+      children = sym (ap (λ x. x.children) same);
+    })
 
 -- From where elements lead to a tree
 
 -- what a node has for an element: found positions and children, after which those to come are left
-pub record Passes (s : Setting) (values : List (ℕ × Value)) (e : Element) (at : At) (own : List (ℕ × Value)) (after : At) (to_find : List ℕ) (to_come : Nodes) : Type 0 where
+pub record Passes (s : Setting) (values : List (ℕ × Value)) (e : Element) (at : At) (own : List (ℕ × Value)) (after : At) (to_find : List ℕ)
+    (to_come : Nodes) : Type 0 where
   pub found : List ℕ
   pub children : Nodes
   pub is : pass s values e (stand_at s at found own children) ≡ Some (stand_at s after to_find (own_past s e own) to_come)
@@ -127,7 +157,8 @@ pub if_false : {X : Type 0} (b : Bool) (x y : X) → b ≡ false → x ≡ y →
 if_false true x y h e = absurd (cc)
 if_false false x y h e = ap Some e
 
-pub passes : (s : Setting) (values : List (ℕ × Value)) (e : Element) (at : At) (own : List (ℕ × Value)) (after : At) (to_find : List ℕ) (to_come : Nodes) → ElementLeads s values own e at after → Passes s values e at own after to_find to_come
+pub passes : (s : Setting) (values : List (ℕ × Value)) (e : Element) (at : At) (own : List (ℕ × Value)) (after : At) (to_find : List ℕ) (to_come : Nodes)
+    → ElementLeads s values own e at after → Passes s values e at own after to_find to_come
 passes s values (Terminal t) at own after to_find to_come h = record {
   found = to_find;
   children = to_come;
@@ -146,7 +177,8 @@ passes s values (Sub c) at own after to_find to_come h = record {
 passes s values (Position x) at own after to_find to_come h = record {
   found = to_find;
   children = to_come;
-  is = if_true (same_value (value_under values x) (Pos at.place)) _ _ (ap (λ v. same_value v (Pos at.place)) h.0 ∙ same_value-refl (Pos at.place)) (ap (λ a. stand_at s a to_find own to_come) (sym h.1));
+  is = if_true (same_value (value_under values x) (Pos at.place)) _ _ (ap (λ v. same_value v (Pos at.place)) h.0 ∙ same_value-refl (Pos at.place))
+      (ap (λ a. stand_at s a to_find own to_come) (sym h.1));
 }
 passes s values Opener at own after to_find to_come h = record {
   found = to_find;
@@ -168,7 +200,9 @@ passes s values (Back positive negative) at own after to_find to_come h =
     record {
       found = finding.pos ∷ to_find;
       children = to_come;
-      is = ap (λ o. pass_finding values positive o (finding.pos ∷ to_find) (stand_at s at (finding.pos ∷ to_find) own to_come)) h.0.1.0 ∙ if_true (is_found values positive finding.pos (Some finding)) _ _ (and_from _ _ (eqb_refl finding.pos) h.0.1.1) (ap (λ a. stand_at s a to_find own to_come) (sym h.1));
+      is = ap (λ o. pass_finding values positive o (finding.pos ∷ to_find) (stand_at s at (finding.pos ∷ to_find) own to_come)) h.0.1.0
+          ∙ if_true (is_found values positive finding.pos (Some finding)) _ _ (and_from _ _ (eqb_refl finding.pos) h.0.1.1)
+          (ap (λ a. stand_at s a to_find own to_come) (sym h.1));
     }
 passes s values (NoBack patterns) at own after to_find to_come h = record {
   found = to_find;
@@ -178,12 +212,18 @@ passes s values (NoBack patterns) at own after to_find to_come h = record {
 
 -- elements after one another
 
-pub run_path : (s : Setting) (values : List (ℕ × Value)) (es : List Element) (at : At) (found : List ℕ) (own : List (ℕ × Value)) (ns : Nodes) (last : Stand) → run s values es (stand_at s at found own ns) ≡ Some last → Path s values own es at last.at
+pub run_path : (s : Setting) (values : List (ℕ × Value)) (es : List Element) (at : At) (found : List ℕ) (own : List (ℕ × Value)) (ns : Nodes) (last : Stand)
+    → run s values es (stand_at s at found own ns) ≡ Some last → Path s values own es at last.at
 run_path s values [] at found own ns last h = ap (λ st. st.at) (same_Some _ _ h)
 run_path s values (e ∷ es) at found own ns last h =
     option_and_then_some _ (pass s values e (stand_at s at found own ns)) last h (λ mid passed_e rest.
-    let p = passed s values e at found own ns mid passed_e in
-    (mid.at, p.leads, run_path s values es mid.at mid.found (own_past s e own) p.left last (ap (λ o. run s values es (record { at = mid.at; found = mid.found; own = o; children = phrases_of s p.left })) (sym p.own_is) ∙ ap (λ c. run s values es (record { at = mid.at; found = mid.found; own = mid.own; children = c })) (sym p.children) ∙ rest)))
+    let p = passed s values e at found own ns mid passed_e in (
+      mid.at,
+      p.leads,
+      run_path s values es mid.at mid.found (own_past s e own) p.left last
+          (ap (λ o. run s values es (record { at = mid.at; found = mid.found; own = o; children = phrases_of s p.left })) (sym p.own_is)
+          ∙ ap (λ c. run s values es (record { at = mid.at; found = mid.found; own = mid.own; children = c })) (sym p.children) ∙ rest),
+    ))
 
 -- a node's found positions and children, by which its elements lead
 pub record Runs (s : Setting) (values : List (ℕ × Value)) (es : List Element) (at : At) (own : List (ℕ × Value)) (after : At) : Type 0 where
@@ -192,7 +232,8 @@ pub record Runs (s : Setting) (values : List (ℕ × Value)) (es : List Element)
   pub own_left : List (ℕ × Value)
   pub is : run s values es (stand_at s at found own children) ≡ Some (record { at = after; found = []; own = own_left; children = [] })
 
-pub path_runs : (s : Setting) (values : List (ℕ × Value)) (es : List Element) (at : At) (own : List (ℕ × Value)) (after : At) → Path s values own es at after → Runs s values es at own after
+pub path_runs : (s : Setting) (values : List (ℕ × Value)) (es : List Element) (at : At) (own : List (ℕ × Value)) (after : At) → Path s values own es at after
+    → Runs s values es at own after
 path_runs s values [] at own after h = record {
   found = [];
   children = none;
@@ -214,7 +255,8 @@ path_runs s values (e ∷ es) at own after h =
 ended_at : (rule : Rule) (list : List Entry) (last : Stand) (after : At) → ended rule list last ≡ Some after → after ≡ closed_at rule list last.at
 ended_at rule list last after h = if_some (is_none_left last.found && is_none_left last.children) _ after h (λ b same. sym same)
 
-pub phrase_leads : (s : Setting) (rule : Rule) (values : List (ℕ × Value)) (found : List ℕ) (ns : Nodes) (asked : Test) (at after : At) → phrase s rule values found (phrases_of s ns) asked at ≡ Some after → RuleLeads s rule values asked at after
+pub phrase_leads : (s : Setting) (rule : Rule) (values : List (ℕ × Value)) (found : List ℕ) (ns : Nodes) (asked : Test) (at after : At)
+    → phrase s rule values found (phrases_of s ns) asked at ≡ Some after → RuleLeads s rule values asked at after
 phrase_leads s rule values found ns asked at after h =
     option_and_then_some _ (begun s rule values found (phrases_of s ns) asked at) after h (λ start starts runs.
     if_some (fits (under values rule.head) asked && is_instance s rule values) _ start starts (λ b same.
@@ -241,10 +283,15 @@ rule_of_leads s asked at after (node n values found ns, h) =
     option_and_then_some _ (rule_with s.grammar n) after h (λ rule has leads.
     record { number = n; rule = rule; has = has; values = values; leads = phrase_leads s rule values found ns asked at after leads })
 
-pub leads_of_rule : (s : Setting) (asked : Test) (at after : At) (number : ℕ) (rule : Rule) (values : List (ℕ × Value)) → rule_with s.grammar number ≡ Some rule → RuleLeads s rule values asked at after → Leads s asked at after
+pub leads_of_rule : (s : Setting) (asked : Test) (at after : At) (number : ℕ) (rule : Rule) (values : List (ℕ × Value)) → rule_with s.grammar number ≡ Some rule
+    → RuleLeads s rule values asked at after → Leads s asked at after
 leads_of_rule s asked at after number rule values has h =
     let ran = path_runs s values rule.body at (own_values rule values) h.last h.path in
     let kids = phrases_of s ran.children in
     let begins : begun s rule values ran.found kids asked at ≡ Some (stand_at s at ran.found (own_values rule values) ran.children) =
-    if_true _ _ _ (and_from _ _ h.head h.instance) refl in
-    (node number values ran.found ran.children, ap (option_and_then (λ r. phrase s r values ran.found kids asked at)) has ∙ ap (option_and_then (λ stand. option_and_then (ended rule at.list) (run s values rule.body stand))) begins ∙ ap (option_and_then (ended rule at.list)) ran.is ∙ ap Some (sym h.end))
+    if_true _ _ _ (and_from _ _ h.head h.instance) refl in (
+      node number values ran.found ran.children,
+      ap (option_and_then (λ r. phrase s r values ran.found kids asked at)) has
+          ∙ ap (option_and_then (λ stand. option_and_then (ended rule at.list) (run s values rule.body stand))) begins
+          ∙ ap (option_and_then (ended rule at.list)) ran.is ∙ ap Some (sym h.end),
+    )

@@ -55,7 +55,8 @@ AskLeads s halt asks asked at = (cut : CutNode) × (cut_end s cut asked at ≡ S
 -- ask, or a category comes next that is cut off itself.
 abbrev pub AskStops : Setting → ℕ → Ask → Rule → List (ℕ × Value) → ℕ → At → Type 0
 AskStops s halt asks rule values count last =
-    ((last.place ≡ halt) × (is_met rule values count asks ≡ true)) ⊎ ((c : Category) × (next_category rule count ≡ Some c) × AskLeads s halt asks (under values c) last)
+    ((last.place ≡ halt) × (is_met rule values count asks ≡ true))
+    ⊎ ((c : Category) × (next_category rule count ≡ Some c) × AskLeads s halt asks (under values c) last)
 
 -- the rule is cut off in the instance, as a phrase for the category: after some of its elements it stands at the place and
 -- its next element meets the ask, or a category comes next that is cut off itself

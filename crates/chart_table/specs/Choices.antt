@@ -123,4 +123,5 @@ ArePlans s plans = EachPlan s.grammar s.grammar.rules plans
 -- the values have the numbers of the plan's variables, and are values of the features and positions that it tells
 abbrev pub planned_instance : Setting → Plan → List (ℕ × Value) → Bool
 planned_instance s plan values =
-    ((same_numbers (map (λ p. p.0) values) plan.variables && list_all (term_fits s values) plan.terms) && list_all (λ x. is_value s declared.Positions (value_under values x)) plan.places) && own_fit s plan.own (drop plan.written values)
+    ((same_numbers (map (λ p. p.0) values) plan.variables && list_all (term_fits s values) plan.terms)
+    && list_all (λ x. is_value s declared.Positions (value_under values x)) plan.places) && own_fit s plan.own (drop plan.written values)

@@ -31,7 +31,8 @@ entered at e = record { place = at.place; list = at.list ++ e ∷ [] }
 -- the reference finds a referent, and its first agreeing pattern takes its values
 abbrev pub Finds : List (ℕ × Value) → Element → Finding → List Entry → Type 0
 Finds values (Back positive negative) finding list =
-    (closest_finding (reference_tests values positive negative) list ≡ Some finding) × (takes values finding.referent (slice_get positive finding.pattern) ≡ true)
+    (closest_finding (reference_tests values positive negative) list ≡ Some finding)
+    × (takes values finding.referent (slice_get positive finding.pattern) ≡ true)
 Finds values e finding list = (true ≡ false)
 
 -- An element of a rule leads, in an instance, from a place and a list to a place and a list. The own variables that are

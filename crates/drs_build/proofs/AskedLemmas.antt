@@ -105,7 +105,8 @@ any_left : (p : ℕ) (xs ys : List ℕ) → list_any (λ q. q == p) xs ≡ true 
 any_left p [] ys h = cc
 any_left p (x ∷ xs) ys h = by (x == p) refl (any_left p xs ys)
   where
-    by : (b : Bool) → (x == p) ≡ b → (list_any (λ q. q == p) xs ≡ true → list_any (λ q. q == p) (xs ++ ys) ≡ true) → list_any (λ q. q == p) (x ∷ (xs ++ ys)) ≡ true
+    by : (b : Bool) → (x == p) ≡ b → (list_any (λ q. q == p) xs ≡ true → list_any (λ q. q == p) (xs ++ ys) ≡ true)
+        → list_any (λ q. q == p) (x ∷ (xs ++ ys)) ≡ true
     by true e later = ap (λ b. b || list_any (λ q. q == p) (xs ++ ys)) e
     by false e later = ap (λ b. b || list_any (λ q. q == p) (xs ++ ys)) e ∙ later (sym (ap (λ b. b || list_any (λ q. q == p) xs) e) ∙ h)
 
@@ -143,19 +144,24 @@ AllGood g [] (k ∷ ks) = ⊥
 AllGood g (sk ∷ sks) [] = ⊥
 AllGood g (sk ∷ sks) (k ∷ ks) = Good g sk k × AllGood g sks ks
 
-kept_good : (g : GrammarParts) (sks : List Skeleton) (ks : List Kind) → AllGood g sks ks → AllGood g (filter (λ c. is_meant g (out-Skeleton c).rule) sks) (filter (λ k. not (is_mark k)) ks)
+kept_good : (g : GrammarParts) (sks : List Skeleton) (ks : List Kind) → AllGood g sks ks
+    → AllGood g (filter (λ c. is_meant g (out-Skeleton c).rule) sks) (filter (λ k. not (is_mark k)) ks)
 kept_good g [] [] all = tt
 kept_good g [] (k ∷ ks) all = absurd all
 kept_good g (sk ∷ sks) [] all = absurd all
 kept_good g (sk ∷ sks) (k ∷ ks) all = by (is_meant g (out-Skeleton sk).rule) (not (is_mark k)) all.0.meant (kept_good g sks ks all.1)
   where
-    by : (a b : Bool) → a ≡ b → AllGood g (filter (λ c. is_meant g (out-Skeleton c).rule) sks) (filter (λ x. not (is_mark x)) ks) → AllGood g (cond a (sk ∷ filter (λ c. is_meant g (out-Skeleton c).rule) sks) (filter (λ c. is_meant g (out-Skeleton c).rule) sks)) (cond b (k ∷ filter (λ x. not (is_mark x)) ks) (filter (λ x. not (is_mark x)) ks))
+    by : (a b : Bool) → a ≡ b → AllGood g (filter (λ c. is_meant g (out-Skeleton c).rule) sks) (filter (λ x. not (is_mark x)) ks)
+        → AllGood g (cond a (sk ∷ filter (λ c. is_meant g (out-Skeleton c).rule) sks) (filter (λ c. is_meant g (out-Skeleton c).rule) sks))
+        (cond b (k ∷ filter (λ x. not (is_mark x)) ks) (filter (λ x. not (is_mark x)) ks))
     by true true e later = (all.0, later)
     by false false e later = later
     by true false e later = absurd cc
     by false true e later = absurd cc
 
-child_asks : (g : GrammarParts) (sks : List Skeleton) (ks : List Kind) (l : Kind) (ls : List Kind) → AllGood g sks ks → same_kinds ks (l ∷ ls) ≡ true → ((k : Kind) → same_kind k l ≡ true → is_asking k ≡ true) → (names : List (ℕ × WordId)) → Asks (option_map_or (meaning_in g names) (slice_get sks 0) nothing)
+child_asks : (g : GrammarParts) (sks : List Skeleton) (ks : List Kind) (l : Kind) (ls : List Kind) → AllGood g sks ks → same_kinds ks (l ∷ ls) ≡ true
+    → ((k : Kind) → same_kind k l ≡ true → is_asking k ≡ true) → (names : List (ℕ × WordId))
+    → Asks (option_map_or (meaning_in g names) (slice_get sks 0) nothing)
 child_asks g [] [] l ls all h f names = absurd cc
 child_asks g [] (k ∷ ks) l ls all h f names = absurd all
 child_asks g (sk ∷ sks) [] l ls all h f names = absurd all
@@ -166,7 +172,8 @@ abbrev First : Made → List Kind → Type 0
 First m ks = (l : Kind) (ls : List Kind) → same_kinds ks (l ∷ ls) ≡ true → ((k : Kind) → same_kind k l ≡ true → is_asking k ≡ true) → Asks m.first
 
 -- what a label of a noun bar or a question gives
-asks_by : (l : Label) (m : Made) (head : Kind) (ks : List Kind) → head_fits (label_row l).heads head ≡ true → children_fit (label_row l).children head ks ≡ true → is_asking head ≡ true → First m ks → Asks (meaning l m)
+asks_by : (l : Label) (m : Made) (head : Kind) (ks : List Kind) → head_fits (label_row l).heads head ≡ true → children_fit (label_row l).children head ks ≡ true
+    → is_asking head ≡ true → First m ks → Asks (meaning l m)
 asks_by label.Statement m head ks h c a f = wrong (Asks (meaning label.Statement m)) Text head refl h a
 asks_by label.Ask m head ks h c a f = wrong (Asks (meaning label.Ask m)) Text head refl h a
 asks_by label.If m head ks h c a f = wrong (Asks (meaning label.If m)) Sentence head refl h a
@@ -195,23 +202,33 @@ asks_by label.Everything m head ks h c a f = wrong (Asks (meaning label.Everythi
 asks_by label.Nothing m head ks h c a f = wrong (Asks (meaning label.Nothing m)) NounPhrase head refl h a
 asks_by label.What m head ks h c a f = here_bound m.here (m.first.on (Ref m.here))
 asks_by label.Which m head ks h c a f = left_bound m.first.says (m.second.on (Ref m.first.referent)) m.first.referent (f NounBar (VerbPhrase ∷ []) c bar_asks)
-asks_by label.Whichobj m head ks h c a f = left_bound m.first.says (m.second.around (only (AreRelated m.word m.second.term (Ref m.first.referent)))) m.first.referent (f NounBar (NounPhrase ∷ []) c bar_asks)
+asks_by label.Whichobj m head ks h c a f =
+    left_bound m.first.says (m.second.around (only (AreRelated m.word m.second.term (Ref m.first.referent)))) m.first.referent
+    (f NounBar (NounPhrase ∷ []) c bar_asks)
 asks_by label.Mark m head ks h c a f = wrong (Asks (meaning label.Mark m)) Mark head refl h a
 
 label_same : (l k : Label) → Some l ≡ Some k → l ≡ k
 label_same l k h = cc
 
 -- a node whose rule fits its label, and whose children are good
-pub node_good : (g : GrammarParts) (sk : Skeleton) (r : Rule) (l : Label) (head : Kind) (kinds : List Kind) → rule_with g (out-Skeleton sk).rule ≡ Some r → r.label ≡ Some l → head_fits (label_row l).heads head ≡ true → children_fit (label_row l).children head (filter (λ k. not (is_mark k)) kinds) ≡ true → AllGood g (out-Skeleton sk).children kinds → Good g sk head
+pub node_good : (g : GrammarParts) (sk : Skeleton) (r : Rule) (l : Label) (head : Kind) (kinds : List Kind) → rule_with g (out-Skeleton sk).rule ≡ Some r
+    → r.label ≡ Some l → head_fits (label_row l).heads head ≡ true → children_fit (label_row l).children head (filter (λ k. not (is_mark k)) kinds) ≡ true
+    → AllGood g (out-Skeleton sk).children kinds → Good g sk head
 node_good g sk r l head kinds at is heads children all =
     let kept : AllGood g (meant_children g sk) (filter (λ k. not (is_mark k)) kinds) = kept_good g (out-Skeleton sk).children kinds all in
     let named : label_of g (out-Skeleton sk).rule ≡ Some l = ap (option_and_then (λ (x : Rule). x.label)) at ∙ is in
     record {
-      meant = ap (λ o. option_map_or (λ (x : Rule). not (is_mark_rule x)) o true) at ∙ ap (λ o. not (option_map_or (λ x. makes_mark (label_row x).heads) o false)) is ∙ ap not (mark_same (label_row l).heads head heads);
-      asks = λ a names. let P : Meaning → Type 0 = λ m. Asks m in subst P (sym (meaning_by g names sk l named)) (asks_by l (made_in g names sk) head (filter (λ k. not (is_mark k)) kinds) heads children a (λ k ks same f. child_asks g (meant_children g sk) (filter (λ x. not (is_mark x)) kinds) k ks kept same f names));
+      meant = ap (λ o. option_map_or (λ (x : Rule). not (is_mark_rule x)) o true) at
+          ∙ ap (λ o. not (option_map_or (λ x. makes_mark (label_row x).heads) o false)) is ∙ ap not (mark_same (label_row l).heads head heads);
+      asks = λ a names. let P : Meaning → Type 0 = λ m. Asks m in
+          subst P (sym (meaning_by g names sk l named))
+          (asks_by l (made_in g names sk) head (filter (λ k. not (is_mark k)) kinds) heads children a
+          (λ k ks same f. child_asks g (meant_children g sk) (filter (λ x. not (is_mark x)) kinds) k ks kept same f names));
       question = λ q names.
           let same : l ≡ label.Ask = label_same l label.Ask (sym named ∙ q) in
-          let fit : children_fit (label_row label.Ask).children head (filter (λ k. not (is_mark k)) kinds) ≡ true = ap (λ x. children_fit (label_row x).children head (filter (λ k. not (is_mark k)) kinds)) (sym same) ∙ children in
+          let fit : children_fit (label_row label.Ask).children head (filter (λ k. not (is_mark k)) kinds) ≡ true =
+          ap (λ x. children_fit (label_row x).children head (filter (λ k. not (is_mark k)) kinds)) (sym same) ∙ children in
           let P : Meaning → Type 0 = λ m. Asks m in
-          subst P (sym (meaning_by g names sk label.Ask q)) (child_asks g (meant_children g sk) (filter (λ k. not (is_mark k)) kinds) Question [] kept fit question_asks names);
+          subst P (sym (meaning_by g names sk label.Ask q))
+          (child_asks g (meant_children g sk) (filter (λ k. not (is_mark k)) kinds) Question [] kept fit question_asks names);
     }

@@ -26,11 +26,23 @@ times-append r (x ∷ xs) ys = omega (arith, times-append r xs ys)
 
 times-both : (r : ℕ) (cs ds : Conditions) → times r (introduced_in_all (both cs ds)) ≡ times r (introduced_in_all cs) + times r (introduced_in_all ds)
 times-both r no_condition ds = omega arith
-times-both r (also_condition c cs) ds = omega (arith, times-both r cs ds, times-append r (introduced_in_condition c) (introduced_in_all (both cs ds)), times-append r (introduced_in_condition c) (introduced_in_all cs))
+times-both r (also_condition c cs) ds = omega (
+  arith,
+  times-both r cs ds,
+  times-append r (introduced_in_condition c) (introduced_in_all (both cs ds)),
+  times-append r (introduced_in_condition c) (introduced_in_all cs),
+)
 
 pub joined_count : (r : ℕ) (k l : Structure) → count_in r (k ⊕ l) ≡ count_in r k + count_in r l
 joined_count r (structure rs cs) (structure qs ds) =
-    omega (arith, times-append r (rs ++ qs) (introduced_in_all (both cs ds)), times-append r rs qs, times-both r cs ds, times-append r rs (introduced_in_all cs), times-append r qs (introduced_in_all ds))
+    omega (
+      arith,
+      times-append r (rs ++ qs) (introduced_in_all (both cs ds)),
+      times-append r rs qs,
+      times-both r cs ds,
+      times-append r rs (introduced_in_all cs),
+      times-append r qs (introduced_in_all ds),
+    )
 
 alone_count : (r : ℕ) (c : Condition) → count_in r (only c) ≡ times r (introduced_in_condition c)
 alone_count r c = ap (times r) (append-nil (introduced_in_condition c))

@@ -22,10 +22,13 @@ drop_next (y ∷ ys) (suc i) x h = drop_next ys i x h
 abbrev pub left_free : List ℕ → List Condition → ℕ → Option ℕ
 left_free bound cs i = free_in_all bound (conditions_from (drop i cs))
 
-pub here_free : (bound : List ℕ) (cs : List Condition) (i : ℕ) (c : Condition) (r : ℕ) → slice_get cs i ≡ Some c → Some r ≡ free_in_condition bound c → left_free bound cs i ≡ Some r
-here_free bound cs i c r at is = ap (λ xs. free_in_all bound (conditions_from xs)) (drop_next cs i c at) ∙ ap (λ o. option_or o (free_in_all bound (conditions_from (drop (suc i) cs)))) (sym is)
+pub here_free : (bound : List ℕ) (cs : List Condition) (i : ℕ) (c : Condition) (r : ℕ) → slice_get cs i ≡ Some c → Some r ≡ free_in_condition bound c
+    → left_free bound cs i ≡ Some r
+here_free bound cs i c r at is = ap (λ xs. free_in_all bound (conditions_from xs)) (drop_next cs i c at)
+    ∙ ap (λ o. option_or o (free_in_all bound (conditions_from (drop (suc i) cs)))) (sym is)
 
-pub later_free : (bound : List ℕ) (cs : List Condition) (i : ℕ) (c : Condition) → slice_get cs i ≡ Some c → None ≡ free_in_condition bound c → left_free bound cs (i + 1) ≡ left_free bound cs i
+pub later_free : (bound : List ℕ) (cs : List Condition) (i : ℕ) (c : Condition) → slice_get cs i ≡ Some c → None ≡ free_in_condition bound c
+    → left_free bound cs (i + 1) ≡ left_free bound cs i
 later_free bound cs i c at is =
     ap (left_free bound cs) (add-one i)
     ∙ ap (λ o. option_or o (free_in_all bound (conditions_from (drop (suc i) cs)))) is

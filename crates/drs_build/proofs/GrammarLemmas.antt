@@ -49,14 +49,17 @@ row_well kinds row r h =
     let here = and_parts (heads && children && words) once before.0 in
     ap (λ b. b && behind) here.1 ∙ last.1
 
-well : (g : GrammarParts) (n : ℕ) (r : Rule) (l : Label) → IsSound g → 0 < n → slice_get g.rules (n - 1) ≡ Some r → r.label ≡ Some l → introduced_well (label_row l) r ≡ true
+well : (g : GrammarParts) (n : ℕ) (r : Rule) (l : Label) → IsSound g → 0 < n → slice_get g.rules (n - 1) ≡ Some r → r.label ≡ Some l
+    → introduced_well (label_row l) r ≡ true
 well g n r l sound positive at is = by (introduced_well (label_row l) r) refl
   where
     fitting : (kinds : ℕ → Kind) → FitKinds g.rules n kinds → introduced_well (label_row l) r ≡ true
     fitting kinds fit =
         let count : n ≡ suc (n - 1) = omega arith in
-        let all : list_all (fits_label kinds) (take (suc (n - 1)) g.rules) ≡ true = ap (λ i. list_all (fits_label kinds) (take i g.rules)) (sym count) ∙ fit.fit in
-        row_well kinds (label_row l) r (ap (λ o. option_map_or (λ x. fits_row kinds (label_row x) r) o true) (sym is) ∙ taken (fits_label kinds) g.rules (n - 1) r at all)
+        let all : list_all (fits_label kinds) (take (suc (n - 1)) g.rules) ≡ true =
+        ap (λ i. list_all (fits_label kinds) (take i g.rules)) (sym count) ∙ fit.fit in
+        row_well kinds (label_row l) r (ap (λ o. option_map_or (λ x. fits_row kinds (label_row x) r) o true) (sym is)
+        ∙ taken (fits_label kinds) g.rules (n - 1) r at all)
 
     by : (b : Bool) → introduced_well (label_row l) r ≡ b → introduced_well (label_row l) r ≡ true
     by true e = e
@@ -85,7 +88,8 @@ introducing g sound number l named new = by (rule_with g number) refl
     by (Some r) e =
         let is : r.label ≡ Some l = sym (ap (option_and_then (λ x. x.label)) e) ∙ named in
         let at : Found g number r = found g number r e in
-        let parts = and_parts (count_by is_introduction r.body == one_if (label_row l).introduces) (introduces_behind_tokens false r.body) (well g number r l sound at.positive at.at is) in
+        let parts = and_parts (count_by is_introduction r.body == one_if (label_row l).introduces) (introduces_behind_tokens false r.body)
+        (well g number r l sound at.positive at.at is) in
         let body : body_of g number ≡ r.body = ap (λ o. option_map_or (λ x. x.body) o []) e in
         record {
           once = ap (count_by is_introduction) body ∙ eqb-true (count_by is_introduction r.body) (one_if (label_row l).introduces) parts.0 ∙ ap one_if new;

@@ -46,7 +46,8 @@ head_stays before more bytes e k begins =
 abbrev behind_head : RequestHead → List ℕ → List ℕ
 behind_head h bytes = drop (length (print_request h)) (head_part bytes)
 
-no_head_against : (bytes come whole : List ℕ) (h : RequestHead) (rest : List ℕ) → whole ≡ bytes ++ come → ReadsRequest whole h rest → length h.fields ≤ MOST_FIELDS → IsNoHead bytes → ⊥
+no_head_against : (bytes come whole : List ℕ) (h : RequestHead) (rest : List ℕ) → whole ≡ bytes ++ come → ReadsRequest whole h rest
+    → length h.fields ≤ MOST_FIELDS → IsNoHead bytes → ⊥
 no_head_against bytes come whole h rest is reads few (inl never) = never come h rest (subst (λ bs. ReadsRequest bs h rest) is reads)
 no_head_against bytes come whole h rest is reads few (inr many) =
     let over = many.0 come h rest (subst (λ bs. ReadsRequest bs h rest) is reads) in
@@ -67,14 +68,16 @@ same_head : (bytes : List ℕ) (h k : RequestHead) → BeginsWith h (head_part b
 same_head bytes h k one other = (request_unique (head_part bytes) k h _ _ other.0 one.0).0
 
 -- of a part of the bytes more is waited for, or it begins with their head
-part_begins : (before more bytes : List ℕ) (h : RequestHead) (b : Begun) → bytes ≡ before ++ more → BeginsWith h (head_part bytes) → Begins before b → (b ≡ begun.Wait) ⊎ (b ≡ begun_by_head h)
+part_begins : (before more bytes : List ℕ) (h : RequestHead) (b : Begun) → bytes ≡ before ++ more → BeginsWith h (head_part bytes) → Begins before b
+    → (b ≡ begun.Wait) ⊎ (b ≡ begun_by_head h)
 part_begins before more bytes h b e begins (inl refuses) =
     let g = grows before more bytes e in
     absurd (no_head_against (head_part before) g.come (head_part bytes) h _ g.is begins.0 begins.1 refuses.0)
 part_begins before more bytes h b e begins (inr (inl half)) =
     elim (half_cases before b half.1) [
       | inl waits ↦ inl waits
-      | inr late ↦ absurd (half.0.0 h (behind_head h bytes) (subst (λ bs. ReadsRequest bs h (behind_head h bytes)) (full_part before more bytes e late.1) begins.0))
+      | inr late ↦ absurd (half.0.0 h (behind_head h bytes)
+          (subst (λ bs. ReadsRequest bs h (behind_head h bytes)) (full_part before more bytes e late.1) begins.0))
     ]
 part_begins before more bytes h b e begins (inr (inr whole)) =
     inr (whole.2 ∙ ap begun_by_head (same_head bytes h whole.0 begins (head_stays before more bytes e whole.0 whole.1)))
@@ -82,25 +85,32 @@ part_begins before more bytes h b e begins (inr (inr whole)) =
 -- ---- the body
 
 choose : (a b c d : Bool) (x y : Seen) → (a ≡ false → c ≡ false) → (a ≡ false → b ≡ false → d ≡ false) → (a ≡ false → b ≡ false → x ≡ y)
-    → ((if a then seen.Wait else (if b then seen.Wait else x)) ≡ seen.Wait) ⊎ ((if a then seen.Wait else (if b then seen.Wait else x)) ≡ (if c then seen.Wait else (if d then seen.Wait else y)))
+    → ((if a then seen.Wait else (if b then seen.Wait else x)) ≡ seen.Wait)
+    ⊎ ((if a then seen.Wait else (if b then seen.Wait else x)) ≡ (if c then seen.Wait else (if d then seen.Wait else y)))
 choose true b c d x y f g h = inl refl
 choose false true c d x y f g h = inl refl
 choose false false c d x y f g h =
-    inr (sym (ap (λ t. if t then seen.Wait else (if d then seen.Wait else y)) (f refl) ∙ ap (λ t. if t then seen.Wait else y) (g refl refl) ∙ sym (h refl refl)))
+    inr (sym (ap (λ t. if t then seen.Wait else (if d then seen.Wait else y)) (f refl) ∙ ap (λ t. if t then seen.Wait else y) (g refl refl)
+    ∙ sym (h refl refl)))
 
 after_more : (head : Head) (before more : List ℕ) → (seen_after head before ≡ seen.Wait) ⊎ (seen_after head before ≡ seen_after head (before ++ more))
 unfolding seen_after
 after_more head before more =
     let there : nat_lt (length before) head.start ≡ false → head.start ≤ length before = ltb-false (length before) head.start in
     let longer : length (before ++ more) ≡ length before + length more = length-append before more in
-    let body : nat_lt (length before) head.start ≡ false → drop head.start (before ++ more) ≡ drop head.start before ++ more = λ a. drop-append-le head.start before more (there a) in
-    let whole : nat_lt (length (drop head.start before)) head.length ≡ false → head.length ≤ length (drop head.start before) = ltb-false (length (drop head.start before)) head.length in
-    choose (nat_lt (length before) head.start) (nat_lt (length (drop head.start before)) head.length) (nat_lt (length (before ++ more)) head.start) (nat_lt (length (drop head.start (before ++ more))) head.length)
+    let body : nat_lt (length before) head.start ≡ false → drop head.start (before ++ more) ≡ drop head.start before ++ more =
+    λ a. drop-append-le head.start before more (there a) in
+    let whole : nat_lt (length (drop head.start before)) head.length ≡ false → head.length ≤ length (drop head.start before) =
+    ltb-false (length (drop head.start before)) head.length in
+    choose (nat_lt (length before) head.start) (nat_lt (length (drop head.start before)) head.length) (nat_lt (length (before ++ more)) head.start)
+    (nat_lt (length (drop head.start (before ++ more))) head.length)
     (seen_of head.goal (asked head.goal head.word head.session (take head.length (drop head.start before))))
     (seen_of head.goal (asked head.goal head.word head.session (take head.length (drop head.start (before ++ more)))))
     (λ a. le-ltb (length (before ++ more)) head.start (omega (arith, there a, longer)))
-    (λ a b. le-ltb (length (drop head.start (before ++ more))) head.length (omega (arith, whole b, ap length (body a), length-append (drop head.start before) more)))
-    (λ a b. ap (λ bs. seen_of head.goal (asked head.goal head.word head.session bs)) (sym (ap (take head.length) (body a) ∙ take-append-le head.length (drop head.start before) more (whole b))))
+    (λ a b. le-ltb (length (drop head.start (before ++ more))) head.length
+    (omega (arith, whole b, ap length (body a), length-append (drop head.start before) more)))
+    (λ a b. ap (λ bs. seen_of head.goal (asked head.goal head.word head.session bs))
+    (sym (ap (take head.length) (body a) ∙ take-append-le head.length (drop head.start before) more (whole b))))
 
 seen_more : (b : Begun) (before more : List ℕ) → (seen_by b before ≡ seen.Wait) ⊎ (seen_by b before ≡ seen_by b (before ++ more))
 seen_more begun.Wait before more = inl refl
@@ -108,11 +118,13 @@ seen_more (begun.Refuse status allow) before more = inr refl
 seen_more (begun.Head head) before more = after_more head before more
 
 now_is : (bytes : List ℕ) (h : RequestHead) (b : Begun) → BeginsWith h (head_part bytes) → Begins bytes b → b ≡ begun_by_head h
-now_is bytes h b begins (inl refuses) = absurd (no_head_against (head_part bytes) [] (head_part bytes) h _ (sym (append-nil (head_part bytes))) begins.0 begins.1 refuses.0)
+now_is bytes h b begins (inl refuses) = absurd (no_head_against (head_part bytes) [] (head_part bytes) h _ (sym (append-nil (head_part bytes))) begins.0
+    begins.1 refuses.0)
 now_is bytes h b begins (inr (inl half)) = absurd (half.0.0 h (behind_head h bytes) begins.0)
 now_is bytes h b begins (inr (inr whole)) = whole.2 ∙ ap begun_by_head (same_head bytes h whole.0 begins whole.1)
 
-headed_by : (before more bytes : List ℕ) (b c : Begun) (now was : Seen) → bytes ≡ before ++ more → (b ≡ begun.Wait) ⊎ (b ≡ c) → was ≡ seen_by b before → now ≡ seen_by c bytes → IsWaitOr now was
+headed_by : (before more bytes : List ℕ) (b c : Begun) (now was : Seen) → bytes ≡ before ++ more → (b ≡ begun.Wait) ⊎ (b ≡ c) → was ≡ seen_by b before
+    → now ≡ seen_by c bytes → IsWaitOr now was
 headed_by before more bytes b c now was e (inl waits) told is = inl (told ∙ ap (λ x. seen_by x before) waits)
 headed_by before more bytes b c now was e (inr same) told is =
     let here : was ≡ seen_by c before = told ∙ ap (λ x. seen_by x before) same in
@@ -121,7 +133,8 @@ headed_by before more bytes b c now was e (inr same) told is =
       | inr alike ↦ inr (here ∙ alike ∙ ap (seen_by c) (sym e) ∙ sym is)
     ]
 
-headed : (bytes : List ℕ) (now : Seen) → Sees bytes now → HasHead bytes → (before more : List ℕ) (was : Seen) → bytes ≡ before ++ more → Sees before was → IsWaitOr now was
+headed : (bytes : List ℕ) (now : Seen) → Sees bytes now → HasHead bytes → (before more : List ℕ) (was : Seen) → bytes ≡ before ++ more → Sees before was
+    → IsWaitOr now was
 headed bytes now sees has before more was e seen_before =
     let h = has.0 in
     headed_by before more bytes seen_before.0 (begun_by_head h) now was e (part_begins before more bytes h seen_before.0 e has.1 seen_before.1) seen_before.2
@@ -133,27 +146,32 @@ abbrev Unlike : List ℕ → List ℕ → Seen → Seen → Type 0
 Unlike before bytes was now = (was ≡ now) ⊎ (EndsInTarget (head_part bytes) ⊎ HasTooManyFields (head_part before))
 
 -- a part can't be refused for its head where the bytes may still become a head, but for those two cases
-refused_half : (before come bytes : List ℕ) (was now : Seen) → head_part bytes ≡ head_part before ++ come → IsNoHead (head_part before) → MayBecomeRequest (head_part bytes) → Unlike before bytes was now
+refused_half : (before come bytes : List ℕ) (was now : Seen) → head_part bytes ≡ head_part before ++ come → IsNoHead (head_part before)
+    → MayBecomeRequest (head_part bytes) → Unlike before bytes was now
 refused_half before come bytes was now is (inl never) (inl may) =
-    absurd (never (come ++ may.0) may.1 [] (subst (λ bs. ReadsRequest bs may.1 []) (ap (λ bs. bs ++ may.0) is ∙ append_assoc (head_part before) come may.0) may.2))
+    absurd (never (come ++ may.0) may.1 []
+    (subst (λ bs. ReadsRequest bs may.1 []) (ap (λ bs. bs ++ may.0) is ∙ append_assoc (head_part before) come may.0) may.2))
 refused_half before come bytes was now is (inl never) (inr ends) = inr (inl ends)
 refused_half before come bytes was now is (inr many) may = inr (inr many)
 
 -- the same where the part is too long for half a head
-half_refused : (before bytes : List ℕ) (was now : Seen) → head_part bytes ≡ head_part before → MayBecomeRequest (head_part before) → IsNoHead (head_part bytes) → Unlike before bytes was now
+half_refused : (before bytes : List ℕ) (was now : Seen) → head_part bytes ≡ head_part before → MayBecomeRequest (head_part before) → IsNoHead (head_part bytes)
+    → Unlike before bytes was now
 half_refused before bytes was now is (inl may) (inl never) =
     absurd (never may.0 may.1 [] (subst (λ bs. ReadsRequest (bs ++ may.0) may.1 []) (sym is) may.2))
 half_refused before bytes was now is (inr ends) (inl never) = inr (inl (subst EndsInTarget (sym is) ends))
 half_refused before bytes was now is may (inr many) = inr (inr (subst HasTooManyFields is many))
 
-no_head_now : (before more bytes : List ℕ) (b : Begun) (was now : Seen) → bytes ≡ before ++ more → (HasHead bytes → ⊥) → IsNoHead (head_part before) → was ≡ seen.Refuse 400 None false → Begins bytes b → now ≡ seen_by b bytes → Unlike before bytes was now
+no_head_now : (before more bytes : List ℕ) (b : Begun) (was now : Seen) → bytes ≡ before ++ more → (HasHead bytes → ⊥) → IsNoHead (head_part before)
+    → was ≡ seen.Refuse 400 None false → Begins bytes b → now ≡ seen_by b bytes → Unlike before bytes was now
 no_head_now before more bytes b was now e none refuses told (inl now_refuses) is = inl (told ∙ sym (is ∙ ap (λ x. seen_by x bytes) now_refuses.1))
 no_head_now before more bytes b was now e none refuses told (inr (inl half)) is =
     let g = grows before more bytes e in
     refused_half before g.come bytes was now g.is refuses half.0.1
 no_head_now before more bytes b was now e none refuses told (inr (inr whole)) is = absurd (none (whole.0, whole.1))
 
-half_now : (before more bytes : List ℕ) (b : Begun) (was now : Seen) → bytes ≡ before ++ more → (HasHead bytes → ⊥) → MOST_HEAD ≤ length before → IsHalfHead (head_part before) → was ≡ seen.Refuse 413 None false → Begins bytes b → now ≡ seen_by b bytes → Unlike before bytes was now
+half_now : (before more bytes : List ℕ) (b : Begun) (was now : Seen) → bytes ≡ before ++ more → (HasHead bytes → ⊥) → MOST_HEAD ≤ length before
+    → IsHalfHead (head_part before) → was ≡ seen.Refuse 413 None false → Begins bytes b → now ≡ seen_by b bytes → Unlike before bytes was now
 half_now before more bytes b was now e none full half told (inl now_refuses) is =
     half_refused before bytes was now (full_part before more bytes e full) half.1 now_refuses.0
 half_now before more bytes b was now e none full half told (inr (inl now_half)) is =
@@ -162,7 +180,8 @@ half_now before more bytes b was now e none full half told (inr (inl now_half)) 
     inl (told ∙ sym (is ∙ ap (λ x. seen_by x bytes) (now_half.1 ∙ late)))
 half_now before more bytes b was now e none full half told (inr (inr whole)) is = absurd (none (whole.0, whole.1))
 
-headless_by : (before more bytes : List ℕ) (b c : Begun) (was now : Seen) → bytes ≡ before ++ more → (HasHead bytes → ⊥) → Begins before b → was ≡ seen_by b before → Begins bytes c → now ≡ seen_by c bytes
+headless_by : (before more bytes : List ℕ) (b c : Begun) (was now : Seen) → bytes ≡ before ++ more → (HasHead bytes → ⊥) → Begins before b
+    → was ≡ seen_by b before → Begins bytes c → now ≡ seen_by c bytes
     → (was ≡ seen.Wait) ⊎ (IsRefusedHead was × Unlike before bytes was now)
 headless_by before more bytes b c was now e none (inl refuses) told now_begins is =
     let told_400 : was ≡ seen.Refuse 400 None false = told ∙ ap (λ x. seen_by x before) refuses.1 in

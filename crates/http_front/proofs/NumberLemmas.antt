@@ -53,7 +53,8 @@ digits_of most bytes digits =
 pub digits_are_utf8 : (most : ℕ) (bytes : List ℕ) → are_digits most bytes ≡ true → IsUtf8 bytes
 digits_are_utf8 most bytes digits = digits_utf8 bytes (digits_of most bytes digits).all
 
-parsed_by : {E : Type 0} (most : ℕ) (bytes : List ℕ) (r : Result ℕ E) → Digits most bytes → most ≤ 19 → ParsesUnsigned 64 10 bytes r → result_ok r ≡ Some (digits_value 10 bytes)
+parsed_by : {E : Type 0} (most : ℕ) (bytes : List ℕ) (r : Result ℕ E) → Digits most bytes → most ≤ 19 → ParsesUnsigned 64 10 bytes r
+    → result_ok r ≡ Some (digits_value 10 bytes)
 parsed_by most bytes (Ok n) digits few p = ap Some (p.1 ∙ ap (digits_value 10) (no_plus bytes digits.all))
 parsed_by most bytes (Err e) digits few p =
     let short : length bytes ≤ 19 = omega (arith, digits.few, few) in
@@ -61,7 +62,8 @@ parsed_by most bytes (Err e) digits few p =
     ((digits.some, all_digits bytes digits.all), digits_fit bytes digits.all short)))
 
 -- what the parser of numbers says of digits
-pub parsed : {E : Type 0} (most : ℕ) (bytes text : List ℕ) (r : Result ℕ E) → are_digits most bytes ≡ true → most ≤ 19 → text ≡ bytes → ParsesUnsigned 64 10 text r → result_ok r ≡ number_of most bytes
+pub parsed : {E : Type 0} (most : ℕ) (bytes text : List ℕ) (r : Result ℕ E) → are_digits most bytes ≡ true → most ≤ 19 → text ≡ bytes
+    → ParsesUnsigned 64 10 text r → result_ok r ≡ number_of most bytes
 unfolding number_of
 parsed most bytes text r digits few same p =
     parsed_by most bytes r (digits_of most bytes digits) few (subst (λ bs. ParsesUnsigned 64 10 bs r) same p)

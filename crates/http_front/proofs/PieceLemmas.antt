@@ -39,13 +39,18 @@ pieces_last bs h = ap (filter is_nonempty) (split_one bs h)
 pieces_space : (xs ys : List ℕ) → has_no_space xs ≡ true → pieces (xs ++ 32 ∷ ys) ≡ filter is_nonempty (xs ∷ []) ++ pieces ys
 pieces_space xs ys h = ap (filter is_nonempty) (split_at_space xs ys h) ∙ kept_cons xs (slice_split (λ b. b == 32) ys)
 
-pub pieces_step : (tokens : List (List ℕ)) (text piece rest : List ℕ) → has_no_space piece ≡ true → text ≡ piece ++ 32 ∷ rest → (tokens ++ filter is_nonempty (piece ∷ [])) ++ pieces rest ≡ tokens ++ pieces text
+pub pieces_step : (tokens : List (List ℕ)) (text piece rest : List ℕ) → has_no_space piece ≡ true → text ≡ piece ++ 32 ∷ rest
+    → (tokens ++ filter is_nonempty (piece ∷ [])) ++ pieces rest ≡ tokens ++ pieces text
 pieces_step tokens text piece rest h e =
-    append_assoc tokens (filter is_nonempty (piece ∷ [])) (pieces rest) ∙ ap (λ x. tokens ++ x) (sym (pieces_space piece rest h)) ∙ ap (λ x. tokens ++ pieces x) (sym e)
+    append_assoc tokens (filter is_nonempty (piece ∷ [])) (pieces rest) ∙ ap (λ x. tokens ++ x) (sym (pieces_space piece rest h))
+    ∙ ap (λ x. tokens ++ pieces x) (sym e)
 
 pub pieces_end : (tokens : List (List ℕ)) (text : List ℕ) → has_no_space text ≡ true → tokens ++ filter is_nonempty (text ∷ []) ≡ tokens ++ pieces text
 pieces_end tokens text h = ap (λ x. tokens ++ x) (sym (pieces_last text h))
 
-pub split_cases : (text : List ℕ) (r : Option (Bor (List ℕ) × Bor (List ℕ))) → MatchOption r ((i : ℕ) → i < length text → get_or text i 0 ≢ 32) (λ x. (text ≡ x.0.now ++ (32 ∷ x.1.now)) × ((i : ℕ) → i < length x.0.now → get_or x.0.now i 0 ≢ 32)) → MatchOption r (has_no_space text ≡ true) (λ parts. (has_no_space parts.0.now ≡ true) × (text ≡ parts.0.now ++ 32 ∷ parts.1.now))
+pub split_cases : (text : List ℕ) (r : Option (Bor (List ℕ) × Bor (List ℕ)))
+    → MatchOption r ((i : ℕ) → i < length text → get_or text i 0 ≢ 32)
+    (λ x. (text ≡ x.0.now ++ (32 ∷ x.1.now)) × ((i : ℕ) → i < length x.0.now → get_or x.0.now i 0 ≢ 32))
+    → MatchOption r (has_no_space text ≡ true) (λ parts. (has_no_space parts.0.now ≡ true) × (text ≡ parts.0.now ++ 32 ∷ parts.1.now))
 split_cases text None h = no_space_from_bytes text h
 split_cases text (Some x) h = (no_space_from_bytes x.0.now h.1, h.0)

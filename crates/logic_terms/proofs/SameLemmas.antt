@@ -25,7 +25,8 @@ same_concepts-length (c ∷ cs) (d ∷ ds) ne =
 abbrev pub rest_same : List Concept → List Concept → ℕ → Bool
 rest_same cs ds k = same_concepts (concepts_from (drop k cs)) (concepts_from (drop k ds))
 
-pub rest_same-more : (cs ds : List Concept) (k : ℕ) (c d : Concept) → slice_get cs k ≡ Some c → slice_get ds k ≡ Some d → rest_same cs ds k ≡ (same_concept c d && rest_same cs ds (k + 1))
+pub rest_same-more : (cs ds : List Concept) (k : ℕ) (c d : Concept) → slice_get cs k ≡ Some c → slice_get ds k ≡ Some d
+    → rest_same cs ds k ≡ (same_concept c d && rest_same cs ds (k + 1))
 rest_same-more cs ds k c d at other =
     ap (λ xs. same_concepts (concepts_from xs) (concepts_from (drop k ds))) (drop_slice_get cs k c at)
     ∙ ap (λ xs. same_concepts (concepts_from (c ∷ drop (k + 1) cs)) (concepts_from xs)) (drop_slice_get ds k d other)
@@ -36,11 +37,13 @@ rest_same-none cs ds k past other =
     ∙ left_none (λ xs. same_concepts no_concept (concepts_from xs)) ds k other
 
 -- one further, where the items here are the same or not
-pub rest_same-step : (cs ds : List Concept) (k : ℕ) (c d : Concept) (r : Bool) → slice_get cs k ≡ Some c → slice_get ds k ≡ Some d → r ≡ rest_same cs ds k → same_concept c d ≡ true → r ≡ rest_same cs ds (k + 1)
+pub rest_same-step : (cs ds : List Concept) (k : ℕ) (c d : Concept) (r : Bool) → slice_get cs k ≡ Some c → slice_get ds k ≡ Some d → r ≡ rest_same cs ds k
+    → same_concept c d ≡ true → r ≡ rest_same cs ds (k + 1)
 rest_same-step cs ds k c d r at other now same =
     now ∙ (rest_same-more cs ds k c d at other ∙ ap (λ b. b && rest_same cs ds (k + 1)) same)
 
-pub rest_same-differ : (cs ds : List Concept) (k : ℕ) (c d : Concept) (r : Bool) → slice_get cs k ≡ Some c → slice_get ds k ≡ Some d → r ≡ rest_same cs ds k → same_concept c d ≡ false → r ≡ false
+pub rest_same-differ : (cs ds : List Concept) (k : ℕ) (c d : Concept) (r : Bool) → slice_get cs k ≡ Some c → slice_get ds k ≡ Some d → r ≡ rest_same cs ds k
+    → same_concept c d ≡ false → r ≡ false
 rest_same-differ cs ds k c d r at other now same =
     now ∙ (rest_same-more cs ds k c d at other ∙ ap (λ b. b && rest_same cs ds (k + 1)) same)
 
@@ -51,11 +54,13 @@ module _ (f : Concept → Concept) (from : Concepts → Concepts) (each : (ds : 
       ap (same_concepts (concepts_from cs)) (each ds)
       ∙ same_concepts-length cs (map f ds) (λ e. ne (e ∙ length-map ds f))
 
-  pub made_same-step : (cs ds : List Concept) (k : ℕ) (c d : Concept) (r : Bool) → slice_get cs k ≡ Some c → slice_get ds k ≡ Some d → r ≡ rest_same cs (map f ds) k → same_concept c (f d) ≡ true → r ≡ rest_same cs (map f ds) (k + 1)
+  pub made_same-step : (cs ds : List Concept) (k : ℕ) (c d : Concept) (r : Bool) → slice_get cs k ≡ Some c → slice_get ds k ≡ Some d
+      → r ≡ rest_same cs (map f ds) k → same_concept c (f d) ≡ true → r ≡ rest_same cs (map f ds) (k + 1)
   made_same-step cs ds k c d r at other now same =
       rest_same-step cs (map f ds) k c (f d) r at (slice_get-map f ds k ∙ ap (option_map f) other) now same
 
-  pub made_same-differ : (cs ds : List Concept) (k : ℕ) (c d : Concept) (r : Bool) → slice_get cs k ≡ Some c → slice_get ds k ≡ Some d → r ≡ rest_same cs (map f ds) k → same_concept c (f d) ≡ false → r ≡ false
+  pub made_same-differ : (cs ds : List Concept) (k : ℕ) (c d : Concept) (r : Bool) → slice_get cs k ≡ Some c → slice_get ds k ≡ Some d
+      → r ≡ rest_same cs (map f ds) k → same_concept c (f d) ≡ false → r ≡ false
   made_same-differ cs ds k c d r at other now same =
       rest_same-differ cs (map f ds) k c (f d) r at (slice_get-map f ds k ∙ ap (option_map f) other) now same
 
@@ -77,7 +82,8 @@ direction_equal false false h = refl
 
 pub role_equal : (r s : Role) → same_role r s ≡ true → r ≡ s
 role_equal r s h =
-    let p : (is_word r.id s.id ≡ true) × (same_direction r.inverted s.inverted ≡ true) = and_parts (is_word r.id s.id) (same_direction r.inverted s.inverted) h in
+    let p : (is_word r.id s.id ≡ true) × (same_direction r.inverted s.inverted ≡ true) =
+    and_parts (is_word r.id s.id) (same_direction r.inverted s.inverted) h in
     let e : r.id ≡ s.id = word_equal r.id s.id p.0 in
     let d : r.inverted ≡ s.inverted = direction_equal r.inverted s.inverted p.1 in
     λ j. record { id = e j; inverted = d j }

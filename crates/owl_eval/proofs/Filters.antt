@@ -6,7 +6,8 @@ use Rattle.std.proofs.lemmas.List.Sorted.{list_any-IsPermutation}
 use Rattle.wiki_base.proofs.BoolLaws.{and-not}
 use Rattle.logic_terms.specs.Meaning.{implies}
 
-kept_all : {X : Type 0} (test : X → Bool) (b : Bool) (x : X) (rest : List X) (other : Bool) → list_all test rest ≡ other → list_all test (cond b (x ∷ rest) rest) ≡ (implies b (test x) && other)
+kept_all : {X : Type 0} (test : X → Bool) (b : Bool) (x : X) (rest : List X) (other : Bool) → list_all test rest ≡ other
+    → list_all test (cond b (x ∷ rest) rest) ≡ (implies b (test x) && other)
 kept_all test true x rest other h = ap (λ o. test x && o) h
 kept_all test false x rest other h = h
 

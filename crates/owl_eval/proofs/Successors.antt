@@ -72,7 +72,8 @@ abbrev pub ends_fit : ℕ → List (ℕ × ℕ) → Bool
 ends_fit n ps = list_all (λ p. nat_lt p.0 n && nat_lt p.1 n) ps
 
 -- some pair that begins with x ends in the test, exactly where some element below n does that is paired with x
-pub any_successor : (n : ℕ) (ps : List (ℕ × ℕ)) → ends_fit n ps ≡ true → (x : ℕ) (test : ℕ → Bool) → list_any (λ p. (p.0 == x) && test p.1) ps ≡ some_below n (λ y. paired ps x y && test y)
+pub any_successor : (n : ℕ) (ps : List (ℕ × ℕ)) → ends_fit n ps ≡ true → (x : ℕ) (test : ℕ → Bool)
+    → list_any (λ p. (p.0 == x) && test p.1) ps ≡ some_below n (λ y. paired ps x y && test y)
 any_successor n [] fit x test = sym (none_below n (λ y. false && test y) (λ y. refl))
 any_successor n (p ∷ ps) fit x test =
     let parts = and_parts (nat_lt p.0 n && nat_lt p.1 n) (ends_fit n ps) fit in
@@ -86,7 +87,8 @@ any_successor n (p ∷ ps) fit x test =
     ap (λ b. (a && test p.1) || b) (any_successor n ps parts.1 x test)
     ∙ (ap (λ b. (a && b) || some_below n g) (sym (some_below-one n p.1 test below)) ∙ sym split)
 
-pub each_successor : (n : ℕ) (ps : List (ℕ × ℕ)) → ends_fit n ps ≡ true → (x : ℕ) (test : ℕ → Bool) → list_all (λ p. implies (p.0 == x) (test p.1)) ps ≡ each_below n (λ y. implies (paired ps x y) (test y))
+pub each_successor : (n : ℕ) (ps : List (ℕ × ℕ)) → ends_fit n ps ≡ true → (x : ℕ) (test : ℕ → Bool)
+    → list_all (λ p. implies (p.0 == x) (test p.1)) ps ≡ each_below n (λ y. implies (paired ps x y) (test y))
 each_successor n ps fit x test =
     list_all-not (λ p. implies (p.0 == x) (test p.1)) ps
     ∙ (ap not (ap (λ t. list_any t ps) (λ j p. not_implies (p.0 == x) (test p.1) j)
@@ -120,18 +122,21 @@ pub paired_along : (i : Interpretation) (role : Role) (x y : ℕ) → paired (pa
 paired_along i role x y = along_by role.inverted (pairs_of i role.id) x y
 
 -- what holds of each list of a map holds of the one that is looked up, or of none
-fit_either : (n : ℕ) (b : Bool) (ps : List (ℕ × ℕ)) (other : Option (List (ℕ × ℕ))) → ends_fit n ps ≡ true → ends_fit n (unwrap_or other []) ≡ true → ends_fit n (unwrap_or (cond b (Some ps) other) []) ≡ true
+fit_either : (n : ℕ) (b : Bool) (ps : List (ℕ × ℕ)) (other : Option (List (ℕ × ℕ))) → ends_fit n ps ≡ true → ends_fit n (unwrap_or other []) ≡ true
+    → ends_fit n (unwrap_or (cond b (Some ps) other) []) ≡ true
 fit_either n true ps other here there = here
 fit_either n false ps other here there = there
 
-fit_lookup : (n : ℕ) (test : WordId → Bool) (es : List (WordId × List (ℕ × ℕ))) → list_all (λ e. ends_fit n e.1) es ≡ true → ends_fit n (unwrap_or (lookup test es) []) ≡ true
+fit_lookup : (n : ℕ) (test : WordId → Bool) (es : List (WordId × List (ℕ × ℕ))) → list_all (λ e. ends_fit n e.1) es ≡ true
+    → ends_fit n (unwrap_or (lookup test es) []) ≡ true
 fit_lookup n test [] fit = refl
 fit_lookup n test (e ∷ es) fit =
     let parts = and_parts (ends_fit n e.1) (list_all (λ f. ends_fit n f.1) es) fit in
     fit_either n (test e.0) e.1 (lookup test es) parts.0 (fit_lookup n test es parts.1)
 
 -- the parts of the test of an interpretation
-seven : (a b c d e f g : Bool) → (a && b && c && d && e && f && g) ≡ true → (a ≡ true) × (b ≡ true) × (c ≡ true) × (d ≡ true) × (e ≡ true) × (f ≡ true) × (g ≡ true)
+seven : (a b c d e f g : Bool) → (a && b && c && d && e && f && g) ≡ true
+    → (a ≡ true) × (b ≡ true) × (c ≡ true) × (d ≡ true) × (e ≡ true) × (f ≡ true) × (g ≡ true)
 seven true true true true true true true h = (refl, refl, refl, refl, refl, refl, refl)
 seven true true true true true true false h = cc
 seven true true true true true false g h = cc
@@ -141,8 +146,12 @@ seven true true false d e f g h = cc
 seven true false c d e f g h = cc
 seven false b c d e f g h = cc
 
-pub parts_of : (i : Interpretation) → is_interpretation i ≡ true → (nat_lt 0 i.size ≡ true) × (words_rise i.names ≡ true) × (words_rise i.classes ≡ true) × (words_rise i.relations ≡ true) × (list_all (λ e. nat_lt e.1 i.size) i.names ≡ true) × (list_all (λ e. list_all (λ x. nat_lt x i.size) e.1) i.classes ≡ true) × (list_all (λ e. ends_fit i.size e.1) i.relations ≡ true)
-parts_of i h = seven (nat_lt 0 i.size) (words_rise i.names) (words_rise i.classes) (words_rise i.relations) (list_all (λ e. nat_lt e.1 i.size) i.names) (list_all (λ e. list_all (λ x. nat_lt x i.size) e.1) i.classes) (list_all (λ e. ends_fit i.size e.1) i.relations) h
+pub parts_of : (i : Interpretation) → is_interpretation i ≡ true
+    → (nat_lt 0 i.size ≡ true) × (words_rise i.names ≡ true) × (words_rise i.classes ≡ true) × (words_rise i.relations ≡ true)
+    × (list_all (λ e. nat_lt e.1 i.size) i.names ≡ true) × (list_all (λ e. list_all (λ x. nat_lt x i.size) e.1) i.classes ≡ true)
+    × (list_all (λ e. ends_fit i.size e.1) i.relations ≡ true)
+parts_of i h = seven (nat_lt 0 i.size) (words_rise i.names) (words_rise i.classes) (words_rise i.relations) (list_all (λ e. nat_lt e.1 i.size) i.names)
+    (list_all (λ e. list_all (λ x. nat_lt x i.size) e.1) i.classes) (list_all (λ e. ends_fit i.size e.1) i.relations) h
 
 along_fits : (b : Bool) (n : ℕ) (ps : List (ℕ × ℕ)) → ends_fit n ps ≡ true → ends_fit n (if b then map swapped ps else ps) ≡ true
 along_fits true n ps fit = fit_swapped n ps fit
@@ -151,18 +160,21 @@ along_fits false n ps fit = fit
 fits_along : (i : Interpretation) → is_interpretation i ≡ true → (role : Role) → ends_fit i.size (pairs_along role i.relations) ≡ true
 fits_along i h role = along_fits role.inverted i.size (pairs_of i role.id) (fit_lookup i.size (is_word role.id) i.relations (parts_of i h).6)
 
-pub some_along : (i : Interpretation) → is_interpretation i ≡ true → (role : Role) (x : ℕ) (test : ℕ → Bool) → list_any (λ p. (p.0 == x) && test p.1) (pairs_along role i.relations) ≡ some_below i.size (λ y. relates i role x y && test y)
+pub some_along : (i : Interpretation) → is_interpretation i ≡ true → (role : Role) (x : ℕ) (test : ℕ → Bool)
+    → list_any (λ p. (p.0 == x) && test p.1) (pairs_along role i.relations) ≡ some_below i.size (λ y. relates i role x y && test y)
 some_along i h role x test =
     any_successor i.size (pairs_along role i.relations) (fits_along i h role) x test
     ∙ ap (some_below i.size) (λ j y. paired_along i role x y j && test y)
 
-pub each_along : (i : Interpretation) → is_interpretation i ≡ true → (role : Role) (x : ℕ) (test : ℕ → Bool) → list_all (λ p. implies (p.0 == x) (test p.1)) (pairs_along role i.relations) ≡ each_below i.size (λ y. implies (relates i role x y) (test y))
+pub each_along : (i : Interpretation) → is_interpretation i ≡ true → (role : Role) (x : ℕ) (test : ℕ → Bool)
+    → list_all (λ p. implies (p.0 == x) (test p.1)) (pairs_along role i.relations) ≡ each_below i.size (λ y. implies (relates i role x y) (test y))
 each_along i h role x test =
     each_successor i.size (pairs_along role i.relations) (fits_along i h role) x test
     ∙ ap (each_below i.size) (λ j y. implies (paired_along i role x y j) (test y))
 
 -- a role that is not inverted has the pairs of its word
-pub straight : (role : Role) (relations : List (WordId × List (ℕ × ℕ))) (ps : List (ℕ × ℕ)) → role.inverted ≡ false → Some ps ≡ lookup (is_word role.id) relations → ps ≡ pairs_along role relations
+pub straight : (role : Role) (relations : List (WordId × List (ℕ × ℕ))) (ps : List (ℕ × ℕ)) → role.inverted ≡ false
+    → Some ps ≡ lookup (is_word role.id) relations → ps ≡ pairs_along role relations
 straight role relations ps up found =
     let pairs : List (ℕ × ℕ) = unwrap_or (lookup (is_word role.id) relations) [] in
     ap (λ o. unwrap_or o []) found ∙ sym (ap (λ b. if b then map swapped pairs else pairs) up)

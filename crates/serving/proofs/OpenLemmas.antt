@@ -70,13 +70,18 @@ module _ (old new : List Kept) (n : ℕ) where
   unfolding IsOn IsAnswered
   on_piece m piece turns.Wait among takes on = absurd on
   on_piece m piece (turns.Refuse k response) among takes on =
-      let is = on_own n m takes.seen (turns.Refuse k response) takes.turn_is on in
-      (subst (λ k. is_among (numbers old) k ≡ true) is among, subst (λ k. without k (numbers old) ≡ numbers new) is (sym (ap numbers takes.new_is ∙ numbers_closed m old)))
+      let is = on_own n m takes.seen (turns.Refuse k response) takes.turn_is on in (
+        subst (λ k. is_among (numbers old) k ≡ true) is among,
+        subst (λ k. without k (numbers old) ≡ numbers new) is (sym (ap numbers takes.new_is ∙ numbers_closed m old)),
+      )
   on_piece m piece (turns.Ask k request answer) among takes on =
-      let is = on_own n m takes.seen (turns.Ask k request answer) takes.turn_is on in
-      (subst (λ k. is_among (numbers old) k ≡ true) is among, subst (λ k. without k (numbers old) ≡ numbers new) is (sym (ap numbers takes.new_is ∙ numbers_closed m old)))
+      let is = on_own n m takes.seen (turns.Ask k request answer) takes.turn_is on in (
+        subst (λ k. is_among (numbers old) k ≡ true) is among,
+        subst (λ k. without k (numbers old) ≡ numbers new) is (sym (ap numbers takes.new_is ∙ numbers_closed m old)),
+      )
 
-answered_by : (old : List Kept) (event : Event) (turn : Turn) (new : List Kept) (n : ℕ) → IsTrue (can_come (numbers old) event) → Takes old event turn new → IsOn n turn
+answered_by : (old : List Kept) (event : Event) (turn : Turn) (new : List Kept) (n : ℕ) → IsTrue (can_come (numbers old) event) → Takes old event turn new
+    → IsOn n turn
     → IsAnswered old new n (connections_after (numbers old) event)
 unfolding IsOn
 answered_by old (Opened m) turn new n comes takes on = on_opening old new n m turn (not-true (is_among (numbers old) m) comes) takes on
@@ -84,13 +89,15 @@ answered_by old (Piece m piece) turn new n comes takes on = on_piece old new n m
 answered_by old (Ended m) turn new n comes takes on = absurd (subst (IsOn n) takes.turn_is on)
 
 -- where the link has these open, a response can be sent on the connection
-pub open_on : (old : List Kept) (event : Event) (turn : Turn) (new : List Kept) (n : ℕ) (open_now : List ℕ) → IsTrue (can_come (numbers old) event) → Takes old event turn new → IsOn n turn
+pub open_on : (old : List Kept) (event : Event) (turn : Turn) (new : List Kept) (n : ℕ) (open_now : List ℕ) → IsTrue (can_come (numbers old) event)
+    → Takes old event turn new → IsOn n turn
     → open_now ≡ connections_after (numbers old) event → IsTrue (is_among open_now n)
 unfolding IsAnswered
 open_on old event turn new n open_now comes takes on is = subst (λ ns. is_among ns n ≡ true) (sym is) (answered_by old event turn new n comes takes on).0
 
 -- and when it is closed then, the link has those open that the server keeps
-pub open_after : (old : List Kept) (event : Event) (turn : Turn) (new : List Kept) (n : ℕ) (open_now open_then : List ℕ) → IsTrue (can_come (numbers old) event) → Takes old event turn new → IsOn n turn
+pub open_after : (old : List Kept) (event : Event) (turn : Turn) (new : List Kept) (n : ℕ) (open_now open_then : List ℕ) → IsTrue (can_come (numbers old) event)
+    → Takes old event turn new → IsOn n turn
     → open_now ≡ connections_after (numbers old) event → open_then ≡ without n open_now → open_then ≡ numbers new
 unfolding IsAnswered
 open_after old event turn new n open_now open_then comes takes on is closes =

@@ -19,7 +19,8 @@ IsFirst : Theory → Vertex → Type 0
 IsFirst k v = (cs : List Concept) × (v ≡ first_node k cs) × Within cs (class_occurrences k)
 
 module _ (k : Theory) where
-  mapped : (rs : List WordId) (y : ℕ) (v : Vertex) → slice_get (map (λ r. first_node k (asserted k r)) rs) y ≡ Some v → (cs : List Concept) × (v ≡ first_node k cs) × Within cs (class_occurrences k)
+  mapped : (rs : List WordId) (y : ℕ) (v : Vertex) → slice_get (map (λ r. first_node k (asserted k r)) rs) y ≡ Some v
+      → (cs : List Concept) × (v ≡ first_node k cs) × Within cs (class_occurrences k)
   mapped [] y v at = absurd (nothing y at)
     where
       nothing : (y : ℕ) → slice_get {X = Vertex} [] y ≡ Some v → ⊥
@@ -27,7 +28,8 @@ module _ (k : Theory) where
   mapped (r ∷ rs) zero v at = (asserted k r, sym (same_Some (first_node k (asserted k r)) v at), asserted_within k r)
   mapped (r ∷ rs) (suc y) v at = mapped rs y v at
 
-  first : (rs : List WordId) (y : ℕ) (v : Vertex) → slice_get (first_nodes k rs) y ≡ Some v → (cs : List Concept) × (v ≡ first_node k cs) × Within cs (class_occurrences k)
+  first : (rs : List WordId) (y : ℕ) (v : Vertex) → slice_get (first_nodes k rs) y ≡ Some v
+      → (cs : List Concept) × (v ≡ first_node k cs) × Within cs (class_occurrences k)
   first [] zero v at = ([], sym (same_Some (first_node k []) v at), λ e h. cc)
   first [] (suc y) v at = absurd (nothing y at)
     where

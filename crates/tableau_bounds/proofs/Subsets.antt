@@ -40,7 +40,8 @@ module _ {X C : Type 0} (has : X → C → Bool) (c : C) (cs : List C) (p : X �
       let parts = or_parts (agree has (c ∷ cs) x y) (list_any (agree has (c ∷ cs) x) ys) none in
       go (p y) refl parts.0 (none_agrees x one ys parts.1)
     where
-      go : (d : Bool) → p y ≡ d → agree has (c ∷ cs) x y ≡ false → list_any (agree has cs x) (filter p ys) ≡ false → list_any (agree has cs x) (cond d (y ∷ filter p ys) (filter p ys)) ≡ false
+      go : (d : Bool) → p y ≡ d → agree has (c ∷ cs) x y ≡ false → list_any (agree has cs x) (filter p ys) ≡ false
+          → list_any (agree has cs x) (cond d (y ∷ filter p ys) (filter p ys)) ≡ false
       go true is differ rest = or_from (agree has cs x y) (list_any (agree has cs x) (filter p ys)) (others x y one (kept y is) differ) rest
       go false is differ rest = rest
 

@@ -28,7 +28,8 @@ filter-map test f (x ∷ xs) =
     ∙ filter_step f (test (f x)) x (filter (λ y. test (f y)) xs) (map f (filter (λ y. test (f y)) xs)) refl
 
 -- some unfolding of a word is missing where some entry is one of the word and missing
-pub lacks_unfolding_as_list : (label : List Concept) (entries : List (WordId × Concept)) (word : WordId) → lacks_some label (map (λ e. e.1) (filter (λ e. is_word word e.0) entries)) ≡ list_any (λ e. is_word word e.0 && not (has_concept label e.1)) entries
+pub lacks_unfolding_as_list : (label : List Concept) (entries : List (WordId × Concept)) (word : WordId)
+    → lacks_some label (map (λ e. e.1) (filter (λ e. is_word word e.0) entries)) ≡ list_any (λ e. is_word word e.0 && not (has_concept label e.1)) entries
 lacks_unfolding_as_list label entries word =
     list_any-map (λ c. not (has_concept label c)) (λ e. e.1) (filter (λ e. is_word word e.0) entries)
     ∙ list_any-filter (λ e. not (has_concept label e.1)) (λ e. is_word word e.0) entries

@@ -69,7 +69,8 @@ pub find_changed : {X : Type 0} (key : X → ℕ) (n m : ℕ) (change : X → X)
     → find (λ x. key x == m) (map (changed_at key n change) xs) ≡ option_map (changed_at key n change) (find (λ x. key x == m) xs)
 find_changed key n m change keeps [] = refl
 find_changed {X} key n m change keeps (x ∷ xs) =
-    ap (λ (k : ℕ). cond (k == m) (Some (changed_at key n change x)) (find (λ y. key y == m) (map (changed_at key n change) xs))) (key_stays key n change keeps x)
+    ap (λ (k : ℕ). cond (k == m) (Some (changed_at key n change x)) (find (λ y. key y == m) (map (changed_at key n change) xs)))
+    (key_stays key n change keeps x)
     ∙ by_test (key x == m) (find_changed key n m change keeps xs)
   where
     by_test : (b : Bool) → find (λ y. key y == m) (map (changed_at key n change) xs) ≡ option_map (changed_at key n change) (find (λ y. key y == m) xs)
@@ -94,7 +95,8 @@ only_one {X} key n (x ∷ xs) rise found is = by_test (key x == n) refl (only_on
     by_test : (b : Bool) → (key x == n) ≡ b → (find (λ y. key y == n) xs ≡ Some found → All (λ y. key y ≡ n → y ≡ found) xs)
         → cond b (Some x) (find (λ y. key y == n) xs) ≡ Some found → All (λ y. key y ≡ n → y ≡ found) (x ∷ xs)
     by_test true here rest is = All-cons (λ y. key y ≡ n → y ≡ found) x xs (λ _. same_Some x found is)
-        (All-weaker (λ y. key x < key y) (λ y. key y ≡ n → y ≡ found) (λ y above same. let at = eqb-true (key x) n here in absurd (omega (arith, above, same, at))) xs later)
+        (All-weaker (λ y. key x < key y) (λ y. key y ≡ n → y ≡ found)
+        (λ y above same. let at = eqb-true (key x) n here in absurd (omega (arith, above, same, at))) xs later)
     by_test false not_here rest is = All-cons (λ y. key y ≡ n → y ≡ found) x xs (λ same. absurd (eqb-false (key x) n not_here same)) (rest is)
 
 -- what each element has, and what is found has after the change, each has after it

@@ -75,7 +75,8 @@ keeps_same old new same = record {
 
 pub keeps_changed : (old new : parts.State) (word : WordId) (change : List Sentence → List Sentence)
     → new ≡ record old { articles = with_change old.articles word change } → KeepsWords old new
-keeps_changed old new word change after = subst (KeepsWords old) (sym after) (record { grammar = refl; words = refl; on = go_on_changed old.articles word change })
+keeps_changed old new word change after =
+    subst (KeepsWords old) (sym after) (record { grammar = refl; words = refl; on = go_on_changed old.articles word change })
 
 does_keeps : (old new : parts.State) (request : Request) (reply : Reply) → changes_words request ≡ false → store.Does old request reply new → KeepsWords old new
 does_keeps old new (requests.Word kind forms) reply no_words does = absurd (false≢true (sym no_words))
@@ -106,9 +107,11 @@ refused_or_done old new request (replies.Refused refusal) step = inl (refusal, r
 refused_or_done old new request reply step = inr step
 
 -- a step that changes no words keeps them
-pub step_keeps : (old new : parts.State) (request : Request) (reply : Reply) → changes_words request ≡ false → store.Step old request reply new → KeepsWords old new
+pub step_keeps : (old new : parts.State) (request : Request) (reply : Reply) → changes_words request ≡ false → store.Step old request reply new
+    → KeepsWords old new
 step_keeps old new request reply no_words step = by_case (refused_or_done old new request reply step)
   where
-    by_case : ((refusal : Refusal) × (reply ≡ replies.Refused refusal) × (new ≡ old)) ⊎ (store.IsFree old request × store.Does old request reply new) → KeepsWords old new
+    by_case : ((refusal : Refusal) × (reply ≡ replies.Refused refusal) × (new ≡ old)) ⊎ (store.IsFree old request × store.Does old request reply new)
+        → KeepsWords old new
     by_case (inl refused) = keeps_same old new refused.2
     by_case (inr done) = does_keeps old new request reply no_words done.1

@@ -22,8 +22,10 @@ pub names_more : (live : List Word) (i : ℕ) (word : Word) → slice_get live i
 names_more live i word at =
     ap names_among (take_more live i word (slice_get_within live i word at))
     ∙ ap (map (λ (w : Word). w.id)) (filter-append (λ (w : Word). is_name w.forms.kind) (take i live) (get_or live i word ∷ []))
-    ∙ map-append (λ (w : Word). w.id) (filter (λ (w : Word). is_name w.forms.kind) (take i live)) (filter (λ (w : Word). is_name w.forms.kind) (get_or live i word ∷ []))
-    ∙ ap (λ ids. names_among (take i live) ++ ids) (ap (λ (w : Word). names_among (w ∷ [])) (get_or_from_slice_get live i word word at) ∙ by_test (is_name word.forms.kind))
+    ∙ map-append (λ (w : Word). w.id) (filter (λ (w : Word). is_name w.forms.kind) (take i live))
+    (filter (λ (w : Word). is_name w.forms.kind) (get_or live i word ∷ []))
+    ∙ ap (λ ids. names_among (take i live) ++ ids)
+    (ap (λ (w : Word). names_among (w ∷ [])) (get_or_from_slice_get live i word word at) ∙ by_test (is_name word.forms.kind))
   where
     by_test : (b : Bool) → map (λ (w : Word). w.id) (cond b (word ∷ []) []) ≡ cond b (word.id ∷ []) []
     by_test true = refl

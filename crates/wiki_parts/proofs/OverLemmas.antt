@@ -40,12 +40,14 @@ use Rattle.wiki_parts.proofs.PassingLemmas.{words_pass, meaning_passes}
 among_more : (n : WordId) (names xs : List WordId) → list_all (is_among names) xs ≡ true → list_all (is_among (n ∷ names)) xs ≡ true
 among_more n names [] h = refl
 among_more n names (x ∷ xs) h =
-    and_from (is_among (n ∷ names) x) (list_all (is_among (n ∷ names)) xs) (or_right (is_word x n) (is_among names x) (and_first (is_among names x) (list_all (is_among names) xs) h))
+    and_from (is_among (n ∷ names) x) (list_all (is_among (n ∷ names)) xs)
+    (or_right (is_word x n) (is_among names x) (and_first (is_among names x) (list_all (is_among names) xs) h))
     (among_more n names xs (and_second (is_among names x) (list_all (is_among names) xs) h))
 
 each_among : (names : List WordId) → list_all (is_among names) names ≡ true
 each_among [] = refl
-each_among (n ∷ ns) = and_from (is_among (n ∷ ns) n) (list_all (is_among (n ∷ ns)) ns) (ap (λ b. b || is_among ns n) (eqb_refl n.0)) (among_more n ns ns (each_among ns))
+each_among (n ∷ ns) = and_from (is_among (n ∷ ns) n) (list_all (is_among (n ∷ ns)) ns) (ap (λ b. b || is_among ns n) (eqb_refl n.0))
+    (among_more n ns ns (each_among ns))
 
 -- What holds of all axioms of a structure, and of the class that it asks for, holds of its meaning.
 
@@ -90,7 +92,8 @@ pub stated_plain : (g : GrammarParts) (words : Listed) (tokens : List (List ℕ)
 stated_plain g words tokens m means =
     let says : Structure = (meaning_of g means.least).says in
     ap (λ x. are_plain (stated_by x)) means.is
-    ∙ stated_meaning is_plain_claim says (meaning_of g means.least).referent (λ claims e. statement_plain says claims e) (is_question g means.least) (free_in [] says)
+    ∙ stated_meaning is_plain_claim says (meaning_of g means.least).referent (λ claims e. statement_plain says claims e) (is_question g means.least)
+    (free_in [] says)
 
 pub asked_plain : (g : GrammarParts) (words : Listed) (tokens : List (List ℕ)) (c : Concept) → Means g words tokens (asking c) → is_plain c ≡ true
 asked_plain g words tokens c means =
@@ -107,7 +110,8 @@ module _ (g : GrammarParts) (sound : IsSound g) (words : Listed) (apart : AllPai
   pub structure_over : (tokens : List (List ℕ)) (least : Skeleton) → IsLeastSkeleton g words tokens least → names_pass is_live (meaning_of g least).says ≡ true
   structure_over tokens least is =
       meaning_passes is_live g least (record { lexicon = words; tokens = tokens; tree = is.tree; derives = is.derives; is = is.is })
-      (subst (λ sk. words_pass is_live (names_of g sk) ≡ true) (sym is.is) (names_pass_live is_live g sound words apart (each_among (live_names words)) tokens is.tree is.derives))
+      (subst (λ sk. words_pass is_live (names_of g sk) ≡ true) (sym is.is)
+      (names_pass_live is_live g sound words apart (each_among (live_names words)) tokens is.tree is.derives))
 
   pub stated_over : (tokens : List (List ℕ)) (m : Meaning) → Means g words tokens m → are_over (live_names words) (stated_by m) ≡ true
   stated_over tokens m means =
@@ -125,7 +129,8 @@ module _ (g : GrammarParts) (sound : IsSound g) (words : Listed) (apart : AllPai
       (λ x e. question_passes is_live says asked x (structure_over tokens means.least means.is_least) e) (is_question g means.least) (free_in [] says)
 
 -- What the axioms of each sentence pass, those of many pass.
-module _ (g : GrammarParts) (words : Listed) (p : Claim → Bool) (each : (tokens : List (List ℕ)) (m : Meaning) → Means g words tokens m → list_all p (stated_by m) ≡ true) where
+module _ (g : GrammarParts) (words : Listed) (p : Claim → Bool)
+    (each : (tokens : List (List ℕ)) (m : Meaning) → Means g words tokens m → list_all p (stated_by m) ≡ true) where
   joined : (cs ds : List Claim) → list_all p cs ≡ true → list_all p ds ≡ true → list_all p (cs ++ ds) ≡ true
   joined cs ds h k = list_all-append p cs ds ∙ and_from (list_all p cs) (list_all p ds) h k
 
@@ -133,7 +138,8 @@ module _ (g : GrammarParts) (words : Listed) (p : Claim → Bool) (each : (token
       → list_all p (known_of sentences meanings) ≡ true
   known_of_pass [] meanings mean = refl
   known_of_pass (s ∷ ss) [] mean = refl
-  known_of_pass (s ∷ ss) (m ∷ ms) mean = joined (cond (is_asserted s.status) (stated_by m) []) (known_of ss ms) (by (is_asserted s.status)) (known_of_pass ss ms mean.1)
+  known_of_pass (s ∷ ss) (m ∷ ms) mean =
+      joined (cond (is_asserted s.status) (stated_by m) []) (known_of ss ms) (by (is_asserted s.status)) (known_of_pass ss ms mean.1)
     where
       by : (b : Bool) → list_all p (cond b (stated_by m) []) ≡ true
       by true = each s.tokens m mean.0.0
@@ -143,7 +149,8 @@ module _ (g : GrammarParts) (words : Listed) (p : Claim → Bool) (each : (token
   known_in_pass [] senses mean = refl
   known_in_pass (article ∷ articles) [] mean = refl
   known_in_pass (article ∷ articles) (own ∷ others) mean =
-      joined (known_of article.sentences (meanings_in own)) (known_in articles others) (known_of_pass article.sentences (meanings_in own) mean.0) (known_in_pass articles others mean.1)
+      joined (known_of article.sentences (meanings_in own)) (known_in articles others) (known_of_pass article.sentences (meanings_in own) mean.0)
+      (known_in_pass articles others mean.1)
 
   pub are_stated_pass : (sentences : List Sentence) (claims : List Claim) → AreStated g words sentences claims → list_all p claims ≡ true
   are_stated_pass [] claims stated = ap (list_all p) stated
@@ -168,13 +175,16 @@ known_plain g words articles senses mean = known_in_pass g words is_plain_claim 
 pub knows_over : (state : State) (claims : List Claim) → IsSound state.grammar → AllPairs SharesNoForm state.words.live → Knows state claims
     → are_over (live_names state.words) claims ≡ true
 knows_over state claims sound apart knows =
-    are_stated_pass state.grammar state.words (λ claim. list_all (is_among (live_names state.words)) (names_in_claim claim)) (stated_over state.grammar sound state.words apart) (sentences_in state.articles) claims knows
+    are_stated_pass state.grammar state.words (λ claim. list_all (is_among (live_names state.words)) (names_in_claim claim))
+    (stated_over state.grammar sound state.words apart) (sentences_in state.articles) claims knows
 
 pub knows_plain : (state : State) (claims : List Claim) → Knows state claims → are_plain claims ≡ true
-knows_plain state claims knows = are_stated_pass state.grammar state.words is_plain_claim (stated_plain state.grammar state.words) (sentences_in state.articles) claims knows
+knows_plain state claims knows = are_stated_pass state.grammar state.words is_plain_claim (stated_plain state.grammar state.words) (sentences_in state.articles)
+    claims knows
 
 -- The conditions of `judged` and of `answers_of`, where the names are the live ones and the axioms those that are kept.
-module _ (g : GrammarParts) (words : Listed) (articles : List Article) (senses : List (List Sense)) (sound : IsSound g) (apart : AllPairs SharesNoForm words.live) (mean : MeanInEach g words articles senses)
+module _ (g : GrammarParts) (words : Listed) (articles : List Article) (senses : List (List Sense)) (sound : IsSound g)
+    (apart : AllPairs SharesNoForm words.live) (mean : MeanInEach g words articles senses)
     (names : List WordId) (claims : List Claim) (are_names : names ≡ live_names words) (are_known : claims ≡ known_in articles senses) where
   pub verdict_over : IsTrue (are_over names claims)
   verdict_over = ap (λ ns. are_over ns claims) are_names ∙ ap (are_over (live_names words)) are_known ∙ known_over g words articles senses sound apart mean

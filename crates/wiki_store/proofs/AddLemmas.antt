@@ -37,25 +37,31 @@ some-under (Some w) id is = record { word = w; is = refl; number = ap (λ (o : O
 pub articles-below : (state : State) → IsSound state → IsLexicon state.words → All (λ article. article.word.0 < state.words.last + 1) state.articles
 articles-below state sound lexicon k d within =
     let here = slice_get-get_or state.articles k d within in
-    let numbered = ap (λ (ids : List WordId). slice_get ids k) (sym sound.articles) ∙ slice_get-map (λ (a : Article). a.word) state.articles k ∙ ap (option_map (λ (a : Article). a.word)) here in
-    let under = some-under (slice_get state.words.live k) (get_or state.articles k d).word (sym (slice_get-map (λ (w : Word). w.id) state.words.live k) ∙ numbered) in
+    let numbered = ap (λ (ids : List WordId). slice_get ids k) (sym sound.articles) ∙ slice_get-map (λ (a : Article). a.word) state.articles k
+    ∙ ap (option_map (λ (a : Article). a.word)) here in
+    let under = some-under (slice_get state.words.live k) (get_or state.articles k d).word
+    (sym (slice_get-map (λ (w : Word). w.id) state.words.live k) ∙ numbered) in
     let given = lexicon.given k under.word (slice_get_within state.words.live k under.word under.is) in
-    let known : under.word.id.0 ≤ state.words.last = subst (λ (w : Word). w.id.0 ≤ state.words.last) (get_or_from_slice_get state.words.live k under.word under.word under.is) given.1 in
+    let known : under.word.id.0 ≤ state.words.last =
+    subst (λ (w : Word). w.id.0 ≤ state.words.last) (get_or_from_slice_get state.words.live k under.word under.word under.is) given.1 in
     let same : under.word.id.0 ≡ (get_or state.articles k d).word.0 = ap (λ (w : WordId). w.0) under.number in
     omega (arith, known, same)
 
-rest-below : (word : WordId) (article : Article) (articles : List Article) → All (λ (a : Article). a.word.0 < word.0) (article ∷ articles) → All (λ (a : Article). a.word.0 < word.0) articles
+rest-below : (word : WordId) (article : Article) (articles : List Article) → All (λ (a : Article). a.word.0 < word.0) (article ∷ articles)
+    → All (λ (a : Article). a.word.0 < word.0) articles
 rest-below word article articles below k d within = below (suc k) d (omega (arith, within))
 
 -- the new article is the word's, and it is empty
-pub new-is-empty : (word : WordId) (articles : List Article) → All (λ (a : Article). a.word.0 < word.0) articles → IsEmptyArticle (articles ++ new_article word ∷ []) word
+pub new-is-empty : (word : WordId) (articles : List Article) → All (λ (a : Article). a.word.0 < word.0) articles
+    → IsEmptyArticle (articles ++ new_article word ∷ []) word
 new-is-empty word [] below = by_test (word.0 == word.0) (grind (arith, nat_tests))
   where
     by_test : (b : Bool) → b ≡ true → IsSomeAnd (cond b (Some (new_article word)) None) (λ article. article.sentences ≡ [])
     by_test true is = refl
     by_test false is = absurd (false≢true is)
 new-is-empty word (article ∷ articles) below =
-    by_test (article.word.0 == word.0) (lt-eqb article.word.0 word.0 (below 0 article (omega arith))) (new-is-empty word articles (rest-below word article articles below))
+    by_test (article.word.0 == word.0) (lt-eqb article.word.0 word.0 (below 0 article (omega arith)))
+    (new-is-empty word articles (rest-below word article articles below))
   where
     by_test : (b : Bool) → b ≡ false → IsSomeAnd (find (is_of word) (articles ++ new_article word ∷ [])) (λ found. found.sentences ≡ [])
         → IsSomeAnd (cond b (Some article) (find (is_of word) (articles ++ new_article word ∷ []))) (λ found. found.sentences ≡ [])
@@ -63,30 +69,35 @@ new-is-empty word (article ∷ articles) below =
     by_test false is rest = rest
 
 -- taken out again, it leaves the articles as they were
-pub new-taken-out : (word : WordId) (articles : List Article) → All (λ (a : Article). a.word.0 < word.0) articles → without_article (articles ++ new_article word ∷ []) word ≡ articles
+pub new-taken-out : (word : WordId) (articles : List Article) → All (λ (a : Article). a.word.0 < word.0) articles
+    → without_article (articles ++ new_article word ∷ []) word ≡ articles
 new-taken-out word [] below = by_test (word.0 == word.0) (grind (arith, nat_tests))
   where
     by_test : (b : Bool) → b ≡ true → cond (not b) (new_article word ∷ []) [] ≡ []
     by_test true is = refl
     by_test false is = absurd (false≢true is)
 new-taken-out word (article ∷ articles) below =
-    by_test (article.word.0 == word.0) (lt-eqb article.word.0 word.0 (below 0 article (omega arith))) (new-taken-out word articles (rest-below word article articles below))
+    by_test (article.word.0 == word.0) (lt-eqb article.word.0 word.0 (below 0 article (omega arith)))
+    (new-taken-out word articles (rest-below word article articles below))
   where
     by_test : (b : Bool) → b ≡ false → without_article (articles ++ new_article word ∷ []) word ≡ articles
-        → cond (not b) (article ∷ without_article (articles ++ new_article word ∷ []) word) (without_article (articles ++ new_article word ∷ []) word) ≡ article ∷ articles
+        → cond (not b) (article ∷ without_article (articles ++ new_article word ∷ []) word) (without_article (articles ++ new_article word ∷ []) word)
+        ≡ article ∷ articles
     by_test true is rest = absurd (false≢true (sym is))
     by_test false is rest = ap (λ (others : List Article). article ∷ others) rest
 
 -- a refused word is a step that changes nothing
 pub refused-step : {E : Type 0} (result : Result Reply E) (fault : Fault) (old new : State) (kind : Kind) (texts : List (List ℕ))
-    → IfOk result (λ reply. (refusal : Refusal) × (fault ≡ Refused refusal) × (reply ≡ replies.Refused refusal)) → IsCause (word_refusal old.words kind texts) fault → new ≡ old
+    → IfOk result (λ reply. (refusal : Refusal) × (fault ≡ Refused refusal) × (reply ≡ replies.Refused refusal))
+    → IsCause (word_refusal old.words kind texts) fault → new ≡ old
     → IfOk result (λ reply. Step old (requests.Word kind texts) reply new)
 refused-step (Ok reply) fault old new kind texts told cause same =
     subst (λ (r : Reply). Step old (requests.Word kind texts) r new) (sym told.2) (subst (IsCause (word_refusal old.words kind texts)) told.1 cause, same)
 refused-step (Err fault) other old new kind texts told cause same = tt
 
 -- the number after the last one given, where there is one, is above those of all articles
-pub next-is : (state : State) → IsSound state → IsLexicon state.words → (last : ℕ) → last ≡ state.words.last → (o : Option ℕ) → SomeIff o (last + 1 < 4294967296) (last + 1)
+pub next-is : (state : State) → IsSound state → IsLexicon state.words → (last : ℕ) → last ≡ state.words.last → (o : Option ℕ)
+    → SomeIff o (last + 1 < 4294967296) (last + 1)
     → IfSome o (λ next. (next ≡ state.words.last + 1) × All (λ article. article.word.0 < next) state.articles)
 next-is state sound lexicon last same None none = tt
 next-is state sound lexicon last same (Some next) some =

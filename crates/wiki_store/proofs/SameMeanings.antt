@@ -42,7 +42,8 @@ claim_equal (ClassAssertion c a) (ClassAssertion d b) h =
 claim_equal (PropertyAssertion r a b) (PropertyAssertion s c d) h =
     let p = and_parts (same_role r s && is_word a c) (is_word b d) h in
     let q = and_parts (same_role r s) (is_word a c) p.0 in
-    ap (λ x. PropertyAssertion x a b) (role_equal r s q.0) ∙ ap (λ x. PropertyAssertion s x b) (word_equal a c q.1) ∙ ap (λ x. PropertyAssertion s c x) (word_equal b d p.1)
+    ap (λ x. PropertyAssertion x a b) (role_equal r s q.0) ∙ ap (λ x. PropertyAssertion s x b) (word_equal a c q.1)
+    ∙ ap (λ x. PropertyAssertion s c x) (word_equal b d p.1)
 claim_equal (NegativePropertyAssertion r a b) (NegativePropertyAssertion s c d) h =
     let p = and_parts (same_role r s && is_word a c) (is_word b d) h in
     let q = and_parts (same_role r s) (is_word a c) p.0 in
@@ -104,14 +105,18 @@ same_claims-length (c ∷ cs) (d ∷ ds) ne = ap (λ b. same_claim c d && b) (sa
 abbrev pub rest_same : List Claim → List Claim → ℕ → Bool
 rest_same cs ds k = same_claims (drop k cs) (drop k ds)
 
-rest_same-more : (cs ds : List Claim) (k : ℕ) (c d : Claim) → slice_get cs k ≡ Some c → slice_get ds k ≡ Some d → rest_same cs ds k ≡ (same_claim c d && rest_same cs ds (k + 1))
-rest_same-more cs ds k c d at other = ap (λ xs. same_claims xs (drop k ds)) (drop_slice_get cs k c at) ∙ ap (λ xs. same_claims (c ∷ drop (k + 1) cs) xs) (drop_slice_get ds k d other)
+rest_same-more : (cs ds : List Claim) (k : ℕ) (c d : Claim) → slice_get cs k ≡ Some c → slice_get ds k ≡ Some d
+    → rest_same cs ds k ≡ (same_claim c d && rest_same cs ds (k + 1))
+rest_same-more cs ds k c d at other = ap (λ xs. same_claims xs (drop k ds)) (drop_slice_get cs k c at)
+    ∙ ap (λ xs. same_claims (c ∷ drop (k + 1) cs) xs) (drop_slice_get ds k d other)
 
 pub rest_same-none : (cs ds : List Claim) (k : ℕ) → length cs ≤ k → length ds ≤ k → rest_same cs ds k ≡ true
 rest_same-none cs ds k past other = left_none (λ xs. same_claims xs (drop k ds)) cs k past ∙ left_none (λ xs. same_claims [] xs) ds k other
 
-pub rest_same-step : (cs ds : List Claim) (k : ℕ) (c d : Claim) (r : Bool) → slice_get cs k ≡ Some c → slice_get ds k ≡ Some d → r ≡ rest_same cs ds k → same_claim c d ≡ true → r ≡ rest_same cs ds (k + 1)
+pub rest_same-step : (cs ds : List Claim) (k : ℕ) (c d : Claim) (r : Bool) → slice_get cs k ≡ Some c → slice_get ds k ≡ Some d → r ≡ rest_same cs ds k
+    → same_claim c d ≡ true → r ≡ rest_same cs ds (k + 1)
 rest_same-step cs ds k c d r at other now same = now ∙ (rest_same-more cs ds k c d at other ∙ ap (λ b. b && rest_same cs ds (k + 1)) same)
 
-pub rest_same-differ : (cs ds : List Claim) (k : ℕ) (c d : Claim) (r : Bool) → slice_get cs k ≡ Some c → slice_get ds k ≡ Some d → r ≡ rest_same cs ds k → same_claim c d ≡ false → r ≡ false
+pub rest_same-differ : (cs ds : List Claim) (k : ℕ) (c d : Claim) (r : Bool) → slice_get cs k ≡ Some c → slice_get ds k ≡ Some d → r ≡ rest_same cs ds k
+    → same_claim c d ≡ false → r ≡ false
 rest_same-differ cs ds k c d r at other now same = now ∙ (rest_same-more cs ds k c d at other ∙ ap (λ b. b && rest_same cs ds (k + 1)) same)

@@ -14,8 +14,10 @@ group_before gs left g positive within is =
 pub loop-left-preserved : goal.loop-left-preserved
 loop-left-preserved c = record {
   joins = λ q p.
-      joined_more (moved_by c.loop-left.moves) (moved_by c.join.new.moves) c.index-groups-left.result (drop c.loop-left.left c.args.groups.now) c.loop-left.invariant.joins
+      joined_more (moved_by c.loop-left.moves) (moved_by c.join.new.moves) c.index-groups-left.result (drop c.loop-left.left c.args.groups.now)
+      c.loop-left.invariant.joins
       (λ n. c.in_ok-join.ensures n ∙ ap (λ g. gathered (moved_by c.loop-left.moves) g n) c.as_slice.ensures) q p
-      ∙ ap (λ gs. joined gs q p) (sym (group_before c.args.groups.now c.loop-left.left c.index-groups-left.result c.loop-left-test.true c.loop-left.invariant.within c.index-groups-left.is));
+      ∙ ap (λ gs. joined gs q p) (sym (group_before c.args.groups.now c.loop-left.left c.index-groups-left.result c.loop-left-test.true
+      c.loop-left.invariant.within c.index-groups-left.is));
   within = omega (arith, c.loop-left.invariant.within);
 }

@@ -19,7 +19,8 @@ returns-in-Some-applicable c =
     let none : choices s.graph step ≡ 0 = ap (λ g. choices g step) (sym c.requires.here) ∙ (sym c.choices.ensures ∙ c.if-choices-eq0.true) in
     let each : CloseEach k s.graph step 0 (map tree_of c.new.result) = subst (λ ts. CloseEach k s.graph step 0 (map tree_of ts)) (sym c.new.ensures) tt in
     let shut = closes_step k s.graph step c.new.result first (ap length c.new.ensures ∙ sym none) each in
-    IfOk-weaker c.back-in-Some-applicable.result _ _ (λ t back. turns_back k s _ t (waits_at_none k s step calm first none) (back k c.requires.leads shut)) c.back-in-Some-applicable.ensures
+    IfOk-weaker c.back-in-Some-applicable.result _ _ (λ t back. turns_back k s _ t (waits_at_none k s step calm first none) (back k c.requires.leads shut))
+    c.back-in-Some-applicable.ensures
 
 pub returns-in-Some : goal.returns-in-Some
 returns-in-Some c =

@@ -7,7 +7,8 @@ use Rattle.derivation_trees.specs.declared.menus.Group.{Group}
 use Rattle.wiki_core.proofs.typing.are_texts.Goals as goal
 
 -- with one more all so far are in UTF-8
-one_more : (menu : List (Group × List ℕ)) (place : ℕ) (entry : Group × List ℕ) → ((k : ℕ) (d : Group × List ℕ) → k < place → IsUtf8 (get_or menu k d).1) → slice_get menu place ≡ Some entry → IsUtf8 entry.1
+one_more : (menu : List (Group × List ℕ)) (place : ℕ) (entry : Group × List ℕ) → ((k : ℕ) (d : Group × List ℕ) → k < place → IsUtf8 (get_or menu k d).1)
+    → slice_get menu place ≡ Some entry → IsUtf8 entry.1
     → (k : ℕ) (d : Group × List ℕ) → k < place + 1 → IsUtf8 (get_or menu k d).1
 one_more menu place entry before here is k d within = by_test (k == place) refl
   where
@@ -19,4 +20,5 @@ one_more menu place entry before here is k d within = by_test (k == place) refl
 
 pub loop-place-preserved : goal.loop-place-preserved
 loop-place-preserved c =
-    one_more c.args.menu.now c.loop-place.place (c.get.result.0, c.get.result.1.now) c.loop-place.invariant c.get.ensures (subst IsUtf8 c.as_bytes.ensures.value c.as_bytes.ensures.utf8)
+    one_more c.args.menu.now c.loop-place.place (c.get.result.0, c.get.result.1.now) c.loop-place.invariant c.get.ensures
+    (subst IsUtf8 c.as_bytes.ensures.value c.as_bytes.ensures.utf8)

@@ -15,4 +15,5 @@ loop-place-preserved c =
     let form : c.unwrap_or-form.result.now ≡ option_map_or (λ form. form) (canonical_form_of c.args.lexicon.now.live c.get.result) [] =
     ap (λ b. b.now) c.unwrap_or-form.ensures ∙ form_or_none c.spelled.result _ refl ∙ ap (λ o. option_map_or (λ form. form) o []) c.spelled.ensures in
     c.in_ok-push.ensures.ok ∙ rw (c.loop-place.invariant, c.in_ok-from_str.ensures, form)
-    (sym (map_take (λ (id : WordId). option_map_or (λ form. form) (canonical_form_of c.args.lexicon.now.live id) []) c.args.names.now c.loop-place.place c.get.result c.get.ensures))
+    (sym (map_take (λ (id : WordId). option_map_or (λ form. form) (canonical_form_of c.args.lexicon.now.live id) []) c.args.names.now c.loop-place.place
+    c.get.result c.get.ensures))

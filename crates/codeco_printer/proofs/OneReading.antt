@@ -2,7 +2,7 @@
 use Rattle.std.proofs.Common.{◌≡◌, ℕ, List, sym, ap, ◌∙◌}
 use Rattle.codeco_text.specs.declared.written.WrittenItem.{WrittenItem}
 use Rattle.codeco_text.specs.Notation.{IsSpelling}
-use Rattle.codeco_text.specs.Building.{so_far}
+use Rattle.codeco_text.proofs.SoFar.{so_far}
 use Rattle.codeco_text.proofs.Exactness.{spelling_ends}
 use Rattle.codeco_text.proofs.OneSpelling.{lexemes_same}
 use Rattle.codeco_terms.specs.GrammarParts.{GrammarParts}

@@ -18,7 +18,8 @@ use Rattle.codeco_text.specs.declared.spot.Role.TheVariants as role
 use Rattle.codeco_text.specs.declared.spot.Part.TheVariants as part
 use Rattle.codeco_text.specs.Notation.{labels, kinds, lexeme_bytes, is_symbol, goes_on, has_front, is_gap, sign_bytes, SpellsFrom, begins_by}
 use Rattle.codeco_text.specs.Reading.{◌>>=◌, wants, as_word, may_begin, may_go_on, is_front_among, next_spot, identifier}
-use Rattle.codeco_text.specs.Building.{push, grow, so_far}
+use Rattle.codeco_text.specs.Building.{push, grow}
+use Rattle.codeco_text.proofs.SoFar.{so_far}
 use Rattle.codeco_text.proofs.Growth.{grow_adds}
 use Rattle.codeco_text.specs.Scanning.{Mode, between, comment, word, terminal, dash, dashes, tilde, tildes, slash, greater, takes_sign, takes_terminal, guard, behind, begin, begin_sign, begin_dash, begin_single, finish, step, if_terminal}
 use Rattle.codeco_text.proofs.Trees.{runs}

@@ -13,7 +13,7 @@ use Rattle.codeco_text.specs.declared.syntax_fault.SyntaxFault.{SyntaxFault}
 use Rattle.codeco_text.specs.declared.syntax_fault.SyntaxFault.TheVariants as fault
 use Rattle.codeco_text.specs.Notation.{lexemes, item_fits, Spells, SpellsFrom, IsSpelling, IsSentence, HasContinuation, IsSyntaxFault, TellsFault, Finds}
 use Rattle.codeco_text.specs.Reading.{◌>>=◌}
-use Rattle.codeco_text.specs.Building.{so_far, so_far_at}
+use Rattle.codeco_text.proofs.SoFar.{so_far, so_far_at}
 use Rattle.codeco_text.specs.Scanning.{Mode, between, fresh, guard, finish, step, is_between_items, ended, ok_or_place, carry, reading}
 use Rattle.codeco_text.specs.Scanner.{Reads}
 use Rattle.codeco_text.proofs.Trees.{runs, only_if, items_run}

@@ -28,7 +28,8 @@ use Rattle.codeco_text.specs.declared.written.WrittenElement.TheVariants as elem
 use Rattle.codeco_text.specs.declared.written.Domain.TheVariants as domain
 use Rattle.codeco_text.specs.Notation.{listed, feat_lexemes, category_lexemes, named, signed, element_lexemes, item_lexemes, lexemes}
 use Rattle.codeco_text.specs.Reading.{after_identifier, after_variable, after_keyword, after_label, after_kind, after_terminal, after_category, after_sign, advance, begins_pattern}
-use Rattle.codeco_text.specs.Building.{push, identifier_at, variable_at, with_keyword, with_label, with_kind, with_terminal, sign_at, with_lexeme, settle_at, settle_into, settled_builder, close_at, closed_builder, opens_features, ready, moved, take_ready, grow, opened, name_lexeme, so_far_at, so_far, role_front, part_lexemes, atoms_open, value_front, values_word, values_domain, with_declaration}
+use Rattle.codeco_text.specs.Building.{push, identifier_at, variable_at, with_keyword, with_label, with_kind, with_terminal, sign_at, with_lexeme, settle_at, settle_into, settled_builder, close_at, closed_builder, opens_features, ready, moved, take_ready, grow, values_domain, with_declaration}
+use Rattle.codeco_text.proofs.SoFar.{opened, name_lexeme, so_far_at, so_far, role_front, part_lexemes, atoms_open, value_front, values_word}
 
 pub same_is : (xs ys : List ℕ) → same_bytes xs ys ≡ true → xs ≡ ys
 same_is [] [] h = refl

@@ -16,7 +16,8 @@ use Rattle.codeco_text.specs.declared.builder.Builder.{Builder}
 use Rattle.codeco_text.specs.Names.{is_space, is_word_byte, is_terminal, is_terminal_byte}
 use Rattle.codeco_text.specs.Notation.{lexeme_bytes, is_symbol, goes_on, has_front, sign_bytes, SpellsFrom}
 use Rattle.codeco_text.specs.Reading.{◌>>=◌, wants, as_word, may_begin, may_go_on, next_spot}
-use Rattle.codeco_text.specs.Building.{push, so_far, grow}
+use Rattle.codeco_text.specs.Building.{push, grow}
+use Rattle.codeco_text.proofs.SoFar.{so_far}
 use Rattle.codeco_text.specs.Scanning.{Mode, between, comment, word, terminal, dash, dashes, tilde, tildes, slash, greater, takes_sign, takes_terminal, guard, behind, single, begin, begin_sign, begin_dash, begin_single, finish, step, if_terminal}
 use Rattle.codeco_text.proofs.Growth.{grow_adds}
 use Rattle.codeco_text.proofs.Trees.{runs}

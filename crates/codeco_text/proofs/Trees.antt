@@ -27,7 +27,7 @@ use Rattle.codeco_text.specs.declared.written.WrittenItem.{WrittenItem}
 use Rattle.codeco_text.specs.declared.written.WrittenItem.TheVariants as item
 use Rattle.codeco_text.specs.Notation.{term_lexemes, feat_lexemes, listed, category_lexemes, named, signed, element_lexemes, label_lexemes, arrow, body_lexemes, domain_lexemes, item_lexemes, lexemes, is_marked, is_plain, is_empty, element_fits, domain_fits, item_fits}
 use Rattle.codeco_text.specs.Reading.{◌>>=◌, after_category, after_sign, advance, is_sign, begins_pattern, settled, closed, ready_spot, next_spot, question_after}
-use Rattle.codeco_text.specs.Building.{name_lexeme}
+use Rattle.codeco_text.proofs.SoFar.{name_lexeme}
 
 -- where a reading stands behind these symbols
 abbrev pub runs : Spot → List Lexeme → Option Spot

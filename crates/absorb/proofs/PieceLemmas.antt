@@ -7,6 +7,7 @@ use Rattle.std.proofs.lemmas.List.Folds.{list_all-append}
 use Rattle.std.proofs.lemmas.Bool.Decides.{same_from_decides}
 use Rattle.std.proofs.Math.Bool.{or-false, and-true as and_true}
 use Rattle.wiki_base.specs.declared.numbers.WordId.{WordId}
+use Rattle.wiki_base.proofs.BoolLaws.{and-swap}
 use Rattle.logic_terms.specs.declared.expressions.Role.{Role}
 use Rattle.logic_terms.specs.Concept.{Concept, Concepts, Everything, Atomic, ComplementOf, IntersectionOf, UnionOf, SomeValuesFrom, AllValuesFrom, HasValue, no_concept, also_concept, Claim, SubClassOf, SubPropertyOf, ClassAssertion, PropertyAssertion, NegativePropertyAssertion, SameIndividual, DifferentIndividuals}
 use Rattle.logic_terms.specs.Interpretation.{Interpretation, element_of, relates, Relates, has_pair}
@@ -100,18 +101,12 @@ word_of_is (SomeValuesFrom role c) word h = cc
 word_of_is (AllValuesFrom role c) word h = cc
 word_of_is (HasValue role name) word h = cc
 
-moved : (a b c : Bool) → (a && (b && c)) ≡ (b && (a && c))
-moved true true c = refl
-moved true false c = refl
-moved false true c = refl
-moved false false c = refl
-
 first_step : (i : Interpretation) (c : Concept) (cs : Concepts) (word : WordId) (x : ℕ) (o : Option WordId) → word_of c ≡ o
     → (first_word cs ≡ Some word → is_in_each i cs x ≡ (is_in i (Atomic word) x && is_in_each i (without_first_word cs) x))
     → option_map_or (λ w. Some w) o (first_word cs) ≡ Some word
     → (is_in i c x && is_in_each i cs x) ≡ (is_in i (Atomic word) x && is_in_each i (option_map_or (λ w. cs) o (also_concept c (without_first_word cs))) x)
 first_step i c cs word x None e later h =
-    ap (λ b. is_in i c x && b) (later h) ∙ moved (is_in i c x) (is_in i (Atomic word) x) (is_in_each i (without_first_word cs) x)
+    ap (λ b. is_in i c x && b) (later h) ∙ and-swap (is_in i c x) (is_in i (Atomic word) x) (is_in_each i (without_first_word cs) x)
 first_step i c cs word x (Some w) e later h =
     let same : w ≡ word = cc in
     ap (λ k. is_in i k x && is_in_each i cs x) (word_of_is c w e ∙ ap Atomic same)

@@ -1,18 +1,14 @@
 -- Blocking, by way of parents: a node is indirectly blocked where its parent is blocked.
-use Rattle.std.proofs.Common.{◌≡◌, ℕ, zero, suc, ◌+◌, ◌<◌, ◌≤◌, ◌&&◌, ◌||◌, Bool, true, false, List, [], ◌∷◌, length, Option, Some, None, refl, sym, ap, ◌∙◌, subst, inl, inr, arith}
+use Rattle.std.proofs.Common.{◌≡◌, ℕ, zero, suc, ◌+◌, ◌<◌, ◌≤◌, ◌&&◌, ◌||◌, true, false, [], ◌∷◌, length, Option, Some, None, refl, sym, ap, ◌∙◌, subst, inl, inr, arith}
 use Rattle.std.specs.Prelude.{not, ◌⊎◌}
-use Rattle.std.specs.List.{list_any}
 use Rattle.std.specs.Option.{option_map_or}
 use Rattle.std.proofs.lemmas.Bool.{and_parts, or_parts, not-true, le-ltb, lt-ltb}
+use Rattle.tableau_rules.proofs.Climbing.{climb-top}
 use Rattle.logic_terms.specs.Theory.{Theory}
 use Rattle.tableau_rules.specs.Graph.{Graph, label_at, parent_of}
 use Rattle.tableau_rules.specs.Neighbours.{roots}
 use Rattle.branch_model.specs.Elements.{ParentsBelow, IsTwin}
 use Rattle.tableau_rules.specs.Blocking.{climb, ancestors, is_anonymous, same_classes, has_twin, blocks, is_directly_blocked, is_indirectly_blocked, is_blocked}
-
-pub climb-none : (n : ℕ) (g : Graph) (x : ℕ) → parent_of g x ≡ None → climb n g x ≡ []
-climb-none zero g x up = refl
-climb-none (suc n) g x up = ap (λ o. option_map_or (λ p. p ∷ climb n g p) o []) up
 
 climb-some : (n : ℕ) (g : Graph) (x p : ℕ) → parent_of g x ≡ Some p → climb (suc n) g x ≡ p ∷ climb n g p
 climb-some n g x p up = ap (λ o. option_map_or (λ p. p ∷ climb n g p) o []) up
@@ -27,15 +23,15 @@ parent_cases g x = cases_parent (parent_of g x)
 -- x steps suffice to climb from x
 climb_enough : (n m : ℕ) (g : Graph) → ParentsBelow g → (x : ℕ) → x ≤ n → x ≤ m → climb n g x ≡ climb m g x
 climb_enough zero m g down x low high = elim (parent_cases g x) [
-  | inl up ↦ climb-none zero g x up ∙ sym (climb-none m g x up)
+  | inl up ↦ climb-top zero g x up ∙ sym (climb-top m g x up)
   | inr (p, up) ↦ (let lt = down x p up in absurd (omega arith))
 ]
 climb_enough (suc n) zero g down x low high = elim (parent_cases g x) [
-  | inl up ↦ climb-none (suc n) g x up ∙ sym (climb-none zero g x up)
+  | inl up ↦ climb-top (suc n) g x up ∙ sym (climb-top zero g x up)
   | inr (p, up) ↦ (let lt = down x p up in absurd (omega arith))
 ]
 climb_enough (suc n) (suc m) g down x low high = elim (parent_cases g x) [
-  | inl up ↦ climb-none (suc n) g x up ∙ sym (climb-none (suc m) g x up)
+  | inl up ↦ climb-top (suc n) g x up ∙ sym (climb-top (suc m) g x up)
   | inr (p, up) ↦ (let lt = down x p up in
       climb-some n g x p up ∙ ap (λ l. p ∷ l) (climb_enough n m g down p (omega arith) (omega arith)) ∙ sym (climb-some m g x p up))
 ]
@@ -49,7 +45,7 @@ ancestors-some g down x p up = go x (down x p up) up
     go (suc y) lt at = climb-some y g (suc y) p at ∙ ap (λ l. p ∷ l) (climb_enough y p g down p (omega arith) (omega arith))
 
 pub ancestors-none : (g : Graph) (x : ℕ) → parent_of g x ≡ None → ancestors g x ≡ []
-ancestors-none g x up = climb-none x g x up
+ancestors-none g x up = climb-top x g x up
 
 -- a node without parent is not indirectly blocked, and another is where its parent is blocked
 pub indirectly-none : (k : Theory) (g : Graph) (x : ℕ) → parent_of g x ≡ None → is_indirectly_blocked k g x ≡ false

@@ -8,6 +8,7 @@ use Rattle.std.proofs.lemmas.Option.{slice_get_within, slice_get-get_or}
 use Rattle.std.proofs.Math.Bool.{not-not}
 use Rattle.wiki_base.specs.declared.numbers.WordId.{WordId}
 use Rattle.wiki_base.proofs.BoolLaws.{same_tests, not_both}
+use Rattle.logic_terms.proofs.SameLemmas.{role_equal, same_role-self}
 use Rattle.logic_terms.specs.declared.expressions.Role.{Role}
 use Rattle.logic_terms.specs.Concept.{Concept, Atomic}
 use Rattle.logic_terms.specs.Interpretation.{Interpretation, element_of, elements_of, pairs_of, Relates}
@@ -19,7 +20,7 @@ use Rattle.tableau_rules.specs.Neighbours.{roots, node_of, makes_neighbour, is_n
 use Rattle.tableau_rules.specs.Blocking.{is_anonymous, is_indirectly_blocked, has_twin, ancestors, blocks}
 use Rattle.branch_model.specs.Elements.{StandsFor, ArePlaced}
 use Rattle.branch_model.specs.Extents.{stand_of, links}
-use Rattle.branch_model.proofs.Same.{same_has, same_has_back, role_true, role_refl}
+use Rattle.branch_model.proofs.Same.{same_has, same_has_back}
 use Rattle.branch_model.proofs.Sound.{IsSound}
 use Rattle.branch_model.proofs.Start.{noded}
 use Rattle.branch_model.proofs.EntriesLemmas.{items_of, Adds}
@@ -118,7 +119,7 @@ pair_found : (ps : List (Role × Role)) (r s : Role) → list_any (λ p. same_ro
     → (j : ℕ) × (p : Role × Role) × (slice_get ps j ≡ Some p) × (same_role p.0 r ≡ true) × (p.1 ≡ s)
 pair_found [] r s h = cc
 pair_found (p ∷ ps) r s h = elim (or_cases (same_role p.0 r && same_role p.1 s) (list_any (λ p. same_role p.0 r && same_role p.1 s) ps) h) [
-  | inl here ↦ (let two = and_parts (same_role p.0 r) (same_role p.1 s) here in (0, p, refl, two.0, role_true p.1 s two.1))
+  | inl here ↦ (let two = and_parts (same_role p.0 r) (same_role p.1 s) here in (0, p, refl, two.0, role_equal p.1 s two.1))
   | inr later ↦ (let found = pair_found ps r s later in (suc found.0, found.1, found.2, found.3, found.4))
 ]
 
@@ -130,7 +131,7 @@ pair_any [] r j p at h = absurd (nothing j at)
     nothing j q = cc
 pair_any (q ∷ ps) r zero p at h =
     or_left (same_role q.0 r && same_role q.1 p.1) (list_any (λ q. same_role q.0 r && same_role q.1 p.1) ps)
-    (ap (λ (s : Role × Role). same_role s.0 r && same_role s.1 p.1) (one_some at) ∙ and_from (same_role p.0 r) (same_role p.1 p.1) h (role_refl p.1))
+    (ap (λ (s : Role × Role). same_role s.0 r && same_role s.1 p.1) (one_some at) ∙ and_from (same_role p.0 r) (same_role p.1 p.1) h (same_role-self p.1))
 pair_any (q ∷ ps) r (suc j) p at h = or_right (same_role q.0 r && same_role q.1 p.1) (list_any (λ q. same_role q.0 r && same_role q.1 p.1) ps)
     (pair_any ps r j p at h)
 
@@ -208,7 +209,7 @@ module _ (k : Theory) (lawful : IsLawful k) (g : Graph) (sound : IsSound k g) (o
     | inl own ↦ (
       edge.role,
       or_left (same_role edge.role edge.role) (list_any (λ p. same_role p.0 edge.role && same_role p.1 edge.role) k.hierarchy)
-          (role_refl edge.role),
+          (same_role-self edge.role),
       own,
     )
     | inr (j, p, at, same, pair) ↦ (
@@ -222,7 +223,7 @@ module _ (k : Theory) (lawful : IsLawful k) (g : Graph) (sound : IsSound k g) (o
   above_role : (edge : Edge) (r : Role) (a b : ℕ) (v : WordId) (y : ℕ × ℕ) → is_below k edge.role r ≡ true → IsPair r a b v y
       → IsPair edge.role a b v y ⊎ IsPairAbove k.hierarchy edge.role a b v y
   above_role edge r a b v y up pair = elim (or_cases (same_role edge.role r) (list_any (λ p. same_role p.0 edge.role && same_role p.1 r) k.hierarchy) up) [
-    | inl same ↦ inl (subst (λ q. IsPair q a b v y) (sym (role_true edge.role r same)) pair)
+    | inl same ↦ inl (subst (λ q. IsPair q a b v y) (sym (role_equal edge.role r same)) pair)
     | inr there ↦ (let found = pair_found k.hierarchy edge.role r there in
         inr (found.0, found.1, found.2, found.3, subst (λ q. IsPair q a b v y) (sym found.4) pair))
   ]

@@ -1,34 +1,29 @@
 -- The first branch of lawful knowledge, and the nodes of names.
-use Rattle.std.proofs.Common.{◌≡◌, ℕ, zero, suc, ◌+◌, ◌<◌, ◌≤◌, ◌==◌, ◌&&◌, ◌||◌, Bool, true, false, List, [], ◌∷◌, ◌++◌, map, length, get_or, All, Contains, Option, Some, None, slice_get, refl, sym, ap, ◌∙◌, subst, inl, inr, arith}
-use Rattle.std.specs.Prelude.{◌⊎◌, filter, filter_map, not, nat_lt, if◌then◌else◌, IsTrue}
+use Rattle.std.proofs.Common.{◌≡◌, ℕ, zero, suc, ◌+◌, ◌<◌, ◌≤◌, ◌==◌, ◌&&◌, ◌||◌, Bool, true, false, List, [], ◌∷◌, ◌++◌, map, length, get_or, Contains, Option, Some, None, slice_get, refl, sym, ap, ◌∙◌, subst, inl, inr, arith}
+use Rattle.std.specs.Prelude.{◌⊎◌, filter, filter_map, nat_lt, if◌then◌else◌}
 use Rattle.std.specs.List.{list_any, list_all}
 use Rattle.std.specs.Map.{lookup}
 use Rattle.std.specs.Option.{option_map, option_map_or, option_and_then}
-use Rattle.std.proofs.lemmas.Bool.{cases_Bool, cases_lt, and_parts, and_from, or_cases, or_left, or_right, cond-true, cond-false, eqb-true, eq-eqb, ltb-true, lt-ltb}
+use Rattle.std.proofs.lemmas.Bool.{cases_Bool, and_parts, and_from, or_left, or_right, cond-true, cond-false, eqb-true, eq-eqb, ltb-true, lt-ltb}
 use Rattle.std.proofs.lemmas.Option.{slice_get_within}
 use Rattle.std.proofs.lemmas.List.Folds.{list_any-append, list_all-append}
 use Rattle.std.proofs.lemmas.List.Elements.{All-contains}
 use Rattle.wiki_base.specs.declared.numbers.WordId.{WordId}
+use Rattle.logic_terms.proofs.SameLemmas.{word_equal, same_word, same_role-self}
 use Rattle.logic_terms.specs.declared.expressions.Role.{Role}
 use Rattle.logic_terms.specs.Concept.{Concept}
 use Rattle.logic_terms.specs.Interpretation.{is_word, words_above, words_rise}
 use Rattle.logic_terms.specs.Same.{same_role, same_concept, has_concept, inverse}
-use Rattle.logic_terms.specs.Theory.{Theory, representative, is_below, is_given, names_given, IsLawful}
+use Rattle.logic_terms.specs.Theory.{Theory, representative, is_below, is_given, IsLawful}
 use Rattle.tableau_rules.specs.declared.branch.Edge.{Edge}
-use Rattle.tableau_rules.specs.Graph.{Graph, Vertex, label_at, parent_of}
-use Rattle.tableau_rules.specs.Neighbours.{roots, roots_in, place_in, node_of, makes_neighbour, is_neighbour}
+use Rattle.tableau_rules.specs.Graph.{Vertex, label_at, parent_of}
+use Rattle.tableau_rules.specs.Neighbours.{roots, roots_in, place_in, node_of, makes_neighbour}
 use Rattle.tableau_rules.specs.Clashes.{passes}
 use Rattle.tableau_rules.specs.Rules.{with_classes}
 use Rattle.tableau_rules.specs.Branches.{asserted, first_node, first_nodes, first_edge, start}
-use Rattle.branch_model.proofs.Same.{role_refl, concept_refl, each_has}
+use Rattle.branch_model.proofs.Same.{concept_refl, each_has}
 use Rattle.branch_model.proofs.Labels.{new_classes, only_classes}
 use Rattle.branch_model.proofs.Sound.{IsSound, fits, entries_fit}
-
-same_word : (a b : WordId) → is_word a b ≡ true → a ≡ b
-same_word a b e = λ j. record { 0 = eqb-true a.0 b.0 e j }
-
-word_refl : (a : WordId) → is_word a a ≡ true
-word_refl a = eq-eqb a.0 a.0 refl
 
 -- the place of a word in a list
 pub place_there : (ws : List WordId) (word : WordId) (y : ℕ) → place_in ws word ≡ Some y → slice_get ws y ≡ Some word
@@ -36,7 +31,7 @@ place_there [] word y h = cc
 place_there (w ∷ ws) word y h = elim (cases_Bool (is_word word w)) [
   | inl here ↦ (let e : Some 0 ≡ Some y = sym (cond-true (is_word word w) (Some 0) (option_map suc (place_in ws word)) here) ∙ h in
       let zero_is : 0 ≡ y = cc in
-      subst (λ z. slice_get (w ∷ ws) z ≡ Some word) zero_is (ap Some (sym (same_word word w here))))
+      subst (λ z. slice_get (w ∷ ws) z ≡ Some word) zero_is (ap Some (sym (word_equal word w here))))
   | inr past ↦ on (place_in ws word) refl (sym (cond-false (is_word word w) (Some 0) (option_map suc (place_in ws word)) past) ∙ h) (place_there ws word)
 ]
   where
@@ -76,7 +71,7 @@ found_entry : {X : Type 0} (es : List (WordId × X)) (name : WordId) (r : X) →
 found_entry [] name r h = cc
 found_entry (e ∷ es) name r h = elim (cases_Bool (is_word name e.0)) [
   | inl here ↦ (let same : Some e.1 ≡ Some r = sym (cond-true (is_word name e.0) (Some e.1) (lookup (is_word name) es) here) ∙ h in
-      let is : e.1 ≡ r = cc in (0, omega arith, λ j. (sym (same_word name e.0 here) j, is j)))
+      let is : e.1 ≡ r = cc in (0, omega arith, λ j. (sym (word_equal name e.0 here) j, is j)))
   | inr past ↦ (let later = found_entry es name r (sym (cond-false (is_word name e.0) (Some e.1) (lookup (is_word name) es) past) ∙ h) in
       Rattle.std.proofs.lemmas.List.Elements.Contains-append_right (e ∷ []) es (name, r) later)
 ]
@@ -107,7 +102,7 @@ rise_tail e (f ∷ es) up = (and_parts (nat_lt e.0.0 f.0.0) (words_above f.0 es)
 pub own_entry : {X : Type 0} (es : List (WordId × X)) → words_rise es ≡ true → (j : ℕ) (d : WordId × X) → j < length es
     → lookup (is_word (get_or es j d).0) es ≡ Some (get_or es j d).1
 own_entry [] up j d lt = absurd (omega arith)
-own_entry (e ∷ es) up zero d lt = cond-true (is_word e.0 e.0) (Some e.1) (lookup (is_word e.0) es) (word_refl e.0)
+own_entry (e ∷ es) up zero d lt = cond-true (is_word e.0 e.0) (Some e.1) (lookup (is_word e.0) es) (same_word e.0)
 own_entry (e ∷ es) up (suc j) d lt =
     cond-false (is_word (get_or es j d).0 e.0) (Some e.1) (lookup (is_word (get_or es j d).0) es) (differ (is_word (get_or es j d).0 e.0) refl)
     ∙ own_entry es (rise_tail e es up) j d (omega arith)
@@ -134,8 +129,8 @@ own_root (e ∷ es) r (j, lt, at) = by_place j lt at (own_root es r)
     here same =
         ap (λ b. list_any (is_word r) (map (λ (f : WordId × WordId). f.0)
         (if b then e ∷ filter (λ f. is_word f.0 f.1) es else filter (λ f. is_word f.0 f.1) es)))
-        (ap (λ (f : WordId × WordId). is_word f.0 f.1) same ∙ word_refl r)
-        ∙ or_left (is_word r e.0) (list_any (is_word r) (roots_in es)) (ap (λ (f : WordId × WordId). is_word r f.0) same ∙ word_refl r)
+        (ap (λ (f : WordId × WordId). is_word f.0 f.1) same ∙ same_word r)
+        ∙ or_left (is_word r e.0) (list_any (is_word r) (roots_in es)) (ap (λ (f : WordId × WordId). is_word r f.0) same ∙ same_word r)
 
     by_place : (j : ℕ) → j < length (e ∷ es) → get_or (e ∷ es) j (r, r) ≡ (r, r) → (Contains es (r, r) → list_any (is_word r) (roots_in es) ≡ true)
         → list_any (is_word r) (roots_in (e ∷ es)) ≡ true
@@ -259,7 +254,7 @@ made_edge k (e ∷ es) zero d x y lt from to =
     ∙ or_left (makes_neighbour k e.0 x y (record { from = x; role = e.0; to = y })) (list_any (makes_neighbour k e.0 x y) (filter_map (first_edge k) es))
     (or_left ((x == x) && ((y == y) && is_below k e.0 e.0)) ((x == y) && ((y == x) && is_below k (inverse e.0) e.0))
     (and_from (x == x) ((y == y) && is_below k e.0 e.0) (eq-eqb x x refl) (and_from (y == y) (is_below k e.0 e.0) (eq-eqb y y refl)
-    (or_left (same_role e.0 e.0) (list_any (λ p. same_role p.0 e.0 && same_role p.1 e.0) k.hierarchy) (role_refl e.0)))))
+    (or_left (same_role e.0 e.0) (list_any (λ p. same_role p.0 e.0 && same_role p.1 e.0) k.hierarchy) (same_role-self e.0)))))
 made_edge k (e ∷ es) (suc j) d x y lt from to = kept (first_edge k e) (made_edge k es j d x y (omega arith) from to)
   where
     kept : (o : Option Edge) → list_any (makes_neighbour k (get_or es j d).0 x y) (filter_map (first_edge k) es) ≡ true
@@ -306,7 +301,7 @@ start_sound k fit_assertions fit_general = record {
       let found = root_of k (get_or k.assertions j d).0 y at in
       let node = root_node k (roots k) y found.0 found.2 in
       let test : passes (representative k (get_or k.assertions j d).0) (is_word found.0) ≡ true =
-      ap (λ o. passes o (is_word found.0)) found.1 ∙ word_refl found.0 in
+      ap (λ o. passes o (is_word found.0)) found.1 ∙ same_word found.0 in
       ap (λ o. has_concept (option_map_or (λ v. v.label) o []) (get_or k.assertions j d).1) node
       ∙ new_classes [] (asserted k found.0 ++ k.general) (get_or k.assertions j d).1
       (has_append_left (asserted k found.0) k.general (get_or k.assertions j d).1

@@ -12,6 +12,7 @@ use Rattle.codeco_terms.specs.declared.values.Value.TheVariants.{Atom, Word as T
 use Rattle.codeco_terms.specs.declared.categories.Ground.{Ground}
 use Rattle.codeco_terms.specs.Values.{same_value}
 use Rattle.wiki_base.specs.declared.numbers.WordId.{WordId}
+use Rattle.lexicon.proofs.Reading.{readings_from_none}
 use Rattle.scopes.specs.Resolution.{has_value}
 use Rattle.lexicon.specs.declared.kinds.Kind.{Kind}
 use Rattle.lexicon.specs.declared.kinds.Kind.TheVariants as kind
@@ -120,22 +121,11 @@ form_among (form ∷ forms) (suc j) token h = at (bytes_eq token form) (form_amo
     at true e = refl
     at false e = e
 
--- a token that is none of the forms of a word has no readings as one
-none_from : (k : Kind) (id : WordId) (token : List ℕ) (place : ℕ) (forms : List (List ℕ)) → is_among forms token ≡ false
-    → readings_from k id token place forms ≡ []
-none_from k id token place [] h = refl
-none_from k id token place (form ∷ forms) h = at (bytes_eq token form) h (none_from k id token (place + 1) forms)
-  where
-    at : (b : Bool) → (b || is_among forms token) ≡ false → (is_among forms token ≡ false → readings_from k id token (place + 1) forms ≡ [])
-        → (if b then reading k id place form ∷ readings_from k id token (place + 1) forms else readings_from k id token (place + 1) forms) ≡ []
-    at true e later = absurd (cc)
-    at false e later = later e
-
 none_read : (live : List Word) (token : List ℕ) → ((j : ℕ) (word : Word) → slice_get live j ≡ Some word → has_form token word ≡ false)
     → readings_of live token ≡ []
 none_read [] token h = refl
 none_read (word ∷ live) token h =
-    ap (λ l. l ++ readings_of live token) (none_from word.forms.kind word.id token 0 word.forms.texts (h 0 word refl))
+    ap (λ l. l ++ readings_of live token) (readings_from_none word.forms.kind word.id token 0 word.forms.texts (h 0 word refl))
     ∙ none_read live token (λ j w e. h (suc j) w e)
 
 one_reads : (live : List Word) (place : ℕ) (word : Word) (token : List ℕ) → slice_get live place ≡ Some word
@@ -146,7 +136,7 @@ one_reads (first ∷ live) zero word token lives alone =
     ap (λ l. readings_of_word token first ++ l) (none_read live token (λ j other e. alone (suc j) other e (λ z. absurd (omega arith))))
     ∙ append-nil (readings_of_word token first) ∙ ap (readings_of_word token) (same_Some first word lives)
 one_reads (first ∷ live) (suc place) word token lives alone =
-    ap (λ l. l ++ readings_of live token) (none_from first.forms.kind first.id token 0 first.forms.texts (alone 0 first refl (λ z. absurd (omega arith))))
+    ap (λ l. l ++ readings_of live token) (readings_from_none first.forms.kind first.id token 0 first.forms.texts (alone 0 first refl (λ z. absurd (omega arith))))
     ∙ one_reads live place word token lives (λ j other e n. alone (suc j) other e (λ z. n (omega arith)))
 
 at_default : {X : Type 0} (xs : List X) (i : ℕ) (x d : X) → slice_get xs i ≡ Some x → (i < length xs) × (get_or xs i d ≡ x)

@@ -1,9 +1,10 @@
 -- Words without a form among the earlier tokens differ by their numbers alone: where other numbers are given to words, one to
 -- one, all derivations stay, with those numbers.
-use Rattle.std.proofs.Common.{◌≡◌, ℕ, suc, zero, ◌+◌, ◌<◌, List, [], ◌∷◌, Bool, true, false, ◌&&◌, ◌||◌, map, length, drop, Option, Some, None, refl, ap, ◌∙◌, cond, nat_lt, nat_le}
+use Rattle.std.proofs.Common.{◌≡◌, ℕ, ◌+◌, ◌<◌, List, [], ◌∷◌, Bool, true, false, ◌&&◌, ◌||◌, map, length, Option, Some, None, refl, ap, ◌∙◌, cond, nat_lt, nat_le}
 use Rattle.std.specs.Prelude.{if◌then◌else◌, ◌==◌, not, option_map, slice_get, unwrap_or}
 use Rattle.std.specs.Option.{option_map_or}
 use Rattle.std.specs.List.{list_any, list_all, filter_map, cons_option, flat_map, prefix_len, position}
+use Rattle.std.proofs.lemmas.List.{drop-map}
 use Rattle.wiki_base.proofs.ListLaws.{length_mapped}
 use Rattle.codeco_terms.specs.declared.values.Value.{Value}
 use Rattle.codeco_terms.specs.declared.values.Value.TheVariants.{Atom, Word, Pos}
@@ -225,11 +226,6 @@ closed_turned h (entry.Opener ∷ xs) = strong_turned h xs
 closed_turned h (entry.Weak r p ∷ xs) = ap (λ l. entry.Weak (turned_ground h r) p ∷ l) (closed_turned h xs)
 closed_turned h (entry.Strong r p ∷ xs) = ap (λ l. entry.Strong (turned_ground h r) p ∷ l) (closed_turned h xs)
 
-pub drop_turned : {X Y : Type 0} (f : X → Y) (n : ℕ) (xs : List X) → drop n (map f xs) ≡ map f (drop n xs)
-drop_turned f zero xs = refl
-drop_turned f (suc n) [] = refl
-drop_turned f (suc n) (x ∷ xs) = drop_turned f n xs
-
 pub introduced_turned : (h : ℕ → ℕ) (r : Ground) (p : ℕ) (strong : Bool) → introduced (turned_ground h r) p strong ≡ turned_entry h (introduced r p strong)
 introduced_turned h r p true = refl
 introduced_turned h r p false = refl
@@ -259,7 +255,7 @@ filled_value_turned h vs own None w = first_turned h own
 filled_value_turned h vs own (Some t) w = term_turned h vs t w
 
 own_after_turned : (h : ℕ → ℕ) (own : Binds) (o : Option Term) → own_after (turned_all h own) o ≡ turned_all h (own_after own o)
-own_after_turned h own None = drop_turned (turned_pair h) 1 own
+own_after_turned h own None = drop-map (turned_pair h) 1 own
 own_after_turned h own (Some t) = refl
 
 filled_turned : (h : ℕ → ℕ) (vs : Binds) (feats : List (ℕ × Term)) (fs : List ℕ) (own : Binds) → AllWritten feats
@@ -273,7 +269,7 @@ filled_turned h vs feats (f ∷ fs) own w =
 
 pub rest_turned : (h : ℕ → ℕ) (feats : List (ℕ × Term)) (fs : List ℕ) (own : Binds)
     → own_rest feats fs (turned_all h own) ≡ turned_all h (own_rest feats fs own)
-rest_turned h feats fs own = drop_turned (turned_pair h) (length (unwritten feats fs)) own
+rest_turned h feats fs own = drop-map (turned_pair h) (length (unwritten feats fs)) own
 
 pub referent_turned : (h : ℕ → ℕ) (g : GrammarParts) (vs : Binds) (c : Category) (own : Binds) → AllWritten c.feats
     → referent g (turned_all h vs) c (turned_all h own) ≡ turned_ground h (referent g vs c own)
@@ -388,7 +384,7 @@ numbers_turned h [] = refl
 numbers_turned h (p ∷ vs) = ap (λ l. p.0 ∷ l) (numbers_turned h vs)
 
 pub own_values_turned : (h : ℕ → ℕ) (rule : Rule) (vs : Binds) → own_values rule (turned_all h vs) ≡ turned_all h (own_values rule vs)
-own_values_turned h rule vs = drop_turned (turned_pair h) (length (written_variables rule)) vs
+own_values_turned h rule vs = drop-map (turned_pair h) (length (written_variables rule)) vs
 
 pub instance_turned : (n : ℕ) (h : ℕ → ℕ) → IsTurn h → (s other : Setting) → Alike n h s other → (rule : Rule) (vs : Binds)
     → is_instance other rule (turned_all h vs) ≡ is_instance s rule vs

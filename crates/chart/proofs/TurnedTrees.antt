@@ -2,7 +2,7 @@
 use Rattle.std.proofs.Common.{◌≡◌, ℕ, suc, zero, ◌+◌, ◌<◌, ◌≤◌, List, [], ◌∷◌, ◌++◌, Bool, true, false, ◌&&◌, length, drop, take, Option, Some, None, refl, sym, ap, ◌∙◌, subst, arith}
 use Rattle.std.specs.Prelude.{option_and_then, option_map, slice_get}
 use Rattle.std.specs.List.{list_any}
-use Rattle.std.proofs.lemmas.List.{map-append}
+use Rattle.std.proofs.lemmas.List.{map-append, drop-map}
 use Rattle.std.proofs.lemmas.Option.{option_and_then_some, same_Some}
 use Rattle.std.proofs.lemmas.Bool.{and_from}
 use Rattle.wiki_base.proofs.ListLaws.{length_mapped}
@@ -31,7 +31,7 @@ use Rattle.chart_table.specs.declared.asks.Ask.TheVariants as ask
 use Rattle.chart_table.specs.Asks.{takes_reading, meets, CutMeets, AskLeads}
 use Rattle.chart_table.proofs.PassLemmas.{if_some, unless_some, if_true, if_false, both_true}
 use Rattle.chart_table.proofs.AskLemmas.{place_some, met_in}
-use Rattle.chart.proofs.TurnedLemmas.{Binds, IsTurn, turned_all, turned_ground, turned_test, turned_entry, turned_list, Alike, AllWritten, PatternsWritten, value_same, value_turned, under_turned, tests_turned, none_turned, closest_turned, closed_turned, drop_turned, introduced_turned, rest_turned, referent_turned, fits_turned, found_turned, reference_turned, preterminal_turned, agrees_turned, own_values_turned, instance_turned}
+use Rattle.chart.proofs.TurnedLemmas.{Binds, IsTurn, turned_all, turned_ground, turned_test, turned_entry, turned_list, Alike, AllWritten, PatternsWritten, value_same, value_turned, under_turned, tests_turned, none_turned, closest_turned, closed_turned, introduced_turned, rest_turned, referent_turned, fits_turned, found_turned, reference_turned, preterminal_turned, agrees_turned, own_values_turned, instance_turned}
 
 abbrev pub turned_at : (ℕ → ℕ) → At → At
 turned_at h at = record { place = at.place; list = turned_list h at.list }
@@ -272,7 +272,7 @@ list_after_turned : (h : ℕ → ℕ) (closing : Bool) (begins list : List Entry
     → list_after closing (turned_list h begins) (turned_list h list) ≡ turned_list h (list_after closing begins list)
 list_after_turned h true begins list =
     ap (λ n. turned_list h begins ++ closed (drop n (turned_list h list))) (length_mapped (turned_entry h) begins)
-    ∙ ap (λ l. turned_list h begins ++ closed l) (drop_turned (turned_entry h) (length begins) list)
+    ∙ ap (λ l. turned_list h begins ++ closed l) (drop-map (turned_entry h) (length begins) list)
     ∙ ap (λ l. turned_list h begins ++ l) (closed_turned h (drop (length begins) list))
     ∙ sym (map-append (turned_entry h) begins (closed (drop (length begins) list)))
 list_after_turned h false begins list = refl

@@ -1,6 +1,6 @@
 -- Cut-off nodes, and the ways in which rules are cut off.
 use Rattle.std.proofs.lemmas.List.{take_more}
-use Rattle.std.proofs.Common.{◌≡◌, ℕ, suc, zero, ◌+◌, ◌-◌, ◌<◌, ◌≤◌, get_or, List, [], ◌∷◌, ◌++◌, Bool, true, false, length, take, drop, Some, None, refl, sym, ap, ◌∙◌, subst, arith, inl, inr}
+use Rattle.std.proofs.Common.{◌≡◌, ℕ, suc, ◌+◌, ◌-◌, ◌<◌, ◌≤◌, get_or, List, [], ◌∷◌, ◌++◌, Bool, true, false, length, take, drop, Some, None, refl, sym, ap, ◌∙◌, subst, arith, inl, inr}
 use Rattle.std.specs.Prelude.{if◌then◌else◌, ◌==◌, slice_get}
 use Rattle.std.proofs.lemmas.Option.{slice_get_within}
 use Rattle.codeco_terms.specs.declared.values.Value.{Value}
@@ -21,7 +21,7 @@ use Rattle.chart_table.specs.Asks.{AskStops}
 use Rattle.chart_table.specs.Aims.{Aims}
 use Rattle.chart_table.specs.Cuts.{CutLeads, Stops, RuleCut, AreCuts, own_after, AreAfter, HasCutsUpTo}
 use Rattle.chart_table.proofs.BranchLemmas.{Binds}
-use Rattle.chart_table.proofs.EndLemmas.{drop_further, own_at, fits_name, agrees_known}
+use Rattle.chart_table.proofs.EndLemmas.{drop_further, own_at, fits_name, agrees_known, rule_number}
 use Rattle.chart_table.proofs.AskLemmas.{rule_of_ask, ask_of_rule, ask_alike}
 
 -- what a rule that is cut off is
@@ -161,13 +161,6 @@ after_more s rule starts n m i e states news lt is after steps next =
     }
 
 -- all cut-off phrases
-
-rule_number : (s : Setting) (number : ℕ) (rule : Rule) → rule_with s.grammar number ≡ Some rule → number ≤ length s.grammar.rules
-rule_number s zero rule h = omega arith
-rule_number s (suc n) rule h = by_none (suc n == 0) refl h
-  where
-    minus : suc n - 1 ≡ n
-    minus = omega arith
 
     by_none : (b : Bool) → (suc n == 0) ≡ b → (if b then None else slice_get s.grammar.rules (suc n - 1)) ≡ Some rule → suc n ≤ length s.grammar.rules
     by_none true e h = absurd (cc)

@@ -11,7 +11,7 @@ use Rattle.codeco_text.specs.declared.written.WrittenElement.{WrittenElement}
 use Rattle.codeco_text.specs.declared.written.WrittenElement.TheVariants as element
 use Rattle.codeco_text.specs.declared.written.WrittenRule.{WrittenRule}
 use Rattle.codeco_text.specs.Names.{same_bytes, is_among}
-use Rattle.codeco_text.proofs.Growth.{same_is}
+use Rattle.codeco_text.proofs.Growth.{same_is, same_bytes_refl}
 use Rattle.codeco_text.specs.Notation.{kinds}
 use Rattle.codeco_numbering.specs.Numbered.{Tables, number_of, plain_categories}
 use Rattle.codeco_numbering.proofs.Sound.Tables.{number_below, number_past}
@@ -19,7 +19,7 @@ use Rattle.wiki_base.proofs.ListLaws.{all_split}
 use Rattle.codeco_early_faults.specs.Pairs.{names_with}
 use Rattle.codeco_early_faults.specs.Early.{named_pairs, category_pairs, plain_pairs, kind_pairs, rule_plain_pairs, rule_kind_pairs}
 use Rattle.codeco_early_faults.proofs.Moves.{Same, same_refl, same_map}
-use Rattle.codeco_early_faults.proofs.Counting.{same_bytes_refl, texts_decide, differs_comm}
+use Rattle.codeco_early_faults.proofs.Counting.{texts_decide, differs_comm}
 use Rattle.codeco_early_faults.proofs.Numbers.{same_numbers}
 use Rattle.codeco_early_faults.proofs.Mentions.{with_terms, numbered_feat, written_feats, numbered_plain, numbered_mentions}
 use Rattle.codeco_early_faults.proofs.Wide.{names_with-append}

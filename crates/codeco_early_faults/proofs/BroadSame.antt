@@ -10,19 +10,19 @@ use Rattle.codeco_terms.specs.declared.rules.Rule.{Rule}
 use Rattle.codeco_text.specs.declared.written.WrittenRule.{WrittenRule}
 use Rattle.codeco_text.specs.declared.written.WrittenItem.{WrittenItem}
 use Rattle.codeco_text.specs.Names.{same_bytes, is_among}
-use Rattle.codeco_text.proofs.Growth.{same_is}
+use Rattle.codeco_text.proofs.Growth.{same_is, same_bytes_refl}
 use Rattle.codeco_text.specs.Notation.{item_fits, kinds}
 use Rattle.codeco_checked.specs.Numbering.{differ, count_different}
 use Rattle.codeco_checked.specs.Occurrences.{rule_mentions}
 use Rattle.codeco_checked.specs.Faults.{count_texts, features_written, has_broad_category}
 use Rattle.codeco_numbering.specs.Numbered.{number_of, rules_of, plain_categories, numbered_of, rule_names}
-use Rattle.codeco_numbering.proofs.Sound.Tables.{number_kept, differ_gathered}
+use Rattle.codeco_numbering.proofs.Sound.Tables.{number_kept, differ_gathered, among_gathered}
 use Rattle.codeco_numbering.proofs.Sound.Contents.{categories_of, tables_of, numbered_in}
 use Rattle.codeco_early_faults.specs.Pairs.{names_with}
 use Rattle.codeco_early_faults.specs.Early.{rule_plain_pairs, rule_kind_pairs, written_plain_pairs, written_kind_pairs, has_wide, has_broad_written_category}
 use Rattle.codeco_early_faults.proofs.Moves.{Same, same_trans, same_from, same_flat}
-use Rattle.codeco_early_faults.proofs.Counting.{same_bytes_refl, texts_decide, differs_comm, count_different_move}
-use Rattle.codeco_early_faults.proofs.Numbers.{numbers_differ, among_gathered}
+use Rattle.codeco_early_faults.proofs.Counting.{texts_decide, differs_comm, count_different_move}
+use Rattle.codeco_early_faults.proofs.Numbers.{numbers_differ}
 use Rattle.codeco_early_faults.proofs.Mentions.{rule_given}
 use Rattle.codeco_early_faults.proofs.Broad.{given_at, given_kept, joined, kind_rule, plain_rule}
 use Rattle.codeco_early_faults.proofs.RuleSize.{rule_fits}

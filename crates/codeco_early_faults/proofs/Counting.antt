@@ -3,14 +3,10 @@ use Rattle.std.proofs.Common.{◌≡◌, ℕ, suc, ◌+◌, ◌≤◌, Bool, tru
 use Rattle.std.specs.List.{list_any}
 use Rattle.std.proofs.lemmas.Bool.{cases_Bool, both_ways, eqb-true, eq-eqb, false_from_ne_true, ltb-true, ltb-false, lt-ltb, le-ltb}
 use Rattle.codeco_text.specs.Names.{same_bytes, is_among}
-use Rattle.codeco_text.proofs.Growth.{same_is}
+use Rattle.codeco_text.proofs.Growth.{same_is, same_bytes_refl}
 use Rattle.codeco_checked.specs.Numbering.{has, count_different, differ}
 use Rattle.codeco_checked.specs.Faults.{count_texts}
 use Rattle.codeco_early_faults.proofs.Moves.{Movable, any_move}
-
-pub same_bytes_refl : (w : List ℕ) → same_bytes w w ≡ true
-same_bytes_refl [] = refl
-same_bytes_refl (b ∷ bs) = ap (λ x. x && same_bytes bs bs) (eq-eqb b b refl) ∙ same_bytes_refl bs
 
 -- 0 where the test holds, and 1 where it doesn't
 abbrev pub zero_if : Bool → ℕ

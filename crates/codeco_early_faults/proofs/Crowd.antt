@@ -8,11 +8,11 @@ use Rattle.std.proofs.lemmas.List.{take_more, take_all, take-map, map-append, le
 use Rattle.std.proofs.lemmas.List.Sums.{sum_by_push, sum_by_more_le}
 use Rattle.std.proofs.lemmas.List.Folds.{list_any_at}
 use Rattle.std.proofs.lemmas.Bool.{lt-ltb, le-ltb}
+use Rattle.codeco_numbering.proofs.NameTables.{pointwise_same}
 use Rattle.codeco_text.specs.Names.{same_bytes}
-use Rattle.codeco_text.proofs.Growth.{same_is}
+use Rattle.codeco_text.proofs.Growth.{same_is, same_bytes_refl}
 use Rattle.codeco_early_faults.specs.Counts.{has_crowd}
-use Rattle.codeco_early_faults.proofs.Counting.{same_bytes_refl, texts_decide, differs_comm}
-use Rattle.codeco_early_faults.proofs.Keys.{pointwise_same}
+use Rattle.codeco_early_faults.proofs.Counting.{texts_decide, differs_comm}
 use denote.Ref.{Bor}
 
 -- how often a name stands in a list

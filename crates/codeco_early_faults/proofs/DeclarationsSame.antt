@@ -11,14 +11,16 @@ use Rattle.codeco_text.specs.Names.{same_bytes, is_among}
 use Rattle.codeco_text.proofs.Growth.{same_is}
 use Rattle.codeco_checked.specs.Numbering.{differ, count_different, is_declared, declared_atoms, grammar_atoms, first_features, first_atoms}
 use Rattle.codeco_checked.specs.Faults.{count_texts, is_double, has_large_declarations, has_double_declaration}
-use Rattle.codeco_numbering.specs.Numbered.{NamedFeature, undeclared, is_open, number_of, with_declaration, with_items, with_undeclared, all_features, atoms_of, rules_of, written_features, domain_atoms, feature_atoms, numbered_domain, numbered_feature, numbered_of}
+use Rattle.codeco_numbering.specs.Numbered.{NamedFeature, undeclared, is_open, number_of, with_declaration, with_items, with_undeclared, all_features, atoms_of, rules_of, written_features, domain_atoms, feature_atoms, numbered_feature, numbered_of}
 use Rattle.wiki_base.proofs.ListLaws.{all_flat}
+use Rattle.codeco_numbering.proofs.Sound.Tables.{among_append, differ_push}
+use Rattle.codeco_numbering.proofs.Sound.Contents.{domain_numbers}
 use Rattle.codeco_numbering.proofs.Sound.Declared.{numbered_names}
 use Rattle.codeco_early_faults.specs.Early as early
-use Rattle.codeco_early_faults.specs.Early.{item_names, item_atoms, declared_names, has_large_written_declarations, has_double_written_declaration}
+use Rattle.codeco_early_faults.specs.Early.{item_atoms, declared_names, has_large_written_declarations, has_double_written_declaration}
 use Rattle.codeco_early_faults.proofs.Moves.{Same, same_refl, same_trans, same_append, same_put, same_map, same_parts, same_test, any_move}
 use Rattle.codeco_early_faults.proofs.Counting.{count_texts_move, differ_move, differ_counts}
-use Rattle.codeco_early_faults.proofs.Numbers.{all_among, all_gathered, numbers_differ, among-append, differ_push}
+use Rattle.codeco_early_faults.proofs.Numbers.{all_among, all_gathered, numbers_differ}
 use Rattle.codeco_early_faults.proofs.Doubles.{stands_before}
 use Rattle.codeco_early_faults.proofs.Declared.{declared_of, declarations, with_domain, declare_put, features_declared, declaration_names, declaration_atoms, feature_names, atoms_in, feature_atoms_in}
 
@@ -30,12 +32,6 @@ names_counted items =
     let fs = all_features items in
     let same : Same (map (λ p. p.0) (declared_of fs)) (map (λ p. p.0) (declarations items)) = same_map (λ p. p.0) (features_declared items) in
     ap count_texts (feature_names (atoms_of fs) fs) ∙ same.moved count_texts count_texts_move ∙ ap count_texts (declaration_names items)
-
-domain_numbers : (atoms : List (List ℕ)) (o : Option Domain) → declared_atoms (numbered_domain atoms o) ≡ map (number_of atoms) (feature_atoms o)
-domain_numbers atoms None = refl
-domain_numbers atoms (Some domain.Words) = refl
-domain_numbers atoms (Some domain.Positions) = refl
-domain_numbers atoms (Some (domain.Atoms ws)) = refl
 
 feature_numbers : (atoms : List (List ℕ)) (fs : List NamedFeature)
     → flat_map (λ f. declared_atoms f.declared) (map (numbered_feature atoms) fs) ≡ map (number_of atoms) (atoms_in fs)
@@ -121,7 +117,7 @@ closed_among (f ∷ fs) name h =
 stays_double : (xs ys : List (List ℕ)) → differ xs ≡ false → differ (xs ++ ys) ≡ false
 stays_double [] ys h = absurd cc
 stays_double (x ∷ xs) ys h = elim (cases_Bool (is_among xs x)) [
-  | inl e ↦ ap (λ b. not b && differ (xs ++ ys)) (among-append xs ys x ∙ ap (λ b. b || is_among ys x) e)
+  | inl e ↦ ap (λ b. not b && differ (xs ++ ys)) (among_append xs ys x ∙ ap (λ b. b || is_among ys x) e)
   | inr e ↦ and_right (not (is_among (xs ++ ys) x)) (differ (xs ++ ys)) (stays_double xs ys (sym (ap (λ b. not b && differ xs) e) ∙ h))
 ]
 
@@ -175,7 +171,7 @@ items_differ (item.Feature name d ∷ items) fs h =
     by false false e f rest = rest (ap differ (pushed_names fs name d e) ∙ differ_push (names_in fs) name h f) ∙ same_test moved differ differ_move
     by false true e f rest =
         let there : is_among (declared_names items ++ declared_in fs) name ≡ true =
-        among-append (declared_names items) (declared_in fs) name
+        among_append (declared_names items) (declared_in fs) name
         ∙ or_right (is_among (declared_names items) name) (is_among (declared_in fs) name) (sym (closed_among fs name e) ∙ f) in
         items_stay_double items (with_declaration fs name d) (ap differ (pushed_names fs name d e) ∙ stands_before (names_in fs) [] name f)
         ∙ sym (ap (λ b. not b && differ (declared_names items ++ declared_in fs)) there)

@@ -3,6 +3,7 @@ use Rattle.std.proofs.Common.{◌≡◌, ℕ, ◌+◌, ◌<◌, Bool, true, fals
 use Rattle.std.proofs.lemmas.List.{at_drop_more}
 use Rattle.std.proofs.lemmas.Bool.{not-true, not-false}
 use Rattle.std.specs.List.{list_any}
+use Rattle.codeco_numbering.proofs.Sound.Tables.{among_append, differ_push}
 use Rattle.codeco_text.specs.declared.written.WrittenItem.{WrittenItem}
 use Rattle.codeco_text.specs.declared.written.WrittenItem.TheVariants as item
 use Rattle.codeco_text.specs.Names.{is_among}
@@ -10,12 +11,11 @@ use Rattle.codeco_checked.specs.Numbering.{differ}
 use Rattle.codeco_numbering.specs.Numbered.{gathered}
 use Rattle.codeco_early_faults.specs.Early.{item_names, declared_names}
 use Rattle.codeco_early_faults.proofs.Counting.{differ_move}
-use Rattle.codeco_early_faults.proofs.Numbers.{among-append, differ_push}
 
 -- the names before, and those that are left, where the first of them stands before
 pub stands_before : (before left : List (List ℕ)) (w : List ℕ) → is_among before w ≡ true → differ (before ++ w ∷ left) ≡ false
 stands_before before left w e =
-    differ_move before left w ∙ ap (λ b. not b && differ (before ++ left)) (among-append before left w)
+    differ_move before left w ∙ ap (λ b. not b && differ (before ++ left)) (among_append before left w)
     ∙ ap (λ b. not (b || is_among left w) && differ (before ++ left)) e
 
 -- a name that is new is put behind those before

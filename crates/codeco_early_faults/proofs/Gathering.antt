@@ -4,13 +4,9 @@ use Rattle.std.specs.List.{flat_map, list_all}
 use Rattle.std.proofs.lemmas.List.{at_drop_more, at_drop_all}
 use Rattle.std.proofs.lemmas.List.Concat.{flat_map-append}
 use Rattle.std.proofs.lemmas.List.Folds.{list_all-append as all-append}
-use Rattle.codeco_text.specs.Names.{is_among}
+use Rattle.codeco_numbering.proofs.Gathers.{gathered_append}
 use Rattle.codeco_numbering.specs.Numbered.{gathered}
 use Rattle.codeco_early_faults.specs.Pairs.{has_pair, gathered_pairs}
-
-pub gathered-append : (names : List (List ℕ)) (xs ys : List (List ℕ)) → gathered names (xs ++ ys) ≡ gathered (gathered names xs) ys
-gathered-append names [] ys = refl
-gathered-append names (x ∷ xs) ys = gathered-append (cond (is_among names x) names (names ++ x ∷ [])) xs ys
 
 pub gathered_pairs-append : (ps : List (List ℕ × List ℕ)) (xs ys : List (List ℕ × List ℕ))
     → gathered_pairs ps (xs ++ ys) ≡ gathered_pairs (gathered_pairs ps xs) ys
@@ -23,7 +19,7 @@ pub names_turn : {X : Type 0} (f : X → List (List ℕ)) (old now next : List (
     → gathered next (flat_map f (drop (i + 1) xs)) ≡ gathered old (flat_map f xs)
 names_turn f old now next xs i x lt is before after =
     ap (λ s. gathered s (flat_map f (drop (i + 1) xs))) after
-    ∙ sym (gathered-append now (f x) (flat_map f (drop (i + 1) xs)))
+    ∙ sym (gathered_append now (f x) (flat_map f (drop (i + 1) xs)))
     ∙ ap (λ y. gathered now (f y ++ flat_map f (drop (i + 1) xs))) is
     ∙ sym (at_drop_more (λ ys. gathered now (flat_map f ys)) xs i x lt)
     ∙ before
@@ -42,7 +38,7 @@ pairs_turn f old now next xs i x lt is before after =
 pub names_both : {X : Type 0} (f : X → List (List ℕ)) (old mid next : List (List ℕ)) (xs ys : List X) → mid ≡ gathered old (flat_map f xs)
     → next ≡ gathered mid (flat_map f ys) → next ≡ gathered old (flat_map f (xs ++ ys))
 names_both f old mid next xs ys first then_ =
-    then_ ∙ ap (λ s. gathered s (flat_map f ys)) first ∙ sym (gathered-append old (flat_map f xs) (flat_map f ys))
+    then_ ∙ ap (λ s. gathered s (flat_map f ys)) first ∙ sym (gathered_append old (flat_map f xs) (flat_map f ys))
     ∙ ap (gathered old) (sym (flat_map-append f xs ys))
 
 pub pairs_both : {X : Type 0} (f : X → List (List ℕ × List ℕ)) (old mid next : List (List ℕ × List ℕ)) (xs ys : List X)
@@ -93,4 +89,4 @@ pairs_end f old now xs i past left = sym (at_drop_all (λ ys. gathered_pairs now
 pub names_rule : {X : Type 0} (f : X → List (List ℕ)) (old mid next first : List (List ℕ)) (xs : List X) → mid ≡ gathered old first
     → next ≡ gathered mid (flat_map f xs) → next ≡ gathered old (first ++ flat_map f xs)
 names_rule f old mid next first xs is then_ =
-    then_ ∙ ap (λ s. gathered s (flat_map f xs)) is ∙ sym (gathered-append old first (flat_map f xs))
+    then_ ∙ ap (λ s. gathered s (flat_map f xs)) is ∙ sym (gathered_append old first (flat_map f xs))

@@ -1,20 +1,15 @@
 -- The keys of a set of names, as the names that they stand for.
-use Rattle.std.proofs.Common.{◌≡◌, ℕ, Bool, true, false, cond, ◌&&◌, ◌||◌, eqb, List, [], ◌∷◌, ◌++◌, map, refl, ap, ◌∙◌}
+use Rattle.std.proofs.Common.{◌≡◌, ℕ, Bool, true, false, cond, ◌&&◌, ◌||◌, List, [], ◌∷◌, ◌++◌, map, refl, ap, ◌∙◌}
 use Rattle.std.specs.Bool.{nat_eq}
 use Rattle.std.specs.List.{list_any}
 use Rattle.std.specs.Cmp.Lexicographic.{pointwise}
 use Rattle.std.proofs.lemmas.List.{map-append}
+use Rattle.codeco_numbering.proofs.NameTables.{pointwise_same}
 use Rattle.indexmap.specs.IndexSet.{insert_key}
 use Rattle.codeco_text.specs.Names.{same_bytes, is_among}
 use Rattle.codeco_numbering.specs.Numbered.{gathered}
 use Rattle.codeco_early_faults.specs.Pairs.{same_pair, has_pair, gathered_pairs}
 use denote.Ref.{Bor}
-
-pub pointwise_same : (xs ys : List ℕ) → pointwise nat_eq xs ys ≡ same_bytes xs ys
-pointwise_same [] [] = refl
-pointwise_same [] (y ∷ ys) = refl
-pointwise_same (x ∷ xs) [] = refl
-pointwise_same (x ∷ xs) (y ∷ ys) = ap (λ b. eqb x y && b) (pointwise_same xs ys)
 
 abbrev pub texts : List (Bor (List ℕ)) → List (List ℕ)
 texts ks = map (λ k. k.now) ks

@@ -1,14 +1,15 @@
 -- Numbers of names in a table that has them.
-use Rattle.std.proofs.Common.{◌≡◌, ℕ, ◌+◌, Bool, true, false, not, cond, ◌&&◌, ◌||◌, eqb, List, [], ◌∷◌, ◌++◌, map, length, get_or, refl, sym, ap, subst, ◌∙◌, append_assoc, append-nil, add-zero, add-one, arith, inl, inr}
+use Rattle.std.proofs.Common.{◌≡◌, ℕ, ◌+◌, Bool, true, false, cond, ◌&&◌, ◌||◌, eqb, List, [], ◌∷◌, ◌++◌, map, length, get_or, refl, sym, ap, subst, ◌∙◌, append_assoc, append-nil, add-zero, add-one, arith, inl, inr}
 use Rattle.std.specs.List.{list_all}
-use Rattle.std.proofs.lemmas.Bool.{cases_Bool, both_ways, not-true, and_parts, or_right, eqb-true, eq-eqb, ne_eqb}
-use Rattle.std.proofs.lemmas.List.Folds.{list_any-append}
+use Rattle.std.proofs.lemmas.Bool.{cases_Bool, both_ways, and_parts, or_right, eqb-true, eq-eqb, ne_eqb}
+use Rattle.codeco_numbering.proofs.Sizes.{differ_count}
+use Rattle.codeco_numbering.proofs.Sound.Tables.{among_append, among_gathered, differ_push}
 use Rattle.codeco_text.specs.Names.{same_bytes, is_among}
-use Rattle.codeco_text.proofs.Growth.{same_is}
+use Rattle.codeco_text.proofs.Growth.{same_is, same_bytes_refl}
 use Rattle.codeco_checked.specs.Numbering.{has, count_different, differ}
 use Rattle.codeco_checked.specs.Faults.{count_texts}
 use Rattle.codeco_numbering.specs.Numbered.{gathered, number_of}
-use Rattle.codeco_early_faults.proofs.Counting.{zero_if, same_bytes_refl, texts_decide, differs_comm, count_texts_move, differ_move}
+use Rattle.codeco_early_faults.proofs.Counting.{zero_if, texts_decide, differs_comm, count_texts_move}
 
 -- each of these is in the table
 abbrev pub all_among : List (List ℕ) → List (List ℕ) → Bool
@@ -81,27 +82,10 @@ name_back (x ∷ xs) w d h = by (same_bytes w x) refl (λ e. name_back xs w d e)
 
 -- Gathering
 
-pub among-append : (xs ys : List (List ℕ)) (w : List ℕ) → is_among (xs ++ ys) w ≡ (is_among xs w || is_among ys w)
-among-append xs ys w = list_any-append (same_bytes w) xs ys
-
 or_last : (a b c : Bool) → ((a || (b || false)) || c) ≡ (a || (b || c))
 or_last true b c = refl
 or_last false true c = refl
 or_last false false c = refl
-
--- what is gathered
-pub among_gathered : (names ws : List (List ℕ)) (w : List ℕ) → is_among (gathered names ws) w ≡ (is_among names w || is_among ws w)
-among_gathered names [] w = none (is_among names w)
-  where
-    none : (b : Bool) → b ≡ (b || false)
-    none true = refl
-    none false = refl
-among_gathered names (x ∷ xs) w = by (is_among names x) refl (λ ns. among_gathered ns xs w)
-  where
-    old : (a b c : Bool) → (b ≡ true → a ≡ true) → (a || c) ≡ (a || (b || c))
-    old true b c h = refl
-    old false true c h = absurd (both_ways false refl (h refl))
-    old false false c h = refl
 
     by : (b : Bool) → is_among names x ≡ b → ((ns : List (List ℕ)) → is_among (gathered ns xs) w ≡ (is_among ns w || is_among xs w))
         → is_among (gathered names (x ∷ xs)) w ≡ (is_among names w || (same_bytes w x || is_among xs w))
@@ -110,7 +94,7 @@ among_gathered names (x ∷ xs) w = by (is_among names x) refl (λ ns. among_gat
         ∙ old (is_among names w) (same_bytes w x) (is_among xs w) (λ s. subst (λ y. is_among names y ≡ true) (sym (same_is w x s)) e)
     by false e rest =
         ap (λ b. is_among (gathered (cond b names (names ++ x ∷ [])) xs) w) e ∙ rest (names ++ x ∷ [])
-        ∙ ap (λ b. b || is_among xs w) (among-append names (x ∷ []) w)
+        ∙ ap (λ b. b || is_among xs w) (among_append names (x ∷ []) w)
         ∙ or_last (is_among names w) (same_bytes w x) (is_among xs w)
 
 pub all_in : (names ws : List (List ℕ)) → ((w : List ℕ) → is_among ws w ≡ true → is_among names w ≡ true) → all_among names ws ≡ true
@@ -123,26 +107,6 @@ all_in names (w ∷ ws) h =
 pub all_gathered : (names ws : List (List ℕ)) → all_among (gathered names ws) ws ≡ true
 all_gathered names ws = all_in (gathered names ws) ws (λ w e. among_gathered names ws w ∙ or_right (is_among names w) (is_among ws w) e)
 
-pub differ_push : (names : List (List ℕ)) (w : List ℕ) → differ names ≡ true → is_among names w ≡ false → differ (names ++ w ∷ []) ≡ true
-differ_push names w h e = differ_move names [] w ∙ ap (λ (l : List (List ℕ)). differ (w ∷ l)) (append-nil names) ∙ ap (λ b. not b && differ names) e ∙ h
-
-pub differ_gathered : (names ws : List (List ℕ)) → differ names ≡ true → differ (gathered names ws) ≡ true
-differ_gathered names [] h = h
-differ_gathered names (w ∷ ws) h = by (is_among names w) refl (λ ns k. differ_gathered ns ws k)
-  where
-    by : (b : Bool) → is_among names w ≡ b → ((ns : List (List ℕ)) → differ ns ≡ true → differ (gathered ns ws) ≡ true)
-        → differ (gathered names (w ∷ ws)) ≡ true
-    by true e rest = ap (λ b. differ (gathered (cond b names (names ++ w ∷ [])) ws)) e ∙ rest names h
-    by false e rest = ap (λ b. differ (gathered (cond b names (names ++ w ∷ [])) ws)) e ∙ rest (names ++ w ∷ []) (differ_push names w h e)
-
-pub differ_count : (ws : List (List ℕ)) → differ ws ≡ true → count_texts ws ≡ length ws
-differ_count [] h = refl
-differ_count (w ∷ ws) h =
-    let parts = and_parts (not (is_among ws w)) (differ ws) h in
-    let here : zero_if (is_among ws w) ≡ 1 = ap zero_if (not-true (is_among ws w) parts.0) in
-    let rest = differ_count ws parts.1 in
-    omega arith
-
 count_behind : (names ws : List (List ℕ)) → differ names ≡ true → count_texts (names ++ ws) ≡ length (gathered names ws)
 count_behind names [] h = ap count_texts (append-nil names) ∙ differ_count names h
 count_behind names (w ∷ ws) h = by (is_among names w) refl (λ ns k. count_behind ns ws k)
@@ -150,7 +114,7 @@ count_behind names (w ∷ ws) h = by (is_among names w) refl (λ ns k. count_beh
     by : (b : Bool) → is_among names w ≡ b → ((ns : List (List ℕ)) → differ ns ≡ true → count_texts (ns ++ ws) ≡ length (gathered ns ws))
         → count_texts (names ++ w ∷ ws) ≡ length (gathered names (w ∷ ws))
     by true e rest =
-        let there : is_among (names ++ ws) w ≡ true = among-append names ws w ∙ ap (λ b. b || is_among ws w) e in
+        let there : is_among (names ++ ws) w ≡ true = among_append names ws w ∙ ap (λ b. b || is_among ws w) e in
         count_texts_move names ws w ∙ ap (λ (b : Bool). count_texts (names ++ ws) + zero_if b) there ∙ add-zero (count_texts (names ++ ws)) ∙ rest names h
         ∙ sym (ap (λ b. length (gathered (cond b names (names ++ w ∷ [])) ws)) e)
     by false e rest =

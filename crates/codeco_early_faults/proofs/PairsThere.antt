@@ -17,10 +17,11 @@ use Rattle.codeco_text.specs.Notation.{kinds}
 use Rattle.codeco_checked.specs.Numbering.{first_features}
 use Rattle.codeco_numbering.specs.Numbered.{NamedFeature, undeclared, with_items, with_undeclared, all_features, rules_of, written_features, category_features, element_categories, plain_categories, rule_names}
 use Rattle.wiki_base.proofs.ListLaws.{all_append, all_split, all_flat}
+use Rattle.codeco_numbering.proofs.Sound.Tables.{among_append}
 use Rattle.codeco_numbering.proofs.Sound.Contents.{categories_of}
 use Rattle.codeco_early_faults.specs.Pairs.{names_with}
 use Rattle.codeco_early_faults.specs.Early.{named_pairs, category_pairs, plain_pairs, kind_pairs, rule_plain_pairs, rule_kind_pairs, written_plain_pairs, written_kind_pairs}
-use Rattle.codeco_early_faults.proofs.Numbers.{all_among, all_in, all_gathered, among-append}
+use Rattle.codeco_early_faults.proofs.Numbers.{all_among, all_in, all_gathered}
 
 abbrev pub feature_table : List WrittenItem → List (List ℕ)
 feature_table items = map (λ f. f.name) (all_features items)
@@ -54,7 +55,7 @@ added fs (v ∷ vs) w =
       | inr e ↦
           ap (λ (l : List NamedFeature). is_among (map (λ f. f.name) l) w || is_among vs w) (cond-false there fs more e)
           ∙ ap (λ (l : List (List ℕ)). is_among l w || is_among vs w) (map-append (λ f. f.name) fs (undeclared v ∷ []))
-          ∙ ap (λ b. b || is_among vs w) (among-append (map (λ f. f.name) fs) (v ∷ []) w)
+          ∙ ap (λ b. b || is_among vs w) (among_append (map (λ f. f.name) fs) (v ∷ []) w)
           ∙ or_move (is_among (map (λ f. f.name) fs) w) (same_bytes w v) (is_among vs w)
     ]
 

@@ -7,13 +7,13 @@ use Rattle.std.proofs.lemmas.List.{at_drop_more, at_drop_all}
 use Rattle.std.proofs.lemmas.Bool.{both_ways, cases_Bool, cases_order, and_left, and_right, ltb-true, ltb-false, lt-ltb, le-ltb, eqb-true}
 use Rattle.std.proofs.Math.Bool.{or-false as last}
 use Rattle.wiki_base.proofs.ListLaws.{all_same}
+use Rattle.codeco_numbering.proofs.Sound.Tables.{among_gathered}
 use Rattle.codeco_text.specs.declared.written.Domain.{Domain}
 use Rattle.codeco_text.specs.declared.written.WrittenRule.{WrittenRule}
 use Rattle.codeco_text.specs.declared.written.WrittenItem.{WrittenItem}
 use Rattle.codeco_text.specs.declared.written.WrittenItem.TheVariants as item
 use Rattle.codeco_text.specs.Names.{is_among}
 use Rattle.codeco_numbering.specs.Numbered.{gathered, rules_of, item_rules}
-use Rattle.codeco_early_faults.proofs.Numbers.{among_gathered}
 use Rattle.codeco_checked.specs.First.{FindsFirst}
 use Rattle.codeco_early_faults.specs.Early.{is_large_written_rule, is_undeclared_written_rule, at_written_rule, is_large_place}
 

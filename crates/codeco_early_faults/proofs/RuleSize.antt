@@ -4,9 +4,10 @@ use Rattle.std.specs.List.{list_any, list_all, flat_map}
 use Rattle.std.proofs.lemmas.List.{map-append, length-map}
 use Rattle.std.proofs.lemmas.List.Concat.{flat_map-append}
 use Rattle.std.proofs.lemmas.Bool.{and_parts}
+use Rattle.codeco_numbering.proofs.Sound.Tables.{among_gathered}
+use Rattle.codeco_numbering.proofs.Sound.Contents.{body_numbers as body_terminals}
+use Rattle.codeco_numbering.proofs.Sound.Order.{term_numbered}
 use Rattle.codeco_terms.specs.declared.values.Term.{Term}
-use Rattle.codeco_text.specs.declared.written.WrittenTerm.{WrittenTerm}
-use Rattle.codeco_text.specs.declared.written.WrittenTerm.TheVariants as term
 use Rattle.codeco_text.specs.declared.written.WrittenFeat.{WrittenFeat}
 use Rattle.codeco_text.specs.declared.written.WrittenCategory.{WrittenCategory}
 use Rattle.codeco_text.specs.declared.written.WrittenElement.{WrittenElement}
@@ -15,15 +16,15 @@ use Rattle.codeco_text.specs.declared.written.WrittenRule.{WrittenRule}
 use Rattle.codeco_text.specs.Names.{same_bytes, is_among}
 use Rattle.codeco_text.specs.Notation.{is_plain, element_fits}
 use Rattle.codeco_checked.specs.Numbering.{count_different}
-use Rattle.codeco_checked.specs.Occurrences.{rule_variables, rule_terminals, term_variables, element_terminals, positions, patterns, mentions}
+use Rattle.codeco_checked.specs.Occurrences.{rule_variables, term_variables, positions, patterns}
 use Rattle.codeco_checked.specs.Occurrences as numbered
 use Rattle.codeco_checked.specs.Faults.{count_texts, is_large_rule}
 use Rattle.codeco_terms.specs.GrammarParts.{GrammarParts}
-use Rattle.codeco_numbering.specs.Numbered.{Tables, number_of, gathered, numbered_term, numbered_category, numbered_pattern, numbered_element, numbered_rule, element_categories, term_names, category_names, element_names, variable_names, written_terminals}
+use Rattle.codeco_numbering.specs.Numbered.{Tables, number_of, gathered, numbered_category, numbered_pattern, numbered_element, numbered_rule, element_categories, term_names, category_names, element_names, variable_names, written_terminals}
 use Rattle.codeco_early_faults.specs.Early.{written_patterns, written_positions, category_variables, element_variables, written_variables, is_large_written_rule}
 use Rattle.codeco_early_faults.proofs.Moves.{Same, same_refl, same_trans, same_append, same_from, same_parts, same_test, any_move}
 use Rattle.codeco_early_faults.proofs.Counting.{count_different_move}
-use Rattle.codeco_early_faults.proofs.Numbers.{all_among, all_in, among_gathered, numbers_differ, name_back}
+use Rattle.codeco_early_faults.proofs.Numbers.{all_among, all_in, numbers_differ, name_back}
 use Rattle.codeco_early_faults.proofs.Mentions.{with_terms, numbered_feat, written_feats, order_same, category_feats, mentioned, element_given}
 
 -- Variables
@@ -31,16 +32,11 @@ use Rattle.codeco_early_faults.proofs.Mentions.{with_terms, numbered_feat, writt
 abbrev variables_in : List (ℕ × Term) → List ℕ
 variables_in fs = flat_map (λ f. term_variables f.1) fs
 
-term_numbers : (t : Tables) (x : WrittenTerm) → term_variables (numbered_term t x) ≡ map (number_of t.variables) (term_names x)
-term_numbers t (term.Atom w) = refl
-term_numbers t (term.Variable w) = refl
-term_numbers t (term.Taken w) = refl
-
 feat_numbers : (t : Tables) (fs : List WrittenFeat)
     → variables_in (with_terms t (map (numbered_feat t.features) fs)) ≡ map (number_of t.variables) (flat_map (λ f. term_names f.term) fs)
 feat_numbers t [] = refl
 feat_numbers t (f ∷ fs) =
-    ap (λ (l : List ℕ). l ++ variables_in (with_terms t (map (numbered_feat t.features) fs))) (term_numbers t f.term)
+    ap (λ (l : List ℕ). l ++ variables_in (with_terms t (map (numbered_feat t.features) fs))) (term_numbered t f.term)
     ∙ ap (λ (l : List ℕ). map (number_of t.variables) (term_names f.term) ++ l) (feat_numbers t fs)
     ∙ sym (map-append (number_of t.variables) (term_names f.term) (flat_map (λ x. term_names x.term) fs))
 
@@ -155,18 +151,6 @@ patterns_length t (e ∷ es) = omega (
 )
 
 -- Terminals
-
-element_terminal : (t : Tables) (e : WrittenElement) → element_terminals (numbered_element t e) ≡ map (number_of t.terminals) (written_terminals e)
-element_terminal t (element.Terminal w) = refl
-element_terminal t e = refl
-
-body_terminals : (t : Tables) (es : List WrittenElement)
-    → flat_map element_terminals (map (numbered_element t) es) ≡ map (number_of t.terminals) (flat_map written_terminals es)
-body_terminals t [] = refl
-body_terminals t (e ∷ es) =
-    ap (λ (l : List ℕ). l ++ flat_map element_terminals (map (numbered_element t) es)) (element_terminal t e)
-    ∙ ap (λ (l : List ℕ). map (number_of t.terminals) (written_terminals e) ++ l) (body_terminals t es)
-    ∙ sym (map-append (number_of t.terminals) (written_terminals e) (flat_map written_terminals es))
 
 long_names : (names ws : List (List ℕ)) → all_among names ws ≡ true
     → list_any (λ n. ltb 64 (length (get_or names n []))) (map (number_of names) ws) ≡ list_any (λ w. ltb 64 (length w)) ws

@@ -4,15 +4,16 @@ use Rattle.std.specs.List.{list_any}
 use Rattle.std.proofs.lemmas.Bool.{cases_Bool, both_ways, and_parts, not-true, or_parts, or_right, false_from_ne_true}
 use Rattle.std.proofs.lemmas.List.Folds.{list_any-append}
 use Rattle.std.proofs.lemmas.List.Sums.{sum_by-cons}
+use Rattle.codeco_numbering.proofs.Sizes.{differ_count}
+use Rattle.codeco_numbering.proofs.Sound.Tables.{among_append}
 use Rattle.codeco_text.specs.Names.{same_bytes, is_among}
-use Rattle.codeco_text.proofs.Growth.{same_is}
+use Rattle.codeco_text.proofs.Growth.{same_is, same_bytes_refl}
 use Rattle.codeco_checked.specs.Numbering.{differ}
 use Rattle.codeco_checked.specs.Faults.{count_texts}
 use Rattle.codeco_early_faults.specs.Pairs.{same_pair, has_pair, gathered_pairs, names_with}
 use Rattle.codeco_early_faults.specs.Counts.{has_crowd}
 use Rattle.codeco_early_faults.specs.Early.{has_wide}
-use Rattle.codeco_early_faults.proofs.Counting.{zero_if, same_bytes_refl, count_texts_move}
-use Rattle.codeco_early_faults.proofs.Numbers.{among-append, differ_count}
+use Rattle.codeco_early_faults.proofs.Counting.{zero_if, count_texts_move}
 use Rattle.codeco_early_faults.proofs.Crowd.{times, one_if}
 
 pub names_with-append : (w : List ℕ) (xs ys : List (List ℕ × List ℕ)) → names_with w (xs ++ ys) ≡ names_with w xs ++ names_with w ys
@@ -85,7 +86,7 @@ count_with w ps (q ∷ qs) h = by (has_pair ps q) refl (λ rs k. count_with w rs
         let there : is_among (names_with w ps) q.1 ≡ true = among_with w q.1 ps ∙ ap (λ (v : List ℕ). has_pair ps (v, q.1)) same ∙ e in
         count_texts_move (names_with w ps) (names_with w qs) q.1
         ∙ ap (λ (b : Bool). count_texts (names_with w ps ++ names_with w qs) + zero_if b)
-        (among-append (names_with w ps) (names_with w qs) q.1 ∙ ap (λ b. b || is_among (names_with w qs) q.1) there)
+        (among_append (names_with w ps) (names_with w qs) q.1 ∙ ap (λ b. b || is_among (names_with w qs) q.1) there)
         ∙ add-zero (count_texts (names_with w ps ++ names_with w qs))
     old e false f = refl
 

@@ -1,7 +1,9 @@
 -- Features with the same values have one class.
-use Rattle.std.proofs.Common.{◌≡◌, ℕ, zero, suc, ◌+◌, ◌<◌, Bool, true, false, not, cond, eqb, List, [], ◌∷◌, length, refl, sym, ap, ◌∙◌, arith, inl, inr, ◌⊎◌}
+use Rattle.std.proofs.Common.{◌≡◌, ℕ, zero, suc, ◌+◌, ◌<◌, true, false, not, cond, eqb, List, [], ◌∷◌, length, refl, sym, ap, ◌∙◌, arith, inl, inr, ◌⊎◌}
 use Rattle.std.specs.List.{list_all}
-use Rattle.std.proofs.lemmas.Bool.{cases_Bool, and_parts, and_from, or_cases, or_left, or_right, eqb-true, eq-eqb, ne_eqb, both_ways}
+use Rattle.std.proofs.lemmas.Bool.{cases_Bool, and_parts, and_from, or_left, or_right, eq-eqb, ne_eqb, both_ways}
+use Rattle.wiki_base.proofs.ListLaws.{all_weaken}
+use Rattle.codeco_checked.proofs.NumberingLemmas.{all_has}
 use Rattle.codeco_terms.specs.declared.declarations.Declared.{Declared}
 use Rattle.codeco_terms.specs.declared.declarations.Declared.TheVariants.{Undeclared, Words, Positions, Atoms}
 use Rattle.codeco_terms.specs.declared.declarations.Feature.{Feature}
@@ -9,29 +11,14 @@ use Rattle.codeco_checked.specs.Numbering.{has}
 use Rattle.codeco_checked.specs.Faults.{same_values}
 use Rattle.codeco_late_faults.specs.Tables.{values_in, class_in}
 
-all_weaken : (p q : ℕ → Bool) (xs : List ℕ) → ((x : ℕ) → p x ≡ true → q x ≡ true) → list_all p xs ≡ true → list_all q xs ≡ true
-all_weaken p q [] f h = refl
-all_weaken p q (x ∷ xs) f h =
-    let parts = and_parts (p x) (list_all p xs) h in
-    and_from (q x) (list_all q xs) (f x parts.0) (all_weaken p q xs f parts.1)
-
 all_self : (xs : List ℕ) → list_all (has xs) xs ≡ true
 all_self [] = refl
 all_self (x ∷ xs) =
     and_from (has (x ∷ xs) x) (list_all (has (x ∷ xs)) xs) (or_left (eqb x x) (has xs x) (eq-eqb x x refl))
-    (all_weaken (has xs) (has (x ∷ xs)) xs (λ y h. or_right (eqb y x) (has xs y) h) (all_self xs))
-
-all_has : (p : ℕ → Bool) (ys : List ℕ) (x : ℕ) → list_all p ys ≡ true → has ys x ≡ true → p x ≡ true
-all_has p [] x h k = absurd cc
-all_has p (y ∷ ys) x h k =
-    let parts = and_parts (p y) (list_all p ys) h in
-    elim (or_cases (eqb x y) (has ys x) k) [
-      | inl same ↦ ap p (eqb-true x y same) ∙ parts.0
-      | inr later ↦ all_has p ys x parts.1 later
-    ]
+    (all_weaken (has xs) (has (x ∷ xs)) (λ y h. or_right (eqb y x) (has xs y) h) xs (all_self xs))
 
 within : (xs ys zs : List ℕ) → list_all (has ys) xs ≡ true → list_all (has zs) ys ≡ true → list_all (has zs) xs ≡ true
-within xs ys zs h k = all_weaken (has ys) (has zs) xs (λ x e. all_has (has zs) ys x k e) h
+within xs ys zs h k = all_weaken (has ys) (has zs) (λ x e. all_has (has zs) ys x k e) xs h
 
 same_refl : (d : Declared) → same_values d d ≡ true
 same_refl Undeclared = refl

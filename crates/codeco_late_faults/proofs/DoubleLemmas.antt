@@ -3,6 +3,7 @@ use Rattle.std.proofs.Common.{◌≡◌, ℕ, suc, ◌+◌, ◌≤◌, Bool, tru
 use Rattle.std.specs.Option.{option_map_or}
 use Rattle.std.specs.Prelude.{if◌then◌else◌}
 use Rattle.std.proofs.lemmas.Bool.{cases_Bool, and_parts, or_cases, or_left, ltb-true, ltb-false, lt-ltb, le-ltb, leb-true, eqb-true, eq-eqb}
+use Rattle.codeco_checked.proofs.NumberingLemmas.{ascends_tail}
 use Rattle.codeco_checked.specs.Numbering.{has, count_different}
 use Rattle.codeco_checked.specs.Faults.{is_double}
 use Rattle.codeco_checked.specs.Sound.{ascends}
@@ -27,10 +28,6 @@ double_cons x xs = more (has xs x) (different_le xs)
           | inl low ↦ let lt = ltb-true (count_different xs) (length xs) low in lt-ltb (count_different xs + 1) (suc (length xs)) (omega arith) ∙ sym low
           | inr high ↦ let le = ltb-false (count_different xs) (length xs) high in le-ltb (count_different xs + 1) (suc (length xs)) (omega arith) ∙ sym high
         ]
-
-pub ascends_tail : (x : ℕ) (xs : List ℕ) → ascends (x ∷ xs) ≡ true → ascends xs ≡ true
-ascends_tail x [] h = refl
-ascends_tail x (y ∷ ys) h = (and_parts (leb x y) (ascends (y ∷ ys)) h).1
 
 -- where a list is in order, what is in it isn't below the first
 pub from_first : (x : ℕ) (xs : List ℕ) (z : ℕ) → ascends (x ∷ xs) ≡ true → has xs z ≡ true → x ≤ z

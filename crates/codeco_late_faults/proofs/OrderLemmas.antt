@@ -3,7 +3,7 @@ use Rattle.std.proofs.Common.{◌≡◌, ℕ, ◌<◌, ◌≤◌, Bool, true, fa
 use Rattle.std.specs.List.{list_all}
 use Rattle.std.specs.Option.{option_map_or}
 use Rattle.std.proofs.lemmas.Bool.{and_parts, and_from, or_left}
-use Rattle.wiki_base.proofs.ListLaws.{drop_past}
+use Rattle.wiki_base.proofs.ListLaws.{drop_past, all_weaken}
 use Rattle.codeco_terms.specs.declared.categories.Category.{Category}
 use Rattle.codeco_terms.specs.declared.categories.Pattern.{Pattern}
 use Rattle.codeco_terms.specs.declared.elements.Element.{Element}
@@ -24,12 +24,6 @@ repeats_stop last xs i d up lt h here =
 pub repeats_done : {X : Type 0} (last : Option ℕ) (xs : List (ℕ × X)) (i : ℕ) → ascends (numbers xs) ≡ true → length xs ≤ i
     → repeats_after last (numbers (drop i xs)) ≡ repeats_after None (numbers xs) → false ≡ is_double (numbers xs)
 repeats_done last xs i up le h = ap (λ zs. repeats_after last (numbers zs)) (sym (drop_past xs i le)) ∙ h ∙ repeats_is (numbers xs) up
-
-all_weaken : {X : Type 0} (p q : X → Bool) (xs : List X) → ((x : X) → p x ≡ true → q x ≡ true) → list_all p xs ≡ true → list_all q xs ≡ true
-all_weaken p q [] f h = refl
-all_weaken p q (x ∷ xs) f h =
-    let parts = and_parts (p x) (list_all p xs) h in
-    and_from (q x) (list_all q xs) (f x parts.0) (all_weaken p q xs f parts.1)
 
 written_ascends : (c : Category) → is_written_name c ≡ true → ascends (numbers c.feats) ≡ true
 written_ascends c h = (and_parts (ascends (map (λ f. f.0) c.feats)) (list_all (λ f. is_written_term f.1) c.feats)
@@ -53,7 +47,7 @@ back_parts : (ps ns : List Pattern) → is_written_element (Back ps ns) ≡ true
 back_parts ps ns h =
     let parts = and_parts (not (is_empty ps) && list_all is_written_pattern ps) (list_all is_plain_pattern ns) h in
     let front = and_parts (not (is_empty ps)) (list_all is_written_pattern ps) parts.0 in
-    (all_weaken is_written_pattern is_ordered ps written_ordered front.1, all_weaken is_plain_pattern is_ordered ns plain_ordered parts.1)
+    (all_weaken is_written_pattern is_ordered written_ordered ps front.1, all_weaken is_plain_pattern is_ordered plain_ordered ns parts.1)
 
 pub back_first : (e : Element) (ps ns xs : List Pattern) → e ≡ Back ps ns → is_written_element e ≡ true → xs ≡ ps → list_all is_ordered xs ≡ true
 back_first e ps ns xs is h same = ap (list_all is_ordered) same ∙ (back_parts ps ns (ap is_written_element (sym is) ∙ h)).0
@@ -63,7 +57,7 @@ back_second e ps ns xs is h same = ap (list_all is_ordered) same ∙ (back_parts
 
 pub noback_all : (e : Element) (ps xs : List Pattern) → e ≡ NoBack ps → is_written_element e ≡ true → xs ≡ ps → list_all is_ordered xs ≡ true
 noback_all e ps xs is h same =
-    ap (list_all is_ordered) same ∙ all_weaken is_plain_pattern is_ordered ps plain_ordered
+    ap (list_all is_ordered) same ∙ all_weaken is_plain_pattern is_ordered plain_ordered ps
     (and_parts (not (is_empty ps)) (list_all is_plain_pattern ps) (ap is_written_element (sym is) ∙ h)).1
 
 pub all_item : {X : Type 0} (p : X → Bool) (xs : List X) (i : ℕ) (x : X) → list_all p xs ≡ true → i < length xs → x ≡ get_or xs i x → p x ≡ true

@@ -3,10 +3,11 @@ use Rattle.std.proofs.Common.{◌≡◌, ℕ, zero, suc, ◌+◌, ◌<◌, ◌�
 use Rattle.std.specs.List.{list_all}
 use Rattle.std.proofs.lemmas.Bool.{and_parts, and_from, or_cases, or_left, ltb-true, lt-ltb, leb-true, eqb-true, eq-eqb, ne_eqb, false_from_ne_true}
 use Rattle.wiki_base.proofs.ListLaws.{drop_past}
+use Rattle.codeco_checked.proofs.NumberingLemmas.{ascends_tail}
 use Rattle.codeco_checked.specs.Numbering.{has}
 use Rattle.codeco_checked.specs.Sound.{ascends}
 use Rattle.codeco_late_faults.specs.Order.{numbers, shares}
-use Rattle.codeco_late_faults.proofs.DoubleLemmas.{ascends_tail, from_first}
+use Rattle.codeco_late_faults.proofs.DoubleLemmas.{from_first}
 use Rattle.codeco_late_faults.proofs.PutLemmas.{shares_none}
 
 at_place : {X : Type 0} (xs : List (ℕ × X)) (i : ℕ) (d : ℕ × X) → i < length xs → numbers (drop i xs) ≡ (get_or xs i d).0 ∷ numbers (drop (i + 1) xs)

@@ -2,13 +2,14 @@
 use Rattle.std.proofs.Common.{◌≡◌, ℕ, zero, suc, ◌+◌, ◌<◌, ◌≤◌, Bool, true, false, ◌&&◌, eqb, ltb, List, [], ◌∷◌, ◌++◌, length, map, get_or, replicate, refl, sym, ap, ◌∙◌, subst, arith, inl, inr}
 use Rattle.std.specs.List.{list_all, flat_map}
 use Rattle.std.proofs.lemmas.List.{get_or_past, length-replicate, get_or_default}
-use Rattle.std.proofs.lemmas.Bool.{cases_Bool, cases_lt, and_parts, and_from, eqb-true, ltb-true, lt-ltb, cond-true, cond-false, ne_eqb, or_from}
+use Rattle.std.proofs.lemmas.Bool.{cases_lt, and_parts, ltb-true, ne_eqb, or_from}
 use Rattle.wiki_base.proofs.ListLaws.{all_split}
+use Rattle.codeco_checked.proofs.NumberingLemmas.{counted}
 use Rattle.codeco_terms.specs.declared.declarations.Declared.{Declared}
 use Rattle.codeco_terms.specs.declared.declarations.Declared.TheVariants as declared
 use Rattle.codeco_terms.specs.declared.declarations.Feature.{Feature}
 use Rattle.codeco_terms.specs.GrammarParts.{GrammarParts}
-use Rattle.codeco_checked.specs.Numbering.{has, counts_up, declared_atoms, grammar_atoms}
+use Rattle.codeco_checked.specs.Numbering.{has, declared_atoms, grammar_atoms}
 use Rattle.codeco_late_faults.specs.Marks.{marked}
 use Rattle.codeco_late_faults.specs.Tables.{CountsAtoms, HoldsAtoms, values_in, AreSets, class_in, AreClasses}
 use Rattle.codeco_late_faults.proofs.MarkLemmas.{set_has, length_marked}
@@ -31,23 +32,6 @@ has_at features sets f a s are room s-is = ap (λ z. get_or z a false) (s-is ∙
 pub has_past : (features : List Feature) (sets : List (List Bool)) (f a : ℕ) → AreSets features sets → length sets ≤ f
     → false ≡ has (declared_atoms (values_in features f)) a
 has_past features sets f a are long = ap (λ z. get_or z a false) (sym (get_or_past sets f [] long)) ∙ are f a
-
--- Numbers that count up are below their total.
-pub counted : (next total : ℕ) (xs : List ℕ) → counts_up next total xs ≡ true → (next ≤ total) × (list_all (λ x. ltb x total) xs ≡ true)
-counted next total [] h = let e = eqb-true next total h in (omega arith, refl)
-counted next total (x ∷ xs) h =
-    elim (cases_Bool (ltb x next)) [
-      | inl low ↦
-          let rest = counted next total xs (sym (cond-true (ltb x next) (counts_up next total xs) (eqb x next && counts_up (next + 1) total xs) low) ∙ h) in
-          let lt = ltb-true x next low in
-          (rest.0, and_from (ltb x total) (list_all (λ y. ltb y total) xs) (lt-ltb x total (omega (arith, rest.0))) rest.1)
-      | inr high ↦
-          let parts = and_parts (eqb x next) (counts_up (next + 1) total xs)
-          (sym (cond-false (ltb x next) (counts_up next total xs) (eqb x next && counts_up (next + 1) total xs) high) ∙ h) in
-          let rest = counted (next + 1) total xs parts.1 in
-          let same = eqb-true x next parts.0 in
-          (omega (arith, rest.0), and_from (ltb x total) (list_all (λ y. ltb y total) xs) (lt-ltb x total (omega (arith, rest.0))) rest.1)
-    ]
 
 -- a number that all of the list are below isn't in it
 not_has : (xs : List ℕ) (n a : ℕ) → list_all (λ x. ltb x n) xs ≡ true → n ≤ a → has xs a ≡ false

@@ -1,11 +1,11 @@
 -- Features that are declared and noted one by one.
-use Rattle.std.proofs.Common.{◌≡◌, ℕ, ◌+◌, ◌<◌, ◌≤◌, Bool, true, false, not, ◌&&◌, ◌||◌, ◌⊎◌, cond, eqb, ltb, List, [], ◌∷◌, ◌++◌, map, length, set, Some, refl, sym, ap, subst, ◌∙◌, arith, inl, inr, add-one}
-use Rattle.std.proofs.lemmas.Bool.{cases_lt, lt-ltb, le-ltb, and_parts, and_from, or_cases, or_left, or_right, both_ways, not-true, not_from_false, false_from_ne_true, eq-eqb}
+use Rattle.std.proofs.Common.{◌≡◌, ℕ, ◌+◌, ◌<◌, ◌≤◌, Bool, true, false, not, ◌&&◌, ◌||◌, ◌⊎◌, cond, ltb, List, [], ◌∷◌, ◌++◌, map, length, set, Some, refl, sym, ap, subst, ◌∙◌, arith, inl, inr, add-one}
+use Rattle.std.proofs.lemmas.Bool.{cases_lt, lt-ltb, le-ltb, and_parts, and_from, or_cases, or_left, or_right, both_ways, not-true, not_from_false, false_from_ne_true}
 use Rattle.codeco_text.specs.declared.written.Domain.{Domain}
 use Rattle.codeco_text.specs.declared.written.WrittenItem.{WrittenItem}
 use Rattle.codeco_text.specs.declared.written.WrittenItem.TheVariants as item
 use Rattle.codeco_text.specs.Names.{same_bytes, is_among}
-use Rattle.codeco_text.proofs.Growth.{same_is}
+use Rattle.codeco_text.proofs.Growth.{same_is, same_bytes_refl}
 use Rattle.codeco_checked.specs.Numbering.{differ}
 use Rattle.codeco_numbering.specs.Numbered.{number_of, NamedFeature, is_open, undeclared, with_declaration, with_item, with_items, with_undeclared}
 
@@ -21,10 +21,6 @@ among_number (x ∷ xs) w = by (same_bytes w x) (among_number xs w)
       | inr ge ↦ le-ltb (number_of xs w + 1) (length (x ∷ xs)) (omega arith) ∙ sym (le-ltb (number_of xs w) (length xs) ge) ∙ rest
     ]
 
-same_self : (w : List ℕ) → same_bytes w w ≡ true
-same_self [] = refl
-same_self (b ∷ bs) = and_from (eqb b b) (same_bytes bs bs) (eq-eqb b b refl) (same_self bs)
-
 abbrev names : List NamedFeature → List (List ℕ)
 names fs = map (λ f. f.name) fs
 
@@ -33,12 +29,12 @@ module _ (name : List ℕ) (d : Domain) where
   made = record { name = name; domain = Some d }
 
   declared_there : (fs : List NamedFeature) → is_among (names (with_declaration fs name d)) name ≡ true
-  declared_there [] = or_left (same_bytes name name) false (same_self name)
+  declared_there [] = or_left (same_bytes name name) false (same_bytes_refl name)
   declared_there (f ∷ fs) = by (same_bytes name f.name && is_open f.domain) (declared_there fs)
     where
       by : (b : Bool) → is_among (names (with_declaration fs name d)) name ≡ true
           → is_among (names (cond b (made ∷ fs) (f ∷ with_declaration fs name d))) name ≡ true
-      by true rest = or_left (same_bytes name name) (is_among (names fs) name) (same_self name)
+      by true rest = or_left (same_bytes name name) (is_among (names fs) name) (same_bytes_refl name)
       by false rest = or_right (same_bytes name f.name) (is_among (names (with_declaration fs name d)) name) rest
 
   -- a closed feature of this name would be there twice

@@ -19,7 +19,7 @@ use Rattle.codeco_printer.specs.Unnumbered.{name_at, written_pattern, written_el
 use Rattle.codeco_numbering.specs.Numbered.{gathered, plain_categories, rule_names}
 use Rattle.codeco_numbering.proofs.Sound.Lowered.{lowered, lowered_append, lowered_counts}
 use Rattle.wiki_base.proofs.ListLaws.{all_weaken}
-use Rattle.codeco_numbering.proofs.Sound.Counts.{counted}
+use Rattle.codeco_checked.proofs.NumberingLemmas.{counted}
 use Rattle.codeco_printer.proofs.Tables.{gathered_counts, begins_take}
 
 -- Names

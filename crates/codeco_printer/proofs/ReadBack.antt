@@ -6,7 +6,7 @@ use Rattle.std.proofs.lemmas.List.{append-nil, map-append}
 use Rattle.std.proofs.lemmas.List.Concat.{flat_map-append}
 use Rattle.std.proofs.lemmas.Bool.{and_parts, and_from, and_left, or_parts, or_left, not-true, not-false, not_from_false, cond-true, cond-false, false_from_ne_true, ltb-true}
 use Rattle.codeco_terms.specs.declared.elements.Element.{Element}
-use Rattle.codeco_terms.specs.declared.elements.Element.TheVariants.{Terminal, Preterminal, Sub, Position, Opener, Forward, Strong, Back, NoBack}
+use Rattle.codeco_terms.specs.declared.elements.Element.TheVariants.{Terminal}
 use Rattle.codeco_terms.specs.declared.declarations.Declared.{Declared}
 use Rattle.codeco_terms.specs.declared.declarations.Declared.TheVariants as declared
 use Rattle.codeco_terms.specs.declared.declarations.Feature.{Feature}
@@ -19,7 +19,7 @@ use Rattle.codeco_text.specs.declared.written.WrittenItem.{WrittenItem}
 use Rattle.codeco_text.specs.declared.written.WrittenItem.TheVariants as item
 use Rattle.codeco_text.specs.Names.{same_bytes, is_among}
 use Rattle.codeco_text.specs.Notation.{kinds}
-use Rattle.codeco_text.proofs.Growth.{same_is}
+use Rattle.codeco_text.proofs.Growth.{same_is, same_bytes_refl}
 use Rattle.codeco_checked.specs.declared.fault.GrammarFault.TheVariants as fault
 use Rattle.codeco_checked.specs.Occurrences.{element_terminals, rule_terminals}
 use Rattle.codeco_checked.specs.Numbering.{differ, begins_with, first_features, first_atoms, declared_atoms, grammar_atoms, grammar_terminals, is_declared}
@@ -30,9 +30,9 @@ use Rattle.codeco_printer.specs.Unnumbered.{name_at, written_element, written_ru
 use Rattle.codeco_numbering.specs.Numbered.{gathered, number_of, NamedFeature, undeclared, is_open, with_declaration, with_item, with_items, with_undeclared, written_features, all_features, feature_atoms, atoms_of, numbered_domain, numbered_feature, item_rules, rules_of, rule_names, written_terminals, variable_names, numbered_rule, numbered_of}
 use Rattle.codeco_numbering.proofs.Sound.Features.{none_undeclared}
 use Rattle.wiki_base.proofs.ListLaws.{all_append, all_flat, all_weaken, all_both}
-use Rattle.codeco_numbering.proofs.Sound.Counts.{counted}
+use Rattle.codeco_checked.proofs.NumberingLemmas.{counted}
 use Rattle.codeco_printer.proofs.SoundNumbers.{is_fine, all_fine}
-use Rattle.codeco_numbering.proofs.Sound.Tables.{same_bytes_refl, differs_comm}
+use Rattle.codeco_numbering.proofs.Sound.Tables.{differs_comm}
 use Rattle.codeco_printer.proofs.Tables.{number_at, gathered_counts, begins_take}
 use Rattle.codeco_printer.proofs.CategoriesBack.{first_kinds, kinds_first, categories_back}
 use Rattle.codeco_printer.proofs.DeclaredFeatures.{features_are_declared}

@@ -1,9 +1,9 @@
 -- The names, variables and terminals that are written for a sound grammar are those of the notation.
-use Rattle.std.proofs.Common.{◌≡◌, ℕ, zero, suc, ◌<◌, Bool, true, false, ◌&&◌, ◌||◌, eqb, ltb, leb, List, [], ◌∷◌, map, length, refl, sym, ap, ◌∙◌, arith, inl, inr}
+use Rattle.std.proofs.Common.{◌≡◌, ℕ, zero, suc, ◌<◌, Bool, true, false, ◌&&◌, ◌||◌, eqb, ltb, leb, List, [], ◌∷◌, map, length, refl, sym, ap, ◌∙◌, arith}
 use Rattle.std.specs.Prelude.{slice_get}
 use Rattle.std.specs.Option.{option_map_or}
 use Rattle.std.specs.List.{list_all, list_any}
-use Rattle.std.proofs.lemmas.Bool.{and_parts, and_from, or_parts, ltb-true, le-leb, eqb-true, or_cases, or_right}
+use Rattle.std.proofs.lemmas.Bool.{and_parts, and_from, or_parts, ltb-true, le-leb, or_right}
 use Rattle.std.proofs.lemmas.List.Folds.{list_all-map as all-map}
 use Rattle.codeco_terms.specs.declared.values.Value.TheVariants.{Atom, Word, Pos}
 use Rattle.codeco_terms.specs.declared.values.Term.{Term}
@@ -25,9 +25,9 @@ use Rattle.codeco_checked.specs.Faults.{at_rule, values_of, fits_declared, is_un
 use Rattle.codeco_checked.specs.Sound.{IsSound}
 use Rattle.codeco_printer.specs.Unnumbered.{name_at, feature_name, letter, letter_byte, value_name}
 use Rattle.codeco_numbering.specs.Labels.{label_name}
-use Rattle.codeco_numbering.proofs.Sound.Counts.{counted}
 use Rattle.codeco_numbering.proofs.Sound.Faults.{at_no_rule}
 use Rattle.wiki_base.proofs.ListLaws.{all_flat, all_weaken, all_both, all_from_none, none_each, all_at}
+use Rattle.codeco_checked.proofs.NumberingLemmas.{all_has, counted}
 
 pub letter_variable : (x : ℕ) → is_variable (letter x) ≡ true
 letter_variable x =
@@ -61,17 +61,11 @@ declared_named [] f all h = absurd cc
 declared_named (x ∷ xs) zero all h = (and_parts (is_identifier x.name) (list_all (λ y. is_identifier y.name) xs) all).0
 declared_named (x ∷ xs) (suc f) all h = declared_named xs f (and_parts (is_identifier x.name) (list_all (λ y. is_identifier y.name) xs) all).1 h
 
-has_all : (p : ℕ → Bool) (xs : List ℕ) (a : ℕ) → list_all p xs ≡ true → has xs a ≡ true → p a ≡ true
-has_all p [] a all h = absurd cc
-has_all p (x ∷ xs) a all h =
-    let parts = and_parts (p x) (list_all p xs) all in
-    elim (or_cases (eqb a x) (has xs a) h) [ inl e ↦ ap p (eqb-true a x e) ∙ parts.0 | inr e ↦ has_all p xs a parts.1 e ]
-
 -- the atoms of a feature's values
 pub values_at : (p : ℕ → Bool) (features : List Feature) (f a : ℕ) → list_all (λ x. list_all p (declared_atoms x.declared)) features ≡ true
     → has (declared_atoms (option_map_or (λ x. x.declared) (slice_get features f) declared.Undeclared)) a ≡ true → p a ≡ true
 values_at p [] f a all h = absurd cc
-values_at p (x ∷ xs) zero a all h = has_all p (declared_atoms x.declared) a
+values_at p (x ∷ xs) zero a all h = all_has p (declared_atoms x.declared) a
     (and_parts (list_all p (declared_atoms x.declared)) (list_all (λ y. list_all p (declared_atoms y.declared)) xs) all).0 h
 values_at p (x ∷ xs) (suc f) a all h = values_at p xs f a
     (and_parts (list_all p (declared_atoms x.declared)) (list_all (λ y. list_all p (declared_atoms y.declared)) xs) all).1 h

@@ -21,7 +21,7 @@ use Rattle.codeco_checked.specs.Faults.{at_rule, values_of, fits_declared, is_un
 use Rattle.codeco_checked.specs.Sound.{IsSound, is_written_rule}
 use Rattle.codeco_numbering.proofs.Sound.Faults.{at_no_rule}
 use Rattle.wiki_base.proofs.ListLaws.{all_split, all_flat, flat_all, all_weaken, all_both, all_from_none, none_each}
-use Rattle.codeco_numbering.proofs.Sound.Counts.{counted}
+use Rattle.codeco_checked.proofs.NumberingLemmas.{counted}
 use Rattle.codeco_printer.proofs.SoundNames.{no_undeclared, no_bad, not_wrong, values_at}
 
 abbrev pub atom_below : GrammarParts → Term → Bool

@@ -3,13 +3,13 @@ use Rattle.std.proofs.Common.{◌≡◌, ℕ, zero, suc, ◌+◌, ◌<◌, ◌�
 use Rattle.std.specs.List.{list_all, range_with_len}
 use Rattle.std.proofs.lemmas.List.{take_all, take_more, get_or-take, length-take-le}
 use Rattle.std.proofs.lemmas.Bool.{and_parts, and_from, or_parts, or_right, cases_Bool, ltb-true, eqb-true, cond-true, cond-false, not-true, not_from_false, agree_below_at}
+use Rattle.codeco_checked.proofs.NumberingLemmas.{counted}
 use Rattle.codeco_text.specs.Names.{same_bytes, is_among}
-use Rattle.codeco_text.proofs.Growth.{same_is}
+use Rattle.codeco_text.proofs.Growth.{same_is, same_bytes_refl}
 use Rattle.codeco_checked.specs.Numbering.{counts_up, differ, begins_with}
 use Rattle.codeco_printer.specs.Unnumbered.{name_at, letter}
 use Rattle.codeco_numbering.specs.Numbered.{gathered, number_of}
-use Rattle.codeco_numbering.proofs.Sound.Tables.{same_bytes_refl, differs_comm}
-use Rattle.codeco_numbering.proofs.Sound.Counts.{counted}
+use Rattle.codeco_numbering.proofs.Sound.Tables.{differs_comm}
 
 -- a name that stands at a place is among the names
 pub among_at : (names : List (List ℕ)) (n : ℕ) → n < length names → is_among names (name_at names n) ≡ true

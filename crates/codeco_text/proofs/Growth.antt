@@ -1,17 +1,16 @@
 -- Each symbol that a reading takes stands at the end of those that it has read.
-use Rattle.std.proofs.Common.{◌≡◌, ℕ, Bool, true, false, cond, List, [], ◌∷◌, ◌++◌, map, Option, Some, None, refl, sym, ap, subst, ◌∙◌, append_assoc, arith, eqb}
+use Rattle.std.proofs.Common.{◌≡◌, ℕ, Bool, true, false, cond, List, [], ◌∷◌, ◌++◌, map, Option, Some, None, refl, sym, ap, subst, ◌∙◌, append_assoc, eqb}
 use Rattle.std.specs.Prelude.{codes, IfSome, flat_map}
 use Rattle.std.specs.Option.{option_map}
 use Rattle.std.proofs.lemmas.List.{append-nil}
 use Rattle.std.proofs.lemmas.List.Concat.{flat_map-append}
-use Rattle.std.proofs.lemmas.Bool.{and_parts, eqb-true, or_cases}
+use Rattle.std.proofs.lemmas.Bool.{and_parts, eqb-true, or_cases, and_from, eq-eqb}
 use Rattle.codeco_text.specs.declared.symbols.Sign.{Sign}
 use Rattle.codeco_text.specs.declared.symbols.Sign.TheVariants as sign
 use Rattle.codeco_text.specs.declared.symbols.Lexeme.{Lexeme}
 use Rattle.codeco_text.specs.declared.symbols.Lexeme.TheVariants as lexeme
 use Rattle.codeco_text.specs.declared.spot.Role.{Role}
 use Rattle.codeco_text.specs.declared.spot.Role.TheVariants as role
-use Rattle.codeco_text.specs.declared.spot.Part.{Part}
 use Rattle.codeco_text.specs.declared.spot.Part.TheVariants as part
 use Rattle.codeco_text.specs.declared.spot.Spot.{Spot}
 use Rattle.codeco_text.specs.declared.spot.Spot.TheVariants as spot
@@ -20,7 +19,6 @@ use Rattle.codeco_text.specs.declared.written.WrittenCategory.{WrittenCategory}
 use Rattle.codeco_text.specs.declared.written.WrittenElement.{WrittenElement}
 use Rattle.codeco_text.specs.declared.written.WrittenItem.{WrittenItem}
 use Rattle.codeco_text.specs.declared.builder.Builder.{Builder}
-use Rattle.codeco_text.specs.declared.builder.OpenRule.{OpenRule}
 use Rattle.codeco_text.specs.Names.{same_bytes}
 use Rattle.std.proofs.Common.{inl, inr}
 use Rattle.std.specs.Prelude.{◌||◌}
@@ -28,8 +26,13 @@ use Rattle.codeco_text.specs.declared.written.WrittenElement.TheVariants as elem
 use Rattle.codeco_text.specs.declared.written.Domain.TheVariants as domain
 use Rattle.codeco_text.specs.Notation.{listed, feat_lexemes, category_lexemes, named, signed, element_lexemes, item_lexemes, lexemes}
 use Rattle.codeco_text.specs.Reading.{after_identifier, after_variable, after_keyword, after_label, after_kind, after_terminal, after_category, after_sign, advance, begins_pattern}
-use Rattle.codeco_text.specs.Building.{push, identifier_at, variable_at, with_keyword, with_label, with_kind, with_terminal, sign_at, with_lexeme, settle_at, settle_into, settled_builder, close_at, closed_builder, opens_features, ready, moved, take_ready, grow, values_domain, with_declaration}
-use Rattle.codeco_text.proofs.SoFar.{opened, name_lexeme, so_far_at, so_far, role_front, part_lexemes, atoms_open, value_front, values_word}
+use Rattle.codeco_text.specs.Building.{push, identifier_at, variable_at, with_keyword, with_label, with_kind, with_terminal, sign_at, with_lexeme, settle_at, settle_into, settled_builder, close_at, closed_builder, opens_features, ready, moved, grow, values_domain, with_declaration}
+use Rattle.codeco_text.proofs.SoFar.{opened, name_lexeme, so_far_at, so_far, role_front, atoms_open, value_front, values_word}
+
+-- a text is the same as itself, and what is the same is equal
+pub same_bytes_refl : (w : List ℕ) → same_bytes w w ≡ true
+same_bytes_refl [] = refl
+same_bytes_refl (x ∷ w) = and_from (eqb x x) (same_bytes w w) (eq-eqb x x refl) (same_bytes_refl w)
 
 pub same_is : (xs ys : List ℕ) → same_bytes xs ys ≡ true → xs ≡ ys
 same_is [] [] h = refl

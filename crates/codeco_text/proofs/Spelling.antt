@@ -1,19 +1,16 @@
 -- Words, letter by letter.
-use Rattle.std.proofs.Common.{◌≡◌, ℕ, ◌<◌, ◌≤◌, Bool, true, false, cond, not, eqb, leb, ◌&&◌, ◌||◌, ◌⊎◌, List, [], ◌∷◌, ◌++◌, Option, Some, None, refl, sym, ap, subst, ◌∙◌, append_assoc, arith, inl, inr}
-use Rattle.std.specs.Prelude.{is_some, codes}
+use Rattle.std.proofs.Common.{◌≡◌, ℕ, ◌<◌, ◌≤◌, Bool, true, false, not, eqb, leb, ◌&&◌, ◌||◌, ◌⊎◌, List, [], ◌∷◌, ◌++◌, Some, refl, sym, ap, ◌∙◌, append_assoc, arith, inl, inr}
+use Rattle.std.specs.Prelude.{codes}
 use Rattle.std.specs.List.{list_all, list_any}
-use Rattle.std.proofs.lemmas.List.{append-nil}
-use Rattle.std.proofs.lemmas.List.Folds.{list_all-append}
-use Rattle.std.proofs.lemmas.Bool.{eqb-true, eq-eqb, leb-true, lt-leb, cases_Bool, both_ways, and_parts, and_from, and_right, or_cases, or_parts, or_from, or_left, or_right, not-true, not_from_false, cond-false}
-use Rattle.codeco_text.specs.declared.symbols.Lexeme.{Lexeme}
+use Rattle.std.proofs.lemmas.Bool.{eqb-true, leb-true, lt-leb, cases_Bool, both_ways, and_parts, and_from, and_right, or_cases, or_parts, or_from, or_left, or_right, not-true, cond-false}
 use Rattle.codeco_text.specs.declared.symbols.Lexeme.TheVariants as lexeme
 use Rattle.codeco_text.specs.declared.spot.Wanted.{Wanted}
 use Rattle.codeco_text.specs.declared.spot.Wanted.TheVariants as wanted
-use Rattle.codeco_text.specs.Names.{same_bytes, is_among, is_space, is_lower, is_upper, is_word_byte, is_lower_word, is_identifier, is_variable, is_terminal, is_terminal_byte, ends_well, keywords}
+use Rattle.codeco_text.specs.Names.{same_bytes, is_among, is_space, is_lower, is_upper, is_word_byte, is_lower_word, is_identifier, is_variable, keywords}
 use Rattle.codeco_text.specs.Notation.{labels, kinds, has_front}
 use Rattle.codeco_text.specs.Reading.{identifier, as_word, may_begin, may_go_on, is_front_among}
 use Rattle.codeco_text.specs.Building.{push}
-use Rattle.codeco_text.proofs.Growth.{same_is}
+use Rattle.codeco_text.proofs.Growth.{same_is, same_bytes_refl}
 use Rattle.codeco_text.proofs.Standing.{wants_names, wants_variables}
 
 -- Letters
@@ -73,10 +70,6 @@ among_front (t ∷ names) p q h = elim (or_cases (same_bytes (p ++ q) t) (is_amo
       let parts = and_parts (eqb x y) (same_bytes (p ++ q) t) e in
       and_from (eqb x y) (has_front p t) parts.0 (same_front p q t parts.1)
 
-same_self : (w : List ℕ) → same_bytes w w ≡ true
-same_self [] = refl
-same_self (x ∷ w) = and_from (eqb x x) (same_bytes w w) (eq-eqb x x refl) (same_self w)
-
 front_rest : (p t : List ℕ) → has_front p t ≡ true → (q : List ℕ) × (t ≡ p ++ q)
 front_rest [] t h = (t, refl)
 front_rest (x ∷ p) [] h = absurd cc
@@ -94,7 +87,7 @@ front_among (t ∷ names) p h = elim (or_cases (has_front p t) (is_front_among n
       let rest = front_rest p t e in (
         rest.0,
         or_left (same_bytes (p ++ rest.0) t) (is_among names (p ++ rest.0))
-            (ap (λ (u : List ℕ). same_bytes (p ++ rest.0) u) rest.1 ∙ same_self (p ++ rest.0)),
+            (ap (λ (u : List ℕ). same_bytes (p ++ rest.0) u) rest.1 ∙ same_bytes_refl (p ++ rest.0)),
       )
   | inr e ↦
       let rest = front_among names p e in

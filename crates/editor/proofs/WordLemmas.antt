@@ -6,16 +6,16 @@ use Rattle.std.specs.Str.{bytes_eq}
 use Rattle.std.proofs.lemmas.Slice.Eq.{bytes_eq-Decides}
 use Rattle.wiki_base.specs.declared.numbers.WordId.{WordId}
 use Rattle.wiki_base.proofs.OptionLaws.{option_or-first_none, option_or-second_none}
+use Rattle.lexicon.proofs.Reading.{readings_from_none}
 use Rattle.codeco_terms.specs.declared.categories.Ground.{Ground}
 use Rattle.codeco_terms.specs.GrammarParts.{GrammarParts}
-use Rattle.lexicon.specs.declared.kinds.Kind.{Kind}
 use Rattle.lexicon.specs.declared.kinds.Forms.{Forms}
 use Rattle.lexicon.specs.declared.words.Word.{Word}
 use Rattle.lexicon.specs.declared.words.LexFault.{LexFault}
 use Rattle.lexicon.specs.declared.words.LexFault.TheVariants.{Taken, Reserved}
 use Rattle.lexicon.specs.Words.{Listed, is_among, has_form, owner, next_word, with_word, first_taken, first_reserved, fullness, forms_refusal, add_refusal}
 use Rattle.lexicon.specs.Terminals.{is_reserved, raised}
-use Rattle.lexicon.specs.Readings.{reading, readings_from, readings_of_word, readings_of}
+use Rattle.lexicon.specs.Readings.{readings_of_word, readings_of}
 use Rattle.derivation_trees.specs.Settings.{Setting}
 use Rattle.derivation_trees.specs.Cutting.{is_terminal}
 use Rattle.derivation_trees.specs.Sentences.{setting_of}
@@ -26,19 +26,9 @@ use Rattle.editor.proofs.EditingLemmas.{typeable_by, whole_begins}
 
 -- Readings
 
-no_readings_from : (kind : Kind) (id : WordId) (token : List ℕ) (place : ℕ) (forms : List (List ℕ)) → is_among forms token ≡ false
-    → readings_from kind id token place forms ≡ []
-no_readings_from kind id token place [] h = refl
-no_readings_from kind id token place (form ∷ forms) h = by (bytes_eq token form) h (no_readings_from kind id token (place + 1) forms)
-  where
-    by : (b : Bool) → (b || is_among forms token) ≡ false → (is_among forms token ≡ false → readings_from kind id token (place + 1) forms ≡ [])
-        → (if b then reading kind id place form ∷ readings_from kind id token (place + 1) forms else readings_from kind id token (place + 1) forms) ≡ []
-    by true k later = true_is_false k
-    by false k later = later k
-
 -- a word without the form gives no reading
 no_readings : (token : List ℕ) (word : Word) → has_form token word ≡ false → readings_of_word token word ≡ []
-no_readings token word h = no_readings_from word.forms.kind word.id token 0 word.forms.texts h
+no_readings token word h = readings_from_none word.forms.kind word.id token 0 word.forms.texts h
 
 -- a form that no word has reads as nothing
 unread : (live : List Word) (token : List ℕ) → owner live token ≡ None → readings_of live token ≡ []

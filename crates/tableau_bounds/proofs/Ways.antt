@@ -6,6 +6,7 @@ use Rattle.std.specs.Option.{option_map_or}
 use Rattle.std.proofs.lemmas.Bool.{and_from, and_parts, or_cases, or_left, or_right, or_parts, or_from, false_from_ne_true, not_from_false}
 use Rattle.std.proofs.lemmas.List.{length-map}
 use Rattle.wiki_base.proofs.BoolLaws.{not_both}
+use Rattle.tableau_rules.proofs.Climbing.{climb-top}
 use Rattle.logic_terms.specs.Concept.{Concept}
 use Rattle.logic_terms.specs.Same.{same_concept, has_concept}
 use Rattle.logic_terms.specs.Theory.{Theory}
@@ -16,10 +17,6 @@ use Rattle.tableau_bounds.specs.Enough.{class_occurrences, class_count}
 use Rattle.tableau_bounds.proofs.Parts.{Within}
 use Rattle.tableau_bounds.proofs.Stepping.{ParentsBelow}
 use Rattle.tableau_bounds.proofs.Subsets.{alike, agree, Apart, most_apart}
-
-climb-none : (n : ℕ) (g : Graph) (x : ℕ) → parent_of g x ≡ None → climb n g x ≡ []
-climb-none zero g x up = refl
-climb-none (suc n) g x up = ap (λ o. option_map_or (λ p. p ∷ climb n g p) o []) up
 
 climb-some : (n : ℕ) (g : Graph) (x p : ℕ) → parent_of g x ≡ Some p → climb (suc n) g x ≡ p ∷ climb n g p
 climb-some n g x p up = ap (λ o. option_map_or (λ p. p ∷ climb n g p) o []) up
@@ -34,15 +31,15 @@ parent_cases g x = cases_parent (parent_of g x)
 -- x steps suffice to climb from x
 climb_enough : (n m : ℕ) (g : Graph) → ParentsBelow g → (x : ℕ) → x ≤ n → x ≤ m → climb n g x ≡ climb m g x
 climb_enough zero m g down x low high = elim (parent_cases g x) [
-  | inl up ↦ climb-none zero g x up ∙ sym (climb-none m g x up)
+  | inl up ↦ climb-top zero g x up ∙ sym (climb-top m g x up)
   | inr (p, up) ↦ (let lt = down x p up in absurd (omega arith))
 ]
 climb_enough (suc n) zero g down x low high = elim (parent_cases g x) [
-  | inl up ↦ climb-none (suc n) g x up ∙ sym (climb-none zero g x up)
+  | inl up ↦ climb-top (suc n) g x up ∙ sym (climb-top zero g x up)
   | inr (p, up) ↦ (let lt = down x p up in absurd (omega arith))
 ]
 climb_enough (suc n) (suc m) g down x low high = elim (parent_cases g x) [
-  | inl up ↦ climb-none (suc n) g x up ∙ sym (climb-none (suc m) g x up)
+  | inl up ↦ climb-top (suc n) g x up ∙ sym (climb-top (suc m) g x up)
   | inr (p, up) ↦ (let lt = down x p up in
       climb-some n g x p up ∙ ap (λ l. p ∷ l) (climb_enough n m g down p (omega arith) (omega arith)) ∙ sym (climb-some m g x p up))
 ]
@@ -56,7 +53,7 @@ ancestors-some g down x p up = go x (down x p up) up
     go (suc y) lt at = climb-some y g (suc y) p at ∙ ap (λ l. p ∷ l) (climb_enough y p g down p (omega arith) (omega arith))
 
 pub ancestors-none : (g : Graph) (x : ℕ) → parent_of g x ≡ None → ancestors g x ≡ []
-ancestors-none g x up = climb-none x g x up
+ancestors-none g x up = climb-top x g x up
 
 pub indirectly-some : (k : Theory) (g : Graph) → ParentsBelow g → (x p : ℕ) → parent_of g x ≡ Some p → is_indirectly_blocked k g x ≡ is_blocked k g p
 indirectly-some k g down x p up = ap (blocks k g) (ancestors-some g down x p up)
@@ -66,7 +63,7 @@ climb_same : (n : ℕ) (g h : Graph) → ParentsBelow g → ((y : ℕ) → y < l
     → climb n h x ≡ climb n g x
 climb_same zero g h down same x lt = refl
 climb_same (suc n) g h down same x lt = elim (parent_cases g x) [
-  | inl up ↦ climb-none (suc n) h x (same x lt ∙ up) ∙ sym (climb-none (suc n) g x up)
+  | inl up ↦ climb-top (suc n) h x (same x lt ∙ up) ∙ sym (climb-top (suc n) g x up)
   | inr (p, up) ↦
       climb-some n h x p (same x lt ∙ up) ∙ ap (λ l. p ∷ l) (climb_same n g h down same p (through p x (length g.nodes) (down x p up) lt))
       ∙ sym (climb-some n g x p up)

@@ -9,16 +9,16 @@ use Rattle.std.proofs.lemmas.Slice.Eq.{bytes_eq-Decides}
 use Rattle.wiki_base.specs.declared.numbers.WordId.{WordId}
 use Rattle.wiki_base.proofs.OptionLaws.{option_or-none}
 use Rattle.wiki_base.proofs.ListLaws.{AllPairs-head, AllPairs-tail}
+use Rattle.lexicon.proofs.Reading.{readings_from_none}
 use Rattle.codeco_terms.specs.declared.categories.Ground.{Ground}
 use Rattle.codeco_terms.specs.GrammarParts.{GrammarParts}
 use Rattle.scopes.specs.Resolution.{agrees}
-use Rattle.lexicon.specs.declared.kinds.Kind.{Kind}
 use Rattle.lexicon.specs.declared.kinds.Forms.{Forms}
 use Rattle.lexicon.specs.declared.words.Word.{Word}
 use Rattle.lexicon.specs.declared.words.LexFault.TheVariants.{Taken, Reserved}
 use Rattle.lexicon.specs.Terminals.{is_spelling_of, is_reserved, raised}
 use Rattle.lexicon.specs.Words.{Listed, is_among, has_form, has_number, owner, forms_of, others, next_word, with_word, with_forms, without_word, first_taken, first_reserved, fullness, forms_refusal, add_refusal}
-use Rattle.lexicon.specs.Readings.{reading, readings_from, readings_of_word, readings_of}
+use Rattle.lexicon.specs.Readings.{readings_of_word, readings_of}
 use Rattle.derivation_trees.specs.Trees.{Node}
 use Rattle.derivation_trees.specs.Derives.{IsDerivation}
 use Rattle.derivation_trees.specs.Sentences.{setting_of}
@@ -76,17 +76,6 @@ means_by g words new tokens meaning same means =
     }
 
 -- ---- readings by other words
-
--- a token that is none of the forms has no readings
-readings_from_none : (kind : Kind) (id : WordId) (token : List ℕ) (place : ℕ) (forms : List (List ℕ)) → is_among forms token ≡ false
-    → readings_from kind id token place forms ≡ []
-readings_from_none kind id token place [] lacks = refl
-readings_from_none kind id token place (form ∷ forms) lacks = by_test (bytes_eq token form) lacks (readings_from_none kind id token (place + 1) forms)
-  where
-    by_test : (b : Bool) → (b || is_among forms token) ≡ false → (is_among forms token ≡ false → readings_from kind id token (place + 1) forms ≡ [])
-        → cond b (reading kind id place form ∷ readings_from kind id token (place + 1) forms) (readings_from kind id token (place + 1) forms) ≡ []
-    by_test true lacks rest = absurd (false≢true (sym lacks))
-    by_test false lacks rest = rest lacks
 
 -- a word without the token has no readings of it
 word_reads_none : (token : List ℕ) (word : Word) → has_form token word ≡ false → readings_of_word token word ≡ []

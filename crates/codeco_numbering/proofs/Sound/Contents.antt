@@ -44,7 +44,7 @@ numbered_in items r = numbered_rule (tables_of items r) r
 
 -- Atoms
 
-domain_numbers : (atoms : List (List ℕ)) (d : Option Domain) → declared_atoms (numbered_domain atoms d) ≡ map (number_of atoms) (feature_atoms d)
+pub domain_numbers : (atoms : List (List ℕ)) (d : Option Domain) → declared_atoms (numbered_domain atoms d) ≡ map (number_of atoms) (feature_atoms d)
 domain_numbers atoms None = refl
 domain_numbers atoms (Some domain.Words) = refl
 domain_numbers atoms (Some domain.Positions) = refl
@@ -65,11 +65,11 @@ atoms_count_up items =
 
 -- Terminals
 
-element_numbers : (t : Tables) (e : WrittenElement) → element_terminals (numbered_element t e) ≡ map (number_of t.terminals) (written_terminals e)
+pub element_numbers : (t : Tables) (e : WrittenElement) → element_terminals (numbered_element t e) ≡ map (number_of t.terminals) (written_terminals e)
 element_numbers t (element.Terminal w) = refl
 element_numbers t e = refl
 
-body_numbers : (t : Tables) (es : List WrittenElement)
+pub body_numbers : (t : Tables) (es : List WrittenElement)
     → flat_map element_terminals (map (numbered_element t) es) ≡ map (number_of t.terminals) (flat_map written_terminals es)
 body_numbers t [] = refl
 body_numbers t (e ∷ es) =

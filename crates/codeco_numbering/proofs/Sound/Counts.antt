@@ -1,32 +1,15 @@
 -- How many numbers are given by first occurrence.
-use Rattle.std.proofs.Common.{◌≡◌, ℕ, ◌+◌, ◌≤◌, Bool, true, false, ◌&&◌, ◌||◌, cond, eqb, ltb, List, [], ◌∷◌, ◌++◌, map, length, refl, sym, ap, ◌∙◌, arith, inl, inr}
+use Rattle.std.proofs.Common.{◌≡◌, ℕ, ◌+◌, ◌≤◌, Bool, true, false, ◌&&◌, ◌||◌, cond, eqb, List, [], ◌∷◌, ◌++◌, map, length, refl, sym, ap, ◌∙◌, arith, inl, inr}
 use Rattle.std.specs.List.{list_all}
 use Rattle.std.proofs.lemmas.List.{length-append}
-use Rattle.std.proofs.lemmas.Bool.{and_parts, and_from, or_left, or_right, or_from, cases_Bool, ltb-true, lt-ltb, eqb-true, eq-eqb, ne_eqb, both_ways, cond-true, cond-false}
+use Rattle.std.proofs.lemmas.Bool.{and_parts, and_from, or_left, or_right, or_from, cases_Bool, eq-eqb, ne_eqb, both_ways, cond-true, cond-false}
 use Rattle.codeco_text.specs.Names.{same_bytes, is_among}
-use Rattle.codeco_text.proofs.Growth.{same_is}
-use Rattle.codeco_checked.specs.Numbering.{has, counts_up, count_different}
+use Rattle.codeco_text.proofs.Growth.{same_is, same_bytes_refl}
+use Rattle.codeco_checked.specs.Numbering.{has, count_different}
 use Rattle.codeco_checked.specs.Faults.{count_texts}
 use Rattle.codeco_numbering.specs.Numbered.{gathered, number_of}
 use Rattle.wiki_base.proofs.ListLaws.{all_weaken}
-use Rattle.codeco_numbering.proofs.Sound.Tables.{same_bytes_refl, is_same, differs_comm, among_append, among_words, number_injective}
-
--- numbers that are given by first occurrence are below their total
-pub counted : (next total : ℕ) (xs : List ℕ) → counts_up next total xs ≡ true → (next ≤ total) × (list_all (λ x. ltb x total) xs ≡ true)
-counted next total [] h = let e = eqb-true next total h in (omega arith, refl)
-counted next total (x ∷ xs) h =
-    elim (cases_Bool (ltb x next)) [
-      | inl low ↦
-          let rest = counted next total xs (sym (cond-true (ltb x next) (counts_up next total xs) (eqb x next && counts_up (next + 1) total xs) low) ∙ h) in
-          let lt = ltb-true x next low in
-          (rest.0, and_from (ltb x total) (list_all (λ y. ltb y total) xs) (lt-ltb x total (omega (arith, rest.0))) rest.1)
-      | inr high ↦
-          let parts = and_parts (eqb x next) (counts_up (next + 1) total xs)
-          (sym (cond-false (ltb x next) (counts_up next total xs) (eqb x next && counts_up (next + 1) total xs) high) ∙ h) in
-          let rest = counted (next + 1) total xs parts.1 in
-          let same = eqb-true x next parts.0 in
-          (omega (arith, rest.0), and_from (ltb x total) (list_all (λ y. ltb y total) xs) (lt-ltb x total (omega (arith, rest.0))) rest.1)
-    ]
+use Rattle.codeco_numbering.proofs.Sound.Tables.{is_same, differs_comm, among_append, among_words, number_injective}
 
 -- words that are all among names
 

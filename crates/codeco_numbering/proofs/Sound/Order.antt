@@ -147,7 +147,7 @@ whole_every t n ((k, term.Taken w) ∷ fs) h s =
 
 -- Variables
 
-term_numbered : (t : Tables) (w : WrittenTerm) → term_variables (numbered_term t w) ≡ map (number_of t.variables) (term_names w)
+pub term_numbered : (t : Tables) (w : WrittenTerm) → term_variables (numbered_term t w) ≡ map (number_of t.variables) (term_names w)
 term_numbered t (term.Atom w) = refl
 term_numbered t (term.Variable w) = refl
 term_numbered t (term.Taken w) = refl

@@ -2,6 +2,7 @@
 use Rattle.std.proofs.Common.{◌≡◌, ℕ, ◌+◌, ◌≤◌, ◌<◌, true, not, ◌&&◌, ltb, leb, List, [], ◌∷◌, map, refl, arith}
 use Rattle.std.specs.List.{list_all}
 use Rattle.std.proofs.lemmas.Bool.{and_parts, and_from, leb-true, lt-ltb, le-leb}
+use Rattle.codeco_checked.proofs.NumberingLemmas.{ascends_tail}
 use Rattle.codeco_text.specs.declared.written.WrittenTerm.{WrittenTerm}
 use Rattle.codeco_text.specs.declared.written.WrittenTerm.TheVariants as term
 use Rattle.codeco_text.specs.declared.written.WrittenCategory.{WrittenCategory}
@@ -19,10 +20,6 @@ use Rattle.codeco_numbering.proofs.Sound.Order.{rises, order_rises, ordered_plai
 use Rattle.codeco_numbering.proofs.Sound.Spelled.{feat_spelled, element_spelled}
 
 -- Order
-
-ascends_tail : (n : ℕ) (xs : List ℕ) → ascends (n ∷ xs) ≡ true → ascends xs ≡ true
-ascends_tail n [] h = refl
-ascends_tail n (x ∷ xs) h = (and_parts (leb n x) (ascends (x ∷ xs)) h).1
 
 ascends_from : (m n : ℕ) (xs : List ℕ) → m ≤ n → ascends (n ∷ xs) ≡ true → ascends (m ∷ xs) ≡ true
 ascends_from m n [] le h = refl

@@ -4,13 +4,9 @@ use Rattle.std.specs.Prelude.{slice_get}
 use Rattle.std.proofs.lemmas.List.{length-append}
 use Rattle.std.proofs.lemmas.Bool.{and_parts, and_from, or_parts, or_cases, or_left, or_right, or_from, cases_Bool, lt-ltb, le-ltb, eq-eqb, both_ways, cond-true, cond-false, not-true, not_from_false, false_from_ne_true}
 use Rattle.codeco_text.specs.Names.{same_bytes, is_among}
-use Rattle.codeco_text.proofs.Growth.{same_is}
+use Rattle.codeco_text.proofs.Growth.{same_is, same_bytes_refl}
 use Rattle.codeco_checked.specs.Numbering.{counts_up, differ}
 use Rattle.codeco_numbering.specs.Numbered.{gathered, number_of}
-
-pub same_bytes_refl : (w : List ℕ) → same_bytes w w ≡ true
-same_bytes_refl [] = refl
-same_bytes_refl (b ∷ bs) = and_from (eqb b b) (same_bytes bs bs) (eq-eqb b b refl) (same_bytes_refl bs)
 
 pub is_same : (v w : List ℕ) → v ≡ w → same_bytes v w ≡ true
 is_same v w e = subst (λ x. same_bytes v x ≡ true) e (same_bytes_refl v)
@@ -166,7 +162,7 @@ number_kept names (u ∷ ws) w h =
           ∙ number_append names (u ∷ []) w h
     ]
 
-differ_push : (names : List (List ℕ)) (w : List ℕ) → differ names ≡ true → is_among names w ≡ false → differ (names ++ w ∷ []) ≡ true
+pub differ_push : (names : List (List ℕ)) (w : List ℕ) → differ names ≡ true → is_among names w ≡ false → differ (names ++ w ∷ []) ≡ true
 differ_push [] w d h = refl
 differ_push (x ∷ xs) w d h =
     let ds = and_parts (not (is_among xs x)) (differ xs) d in

@@ -136,7 +136,8 @@ one_reads (first ∷ live) zero word token lives alone =
     ap (λ l. readings_of_word token first ++ l) (none_read live token (λ j other e. alone (suc j) other e (λ z. absurd (omega arith))))
     ∙ append-nil (readings_of_word token first) ∙ ap (readings_of_word token) (same_Some first word lives)
 one_reads (first ∷ live) (suc place) word token lives alone =
-    ap (λ l. l ++ readings_of live token) (readings_from_none first.forms.kind first.id token 0 first.forms.texts (alone 0 first refl (λ z. absurd (omega arith))))
+    ap (λ l. l ++ readings_of live token)
+    (readings_from_none first.forms.kind first.id token 0 first.forms.texts (alone 0 first refl (λ z. absurd (omega arith))))
     ∙ one_reads live place word token lives (λ j other e n. alone (suc j) other e (λ z. n (omega arith)))
 
 at_default : {X : Type 0} (xs : List X) (i : ℕ) (x d : X) → slice_get xs i ≡ Some x → (i < length xs) × (get_or xs i d ≡ x)

@@ -1,8 +1,7 @@
 -- Cut-off nodes, and the ways in which rules are cut off.
 use Rattle.std.proofs.lemmas.List.{take_more}
-use Rattle.std.proofs.Common.{◌≡◌, ℕ, suc, ◌+◌, ◌-◌, ◌<◌, ◌≤◌, get_or, List, [], ◌∷◌, ◌++◌, Bool, true, false, length, take, drop, Some, None, refl, sym, ap, ◌∙◌, subst, arith, inl, inr}
+use Rattle.std.proofs.Common.{◌≡◌, ℕ, ◌+◌, ◌-◌, ◌<◌, ◌≤◌, get_or, List, [], ◌∷◌, ◌++◌, length, take, drop, Some, refl, sym, ap, ◌∙◌, subst, arith, inl, inr}
 use Rattle.std.specs.Prelude.{if◌then◌else◌, ◌==◌, slice_get}
-use Rattle.std.proofs.lemmas.Option.{slice_get_within}
 use Rattle.codeco_terms.specs.declared.values.Value.{Value}
 use Rattle.codeco_terms.specs.declared.elements.Element.{Element}
 use Rattle.codeco_terms.specs.declared.rules.Rule.{Rule}
@@ -161,10 +160,6 @@ after_more s rule starts n m i e states news lt is after steps next =
     }
 
 -- all cut-off phrases
-
-    by_none : (b : Bool) → (suc n == 0) ≡ b → (if b then None else slice_get s.grammar.rules (suc n - 1)) ≡ Some rule → suc n ≤ length s.grammar.rules
-    by_none true e h = absurd (cc)
-    by_none false e h = let lt = slice_get_within s.grammar.rules (suc n - 1) rule h in omega arith
 
 -- the cut-off phrases of all rules with the name are those of the category
 pub cuts_up_to : (s : Setting) (aim : Aims) (name : ℕ) (known : Binds) (at : At) (cuts : List Cut)

@@ -87,16 +87,6 @@ or_last true b c = refl
 or_last false true c = refl
 or_last false false c = refl
 
-    by : (b : Bool) → is_among names x ≡ b → ((ns : List (List ℕ)) → is_among (gathered ns xs) w ≡ (is_among ns w || is_among xs w))
-        → is_among (gathered names (x ∷ xs)) w ≡ (is_among names w || (same_bytes w x || is_among xs w))
-    by true e rest =
-        ap (λ b. is_among (gathered (cond b names (names ++ x ∷ [])) xs) w) e ∙ rest names
-        ∙ old (is_among names w) (same_bytes w x) (is_among xs w) (λ s. subst (λ y. is_among names y ≡ true) (sym (same_is w x s)) e)
-    by false e rest =
-        ap (λ b. is_among (gathered (cond b names (names ++ x ∷ [])) xs) w) e ∙ rest (names ++ x ∷ [])
-        ∙ ap (λ b. b || is_among xs w) (among_append names (x ∷ []) w)
-        ∙ or_last (is_among names w) (same_bytes w x) (is_among xs w)
-
 pub all_in : (names ws : List (List ℕ)) → ((w : List ℕ) → is_among ws w ≡ true → is_among names w ≡ true) → all_among names ws ≡ true
 all_in names [] h = refl
 all_in names (w ∷ ws) h =

@@ -134,7 +134,8 @@ finds_large rules o is = subst (FindsFirst (λ n. is_large_place rules n ≡ tru
 -- the place of the first rule with an undeclared feature
 pub finds_undeclared : (names : List (List ℕ)) (rules : List WrittenRule) (o : Option ℕ) → first_rule (undeclared_at names) 0 rules ≡ o
     → FindsFirst (λ n. at_written_rule (is_undeclared_written_rule names) rules n ≡ true) o
-finds_undeclared names rules o is = subst (FindsFirst (λ n. at_written_rule (is_undeclared_written_rule names) rules n ≡ true)) is (finds (undeclared_at names) rules)
+finds_undeclared names rules o is = subst (FindsFirst (λ n. at_written_rule (is_undeclared_written_rule names) rules n ≡ true)) is
+    (finds (undeclared_at names) rules)
 
 -- one turn of a loop over items that looks for a rule
 module _ (test : ℕ → WrittenRule → Bool) (xs : List WrittenItem) (i n : ℕ) (left : first_rule test n (rules_of (drop i xs)) ≡ first_rule test 0 (rules_of xs))

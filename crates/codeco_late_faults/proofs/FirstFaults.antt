@@ -56,7 +56,8 @@ is_first g fault h below same = record {
 }
 
 -- where a fault of rules holds at a first place
-pub first_of : (g : GrammarParts) (k : ℕ) (F : ℕ → GrammarFault) (P : Rule → Type 0) → IsRuleFault g k F P → NoneBelow g k → (i : ℕ) → IsFirstPlace (IsAt P g.rules) i
+pub first_of : (g : GrammarParts) (k : ℕ) (F : ℕ → GrammarFault) (P : Rule → Type 0) → IsRuleFault g k F P → NoneBelow g k → (i : ℕ)
+    → IsFirstPlace (IsAt P g.rules) i
     → IsFirst g (F (i + 1))
 first_of g k F P is below i first =
     is_first g (F (i + 1)) (is.holds i first.holds.0 first.holds.1 first.holds.2)

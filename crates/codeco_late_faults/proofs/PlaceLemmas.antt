@@ -29,7 +29,8 @@ not_before_more P xs i y lt is here below = λ k less at.
           here (subst P (same_Some at.0 y (sym at.1 ∙ ap (slice_get xs) same ∙ slice_get_at xs i y lt is)) at.2)
     ]
 
-pub first_here : {X : Type 0} (P : X → Type 0) (xs : List X) (i : ℕ) (y : X) → i < length xs → y ≡ get_or xs i y → P y → NotBefore P xs i → IsFirstPlace (IsAt P xs) i
+pub first_here : {X : Type 0} (P : X → Type 0) (xs : List X) (i : ℕ) (y : X) → i < length xs → y ≡ get_or xs i y → P y → NotBefore P xs i
+    → IsFirstPlace (IsAt P xs) i
 first_here P xs i y lt is here below = record {
   holds = (y, slice_get_at xs i y lt is, here);
   least = below;

@@ -6,7 +6,8 @@ use Rattle.codeco_early_faults.proofs.early.first_early_fault.Goals as goal
 
 pub returns-in-Some-clause-first : goal.returns-in-Some-clause-first
 returns-in-Some-clause-first c =
-    first_large c.args.items.now c.requires c.in-Some.place (subst (FindsFirst (λ n. is_too_large_place c.args.items.now n ≡ true)) c.in-Some.is c.in_ok-place.ensures)
+    first_large c.args.items.now c.requires c.in-Some.place
+    (subst (FindsFirst (λ n. is_too_large_place c.args.items.now n ≡ true)) c.in-Some.is c.in_ok-place.ensures)
 
 pub first_undeclared_rule-requires : goal.first_undeclared_rule-requires
 first_undeclared_rule-requires c =

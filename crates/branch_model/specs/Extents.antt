@@ -1,4 +1,4 @@
--- The elements of class words, and the pairs of relation words, in a branch's model.
+-- The elements of class words, and the pairs of relation words, in a branch's model. Only private calls speak of it.
 use Rattle.std.specs.Prelude.{ℕ, ◌+◌, List, [], ◌∷◌, Option, Some, None, slice_get, if◌then◌else◌}
 use Rattle.std.specs.Option.{option_map_or, option_and_then}
 use Rattle.wiki_base.specs.declared.numbers.WordId.{WordId}

@@ -1,4 +1,4 @@
--- Where a node may stand after one more element, as a list of states.
+-- Where a node may stand after one more element, as a list of states. Only private calls speak of it.
 use Rattle.std.specs.Prelude.{◌≡◌, ℕ, ◌+◌, if◌then◌else◌, Bool, true, false, List, [], ◌∷◌, ◌++◌, map, slice_get, Option, Some, None, ◌⊎◌, flat_map, unwrap_or}
 use Rattle.std.specs.List.{list_any}
 use Rattle.codeco_terms.specs.declared.values.Value.{Value}

@@ -1,4 +1,4 @@
--- The table of least trees.
+-- The table of least trees. Only private calls speak of it.
 use Rattle.std.specs.Prelude.{◌≡◌, ℕ, List, slice_get, Some, All}
 use Rattle.scopes.specs.declared.entries.Entry.{Entry}
 use Rattle.scopes.specs.declared.agreement.Test.{Test}

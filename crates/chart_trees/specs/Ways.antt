@@ -1,4 +1,4 @@
--- The ways over the elements of a rule, and the paths that are no later than others.
+-- The ways over the elements of a rule, and the paths that are no later than others. Only private calls speak of it.
 use Rattle.std.specs.Prelude.{◌≡◌, ℕ, List, [], ◌∷◌, ◌++◌, ◌⊎◌}
 use Rattle.std.specs.Option.{option_map_or}
 use Rattle.std.specs.List.{flat_map}

@@ -1,4 +1,4 @@
--- How often names stand in a list.
+-- How often names stand in a list. Only private calls speak of it.
 use Rattle.std.specs.Prelude.{ℕ, nat_lt, count_by, Bool, List}
 use Rattle.std.specs.List.{list_any}
 use Rattle.codeco_text.specs.Names.{same_bytes}

@@ -1,4 +1,4 @@
--- Different pairs of names, in the order of their first occurrence.
+-- Different pairs of names, in the order of their first occurrence. Only private calls speak of it.
 use Rattle.std.specs.Prelude.{ℕ, ◌&&◌, if◌then◌else◌, Bool, List, [], ◌∷◌, ◌++◌}
 use Rattle.std.specs.List.{list_any}
 use Rattle.codeco_text.specs.Names.{same_bytes}

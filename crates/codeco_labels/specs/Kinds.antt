@@ -1,4 +1,4 @@
--- The kinds that a category may still have, by what is known of it.
+-- The kinds that a category may still have, by what is known of it. Only private calls speak of it.
 use Rattle.std.specs.Prelude.{if◌then◌else◌, Bool, true, false, not}
 use Rattle.codeco_checked.specs.declared.labels.Kind.{Kind}
 use Rattle.codeco_checked.specs.declared.labels.Kind.TheVariants.{Sentence, Mark}

@@ -1,4 +1,4 @@
--- What of a body matters to its rule's label.
+-- What of a body matters to its rule's label. Only private calls speak of it.
 use Rattle.std.specs.Prelude.{ℕ, ◌==◌, nat_lt, if◌then◌else◌, Bool, true, false, not, ◌&&◌, ◌||◌, List, slice_index_or, Option, Some, None, fold}
 use Rattle.std.specs.List.{list_all}
 use Rattle.std.specs.Option.{option_map_or}

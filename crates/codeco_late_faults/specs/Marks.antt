@@ -1,4 +1,4 @@
--- Sets of small numbers, as the list of what holds of 0, of 1 and so on.
+-- Sets of small numbers, as the list of what holds of 0, of 1 and so on. Only private calls speak of it.
 use Rattle.std.specs.Prelude.{◌≡◌, ℕ, Bool, true, false, List, [], ◌∷◌, slice_set, replicate}
 
 -- the set with these numbers too, as far as it has room

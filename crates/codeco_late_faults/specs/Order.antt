@@ -1,4 +1,4 @@
--- Features in order of number, and those that stand twice.
+-- Features in order of number, and those that stand twice. Only private calls speak of it.
 use Rattle.std.specs.Prelude.{ℕ, Bool, ◌&&◌, List, map}
 use Rattle.std.specs.List.{list_any}
 use Rattle.codeco_terms.specs.declared.categories.Category.{Category}

@@ -1,4 +1,4 @@
--- Steps from one number to another, and what they reach.
+-- Steps from one number to another, and what they reach. Only private calls speak of it.
 use Rattle.std.specs.Prelude.{◌≡◌, ℕ, ◌+◌, ◌==◌, Bool, false, not, if◌then◌else◌, List, [], ◌∷◌, length, slice_index_or, IsTrue, ◌⊎◌, count_by, flat_map}
 use Rattle.std.specs.Option.{option_to_list}
 use Rattle.codeco_terms.specs.declared.rules.Rule.{Rule}

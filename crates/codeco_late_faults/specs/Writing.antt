@@ -1,4 +1,4 @@
--- What a rule writes, element by element.
+-- What a rule writes, element by element. Only private calls speak of it.
 use Rattle.std.specs.Prelude.{ℕ, List, [], ◌++◌, map, flat_map}
 use Rattle.codeco_terms.specs.declared.values.Term.{Term}
 use Rattle.codeco_terms.specs.declared.values.Term.TheVariants.{Var}

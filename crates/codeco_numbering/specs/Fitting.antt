@@ -1,4 +1,4 @@
--- What has to fit the number types.
+-- What has to fit the number types. Only private calls speak of it.
 use Rattle.std.specs.Prelude.{◌<◌, length}
 use Rattle.codeco_text.specs.declared.written.WrittenRule.{WrittenRule}
 use Rattle.codeco_numbering.specs.declared.tables.GrammarTables.{GrammarTables}

@@ -1,4 +1,4 @@
--- The elements that look at the tokens.
+-- The elements that look at the tokens. Only private calls speak of it.
 use Rattle.std.specs.Prelude.{Bool, true, false}
 use Rattle.codeco_terms.specs.declared.elements.Element.{Element}
 use Rattle.codeco_terms.specs.declared.elements.Element.TheVariants.{Terminal, Preterminal}

@@ -1,4 +1,4 @@
--- Whether there is a partial derivation, by listing the fronts of rules.
+-- Whether there is a partial derivation, by listing the fronts of rules. Only private calls speak of it.
 use Rattle.std.specs.Prelude.{◌≡◌, ℕ, zero, suc, ◌+◌, ◌*◌, ◌==◌, ◌&&◌, ◌||◌, Bool, false, List, [], ◌∷◌, length}
 use Rattle.std.specs.List.{list_any, flat_map}
 use Rattle.codeco_terms.specs.declared.values.Value.{Value}

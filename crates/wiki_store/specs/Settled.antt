@@ -1,4 +1,4 @@
--- Statements that need no search.
+-- Statements that need no search. Only private calls speak of it.
 use Rattle.logic_terms.specs.Interpretation.{Interpretation}
 use Rattle.logic_terms.specs.Reading.{IsModel}
 use Rattle.wiki_parts.specs.Meanings.{Meaning, stating}

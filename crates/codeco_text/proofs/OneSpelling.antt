@@ -317,6 +317,8 @@ domain_split : (c d : Domain) (r s : List Lexeme) → domain_lexemes c ++ lexeme
 unfolding domain_head
 domain_split domain.Words domain.Words r s e = (refl, tail_is (tail_is e))
 domain_split domain.Positions domain.Positions r s e = (refl, tail_is (tail_is e))
+domain_split domain.Words domain.Positions r s e = absurd cc
+domain_split domain.Positions domain.Words r s e = absurd cc
 domain_split (domain.Atoms []) (domain.Atoms []) r s e = (refl, tail_is e)
 domain_split (domain.Atoms (a ∷ others)) (domain.Atoms (b ∷ bs)) r s e =
     let all = atoms_split a others b bs r s e in

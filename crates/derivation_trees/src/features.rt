@@ -37,7 +37,7 @@ fn place_for(numbers: &[u16], number: u16) -> Option<usize>
 }
 
 /// The features of a category, in order of number.
-#[tactic(auto, using(crate::proofs::PutLemmas::put_all_append, crate::proofs::RangeLemmas::put_all_range))]
+#[tactic(auto, using(crate::proofs::PutLemmas::put_all_append))]
 pub fn features_of(alloc: Global, grammar: &Grammar, name: u16) -> Result<Vec<u16>, Memory>
     ensures { IfOk result (λ features. features.items ≡ instances.features_of grammar.now name) }
 {

@@ -3,5 +3,4 @@ pub mod Numbering
 pub mod Faults
 pub mod Labels
 pub mod Sound
-pub mod First
 pub mod FirstFault

@@ -4,18 +4,17 @@ use Rattle.std.specs.Prelude.{slice_get}
 use Rattle.std.specs.List.{list_any, list_all}
 use Rattle.std.specs.Option.{option_map_or}
 use Rattle.std.proofs.lemmas.List.{at_drop_more, at_drop_all}
-use Rattle.std.proofs.lemmas.Bool.{both_ways, cases_Bool, cases_order, and_left, and_right, ltb-true, ltb-false, lt-ltb, le-ltb, eqb-true}
+use Rattle.std.proofs.lemmas.Bool.{cases_Bool, cases_order, and_left, and_right, ltb-true, ltb-false, lt-ltb, le-ltb, eqb-true}
 use Rattle.std.proofs.Math.Bool.{or-false as last}
 use Rattle.wiki_base.proofs.ListLaws.{all_same}
-use Rattle.codeco_numbering.proofs.Sound.Tables.{among_gathered}
 use Rattle.codeco_text.specs.declared.written.Domain.{Domain}
 use Rattle.codeco_text.specs.declared.written.WrittenRule.{WrittenRule}
 use Rattle.codeco_text.specs.declared.written.WrittenItem.{WrittenItem}
 use Rattle.codeco_text.specs.declared.written.WrittenItem.TheVariants as item
 use Rattle.codeco_text.specs.Names.{is_among}
 use Rattle.codeco_numbering.specs.Numbered.{gathered, rules_of, item_rules}
-use Rattle.codeco_checked.specs.First.{FindsFirst}
-use Rattle.codeco_early_faults.specs.Early.{is_large_written_rule, is_undeclared_written_rule, at_written_rule, is_large_place}
+use Rattle.codeco_numbering.proofs.Sound.Tables.{among_gathered}
+use Rattle.codeco_early_faults.specs.Early.{is_large_written_rule, is_undeclared_written_rule, at_written_rule, is_large_place, FindsFirst}
 
 -- the number of the first rule that passes a test, which may ask for its number too, where n rules stand before
 abbrev pub first_rule : (ℕ → WrittenRule → Bool) → ℕ → List WrittenRule → Option ℕ
@@ -33,9 +32,9 @@ abbrev pub at_place : (ℕ → WrittenRule → Bool) → ℕ → List WrittenRul
 at_place test k rules n = ltb k n && option_map_or (test n) (slice_get rules (n - k - 1)) false
 
 -- the same test finds the same place
-pub finds_same : (P Q : ℕ → Bool) → ((n : ℕ) → P n ≡ Q n) → (o : Option ℕ) → FindsFirst (λ n. P n ≡ true) o → FindsFirst (λ n. Q n ≡ true) o
-finds_same P Q same None h = λ n q. h n (same n ∙ q)
-finds_same P Q same (Some p) h = record { holds = sym (same p) ∙ h.holds; least = λ n lt q. h.least n lt (same n ∙ q) }
+pub finds_same : (P Q : ℕ → Bool) → ((n : ℕ) → P n ≡ Q n) → (o : Option ℕ) → FindsFirst P o → FindsFirst Q o
+finds_same P Q same None h = λ n. sym (same n) ∙ h n
+finds_same P Q same (Some p) h = record { holds = sym (same p) ∙ h.holds; least = λ n lt. sym (same n) ∙ h.least n lt }
 
 -- a rule that fails may be passed over
 passed : (test : ℕ → WrittenRule → Bool) (k : ℕ) (r : WrittenRule) (rs : List WrittenRule) → test (k + 1) r ≡ false → (n : ℕ)
@@ -57,22 +56,21 @@ passed test k r rs fails n = elim (cases_order n (k + 1)) [
       ∙ sym (ap (λ j. ltb k n && option_map_or (test n) (slice_get (r ∷ rs) j) false) step)
 ]
 
-pub finds_from : (test : ℕ → WrittenRule → Bool) (k : ℕ) (rules : List WrittenRule) → FindsFirst (λ n. at_place test k rules n ≡ true) (first_rule test k rules)
-finds_from test k [] = λ n q. both_ways (ltb k n && false) (and_right (ltb k n) false refl) q
+pub finds_from : (test : ℕ → WrittenRule → Bool) (k : ℕ) (rules : List WrittenRule) → FindsFirst (at_place test k rules) (first_rule test k rules)
+finds_from test k [] = λ n. and_right (ltb k n) false refl
 finds_from test k (r ∷ rs) = by (test (k + 1) r) refl (finds_from test (k + 1) rs)
   where
-    by : (b : Bool) → test (k + 1) r ≡ b → FindsFirst (λ n. at_place test (k + 1) rs n ≡ true) (first_rule test (k + 1) rs)
-        → FindsFirst (λ n. at_place test k (r ∷ rs) n ≡ true) (cond (test (k + 1) r) (Some (k + 1)) (first_rule test (k + 1) rs))
+    by : (b : Bool) → test (k + 1) r ≡ b → FindsFirst (at_place test (k + 1) rs) (first_rule test (k + 1) rs)
+        → FindsFirst (at_place test k (r ∷ rs)) (cond (test (k + 1) r) (Some (k + 1)) (first_rule test (k + 1) rs))
     by true e rest =
         let first : k + 1 - k - 1 ≡ 0 = omega arith in
-        subst (FindsFirst (λ n. at_place test k (r ∷ rs) n ≡ true)) (sym (ap (λ b. cond b (Some (k + 1)) (first_rule test (k + 1) rs)) e)) (record {
+        subst (FindsFirst (at_place test k (r ∷ rs))) (sym (ap (λ b. cond b (Some (k + 1)) (first_rule test (k + 1) rs)) e)) (record {
           holds = ap (λ b. b && option_map_or (test (k + 1)) (slice_get (r ∷ rs) (k + 1 - k - 1)) false) (lt-ltb k (k + 1) (omega arith))
               ∙ ap (λ j. option_map_or (test (k + 1)) (slice_get (r ∷ rs) j) false) first ∙ e;
-          least = λ n lt q. both_ways (at_place test k (r ∷ rs) n)
-              (and_left (ltb k n) (option_map_or (test n) (slice_get (r ∷ rs) (n - k - 1)) false) (le-ltb k n (omega arith))) q;
+          least = λ n lt. and_left (ltb k n) (option_map_or (test n) (slice_get (r ∷ rs) (n - k - 1)) false) (le-ltb k n (omega arith));
         })
     by false e rest =
-        subst (FindsFirst (λ n. at_place test k (r ∷ rs) n ≡ true)) (sym (ap (λ b. cond b (Some (k + 1)) (first_rule test (k + 1) rs)) e))
+        subst (FindsFirst (at_place test k (r ∷ rs))) (sym (ap (λ b. cond b (Some (k + 1)) (first_rule test (k + 1) rs)) e))
         (finds_same (at_place test (k + 1) rs) (at_place test k (r ∷ rs)) (passed test k r rs e) (first_rule test (k + 1) rs) rest)
 
 some_below : {X : Type 0} (xs : List X) (k : ℕ) → is_some (slice_get xs k) ≡ ltb k (length xs)
@@ -95,7 +93,7 @@ started test rules n =
     let same : n - 0 - 1 ≡ n - 1 = omega arith in
     ap (λ j. ltb 0 n && option_map_or (test n) (slice_get rules j) false) same
 
-finds : (test : ℕ → WrittenRule → Bool) (rules : List WrittenRule) → FindsFirst (λ n. at_start test rules n ≡ true) (first_rule test 0 rules)
+finds : (test : ℕ → WrittenRule → Bool) (rules : List WrittenRule) → FindsFirst (at_start test rules) (first_rule test 0 rules)
 finds test rules = finds_same (at_place test 0 rules) (at_start test rules) (started test rules) (first_rule test 0 rules) (finds_from test 0 rules)
 
 -- a large rule, or the 501st
@@ -127,15 +125,14 @@ large_places rules n = by (eqb n 501) refl
         ∙ ap (λ b. (b && option_map_or is_large_written_rule (slice_get rules (n - 1)) false) || ltb 500 (length rules)) front)
 
 -- the place of the first large rule
-pub finds_large : (rules : List WrittenRule) (o : Option ℕ) → first_rule large_at 0 rules ≡ o → FindsFirst (λ n. is_large_place rules n ≡ true) o
-finds_large rules o is = subst (FindsFirst (λ n. is_large_place rules n ≡ true)) is
+pub finds_large : (rules : List WrittenRule) (o : Option ℕ) → first_rule large_at 0 rules ≡ o → FindsFirst (is_large_place rules) o
+finds_large rules o is = subst (FindsFirst (is_large_place rules)) is
     (finds_same (at_start large_at rules) (is_large_place rules) (large_places rules) (first_rule large_at 0 rules) (finds large_at rules))
 
 -- the place of the first rule with an undeclared feature
 pub finds_undeclared : (names : List (List ℕ)) (rules : List WrittenRule) (o : Option ℕ) → first_rule (undeclared_at names) 0 rules ≡ o
-    → FindsFirst (λ n. at_written_rule (is_undeclared_written_rule names) rules n ≡ true) o
-finds_undeclared names rules o is = subst (FindsFirst (λ n. at_written_rule (is_undeclared_written_rule names) rules n ≡ true)) is
-    (finds (undeclared_at names) rules)
+    → FindsFirst (at_written_rule (is_undeclared_written_rule names) rules) o
+finds_undeclared names rules o is = subst (FindsFirst (at_written_rule (is_undeclared_written_rule names) rules)) is (finds (undeclared_at names) rules)
 
 -- one turn of a loop over items that looks for a rule
 module _ (test : ℕ → WrittenRule → Bool) (xs : List WrittenItem) (i n : ℕ) (left : first_rule test n (rules_of (drop i xs)) ≡ first_rule test 0 (rules_of xs))

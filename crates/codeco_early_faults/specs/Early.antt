@@ -143,3 +143,13 @@ abbrev pub is_too_large_place : List WrittenItem → ℕ → Bool
 is_too_large_place items n = ((n == 0) && has_large_written_declarations items)
     || ((n == 1) && has_broad_written_category items)
     || is_large_place (rules_of items) n
+
+-- the test holds at this place, and at none before it
+pub record IsFirstPlace (test : ℕ → Bool) (place : ℕ) : Type 0 where
+  pub holds : test place ≡ true
+  pub least : (n : ℕ) → n < place → test n ≡ false
+
+-- the first place at which the test holds, or none where it holds nowhere
+abbrev pub FindsFirst : (ℕ → Bool) → Option ℕ → Type 0
+FindsFirst test None = (n : ℕ) → test n ≡ false
+FindsFirst test (Some place) = IsFirstPlace test place

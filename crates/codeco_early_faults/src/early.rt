@@ -6,8 +6,7 @@ ghost use Rattle.codeco_text.specs.Notation.{item_fits};
 ghost use Rattle.codeco_checked.specs.FirstFault.{IsFirst};
 ghost use Rattle.codeco_numbering.specs.Early.{HasNoEarlyFault};
 ghost use Rattle.codeco_numbering.specs.Numbered.{numbered_of};
-ghost use Rattle.codeco_checked.specs.First.{FindsFirst};
-ghost use Rattle.codeco_early_faults.specs.Early.{is_too_large_place};
+ghost use Rattle.codeco_early_faults.specs.Early.{is_too_large_place, FindsFirst};
 
 use crate::categories::has_broad_category;
 use crate::declarations::{has_double_declaration, has_large_declarations};
@@ -19,7 +18,7 @@ use wiki_base::Memory;
 
 /// The place of the first limit that is passed.
 fn first_large_place(alloc: Global, items: &WrittenItems) -> Result<Option<u32>, Memory>
-    ensures { IfOk result (FindsFirst (λ n. is_too_large_place items.now n ≡ true)) }
+    ensures { IfOk result (FindsFirst (is_too_large_place items.now)) }
 {
     if has_large_declarations(alloc, items)? {
         return Ok(Some(0));

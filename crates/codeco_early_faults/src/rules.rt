@@ -3,8 +3,7 @@ ghost use Rattle.std.specs.Prelude.{◌≡◌, ℕ, ◌+◌, ◌<◌, ◌≤◌,
 ghost use Rattle.std.specs.List.{list_any, list_all};
 ghost use Rattle.codeco_text.specs.Names.{is_among};
 ghost use Rattle.codeco_numbering.specs.Numbered.{gathered, rules_of, written_features, written_terminals, element_categories, category_features};
-ghost use Rattle.codeco_checked.specs.First.{FindsFirst};
-ghost use Rattle.codeco_early_faults.specs.Early.{written_patterns, is_large_written_rule, is_undeclared_written_rule, is_large_place, is_undeclared_place, declared_names};
+ghost use Rattle.codeco_early_faults.specs.Early.{written_patterns, is_large_written_rule, is_undeclared_written_rule, is_large_place, is_undeclared_place, declared_names, FindsFirst};
 
 use crate::declarations::declared_names;
 use crate::names::NameSet;
@@ -88,7 +87,7 @@ fn is_large_rule(alloc: Global, rule: &WrittenRule) -> Result<bool, Memory>
 
 /// The number of the first rule that is large or is the 501st.
 pub(crate) fn first_large_rule(alloc: Global, items: &WrittenItems) -> Result<Option<u32>, Memory>
-    ensures { IfOk result (FindsFirst (λ n. is_large_place (rules_of items.now) n ≡ true)) }
+    ensures { IfOk result (FindsFirst (is_large_place (rules_of items.now))) }
 {
     let mut number = 0;
     for item in items.as_slice() {
@@ -164,7 +163,7 @@ pub(crate) fn first_undeclared_rule(
     items: &WrittenItems,
 ) -> Result<Option<u32>, Memory>
     requires { length (rules_of items.now) ≤ 500 }
-    ensures { IfOk result (FindsFirst (λ n. is_undeclared_place items.now n ≡ true)) }
+    ensures { IfOk result (FindsFirst (is_undeclared_place items.now)) }
 {
     let names = declared_names(alloc, items)?;
     let mut number = 0;

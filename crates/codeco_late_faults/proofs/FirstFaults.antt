@@ -12,7 +12,7 @@ use Rattle.codeco_checked.specs.Labels.{IsMisfit}
 use Rattle.codeco_checked.specs.Sound.{Holds}
 use Rattle.codeco_checked.specs.FirstFault.{fault_number, fault_place, is_before, IsFirst}
 use Rattle.codeco_labels.specs.Misfits.{FirstMisfit}
-use Rattle.codeco_checked.specs.First.{IsNowhere, IsFirstPlace, IsAt}
+use Rattle.codeco_late_faults.specs.First.{IsNowhere, IsFirstPlace}
 
 -- no fault of a number below this one holds
 abbrev pub NoneBelow : GrammarParts → ℕ → Type 0
@@ -37,10 +37,10 @@ none_more g k below here f lt h =
     ]
 
 -- where a fault of rules holds nowhere
-pub none_of : (g : GrammarParts) (k : ℕ) (F : ℕ → GrammarFault) (P : Rule → Type 0) → IsRuleFault g k F P → NoneBelow g k → IsNowhere (IsAt P g.rules)
+pub none_of : (g : GrammarParts) (k : ℕ) (F : ℕ → GrammarFault) (P : Rule → Type 0) → IsRuleFault g k F P → NoneBelow g k → IsNowhere P g.rules
     → NoneBelow g (k + 1)
 none_of g k F P is below nowhere =
-    none_more g k below (λ f e h. let at = is.only f e h in nowhere (fault_place f - 1) (at.0, at.2, at.3))
+    none_more g k below (λ f e h. let at = is.only f e h in nowhere (fault_place f - 1) at.0 at.2 at.3)
 
 pub is_first : (g : GrammarParts) (fault : GrammarFault) → Holds g fault → NoneBelow g (fault_number fault)
     → ((f : GrammarFault) → fault_number f ≡ fault_number fault → fault_place f < fault_place fault → Holds g f → ⊥) → IsFirst g fault
@@ -56,16 +56,15 @@ is_first g fault h below same = record {
 }
 
 -- where a fault of rules holds at a first place
-pub first_of : (g : GrammarParts) (k : ℕ) (F : ℕ → GrammarFault) (P : Rule → Type 0) → IsRuleFault g k F P → NoneBelow g k → (i : ℕ)
-    → IsFirstPlace (IsAt P g.rules) i
+pub first_of : (g : GrammarParts) (k : ℕ) (F : ℕ → GrammarFault) (P : Rule → Type 0) → IsRuleFault g k F P → NoneBelow g k → (i : ℕ) → IsFirstPlace P g.rules i
     → IsFirst g (F (i + 1))
 first_of g k F P is below i first =
-    is_first g (F (i + 1)) (is.holds i first.holds.0 first.holds.1 first.holds.2)
+    is_first g (F (i + 1)) (is.holds i first.here.0 first.here.1 first.here.2)
     (subst (λ n. NoneBelow g n) (sym (is.number (i + 1))) below)
     (λ f e lt h.
     let at = is.only f (e ∙ is.number (i + 1)) h in
     let place = is.place (i + 1) in
-    first.least (fault_place f - 1) (omega (arith, at.1)) (at.0, at.2, at.3))
+    first.before (fault_place f - 1) at.0 (omega (arith, at.1)) at.2 at.3)
 
 -- The faults of rules that a test decides.
 

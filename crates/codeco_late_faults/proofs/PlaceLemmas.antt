@@ -4,40 +4,39 @@ use Rattle.std.specs.Prelude.{slice_get}
 use Rattle.std.proofs.lemmas.Bool.{cases_lt}
 use Rattle.std.proofs.lemmas.Option.{same_Some, slice_get_within}
 use Rattle.wiki_base.proofs.ListLaws.{slice_get_at}
-use Rattle.codeco_checked.specs.First.{IsNowhere, IsFirstPlace, FindsFirst, IsAt}
+use Rattle.codeco_late_faults.specs.First.{IsNowhere, IsFirstPlace, FindsFirst}
 
 -- what holds of the same items has the same first place
-pub finds_same : {X : Type 0} (P Q : X → Type 0) (xs : List X) (found : Option ℕ) → ((x : X) → P x → Q x) → ((x : X) → Q x → P x) → FindsFirst (IsAt P xs) found
-    → FindsFirst (IsAt Q xs) found
-finds_same P Q xs None f g h = λ k at. h k (at.0, at.1, g at.0 at.2)
+pub finds_same : {X : Type 0} (P Q : X → Type 0) (xs : List X) (found : Option ℕ) → ((x : X) → P x → Q x) → ((x : X) → Q x → P x) → FindsFirst P xs found
+    → FindsFirst Q xs found
+finds_same P Q xs None f g h = λ k x e q. h k x e (g x q)
 finds_same P Q xs (Some place) f g h = record {
-  holds = (h.holds.0, h.holds.1, f h.holds.0 h.holds.2);
-  least = λ k lt at. h.least k lt (at.0, at.1, g at.0 at.2);
+  here = (h.here.0, h.here.1, f h.here.0 h.here.2);
+  before = λ k x lt e q. h.before k x lt e (g x q);
 }
 
 -- it is so at none of the first places
 abbrev pub NotBefore : {X : Type 0} → (X → Type 0) → List X → ℕ → Type 0
-NotBefore P xs i = (k : ℕ) → k < i → IsAt P xs k → ⊥
+NotBefore {X} P xs i = (k : ℕ) (x : X) → k < i → slice_get xs k ≡ Some x → P x → ⊥
 
 pub not_before_more : {X : Type 0} (P : X → Type 0) (xs : List X) (i : ℕ) (y : X) → i < length xs → y ≡ get_or xs i y → (P y → ⊥) → NotBefore P xs i
     → NotBefore P xs (i + 1)
-not_before_more P xs i y lt is here below = λ k less at.
+not_before_more P xs i y lt is here below = λ k x less e p.
     elim (cases_lt k i) [
-      | inl before ↦ below k before at
+      | inl before ↦ below k x before e p
       | inr after ↦
           let same : k ≡ i = omega arith in
-          here (subst P (same_Some at.0 y (sym at.1 ∙ ap (slice_get xs) same ∙ slice_get_at xs i y lt is)) at.2)
+          here (subst P (same_Some x y (sym e ∙ ap (slice_get xs) same ∙ slice_get_at xs i y lt is)) p)
     ]
 
-pub first_here : {X : Type 0} (P : X → Type 0) (xs : List X) (i : ℕ) (y : X) → i < length xs → y ≡ get_or xs i y → P y → NotBefore P xs i
-    → IsFirstPlace (IsAt P xs) i
+pub first_here : {X : Type 0} (P : X → Type 0) (xs : List X) (i : ℕ) (y : X) → i < length xs → y ≡ get_or xs i y → P y → NotBefore P xs i → IsFirstPlace P xs i
 first_here P xs i y lt is here below = record {
-  holds = (y, slice_get_at xs i y lt is, here);
-  least = below;
+  here = (y, slice_get_at xs i y lt is, here);
+  before = below;
 }
 
-pub nowhere : {X : Type 0} (P : X → Type 0) (xs : List X) (i : ℕ) → length xs ≤ i → NotBefore P xs i → IsNowhere (IsAt P xs)
-nowhere P xs i long below = λ k at. let lt = slice_get_within xs k at.0 at.1 in below k (omega arith) at
+pub nowhere : {X : Type 0} (P : X → Type 0) (xs : List X) (i : ℕ) → length xs ≤ i → NotBefore P xs i → IsNowhere P xs
+nowhere P xs i long below = λ k x e p. let lt = slice_get_within xs k x e in below k x (omega arith) e p
 
-pub first_below : {X : Type 0} (P : X → Type 0) (xs : List X) (i : ℕ) → IsFirstPlace (IsAt P xs) i → i < length xs
-first_below P xs i first = slice_get_within xs i first.holds.0 first.holds.1
+pub first_below : {X : Type 0} (P : X → Type 0) (xs : List X) (i : ℕ) → IsFirstPlace P xs i → i < length xs
+first_below P xs i first = slice_get_within xs i first.here.0 first.here.1

@@ -6,7 +6,7 @@ ghost use Rattle.codeco_checked.specs.Sound.{IsWritten, is_written_rule};
 ghost use Rattle.codeco_checked.specs.Numbering.{has};
 ghost use Rattle.codeco_checked.specs.Occurrences as occurrences;
 ghost use Rattle.codeco_checked.specs.Faults as faults;
-ghost use Rattle.codeco_checked.specs.First.{FindsFirst, IsAt};
+ghost use Rattle.codeco_late_faults.specs.First.{FindsFirst};
 ghost use Rattle.codeco_late_faults.specs.Tables as tables;
 
 use crate::doubles::has_double_feature;
@@ -23,7 +23,7 @@ const VARIABLES: usize = 256;
 pub(crate) fn first_bad_rule(alloc: Global, grammar: &Grammar) -> Result<Option<usize>, Memory>
     requires written { IsWritten grammar.now }
     requires atoms { tables.CountsAtoms grammar.now }
-    ensures { IfOk result (λ found. FindsFirst (IsAt (λ r. IsTrue (faults.is_bad_rule grammar.now r)) grammar.now.rules) found) }
+    ensures { IfOk result (λ found. FindsFirst (λ r. IsTrue (faults.is_bad_rule grammar.now r)) grammar.now.rules found) }
 {
     let table = FeatureTable::of(alloc, grammar)?;
     first_bad(alloc, &table, grammar.rules().as_slice())
@@ -35,7 +35,7 @@ fn first_bad(
     rules: &[Rule],
 ) -> Result<Option<usize>, Memory>
     requires { IsTrue (list_all is_written_rule rules.now) }
-    ensures { IfOk result (λ found. FindsFirst (IsAt (λ r. IsTrue (faults.is_bad_rule table.now r)) rules.now) found) }
+    ensures { IfOk result (λ found. FindsFirst (λ r. IsTrue (faults.is_bad_rule table.now r)) rules.now found) }
 {
     for (place, rule) in rules.iter().enumerate() {
         if is_bad_rule(alloc, table, rule)? {

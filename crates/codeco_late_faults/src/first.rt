@@ -6,7 +6,7 @@ ghost use Rattle.codeco_checked.specs.declared.fault.GrammarFault.TheVariants as
 ghost use Rattle.codeco_checked.specs.Sound.{Holds, IsWritten};
 ghost use Rattle.codeco_checked.specs.FirstFault.{IsFirst, is_before};
 ghost use Rattle.codeco_checked.specs.Faults as faults;
-ghost use Rattle.codeco_checked.specs.First.{FindsFirst, IsAt};
+ghost use Rattle.codeco_late_faults.specs.First.{FindsFirst};
 ghost use Rattle.codeco_late_faults.specs.Tables.{CountsAtoms};
 ghost use Rattle.codeco_late_faults.specs.Steps.{Reaches, leads};
 
@@ -30,14 +30,14 @@ fn number_at(place: usize) -> u32
 
 // The place of the first rule without a phrase.
 fn first_empty_rule(rules: &[Rule]) -> Option<usize>
-    ensures { FindsFirst (IsAt (λ r. IsTrue (faults.is_empty_rule r)) rules.now) result }
+    ensures { FindsFirst (λ r. IsTrue (faults.is_empty_rule r)) rules.now result }
 {
     rules.iter().position(|rule| is_empty_rule(rule))
 }
 
 // The place of the first rule with a variable that is marked and plain in one reference.
 fn first_taking_rule(rules: &[Rule]) -> Option<usize>
-    ensures { FindsFirst (IsAt (λ r. IsTrue (faults.is_taking_rule r)) rules.now) result }
+    ensures { FindsFirst (λ r. IsTrue (faults.is_taking_rule r)) rules.now result }
 {
     rules.iter().position(|rule| is_taking_rule(rule))
 }
@@ -49,7 +49,7 @@ fn first_recursive_rule(
     table: &[Followers],
 ) -> Result<Option<usize>, Memory>
     requires { length table.now ≡ 65536 }
-    ensures { IfOk result (λ found. FindsFirst (IsAt (λ r. Reaches (leads table.now) r.head.name r.head.name) rules.now) found) }
+    ensures { IfOk result (λ found. FindsFirst (λ r. Reaches (leads table.now) r.head.name r.head.name) rules.now found) }
 {
     for (place, rule) in rules.iter().enumerate() {
         if is_recursive(alloc, table, rule.head.name)? {
@@ -61,7 +61,7 @@ fn first_recursive_rule(
 
 // The place of the first rule of the grammar whose head reaches itself.
 fn first_recursion(alloc: Global, grammar: &Grammar) -> Result<Option<usize>, Memory>
-    ensures { IfOk result (λ found. FindsFirst (IsAt (λ r. faults.IsRecursive grammar.now r.head.name) grammar.now.rules) found) }
+    ensures { IfOk result (λ found. FindsFirst (λ r. faults.IsRecursive grammar.now r.head.name) grammar.now.rules found) }
 {
     let rules = grammar.rules().as_slice();
     let table = followers_of(alloc, rules)?;

@@ -1,7 +1,6 @@
 use Rattle.std.proofs.Common.{[], ◌+◌, ◌≤◌, not, length, drop, Some, None, sym, ap, subst, ◌∙◌}
 use Rattle.codeco_numbering.specs.Numbered.{rules_of, gathered, written_features}
-use Rattle.codeco_checked.specs.First.{FindsFirst}
-use Rattle.codeco_early_faults.specs.Early.{declared_names, is_undeclared_place}
+use Rattle.codeco_early_faults.specs.Early.{declared_names, is_undeclared_place, FindsFirst}
 use Rattle.codeco_early_faults.proofs.Places.{first_rule, undeclared_at, none_left, rule_passes, rule_fails, fewer, feature_passed, as_few, finds_undeclared, undeclared_told}
 use Rattle.codeco_early_faults.proofs.rules.first_undeclared_rule.Goals.{in-Feature, in-Rule+else-not-has_rule_features}
 use Rattle.codeco_early_faults.proofs.rules.first_undeclared_rule.Goals as goal
@@ -13,7 +12,7 @@ returns-then-not-has_rule_features c =
     let told = undeclared_told c.in_ok-names.names names (written_features c.in-Rule.rule) c.has_rule_features.result
     (c.in_ok-names.ensures ∙ ap (λ is. gathered [] (declared_names is)) (sym c.as_slice-item-items.ensures)) c.has_rule_features.ensures
     ∙ ap not c.if-not-has_rule_features.true in
-    subst (λ is. FindsFirst (λ n. is_undeclared_place is n ≡ true) (Some (c.loop-item.number + 1))) c.as_slice-item-items.ensures
+    subst (λ is. FindsFirst (is_undeclared_place is) (Some (c.loop-item.number + 1))) c.as_slice-item-items.ensures
     (finds_undeclared names (rules_of items) (Some (c.loop-item.number + 1))
     (rule_passes (undeclared_at names) items c.loop-item.item-index c.loop-item.number c.loop-item.invariant.left c.item-item.result c.loop-item-test.true
     c.item-item.is c.in-Rule.rule c.in-Rule.is told))
@@ -51,6 +50,6 @@ pub returns : goal.returns
 returns c =
     let items = c.as_slice-item-items.result.now in
     let names = declared_names items in
-    subst (λ is. FindsFirst (λ n. is_undeclared_place is n ≡ true) None) c.as_slice-item-items.ensures
+    subst (λ is. FindsFirst (is_undeclared_place is) None) c.as_slice-item-items.ensures
     (finds_undeclared names (rules_of items) None
     (none_left (undeclared_at names) items c.loop-item.item-index c.loop-item.number c.loop-item.invariant.left c.loop-item-test.false))

@@ -9,13 +9,15 @@ use wiki_store::Store;
 use wiki_talk::{Reply, Request};
 use wire_json::{bad_request_line, read_request, reply_line};
 
-// The reply lines to these lines, one after another, of a wiki that begins without words. A line that is no request on words,
-// articles or sentences has the reply to a bad one.
-pub(crate) fn replies(alloc: Global, budget: u64, lines: &str) -> Result<String, Memory> {
+// Each second line of this transcript, from the first on, and behind each the reply that a wiki gives which begins without words.
+// A line that is no request on words, articles or sentences has the reply to a bad one.
+pub(crate) fn answered(alloc: Global, budget: u64, transcript: &str) -> Result<String, Memory> {
     let mut wiki = Asked::new(alloc, budget)?;
     let mut told = String::new(alloc);
-    for line in lines.lines() {
+    for line in transcript.lines().step_by(2) {
         let reply = wiki.reply(line)?;
+        told.push_str(line)?;
+        told.push('\n')?;
         told.push_str(reply.as_str())?;
     }
     Ok(told)

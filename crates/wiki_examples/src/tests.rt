@@ -1,327 +1,400 @@
-// Words, articles and sentences: lines with their replies.
-use crate::asked::replies;
+// Words, articles and sentences: each line of a transcript stands above its reply.
+use crate::asked::answered;
+use std::alloc::Global;
 use std::test::Fail;
+use wiki_base::Memory;
+
+// How many steps a search may take where no more is said.
+const BUDGET: u64 = 1_000_000;
 
 #[test]
-fn a_question_is_answered_and_words_and_edits_are_refused(rt: HostRuntime) -> Result<(), Fail> {
-    let lines = r#"{"do":"word","forms":["Germany"],"kind":"name"}
+fn a_question_is_answered(rt: HostRuntime) -> Result<(), Fail> {
+    let transcript = r#"{"do":"word","forms":["Germany"],"kind":"name"}
+{"done":"word"}
 {"do":"word","forms":["country"],"kind":"noun"}
+{"done":"word"}
 {"do":"word","forms":["border"],"kind":"verb"}
+{"done":"word"}
 {"do":"word","forms":["Switzerland"],"kind":"name"}
+{"done":"word"}
 {"do":"find","word":"countries"}
-{"do":"find","word":"bordered"}
-{"article":"Switzerland","at":0,"do":"add","text":"Switzerland borders Germany."}
-{"article":"Switzerland","do":"add","text":"Switzerland is a country."}
-{"article":"country","at":0,"do":"add","text":"Which countries border Germany?"}
-{"article":"country","do":"read"}
-{"article":"country","at":0,"do":"axioms"}
-{"do":"parse","text":"Which countries border Germany?"}
-{"do":"word","forms":["every","everys"],"kind":"noun"}
-{"do":"word","forms":["Every"],"kind":"name"}
-{"do":"word","forms":["countries"],"kind":"name"}
-{"do":"word","forms":["New York"],"kind":"name"}
-{"do":"word","forms":["a","b"],"kind":"name"}
-{"do":"find","word":"Bonn"}
-{"do":"fly"}
-{"do":"reword","forms":["area","areas"],"word":"country"}
-{"do":"unword","word":"country"}
-{"article":"Germany","at":0,"do":"remove"}
-{"article":"country","at":0,"do":"retract"}
-{"article":"Switzerland","at":0,"do":"reassert"}
-"#;
-    let told = r#"{"done":"word"}
-{"done":"word"}
-{"done":"word"}
-{"done":"word"}
 {"done":"find","word":{"forms":["country","countries"],"kind":"noun"}}
+{"do":"find","word":"bordered"}
 {"done":"find","word":{"forms":["borders","border","bordered"],"kind":"verb"}}
+{"article":"Switzerland","at":0,"do":"add","text":"Switzerland borders Germany."}
 {"done":"add","status":"asserted"}
+{"article":"Switzerland","do":"add","text":"Switzerland is a country."}
 {"done":"add","status":"asserted"}
+{"article":"country","at":0,"do":"add","text":"Which countries border Germany?"}
 {"done":"add","status":"question"}
+{"article":"country","do":"read"}
 {"done":"read","revision":1,"sentences":[{"answers":["Switzerland"],"status":"question","text":"Which countries border Germany?","unknown":[]}]}
+{"article":"country","at":0,"do":"axioms"}
 {"class":"ObjectIntersectionOf(:country ObjectHasValue(:border :Germany))","done":"axioms"}
+{"do":"parse","text":"Which countries border Germany?"}
 {"code":[2,79,80,8,13,16,51,56],"done":"parse"}
+"#;
+    assert_eq!(rt;
+        answered(rt.alloc(), BUDGET, transcript)?.as_str(),
+        transcript
+    );
+    Ok(())
+}
+
+#[test]
+fn words_are_refused(rt: HostRuntime) -> Result<(), Fail> {
+    let transcript = r#"{"do":"word","forms":["Germany"],"kind":"name"}
+{"done":"word"}
+{"do":"word","forms":["country"],"kind":"noun"}
+{"done":"word"}
+{"do":"word","forms":["every","everys"],"kind":"noun"}
 {"name":"Reserved","refused":4,"text":"every"}
+{"do":"word","forms":["Every"],"kind":"name"}
 {"name":"Reserved","refused":4,"text":"Every"}
+{"do":"word","forms":["countries"],"kind":"name"}
 {"name":"Taken","refused":3,"text":"countries","word":"country"}
+{"do":"word","forms":["New York"],"kind":"name"}
 {"name":"BadForm","refused":2,"which":0}
+{"do":"word","forms":["a","b"],"kind":"name"}
 {"name":"BadForm","refused":2,"which":2}
+{"do":"find","word":"Bonn"}
 {"name":"NoWord","refused":1,"text":"Bonn"}
+{"do":"fly"}
 {"name":"BadRequest","refused":0}
+"#;
+    assert_eq!(rt;
+        answered(rt.alloc(), BUDGET, transcript)?.as_str(),
+        transcript
+    );
+    Ok(())
+}
+
+#[test]
+fn edits_are_refused(rt: HostRuntime) -> Result<(), Fail> {
+    let transcript = r#"{"do":"word","forms":["Germany"],"kind":"name"}
+{"done":"word"}
+{"do":"word","forms":["country"],"kind":"noun"}
+{"done":"word"}
+{"do":"word","forms":["border"],"kind":"verb"}
+{"done":"word"}
+{"do":"word","forms":["Switzerland"],"kind":"name"}
+{"done":"word"}
+{"article":"Switzerland","at":0,"do":"add","text":"Switzerland borders Germany."}
+{"done":"add","status":"asserted"}
+{"article":"Switzerland","do":"add","text":"Switzerland is a country."}
+{"done":"add","status":"asserted"}
+{"article":"country","at":0,"do":"add","text":"Which countries border Germany?"}
+{"done":"add","status":"question"}
+{"do":"reword","forms":["area","areas"],"word":"country"}
 {"article":"country","at":0,"name":"Breaks","refused":14}
+{"do":"unword","word":"country"}
 {"article":"country","at":0,"name":"InUse","refused":13}
+{"article":"Germany","at":0,"do":"remove"}
 {"length":0,"name":"NoPlace","refused":5}
+{"article":"country","at":0,"do":"retract"}
 {"name":"BadStatus","refused":15,"status":"question"}
+{"article":"Switzerland","at":0,"do":"reassert"}
 {"name":"BadStatus","refused":15,"status":"asserted"}
 "#;
-    assert_eq!(rt; replies(rt.alloc(), 1_000_000, lines)?.as_str(), told);
+    assert_eq!(rt;
+        answered(rt.alloc(), BUDGET, transcript)?.as_str(),
+        transcript
+    );
     Ok(())
 }
 
 #[test]
 fn references_end_with_the_sentence(rt: HostRuntime) -> Result<(), Fail> {
-    let lines = r#"{"do":"word","forms":["Mary"],"kind":"name"}
+    let transcript = r#"{"do":"word","forms":["Mary"],"kind":"name"}
+{"done":"word"}
 {"do":"word","forms":["Bill"],"kind":"name"}
+{"done":"word"}
 {"do":"word","forms":["cat"],"kind":"noun"}
+{"done":"word"}
 {"do":"word","forms":["dog"],"kind":"noun"}
+{"done":"word"}
 {"do":"word","forms":["man","men"],"kind":"noun"}
+{"done":"word"}
 {"do":"word","forms":["sees","see","seen"],"kind":"verb"}
+{"done":"word"}
 {"do":"word","forms":["owns","own","owned"],"kind":"verb"}
+{"done":"word"}
 {"article":"dog","do":"add","text":"Every man owns a dog."}
-{"article":"dog","do":"add","text":"The dog sees Mary."}
-"#;
-    let told = r#"{"done":"word"}
-{"done":"word"}
-{"done":"word"}
-{"done":"word"}
-{"done":"word"}
-{"done":"word"}
-{"done":"word"}
 {"done":"add","status":"asserted"}
+{"article":"dog","do":"add","text":"The dog sees Mary."}
 {"k":0,"menu":{"adjective":[],"function":["X","Y","Z","a","an","every","everything","if","no","nothing","something","what","which","who"],"name":["Bill","Mary"],"noun":[],"of":[],"verb":[]},"name":"NotSentence","refused":12}
 "#;
-    assert_eq!(rt; replies(rt.alloc(), 1_000_000, lines)?.as_str(), told);
+    assert_eq!(rt;
+        answered(rt.alloc(), BUDGET, transcript)?.as_str(),
+        transcript
+    );
     Ok(())
 }
 
+// Words for sentences on men and their animals.
+const WORDS: &str = r#"{"do":"word","forms":["Mary"],"kind":"name"}
+{"done":"word"}
+{"do":"word","forms":["Bill"],"kind":"name"}
+{"done":"word"}
+{"do":"word","forms":["cat"],"kind":"noun"}
+{"done":"word"}
+{"do":"word","forms":["dog"],"kind":"noun"}
+{"done":"word"}
+{"do":"word","forms":["man","men"],"kind":"noun"}
+{"done":"word"}
+{"do":"word","forms":["sees","see","seen"],"kind":"verb"}
+{"done":"word"}
+{"do":"word","forms":["owns","own","owned"],"kind":"verb"}
+{"done":"word"}
+"#;
+
+// The sentence is added to the article of `man`, and its axioms are asked for.
+fn added(alloc: Global, text: &str, status: &str, axioms: &str) -> Result<String, Memory> {
+    let mut transcript = String::from_str(alloc, WORDS)?;
+    for part in [
+        r#"{"article":"man","do":"add","text":""#,
+        text,
+        "\"}\n",
+        status,
+        "\n{\"article\":\"men\",\"at\":0,\"do\":\"axioms\"}\n",
+        axioms,
+        "\n",
+    ] {
+        transcript.push_str(part)?;
+    }
+    Ok(transcript)
+}
+
+// Sentences, the replies when they are added, and their axioms or why there are none.
+const SENTENCES: [(&str, &str, &str); 10] = [
+    (
+        "Every man owns only dogs.",
+        r#"{"done":"add","status":"asserted"}"#,
+        r#"{"axioms":["SubClassOf(:man ObjectAllValuesFrom(:own :dog))"],"done":"axioms"}"#,
+    ),
+    (
+        "Mary owns no dog.",
+        r#"{"done":"add","status":"asserted"}"#,
+        r#"{"axioms":["SubClassOf(:dog ObjectComplementOf(ObjectHasValue(ObjectInverseOf(:own) :Mary)))"],"done":"axioms"}"#,
+    ),
+    (
+        "Mary owns a dog.",
+        r#"{"done":"add","status":"asserted"}"#,
+        r#"{"axioms":["ClassAssertion(ObjectSomeValuesFrom(:own :dog) :Mary)"],"done":"axioms"}"#,
+    ),
+    (
+        "Mary owns a dog or sees a cat.",
+        r#"{"done":"add","status":"asserted"}"#,
+        r#"{"axioms":["ClassAssertion(ObjectUnionOf(ObjectSomeValuesFrom(:own :dog) ObjectSomeValuesFrom(:see :cat)) :Mary)"],"done":"axioms"}"#,
+    ),
+    (
+        "Mary does not see Bill.",
+        r#"{"done":"add","status":"asserted"}"#,
+        r#"{"axioms":["NegativeObjectPropertyAssertion(:see :Mary :Bill)"],"done":"axioms"}"#,
+    ),
+    (
+        "Mary is something.",
+        r#"{"done":"add","status":"asserted"}"#,
+        r#"{"axioms":[],"done":"axioms"}"#,
+    ),
+    (
+        "Every man who owns a dog sees the dog.",
+        r#"{"cause":"shared","done":"add","status":"outside"}"#,
+        r#"{"axioms":[],"cause":"shared","done":"axioms"}"#,
+    ),
+    (
+        "Every man sees itself.",
+        r#"{"cause":"cycle","done":"add","status":"outside"}"#,
+        r#"{"axioms":[],"cause":"cycle","done":"axioms"}"#,
+    ),
+    (
+        "A man owns a dog.",
+        r#"{"cause":"noroot","done":"add","status":"outside"}"#,
+        r#"{"axioms":[],"cause":"noroot","done":"axioms"}"#,
+    ),
+    (
+        "Every man is Mary.",
+        r#"{"cause":"equality","done":"add","status":"outside"}"#,
+        r#"{"axioms":[],"cause":"equality","done":"axioms"}"#,
+    ),
+];
+
 #[test]
 fn sentences_have_axioms_or_a_cause(rt: HostRuntime) -> Result<(), Fail> {
-    let lines = r#"{"do":"word","forms":["Mary"],"kind":"name"}
-{"do":"word","forms":["Bill"],"kind":"name"}
-{"do":"word","forms":["cat"],"kind":"noun"}
-{"do":"word","forms":["dog"],"kind":"noun"}
-{"do":"word","forms":["man","men"],"kind":"noun"}
-{"do":"word","forms":["sees","see","seen"],"kind":"verb"}
-{"do":"word","forms":["owns","own","owned"],"kind":"verb"}
-{"article":"man","do":"add","text":"Every man owns only dogs."}
-{"article":"man","at":0,"do":"axioms"}
-{"article":"man","at":0,"do":"remove"}
-{"article":"man","do":"add","text":"Mary owns no dog."}
-{"article":"man","at":0,"do":"axioms"}
-{"article":"man","at":0,"do":"remove"}
-{"article":"man","do":"add","text":"Mary owns a dog."}
-{"article":"man","at":0,"do":"axioms"}
-{"article":"man","at":0,"do":"remove"}
-{"article":"man","do":"add","text":"Mary owns a dog or sees a cat."}
-{"article":"man","at":0,"do":"axioms"}
-{"article":"man","at":0,"do":"remove"}
-{"article":"man","do":"add","text":"Mary does not see Bill."}
-{"article":"man","at":0,"do":"axioms"}
-{"article":"man","at":0,"do":"remove"}
-{"article":"man","do":"add","text":"Mary is something."}
-{"article":"man","at":0,"do":"axioms"}
-{"article":"man","at":0,"do":"remove"}
-{"article":"man","do":"add","text":"Every man who owns a dog sees the dog."}
-{"article":"man","at":0,"do":"axioms"}
-{"article":"man","at":0,"do":"remove"}
-{"article":"man","do":"add","text":"Every man sees itself."}
-{"article":"man","at":0,"do":"axioms"}
-{"article":"man","at":0,"do":"remove"}
-{"article":"man","do":"add","text":"A man owns a dog."}
-{"article":"man","at":0,"do":"axioms"}
-{"article":"man","at":0,"do":"remove"}
-{"article":"man","do":"add","text":"Every man is Mary."}
-{"article":"man","at":0,"do":"axioms"}
-{"article":"man","at":0,"do":"remove"}
-"#;
-    let told = r#"{"done":"word"}
-{"done":"word"}
-{"done":"word"}
-{"done":"word"}
-{"done":"word"}
-{"done":"word"}
-{"done":"word"}
-{"done":"add","status":"asserted"}
-{"axioms":["SubClassOf(:man ObjectAllValuesFrom(:own :dog))"],"done":"axioms"}
-{"done":"remove"}
-{"done":"add","status":"asserted"}
-{"axioms":["SubClassOf(:dog ObjectComplementOf(ObjectHasValue(ObjectInverseOf(:own) :Mary)))"],"done":"axioms"}
-{"done":"remove"}
-{"done":"add","status":"asserted"}
-{"axioms":["ClassAssertion(ObjectSomeValuesFrom(:own :dog) :Mary)"],"done":"axioms"}
-{"done":"remove"}
-{"done":"add","status":"asserted"}
-{"axioms":["ClassAssertion(ObjectUnionOf(ObjectSomeValuesFrom(:own :dog) ObjectSomeValuesFrom(:see :cat)) :Mary)"],"done":"axioms"}
-{"done":"remove"}
-{"done":"add","status":"asserted"}
-{"axioms":["NegativeObjectPropertyAssertion(:see :Mary :Bill)"],"done":"axioms"}
-{"done":"remove"}
-{"done":"add","status":"asserted"}
-{"axioms":[],"done":"axioms"}
-{"done":"remove"}
-{"cause":"shared","done":"add","status":"outside"}
-{"axioms":[],"cause":"shared","done":"axioms"}
-{"done":"remove"}
-{"cause":"cycle","done":"add","status":"outside"}
-{"axioms":[],"cause":"cycle","done":"axioms"}
-{"done":"remove"}
-{"cause":"noroot","done":"add","status":"outside"}
-{"axioms":[],"cause":"noroot","done":"axioms"}
-{"done":"remove"}
-{"cause":"equality","done":"add","status":"outside"}
-{"axioms":[],"cause":"equality","done":"axioms"}
-{"done":"remove"}
-"#;
-    assert_eq!(rt; replies(rt.alloc(), 1_000_000, lines)?.as_str(), told);
+    for (text, status, axioms) in SENTENCES {
+        let transcript = added(rt.alloc(), text, status, axioms)?;
+        let told = answered(rt.alloc(), BUDGET, transcript.as_str())?;
+        assert_eq!(rt; told.as_str(), transcript.as_str());
+    }
     Ok(())
 }
 
 #[test]
 fn a_contradiction_is_red_and_comes_back(rt: HostRuntime) -> Result<(), Fail> {
-    let lines = r#"{"do":"word","forms":["city"],"kind":"noun"}
+    let transcript = r#"{"do":"word","forms":["city"],"kind":"noun"}
+{"done":"word"}
 {"do":"word","forms":["country"],"kind":"noun"}
+{"done":"word"}
 {"do":"word","forms":["Bern"],"kind":"name"}
+{"done":"word"}
 {"article":"city","do":"add","text":"No city is a country."}
+{"done":"add","status":"asserted"}
 {"article":"city","at":0,"do":"axioms"}
-{"article":"Bern","do":"add","text":"Bern is a city."}
-{"article":"Bern","do":"add","text":"Bern is a country."}
-{"article":"city","at":0,"do":"retract"}
-{"article":"Bern","at":1,"do":"reassert"}
-{"article":"city","at":0,"do":"reassert"}
-"#;
-    let told = r#"{"done":"word"}
-{"done":"word"}
-{"done":"word"}
-{"done":"add","status":"asserted"}
 {"axioms":["SubClassOf(:city ObjectComplementOf(:country))"],"done":"axioms"}
+{"article":"Bern","do":"add","text":"Bern is a city."}
 {"done":"add","status":"asserted"}
+{"article":"Bern","do":"add","text":"Bern is a country."}
 {"done":"add","status":"contradiction"}
+{"article":"city","at":0,"do":"retract"}
 {"done":"retract","status":"retracted"}
+{"article":"Bern","at":1,"do":"reassert"}
 {"done":"reassert","status":"asserted"}
+{"article":"city","at":0,"do":"reassert"}
 {"done":"reassert","status":"contradiction"}
 "#;
-    assert_eq!(rt; replies(rt.alloc(), 1_000_000, lines)?.as_str(), told);
+    assert_eq!(rt;
+        answered(rt.alloc(), BUDGET, transcript)?.as_str(),
+        transcript
+    );
     Ok(())
 }
 
 #[test]
 fn one_step_is_enough_for_a_contradiction(rt: HostRuntime) -> Result<(), Fail> {
-    let lines = r#"{"do":"word","forms":["city"],"kind":"noun"}
+    let transcript = r#"{"do":"word","forms":["city"],"kind":"noun"}
+{"done":"word"}
 {"do":"word","forms":["country"],"kind":"noun"}
+{"done":"word"}
 {"do":"word","forms":["Bern"],"kind":"name"}
+{"done":"word"}
 {"article":"city","do":"add","text":"No city is a country."}
+{"done":"add","status":"asserted"}
 {"article":"city","at":0,"do":"axioms"}
-{"article":"Bern","do":"add","text":"Bern is a city."}
-{"article":"Bern","do":"add","text":"Bern is a country."}
-{"article":"city","at":0,"do":"retract"}
-{"article":"Bern","at":1,"do":"reassert"}
-{"article":"city","at":0,"do":"reassert"}
-"#;
-    let told = r#"{"done":"word"}
-{"done":"word"}
-{"done":"word"}
-{"done":"add","status":"asserted"}
 {"axioms":["SubClassOf(:city ObjectComplementOf(:country))"],"done":"axioms"}
+{"article":"Bern","do":"add","text":"Bern is a city."}
 {"done":"add","status":"asserted"}
+{"article":"Bern","do":"add","text":"Bern is a country."}
 {"done":"add","status":"contradiction"}
+{"article":"city","at":0,"do":"retract"}
 {"done":"retract","status":"retracted"}
+{"article":"Bern","at":1,"do":"reassert"}
 {"done":"reassert","status":"asserted"}
+{"article":"city","at":0,"do":"reassert"}
 {"done":"reassert","status":"contradiction"}
 "#;
-    assert_eq!(rt; replies(rt.alloc(), 1, lines)?.as_str(), told);
+    assert_eq!(rt; answered(rt.alloc(), 1, transcript)?.as_str(), transcript);
     Ok(())
 }
 
 #[test]
 fn blocking_ends_a_search_within_18_steps(rt: HostRuntime) -> Result<(), Fail> {
-    let lines = r#"{"do":"word","forms":["person","persons"],"kind":"noun"}
+    let transcript = r#"{"do":"word","forms":["person","persons"],"kind":"noun"}
+{"done":"word"}
 {"do":"word","forms":["parent","parents"],"kind":"noun"}
+{"done":"word"}
 {"do":"word","forms":["has","have","had"],"kind":"verb"}
+{"done":"word"}
 {"do":"word","forms":["knows","know","known"],"kind":"verb"}
+{"done":"word"}
 {"do":"word","forms":["Mary"],"kind":"name"}
+{"done":"word"}
 {"article":"person","do":"add","text":"Every person has a parent that is a person."}
+{"done":"add","status":"asserted"}
 {"article":"person","do":"add","text":"Mary is a person."}
+{"done":"add","status":"asserted"}
 {"article":"person","do":"add","text":"Everything that has a parent knows Mary."}
-"#;
-    let told = r#"{"done":"word"}
-{"done":"word"}
-{"done":"word"}
-{"done":"word"}
-{"done":"word"}
-{"done":"add","status":"asserted"}
-{"done":"add","status":"asserted"}
 {"done":"add","status":"asserted"}
 "#;
-    assert_eq!(rt; replies(rt.alloc(), 18, lines)?.as_str(), told);
+    assert_eq!(rt; answered(rt.alloc(), 18, transcript)?.as_str(), transcript);
     Ok(())
 }
 
 #[test]
 fn one_name_for_two_is_denied(rt: HostRuntime) -> Result<(), Fail> {
-    let lines = r#"{"do":"word","forms":["Zurich"],"kind":"name"}
-{"do":"word","forms":["Turicum"],"kind":"name"}
-{"article":"Zurich","do":"add","text":"Zurich is Turicum."}
-{"article":"Zurich","do":"add","text":"Zurich is not Turicum."}
-"#;
-    let told = r#"{"done":"word"}
+    let transcript = r#"{"do":"word","forms":["Zurich"],"kind":"name"}
 {"done":"word"}
+{"do":"word","forms":["Turicum"],"kind":"name"}
+{"done":"word"}
+{"article":"Zurich","do":"add","text":"Zurich is Turicum."}
 {"done":"add","status":"asserted"}
+{"article":"Zurich","do":"add","text":"Zurich is not Turicum."}
 {"done":"add","status":"contradiction"}
 "#;
-    assert_eq!(rt; replies(rt.alloc(), 1_000_000, lines)?.as_str(), told);
+    assert_eq!(rt;
+        answered(rt.alloc(), BUDGET, transcript)?.as_str(),
+        transcript
+    );
     Ok(())
 }
 
 #[test]
 fn nothing_is_something_contradicts_without_names(rt: HostRuntime) -> Result<(), Fail> {
-    let lines = r#"{"do":"word","forms":["unicorn"],"kind":"noun"}
+    let transcript = r#"{"do":"word","forms":["unicorn"],"kind":"noun"}
+{"done":"word"}
 {"article":"unicorn","do":"add","text":"Nothing is something."}
-"#;
-    let told = r#"{"done":"word"}
 {"done":"add","status":"contradiction"}
 "#;
-    assert_eq!(rt; replies(rt.alloc(), 1_000_000, lines)?.as_str(), told);
+    assert_eq!(rt;
+        answered(rt.alloc(), BUDGET, transcript)?.as_str(),
+        transcript
+    );
     Ok(())
 }
 
 #[test]
 fn a_pronoun_of_the_object_is_a_cycle(rt: HostRuntime) -> Result<(), Fail> {
-    let lines = r#"{"do":"word","forms":["Mary"],"kind":"name"}
+    let transcript = r#"{"do":"word","forms":["Mary"],"kind":"name"}
+{"done":"word"}
 {"do":"word","forms":["cat","cats"],"kind":"noun"}
+{"done":"word"}
 {"do":"word","forms":["sees","see","seen"],"kind":"verb"}
+{"done":"word"}
 {"article":"Mary","do":"add","text":"Mary sees a cat and sees it."}
-"#;
-    let told = r#"{"done":"word"}
-{"done":"word"}
-{"done":"word"}
 {"cause":"cycle","done":"add","status":"outside"}
 "#;
-    assert_eq!(rt; replies(rt.alloc(), 1_000_000, lines)?.as_str(), told);
+    assert_eq!(rt;
+        answered(rt.alloc(), BUDGET, transcript)?.as_str(),
+        transcript
+    );
     Ok(())
 }
 
 #[test]
 fn a_symmetric_verb_is_stated_and_a_transitive_one_is_outside(rt: HostRuntime) -> Result<(), Fail> {
-    let lines = r#"{"do":"word","forms":["border"],"kind":"verb"}
+    let transcript = r#"{"do":"word","forms":["border"],"kind":"verb"}
+{"done":"word"}
 {"article":"border","do":"add","text":"If X borders Y then Y borders X."}
-{"article":"border","at":0,"do":"axioms"}
-{"article":"border","do":"add","text":"If X borders Y and Y borders Z then X borders Z."}
-"#;
-    let told = r#"{"done":"word"}
 {"done":"add","status":"asserted"}
+{"article":"border","at":0,"do":"axioms"}
 {"axioms":["SubObjectPropertyOf(:border ObjectInverseOf(:border))"],"done":"axioms"}
+{"article":"border","do":"add","text":"If X borders Y and Y borders Z then X borders Z."}
 {"cause":"shared","done":"add","status":"outside"}
 "#;
-    assert_eq!(rt; replies(rt.alloc(), 1_000_000, lines)?.as_str(), told);
+    assert_eq!(rt;
+        answered(rt.alloc(), BUDGET, transcript)?.as_str(),
+        transcript
+    );
     Ok(())
 }
 
 #[test]
 fn forty_tokens_state_ten_axioms(rt: HostRuntime) -> Result<(), Fail> {
-    let lines = r#"{"do":"word","forms":["Mary"],"kind":"name"}
+    let transcript = r#"{"do":"word","forms":["Mary"],"kind":"name"}
+{"done":"word"}
 {"do":"word","forms":["Bill"],"kind":"name"}
+{"done":"word"}
 {"do":"word","forms":["cat","cats"],"kind":"noun"}
+{"done":"word"}
 {"do":"word","forms":["sees","see","seen"],"kind":"verb"}
+{"done":"word"}
 {"article":"Mary","do":"add","text":"Mary sees a cat and sees a cat and sees a cat and sees a cat and sees a cat and sees a cat and sees a cat and sees a cat and sees a cat and sees Bill."}
-{"article":"Mary","at":0,"do":"axioms"}
-"#;
-    let told = r#"{"done":"word"}
-{"done":"word"}
-{"done":"word"}
-{"done":"word"}
 {"done":"add","status":"asserted"}
+{"article":"Mary","at":0,"do":"axioms"}
 {"axioms":["ClassAssertion(ObjectSomeValuesFrom(:see :cat) :Mary)","ClassAssertion(ObjectSomeValuesFrom(:see :cat) :Mary)","ClassAssertion(ObjectSomeValuesFrom(:see :cat) :Mary)","ClassAssertion(ObjectSomeValuesFrom(:see :cat) :Mary)","ClassAssertion(ObjectSomeValuesFrom(:see :cat) :Mary)","ClassAssertion(ObjectSomeValuesFrom(:see :cat) :Mary)","ClassAssertion(ObjectSomeValuesFrom(:see :cat) :Mary)","ClassAssertion(ObjectSomeValuesFrom(:see :cat) :Mary)","ClassAssertion(ObjectSomeValuesFrom(:see :cat) :Mary)","ObjectPropertyAssertion(:see :Mary :Bill)"],"done":"axioms"}
 "#;
-    assert_eq!(rt; replies(rt.alloc(), 1_000_000, lines)?.as_str(), told);
+    assert_eq!(rt;
+        answered(rt.alloc(), BUDGET, transcript)?.as_str(),
+        transcript
+    );
     Ok(())
 }

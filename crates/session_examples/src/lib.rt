@@ -1,0 +1,9 @@
+//! Tests alone: the wiki's replies on editing sessions.
+#![tactic(auto)]
+
+#[cfg(test)]
+mod asked;
+#[cfg(test)]
+mod filtering;
+#[cfg(test)]
+mod tests;

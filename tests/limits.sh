@@ -1,0 +1,5 @@
+#!/usr/bin/env bash
+# What is told at each limit of a wiki, and one below it (limits.py). $1 is the program.
+set -u
+here="$(cd "$(dirname "${BASH_SOURCE[0]}")" && pwd)"
+exec python3 "$here/limits.py" "$@"

@@ -4,6 +4,4 @@
 #[cfg(test)]
 mod asked;
 #[cfg(test)]
-mod filtering;
-#[cfg(test)]
 mod tests;

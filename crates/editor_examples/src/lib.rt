@@ -1,0 +1,5 @@
+//! Tests alone: menus that are filtered.
+#![tactic(auto)]
+
+#[cfg(test)]
+mod tests;

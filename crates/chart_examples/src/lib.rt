@@ -10,4 +10,6 @@ mod fronts;
 #[cfg(test)]
 mod odd;
 #[cfg(test)]
+mod sizes;
+#[cfg(test)]
 mod worked;

@@ -1,5 +1,5 @@
 // Worked cases of long lists, and of charts that grow and shrink.
-ghost use Rattle.std.specs.Prelude.{◌≡◌};
+ghost use Rattle.std.specs.Prelude.{◌≡◌, OnOk};
 ghost use Rattle.derivation_trees.specs.Sentences.{setting_of};
 
 use crate::cases::{dropped, started, taken, tokens_of, words};

@@ -48,54 +48,133 @@ fn all_taken(
     Ok(all)
 }
 
+// Takes the text's tokens, or with no text the last token away; tells what the chart answers.
+fn step(
+    rt: &impl Abort,
+    alloc: Global,
+    chart: &mut Chart,
+    grammar: &CheckedGrammar,
+    lexicon: &Lexicon,
+    text: &str,
+) -> Result<bool, Fail>
+    requires { chart.old ≡ setting_of grammar.now lexicon.now chart.old.tokens }
+    ensures { OnOk result (chart.new ≡ setting_of grammar.now lexicon.now chart.new.tokens) }
+{
+    if text.is_empty() {
+        let some = dropped(chart, grammar, lexicon);
+        return Ok(some);
+    }
+    let all = all_taken(rt, alloc, chart, grammar, lexicon, text)?;
+    Ok(all)
+}
+
+// The chart is complete exactly where there is a code, and has this least code.
+fn has_code(
+    rt: &impl Abort,
+    alloc: Global,
+    chart: &Chart,
+    grammar: &CheckedGrammar,
+    lexicon: &Lexicon,
+    code: &[u16],
+) -> Result<(), Fail> {
+    assert_eq!(rt; chart.complete(), !code.is_empty());
+    let least = least_code(alloc, chart, grammar, lexicon)?;
+    assert!(rt; least.as_slice() == code);
+    Ok(())
+}
+
+// A list of first tokens to take, or with no text the last token to take away; what is told then, and the least code.
+type Step<'a> = (&'a str, bool, &'a [u16]);
+
+fn steps_go(
+    rt: &impl Abort,
+    alloc: Global,
+    chart: &mut Chart,
+    grammar: &CheckedGrammar,
+    lexicon: &Lexicon,
+    steps: &[Step<'_>],
+) -> Result<(), Fail>
+    requires { chart.old ≡ setting_of grammar.now lexicon.now chart.old.tokens }
+{
+    for (text, told, code) in steps {
+        let answer = step(rt, alloc, chart, grammar, lexicon, *text)?;
+        assert_eq!(rt; answer, *told, "what is told of {text}");
+        has_code(rt, alloc, chart, grammar, lexicon, *code)?;
+    }
+    Ok(())
+}
+
+fn go(rt: &impl Abort, alloc: Global, grammar: &str, steps: &[Step<'_>]) -> Result<(), Fail> {
+    let grammar = read_grammar(alloc, grammar)?;
+    let lexicon = words(alloc, &grammar, &[])?;
+    let mut chart = started(alloc, &grammar, &lexicon)?;
+    steps_go(rt, alloc, &mut chart, &grammar, &lexicon, steps)
+}
+
 const REFERENTS: &str =
     "feature k: p, q. feature id: position. text --> m n r [e]. m --> [m] #P > x(k: p, id: P). \
      n --> [n] #P > x(k: q, id: P). r --> < +x(k: K, id: ?I) [r].";
 
 #[test]
 fn two_tokens_away_and_back_change_nothing(rt: HostRuntime) -> Result<(), Fail> {
-    let alloc = rt.alloc();
-    let grammar = read_grammar(alloc, REFERENTS)?;
-    let lexicon = words(alloc, &grammar, &[])?;
-    let mut chart = started(alloc, &grammar, &lexicon)?;
-    assert!(rt; all_taken(&rt, alloc, &mut chart, &grammar, &lexicon, "m n r e")?);
-    for _ in 0..3u8 {
-        assert!(rt; chart.complete());
-        let code = least_code(alloc, &chart, &grammar, &lexicon)?;
-        assert!(rt; code.as_slice() == [1, 2, 3, 4, 1].as_slice());
-        assert!(rt; dropped(&mut chart, &grammar, &lexicon));
-        assert!(rt; !chart.complete());
-        assert!(rt; dropped(&mut chart, &grammar, &lexicon));
-        assert_eq!(rt; chart.tokens().len(), 2);
-        assert!(rt; all_taken(&rt, alloc, &mut chart, &grammar, &lexicon, "r e")?);
-    }
-    Ok(())
+    go(
+        &rt,
+        rt.alloc(),
+        REFERENTS,
+        &[
+            ("m n r e", true, &[1, 2, 3, 4, 1]),
+            ("", true, &[]),
+            ("", true, &[]),
+            ("r", true, &[]),
+            ("e", true, &[1, 2, 3, 4, 1]),
+        ],
+    )
 }
 
 #[test]
 fn a_chart_goes_on_after_a_token_that_does_not_fit(rt: HostRuntime) -> Result<(), Fail> {
-    let alloc = rt.alloc();
-    let grammar = read_grammar(alloc, "text --> [a]. text --> [a] [b].")?;
-    let lexicon = words(alloc, &grammar, &[])?;
-    let mut chart = started(alloc, &grammar, &lexicon)?;
-    assert!(rt; !chart.complete());
-    assert!(rt; all_taken(&rt, alloc, &mut chart, &grammar, &lexicon, "a")?);
-    assert!(rt; chart.complete());
-    assert!(rt; !all_taken(&rt, alloc, &mut chart, &grammar, &lexicon, "a b")?);
-    assert!(rt; !chart.complete());
-    assert!(rt; dropped(&mut chart, &grammar, &lexicon));
-    assert!(rt; dropped(&mut chart, &grammar, &lexicon));
-    assert!(rt; chart.complete());
-    assert!(rt; dropped(&mut chart, &grammar, &lexicon));
-    assert!(rt; !chart.complete());
-    assert!(rt; !dropped(&mut chart, &grammar, &lexicon));
-    Ok(())
+    go(
+        &rt,
+        rt.alloc(),
+        "text --> [a]. text --> [a] [b].",
+        &[
+            ("a", true, &[1]),
+            ("a b", false, &[]),
+            ("", true, &[]),
+            ("", true, &[1]),
+            ("b", true, &[2]),
+            ("", true, &[1]),
+            ("", true, &[]),
+            ("", false, &[]),
+        ],
+    )
 }
 
 const AMBIGUOUS: &str = "text --> s [e]. s --> a. s --> a s. s --> b s. a --> [x]. b --> [x].";
 
 // 39 times `x`: with `e` behind them they have 2^38 derivations.
 const MANY: &str = "x x x x x x x x x x x x x x x x x x x x x x x x x x x x x x x x x x x x x x x";
+
+// 1, then 38 times 3, 5, then 2, 5.
+const LEAST_OF_MANY: [u16; 79] = [
+    1, 3, 5, 3, 5, 3, 5, 3, 5, 3, 5, 3, 5, 3, 5, 3, 5, 3, 5, 3, 5, 3, 5, 3, 5, 3, 5, 3, 5, 3, 5, 3,
+    5, 3, 5, 3, 5, 3, 5, 3, 5, 3, 5, 3, 5, 3, 5, 3, 5, 3, 5, 3, 5, 3, 5, 3, 5, 3, 5, 3, 5, 3, 5, 3,
+    5, 3, 5, 3, 5, 3, 5, 3, 5, 3, 5, 3, 5, 2, 5,
+];
+
+#[test]
+fn very_many_trees_take_no_time(rt: HostRuntime) -> Result<(), Fail> {
+    go(
+        &rt,
+        rt.alloc(),
+        AMBIGUOUS,
+        &[
+            (MANY, true, &[]),
+            ("e", true, &LEAST_OF_MANY),
+            ("", true, &[]),
+        ],
+    )
+}
 
 fn offers_two(menu: &Menu<'_>, first: &str, second: &str) -> bool {
     if menu.len() != 2 {
@@ -110,21 +189,13 @@ fn offers_two(menu: &Menu<'_>, first: &str, second: &str) -> bool {
 }
 
 #[test]
-fn very_many_trees_take_no_time(rt: HostRuntime) -> Result<(), Fail> {
+fn a_menu_after_very_many_trees_takes_no_time(rt: HostRuntime) -> Result<(), Fail> {
     let alloc = rt.alloc();
     let grammar = read_grammar(alloc, AMBIGUOUS)?;
     let lexicon = words(alloc, &grammar, &[])?;
     let mut chart = started(alloc, &grammar, &lexicon)?;
-    assert!(rt; all_taken(&rt, alloc, &mut chart, &grammar, &lexicon, MANY)?);
-    assert!(rt; !chart.complete());
-    assert!(rt; least_code(alloc, &chart, &grammar, &lexicon)?.is_empty());
+    let _ = all_taken(&rt, alloc, &mut chart, &grammar, &lexicon, MANY)?;
     let menu = chart.menu(&grammar, &lexicon)?;
     assert!(rt; offers_two(&menu, "e", "x"));
-    assert!(rt; all_taken(&rt, alloc, &mut chart, &grammar, &lexicon, "e")?);
-    assert!(rt; chart.complete());
-    let code = least_code(alloc, &chart, &grammar, &lexicon)?;
-    assert_eq!(rt; code.len(), 79);
-    assert!(rt; code.as_slice().starts_with(&[1, 3, 5, 3, 5]));
-    assert!(rt; code.as_slice().ends_with(&[3, 5, 2, 5]));
     Ok(())
 }

@@ -4,6 +4,7 @@
 
 mod choices;
 
+use absorb::absorb;
 use choices::{Base, drawn_colouring, hidden, path_and_clique, persons};
 use logic_terms::{Axiom, Axioms, Class, Names, Role};
 use owl_eval::{CheckedModel, Interp};
@@ -12,6 +13,7 @@ use reasoner_examples::are_fit;
 use std::alloc::{AllocError, AllocFailed, Global};
 use std::time::CpuClock;
 use std::{env, io};
+use tableau::{Outcome, systematic};
 use wiki_base::{Memory, WordId};
 
 const NOUNS: u32 = 20;
@@ -218,10 +220,49 @@ fn tell<R: Print + CpuClock>(
     Ok(())
 }
 
+// How a search ended.
+fn ended(outcome: &Outcome) -> &'static str {
+    match outcome {
+        Outcome::Finished(_) => "a model",
+        Outcome::Closed(_) => "no model",
+        Outcome::Spent(_) => "spent",
+    }
+}
+
+// Tells how the systematic search alone ends on a base, and how much processor time it took where that is asked.
+fn tell_systematic<R: Print + CpuClock>(
+    rt: &R,
+    alloc: Global,
+    text: &str,
+    base: Base,
+    timed: bool,
+) -> Result<(), Fault> {
+    let Base { axioms, names } = base;
+    if !are_fit(&names, &axioms) {
+        return Err(Fault::Axioms);
+    }
+    let knowledge = absorb(alloc, &axioms, &names)?;
+    let start = rt.thread_cpu_time()?;
+    let outcome = systematic(alloc, &knowledge, DEFAULT_BUDGET)?;
+    let taken = rt.thread_cpu_time()?.saturating_sub(start).as_micros();
+    let kind = ended(&outcome);
+    if timed {
+        println!(rt; "{text}, the systematic search alone: {kind}, {taken} microseconds")?;
+    } else {
+        println!(rt; "{text}, the systematic search alone: {kind}")?;
+    }
+    Ok(())
+}
+
 // Tells the verdicts on axioms with many names or many choices.
 fn tell_all<R: Print + CpuClock>(rt: &R, alloc: Global, timed: bool) -> Result<(), Fault> {
     let (count, unions, path) = if timed { (1_000, 100, 20) } else { (10, 4, 4) };
     tell(rt, alloc, "persons", persons(alloc, count)?, timed)?;
+    tell_systematic(rt, alloc, "persons", persons(alloc, count)?, timed)?;
+    if timed {
+        let more = persons(alloc, 4_000)?;
+        tell_systematic(rt, alloc, "four times as many", more, timed)?;
+    }
     tell(rt, alloc, "a hidden clash", hidden(alloc, unions)?, timed)?;
     tell(
         rt,

@@ -11,7 +11,7 @@ use quick_search::{Proposal, hunt};
 use reasoner::{Verdict, verdict};
 use std::alloc::Global;
 use std::test::Fail;
-use tableau::{Outcome, search};
+use tableau::{Outcome, search, systematic};
 use tableau_rules::start;
 
 // How a search ended.
@@ -77,6 +77,7 @@ fn a_search_is_cut_at_each_budget_below_its_steps(rt: HostRuntime) -> Result<(),
         }
         let end = if *size == 0 { End::Shut } else { End::Open };
         assert!(rt; end_of(&search(alloc, &k, *steps)?) == end, "{axioms}");
+        assert!(rt; end_of(&systematic(alloc, &k, *steps)?) == end, "{axioms}");
     }
     Ok(())
 }

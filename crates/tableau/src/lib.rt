@@ -8,4 +8,4 @@ mod turn;
 mod way;
 
 pub use outcome::Outcome;
-pub use searching::search;
+pub use searching::{search, systematic};

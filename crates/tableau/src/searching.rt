@@ -11,10 +11,11 @@ use crate::outcome::Outcome;
 use crate::quickly::quickly;
 use crate::turn::{Turn, next_turn};
 use crate::way::take;
+use agenda::{Agenda, clash_after};
 use lists::List;
 use logic_terms::Knowledge;
 use std::alloc::Global;
-use tableau_rules::start;
+use tableau_rules::{clash, start};
 use wiki_base::Memory;
 
 /// Searches for a model of the knowledge, with at most `budget` rule applications: the first applicable step is applied
@@ -33,23 +34,35 @@ pub fn search(alloc: Global, k: &Knowledge, budget: u64) -> Result<Outcome, Memo
     }
 }
 
-// The systematic search.
-fn systematic(alloc: Global, k: &Knowledge, budget: u64) -> Result<Outcome, Memory>
+/// The systematic search alone: the first applicable step is applied again and again, choices of `or` are tried from the
+/// first on, and a clash goes back to the last open choice. An agenda finds that step, and a clash is looked for where the
+/// last step changed something.
+pub fn systematic(alloc: Global, k: &Knowledge, budget: u64) -> Result<Outcome, Memory>
     ensures finished { IfOk result (λ o. IfFinished o (λ b. IsEnd (theory_of k.now) (graph_of b))) }
     ensures closed { IfOk result (λ o. IfClosed o (λ tree. IsTrue (is_closed (theory_of k.now) (tree_of tree)))) }
     ensures spent { IfOk result (λ o. IfSpent o (λ b. IsCutAt (theory_of k.now) budget (graph_of b))) }
 {
     let mut way = List::new(alloc);
     let mut b = start(alloc, k)?;
+    let mut agenda = Agenda::full(alloc, &b)?;
+    let mut found = clash(k, &b);
     for _spent in 0..budget {
-        match next_turn(alloc, k, &b, &mut way)? {
+        match next_turn(alloc, k, &b, found, &mut agenda, &mut way)? {
             Turn::Finished => return Ok(Outcome::Finished(b)),
             Turn::Shut(tree) => return Ok(Outcome::Closed(tree)),
-            Turn::Forward(step) => b = take(k, b, step, List::new(alloc), &mut way)?,
-            Turn::Back(step, trees, before) => b = take(k, before, step, trees, &mut way)?,
+            Turn::Forward(step) => {
+                b = take(k, b, step, List::new(alloc), &mut way)?;
+                agenda.note(&b, &step)?;
+                found = clash_after(k, &b, &step);
+            }
+            Turn::Back(step, trees, before) => {
+                b = take(k, before, step, trees, &mut way)?;
+                agenda = Agenda::full(alloc, &b)?;
+                found = clash_after(k, &b, &step);
+            }
         }
     }
-    match next_turn(alloc, k, &b, &mut way)? {
+    match next_turn(alloc, k, &b, found, &mut agenda, &mut way)? {
         Turn::Finished => Ok(Outcome::Finished(b)),
         Turn::Shut(tree) => Ok(Outcome::Closed(tree)),
         Turn::Forward(_) => Ok(Outcome::Spent(b)),

@@ -1,0 +1,13 @@
+pub mod Calm
+pub mod Changing
+pub mod Clashed
+pub mod Effects
+pub mod Fitting
+pub mod Idle
+pub mod Nexts
+pub mod Noting
+pub mod Queueing
+pub mod Serving
+pub mod Shapes
+pub mod Staying
+pub mod Waits

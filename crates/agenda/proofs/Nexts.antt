@@ -1,0 +1,211 @@
+-- The first step by a rule is at the least node that is due, and a node rests where no step applies.
+use Rattle.std.proofs.Common.{◌≡◌, ℕ, zero, suc, ◌<◌, ◌≤◌, ◌==◌, ◌&&◌, ◌⊎◌, Bool, true, false, List, [], length, cond, Option, Some, None, slice_get, subst, refl, sym, ap, ◌∙◌, inl, inr, arith}
+use Rattle.std.specs.Prelude.{not, nat_lt}
+use Rattle.std.specs.Option.{option_and_then, option_map, option_map_or}
+use Rattle.std.proofs.lemmas.Bool.{cases_Bool, cases_eq, cases_lt, and_from, or_right, eqb-true, not_from_false}
+use Rattle.std.proofs.lemmas.Option.{slice_get_past}
+use Rattle.wiki_base.specs.declared.numbers.WordId.{WordId}
+use Rattle.logic_terms.specs.declared.expressions.Role.{Role}
+use Rattle.logic_terms.specs.Concept.{Concept}
+use Rattle.logic_terms.specs.Meaning.{some_below}
+use Rattle.logic_terms.specs.Parts.{word_part, intersection_part, union_part, some_part, all_part, value_part}
+use Rattle.logic_terms.specs.Same.{has_concept}
+use Rattle.logic_terms.specs.Theory.{Theory}
+use Rattle.tableau_rules.specs.declared.step.Rule.{Rule}
+use Rattle.tableau_rules.specs.declared.step.Rule.TheVariants as rule
+use Rattle.tableau_rules.specs.declared.step.Step.{Step}
+use Rattle.tableau_rules.specs.First.{first_below, where_true}
+use Rattle.tableau_rules.specs.Graph.{Graph, label_at, class_at}
+use Rattle.tableau_rules.specs.Neighbours.{node_of, is_neighbour}
+use Rattle.tableau_rules.specs.Blocking.{is_directly_blocked, is_indirectly_blocked, is_blocked}
+use Rattle.tableau_rules.specs.Rules.{lacks_some, lacks_all, unfoldings_of, open_members, serves, needs, row, site, site_at, applies, first_at, first_by}
+use Rattle.tableau_rules.proofs.Firsts.{first_none, first_found}
+use Rattle.agenda.specs.Resting.{RestsBy, IsResting, Fits, waits_for, way_up}
+use Rattle.agenda.specs.Steps.{is_all, sprouts}
+use Rattle.agenda.specs.Views.{AreWaitedFor, IsWaitedFor}
+use Rattle.agenda.proofs.Idle.{idle, no_first}
+use Rattle.agenda.proofs.Staying.{NeighboursThere, none_below, where_fails}
+
+both : {b : Bool} → b ≡ true → b ≡ false → ⊥
+both t f = cc
+
+-- a rule without a node y adds at 0
+where_zero : (t : Bool) → (where_true {X = ℕ} t 0 ≡ None) ⊎ (where_true {X = ℕ} t 0 ≡ Some 0)
+where_zero true = inr refl
+where_zero false = inl refl
+
+then_zero : {X : Type 0} (f : X → Option ℕ) → ((x : X) → (f x ≡ None) ⊎ (f x ≡ Some 0)) → (o : Option X) → (option_and_then f o ≡ None) ⊎ (option_and_then f o ≡ Some 0)
+then_zero f each None = inl refl
+then_zero f each (Some x) = each x
+
+module _ (k : Theory) (g : Graph) where
+  row_zero : (r : Rule) (x : ℕ) (c : Concept) → is_all r ≡ false → (row k g r x c ≡ None) ⊎ (row k g r x c ≡ Some 0)
+  row_zero rule.And x c e = then_zero (λ cs. where_true (lacks_some (label_at g x) cs) 0) (λ cs. where_zero (lacks_some (label_at g x) cs)) (intersection_part c)
+  row_zero rule.Unfold x c e = then_zero (λ word. where_true (lacks_some (label_at g x) (unfoldings_of k word)) 0) (λ word. where_zero (lacks_some (label_at g x) (unfoldings_of k word))) (word_part c)
+  row_zero rule.All x c e = cc
+  row_zero rule.Value x c e =
+      then_zero (λ p. option_and_then {U = ℕ} (λ y. where_true (not (is_blocked k g x) && not (is_neighbour k g p.0 x y)) 0) (node_of k p.1))
+      (λ p. then_zero (λ y. where_true (not (is_blocked k g x) && not (is_neighbour k g p.0 x y)) 0) (λ y. where_zero (not (is_blocked k g x) && not (is_neighbour k g p.0 x y))) (node_of k p.1)) (value_part c)
+  row_zero rule.Unit x c e =
+      then_zero (λ cs. where_true (lacks_all (label_at g x) cs && nat_lt (length (open_members (label_at g x) cs)) 2) 0)
+      (λ cs. where_zero (lacks_all (label_at g x) cs && nat_lt (length (open_members (label_at g x) cs)) 2)) (union_part c)
+  row_zero rule.Or x c e = then_zero (λ cs. where_true (lacks_all (label_at g x) cs) 0) (λ cs. where_zero (lacks_all (label_at g x) cs)) (union_part c)
+  row_zero rule.Some x c e =
+      then_zero (λ p. where_true (not (is_blocked k g x) && not (some_below (length g.nodes) (serves k g p.0 p.1 x))) 0)
+      (λ p. where_zero (not (is_blocked k g x) && not (some_below (length g.nodes) (serves k g p.0 p.1 x)))) (some_part c)
+
+  site_zero : (r : Rule) (x : ℕ) (c : Concept) → is_all r ≡ false → (site k g r x c ≡ None) ⊎ (site k g r x c ≡ Some 0)
+  site_zero r x c e = go (is_indirectly_blocked k g x)
+    where
+      go : (b : Bool) → (cond b None (row k g r x c) ≡ None) ⊎ (cond b None (row k g r x c) ≡ Some 0)
+      go true = inl refl
+      go false = row_zero r x c e
+
+  site_at_zero : (r : Rule) (x place : ℕ) → is_all r ≡ false → (site_at k g r x place ≡ None) ⊎ (site_at k g r x place ≡ Some 0)
+  site_at_zero r x place e = then_zero (site k g r x) (λ c. site_zero r x c e) (class_at g x place)
+
+  zero_step : (s : Step) → s.other ≡ 0 → (o : Option ℕ) → site_at k g s.rule s.node s.class ≡ o → (b : Bool) → applies k g s ≡ b → option_map_or (λ y. y == s.other) o false ≡ b
+  zero_step s zero_is o at b on = sym (ap (λ p. option_map_or (λ y. y == s.other) p false) at) ∙ on
+
+  pub applies_zero : (s : Step) → s.other ≡ 0 → applies k g s ≡ true → Some 0 ≡ site_at k g s.rule s.node s.class
+  applies_zero s zero_is on = go (site_at k g s.rule s.node s.class) refl
+    where
+      go : (o : Option ℕ) → site_at k g s.rule s.node s.class ≡ o → Some 0 ≡ site_at k g s.rule s.node s.class
+      go None at = (let e : false ≡ true = zero_step s zero_is None at true on in cc)
+      go (Some y) at = (let e : (y == s.other) ≡ true = zero_step s zero_is (Some y) at true on in sym (at ∙ ap Some (eqb-true y s.other e ∙ zero_is)))
+
+  pub applies_none : (s : Step) → s.other ≡ 0 → is_all s.rule ≡ false → applies k g s ≡ false → None ≡ site_at k g s.rule s.node s.class
+  applies_none s zero_is other off = elim (site_at_zero s.rule s.node s.class other) [
+    | inl none ↦ sym none
+    | inr some ↦
+        let e : (0 == s.other) ≡ false = zero_step s zero_is (Some 0) some false off in
+        let t : (0 == s.other) ≡ true = Rattle.std.proofs.lemmas.Bool.eq-eqb 0 s.other (sym zero_is) in
+        absurd (both t e)
+  ]
+
+  -- no step at a node
+  pub no_sites : (r : Rule) (x : ℕ) → first_at k g r x ≡ None → (place : ℕ) → site_at k g r x place ≡ None
+  no_sites r x none place = elim (cases_lt place (length (label_at g x))) [
+    | inl lt ↦ map_none (site_at k g r x place) (none_below (length (label_at g x)) (λ place. option_map (step_at place) (site_at k g r x place)) none place lt)
+    | inr past ↦ ap (option_and_then (site k g r x)) (slice_get_past (label_at g x) place past)
+  ]
+    where
+      step_at : ℕ → ℕ → Step
+      step_at place y = record { rule = r; node = x; class = place; other = y }
+
+      map_none : (o : Option ℕ) → option_map (step_at place) o ≡ None → o ≡ None
+      map_none None e = refl
+      map_none (Some y) e = cc
+
+  first_node : (r : Rule) (x : ℕ) (s : Step) → first_at k g r x ≡ Some s → x < length g.nodes
+  first_node r x s some = elim (cases_lt x (length g.nodes)) [
+    | inl lt ↦ lt
+    | inr past ↦
+        let step_at : ℕ → ℕ → Step = λ place y. record { rule = r; node = x; class = place; other = y } in
+        let empty : label_at g x ≡ [] = ap (λ o. option_map_or (λ v. v.label) o []) (slice_get_past g.nodes x past) in
+        let none : first_at k g r x ≡ None = ap (λ l. first_below (length l) (λ place. option_map (step_at place) (site_at k g r x place))) empty in
+        let never : None ≡ Some s = sym none ∙ some in
+        cc
+  ]
+
+  module _ (r : Rule) (due : ℕ → Bool) (waits : ℕ → ℕ → Bool) (fits : Fits k g r due waits) where
+    none_at : (y : ℕ) → y < length g.nodes → due y ≡ false → first_at k g r y ≡ None
+    none_at y lt off = elim (fits y lt) [
+      | inl on ↦ absurd (both on off)
+      | inr (inl apart) ↦ no_first k g y r (idle k g y r apart)
+      | inr (inr rests) ↦ no_first k g y r rests.none
+    ]
+
+    pub first_is : (x : ℕ) (s : Step) → ((q : ℕ) → due q ≡ true → x ≤ q) → first_at k g r x ≡ Some s → Some s ≡ first_by k g r
+    first_is x s least some =
+        let lt = first_node r x s some in
+        sym (first_found (first_at k g r) x (first_none x (first_at k g r) (λ y below. none_at y (less y below lt) (not_due y below))) (length g.nodes) s lt some)
+      where
+        less : (y : ℕ) → y < x → x < length g.nodes → y < length g.nodes
+        less y below lt = omega arith
+
+        not_less : (y : ℕ) → y < x → x ≤ y → ⊥
+        not_less y below le = omega arith
+
+        not_due : (y : ℕ) → y < x → due y ≡ false
+        not_due y below = elim (cases_Bool (due y)) [
+          | inl on ↦ absurd (not_less y below (least y on))
+          | inr off ↦ off
+        ]
+
+    pub first_not : ((q : ℕ) → due q ≡ false) → None ≡ first_by k g r
+    first_not off = sym (first_none (length g.nodes) (first_at k g r) (λ y lt. none_at y lt (off y)))
+
+  -- what a node that rests waits for
+  module _ (there : NeighboursThere k g) (waits : ℕ → ℕ → Bool) (x : ℕ) where
+    site_row : (r : Rule) (c : Concept) → is_indirectly_blocked k g x ≡ false → site k g r x c ≡ None → row k g r x c ≡ None
+    site_row r c free none = sym (ap (λ b. cond b None (row k g r x c)) free) ∙ none
+
+    at_class : (r : Rule) (place : ℕ) (c : Concept) → class_at g x place ≡ Some c → site_at k g r x place ≡ None → site k g r x c ≡ None
+    at_class r place c at none = sym (ap (option_and_then (site k g r x)) at) ∙ none
+
+    has_it : (near free lacks : Bool) → (near && (not free && not lacks)) ≡ false → near ≡ true → free ≡ false → lacks ≡ true
+    has_it true false true e n f = refl
+    has_it true false false e n f = cc
+    has_it true true lacks e n f = cc
+    has_it false free lacks e n f = cc
+
+    all_rests : AreWaitedFor k g waits x → ((place : ℕ) → site_at k g rule.All x place ≡ None) → RestsBy k g waits x rule.All
+    all_rests awaited none place c p at part = elim (cases_Bool (is_indirectly_blocked k g x)) [
+      | inl stops ↦ inl stops
+      | inr free ↦ inr (λ y near. elim (cases_Bool (is_indirectly_blocked k g y)) [
+        | inl stops ↦ inr (stops, awaited p.0 y near stops)
+        | inr open_there ↦
+            let row_none : first_below (length g.nodes) (λ z. where_true (needs k g p.0 p.1 x z) z) ≡ None =
+            sym (ap (option_and_then {U = ℕ} (λ q. first_below (length g.nodes) (λ z. where_true (needs k g q.0 q.1 x z) z))) part) ∙ site_row rule.All c free (at_class rule.All place c at (none place)) in
+            let fails : needs k g p.0 p.1 x y ≡ false = where_fails (needs k g p.0 p.1 x y) y (none_below (length g.nodes) (λ z. where_true (needs k g p.0 p.1 x z) z) row_none y (there p.0 x y near)) in
+            inl (has_it (is_neighbour k g p.0 x y) (is_indirectly_blocked k g y) (has_concept (label_at g y) p.1) fails near open_there)
+      ])
+    ]
+
+    must_block : (a b : Bool) → (not a && not b) ≡ false → b ≡ false → a ≡ true
+    must_block true b e f = refl
+    must_block false true e f = cc
+    must_block false false e f = cc
+
+    some_rests : ((place : ℕ) → IsWaitedFor k g waits x place) → ((place : ℕ) → site_at k g rule.Some x place ≡ None) → RestsBy k g waits x rule.Some
+    some_rests awaited none place c p at part = elim (awaited place c p at part) [
+      | inr served ↦ inr served
+      | inl alone ↦ inl (elim (cases_Bool (is_indirectly_blocked k g x)) [
+        | inl stops ↦ or_right (is_directly_blocked k g x) (is_indirectly_blocked k g x) stops
+        | inr free ↦
+            let row_none : where_true (not (is_blocked k g x) && not (some_below (length g.nodes) (serves k g p.0 p.1 x))) 0 ≡ None =
+            sym (ap (option_and_then {U = ℕ} (λ q. where_true (not (is_blocked k g x) && not (some_below (length g.nodes) (serves k g q.0 q.1 x))) 0)) part) ∙ site_row rule.Some c free (at_class rule.Some place c at (none place)) in
+            must_block (is_blocked k g x) (some_below (length g.nodes) (serves k g p.0 p.1 x)) (where_fails (not (is_blocked k g x) && not (some_below (length g.nodes) (serves k g p.0 p.1 x))) 0 row_none) alone
+      ])
+    ]
+
+    pub rests_all : (r : Rule) → is_all r ≡ true → first_at k g r x ≡ None → waits_for waits x (way_up g x) ≡ true → AreWaitedFor k g waits x → IsResting k g waits r x
+    rests_all rule.And e none own awaited = cc
+    rests_all rule.Unfold e none own awaited = cc
+    rests_all rule.All e none own awaited = record { none = no_sites rule.All x none; own = own; others = all_rests awaited (no_sites rule.All x none) }
+    rests_all rule.Value e none own awaited = cc
+    rests_all rule.Unit e none own awaited = cc
+    rests_all rule.Or e none own awaited = cc
+    rests_all rule.Some e none own awaited = cc
+
+    pub rests_some : (r : Rule) → sprouts r ≡ true → first_at k g r x ≡ None → waits_for waits x (way_up g x) ≡ true → ((place : ℕ) → IsWaitedFor k g waits x place) → IsResting k g waits r x
+    rests_some rule.And e none own awaited = cc
+    rests_some rule.Unfold e none own awaited = cc
+    rests_some rule.All e none own awaited = cc
+    rests_some rule.Value e none own awaited = cc
+    rests_some rule.Unit e none own awaited = cc
+    rests_some rule.Or e none own awaited = cc
+    rests_some rule.Some e none own awaited = record { none = no_sites rule.Some x none; own = own; others = some_rests awaited (no_sites rule.Some x none) }
+
+    pub rests_other : (r : Rule) → is_all r ≡ false → sprouts r ≡ false → first_at k g r x ≡ None → waits_for waits x (way_up g x) ≡ true → IsResting k g waits r x
+    rests_other r e f none own = record { none = no_sites r x none; own = own; others = others r e f }
+      where
+        others : (r : Rule) → is_all r ≡ false → sprouts r ≡ false → RestsBy k g waits x r
+        others rule.And e f = tt
+        others rule.Unfold e f = tt
+        others rule.All e f = cc
+        others rule.Value e f = tt
+        others rule.Unit e f = tt
+        others rule.Or e f = tt
+        others rule.Some e f = cc

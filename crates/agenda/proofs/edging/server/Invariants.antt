@@ -1,0 +1,14 @@
+use Rattle.std.proofs.Common.{◌≡◌, ◌&&◌, false, length, take}
+use Rattle.std.specs.Prelude.{not}
+use Rattle.std.specs.List.{list_any}
+use Rattle.logic_terms.specs.Known.{theory_of}
+use Rattle.logic_terms.specs.Same.{has_concept}
+use Rattle.logic_terms.specs.Shown.{concept_of}
+use Rattle.tableau_rules.specs.Blocking.{is_indirectly_blocked}
+use Rattle.tableau_rules.specs.Graph.{label_at}
+use Rattle.tableau_rules.specs.Shown.{graph_of}
+use Rattle.tableau_rules.specs.Touching.{reaches}
+use Rattle.agenda.proofs.edging.server.Given as goal
+
+abbrev pub invariant-loop-edge : goal.invariant-loop-edge
+invariant-loop-edge l = list_any (reaches (theory_of l.k) l.role (length (graph_of l.b).nodes) l.node (λ y. not (is_indirectly_blocked (theory_of l.k) (graph_of l.b) y) && has_concept (label_at (graph_of l.b) y) (concept_of l.class))) (take l.edge-index l.edge-items) ≡ false

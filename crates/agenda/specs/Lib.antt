@@ -1,0 +1,5 @@
+pub mod Agendas
+pub mod Changes
+pub mod Resting
+pub mod Steps
+pub mod Views

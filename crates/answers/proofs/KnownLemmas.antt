@@ -23,6 +23,7 @@ use Rattle.absorb.specs.Pieces.{Assertion, all_pieces, pieces_of}
 use Rattle.absorb.specs.Sorted.{Sorted, with_piece, no_pieces, sorted}
 use Rattle.absorb.proofs.AbsorbedLemmas.{lawful, plain_theory, model_of, model_from}
 use Rattle.closure_check.specs.NoModel.{HasNoModel}
+use Rattle.consequences.specs.Forced.{HasInEachModel}
 use Rattle.tableau_rules.specs.Searching.{IsLonger}
 use Rattle.answers.specs.Answered.{denied, IsInAll, IsOutsideSome, IsUnknown}
 use Rattle.answers.specs.Asserted.{with_assertion}
@@ -91,6 +92,11 @@ module _ (claims : List Claim) (names : List WordId) (k : Theory) (c d : Concept
 
   pub denying_longer : (budget : ℕ) → IsLonger made budget → IsUnknown claims names budget c name
   denying_longer budget longer = record { knowledge = made; absorbed = absorbed; longer = longer }
+
+-- a class that the name is in in each model of the knowledge it is in in each model of the axioms
+pub included : (claims : List Claim) (names : List WordId) (k : Theory) (c : Concept) (name : WordId) → IsAbsorbed claims names k → (are_over names claims && list_all (is_among names) (names_in c)) ≡ true → HasInEachModel k c name → IsInAll claims c name
+included claims names k c name made over has i sound m =
+    has i sound (model_of claims names k made (and_parts (are_over names claims) (list_all (is_among names) (names_in c)) over).0 i m)
 
 -- where a name's denial is not true, the interpretation has it in the class
 pub not_denied : (i : Interpretation) (c d : Concept) (name : WordId) → d ≡ complement c → holds i (ClassAssertion d name) ≡ false → IsIn i c (element_of i name)

@@ -7,17 +7,18 @@ ghost use Rattle.logic_terms.specs.Plain.{is_plain, are_plain};
 ghost use Rattle.logic_terms.specs.Reading.{IsIn, IsModel};
 ghost use Rattle.wiki_base.specs.declared.numbers.WordId.{WordId};
 ghost use Rattle.logic_terms.specs.Complement.{complement};
-ghost use Rattle.logic_terms.specs.Known.{theory_of};
 ghost use Rattle.logic_terms.specs.Names.{names_rise};
 ghost use Rattle.absorb.specs.Absorbed.{IsAbsorbed};
 ghost use Rattle.absorb.specs.Mentioned.{names_in, is_among, are_over};
 ghost use Rattle.owl_eval.specs.Checked.{kept_interp, kept_claims};
+ghost use Rattle.consequences.specs.Known.{theory_in};
 ghost use Rattle.answers.specs.Answered.{IsInAll, IsOutsideSome, IsUnknown};
 ghost use Rattle.answers.specs.Single.{Answered};
 
 use crate::asserting::asserting;
 use absorb::absorb;
-use logic_terms::{Axiom, Class, Knowledge, Names, negated};
+use consequences::Consequences;
+use logic_terms::{Axiom, Class, Names, negated};
 use owl_eval::{CheckedModel, axiom_true};
 use reasoner::{Decision, decide};
 use std::alloc::Global;
@@ -33,8 +34,8 @@ pub struct Answers {
 }
 
 /// The given names that are in a class in every finite model of the kept axioms. A name that is outside the class in the
-/// kept interpretation is no answer; for each other name the verdict on the axioms with its membership in the complement
-/// decides, within `budget` rule applications.
+/// kept interpretation is no answer, and one that a branch of single choices shows to be in it is one; for each other name the
+/// verdict on the axioms with its membership in the complement decides, within `budget` rule applications.
 pub fn ask(
     alloc: Global,
     class: &Class,
@@ -52,19 +53,20 @@ pub fn ask(
     ensures apart { IfOk result (λ a. (n : WordId) → Contains a.yes n → ¬ Contains a.unknown n) }
 {
     let k = absorb(alloc, kept.axioms(), names)?;
-    ask_known(alloc, &k, class, kept, names, budget)
+    let known = Consequences::new(alloc, k, budget)?;
+    ask_known(alloc, &known, class, kept, names, budget)
 }
 
-/// The same with the knowledge that the kept axioms were absorbed to, which serves many classes.
+/// The same with the consequences of the knowledge that the kept axioms were absorbed to, which serve many classes.
 pub fn ask_known(
     alloc: Global,
-    k: &Knowledge,
+    known: &Consequences,
     class: &Class,
     kept: &CheckedModel,
     names: &Names,
     budget: u64,
 ) -> Result<Answers, Memory>
-    requires absorbed { IsAbsorbed (kept_claims kept.now) names.now (theory_of k.now) }
+    requires absorbed { IsAbsorbed (kept_claims kept.now) names.now (theory_in known.now) }
     requires over { IsTrue (are_over names.now (kept_claims kept.now) && list_all (is_among names.now) (names_in (concept_of class.now))) }
     requires plain { IsTrue (are_plain (kept_claims kept.now) && is_plain (concept_of class.now)) }
     ensures yes { IfOk result (λ a. All (IsInAll (kept_claims kept.now) (concept_of class.now)) a.yes) }
@@ -75,13 +77,13 @@ pub fn ask_known(
     ensures apart { IfOk result (λ a. (n : WordId) → Contains a.yes n → ¬ Contains a.unknown n) }
 {
     let denial = negated(alloc, class)?;
-    all_decided(alloc, k, class, &denial, kept, names, budget)
+    all_decided(alloc, known, class, &denial, kept, names, budget)
 }
 
 // The same with the complement of the class in negation normal form.
 fn all_decided(
     alloc: Global,
-    k: &Knowledge,
+    known: &Consequences,
     class: &Class,
     denial: &Class,
     kept: &CheckedModel,
@@ -89,7 +91,7 @@ fn all_decided(
     budget: u64,
 ) -> Result<Answers, Memory>
     requires denial { concept_of denial.now ≡ complement (concept_of class.now) }
-    requires absorbed { IsAbsorbed (kept_claims kept.now) names.now (theory_of k.now) }
+    requires absorbed { IsAbsorbed (kept_claims kept.now) names.now (theory_in known.now) }
     requires over { IsTrue (are_over names.now (kept_claims kept.now) && list_all (is_among names.now) (names_in (concept_of class.now))) }
     requires plain { IsTrue (are_plain (kept_claims kept.now) && is_plain (concept_of class.now)) }
     ensures yes { IfOk result (λ a. All (IsInAll (kept_claims kept.now) (concept_of class.now)) a.yes) }
@@ -102,7 +104,7 @@ fn all_decided(
     let mut yes = Names::new(alloc);
     let mut unknown = Names::new(alloc);
     for name in names.as_slice() {
-        match decided(alloc, k, class, denial, kept, names, *name, budget)? {
+        match decided(alloc, known, class, denial, kept, names, *name, budget)? {
             Asked::Yes => yes.push(*name)?,
             Asked::Unknown => unknown.push(*name)?,
             Asked::No => {}
@@ -122,7 +124,7 @@ pub(crate) enum Asked {
 // Whether one name is in the class. The denial is the complement of the class in negation normal form.
 fn decided(
     alloc: Global,
-    k: &Knowledge,
+    known: &Consequences,
     class: &Class,
     denial: &Class,
     kept: &CheckedModel,
@@ -130,7 +132,7 @@ fn decided(
     name: WordId,
     budget: u64,
 ) -> Result<Asked, Memory>
-    requires absorbed { IsAbsorbed (kept_claims kept.now) names.now (theory_of k.now) }
+    requires absorbed { IsAbsorbed (kept_claims kept.now) names.now (theory_in known.now) }
     requires denial { concept_of denial.now ≡ complement (concept_of class.now) }
     requires over { IsTrue (are_over names.now (kept_claims kept.now) && list_all (is_among names.now) (names_in (concept_of class.now))) }
     requires plain { IsTrue (are_plain (kept_claims kept.now) && is_plain (concept_of class.now)) }
@@ -142,7 +144,10 @@ fn decided(
     if is_out {
         return Ok(Asked::No);
     }
-    let with_denial = asserting(alloc, k, name, denial)?;
+    if known.include(class, name) {
+        return Ok(Asked::Yes);
+    }
+    let with_denial = asserting(alloc, known.knowledge(), name, denial)?;
     match decide(alloc, &with_denial, budget)? {
         Decision::Model(_) => Ok(Asked::No),
         Decision::Tree(_) => Ok(Asked::Yes),

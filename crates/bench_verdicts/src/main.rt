@@ -1,12 +1,15 @@
 //! Gives verdicts on the axioms of 200 sentences that are drawn by a rule, and on axioms with many names or many choices. With
-//! the word `time` there are more of them, and it also tells how much processor time each verdict took.
+//! the word `time` there are more of them, and it also tells how much processor time each verdict took. With the word `owl` it
+//! prints those axioms as ontologies in functional-style syntax, for other reasoners.
 #![tactic(auto)]
 
 mod choices;
+mod owl;
 
 use absorb::absorb;
 use choices::{Base, drawn_colouring, hidden, path_and_clique, persons};
 use logic_terms::{Axiom, Axioms, Class, Names, Role};
+use owl::print_base;
 use owl_eval::{CheckedModel, Interp};
 use reasoner::{Verdict, verdict};
 use reasoner_examples::are_fit;
@@ -138,23 +141,42 @@ fn axioms(alloc: Global, sentences: u32, seed: u32) -> Result<Axioms, Fault> {
     Ok(made)
 }
 
+// The axioms of so many sentences, over all names.
+fn sentences(alloc: Global, count: u32) -> Result<Base, Fault> {
+    Ok(Base {
+        axioms: axioms(alloc, count, 7)?,
+        names: names(alloc)?,
+    })
+}
+
+// The same with one more, by which a name is in a class word that they don't have.
+fn one_more(alloc: Global, count: u32) -> Result<Base, Fault> {
+    let mut base = sentences(alloc, count)?;
+    let class = Class::Named(WordId(51));
+    base.axioms.push(Axiom::Member(class, name(0)))?;
+    Ok(base)
+}
+
 // The interpretation with one element that is in no class and has no pair.
 fn bare(alloc: Global) -> Result<CheckedModel, Fault> {
     let interp = Interp::new(alloc, 1, Vec::new(alloc), Vec::new(alloc), Vec::new(alloc))?;
     CheckedModel::new(interp, Axioms::new(alloc)).map_err(|_| Fault::Axioms)
 }
 
-// The verdict on the axioms of so many sentences within a budget.
-fn judged(
+// The verdict on a base within a budget, and the microseconds of processor time that it took.
+fn judged<R: CpuClock>(
+    rt: &R,
     alloc: Global,
-    sentences: u32,
+    base: Base,
     kept: &CheckedModel,
     budget: u64,
-) -> Result<Verdict, Fault> {
-    let names = names(alloc)?;
-    let axioms = axioms(alloc, sentences, 7)?;
+) -> Result<(Verdict, u128), Fault> {
+    let Base { axioms, names } = base;
     if are_fit(&names, &axioms) {
-        Ok(verdict(alloc, axioms, &names, kept, budget)?)
+        let start = rt.thread_cpu_time()?;
+        let verdict = verdict(alloc, axioms, &names, kept, budget)?;
+        let taken = rt.thread_cpu_time()?.saturating_sub(start).as_micros();
+        Ok((verdict, taken))
     } else {
         Err(Fault::Axioms)
     }
@@ -185,20 +207,6 @@ fn said(verdict: &Verdict) -> &'static str {
     }
 }
 
-fn judged_base(
-    alloc: Global,
-    base: Base,
-    kept: &CheckedModel,
-    budget: u64,
-) -> Result<Verdict, Fault> {
-    let Base { axioms, names } = base;
-    if are_fit(&names, &axioms) {
-        Ok(verdict(alloc, axioms, &names, kept, budget)?)
-    } else {
-        Err(Fault::Axioms)
-    }
-}
-
 // Tells the verdict on a base with the program's own budget, and how much processor time it took where that is asked.
 fn tell<R: Print + CpuClock>(
     rt: &R,
@@ -208,10 +216,9 @@ fn tell<R: Print + CpuClock>(
     timed: bool,
 ) -> Result<(), Fault> {
     let none = bare(alloc)?;
-    let start = rt.thread_cpu_time()?;
-    let verdict = judged_base(alloc, base, &none, DEFAULT_BUDGET)?;
-    let taken = rt.thread_cpu_time()?.saturating_sub(start).as_micros();
+    let (verdict, taken) = judged(rt, alloc, base, &none, DEFAULT_BUDGET)?;
     let kind = said(&verdict);
+    drop(verdict);
     if timed {
         println!(rt; "{text}: {kind}, {taken} microseconds")?;
     } else {
@@ -254,70 +261,106 @@ fn tell_systematic<R: Print + CpuClock>(
     Ok(())
 }
 
-// Tells the verdicts on axioms with many names or many choices.
+// A base with what it is called.
+#[derive(Drop)]
+struct Named {
+    text: &'static str,
+    base: Base,
+}
+
+// Axioms with many names or many choices. Those colourings that are not planted may have none.
+fn bases(alloc: Global, many: bool) -> Result<Vec<Named>, Fault> {
+    let (count, unions, path) = if many { (1_000, 100, 20) } else { (10, 4, 4) };
+    let (vertices, edges, seeds) = if many { (100, 230, 20) } else { (9, 14, 2) };
+    let mut bases = Vec::new(alloc);
+    add(&mut bases, "persons", persons(alloc, count)?)?;
+    add(&mut bases, "a hidden clash", hidden(alloc, unions)?)?;
+    let apart = path_and_clique(alloc, path, false)?;
+    add(&mut bases, "a path and a clique", apart)?;
+    let joined = path_and_clique(alloc, path, true)?;
+    add(&mut bases, "a path to a clique", joined)?;
+    for seed in 0..seeds {
+        let planted = drawn_colouring(alloc, vertices, edges, seed, true)?;
+        add(&mut bases, "a planted colouring", planted)?;
+        if many {
+            let drawn = drawn_colouring(alloc, vertices, edges, seed, false)?;
+            add(&mut bases, "a drawn colouring", drawn)?;
+        }
+    }
+    Ok(bases)
+}
+
+fn add(bases: &mut Vec<Named>, text: &'static str, base: Base) -> Result<(), Fault> {
+    bases.push(Named { text, base })?;
+    Ok(())
+}
+
+// Tells the verdicts on the axioms of sentences: by a search that ends within its budget, by a model that is kept, and by one
+// that grows out of it.
+fn tell_sentences<R: Print + CpuClock>(rt: &R, alloc: Global, timed: bool) -> Result<(), Fault> {
+    let (count, steps) = if timed { (2_000, 424) } else { (200, 245) };
+    let none = bare(alloc)?;
+    let (early, _) = judged(rt, alloc, sentences(alloc, count)?, &none, steps - 1)?;
+    let spent = is_spent(&early);
+    drop(early);
+    println!(rt; "spent one application earlier: {spent}")?;
+    let (verdict, searched) = judged(rt, alloc, sentences(alloc, count)?, &none, steps)?;
+    let model = model_of(verdict)?;
+    let elements = model.interp().size();
+    println!(rt; "{elements} elements after {steps} applications")?;
+    let (verdict, kept) = judged(rt, alloc, sentences(alloc, count)?, &model, 0)?;
+    let elements = model_of(verdict)?.interp().size();
+    println!(rt; "{elements} elements with the model kept")?;
+    let (verdict, grown) = judged(rt, alloc, one_more(alloc, count)?, &model, DEFAULT_BUDGET)?;
+    let elements = model_of(verdict)?.interp().size();
+    println!(rt; "{elements} elements with one more axiom")?;
+    if timed {
+        println!(rt;
+            "{searched} microseconds with a search, {kept} without, {grown} with one more axiom"
+        )?;
+    }
+    Ok(())
+}
+
+// Prints all axioms as files in functional-style syntax, each behind a line with its name.
+fn print_all<R: Print>(rt: &R, alloc: Global) -> Result<(), Fault> {
+    println!(rt; "# sentences")?;
+    print_base(rt, alloc, &sentences(alloc, 2_000)?)?;
+    for named in bases(alloc, true)? {
+        let text = named.text;
+        println!(rt; "# {text}")?;
+        print_base(rt, alloc, &named.base)?;
+    }
+    Ok(())
+}
+
 fn tell_all<R: Print + CpuClock>(rt: &R, alloc: Global, timed: bool) -> Result<(), Fault> {
-    let (count, unions, path) = if timed { (1_000, 100, 20) } else { (10, 4, 4) };
-    tell(rt, alloc, "persons", persons(alloc, count)?, timed)?;
+    tell_sentences(rt, alloc, timed)?;
+    let count = if timed { 1_000 } else { 10 };
     tell_systematic(rt, alloc, "persons", persons(alloc, count)?, timed)?;
     if timed {
         let more = persons(alloc, 4_000)?;
         tell_systematic(rt, alloc, "four times as many", more, timed)?;
     }
-    tell(rt, alloc, "a hidden clash", hidden(alloc, unions)?, timed)?;
-    tell(
-        rt,
-        alloc,
-        "a path and a clique",
-        path_and_clique(alloc, path, false)?,
-        timed,
-    )?;
-    tell(
-        rt,
-        alloc,
-        "a path to a clique",
-        path_and_clique(alloc, path, true)?,
-        timed,
-    )?;
-    Ok(())
-}
-
-// Tells the verdicts on drawn colourings. Those without a planted one may have none.
-fn tell_colourings<R: Print + CpuClock>(rt: &R, alloc: Global, timed: bool) -> Result<(), Fault> {
-    let (vertices, edges, seeds) = if timed { (100, 230, 20) } else { (9, 14, 2) };
-    for seed in 0..seeds {
-        let base = drawn_colouring(alloc, vertices, edges, seed, true)?;
-        tell(rt, alloc, "a planted colouring", base, timed)?;
-        if timed {
-            let base = drawn_colouring(alloc, vertices, edges, seed, false)?;
-            tell(rt, alloc, "a drawn colouring", base, timed)?;
-        }
+    for named in bases(alloc, timed)? {
+        let Named { text, base } = named;
+        tell(rt, alloc, text, base, timed)?;
     }
     Ok(())
 }
 
 fn main(rt: HostRuntime) -> Result<(), Fault> {
     let alloc = rt.alloc();
-    let timed = env::args(&rt)?.count() > 1;
-    let (sentences, steps) = if timed { (2_000, 424) } else { (200, 245) };
-    let none = bare(alloc)?;
-    let early = judged(alloc, sentences, &none, steps - 1)?;
-    let early = is_spent(&early);
-    println!(rt; "spent one application earlier: {early}")?;
-    let start = rt.thread_cpu_time()?;
-    let model = model_of(judged(alloc, sentences, &none, steps)?)?;
-    let searched = rt.thread_cpu_time()?.saturating_sub(start);
-    let elements = model.interp().size();
-    println!(rt; "{elements} elements after {steps} applications")?;
-    let start = rt.thread_cpu_time()?;
-    let again = model_of(judged(alloc, sentences, &model, 0)?)?;
-    let kept = rt.thread_cpu_time()?.saturating_sub(start);
-    let elements = again.interp().size();
-    println!(rt; "{elements} elements with the model kept")?;
-    if timed {
-        let searched = searched.as_micros();
-        let kept = kept.as_micros();
-        println!(rt; "{searched} microseconds with a search, {kept} microseconds without")?;
+    let mut words = env::args(&rt)?;
+    let _ = words.next();
+    match words.next() {
+        Some(word) => {
+            if word.as_str() == "owl" {
+                print_all(&rt, alloc)
+            } else {
+                tell_all(&rt, alloc, true)
+            }
+        }
+        None => tell_all(&rt, alloc, false),
     }
-    tell_all(&rt, alloc, timed)?;
-    tell_colourings(&rt, alloc, timed)
 }

@@ -14,12 +14,17 @@ use crate::answer::{Decision, Verdict};
 use crate::deciding::decide;
 use absorb::absorb;
 use logic_terms::{Axioms, Names};
-use owl_eval::{CheckedModel, Interp, is_model};
+use model_growth::grow;
+use owl_eval::{CheckedModel, Interp};
 use std::alloc::Global;
 use wiki_base::Memory;
 
-/// Whether axioms over these names have a finite model. The kept interpretation is tried first: where it is a model, no
-/// search is made. Else the systematic search over the absorbed knowledge decides, within `budget` rule applications.
+// Below this budget whether axioms have a model depends on the kept interpretation and the search alone.
+const LEAST_GROWING_BUDGET: u64 = 100_000;
+
+/// Whether axioms over these names have a finite model. The kept interpretation is tried first, and then, from a budget of
+/// 100,000 on, one that grows out of it: where one of them is a model, no search is made. Else the systematic search over the
+/// absorbed knowledge decides, within `budget` rule applications.
 pub fn verdict(
     alloc: Global,
     axioms: Axioms,
@@ -37,11 +42,69 @@ pub fn verdict(
     ensures enough { IfOk result (λ v. IfSpent v (λ _. IsBelowEnough (claims_of axioms) names.now budget)) }
     ensures not_kept { IfOk result (λ v. IfSpent v (λ _. ¬ IsModel (kept_interp kept.now) (claims_of axioms))) }
 {
-    if is_model(kept.interp(), &axioms) {
-        let interp = kept.interp().copy()?;
-        return Ok(Verdict::Consistent(checked(interp, axioms)));
+    let interp = kept.interp().copy()?;
+    match CheckedModel::new(interp, axioms) {
+        Ok(model) => Ok(Verdict::Consistent(model)),
+        Err(refused) => {
+            let (interp, axioms) = refused;
+            grown_verdict(alloc, interp, axioms, names, budget)
+        }
     }
-    searched_verdict(alloc, axioms, names, budget)
+}
+
+// The verdict where this interpretation is no model of the axioms: one that grows out of it is tried before the search.
+fn grown_verdict(
+    alloc: Global,
+    interp: Interp,
+    axioms: Axioms,
+    names: &Names,
+    budget: u64,
+) -> Result<Verdict, Memory>
+    requires over { IsTrue (are_over names.now (claims_of axioms)) }
+    requires plain { IsTrue (are_plain (claims_of axioms)) }
+    ensures consistent { IfOk result (λ v. IfConsistent v (λ m. kept_claims m ≡ claims_of axioms)) }
+    ensures model { IfOk result (λ v. IfConsistent v (λ m. IsFiniteModel (kept_interp m) (claims_of axioms))) }
+    ensures inconsistent { IfOk result (λ v. IfInconsistent v (λ tree. ClosesAll (claims_of axioms) names.now (tree_of tree))) }
+    ensures impossible { IfOk result (λ v. IfInconsistent v (λ _. HaveNoModel (claims_of axioms))) }
+    ensures spent { IfOk result (λ v. IfSpent v (λ b. SpendsAll (claims_of axioms) names.now budget (graph_of b))) }
+    ensures enough { IfOk result (λ v. IfSpent v (λ _. IsBelowEnough (claims_of axioms) names.now budget)) }
+{
+    if budget < LEAST_GROWING_BUDGET {
+        return searched_verdict(alloc, axioms, names, budget);
+    }
+    match grow(alloc, &interp, &axioms, names)? {
+        Some(grown) => tried_verdict(alloc, grown, axioms, names, budget),
+        None => searched_verdict(alloc, axioms, names, budget),
+    }
+}
+
+// The verdict that an interpretation makes, if it is a model of the axioms, and else the search.
+fn tried_verdict(
+    alloc: Global,
+    interp: Interp,
+    axioms: Axioms,
+    names: &Names,
+    budget: u64,
+) -> Result<Verdict, Memory>
+    requires over { IsTrue (are_over names.now (claims_of axioms)) }
+    requires plain { IsTrue (are_plain (claims_of axioms)) }
+    ensures consistent { IfOk result (λ v. IfConsistent v (λ m. kept_claims m ≡ claims_of axioms)) }
+    ensures model { IfOk result (λ v. IfConsistent v (λ m. IsFiniteModel (kept_interp m) (claims_of axioms))) }
+    ensures inconsistent { IfOk result (λ v. IfInconsistent v (λ tree. ClosesAll (claims_of axioms) names.now (tree_of tree))) }
+    ensures impossible { IfOk result (λ v. IfInconsistent v (λ _. HaveNoModel (claims_of axioms))) }
+    ensures spent { IfOk result (λ v. IfSpent v (λ b. SpendsAll (claims_of axioms) names.now budget (graph_of b))) }
+    ensures enough { IfOk result (λ v. IfSpent v (λ _. IsBelowEnough (claims_of axioms) names.now budget)) }
+{
+    match CheckedModel::new(interp, axioms) {
+        Ok(model) => {
+            let _ = model.interp();
+            Ok(Verdict::Consistent(model))
+        }
+        Err(refused) => {
+            let (_, axioms) = refused;
+            searched_verdict(alloc, axioms, names, budget)
+        }
+    }
 }
 
 /// The verdict that the search alone makes, for axioms that the kept interpretation is not a model of.

@@ -5,7 +5,7 @@ use crate::models::has_small_model;
 use crate::reading::{first_names, names_of, read};
 use absorb::absorb;
 use closure_check::accepts;
-use logic_terms::{Axioms, Knowledge, Names};
+use logic_terms::{Axiom, Axioms, Class, Classes, Knowledge, Names};
 use owl_eval::{CheckedModel, Interp};
 use quick_search::{Proposal, hunt};
 use reasoner::{Verdict, verdict};
@@ -13,6 +13,7 @@ use std::alloc::Global;
 use std::test::Fail;
 use tableau::{Outcome, search, systematic};
 use tableau_rules::start;
+use wiki_base::WordId;
 
 // How a search ended.
 #[derive(Clone, Copy, PartialEq, Eq)]
@@ -181,5 +182,57 @@ fn each_of_many_names_is_an_element(rt: HostRuntime) -> Result<(), Fail> {
         Verdict::Consistent(model) => assert_eq!(rt; model.interp().size(), 5_000),
         _ => assert!(rt; false, "a model"),
     }
+    Ok(())
+}
+
+// The first name is in so many unions, and in a class that has nothing to do with them and can't have an element.
+fn unions(alloc: Global, count: u32) -> Result<Axioms, Fail> {
+    let mut axioms = read(alloc, "Ar?1: AB< AB!<")?;
+    for number in 0..count {
+        let members = vec![in alloc;
+            Class::Named(WordId(number.saturating_add(20_000))),
+            Class::Named(WordId(number.saturating_add(40_000))),
+        ]?;
+        axioms.push(Axiom::Member(Class::Or(Classes::from_vec(members)), WordId(49)))?;
+    }
+    Ok(axioms)
+}
+
+#[test]
+fn ten_thousand_choices_hide_no_clash(rt: HostRuntime) -> Result<(), Fail> {
+    let alloc = rt.alloc();
+    let names = names_of(alloc, 1)?;
+    let axioms = unions(alloc, 10_000)?;
+    assert!(rt; are_fit(&names, &axioms));
+    let judged = verdict(alloc, axioms, &names, &bare(alloc)?, 1_000_000)?;
+    assert!(rt; matches!(judged, Verdict::Inconsistent(_)));
+    Ok(())
+}
+
+// Each of so many names is equal to the next one, and the first is in a class.
+fn equals(alloc: Global, count: u32) -> Result<Axioms, Fail> {
+    let mut axioms = Axioms::new(alloc);
+    for number in 1..count {
+        axioms.push(Axiom::Equal(WordId(number - 1), WordId(number)))?;
+    }
+    axioms.push(Axiom::Member(Class::Named(WordId(65)), WordId(0)))?;
+    Ok(axioms)
+}
+
+#[test]
+fn names_may_all_be_equal(rt: HostRuntime) -> Result<(), Fail> {
+    let alloc = rt.alloc();
+    let names = first_names(alloc, 500)?;
+    let mut axioms = equals(alloc, 500)?;
+    assert!(rt; are_fit(&names, &axioms));
+    match verdict(alloc, axioms, &names, &bare(alloc)?, 0)? {
+        Verdict::Consistent(model) => assert_eq!(rt; model.interp().size(), 1),
+        _ => assert!(rt; false, "a model"),
+    }
+    axioms = equals(alloc, 500)?;
+    axioms.push(Axiom::Differ(WordId(499), WordId(0)))?;
+    assert!(rt; are_fit(&names, &axioms));
+    let judged = verdict(alloc, axioms, &names, &bare(alloc)?, 0)?;
+    assert!(rt; matches!(judged, Verdict::Inconsistent(_)));
     Ok(())
 }

@@ -1,4 +1,11 @@
--- Statements that need no search.
+-- What is not made anew: the status of statements that need no search, and what all that is known is absorbed to.
+use Rattle.std.specs.Prelude.{List}
+use Rattle.wiki_base.specs.declared.numbers.WordId.{WordId}
+use Rattle.absorb.specs.Absorbed.{IsAbsorbed}
+use Rattle.logic_terms.specs.Concept.{Claim}
+use Rattle.logic_terms.specs.Theory.{Theory}
+use Rattle.wiki_parts.specs.State.{State}
+use Rattle.wiki_parts.specs.Knowledge.{Knows}
 use Rattle.logic_terms.specs.Interpretation.{Interpretation}
 use Rattle.logic_terms.specs.Reading.{IsModel}
 use Rattle.wiki_parts.specs.Meanings.{Meaning, stating, outside, asking, asking_outside}
@@ -9,3 +16,7 @@ IsTrueIn i (stating claims) = IsModel i claims
 IsTrueIn i (outside cause) = ⊥
 IsTrueIn i (asking concept) = ⊥
 IsTrueIn i (asking_outside cause) = ⊥
+
+-- what the wiki knows is absorbed to this knowledge, with these names
+abbrev pub AbsorbsKnown : State → List WordId → Theory → Type 0
+AbsorbsKnown state names knowledge = (claims : List Claim) → Knows state claims → IsAbsorbed claims names knowledge

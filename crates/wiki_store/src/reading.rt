@@ -1,10 +1,11 @@
 // An article as it is told, with the names that answer its questions as of now.
-ghost use Rattle.std.specs.Prelude.{◌≡◌, Bool, true, false, Some, IfOk, IfErr, IsSome};
+ghost use Rattle.std.specs.Prelude.{◌≡◌, Bool, true, false, Some, IfOk, IfErr, IfSome, IsSome};
 ghost use Rattle.std.specs.List.{AllZip};
 ghost use Rattle.articles.specs.declared.article.Article.{Article as TheArticle};
 ghost use Rattle.articles.specs.Articles.{article_of, HasArticle};
 ghost use Rattle.lexicon.specs.Words.{canonical_form_of, forms_of};
 ghost use Rattle.logic_terms.specs.Shown.{concept_of};
+ghost use Rattle.consequences.specs.Known.{theory_in};
 ghost use Rattle.wiki_parts.specs.Faults.{IsFault};
 ghost use Rattle.wiki_parts.specs.Found.{meaning_shown};
 ghost use Rattle.wiki_parts.specs.Holding.{FitsMeaning};
@@ -12,11 +13,14 @@ ghost use Rattle.wiki_parts.specs.Kept.{MeanEach, meanings_in};
 ghost use Rattle.wiki_parts.specs.Knowledge.{live_names};
 ghost use Rattle.wiki_parts.specs.Meanings.{asking, Means};
 ghost use Rattle.wiki_parts.specs.Telling.{is_question, TellsSentence, TellsSentences};
+ghost use Rattle.wiki_store.specs.Settled.{AbsorbsKnown};
 ghost use Rattle.wiki_store.specs.Spending.{KeptHasUnknown, KeptHasEachUnknown};
 ghost use Rattle.wiki_store.specs.Step.{Step, Refuses};
 
 use crate::store::Store;
+use absorb::absorb;
 use articles::Sentence;
+use consequences::Consequences;
 use derivation_trees::show;
 use lexicon::MOST_WORDS;
 use logic_terms::{Class, Names};
@@ -71,28 +75,47 @@ impl Store {
         ensures unknown { IfOk result (AllZip (KeptHasUnknown self.now) sentences.now) }
     {
         let names = live_names(self.alloc, &self.lexicon)?;
+        let known = self.consequences(&names, senses)?;
         let mut views = SentenceViews::new(self.alloc);
         for place in 0..sentences.len() {
-            views.push(self.view(&names, &sentences[place], &senses[place])?)?;
+            views.push(self.view(&names, &known, &sentences[place], &senses[place])?)?;
         }
         Ok(views)
+    }
+
+    // The consequences of all that is known, with the live names, if one of the sentences is a question. They serve all
+    // questions of an article.
+    fn consequences(&self, names: &Names, senses: &[Sense]) -> Result<Option<Consequences>, Memory>
+        requires { names.now ≡ live_names self.now.state.words }
+        ensures { IfOk result (λ known. IfSome known (λ k. AbsorbsKnown self.now.state names.now (theory_in k))) }
+    {
+        if !asks(senses) {
+            return Ok(None);
+        }
+        prove!(self.lexicon.len() <= MOST_WORDS);
+        let _ = self.grammar.grammar();
+        let k = absorb(self.alloc, self.kept.axioms(), names)?;
+        let known = Consequences::new(self.alloc, k, self.budget)?;
+        Ok(Some(known))
     }
 
     // A sentence as it is told, by what it means.
     fn view(
         &self,
         names: &Names,
+        known: &Option<Consequences>,
         sentence: &Sentence,
         sense: &Sense,
     ) -> Result<SentenceView, Memory>
         requires names { names.now ≡ live_names self.now.state.words }
+        requires absorbed { IfSome known.now (λ k. AbsorbsKnown self.now.state names.now (theory_in k)) }
         requires means { Means self.now.state.grammar self.now.state.words sentence.now.tokens (meaning_shown sense.now) }
         requires fits { FitsMeaning sentence.now.status (meaning_shown sense.now) }
         ensures tells { IfOk result (TellsSentence self.now.state sentence.now) }
         ensures unknown { IfOk result (KeptHasUnknown self.now sentence.now) }
     {
         match sense {
-            Sense::Asking(class) => self.question_view(names, sentence, class),
+            Sense::Asking(class) => self.question_view(names, known, sentence, class),
             Sense::Stating(_) | Sense::Outside(_) | Sense::AskingOutside(_) => {
                 self.plain_view(sentence)
             }
@@ -103,10 +126,12 @@ impl Store {
     fn question_view(
         &self,
         names: &Names,
+        known: &Option<Consequences>,
         sentence: &Sentence,
         class: &Class,
     ) -> Result<SentenceView, Memory>
         requires names { names.now ≡ live_names self.now.state.words }
+        requires absorbed { IfSome known.now (λ k. AbsorbsKnown self.now.state names.now (theory_in k)) }
         requires asks { is_question sentence.now.status ≡ true }
         requires means { Means self.now.state.grammar self.now.state.words sentence.now.tokens (asking (concept_of class.now)) }
         ensures tells { IfOk result (TellsSentence self.now.state sentence.now) }
@@ -114,7 +139,7 @@ impl Store {
     {
         prove!(self.lexicon.len() <= MOST_WORDS);
         let grammar = self.grammar.grammar();
-        let answers = answers_of(self.alloc, class, &self.kept, names, self.budget)?;
+        let answers = answers_of(self.alloc, known, class, &self.kept, names, self.budget)?;
         Ok(SentenceView {
             status: sentence.status,
             text: show(self.alloc, grammar, &sentence.tokens)?,
@@ -136,4 +161,14 @@ impl Store {
             unknown: Text8s::new(self.alloc),
         })
     }
+}
+
+// Whether one of the sentences asks for a class.
+fn asks(senses: &[Sense]) -> bool {
+    for sense in senses {
+        if let Sense::Asking(_) = sense {
+            return true;
+        }
+    }
+    false
 }

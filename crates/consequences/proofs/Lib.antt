@@ -1,0 +1,2 @@
+pub mod ForcedLemmas
+pub mod ShowsLemmas

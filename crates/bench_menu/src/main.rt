@@ -1,5 +1,5 @@
-//! Makes the menu after tokens like `Mary sees something that sees something that`, up to 40, with 5,000 words in the lexicon. With
-//! the word `time` it also tells how much processor time the last token and the menu took.
+//! Makes the menu after tokens like `Mary sees something that sees something that`, 10 and 40, with 5,000 words in the lexicon. With
+//! the word `time` it also tells how much processor time the last token and the menu took, and how much memory at most there was.
 #![tactic(auto)]
 
 ghost use Rattle.std.specs.Prelude.{◌≡◌, ◌<◌, length, IfOk, OnOk};
@@ -13,11 +13,28 @@ use derivation_trees::{Cut, cut};
 use lexicon::{Kind, Lexicon, forms};
 use std::alloc::{AllocError, AllocFailed, Global};
 use std::time::CpuClock;
-use std::{env, io};
+use std::{env, fs, io};
 use wiki_base::{MOST_TOKENS, Memory, Text, Token};
 
 /// How many words there are beside those of the tokens.
-const WORDS: u32 = 4_998;
+const WORDS: u32 = 4_997;
+
+/// What long sentences are made of: what they are, how they begin, what comes again and again, and how they end.
+const SHAPES: [(&str, &str, &str, &str); 3] = [
+    (
+        "relative clauses",
+        "Mary sees something",
+        " that sees something",
+        " that",
+    ),
+    (
+        "verb phrases with and",
+        "Mary sees something",
+        " and sees something",
+        " and",
+    ),
+    ("a part of a part", "Mary sees", " a part of", " a part"),
+];
 
 #[derive(Debug, Drop)]
 enum Fault {
@@ -84,6 +101,7 @@ fn words(alloc: Global, grammar: &CheckedGrammar) -> Result<Lexicon, Fault> {
     let mut lexicon = Lexicon::new(alloc, grammar.grammar())?;
     add(alloc, &mut lexicon, Kind::Name, "Mary")?;
     add(alloc, &mut lexicon, Kind::Verb, "see")?;
+    add(alloc, &mut lexicon, Kind::Of, "part")?;
     for number in 0..WORDS {
         let text = text_with(alloc, number)?;
         add(alloc, &mut lexicon, kind_with(number), text.as_str())?;
@@ -117,21 +135,42 @@ fn taken(
     Ok(())
 }
 
-// Takes the tokens of a sentence with so many relative clauses, and makes the menu.
+fn text_of(
+    alloc: Global,
+    first: &str,
+    again: &str,
+    last: &str,
+    times: u32,
+) -> Result<String, Fault> {
+    let mut text = String::from_str(alloc, first)?;
+    for _ in 0..times {
+        text.push_str(again)?;
+    }
+    text.push_str(last)?;
+    Ok(text)
+}
+
+// Says how much memory the program has had at most.
+fn print_peak(rt: &HostRuntime) -> Result<(), Fault> {
+    let status = fs::read_to_string(rt, "/proc/self/status")?;
+    for line in status.as_str().lines() {
+        if line.starts_with("VmHWM") {
+            println!(rt; "{line}")?;
+        }
+    }
+    Ok(())
+}
+
+// Takes the tokens of the text, and makes the menu.
 fn run(
     rt: &HostRuntime,
     grammar: &CheckedGrammar,
     lexicon: &Lexicon,
-    clauses: u32,
+    text: &str,
     timed: bool,
 ) -> Result<(), Fault> {
     let alloc = rt.alloc();
-    let mut text = String::from_str(alloc, "Mary sees something")?;
-    for _ in 0..clauses {
-        text.push_str(" that sees something")?;
-    }
-    text.push_str(" that")?;
-    let Cut::Tokens(tokens) = cut(alloc, grammar.grammar(), text.as_str())? else {
+    let Cut::Tokens(tokens) = cut(alloc, grammar.grammar(), text)? else {
         return Err(Fault::Words);
     };
     let mut chart = started(alloc, grammar, lexicon)?;
@@ -149,6 +188,7 @@ fn run(
         let entries = menu.len();
         let micros = took.as_micros();
         println!(rt; "{entries} entries, {micros} microseconds for a token and its menu")?;
+        print_peak(rt)?;
     }
     Ok(())
 }
@@ -157,8 +197,15 @@ fn main(rt: HostRuntime) -> Result<(), Fault> {
     let timed = env::args(&rt)?.count() > 1;
     let grammar = built_in(rt.alloc())?;
     let lexicon = words(rt.alloc(), &grammar)?;
-    for clauses in [2, 12] {
-        run(&rt, &grammar, &lexicon, clauses, timed)?;
+    if timed {
+        print_peak(&rt)?;
+    }
+    for (name, first, again, last) in SHAPES {
+        println!(rt; "{name}")?;
+        for times in [2, 12] {
+            let text = text_of(rt.alloc(), first, again, last, times)?;
+            run(&rt, &grammar, &lexicon, text.as_str(), timed)?;
+        }
     }
     Ok(())
 }

@@ -1,0 +1,201 @@
+// Worked cases of long lists, and of charts that grow and shrink.
+ghost use Rattle.std.specs.Prelude.{◌≡◌, OnOk};
+ghost use Rattle.derivation_trees.specs.Sentences.{setting_of};
+
+use crate::cases::{dropped, started, taken, tokens_of, words};
+use chart::Chart;
+use chart_trees::least_of;
+use codeco_checked::CheckedGrammar;
+use codeco_reader::read_grammar;
+use derivation_trees::{Group, Menu};
+use lexicon::Lexicon;
+use lists::List;
+use std::alloc::Global;
+use std::process::Abort;
+use std::test::Fail;
+
+// The code of the chart's least skeleton; no parts where there is none.
+fn least_code(
+    alloc: Global,
+    chart: &Chart,
+    grammar: &CheckedGrammar,
+    lexicon: &Lexicon,
+) -> Result<List<u16>, Fail> {
+    match least_of(alloc, grammar, lexicon, chart.tokens())? {
+        None => Ok(List::new(alloc)),
+        Some(skeleton) => Ok(skeleton.code(alloc)?),
+    }
+}
+
+// Takes the text's tokens into the chart, and tells whether each list of first ones has a partial derivation.
+fn all_taken(
+    rt: &impl Abort,
+    alloc: Global,
+    chart: &mut Chart,
+    grammar: &CheckedGrammar,
+    lexicon: &Lexicon,
+    text: &str,
+) -> Result<bool, Fail>
+    requires { chart.old ≡ setting_of grammar.now lexicon.now chart.old.tokens }
+    ensures { OnOk result (chart.new ≡ setting_of grammar.now lexicon.now chart.new.tokens) }
+{
+    let tokens = tokens_of(alloc, grammar, text)?;
+    let mut all = true;
+    for token in tokens.as_slice() {
+        let begins = taken(rt, chart, grammar, lexicon, token)?;
+        all = all && begins;
+    }
+    Ok(all)
+}
+
+// Takes the text's tokens, or with no text the last token away; tells what the chart answers.
+fn step(
+    rt: &impl Abort,
+    alloc: Global,
+    chart: &mut Chart,
+    grammar: &CheckedGrammar,
+    lexicon: &Lexicon,
+    text: &str,
+) -> Result<bool, Fail>
+    requires { chart.old ≡ setting_of grammar.now lexicon.now chart.old.tokens }
+    ensures { OnOk result (chart.new ≡ setting_of grammar.now lexicon.now chart.new.tokens) }
+{
+    if text.is_empty() {
+        let some = dropped(chart, grammar, lexicon);
+        return Ok(some);
+    }
+    let all = all_taken(rt, alloc, chart, grammar, lexicon, text)?;
+    Ok(all)
+}
+
+// The chart is complete exactly where there is a code, and has this least code.
+fn has_code(
+    rt: &impl Abort,
+    alloc: Global,
+    chart: &Chart,
+    grammar: &CheckedGrammar,
+    lexicon: &Lexicon,
+    code: &[u16],
+) -> Result<(), Fail> {
+    assert_eq!(rt; chart.complete(), !code.is_empty());
+    let least = least_code(alloc, chart, grammar, lexicon)?;
+    assert!(rt; least.as_slice() == code);
+    Ok(())
+}
+
+// A list of first tokens to take, or with no text the last token to take away; what is told then, and the least code.
+type Step<'a> = (&'a str, bool, &'a [u16]);
+
+fn steps_go(
+    rt: &impl Abort,
+    alloc: Global,
+    chart: &mut Chart,
+    grammar: &CheckedGrammar,
+    lexicon: &Lexicon,
+    steps: &[Step<'_>],
+) -> Result<(), Fail>
+    requires { chart.old ≡ setting_of grammar.now lexicon.now chart.old.tokens }
+{
+    for (text, told, code) in steps {
+        let answer = step(rt, alloc, chart, grammar, lexicon, *text)?;
+        assert_eq!(rt; answer, *told, "what is told of {text}");
+        has_code(rt, alloc, chart, grammar, lexicon, *code)?;
+    }
+    Ok(())
+}
+
+fn go(rt: &impl Abort, alloc: Global, grammar: &str, steps: &[Step<'_>]) -> Result<(), Fail> {
+    let grammar = read_grammar(alloc, grammar)?;
+    let lexicon = words(alloc, &grammar, &[])?;
+    let mut chart = started(alloc, &grammar, &lexicon)?;
+    steps_go(rt, alloc, &mut chart, &grammar, &lexicon, steps)
+}
+
+const REFERENTS: &str =
+    "feature k: p, q. feature id: position. text --> m n r [e]. m --> [m] #P > x(k: p, id: P). \
+     n --> [n] #P > x(k: q, id: P). r --> < +x(k: K, id: ?I) [r].";
+
+#[test]
+fn two_tokens_away_and_back_change_nothing(rt: HostRuntime) -> Result<(), Fail> {
+    go(
+        &rt,
+        rt.alloc(),
+        REFERENTS,
+        &[
+            ("m n r e", true, &[1, 2, 3, 4, 1]),
+            ("", true, &[]),
+            ("", true, &[]),
+            ("r", true, &[]),
+            ("e", true, &[1, 2, 3, 4, 1]),
+        ],
+    )
+}
+
+#[test]
+fn a_chart_goes_on_after_a_token_that_does_not_fit(rt: HostRuntime) -> Result<(), Fail> {
+    go(
+        &rt,
+        rt.alloc(),
+        "text --> [a]. text --> [a] [b].",
+        &[
+            ("a", true, &[1]),
+            ("a b", false, &[]),
+            ("", true, &[]),
+            ("", true, &[1]),
+            ("b", true, &[2]),
+            ("", true, &[1]),
+            ("", true, &[]),
+            ("", false, &[]),
+        ],
+    )
+}
+
+const AMBIGUOUS: &str = "text --> s [e]. s --> a. s --> a s. s --> b s. a --> [x]. b --> [x].";
+
+// 39 times `x`: with `e` behind them they have 2^38 derivations.
+const MANY: &str = "x x x x x x x x x x x x x x x x x x x x x x x x x x x x x x x x x x x x x x x";
+
+// 1, then 38 times 3, 5, then 2, 5.
+const LEAST_OF_MANY: [u16; 79] = [
+    1, 3, 5, 3, 5, 3, 5, 3, 5, 3, 5, 3, 5, 3, 5, 3, 5, 3, 5, 3, 5, 3, 5, 3, 5, 3, 5, 3, 5, 3, 5, 3,
+    5, 3, 5, 3, 5, 3, 5, 3, 5, 3, 5, 3, 5, 3, 5, 3, 5, 3, 5, 3, 5, 3, 5, 3, 5, 3, 5, 3, 5, 3, 5, 3,
+    5, 3, 5, 3, 5, 3, 5, 3, 5, 3, 5, 3, 5, 2, 5,
+];
+
+#[test]
+fn very_many_trees_take_no_time(rt: HostRuntime) -> Result<(), Fail> {
+    go(
+        &rt,
+        rt.alloc(),
+        AMBIGUOUS,
+        &[
+            (MANY, true, &[]),
+            ("e", true, &LEAST_OF_MANY),
+            ("", true, &[]),
+        ],
+    )
+}
+
+fn offers_two(menu: &Menu<'_>, first: &str, second: &str) -> bool {
+    if menu.len() != 2 {
+        return false;
+    }
+    let (group, text) = menu.get(0);
+    let (other_group, other_text) = menu.get(1);
+    group == Group::Function
+        && text == first
+        && other_group == Group::Function
+        && other_text == second
+}
+
+#[test]
+fn a_menu_after_very_many_trees_takes_no_time(rt: HostRuntime) -> Result<(), Fail> {
+    let alloc = rt.alloc();
+    let grammar = read_grammar(alloc, AMBIGUOUS)?;
+    let lexicon = words(alloc, &grammar, &[])?;
+    let mut chart = started(alloc, &grammar, &lexicon)?;
+    let _ = all_taken(&rt, alloc, &mut chart, &grammar, &lexicon, MANY)?;
+    let menu = chart.menu(&grammar, &lexicon)?;
+    assert!(rt; offers_two(&menu, "e", "x"));
+    Ok(())
+}

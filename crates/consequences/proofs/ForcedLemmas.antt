@@ -39,8 +39,8 @@ pub shown_in_each : (k : Theory) (g : Graph) → ∥ IsForced k g ∥₁ → (c 
 shown_in_each k g forced c name x at shown i is model =
     let parts : Parts i k = parts_of i k model in
     let fits : IsForced k g → is_in i c (element_of i name) ≡ true = λ h. (
-      let there = forced_fits i k is parts g h in
-      subst (λ e. is_in i c e ≡ true) (there.1.names name x at) (shown_fits i k g there.0 there.1 parts.hierarchy c x shown)) in
+    let there = forced_fits i k is parts g h in
+    subst (λ e. is_in i c e ≡ true) (there.1.names name x at) (shown_fits i k g there.0 there.1 parts.hierarchy c x shown)) in
     (is_in-Decides i c (element_of i name)).0 (∥∥₁_elim forced (Bool-set _ _) fits)
 
 -- a branch that is the first one

@@ -4,7 +4,7 @@ ghost use Rattle.derivation_trees.specs.Sentences.{setting_of};
 
 use crate::cases::{dropped, started, taken, tokens_of, words};
 use chart::Chart;
-use chart_trees::least_of;
+use chart_trees::least;
 use codeco_checked::CheckedGrammar;
 use codeco_reader::read_grammar;
 use derivation_trees::{Group, Menu};
@@ -20,8 +20,10 @@ fn least_code(
     chart: &Chart,
     grammar: &CheckedGrammar,
     lexicon: &Lexicon,
-) -> Result<List<u16>, Fail> {
-    match least_of(alloc, grammar, lexicon, chart.tokens())? {
+) -> Result<List<u16>, Fail>
+    requires { chart.now ≡ setting_of grammar.now lexicon.now chart.now.tokens }
+{
+    match least(chart, grammar, lexicon)? {
         None => Ok(List::new(alloc)),
         Some(skeleton) => Ok(skeleton.code(alloc)?),
     }
@@ -76,10 +78,12 @@ fn has_code(
     grammar: &CheckedGrammar,
     lexicon: &Lexicon,
     code: &[u16],
-) -> Result<(), Fail> {
+) -> Result<(), Fail>
+    requires { chart.now ≡ setting_of grammar.now lexicon.now chart.now.tokens }
+{
     assert_eq!(rt; chart.complete(), !code.is_empty());
-    let least = least_code(alloc, chart, grammar, lexicon)?;
-    assert!(rt; least.as_slice() == code);
+    let found = least_code(alloc, chart, grammar, lexicon)?;
+    assert!(rt; found.as_slice() == code);
     Ok(())
 }
 

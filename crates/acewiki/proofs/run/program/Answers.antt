@@ -1,5 +1,6 @@
 use Rattle.std.proofs.Common.{ap, ◌∙◌, refl, inl, inr, arith}
 use Rattle.wiki_io.proofs.KnownLemmas.{Appends-nil}
+use Rattle.serving.specs.Events.{Outside}
 use Rattle.acewiki.specs.declared.command.Outcome.TheVariants as outcomes
 use Rattle.acewiki.specs.Command.{command_of}
 use Rattle.acewiki.specs.Wiki.{ace_wiki}
@@ -63,8 +64,10 @@ returns-in-Ok-clause-serves g c =
 pub returns-in-Err-clause-serves : goal.returns-in-Err-clause-serves
 returns-in-Err-clause-serves g c =
     λ words address budget most outcome told given is.
-    serves_outcome (ace_wiki budget) most _ _ _ outcomes.Memory outcome _ _ _ _ (outcome_is _ outcome outcomes.Memory is c.end.ensures.status)
-    (inl (record { stepped = outcomes.Memory; input = StepsInput-none (ace_wiki budget) _; why = inl (refl, tt); same = refl; same_handed = refl }))
+    let outside : Outside = record { journal = g.K.Sink.taken c.args.output.now; sent = g.L.Link.sent c.args.link.now; send_faults = g.L.Link.send_faults c.args.link.now } in
+    serves_outcome (ace_wiki budget) most (g.S.Source.left c.args.input.now) outside (g.L.Link.handed c.args.link.now) outcomes.Memory outcome (g.S.Source.left c.args.input.now) outside
+    (g.L.Link.handed c.args.link.now) (g.L.Link.left c.args.link.now) (outcome_is _ outcome outcomes.Memory is c.end.ensures.status)
+    (inl (record { stepped = outcomes.Memory; input = StepsInput-none (ace_wiki budget) (g.S.Source.left c.args.input.now); why = inl (refl, tt); same = refl; same_handed = refl }))
 
 pub returns-in-Ok-clause-make_alone : goal.returns-in-Ok-clause-make_alone
 returns-in-Ok-clause-make_alone g c =

@@ -4,12 +4,18 @@ ghost use Rattle.derivation_trees.specs.Sentences.{setting_of};
 
 use chart::Chart;
 use codeco_checked::CheckedGrammar;
+use codeco_reader::read_grammar;
 use derivation_trees::{Cut, cut};
 use lexicon::{Kind, Lexicon, forms};
 use std::alloc::Global;
 use std::process::Abort;
 use std::test::Fail;
 use wiki_base::{MOST_TOKENS, Text, Token, Tokens};
+
+pub(crate) fn grammar_of(alloc: Global, text: &str) -> Result<CheckedGrammar, Fail> {
+    let grammar = read_grammar(alloc, text)?;
+    Ok(grammar)
+}
 
 // A lexicon of these words.
 pub(crate) fn words(

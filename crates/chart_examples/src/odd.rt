@@ -1,8 +1,7 @@
 // All lists of up to four tokens of small grammars, one for each odd thing that a rule may do.
 use crate::agreement::agrees;
-use crate::cases::words;
+use crate::cases::{grammar_of, words};
 use codeco_checked::CheckedGrammar;
-use codeco_reader::read_grammar;
 use lexicon::{Kind, Lexicon};
 use std::alloc::Global;
 use std::process::Abort;
@@ -59,7 +58,7 @@ fn agrees_on_all(
     grammar: &str,
     tokens: &[&str],
 ) -> Result<(), Fail> {
-    let grammar = read_grammar(alloc, grammar)?;
+    let grammar = grammar_of(alloc, grammar)?;
     let lexicon = words(alloc, &grammar, &NOUNS)?;
     for length in 0..LONGEST + 1 {
         agrees_on_lists(rt, alloc, &grammar, &lexicon, tokens, length)?;

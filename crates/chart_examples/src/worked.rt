@@ -2,11 +2,10 @@
 ghost use Rattle.std.specs.Prelude.{◌≡◌, OnOk};
 ghost use Rattle.derivation_trees.specs.Sentences.{setting_of};
 
-use crate::cases::{dropped, started, taken, tokens_of, words};
+use crate::cases::{dropped, grammar_of, started, taken, tokens_of, words};
 use chart::Chart;
 use chart_trees::least;
 use codeco_checked::CheckedGrammar;
-use codeco_reader::read_grammar;
 use derivation_trees::{Group, Menu};
 use lexicon::Lexicon;
 use lists::List;
@@ -109,7 +108,7 @@ fn steps_go(
 }
 
 fn go(rt: &impl Abort, alloc: Global, grammar: &str, steps: &[Step<'_>]) -> Result<(), Fail> {
-    let grammar = read_grammar(alloc, grammar)?;
+    let grammar = grammar_of(alloc, grammar)?;
     let lexicon = words(alloc, &grammar, &[])?;
     let mut chart = started(alloc, &grammar, &lexicon)?;
     steps_go(rt, alloc, &mut chart, &grammar, &lexicon, steps)
@@ -195,7 +194,7 @@ fn offers_two(menu: &Menu<'_>, first: &str, second: &str) -> bool {
 #[test]
 fn a_menu_after_very_many_trees_takes_no_time(rt: HostRuntime) -> Result<(), Fail> {
     let alloc = rt.alloc();
-    let grammar = read_grammar(alloc, AMBIGUOUS)?;
+    let grammar = grammar_of(alloc, AMBIGUOUS)?;
     let lexicon = words(alloc, &grammar, &[])?;
     let mut chart = started(alloc, &grammar, &lexicon)?;
     let _ = all_taken(&rt, alloc, &mut chart, &grammar, &lexicon, MANY)?;

@@ -110,8 +110,19 @@ fn steps_go(
 fn go(rt: &impl Abort, alloc: Global, grammar: &str, steps: &[Step<'_>]) -> Result<(), Fail> {
     let grammar = grammar_of(alloc, grammar)?;
     let lexicon = words(alloc, &grammar, &[])?;
-    let mut chart = started(alloc, &grammar, &lexicon)?;
-    steps_go(rt, alloc, &mut chart, &grammar, &lexicon, steps)
+    all_go(rt, alloc, &grammar, &lexicon, steps)
+}
+
+// The steps go from a chart of no tokens.
+fn all_go(
+    rt: &impl Abort,
+    alloc: Global,
+    grammar: &CheckedGrammar,
+    lexicon: &Lexicon,
+    steps: &[Step<'_>],
+) -> Result<(), Fail> {
+    let mut chart = started(alloc, grammar, lexicon)?;
+    steps_go(rt, alloc, &mut chart, grammar, lexicon, steps)
 }
 
 const REFERENTS: &str =
@@ -191,14 +202,26 @@ fn offers_two(menu: &Menu<'_>, first: &str, second: &str) -> bool {
         && other_text == second
 }
 
+// After the text the menu has these two tokens.
+fn has_two(
+    rt: &impl Abort,
+    alloc: Global,
+    grammar: &CheckedGrammar,
+    lexicon: &Lexicon,
+    text: &str,
+    first: &str,
+    second: &str,
+) -> Result<(), Fail> {
+    let mut chart = started(alloc, grammar, lexicon)?;
+    let _ = all_taken(rt, alloc, &mut chart, grammar, lexicon, text)?;
+    let menu = chart.menu(grammar, lexicon)?;
+    assert!(rt; offers_two(&menu, first, second));
+    Ok(())
+}
+
 #[test]
 fn a_menu_after_very_many_trees_takes_no_time(rt: HostRuntime) -> Result<(), Fail> {
-    let alloc = rt.alloc();
-    let grammar = grammar_of(alloc, AMBIGUOUS)?;
-    let lexicon = words(alloc, &grammar, &[])?;
-    let mut chart = started(alloc, &grammar, &lexicon)?;
-    let _ = all_taken(&rt, alloc, &mut chart, &grammar, &lexicon, MANY)?;
-    let menu = chart.menu(&grammar, &lexicon)?;
-    assert!(rt; offers_two(&menu, "e", "x"));
-    Ok(())
+    let grammar = grammar_of(rt.alloc(), AMBIGUOUS)?;
+    let lexicon = words(rt.alloc(), &grammar, &[])?;
+    has_two(&rt, rt.alloc(), &grammar, &lexicon, MANY, "e", "x")
 }

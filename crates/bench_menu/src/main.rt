@@ -82,14 +82,19 @@ fn kind_with(number: u32) -> Kind {
 
 fn words(alloc: Global, grammar: &CheckedGrammar) -> Result<Lexicon, Fault> {
     let mut lexicon = Lexicon::new(alloc, grammar.grammar())?;
-    add(alloc, &mut lexicon, Kind::Name, "Mary")?;
-    add(alloc, &mut lexicon, Kind::Verb, "see")?;
-    add(alloc, &mut lexicon, Kind::Of, "part")?;
+    add_all(alloc, &mut lexicon)?;
+    Ok(lexicon)
+}
+
+fn add_all(alloc: Global, lexicon: &mut Lexicon) -> Result<(), Fault> {
+    add(alloc, lexicon, Kind::Name, "Mary")?;
+    add(alloc, lexicon, Kind::Verb, "see")?;
+    add(alloc, lexicon, Kind::Of, "part")?;
     for number in 0..WORDS {
         let text = text_with(alloc, number)?;
-        add(alloc, &mut lexicon, kind_with(number), text.as_str())?;
+        add(alloc, lexicon, kind_with(number), text.as_str())?;
     }
-    Ok(lexicon)
+    Ok(())
 }
 
 // The chart of no tokens.
@@ -172,6 +177,20 @@ fn entry_count(chart: &Chart, grammar: &CheckedGrammar, lexicon: &Lexicon) -> Re
 }
 
 // Takes the tokens, and makes the menu. Tells how many entries it has, and what the last token and the menu have taken.
+fn timed_menu(
+    rt: &HostRuntime,
+    chart: &mut Chart,
+    grammar: &CheckedGrammar,
+    lexicon: &Lexicon,
+    tokens: &[Token],
+) -> Result<(usize, Duration), Fault>
+    requires { chart.old ≡ setting_of grammar.now lexicon.now chart.old.tokens }
+{
+    let start = grow(rt, chart, grammar, lexicon, tokens)?;
+    let entries = entry_count(chart, grammar, lexicon)?;
+    Ok((entries, rt.thread_cpu_time()?.saturating_sub(start)))
+}
+
 fn measured(
     rt: &HostRuntime,
     grammar: &CheckedGrammar,
@@ -179,9 +198,7 @@ fn measured(
     tokens: &[Token],
 ) -> Result<(usize, Duration), Fault> {
     let mut chart = started(rt.alloc(), grammar, lexicon)?;
-    let start = grow(rt, &mut chart, grammar, lexicon, tokens)?;
-    let entries = entry_count(&chart, grammar, lexicon)?;
-    Ok((entries, rt.thread_cpu_time()?.saturating_sub(start)))
+    timed_menu(rt, &mut chart, grammar, lexicon, tokens)
 }
 
 // The tokens of the text.
@@ -226,8 +243,28 @@ fn run(
     timed: bool,
 ) -> Result<(), Fault> {
     let text = text_of(rt.alloc(), shape.first, shape.again, shape.last, times)?;
-    let tokens = tokens_of(rt.alloc(), grammar, text.as_str())?;
-    let (entries, took) = measured(rt, grammar, lexicon, tokens.as_slice())?;
+    run_text(rt, grammar, lexicon, text.as_str(), timed)
+}
+
+fn run_text(
+    rt: &HostRuntime,
+    grammar: &CheckedGrammar,
+    lexicon: &Lexicon,
+    text: &str,
+    timed: bool,
+) -> Result<(), Fault> {
+    let tokens = tokens_of(rt.alloc(), grammar, text)?;
+    run_tokens(rt, grammar, lexicon, tokens.as_slice(), timed)
+}
+
+fn run_tokens(
+    rt: &HostRuntime,
+    grammar: &CheckedGrammar,
+    lexicon: &Lexicon,
+    tokens: &[Token],
+    timed: bool,
+) -> Result<(), Fault> {
+    let (entries, took) = measured(rt, grammar, lexicon, tokens)?;
     print_measured(rt, tokens.len(), entries, took, timed)
 }
 
@@ -282,6 +319,10 @@ fn run_all(
 fn main(rt: HostRuntime) -> Result<(), Fault> {
     let timed = env::args(&rt)?.count() > 1;
     let grammar = built_in(rt.alloc())?;
-    let lexicon = words(rt.alloc(), &grammar)?;
-    run_all(&rt, &grammar, &lexicon, timed)
+    run_with_words(&rt, &grammar, timed)
+}
+
+fn run_with_words(rt: &HostRuntime, grammar: &CheckedGrammar, timed: bool) -> Result<(), Fault> {
+    let lexicon = words(rt.alloc(), grammar)?;
+    run_all(rt, grammar, &lexicon, timed)
 }

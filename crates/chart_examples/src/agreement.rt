@@ -111,8 +111,42 @@ fn same_count(
     Ok(())
 }
 
-// How many of the text's tokens are typeable, whether they are a sentence, the least skeleton and the menu are the same by the
-// chart and by listing.
+// The chart takes the tokens. How many of them are typeable, whether they are a sentence, the least skeleton and the menu are
+// the same by the chart and by listing.
+fn agrees_on(
+    rt: &impl Abort,
+    alloc: Global,
+    chart: &mut Chart,
+    grammar: &CheckedGrammar,
+    lexicon: &Lexicon,
+    tokens: &Tokens,
+    text: &str,
+) -> Result<(), Fail>
+    requires kept { chart.old ≡ setting_of grammar.now lexicon.now chart.old.tokens }
+    requires few { length tokens.now ≤ 40 }
+{
+    let typeable = grow(rt, chart, grammar, lexicon, tokens.as_slice())?;
+    same_count(rt, alloc, grammar, lexicon, tokens, typeable, text)?;
+    let sentence = same_least(rt, alloc, grammar, lexicon, tokens, text)?;
+    assert_eq!(rt; chart.complete(), sentence, "whether {text} is a sentence");
+    same_menu(rt, alloc, chart, grammar, lexicon, tokens, text)
+}
+
+fn agrees_from_the_start(
+    rt: &impl Abort,
+    alloc: Global,
+    grammar: &CheckedGrammar,
+    lexicon: &Lexicon,
+    tokens: &Tokens,
+    text: &str,
+) -> Result<(), Fail>
+    requires { length tokens.now ≤ 40 }
+{
+    let mut chart = started(alloc, grammar, lexicon)?;
+    agrees_on(rt, alloc, &mut chart, grammar, lexicon, tokens, text)
+}
+
+// The chart and the listing agree on the text's tokens.
 pub(crate) fn agrees(
     rt: &impl Abort,
     alloc: Global,
@@ -121,10 +155,5 @@ pub(crate) fn agrees(
     text: &str,
 ) -> Result<(), Fail> {
     let tokens = tokens_of(alloc, grammar, text)?;
-    let mut chart = started(alloc, grammar, lexicon)?;
-    let typeable = grow(rt, &mut chart, grammar, lexicon, tokens.as_slice())?;
-    same_count(rt, alloc, grammar, lexicon, &tokens, typeable, text)?;
-    let sentence = same_least(rt, alloc, grammar, lexicon, &tokens, text)?;
-    assert_eq!(rt; chart.complete(), sentence, "whether {text} is a sentence");
-    same_menu(rt, alloc, &chart, grammar, lexicon, &tokens, text)
+    agrees_from_the_start(rt, alloc, grammar, lexicon, &tokens, text)
 }

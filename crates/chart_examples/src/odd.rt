@@ -59,9 +59,28 @@ fn agrees_on_all(
     tokens: &[&str],
 ) -> Result<(), Fail> {
     let grammar = grammar_of(alloc, grammar)?;
-    let lexicon = words(alloc, &grammar, &NOUNS)?;
+    agrees_with_nouns(rt, alloc, &grammar, tokens)
+}
+
+fn agrees_with_nouns(
+    rt: &impl Abort,
+    alloc: Global,
+    grammar: &CheckedGrammar,
+    tokens: &[&str],
+) -> Result<(), Fail> {
+    let lexicon = words(alloc, grammar, &NOUNS)?;
+    agrees_on_lengths(rt, alloc, grammar, &lexicon, tokens)
+}
+
+fn agrees_on_lengths(
+    rt: &impl Abort,
+    alloc: Global,
+    grammar: &CheckedGrammar,
+    lexicon: &Lexicon,
+    tokens: &[&str],
+) -> Result<(), Fail> {
     for length in 0..LONGEST + 1 {
-        agrees_on_lists(rt, alloc, &grammar, &lexicon, tokens, length)?;
+        agrees_on_lists(rt, alloc, grammar, lexicon, tokens, length)?;
     }
     Ok(())
 }

@@ -109,8 +109,17 @@ fn steps_go(
 
 fn go(rt: &impl Abort, alloc: Global, grammar: &str, steps: &[Step<'_>]) -> Result<(), Fail> {
     let grammar = grammar_of(alloc, grammar)?;
-    let lexicon = words(alloc, &grammar, &[])?;
-    all_go(rt, alloc, &grammar, &lexicon, steps)
+    go_without_words(rt, alloc, &grammar, steps)
+}
+
+fn go_without_words(
+    rt: &impl Abort,
+    alloc: Global,
+    grammar: &CheckedGrammar,
+    steps: &[Step<'_>],
+) -> Result<(), Fail> {
+    let lexicon = words(alloc, grammar, &[])?;
+    all_go(rt, alloc, grammar, &lexicon, steps)
 }
 
 // The steps go from a chart of no tokens.
@@ -202,26 +211,56 @@ fn offers_two(menu: &Menu<'_>, first: &str, second: &str) -> bool {
         && other_text == second
 }
 
-// After the text the menu has these two tokens.
-fn has_two(
+fn menu_has_two(
+    chart: &Chart,
+    grammar: &CheckedGrammar,
+    lexicon: &Lexicon,
+    first: &str,
+    second: &str,
+) -> Result<bool, Fail>
+    requires { chart.now ≡ setting_of grammar.now lexicon.now chart.now.tokens }
+{
+    let menu = chart.menu(grammar, lexicon)?;
+    Ok(offers_two(&menu, first, second))
+}
+
+// After many times `x` the menu has two tokens.
+fn many_have_two(
+    rt: &impl Abort,
+    alloc: Global,
+    chart: &mut Chart,
+    grammar: &CheckedGrammar,
+    lexicon: &Lexicon,
+) -> Result<(), Fail>
+    requires { chart.old ≡ setting_of grammar.now lexicon.now chart.old.tokens }
+{
+    let _ = all_taken(rt, alloc, chart, grammar, lexicon, MANY)?;
+    let two = menu_has_two(chart, grammar, lexicon, "e", "x")?;
+    assert!(rt; two);
+    Ok(())
+}
+
+fn menu_of_many(
     rt: &impl Abort,
     alloc: Global,
     grammar: &CheckedGrammar,
     lexicon: &Lexicon,
-    text: &str,
-    first: &str,
-    second: &str,
 ) -> Result<(), Fail> {
     let mut chart = started(alloc, grammar, lexicon)?;
-    let _ = all_taken(rt, alloc, &mut chart, grammar, lexicon, text)?;
-    let menu = chart.menu(grammar, lexicon)?;
-    assert!(rt; offers_two(&menu, first, second));
-    Ok(())
+    many_have_two(rt, alloc, &mut chart, grammar, lexicon)
+}
+
+fn menu_of_many_without_words(
+    rt: &impl Abort,
+    alloc: Global,
+    grammar: &CheckedGrammar,
+) -> Result<(), Fail> {
+    let lexicon = words(alloc, grammar, &[])?;
+    menu_of_many(rt, alloc, grammar, &lexicon)
 }
 
 #[test]
 fn a_menu_after_very_many_trees_takes_no_time(rt: HostRuntime) -> Result<(), Fail> {
     let grammar = grammar_of(rt.alloc(), AMBIGUOUS)?;
-    let lexicon = words(rt.alloc(), &grammar, &[])?;
-    has_two(&rt, rt.alloc(), &grammar, &lexicon, MANY, "e", "x")
+    menu_of_many_without_words(&rt, rt.alloc(), &grammar)
 }

@@ -1,4 +1,4 @@
-use Rattle.std.proofs.Common.{◌≡◌, ap, sym, subst}
+use Rattle.std.proofs.Common.{ap, sym, subst}
 use Rattle.chart_table.specs.Choices.{EachPlan}
 use Rattle.chart_examples.proofs.sizes.row_count.Goals as goal
 

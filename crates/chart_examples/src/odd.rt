@@ -186,7 +186,7 @@ fn no_referent_may_agree_with_a_place_to_come(rt: HostRuntime) -> Result<(), Fai
 }
 
 const AGREEING: &str =
-    "text --> $noun(num: X) v(num: X). text --> d(vow: V) $noun(num: sg, vow: V) v(num: sg). \
+    "feature num: sg, pl. feature vow: yes, no. text --> $noun(num: X) v(num: X). text --> d(vow: V) $noun(num: sg, vow: V) v(num: sg). \
      v(num: sg) --> [runs]. v(num: pl) --> [run]. d(vow: yes) --> [an]. d(vow: no) --> [a].";
 
 #[test]

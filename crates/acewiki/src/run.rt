@@ -73,8 +73,7 @@ pub fn run<S: Source, K: Sink, E: Sink, L: Link>(
         (record { journal = K.taken output.new; sent = L.sent link.new; send_faults = L.send_faults link.new }) (L.handed link.new) }
 
     // `serve` with any status: the lines that were stepped, the events that were handed in, and what was written and sent then.
-    ensures serves { (address : List ℕ) (budget most : ℕ) (outcome : Outcome) → command_of words.now ≡ Some (serve address budget most)
-        → result ≡ status_of outcome
+    ensures serves { (address : List ℕ) (budget most : ℕ) (outcome : Outcome) → command_of words.now ≡ Some (serve address budget most) → result ≡ status_of outcome
         → Serves (ace_wiki budget) most (S.left input.old)
         (record { journal = K.taken output.old; sent = L.sent link.old; send_faults = L.send_faults link.old }) (L.handed link.old) outcome (S.left input.new)
         (record { journal = K.taken output.new; sent = L.sent link.new; send_faults = L.send_faults link.new }) (L.handed link.new) (L.left link.new) }
@@ -87,8 +86,7 @@ pub fn run<S: Source, K: Sink, E: Sink, L: Link>(
         → (input.new ≡ input.old) × (link.new ≡ link.old) × ((result ≡ 0) ⊎ ((result ≡ 4) ⊎ (result ≡ 9))) }
 
     // `help`: its lines were written, or a front of them with status 4. Nothing is read or sent, and no memory is taken.
-    ensures helps { (outcome : Outcome) → command_of words.now ≡ Some help → result ≡ status_of outcome
-        → WritesHelp outcome (K.taken output.old) (K.taken output.new) }
+    ensures helps { (outcome : Outcome) → command_of words.now ≡ Some help → result ≡ status_of outcome → WritesHelp outcome (K.taken output.old) (K.taken output.new) }
     ensures help_alone { command_of words.now ≡ Some help → (input.new ≡ input.old) × (link.new ≡ link.old) × ((result ≡ 0) ⊎ (result ≡ 4)) }
 
     ensures read_fault { result ≡ 3 → Rose (S.faults input.old) (S.faults input.new) }
@@ -132,8 +130,7 @@ fn perform<S: Source, K: Sink, L: Link>(
     ensures make_alone { (count seed budget : ℕ) → command_of words.now ≡ Some (make count seed budget)
         → (input.new ≡ input.old) × (link.new ≡ link.old) × ((result ≡ Outcome.Done) ⊎ ((result ≡ Outcome.WriteFault) ⊎ (result ≡ Outcome.Memory))) }
     ensures helps { command_of words.now ≡ Some help → WritesHelp result (K.taken output.old) (K.taken output.new) }
-    ensures help_alone { command_of words.now ≡ Some help
-        → (input.new ≡ input.old) × (link.new ≡ link.old) × ((result ≡ Outcome.Done) ⊎ (result ≡ Outcome.WriteFault)) }
+    ensures help_alone { command_of words.now ≡ Some help → (input.new ≡ input.old) × (link.new ≡ link.old) × ((result ≡ Outcome.Done) ⊎ (result ≡ Outcome.WriteFault)) }
     ensures read_fault { result ≡ Outcome.ReadFault → Rose (S.faults input.old) (S.faults input.new) }
     ensures write_fault { result ≡ Outcome.WriteFault → Rose (K.faults output.old) (K.faults output.new) }
     ensures link_fault { result ≡ Outcome.LinkFault → Rose (L.faults link.old) (L.faults link.new) }
@@ -188,20 +185,37 @@ pub fn program<C: CommandLine, S: Source, K: Sink, E: Sink, L: Link>(
         × AnswersAsPlainWiki (ace_wiki budget) (input_lines bytes)
         (record { journal = K.taken output.old; sent = L.sent link.old; send_faults = L.send_faults link.old }) events
         (record { journal = K.taken output.new; sent = L.sent link.new; send_faults = L.send_faults link.new }) }
+    ensures link_headline { (words : List (List ℕ)) (address : List ℕ) (budget most : ℕ) → C.words line.now ≡ Some words
+        → command_of words ≡ Some (serve address budget most) → result ≡ 5 → (bytes : List ℕ) → S.left input.old ≡ Some bytes
+        → (events : List Event) × (L.handed link.new ≡ with_more (L.handed link.old) events)
+        × AnswersAsPlainWiki (ace_wiki budget) (input_lines bytes)
+        (record { journal = K.taken output.old; sent = L.sent link.old; send_faults = L.send_faults link.old }) events
+        (record { journal = K.taken output.new; sent = L.sent link.new; send_faults = L.send_faults link.new }) }
     ensures up_to_a_fault { (words : List (List ℕ)) (address : List ℕ) (budget most : ℕ) → C.words line.now ≡ Some words
         → command_of words ≡ Some (serve address budget most) → (bytes : List ℕ) → S.left input.old ≡ Some bytes → ServesUpToFault (ace_wiki budget) (input_lines bytes)
         (record { journal = K.taken output.old; sent = L.sent link.old; send_faults = L.send_faults link.old }) (L.handed link.old)
         (record { journal = K.taken output.new; sent = L.sent link.new; send_faults = L.send_faults link.new }) (L.handed link.new) }
-    ensures makes { (words : List (List ℕ)) (count seed budget : ℕ) (outcome : Outcome) → C.words line.now ≡ Some words
-        → command_of words ≡ Some (make count seed budget)
+    ensures serves { (words : List (List ℕ)) (address : List ℕ) (budget most : ℕ) (outcome : Outcome) → C.words line.now ≡ Some words
+        → command_of words ≡ Some (serve address budget most) → result ≡ status_of outcome
+        → Serves (ace_wiki budget) most (S.left input.old)
+        (record { journal = K.taken output.old; sent = L.sent link.old; send_faults = L.send_faults link.old }) (L.handed link.old) outcome (S.left input.new)
+        (record { journal = K.taken output.new; sent = L.sent link.new; send_faults = L.send_faults link.new }) (L.handed link.new) (L.left link.new) }
+    ensures makes { (words : List (List ℕ)) (count seed budget : ℕ) (outcome : Outcome) → C.words line.now ≡ Some words → command_of words ≡ Some (make count seed budget)
         → result ≡ status_of outcome → MakesSummary (ace_wiki budget) count seed (K.taken output.old) outcome (K.taken output.new) }
+    ensures make_alone { (words : List (List ℕ)) (count seed budget : ℕ) → C.words line.now ≡ Some words → command_of words ≡ Some (make count seed budget)
+        → (input.new ≡ input.old) × (link.new ≡ link.old) × ((result ≡ 0) ⊎ ((result ≡ 4) ⊎ (result ≡ 9))) }
     ensures helps { (words : List (List ℕ)) (outcome : Outcome) → C.words line.now ≡ Some words → command_of words ≡ Some help → result ≡ status_of outcome
         → WritesHelp outcome (K.taken output.old) (K.taken output.new) }
+    ensures help_alone { (words : List (List ℕ)) → C.words line.now ≡ Some words → command_of words ≡ Some help
+        → (input.new ≡ input.old) × (link.new ≡ link.old) × ((result ≡ 0) ⊎ ((result ≡ 4) ⊎ (result ≡ 9))) }
     ensures read_fault { result ≡ 3 → Rose (S.faults input.old) (S.faults input.new) }
     ensures write_fault { result ≡ 4 → Rose (K.faults output.old) (K.faults output.new) }
     ensures link_fault { result ≡ 5 → Rose (L.faults link.old) (L.faults link.new) }
+    ensures no_link { (words : List (List ℕ)) (budget : ℕ) → C.words line.now ≡ Some words → command_of words ≡ Some (replay budget)
+        → (link.new ≡ link.old) × (result ≢ 5) }
     ensures complete { (words : List (List ℕ)) → C.words line.now ≡ Some words → (command_of words ≢ None) → ¬ Rose (S.faults input.old) (S.faults input.new)
         → ¬ Rose (K.faults output.old) (K.faults output.new) → ¬ Rose (L.faults link.old) (L.faults link.new) → IsWithin (S.left input.old) → (result ≡ 0) ⊎ (result ≡ 9) }
+    ensures done_where_free { DoesWhatIsFree }
     ensures words { EndsWith result (E.taken errors.old) (E.faults errors.old) (E.taken errors.new) (E.faults errors.new) }
 {
     match words(alloc, line) {

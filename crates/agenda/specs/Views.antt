@@ -28,12 +28,15 @@ is_listed lists z x = list_any (λ y. y == x) (slice_index_or lists z [])
 abbrev pub Lists : List (List ℕ) → List (List ℕ) → Type 0
 Lists old new = (z x : ℕ) → is_listed old z x ≡ true → is_listed new z x ≡ true
 
+-- whether a node is due by a rule's queue
 abbrev pub is_due : Queue → ℕ → Bool
 is_due q x = contains nat_cmp q.due x
 
+-- whether x waits for z by a rule's queue
 abbrev pub is_waiting : Queue → ℕ → ℕ → Bool
 is_waiting q z x = is_listed q.waiting.items z x
 
+-- a rule's queue leaves out no node at which a step by the rule applies
 abbrev pub FitsQueue : Theory → Graph → Rule → Queue → Type 0
 FitsQueue k g r q = Fits k g r (is_due q) (is_waiting q)
 

@@ -2,7 +2,7 @@
 use crate::asking::asked;
 use crate::pictures::PICTURES;
 use crate::questions::QUESTIONS;
-use logic_terms::{Axioms, Names};
+use logic_terms::{Axiom, Axioms, Class, Names};
 use owl_eval::{CheckedModel, Interp};
 use reasoner::{Verdict, verdict};
 use reasoner_examples::{are_fit, has_small_model, names_of, read};
@@ -95,6 +95,25 @@ fn models_of_finished_branches_have_these_classes_and_pairs(rt: HostRuntime) -> 
         assert!(rt; has_pairs(alloc, interp, b'r', r)?, "{axioms}");
         assert!(rt; has_pairs(alloc, interp, b's', s)?, "{axioms}");
     }
+    Ok(())
+}
+
+#[test]
+fn axioms_that_hold_come_in_before_others_and_go_again(rt: HostRuntime) -> Result<(), Fail> {
+    let alloc = rt.alloc();
+    let names = names_of(alloc, 2)?.copy()?;
+    let mut kept = model_of(alloc, &names, "A1: B2:")?;
+    assert!(rt; !kept.insert(0, read(alloc, "B1:")?)?);
+    assert!(rt; kept.insert(0, read(alloc, "T1: 12#")?)?);
+    if kept.axioms().len() != 4 {
+        return Err("four axioms".into());
+    }
+    kept.remove(1, 3);
+    let [first, last] = kept.axioms().as_slice() else {
+        return Err("two axioms".into());
+    };
+    assert!(rt; matches!(first, Axiom::Member(Class::Thing, WordId(49))));
+    assert!(rt; matches!(last, Axiom::Member(Class::Named(WordId(66)), WordId(50))));
     Ok(())
 }
 

@@ -12,29 +12,12 @@ use codeco_checked::CheckedGrammar;
 use derivation_trees::{Cut, cut};
 use lexicon::{Kind, Lexicon, forms};
 use std::alloc::{AllocError, AllocFailed, Global};
-use std::time::CpuClock;
+use std::time::{CpuClock, Duration};
 use std::{env, fs, io};
-use wiki_base::{MOST_TOKENS, Memory, Text, Token};
+use wiki_base::{MOST_TOKENS, Memory, Text, Token, Tokens};
 
 /// How many words there are beside those of the tokens.
 const WORDS: u32 = 4_997;
-
-/// What long sentences are made of: what they are, how they begin, what comes again and again, and how they end.
-const SHAPES: [(&str, &str, &str, &str); 3] = [
-    (
-        "relative clauses",
-        "Mary sees something",
-        " that sees something",
-        " that",
-    ),
-    (
-        "verb phrases with and",
-        "Mary sees something",
-        " and sees something",
-        " and",
-    ),
-    ("a part of a part", "Mary sees", " a part of", " a part"),
-];
 
 #[derive(Debug, Drop)]
 enum Fault {
@@ -99,14 +82,19 @@ fn kind_with(number: u32) -> Kind {
 
 fn words(alloc: Global, grammar: &CheckedGrammar) -> Result<Lexicon, Fault> {
     let mut lexicon = Lexicon::new(alloc, grammar.grammar())?;
-    add(alloc, &mut lexicon, Kind::Name, "Mary")?;
-    add(alloc, &mut lexicon, Kind::Verb, "see")?;
-    add(alloc, &mut lexicon, Kind::Of, "part")?;
+    add_all(alloc, &mut lexicon)?;
+    Ok(lexicon)
+}
+
+fn add_all(alloc: Global, lexicon: &mut Lexicon) -> Result<(), Fault> {
+    add(alloc, lexicon, Kind::Name, "Mary")?;
+    add(alloc, lexicon, Kind::Verb, "see")?;
+    add(alloc, lexicon, Kind::Of, "part")?;
     for number in 0..WORDS {
         let text = text_with(alloc, number)?;
-        add(alloc, &mut lexicon, kind_with(number), text.as_str())?;
+        add(alloc, lexicon, kind_with(number), text.as_str())?;
     }
-    Ok(lexicon)
+    Ok(())
 }
 
 // The chart of no tokens.
@@ -161,31 +149,76 @@ fn print_peak(rt: &HostRuntime) -> Result<(), Fault> {
     Ok(())
 }
 
-// Takes the tokens of the text, and makes the menu.
-fn run(
+// Takes the tokens into the chart. Tells how much processor time there was before the last.
+fn grow(
+    rt: &HostRuntime,
+    chart: &mut Chart,
+    grammar: &CheckedGrammar,
+    lexicon: &Lexicon,
+    tokens: &[Token],
+) -> Result<Duration, Fault>
+    requires { chart.old ≡ setting_of grammar.now lexicon.now chart.old.tokens }
+    ensures { OnOk result (chart.new ≡ setting_of grammar.now lexicon.now chart.new.tokens) }
+{
+    let mut start = rt.thread_cpu_time()?;
+    for token in tokens {
+        start = rt.thread_cpu_time()?;
+        taken(chart, grammar, lexicon, token)?;
+    }
+    Ok(start)
+}
+
+// How many entries the menu has.
+fn entry_count(chart: &Chart, grammar: &CheckedGrammar, lexicon: &Lexicon) -> Result<usize, Fault>
+    requires { chart.now ≡ setting_of grammar.now lexicon.now chart.now.tokens }
+{
+    let menu = chart.menu(grammar, lexicon)?;
+    Ok(menu.len())
+}
+
+// Takes the tokens, and makes the menu. Tells how many entries it has, and what the last token and the menu have taken.
+fn timed_menu(
+    rt: &HostRuntime,
+    chart: &mut Chart,
+    grammar: &CheckedGrammar,
+    lexicon: &Lexicon,
+    tokens: &[Token],
+) -> Result<(usize, Duration), Fault>
+    requires { chart.old ≡ setting_of grammar.now lexicon.now chart.old.tokens }
+{
+    let start = grow(rt, chart, grammar, lexicon, tokens)?;
+    let entries = entry_count(chart, grammar, lexicon)?;
+    Ok((entries, rt.thread_cpu_time()?.saturating_sub(start)))
+}
+
+fn measured(
     rt: &HostRuntime,
     grammar: &CheckedGrammar,
     lexicon: &Lexicon,
-    text: &str,
+    tokens: &[Token],
+) -> Result<(usize, Duration), Fault> {
+    let mut chart = started(rt.alloc(), grammar, lexicon)?;
+    timed_menu(rt, &mut chart, grammar, lexicon, tokens)
+}
+
+// The tokens of the text.
+fn tokens_of(alloc: Global, grammar: &CheckedGrammar, text: &str) -> Result<Tokens, Fault> {
+    match cut(alloc, grammar.grammar(), text)? {
+        Cut::Tokens(tokens) => Ok(tokens),
+        _ => Err(Fault::Words),
+    }
+}
+
+fn print_measured(
+    rt: &HostRuntime,
+    count: usize,
+    entries: usize,
+    took: Duration,
     timed: bool,
 ) -> Result<(), Fault> {
-    let alloc = rt.alloc();
-    let Cut::Tokens(tokens) = cut(alloc, grammar.grammar(), text)? else {
-        return Err(Fault::Words);
-    };
-    let mut chart = started(alloc, grammar, lexicon)?;
-    let mut start = rt.thread_cpu_time()?;
-    for token in tokens.as_slice() {
-        start = rt.thread_cpu_time()?;
-        taken(&mut chart, grammar, lexicon, token)?;
-    }
-    let menu = chart.menu(grammar, lexicon)?;
-    let took = rt.thread_cpu_time()?.saturating_sub(start);
-    let count = tokens.len();
-    let some = !menu.is_empty();
+    let some = entries > 0;
     println!(rt; "{count} tokens: {some}")?;
     if timed {
-        let entries = menu.len();
         let micros = took.as_micros();
         println!(rt; "{entries} entries, {micros} microseconds for a token and its menu")?;
         print_peak(rt)?;
@@ -193,19 +226,103 @@ fn run(
     Ok(())
 }
 
+// How a long sentence begins, what comes again and again in it, and how it ends.
+struct Shape {
+    name: &'static str,
+    first: &'static str,
+    again: &'static str,
+    last: &'static str,
+}
+
+fn run(
+    rt: &HostRuntime,
+    grammar: &CheckedGrammar,
+    lexicon: &Lexicon,
+    shape: &Shape,
+    times: u32,
+    timed: bool,
+) -> Result<(), Fault> {
+    let text = text_of(rt.alloc(), shape.first, shape.again, shape.last, times)?;
+    run_text(rt, grammar, lexicon, text.as_str(), timed)
+}
+
+fn run_text(
+    rt: &HostRuntime,
+    grammar: &CheckedGrammar,
+    lexicon: &Lexicon,
+    text: &str,
+    timed: bool,
+) -> Result<(), Fault> {
+    let tokens = tokens_of(rt.alloc(), grammar, text)?;
+    run_tokens(rt, grammar, lexicon, tokens.as_slice(), timed)
+}
+
+fn run_tokens(
+    rt: &HostRuntime,
+    grammar: &CheckedGrammar,
+    lexicon: &Lexicon,
+    tokens: &[Token],
+    timed: bool,
+) -> Result<(), Fault> {
+    let (entries, took) = measured(rt, grammar, lexicon, tokens)?;
+    print_measured(rt, tokens.len(), entries, took, timed)
+}
+
+fn run_shape(
+    rt: &HostRuntime,
+    grammar: &CheckedGrammar,
+    lexicon: &Lexicon,
+    shape: &Shape,
+    timed: bool,
+) -> Result<(), Fault> {
+    let name = shape.name;
+    println!(rt; "{name}")?;
+    run(rt, grammar, lexicon, shape, 2, timed)?;
+    run(rt, grammar, lexicon, shape, 12, timed)
+}
+
+const RELATIVES: Shape = Shape {
+    name: "relative clauses",
+    first: "Mary sees something",
+    again: " that sees something",
+    last: " that",
+};
+
+const COORDINATION: Shape = Shape {
+    name: "verb phrases with and",
+    first: "Mary sees something",
+    again: " and sees something",
+    last: " and",
+};
+
+const PARTS: Shape = Shape {
+    name: "a part of a part",
+    first: "Mary sees",
+    again: " a part of",
+    last: " a part",
+};
+
+fn run_all(
+    rt: &HostRuntime,
+    grammar: &CheckedGrammar,
+    lexicon: &Lexicon,
+    timed: bool,
+) -> Result<(), Fault> {
+    if timed {
+        print_peak(rt)?;
+    }
+    run_shape(rt, grammar, lexicon, &RELATIVES, timed)?;
+    run_shape(rt, grammar, lexicon, &COORDINATION, timed)?;
+    run_shape(rt, grammar, lexicon, &PARTS, timed)
+}
+
 fn main(rt: HostRuntime) -> Result<(), Fault> {
     let timed = env::args(&rt)?.count() > 1;
     let grammar = built_in(rt.alloc())?;
-    let lexicon = words(rt.alloc(), &grammar)?;
-    if timed {
-        print_peak(&rt)?;
-    }
-    for (name, first, again, last) in SHAPES {
-        println!(rt; "{name}")?;
-        for times in [2, 12] {
-            let text = text_of(rt.alloc(), first, again, last, times)?;
-            run(&rt, &grammar, &lexicon, text.as_str(), timed)?;
-        }
-    }
-    Ok(())
+    run_with_words(&rt, &grammar, timed)
+}
+
+fn run_with_words(rt: &HostRuntime, grammar: &CheckedGrammar, timed: bool) -> Result<(), Fault> {
+    let lexicon = words(rt.alloc(), grammar)?;
+    run_all(rt, grammar, &lexicon, timed)
 }

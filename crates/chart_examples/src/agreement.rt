@@ -1,5 +1,5 @@
 // Whether the chart tells of tokens what the listing of their trees does.
-ghost use Rattle.std.specs.Prelude.{◌≡◌, ◌≤◌, length};
+ghost use Rattle.std.specs.Prelude.{◌≡◌, ◌≤◌, length, OnOk};
 ghost use Rattle.derivation_trees.specs.Sentences.{setting_of};
 
 use crate::cases::{started, taken, tokens_of};
@@ -13,7 +13,7 @@ use lists::List;
 use std::alloc::Global;
 use std::process::Abort;
 use std::test::Fail;
-use wiki_base::Tokens;
+use wiki_base::{Token, Tokens};
 
 fn same_entries(menu: &Menu<'_>, other: &Menu<'_>) -> bool {
     if menu.len() != other.len() {
@@ -73,8 +73,80 @@ fn same_menu(
     Ok(())
 }
 
-// How many of the text's tokens are typeable, whether they are a sentence, the least skeleton and the menu are the same by the
-// chart and by listing.
+// Takes the tokens into the chart, and tells how many of them are typeable.
+fn grow(
+    rt: &impl Abort,
+    chart: &mut Chart,
+    grammar: &CheckedGrammar,
+    lexicon: &Lexicon,
+    tokens: &[Token],
+) -> Result<usize, Fail>
+    requires { chart.old ≡ setting_of grammar.now lexicon.now chart.old.tokens }
+    ensures { OnOk result (chart.new ≡ setting_of grammar.now lexicon.now chart.new.tokens) }
+{
+    let mut typeable = 0usize;
+    for (place, token) in tokens.iter().enumerate() {
+        let begins = taken(rt, chart, grammar, lexicon, token)?;
+        if begins && typeable == place {
+            typeable = place + 1;
+        }
+    }
+    Ok(typeable)
+}
+
+// So many tokens are typeable by listing too.
+fn same_count(
+    rt: &impl Abort,
+    alloc: Global,
+    grammar: &CheckedGrammar,
+    lexicon: &Lexicon,
+    tokens: &Tokens,
+    typeable: usize,
+    text: &str,
+) -> Result<(), Fail>
+    requires { length tokens.now ≤ 40 }
+{
+    let counted = typeable_count(alloc, grammar, lexicon, tokens)?;
+    assert_eq!(rt; typeable, counted, "how many are typeable of {text}");
+    Ok(())
+}
+
+// The chart takes the tokens. How many of them are typeable, whether they are a sentence, the least skeleton and the menu are
+// the same by the chart and by listing.
+fn agrees_on(
+    rt: &impl Abort,
+    alloc: Global,
+    chart: &mut Chart,
+    grammar: &CheckedGrammar,
+    lexicon: &Lexicon,
+    tokens: &Tokens,
+    text: &str,
+) -> Result<(), Fail>
+    requires kept { chart.old ≡ setting_of grammar.now lexicon.now chart.old.tokens }
+    requires few { length tokens.now ≤ 40 }
+{
+    let typeable = grow(rt, chart, grammar, lexicon, tokens.as_slice())?;
+    same_count(rt, alloc, grammar, lexicon, tokens, typeable, text)?;
+    let sentence = same_least(rt, alloc, grammar, lexicon, tokens, text)?;
+    assert_eq!(rt; chart.complete(), sentence, "whether {text} is a sentence");
+    same_menu(rt, alloc, chart, grammar, lexicon, tokens, text)
+}
+
+fn agrees_from_the_start(
+    rt: &impl Abort,
+    alloc: Global,
+    grammar: &CheckedGrammar,
+    lexicon: &Lexicon,
+    tokens: &Tokens,
+    text: &str,
+) -> Result<(), Fail>
+    requires { length tokens.now ≤ 40 }
+{
+    let mut chart = started(alloc, grammar, lexicon)?;
+    agrees_on(rt, alloc, &mut chart, grammar, lexicon, tokens, text)
+}
+
+// The chart and the listing agree on the text's tokens.
 pub(crate) fn agrees(
     rt: &impl Abort,
     alloc: Global,
@@ -83,17 +155,5 @@ pub(crate) fn agrees(
     text: &str,
 ) -> Result<(), Fail> {
     let tokens = tokens_of(alloc, grammar, text)?;
-    let mut chart = started(alloc, grammar, lexicon)?;
-    let mut typeable = 0usize;
-    for (place, token) in tokens.as_slice().iter().enumerate() {
-        let begins = taken(rt, &mut chart, grammar, lexicon, token)?;
-        if begins && typeable == place {
-            typeable = place + 1;
-        }
-    }
-    let counted = typeable_count(alloc, grammar, lexicon, &tokens)?;
-    assert_eq!(rt; typeable, counted, "how many are typeable of {text}");
-    let sentence = same_least(rt, alloc, grammar, lexicon, &tokens, text)?;
-    assert_eq!(rt; chart.complete(), sentence, "whether {text} is a sentence");
-    same_menu(rt, alloc, &chart, grammar, lexicon, &tokens, text)
+    agrees_from_the_start(rt, alloc, grammar, lexicon, &tokens, text)
 }

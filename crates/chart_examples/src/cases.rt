@@ -4,12 +4,35 @@ ghost use Rattle.derivation_trees.specs.Sentences.{setting_of};
 
 use chart::Chart;
 use codeco_checked::CheckedGrammar;
+use codeco_reader::read_grammar;
 use derivation_trees::{Cut, cut};
 use lexicon::{Kind, Lexicon, forms};
 use std::alloc::Global;
 use std::process::Abort;
 use std::test::Fail;
 use wiki_base::{MOST_TOKENS, Text, Token, Tokens};
+
+pub(crate) fn grammar_of(alloc: Global, text: &str) -> Result<CheckedGrammar, Fail> {
+    let grammar = read_grammar(alloc, text)?;
+    Ok(grammar)
+}
+
+fn texts_of(alloc: Global, texts: &[&str]) -> Result<Vec<Text>, Fail> {
+    let mut read = Vec::new(alloc);
+    for text in texts {
+        read.push(Text::read(alloc, *text)?)?;
+    }
+    Ok(read)
+}
+
+fn add(alloc: Global, lexicon: &mut Lexicon, kind: Kind, texts: &[&str]) -> Result<(), Fail> {
+    let read = texts_of(alloc, texts)?;
+    let forms = forms(alloc, kind, read.as_slice())?;
+    if lexicon.add(&forms).is_err() {
+        return Err(Fail::new("a word that is free"));
+    }
+    Ok(())
+}
 
 // A lexicon of these words.
 pub(crate) fn words(
@@ -19,14 +42,7 @@ pub(crate) fn words(
 ) -> Result<Lexicon, Fail> {
     let mut lexicon = Lexicon::new(alloc, grammar.grammar())?;
     for (kind, texts) in given {
-        let mut read = Vec::new(alloc);
-        for text in *texts {
-            read.push(Text::read(alloc, text)?)?;
-        }
-        let forms = forms(alloc, *kind, read.as_slice())?;
-        if lexicon.add(&forms).is_err() {
-            return Err(Fail::new("a word that is free"));
-        }
+        add(alloc, &mut lexicon, *kind, *texts)?;
     }
     Ok(lexicon)
 }

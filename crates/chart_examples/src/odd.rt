@@ -1,8 +1,7 @@
 // All lists of up to four tokens of small grammars, one for each odd thing that a rule may do.
 use crate::agreement::agrees;
-use crate::cases::words;
+use crate::cases::{grammar_of, words};
 use codeco_checked::CheckedGrammar;
-use codeco_reader::read_grammar;
 use lexicon::{Kind, Lexicon};
 use std::alloc::Global;
 use std::process::Abort;
@@ -59,10 +58,29 @@ fn agrees_on_all(
     grammar: &str,
     tokens: &[&str],
 ) -> Result<(), Fail> {
-    let grammar = read_grammar(alloc, grammar)?;
-    let lexicon = words(alloc, &grammar, &NOUNS)?;
+    let grammar = grammar_of(alloc, grammar)?;
+    agrees_with_nouns(rt, alloc, &grammar, tokens)
+}
+
+fn agrees_with_nouns(
+    rt: &impl Abort,
+    alloc: Global,
+    grammar: &CheckedGrammar,
+    tokens: &[&str],
+) -> Result<(), Fail> {
+    let lexicon = words(alloc, grammar, &NOUNS)?;
+    agrees_on_lengths(rt, alloc, grammar, &lexicon, tokens)
+}
+
+fn agrees_on_lengths(
+    rt: &impl Abort,
+    alloc: Global,
+    grammar: &CheckedGrammar,
+    lexicon: &Lexicon,
+    tokens: &[&str],
+) -> Result<(), Fail> {
     for length in 0..LONGEST + 1 {
-        agrees_on_lists(rt, alloc, &grammar, &lexicon, tokens, length)?;
+        agrees_on_lists(rt, alloc, grammar, lexicon, tokens, length)?;
     }
     Ok(())
 }
@@ -168,7 +186,7 @@ fn no_referent_may_agree_with_a_place_to_come(rt: HostRuntime) -> Result<(), Fai
 }
 
 const AGREEING: &str =
-    "text --> $noun(num: X) v(num: X). text --> d(vow: V) $noun(num: sg, vow: V) v(num: sg). \
+    "feature num: sg, pl. feature vow: yes, no. text --> $noun(num: X) v(num: X). text --> d(vow: V) $noun(num: sg, vow: V) v(num: sg). \
      v(num: sg) --> [runs]. v(num: pl) --> [run]. d(vow: yes) --> [an]. d(vow: no) --> [a].";
 
 #[test]

@@ -14,7 +14,9 @@ use lexicon::{Kind, Lexicon};
 use lists::List;
 use scopes::Access;
 use std::alloc::Global;
+use std::process::Abort;
 use std::test::Fail;
+use wiki_base::Tokens;
 
 // The number of the category `text`.
 const TEXT: u16 = 5;
@@ -41,17 +43,53 @@ fn add_rows(
     Ok(())
 }
 
-// How many rows the table has, beside that for the sentence itself.
-fn row_count(alloc: Global, setting: &Scene<'_>) -> Result<usize, Fail> {
-    let made = plans_of(alloc, setting.grammar)?;
-    let plans = made.as_slice();
+// Adds the rows that sentences ask for.
+fn add_all(
+    alloc: Global,
+    setting: &Scene<'_>,
+    plans: &[Plan],
+    rows: &mut List<Row>,
+) -> Result<(), Fail>
+    requires plans { choosing.ArePlans setting.now plans.now }
+    requires rows { tables.AreRows setting.now tables.no_asks rows.old }
+{
     let rules = setting.grammar.rules().as_slice();
-    let mut rows = List::new(alloc);
     for (number, rule) in rules.iter().enumerate() {
         let plan = plan_for(plans, number);
-        add_rows(alloc, setting, plans, &mut rows, rule, plan)?;
+        add_rows(alloc, setting, plans, rows, rule, plan)?;
     }
+    Ok(())
+}
+
+fn planned_count(alloc: Global, setting: &Scene<'_>, plans: &[Plan]) -> Result<usize, Fail>
+    requires { choosing.ArePlans setting.now plans.now }
+{
+    let mut rows = List::new(alloc);
+    add_all(alloc, setting, plans, &mut rows)?;
     Ok(rows.len())
+}
+
+// How many rows the table has, beside that for the sentence itself.
+fn row_count(alloc: Global, setting: &Scene<'_>) -> Result<usize, Fail> {
+    let plans = plans_of(alloc, setting.grammar)?;
+    planned_count(alloc, setting, plans.as_slice())
+}
+
+fn rows_of_read(
+    alloc: Global,
+    grammar: &CheckedGrammar,
+    lexicon: &Lexicon,
+    tokens: &Tokens,
+) -> Result<usize, Fail>
+    requires { length tokens.now ≤ 40 }
+{
+    let readings = readings_of(alloc, lexicon, tokens.as_slice())?;
+    let setting = Scene {
+        grammar: grammar.grammar(),
+        tokens: tokens.as_slice(),
+        readings: readings.as_slice(),
+    };
+    row_count(alloc, &setting)
 }
 
 fn rows_of(
@@ -61,13 +99,7 @@ fn rows_of(
     text: &str,
 ) -> Result<usize, Fail> {
     let tokens = tokens_of(alloc, grammar, text)?;
-    let readings = readings_of(alloc, lexicon, tokens.as_slice())?;
-    let setting = Scene {
-        grammar: grammar.grammar(),
-        tokens: tokens.as_slice(),
-        readings: readings.as_slice(),
-    };
-    row_count(alloc, &setting)
+    rows_of_read(alloc, grammar, lexicon, &tokens)
 }
 
 const SEEING: [(Kind, &[&str]); 2] = [
@@ -83,20 +115,33 @@ const NESTED: [&str; 2] = [
      that sees something that sees something .",
 ];
 
-#[test]
-fn the_table_grows_with_the_tokens_alone(rt: HostRuntime) -> Result<(), Fail> {
-    let alloc = rt.alloc();
-    let grammar = built_in(alloc)?;
-    let lexicon = words(alloc, &grammar, &SEEING)?;
-    let few = rows_of(alloc, &grammar, &lexicon, NESTED[0])?;
-    let many = rows_of(alloc, &grammar, &lexicon, NESTED[1])?;
+// Forty tokens have at most five times the rows of ten.
+fn grows_slowly(
+    rt: &impl Abort,
+    alloc: Global,
+    grammar: &CheckedGrammar,
+    lexicon: &Lexicon,
+) -> Result<(), Fail> {
+    let few = rows_of(alloc, grammar, lexicon, NESTED[0])?;
+    let many = rows_of(alloc, grammar, lexicon, NESTED[1])?;
     assert!(rt;
-        10 <= few && few <= many / 3,
-        "{few} rows for 10 tokens, {many} for 40"
-    );
-    assert!(rt;
-        many <= few.saturating_mul(5),
+        10 <= few && few <= many / 3 && many / 5 <= few,
         "{few} rows for 10 tokens, {many} for 40"
     );
     Ok(())
+}
+
+fn grows_slowly_with_words(
+    rt: &impl Abort,
+    alloc: Global,
+    grammar: &CheckedGrammar,
+) -> Result<(), Fail> {
+    let lexicon = words(alloc, grammar, &SEEING)?;
+    grows_slowly(rt, alloc, grammar, &lexicon)
+}
+
+#[test]
+fn the_table_grows_with_the_tokens_alone(rt: HostRuntime) -> Result<(), Fail> {
+    let grammar = built_in(rt.alloc())?;
+    grows_slowly_with_words(&rt, rt.alloc(), &grammar)
 }

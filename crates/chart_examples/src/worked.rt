@@ -2,11 +2,10 @@
 ghost use Rattle.std.specs.Prelude.{◌≡◌, OnOk};
 ghost use Rattle.derivation_trees.specs.Sentences.{setting_of};
 
-use crate::cases::{dropped, started, taken, tokens_of, words};
+use crate::cases::{dropped, grammar_of, started, taken, tokens_of, words};
 use chart::Chart;
-use chart_trees::least_of;
+use chart_trees::least;
 use codeco_checked::CheckedGrammar;
-use codeco_reader::read_grammar;
 use derivation_trees::{Group, Menu};
 use lexicon::Lexicon;
 use lists::List;
@@ -20,8 +19,10 @@ fn least_code(
     chart: &Chart,
     grammar: &CheckedGrammar,
     lexicon: &Lexicon,
-) -> Result<List<u16>, Fail> {
-    match least_of(alloc, grammar, lexicon, chart.tokens())? {
+) -> Result<List<u16>, Fail>
+    requires { chart.now ≡ setting_of grammar.now lexicon.now chart.now.tokens }
+{
+    match least(chart, grammar, lexicon)? {
         None => Ok(List::new(alloc)),
         Some(skeleton) => Ok(skeleton.code(alloc)?),
     }
@@ -76,10 +77,12 @@ fn has_code(
     grammar: &CheckedGrammar,
     lexicon: &Lexicon,
     code: &[u16],
-) -> Result<(), Fail> {
+) -> Result<(), Fail>
+    requires { chart.now ≡ setting_of grammar.now lexicon.now chart.now.tokens }
+{
     assert_eq!(rt; chart.complete(), !code.is_empty());
-    let least = least_code(alloc, chart, grammar, lexicon)?;
-    assert!(rt; least.as_slice() == code);
+    let found = least_code(alloc, chart, grammar, lexicon)?;
+    assert!(rt; found.as_slice() == code);
     Ok(())
 }
 
@@ -105,10 +108,30 @@ fn steps_go(
 }
 
 fn go(rt: &impl Abort, alloc: Global, grammar: &str, steps: &[Step<'_>]) -> Result<(), Fail> {
-    let grammar = read_grammar(alloc, grammar)?;
-    let lexicon = words(alloc, &grammar, &[])?;
-    let mut chart = started(alloc, &grammar, &lexicon)?;
-    steps_go(rt, alloc, &mut chart, &grammar, &lexicon, steps)
+    let grammar = grammar_of(alloc, grammar)?;
+    go_without_words(rt, alloc, &grammar, steps)
+}
+
+fn go_without_words(
+    rt: &impl Abort,
+    alloc: Global,
+    grammar: &CheckedGrammar,
+    steps: &[Step<'_>],
+) -> Result<(), Fail> {
+    let lexicon = words(alloc, grammar, &[])?;
+    all_go(rt, alloc, grammar, &lexicon, steps)
+}
+
+// The steps go from a chart of no tokens.
+fn all_go(
+    rt: &impl Abort,
+    alloc: Global,
+    grammar: &CheckedGrammar,
+    lexicon: &Lexicon,
+    steps: &[Step<'_>],
+) -> Result<(), Fail> {
+    let mut chart = started(alloc, grammar, lexicon)?;
+    steps_go(rt, alloc, &mut chart, grammar, lexicon, steps)
 }
 
 const REFERENTS: &str =
@@ -188,14 +211,56 @@ fn offers_two(menu: &Menu<'_>, first: &str, second: &str) -> bool {
         && other_text == second
 }
 
+fn menu_has_two(
+    chart: &Chart,
+    grammar: &CheckedGrammar,
+    lexicon: &Lexicon,
+    first: &str,
+    second: &str,
+) -> Result<bool, Fail>
+    requires { chart.now ≡ setting_of grammar.now lexicon.now chart.now.tokens }
+{
+    let menu = chart.menu(grammar, lexicon)?;
+    Ok(offers_two(&menu, first, second))
+}
+
+// After many times `x` the menu has two tokens.
+fn many_have_two(
+    rt: &impl Abort,
+    alloc: Global,
+    chart: &mut Chart,
+    grammar: &CheckedGrammar,
+    lexicon: &Lexicon,
+) -> Result<(), Fail>
+    requires { chart.old ≡ setting_of grammar.now lexicon.now chart.old.tokens }
+{
+    let _ = all_taken(rt, alloc, chart, grammar, lexicon, MANY)?;
+    let two = menu_has_two(chart, grammar, lexicon, "e", "x")?;
+    assert!(rt; two);
+    Ok(())
+}
+
+fn menu_of_many(
+    rt: &impl Abort,
+    alloc: Global,
+    grammar: &CheckedGrammar,
+    lexicon: &Lexicon,
+) -> Result<(), Fail> {
+    let mut chart = started(alloc, grammar, lexicon)?;
+    many_have_two(rt, alloc, &mut chart, grammar, lexicon)
+}
+
+fn menu_of_many_without_words(
+    rt: &impl Abort,
+    alloc: Global,
+    grammar: &CheckedGrammar,
+) -> Result<(), Fail> {
+    let lexicon = words(alloc, grammar, &[])?;
+    menu_of_many(rt, alloc, grammar, &lexicon)
+}
+
 #[test]
 fn a_menu_after_very_many_trees_takes_no_time(rt: HostRuntime) -> Result<(), Fail> {
-    let alloc = rt.alloc();
-    let grammar = read_grammar(alloc, AMBIGUOUS)?;
-    let lexicon = words(alloc, &grammar, &[])?;
-    let mut chart = started(alloc, &grammar, &lexicon)?;
-    let _ = all_taken(&rt, alloc, &mut chart, &grammar, &lexicon, MANY)?;
-    let menu = chart.menu(&grammar, &lexicon)?;
-    assert!(rt; offers_two(&menu, "e", "x"));
-    Ok(())
+    let grammar = grammar_of(rt.alloc(), AMBIGUOUS)?;
+    menu_of_many_without_words(&rt, rt.alloc(), &grammar)
 }

@@ -1,13 +1,12 @@
 -- Each model fits a branch to which steps that leave one choice lead.
-use Rattle.std.proofs.Common.{◌≡◌, ℕ, ◌<◌, true, Some, subst, refl, sym, arith}
+use Rattle.std.proofs.Common.{◌≡◌, ℕ, ◌<◌, true, Some, subst, sym, arith}
 use Rattle.std.proofs.Math.Logic.{∥∥₁_elim}
 use mathlib.Core.Bool.{Bool-set}
-use Rattle.std.specs.Prelude.{IsTrue}
 use Rattle.wiki_base.specs.declared.numbers.WordId.{WordId}
 use Rattle.logic_terms.specs.Concept.{Concept}
 use Rattle.logic_terms.specs.Interpretation.{Interpretation, is_interpretation, element_of}
 use Rattle.logic_terms.specs.Meaning.{is_in}
-use Rattle.logic_terms.specs.Theory.{Theory, IsModelOf}
+use Rattle.logic_terms.specs.Theory.{Theory}
 use Rattle.logic_terms.proofs.MeaningLemmas.{is_in-Decides}
 use Rattle.tableau_rules.specs.declared.step.Step.{Step}
 use Rattle.tableau_rules.specs.Graph.{Graph}

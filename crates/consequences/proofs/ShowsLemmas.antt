@@ -1,5 +1,5 @@
 -- What a branch shows of each kind of class, by the parts that a recursion goes through, and that it is so in what fits it.
-use Rattle.std.proofs.Common.{◌≡◌, ℕ, ◌<◌, Bool, true, false, ◌&&◌, ◌||◌, List, [], ◌∷◌, filter, cond, Option, Some, None, refl, sym, ap, ◌∙◌, subst, inl, inr}
+use Rattle.std.proofs.Common.{◌≡◌, ℕ, Bool, true, false, ◌&&◌, ◌||◌, List, [], ◌∷◌, filter, cond, Option, Some, None, refl, sym, ap, ◌∙◌, subst, inl, inr}
 use Rattle.std.specs.List.{list_any, list_all}
 use Rattle.std.specs.Option.{option_map_or}
 use Rattle.std.specs.declared.alloc.Global.{Global}
@@ -13,7 +13,7 @@ use Rattle.logic_terms.specs.declared.expressions.Class.TheVariants as class
 use Rattle.logic_terms.specs.Concept.{Concept, Concepts, Everything, Atomic, ComplementOf, IntersectionOf, UnionOf, SomeValuesFrom, AllValuesFrom, HasValue, no_concept, also_concept, concepts_from, SubPropertyOf}
 use Rattle.logic_terms.specs.Shown.{concept_of, concepts_of}
 use Rattle.logic_terms.specs.Interpretation.{Interpretation, element_of, relates}
-use Rattle.logic_terms.specs.Meaning.{is_in, is_in_each, is_in_some, some_below, holds}
+use Rattle.logic_terms.specs.Meaning.{is_in, is_in_each, is_in_some, holds}
 use Rattle.logic_terms.specs.Same.{has_concept}
 use Rattle.logic_terms.specs.Theory.{Theory}
 use Rattle.logic_terms.proofs.Places.{some_below_passes}

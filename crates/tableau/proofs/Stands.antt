@@ -1,5 +1,5 @@
 -- Where a search stands after a choice: its agenda, and a clash that is looked for where the step changed something.
-use Rattle.std.proofs.Common.{◌≡◌, ℕ, ◌<◌, false, List, [], length, Some, subst, refl, sym, ap, ◌∙◌}
+use Rattle.std.proofs.Common.{◌≡◌, List, [], length, subst, sym, ap, ◌∙◌}
 use Rattle.logic_terms.specs.Theory.{Theory}
 use Rattle.agenda.specs.declared.keeping.Agenda.{Agenda}
 use Rattle.agenda.specs.Agendas.{IsAgendaOf, Follows, IsAfterCalm}
@@ -8,10 +8,9 @@ use Rattle.tableau_rules.specs.Shown.{graph_of}
 use Rattle.tableau_rules.specs.declared.step.Closed.{Closed}
 use Rattle.tableau_rules.specs.declared.step.Step.{Step}
 use Rattle.tableau_rules.specs.Graph.{Graph}
-use Rattle.tableau_rules.specs.Rules.{after}
 use Rattle.tableau.specs.declared.way.Taken.{Taken}
 use Rattle.tableau.specs.Turns.{IsNext}
-use Rattle.tableau.specs.Ways.{Leads, reached, chosen}
+use Rattle.tableau.specs.Ways.{reached, chosen}
 use Rattle.tableau.specs.Ways.{IsOpen}
 use Rattle.tableau_rules.specs.Searching.{Searching}
 use Rattle.tableau.proofs.WayLemmas.{first_applies, leads_to_branch}

@@ -1,4 +1,4 @@
-use Rattle.std.proofs.Common.{◌≡◌, []}
+use Rattle.std.proofs.Common.{[]}
 use Rattle.lexicon.specs.Readings.{readings_of}
 use Rattle.chart.proofs.ChartLemmas.{kept_on}
 use Rattle.chart_examples.proofs.cases.started.Goals as goal

@@ -1,4 +1,4 @@
-use Rattle.std.proofs.Common.{◌≡◌, ◌<◌, true, false, map, length, Some, None, sym, ap, subst, ◌∙◌, arith}
+use Rattle.std.proofs.Common.{◌≡◌, true, false, map, length, Some, sym, ap, subst, ◌∙◌}
 use Rattle.std.specs.Prelude.{IfSome, IsTrue, is_some}
 use Rattle.std.proofs.lemmas.Result.{IfOk-weaker}
 use Rattle.logic_terms.specs.Known.{theory_of}
@@ -23,10 +23,12 @@ returns-in-Some-first-clause-turn c =
     let step = c.in-Some-first.step in
     let calm : has_clash k s.graph ≡ false = ap (has_clash k) (sym c.requires.here) ∙ (sym c.requires.exact ∙ ap is_some c.in-None.is) in
     let first : first_step k s.graph ≡ Some step = ap (first_step k) (sym c.requires.here) ∙ (sym c.in_ok-first-in-None.ensures.first ∙ c.in-Some-first.is) in
-    let none : choices s.graph step ≡ 0 = ap (λ g. choices g step) (sym c.requires.here) ∙ (sym c.choices.ensures ∙ c.if-choices-eq0.true) in
+    let told : c.choices.result ≡ choices (graph_of c.args.b.now) step = rw c.in-Some-first.is at c.choices.ensures in
+    let none : choices s.graph step ≡ 0 = ap (λ g. choices g step) (sym c.requires.here) ∙ (sym told ∙ c.if-choices-eq0.true) in
     let each : CloseEach k s.graph step 0 (map tree_of c.new.result) = subst (λ ts. CloseEach k s.graph step 0 (map tree_of ts)) (sym c.new.ensures) tt in
     let shut = closes_step k s.graph step c.new.result first (ap length c.new.ensures ∙ sym none) each in
-    IfOk-weaker c.back-in-Some-first.result _ _ (λ t back. turns_back k s _ t (waits_at_none k s step calm first none) (back k c.requires.leads shut)) c.back-in-Some-first.ensures
+    let back = rw c.in-Some-first.is at c.back-in-Some-first.ensures in
+    IfOk-weaker c.back-in-Some-first.result _ _ (λ t back. turns_back k s _ t (waits_at_none k s step calm first none) (back k c.requires.leads shut)) back
 
 pub returns-in-Some-clause-turn : goal.returns-in-Some-clause-turn
 returns-in-Some-clause-turn c =

@@ -44,4 +44,8 @@ loop-place-preserved c =
           (told-more (KeptHasUnknown c.args.self.now) c.args.sentences.now c.loop-place.views c.loop-place.place c.index-sentences-place.result
           c.in_ok-view.field-0
           c.loop-place.invariant.unknown c.loop-place-test.true c.index-sentences-place.is c.in_ok-view.ensures.unknown);
+      absorbed = c.loop-place.invariant.absorbed;
     }
+
+pub view-requires-clause-absorbed : goal.view-requires-clause-absorbed
+view-requires-clause-absorbed c = c.loop-place.invariant.absorbed

@@ -1,6 +1,9 @@
 use Rattle.std.proofs.Common.{take}
+use Rattle.std.specs.Prelude.{IfSome}
 use Rattle.std.specs.List.{AllZip}
+use Rattle.consequences.specs.Known.{theory_in}
 use Rattle.wiki_parts.specs.Telling.{TellsSentence}
+use Rattle.wiki_store.specs.Settled.{AbsorbsKnown}
 use Rattle.wiki_store.specs.Spending.{KeptHasUnknown}
 use Rattle.wiki_store.proofs.store.Store.views.Given as goal
 
@@ -10,4 +13,5 @@ invariant-loop-place l =
     record {
       tells : AllZip (TellsSentence l.self.state) (take l.place l.sentences) l.views;
       unknown : AllZip (KeptHasUnknown l.self) (take l.place l.sentences) l.views;
+      absorbed : IfSome l.known (λ k. AbsorbsKnown l.self.state l.names (theory_in k));
     }

@@ -97,7 +97,8 @@ module _ (claims : List Claim) (names : List WordId) (k : Theory) (c d : Concept
     denying_longer budget longer = record { knowledge = made; absorbed = absorbed; longer = longer }
 
 -- a class that the name is in in each model of the knowledge it is in in each model of the axioms
-pub included : (claims : List Claim) (names : List WordId) (k : Theory) (c : Concept) (name : WordId) → IsAbsorbed claims names k → (are_over names claims && list_all (is_among names) (names_in c)) ≡ true → HasInEachModel k c name → IsInAll claims c name
+pub included : (claims : List Claim) (names : List WordId) (k : Theory) (c : Concept) (name : WordId) → IsAbsorbed claims names k
+    → (are_over names claims && list_all (is_among names) (names_in c)) ≡ true → HasInEachModel k c name → IsInAll claims c name
 included claims names k c name made over has i sound m =
     has i sound (model_of claims names k made (and_parts (are_over names claims) (list_all (is_among names) (names_in c)) over).0 i m)
 

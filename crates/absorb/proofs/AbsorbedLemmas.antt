@@ -92,7 +92,8 @@ pub over_each : (names : List WordId) (claims : List Claim) → are_over names c
 over_each names claims h = pass_each (piece_over names) (sorted claims) (all_sorted-sorted (piece_over names) claims ∙ over-all_pieces names claims h)
 
 -- the names of equalities are given
-pub equalities_over : (names : List WordId) (claims : List Claim) → are_over names claims ≡ true → list_all (λ e. is_among names e.0 && is_among names e.1) (sorted claims).equalities ≡ true
+pub equalities_over : (names : List WordId) (claims : List Claim) → are_over names claims ≡ true
+    → list_all (λ e. is_among names e.0 && is_among names e.1) (sorted claims).equalities ≡ true
 equalities_over names claims h =
     all_pass (λ e. is_among names e.0 && is_among names e.1) (sorted claims).equalities
     (λ k d lt. two names (get_or (sorted claims).equalities k d) ((over_each names claims h).equalities k d lt))
@@ -135,7 +136,8 @@ module _ (claims : List Claim) (names : List WordId) (k : Theory) (made : IsAbso
 
   in_equality : (e : WordId × WordId) → Contains (sorted claims).equalities e → (is_among names e.0 ≡ true) × (is_among names e.1 ≡ true)
   in_equality e h =
-      let t = All-contains (λ e. (is_among names e.0 && is_among names e.1) ≡ true) (sorted claims).equalities e (each_passes (λ e. is_among names e.0 && is_among names e.1) (sorted claims).equalities (equalities_over names claims given)) h in
+      let t = All-contains (λ e. (is_among names e.0 && is_among names e.1) ≡ true) (sorted claims).equalities e
+      (each_passes (λ e. is_among names e.0 && is_among names e.1) (sorted claims).equalities (equalities_over names claims given)) h in
       and_parts (is_among names e.0) (is_among names e.1) t
 
   stays_among : (x y : WordId) → Reaches (AreEquated (sorted claims).equalities) x y → is_among names x ≡ true → is_among names y ≡ true
@@ -146,10 +148,14 @@ module _ (claims : List Claim) (names : List WordId) (k : Theory) (made : IsAbso
   name_among : (e : WordId × WordId) → Contains k.names e → is_among names e.0 ≡ true
   name_among e (j, lt, at) = sym (ap (λ ns. is_among ns e.0) made.given) ∙ go k.names j e lt at
     where
-      go : (es : List (WordId × WordId)) (j : ℕ) (e : WordId × WordId) → j < length es → get_or es j e ≡ e → is_among (map (λ (f : WordId × WordId). f.0) es) e.0 ≡ true
+      go : (es : List (WordId × WordId)) (j : ℕ) (e : WordId × WordId) → j < length es → get_or es j e ≡ e
+          → is_among (map (λ (f : WordId × WordId). f.0) es) e.0 ≡ true
       go [] j e lt at = absurd (omega arith)
-      go (f ∷ es) Prim.Native.Nat.zero e lt at = Rattle.std.proofs.lemmas.Bool.or_left (is_word e.0 f.0) (is_among (map (λ (f : WordId × WordId). f.0) es) e.0) ((is_word-Decides e.0 f.0).1 (sym (ap (λ q. q.0) at)))
-      go (f ∷ es) (Prim.Native.Nat.suc j) e lt at = Rattle.std.proofs.lemmas.Bool.or_right (is_word e.0 f.0) (is_among (map (λ (f : WordId × WordId). f.0) es) e.0) (go es j e (omega arith) at)
+      go (f ∷ es) Prim.Native.Nat.zero e lt at =
+          Rattle.std.proofs.lemmas.Bool.or_left (is_word e.0 f.0) (is_among (map (λ (f : WordId × WordId). f.0) es) e.0)
+          ((is_word-Decides e.0 f.0).1 (sym (ap (λ q. q.0) at)))
+      go (f ∷ es) (Prim.Native.Nat.suc j) e lt at =
+          Rattle.std.proofs.lemmas.Bool.or_right (is_word e.0 f.0) (is_among (map (λ (f : WordId × WordId). f.0) es) e.0) (go es j e (omega arith) at)
 
   at_or_below : (r s : Role) → IsAtOrBelow k.hierarchy r s → Reaches (IsPutBelow (sorted claims).role_inclusions) r s
   at_or_below r s h = (made.hierarchy r s).0 ((is_below-Decides k r s).1 h)
@@ -163,9 +169,11 @@ module _ (claims : List Claim) (names : List WordId) (k : Theory) (made : IsAbso
     | inr turned ↦ inl turned
   ]
 
-  turn_all : (r s : Role) → Reaches (IsPutBelow (sorted claims).role_inclusions) r s → Reaches (IsPutBelow (sorted claims).role_inclusions) (inverse r) (inverse s)
+  turn_all : (r s : Role) → Reaches (IsPutBelow (sorted claims).role_inclusions) r s
+      → Reaches (IsPutBelow (sorted claims).role_inclusions) (inverse r) (inverse s)
   turn_all r s h =
-      closure.kept (IsPutBelow (sorted claims).role_inclusions) (λ x y. Reaches (IsPutBelow (sorted claims).role_inclusions) (inverse x) (inverse y)) (λ x. (0, refl))
+      closure.kept (IsPutBelow (sorted claims).role_inclusions) (λ x y. Reaches (IsPutBelow (sorted claims).role_inclusions) (inverse x) (inverse y))
+      (λ x. (0, refl))
       (λ x y z before step. closure.onward (IsPutBelow (sorted claims).role_inclusions) (inverse x) (inverse y) (inverse z) before (turn_step y z step)) r s h
 
   overs : PassEach (piece_over names) (sorted claims)
@@ -191,7 +199,8 @@ module _ (claims : List Claim) (names : List WordId) (k : Theory) (made : IsAbso
         (λ j d lt. class_here (get_or (sorted claims).unfoldings j d).1 (overs.unfoldings j d lt));
     general = subst (All (λ c. IsTrue (names_given k c))) (sym made.general)
         (λ j d lt. class_here (get_or (sorted claims).general j d) (overs.general j d lt));
-    transitive = λ r s t h l. (made.hierarchy r t).1 (closure.join (IsPutBelow (sorted claims).role_inclusions) r s t ((made.hierarchy r s).0 h) ((made.hierarchy s t).0 l));
+    transitive = λ r s t h l. (made.hierarchy r t).1
+        (closure.join (IsPutBelow (sorted claims).role_inclusions) r s t ((made.hierarchy r s).0 h) ((made.hierarchy s t).0 l));
     inverses = λ r s h. (made.hierarchy (inverse r) (inverse s)).1 (turn_all r s ((made.hierarchy r s).0 h));
   }
     where
@@ -199,7 +208,8 @@ module _ (claims : List Claim) (names : List WordId) (k : Theory) (made : IsAbso
       own e here =
           let rep = of_entry e here in
           let its = entry e.1 (stays_among e.0 e.1 rep.joined (name_among e here)) in
-          its.1 ∙ ap Some (same_representative (sorted claims).equalities e.1 e.0 its.0 e.1 (joined_back (sorted claims).equalities e.0 e.1 rep.joined) (of_entry (e.1, its.0) its.2) rep)
+          its.1 ∙ ap Some (same_representative (sorted claims).equalities e.1 e.0 its.0 e.1 (joined_back (sorted claims).equalities e.0 e.1 rep.joined)
+          (of_entry (e.1, its.0) its.2) rep)
 
       two : (a b : WordId) → list_all (is_among names) (a ∷ b ∷ []) ≡ true → (is_given k a && is_given k b) ≡ true
       two a b t =
@@ -217,29 +227,45 @@ module _ (claims : List Claim) (names : List WordId) (k : Theory) (made : IsAbso
       and_from (list_all (λ e. is_plain e.1) k.assertions) (list_all (λ e. is_plain e.1) k.unfoldings && list_all is_plain k.general)
       (ap (list_all (λ e. is_plain e.1)) made.assertions ∙ all_pass (λ e. is_plain e.1) (sorted claims).assertions each.assertions)
       (and_from (list_all (λ e. is_plain e.1) k.unfoldings) (list_all is_plain k.general)
-      (ap (list_all (λ e. is_plain e.1)) made.unfoldings ∙ all_pass (λ e. is_plain e.1) (sorted claims).unfoldings (λ j d lt. (and_parts (is_plain (Atomic (get_or (sorted claims).unfoldings j d).0)) (is_plain (get_or (sorted claims).unfoldings j d).1) (each.unfoldings j d lt)).1))
-      (ap (list_all is_plain) made.general ∙ all_pass is_plain (sorted claims).general (λ j d lt. (and_parts (is_plain Everything) (is_plain (get_or (sorted claims).general j d)) (each.general j d lt)).1)))
+      (ap (list_all (λ e. is_plain e.1)) made.unfoldings
+      ∙ all_pass (λ e. is_plain e.1) (sorted claims).unfoldings
+      (λ j d lt. (and_parts (is_plain (Atomic (get_or (sorted claims).unfoldings j d).0)) (is_plain (get_or (sorted claims).unfoldings j d).1)
+      (each.unfoldings j d lt)).1))
+      (ap (list_all is_plain) made.general
+      ∙ all_pass is_plain (sorted claims).general
+      (λ j d lt. (and_parts (is_plain Everything) (is_plain (get_or (sorted claims).general j d)) (each.general j d lt)).1)))
 
   -- a model of the axioms is one of the knowledge
   pub model_of : (i : Interpretation) → IsModel i claims → IsModelOf i k
   model_of i model = record {
     names = λ j d lt. same_element (get_or k.names j d).0 (get_or k.names j d).1 (made.representatives j d lt).joined;
-    hierarchy = λ j d lt. included (get_or k.hierarchy j d).0 (get_or k.hierarchy j d).1 (at_or_below (get_or k.hierarchy j d).0 (get_or k.hierarchy j d).1 (inr (Contains-get_or k.hierarchy j d lt)));
-    assertions = subst (All (λ e. Holds i (ClassAssertion e.1 e.0))) (sym made.assertions) (λ j d lt. true_claim (ClassAssertion (get_or (sorted claims).assertions j d).1 (get_or (sorted claims).assertions j d).0) (each.assertions j d lt));
-    edges = subst (All (λ e. Holds i (PropertyAssertion e.0 e.1 e.2))) (sym made.edges) (λ j d lt. true_claim (PropertyAssertion (get_or (sorted claims).edges j d).0 (get_or (sorted claims).edges j d).1 (get_or (sorted claims).edges j d).2) (each.edges j d lt));
-    differences = subst (All (λ e. Holds i (DifferentIndividuals e.0 e.1))) (sym made.differences) (λ j d lt. true_claim (DifferentIndividuals (get_or (sorted claims).differences j d).0 (get_or (sorted claims).differences j d).1) (each.differences j d lt));
-    unfoldings = subst (All (λ e. Holds i (SubClassOf (Atomic e.0) e.1))) (sym made.unfoldings) (λ j d lt. true_claim (SubClassOf (Atomic (get_or (sorted claims).unfoldings j d).0) (get_or (sorted claims).unfoldings j d).1) (each.unfoldings j d lt));
-    general = subst (All (λ c. Holds i (SubClassOf Everything c))) (sym made.general) (λ j d lt. true_claim (SubClassOf Everything (get_or (sorted claims).general j d)) (each.general j d lt));
+    hierarchy = λ j d lt. included (get_or k.hierarchy j d).0 (get_or k.hierarchy j d).1
+        (at_or_below (get_or k.hierarchy j d).0 (get_or k.hierarchy j d).1 (inr (Contains-get_or k.hierarchy j d lt)));
+    assertions = subst (All (λ e. Holds i (ClassAssertion e.1 e.0))) (sym made.assertions)
+        (λ j d lt. true_claim (ClassAssertion (get_or (sorted claims).assertions j d).1 (get_or (sorted claims).assertions j d).0) (each.assertions j d lt));
+    edges = subst (All (λ e. Holds i (PropertyAssertion e.0 e.1 e.2))) (sym made.edges)
+        (λ j d lt. true_claim (PropertyAssertion (get_or (sorted claims).edges j d).0 (get_or (sorted claims).edges j d).1 (get_or (sorted claims).edges j d).2)
+        (each.edges j d lt));
+    differences = subst (All (λ e. Holds i (DifferentIndividuals e.0 e.1))) (sym made.differences)
+        (λ j d lt. true_claim (DifferentIndividuals (get_or (sorted claims).differences j d).0 (get_or (sorted claims).differences j d).1)
+        (each.differences j d lt));
+    unfoldings = subst (All (λ e. Holds i (SubClassOf (Atomic e.0) e.1))) (sym made.unfoldings)
+        (λ j d lt. true_claim (SubClassOf (Atomic (get_or (sorted claims).unfoldings j d).0) (get_or (sorted claims).unfoldings j d).1)
+        (each.unfoldings j d lt));
+    general = subst (All (λ c. Holds i (SubClassOf Everything c))) (sym made.general)
+        (λ j d lt. true_claim (SubClassOf Everything (get_or (sorted claims).general j d)) (each.general j d lt));
   }
     where
       each : PassEach (piece_holds i) (sorted claims)
-      each = pass_each (piece_holds i) (sorted claims) (all_sorted-sorted (piece_holds i) claims ∙ holds-all_pieces i claims ∙ (all_hold-Decides i claims).1 model)
+      each = pass_each (piece_holds i) (sorted claims)
+          (all_sorted-sorted (piece_holds i) claims ∙ holds-all_pieces i claims ∙ (all_hold-Decides i claims).1 model)
 
       true_claim : (claim : Claim) → holds i claim ≡ true → Holds i claim
       true_claim claim h = (holds-Decides i claim).0 h
 
       equal : (e : WordId × WordId) → Contains (sorted claims).equalities e → element_of i e.0 ≡ element_of i e.1
-      equal e h = true_claim (SameIndividual e.0 e.1) (All-contains (λ e. piece_holds i (Equality e.0 e.1) ≡ true) (sorted claims).equalities e each.equalities h)
+      equal e h = true_claim (SameIndividual e.0 e.1)
+          (All-contains (λ e. piece_holds i (Equality e.0 e.1) ≡ true) (sorted claims).equalities e each.equalities h)
 
       same_element : (x y : WordId) → Reaches (AreEquated (sorted claims).equalities) x y → element_of i x ≡ element_of i y
       same_element x y r =
@@ -247,7 +273,8 @@ module _ (claims : List Claim) (names : List WordId) (k : Theory) (made : IsAbso
           (λ u v w before step. before ∙ elim step [ inl one ↦ equal (v, w) one | inr other ↦ sym (equal (w, v) other) ]) x y r
 
       put : (p : Role × Role) → Contains (sorted claims).role_inclusions p → Holds i (SubPropertyOf p.0 p.1)
-      put p h = true_claim (SubPropertyOf p.0 p.1) (All-contains (λ p. piece_holds i (RoleInclusion p.0 p.1) ≡ true) (sorted claims).role_inclusions p each.role_inclusions h)
+      put p h = true_claim (SubPropertyOf p.0 p.1)
+          (All-contains (λ p. piece_holds i (RoleInclusion p.0 p.1) ≡ true) (sorted claims).role_inclusions p each.role_inclusions h)
 
       one_step : (r s : Role) → IsPutBelow (sorted claims).role_inclusions r s → Holds i (SubPropertyOf r s)
       one_step r s h = elim h [
@@ -263,14 +290,25 @@ module _ (claims : List Claim) (names : List WordId) (k : Theory) (made : IsAbso
   -- and back
   pub model_from : (i : Interpretation) → IsModelOf i k → IsModel i claims
   model_from i model =
-      (all_hold-Decides i claims).0 (sym (all_sorted-sorted (piece_holds i) claims ∙ holds-all_pieces i claims) ∙ pass_all (piece_holds i) (sorted claims) (record {
-        equalities = λ j d lt. test (SameIndividual (get_or (sorted claims).equalities j d).0 (get_or (sorted claims).equalities j d).1) (equal (get_or (sorted claims).equalities j d) (Contains-get_or (sorted claims).equalities j d lt));
-        role_inclusions = λ j d lt. test (SubPropertyOf (get_or (sorted claims).role_inclusions j d).0 (get_or (sorted claims).role_inclusions j d).1) (included (get_or (sorted claims).role_inclusions j d).0 (get_or (sorted claims).role_inclusions j d).1 (below_from (get_or (sorted claims).role_inclusions j d).0 (get_or (sorted claims).role_inclusions j d).1 (closure.at_once (IsPutBelow (sorted claims).role_inclusions) (get_or (sorted claims).role_inclusions j d).0 (get_or (sorted claims).role_inclusions j d).1 (inl (Contains-get_or (sorted claims).role_inclusions j d lt)))));
-        assertions = λ j d lt. test (ClassAssertion (get_or (sorted claims).assertions j d).1 (get_or (sorted claims).assertions j d).0) (subst (All (λ e. Holds i (ClassAssertion e.1 e.0))) made.assertions model.assertions j d lt);
-        edges = λ j d lt. test (PropertyAssertion (get_or (sorted claims).edges j d).0 (get_or (sorted claims).edges j d).1 (get_or (sorted claims).edges j d).2) (subst (All (λ e. Holds i (PropertyAssertion e.0 e.1 e.2))) made.edges model.edges j d lt);
-        differences = λ j d lt. test (DifferentIndividuals (get_or (sorted claims).differences j d).0 (get_or (sorted claims).differences j d).1) (subst (All (λ e. Holds i (DifferentIndividuals e.0 e.1))) made.differences model.differences j d lt);
-        unfoldings = λ j d lt. test (SubClassOf (Atomic (get_or (sorted claims).unfoldings j d).0) (get_or (sorted claims).unfoldings j d).1) (subst (All (λ e. Holds i (SubClassOf (Atomic e.0) e.1))) made.unfoldings model.unfoldings j d lt);
-        general = λ j d lt. test (SubClassOf Everything (get_or (sorted claims).general j d)) (subst (All (λ c. Holds i (SubClassOf Everything c))) made.general model.general j d lt);
+      (all_hold-Decides i claims).0 (sym (all_sorted-sorted (piece_holds i) claims ∙ holds-all_pieces i claims)
+      ∙ pass_all (piece_holds i) (sorted claims) (record {
+        equalities = λ j d lt. test (SameIndividual (get_or (sorted claims).equalities j d).0 (get_or (sorted claims).equalities j d).1)
+            (equal (get_or (sorted claims).equalities j d) (Contains-get_or (sorted claims).equalities j d lt));
+        role_inclusions = λ j d lt. test (SubPropertyOf (get_or (sorted claims).role_inclusions j d).0 (get_or (sorted claims).role_inclusions j d).1)
+            (included (get_or (sorted claims).role_inclusions j d).0 (get_or (sorted claims).role_inclusions j d).1
+            (below_from (get_or (sorted claims).role_inclusions j d).0 (get_or (sorted claims).role_inclusions j d).1
+            (closure.at_once (IsPutBelow (sorted claims).role_inclusions) (get_or (sorted claims).role_inclusions j d).0
+            (get_or (sorted claims).role_inclusions j d).1 (inl (Contains-get_or (sorted claims).role_inclusions j d lt)))));
+        assertions = λ j d lt. test (ClassAssertion (get_or (sorted claims).assertions j d).1 (get_or (sorted claims).assertions j d).0)
+            (subst (All (λ e. Holds i (ClassAssertion e.1 e.0))) made.assertions model.assertions j d lt);
+        edges = λ j d lt. test (PropertyAssertion (get_or (sorted claims).edges j d).0 (get_or (sorted claims).edges j d).1
+            (get_or (sorted claims).edges j d).2) (subst (All (λ e. Holds i (PropertyAssertion e.0 e.1 e.2))) made.edges model.edges j d lt);
+        differences = λ j d lt. test (DifferentIndividuals (get_or (sorted claims).differences j d).0 (get_or (sorted claims).differences j d).1)
+            (subst (All (λ e. Holds i (DifferentIndividuals e.0 e.1))) made.differences model.differences j d lt);
+        unfoldings = λ j d lt. test (SubClassOf (Atomic (get_or (sorted claims).unfoldings j d).0) (get_or (sorted claims).unfoldings j d).1)
+            (subst (All (λ e. Holds i (SubClassOf (Atomic e.0) e.1))) made.unfoldings model.unfoldings j d lt);
+        general = λ j d lt. test (SubClassOf Everything (get_or (sorted claims).general j d))
+            (subst (All (λ c. Holds i (SubClassOf Everything c))) made.general model.general j d lt);
       }))
     where
       test : (claim : Claim) → Holds i claim → holds i claim ≡ true
@@ -284,7 +322,8 @@ module _ (claims : List Claim) (names : List WordId) (k : Theory) (made : IsAbso
           let among = in_equality e h in
           let one = entry e.0 among.0 in
           let other = entry e.1 among.1 in
-          let same = same_representative (sorted claims).equalities e.0 e.1 one.0 other.0 (closure.at_once (AreEquated (sorted claims).equalities) e.0 e.1 (inl h)) (of_entry (e.0, one.0) one.2) (of_entry (e.1, other.0) other.2) in
+          let same = same_representative (sorted claims).equalities e.0 e.1 one.0 other.0
+          (closure.at_once (AreEquated (sorted claims).equalities) e.0 e.1 (inl h)) (of_entry (e.0, one.0) one.2) (of_entry (e.1, other.0) other.2) in
           same_as (e.0, one.0) one.2 ∙ ap (element_of i) same ∙ sym (same_as (e.1, other.0) other.2)
 
       included : (r s : Role) → IsAtOrBelow k.hierarchy r s → Holds i (SubPropertyOf r s)
@@ -294,7 +333,12 @@ module _ (claims : List Claim) (names : List WordId) (k : Theory) (made : IsAbso
       ]
 
 -- knowledge of the lists that were made is what absorption makes
-pub absorbed_from : (claims : List Claim) (names : List WordId) (k : Theory) (ns equalities : List (WordId × WordId)) (hs inclusions : List (Role × Role)) → equalities ≡ (sorted claims).equalities → inclusions ≡ (sorted claims).role_inclusions → k.names ≡ ns → k.hierarchy ≡ hs → map (λ (e : WordId × WordId). e.0) ns ≡ names → All (λ e. Represents equalities e.0 e.1) ns → ((r s : Role) → IsAtOrBelow hs r s ↔ Reaches (IsPutBelow inclusions) r s) → AreDistinct hs → k.assertions ≡ (sorted claims).assertions → k.edges ≡ (sorted claims).edges → k.differences ≡ (sorted claims).differences → k.unfoldings ≡ (sorted claims).unfoldings → k.general ≡ (sorted claims).general → IsAbsorbed claims names k
+pub absorbed_from : (claims : List Claim) (names : List WordId) (k : Theory) (ns equalities : List (WordId × WordId)) (hs inclusions : List (Role × Role))
+    → equalities ≡ (sorted claims).equalities → inclusions ≡ (sorted claims).role_inclusions → k.names ≡ ns → k.hierarchy ≡ hs
+    → map (λ (e : WordId × WordId). e.0) ns ≡ names → All (λ e. Represents equalities e.0 e.1) ns
+    → ((r s : Role) → IsAtOrBelow hs r s ↔ Reaches (IsPutBelow inclusions) r s) → AreDistinct hs → k.assertions ≡ (sorted claims).assertions
+    → k.edges ≡ (sorted claims).edges → k.differences ≡ (sorted claims).differences → k.unfoldings ≡ (sorted claims).unfoldings
+    → k.general ≡ (sorted claims).general → IsAbsorbed claims names k
 absorbed_from claims names k ns equalities hs inclusions same_e same_i same_n same_h given least closed distinct a e d u g = record {
   given = ap (map (λ (e : WordId × WordId). e.0)) same_n ∙ given;
   representatives = subst (λ es. All (λ e. Represents (sorted claims).equalities e.0 e.1) es) (sym same_n)

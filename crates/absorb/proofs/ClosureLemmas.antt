@@ -36,7 +36,8 @@ module _ {A : Type 0} (step : A → A → Type 0) where
   kept P none more x y r = kept_chain P none more r.0 x y r.1
 
 -- a chain of steps of which each is one of another kind, or leads from a to b
-one_more_chain : {A : Type 0} (step step' : A → A → Type 0) (a b : A) → ((x y : A) → step' x y → step x y ⊎ ((x ≡ a) × (y ≡ b))) → (n : ℕ) (x y : A) → Chain step' n x y → Reaches step x y ⊎ (Reaches step x a × Reaches step b y)
+one_more_chain : {A : Type 0} (step step' : A → A → Type 0) (a b : A) → ((x y : A) → step' x y → step x y ⊎ ((x ≡ a) × (y ≡ b))) → (n : ℕ) (x y : A)
+    → Chain step' n x y → Reaches step x y ⊎ (Reaches step x a × Reaches step b y)
 one_more_chain step step' a b cases zero x y e = inl (0, e)
 one_more_chain step step' a b cases (suc n) x z (y, c, h) = elim (cases y z h) [
   | inl old ↦ elim (one_more_chain step step' a b cases n x y c) [
@@ -49,7 +50,8 @@ one_more_chain step step' a b cases (suc n) x z (y, c, h) = elim (cases y z h) [
   ]
 ]
 
-pub one_more : {A : Type 0} (step step' : A → A → Type 0) (a b : A) → ((x y : A) → step' x y → step x y ⊎ ((x ≡ a) × (y ≡ b))) → (x y : A) → Reaches step' x y → Reaches step x y ⊎ (Reaches step x a × Reaches step b y)
+pub one_more : {A : Type 0} (step step' : A → A → Type 0) (a b : A) → ((x y : A) → step' x y → step x y ⊎ ((x ≡ a) × (y ≡ b))) → (x y : A) → Reaches step' x y
+    → Reaches step x y ⊎ (Reaches step x a × Reaches step b y)
 one_more step step' a b cases x y r = one_more_chain step step' a b cases r.0 x y r.1
 
 more_chain : {A : Type 0} (step step' : A → A → Type 0) → ((x y : A) → step x y → step' x y) → (n : ℕ) (x y : A) → Chain step n x y → Chain step' n x y

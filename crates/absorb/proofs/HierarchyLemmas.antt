@@ -1,11 +1,11 @@
 -- Pairs of roles, and the closure of inclusions.
-use Rattle.std.proofs.Common.{◌≡◌, ℕ, ◌<◌, ◌+◌, ◌==◌, ◌&&◌, Bool, true, false, List, [], ◌∷◌, ◌++◌, length, get_or, take, All, Contains, refl, sym, ap, ◌∙◌, subst, inl, inr, arith, Decides}
-use Rattle.std.specs.Prelude.{not, ◌⊎◌, ◌↔◌, AllPairs, IsTrue}
+use Rattle.std.proofs.Common.{◌≡◌, ◌<◌, ◌+◌, ◌==◌, ◌&&◌, Bool, true, false, List, [], ◌∷◌, ◌++◌, get_or, Contains, refl, sym, ap, ◌∙◌, subst, inl, inr, arith, Decides}
+use Rattle.std.specs.Prelude.{◌⊎◌, ◌↔◌}
 use Rattle.std.specs.List.{list_any}
-use Rattle.std.proofs.lemmas.Bool.{cases_Bool, both_ways, and_parts}
-use Rattle.std.proofs.lemmas.Bool.Decides.{Decides-eqb, Decides-like, Decides-and, Decides-or, Decides-by_or, not_from_Decides}
+use Rattle.std.proofs.lemmas.Bool.Decides.{Decides-eqb, Decides-like, Decides-and, Decides-or, Decides-by_or}
 use Rattle.std.proofs.lemmas.List.Elements.{Contains-append_left, Contains-push, Contains-push_cases, Decides-contains, All-push}
 use Rattle.std.proofs.lemmas.List.Quantifiers.{all_pairs_push}
+use Rattle.std.proofs.Math.Bool.{not-not}
 use Rattle.wiki_base.specs.declared.numbers.WordId.{WordId}
 use Rattle.logic_terms.specs.declared.expressions.Role.{Role}
 use Rattle.logic_terms.specs.Interpretation.{is_word}
@@ -53,7 +53,8 @@ nothing_in : {X : Type 0} (x : X) → ¬ Contains [] x
 nothing_in x (k, h, e) = absurd (omega arith)
 
 -- what is below a role by pairs of which one more is there
-pub lower_more : (hs : List (Role × Role)) (made : List Role) (p : Role × Role) (role : Role) → p.1 ≡ role → ((r : Role) → Contains made r ↔ IsAtOrBelow hs r role) → (r : Role) → Contains (made ++ p.0 ∷ []) r ↔ IsAtOrBelow (hs ++ p ∷ []) r role
+pub lower_more : (hs : List (Role × Role)) (made : List Role) (p : Role × Role) (role : Role) → p.1 ≡ role
+    → ((r : Role) → Contains made r ↔ IsAtOrBelow hs r role) → (r : Role) → Contains (made ++ p.0 ∷ []) r ↔ IsAtOrBelow (hs ++ p ∷ []) r role
 lower_more hs made p role e all r = (
   λ h. elim (Contains-push_cases made p.0 r h) [
     | inl old ↦ elim ((all r).0 old) [ inl same ↦ inl same | inr pair ↦ inr (Contains-append_left hs (p ∷ []) (r, role) pair) ]
@@ -68,7 +69,8 @@ lower_more hs made p role e all r = (
   ],
 )
 
-pub lower_skip : (hs : List (Role × Role)) (made : List Role) (p : Role × Role) (role : Role) → (p.1 ≡ role → ⊥) → ((r : Role) → Contains made r ↔ IsAtOrBelow hs r role) → (r : Role) → Contains made r ↔ IsAtOrBelow (hs ++ p ∷ []) r role
+pub lower_skip : (hs : List (Role × Role)) (made : List Role) (p : Role × Role) (role : Role) → (p.1 ≡ role → ⊥)
+    → ((r : Role) → Contains made r ↔ IsAtOrBelow hs r role) → (r : Role) → Contains made r ↔ IsAtOrBelow (hs ++ p ∷ []) r role
 lower_skip hs made p role ne all r = (
   λ h. elim ((all r).0 h) [ inl same ↦ inl same | inr pair ↦ inr (Contains-append_left hs (p ∷ []) (r, role) pair) ],
   λ h. elim h [
@@ -80,7 +82,8 @@ lower_skip hs made p role ne all r = (
   ],
 )
 
-pub upper_more : (hs : List (Role × Role)) (made : List Role) (p : Role × Role) (role : Role) → p.0 ≡ role → ((r : Role) → Contains made r ↔ IsAtOrBelow hs role r) → (r : Role) → Contains (made ++ p.1 ∷ []) r ↔ IsAtOrBelow (hs ++ p ∷ []) role r
+pub upper_more : (hs : List (Role × Role)) (made : List Role) (p : Role × Role) (role : Role) → p.0 ≡ role
+    → ((r : Role) → Contains made r ↔ IsAtOrBelow hs role r) → (r : Role) → Contains (made ++ p.1 ∷ []) r ↔ IsAtOrBelow (hs ++ p ∷ []) role r
 upper_more hs made p role e all r = (
   λ h. elim (Contains-push_cases made p.1 r h) [
     | inl old ↦ elim ((all r).0 old) [ inl same ↦ inl same | inr pair ↦ inr (Contains-append_left hs (p ∷ []) (role, r) pair) ]
@@ -95,7 +98,8 @@ upper_more hs made p role e all r = (
   ],
 )
 
-pub upper_skip : (hs : List (Role × Role)) (made : List Role) (p : Role × Role) (role : Role) → (p.0 ≡ role → ⊥) → ((r : Role) → Contains made r ↔ IsAtOrBelow hs role r) → (r : Role) → Contains made r ↔ IsAtOrBelow (hs ++ p ∷ []) role r
+pub upper_skip : (hs : List (Role × Role)) (made : List Role) (p : Role × Role) (role : Role) → (p.0 ≡ role → ⊥)
+    → ((r : Role) → Contains made r ↔ IsAtOrBelow hs role r) → (r : Role) → Contains made r ↔ IsAtOrBelow (hs ++ p ∷ []) role r
 upper_skip hs made p role ne all r = (
   λ h. elim ((all r).0 h) [ inl same ↦ inl same | inr pair ↦ inr (Contains-append_left hs (p ∷ []) (role, r) pair) ],
   λ h. elim h [
@@ -121,7 +125,9 @@ itself_upper role r = (
 )
 
 -- a role put below one more: the pair is new
-pub put_more : (before hs : List (Role × Role)) (below role : Role) (passed : List Role) → ((r s : Role) → IsAtOrBelow hs r s ↔ (IsAtOrBelow before r s ⊎ ((below ≡ r) × Contains passed s))) → (r s : Role) → IsAtOrBelow (hs ++ (below, role) ∷ []) r s ↔ (IsAtOrBelow before r s ⊎ ((below ≡ r) × Contains (passed ++ role ∷ []) s))
+pub put_more : (before hs : List (Role × Role)) (below role : Role) (passed : List Role)
+    → ((r s : Role) → IsAtOrBelow hs r s ↔ (IsAtOrBelow before r s ⊎ ((below ≡ r) × Contains passed s))) → (r s : Role)
+    → IsAtOrBelow (hs ++ (below, role) ∷ []) r s ↔ (IsAtOrBelow before r s ⊎ ((below ≡ r) × Contains (passed ++ role ∷ []) s))
 put_more before hs below role passed all r s = (
   λ h. elim (split h) [
     | inl old ↦ widen ((all r s).0 old)
@@ -149,7 +155,9 @@ put_more before hs below role passed all r s = (
     widen h = elim h [ inl old ↦ inl old | inr both ↦ inr (both.0, Contains-append_left passed (role ∷ []) s both.1) ]
 
 -- a role that is below one more already
-pub put_skip : (before hs : List (Role × Role)) (below role : Role) (passed : List Role) → IsAtOrBelow hs below role → ((r s : Role) → IsAtOrBelow hs r s ↔ (IsAtOrBelow before r s ⊎ ((below ≡ r) × Contains passed s))) → (r s : Role) → IsAtOrBelow hs r s ↔ (IsAtOrBelow before r s ⊎ ((below ≡ r) × Contains (passed ++ role ∷ []) s))
+pub put_skip : (before hs : List (Role × Role)) (below role : Role) (passed : List Role) → IsAtOrBelow hs below role
+    → ((r s : Role) → IsAtOrBelow hs r s ↔ (IsAtOrBelow before r s ⊎ ((below ≡ r) × Contains passed s))) → (r s : Role)
+    → IsAtOrBelow hs r s ↔ (IsAtOrBelow before r s ⊎ ((below ≡ r) × Contains (passed ++ role ∷ []) s))
 put_skip before hs below role passed there all r s = (
   λ h. elim ((all r s).0 h) [ inl old ↦ inl old | inr both ↦ inr (both.0, Contains-append_left passed (role ∷ []) s both.1) ],
   λ h. elim h [
@@ -171,7 +179,8 @@ distinct_push hs below role d out = record {
       (is_false (same_role below role) (λ t. out (inl ((same_role-Decides below role).0 t))));
   once = all_pairs_push (λ p q. (same_role p.0 q.0 && same_role p.1 q.1) ≡ false) hs (below, role) d.once
       (λ k e lt. is_false (same_role (get_or hs k e).0 below && same_role (get_or hs k e).1 role)
-      (λ t. out (inr (subst (λ q. Contains hs q) ((pair_is (get_or hs k e) below role).0 t) (Rattle.std.proofs.lemmas.List.Elements.Contains-get_or hs k e lt)))));
+      (λ t. out (inr (subst (λ q. Contains hs q) ((pair_is (get_or hs k e) below role).0 t)
+      (Rattle.std.proofs.lemmas.List.Elements.Contains-get_or hs k e lt)))));
 }
   where
     is_false : (b : Bool) → (b ≡ true → ⊥) → b ≡ false
@@ -179,7 +188,10 @@ distinct_push hs below role d out = record {
     is_false false h = refl
 
 -- pairs of each of some roles with each of others
-pub product_more : (before hs hs' : List (Role × Role)) (first : Role) (passed upper : List Role) → ((r s : Role) → IsAtOrBelow hs r s ↔ (IsAtOrBelow before r s ⊎ (Contains passed r × Contains upper s))) → ((r s : Role) → IsAtOrBelow hs' r s ↔ (IsAtOrBelow hs r s ⊎ ((first ≡ r) × Contains upper s))) → (r s : Role) → IsAtOrBelow hs' r s ↔ (IsAtOrBelow before r s ⊎ (Contains (passed ++ first ∷ []) r × Contains upper s))
+pub product_more : (before hs hs' : List (Role × Role)) (first : Role) (passed upper : List Role)
+    → ((r s : Role) → IsAtOrBelow hs r s ↔ (IsAtOrBelow before r s ⊎ (Contains passed r × Contains upper s)))
+    → ((r s : Role) → IsAtOrBelow hs' r s ↔ (IsAtOrBelow hs r s ⊎ ((first ≡ r) × Contains upper s))) → (r s : Role)
+    → IsAtOrBelow hs' r s ↔ (IsAtOrBelow before r s ⊎ (Contains (passed ++ first ∷ []) r × Contains upper s))
 product_more before hs hs' first passed upper all step r s = (
   λ h. elim ((step r s).0 h) [
     | inl old ↦ elim ((all r s).0 old) [ inl before' ↦ inl before' | inr both ↦ inr (Contains-append_left passed (first ∷ []) r both.0, both.1) ]
@@ -197,24 +209,24 @@ product_more before hs hs' first passed upper all step r s = (
 pub product_none : (hs : List (Role × Role)) (upper : List Role) (r s : Role) → IsAtOrBelow hs r s ↔ (IsAtOrBelow hs r s ⊎ (Contains [] r × Contains upper s))
 product_none hs upper r s = (λ h. inl h, λ h. elim h [ inl old ↦ old | inr both ↦ absurd (nothing_in r both.0) ])
 
-pub product_all : (before hs : List (Role × Role)) (lower upper : List Role) (below above : Role) → ((r : Role) → Contains lower r ↔ IsAtOrBelow before r below) → ((r : Role) → Contains upper r ↔ IsAtOrBelow before above r) → ((r s : Role) → IsAtOrBelow hs r s ↔ (IsAtOrBelow before r s ⊎ (Contains lower r × Contains upper s))) → (r s : Role) → IsAtOrBelow hs r s ↔ (IsAtOrBelow before r s ⊎ (IsAtOrBelow before r below × IsAtOrBelow before above s))
+pub product_all : (before hs : List (Role × Role)) (lower upper : List Role) (below above : Role) → ((r : Role) → Contains lower r ↔ IsAtOrBelow before r below)
+    → ((r : Role) → Contains upper r ↔ IsAtOrBelow before above r)
+    → ((r s : Role) → IsAtOrBelow hs r s ↔ (IsAtOrBelow before r s ⊎ (Contains lower r × Contains upper s))) → (r s : Role)
+    → IsAtOrBelow hs r s ↔ (IsAtOrBelow before r s ⊎ (IsAtOrBelow before r below × IsAtOrBelow before above s))
 product_all before hs lower upper below above low up all r s = (
   λ h. elim ((all r s).0 h) [ inl old ↦ inl old | inr both ↦ inr ((low r).0 both.0, (up s).0 both.1) ],
   λ h. elim h [ inl old ↦ (all r s).1 (inl old) | inr both ↦ (all r s).1 (inr ((low r).1 both.0, (up s).1 both.1)) ],
 )
 
-turned_twice : (b : Bool) → not (not b) ≡ b
-turned_twice true = refl
-turned_twice false = refl
-
 pub inverse-inverse : (r : Role) → inverse (inverse r) ≡ r
-inverse-inverse r = λ j. record { id = r.id; inverted = turned_twice r.inverted j }
+inverse-inverse r = λ j. record { id = r.id; inverted = not-not r.inverted j }
 
 -- one of the two steps that one more inclusion makes
 abbrev Halfway : List (Role × Role) → Role × Role → Role → Role → Type 0
 Halfway ps p r s = IsPutBelow ps r s ⊎ ((r ≡ p.0) × (s ≡ p.1))
 
-put_cases : (ps : List (Role × Role)) (p : Role × Role) (r s : Role) → IsPutBelow (ps ++ p ∷ []) r s → Halfway ps p r s ⊎ ((r ≡ inverse p.0) × (s ≡ inverse p.1))
+put_cases : (ps : List (Role × Role)) (p : Role × Role) (r s : Role) → IsPutBelow (ps ++ p ∷ []) r s
+    → Halfway ps p r s ⊎ ((r ≡ inverse p.0) × (s ≡ inverse p.1))
 put_cases ps p r s h = elim h [
   | inl plain ↦ elim (Contains-push_cases ps p (r, s) plain) [
     | inl old ↦ inl (inl (inl old))
@@ -246,11 +258,15 @@ halfway_put ps p r s h = elim h [
 ]
 
 -- what two puttings make of a closure is the closure with one more inclusion
-closed_turned : (ps hs hs' hs'' : List (Role × Role)) (p : Role × Role) → ((r s : Role) → IsAtOrBelow hs r s ↔ Reaches (IsPutBelow ps) r s) → ((r s : Role) → IsAtOrBelow hs' r s ↔ (IsAtOrBelow hs r s ⊎ (IsAtOrBelow hs r p.0 × IsAtOrBelow hs p.1 s))) → ((r s : Role) → IsAtOrBelow hs'' r s ↔ (IsAtOrBelow hs' r s ⊎ (IsAtOrBelow hs' r (inverse p.0) × IsAtOrBelow hs' (inverse p.1) s))) → (r s : Role) → IsAtOrBelow hs'' r s ↔ Reaches (IsPutBelow (ps ++ p ∷ [])) r s
+closed_turned : (ps hs hs' hs'' : List (Role × Role)) (p : Role × Role) → ((r s : Role) → IsAtOrBelow hs r s ↔ Reaches (IsPutBelow ps) r s)
+    → ((r s : Role) → IsAtOrBelow hs' r s ↔ (IsAtOrBelow hs r s ⊎ (IsAtOrBelow hs r p.0 × IsAtOrBelow hs p.1 s)))
+    → ((r s : Role) → IsAtOrBelow hs'' r s ↔ (IsAtOrBelow hs' r s ⊎ (IsAtOrBelow hs' r (inverse p.0) × IsAtOrBelow hs' (inverse p.1) s))) → (r s : Role)
+    → IsAtOrBelow hs'' r s ↔ Reaches (IsPutBelow (ps ++ p ∷ [])) r s
 closed_turned ps hs hs' hs'' p closed first second r s = (
   λ h. elim ((second r s).0 h) [
     | inl one ↦ there r s one
-    | inr two ↦ closure.join step r (inverse p.1) s (closure.onward step r (inverse p.0) (inverse p.1) (there r (inverse p.0) two.0) (put_turned ps p)) (there (inverse p.1) s two.1)
+    | inr two ↦ closure.join step r (inverse p.1) s (closure.onward step r (inverse p.0) (inverse p.1) (there r (inverse p.0) two.0) (put_turned ps p))
+        (there (inverse p.1) s two.1)
   ],
   λ h. elim (closure.one_more (Halfway ps p) step (inverse p.0) (inverse p.1) (put_cases ps p) r s h) [
     | inl one ↦ (second r s).1 (inl (half r s one))
@@ -267,7 +283,8 @@ closed_turned ps hs hs' hs'' p closed first second r s = (
     there : (r s : Role) → IsAtOrBelow hs' r s → Reaches (IsPutBelow (ps ++ p ∷ [])) r s
     there r s h = elim ((first r s).0 h) [
       | inl one ↦ old r s one
-      | inr two ↦ closure.join (IsPutBelow (ps ++ p ∷ [])) r p.1 s (closure.onward (IsPutBelow (ps ++ p ∷ [])) r p.0 p.1 (old r p.0 two.0) (put_itself ps p)) (old p.1 s two.1)
+      | inr two ↦ closure.join (IsPutBelow (ps ++ p ∷ [])) r p.1 s (closure.onward (IsPutBelow (ps ++ p ∷ [])) r p.0 p.1 (old r p.0 two.0) (put_itself ps p))
+          (old p.1 s two.1)
     ]
 
     half : (r s : Role) → Reaches (Halfway ps p) r s → IsAtOrBelow hs' r s
@@ -276,7 +293,11 @@ closed_turned ps hs hs' hs'' p closed first second r s = (
       | inr two ↦ (first r s).1 (inr ((closed r p.0).1 two.0, (closed p.1 s).1 two.1))
     ]
 
-pub closed_more : (ps hs hs' hs'' : List (Role × Role)) (p : Role × Role) (a b : Role) → a ≡ inverse p.0 → b ≡ inverse p.1 → ((r s : Role) → IsAtOrBelow hs r s ↔ Reaches (IsPutBelow ps) r s) → ((r s : Role) → IsAtOrBelow hs' r s ↔ (IsAtOrBelow hs r s ⊎ (IsAtOrBelow hs r p.0 × IsAtOrBelow hs p.1 s))) → ((r s : Role) → IsAtOrBelow hs'' r s ↔ (IsAtOrBelow hs' r s ⊎ (IsAtOrBelow hs' r a × IsAtOrBelow hs' b s))) → (r s : Role) → IsAtOrBelow hs'' r s ↔ Reaches (IsPutBelow (ps ++ p ∷ [])) r s
+pub closed_more : (ps hs hs' hs'' : List (Role × Role)) (p : Role × Role) (a b : Role) → a ≡ inverse p.0 → b ≡ inverse p.1
+    → ((r s : Role) → IsAtOrBelow hs r s ↔ Reaches (IsPutBelow ps) r s)
+    → ((r s : Role) → IsAtOrBelow hs' r s ↔ (IsAtOrBelow hs r s ⊎ (IsAtOrBelow hs r p.0 × IsAtOrBelow hs p.1 s)))
+    → ((r s : Role) → IsAtOrBelow hs'' r s ↔ (IsAtOrBelow hs' r s ⊎ (IsAtOrBelow hs' r a × IsAtOrBelow hs' b s))) → (r s : Role)
+    → IsAtOrBelow hs'' r s ↔ Reaches (IsPutBelow (ps ++ p ∷ [])) r s
 closed_more ps hs hs' hs'' p a b e f closed first second =
     closed_turned ps hs hs' hs'' p closed first
     (subst (λ x. (r s : Role) → IsAtOrBelow hs'' r s ↔ (IsAtOrBelow hs' r s ⊎ (IsAtOrBelow hs' r x × IsAtOrBelow hs' (inverse p.1) s))) e

@@ -67,7 +67,8 @@ module _ (names : List WordId) where
   over-without no_concept p = refl
   over-without (also_concept c cs) p = by_word (over-without cs (parts (names_in c) (names_in_each cs) p).1) (word_of c)
     where
-      by_word : over (names_in_each (without_first_word cs)) ≡ true → (o : Option WordId) → over (names_in_each (option_map_or (λ w. cs) o (also_concept c (without_first_word cs)))) ≡ true
+      by_word : over (names_in_each (without_first_word cs)) ≡ true → (o : Option WordId)
+          → over (names_in_each (option_map_or (λ w. cs) o (also_concept c (without_first_word cs)))) ≡ true
       by_word later None = both (names_in c) (names_in_each (without_first_word cs)) (parts (names_in c) (names_in_each cs) p).0 later
       by_word later (Some w) = (parts (names_in c) (names_in_each cs) p).1
 
@@ -87,22 +88,29 @@ module _ (names : List WordId) where
     over-inclusion : (c d : Concept) → over (names_in c) ≡ true → over (names_in d) ≡ true → list_all piece_over (inclusion c d) ≡ true
     over-inclusion Everything d p q = one_piece (General d) q
     over-inclusion (Atomic word) d p q = one_piece (Unfolding word d) q
-    over-inclusion (ComplementOf c) d p q = one_piece (general (ComplementOf c) d) (over-either (complement (ComplementOf c)) d (over-complement (ComplementOf c) p) q)
+    over-inclusion (ComplementOf c) d p q =
+        one_piece (general (ComplementOf c) d) (over-either (complement (ComplementOf c)) d (over-complement (ComplementOf c) p) q)
     over-inclusion (IntersectionOf cs) d p q = by_word (first_word cs)
       where
         by_word : (o : Option WordId) → list_all piece_over (option_map_or (guarded cs d) o (general (IntersectionOf cs) d) ∷ []) ≡ true
         by_word None = one_piece (general (IntersectionOf cs) d) (over-either (complement (IntersectionOf cs)) d (over-complement (IntersectionOf cs) p) q)
-        by_word (Some word) = one_piece (guarded cs d word) (over-either (complement (together (without_first_word cs))) d (over-complement (together (without_first_word cs)) (over-together (without_first_word cs) (over-without cs p))) q)
+        by_word (Some word) = one_piece (guarded cs d word)
+            (over-either (complement (together (without_first_word cs))) d
+            (over-complement (together (without_first_word cs)) (over-together (without_first_word cs) (over-without cs p))) q)
     over-inclusion (UnionOf cs) d p q = over-inclusions cs d p q
     over-inclusion (SomeValuesFrom role c) d p q = over-inclusion c (AllValuesFrom (inverse role) d) p q
-    over-inclusion (AllValuesFrom role c) d p q = one_piece (general (AllValuesFrom role c) d) (over-either (complement (AllValuesFrom role c)) d (over-complement (AllValuesFrom role c) p) q)
-    over-inclusion (HasValue role name) d p q = one_piece (Assertion name (AllValuesFrom (inverse role) d)) (and_from (is_among names name) (over (names_in d)) (and_parts (is_among names name) true p).0 q)
+    over-inclusion (AllValuesFrom role c) d p q =
+        one_piece (general (AllValuesFrom role c) d) (over-either (complement (AllValuesFrom role c)) d (over-complement (AllValuesFrom role c) p) q)
+    over-inclusion (HasValue role name) d p q =
+        one_piece (Assertion name (AllValuesFrom (inverse role) d))
+        (and_from (is_among names name) (over (names_in d)) (and_parts (is_among names name) true p).0 q)
 
     over-inclusions : (cs : Concepts) (d : Concept) → over (names_in_each cs) ≡ true → over (names_in d) ≡ true → list_all piece_over (inclusions cs d) ≡ true
     over-inclusions no_concept d p q = refl
     over-inclusions (also_concept c cs) d p q =
         list_all-append piece_over (inclusion c d) (inclusions cs d)
-        ∙ and_from (list_all piece_over (inclusion c d)) (list_all piece_over (inclusions cs d)) (over-inclusion c d (parts (names_in c) (names_in_each cs) p).0 q) (over-inclusions cs d (parts (names_in c) (names_in_each cs) p).1 q)
+        ∙ and_from (list_all piece_over (inclusion c d)) (list_all piece_over (inclusions cs d))
+        (over-inclusion c d (parts (names_in c) (names_in_each cs) p).0 q) (over-inclusions cs d (parts (names_in c) (names_in_each cs) p).1 q)
 
   over-pieces_of : (claim : Claim) → over (names_in_claim claim) ≡ true → list_all piece_over (pieces_of claim) ≡ true
   over-pieces_of (SubClassOf c d) h = over-inclusion c d (parts (names_in c) (names_in d) h).0 (parts (names_in c) (names_in d) h).1
@@ -139,7 +147,8 @@ mutual
   names_given-over k (AllValuesFrom role c) h = names_given-over k c h
   names_given-over k (HasValue role name) h = is_given-among k name ∙ (and_parts (is_among (map (λ (e : WordId × WordId). e.0) k.names) name) true h).0
 
-  each_names_given-over : (k : Theory) (cs : Concepts) → over (map (λ (e : WordId × WordId). e.0) k.names) (names_in_each cs) ≡ true → each_names_given k cs ≡ true
+  each_names_given-over : (k : Theory) (cs : Concepts) → over (map (λ (e : WordId × WordId). e.0) k.names) (names_in_each cs) ≡ true
+      → each_names_given k cs ≡ true
   each_names_given-over k no_concept h = refl
   each_names_given-over k (also_concept c cs) h =
       let two = parts (map (λ (e : WordId × WordId). e.0) k.names) (names_in c) (names_in_each cs) h in
@@ -168,13 +177,15 @@ plain-either c d p q =
 
 plain-general : (c d : Concept) → is_wide c ≡ true → is_plain d ≡ true → list_all piece_plain (General (either (complement c) d) ∷ []) ≡ true
 plain-general c d w q =
-    and_from (is_plain Everything && is_plain (either (complement c) d)) true (and_from (is_plain Everything) (is_plain (either (complement c) d)) refl (plain-either (complement c) d (plain-complement c w) q)) refl
+    and_from (is_plain Everything && is_plain (either (complement c) d)) true
+    (and_from (is_plain Everything) (is_plain (either (complement c) d)) refl (plain-either (complement c) d (plain-complement c w) q)) refl
 
 wide-without : (cs : Concepts) → each_wide cs ≡ true → each_wide (without_first_word cs) ≡ true
 wide-without no_concept h = refl
 wide-without (also_concept c cs) h = by_word (wide-without cs (and_parts (is_wide c) (each_wide cs) h).1) (word_of c)
   where
-    by_word : each_wide (without_first_word cs) ≡ true → (o : Option WordId) → each_wide (option_map_or (λ w. cs) o (also_concept c (without_first_word cs))) ≡ true
+    by_word : each_wide (without_first_word cs) ≡ true → (o : Option WordId)
+        → each_wide (option_map_or (λ w. cs) o (also_concept c (without_first_word cs))) ≡ true
     by_word later None = and_from (is_wide c) (each_wide (without_first_word cs)) (and_parts (is_wide c) (each_wide cs) h).0 later
     by_word later (Some w) = (and_parts (is_wide c) (each_wide cs) h).1
 
@@ -197,7 +208,9 @@ mutual
       by_word None = plain-general (IntersectionOf cs) d w q
       by_word (Some word) =
           unfolds word (either (complement (together (without_first_word cs))) d)
-          (plain-either (complement (together (without_first_word cs))) d (plain-complement (together (without_first_word cs)) (wide-together (without_first_word cs) (wide-without cs (and_parts (has_two cs) (each_wide cs) w).1))) q)
+          (plain-either (complement (together (without_first_word cs))) d
+          (plain-complement (together (without_first_word cs))
+          (wide-together (without_first_word cs) (wide-without cs (and_parts (has_two cs) (each_wide cs) w).1))) q)
   plain-inclusion (UnionOf cs) d w q = plain-inclusions cs d (and_parts (has_two cs) (each_wide cs) w).1 q
   plain-inclusion (SomeValuesFrom role c) d w q = plain-inclusion c (AllValuesFrom (inverse role) d) w q
   plain-inclusion (AllValuesFrom role c) d w q = plain-general (AllValuesFrom role c) d w q
@@ -207,7 +220,8 @@ mutual
   plain-inclusions no_concept d w q = refl
   plain-inclusions (also_concept c cs) d w q =
       list_all-append piece_plain (inclusion c d) (inclusions cs d)
-      ∙ and_from (list_all piece_plain (inclusion c d)) (list_all piece_plain (inclusions cs d)) (plain-inclusion c d (and_parts (is_wide c) (each_wide cs) w).0 q) (plain-inclusions cs d (and_parts (is_wide c) (each_wide cs) w).1 q)
+      ∙ and_from (list_all piece_plain (inclusion c d)) (list_all piece_plain (inclusions cs d))
+      (plain-inclusion c d (and_parts (is_wide c) (each_wide cs) w).0 q) (plain-inclusions cs d (and_parts (is_wide c) (each_wide cs) w).1 q)
 
 plain-pieces_of : (claim : Claim) → is_plain_claim claim ≡ true → list_all piece_plain (pieces_of claim) ≡ true
 plain-pieces_of (SubClassOf c d) h = plain-inclusion c d (plain_parts c (and_parts (is_plain c) (is_plain d) h).0).1 (and_parts (is_plain c) (is_plain d) h).1

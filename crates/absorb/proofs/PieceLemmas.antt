@@ -1,21 +1,23 @@
 -- What the pieces of axioms say is what the axioms say.
-use Rattle.std.proofs.Common.{◌≡◌, ℕ, zero, suc, ◌<◌, ◌&&◌, ◌||◌, Bool, true, false, List, [], ◌∷◌, ◌++◌, Option, Some, None, refl, sym, ap, ◌∙◌, Decides}
-use Rattle.std.specs.Prelude.{not, if◌then◌else◌, MatchBool, Contains}
-use Rattle.std.specs.List.{list_all, flat_map}
+use Rattle.std.proofs.Common.{◌≡◌, ℕ, zero, suc, ◌<◌, ◌&&◌, ◌||◌, Bool, true, false, List, [], ◌∷◌, ◌++◌, Option, Some, None, refl, sym, ap, ◌∙◌}
+use Rattle.std.specs.Prelude.{not, if◌then◌else◌, MatchBool}
+use Rattle.std.specs.List.{list_all}
 use Rattle.std.specs.Option.{option_map_or}
 use Rattle.std.proofs.lemmas.List.Folds.{list_all-append}
 use Rattle.std.proofs.lemmas.Bool.Decides.{same_from_decides}
+use Rattle.std.proofs.Math.Bool.{or-false, and-true as and_true}
 use Rattle.wiki_base.specs.declared.numbers.WordId.{WordId}
+use Rattle.wiki_base.proofs.BoolLaws.{and-swap}
 use Rattle.logic_terms.specs.declared.expressions.Role.{Role}
 use Rattle.logic_terms.specs.Concept.{Concept, Concepts, Everything, Atomic, ComplementOf, IntersectionOf, UnionOf, SomeValuesFrom, AllValuesFrom, HasValue, no_concept, also_concept, Claim, SubClassOf, SubPropertyOf, ClassAssertion, PropertyAssertion, NegativePropertyAssertion, SameIndividual, DifferentIndividuals}
 use Rattle.logic_terms.specs.Interpretation.{Interpretation, element_of, relates, Relates, has_pair}
 use Rattle.logic_terms.specs.Meaning.{each_below, implies, is_in, is_in_each, is_in_some, holds, all_hold}
-use Rattle.logic_terms.specs.Reading.{IsIn, Holds}
+use Rattle.logic_terms.specs.Reading.{Holds}
 use Rattle.logic_terms.specs.Complement.{complement}
-use Rattle.logic_terms.proofs.ComplementLemmas.{is_in-complement, not_not, not_and}
+use Rattle.logic_terms.proofs.ComplementLemmas.{is_in-complement}
 use Rattle.logic_terms.proofs.MeaningLemmas.{holds-Decides}
 use Rattle.logic_terms.specs.Same.{inverse}
-use Rattle.absorb.specs.Pieces.{Piece, Equality, RoleInclusion, Assertion, Related, Difference, Unfolding, General, claim_in, either, word_of, first_word, without_first_word, together, general, guarded, inclusion, inclusions, pieces_of, all_pieces}
+use Rattle.absorb.specs.Pieces.{Piece, claim_in, either, word_of, first_word, without_first_word, together, general, guarded, inclusion, inclusions, pieces_of, all_pieces}
 
 -- whether a piece is true
 abbrev pub piece_holds : Interpretation → Piece → Bool
@@ -46,10 +48,6 @@ Relates-turned i role x y h = turned_back role.inverted _ _ h
 pub each_below-same : (n : ℕ) (f g : ℕ → Bool) → ((x : ℕ) → f x ≡ g x) → each_below n f ≡ each_below n g
 each_below-same n f g same = ap (each_below n) (λ j x. same x j)
 
-or_false : (a : Bool) → (a || false) ≡ a
-or_false true = refl
-or_false false = refl
-
 swap_four : (a b c d : Bool) → ((a && b) && (c && d)) ≡ ((a && c) && (b && d))
 swap_four true true c d = refl
 swap_four true false true d = refl
@@ -75,7 +73,7 @@ each_true (suc n) = each_true n
 
 -- the general form of an inclusion
 is_in-either : (i : Interpretation) (c d : Concept) (x : ℕ) → is_in i (either c d) x ≡ (is_in i c x || is_in i d x)
-is_in-either i c d x = ap (λ b. is_in i c x || b) (or_false (is_in i d x))
+is_in-either i c d x = ap (λ b. is_in i c x || b) (or-false (is_in i d x))
 
 is_in-general : (i : Interpretation) (c d : Concept) (x : ℕ) → is_in i (either (complement c) d) x ≡ implies (is_in i c x) (is_in i d x)
 is_in-general i c d x = is_in-either i (complement c) d x ∙ ap (λ b. b || is_in i d x) (is_in-complement i c x)
@@ -93,10 +91,6 @@ is_in-together i (also_concept c no_concept) x = sym (and_true (is_in i c x))
     and_true false = refl
 is_in-together i (also_concept c (also_concept d cs)) x = refl
 
-and_true : (a : Bool) → (a && true) ≡ a
-and_true true = refl
-and_true false = refl
-
 word_of_is : (c : Concept) (word : WordId) → word_of c ≡ Some word → c ≡ Atomic word
 word_of_is Everything word h = cc
 word_of_is (Atomic other) word h = let e : other ≡ word = cc in ap Atomic e
@@ -107,20 +101,18 @@ word_of_is (SomeValuesFrom role c) word h = cc
 word_of_is (AllValuesFrom role c) word h = cc
 word_of_is (HasValue role name) word h = cc
 
-moved : (a b c : Bool) → (a && (b && c)) ≡ (b && (a && c))
-moved true true c = refl
-moved true false c = refl
-moved false true c = refl
-moved false false c = refl
-
-first_step : (i : Interpretation) (c : Concept) (cs : Concepts) (word : WordId) (x : ℕ) (o : Option WordId) → word_of c ≡ o → (first_word cs ≡ Some word → is_in_each i cs x ≡ (is_in i (Atomic word) x && is_in_each i (without_first_word cs) x)) → option_map_or (λ w. Some w) o (first_word cs) ≡ Some word → (is_in i c x && is_in_each i cs x) ≡ (is_in i (Atomic word) x && is_in_each i (option_map_or (λ w. cs) o (also_concept c (without_first_word cs))) x)
+first_step : (i : Interpretation) (c : Concept) (cs : Concepts) (word : WordId) (x : ℕ) (o : Option WordId) → word_of c ≡ o
+    → (first_word cs ≡ Some word → is_in_each i cs x ≡ (is_in i (Atomic word) x && is_in_each i (without_first_word cs) x))
+    → option_map_or (λ w. Some w) o (first_word cs) ≡ Some word
+    → (is_in i c x && is_in_each i cs x) ≡ (is_in i (Atomic word) x && is_in_each i (option_map_or (λ w. cs) o (also_concept c (without_first_word cs))) x)
 first_step i c cs word x None e later h =
-    ap (λ b. is_in i c x && b) (later h) ∙ moved (is_in i c x) (is_in i (Atomic word) x) (is_in_each i (without_first_word cs) x)
+    ap (λ b. is_in i c x && b) (later h) ∙ and-swap (is_in i c x) (is_in i (Atomic word) x) (is_in_each i (without_first_word cs) x)
 first_step i c cs word x (Some w) e later h =
     let same : w ≡ word = cc in
     ap (λ k. is_in i k x && is_in_each i cs x) (word_of_is c w e ∙ ap Atomic same)
 
-pub is_in_each-first : (i : Interpretation) (cs : Concepts) (word : WordId) (x : ℕ) → first_word cs ≡ Some word → is_in_each i cs x ≡ (is_in i (Atomic word) x && is_in_each i (without_first_word cs) x)
+pub is_in_each-first : (i : Interpretation) (cs : Concepts) (word : WordId) (x : ℕ) → first_word cs ≡ Some word
+    → is_in_each i cs x ≡ (is_in i (Atomic word) x && is_in_each i (without_first_word cs) x)
 is_in_each-first i no_concept word x h = cc
 is_in_each-first i (also_concept c cs) word x h =
     first_step i c cs word x (word_of c) refl (is_in_each-first i cs word x) h
@@ -129,7 +121,8 @@ implies_twice : (a b c : Bool) → implies a (implies b c) ≡ implies (a && b) 
 implies_twice true b c = refl
 implies_twice false b c = refl
 
-holds-guarded : (i : Interpretation) (cs : Concepts) (d : Concept) (word : WordId) → first_word cs ≡ Some word → piece_holds i (guarded cs d word) ≡ holds i (SubClassOf (IntersectionOf cs) d)
+holds-guarded : (i : Interpretation) (cs : Concepts) (d : Concept) (word : WordId) → first_word cs ≡ Some word
+    → piece_holds i (guarded cs d word) ≡ holds i (SubClassOf (IntersectionOf cs) d)
 holds-guarded i cs d word h =
     each_below-same i.size
     (λ x. implies (is_in i (Atomic word) x) (is_in i (either (complement (together (without_first_word cs))) d) x))
@@ -139,22 +132,28 @@ holds-guarded i cs d word h =
     ∙ implies_twice (is_in i (Atomic word) x) (is_in_each i (without_first_word cs) x) (is_in i d x)
     ∙ ap (λ b. implies b (is_in i d x)) (sym (is_in_each-first i cs word x h)))
 
-holds_by_word : (i : Interpretation) (cs : Concepts) (d : Concept) (o : Option WordId) → first_word cs ≡ o → list_all (piece_holds i) (option_map_or (guarded cs d) o (general (IntersectionOf cs) d) ∷ []) ≡ holds i (SubClassOf (IntersectionOf cs) d)
+holds_by_word : (i : Interpretation) (cs : Concepts) (d : Concept) (o : Option WordId) → first_word cs ≡ o
+    → list_all (piece_holds i) (option_map_or (guarded cs d) o (general (IntersectionOf cs) d) ∷ []) ≡ holds i (SubClassOf (IntersectionOf cs) d)
 holds_by_word i cs d None h = and_true (piece_holds i (general (IntersectionOf cs) d)) ∙ holds-general i (IntersectionOf cs) d
 holds_by_word i cs d (Some word) h = and_true (piece_holds i (guarded cs d word)) ∙ holds-guarded i cs d word h
 
 -- an inclusion of the elements with a successor in c is one of c in those whose predecessors are all in d
-holds-turned : (i : Interpretation) (role : Role) (c d : Concept) → holds i (SubClassOf c (AllValuesFrom (inverse role) d)) ≡ holds i (SubClassOf (SomeValuesFrom role c) d)
+holds-turned : (i : Interpretation) (role : Role) (c d : Concept)
+    → holds i (SubClassOf c (AllValuesFrom (inverse role) d)) ≡ holds i (SubClassOf (SomeValuesFrom role c) d)
 holds-turned i role c d =
-    same_from_decides {P = Holds i (SubClassOf (SomeValuesFrom role c) d)} (holds i (SubClassOf c (AllValuesFrom (inverse role) d))) (holds i (SubClassOf (SomeValuesFrom role c) d)) (
+    same_from_decides {P = Holds i (SubClassOf (SomeValuesFrom role c) d)} (holds i (SubClassOf c (AllValuesFrom (inverse role) d)))
+    (holds i (SubClassOf (SomeValuesFrom role c) d)) (
       λ t x lt w. (holds-Decides i (SubClassOf c (AllValuesFrom (inverse role) d))).0 t w.0 w.1 w.3 x lt (Relates-inverse i role x w.0 w.2),
-      λ all. (holds-Decides i (SubClassOf c (AllValuesFrom (inverse role) d))).1 (λ x lt inside y below related. all y below (x, lt, Relates-turned i role y x related, inside)),
+      λ all. (holds-Decides i (SubClassOf c (AllValuesFrom (inverse role) d))).1
+          (λ x lt inside y below related. all y below (x, lt, Relates-turned i role y x related, inside)),
     )
     (holds-Decides i (SubClassOf (SomeValuesFrom role c) d))
 
-holds-value : (i : Interpretation) (role : Role) (name : WordId) (d : Concept) → holds i (ClassAssertion (AllValuesFrom (inverse role) d) name) ≡ holds i (SubClassOf (HasValue role name) d)
+holds-value : (i : Interpretation) (role : Role) (name : WordId) (d : Concept)
+    → holds i (ClassAssertion (AllValuesFrom (inverse role) d) name) ≡ holds i (SubClassOf (HasValue role name) d)
 holds-value i role name d =
-    each_below-same i.size (λ y. implies (relates i (inverse role) (element_of i name) y) (is_in i d y)) (λ x. implies (relates i role x (element_of i name)) (is_in i d x))
+    each_below-same i.size (λ y. implies (relates i (inverse role) (element_of i name) y) (is_in i d y))
+    (λ x. implies (relates i role x (element_of i name)) (is_in i d x))
     (λ x. ap (λ b. implies b (is_in i d x)) (relates-inverse i role (element_of i name) x))
 
 -- the pieces of an inclusion say the same
@@ -175,7 +174,9 @@ mutual
       list_all-append (piece_holds i) (inclusion c d) (inclusions cs d)
       ∙ ap (λ b. b && list_all (piece_holds i) (inclusions cs d)) (holds-inclusion i c d)
       ∙ ap (λ b. holds i (SubClassOf c d) && b) (holds-inclusions i cs d)
-      ∙ sym (each_below-same i.size (λ x. implies (is_in i c x || is_in_some i cs x) (is_in i d x)) (λ x. implies (is_in i c x) (is_in i d x) && implies (is_in_some i cs x) (is_in i d x)) (λ x. implies_or (is_in i c x) (is_in_some i cs x) (is_in i d x))
+      ∙ sym (each_below-same i.size (λ x. implies (is_in i c x || is_in_some i cs x) (is_in i d x))
+      (λ x. implies (is_in i c x) (is_in i d x) && implies (is_in_some i cs x) (is_in i d x))
+      (λ x. implies_or (is_in i c x) (is_in_some i cs x) (is_in i d x))
       ∙ each_below-and i.size (λ x. implies (is_in i c x) (is_in i d x)) (λ x. implies (is_in_some i cs x) (is_in i d x)))
 
 holds-pieces_of : (i : Interpretation) (claim : Claim) → list_all (piece_holds i) (pieces_of claim) ≡ holds i claim

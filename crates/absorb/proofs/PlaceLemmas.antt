@@ -1,59 +1,55 @@
 -- Lists, gone over place by place.
-use Rattle.std.proofs.Common.{◌≡◌, ℕ, zero, suc, ◌<◌, ◌+◌, ◌&&◌, ◌||◌, Bool, true, false, List, [], ◌∷◌, ◌++◌, map, length, get_or, take, drop, Option, Some, None, slice_get, refl, sym, ap, ◌∙◌, subst, arith}
-use Rattle.std.specs.Prelude.{remove, fold}
-use Rattle.std.specs.List.{flat_map}
+use Rattle.std.proofs.Common.{◌≡◌, ℕ, zero, suc, ◌<◌, ◌+◌, ◌&&◌, ◌||◌, List, [], ◌∷◌, ◌++◌, map, length, take, Option, Some, None, slice_get, refl, sym, ap, ◌∙◌, arith}
+use Rattle.std.specs.Prelude.{remove}
 use Rattle.std.specs.Option.{option_map_or}
-use Rattle.std.proofs.lemmas.List.{take_more}
+use Rattle.std.proofs.lemmas.List.{append-nil}
 use Rattle.std.proofs.lemmas.List.Sums.{fold-append}
 use Rattle.std.proofs.lemmas.List.Concat.{flat_map-append}
-use Rattle.std.proofs.lemmas.Option.{slice_get_within, get_or_from_slice_get}
+use Rattle.std.proofs.lemmas.Option.{slice_get_within}
 use Rattle.wiki_base.specs.declared.numbers.WordId.{WordId}
-use Rattle.logic_terms.specs.Concept.{Concept, Concepts, no_concept, also_concept, concepts_from, Claim}
+use Rattle.wiki_base.proofs.ListLaws.{take_slice_get}
+use Rattle.logic_terms.specs.Concept.{Concept, Concepts, also_concept, concepts_from, Claim}
 use Rattle.absorb.specs.FirstWord.{IsFirstWord}
-use Rattle.absorb.specs.Pieces.{Piece, word_of, first_word, without_first_word, together, inclusion, inclusions, pieces_of, all_pieces}
+use Rattle.absorb.specs.Pieces.{word_of, first_word, without_first_word, together, inclusion, inclusions, pieces_of, all_pieces}
 use Rattle.absorb.specs.Sorted.{Sorted, no_pieces, with_pieces, sorted}
 
--- one more item of a list that was gone over
-pub one_further : {X : Type 0} (xs : List X) (k : ℕ) (x : X) → slice_get xs k ≡ Some x → take (k + 1) xs ≡ take k xs ++ x ∷ []
-one_further xs k x at =
-    take_more xs k x (slice_get_within xs k x at) ∙ ap (λ y. take k xs ++ y ∷ []) (get_or_from_slice_get xs k x x at)
-
-inclusions-append : (cs ds : List Concept) (d : Concept) → inclusions (concepts_from (cs ++ ds)) d ≡ inclusions (concepts_from cs) d ++ inclusions (concepts_from ds) d
+inclusions-append : (cs ds : List Concept) (d : Concept)
+    → inclusions (concepts_from (cs ++ ds)) d ≡ inclusions (concepts_from cs) d ++ inclusions (concepts_from ds) d
 inclusions-append [] ds d = refl
 inclusions-append (c ∷ cs) ds d =
     ap (λ ps. inclusion c d ++ ps) (inclusions-append cs ds d)
     ∙ sym (Rattle.std.proofs.Common.append_assoc (inclusion c d) (inclusions (concepts_from cs) d) (inclusions (concepts_from ds) d))
 
-append_nil : {X : Type 0} (xs : List X) → xs ++ [] ≡ xs
-append_nil [] = refl
-append_nil (x ∷ xs) = ap (λ ys. x ∷ ys) (append_nil xs)
-
 -- the pieces of one more member
-pub inclusions_more : (s t : Sorted) (cs : List Concept) (k : ℕ) (c d : Concept) → slice_get cs k ≡ Some c → t ≡ with_pieces s (inclusions (concepts_from (take k cs)) d) → with_pieces t (inclusion c d) ≡ with_pieces s (inclusions (concepts_from (take (k + 1) cs)) d)
+pub inclusions_more : (s t : Sorted) (cs : List Concept) (k : ℕ) (c d : Concept) → slice_get cs k ≡ Some c
+    → t ≡ with_pieces s (inclusions (concepts_from (take k cs)) d)
+    → with_pieces t (inclusion c d) ≡ with_pieces s (inclusions (concepts_from (take (k + 1) cs)) d)
 inclusions_more s t cs k c d at before =
     ap (λ u. with_pieces u (inclusion c d)) before
     ∙ sym (fold-append Rattle.absorb.specs.Sorted.with_piece s (inclusions (concepts_from (take k cs)) d) (inclusion c d))
     ∙ ap (λ ps. with_pieces s ps)
-    (ap (λ ps. inclusions (concepts_from (take k cs)) d ++ ps) (sym (append_nil (inclusion c d)))
-    ∙ sym (inclusions-append (take k cs) (c ∷ []) d) ∙ ap (λ xs. inclusions (concepts_from xs) d) (sym (one_further cs k c at)))
+    (ap (λ ps. inclusions (concepts_from (take k cs)) d ++ ps) (sym (append-nil (inclusion c d)))
+    ∙ sym (inclusions-append (take k cs) (c ∷ []) d) ∙ ap (λ xs. inclusions (concepts_from xs) d) (sym (take_slice_get cs k c at)))
 
 -- the pieces of one more axiom
-pub sorted_more : (t : Sorted) (claims : List Claim) (k : ℕ) (claim : Claim) → slice_get claims k ≡ Some claim → t ≡ sorted (take k claims) → with_pieces t (pieces_of claim) ≡ sorted (take (k + 1) claims)
+pub sorted_more : (t : Sorted) (claims : List Claim) (k : ℕ) (claim : Claim) → slice_get claims k ≡ Some claim → t ≡ sorted (take k claims)
+    → with_pieces t (pieces_of claim) ≡ sorted (take (k + 1) claims)
 sorted_more t claims k claim at before =
     ap (λ u. with_pieces u (pieces_of claim)) before
     ∙ sym (fold-append Rattle.absorb.specs.Sorted.with_piece no_pieces (all_pieces (take k claims)) (pieces_of claim))
     ∙ ap (λ ps. with_pieces no_pieces ps)
-    (ap (λ ps. all_pieces (take k claims) ++ ps) (sym (append_nil (pieces_of claim)))
-    ∙ sym (flat_map-append pieces_of (take k claims) (claim ∷ [])) ∙ ap all_pieces (sym (one_further claims k claim at)))
+    (ap (λ ps. all_pieces (take k claims) ++ ps) (sym (append-nil (pieces_of claim)))
+    ∙ sym (flat_map-append pieces_of (take k claims) (claim ∷ [])) ∙ ap all_pieces (sym (take_slice_get claims k claim at)))
 
 -- no member up to a place is a class word, and the one at the place is none or one
 none_before : (c : Concept) (cs : Concepts) (o : Option WordId) → option_map_or (λ w. Some w) o (first_word cs) ≡ None → (o ≡ None) × (first_word cs ≡ None)
 none_before c cs None h = (refl, h)
 none_before c cs (Some w) h = cc
 
-pub first_none : (cs : List Concept) (k : ℕ) (c : Concept) → slice_get cs k ≡ Some c → word_of c ≡ None → first_word (concepts_from (take k cs)) ≡ None → first_word (concepts_from (take (k + 1) cs)) ≡ None
+pub first_none : (cs : List Concept) (k : ℕ) (c : Concept) → slice_get cs k ≡ Some c → word_of c ≡ None → first_word (concepts_from (take k cs)) ≡ None
+    → first_word (concepts_from (take (k + 1) cs)) ≡ None
 first_none cs k c at none before =
-    ap (λ xs. first_word (concepts_from xs)) (one_further cs k c at) ∙ go (take k cs) before
+    ap (λ xs. first_word (concepts_from xs)) (take_slice_get cs k c at) ∙ go (take k cs) before
   where
     go : (xs : List Concept) → first_word (concepts_from xs) ≡ None → first_word (concepts_from (xs ++ c ∷ [])) ≡ None
     go [] h = ap (λ o. option_map_or (λ w. Some w) o None) none
@@ -61,14 +57,16 @@ first_none cs k c at none before =
         let parts = none_before x (concepts_from xs) (word_of x) h in
         ap (λ o. option_map_or (λ w. Some w) o (first_word (concepts_from (xs ++ c ∷ [])))) parts.0 ∙ go xs parts.1
 
-pub first_found : (cs : List Concept) (k : ℕ) (c : Concept) (word : WordId) → slice_get cs k ≡ Some c → word_of c ≡ Some word → first_word (concepts_from (take k cs)) ≡ None → IsFirstWord cs k word
+pub first_found : (cs : List Concept) (k : ℕ) (c : Concept) (word : WordId) → slice_get cs k ≡ Some c → word_of c ≡ Some word
+    → first_word (concepts_from (take k cs)) ≡ None → IsFirstWord cs k word
 first_found cs k c word at is before = record {
   within = slice_get_within cs k c at;
   first = (go cs k at before).0;
   others = (go cs k at before).1;
 }
   where
-    go : (xs : List Concept) (j : ℕ) → slice_get xs j ≡ Some c → first_word (concepts_from (take j xs)) ≡ None → (first_word (concepts_from xs) ≡ Some word) × (without_first_word (concepts_from xs) ≡ concepts_from (remove xs j))
+    go : (xs : List Concept) (j : ℕ) → slice_get xs j ≡ Some c → first_word (concepts_from (take j xs)) ≡ None
+        → (first_word (concepts_from xs) ≡ Some word) × (without_first_word (concepts_from xs) ≡ concepts_from (remove xs j))
     go [] j at' none = absurd (nothing j at')
       where
         nothing : (j : ℕ) → slice_get {X = Concept} [] j ≡ Some c → ⊥

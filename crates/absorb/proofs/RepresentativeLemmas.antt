@@ -78,7 +78,9 @@ joined_split ps p x y h = elim (closure.one_more (Halfway ps p) (AreEquated (ps 
     half x y h = closure.one_more (AreEquated ps) (Halfway ps p) p.0 p.1 (λ u v c. c) x y h
 
 -- a name with its representative, where the representatives stays and gone of two names are joined, stays being no greater
-merged_entry : (ps : List (WordId × WordId)) (p : WordId × WordId) (a b stays gone : WordId) → Represents ps a stays → Represents ps b gone → stays.0 ≤ gone.0 → Reaches (AreEquated (ps ++ p ∷ [])) b a → ((x y : WordId) → Reaches (AreEquated (ps ++ p ∷ [])) x y → Splits ps a b x y) → (e : WordId × WordId) → Represents ps e.0 e.1 → Represents (ps ++ p ∷ []) e.0 (renamed gone stays e).1
+merged_entry : (ps : List (WordId × WordId)) (p : WordId × WordId) (a b stays gone : WordId) → Represents ps a stays → Represents ps b gone → stays.0 ≤ gone.0
+    → Reaches (AreEquated (ps ++ p ∷ [])) b a → ((x y : WordId) → Reaches (AreEquated (ps ++ p ∷ [])) x y → Splits ps a b x y) → (e : WordId × WordId)
+    → Represents ps e.0 e.1 → Represents (ps ++ p ∷ []) e.0 (renamed gone stays e).1
 merged_entry ps p a b stays gone of_a of_b below link split e of_e = elim (cases_Bool (is_word gone e.1)) [
   | inl same ↦ subst (Represents (ps ++ p ∷ []) e.0) (sym (ap (λ q. q.1) (cond-true (is_word gone e.1) (e.0, stays) e same)))
       (takes (subst (λ w. Reaches (AreEquated ps) e.0 w) (sym ((is_word-Decides gone e.1).0 same)) of_e.joined) (at_gone ((is_word-Decides gone e.1).0 same)))
@@ -141,48 +143,65 @@ swap_sides : (ps : List (WordId × WordId)) (a b x y : WordId) → Splits ps a b
 swap_sides ps a b x y h = elim h [ inl plain ↦ inl plain | inr two ↦ elim two [ inl via_a ↦ inr (inr via_a) | inr via_b ↦ inr (inl via_b) ] ]
 
 -- the look-up of a name among entries
-pub lookup_given : (es : List (WordId × WordId)) (name : WordId) → is_among (map (λ (e : WordId × WordId). e.0) es) name ≡ true → (r : WordId) × (lookup (is_word name) es ≡ Some r) × Contains es (name, r)
+pub lookup_given : (es : List (WordId × WordId)) (name : WordId) → is_among (map (λ (e : WordId × WordId). e.0) es) name ≡ true
+    → (r : WordId) × (lookup (is_word name) es ≡ Some r) × Contains es (name, r)
 lookup_given [] name h = cc
 lookup_given (e ∷ es) name h = elim (cases_Bool (is_word name e.0)) [
-  | inl here ↦ (e.1, cond-true (is_word name e.0) (Some e.1) (lookup (is_word name) es) here, (0, omega arith, λ j. (sym ((is_word-Decides name e.0).0 here) j, e.1)))
-  | inr past ↦ (let later : is_among (map (λ (f : WordId × WordId). f.0) es) name ≡ true = sym (ap (λ b. b || is_among (map (λ (f : WordId × WordId). f.0) es) name) past) ∙ h in
-      let found = lookup_given es name later in
-      (found.0, cond-false (is_word name e.0) (Some e.1) (lookup (is_word name) es) past ∙ found.1, Rattle.std.proofs.lemmas.List.Elements.Contains-append_right (e ∷ []) es (name, found.0) found.2))
+  | inl here ↦ (
+    e.1,
+    cond-true (is_word name e.0) (Some e.1) (lookup (is_word name) es) here,
+    (0, omega arith, λ j. (sym ((is_word-Decides name e.0).0 here) j, e.1)),
+  )
+  | inr past ↦ (let later : is_among (map (λ (f : WordId × WordId). f.0) es) name ≡ true =
+      sym (ap (λ b. b || is_among (map (λ (f : WordId × WordId). f.0) es) name) past) ∙ h in
+      let found = lookup_given es name later in (
+        found.0,
+        cond-false (is_word name e.0) (Some e.1) (lookup (is_word name) es) past ∙ found.1,
+        Rattle.std.proofs.lemmas.List.Elements.Contains-append_right (e ∷ []) es (name, found.0) found.2,
+      ))
 ]
 
 -- the entries of the same names have the representatives by one more equality
 abbrev pub AreEntries : List WordId → List (WordId × WordId) → List (WordId × WordId) → Type 0
 AreEntries names ps es = (map (λ (e : WordId × WordId). e.0) es ≡ names) × All (λ e. Represents ps e.0 e.1) es
 
-names_renamed : (gone stays : WordId) (es : List (WordId × WordId)) → map (λ (e : WordId × WordId). e.0) (map (renamed gone stays) es) ≡ map (λ (e : WordId × WordId). e.0) es
+names_renamed : (gone stays : WordId) (es : List (WordId × WordId))
+    → map (λ (e : WordId × WordId). e.0) (map (renamed gone stays) es) ≡ map (λ (e : WordId × WordId). e.0) es
 names_renamed gone stays [] = refl
 names_renamed gone stays (e ∷ es) =
-    ap (λ n. n ∷ map (λ (f : WordId × WordId). f.0) (map (renamed gone stays) es)) (first (is_word gone e.1)) ∙ ap (λ ns. e.0 ∷ ns) (names_renamed gone stays es)
+    ap (λ n. n ∷ map (λ (f : WordId × WordId). f.0) (map (renamed gone stays) es)) (first (is_word gone e.1))
+    ∙ ap (λ ns. e.0 ∷ ns) (names_renamed gone stays es)
   where
     first : (b : Bool) → (if b then (e.0, stays) else e).0 ≡ e.0
     first true = refl
     first false = refl
 
-same_firsts : (gone stays : WordId) (e : WordId × WordId) (ps : List (WordId × WordId)) → Represents ps e.0 (renamed gone stays e).1 → Represents ps (renamed gone stays e).0 (renamed gone stays e).1
+same_firsts : (gone stays : WordId) (e : WordId × WordId) (ps : List (WordId × WordId)) → Represents ps e.0 (renamed gone stays e).1
+    → Represents ps (renamed gone stays e).0 (renamed gone stays e).1
 same_firsts gone stays e ps h = subst (λ n. Represents ps n (renamed gone stays e).1) (sym (first (is_word gone e.1))) h
   where
     first : (b : Bool) → (if b then (e.0, stays) else e).0 ≡ e.0
     first true = refl
     first false = refl
 
-merged_entries : (ps : List (WordId × WordId)) (p : WordId × WordId) (es : List (WordId × WordId)) (a b : WordId) → Represents ps p.0 a → Represents ps p.1 b → (names : List WordId) → AreEntries names ps es → (low : Bool) → nat_le a.0 b.0 ≡ low → AreEntries names (ps ++ p ∷ []) (if low then map (renamed b a) es else map (renamed a b) es)
+merged_entries : (ps : List (WordId × WordId)) (p : WordId × WordId) (es : List (WordId × WordId)) (a b : WordId) → Represents ps p.0 a → Represents ps p.1 b
+    → (names : List WordId) → AreEntries names ps es → (low : Bool) → nat_le a.0 b.0 ≡ low
+    → AreEntries names (ps ++ p ∷ []) (if low then map (renamed b a) es else map (renamed a b) es)
 merged_entries ps p es a b of_a of_b names given true h = (
   names_renamed b a es ∙ given.0,
   All-map (λ e. Represents (ps ++ p ∷ []) e.0 e.1) (renamed b a) es
       (All-weaker (λ e. Represents ps e.0 e.1) (λ e. Represents (ps ++ p ∷ []) (renamed b a e).0 (renamed b a e).1)
-      (λ e r. same_firsts b a e (ps ++ p ∷ []) (merged_entry ps p p.0 p.1 a b of_a of_b (leb-true a.0 b.0 h) (1, (p.1, refl, inr (Contains-push ps p))) (joined_split ps p) e r))
+      (λ e r. same_firsts b a e (ps ++ p ∷ [])
+      (merged_entry ps p p.0 p.1 a b of_a of_b (leb-true a.0 b.0 h) (1, (p.1, refl, inr (Contains-push ps p))) (joined_split ps p) e r))
       es given.1),
 )
 merged_entries ps p es a b of_a of_b names given false h = (
   names_renamed a b es ∙ given.0,
   All-map (λ e. Represents (ps ++ p ∷ []) e.0 e.1) (renamed a b) es
       (All-weaker (λ e. Represents ps e.0 e.1) (λ e. Represents (ps ++ p ∷ []) (renamed a b e).0 (renamed a b e).1)
-      (λ e r. same_firsts a b e (ps ++ p ∷ []) (merged_entry ps p p.1 p.0 b a of_b of_a (smaller (leb-false a.0 b.0 h)) (1, (p.0, refl, inl (Contains-push ps p))) (λ x y s. swap_sides ps p.0 p.1 x y (joined_split ps p x y s)) e r))
+      (λ e r. same_firsts a b e (ps ++ p ∷ [])
+      (merged_entry ps p p.1 p.0 b a of_b of_a (smaller (leb-false a.0 b.0 h)) (1, (p.0, refl, inl (Contains-push ps p)))
+      (λ x y s. swap_sides ps p.0 p.1 x y (joined_split ps p x y s)) e r))
       es given.1),
 )
   where
@@ -190,7 +209,9 @@ merged_entries ps p es a b of_a of_b names given false h = (
     smaller lt = omega arith
 
 -- joining two given names keeps the entries right
-pub joined_entries : (ps : List (WordId × WordId)) (p : WordId × WordId) (es : List (WordId × WordId)) (names : List WordId) → (is_among names p.0 && is_among names p.1) ≡ true → map (λ (e : WordId × WordId). e.0) es ≡ names → All (λ e. Represents ps e.0 e.1) es → AreEntries names (ps ++ p ∷ []) (joined es p.0 p.1)
+pub joined_entries : (ps : List (WordId × WordId)) (p : WordId × WordId) (es : List (WordId × WordId)) (names : List WordId)
+    → (is_among names p.0 && is_among names p.1) ≡ true → map (λ (e : WordId × WordId). e.0) es ≡ names → All (λ e. Represents ps e.0 e.1) es
+    → AreEntries names (ps ++ p ∷ []) (joined es p.0 p.1)
 joined_entries ps p es names there given all =
     let parts = and_parts (is_among names p.0) (is_among names p.1) there in
     let one = lookup_given es p.0 (ap (λ ns. is_among ns p.0) given ∙ parts.0) in
@@ -198,7 +219,8 @@ joined_entries ps p es names there given all =
     let of_a : Represents ps p.0 one.0 = All-contains (λ e. Represents ps e.0 e.1) es (p.0, one.0) all one.2 in
     let of_b : Represents ps p.1 other.0 = All-contains (λ e. Represents ps e.0 e.1) es (p.1, other.0) all other.2 in
     subst (AreEntries names (ps ++ p ∷ []))
-    (sym (ap (λ o. option_map_or (λ a. option_map_or (merged es a) (lookup (is_word p.1) es) es) o es) one.1 ∙ ap (λ o. option_map_or (merged es one.0) o es) other.1))
+    (sym (ap (λ o. option_map_or (λ a. option_map_or (merged es a) (lookup (is_word p.1) es) es) o es) one.1
+    ∙ ap (λ o. option_map_or (merged es one.0) o es) other.1))
     (merged_entries ps p es one.0 other.0 of_a of_b names (given, all) (nat_le one.0.0 other.0.0) refl)
 
 -- before any equality each name represents itself

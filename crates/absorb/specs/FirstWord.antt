@@ -1,4 +1,4 @@
--- The first class word among the members of an intersection, by its place.
+-- The first class word among the members of an intersection, by its place. Only private calls speak of it.
 use Rattle.std.specs.Prelude.{ℕ, ◌≡◌, ◌<◌, List, length, remove, Some}
 use Rattle.wiki_base.specs.declared.numbers.WordId.{WordId}
 use Rattle.logic_terms.specs.Concept.{Concept, concepts_from}

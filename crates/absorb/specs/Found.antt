@@ -1,4 +1,4 @@
--- What a contract sees of pieces.
+-- What a contract sees of pieces. Only private calls speak of it.
 use Rattle.logic_terms.specs.Shown.{concepts_of}
 use Rattle.logic_terms.specs.Known.{stated}
 use Rattle.absorb.specs.declared.pieces.Pieces.{Pieces}

@@ -1,4 +1,4 @@
--- Pairs of roles, the one below first.
+-- Pairs of roles, the one below first. Only private calls speak of it.
 use Rattle.std.specs.Prelude.{◌≡◌, ◌&&◌, ◌⊎◌, false, List, All, AllPairs, Contains}
 use Rattle.logic_terms.specs.declared.expressions.Role.{Role}
 use Rattle.logic_terms.specs.Same.{same_role}

@@ -1,5 +1,5 @@
 -- Each axiom as pieces of knowledge.
-use Rattle.std.specs.Prelude.{List, [], ◌∷◌, ◌++◌, Option, Some, None, Bool, true, false, not}
+use Rattle.std.specs.Prelude.{List, [], ◌∷◌, ◌++◌, Option, Some, None}
 use Rattle.std.specs.List.{flat_map}
 use Rattle.std.specs.Option.{option_map_or}
 use Rattle.wiki_base.specs.declared.numbers.WordId.{WordId}
@@ -41,14 +41,8 @@ either c d = UnionOf (also_concept c (also_concept d no_concept))
 
 -- the class word that a class is
 abbrev pub word_of : Concept → Option WordId
-word_of Everything = None
 word_of (Atomic word) = Some word
-word_of (ComplementOf c) = None
-word_of (IntersectionOf cs) = None
-word_of (UnionOf cs) = None
-word_of (SomeValuesFrom role c) = None
-word_of (AllValuesFrom role c) = None
-word_of (HasValue role name) = None
+word_of _ = None
 
 -- the first class word among the members of an intersection
 abbrev pub first_word : Concepts → Option WordId

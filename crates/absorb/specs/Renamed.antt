@@ -1,4 +1,4 @@
--- Representatives, as equalities join names one by one.
+-- Representatives, as equalities join names one by one. Only private calls speak of it.
 use Rattle.std.specs.Prelude.{ℕ, Bool, List, map, if◌then◌else◌, nat_le}
 use Rattle.std.specs.Option.{option_map_or}
 use Rattle.std.specs.Map.{lookup}

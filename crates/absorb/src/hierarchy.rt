@@ -39,7 +39,9 @@ fn put_below(
     above: Role,
 ) -> Result<(), Memory>
     requires { AreDistinct hierarchy.old.items }
-    ensures closed { OnOk result ((r s : Role) → IsAtOrBelow hierarchy.new.items r s ↔ (IsAtOrBelow hierarchy.old.items r s ⊎ (IsAtOrBelow hierarchy.old.items r below × IsAtOrBelow hierarchy.old.items above s))) }
+    ensures closed { OnOk result ((r s : Role)
+        → IsAtOrBelow hierarchy.new.items r s ↔
+        (IsAtOrBelow hierarchy.old.items r s ⊎ (IsAtOrBelow hierarchy.old.items r below × IsAtOrBelow hierarchy.old.items above s))) }
     ensures distinct { OnOk result (AreDistinct hierarchy.new.items) }
 {
     let lower = lower(alloc, hierarchy.as_slice(), below)?;
@@ -53,7 +55,8 @@ fn put_below(
 // Puts one role below each of several.
 fn put_each(hierarchy: &mut Vec<(Role, Role)>, below: Role, above: &[Role]) -> Result<(), Memory>
     requires { AreDistinct hierarchy.old.items }
-    ensures closed { OnOk result ((r s : Role) → IsAtOrBelow hierarchy.new.items r s ↔ (IsAtOrBelow hierarchy.old.items r s ⊎ ((below ≡ r) × Contains above.now s))) }
+    ensures closed { OnOk result ((r s : Role)
+        → IsAtOrBelow hierarchy.new.items r s ↔ (IsAtOrBelow hierarchy.old.items r s ⊎ ((below ≡ r) × Contains above.now s))) }
     ensures distinct { OnOk result (AreDistinct hierarchy.new.items) }
 {
     for role in above {

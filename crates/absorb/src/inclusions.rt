@@ -102,7 +102,8 @@ fn all_behind(alloc: Global, role: Role, above: &Class) -> Result<Class, Memory>
 
 // The first class word among these, with its place.
 fn first_named(members: &Classes) -> Option<(usize, WordId)>
-    ensures { MatchOption result (first_word (concepts_from (concepts_of members.now)) ≡ None) (λ found. IsFirstWord (concepts_of members.now) found.0 found.1) }
+    ensures { MatchOption result (first_word (concepts_from (concepts_of members.now)) ≡ None)
+        (λ found. IsFirstWord (concepts_of members.now) found.0 found.1) }
 {
     for place in 0..members.len() {
         match word_of(members.get(place)) {

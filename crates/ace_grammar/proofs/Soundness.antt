@@ -119,7 +119,24 @@ unfolding ace_grammar all_rules statements verb_phrases predicates relative_clau
 starts = refl
 
 passes : PassesTests ace_grammar rank kinds
-passes = record { declarations = declarations_fit; broad = none_broad; large = none_large; count = few; undeclared = all_declared; double = none_double; bad = none_bad; empty = none_empty; falls = all_fall; taken = none_takes; alike = all_alike; marked = all_marked; marks = all_marks; text = refl; fit = all_fit; start = starts }
+passes = record {
+  declarations = declarations_fit;
+  broad = none_broad;
+  large = none_large;
+  count = few;
+  undeclared = all_declared;
+  double = none_double;
+  bad = none_bad;
+  empty = none_empty;
+  falls = all_fall;
+  taken = none_takes;
+  alike = all_alike;
+  marked = all_marked;
+  marks = all_marks;
+  text = refl;
+  fit = all_fit;
+  start = starts;
+}
 
 pub sound : IsSound ace_grammar
 sound = record { written = written; numbered = numbered; faultless = faultless ace_grammar rank kinds passes }

@@ -1,4 +1,4 @@
--- What the rows of tables stand for.
+-- What the rows of tables stand for. Only private calls speak of it.
 use Rattle.std.specs.Prelude.{map, Some}
 use Rattle.codeco_terms.specs.declared.categories.Pattern.{Pattern}
 use Rattle.codeco_terms.specs.declared.elements.Element.{Element}

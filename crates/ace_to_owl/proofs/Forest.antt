@@ -2,44 +2,26 @@
 use Rattle.std.proofs.Common.{◌≡◌, ℕ, ◌==◌, ◌&&◌, ◌||◌, Bool, true, false, List, [], ◌∷◌, ◌++◌, Option, Some, None, refl, sym, ap, ◌∙◌, subst, inl, inr}
 use Rattle.std.specs.Prelude.{◌⊎◌, not, cond, if◌then◌else◌}
 use Rattle.std.specs.List.{filter}
-use Rattle.std.proofs.lemmas.Bool.{cases_eq, eq-eqb, ne_eqb}
+use Rattle.std.proofs.lemmas.Bool.{cases_eq, eq-eqb, ne_eqb, or_cases, or_right, and_from, eqb-true}
 use Rattle.wiki_base.specs.declared.numbers.WordId.{WordId}
+use Rattle.wiki_base.proofs.BoolLaws.{and_first, and_second}
 use Rattle.ace_to_owl.specs.Parts.{Part, At, Edge, connected, has_cycle}
-use Rattle.ace_to_owl.proofs.Labels.{label, connected-label, from_eqb}
+use Rattle.ace_to_owl.proofs.Labels.{label, connected-label}
 
 abbrev pub Con : List Part → ℕ → ℕ → Type 0
 Con ps n m = connected ps n m ≡ true
-
-pub or_cases : (a b : Bool) → (a || b) ≡ true → (a ≡ true) ⊎ (b ≡ true)
-or_cases true b h = inl refl
-or_cases false b h = inr h
-
-pub and_l : (a b : Bool) → (a && b) ≡ true → a ≡ true
-and_l true b h = refl
-and_l false b h = h
-
-pub and_r : (a b : Bool) → (a && b) ≡ true → b ≡ true
-and_r true b h = h
-and_r false b h = cc
-
-pub or_r : (a b : Bool) → b ≡ true → (a || b) ≡ true
-or_r true b h = refl
-or_r false b h = h
-
-pub both : (a b : Bool) → a ≡ true → b ≡ true → (a && b) ≡ true
-both a b p q = ap (λ z. z && b) p ∙ q
 
 pub con_refl : (ps : List Part) (n : ℕ) → Con ps n n
 con_refl ps n = connected-label ps n n ∙ eq-eqb (label ps n) (label ps n) refl
 
 pub con_sym : (ps : List Part) (n m : ℕ) → Con ps n m → Con ps m n
-con_sym ps n m h = connected-label ps m n ∙ eq-eqb (label ps m) (label ps n) (sym (from_eqb (label ps n) (label ps m) (sym (connected-label ps n m) ∙ h)))
+con_sym ps n m h = connected-label ps m n ∙ eq-eqb (label ps m) (label ps n) (sym (eqb-true (label ps n) (label ps m) (sym (connected-label ps n m) ∙ h)))
 
 pub con_trans : (ps : List Part) (n m k : ℕ) → Con ps n m → Con ps m k → Con ps n k
 con_trans ps n m k h g =
     connected-label ps n k
     ∙ eq-eqb (label ps n) (label ps k)
-    (from_eqb (label ps n) (label ps m) (sym (connected-label ps n m) ∙ h) ∙ from_eqb (label ps m) (label ps k) (sym (connected-label ps m k) ∙ g))
+    (eqb-true (label ps n) (label ps m) (sym (connected-label ps n m) ∙ h) ∙ eqb-true (label ps m) (label ps k) (sym (connected-label ps m k) ∙ g))
 
 pub con_skip : (e : Part) (ps : List Part) (n m : ℕ) → Con ps n m → Con (e ∷ ps) n m
 con_skip (At k c) ps n m h = h
@@ -47,20 +29,21 @@ con_skip (Edge word a b) ps n m h = ap (λ z. z || ((connected ps n a && connect
 
 pub con_along : (word : WordId) (a b : ℕ) (ps : List Part) (n m : ℕ) → Con ps n a → Con ps b m → Con (Edge word a b ∷ ps) n m
 con_along word a b ps n m h g =
-    or_r (connected ps n m) ((connected ps n a && connected ps b m) || (connected ps n b && connected ps a m))
-    (ap (λ z. z || (connected ps n b && connected ps a m)) (both (connected ps n a) (connected ps b m) h g))
+    or_right (connected ps n m) ((connected ps n a && connected ps b m) || (connected ps n b && connected ps a m))
+    (ap (λ z. z || (connected ps n b && connected ps a m)) (and_from (connected ps n a) (connected ps b m) h g))
 
 pub con_against : (word : WordId) (a b : ℕ) (ps : List Part) (n m : ℕ) → Con ps n b → Con ps a m → Con (Edge word a b ∷ ps) n m
 con_against word a b ps n m h g =
-    or_r (connected ps n m) ((connected ps n a && connected ps b m) || (connected ps n b && connected ps a m))
-    (or_r (connected ps n a && connected ps b m) (connected ps n b && connected ps a m) (both (connected ps n b) (connected ps a m) h g))
+    or_right (connected ps n m) ((connected ps n a && connected ps b m) || (connected ps n b && connected ps a m))
+    (or_right (connected ps n a && connected ps b m) (connected ps n b && connected ps a m) (and_from (connected ps n b) (connected ps a m) h g))
 
-pub con_cases : (word : WordId) (a b : ℕ) (ps : List Part) (n m : ℕ) → Con (Edge word a b ∷ ps) n m → Con ps n m ⊎ ((Con ps n a × Con ps b m) ⊎ (Con ps n b × Con ps a m))
+pub con_cases : (word : WordId) (a b : ℕ) (ps : List Part) (n m : ℕ) → Con (Edge word a b ∷ ps) n m
+    → Con ps n m ⊎ ((Con ps n a × Con ps b m) ⊎ (Con ps n b × Con ps a m))
 con_cases word a b ps n m h = elim (or_cases (connected ps n m) ((connected ps n a && connected ps b m) || (connected ps n b && connected ps a m)) h) [
   | inl x ↦ inl x
   | inr x ↦ elim (or_cases (connected ps n a && connected ps b m) (connected ps n b && connected ps a m) x) [
-    | inl y ↦ inr (inl (and_l (connected ps n a) (connected ps b m) y, and_r (connected ps n a) (connected ps b m) y))
-    | inr y ↦ inr (inr (and_l (connected ps n b) (connected ps a m) y, and_r (connected ps n b) (connected ps a m) y))
+    | inl y ↦ inr (inl (and_first (connected ps n a) (connected ps b m) y, and_second (connected ps n a) (connected ps b m) y))
+    | inr y ↦ inr (inr (and_first (connected ps n b) (connected ps a m) y, and_second (connected ps n b) (connected ps a m) y))
   ]
 ]
 
@@ -113,15 +96,28 @@ module _ (v : ℕ) (word : WordId) (a b : ℕ) (ps : List Part) (ih : Parted v p
   kept = λ j. cond (not (ne_eqb a v na j || ne_eqb b v nb j)) (Edge word a b ∷ apart v ps) (apart v ps)
 
   via_along : (n : ℕ) → Touched v ps a → Con (apart v ps) b n → Touched v (Edge word a b ∷ ps) n
-  via_along n t h = record { end = t.end; edge = t.edge; among = inr t.among; is = t.is; on = con_at (Edge word a b ∷ apart v ps) (apart v (Edge word a b ∷ ps)) t.end n (sym kept) (con_along word a b (apart v ps) t.end n t.on h) }
+  via_along n t h = record {
+    end = t.end;
+    edge = t.edge;
+    among = inr t.among;
+    is = t.is;
+    on = con_at (Edge word a b ∷ apart v ps) (apart v (Edge word a b ∷ ps)) t.end n (sym kept) (con_along word a b (apart v ps) t.end n t.on h);
+  }
 
   via_against : (n : ℕ) → Touched v ps b → Con (apart v ps) a n → Touched v (Edge word a b ∷ ps) n
-  via_against n t h = record { end = t.end; edge = t.edge; among = inr t.among; is = t.is; on = con_at (Edge word a b ∷ apart v ps) (apart v (Edge word a b ∷ ps)) t.end n (sym kept) (con_against word a b (apart v ps) t.end n t.on h) }
+  via_against n t h = record {
+    end = t.end;
+    edge = t.edge;
+    among = inr t.among;
+    is = t.is;
+    on = con_at (Edge word a b ∷ apart v ps) (apart v (Edge word a b ∷ ps)) t.end n (sym kept) (con_against word a b (apart v ps) t.end n t.on h);
+  }
 
   skip : (n : ℕ) → Touched v ps n → Touched v (Edge word a b ∷ ps) n
   skip n t = touched_skip v (Edge word a b) ps n t
 
-  beside_two : (n u : ℕ) → ¬ (n ≡ v) → ¬ (u ≡ v) → Con (Edge word a b ∷ ps) n u → Con (apart v (Edge word a b ∷ ps)) n u ⊎ (Touched v (Edge word a b ∷ ps) n × Touched v (Edge word a b ∷ ps) u)
+  beside_two : (n u : ℕ) → ¬ (n ≡ v) → ¬ (u ≡ v) → Con (Edge word a b ∷ ps) n u
+      → Con (apart v (Edge word a b ∷ ps)) n u ⊎ (Touched v (Edge word a b ∷ ps) n × Touched v (Edge word a b ∷ ps) u)
   beside_two n u nn nu h = elim (con_cases word a b ps n u h) [
     | inl x ↦ elim (ih.two n u nn nu x) [
       | inl y ↦ inl (apart_skip v (Edge word a b) ps n u y)
@@ -161,7 +157,8 @@ module _ (v : ℕ) (word : WordId) (a b : ℕ) (ps : List Part) (ih : Parted v p
   ]
 
 -- an edge from the member to another
-module _ (v : ℕ) (e : Part) (b : ℕ) (ps : List Part) (ih : Parted v ps) (nb : ¬ (b ≡ v)) (is : far v e ≡ Some b) (left : apart v (e ∷ ps) ≡ apart v ps) (cases : (n u : ℕ) → Con (e ∷ ps) n u → Con ps n u ⊎ ((Con ps n v × Con ps b u) ⊎ (Con ps n b × Con ps v u))) where
+module _ (v : ℕ) (e : Part) (b : ℕ) (ps : List Part) (ih : Parted v ps) (nb : ¬ (b ≡ v)) (is : far v e ≡ Some b) (left : apart v (e ∷ ps) ≡ apart v ps)
+    (cases : (n u : ℕ) → Con (e ∷ ps) n u → Con ps n u ⊎ ((Con ps n v × Con ps b u) ⊎ (Con ps n b × Con ps v u))) where
   by_it : (n : ℕ) → Con (apart v ps) b n → Touched v (e ∷ ps) n
   by_it n h = record { end = b; edge = e; among = inl refl; is = is; on = con_at (apart v ps) (apart v (e ∷ ps)) b n (sym left) h }
 
@@ -187,7 +184,8 @@ module _ (v : ℕ) (e : Part) (b : ℕ) (ps : List Part) (ih : Parted v ps) (nb 
   ]
 
 -- an edge from the member to itself
-module _ (v : ℕ) (e : Part) (ps : List Part) (ih : Parted v ps) (cases : (n u : ℕ) → Con (e ∷ ps) n u → Con ps n u ⊎ ((Con ps n v × Con ps v u) ⊎ (Con ps n v × Con ps v u))) where
+module _ (v : ℕ) (e : Part) (ps : List Part) (ih : Parted v ps)
+    (cases : (n u : ℕ) → Con (e ∷ ps) n u → Con ps n u ⊎ ((Con ps n v × Con ps v u) ⊎ (Con ps n v × Con ps v u))) where
   loop_two : (n u : ℕ) → ¬ (n ≡ v) → ¬ (u ≡ v) → Con (e ∷ ps) n u → Con (apart v (e ∷ ps)) n u ⊎ (Touched v (e ∷ ps) n × Touched v (e ∷ ps) u)
   loop_two n u nn nu h =
       let through : Con ps n v × Con ps v u → Touched v (e ∷ ps) n × Touched v (e ∷ ps) u =
@@ -203,12 +201,13 @@ module _ (v : ℕ) (e : Part) (ps : List Part) (ih : Parted v ps) (cases : (n u 
     | inr x ↦ elim x [ inl y ↦ touched_skip v e ps n (ih.one n nn y.1) | inr y ↦ touched_skip v e ps n (ih.one n nn y.1) ]
   ]
 
-con_swap : (word : WordId) (a b : ℕ) (ps : List Part) (n m : ℕ) → Con (Edge word a b ∷ ps) n m → Con ps n m ⊎ ((Con ps n b × Con ps a m) ⊎ (Con ps n a × Con ps b m))
+con_swap : (word : WordId) (a b : ℕ) (ps : List Part) (n m : ℕ) → Con (Edge word a b ∷ ps) n m
+    → Con ps n m ⊎ ((Con ps n b × Con ps a m) ⊎ (Con ps n a × Con ps b m))
 con_swap word a b ps n m h = elim (con_cases word a b ps n m h) [ inl x ↦ inl x | inr x ↦ elim x [ inl y ↦ inr (inr y) | inr y ↦ inr (inl y) ] ]
 
 -- what is connected goes round the member or comes by way of it
 pub parted : (v : ℕ) (ps : List Part) → Parted v ps
-parted v [] = record { two = λ n u nn nu h. inl h; one = λ n nn h. absurd (nn (sym (from_eqb v n h))) }
+parted v [] = record { two = λ n u nn nu h. inl h; one = λ n nn h. absurd (nn (sym (eqb-true v n h))) }
 parted v (At k c ∷ ps) =
     let ih : Parted v ps = parted v ps in record {
       two = λ n u nn nu h. elim (ih.two n u nn nu h) [
@@ -268,33 +267,35 @@ apart_within v [] n m h = h
 apart_within v (e ∷ ps) n m h = cond_within (not (speaks v e)) e (apart v ps) ps (apart_within v ps) n m h
 
 -- no cycle stays where parts are taken away
-cond_forest : (t : Bool) (e : Part) (ps qs : List Part) → Within ps qs → (has_cycle ps ≡ true → has_cycle qs ≡ true) → has_cycle (cond t (e ∷ ps) ps) ≡ true → has_cycle (e ∷ qs) ≡ true
+cond_forest : (t : Bool) (e : Part) (ps qs : List Part) → Within ps qs → (has_cycle ps ≡ true → has_cycle qs ≡ true) → has_cycle (cond t (e ∷ ps) ps) ≡ true
+    → has_cycle (e ∷ qs) ≡ true
 cond_forest true (At k c) ps qs w f h = f h
 cond_forest true (Edge word a b) ps qs w f h = elim (or_cases (connected ps a b) (has_cycle ps) h) [
   | inl x ↦ ap (λ z. z || has_cycle qs) (w a b x)
-  | inr x ↦ or_r (connected qs a b) (has_cycle qs) (f x)
+  | inr x ↦ or_right (connected qs a b) (has_cycle qs) (f x)
 ]
 cond_forest false (At k c) ps qs w f h = f h
-cond_forest false (Edge word a b) ps qs w f h = or_r (connected qs a b) (has_cycle qs) (f h)
+cond_forest false (Edge word a b) ps qs w f h = or_right (connected qs a b) (has_cycle qs) (f h)
 
 pub apart_cycle : (v : ℕ) (ps : List Part) → has_cycle (apart v ps) ≡ true → has_cycle ps ≡ true
 apart_cycle v [] h = h
 apart_cycle v (e ∷ ps) h = cond_forest (not (speaks v e)) e (apart v ps) ps (apart_within v ps) (apart_cycle v ps) h
 
 -- a member that was taken away is connected to itself alone
-isolated_by : (v : ℕ) (t : Bool) (e : Part) (ps : List Part) → t ≡ not (speaks v e) → ((n : ℕ) → Con ps n v → n ≡ v) → (n : ℕ) → Con (cond t (e ∷ ps) ps) n v → n ≡ v
+isolated_by : (v : ℕ) (t : Bool) (e : Part) (ps : List Part) → t ≡ not (speaks v e) → ((n : ℕ) → Con ps n v → n ≡ v) → (n : ℕ) → Con (cond t (e ∷ ps) ps) n v
+    → n ≡ v
 isolated_by v true (At k c) ps is ih n h = ih n h
 isolated_by v true (Edge word a b) ps is ih n h = elim (con_cases word a b ps n v h) [
   | inl x ↦ ih n x
   | inr x ↦ elim x [
-    | inl y ↦ (let bv : b ≡ v = ih b y.1 in let is_not : true ≡ false = is ∙ ap not (or_r (a == v) (b == v) (eq-eqb b v bv)) in cc)
+    | inl y ↦ (let bv : b ≡ v = ih b y.1 in let is_not : true ≡ false = is ∙ ap not (or_right (a == v) (b == v) (eq-eqb b v bv)) in cc)
     | inr y ↦ (let av : a ≡ v = ih a y.1 in let is_not : true ≡ false = is ∙ ap not (ap (λ z. z || (b == v)) (eq-eqb a v av)) in cc)
   ]
 ]
 isolated_by v false e ps is ih n h = ih n h
 
 pub isolated : (v : ℕ) (ps : List Part) (n : ℕ) → Con (apart v ps) n v → n ≡ v
-isolated v [] n h = from_eqb n v h
+isolated v [] n h = eqb-true n v h
 isolated v (e ∷ ps) n h = isolated_by v (not (speaks v e)) e (apart v ps) refl (isolated v ps) n h
 
 -- without a cycle an edge is the only way from one end to the other
@@ -306,9 +307,10 @@ cut (Edge other x y ∷ before) word a b after h =
     let rest : Within (before ++ after) all = within_middle before in
     let joint : Con all a b = middle before in
     elim (con_cases other x y (before ++ after) a b h) [
-      | inl z ↦ or_r (connected all x y) (has_cycle all) (cut before word a b after z)
+      | inl z ↦ or_right (connected all x y) (has_cycle all) (cut before word a b after z)
       | inr z ↦ elim z [
-        | inl p ↦ ap (λ w. w || has_cycle all) (con_trans all x a y (con_sym all a x (rest a x p.0)) (con_trans all a b y joint (con_sym all y b (rest y b p.1))))
+        | inl p ↦ ap (λ w. w || has_cycle all)
+            (con_trans all x a y (con_sym all a x (rest a x p.0)) (con_trans all a b y joint (con_sym all y b (rest y b p.1))))
         | inr p ↦ ap (λ w. w || has_cycle all) (con_trans all x b y (rest x b p.1) (con_trans all b a y (con_sym all a b joint) (rest a y p.0)))
       ]
     ]

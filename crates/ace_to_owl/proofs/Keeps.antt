@@ -1,6 +1,7 @@
 -- The laws of truth in the words of the contracts.
 use Rattle.std.proofs.Common.{◌≡◌, ℕ, ◌<◌, ◌==◌, ◌&&◌, ◌||◌, Bool, true, false, List, [], ◌∷◌, Option, Some, None, Ok, Decides, refl, sym, ap, ◌∙◌, inl, inr}
-use Rattle.std.proofs.lemmas.Bool.{ltb-true, eq-eqb}
+use Rattle.std.proofs.lemmas.Bool.{ltb-true, eq-eqb, or_cases, eqb-true, both_ways}
+use Rattle.wiki_base.proofs.BoolLaws.{and_first}
 use Rattle.logic_terms.specs.declared.structures.Thing.{Thing}
 use Rattle.logic_terms.specs.declared.structures.Thing.TheVariants.{Ref, Name}
 use Rattle.logic_terms.specs.Concept.{Concept, Claim}
@@ -16,30 +17,29 @@ use Rattle.logic_terms.proofs.Extensions.{is_true-Decides}
 use Rattle.ace_to_owl.specs.Mapping.{without, class_asked, axioms_stated}
 use Rattle.ace_to_owl.specs.Rolling.{roll}
 use Rattle.ace_to_owl.specs.Truths.{RollsTruly, SameTruth, SameReading, AnswersTruly, AnswersByReading}
-use Rattle.ace_to_owl.proofs.Labels.{clash, from_eqb}
-use Rattle.ace_to_owl.proofs.Forest.{and_l, or_cases}
 use Rattle.ace_to_owl.proofs.Fresh.{fresh_once, not_both}
 use Rattle.ace_to_owl.proofs.RollTruth.{roll_true}
 use Rattle.ace_to_owl.proofs.StatementTruth.{statement_true, question_true}
 
 pub roll_keeps : (root : Option Thing) (k : Structure) (c : Concept) → roll root k ≡ Ok c → RollsTruly root k c
 roll_keeps None k c made once outside i f x stands =
-    roll_true i [] None k c (fresh_once [] k once (λ q none own. clash false refl none)) tt made f x stands
+    roll_true i [] None k c (fresh_once [] k once (λ q none own. both_ways false refl none)) tt made f x stands
 roll_keeps (Some (Name name)) k c made once outside i f x stands =
-    roll_true i [] (Some (Name name)) k c (fresh_once [] k once (λ q none own. clash false refl none)) tt made f x stands
+    roll_true i [] (Some (Name name)) k c (fresh_once [] k once (λ q none own. both_ways false refl none)) tt made f x stands
 roll_keeps (Some (Ref r)) k c made once outside i f x stands =
     roll_true i (r ∷ []) (Some (Ref r)) k c
     (fresh_once (r ∷ []) k once
     (λ q root own. elim (or_cases (r == q) false root) [
-      | inl same ↦ not_both (is_bound (introduced_in k) r) outside (ap (is_bound (introduced_in k)) (from_eqb r q same) ∙ own)
-      | inr is_not ↦ clash false refl is_not
+      | inl same ↦ not_both (is_bound (introduced_in k) r) outside (ap (is_bound (introduced_in k)) (eqb-true r q same) ∙ own)
+      | inr is_not ↦ both_ways false refl is_not
     ]))
     (ap (λ b. b || false) (eq-eqb r r refl)) made f x stands
 
 -- an interpretation has an element
 first_of_all : (a b c d e f g : Bool) → ((((((a && b) && c) && d) && e) && f) && g) ≡ true → a ≡ true
 first_of_all a b c d e f g h =
-    and_l a b (and_l (a && b) c (and_l ((a && b) && c) d (and_l (((a && b) && c) && d) e (and_l ((((a && b) && c) && d) && e) f (and_l (((((a && b) && c) && d) && e) && f) g h)))))
+    and_first a b (and_first (a && b) c (and_first ((a && b) && c) d
+    (and_first (((a && b) && c) && d) e (and_first ((((a && b) && c) && d) && e) f (and_first (((((a && b) && c) && d) && e) && f) g h)))))
 
 positive : (i : Interpretation) → is_interpretation i ≡ true → 0 < i.size
 positive i lawful = ltb-true 0 i.size (first_of_all _ _ _ _ _ _ _ lawful)
@@ -61,5 +61,6 @@ pub question_reads : (k : Structure) (asked : ℕ) (c : Concept) → class_asked
 question_reads k asked c made once own i f x =
     let same : is_in i c x ≡ is_true i (without asked k) (giving f asked x) = question_keeps k asked c made once own i f x in
     let left : Decides (is_in i c x) (IsIn i c x) = is_in-Decides i c x in
-    let right : Decides (is_true i (without asked k) (giving f asked x)) (IsTrueUnder i (without asked k) (giving f asked x)) = is_true-Decides i (without asked k) (giving f asked x) in
+    let right : Decides (is_true i (without asked k) (giving f asked x)) (IsTrueUnder i (without asked k) (giving f asked x)) =
+    is_true-Decides i (without asked k) (giving f asked x) in
     (λ h. right.0 (sym same ∙ left.1 h), λ h. left.0 (same ∙ right.1 h))

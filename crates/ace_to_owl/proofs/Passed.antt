@@ -1,17 +1,9 @@
 -- What is left of a list at a place.
-use Rattle.std.proofs.Common.{◌≡◌, ℕ, suc, ◌+◌, ◌<◌, ◌≤◌, List, [], ◌∷◌, ◌++◌, Option, Some, None, length, slice_get, drop, map, get_or, refl, sym, ap, ◌∙◌, add-one}
+use Rattle.std.proofs.Common.{◌≡◌, ℕ, suc, ◌+◌, ◌<◌, ◌≤◌, List, [], ◌∷◌, ◌++◌, Option, Some, None, length, drop, map, get_or, refl, sym, ap, ◌∙◌, add-one}
 use Rattle.std.proofs.Math.Seq.{drop-cons}
 use Rattle.std.proofs.Math.ListN.{drop_of_length-le}
 use Rattle.std.specs.List.{cons_option, drop-map}
-use Rattle.std.proofs.lemmas.Option.{slice_get_within, get_or_from_slice_get}
 use Rattle.ace_to_owl.specs.Answers.{listed}
-
--- at the place of an item that item comes first
-pub drop_at : {X : Type 0} (xs : List X) (k : ℕ) (x : X) → slice_get xs k ≡ Some x → drop k xs ≡ x ∷ drop (k + 1) xs
-drop_at xs k x at =
-    drop-cons xs k x (slice_get_within xs k x at)
-    ∙ ap (λ y. y ∷ drop (suc k) xs) (get_or_from_slice_get xs k x x at)
-    ∙ ap (λ n. x ∷ drop n xs) (sym (add-one k))
 
 -- the same of an item that was read there
 pub drop_read : {X Y : Type 0} (f : X → Y) (xs : List X) (k : ℕ) (x : X) → k < length xs → x ≡ get_or xs k x → drop k (map f xs) ≡ f x ∷ drop (k + 1) (map f xs)
@@ -30,9 +22,3 @@ cons_option-listed None ys = refl
 -- past the end nothing is left
 pub drop_past : {X Y : Type 0} (f : X → Y) (xs : List X) (k : ℕ) → length xs ≤ k → drop k (map f xs) ≡ []
 drop_past f xs k past = drop-map f k xs ∙ ap (map f) (drop_of_length-le xs {i = k} past)
-
-pub drop_here : {X : Type 0} (xs : List X) (k : ℕ) (x : X) → k < length xs → x ≡ get_or xs k x → drop k xs ≡ x ∷ drop (k + 1) xs
-drop_here xs k x within is =
-    drop-cons xs k x within
-    ∙ ap (λ y. y ∷ drop (suc k) xs) (sym is)
-    ∙ ap (λ n. x ∷ drop n xs) (sym (add-one k))

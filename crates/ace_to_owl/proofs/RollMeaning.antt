@@ -1,11 +1,11 @@
 -- An element is in the class of a structure where the structure is true with it for the root.
 use Rattle.std.proofs.Common.{◌≡◌, ℕ, ◌+◌, ◌==◌, ◌&&◌, ◌||◌, Bool, true, false, List, [], ◌∷◌, ◌++◌, Option, Some, None, Result, Ok, Err, refl, sym, ap, ◌∙◌, subst, inl, inr}
 use Rattle.std.specs.Prelude.{◌⊎◌, not, if◌then◌else◌}
-use Rattle.std.specs.List.{list_any, list_all, filter}
-use Rattle.std.specs.Option.{is_none}
-use Rattle.std.proofs.lemmas.Bool.{cases_Bool, eq-eqb, ne_eqb}
+use Rattle.std.specs.List.{list_any, list_all}
+use Rattle.std.proofs.lemmas.Bool.{cases_Bool, eq-eqb, ne_eqb, or_right as or_more, and_from, eqb-true, both_ways}
 use Rattle.std.proofs.lemmas.List.Folds.{list_any-append}
 use Rattle.wiki_base.specs.declared.numbers.WordId.{WordId}
+use Rattle.wiki_base.proofs.BoolLaws.{and_first, and_second}
 use Rattle.logic_terms.specs.declared.structures.Thing.{Thing}
 use Rattle.logic_terms.specs.declared.structures.Thing.TheVariants.{Ref, Name}
 use Rattle.logic_terms.specs.declared.cause.Cause.{Cause}
@@ -16,15 +16,12 @@ use Rattle.logic_terms.specs.Free.{is_bound}
 use Rattle.logic_terms.specs.Interpretation.{Interpretation, element_of, has_element, has_pair}
 use Rattle.logic_terms.specs.Meaning.{some_below, implies}
 use Rattle.logic_terms.specs.Truth.{giving, some_extension, each_extension, thing_in, condition_true}
-use Rattle.logic_terms.proofs.ComplementLemmas.{is_in-complement, not_not}
 use Rattle.logic_terms.proofs.Extensions.{other_at}
 use Rattle.ace_to_owl.specs.Outcomes.{next}
 use Rattle.ace_to_owl.specs.Terms.{same_thing, is_root}
 use Rattle.ace_to_owl.specs.Truths.{Stands}
 use Rattle.ace_to_owl.specs.Parts.{Part, At, Edge, straight, inverse}
 use Rattle.ace_to_owl.specs.Rolling.{own_member, member, edge_part, value_part, held_at, holder}
-use Rattle.ace_to_owl.proofs.Labels.{clash, from_eqb}
-use Rattle.ace_to_owl.proofs.Forest.{and_l, and_r, both}
 use Rattle.ace_to_owl.proofs.TreeTruth.{part_true}
 use Rattle.ace_to_owl.proofs.TreeMeaning.{value, value_own, is_member, within}
 
@@ -68,7 +65,8 @@ abbrev mutual
   fresh_in_condition bound (Disjunction k l) = fresh_in bound k && fresh_in bound l
 
 -- a root keeps its element where others are given theirs
-pub stands_on : (i : Interpretation) (f g : ℕ → ℕ) (root : Option Thing) (bound rs : List ℕ) (x : ℕ) → list_all (λ r. not (is_bound bound r)) rs ≡ true → Covered root bound → ((q : ℕ) → is_bound rs q ≡ false → g q ≡ f q) → Stands i f root x → Stands i g root x
+pub stands_on : (i : Interpretation) (f g : ℕ → ℕ) (root : Option Thing) (bound rs : List ℕ) (x : ℕ) → list_all (λ r. not (is_bound bound r)) rs ≡ true
+    → Covered root bound → ((q : ℕ) → is_bound rs q ≡ false → g q ≡ f q) → Stands i f root x → Stands i g root x
 stands_on i f g None bound rs x fresh cover keep stands = tt
 stands_on i f g (Some (Name name)) bound rs x fresh cover keep stands = stands
 stands_on i f g (Some (Ref q)) bound rs x fresh cover keep stands = keep q (out rs fresh) ∙ stands
@@ -80,21 +78,25 @@ stands_on i f g (Some (Ref q)) bound rs x fresh cover keep stands = keep q (out 
     out : (rs : List ℕ) → list_all (λ r. not (is_bound bound r)) rs ≡ true → is_bound rs q ≡ false
     out [] h = refl
     out (r ∷ rs) h =
-        ap (λ b. b || is_bound rs q) (ne_eqb r q (λ same. not_true (is_bound bound r) (and_l (not (is_bound bound r)) (list_all (λ p. not (is_bound bound p)) rs) h) (ap (is_bound bound) same ∙ cover)))
-        ∙ out rs (and_r (not (is_bound bound r)) (list_all (λ p. not (is_bound bound p)) rs) h)
+        ap (λ b. b || is_bound rs q) (ne_eqb r q
+        (λ same. not_true (is_bound bound r) (and_first (not (is_bound bound r)) (list_all (λ p. not (is_bound bound p)) rs) h)
+        (ap (is_bound bound) same ∙ cover)))
+        ∙ out rs (and_second (not (is_bound bound r)) (list_all (λ p. not (is_bound bound p)) rs) h)
 
 -- tests that agree on the extensions of an assignment
-pub extension_same : (n : ℕ) (rs : List ℕ) (test other : (ℕ → ℕ) → Bool) (f : ℕ → ℕ) → ((g : ℕ → ℕ) → ((q : ℕ) → is_bound rs q ≡ false → g q ≡ f q) → test g ≡ other g) → some_extension n rs test f ≡ some_extension n rs other f
+pub extension_same : (n : ℕ) (rs : List ℕ) (test other : (ℕ → ℕ) → Bool) (f : ℕ → ℕ)
+    → ((g : ℕ → ℕ) → ((q : ℕ) → is_bound rs q ≡ false → g q ≡ f q) → test g ≡ other g) → some_extension n rs test f ≡ some_extension n rs other f
 extension_same n [] test other f same = same f (λ q h. refl)
 extension_same n (r ∷ rs) test other f same =
-    ap (some_below n) (λ j x. extension_same n rs test other (giving f r x) (λ g keep. same g (λ q out. keep q (later q out) ∙ other_at f r x q (differ q out))) j)
+    ap (some_below n) (λ j x. extension_same n rs test other (giving f r x) (λ g keep. same g (λ q out. keep q (later q out) ∙ other_at f r x q (differ q out)))
+    j)
   where
     differ : (q : ℕ) → ((r == q) || is_bound rs q) ≡ false → r ≡ q → ⊥
-    differ q out same_ = clash ((r == q) || is_bound rs q) out (ap (λ b. b || is_bound rs q) (eq-eqb r q same_))
+    differ q out same_ = both_ways ((r == q) || is_bound rs q) out (ap (λ b. b || is_bound rs q) (eq-eqb r q same_))
 
     later : (q : ℕ) → ((r == q) || is_bound rs q) ≡ false → is_bound rs q ≡ false
     later q out = elim (cases_Bool (is_bound rs q)) [
-      | inl is_so ↦ absurd (clash ((r == q) || is_bound rs q) out (or_more (r == q) (is_bound rs q) is_so))
+      | inl is_so ↦ absurd (both_ways ((r == q) || is_bound rs q) out (or_more (r == q) (is_bound rs q) is_so))
       | inr is_not ↦ is_not
     ]
       where
@@ -104,10 +106,10 @@ extension_same n (r ∷ rs) test other f same =
 
 -- a thing that is the root has its element
 same_word : (i : Interpretation) (a b : WordId) → (a.0 == b.0) ≡ true → element_of i a ≡ element_of i b
-same_word i a b e = ap (λ n. Rattle.std.specs.Prelude.unwrap_or (Rattle.std.specs.Map.lookup (λ o. n == o.0) i.names) 0) (from_eqb a.0 b.0 e)
+same_word i a b e = ap (λ n. Rattle.std.specs.Prelude.unwrap_or (Rattle.std.specs.Map.lookup (λ o. n == o.0) i.names) 0) (eqb-true a.0 b.0 e)
 
 same_elements : (i : Interpretation) (g : ℕ → ℕ) (r t : Thing) → same_thing r t ≡ true → thing_in i g r ≡ thing_in i g t
-same_elements i g (Ref r) (Ref q) e = ap g (from_eqb r q e)
+same_elements i g (Ref r) (Ref q) e = ap g (eqb-true r q e)
 same_elements i g (Ref r) (Name b) e = let flip : false ≡ true = e in cc
 same_elements i g (Name a) (Ref q) e = let flip : false ≡ true = e in cc
 same_elements i g (Name a) (Name b) e = same_word i a b e
@@ -128,14 +130,10 @@ pub record Membership (i : Interpretation) (root : Option Thing) (bound rs : Lis
   pub inside : is_member rs n ≡ true
   pub covered : Covered (Some t) (bound ++ rs)
 
-or_more : (a b : Bool) → b ≡ true → (a || b) ≡ true
-or_more true b h = refl
-or_more false b h = h
-
 bound_member : (rs : List ℕ) (q : ℕ) → is_bound rs q ≡ true → list_any (λ r. (r + 1) == (q + 1)) rs ≡ true
 bound_member [] q h = h
 bound_member (r ∷ rs) q h = elim (Rattle.ace_to_owl.proofs.Forest.or_cases (r == q) (is_bound rs q) h) [
-  | inl here ↦ ap (λ b. b || list_any (λ p. (p + 1) == (q + 1)) rs) (eq-eqb (r + 1) (q + 1) (ap (λ n. n + 1) (from_eqb r q here)))
+  | inl here ↦ ap (λ b. b || list_any (λ p. (p + 1) == (q + 1)) rs) (eq-eqb (r + 1) (q + 1) (ap (λ n. n + 1) (eqb-true r q here)))
   | inr later ↦ or_more ((r + 1) == (q + 1)) (list_any (λ p. (p + 1) == (q + 1)) rs) (bound_member rs q later)
 ]
 
@@ -147,7 +145,7 @@ bound_right bound rs q h = list_any-append (λ p. p == q) bound rs ∙ or_more (
 
 covered_root : (root : Option Thing) (t : Thing) (bound rs : List ℕ) → is_root root t ≡ true → Covered root bound → Covered (Some t) (bound ++ rs)
 covered_root None t bound rs e cover = let flip : false ≡ true = e in cc
-covered_root (Some (Ref r)) (Ref q) bound rs e cover = bound_left bound rs q (ap (is_bound bound) (sym (from_eqb r q e)) ∙ cover)
+covered_root (Some (Ref r)) (Ref q) bound rs e cover = bound_left bound rs q (ap (is_bound bound) (sym (eqb-true r q e)) ∙ cover)
 covered_root (Some (Ref r)) (Name b) bound rs e cover = tt
 covered_root (Some (Name a)) (Ref q) bound rs e cover = let flip : false ≡ true = e in cc
 covered_root (Some (Name a)) (Name b) bound rs e cover = tt
@@ -164,7 +162,8 @@ own_membership i root bound rs (Ref q) n e = elim (cases_Bool (is_bound rs q)) [
   | inr free ↦ absurd (none_some n (sym (ap (λ b. if b then Some (q + 1) else None) free) ∙ e))
 ]
 
-pub membership : (i : Interpretation) (root : Option Thing) (bound rs : List ℕ) (t : Thing) (n : ℕ) → Covered root bound → member root rs t ≡ Some n → Membership i root bound rs t n
+pub membership : (i : Interpretation) (root : Option Thing) (bound rs : List ℕ) (t : Thing) (n : ℕ) → Covered root bound → member root rs t ≡ Some n
+    → Membership i root bound rs t n
 membership i root bound rs t n cover e = elim (cases_Bool (is_root root t)) [
   | inl is_so ↦ (let same : 0 ≡ n = some_same 0 n (sym (ap (λ b. if b then Some 0 else own_member rs t) is_so) ∙ e) in
       record {
@@ -183,7 +182,9 @@ pub record Sound (i : Interpretation) (root : Option Thing) (rs : List ℕ) (p :
 pub sound_at : (i : Interpretation) (root : Option Thing) (rs : List ℕ) (p q : Part) (c : Condition) → q ≡ p → Sound i root rs q c → Sound i root rs p c
 sound_at i root rs p q c same s = subst (λ r. Sound i root rs r c) same s
 
-pub noun_by : (i : Interpretation) (root : Option Thing) (bound rs : List ℕ) (noun : WordId) (t : Thing) (p : Part) (foreign : Bool) (o : Option ℕ) → Covered root bound → member root rs t ≡ o → (if foreign then Err Shared else elim o [ Some n ↦ Ok (At n (Atomic noun)) | None ↦ Err NoRoot ]) ≡ Ok p → Sound i root rs p (IsA noun t)
+pub noun_by : (i : Interpretation) (root : Option Thing) (bound rs : List ℕ) (noun : WordId) (t : Thing) (p : Part) (foreign : Bool) (o : Option ℕ)
+    → Covered root bound → member root rs t ≡ o → (if foreign then Err Shared else elim o [ Some n ↦ Ok (At n (Atomic noun)) | None ↦ Err NoRoot ]) ≡ Ok p
+    → Sound i root rs p (IsA noun t)
 noun_by i root bound rs noun t p true o cover is e = absurd (no_err Shared p e)
 noun_by i root bound rs noun t p false None cover is e = absurd (no_err NoRoot p e)
 noun_by i root bound rs noun t p false (Some n) cover is e =
@@ -191,25 +192,39 @@ noun_by i root bound rs noun t p false (Some n) cover is e =
     sound_at i root rs p (At n (Atomic noun)) (IsA noun t) (ok_same (At n (Atomic noun)) p e)
     (record { inside = m.inside; truth = λ g x stands. ap (has_element i noun) (sym (m.element g x stands)) })
 
-value_of : (i : Interpretation) (root : Option Thing) (rs : List ℕ) (word : WordId) (t u : Thing) (n : ℕ) (p : Part) → is_member rs n ≡ true → ((g : ℕ → ℕ) (x : ℕ) → Stands i g root x → thing_in i g t ≡ value x g n) → value_part n (straight word) u ≡ Ok p → Sound i root rs p (AreRelated word t u)
+value_of : (i : Interpretation) (root : Option Thing) (rs : List ℕ) (word : WordId) (t u : Thing) (n : ℕ) (p : Part) → is_member rs n ≡ true
+    → ((g : ℕ → ℕ) (x : ℕ) → Stands i g root x → thing_in i g t ≡ value x g n) → value_part n (straight word) u ≡ Ok p → Sound i root rs p (AreRelated word t u)
 value_of i root rs word t (Ref q) n p inside element e = absurd (no_err Shared p e)
 value_of i root rs word t (Name b) n p inside element e =
     sound_at i root rs p (At n (HasValue (straight word) b)) (AreRelated word t (Name b)) (ok_same (At n (HasValue (straight word) b)) p e)
     (record { inside = inside; truth = λ g x stands. ap (λ y. has_pair i word y (element_of i b)) (sym (element g x stands)) })
 
-inverse_of : (i : Interpretation) (root : Option Thing) (rs : List ℕ) (word : WordId) (t u : Thing) (n : ℕ) (p : Part) → is_member rs n ≡ true → ((g : ℕ → ℕ) (x : ℕ) → Stands i g root x → thing_in i g u ≡ value x g n) → value_part n (inverse word) t ≡ Ok p → Sound i root rs p (AreRelated word t u)
+inverse_of : (i : Interpretation) (root : Option Thing) (rs : List ℕ) (word : WordId) (t u : Thing) (n : ℕ) (p : Part) → is_member rs n ≡ true
+    → ((g : ℕ → ℕ) (x : ℕ) → Stands i g root x → thing_in i g u ≡ value x g n) → value_part n (inverse word) t ≡ Ok p → Sound i root rs p (AreRelated word t u)
 inverse_of i root rs word (Ref q) u n p inside element e = absurd (no_err Shared p e)
 inverse_of i root rs word (Name a) u n p inside element e =
     sound_at i root rs p (At n (HasValue (inverse word) a)) (AreRelated word (Name a) u) (ok_same (At n (HasValue (inverse word) a)) p e)
     (record { inside = inside; truth = λ g x stands. ap (has_pair i word (element_of i a)) (sym (element g x stands)) })
 
-edge_of : (i : Interpretation) (root : Option Thing) (rs : List ℕ) (word : WordId) (t u : Thing) (n m : ℕ) (p : Part) (same : Bool) → is_member rs n ≡ true → is_member rs m ≡ true → ((g : ℕ → ℕ) (x : ℕ) → Stands i g root x → thing_in i g t ≡ value x g n) → ((g : ℕ → ℕ) (x : ℕ) → Stands i g root x → thing_in i g u ≡ value x g m) → (if same then Err Cycle else Ok (Edge word n m)) ≡ Ok p → Sound i root rs p (AreRelated word t u)
+edge_of : (i : Interpretation) (root : Option Thing) (rs : List ℕ) (word : WordId) (t u : Thing) (n m : ℕ) (p : Part) (same : Bool) → is_member rs n ≡ true
+    → is_member rs m ≡ true → ((g : ℕ → ℕ) (x : ℕ) → Stands i g root x → thing_in i g t ≡ value x g n)
+    → ((g : ℕ → ℕ) (x : ℕ) → Stands i g root x → thing_in i g u ≡ value x g m) → (if same then Err Cycle else Ok (Edge word n m)) ≡ Ok p
+    → Sound i root rs p (AreRelated word t u)
 edge_of i root rs word t u n m p true inn inm elt elu e = absurd (no_err Cycle p e)
 edge_of i root rs word t u n m p false inn inm elt elu e =
     sound_at i root rs p (Edge word n m) (AreRelated word t u) (ok_same (Edge word n m) p e)
-    (record { inside = both (is_member rs n) (is_member rs m) inn inm; truth = λ g x stands. λ j. has_pair i word (sym (elt g x stands) j) (sym (elu g x stands) j) })
+    (record {
+      inside = and_from (is_member rs n) (is_member rs m) inn inm;
+      truth = λ g x stands. λ j. has_pair i word (sym (elt g x stands) j) (sym (elu g x stands) j);
+    })
 
-pub relation_by : (i : Interpretation) (root : Option Thing) (bound rs : List ℕ) (word : WordId) (t u : Thing) (p : Part) (foreign : Bool) (o q : Option ℕ) → Covered root bound → member root rs t ≡ o → member root rs u ≡ q → (if foreign then Err Shared else elim o [ Some n ↦ elim q [ Some m ↦ edge_part word n m | None ↦ value_part n (straight word) u ] | None ↦ elim q [ Some m ↦ value_part m (inverse word) t | None ↦ Err NoRoot ] ]) ≡ Ok p → Sound i root rs p (AreRelated word t u)
+pub relation_by : (i : Interpretation) (root : Option Thing) (bound rs : List ℕ) (word : WordId) (t u : Thing) (p : Part) (foreign : Bool) (o q : Option ℕ)
+    → Covered root bound → member root rs t ≡ o → member root rs u ≡ q
+    → (if foreign then Err Shared else elim o [
+      | Some n ↦ elim q [ Some m ↦ edge_part word n m | None ↦ value_part n (straight word) u ]
+      | None ↦
+          elim q [ Some m ↦ value_part m (inverse word) t | None ↦ Err NoRoot ]
+    ]) ≡ Ok p → Sound i root rs p (AreRelated word t u)
 relation_by i root bound rs word t u p true o q cover is_t is_u e = absurd (no_err Shared p e)
 relation_by i root bound rs word t u p false (Some n) (Some m) cover is_t is_u e =
     let a : Membership i root bound rs t n = membership i root bound rs t n cover is_t in
@@ -238,25 +253,30 @@ covered_more None bound rs cover = tt
 covered_more (Some (Ref q)) bound rs cover = bound_left bound rs q cover
 covered_more (Some (Name a)) bound rs cover = tt
 
-held_by : (i : Interpretation) (root : Option Thing) (bound rs : List ℕ) (t : Thing) (h : Option Thing × ℕ) (o : Option ℕ) → Covered root bound → member root rs t ≡ o → ◌≡◌ {A = Result (Option Thing × ℕ) Cause} (elim o [ Some n ↦ Ok (Some t, n) | None ↦ Err Shared ]) (Ok h) → Holding i root bound rs h
+held_by : (i : Interpretation) (root : Option Thing) (bound rs : List ℕ) (t : Thing) (h : Option Thing × ℕ) (o : Option ℕ) → Covered root bound
+    → member root rs t ≡ o → ◌≡◌ {A = Result (Option Thing × ℕ) Cause} (elim o [ Some n ↦ Ok (Some t, n) | None ↦ Err Shared ]) (Ok h)
+    → Holding i root bound rs h
 held_by i root bound rs t h None cover is e = absurd (no_err Shared h e)
 held_by i root bound rs t h (Some n) cover is e =
     let m : Membership i root bound rs t n = membership i root bound rs t n cover is in
     subst (Holding i root bound rs) (ok_same (Some t, n) h e)
     (record { stands = m.element; inside = m.inside; covered = m.covered })
 
-holder_by : (i : Interpretation) (root : Option Thing) (bound rs : List ℕ) (t : Thing) (h : Option Thing × ℕ) (alone : Bool) → Covered root bound → (if alone then held_at root rs t else Err Shared) ≡ Ok h → Holding i root bound rs h
+holder_by : (i : Interpretation) (root : Option Thing) (bound rs : List ℕ) (t : Thing) (h : Option Thing × ℕ) (alone : Bool) → Covered root bound
+    → (if alone then held_at root rs t else Err Shared) ≡ Ok h → Holding i root bound rs h
 holder_by i root bound rs t h true cover e = held_by i root bound rs t h (member root rs t) cover refl e
 holder_by i root bound rs t h false cover e = absurd (no_err Shared h e)
 
-pub holding : (i : Interpretation) (root : Option Thing) (bound rs : List ℕ) (ts : List Thing) (h : Option Thing × ℕ) → Covered root bound → holder root rs ts ≡ Ok h → Holding i root bound rs h
+pub holding : (i : Interpretation) (root : Option Thing) (bound rs : List ℕ) (ts : List Thing) (h : Option Thing × ℕ) → Covered root bound
+    → holder root rs ts ≡ Ok h → Holding i root bound rs h
 holding i root bound rs [] h cover e =
     subst (Holding i root bound rs) (ok_same (root, 0) h e)
     (record { stands = λ g x stands. stands; inside = refl; covered = covered_more root bound rs cover })
 holding i root bound rs (t ∷ ts) h cover e = holder_by i root bound rs t h (list_all (same_thing t) ts) cover e
 
 -- an extension that makes one true and another false, and the lack of one
-pub not_each : (n : ℕ) (rs : List ℕ) (a b : (ℕ → ℕ) → Bool) (f : ℕ → ℕ) → some_extension n rs (λ g. a g && not (b g)) f ≡ not (each_extension n rs (λ g. implies (a g) (b g)) f)
+pub not_each : (n : ℕ) (rs : List ℕ) (a b : (ℕ → ℕ) → Bool) (f : ℕ → ℕ)
+    → some_extension n rs (λ g. a g && not (b g)) f ≡ not (each_extension n rs (λ g. implies (a g) (b g)) f)
 not_each n [] a b f = by (a f) (b f)
   where
     by : (p q : Bool) → (p && not q) ≡ not (implies p q)

@@ -11,7 +11,8 @@ pub structure_by : (k : Structure) → k ≡ structure (referents_in k) (conditi
 structure_by (structure rs cs) = ap (structure rs) (sym (conditions_from-condition_list cs))
 
 -- found with a structure's conditions and all its referents bound
-pub terms_of_structure : (bound : List ℕ) (k : Structure) (rs : List ℕ) (cs : List Condition) → rs ≡ referents_in k → cs ≡ conditions_in k → terms_in_all (bound ++ rs) (conditions_from cs) ≡ terms_in bound k
+pub terms_of_structure : (bound : List ℕ) (k : Structure) (rs : List ℕ) (cs : List Condition) → rs ≡ referents_in k → cs ≡ conditions_in k
+    → terms_in_all (bound ++ rs) (conditions_from cs) ≡ terms_in bound k
 terms_of_structure bound k rs cs referents conditions =
     (λ j. terms_in_all (bound ++ referents j) (conditions_from (conditions j)))
     ∙ sym (ap (terms_in bound) (structure_by k))

@@ -2,13 +2,13 @@
 use Rattle.std.proofs.Common.{◌≡◌, ℕ, zero, suc, ◌≤◌, ◌<◌, ◌==◌, ◌&&◌, ◌||◌, Bool, true, false, List, [], ◌∷◌, ◌++◌, length, Option, Some, None, refl, sym, ap, ◌∙◌, subst, inl, inr, arith, append_assoc}
 use Rattle.std.specs.Prelude.{not, cond, if◌then◌else◌}
 use Rattle.std.specs.List.{filter_map}
-use Rattle.std.proofs.lemmas.Bool.{cases_eq, cases_Bool, eq-eqb, ne_eqb}
+use Rattle.std.proofs.lemmas.Bool.{cases_eq, cases_Bool, eq-eqb, ne_eqb, and_from, eqb-true, both_ways}
+use Rattle.wiki_base.proofs.BoolLaws.{and_first, and_second}
 use Rattle.logic_terms.specs.Concept.{Concept}
 use Rattle.logic_terms.specs.Interpretation.{Interpretation, has_pair}
 use Rattle.logic_terms.specs.Meaning.{is_in}
 use Rattle.ace_to_owl.specs.Parts.{Part, At, Edge, connected, has_cycle}
-use Rattle.ace_to_owl.proofs.Labels.{from_eqb, clash}
-use Rattle.ace_to_owl.proofs.Forest.{Con, and_l, and_r, both, con_refl, con_sym, con_trans, con_skip, speaks, apart, Among, far, Touched, parted, Within, within_cons, apart_within, apart_cycle, isolated}
+use Rattle.ace_to_owl.proofs.Forest.{Con, con_refl, con_sym, con_trans, con_skip, speaks, apart, Among, far, Touched, parted, Within, within_cons, apart_within, apart_cycle, isolated}
 use Rattle.ace_to_owl.proofs.TreeTruth.{part_true, place, gift, tree_class, linked, passes, is_in-intersection, all_gifts, gifts_all, some_from, some_to, FarEnd, far_end, among_apart, among_whole, apart_shorter, joined_far, joined_ends, loop_cycle, no_gift_by, same_some, none_some}
 
 -- elements for the members in the component of one, which has this element, with all parts there true
@@ -19,7 +19,8 @@ pub record Modelled (i : Interpretation) (ps : List Part) (v x : ℕ) : Type 0 w
   pub true_parts : (p : Part) → Among p ps → Con ps v (place p) → part_true i h p ≡ true
 
 -- assignments that agree on a component make the same parts of it true
-agree : (i : Interpretation) (ps : List Part) (b : ℕ) (f g : ℕ → ℕ) → ((n : ℕ) → Con ps b n → f n ≡ g n) → (p : Part) → Among p ps → Con ps b (place p) → part_true i f p ≡ part_true i g p
+agree : (i : Interpretation) (ps : List Part) (b : ℕ) (f g : ℕ → ℕ) → ((n : ℕ) → Con ps b n → f n ≡ g n) → (p : Part) → Among p ps → Con ps b (place p)
+    → part_true i f p ≡ part_true i g p
 agree i ps b f g same (At k c) among con = ap (is_in i c) (same k con)
 agree i ps b f g same (Edge word a d) among con =
     λ j. has_pair i word (same a con j) (same d (con_trans ps b a d con (joined_ends word a d ps among)) j)
@@ -44,7 +45,8 @@ Separate v qs [] = Unit {0}
 Separate v qs (e ∷ rs) = ((b : ℕ) → far v e ≡ Some b → (d : Part) (c : ℕ) → Among d rs → far v d ≡ Some c → ¬ Con qs b c) × Separate v qs rs
 
 -- one more edge with what hangs on it
-module _ (i : Interpretation) (v x : ℕ) (qs rs : List Part) (e : Part) (b : ℕ) (is : far v e ≡ Some b) (hang : Hanging i v x qs e b) (rest : Glued i v x qs rs) (separate : (d : Part) (c : ℕ) → Among d rs → far v d ≡ Some c → ¬ Con qs b c) where
+module _ (i : Interpretation) (v x : ℕ) (qs rs : List Part) (e : Part) (b : ℕ) (is : far v e ≡ Some b) (hang : Hanging i v x qs e b) (rest : Glued i v x qs rs)
+    (separate : (d : Part) (c : ℕ) → Among d rs → far v d ≡ Some c → ¬ Con qs b c) where
   unfoldable glue : ℕ → ℕ
   glue u = if connected qs b u then hang.model.h u else rest.g u
 
@@ -67,7 +69,7 @@ module _ (i : Interpretation) (v x : ℕ) (qs rs : List Part) (e : Part) (b : �
 
   out_there : (c : ℕ) (u : ℕ) → Con qs c u → connected qs b u ≡ false → (n : ℕ) → Con qs c n → connected qs b n ≡ false
   out_there c u con out n on = elim (cases_Bool (connected qs b n)) [
-    | inl is_so ↦ absurd (clash (connected qs b u) out (con_trans qs b n u is_so (con_trans qs n c u (con_sym qs c n on) con)))
+    | inl is_so ↦ absurd (both_ways (connected qs b u) out (con_trans qs b n u is_so (con_trans qs n c u (con_sym qs c n on) con)))
     | inr is_not ↦ is_not
   ]
 
@@ -130,11 +132,13 @@ passed_on i v x qs rs e none rest = record {
   ];
 }
 
-one_glued : (i : Interpretation) (v x : ℕ) (qs rs : List Part) (e : Part) (o : Option ℕ) → far v e ≡ o → ((b : ℕ) → far v e ≡ Some b → Hanging i v x qs e b) → Glued i v x qs rs → ((b : ℕ) → far v e ≡ Some b → (d : Part) (c : ℕ) → Among d rs → far v d ≡ Some c → ¬ Con qs b c) → Glued i v x qs (e ∷ rs)
+one_glued : (i : Interpretation) (v x : ℕ) (qs rs : List Part) (e : Part) (o : Option ℕ) → far v e ≡ o → ((b : ℕ) → far v e ≡ Some b → Hanging i v x qs e b)
+    → Glued i v x qs rs → ((b : ℕ) → far v e ≡ Some b → (d : Part) (c : ℕ) → Among d rs → far v d ≡ Some c → ¬ Con qs b c) → Glued i v x qs (e ∷ rs)
 one_glued i v x qs rs e (Some b) is hang rest separate = glued_on i v x qs rs e b is (hang b is) rest (separate b is)
 one_glued i v x qs rs e None is hang rest separate = passed_on i v x qs rs e is rest
 
-pub glued : (i : Interpretation) (v x : ℕ) (qs rs : List Part) → ((e : Part) (b : ℕ) → Among e rs → far v e ≡ Some b → Hanging i v x qs e b) → Separate v qs rs → Glued i v x qs rs
+pub glued : (i : Interpretation) (v x : ℕ) (qs rs : List Part) → ((e : Part) (b : ℕ) → Among e rs → far v e ≡ Some b → Hanging i v x qs e b) → Separate v qs rs
+    → Glued i v x qs rs
 glued i v x qs [] hang separate = record {
   g = λ u. x;
   sized = λ e b among its u con. absurd among;
@@ -142,7 +146,8 @@ glued i v x qs [] hang separate = record {
   links = λ e b among its. absurd among;
 }
 glued i v x qs (e ∷ rs) hang separate =
-    one_glued i v x qs rs e (far v e) refl (λ b is. hang e b (inl refl) is) (glued i v x qs rs (λ d b among its. hang d b (inr among) its) separate.1) separate.0
+    one_glued i v x qs rs e (far v e) refl (λ b is. hang e b (inl refl) is) (glued i v x qs rs (λ d b among its. hang d b (inr among) its) separate.1)
+    separate.0
 
 -- without a cycle no two far ends are connected
 dropped_within : (t : Bool) (e : Part) (ps qs : List Part) → t ≡ false → Within ps qs → Within (cond t (e ∷ ps) ps) qs
@@ -171,18 +176,19 @@ separate v ps before (e ∷ rs) is forest = (
       let way : Con (before ++ rs) b c = apart_middle v e before rs end.speaks_of b c (subst (λ qs. Con (apart v qs) b c) is con) in
       let joint : Con (before ++ rs) v c = con_behind before rs v c (joined_far v d c rs among other) in
       let round : has_cycle (before ++ e ∷ rs) ≡ true = end.cuts before rs (con_trans (before ++ rs) v c b joint (con_sym (before ++ rs) b c way)) in
-      clash (has_cycle ps) forest (ap has_cycle is ∙ round),
+      both_ways (has_cycle ps) forest (ap has_cycle is ∙ round),
   separate v ps (before ++ e ∷ []) rs (is ∙ sym (append_assoc before (e ∷ []) rs)) forest,
 )
 
 forest_apart : (v : ℕ) (ps : List Part) → has_cycle ps ≡ false → has_cycle (apart v ps) ≡ false
 forest_apart v ps forest = elim (cases_Bool (has_cycle (apart v ps))) [
-  | inl is_so ↦ absurd (clash (has_cycle ps) forest (apart_cycle v ps is_so))
+  | inl is_so ↦ absurd (both_ways (has_cycle ps) forest (apart_cycle v ps is_so))
   | inr is_not ↦ is_not
 ]
 
 -- elements for all members, where the member itself has this one
-module _ (i : Interpretation) (ps : List Part) (v x : ℕ) (forest : has_cycle ps ≡ false) (own : (k : ℕ) (c : Concept) → Among (At k c) ps → k ≡ v → is_in i c x ≡ true) (rest : Glued i v x (apart v ps) ps) where
+module _ (i : Interpretation) (ps : List Part) (v x : ℕ) (forest : has_cycle ps ≡ false)
+    (own : (k : ℕ) (c : Concept) → Among (At k c) ps → k ≡ v → is_in i c x ≡ true) (rest : Glued i v x (apart v ps) ps) where
   unfoldable whole : ℕ → ℕ
   whole u = if u == v then x else rest.g u
 
@@ -213,11 +219,13 @@ module _ (i : Interpretation) (ps : List Part) (v x : ℕ) (forest : has_cycle p
   ]
   part_of_whole (Edge word a b) among con = elim (cases_eq a v) [
     | inl av ↦ elim (cases_eq b v) [
-      | inl bv ↦ absurd (clash (has_cycle ps) forest (loop_cycle word a b ps (av ∙ sym bv) among))
-      | inr nb ↦ by_edge (Edge word a b) b among (λ j. if eq-eqb a v av j && not (ne_eqb b v nb j) then Some b else if (b == v) && not (a == v) then Some a else None)
+      | inl bv ↦ absurd (both_ways (has_cycle ps) forest (loop_cycle word a b ps (av ∙ sym bv) among))
+      | inr nb ↦ by_edge (Edge word a b) b among
+          (λ j. if eq-eqb a v av j && not (ne_eqb b v nb j) then Some b else if (b == v) && not (a == v) then Some a else None)
     ]
     | inr na ↦ elim (cases_eq b v) [
-      | inl bv ↦ by_edge (Edge word a b) a among (λ j. if ne_eqb a v na j && not (b == v) then Some b else if eq-eqb b v bv j && not (ne_eqb a v na j) then Some a else None)
+      | inl bv ↦ by_edge (Edge word a b) a among
+          (λ j. if ne_eqb a v na j && not (b == v) then Some b else if eq-eqb b v bv j && not (ne_eqb a v na j) then Some a else None)
       | inr nb ↦ (let t : Touched v ps a = (parted v ps).one a na con in
           (λ j. has_pair i word (whole_there a na j) (whole_there b nb j))
           ∙ rest.true_parts t.edge t.end t.among t.is (Edge word a b) (among_apart v (Edge word a b) ps among (silent_edge a b na nb)) t.on)
@@ -228,69 +236,83 @@ module _ (i : Interpretation) (ps : List Part) (v x : ℕ) (forest : has_cycle p
   modelled = record {
     h = whole;
     at = whole_here v refl;
-    sized = λ u ne con. (let t : Touched v ps u = (parted v ps).one u ne con in subst (λ n. n < i.size) (sym (whole_there u ne)) (rest.sized t.edge t.end t.among t.is u t.on));
+    sized = λ u ne con. (let t : Touched v ps u = (parted v ps).one u ne con in
+        subst (λ n. n < i.size) (sym (whole_there u ne)) (rest.sized t.edge t.end t.among t.is u t.on));
     true_parts = part_of_whole;
   }
 
 -- an element in the class of a tree has others for the members beside it
-pub forth : (i : Interpretation) (depth : ℕ) (ps : List Part) (v x : ℕ) → length ps ≤ depth → has_cycle ps ≡ false → is_in i (tree_class depth ps v) x ≡ true → Modelled i ps v x
+pub forth : (i : Interpretation) (depth : ℕ) (ps : List Part) (v x : ℕ) → length ps ≤ depth → has_cycle ps ≡ false → is_in i (tree_class depth ps v) x ≡ true
+    → Modelled i ps v x
 forth i zero [] v x short forest h = record {
   h = λ u. x;
   at = refl;
-  sized = λ u ne con. absurd (ne (sym (from_eqb v u con)));
+  sized = λ u ne con. absurd (ne (sym (eqb-true v u con)));
   true_parts = λ p among con. absurd among;
 }
 forth i zero (p ∷ ps) v x short forest h = absurd (omega (arith, short))
 forth i (suc depth) ps v x short forest h =
     let cl : ℕ → Concept = tree_class depth (apart v ps) in
-    let gifts : (p : Part) → Among p ps → passes i (gift cl v p) x ≡ true = all_gifts i (gift cl v) x ps (sym (is_in-intersection i (filter_map (gift cl v) ps) x) ∙ h) in
+    let gifts : (p : Part) → Among p ps → passes i (gift cl v p) x ≡ true =
+    all_gifts i (gift cl v) x ps (sym (is_in-intersection i (filter_map (gift cl v) ps) x) ∙ h) in
     let hang : (e : Part) (b : ℕ) → Among e ps → far v e ≡ Some b → Hanging i v x (apart v ps) e b =
     λ e b among its.
     (let end : FarEnd v e b = far_end v e b its in
-    let w : (y : ℕ) × (y < i.size) × ((linked i v e x y && is_in i (cl b) y) ≡ true) = some_from i.size (λ y. linked i v e x y && is_in i (cl b) y) (sym (end.gives i cl x) ∙ gifts e among) in
+    let w : (y : ℕ) × (y < i.size) × ((linked i v e x y && is_in i (cl b) y) ≡ true) =
+    some_from i.size (λ y. linked i v e x y && is_in i (cl b) y) (sym (end.gives i cl x) ∙ gifts e among) in
     let less : suc (length (apart v ps)) ≤ length ps = apart_shorter v e ps among end.speaks_of in
     record {
       y = w.0;
       within = w.1;
-      links = and_l (linked i v e x w.0) (is_in i (cl b) w.0) w.2;
-      model = forth i depth (apart v ps) b w.0 (omega (arith, less, short)) (forest_apart v ps forest) (and_r (linked i v e x w.0) (is_in i (cl b) w.0) w.2);
+      links = and_first (linked i v e x w.0) (is_in i (cl b) w.0) w.2;
+      model = forth i depth (apart v ps) b w.0 (omega (arith, less, short)) (forest_apart v ps forest)
+          (and_second (linked i v e x w.0) (is_in i (cl b) w.0) w.2);
     }) in
     modelled i ps v x forest
     (λ k c among same. sym (ap (λ t. passes i (if t then Some c else None) x) (eq-eqb k v same)) ∙ gifts (At k c) among)
     (glued i v x (apart v ps) ps hang (separate v ps [] ps refl forest))
 
 -- what each part gives is true of an element that has others beside it
-module _ (i : Interpretation) (depth : ℕ) (ps : List Part) (v : ℕ) (h : ℕ → ℕ) (short : length ps ≤ suc depth) (sized : (u : ℕ) → ¬ (u ≡ v) → Con ps v u → h u < i.size) (trues : (p : Part) → Among p ps → Con ps v (place p) → part_true i h p ≡ true) (ih : (b : ℕ) → length (apart v ps) ≤ depth → ((u : ℕ) → ¬ (u ≡ b) → Con (apart v ps) b u → h u < i.size) → ((q : Part) → Among q (apart v ps) → Con (apart v ps) b (place q) → part_true i h q ≡ true) → is_in i (tree_class depth (apart v ps) b) (h b) ≡ true) where
-  near : (p : Part) (b : ℕ) → Among p ps → FarEnd v p b → Con ps v (place p)
-  near p b among end = elim end.ends [
-    | inl here ↦ subst (λ z. Con ps v z) (sym here) (con_refl ps v)
-    | inr there ↦ subst (λ z. Con ps v z) (sym there) (joined_far v p b ps among end)
-  ]
+module _ (i : Interpretation) (depth : ℕ) (ps : List Part) (v : ℕ) (h : ℕ → ℕ) (short : length ps ≤ suc depth)
+    (sized : (u : ℕ) → ¬ (u ≡ v) → Con ps v u → h u < i.size) (trues : (p : Part) → Among p ps → Con ps v (place p) → part_true i h p ≡ true)
+    (ih : (b : ℕ) → length (apart v ps) ≤ depth → ((u : ℕ) → ¬ (u ≡ b) → Con (apart v ps) b u → h u < i.size)
+    → ((q : Part) → Among q (apart v ps) → Con (apart v ps) b (place q) → part_true i h q ≡ true) → is_in i (tree_class depth (apart v ps) b) (h b) ≡ true)
+  where
+    near : (p : Part) (b : ℕ) → Among p ps → FarEnd v p b → Con ps v (place p)
+    near p b among end = elim end.ends [
+      | inl here ↦ subst (λ z. Con ps v z) (sym here) (con_refl ps v)
+      | inr there ↦ subst (λ z. Con ps v z) (sym there) (joined_far v p b ps among end)
+    ]
 
-  given_by : (p : Part) (o : Option ℕ) → Among p ps → far v p ≡ o → (o ≡ None → passes i (gift (tree_class depth (apart v ps)) v p) (h v) ≡ true) → passes i (gift (tree_class depth (apart v ps)) v p) (h v) ≡ true
-  given_by p (Some b) among its none =
-      let end : FarEnd v p b = far_end v p b its in
-      let joint : Con ps v b = joined_far v p b ps among end in
-      let less : suc (length (apart v ps)) ≤ length ps = apart_shorter v p ps among end.speaks_of in
-      let child : is_in i (tree_class depth (apart v ps) b) (h b) ≡ true =
-      ih b (omega (arith, less, short))
-      (λ u ne con. sized u (λ uv. end.apart_from (isolated v ps b (subst (λ z. Con (apart v ps) b z) uv con))) (con_trans ps v b u joint (apart_within v ps b u con)))
-      (λ q on con. trues q (among_whole v q ps on) (con_trans ps v b (place q) joint (apart_within v ps b (place q) con))) in
-      end.gives i (tree_class depth (apart v ps)) (h v)
-      ∙ some_to i.size (λ y. linked i v p (h v) y && is_in i (tree_class depth (apart v ps) b) y) (h b) (sized b end.apart_from joint)
-      (both (linked i v p (h v) (h b)) (is_in i (tree_class depth (apart v ps) b) (h b)) (sym (end.reads i h) ∙ trues p among (near p b among end)) child)
-  given_by p None among its none = none refl
+    given_by : (p : Part) (o : Option ℕ) → Among p ps → far v p ≡ o → (o ≡ None → passes i (gift (tree_class depth (apart v ps)) v p) (h v) ≡ true)
+        → passes i (gift (tree_class depth (apart v ps)) v p) (h v) ≡ true
+    given_by p (Some b) among its none =
+        let end : FarEnd v p b = far_end v p b its in
+        let joint : Con ps v b = joined_far v p b ps among end in
+        let less : suc (length (apart v ps)) ≤ length ps = apart_shorter v p ps among end.speaks_of in
+        let child : is_in i (tree_class depth (apart v ps) b) (h b) ≡ true =
+        ih b (omega (arith, less, short))
+        (λ u ne con. sized u (λ uv. end.apart_from (isolated v ps b (subst (λ z. Con (apart v ps) b z) uv con)))
+        (con_trans ps v b u joint (apart_within v ps b u con)))
+        (λ q on con. trues q (among_whole v q ps on) (con_trans ps v b (place q) joint (apart_within v ps b (place q) con))) in
+        end.gives i (tree_class depth (apart v ps)) (h v)
+        ∙ some_to i.size (λ y. linked i v p (h v) y && is_in i (tree_class depth (apart v ps) b) y) (h b) (sized b end.apart_from joint)
+        (and_from (linked i v p (h v) (h b)) (is_in i (tree_class depth (apart v ps) b) (h b)) (sym (end.reads i h) ∙ trues p among (near p b among end)) child)
+    given_by p None among its none = none refl
 
-  pub given_each : (p : Part) → Among p ps → passes i (gift (tree_class depth (apart v ps)) v p) (h v) ≡ true
-  given_each (At k c) among = elim (cases_eq k v) [
-    | inl same ↦ ap (λ t. passes i (if t then Some c else None) (h v)) (eq-eqb k v same) ∙ (ap (λ n. is_in i c (h n)) (sym same) ∙ trues (At k c) among (subst (λ z. Con ps v z) (sym same) (con_refl ps v)))
-    | inr ne ↦ ap (λ t. passes i (if t then Some c else None) (h v)) (ne_eqb k v ne)
-  ]
-  given_each (Edge word a b) among =
-      given_by (Edge word a b) (far v (Edge word a b)) among refl (λ none. no_gift_by i v word a b (tree_class depth (apart v ps)) (h v) (a == v) (b == v) none)
+    pub given_each : (p : Part) → Among p ps → passes i (gift (tree_class depth (apart v ps)) v p) (h v) ≡ true
+    given_each (At k c) among = elim (cases_eq k v) [
+      | inl same ↦ ap (λ t. passes i (if t then Some c else None) (h v)) (eq-eqb k v same)
+          ∙ (ap (λ n. is_in i c (h n)) (sym same) ∙ trues (At k c) among (subst (λ z. Con ps v z) (sym same) (con_refl ps v)))
+      | inr ne ↦ ap (λ t. passes i (if t then Some c else None) (h v)) (ne_eqb k v ne)
+    ]
+    given_each (Edge word a b) among =
+        given_by (Edge word a b) (far v (Edge word a b)) among refl
+        (λ none. no_gift_by i v word a b (tree_class depth (apart v ps)) (h v) (a == v) (b == v) none)
 
 -- and an element that has them is in the class
-pub back : (i : Interpretation) (depth : ℕ) (ps : List Part) (v : ℕ) (h : ℕ → ℕ) → length ps ≤ depth → ((u : ℕ) → ¬ (u ≡ v) → Con ps v u → h u < i.size) → ((p : Part) → Among p ps → Con ps v (place p) → part_true i h p ≡ true) → is_in i (tree_class depth ps v) (h v) ≡ true
+pub back : (i : Interpretation) (depth : ℕ) (ps : List Part) (v : ℕ) (h : ℕ → ℕ) → length ps ≤ depth → ((u : ℕ) → ¬ (u ≡ v) → Con ps v u → h u < i.size)
+    → ((p : Part) → Among p ps → Con ps v (place p) → part_true i h p ≡ true) → is_in i (tree_class depth ps v) (h v) ≡ true
 back i zero ps v h short sized trues = refl
 back i (suc depth) ps v h short sized trues =
     is_in-intersection i (filter_map (gift (tree_class depth (apart v ps)) v) ps) (h v)

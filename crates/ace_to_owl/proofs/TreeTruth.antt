@@ -2,14 +2,15 @@
 use Rattle.std.proofs.Common.{◌≡◌, ℕ, zero, suc, ◌≤◌, ◌<◌, ◌==◌, ◌&&◌, ◌||◌, Bool, true, false, List, [], ◌∷◌, ◌++◌, length, Option, Some, None, refl, sym, ap, ◌∙◌, subst, inl, inr, arith}
 use Rattle.std.specs.Prelude.{◌⊎◌, not, cond, if◌then◌else◌}
 use Rattle.std.specs.List.{filter_map, cons_option, list_all}
-use Rattle.std.proofs.lemmas.Bool.{cases_eq, eq-eqb}
+use Rattle.std.proofs.lemmas.Bool.{cases_eq, eq-eqb, or_cases, or_right, and_from, eqb-true, both_ways}
+use Rattle.std.proofs.Math.Bool.{and-true}
 use Rattle.wiki_base.specs.declared.numbers.WordId.{WordId}
+use Rattle.wiki_base.proofs.BoolLaws.{and_first, and_second}
 use Rattle.logic_terms.specs.Concept.{Concept, Everything, SomeValuesFrom, concepts_from}
 use Rattle.logic_terms.specs.Interpretation.{Interpretation, has_pair}
 use Rattle.logic_terms.specs.Meaning.{some_below, is_in, is_in_each}
 use Rattle.ace_to_owl.specs.Parts.{Part, At, Edge, connected, has_cycle, straight, inverse, intersection}
-use Rattle.ace_to_owl.proofs.Labels.{from_eqb, clash, and_true}
-use Rattle.ace_to_owl.proofs.Forest.{Con, or_cases, and_l, and_r, or_r, both, con_refl, con_sym, con_skip, con_along, con_against, speaks, apart, Among, far, cut}
+use Rattle.ace_to_owl.proofs.Forest.{Con, con_refl, con_sym, con_skip, con_along, con_against, speaks, apart, Among, far, cut}
 
 module _ (i : Interpretation) where
   -- a part is true where the members have these elements
@@ -41,7 +42,7 @@ linked i v (Edge word a b) x y = if a == v then has_pair i word x y else has_pai
 -- membership in an intersection is membership in each
 pub is_in-intersection : (i : Interpretation) (cs : List Concept) (x : ℕ) → is_in i (intersection cs) x ≡ list_all (λ c. is_in i c x) cs
 is_in-intersection i [] x = refl
-is_in-intersection i (c ∷ []) x = sym (and_true (is_in i c x))
+is_in-intersection i (c ∷ []) x = sym (and-true (is_in i c x))
 is_in-intersection i (c ∷ d ∷ cs) x = by (c ∷ d ∷ cs)
   where
     by : (es : List Concept) → is_in_each i (concepts_from es) x ≡ list_all (λ e. is_in i e x) es
@@ -53,24 +54,27 @@ abbrev pub passes : Interpretation → Option Concept → ℕ → Bool
 passes i (Some c) x = is_in i c x
 passes i None x = true
 
-gift_front : (i : Interpretation) (x : ℕ) (o : Option Concept) (cs : List Concept) → list_all (λ c. is_in i c x) (cons_option o cs) ≡ (passes i o x && list_all (λ c. is_in i c x) cs)
+gift_front : (i : Interpretation) (x : ℕ) (o : Option Concept) (cs : List Concept)
+    → list_all (λ c. is_in i c x) (cons_option o cs) ≡ (passes i o x && list_all (λ c. is_in i c x) cs)
 gift_front i x (Some c) cs = refl
 gift_front i x None cs = refl
 
-pub all_gifts : (i : Interpretation) (f : Part → Option Concept) (x : ℕ) (ps : List Part) → list_all (λ c. is_in i c x) (filter_map f ps) ≡ true → (p : Part) → Among p ps → passes i (f p) x ≡ true
+pub all_gifts : (i : Interpretation) (f : Part → Option Concept) (x : ℕ) (ps : List Part) → list_all (λ c. is_in i c x) (filter_map f ps) ≡ true → (p : Part)
+    → Among p ps → passes i (f p) x ≡ true
 all_gifts i f x [] h p among = absurd among
 all_gifts i f x (q ∷ ps) h p among =
     let two : (passes i (f q) x && list_all (λ c. is_in i c x) (filter_map f ps)) ≡ true = sym (gift_front i x (f q) (filter_map f ps)) ∙ h in
     elim among [
-      | inl same ↦ ap (λ r. passes i (f r) x) same ∙ and_l (passes i (f q) x) (list_all (λ c. is_in i c x) (filter_map f ps)) two
-      | inr later ↦ all_gifts i f x ps (and_r (passes i (f q) x) (list_all (λ c. is_in i c x) (filter_map f ps)) two) p later
+      | inl same ↦ ap (λ r. passes i (f r) x) same ∙ and_first (passes i (f q) x) (list_all (λ c. is_in i c x) (filter_map f ps)) two
+      | inr later ↦ all_gifts i f x ps (and_second (passes i (f q) x) (list_all (λ c. is_in i c x) (filter_map f ps)) two) p later
     ]
 
-pub gifts_all : (i : Interpretation) (f : Part → Option Concept) (x : ℕ) (ps : List Part) → ((p : Part) → Among p ps → passes i (f p) x ≡ true) → list_all (λ c. is_in i c x) (filter_map f ps) ≡ true
+pub gifts_all : (i : Interpretation) (f : Part → Option Concept) (x : ℕ) (ps : List Part) → ((p : Part) → Among p ps → passes i (f p) x ≡ true)
+    → list_all (λ c. is_in i c x) (filter_map f ps) ≡ true
 gifts_all i f x [] each = refl
 gifts_all i f x (q ∷ ps) each =
     gift_front i x (f q) (filter_map f ps)
-    ∙ both (passes i (f q) x) (list_all (λ c. is_in i c x) (filter_map f ps)) (each q (inl refl)) (gifts_all i f x ps (λ p among. each p (inr among)))
+    ∙ and_from (passes i (f q) x) (list_all (λ c. is_in i c x) (filter_map f ps)) (each q (inl refl)) (gifts_all i f x ps (λ p among. each p (inr among)))
 
 -- a number below a bound passes where some does
 pub some_from : (n : ℕ) (test : ℕ → Bool) → some_below n test ≡ true → (k : ℕ) × (k < n) × (test k ≡ true)
@@ -84,7 +88,7 @@ pub some_to : (n : ℕ) (test : ℕ → Bool) (k : ℕ) → k < n → test k ≡
 some_to zero test k lt h = absurd (omega arith)
 some_to (suc n) test k lt h = elim (cases_eq k n) [
   | inl same ↦ ap (λ b. b || some_below n test) (sym (ap test same) ∙ h)
-  | inr ne ↦ or_r (test n) (some_below n test) (some_to n test k (omega arith) h)
+  | inr ne ↦ or_right (test n) (some_below n test) (some_to n test k (omega arith) h)
 ]
 
 pub same_some : (n m : ℕ) → Some n ≡ Some m → n ≡ m
@@ -94,7 +98,7 @@ pub none_some : (n : ℕ) → ◌≡◌ {A = Option ℕ} None (Some n) → ⊥
 none_some n e = let flip : true ≡ false = ap (λ o. elim o [ Some k ↦ false | None ↦ true ]) e in cc
 
 not_same : (b v : ℕ) → (b == v) ≡ false → ¬ (b ≡ v)
-not_same b v h e = clash (b == v) h (eq-eqb b v e)
+not_same b v h e = both_ways (b == v) h (eq-eqb b v e)
 
 -- what the far end of an edge is
 pub record FarEnd (v : ℕ) (p : Part) (b : ℕ) : Type 0 where
@@ -106,15 +110,17 @@ pub record FarEnd (v : ℕ) (p : Part) (b : ℕ) : Type 0 where
   pub joins : (ps : List Part) → Con (p ∷ ps) v b
   pub cuts : (before after : List Part) → Con (before ++ after) v b → has_cycle (before ++ p ∷ after) ≡ true
 
-far_end_by : (v : ℕ) (word : WordId) (a c b : ℕ) (s t : Bool) → (a == v) ≡ s → (c == v) ≡ t → (if s && not t then Some c else if t && not s then Some a else None) ≡ Some b → FarEnd v (Edge word a c) b
+far_end_by : (v : ℕ) (word : WordId) (a c b : ℕ) (s t : Bool) → (a == v) ≡ s → (c == v) ≡ t
+    → (if s && not t then Some c else if t && not s then Some a else None) ≡ Some b → FarEnd v (Edge word a c) b
 far_end_by v word a c b true false sa tc e =
     let cb : c ≡ b = same_some c b e in
-    let av : a ≡ v = from_eqb a v sa in
+    let av : a ≡ v = eqb-true a v sa in
     record {
       apart_from = λ bv. not_same c v tc (cb ∙ bv);
       speaks_of = ap (λ z. z || (c == v)) sa;
       gives = λ i cl x.
-          (λ j. passes i (if sa j && not (tc j) then Some (SomeValuesFrom (straight word) (cl c)) else if tc j && not (sa j) then Some (SomeValuesFrom (inverse word) (cl a)) else None) x)
+          (λ j. passes i (if sa j && not (tc j) then Some (SomeValuesFrom (straight word) (cl c)) else if tc j && not (sa j)
+          then Some (SomeValuesFrom (inverse word) (cl a)) else None) x)
           ∙ ap (λ m. some_below i.size (λ y. has_pair i word x y && is_in i (cl m) y)) cb
           ∙ (λ j. some_below i.size (λ y. (if sym sa j then has_pair i word x y else has_pair i word y x) && is_in i (cl b) y));
       reads = λ i h. (λ j. has_pair i word (h (av j)) (h (cb j))) ∙ (λ j. if sym sa j then has_pair i word (h v) (h b) else has_pair i word (h b) (h v));
@@ -124,18 +130,20 @@ far_end_by v word a c b true false sa tc e =
     }
 far_end_by v word a c b false true sa tc e =
     let ab : a ≡ b = same_some a b e in
-    let cv : c ≡ v = from_eqb c v tc in
+    let cv : c ≡ v = eqb-true c v tc in
     record {
       apart_from = λ bv. not_same a v sa (ab ∙ bv);
-      speaks_of = or_r (a == v) (c == v) tc;
+      speaks_of = or_right (a == v) (c == v) tc;
       gives = λ i cl x.
-          (λ j. passes i (if sa j && not (tc j) then Some (SomeValuesFrom (straight word) (cl c)) else if tc j && not (sa j) then Some (SomeValuesFrom (inverse word) (cl a)) else None) x)
+          (λ j. passes i (if sa j && not (tc j) then Some (SomeValuesFrom (straight word) (cl c)) else if tc j && not (sa j)
+          then Some (SomeValuesFrom (inverse word) (cl a)) else None) x)
           ∙ ap (λ m. some_below i.size (λ y. has_pair i word y x && is_in i (cl m) y)) ab
           ∙ (λ j. some_below i.size (λ y. (if sym sa j then has_pair i word x y else has_pair i word y x) && is_in i (cl b) y));
       reads = λ i h. (λ j. has_pair i word (h (ab j)) (h (cv j))) ∙ (λ j. if sym sa j then has_pair i word (h v) (h b) else has_pair i word (h b) (h v));
       ends = inr ab;
       joins = λ ps. con_against word a c ps v b (subst (λ z. Con ps v z) (sym cv) (con_refl ps v)) (subst (λ z. Con ps z b) (sym ab) (con_refl ps b));
-      cuts = λ before after h. cut before word a c after (subst (λ z. Con (before ++ after) z c) (sym ab) (subst (λ z. Con (before ++ after) b z) (sym cv) (con_sym (before ++ after) v b h)));
+      cuts = λ before after h. cut before word a c after
+          (subst (λ z. Con (before ++ after) z c) (sym ab) (subst (λ z. Con (before ++ after) b z) (sym cv) (con_sym (before ++ after) v b h)));
     }
 far_end_by v word a c b true true sa tc e = absurd (none_some b e)
 far_end_by v word a c b false false sa tc e = absurd (none_some b e)
@@ -144,7 +152,10 @@ pub far_end : (v : ℕ) (p : Part) (b : ℕ) → far v p ≡ Some b → FarEnd v
 far_end v (At k c) b e = absurd (none_some b e)
 far_end v (Edge word a c) b e = far_end_by v word a c b (a == v) (c == v) refl refl e
 
-pub no_gift_by : (i : Interpretation) (v : ℕ) (word : WordId) (a c : ℕ) (cl : ℕ → Concept) (x : ℕ) (s t : Bool) → ((if s && not t then Some c else if t && not s then Some a else None) ≡ None) → passes i (if s && not t then Some (SomeValuesFrom (straight word) (cl c)) else if t && not s then Some (SomeValuesFrom (inverse word) (cl a)) else None) x ≡ true
+pub no_gift_by : (i : Interpretation) (v : ℕ) (word : WordId) (a c : ℕ) (cl : ℕ → Concept) (x : ℕ) (s t : Bool)
+    → ((if s && not t then Some c else if t && not s then Some a else None) ≡ None)
+    → passes i (if s && not t then Some (SomeValuesFrom (straight word) (cl c)) else if t && not s then Some (SomeValuesFrom (inverse word) (cl a)) else None) x
+    ≡ true
 no_gift_by i v word a c cl x true false e = absurd (none_some c (sym e))
 no_gift_by i v word a c cl x false true e = absurd (none_some a (sym e))
 no_gift_by i v word a c cl x true true e = refl
@@ -222,4 +233,4 @@ loop_cycle word a b (q ∷ ps) same among = elim among [
   where
     later_cycle : (q : Part) → has_cycle ps ≡ true → has_cycle (q ∷ ps) ≡ true
     later_cycle (At k c) h = h
-    later_cycle (Edge w x y) h = or_r (connected ps x y) (has_cycle ps) h
+    later_cycle (Edge w x y) h = or_right (connected ps x y) (has_cycle ps) h

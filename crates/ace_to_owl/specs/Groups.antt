@@ -1,4 +1,4 @@
--- What the calls that map a statement know of it.
+-- What the calls that map a statement know of it. Only private calls speak of it.
 use Rattle.std.specs.Prelude.{ℕ, ◌≡◌, ◌==◌, Bool, List, map, Option, Some, None, Result, Ok, if◌then◌else◌}
 use Rattle.std.specs.List.{list_any}
 use Rattle.logic_terms.specs.declared.cause.Cause.{Cause}

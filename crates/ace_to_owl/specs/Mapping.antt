@@ -155,7 +155,8 @@ claim_at rs gs all before own c =
 abbrev pub claims_after : List ℕ → List (List ℕ) → List Condition → List (List ℕ) → List Condition → Result (List Claim) Cause
 claims_after rs gs all before [] = Ok []
 claims_after rs gs all before (c ∷ cs) =
-    next (claim_at rs gs all before (own_terms rs c) c) (λ claim. next (claims_after rs gs all (before ++ own_terms rs c ∷ []) cs) (λ claims. Ok (cons_option claim claims)))
+    next (claim_at rs gs all before (own_terms rs c) c)
+    (λ claim. next (claims_after rs gs all (before ++ own_terms rs c ∷ []) cs) (λ claims. Ok (cons_option claim claims)))
 
 -- the axioms of a statement, or the first cause why there are none
 abbrev pub axioms_stated : Structure → Result (List Claim) Cause

@@ -49,4 +49,5 @@ AnswersTruly k asked c =
 -- the same as facts, by the standards
 abbrev pub AnswersByReading : Structure → ℕ → Concept → Type 0
 AnswersByReading k asked c =
-    IntroducesOnce k → Contains (referents_in k) asked → (i : Interpretation) (f : ℕ → ℕ) (x : ℕ) → IsIn i c x ↔ IsTrueUnder i (without asked k) (giving f asked x)
+    IntroducesOnce k → Contains (referents_in k) asked → (i : Interpretation) (f : ℕ → ℕ) (x : ℕ)
+    → IsIn i c x ↔ IsTrueUnder i (without asked k) (giving f asked x)

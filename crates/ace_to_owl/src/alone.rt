@@ -170,7 +170,8 @@ fn compound_claim(alloc: Global, condition: &Cond) -> Result<Axiom, Fault>
 
 fn implication_claim(alloc: Global, left: &Drs, right: &Drs, whole: &Cond) -> Result<Axiom, Fault>
     requires { condition_of whole.now ≡ Implication (structure_of left.now) (structure_of right.now) }
-    ensures { Agrees claim_of result (used_claim (structure_of left.now) (structure_of right.now) (referents_among (referents_in (structure_of left.now)) (terms_in [] (structure_of right.now)))) }
+    ensures { Agrees claim_of result (used_claim (structure_of left.now) (structure_of right.now)
+        (referents_among (referents_in (structure_of left.now)) (terms_in [] (structure_of right.now)))) }
 {
     let terms = structure_terms(alloc, right)?;
     let used = referents_among(alloc, left.referents().as_slice(), terms.as_slice())?;

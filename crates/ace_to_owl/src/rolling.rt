@@ -56,7 +56,8 @@ pub fn rolled(
 // The class of the left structure with one more condition, that the right one is not true.
 #[cycle(rolling)]
 fn roll_without(alloc: Global, root: Option<Thing>, left: &Drs, right: &Drs) -> Result<Class, Fault>
-    ensures { Agrees concept_of result (roll_with root (structure_of left.now) (negation_part (λ w. roll w (structure_of right.now)) (structure_of right.now) root)) }
+    ensures { Agrees concept_of result (roll_with root (structure_of left.now)
+        (negation_part (λ w. roll w (structure_of right.now)) (structure_of right.now) root)) }
 {
     let referents = left.referents().as_slice();
     rolled_without(alloc, root, referents, left.conditions(), right)
@@ -70,7 +71,9 @@ fn rolled_without(
     conditions: &Conds,
     right: &Drs,
 ) -> Result<Class, Fault>
-    ensures { Agrees concept_of result (next (parts root referents.now (conditions_from (conditions_of conditions.now))) (λ ps. next (negation_part (λ w. roll w (structure_of right.now)) (structure_of right.now) root referents.now) (λ p. class_of_tree referents.now (ps ++ p ∷ [])))) }
+    ensures { Agrees concept_of result (next (parts root referents.now (conditions_from (conditions_of conditions.now)))
+        (λ ps. next (negation_part (λ w. roll w (structure_of right.now)) (structure_of right.now) root referents.now)
+        (λ p. class_of_tree referents.now (ps ++ p ∷ [])))) }
 {
     let mut given = parts_of(alloc, root, referents, conditions)?;
     let last = not_part(alloc, root, referents, right)?;

@@ -56,7 +56,8 @@ fn axioms_of(alloc: Global, referents: &[u16], conditions: &Conds) -> Result<Axi
 
 fn axioms_by(alloc: Global, whole: &Whole<'_>) -> Result<Axioms, Fault>
     requires { AreKnown whole.now }
-    ensures { Agrees claims_of result (claims_after whole.now.referents.now whole.now.groups.now (conditions_of whole.now.conditions.now) [] (conditions_of whole.now.conditions.now)) }
+    ensures { Agrees claims_of result (claims_after whole.now.referents.now whole.now.groups.now (conditions_of whole.now.conditions.now) []
+        (conditions_of whole.now.conditions.now)) }
 {
     let mut axioms = Axioms::new(alloc);
     for place in 0..whole.groups.len() {
@@ -88,7 +89,9 @@ fn claim_at(
 ) -> Result<Option<Axiom>, Fault>
     requires known { AreKnown whole.now }
     requires place { place ≤ length whole.now.groups.now }
-    ensures { Agrees (option_shown claim_of) result (claim_at whole.now.referents.now whole.now.groups.now (conditions_of whole.now.conditions.now) (take place whole.now.groups.now) own.now (condition_of condition.now)) }
+    ensures { Agrees (option_shown claim_of) result
+        (claim_at whole.now.referents.now whole.now.groups.now (conditions_of whole.now.conditions.now) (take place whole.now.groups.now) own.now
+        (condition_of condition.now)) }
 {
     if own.is_empty() {
         let alone = claim_alone(alloc, condition)?;
@@ -135,7 +138,8 @@ fn referents_inside(alloc: Global, whole: &Whole<'_>, own: &[u16]) -> Result<Lis
 // The axiom of the conditions that belong together with a group, at the first name in them.
 fn claim_together(alloc: Global, whole: &Whole<'_>, own: &[u16]) -> Result<Axiom, Fault>
     requires { AreKnown whole.now }
-    ensures { Agrees claim_of result (claim_together (referents_with whole.now.groups.now own.now whole.now.referents.now) (conditions_with whole.now.referents.now whole.now.groups.now own.now (conditions_of whole.now.conditions.now))) }
+    ensures { Agrees claim_of result (claim_together (referents_with whole.now.groups.now own.now whole.now.referents.now)
+        (conditions_with whole.now.referents.now whole.now.groups.now own.now (conditions_of whole.now.conditions.now))) }
 {
     match name_together(alloc, whole, own)? {
         Some(name) => claim_named(alloc, whole, own, name),
@@ -145,7 +149,9 @@ fn claim_together(alloc: Global, whole: &Whole<'_>, own: &[u16]) -> Result<Axiom
 
 fn claim_named(alloc: Global, whole: &Whole<'_>, own: &[u16], name: WordId) -> Result<Axiom, Fault>
     requires { AreKnown whole.now }
-    ensures { Agrees claim_of result (member_claim name (structure (referents_with whole.now.groups.now own.now whole.now.referents.now) (conditions_from (conditions_with whole.now.referents.now whole.now.groups.now own.now (conditions_of whole.now.conditions.now))))) }
+    ensures { Agrees claim_of result (member_claim name
+        (structure (referents_with whole.now.groups.now own.now whole.now.referents.now)
+        (conditions_from (conditions_with whole.now.referents.now whole.now.groups.now own.now (conditions_of whole.now.conditions.now))))) }
 {
     let inside = referents_inside(alloc, whole, own)?;
     let root = Some(Thing::Name(name));
@@ -163,7 +169,9 @@ fn rolled_together(
     own: &[u16],
 ) -> Result<Class, Fault>
     requires { AreKnown whole.now }
-    ensures { Agrees concept_of result (next (parts root inside.now (conditions_from (conditions_with whole.now.referents.now whole.now.groups.now own.now (conditions_of whole.now.conditions.now)))) (class_of_tree inside.now)) }
+    ensures { Agrees concept_of result (next
+        (parts root inside.now (conditions_from
+        (conditions_with whole.now.referents.now whole.now.groups.now own.now (conditions_of whole.now.conditions.now)))) (class_of_tree inside.now)) }
 {
     let given = parts_together(alloc, root, inside, whole, own)?;
     class_of_tree(alloc, inside, given.as_slice())
@@ -172,7 +180,9 @@ fn rolled_together(
 // The first name in the conditions that belong together with a group.
 fn name_together(alloc: Global, whole: &Whole<'_>, own: &[u16]) -> Result<Option<WordId>, Memory>
     requires { AreKnown whole.now }
-    ensures { IfOk result (λ found. found ≡ first_name (terms_in_all [] (conditions_from (conditions_with whole.now.referents.now whole.now.groups.now own.now (conditions_of whole.now.conditions.now))))) }
+    ensures { IfOk result (λ found. found
+        ≡ first_name (terms_in_all [] (conditions_from
+        (conditions_with whole.now.referents.now whole.now.groups.now own.now (conditions_of whole.now.conditions.now))))) }
 {
     for place in 0..whole.groups.len() {
         let group = whole.groups[place].as_slice();
@@ -193,7 +203,8 @@ fn name_with(
     condition: &Cond,
 ) -> Result<Option<WordId>, Memory>
     requires { AreKnown whole.now }
-    ensures { IfOk result (λ found. found ≡ (if together whole.now.groups.now own.now group.now then first_name (terms_in_condition [] (condition_of condition.now)) else None)) }
+    ensures { IfOk result (λ found. found
+        ≡ (if together whole.now.groups.now own.now group.now then first_name (terms_in_condition [] (condition_of condition.now)) else None)) }
 {
     if is_with(whole, own, group) {
         let terms = condition_terms(alloc, condition)?;
@@ -212,7 +223,9 @@ fn parts_together(
     own: &[u16],
 ) -> Result<List<Part>, Fault>
     requires { AreKnown whole.now }
-    ensures { Agrees (λ given. map part_shown given) result (parts root inside.now (conditions_from (conditions_with whole.now.referents.now whole.now.groups.now own.now (conditions_of whole.now.conditions.now)))) }
+    ensures { Agrees (λ given. map part_shown given) result
+        (parts root inside.now (conditions_from
+        (conditions_with whole.now.referents.now whole.now.groups.now own.now (conditions_of whole.now.conditions.now)))) }
 {
     let mut given = List::new(alloc);
     for place in 0..whole.groups.len() {
@@ -244,7 +257,8 @@ fn part_with(
     condition: &Cond,
 ) -> Result<Option<Part>, Fault>
     requires { AreKnown whole.now }
-    ensures { Agrees (option_shown part_shown) result (part_with (together whole.now.groups.now own.now group.now) (part_of root inside.now (condition_of condition.now))) }
+    ensures { Agrees (option_shown part_shown) result
+        (part_with (together whole.now.groups.now own.now group.now) (part_of root inside.now (condition_of condition.now))) }
 {
     if is_with(whole, own, group) {
         let part = part_of(alloc, root, inside, condition)?;

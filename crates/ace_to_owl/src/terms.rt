@@ -157,7 +157,8 @@ fn add_implication(
     bound: &mut List<u16>,
     found: &mut List<Thing>,
 ) -> Result<(), Memory>
-    ensures found { OnOk result (found.new ≡ found.old ++ (terms_in bound.old (structure_of left.now) ++ terms_in (bound.old ++ referents_in (structure_of left.now)) (structure_of right.now))) }
+    ensures found { OnOk result (found.new
+        ≡ found.old ++ (terms_in bound.old (structure_of left.now) ++ terms_in (bound.old ++ referents_in (structure_of left.now)) (structure_of right.now))) }
     ensures kept { OnOk result (bound.new ≡ bound.old) }
 {
     add_structure(left, bound, found)?;

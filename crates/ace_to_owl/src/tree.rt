@@ -61,7 +61,8 @@ fn part_at(
     node: u32,
     depth: usize,
 ) -> Result<Option<Class>, Memory>
-    ensures class { IfOk result (λ class. option_shown concept_of class ≡ part_at (class_at depth (map part_shown parts.now) way.old) way.old node (part_shown part.now)) }
+    ensures class { IfOk result (λ class. option_shown concept_of class
+        ≡ part_at (class_at depth (map part_shown parts.now) way.old) way.old node (part_shown part.now)) }
     ensures kept { OnOk result (way.new ≡ way.old) }
 {
     match part {

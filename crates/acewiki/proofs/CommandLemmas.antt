@@ -5,7 +5,8 @@ use Rattle.acewiki.specs.declared.command.Outcome.TheVariants.{Done, Usage, Read
 use Rattle.acewiki.specs.Command.{status_of}
 
 outcome_of : ℕ → Outcome
-outcome_of n = cond (eqb n 0) Done (cond (eqb n 2) Usage (cond (eqb n 3) ReadFault (cond (eqb n 4) WriteFault (cond (eqb n 5) LinkFault (cond (eqb n 6) TooMuch Memory)))))
+outcome_of n = cond (eqb n 0) Done (cond (eqb n 2) Usage
+    (cond (eqb n 3) ReadFault (cond (eqb n 4) WriteFault (cond (eqb n 5) LinkFault (cond (eqb n 6) TooMuch Memory)))))
 
 outcome_of-status_of : (outcome : Outcome) → outcome_of (status_of outcome) ≡ outcome
 unfolding outcome_of

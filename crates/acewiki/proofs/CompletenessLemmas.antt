@@ -11,7 +11,8 @@ use Rattle.acewiki.specs.Completeness.{DoesWhatIsFree}
 
 -- a refusal has a cause that stands
 refused-free : (old new : Holding) (request : Request) (refusal : Refusal) (on_pages : Bool)
-    → MatchBool on_pages (core.StepsPages old.state request (replies.Refused refusal) new.state) (core.StepsSession old.state request (replies.Refused refusal) new.state)
+    → MatchBool on_pages (core.StepsPages old.state request (replies.Refused refusal) new.state)
+    (core.StepsSession old.state request (replies.Refused refusal) new.state)
     → MatchBool on_pages (store.IsFree old.state.pages request) (core.IsFree old.state request) → ⊥
 refused-free old new request refusal true steps free = free refusal steps.pages.0
 refused-free old new request refusal false steps free = free refusal steps.0

@@ -25,7 +25,8 @@ no_address word hyphen no_text =
     sym (ap (λ (b : Bool). if b then Some word else None) test)
 
 -- one option further
-pub options_step : (given next : Options) (rest behind others : List (List ℕ)) (name value : List ℕ) (target : Option Options) → rest ≡ name ∷ behind → behind ≡ value ∷ others
+pub options_step : (given next : Options) (rest behind others : List (List ℕ)) (name value : List ℕ) (target : Option Options) → rest ≡ name ∷ behind
+    → behind ≡ value ∷ others
     → with_option given name value ≡ Some next → options_after given rest ≡ target → options_after next others ≡ target
 options_step given next rest behind others name value target first second is so_far =
     sym (ap (option_and_then (λ more. options_after more others)) is) ∙ sym (ap (options_after given) (first ∙ ap (λ ws. name ∷ ws) second)) ∙ so_far

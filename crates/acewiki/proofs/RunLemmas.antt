@@ -26,14 +26,16 @@ use Rattle.acewiki.specs.Replay.{but_last, Replays}
 -- ---- one line
 
 -- what a step on the request of a line is to the line
-pub RepliesTo-step : (old : Holding) (line : InputLine) (new : Holding) (request : Request) (bytes : List ℕ) → Some request ≡ asked line → (reply : Reply) × KeptStep old request reply new × (bytes ≡ reply_line reply) → RepliesTo old line new bytes
+pub RepliesTo-step : (old : Holding) (line : InputLine) (new : Holding) (request : Request) (bytes : List ℕ) → Some request ≡ asked line
+    → (reply : Reply) × KeptStep old request reply new × (bytes ≡ reply_line reply) → RepliesTo old line new bytes
 RepliesTo-step old line new request bytes is_asked stepped = record {
   exchange = answered_by request stepped.0;
   steps = record { asked_now = is_asked; turn = stepped.1 };
   is_told = stepped.2;
 }
 
-pub WasStepped-step : (old : Holding) (line : InputLine) (new : Holding) (request : Request) → Some request ≡ asked line → (new ≡ old) ⊎ ((reply : Reply) × KeptStep old request reply new) → WasStepped old line new
+pub WasStepped-step : (old : Holding) (line : InputLine) (new : Holding) (request : Request) → Some request ≡ asked line
+    → (new ≡ old) ⊎ ((reply : Reply) × KeptStep old request reply new) → WasStepped old line new
 WasStepped-step old line new request is_asked (inl same) = inl same
 WasStepped-step old line new request is_asked (inr stepped) = inr (answered_by request stepped.0, record { asked_now = is_asked; turn = stepped.1 })
 
@@ -42,15 +44,19 @@ WasStepped-step old line new request is_asked (inr stepped) = inr (answered_by r
 StepsLines-none : (first : Holding) → StepsLines first [] [] first
 StepsLines-none first = record { asked_then = refl; turns = refl }
 
-StepsLines-push : (first : Holding) (lines : List InputLine) (line : InputLine) (exchanges : List (Exchange Request Reply)) (exchange : Exchange Request Reply) (before last : Holding)
+StepsLines-push : (first : Holding) (lines : List InputLine) (line : InputLine) (exchanges : List (Exchange Request Reply)) (exchange : Exchange Request Reply)
+    (before last : Holding)
     → StepsLines first lines exchanges before → StepsLine before line exchange last → StepsLines first (lines ++ line ∷ []) (exchanges ++ exchange ∷ []) last
 StepsLines-push first lines line exchanges exchange before last steps one = record {
-  asked_then = map_push request_in exchanges exchange ∙ ap (λ l. l ++ request_in exchange ∷ []) steps.asked_then ∙ ap (λ o. map asked lines ++ o ∷ []) one.asked_now ∙ sym (map_push asked lines line);
+  asked_then = map_push request_in exchanges exchange ∙ ap (λ l. l ++ request_in exchange ∷ []) steps.asked_then
+      ∙ ap (λ o. map asked lines ++ o ∷ []) one.asked_now ∙ sym (map_push asked lines line);
   turns = Turns-push KeptStep first exchanges exchange before last steps.turns one.turn;
 }
 
-reply_lines-push : (exchanges : List (Exchange Request Reply)) (exchange : Exchange Request Reply) → reply_lines (exchanges ++ exchange ∷ []) ≡ reply_lines exchanges ++ told exchange
-reply_lines-push exchanges exchange = flat_map-append told exchanges (exchange ∷ []) ∙ ap (λ (l : List ℕ). reply_lines exchanges ++ l) (append-nil (told exchange))
+reply_lines-push : (exchanges : List (Exchange Request Reply)) (exchange : Exchange Request Reply)
+    → reply_lines (exchanges ++ exchange ∷ []) ≡ reply_lines exchanges ++ told exchange
+reply_lines-push exchanges exchange = flat_map-append told exchanges (exchange ∷ [])
+    ∙ ap (λ (l : List ℕ). reply_lines exchanges ++ l) (append-nil (told exchange))
 
 but_last-push : (exchanges : List (Exchange Request Reply)) (exchange : Exchange Request Reply) → but_last (exchanges ++ exchange ∷ []) ≡ exchanges
 but_last-push exchanges exchange =
@@ -70,7 +76,8 @@ Begins-refl l = ([], sym (append-nil l))
 
 -- The lines that were given so far were stepped and answered, at a moment at which the input has `left` left and the
 -- reader stands so. The counts of faults have not fallen.
-pub record Running (start : Holding) (first taken_first : Option (List ℕ)) (left : Option (List ℕ)) (reader : Reading) (wiki : Holding) (taken : Option (List ℕ)) (input_first input output_first output : ℕ) : Type 0 where
+pub record Running (start : Holding) (first taken_first : Option (List ℕ)) (left : Option (List ℕ)) (reader : Reading) (wiki : Holding)
+    (taken : Option (List ℕ)) (input_first input output_first output : ℕ) : Type 0 where
   pub given : List InputLine
   pub lines : HasGivenFrom first given reader left
   pub at_end : IsTrue reader.ended → IsAtEnd left
@@ -81,7 +88,8 @@ pub record Running (start : Holding) (first taken_first : Option (List ℕ)) (le
   pub input_faults : input_first ≤ input
   pub output_faults : output_first ≤ output
 
-pub Running-first : (start : Holding) (first taken : Option (List ℕ)) (reader : Reading) (wiki : Holding) (input output : ℕ) → reader ≡ unread → wiki ≡ start → Running start first taken first reader wiki taken input input output output
+pub Running-first : (start : Holding) (first taken : Option (List ℕ)) (reader : Reading) (wiki : Holding) (input output : ℕ) → reader ≡ unread → wiki ≡ start
+    → Running start first taken first reader wiki taken input input output output
 Running-first start first taken reader wiki input output fresh is_start =
     subst (λ r. Running start first taken first r wiki taken input input output output) (sym fresh)
     (subst (λ w. Running start first taken first unread w taken input input output output) (sym is_start) (record {
@@ -98,7 +106,8 @@ Running-first start first taken reader wiki input output fresh is_start =
 
 -- ---- one call of the reader further
 
-module _ (start : Holding) (first taken_first left : Option (List ℕ)) (old : Reading) (wiki : Holding) (taken : Option (List ℕ)) (input_first input output_first output : ℕ)
+module _ (start : Holding) (first taken_first left : Option (List ℕ)) (old : Reading) (wiki : Holding) (taken : Option (List ℕ))
+    (input_first input output_first output : ℕ)
     (run : Running start first taken_first left old wiki taken input_first input output_first output)
     (said : Line) (new : Reading) (left_after : Option (List ℕ)) (call : ReadsLine left old said new left_after)
     (end : IsTrue new.ended → IsAtEnd left_after) where
@@ -135,9 +144,14 @@ module _ (start : Holding) (first taken_first left : Option (List ℕ)) (old : R
     all = λ _ _. refl;
   }
 
-  pub Replays-end : answered said new.line ≡ [] → new.pending ≡ [] → new.count ≤ MAX_INPUT → IsAtEnd left_after → Replays start first taken_first Done left_after taken
+  pub Replays-end : answered said new.line ≡ [] → new.pending ≡ [] → new.count ≤ MAX_INPUT → IsAtEnd left_after
+      → Replays start first taken_first Done left_after taken
   Replays-end none pending within at_end = Replays-answered Done
-      (λ _. (at_end, omega (arith, called.count, within), sym (none_given none) ∙ HasGiven-end called.bytes (run.given ++ answered said new.line) new called.lines pending))
+      (λ _. (
+        at_end,
+        omega (arith, called.count, within),
+        sym (none_given none) ∙ HasGiven-end called.bytes (run.given ++ answered said new.line) new called.lines pending,
+      ))
       (λ is. absurd (cc is)) (λ is. absurd (cc is)) taken (Appends-nil taken)
 
   -- and leaves the wiki as it is
@@ -152,14 +166,16 @@ module _ (start : Holding) (first taken_first left : Option (List ℕ)) (old : R
       (λ is. absurd (cc is)) taken (Appends-nil taken)
 
   pub Replays-too_large : MAX_INPUT < new.count → Replays start first taken_first TooMuch left_after taken
-  Replays-too_large large = Replays-answered TooMuch (λ is. absurd (cc is)) (λ is. absurd (cc is)) (λ _. omega (arith, called.count, large)) taken (Appends-nil taken)
+  Replays-too_large large = Replays-answered TooMuch (λ is. absurd (cc is)) (λ is. absurd (cc is)) (λ _. omega (arith, called.count, large)) taken
+      (Appends-nil taken)
 
   module _ (line : InputLine) (gives : answered said new.line ≡ line ∷ []) where
     more_given : run.given ++ answered said new.line ≡ run.given ++ line ∷ []
     more_given = ap (λ (more : List InputLine). run.given ++ more) gives
 
     -- a reply that was cut
-    Replays-begun : (wiki_after : Holding) (taken_after : Option (List ℕ)) → BeginsAnswer wiki line taken wiki_after taken_after → Replays start first taken_first WriteFault left_after taken_after
+    Replays-begun : (wiki_after : Holding) (taken_after : Option (List ℕ)) → BeginsAnswer wiki line taken wiki_after taken_after
+        → Replays start first taken_first WriteFault left_after taken_after
     Replays-begun wiki_after taken_after begun =
         let exchange = begun.replies.exchange in
         let part = take begun.count begun.reply in
@@ -180,7 +196,8 @@ module _ (start : Holding) (first taken_first left : Option (List ℕ)) (old : R
           sink = Appends-trans taken_first taken taken_after (reply_lines run.exchanges) part run.sink begun.written;
           front = (
             drop begun.count begun.reply,
-            reply_lines-push run.exchanges exchange ∙ ap (λ (l : List ℕ). reply_lines run.exchanges ++ l) (sym begun.replies.is_told ∙ sym (take-append-drop begun.count begun.reply))
+            reply_lines-push run.exchanges exchange
+                ∙ ap (λ (l : List ℕ). reply_lines run.exchanges ++ l) (sym begun.replies.is_told ∙ sym (take-append-drop begun.count begun.reply))
                 ∙ sym (append_assoc (reply_lines run.exchanges) part (drop begun.count begun.reply)),
           );
           whole = (part, ap (λ (es : List (Exchange Request Reply)). reply_lines es ++ part) (sym (but_last-push run.exchanges exchange)));
@@ -188,9 +205,11 @@ module _ (start : Holding) (first taken_first left : Option (List ℕ)) (old : R
         }
 
     -- the line had no whole reply
-    pub Replays-cut : (outcome : Outcome) (wiki_after : Holding) (taken_after : Option (List ℕ)) → CutsLine outcome wiki line taken wiki_after taken_after → Replays start first taken_first outcome left_after taken_after
+    pub Replays-cut : (outcome : Outcome) (wiki_after : Holding) (taken_after : Option (List ℕ)) → CutsLine outcome wiki line taken wiki_after taken_after
+        → Replays start first taken_first outcome left_after taken_after
     Replays-cut WriteFault wiki_after taken_after cut = Replays-begun wiki_after taken_after cut
-    Replays-cut Memory wiki_after taken_after cut = Replays-answered Memory (λ is. absurd (cc is)) (λ is. absurd (cc is)) (λ is. absurd (cc is)) taken_after (Appends-none taken taken_after cut.written)
+    Replays-cut Memory wiki_after taken_after cut =
+        Replays-answered Memory (λ is. absurd (cc is)) (λ is. absurd (cc is)) (λ is. absurd (cc is)) taken_after (Appends-none taken taken_after cut.written)
       where
         Appends-none : (a b : Option (List ℕ)) → Keeps a b → Appends a b []
         Appends-none None b kept = tt
@@ -202,8 +221,10 @@ module _ (start : Holding) (first taken_first left : Option (List ℕ)) (old : R
     Replays-cut outcome wiki_after taken_after cut = absurd cut
 
     -- a reply that was written whole
-    pub Running-line : (wiki_after : Holding) (taken_after : Option (List ℕ)) (input_after output_after : ℕ) → new.count ≤ MAX_INPUT → AnswersLine wiki line taken wiki_after taken_after
-        → input ≤ input_after → output ≤ output_after → Running start first taken_first left_after new wiki_after taken_after input_first input_after output_first output_after
+    pub Running-line : (wiki_after : Holding) (taken_after : Option (List ℕ)) (input_after output_after : ℕ) → new.count ≤ MAX_INPUT
+        → AnswersLine wiki line taken wiki_after taken_after
+        → input ≤ input_after → output ≤ output_after
+        → Running start first taken_first left_after new wiki_after taken_after input_first input_after output_first output_after
     Running-line wiki_after taken_after input_after output_after within answers input_kept output_kept =
         let exchange = answers.replies.exchange in
         record {
@@ -213,14 +234,16 @@ module _ (start : Holding) (first taken_first left : Option (List ℕ)) (old : R
           within = within;
           exchanges = run.exchanges ++ exchange ∷ [];
           steps = StepsLines-push start run.given line run.exchanges exchange wiki wiki_after run.steps answers.replies.steps;
-          sink = subst (Appends taken_first taken_after) (ap (λ (l : List ℕ). reply_lines run.exchanges ++ l) answers.replies.is_told ∙ sym (reply_lines-push run.exchanges exchange))
+          sink = subst (Appends taken_first taken_after)
+              (ap (λ (l : List ℕ). reply_lines run.exchanges ++ l) answers.replies.is_told ∙ sym (reply_lines-push run.exchanges exchange))
               (Appends-trans taken_first taken taken_after (reply_lines run.exchanges) answers.reply run.sink answers.written);
           input_faults = omega (arith, run.input_faults);
           output_faults = omega (arith, run.output_faults);
         }
 
 -- the source ended in this call or before
-pub at_end-call : (left left_after : Option (List ℕ)) (old new : Reading) → (IsTrue old.ended → IsAtEnd left) → (IsTrue new.ended → IsTrue old.ended ⊎ IsAtEnd left_after) → (IsTrue old.ended → left_after ≡ left)
+pub at_end-call : (left left_after : Option (List ℕ)) (old new : Reading) → (IsTrue old.ended → IsAtEnd left)
+    → (IsTrue new.ended → IsTrue old.ended ⊎ IsAtEnd left_after) → (IsTrue old.ended → left_after ≡ left)
     → IsTrue new.ended → IsAtEnd left_after
 at_end-call left left_after old new before nothing same ended = elim (nothing ended) [ inl was ↦ subst IsAtEnd (sym (same was)) (before was) | inr end ↦ end ]
 
@@ -247,7 +270,8 @@ Replays-none start left taken = record {
 }
 
 -- where a line was given, the input is not too large
-pub within-call : (said : Line) (line : List ℕ) (given : InputLine) (count : ℕ) → answered said line ≡ given ∷ [] → (said ≡ said_by.TooMuch) ↔ (MAX_INPUT < count) → count ≤ MAX_INPUT
+pub within-call : (said : Line) (line : List ℕ) (given : InputLine) (count : ℕ) → answered said line ≡ given ∷ []
+    → (said ≡ said_by.TooMuch) ↔ (MAX_INPUT < count) → count ≤ MAX_INPUT
 within-call said line given count gives too_much = elim (cases_lt MAX_INPUT count) [
   | inl over ↦ absurd (nil≢cons (ap (λ (a : Line). answered a line) (sym (too_much.1 over)) ∙ gives))
   | inr within ↦ within

@@ -10,7 +10,7 @@ use Rattle.wiki_talk.specs.declared.requests.Request.{Request}
 use Rattle.wiki_talk.specs.declared.replies.Reply.{Reply}
 use Rattle.wiki_talk.specs.Turns.{Exchange, answered as answered_by, no_request}
 use Rattle.wire_json.specs.Replies.{reply_line}
-use Rattle.std.specs.Prelude.{Result, Ok, Err, IfOk, OnErr}
+use Rattle.std.specs.Prelude.{Result, Ok, Err, IfOk}
 use Rattle.wiki_io.specs.Link.{with_more}
 use Rattle.wiki_io.specs.Lines.{InputLine, input_lines}
 use Rattle.acewiki.specs.Wiki.{Holding, KeptStep}
@@ -49,7 +49,8 @@ done_alone served.JournalFault is = cc
 done_alone served.Memory is = cc
 
 -- it steps all lines of the input
-all_lines : (first : Holding) (bytes : List ℕ) (left_after : Option (List ℕ)) (input : StepsInput first (Some bytes) outcomes.Done left_after) → input.lines ≡ input_lines bytes
+all_lines : (first : Holding) (bytes : List ℕ) (left_after : Option (List ℕ)) (input : StepsInput first (Some bytes) outcomes.Done left_after)
+    → input.lines ≡ input_lines bytes
 all_lines first bytes left_after input =
     let end = input.done refl in
     end.2 ∙ ap input_lines (read_all bytes input.read left_after input.source end.0)
@@ -63,7 +64,8 @@ fault_alone served.Memory is = cc
 -- ---- the headline
 
 -- all lines were stepped, and then all of these events were handled
-abbrev answers_of_run : (first : Holding) (bytes : List ℕ) (left_after : Option (List ℕ)) (input : StepsInput first (Some bytes) outcomes.Done left_after) (outside : Outside) (events : List Event) (last : Holding) (kept : List Kept) (outside_after : Outside)
+abbrev answers_of_run : (first : Holding) (bytes : List ℕ) (left_after : Option (List ℕ)) (input : StepsInput first (Some bytes) outcomes.Done left_after)
+    (outside : Outside) (events : List Event) (last : Holding) (kept : List Kept) (outside_after : Outside)
     → RunsEvents KeptStep input.last [] outside events last kept outside_after → AnswersAsPlainWiki first (input_lines bytes) outside events outside_after
 answers_of_run first bytes left_after input outside events last kept outside_after run = record {
   of_lines = input.exchanges;
@@ -81,33 +83,39 @@ answers_of_run first bytes left_after input outside events last kept outside_aft
 }
 
 -- the events of a serving that was handled to its end, whatever they are
-headline_events : (first : Holding) (bytes : List ℕ) (outside : Outside) (left_after : Option (List ℕ)) (input : StepsInput first (Some bytes) outcomes.Done left_after) (handed handed_after : Option (List Event)) (events : List Event) (outside_after : Outside)
+headline_events : (first : Holding) (bytes : List ℕ) (outside : Outside) (left_after : Option (List ℕ))
+    (input : StepsInput first (Some bytes) outcomes.Done left_after) (handed handed_after : Option (List Event)) (events : List Event) (outside_after : Outside)
     → handed_after ≡ with_more handed events → RunsAll KeptStep input.last outside events outside_after
     → (events : List Event) × (handed_after ≡ with_more handed events) × AnswersAsPlainWiki first (input_lines bytes) outside events outside_after
 headline_events first bytes outside left_after input handed handed_after events outside_after are_handed all =
     (events, are_handed, answers_of_run first bytes left_after input outside events all.last all.kept outside_after all.run)
 
 -- where the input's bytes are told
-told_input : (first : Holding) (left : Option (List ℕ)) (left_after : Option (List ℕ)) (outcome : Outcome) (bytes : List ℕ) → left ≡ Some bytes → StepsInput first left outcome left_after → StepsInput first (Some bytes) outcome left_after
+told_input : (first : Holding) (left : Option (List ℕ)) (left_after : Option (List ℕ)) (outcome : Outcome) (bytes : List ℕ) → left ≡ Some bytes
+    → StepsInput first left outcome left_after → StepsInput first (Some bytes) outcome left_after
 told_input first left left_after outcome bytes is input = subst (λ (l : Option (List ℕ)). StepsInput first l outcome left_after) is input
 
-module _ (first : Holding) (most : ℕ) (bytes : List ℕ) (outside : Outside) (handed : Option (List Event)) (left_after : Option (List ℕ)) (outside_after : Outside) (handed_after coming_after : Option (List Event)) where
+module _ (first : Holding) (most : ℕ) (bytes : List ℕ) (outside : Outside) (handed : Option (List Event)) (left_after : Option (List ℕ))
+    (outside_after : Outside) (handed_after coming_after : Option (List Event)) where
   headline_done : ServesEvents first most (Some bytes) outside handed outcomes.Done left_after outside_after handed_after coming_after
       → (events : List Event) × (handed_after ≡ with_more handed events) × AnswersAsPlainWiki first (input_lines bytes) outside events outside_after
   headline_done serves =
       let ends : EndsServing KeptStep serves.input.last most outside serves.events served.Done coming_after outside_after =
-      subst (λ s. EndsServing KeptStep serves.input.last most outside serves.events s coming_after outside_after) (done_alone serves.served_so serves.outcome_is) serves.ends in
+      subst (λ s. EndsServing KeptStep serves.input.last most outside serves.events s coming_after outside_after)
+      (done_alone serves.served_so serves.outcome_is) serves.ends in
       headline_events first bytes outside left_after serves.input handed handed_after serves.events outside_after serves.are_handed ends.0
 
   headline_fault : ServesEvents first most (Some bytes) outside handed outcomes.LinkFault left_after outside_after handed_after coming_after
       → (events : List Event) × (handed_after ≡ with_more handed events) × AnswersAsPlainWiki first (input_lines bytes) outside events outside_after
   headline_fault serves =
       let ends : EndsServing KeptStep serves.input.last most outside serves.events served.LinkFault coming_after outside_after =
-      subst (λ s. EndsServing KeptStep serves.input.last most outside serves.events s coming_after outside_after) (fault_alone serves.served_so serves.outcome_is) serves.ends in
+      subst (λ s. EndsServing KeptStep serves.input.last most outside serves.events s coming_after outside_after)
+      (fault_alone serves.served_so serves.outcome_is) serves.ends in
       headline_events first bytes outside left_after serves.input handed handed_after serves.events outside_after serves.are_handed ends
 
   -- the link could not listen
-  headline_deaf : (outcome : Outcome) → StepsInput first (Some bytes) outcome left_after → outcome ≡ outcomes.Done → outside_after ≡ outside → handed_after ≡ handed
+  headline_deaf : (outcome : Outcome) → StepsInput first (Some bytes) outcome left_after → outcome ≡ outcomes.Done → outside_after ≡ outside
+      → handed_after ≡ handed
       → (events : List Event) × (handed_after ≡ with_more handed events) × AnswersAsPlainWiki first (input_lines bytes) outside events outside_after
   headline_deaf outcome input done same same_handed =
       let stepped : StepsInput first (Some bytes) outcomes.Done left_after = subst (λ (o : Outcome). StepsInput first (Some bytes) o left_after) done input in
@@ -116,7 +124,8 @@ module _ (first : Holding) (most : ℕ) (bytes : List ℕ) (outside : Outside) (
       ([], same_handed ∙ sym (with_more-nil handed), answers_of_run first bytes left_after stepped outside [] stepped.last [] outside_after run)
 
   -- up to a fault
-  all_up_to : (input : StepsInput first (Some bytes) outcomes.Done left_after) (events : List Event) → RunsAll KeptStep input.last outside events outside_after → AnswersUpToFault first (input_lines bytes) outside events outside_after
+  all_up_to : (input : StepsInput first (Some bytes) outcomes.Done left_after) (events : List Event) → RunsAll KeptStep input.last outside events outside_after
+      → AnswersUpToFault first (input_lines bytes) outside events outside_after
   all_up_to input events all = record {
     answered = events;
     last_event = [];
@@ -126,7 +135,8 @@ module _ (first : Holding) (most : ℕ) (bytes : List ℕ) (outside : Outside) (
     ends = refl;
   }
 
-  events_up_to : (input : StepsInput first (Some bytes) outcomes.Done left_after) (events : List Event) (served_so : Served) → EndsServing KeptStep input.last most outside events served_so coming_after outside_after
+  events_up_to : (input : StepsInput first (Some bytes) outcomes.Done left_after) (events : List Event) (served_so : Served)
+      → EndsServing KeptStep input.last most outside events served_so coming_after outside_after
       → AnswersUpToFault first (input_lines bytes) outside events outside_after
   events_up_to input events served.Done ends = all_up_to input events ends.0
   events_up_to input events served.LinkFault ends = all_up_to input events ends
@@ -149,7 +159,8 @@ module _ (first : Holding) (most : ℕ) (bytes : List ℕ) (outside : Outside) (
   }
 
 -- the events of a serving that is done, whatever they are
-pub headline_of : (first : Holding) (most : ℕ) (left : Option (List ℕ)) (outside : Outside) (handed : Option (List Event)) (left_after : Option (List ℕ)) (outside_after : Outside) (handed_after coming_after : Option (List Event))
+pub headline_of : (first : Holding) (most : ℕ) (left : Option (List ℕ)) (outside : Outside) (handed : Option (List Event)) (left_after : Option (List ℕ))
+    (outside_after : Outside) (handed_after coming_after : Option (List Event))
     → Serves first most left outside handed outcomes.Done left_after outside_after handed_after coming_after → (bytes : List ℕ) → left ≡ Some bytes
     → (events : List Event) × (handed_after ≡ with_more handed events) × AnswersAsPlainWiki first (input_lines bytes) outside events outside_after
 headline_of first most left outside handed left_after outside_after handed_after coming_after (inl nothing) bytes is =
@@ -159,31 +170,41 @@ headline_of first most left outside handed left_after outside_after handed_after
     (subst (λ l. ServesEvents first most l outside handed outcomes.Done left_after outside_after handed_after coming_after) is events)
 
 -- the same where the link failed
-pub headline_at_fault : (first : Holding) (most : ℕ) (left : Option (List ℕ)) (outside : Outside) (handed : Option (List Event)) (left_after : Option (List ℕ)) (outside_after : Outside) (handed_after coming_after : Option (List Event))
+pub headline_at_fault : (first : Holding) (most : ℕ) (left : Option (List ℕ)) (outside : Outside) (handed : Option (List Event)) (left_after : Option (List ℕ))
+    (outside_after : Outside) (handed_after coming_after : Option (List Event))
     → Serves first most left outside handed outcomes.LinkFault left_after outside_after handed_after coming_after → (bytes : List ℕ) → left ≡ Some bytes
     → (events : List Event) × (handed_after ≡ with_more handed events) × AnswersAsPlainWiki first (input_lines bytes) outside events outside_after
 headline_at_fault first most left outside handed left_after outside_after handed_after coming_after (inl nothing) bytes is = elim nothing.why [
   | inl stopped ↦ absurd stopped.1
-  | inr deaf ↦ headline_deaf first most bytes outside handed left_after outside_after handed_after coming_after nothing.stepped (told_input first left left_after nothing.stepped bytes is nothing.input) deaf.0 nothing.same nothing.same_handed
+  | inr deaf ↦ headline_deaf first most bytes outside handed left_after outside_after handed_after coming_after nothing.stepped
+      (told_input first left left_after nothing.stepped bytes is nothing.input) deaf.0 nothing.same nothing.same_handed
 ]
 headline_at_fault first most left outside handed left_after outside_after handed_after coming_after (inr events) bytes is =
     headline_fault first most bytes outside handed left_after outside_after handed_after coming_after
     (subst (λ l. ServesEvents first most l outside handed outcomes.LinkFault left_after outside_after handed_after coming_after) is events)
 
 -- the events of any serving, up to a fault
-pub headline_up_to : (first : Holding) (most : ℕ) (left : Option (List ℕ)) (outside : Outside) (handed : Option (List Event)) (outcome : Outcome) (left_after : Option (List ℕ)) (outside_after : Outside) (handed_after coming_after : Option (List Event))
+pub headline_up_to : (first : Holding) (most : ℕ) (left : Option (List ℕ)) (outside : Outside) (handed : Option (List Event)) (outcome : Outcome)
+    (left_after : Option (List ℕ)) (outside_after : Outside) (handed_after coming_after : Option (List Event))
     → Serves first most left outside handed outcome left_after outside_after handed_after coming_after → (bytes : List ℕ) → left ≡ Some bytes
     → ServesUpToFault first (input_lines bytes) outside handed outside_after handed_after
-headline_up_to first most left outside handed outcome left_after outside_after handed_after coming_after (inl nothing) bytes is = inl (nothing.same, nothing.same_handed)
+headline_up_to first most left outside handed outcome left_after outside_after handed_after coming_after (inl nothing) bytes is =
+    inl (nothing.same, nothing.same_handed)
 headline_up_to first most left outside handed outcome left_after outside_after handed_after coming_after (inr events) bytes is =
     let told : ServesEvents first most (Some bytes) outside handed outcome left_after outside_after handed_after coming_after =
     subst (λ l. ServesEvents first most l outside handed outcome left_after outside_after handed_after coming_after) is events in
-    inr (told.events, told.are_handed, events_up_to first most bytes outside handed left_after outside_after handed_after coming_after told.input told.events told.served_so told.ends)
+    inr (
+      told.events,
+      told.are_handed,
+      events_up_to first most bytes outside handed left_after outside_after handed_after coming_after told.input told.events
+          told.served_so told.ends,
+    )
 
 -- ---- what serve has done
 
 -- how the lines of an input can end
-pub ends_input : (outcome : Outcome) → (outcome ≡ outcomes.Done → ⊥) → (outcome ≡ outcomes.Usage → ⊥) → (outcome ≡ outcomes.WriteFault → ⊥) → (outcome ≡ outcomes.LinkFault → ⊥) → EndsInput outcome
+pub ends_input : (outcome : Outcome) → (outcome ≡ outcomes.Done → ⊥) → (outcome ≡ outcomes.Usage → ⊥) → (outcome ≡ outcomes.WriteFault → ⊥)
+    → (outcome ≡ outcomes.LinkFault → ⊥) → EndsInput outcome
 ends_input outcomes.Done done usage write link = done refl
 ends_input outcomes.Usage done usage write link = usage refl
 ends_input outcomes.ReadFault done usage write link = tt
@@ -192,7 +213,8 @@ ends_input outcomes.LinkFault done usage write link = link refl
 ends_input outcomes.TooMuch done usage write link = tt
 ends_input outcomes.Memory done usage write link = tt
 
-pub Serves-stopped : (first : Holding) (most : ℕ) (left : Option (List ℕ)) (outside : Outside) (handed : Option (List Event)) (outcome : Outcome) (left_after : Option (List ℕ)) (coming_after : Option (List Event))
+pub Serves-stopped : (first : Holding) (most : ℕ) (left : Option (List ℕ)) (outside : Outside) (handed : Option (List Event)) (outcome : Outcome)
+    (left_after : Option (List ℕ)) (coming_after : Option (List Event))
     → StepsInput first left outcome left_after → EndsInput outcome → Serves first most left outside handed outcome left_after outside handed coming_after
 Serves-stopped first most left outside handed outcome left_after coming_after input ends =
     inl (record { stepped = outcome; input = input; why = inl (refl, ends); same = refl; same_handed = refl })
@@ -200,38 +222,45 @@ Serves-stopped first most left outside handed outcome left_after coming_after in
 -- ---- lines that are stepped
 
 -- it ended before the end of the input
-pub steps_other : (start : Holding) (first taken : Option (List ℕ)) (outcome : Outcome) (left_after taken_after : Option (List ℕ)) (last : Holding) → (outcome ≡ outcomes.Done → ⊥)
+pub steps_other : (start : Holding) (first taken : Option (List ℕ)) (outcome : Outcome) (left_after taken_after : Option (List ℕ)) (last : Holding)
+    → (outcome ≡ outcomes.Done → ⊥)
     → Replays start first taken outcome left_after taken_after → StepsInputTo start first outcome left_after last
 steps_other start first taken outcome left_after taken_after last not_done replays = record { steps = replays.input; last_is = λ is. absurd (not_done is) }
 
-module _ (start : Holding) (first left : Option (List ℕ)) (old : Reading) (wiki : Holding) (input_first input : ℕ) (run : Running start first None left old wiki None input_first input 0 0)
-    (said : Line) (new : Reading) (left_after : Option (List ℕ)) (call : ReadsLine left old said new left_after) (end : IsTrue new.ended → IsAtEnd left_after) where
-  pub steps_end : answered said new.line ≡ [] → new.pending ≡ [] → new.count ≤ MAX_INPUT → IsAtEnd left_after → StepsInputTo start first outcomes.Done left_after wiki
-  steps_end none pending within at_end = record {
-    steps = (Replays-end start first None left old wiki None input_first input 0 0 run said new left_after call end none pending within at_end).input;
-    last_is = λ _. Replays-end_last start first None left old wiki None input_first input 0 0 run said new left_after call end none pending within at_end;
-  }
+module _ (start : Holding) (first left : Option (List ℕ)) (old : Reading) (wiki : Holding) (input_first input : ℕ)
+    (run : Running start first None left old wiki None input_first input 0 0)
+    (said : Line) (new : Reading) (left_after : Option (List ℕ)) (call : ReadsLine left old said new left_after) (end : IsTrue new.ended → IsAtEnd left_after)
+  where
+    pub steps_end : answered said new.line ≡ [] → new.pending ≡ [] → new.count ≤ MAX_INPUT → IsAtEnd left_after
+        → StepsInputTo start first outcomes.Done left_after wiki
+    steps_end none pending within at_end = record {
+      steps = (Replays-end start first None left old wiki None input_first input 0 0 run said new left_after call end none pending within at_end).input;
+      last_is = λ _. Replays-end_last start first None left old wiki None input_first input 0 0 run said new left_after call end none pending within at_end;
+    }
 
-  pub steps_fault : answered said new.line ≡ [] → HasNoLine new → (last : Holding) → StepsInputTo start first outcomes.ReadFault left_after last
-  steps_fault none no_line last = steps_other start first None outcomes.ReadFault left_after None last (λ is. cc is)
-      (Replays-fault start first None left old wiki None input_first input 0 0 run said new left_after call end none no_line)
+    pub steps_fault : answered said new.line ≡ [] → HasNoLine new → (last : Holding) → StepsInputTo start first outcomes.ReadFault left_after last
+    steps_fault none no_line last = steps_other start first None outcomes.ReadFault left_after None last (λ is. cc is)
+        (Replays-fault start first None left old wiki None input_first input 0 0 run said new left_after call end none no_line)
 
-  pub steps_too_large : MAX_INPUT < new.count → (last : Holding) → StepsInputTo start first outcomes.TooMuch left_after last
-  steps_too_large large last = steps_other start first None outcomes.TooMuch left_after None last (λ is. cc is)
-      (Replays-too_large start first None left old wiki None input_first input 0 0 run said new left_after call end large)
+    pub steps_too_large : MAX_INPUT < new.count → (last : Holding) → StepsInputTo start first outcomes.TooMuch left_after last
+    steps_too_large large last = steps_other start first None outcomes.TooMuch left_after None last (λ is. cc is)
+        (Replays-too_large start first None left old wiki None input_first input 0 0 run said new left_after call end large)
 
-  pub steps_memory : (line : InputLine) → answered said new.line ≡ line ∷ [] → (last : Holding) → StepsInputTo start first outcomes.Memory left_after last
-  steps_memory line gives last = steps_other start first None outcomes.Memory left_after None last (λ is. cc is)
-      (Replays-cut start first None left old wiki None input_first input 0 0 run said new left_after call end line gives outcomes.Memory wiki None (record { state = inl refl; written = tt }))
+    pub steps_memory : (line : InputLine) → answered said new.line ≡ line ∷ [] → (last : Holding) → StepsInputTo start first outcomes.Memory left_after last
+    steps_memory line gives last = steps_other start first None outcomes.Memory left_after None last (λ is. cc is)
+        (Replays-cut start first None left old wiki None input_first input 0 0 run said new left_after call end line gives outcomes.Memory wiki None
+        (record { state = inl refl; written = tt }))
 
-  pub Running-step : (line : InputLine) → answered said new.line ≡ line ∷ [] → (wiki_after : Holding) (input_after : ℕ) → new.count ≤ MAX_INPUT
-      → (exchange : Exchange Request Reply) × StepsLine wiki line exchange wiki_after → input ≤ input_after → Running start first None left_after new wiki_after None input_first input_after 0 0
-  Running-step line gives wiki_after input_after within stepped kept =
-      Running-line start first None left old wiki None input_first input 0 0 run said new left_after call end line gives wiki_after None input_after 0 within
-      (record { reply = told stepped.0; replies = record { exchange = stepped.0; steps = stepped.1; is_told = refl }; written = tt }) kept (omega arith)
+    pub Running-step : (line : InputLine) → answered said new.line ≡ line ∷ [] → (wiki_after : Holding) (input_after : ℕ) → new.count ≤ MAX_INPUT
+        → (exchange : Exchange Request Reply) × StepsLine wiki line exchange wiki_after → input ≤ input_after
+        → Running start first None left_after new wiki_after None input_first input_after 0 0
+    Running-step line gives wiki_after input_after within stepped kept =
+        Running-line start first None left old wiki None input_first input 0 0 run said new left_after call end line gives wiki_after None input_after 0 within
+        (record { reply = told stepped.0; replies = record { exchange = stepped.0; steps = stepped.1; is_told = refl }; written = tt }) kept (omega arith)
 
 -- what a step on the request of a line is to the line
-pub stepped_request : (old : Holding) (line : InputLine) (new : Holding) (request : Request) → Some request ≡ asked line → (reply : Reply) × KeptStep old request reply new
+pub stepped_request : (old : Holding) (line : InputLine) (new : Holding) (request : Request) → Some request ≡ asked line
+    → (reply : Reply) × KeptStep old request reply new
     → (exchange : Exchange Request Reply) × StepsLine old line exchange new
 stepped_request old line new request is_asked stepped = (answered_by request stepped.0, record { asked_now = is_asked; turn = stepped.1 })
 
@@ -260,17 +289,22 @@ no_other served.JournalFault outcome is = ((λ as_usage. cc (is, as_usage)), λ 
 no_other served.Memory outcome is = ((λ as_usage. cc (is, as_usage)), λ as_fault. cc (is, as_fault))
 
 -- what the link told before it listened
-pub served_same : (first : Holding) (most : ℕ) (journal : Option (List ℕ)) (sent sent_then : Option (List (ℕ × List ℕ))) (faults faults_then : ℕ) (handed handed_then handed_after : Option (List Event)) (s : Served) (left : Option (List Event)) (after : Outside)
+pub served_same : (first : Holding) (most : ℕ) (journal : Option (List ℕ)) (sent sent_then : Option (List (ℕ × List ℕ))) (faults faults_then : ℕ)
+    (handed handed_then handed_after : Option (List Event)) (s : Served) (left : Option (List Event)) (after : Outside)
     → sent_then ≡ sent → faults_then ≡ faults → handed_then ≡ handed
     → Ended KeptStep first (record { journal = journal; sent = sent_then; send_faults = faults_then }) handed_then most handed_after s left after
     → Ended KeptStep first (record { journal = journal; sent = sent; send_faults = faults }) handed most handed_after s left after
 served_same first most journal sent sent_then faults faults_then handed handed_then handed_after s left after same_sent same_faults same_handed ended =
-    subst (λ (h : Option (List Event)). Ended KeptStep first (record { journal = journal; sent = sent; send_faults = faults }) h most handed_after s left after) same_handed
-    (subst (λ (o : Outside). Ended KeptStep first o handed_then most handed_after s left after) (told_same journal sent sent_then faults faults_then same_sent same_faults) ended)
+    subst (λ (h : Option (List Event)). Ended KeptStep first (record { journal = journal; sent = sent; send_faults = faults }) h most handed_after s left after)
+    same_handed
+    (subst (λ (o : Outside). Ended KeptStep first o handed_then most handed_after s left after)
+    (told_same journal sent sent_then faults faults_then same_sent same_faults) ended)
 
 -- the lines of the input, and then the link
-pub Serves-link : (first last : Holding) (most : ℕ) (left : Option (List ℕ)) (outside : Outside) (handed : Option (List Event)) (stepped outcome : Outcome) (left_after : Option (List ℕ)) (outside_after : Outside) (handed_after coming_after : Option (List Event))
-    → stepped ≡ outcomes.Done → StepsInputTo first left stepped left_after last → ServesLink last most outside handed outcome outside_after handed_after coming_after
+pub Serves-link : (first last : Holding) (most : ℕ) (left : Option (List ℕ)) (outside : Outside) (handed : Option (List Event)) (stepped outcome : Outcome)
+    (left_after : Option (List ℕ)) (outside_after : Outside) (handed_after coming_after : Option (List Event))
+    → stepped ≡ outcomes.Done → StepsInputTo first left stepped left_after last
+    → ServesLink last most outside handed outcome outside_after handed_after coming_after
     → Serves first most left outside handed outcome left_after outside_after handed_after coming_after
 Serves-link first last most left outside handed stepped outcome left_after outside_after handed_after coming_after done steps (inl deaf) =
     inl (record { stepped = stepped; input = steps.steps; why = inr (done, deaf.0); same = deaf.1; same_handed = deaf.2 })
@@ -289,12 +323,8 @@ Serves-link first last most left outside handed stepped outcome left_after outsi
 
 -- ---- a reply and its line
 
-pub with_line : {E : Type 0} (old : Holding) (request : Request) (new : Holding) (reply : Reply) (r : Result (List ℕ) E) → KeptStep old request reply new → IfOk r (λ line. line ≡ reply_line reply)
+pub with_line : {E : Type 0} (old : Holding) (request : Request) (new : Holding) (reply : Reply) (r : Result (List ℕ) E) → KeptStep old request reply new
+    → IfOk r (λ line. line ≡ reply_line reply)
     → IfOk r (λ line. (told : Reply) × KeptStep old request told new × (line ≡ reply_line told))
 with_line old request new reply (Ok line) stepped is = (reply, stepped, is)
 with_line old request new reply (Err e) stepped is = tt
-
--- what holds anyway holds where there is an error
-pub err_with : {A E P : Type 0} (r : Result A E) → P → OnErr r P
-err_with (Ok a) holds = tt
-err_with (Err e) holds = holds

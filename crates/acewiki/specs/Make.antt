@@ -16,4 +16,5 @@ made_outcome made.Memory = outcomes.Memory
 -- What `make` has written when it ends with this outcome: the summary of a run of the plain wiki over the generated requests, the last
 -- of which read each article; a front of it where a write failed; and nothing where there was no memory.
 abbrev pub MakesSummary : Holding → ℕ → ℕ → Option (List ℕ) → Outcome → Option (List ℕ) → Type 0
-MakesSummary first count seed taken outcome taken_after = (made_so : Made) × (outcome ≡ made_outcome made_so) × Makes KeptStep first count seed taken made_so taken_after
+MakesSummary first count seed taken outcome taken_after =
+    (made_so : Made) × (outcome ≡ made_outcome made_so) × Makes KeptStep first count seed taken made_so taken_after

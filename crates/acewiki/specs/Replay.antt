@@ -77,4 +77,5 @@ Tells message taken faults taken_after faults_after =
 
 -- The status is that of an outcome, whose words were written to standard error.
 abbrev pub EndsWith : ℕ → Option (List ℕ) → ℕ → Option (List ℕ) → ℕ → Type 0
-EndsWith status taken faults taken_after faults_after = (outcome : Outcome) × (status ≡ status_of outcome) × Tells (words_of outcome) taken faults taken_after faults_after
+EndsWith status taken faults taken_after faults_after =
+    (outcome : Outcome) × (status ≡ status_of outcome) × Tells (words_of outcome) taken faults taken_after faults_after

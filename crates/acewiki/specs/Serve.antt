@@ -39,7 +39,8 @@ EndsInput outcome = ⊥
 
 -- No event was handed in, and nothing was written or sent: the lines of the input ended so, or there was no memory; or they
 -- were all stepped, and the link could not listen.
-pub record ServesNothing (first : Holding) (left : Option (List ℕ)) (outside : Outside) (handed : Option (List Event)) (outcome : Outcome) (left_after : Option (List ℕ)) (outside_after : Outside) (handed_after : Option (List Event)) : Type 0 where
+pub record ServesNothing (first : Holding) (left : Option (List ℕ)) (outside : Outside) (handed : Option (List Event)) (outcome : Outcome)
+    (left_after : Option (List ℕ)) (outside_after : Outside) (handed_after : Option (List Event)) : Type 0 where
   pub stepped : Outcome
   pub input : StepsInput first left stepped left_after
   pub why : ((stepped ≡ outcome) × EndsInput outcome) ⊎ ((stepped ≡ outcomes.Done) × (outcome ≡ outcomes.LinkFault))
@@ -48,7 +49,8 @@ pub record ServesNothing (first : Holding) (left : Option (List ℕ)) (outside :
 
 -- all lines of the input were stepped, and then, from the wiki that they left, at most so many events were handed in and
 -- handled, up to such an end
-pub record ServesEvents (first : Holding) (most : ℕ) (left : Option (List ℕ)) (outside : Outside) (handed : Option (List Event)) (outcome : Outcome) (left_after : Option (List ℕ)) (outside_after : Outside) (handed_after coming_after : Option (List Event)) : Type 0 where
+pub record ServesEvents (first : Holding) (most : ℕ) (left : Option (List ℕ)) (outside : Outside) (handed : Option (List Event)) (outcome : Outcome)
+    (left_after : Option (List ℕ)) (outside_after : Outside) (handed_after coming_after : Option (List Event)) : Type 0 where
   pub input : StepsInput first left outcomes.Done left_after
   pub events : List Event
   pub are_handed : handed_after ≡ with_more handed events
@@ -65,7 +67,8 @@ ServesLink first most outside handed outcome outside_after handed_after coming_a
 
 -- What `serve` has done when it ends with this outcome. `left` is what the input has left, `handed` and `coming` are the
 -- events that the link has handed in and those that are left, where they tell it.
-abbrev pub Serves : Holding → ℕ → Option (List ℕ) → Outside → Option (List Event) → Outcome → Option (List ℕ) → Outside → Option (List Event) → Option (List Event) → Type 0
+abbrev pub Serves : Holding → ℕ → Option (List ℕ) → Outside → Option (List Event) → Outcome → Option (List ℕ) → Outside → Option (List Event)
+    → Option (List Event) → Type 0
 Serves first most left outside handed outcome left_after outside_after handed_after coming_after =
     ServesNothing first left outside handed outcome left_after outside_after handed_after
     ⊎ ServesEvents first most left outside handed outcome left_after outside_after handed_after coming_after
@@ -90,7 +93,8 @@ pub record AnswersAsPlainWiki (first : Holding) (lines : List InputLine) (outsid
   pub tokens : TokensAreOwn first.state.pages.grammar
   pub journal : Appends outside.journal outside_after.journal (flat_map journal_in handlings)
   pub responses : Delivers (flat_map response_in handlings) outside.sent outside.send_faults outside_after.sent outside_after.send_faults
-  pub whole : ¬ Rose outside.send_faults outside_after.send_faults → (n : ℕ) (sent sent_after : List (ℕ × List ℕ)) → outside.sent ≡ Some sent → outside_after.sent ≡ Some sent_after
+  pub whole : ¬ Rose outside.send_faults outside_after.send_faults → (n : ℕ) (sent sent_after : List (ℕ × List ℕ)) → outside.sent ≡ Some sent
+      → outside_after.sent ≡ Some sent_after
       → sent_on n sent_after ≡ sent_on n sent ++ sent_on n (flat_map response_in handlings)
 
 -- ---- a fault

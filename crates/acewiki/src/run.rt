@@ -73,7 +73,8 @@ pub fn run<S: Source, K: Sink, E: Sink, L: Link>(
         (record { journal = K.taken output.new; sent = L.sent link.new; send_faults = L.send_faults link.new }) (L.handed link.new) }
 
     // `serve` with any status: the lines that were stepped, the events that were handed in, and what was written and sent then.
-    ensures serves { (address : List ℕ) (budget most : ℕ) (outcome : Outcome) → command_of words.now ≡ Some (serve address budget most) → result ≡ status_of outcome
+    ensures serves { (address : List ℕ) (budget most : ℕ) (outcome : Outcome) → command_of words.now ≡ Some (serve address budget most)
+        → result ≡ status_of outcome
         → Serves (ace_wiki budget) most (S.left input.old)
         (record { journal = K.taken output.old; sent = L.sent link.old; send_faults = L.send_faults link.old }) (L.handed link.old) outcome (S.left input.new)
         (record { journal = K.taken output.new; sent = L.sent link.new; send_faults = L.send_faults link.new }) (L.handed link.new) (L.left link.new) }
@@ -86,7 +87,8 @@ pub fn run<S: Source, K: Sink, E: Sink, L: Link>(
         → (input.new ≡ input.old) × (link.new ≡ link.old) × ((result ≡ 0) ⊎ ((result ≡ 4) ⊎ (result ≡ 9))) }
 
     // `help`: its lines were written, or a front of them with status 4. Nothing is read or sent, and no memory is taken.
-    ensures helps { (outcome : Outcome) → command_of words.now ≡ Some help → result ≡ status_of outcome → WritesHelp outcome (K.taken output.old) (K.taken output.new) }
+    ensures helps { (outcome : Outcome) → command_of words.now ≡ Some help → result ≡ status_of outcome
+        → WritesHelp outcome (K.taken output.old) (K.taken output.new) }
     ensures help_alone { command_of words.now ≡ Some help → (input.new ≡ input.old) × (link.new ≡ link.old) × ((result ≡ 0) ⊎ (result ≡ 4)) }
 
     ensures read_fault { result ≡ 3 → Rose (S.faults input.old) (S.faults input.new) }
@@ -130,7 +132,8 @@ fn perform<S: Source, K: Sink, L: Link>(
     ensures make_alone { (count seed budget : ℕ) → command_of words.now ≡ Some (make count seed budget)
         → (input.new ≡ input.old) × (link.new ≡ link.old) × ((result ≡ Outcome.Done) ⊎ ((result ≡ Outcome.WriteFault) ⊎ (result ≡ Outcome.Memory))) }
     ensures helps { command_of words.now ≡ Some help → WritesHelp result (K.taken output.old) (K.taken output.new) }
-    ensures help_alone { command_of words.now ≡ Some help → (input.new ≡ input.old) × (link.new ≡ link.old) × ((result ≡ Outcome.Done) ⊎ (result ≡ Outcome.WriteFault)) }
+    ensures help_alone { command_of words.now ≡ Some help
+        → (input.new ≡ input.old) × (link.new ≡ link.old) × ((result ≡ Outcome.Done) ⊎ (result ≡ Outcome.WriteFault)) }
     ensures read_fault { result ≡ Outcome.ReadFault → Rose (S.faults input.old) (S.faults input.new) }
     ensures write_fault { result ≡ Outcome.WriteFault → Rose (K.faults output.old) (K.faults output.new) }
     ensures link_fault { result ≡ Outcome.LinkFault → Rose (L.faults link.old) (L.faults link.new) }
@@ -200,7 +203,8 @@ pub fn program<C: CommandLine, S: Source, K: Sink, E: Sink, L: Link>(
         → Serves (ace_wiki budget) most (S.left input.old)
         (record { journal = K.taken output.old; sent = L.sent link.old; send_faults = L.send_faults link.old }) (L.handed link.old) outcome (S.left input.new)
         (record { journal = K.taken output.new; sent = L.sent link.new; send_faults = L.send_faults link.new }) (L.handed link.new) (L.left link.new) }
-    ensures makes { (words : List (List ℕ)) (count seed budget : ℕ) (outcome : Outcome) → C.words line.now ≡ Some words → command_of words ≡ Some (make count seed budget)
+    ensures makes { (words : List (List ℕ)) (count seed budget : ℕ) (outcome : Outcome) → C.words line.now ≡ Some words
+        → command_of words ≡ Some (make count seed budget)
         → result ≡ status_of outcome → MakesSummary (ace_wiki budget) count seed (K.taken output.old) outcome (K.taken output.new) }
     ensures make_alone { (words : List (List ℕ)) (count seed budget : ℕ) → C.words line.now ≡ Some words → command_of words ≡ Some (make count seed budget)
         → (input.new ≡ input.old) × (link.new ≡ link.old) × ((result ≡ 0) ⊎ ((result ≡ 4) ⊎ (result ≡ 9))) }

@@ -1,10 +1,10 @@
 -- A clash after a step is where the step changed something.
-use Rattle.std.proofs.Common.{◌≡◌, ℕ, zero, suc, ◌<◌, ◌≤◌, ◌==◌, ◌&&◌, ◌||◌, Bool, true, false, List, [], ◌∷◌, length, Option, Some, None, subst, refl, sym, ap, ◌∙◌, inl, inr, arith}
+use Rattle.std.proofs.Common.{◌≡◌, ℕ, zero, suc, ◌<◌, ◌≤◌, ◌==◌, ◌&&◌, ◌||◌, Bool, true, false, List, [], ◌∷◌, length, Option, Some, None, subst, refl, ap, ◌∙◌, inl, inr, arith}
 use Rattle.std.specs.List.{list_any}
 use Rattle.std.specs.Option.{option_map_or}
 use Rattle.std.proofs.lemmas.Bool.{cases_Bool, cases_lt, or_cases, or_left, or_right, or_parts, or_from, false_from_ne_true}
 use Rattle.std.proofs.lemmas.Option.{slice_get_past}
-use Rattle.logic_terms.specs.declared.expressions.Role.{Role}
+use Rattle.wiki_base.proofs.BoolLaws.{not_both}
 use Rattle.logic_terms.specs.Concept.{Concept, Everything, Atomic, ComplementOf}
 use Rattle.logic_terms.specs.Meaning.{some_below}
 use Rattle.logic_terms.specs.Parts.{word_part, complement_part, value_part}
@@ -15,9 +15,6 @@ use Rattle.tableau_rules.specs.Clashes.{passes, are_joined, clashes_at, value_cl
 use Rattle.tableau_rules.specs.Graph.{Graph, label_at}
 use Rattle.tableau_rules.specs.Neighbours.{node_of, is_neighbour}
 use Rattle.agenda.specs.Changes.{Changes}
-
-both : {b : Bool} → b ≡ true → b ≡ false → ⊥
-both t f = cc
 
 passes_more : {X : Type 0} (o : Option X) (p q : X → Bool) → ((x : X) → p x ≡ true → q x ≡ true) → passes o p ≡ true → passes o q ≡ true
 passes_more None p q up h = h
@@ -35,7 +32,7 @@ all_fail zero test each = refl
 all_fail (suc n) test each = or_from (test n) (some_below n test) (each n (omega arith)) (all_fail n test (λ x lt. each x (omega arith)))
 
 fails_below : (n : ℕ) (test : ℕ → Bool) → some_below n test ≡ false → (x : ℕ) → x < n → test x ≡ false
-fails_below n test none x lt = false_from_ne_true (test x) (λ t. both (some_below_passes test x n lt t) none)
+fails_below n test none x lt = false_from_ne_true (test x) (λ t. not_both (some_below_passes test x n lt t) none)
 
 -- whether a node has a clash
 abbrev pub is_hit : Theory → Graph → ℕ → Bool
@@ -43,8 +40,10 @@ is_hit k g x = list_any (clashes_at k g x) (label_at g x)
 
 pub hit_clash : (k : Theory) (g : Graph) (x : ℕ) → is_hit k g x ≡ true → has_clash k g ≡ true
 hit_clash k g x h = elim (cases_lt x (length g.nodes)) [
-  | inl lt ↦ or_right (list_any (λ d. are_joined k d.0 d.1) k.differences) (some_below (length g.nodes) (is_hit k g)) (some_below_passes (is_hit k g) x (length g.nodes) lt h)
-  | inr past ↦ (let none : is_hit k g x ≡ false = ap (λ o. list_any (clashes_at k g x) (option_map_or (λ v. v.label) o [])) (slice_get_past g.nodes x past) in absurd (both h none))
+  | inl lt ↦ or_right (list_any (λ d. are_joined k d.0 d.1) k.differences) (some_below (length g.nodes) (is_hit k g))
+      (some_below_passes (is_hit k g) x (length g.nodes) lt h)
+  | inr past ↦ (let none : is_hit k g x ≡ false = ap (λ o. list_any (clashes_at k g x) (option_map_or (λ v. v.label) o [])) (slice_get_past g.nodes x past) in
+      absurd (not_both h none))
 ]
 
 module _ (k : Theory) (g h : Graph) (grows joins : ℕ → Bool) (change : Changes k g h grows joins) (calm : has_clash k g ≡ false) where
@@ -53,25 +52,31 @@ module _ (k : Theory) (g h : Graph) (grows joins : ℕ → Bool) (change : Chang
 
   -- where nothing changed
   clash_before : (x : ℕ) → grows x ≡ false → joins x ≡ false → (c : Concept) → clashes_at k h x c ≡ true → clashes_at k g x c ≡ true
-  clash_before x still apart c hit = elim (or_cases (passes (word_part c) (λ word. has_concept (label_at h x) (ComplementOf (Atomic word)))) (same_concept c (ComplementOf Everything) || value_clashes k c (λ role y. is_neighbour k h role x y)) hit) [
-    | inl pair ↦ or_left (passes (word_part c) (λ word. has_concept (label_at g x) (ComplementOf (Atomic word)))) (same_concept c (ComplementOf Everything) || value_clashes k c (λ role y. is_neighbour k g role x y))
-        (subst (λ l. passes (word_part c) (λ word. has_concept l (ComplementOf (Atomic word))) ≡ true) (change.labels x still) pair)
-    | inr rest ↦ or_right (passes (word_part c) (λ word. has_concept (label_at g x) (ComplementOf (Atomic word)))) (same_concept c (ComplementOf Everything) || value_clashes k c (λ role y. is_neighbour k g role x y))
-        (elim (or_cases (same_concept c (ComplementOf Everything)) (value_clashes k c (λ role y. is_neighbour k h role x y)) rest) [
-          | inl nothing ↦ or_left (same_concept c (ComplementOf Everything)) (value_clashes k c (λ role y. is_neighbour k g role x y)) nothing
-          | inr value ↦ or_right (same_concept c (ComplementOf Everything)) (value_clashes k c (λ role y. is_neighbour k g role x y))
-              (passes_more (complement_part c) (λ d. passes (value_part d) (λ v. passes (node_of k v.1) (λ y. is_neighbour k h v.0 x y))) (λ d. passes (value_part d) (λ v. passes (node_of k v.1) (λ y. is_neighbour k g v.0 x y)))
-              (λ d. passes_more (value_part d) (λ v. passes (node_of k v.1) (λ y. is_neighbour k h v.0 x y)) (λ v. passes (node_of k v.1) (λ y. is_neighbour k g v.0 x y))
-              (λ v. passes_more (node_of k v.1) (λ y. is_neighbour k h v.0 x y) (λ y. is_neighbour k g v.0 x y) (λ y. change.only v.0 x y apart))) value)
-        ])
-  ]
+  clash_before x still apart c hit = elim (or_cases (passes (word_part c) (λ word. has_concept (label_at h x) (ComplementOf (Atomic word))))
+      (same_concept c (ComplementOf Everything) || value_clashes k c (λ role y. is_neighbour k h role x y)) hit) [
+        | inl pair ↦ or_left (passes (word_part c) (λ word. has_concept (label_at g x) (ComplementOf (Atomic word))))
+            (same_concept c (ComplementOf Everything) || value_clashes k c (λ role y. is_neighbour k g role x y))
+            (subst (λ l. passes (word_part c) (λ word. has_concept l (ComplementOf (Atomic word))) ≡ true) (change.labels x still) pair)
+        | inr rest ↦ or_right (passes (word_part c) (λ word. has_concept (label_at g x) (ComplementOf (Atomic word))))
+            (same_concept c (ComplementOf Everything) || value_clashes k c (λ role y. is_neighbour k g role x y))
+            (elim (or_cases (same_concept c (ComplementOf Everything)) (value_clashes k c (λ role y. is_neighbour k h role x y)) rest) [
+              | inl nothing ↦ or_left (same_concept c (ComplementOf Everything)) (value_clashes k c (λ role y. is_neighbour k g role x y)) nothing
+              | inr value ↦ or_right (same_concept c (ComplementOf Everything)) (value_clashes k c (λ role y. is_neighbour k g role x y))
+                  (passes_more (complement_part c) (λ d. passes (value_part d) (λ v. passes (node_of k v.1) (λ y. is_neighbour k h v.0 x y)))
+                  (λ d. passes (value_part d) (λ v. passes (node_of k v.1) (λ y. is_neighbour k g v.0 x y)))
+                  (λ d. passes_more (value_part d) (λ v. passes (node_of k v.1) (λ y. is_neighbour k h v.0 x y))
+                  (λ v. passes (node_of k v.1) (λ y. is_neighbour k g v.0 x y))
+                  (λ v. passes_more (node_of k v.1) (λ y. is_neighbour k h v.0 x y) (λ y. is_neighbour k g v.0 x y) (λ y. change.only v.0 x y apart))) value)
+            ])
+      ]
 
   still_calm : (x : ℕ) → x < length h.nodes → grows x ≡ false → joins x ≡ false → is_hit k h x ≡ false
   still_calm x lt still apart = elim (cases_lt x (length g.nodes)) [
-    | inl old ↦ false_from_ne_true (is_hit k h x) (λ hit. both
-        (any_more (clashes_at k h x) (clashes_at k g x) (clash_before x still apart) (label_at g x) (subst (λ l. list_any (clashes_at k h x) l ≡ true) (change.labels x still) hit))
+    | inl old ↦ false_from_ne_true (is_hit k h x) (λ hit. not_both
+        (any_more (clashes_at k h x) (clashes_at k g x) (clash_before x still apart) (label_at g x)
+        (subst (λ l. list_any (clashes_at k h x) l ≡ true) (change.labels x still) hit))
         (fails_below (length g.nodes) (is_hit k g) parts.1 x old))
-    | inr new ↦ absurd (both (change.fresh x new lt) still)
+    | inr new ↦ absurd (not_both (change.fresh x new lt) still)
   ]
 
   -- where no changed node has a clash

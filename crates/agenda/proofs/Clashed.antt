@@ -1,12 +1,12 @@
 -- The changed nodes decide whether there is a clash after a step.
-use Rattle.std.proofs.Common.{◌≡◌, ℕ, ◌==◌, ◌||◌, Bool, true, false, length, Option, Some, None, subst, refl, sym, ap, ◌∙◌, inl, inr}
-use Rattle.std.proofs.lemmas.Bool.{cases_Bool, or_cases, or_left, or_right, eqb-true}
+use Rattle.std.proofs.Common.{◌≡◌, ℕ, ◌==◌, ◌||◌, Bool, true, false, Some, None, subst, refl, sym, ap, ◌∙◌, inl, inr}
+use Rattle.std.proofs.lemmas.Bool.{cases_Bool, or_cases, or_right, eqb-true}
+use Rattle.std.proofs.lemmas.Option.{same_Some}
 use Rattle.logic_terms.specs.Theory.{Theory}
 use Rattle.tableau_rules.specs.declared.branch.Edge.{Edge}
 use Rattle.tableau_rules.specs.declared.step.Step.{Step}
 use Rattle.tableau_rules.specs.Clashes.{has_clash}
 use Rattle.tableau_rules.specs.Graph.{Graph}
-use Rattle.tableau_rules.specs.Rules.{adding, with_edge, with_node, after}
 use Rattle.agenda.specs.Agendas.{IsAfterCalm}
 use Rattle.agenda.specs.Changes.{Changes}
 use Rattle.agenda.specs.Steps.{grown_by, sprouts}
@@ -16,14 +16,12 @@ use Rattle.agenda.proofs.Changing.{ends, same_changes, adding_changes, edge_chan
 use Rattle.agenda.proofs.Effects.{IsGrown, growth, linking, sprouting}
 use Rattle.agenda.proofs.Noting.{linked_last, sprouted_last, has_last}
 
-some_same : {X : Type 0} (a b : X) → Some a ≡ Some b → a ≡ b
-some_same a b e = cc
-
 module _ (k : Theory) (s : Step) (h : Graph) (before : IsAfterCalm k s h) where
   pub grown_exact : (x : ℕ) → grown_by s ≡ Some x → is_hit k h x ≡ has_clash k h
   grown_exact x some = elim (cases_Bool (is_hit k h x)) [
     | inl hit ↦ hit ∙ sym (hit_clash k h x hit)
-    | inr calm ↦ calm ∙ sym (calm_after k before.0 h (λ y. x == y) (λ y. false) (change (subst (IsGrown k before.0 x) (sym before.4) (growth k before.0 s before.1 x some))) before.2 (λ y changed. only calm y changed))
+    | inr calm ↦ calm ∙ sym (calm_after k before.0 h (λ y. x == y) (λ y. false)
+        (change (subst (IsGrown k before.0 x) (sym before.4) (growth k before.0 s before.1 x some))) before.2 (λ y changed. only calm y changed))
   ]
     where
       change : IsGrown k before.0 x h → Changes k before.0 h (λ y. x == y) (λ y. false)
@@ -50,8 +48,9 @@ module _ (k : Theory) (s : Step) (h : Graph) (before : IsAfterCalm k s h) where
         go true kind =
             let it = sprouting k before.0 s before.1 kind before.3 in
             let is = before.4 ∙ it.is in
-            let same : it.edge ≡ e = some_same it.edge e (sym (sprouted_last before.0 h it.node it.edge is) ∙ last) in
-            calm_after k before.0 h (λ y. it.edge.to == y) (ends it.edge) (subst (λ f. Changes k before.0 f (λ y. it.edge.to == y) (ends it.edge)) (sym is) (node_changes k before.0 it.node it.edge it.to)) before.2
+            let same : it.edge ≡ e = same_Some it.edge e (sym (sprouted_last before.0 h it.node it.edge is) ∙ last) in
+            calm_after k before.0 h (λ y. it.edge.to == y) (ends it.edge)
+            (subst (λ f. Changes k before.0 f (λ y. it.edge.to == y) (ends it.edge)) (sym is) (node_changes k before.0 it.node it.edge it.to)) before.2
             (λ y changed. at_ends it.edge same from to y (elim (or_cases (it.edge.to == y) (ends it.edge y) changed) [
               | inl new ↦ or_right (it.edge.from == y) (it.edge.to == y) new
               | inr joined ↦ joined
@@ -59,8 +58,9 @@ module _ (k : Theory) (s : Step) (h : Graph) (before : IsAfterCalm k s h) where
         go false kind =
             let it = linking k before.0 s before.1 none kind before.3 in
             let is = before.4 ∙ it.is in
-            let same : it.edge ≡ e = some_same it.edge e (sym (linked_last before.0 h it.edge is) ∙ last) in
-            calm_after k before.0 h (λ y. false) (ends it.edge) (subst (λ f. Changes k before.0 f (λ y. false) (ends it.edge)) (sym is) (edge_changes k before.0 it.edge)) before.2
+            let same : it.edge ≡ e = same_Some it.edge e (sym (linked_last before.0 h it.edge is) ∙ last) in
+            calm_after k before.0 h (λ y. false) (ends it.edge)
+            (subst (λ f. Changes k before.0 f (λ y. false) (ends it.edge)) (sym is) (edge_changes k before.0 it.edge)) before.2
             (λ y changed. at_ends it.edge same from to y (elim (or_cases false (ends it.edge y) changed) [
               | inl off ↦ cc
               | inr joined ↦ joined

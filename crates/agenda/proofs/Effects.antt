@@ -2,6 +2,7 @@
 use Rattle.std.proofs.Common.{◌≡◌, ℕ, ◌<◌, ◌==◌, ◌&&◌, ◌⊎◌, Bool, true, false, List, [], ◌∷◌, length, cond, Option, Some, None, subst, refl, sym, ap, ◌∙◌, inl, inr}
 use Rattle.std.specs.Prelude.{not, option_to_list, slice_get}
 use Rattle.std.specs.Option.{option_and_then, option_map_or}
+use Rattle.std.proofs.lemmas.Option.{same_Some}
 use Rattle.wiki_base.specs.declared.numbers.WordId.{WordId}
 use Rattle.logic_terms.specs.declared.expressions.Role.{Role}
 use Rattle.logic_terms.specs.Concept.{Concept}
@@ -20,9 +21,6 @@ use Rattle.tableau_rules.specs.Rules.{unfoldings_of, unit_member, serves, row, s
 use Rattle.tableau_bounds.proofs.Labels.{has_here}
 use Rattle.tableau_bounds.proofs.Stepping.{has_node}
 use Rattle.agenda.specs.Steps.{grown_node, grown_by, sprouts}
-
-some_same : {X : Type 0} (a b : X) → Some a ≡ Some b → a ≡ b
-some_same a b e = cc
 
 module _ (k : Theory) (g : Graph) where
   -- classes come to one label, or nothing does
@@ -49,12 +47,18 @@ module _ (k : Theory) (g : Graph) where
   grown_part x f (Some p) = inr (f p, refl)
 
   grown_effect : (r : Rule) (x : ℕ) (c : Concept) (y choice z : ℕ) → grown_node r x y ≡ Some z → IsGrown z (effect k g r x c y choice)
-  grown_effect rule.And x c y choice z e = subst (λ w. IsGrown w (effect k g rule.And x c y choice)) (some_same x z e) (grown_part x (λ cs. cs) (intersection_part c))
-  grown_effect rule.Unfold x c y choice z e = subst (λ w. IsGrown w (effect k g rule.Unfold x c y choice)) (some_same x z e) (grown_part x (unfoldings_of k) (word_part c))
-  grown_effect rule.All x c y choice z e = subst (λ w. IsGrown w (effect k g rule.All x c y choice)) (some_same y z e) (grown_part y (λ p. p.1 ∷ []) (all_part c))
+  grown_effect rule.And x c y choice z e =
+      subst (λ w. IsGrown w (effect k g rule.And x c y choice)) (same_Some x z e) (grown_part x (λ cs. cs) (intersection_part c))
+  grown_effect rule.Unfold x c y choice z e =
+      subst (λ w. IsGrown w (effect k g rule.Unfold x c y choice)) (same_Some x z e) (grown_part x (unfoldings_of k) (word_part c))
+  grown_effect rule.All x c y choice z e =
+      subst (λ w. IsGrown w (effect k g rule.All x c y choice)) (same_Some y z e) (grown_part y (λ p. p.1 ∷ []) (all_part c))
   grown_effect rule.Value x c y choice z e = cc
-  grown_effect rule.Unit x c y choice z e = subst (λ w. IsGrown w (effect k g rule.Unit x c y choice)) (some_same x z e) (grown_part x (λ cs. option_to_list (unit_member (label_at g x) cs)) (union_part c))
-  grown_effect rule.Or x c y choice z e = subst (λ w. IsGrown w (effect k g rule.Or x c y choice)) (some_same x z e) (grown_part x (λ cs. option_to_list (slice_get cs choice)) (union_part c))
+  grown_effect rule.Unit x c y choice z e =
+      subst (λ w. IsGrown w (effect k g rule.Unit x c y choice)) (same_Some x z e)
+      (grown_part x (λ cs. option_to_list (unit_member (label_at g x) cs)) (union_part c))
+  grown_effect rule.Or x c y choice z e =
+      subst (λ w. IsGrown w (effect k g rule.Or x c y choice)) (same_Some x z e) (grown_part x (λ cs. option_to_list (slice_get cs choice)) (union_part c))
   grown_effect rule.Some x c y choice z e = cc
 
   pub growth : (s : Step) (choice x : ℕ) → grown_by s ≡ Some x → IsGrown x (after k g s choice)
@@ -64,24 +68,30 @@ module _ (k : Theory) (g : Graph) where
       go None = inl refl
       go (Some c) = grown_effect s.rule s.node c s.other choice x e
 
-  linked_effect : (r : Rule) (x : ℕ) (c : Concept) (y choice : ℕ) → x < length g.nodes → grown_node r x y ≡ None → sprouts r ≡ false → (z : ℕ) → row k g r x c ≡ Some z → IsLinked (effect k g r x c y choice)
+  linked_effect : (r : Rule) (x : ℕ) (c : Concept) (y choice : ℕ) → x < length g.nodes → grown_node r x y ≡ None → sprouts r ≡ false → (z : ℕ)
+      → row k g r x c ≡ Some z → IsLinked (effect k g r x c y choice)
   linked_effect rule.And x c y choice lt e not_new z on = cc
   linked_effect rule.Unfold x c y choice lt e not_new z on = cc
   linked_effect rule.All x c y choice lt e not_new z on = cc
   linked_effect rule.Value x c y choice lt e not_new z on = go (value_part c) on
     where
-      inner : (p : Role × WordId) (o : Option ℕ) → node_of k p.1 ≡ o → option_and_then (λ w. where_true (not (is_blocked k g x) && not (is_neighbour k g p.0 x w)) 0) o ≡ Some z → IsLinked (option_map_or (λ w. with_edge g (record { from = x; role = p.0; to = w })) o g)
+      inner : (p : Role × WordId) (o : Option ℕ) → node_of k p.1 ≡ o
+          → option_and_then (λ w. where_true (not (is_blocked k g x) && not (is_neighbour k g p.0 x w)) 0) o ≡ Some z
+          → IsLinked (option_map_or (λ w. with_edge g (record { from = x; role = p.0; to = w })) o g)
       inner p None at i = cc
       inner p (Some w) at i = record { edge = record { from = x; role = p.0; to = w }; is = refl; from = lt; name = p; to = at }
 
-      go : (o : Option (Role × WordId)) → option_and_then (λ p. option_and_then (λ w. where_true (not (is_blocked k g x) && not (is_neighbour k g p.0 x w)) 0) (node_of k p.1)) o ≡ Some z → IsLinked (option_map_or (λ p. option_map_or (λ w. with_edge g (record { from = x; role = p.0; to = w })) (node_of k p.1) g) o g)
+      go : (o : Option (Role × WordId)) → option_and_then
+          (λ p. option_and_then (λ w. where_true (not (is_blocked k g x) && not (is_neighbour k g p.0 x w)) 0) (node_of k p.1)) o ≡ Some z
+          → IsLinked (option_map_or (λ p. option_map_or (λ w. with_edge g (record { from = x; role = p.0; to = w })) (node_of k p.1) g) o g)
       go None i = cc
       go (Some p) i = inner p (node_of k p.1) refl i
   linked_effect rule.Unit x c y choice lt e not_new z on = cc
   linked_effect rule.Or x c y choice lt e not_new z on = cc
   linked_effect rule.Some x c y choice lt e not_new z on = cc
 
-  sprouted_effect : (r : Rule) (x : ℕ) (c : Concept) (y choice : ℕ) → x < length g.nodes → sprouts r ≡ true → (z : ℕ) → row k g r x c ≡ Some z → IsSprouted (effect k g r x c y choice)
+  sprouted_effect : (r : Rule) (x : ℕ) (c : Concept) (y choice : ℕ) → x < length g.nodes → sprouts r ≡ true → (z : ℕ) → row k g r x c ≡ Some z
+      → IsSprouted (effect k g r x c y choice)
   sprouted_effect rule.And x c y choice lt new z on = cc
   sprouted_effect rule.Unfold x c y choice lt new z on = cc
   sprouted_effect rule.All x c y choice lt new z on = cc
@@ -90,7 +100,10 @@ module _ (k : Theory) (g : Graph) where
   sprouted_effect rule.Or x c y choice lt new z on = cc
   sprouted_effect rule.Some x c y choice lt new z on = go (some_part c) on
     where
-      go : (o : Option (Role × Concept)) → option_and_then (λ p. where_true (not (is_blocked k g x) && not (some_below (length g.nodes) (serves k g p.0 p.1 x))) 0) o ≡ Some z → IsSprouted (option_map_or (λ p. with_node g (record { parent = Some x; label = with_classes [] (p.1 ∷ k.general) }) (record { from = x; role = p.0; to = length g.nodes })) o g)
+      go : (o : Option (Role × Concept))
+          → option_and_then (λ p. where_true (not (is_blocked k g x) && not (some_below (length g.nodes) (serves k g p.0 p.1 x))) 0) o ≡ Some z
+          → IsSprouted (option_map_or (λ p. with_node g (record { parent = Some x; label = with_classes [] (p.1 ∷ k.general) })
+          (record { from = x; role = p.0; to = length g.nodes })) o g)
       go None i = cc
       go (Some p) i = record {
         node = record { parent = Some x; label = with_classes [] (p.1 ∷ k.general) };
@@ -116,7 +129,8 @@ module _ (k : Theory) (g : Graph) where
   pub found : (s : Step) → applies k g s ≡ true → IsFound s
   found s on = go (class_at g s.node s.class) refl on
     where
-      inner : (c : Concept) → class_at g s.node s.class ≡ Some c → (o : Option ℕ) → site k g s.rule s.node c ≡ o → option_map_or (λ y. y == s.other) o false ≡ true → IsFound s
+      inner : (c : Concept) → class_at g s.node s.class ≡ Some c → (o : Option ℕ) → site k g s.rule s.node c ≡ o
+          → option_map_or (λ y. y == s.other) o false ≡ true → IsFound s
       inner c at None is e = cc
       inner c at (Some y) is e = record {
         class = c;
@@ -126,7 +140,8 @@ module _ (k : Theory) (g : Graph) where
         on = site_row s.rule s.node c y (is_indirectly_blocked k g s.node) is;
       }
 
-      go : (o : Option Concept) → class_at g s.node s.class ≡ o → option_map_or (λ y. y == s.other) (option_and_then (site k g s.rule s.node) o) false ≡ true → IsFound s
+      go : (o : Option Concept) → class_at g s.node s.class ≡ o → option_map_or (λ y. y == s.other) (option_and_then (site k g s.rule s.node) o) false ≡ true
+          → IsFound s
       go None at e = cc
       go (Some c) at e = inner c at (site k g s.rule s.node c) refl e
 

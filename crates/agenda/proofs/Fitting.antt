@@ -1,6 +1,7 @@
 -- What an agenda has to do after a step.
-use Rattle.std.proofs.Common.{◌≡◌, ℕ, ◌<◌, ◌⊎◌, Bool, true, false, length, refl, sym, ap, ◌∙◌, inl, inr}
+use Rattle.std.proofs.Common.{◌≡◌, ℕ, ◌<◌, ◌⊎◌, Bool, true, false, length, refl, ap, ◌∙◌, inl, inr}
 use Rattle.std.proofs.lemmas.Bool.{cases_Bool, cases_lt}
+use Rattle.wiki_base.proofs.BoolLaws.{not_both}
 use Rattle.logic_terms.specs.Theory.{Theory}
 use Rattle.tableau_rules.specs.declared.step.Rule.{Rule}
 use Rattle.tableau_rules.specs.declared.step.Rule.TheVariants as rule
@@ -10,9 +11,6 @@ use Rattle.agenda.specs.Changes.{Changes}
 use Rattle.agenda.specs.Resting.{concerns, IsResting, Fits}
 use Rattle.agenda.proofs.Changing.{same_changes}
 use Rattle.agenda.proofs.Staying.{NeighboursThere, rest_stays}
-
-both : {b : Bool} → b ≡ true → b ≡ false → ⊥
-both t f = cc
 
 pub all_or_other : (r : Rule) → (r ≡ rule.All) ⊎ (r ≡ rule.All → ⊥)
 all_or_other rule.And = inr (λ e. cc)
@@ -41,21 +39,24 @@ pub record IsNoted (h : Graph) (r : Rule) (grows joins : ℕ → Bool) (due late
   pub met : r ≡ rule.All → (x : ℕ) → joins x ≡ true → IsPut r h later x
 
 module _ (k : Theory) (g h : Graph) (grows joins : ℕ → Bool) (change : Changes k g h grows joins) (down : ParentsBelow g) (there : NeighboursThere k g) where
-  pub fits_after : (r : Rule) (due later : ℕ → Bool) (waits then : ℕ → ℕ → Bool) → IsNoted h r grows joins due later waits then → Fits k g r due waits → Fits k h r later then
+  pub fits_after : (r : Rule) (due later : ℕ → Bool) (waits then : ℕ → ℕ → Bool) → IsNoted h r grows joins due later waits then → Fits k g r due waits
+      → Fits k h r later then
   fits_after r due later waits then noted fits x lt = elim (cases_Bool (grows x)) [
     | inl grew ↦ from_put (noted.put x grew)
     | inr still ↦ elim (cases_lt x (length g.nodes)) [
-      | inr new ↦ absurd (both (change.fresh x new lt) still)
+      | inr new ↦ absurd (not_both (change.fresh x new lt) still)
       | inl old ↦ elim (fits x old) [
         | inl d ↦ inl (noted.kept x d)
         | inr (inl idle) ↦ inr (inl (ap (concerns r) (change.labels x still) ∙ idle))
         | inr (inr rests) ↦ elim (noted.decided x) [
           | inl (z, grew, waited) ↦ inl (noted.woken z x grew waited)
           | inr calm ↦ elim (cases_Bool (joins x)) [
-            | inr apart ↦ inr (inr (rest_stays k g h grows joins change down there waits x calm old rests.own then (λ z still. noted.waiting z x still) r (λ e. apart) rests))
+            | inr apart ↦ inr (inr (rest_stays k g h grows joins change down there waits x calm old rests.own
+                then (λ z still. noted.waiting z x still) r (λ e. apart) rests))
             | inl joined ↦ elim (all_or_other r) [
               | inl is ↦ from_put (noted.met is x joined)
-              | inr other ↦ inr (inr (rest_stays k g h grows joins change down there waits x calm old rests.own then (λ z still. noted.waiting z x still) r (λ e. absurd (other e)) rests))
+              | inr other ↦ inr (inr (rest_stays k g h grows joins change down there waits x calm old rests.own
+                  then (λ z still. noted.waiting z x still) r (λ e. absurd (other e)) rests))
             ]
           ]
         ]
@@ -68,6 +69,8 @@ module _ (k : Theory) (g h : Graph) (grows joins : ℕ → Bool) (change : Chang
       from_put (inr idle) = inr (inl idle)
 
 -- where more is waited for
-pub rest_more : (k : Theory) (g : Graph) → ParentsBelow g → NeighboursThere k g → (r : Rule) (waits then : ℕ → ℕ → Bool) → ((z x : ℕ) → waits z x ≡ true → then z x ≡ true) → (x : ℕ) → x < length g.nodes → IsResting k g waits r x → IsResting k g then r x
+pub rest_more : (k : Theory) (g : Graph) → ParentsBelow g → NeighboursThere k g → (r : Rule) (waits then : ℕ → ℕ → Bool)
+    → ((z x : ℕ) → waits z x ≡ true → then z x ≡ true) → (x : ℕ) → x < length g.nodes → IsResting k g waits r x → IsResting k g then r x
 rest_more k g down there r waits then more x lt rests =
-    rest_stays k g g (λ y. false) (λ y. false) (same_changes k g (λ y. false) (λ y. false)) down there waits x (λ z w. refl) lt rests.own then (λ z still w. more z x w) r (λ e. refl) rests
+    rest_stays k g g (λ y. false) (λ y. false) (same_changes k g (λ y. false) (λ y. false)) down there waits x (λ z w. refl) lt rests.own
+    then (λ z still w. more z x w) r (λ e. refl) rests

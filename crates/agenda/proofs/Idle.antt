@@ -1,9 +1,10 @@
 -- A rule applies for no class that does not concern it.
-use Rattle.std.proofs.Common.{◌≡◌, ℕ, ◌<◌, Bool, true, false, List, length, cond, Option, Some, None, slice_get, refl, sym, ap, ◌∙◌, inl, inr}
+use Rattle.std.proofs.Common.{◌≡◌, ℕ, ◌<◌, Bool, true, false, List, length, cond, Option, Some, None, slice_get, refl, ap, ◌∙◌, inl, inr}
 use Rattle.std.specs.Prelude.{is_some}
 use Rattle.std.specs.List.{list_any}
 use Rattle.std.specs.Option.{option_and_then, option_map}
 use Rattle.std.proofs.lemmas.Bool.{cases_Bool}
+use Rattle.wiki_base.proofs.BoolLaws.{not_both}
 use Rattle.logic_terms.specs.Concept.{Concept}
 use Rattle.logic_terms.specs.Parts.{word_part, intersection_part, union_part, some_part, all_part, value_part}
 use Rattle.logic_terms.specs.Theory.{Theory}
@@ -20,9 +21,6 @@ use Rattle.agenda.specs.Resting.{reads, concerns}
 none_then : {X Y : Type 0} (f : X → Option Y) (o : Option X) → is_some o ≡ false → option_and_then f o ≡ None
 none_then f None h = refl
 none_then f (Some x) h = cc
-
-not_both : {b : Bool} → b ≡ true → b ≡ false → ⊥
-not_both t f = cc
 
 -- a test that nothing passes
 pub none_passes : {X : Type 0} (test : X → Bool) (xs : List X) (i : ℕ) (x : X) → list_any test xs ≡ false → slice_get xs i ≡ Some x → test x ≡ false
@@ -58,4 +56,5 @@ module _ (k : Theory) (g : Graph) (x : ℕ) where
   pub no_first : (r : Rule) → ((place : ℕ) → site_at k g r x place ≡ None) → first_at k g r x ≡ None
   no_first r none =
       let step_at : ℕ → ℕ → Step = λ place y. record { rule = r; node = x; class = place; other = y } in
-      first_none (length (label_at g x)) (λ place. option_map (step_at place) (site_at k g r x place)) (λ place lt. ap (option_map (step_at place)) (none place))
+      first_none (length (label_at g x)) (λ place. option_map (step_at place) (site_at k g r x place))
+      (λ place lt. ap (option_map (step_at place)) (none place))

@@ -1,14 +1,13 @@
 -- The first step by a rule is at the least node that is due, and a node rests where no step applies.
-use Rattle.std.proofs.Common.{◌≡◌, ℕ, zero, suc, ◌<◌, ◌≤◌, ◌==◌, ◌&&◌, ◌⊎◌, Bool, true, false, List, [], length, cond, Option, Some, None, slice_get, subst, refl, sym, ap, ◌∙◌, inl, inr, arith}
+use Rattle.std.proofs.Common.{◌≡◌, ℕ, ◌<◌, ◌≤◌, ◌==◌, ◌&&◌, ◌⊎◌, Bool, true, false, [], length, cond, Option, Some, None, refl, sym, ap, ◌∙◌, inl, inr, arith}
 use Rattle.std.specs.Prelude.{not, nat_lt}
 use Rattle.std.specs.Option.{option_and_then, option_map, option_map_or}
-use Rattle.std.proofs.lemmas.Bool.{cases_Bool, cases_eq, cases_lt, and_from, or_right, eqb-true, not_from_false}
+use Rattle.std.proofs.lemmas.Bool.{cases_Bool, cases_lt, or_right, eqb-true}
 use Rattle.std.proofs.lemmas.Option.{slice_get_past}
-use Rattle.wiki_base.specs.declared.numbers.WordId.{WordId}
-use Rattle.logic_terms.specs.declared.expressions.Role.{Role}
+use Rattle.wiki_base.proofs.BoolLaws.{not_both}
 use Rattle.logic_terms.specs.Concept.{Concept}
 use Rattle.logic_terms.specs.Meaning.{some_below}
-use Rattle.logic_terms.specs.Parts.{word_part, intersection_part, union_part, some_part, all_part, value_part}
+use Rattle.logic_terms.specs.Parts.{word_part, intersection_part, union_part, some_part, value_part}
 use Rattle.logic_terms.specs.Same.{has_concept}
 use Rattle.logic_terms.specs.Theory.{Theory}
 use Rattle.tableau_rules.specs.declared.step.Rule.{Rule}
@@ -26,26 +25,27 @@ use Rattle.agenda.specs.Views.{AreWaitedFor, IsWaitedFor}
 use Rattle.agenda.proofs.Idle.{idle, no_first}
 use Rattle.agenda.proofs.Staying.{NeighboursThere, none_below, where_fails}
 
-both : {b : Bool} → b ≡ true → b ≡ false → ⊥
-both t f = cc
-
 -- a rule without a node y adds at 0
 where_zero : (t : Bool) → (where_true {X = ℕ} t 0 ≡ None) ⊎ (where_true {X = ℕ} t 0 ≡ Some 0)
 where_zero true = inr refl
 where_zero false = inl refl
 
-then_zero : {X : Type 0} (f : X → Option ℕ) → ((x : X) → (f x ≡ None) ⊎ (f x ≡ Some 0)) → (o : Option X) → (option_and_then f o ≡ None) ⊎ (option_and_then f o ≡ Some 0)
+then_zero : {X : Type 0} (f : X → Option ℕ) → ((x : X) → (f x ≡ None) ⊎ (f x ≡ Some 0)) → (o : Option X)
+    → (option_and_then f o ≡ None) ⊎ (option_and_then f o ≡ Some 0)
 then_zero f each None = inl refl
 then_zero f each (Some x) = each x
 
 module _ (k : Theory) (g : Graph) where
   row_zero : (r : Rule) (x : ℕ) (c : Concept) → is_all r ≡ false → (row k g r x c ≡ None) ⊎ (row k g r x c ≡ Some 0)
-  row_zero rule.And x c e = then_zero (λ cs. where_true (lacks_some (label_at g x) cs) 0) (λ cs. where_zero (lacks_some (label_at g x) cs)) (intersection_part c)
-  row_zero rule.Unfold x c e = then_zero (λ word. where_true (lacks_some (label_at g x) (unfoldings_of k word)) 0) (λ word. where_zero (lacks_some (label_at g x) (unfoldings_of k word))) (word_part c)
+  row_zero rule.And x c e = then_zero (λ cs. where_true (lacks_some (label_at g x) cs) 0) (λ cs. where_zero (lacks_some (label_at g x) cs))
+      (intersection_part c)
+  row_zero rule.Unfold x c e = then_zero (λ word. where_true (lacks_some (label_at g x) (unfoldings_of k word)) 0)
+      (λ word. where_zero (lacks_some (label_at g x) (unfoldings_of k word))) (word_part c)
   row_zero rule.All x c e = cc
   row_zero rule.Value x c e =
       then_zero (λ p. option_and_then {U = ℕ} (λ y. where_true (not (is_blocked k g x) && not (is_neighbour k g p.0 x y)) 0) (node_of k p.1))
-      (λ p. then_zero (λ y. where_true (not (is_blocked k g x) && not (is_neighbour k g p.0 x y)) 0) (λ y. where_zero (not (is_blocked k g x) && not (is_neighbour k g p.0 x y))) (node_of k p.1)) (value_part c)
+      (λ p. then_zero (λ y. where_true (not (is_blocked k g x) && not (is_neighbour k g p.0 x y)) 0)
+      (λ y. where_zero (not (is_blocked k g x) && not (is_neighbour k g p.0 x y))) (node_of k p.1)) (value_part c)
   row_zero rule.Unit x c e =
       then_zero (λ cs. where_true (lacks_all (label_at g x) cs && nat_lt (length (open_members (label_at g x) cs)) 2) 0)
       (λ cs. where_zero (lacks_all (label_at g x) cs && nat_lt (length (open_members (label_at g x) cs)) 2)) (union_part c)
@@ -64,7 +64,8 @@ module _ (k : Theory) (g : Graph) where
   site_at_zero : (r : Rule) (x place : ℕ) → is_all r ≡ false → (site_at k g r x place ≡ None) ⊎ (site_at k g r x place ≡ Some 0)
   site_at_zero r x place e = then_zero (site k g r x) (λ c. site_zero r x c e) (class_at g x place)
 
-  zero_step : (s : Step) → s.other ≡ 0 → (o : Option ℕ) → site_at k g s.rule s.node s.class ≡ o → (b : Bool) → applies k g s ≡ b → option_map_or (λ y. y == s.other) o false ≡ b
+  zero_step : (s : Step) → s.other ≡ 0 → (o : Option ℕ) → site_at k g s.rule s.node s.class ≡ o → (b : Bool) → applies k g s ≡ b
+      → option_map_or (λ y. y == s.other) o false ≡ b
   zero_step s zero_is o at b on = sym (ap (λ p. option_map_or (λ y. y == s.other) p false) at) ∙ on
 
   pub applies_zero : (s : Step) → s.other ≡ 0 → applies k g s ≡ true → Some 0 ≡ site_at k g s.rule s.node s.class
@@ -80,7 +81,7 @@ module _ (k : Theory) (g : Graph) where
     | inr some ↦
         let e : (0 == s.other) ≡ false = zero_step s zero_is (Some 0) some false off in
         let t : (0 == s.other) ≡ true = Rattle.std.proofs.lemmas.Bool.eq-eqb 0 s.other (sym zero_is) in
-        absurd (both t e)
+        absurd (not_both t e)
   ]
 
   -- no step at a node
@@ -111,7 +112,7 @@ module _ (k : Theory) (g : Graph) where
   module _ (r : Rule) (due : ℕ → Bool) (waits : ℕ → ℕ → Bool) (fits : Fits k g r due waits) where
     none_at : (y : ℕ) → y < length g.nodes → due y ≡ false → first_at k g r y ≡ None
     none_at y lt off = elim (fits y lt) [
-      | inl on ↦ absurd (both on off)
+      | inl on ↦ absurd (not_both on off)
       | inr (inl apart) ↦ no_first k g y r (idle k g y r apart)
       | inr (inr rests) ↦ no_first k g y r rests.none
     ]
@@ -119,7 +120,8 @@ module _ (k : Theory) (g : Graph) where
     pub first_is : (x : ℕ) (s : Step) → ((q : ℕ) → due q ≡ true → x ≤ q) → first_at k g r x ≡ Some s → Some s ≡ first_by k g r
     first_is x s least some =
         let lt = first_node r x s some in
-        sym (first_found (first_at k g r) x (first_none x (first_at k g r) (λ y below. none_at y (less y below lt) (not_due y below))) (length g.nodes) s lt some)
+        sym (first_found (first_at k g r) x (first_none x (first_at k g r) (λ y below. none_at y (less y below lt) (not_due y below))) (length g.nodes) s lt
+        some)
       where
         less : (y : ℕ) → y < x → x < length g.nodes → y < length g.nodes
         less y below lt = omega arith
@@ -157,8 +159,11 @@ module _ (k : Theory) (g : Graph) where
         | inl stops ↦ inr (stops, awaited p.0 y near stops)
         | inr open_there ↦
             let row_none : first_below (length g.nodes) (λ z. where_true (needs k g p.0 p.1 x z) z) ≡ None =
-            sym (ap (option_and_then {U = ℕ} (λ q. first_below (length g.nodes) (λ z. where_true (needs k g q.0 q.1 x z) z))) part) ∙ site_row rule.All c free (at_class rule.All place c at (none place)) in
-            let fails : needs k g p.0 p.1 x y ≡ false = where_fails (needs k g p.0 p.1 x y) y (none_below (length g.nodes) (λ z. where_true (needs k g p.0 p.1 x z) z) row_none y (there p.0 x y near)) in
+            sym (ap (option_and_then {U = ℕ} (λ q. first_below (length g.nodes) (λ z. where_true (needs k g q.0 q.1 x z) z))) part)
+            ∙ site_row rule.All c free (at_class rule.All place c at (none place)) in
+            let fails : needs k g p.0 p.1 x y ≡ false =
+            where_fails (needs k g p.0 p.1 x y) y
+            (none_below (length g.nodes) (λ z. where_true (needs k g p.0 p.1 x z) z) row_none y (there p.0 x y near)) in
             inl (has_it (is_neighbour k g p.0 x y) (is_indirectly_blocked k g y) (has_concept (label_at g y) p.1) fails near open_there)
       ])
     ]
@@ -175,12 +180,15 @@ module _ (k : Theory) (g : Graph) where
         | inl stops ↦ or_right (is_directly_blocked k g x) (is_indirectly_blocked k g x) stops
         | inr free ↦
             let row_none : where_true (not (is_blocked k g x) && not (some_below (length g.nodes) (serves k g p.0 p.1 x))) 0 ≡ None =
-            sym (ap (option_and_then {U = ℕ} (λ q. where_true (not (is_blocked k g x) && not (some_below (length g.nodes) (serves k g q.0 q.1 x))) 0)) part) ∙ site_row rule.Some c free (at_class rule.Some place c at (none place)) in
-            must_block (is_blocked k g x) (some_below (length g.nodes) (serves k g p.0 p.1 x)) (where_fails (not (is_blocked k g x) && not (some_below (length g.nodes) (serves k g p.0 p.1 x))) 0 row_none) alone
+            sym (ap (option_and_then {U = ℕ} (λ q. where_true (not (is_blocked k g x) && not (some_below (length g.nodes) (serves k g q.0 q.1 x))) 0)) part)
+            ∙ site_row rule.Some c free (at_class rule.Some place c at (none place)) in
+            must_block (is_blocked k g x) (some_below (length g.nodes) (serves k g p.0 p.1 x))
+            (where_fails (not (is_blocked k g x) && not (some_below (length g.nodes) (serves k g p.0 p.1 x))) 0 row_none) alone
       ])
     ]
 
-    pub rests_all : (r : Rule) → is_all r ≡ true → first_at k g r x ≡ None → waits_for waits x (way_up g x) ≡ true → AreWaitedFor k g waits x → IsResting k g waits r x
+    pub rests_all : (r : Rule) → is_all r ≡ true → first_at k g r x ≡ None → waits_for waits x (way_up g x) ≡ true → AreWaitedFor k g waits x
+        → IsResting k g waits r x
     rests_all rule.And e none own awaited = cc
     rests_all rule.Unfold e none own awaited = cc
     rests_all rule.All e none own awaited = record { none = no_sites rule.All x none; own = own; others = all_rests awaited (no_sites rule.All x none) }
@@ -189,7 +197,8 @@ module _ (k : Theory) (g : Graph) where
     rests_all rule.Or e none own awaited = cc
     rests_all rule.Some e none own awaited = cc
 
-    pub rests_some : (r : Rule) → sprouts r ≡ true → first_at k g r x ≡ None → waits_for waits x (way_up g x) ≡ true → ((place : ℕ) → IsWaitedFor k g waits x place) → IsResting k g waits r x
+    pub rests_some : (r : Rule) → sprouts r ≡ true → first_at k g r x ≡ None → waits_for waits x (way_up g x) ≡ true
+        → ((place : ℕ) → IsWaitedFor k g waits x place) → IsResting k g waits r x
     rests_some rule.And e none own awaited = cc
     rests_some rule.Unfold e none own awaited = cc
     rests_some rule.All e none own awaited = cc
@@ -198,7 +207,8 @@ module _ (k : Theory) (g : Graph) where
     rests_some rule.Or e none own awaited = cc
     rests_some rule.Some e none own awaited = record { none = no_sites rule.Some x none; own = own; others = some_rests awaited (no_sites rule.Some x none) }
 
-    pub rests_other : (r : Rule) → is_all r ≡ false → sprouts r ≡ false → first_at k g r x ≡ None → waits_for waits x (way_up g x) ≡ true → IsResting k g waits r x
+    pub rests_other : (r : Rule) → is_all r ≡ false → sprouts r ≡ false → first_at k g r x ≡ None → waits_for waits x (way_up g x) ≡ true
+        → IsResting k g waits r x
     rests_other r e f none own = record { none = no_sites r x none; own = own; others = others r e f }
       where
         others : (r : Rule) → is_all r ≡ false → sprouts r ≡ false → RestsBy k g waits x r

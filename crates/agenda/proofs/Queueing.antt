@@ -37,7 +37,8 @@ still_put g r old new kept x (inl on) = inl (kept x on)
 still_put g r old new kept x (inr apart) = inr apart
 
 -- one node more
-pub put_more : (g : Graph) (r : Rule) (old new : Queue) (n : ℕ) → ((x : ℕ) → x < n → IsPut g r old x) → KeepsDue old new → IsPut g r new n → (x : ℕ) → x < n + 1 → IsPut g r new x
+pub put_more : (g : Graph) (r : Rule) (old new : Queue) (n : ℕ) → ((x : ℕ) → x < n → IsPut g r old x) → KeepsDue old new → IsPut g r new n → (x : ℕ) → x < n + 1
+    → IsPut g r new x
 put_more g r old new n before kept here x lt = elim (cases_eq x n) [
   | inl same ↦ subst (IsPut g r new) (sym same) here
   | inr other ↦ still_put g r old new kept x (before x (omega arith))
@@ -50,7 +51,9 @@ full_fits g r q n le all k x lt = go (all x (omega arith))
     go (inl on) = inl on
     go (inr apart) = inr (inl apart)
 
-pub notes_label : (g : Graph) (r : Rule) (x : ℕ) (old mid new : Queue) → ((y : ℕ) → is_waiting old x y ≡ true → is_due mid y ≡ true) → KeepsDue old mid → ((z y : ℕ) → (x ≡ z → ⊥) → is_waiting old z y ≡ true → is_waiting mid z y ≡ true) → KeepsDue mid new → new.waiting ≡ mid.waiting → IsPut g r new x → NotesLabel g r x old new
+pub notes_label : (g : Graph) (r : Rule) (x : ℕ) (old mid new : Queue) → ((y : ℕ) → is_waiting old x y ≡ true → is_due mid y ≡ true) → KeepsDue old mid
+    → ((z y : ℕ) → (x ≡ z → ⊥) → is_waiting old z y ≡ true → is_waiting mid z y ≡ true) → KeepsDue mid new → new.waiting ≡ mid.waiting → IsPut g r new x
+    → NotesLabel g r x old new
 notes_label g r x old mid new woken kept waiting later same put = record {
   woken = λ y h. later y (woken y h);
   kept = λ y h. later y (kept y h);
@@ -68,7 +71,8 @@ meets_none g r e q other = record {
   met = λ is. absurd (all_is r other is);
 }
 
-pub meets_both : (g : Graph) (r : Rule) (e : Edge) (old mid new : Queue) → KeepsDue old mid → mid.waiting ≡ old.waiting → IsPut g r mid e.from → KeepsDue mid new → new.waiting ≡ mid.waiting → IsPut g r new e.to → Meets g r e old new
+pub meets_both : (g : Graph) (r : Rule) (e : Edge) (old mid new : Queue) → KeepsDue old mid → mid.waiting ≡ old.waiting → IsPut g r mid e.from
+    → KeepsDue mid new → new.waiting ≡ mid.waiting → IsPut g r new e.to → Meets g r e old new
 meets_both g r e old mid new kept same from later again to = record {
   kept = λ y h. later y (kept y h);
   waiting = λ z y h. same_waiting mid new again z y (same_waiting old mid same z y h);
@@ -97,7 +101,9 @@ notes_new g r e old mid new meets notes = record {
 }
 
 -- a node that rests is no longer due
-pub settled : (k : Theory) (g : Graph) (r : Rule) (old : Queue) (due : BTreeSet ℕ) (waiting : List (List ℕ)) (node : ℕ) → IsBranch k g → FitsQueue k g r old → Lists old.waiting.items waiting → IsResting k g (is_listed waiting) r node → ((x : ℕ) → (x ≡ node → ⊥) → is_due old x ≡ true → contains nat_cmp due x ≡ true) → Fits k g r (contains nat_cmp due) (is_listed waiting)
+pub settled : (k : Theory) (g : Graph) (r : Rule) (old : Queue) (due : BTreeSet ℕ) (waiting : List (List ℕ)) (node : ℕ) → IsBranch k g → FitsQueue k g r old
+    → Lists old.waiting.items waiting → IsResting k g (is_listed waiting) r node
+    → ((x : ℕ) → (x ≡ node → ⊥) → is_due old x ≡ true → contains nat_cmp due x ≡ true) → Fits k g r (contains nat_cmp due) (is_listed waiting)
 settled k g r old due waiting node branch fits more rests kept x lt = elim (cases_eq x node) [
   | inl same ↦ inr (inr (subst (IsResting k g (is_listed waiting) r) (sym same) rests))
   | inr other ↦ elim (fits x lt) [

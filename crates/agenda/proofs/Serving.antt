@@ -11,13 +11,17 @@ use Rattle.tableau_rules.specs.Neighbours.{makes_neighbour}
 use Rattle.tableau_rules.specs.Touching.{edges_at, far_end, reaches}
 use Rattle.tableau_rules.proofs.Reaching.{neighbours_at}
 
-module _ (k : Theory) (role : Role) (count x : ℕ) (test : ℕ → Bool) (edges items : List Edge) (given : items ≡ edges_at edges x) (i : ℕ) (d : Edge) (lt : i < length items) where
-  pub server_at : reaches k role count x test (get_or items i d) ≡ true → (far_end x (get_or items i d) < count) × ((list_any (makes_neighbour k role x (far_end x (get_or items i d))) edges && test (far_end x (get_or items i d))) ≡ true)
+module _ (k : Theory) (role : Role) (count x : ℕ) (test : ℕ → Bool) (edges items : List Edge) (given : items ≡ edges_at edges x) (i : ℕ) (d : Edge)
+    (lt : i < length items) where
+  pub server_at : reaches k role count x test (get_or items i d) ≡ true
+      → (far_end x (get_or items i d) < count)
+      × ((list_any (makes_neighbour k role x (far_end x (get_or items i d))) edges && test (far_end x (get_or items i d))) ≡ true)
   server_at here =
       let e : Edge = get_or items i d in
       let y : ℕ = far_end x e in
       let one = and_parts (makes_neighbour k role x y e) (nat_lt y count && test y) here in
       let two = and_parts (nat_lt y count) (test y) one.1 in
       let near : list_any (makes_neighbour k role x y) edges ≡ true =
-      sym (neighbours_at k role x y edges) ∙ (ap (list_any (makes_neighbour k role x y)) (sym given) ∙ list_any_at (makes_neighbour k role x y) items i d lt one.0) in
+      sym (neighbours_at k role x y edges)
+      ∙ (ap (list_any (makes_neighbour k role x y)) (sym given) ∙ list_any_at (makes_neighbour k role x y) items i d lt one.0) in
       (ltb-true y count two.0, and_from (list_any (makes_neighbour k role x y) edges) (test y) near two.1)

@@ -51,7 +51,8 @@ neighbour_end k role x y n e inside made =
           subst (λ z. z < n) (eqb-true e.from y one.0) (ltb-true e.from n ends.0)
     ]
 
-neighbours_in : (k : Theory) (role : Role) (x y n : ℕ) (es : List Edge) → list_all (is_inside n) es ≡ true → list_any (makes_neighbour k role x y) es ≡ true → y < n
+neighbours_in : (k : Theory) (role : Role) (x y n : ℕ) (es : List Edge) → list_all (is_inside n) es ≡ true → list_any (makes_neighbour k role x y) es ≡ true
+    → y < n
 neighbours_in k role x y n [] inside near = cc
 neighbours_in k role x y n (e ∷ es) inside near =
     let parts = and_parts (is_inside n e) (list_all (is_inside n) es) inside in
@@ -92,19 +93,23 @@ first_inside k n le d e at = go (node_of k d.1) (node_of k d.2) refl refl at
     far : (x : ℕ) → x < length (roots k) → x < n
     far x lt = omega arith
 
-    go : (a b : Option ℕ) → node_of k d.1 ≡ a → node_of k d.2 ≡ b → option_and_then (λ x. option_map (λ y. let f : Edge = record { from = x; role = d.0; to = y } in f) b) a ≡ Some e → is_inside n e ≡ true
+    go : (a b : Option ℕ) → node_of k d.1 ≡ a → node_of k d.2 ≡ b
+        → option_and_then (λ x. option_map (λ y. let f : Edge = record { from = x; role = d.0; to = y } in f) b) a ≡ Some e → is_inside n e ≡ true
     go None b one two i = cc
     go (Some x) None one two i = cc
     go (Some x) (Some y) one two i =
         let f : Edge = record { from = x; role = d.0; to = y } in
         let same : f ≡ e = cc in
-        subst (λ z. is_inside n z ≡ true) same (and_from (nat_lt x n) (nat_lt y n) (lt-ltb x n (far x (named_node k d.1 x one))) (lt-ltb y n (far y (named_node k d.2 y two))))
+        subst (λ z. is_inside n z ≡ true) same
+        (and_from (nat_lt x n) (nat_lt y n) (lt-ltb x n (far x (named_node k d.1 x one))) (lt-ltb y n (far y (named_node k d.2 y two))))
 
-one_inside : (n : ℕ) (o : Option Edge) (es : List Edge) → ((e : Edge) → o ≡ Some e → is_inside n e ≡ true) → list_all (is_inside n) es ≡ true → list_all (is_inside n) (cons_option o es) ≡ true
+one_inside : (n : ℕ) (o : Option Edge) (es : List Edge) → ((e : Edge) → o ≡ Some e → is_inside n e ≡ true) → list_all (is_inside n) es ≡ true
+    → list_all (is_inside n) (cons_option o es) ≡ true
 one_inside n None es each rest = rest
 one_inside n (Some e) es each rest = and_from (is_inside n e) (list_all (is_inside n) es) (each e refl) rest
 
-firsts_inside : (k : Theory) (n : ℕ) → length (roots k) ≤ n → (ds : List (Role × WordId × WordId)) → list_all (is_inside n) (filter_map (first_edge k) ds) ≡ true
+firsts_inside : (k : Theory) (n : ℕ) → length (roots k) ≤ n → (ds : List (Role × WordId × WordId))
+    → list_all (is_inside n) (filter_map (first_edge k) ds) ≡ true
 firsts_inside k n le [] = refl
 firsts_inside k n le (d ∷ ds) =
     one_inside n (first_edge k d) (filter_map (first_edge k) ds) (λ e at. first_inside k n le d e at) (firsts_inside k n le ds)
@@ -123,7 +128,9 @@ module _ (k : Theory) (g : Graph) (shaped : IsShaped k g) where
   wider n m le (e ∷ es) all =
       let parts = and_parts (is_inside n e) (list_all (is_inside n) es) all in
       let two = and_parts (nat_lt e.from n) (nat_lt e.to n) parts.0 in
-      and_from (is_inside m e) (list_all (is_inside m) es) (and_from (nat_lt e.from m) (nat_lt e.to m) (lt-ltb e.from m (up e.from (ltb-true e.from n two.0))) (lt-ltb e.to m (up e.to (ltb-true e.to n two.1)))) (wider n m le es parts.1)
+      and_from (is_inside m e) (list_all (is_inside m) es)
+      (and_from (nat_lt e.from m) (nat_lt e.to m) (lt-ltb e.from m (up e.from (ltb-true e.from n two.0))) (lt-ltb e.to m (up e.to (ltb-true e.to n two.1))))
+      (wider n m le es parts.1)
     where
       up : (x : ℕ) → x < n → x < m
       up x lt = omega arith
@@ -137,7 +144,8 @@ module _ (k : Theory) (g : Graph) (shaped : IsShaped k g) where
   adding_shaped : (x : ℕ) (cs : List Concept) → IsShaped k (adding g x cs)
   adding_shaped x cs = record {
     down = λ y p up. shaped.down y p (sym (adding_parent k g x cs y) ∙ up);
-    inside = ap (list_all (is_inside (length (adding g x cs).nodes))) (adding_edges k g x cs) ∙ (ap (λ n. list_all (is_inside n) g.edges) (adding_count k g x cs) ∙ shaped.inside);
+    inside = ap (list_all (is_inside (length (adding g x cs).nodes))) (adding_edges k g x cs)
+        ∙ (ap (λ n. list_all (is_inside n) g.edges) (adding_count k g x cs) ∙ shaped.inside);
     named = subst (λ n. length (roots k) ≤ n) (sym (adding_count k g x cs)) shaped.named;
   }
 
@@ -151,7 +159,9 @@ module _ (k : Theory) (g : Graph) (shaped : IsShaped k g) where
       let to : e.to < length g.nodes = far e.to (named_node k link.name.1 e.to link.to) in
       subst (IsShaped k) (sym link.is) (record {
         down = shaped.down;
-        inside = one_more (length g.nodes) g.edges e shaped.inside (and_from (nat_lt e.from (length g.nodes)) (nat_lt e.to (length g.nodes)) (lt-ltb e.from (length g.nodes) link.from) (lt-ltb e.to (length g.nodes) to));
+        inside = one_more (length g.nodes) g.edges e shaped.inside
+            (and_from (nat_lt e.from (length g.nodes)) (nat_lt e.to (length g.nodes)) (lt-ltb e.from (length g.nodes) link.from)
+            (lt-ltb e.to (length g.nodes) to));
         named = shaped.named;
       })
     where
@@ -176,11 +186,13 @@ module _ (k : Theory) (g : Graph) (shaped : IsShaped k g) where
                 subst (λ z. z < y) is (subst (λ z. e.from < z) new sprout.from)
             | inr other ↦
                 let beyond : length (with_node g v e).nodes ≤ y = further (length g.nodes) (length (with_node g v e).nodes) y count past other in
-                let none : parent_of (with_node g v e) y ≡ None = ap (λ o. option_and_then (λ u. u.parent) o) (slice_get_past (with_node g v e).nodes y beyond) in
+                let none : parent_of (with_node g v e) y ≡ None =
+                ap (λ o. option_and_then (λ u. u.parent) o) (slice_get_past (with_node g v e).nodes y beyond) in
                 let never : None ≡ Some p = sym none ∙ up in cc
           ]
         ];
-        inside = one_more (length (with_node g v e).nodes) g.edges e (wider (length g.nodes) (length (with_node g v e).nodes) (more (length g.nodes) (length (with_node g v e).nodes) count) g.edges shaped.inside)
+        inside = one_more (length (with_node g v e).nodes) g.edges e
+            (wider (length g.nodes) (length (with_node g v e).nodes) (more (length g.nodes) (length (with_node g v e).nodes) count) g.edges shaped.inside)
             (and_from (nat_lt e.from (length (with_node g v e).nodes)) (nat_lt e.to (length (with_node g v e).nodes))
             (lt-ltb e.from (length (with_node g v e).nodes) (up e.from (length g.nodes) (length (with_node g v e).nodes) sprout.from count))
             (lt-ltb e.to (length (with_node g v e).nodes) (new_in e.to (length g.nodes) (length (with_node g v e).nodes) sprout.to count)));

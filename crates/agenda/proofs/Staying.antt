@@ -1,10 +1,10 @@
 -- A node that rests goes on resting where no node that it waits for grows.
-use Rattle.std.proofs.Common.{◌≡◌, ℕ, zero, suc, ◌+◌, ◌<◌, ◌≤◌, ◌&&◌, ◌||◌, ◌⊎◌, Bool, true, false, List, [], ◌∷◌, length, cond, Option, Some, None, slice_get, subst, refl, sym, ap, ◌∙◌, inl, inr, arith}
+use Rattle.std.proofs.Common.{◌≡◌, ℕ, zero, suc, ◌+◌, ◌<◌, ◌≤◌, ◌&&◌, ◌||◌, ◌⊎◌, Bool, true, false, List, [], ◌∷◌, length, cond, Option, Some, None, slice_get, refl, sym, ap, ◌∙◌, inl, inr, arith}
 use Rattle.std.specs.Prelude.{not, nat_lt}
-use Rattle.std.specs.List.{list_any, list_all}
 use Rattle.std.specs.Option.{option_and_then, option_or}
-use Rattle.std.proofs.lemmas.Bool.{cases_Bool, cases_lt, and_parts, and_from, false_from_ne_true, not_from_false}
+use Rattle.std.proofs.lemmas.Bool.{cases_Bool, cases_lt, and_parts, and_from, false_from_ne_true}
 use Rattle.wiki_base.specs.declared.numbers.WordId.{WordId}
+use Rattle.wiki_base.proofs.BoolLaws.{not_both}
 use Rattle.logic_terms.specs.declared.expressions.Role.{Role}
 use Rattle.logic_terms.specs.Concept.{Concept}
 use Rattle.logic_terms.specs.Meaning.{some_below}
@@ -15,9 +15,9 @@ use Rattle.logic_terms.proofs.Places.{some_below_passes}
 use Rattle.tableau_rules.specs.declared.step.Rule.{Rule}
 use Rattle.tableau_rules.specs.declared.step.Rule.TheVariants as rule
 use Rattle.tableau_rules.specs.First.{first_below, where_true}
-use Rattle.tableau_rules.specs.Graph.{Graph, label_at, class_at, parent_of}
+use Rattle.tableau_rules.specs.Graph.{Graph, label_at, class_at}
 use Rattle.tableau_rules.specs.Neighbours.{node_of, is_neighbour}
-use Rattle.tableau_rules.specs.Blocking.{ancestors, is_anonymous, same_classes, has_twin, blocks, is_directly_blocked, is_indirectly_blocked, is_blocked}
+use Rattle.tableau_rules.specs.Blocking.{ancestors, is_anonymous, same_classes, has_twin, blocks, is_indirectly_blocked, is_blocked}
 use Rattle.tableau_rules.specs.Rules.{lacks_some, lacks_all, unfoldings_of, open_members, serves, needs, row, site, site_at}
 use Rattle.tableau_rules.proofs.Firsts.{first_none, where_not}
 use Rattle.tableau_bounds.proofs.Stepping.{ParentsBelow}
@@ -26,9 +26,6 @@ use Rattle.tableau_bounds.proofs.Labels.{not_true}
 use Rattle.agenda.specs.Changes.{Changes}
 use Rattle.agenda.specs.Resting.{way_up, waits_for, RestsBy, IsResting}
 use Rattle.agenda.proofs.Idle.{row_site}
-
-both : {b : Bool} → b ≡ true → b ≡ false → ⊥
-both t f = cc
 
 -- each neighbour is a node
 abbrev pub NeighboursThere : Theory → Graph → Type 0
@@ -64,7 +61,8 @@ fails_second false n h = ap not h
 fails_first : (a n : Bool) → a ≡ true → (not a && not n) ≡ false
 fails_first a n h = ap (λ b. not b && not n) h
 
-module _ (k : Theory) (g h : Graph) (grows joins : ℕ → Bool) (change : Changes k g h grows joins) (down : ParentsBelow g) (there : NeighboursThere k g) (waits : ℕ → ℕ → Bool) (x : ℕ) (calm : (z : ℕ) → waits z x ≡ true → grows z ≡ false) where
+module _ (k : Theory) (g h : Graph) (grows joins : ℕ → Bool) (change : Changes k g h grows joins) (down : ParentsBelow g) (there : NeighboursThere k g)
+    (waits : ℕ → ℕ → Bool) (x : ℕ) (calm : (z : ℕ) → waits z x ≡ true → grows z ≡ false) where
   same_label : (z : ℕ) → waits z x ≡ true → label_at h z ≡ label_at g z
   same_label z w = change.labels z (calm z w)
 
@@ -88,13 +86,15 @@ module _ (k : Theory) (g h : Graph) (grows joins : ℕ → Bool) (change : Chang
 
   pub indirectly_same : (y : ℕ) → y < length g.nodes → waits_for waits x (way_up g y) ≡ true → is_indirectly_blocked k h y ≡ is_indirectly_blocked k g y
   indirectly_same y lt all =
-      ap (blocks k h) (ancestors_same g h down change.parents y lt) ∙ blocks_same (ancestors g y) (and_parts (waits y x) (waits_for waits x (ancestors g y)) all).1
+      ap (blocks k h) (ancestors_same g h down change.parents y lt)
+      ∙ blocks_same (ancestors g y) (and_parts (waits y x) (waits_for waits x (ancestors g y)) all).1
 
   pub blocked_same : (y : ℕ) → y < length g.nodes → waits_for waits x (way_up g y) ≡ true → is_blocked k h y ≡ is_blocked k g y
   blocked_same y lt all =
       let parts = and_parts (waits y x) (waits_for waits x (ancestors g y)) all in
       ap (λ zs. (is_anonymous k y && (has_twin k h y zs && not (blocks k h zs))) || blocks k h zs) (ancestors_same g h down change.parents y lt)
-      ∙ (ap (λ t. (is_anonymous k y && (t && not (blocks k h (ancestors g y)))) || blocks k h (ancestors g y)) (twin_same y (same_label y parts.0) (ancestors g y) parts.1)
+      ∙ (ap (λ t. (is_anonymous k y && (t && not (blocks k h (ancestors g y)))) || blocks k h (ancestors g y))
+      (twin_same y (same_label y parts.0) (ancestors g y) parts.1)
       ∙ ap (λ b. (is_anonymous k y && (has_twin k g y (ancestors g y) && not b)) || b) (blocks_same (ancestors g y) parts.1))
 
   module _ (lt : x < length g.nodes) (own : waits_for waits x (way_up g x) ≡ true) where
@@ -102,28 +102,37 @@ module _ (k : Theory) (g h : Graph) (grows joins : ℕ → Bool) (change : Chang
     label_x = same_label x (and_parts (waits x x) (waits_for waits x (ancestors g x)) own).0
 
     -- by a rule that looks at labels alone
-    value_stays : (o : Option (Role × WordId)) → option_and_then {U = ℕ} (λ p. option_and_then {U = ℕ} (λ y. where_true (not (is_blocked k g x) && not (is_neighbour k g p.0 x y)) 0) (node_of k p.1)) o ≡ None → option_and_then {U = ℕ} (λ p. option_and_then {U = ℕ} (λ y. where_true (not (is_blocked k h x) && not (is_neighbour k h p.0 x y)) 0) (node_of k p.1)) o ≡ None
+    value_stays : (o : Option (Role × WordId))
+        → option_and_then {U = ℕ} (λ p. option_and_then {U = ℕ} (λ y. where_true (not (is_blocked k g x) && not (is_neighbour k g p.0 x y)) 0) (node_of k p.1))
+        o ≡ None → option_and_then {U = ℕ}
+        (λ p. option_and_then {U = ℕ} (λ y. where_true (not (is_blocked k h x) && not (is_neighbour k h p.0 x y)) 0) (node_of k p.1)) o ≡ None
     value_stays None e = refl
     value_stays (Some p) e = go (node_of k p.1) e
       where
-        go : (o : Option ℕ) → option_and_then {U = ℕ} (λ y. where_true (not (is_blocked k g x) && not (is_neighbour k g p.0 x y)) 0) o ≡ None → option_and_then {U = ℕ} (λ y. where_true (not (is_blocked k h x) && not (is_neighbour k h p.0 x y)) 0) o ≡ None
+        go : (o : Option ℕ) → option_and_then {U = ℕ} (λ y. where_true (not (is_blocked k g x) && not (is_neighbour k g p.0 x y)) 0) o ≡ None
+            → option_and_then {U = ℕ} (λ y. where_true (not (is_blocked k h x) && not (is_neighbour k h p.0 x y)) 0) o ≡ None
         go None i = refl
         go (Some y) i =
             where_not (not (is_blocked k h x) && not (is_neighbour k h p.0 x y)) 0
             (ap (λ b. not b && not (is_neighbour k h p.0 x y)) (blocked_same x lt own)
-            ∙ still_fails (is_blocked k g x) (is_neighbour k g p.0 x y) (is_neighbour k h p.0 x y) (where_fails (not (is_blocked k g x) && not (is_neighbour k g p.0 x y)) 0 i) (change.edges p.0 x y))
+            ∙ still_fails (is_blocked k g x) (is_neighbour k g p.0 x y) (is_neighbour k h p.0 x y)
+            (where_fails (not (is_blocked k g x) && not (is_neighbour k g p.0 x y)) 0 i) (change.edges p.0 x y))
 
-    all_stays : joins x ≡ false → (p : Role × Concept) → ((y : ℕ) → is_neighbour k g p.0 x y ≡ true → (has_concept (label_at g y) p.1 ≡ true) ⊎ ((is_indirectly_blocked k g y ≡ true) × (waits_for waits x (way_up g y) ≡ true))) → (y : ℕ) → needs k h p.0 p.1 x y ≡ false
+    all_stays : joins x ≡ false → (p : Role × Concept)
+        → ((y : ℕ) → is_neighbour k g p.0 x y ≡ true
+        → (has_concept (label_at g y) p.1 ≡ true) ⊎ ((is_indirectly_blocked k g y ≡ true) × (waits_for waits x (way_up g y) ≡ true))) → (y : ℕ)
+        → needs k h p.0 p.1 x y ≡ false
     all_stays apart p each y = false_from_ne_true (needs k h p.0 p.1 x y) (λ t.
         let one = and_parts (is_neighbour k h p.0 x y) (not (is_indirectly_blocked k h y) && not (has_concept (label_at h y) p.1)) t in
         let two = and_parts (not (is_indirectly_blocked k h y)) (not (has_concept (label_at h y) p.1)) one.1 in
         let before = change.only p.0 x y apart one.0 in
         elim (each y before) [
-          | inl has ↦ both (change.more y p.1 has) (not_true (has_concept (label_at h y) p.1) two.1)
-          | inr stops ↦ both (indirectly_same y (there p.0 x y before) stops.1 ∙ stops.0) (not_true (is_indirectly_blocked k h y) two.0)
+          | inl has ↦ not_both (change.more y p.1 has) (not_true (has_concept (label_at h y) p.1) two.1)
+          | inr stops ↦ not_both (indirectly_same y (there p.0 x y before) stops.1 ∙ stops.0) (not_true (is_indirectly_blocked k h y) two.0)
         ])
 
-    some_stays : (p : Role × Concept) (y : ℕ) → y < length g.nodes → serves k g p.0 p.1 x y ≡ true → waits_for waits x (way_up g y) ≡ true → serves k h p.0 p.1 x y ≡ true
+    some_stays : (p : Role × Concept) (y : ℕ) → y < length g.nodes → serves k g p.0 p.1 x y ≡ true → waits_for waits x (way_up g y) ≡ true
+        → serves k h p.0 p.1 x y ≡ true
     some_stays p y below served all =
         let one = and_parts (is_neighbour k g p.0 x y) (not (is_indirectly_blocked k g y) && has_concept (label_at g y) p.1) served in
         let two = and_parts (not (is_indirectly_blocked k g y)) (has_concept (label_at g y) p.1) one.1 in
@@ -133,31 +142,40 @@ module _ (k : Theory) (g h : Graph) (grows joins : ℕ → Bool) (change : Chang
     through : (a b c : ℕ) → a < b → b ≤ c → a < c
     through a b c l m = omega arith
 
-    row_stays : (r : Rule) → (r ≡ rule.All → joins x ≡ false) → RestsBy k g waits x r → (place : ℕ) (c : Concept) → class_at g x place ≡ Some c → is_indirectly_blocked k g x ≡ false → row k g r x c ≡ None → row k h r x c ≡ None
-    row_stays rule.And apart rests place c at free none = ap (λ l. option_and_then {U = ℕ} (λ cs. where_true (lacks_some l cs) 0) (intersection_part c)) label_x ∙ none
-    row_stays rule.Unfold apart rests place c at free none = ap (λ l. option_and_then {U = ℕ} (λ word. where_true (lacks_some l (unfoldings_of k word)) 0) (word_part c)) label_x ∙ none
+    row_stays : (r : Rule) → (r ≡ rule.All → joins x ≡ false) → RestsBy k g waits x r → (place : ℕ) (c : Concept) → class_at g x place ≡ Some c
+        → is_indirectly_blocked k g x ≡ false → row k g r x c ≡ None → row k h r x c ≡ None
+    row_stays rule.And apart rests place c at free none =
+        ap (λ l. option_and_then {U = ℕ} (λ cs. where_true (lacks_some l cs) 0) (intersection_part c)) label_x ∙ none
+    row_stays rule.Unfold apart rests place c at free none =
+        ap (λ l. option_and_then {U = ℕ} (λ word. where_true (lacks_some l (unfoldings_of k word)) 0) (word_part c)) label_x ∙ none
     row_stays rule.All apart rests place c at free none = go (all_part c) refl
       where
-        go : (o : Option (Role × Concept)) → all_part c ≡ o → option_and_then {U = ℕ} (λ p. first_below (length h.nodes) (λ y. where_true (needs k h p.0 p.1 x y) y)) o ≡ None
+        go : (o : Option (Role × Concept)) → all_part c ≡ o
+            → option_and_then {U = ℕ} (λ p. first_below (length h.nodes) (λ y. where_true (needs k h p.0 p.1 x y) y)) o ≡ None
         go None part = refl
-        go (Some p) part = first_none (length h.nodes) (λ y. where_true (needs k h p.0 p.1 x y) y) (λ y below. where_not (needs k h p.0 p.1 x y) y (elim (rests place c p at part) [
-          | inl stops ↦ absurd (both stops free)
-          | inr each ↦ all_stays (apart refl) p each y
-        ]))
+        go (Some p) part = first_none (length h.nodes) (λ y. where_true (needs k h p.0 p.1 x y) y)
+            (λ y below. where_not (needs k h p.0 p.1 x y) y (elim (rests place c p at part) [
+              | inl stops ↦ absurd (not_both stops free)
+              | inr each ↦ all_stays (apart refl) p each y
+            ]))
     row_stays rule.Value apart rests place c at free none = value_stays (value_part c) none
-    row_stays rule.Unit apart rests place c at free none = ap (λ l. option_and_then {U = ℕ} (λ cs. where_true (lacks_all l cs && nat_lt (length (open_members l cs)) 2) 0) (union_part c)) label_x ∙ none
+    row_stays rule.Unit apart rests place c at free none =
+        ap (λ l. option_and_then {U = ℕ} (λ cs. where_true (lacks_all l cs && nat_lt (length (open_members l cs)) 2) 0) (union_part c)) label_x ∙ none
     row_stays rule.Or apart rests place c at free none = ap (λ l. option_and_then {U = ℕ} (λ cs. where_true (lacks_all l cs) 0) (union_part c)) label_x ∙ none
     row_stays rule.Some apart rests place c at free none = go (some_part c) refl
       where
-        go : (o : Option (Role × Concept)) → some_part c ≡ o → option_and_then {U = ℕ} (λ p. where_true (not (is_blocked k h x) && not (some_below (length h.nodes) (serves k h p.0 p.1 x))) 0) o ≡ None
+        go : (o : Option (Role × Concept)) → some_part c ≡ o
+            → option_and_then {U = ℕ} (λ p. where_true (not (is_blocked k h x) && not (some_below (length h.nodes) (serves k h p.0 p.1 x))) 0) o ≡ None
         go None part = refl
         go (Some p) part = where_not (not (is_blocked k h x) && not (some_below (length h.nodes) (serves k h p.0 p.1 x))) 0 (elim (rests place c p at part) [
           | inl stops ↦ fails_first (is_blocked k h x) (some_below (length h.nodes) (serves k h p.0 p.1 x)) (blocked_same x lt own ∙ stops)
           | inr (y, below, served, all) ↦ fails_second (is_blocked k h x) (some_below (length h.nodes) (serves k h p.0 p.1 x))
-              (some_below_passes (serves k h p.0 p.1 x) y (length h.nodes) (through y (length g.nodes) (length h.nodes) below change.count) (some_stays p y below served all))
+              (some_below_passes (serves k h p.0 p.1 x) y (length h.nodes) (through y (length g.nodes) (length h.nodes) below change.count)
+              (some_stays p y below served all))
         ])
 
-    site_stays : (r : Rule) → (r ≡ rule.All → joins x ≡ false) → RestsBy k g waits x r → (place : ℕ) (c : Concept) → class_at g x place ≡ Some c → site k g r x c ≡ None → site k h r x c ≡ None
+    site_stays : (r : Rule) → (r ≡ rule.All → joins x ≡ false) → RestsBy k g waits x r → (place : ℕ) (c : Concept) → class_at g x place ≡ Some c
+        → site k g r x c ≡ None → site k h r x c ≡ None
     site_stays r apart rests place c at none = elim (cases_Bool (is_indirectly_blocked k g x)) [
       | inl stops ↦ ap (λ b. cond b None (row k h r x c)) (indirectly_same x lt own ∙ stops)
       | inr free ↦ row_site k h x r c (row_stays r apart rests place c at free (sym (ap (λ b. cond b None (row k g r x c)) free) ∙ none))
@@ -196,7 +214,8 @@ module _ (k : Theory) (g h : Graph) (grows joins : ℕ → Bool) (change : Chang
       others_stay rule.Or apart rests = tt
       others_stay rule.Some apart rests = λ place c p at part. elim (rests place c p (sym (ap (λ l. slice_get l place) label_x) ∙ at) part) [
         | inl stops ↦ inl (blocked_same x lt own ∙ stops)
-        | inr (y, below, served, all) ↦ inr (y, through y (length g.nodes) (length h.nodes) below change.count, some_stays p y below served all, still_up y below all)
+        | inr (y, below, served, all) ↦ inr
+            (y, through y (length g.nodes) (length h.nodes) below change.count, some_stays p y below served all, still_up y below all)
       ]
 
       pub rest_stays : (r : Rule) → (r ≡ rule.All → joins x ≡ false) → IsResting k g waits r x → IsResting k h later r x

@@ -40,7 +40,9 @@ waits_for waits x zs = list_all (λ z. waits z x) zs
 abbrev pub RestsBy : Theory → Graph → (ℕ → ℕ → Bool) → ℕ → Rule → Type 0
 RestsBy k g waits x rule.All =
     (place : ℕ) (c : Concept) (p : Role × Concept) → class_at g x place ≡ Some c → all_part c ≡ Some p
-    → (is_indirectly_blocked k g x ≡ true) ⊎ ((y : ℕ) → is_neighbour k g p.0 x y ≡ true → (has_concept (label_at g y) p.1 ≡ true) ⊎ ((is_indirectly_blocked k g y ≡ true) × (waits_for waits x (way_up g y) ≡ true)))
+    → (is_indirectly_blocked k g x ≡ true)
+    ⊎ ((y : ℕ) → is_neighbour k g p.0 x y ≡ true
+    → (has_concept (label_at g y) p.1 ≡ true) ⊎ ((is_indirectly_blocked k g y ≡ true) × (waits_for waits x (way_up g y) ≡ true)))
 RestsBy k g waits x rule.Some =
     (place : ℕ) (c : Concept) (p : Role × Concept) → class_at g x place ≡ Some c → some_part c ≡ Some p
     → (is_blocked k g x ≡ true) ⊎ ((y : ℕ) × (y < length g.nodes) × (serves k g p.0 p.1 x y ≡ true) × (waits_for waits x (way_up g y) ≡ true))

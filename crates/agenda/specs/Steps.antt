@@ -6,13 +6,10 @@ use Rattle.tableau_rules.specs.declared.step.Step.{Step}
 
 -- the node whose label a rule makes grow, at a node and with the node y of the rule; none for a rule that adds an edge
 abbrev pub grown_node : Rule → ℕ → ℕ → Option ℕ
-grown_node rule.And x y = Some x
-grown_node rule.Unfold x y = Some x
 grown_node rule.All x y = Some y
 grown_node rule.Value x y = None
-grown_node rule.Unit x y = Some x
-grown_node rule.Or x y = Some x
 grown_node rule.Some x y = None
+grown_node _ x _ = Some x
 
 abbrev pub grown_by : Step → Option ℕ
 grown_by s = grown_node s.rule s.node s.other

@@ -58,7 +58,8 @@ AreWaitedFor k g waits x =
 abbrev pub IsWaitedFor : Theory → Graph → (ℕ → ℕ → Bool) → ℕ → ℕ → Type 0
 IsWaitedFor k g waits x place =
     (c : Concept) (p : Role × Concept) → class_at g x place ≡ Some c → some_part c ≡ Some p
-    → (some_below (length g.nodes) (serves k g p.0 p.1 x) ≡ false) ⊎ ((y : ℕ) × (y < length g.nodes) × (serves k g p.0 p.1 x y ≡ true) × (waits_for waits x (way_up g y) ≡ true))
+    → (some_below (length g.nodes) (serves k g p.0 p.1 x) ≡ false)
+    ⊎ ((y : ℕ) × (y < length g.nodes) × (serves k g p.0 p.1 x y ≡ true) × (waits_for waits x (way_up g y) ≡ true))
 
 -- a node is due, or its label does not concern the rule
 abbrev pub IsPut : Graph → Rule → Queue → ℕ → Type 0

@@ -55,7 +55,8 @@ pub(crate) fn first_in_need(
     class: &Class,
     node: u64,
 ) -> Option<u64>
-    ensures { result ≡ first_below (length (graph_of b.now).nodes) (λ y. where_true (needs (theory_of k.now) (graph_of b.now) role (concept_of class.now) node y) y) }
+    ensures { result ≡ first_below (length (graph_of b.now).nodes)
+        (λ y. where_true (needs (theory_of k.now) (graph_of b.now) role (concept_of class.now) node y) y) }
 {
     let mut least = None;
     for edge in b.edges_at(node) {
@@ -76,7 +77,8 @@ fn lesser(least: Option<u64>, other: u64) -> u64
 }
 
 fn is_in_need(k: &Knowledge, b: &Branch, role: Role, class: &Class, node: u64, edge: Edge) -> bool
-    ensures { result ≡ reaches (theory_of k.now) role (length (graph_of b.now).nodes) node (λ y. not (is_indirectly_blocked (theory_of k.now) (graph_of b.now) y) && not (has_concept (label_at (graph_of b.now) y) (concept_of class.now))) edge }
+    ensures { result ≡ reaches (theory_of k.now) role (length (graph_of b.now).nodes) node
+        (λ y. not (is_indirectly_blocked (theory_of k.now) (graph_of b.now) y) && not (has_concept (label_at (graph_of b.now) y) (concept_of class.now))) edge }
 {
     let other = far_end(node, edge);
     leads_on(k, b, role, node, edge)
@@ -86,7 +88,8 @@ fn is_in_need(k: &Knowledge, b: &Branch, role: Role, class: &Class, node: u64, e
 
 // A neighbour that is not indirectly blocked and has the class.
 pub(crate) fn server(k: &Knowledge, b: &Branch, role: Role, class: &Class, node: u64) -> Option<u64>
-    ensures { MatchOption result (some_below (length (graph_of b.now).nodes) (serves (theory_of k.now) (graph_of b.now) role (concept_of class.now) node) ≡ false) (λ y. (y < length (graph_of b.now).nodes) × (serves (theory_of k.now) (graph_of b.now) role (concept_of class.now) node y ≡ true)) }
+    ensures { MatchOption result (some_below (length (graph_of b.now).nodes) (serves (theory_of k.now) (graph_of b.now) role (concept_of class.now) node)
+        ≡ false) (λ y. (y < length (graph_of b.now).nodes) × (serves (theory_of k.now) (graph_of b.now) role (concept_of class.now) node y ≡ true)) }
 {
     for edge in b.edges_at(node) {
         if is_witness(k, b, role, class, node, *edge) {
@@ -97,7 +100,8 @@ pub(crate) fn server(k: &Knowledge, b: &Branch, role: Role, class: &Class, node:
 }
 
 fn is_witness(k: &Knowledge, b: &Branch, role: Role, class: &Class, node: u64, edge: Edge) -> bool
-    ensures { result ≡ reaches (theory_of k.now) role (length (graph_of b.now).nodes) node (λ y. not (is_indirectly_blocked (theory_of k.now) (graph_of b.now) y) && has_concept (label_at (graph_of b.now) y) (concept_of class.now)) edge }
+    ensures { result ≡ reaches (theory_of k.now) role (length (graph_of b.now).nodes) node
+        (λ y. not (is_indirectly_blocked (theory_of k.now) (graph_of b.now) y) && has_concept (label_at (graph_of b.now) y) (concept_of class.now)) edge }
 {
     let other = far_end(node, edge);
     leads_on(k, b, role, node, edge)

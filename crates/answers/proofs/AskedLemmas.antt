@@ -34,58 +34,74 @@ outside_complement i c x out = elim (cases_Bool (is_in i c x)) [
 pub complement_outside : (i : Interpretation) (c : Concept) (x : ℕ) → is_in i (complement c) x ≡ true → ¬ IsIn i c x
 complement_outside i c x h = not_from_Decides (is_in i c x) (is_in-Decides i c x) (not-true (is_in i c x) (sym (is_in-complement i c x) ∙ h))
 
-denied_hold : (i : Interpretation) (claims : List Claim) (c : Concept) (name : WordId) → all_hold i (denied claims c name) ≡ (all_hold i claims && (is_in i (complement c) (element_of i name) && true))
+denied_hold : (i : Interpretation) (claims : List Claim) (c : Concept) (name : WordId)
+    → all_hold i (denied claims c name) ≡ (all_hold i claims && (is_in i (complement c) (element_of i name) && true))
 denied_hold i claims c name = list_all-append (holds i) claims (ClassAssertion (complement c) name ∷ [])
 
 -- what is pushed on a copy of the axioms makes them the axioms with the denial
-pub denied_is : (pushed copied lent claims : List Claim) (d c : Concept) (name : WordId) → pushed ≡ copied ++ ClassAssertion d name ∷ [] → copied ≡ lent → lent ≡ claims → d ≡ complement c → pushed ≡ denied claims c name
+pub denied_is : (pushed copied lent claims : List Claim) (d c : Concept) (name : WordId) → pushed ≡ copied ++ ClassAssertion d name ∷ [] → copied ≡ lent
+    → lent ≡ claims → d ≡ complement c → pushed ≡ denied claims c name
 denied_is pushed copied lent claims d c name push copy part exact = push ∙ (λ j. (copy ∙ part) j ++ ClassAssertion (exact j) name ∷ [])
 
 -- a model of the axioms that has the name outside the class is one of the axioms with the denial, and back
-pub denied_model : (i : Interpretation) (claims : List Claim) (c : Concept) (name : WordId) → IsModel i claims → ¬ IsIn i c (element_of i name) → IsModel i (denied claims c name)
+pub denied_model : (i : Interpretation) (claims : List Claim) (c : Concept) (name : WordId) → IsModel i claims → ¬ IsIn i c (element_of i name)
+    → IsModel i (denied claims c name)
 denied_model i claims c name m out =
     (all_hold-Decides i (denied claims c name)).0
-    (denied_hold i claims c name ∙ and_from (all_hold i claims) (is_in i (complement c) (element_of i name) && true) ((all_hold-Decides i claims).1 m) (and_from (is_in i (complement c) (element_of i name)) true (outside_complement i c (element_of i name) out) refl))
+    (denied_hold i claims c name ∙ and_from (all_hold i claims) (is_in i (complement c) (element_of i name) && true) ((all_hold-Decides i claims).1 m)
+    (and_from (is_in i (complement c) (element_of i name)) true (outside_complement i c (element_of i name) out) refl))
 
-pub denied_parts : (i : Interpretation) (claims : List Claim) (c : Concept) (name : WordId) → IsModel i (denied claims c name) → IsModel i claims × ¬ IsIn i c (element_of i name)
+pub denied_parts : (i : Interpretation) (claims : List Claim) (c : Concept) (name : WordId) → IsModel i (denied claims c name)
+    → IsModel i claims × ¬ IsIn i c (element_of i name)
 denied_parts i claims c name m =
-    let two = and_parts (all_hold i claims) (is_in i (complement c) (element_of i name) && true) (sym (denied_hold i claims c name) ∙ (all_hold-Decides i (denied claims c name)).1 m) in
+    let two = and_parts (all_hold i claims) (is_in i (complement c) (element_of i name) && true)
+    (sym (denied_hold i claims c name) ∙ (all_hold-Decides i (denied claims c name)).1 m) in
     ((all_hold-Decides i claims).0 two.0, complement_outside i c (element_of i name) (and_parts (is_in i (complement c) (element_of i name)) true two.1).0)
 
 -- where no model denies it, the name is in the class in all
 pub in_all : (claims : List Claim) (c : Concept) (name : WordId) → HaveNoModel (denied claims c name) → IsInAll claims c name
 in_all claims c name none i sound m = elim (cases_Bool (is_in i c (element_of i name))) [
   | inl inside ↦ (is_in-Decides i c (element_of i name)).0 inside
-  | inr outside ↦ absurd (none i (sound, denied_model i claims c name m (not_from_Decides (is_in i c (element_of i name)) (is_in-Decides i c (element_of i name)) outside)))
+  | inr outside ↦ absurd (none i (
+    sound,
+    denied_model i claims c name m (not_from_Decides (is_in i c (element_of i name)) (is_in-Decides i c (element_of i name)) outside),
+  ))
 ]
 
-pub outside_some : (claims : List Claim) (c : Concept) (name : WordId) (i : Interpretation) → IsFiniteModel i (denied claims c name) → IsOutsideSome claims c name
+pub outside_some : (claims : List Claim) (c : Concept) (name : WordId) (i : Interpretation) → IsFiniteModel i (denied claims c name)
+    → IsOutsideSome claims c name
 outside_some claims c name i m =
     let parts = denied_parts i claims c name m.1 in (i, m.0, parts.0, parts.1)
 
-pub kept_has : (i : Interpretation) (claims : List Claim) (c : Concept) (name : WordId) → IsModel i claims → ¬ IsModel i (denied claims c name) → IsIn i c (element_of i name)
+pub kept_has : (i : Interpretation) (claims : List Claim) (c : Concept) (name : WordId) → IsModel i claims → ¬ IsModel i (denied claims c name)
+    → IsIn i c (element_of i name)
 kept_has i claims c name m not_denied = elim (cases_Bool (is_in i c (element_of i name))) [
   | inl inside ↦ (is_in-Decides i c (element_of i name)).0 inside
-  | inr outside ↦ absurd (not_denied (denied_model i claims c name m (not_from_Decides (is_in i c (element_of i name)) (is_in-Decides i c (element_of i name)) outside)))
+  | inr outside ↦ absurd (not_denied (denied_model i claims c name m
+      (not_from_Decides (is_in i c (element_of i name)) (is_in-Decides i c (element_of i name)) outside)))
 ]
 
-pub unknown_from : (claims : List Claim) (names : List WordId) (budget : ℕ) (c : Concept) (name : WordId) (g : Graph) → SpendsAll (denied claims c name) names budget g → IsUnknown claims names budget c name
+pub unknown_from : (claims : List Claim) (names : List WordId) (budget : ℕ) (c : Concept) (name : WordId) (g : Graph)
+    → SpendsAll (denied claims c name) names budget g → IsUnknown claims names budget c name
 unknown_from claims names budget c name g s = record { knowledge = s.knowledge; absorbed = s.absorbed; longer = s.cut.longer }
 
 -- the denial is over the given names, and plain
-pub over_denied : (names : List WordId) (claims : List Claim) (c : Concept) (name : WordId) → are_over names claims ≡ true → is_among names name ≡ true → list_all (is_among names) (names_in c) ≡ true → are_over names (denied claims c name) ≡ true
+pub over_denied : (names : List WordId) (claims : List Claim) (c : Concept) (name : WordId) → are_over names claims ≡ true → is_among names name ≡ true
+    → list_all (is_among names) (names_in c) ≡ true → are_over names (denied claims c name) ≡ true
 over_denied names claims c name kept among inside =
     list_all-append (λ claim. list_all (is_among names) (names_in_claim claim)) claims (ClassAssertion (complement c) name ∷ [])
     ∙ and_from (are_over names claims) ((is_among names name && list_all (is_among names) (names_in (complement c))) && true) kept
     (and_from (is_among names name && list_all (is_among names) (names_in (complement c))) true
-    (and_from (is_among names name) (list_all (is_among names) (names_in (complement c))) among (ap (list_all (is_among names)) (names_in-complement c) ∙ inside)) refl)
+    (and_from (is_among names name) (list_all (is_among names) (names_in (complement c))) among
+    (ap (list_all (is_among names)) (names_in-complement c) ∙ inside)) refl)
 
 pub plain_denied : (claims : List Claim) (c : Concept) (name : WordId) → are_plain claims ≡ true → is_plain c ≡ true → are_plain (denied claims c name) ≡ true
 plain_denied claims c name kept plain =
     list_all-append is_plain_claim claims (ClassAssertion (complement c) name ∷ [])
     ∙ and_from (are_plain claims) (is_plain (complement c) && true) kept
     (and_from (is_plain (complement c)) true
-    (and_from (is_normal (complement c)) (is_wide (complement c)) (is_normal-complement c) (is_wide-complement c ∙ (and_parts (is_normal c) (is_wide c) plain).1)) refl)
+    (and_from (is_normal (complement c)) (is_wide (complement c)) (is_normal-complement c)
+    (is_wide-complement c ∙ (and_parts (is_normal c) (is_wide c) plain).1)) refl)
 
 -- the names before a place have smaller numbers
 above_all : (n : WordId) (ns : List WordId) → names_above n ns ≡ true → (j : ℕ) (d : WordId) → j < length ns → n.0 < (get_or ns j d).0
@@ -101,7 +117,8 @@ rises_on : (n : WordId) (ns : List WordId) → names_rise (n ∷ ns) ≡ true �
 rises_on n [] up = refl
 rises_on n (m ∷ ns) up = (and_parts (Rattle.std.specs.Prelude.nat_lt n.0 m.0) (names_above m ns) up).1
 
-pub below_place : (ns : List WordId) → names_rise ns ≡ true → (k : ℕ) (name : WordId) → Rattle.std.specs.Prelude.slice_get ns k ≡ Rattle.std.specs.Prelude.Some name → (n : WordId) → Contains (take k ns) n → n.0 < name.0
+pub below_place : (ns : List WordId) → names_rise ns ≡ true → (k : ℕ) (name : WordId)
+    → Rattle.std.specs.Prelude.slice_get ns k ≡ Rattle.std.specs.Prelude.Some name → (n : WordId) → Contains (take k ns) n → n.0 < name.0
 below_place [] up k name at n h = cc
 below_place (m ∷ ns) up zero name at n (j, lt, is) = absurd (omega arith)
 below_place (m ∷ ns) up (suc k) name at n (zero, lt, is) =
@@ -112,14 +129,15 @@ below_place (m ∷ ns) up (suc k) name at n (zero, lt, is) =
 below_place (m ∷ ns) up (suc k) name at n (suc j, lt, is) = below_place ns (rises_on m ns up) k name at n (j, omega arith, is)
 
 -- what the answers to the names so far have
-pub record AskedSoFar (kept : Interpretation) (claims : List Claim) (names : List WordId) (budget : ℕ) (c : Concept) (passed yes unknown : List WordId) : Type 0 where
-  pub all_yes : All (IsInAll claims c) yes
-  pub all_unknown : All (IsUnknown claims names budget c) unknown
-  pub kept_has_unknown : All (λ n. IsIn kept c (element_of kept n)) unknown
-  pub others : (n : WordId) → Contains passed n → ¬ Contains yes n → ¬ Contains unknown n → IsOutsideSome claims c n
-  pub given_yes : All (Contains passed) yes
-  pub given_unknown : All (Contains passed) unknown
-  pub apart : (n : WordId) → Contains yes n → ¬ Contains unknown n
+pub record AskedSoFar (kept : Interpretation) (claims : List Claim) (names : List WordId) (budget : ℕ) (c : Concept) (passed yes unknown : List WordId) : Type 0
+  where
+    pub all_yes : All (IsInAll claims c) yes
+    pub all_unknown : All (IsUnknown claims names budget c) unknown
+    pub kept_has_unknown : All (λ n. IsIn kept c (element_of kept n)) unknown
+    pub others : (n : WordId) → Contains passed n → ¬ Contains yes n → ¬ Contains unknown n → IsOutsideSome claims c n
+    pub given_yes : All (Contains passed) yes
+    pub given_unknown : All (Contains passed) unknown
+    pub apart : (n : WordId) → Contains yes n → ¬ Contains unknown n
 
 module _ (kept : Interpretation) (claims : List Claim) (names : List WordId) (budget : ℕ) (c : Concept) where
   pub asked_none : AskedSoFar kept claims names budget c [] [] []
@@ -136,7 +154,8 @@ module _ (kept : Interpretation) (claims : List Claim) (names : List WordId) (bu
       nothing : (n : WordId) → Contains [] n → ⊥
       nothing n (j, lt, at) = absurd (omega arith)
 
-  module _ (passed yes unknown : List WordId) (so_far : AskedSoFar kept claims names budget c passed yes unknown) (name : WordId) (fresh : ¬ Contains passed name) where
+  module _ (passed yes unknown : List WordId) (so_far : AskedSoFar kept claims names budget c passed yes unknown) (name : WordId)
+      (fresh : ¬ Contains passed name) where
     wider : (ns : List WordId) → All (Contains passed) ns → All (Contains (passed ++ name ∷ [])) ns
     wider ns h = All-weaker (Contains passed) (Contains (passed ++ name ∷ [])) (λ n there. Contains-append_left passed (name ∷ []) n there) ns h
 
@@ -160,7 +179,8 @@ module _ (kept : Interpretation) (claims : List Claim) (names : List WordId) (bu
       ];
     }
 
-    pub one_unknown : IsUnknown claims names budget c name → IsIn kept c (element_of kept name) → AskedSoFar kept claims names budget c (passed ++ name ∷ []) yes (unknown ++ name ∷ [])
+    pub one_unknown : IsUnknown claims names budget c name → IsIn kept c (element_of kept name)
+        → AskedSoFar kept claims names budget c (passed ++ name ∷ []) yes (unknown ++ name ∷ [])
     one_unknown is has = record {
       all_yes = so_far.all_yes;
       all_unknown = All-push (IsUnknown claims names budget c) unknown name so_far.all_unknown is;
@@ -200,17 +220,21 @@ among_at (n ∷ ns) (suc j) d lt = or_right (is_word (get_or ns j d) n) (is_amon
 module _ (ns : List WordId) (up : names_rise ns ≡ true) (i : ℕ) (d : WordId) (lt : i < length ns) where
   -- names from before a place have smaller numbers than the one there, which is not among them
   pub all_below : (ms : List WordId) → All (Contains (take i ns)) ms → All (λ n. n.0 < (get_or ns i d).0) ms
-  all_below ms h = All-weaker (Contains (take i ns)) (λ n. n.0 < (get_or ns i d).0) (λ n there. below_place ns up i (get_or ns i d) (slice_get-get_or ns i d lt) n there) ms h
+  all_below ms h = All-weaker (Contains (take i ns)) (λ n. n.0 < (get_or ns i d).0)
+      (λ n there. below_place ns up i (get_or ns i d) (slice_get-get_or ns i d lt) n there) ms h
 
   pub not_before : ¬ Contains (take i ns) (get_or ns i d)
   not_before there = let less = below_place ns up i (get_or ns i d) (slice_get-get_or ns i d lt) (get_or ns i d) there in omega arith
 
 module _ (kept : Interpretation) (claims : List Claim) (names : List WordId) (budget : ℕ) (c : Concept) where
-  pub asked_as : {passed passed' sure sure' unknown unknown' : List WordId} → passed' ≡ passed → sure' ≡ sure → unknown' ≡ unknown → AskedSoFar kept claims names budget c passed sure unknown → AskedSoFar kept claims names budget c passed' sure' unknown'
+  pub asked_as : {passed passed' sure sure' unknown unknown' : List WordId} → passed' ≡ passed → sure' ≡ sure → unknown' ≡ unknown
+      → AskedSoFar kept claims names budget c passed sure unknown → AskedSoFar kept claims names budget c passed' sure' unknown'
   asked_as {passed} {passed'} {sure} {sure'} {unknown} {unknown'} p y u h =
       subst (λ ps. AskedSoFar kept claims names budget c ps sure' unknown') (sym p)
-      (subst (λ ys. AskedSoFar kept claims names budget c passed ys unknown') (sym y) (subst (λ us. AskedSoFar kept claims names budget c passed sure us) (sym u) h))
+      (subst (λ ys. AskedSoFar kept claims names budget c passed ys unknown') (sym y)
+      (subst (λ us. AskedSoFar kept claims names budget c passed sure us) (sym u) h))
 
   -- all names are passed at the end
-  pub asked_all : (ns : List WordId) (i : ℕ) (sure unknown : List WordId) → ns ≡ names → length ns ≤ i → AskedSoFar kept claims names budget c (take i ns) sure unknown → AskedSoFar kept claims names budget c names sure unknown
+  pub asked_all : (ns : List WordId) (i : ℕ) (sure unknown : List WordId) → ns ≡ names → length ns ≤ i
+      → AskedSoFar kept claims names budget c (take i ns) sure unknown → AskedSoFar kept claims names budget c names sure unknown
   asked_all ns i sure unknown is past h = subst (λ ps. AskedSoFar kept claims names budget c ps sure unknown) (take_all i ns past ∙ is) h

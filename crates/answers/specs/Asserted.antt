@@ -1,4 +1,4 @@
--- Knowledge with one more assertion.
+-- Knowledge with one more assertion. Only private calls speak of it.
 use Rattle.std.specs.Prelude.{List, [], ◌∷◌, ◌++◌}
 use Rattle.wiki_base.specs.declared.numbers.WordId.{WordId}
 use Rattle.logic_terms.specs.Concept.{Concept}

@@ -1,4 +1,4 @@
--- What the answer of one name says.
+-- What the answer of one name says. Only private calls speak of it.
 use Rattle.std.specs.Prelude.{ℕ, List}
 use Rattle.wiki_base.specs.declared.numbers.WordId.{WordId}
 use Rattle.logic_terms.specs.Concept.{Concept, Claim}

@@ -47,8 +47,10 @@ pub fn ask(
     requires plain { IsTrue (are_plain (kept_claims kept.now) && is_plain (concept_of class.now)) }
     ensures yes { IfOk result (λ a. All (IsInAll (kept_claims kept.now) (concept_of class.now)) a.yes) }
     ensures unknown { IfOk result (λ a. All (IsUnknown (kept_claims kept.now) names.now budget (concept_of class.now)) a.unknown) }
-    ensures kept_has_unknown { IfOk result (λ a. All (λ n. IsIn (kept_interp kept.now) (concept_of class.now) (element_of (kept_interp kept.now) n)) a.unknown) }
-    ensures others { IfOk result (λ a. (n : WordId) → Contains names.now n → ¬ Contains a.yes n → ¬ Contains a.unknown n → IsOutsideSome (kept_claims kept.now) (concept_of class.now) n) }
+    ensures kept_has_unknown { IfOk result
+        (λ a. All (λ n. IsIn (kept_interp kept.now) (concept_of class.now) (element_of (kept_interp kept.now) n)) a.unknown) }
+    ensures others { IfOk result (λ a. (n : WordId) → Contains names.now n → ¬ Contains a.yes n → ¬ Contains a.unknown n
+        → IsOutsideSome (kept_claims kept.now) (concept_of class.now) n) }
     ensures given { IfOk result (λ a. All (Contains names.now) a.yes × All (Contains names.now) a.unknown) }
     ensures apart { IfOk result (λ a. (n : WordId) → Contains a.yes n → ¬ Contains a.unknown n) }
 {
@@ -71,8 +73,10 @@ pub fn ask_known(
     requires plain { IsTrue (are_plain (kept_claims kept.now) && is_plain (concept_of class.now)) }
     ensures yes { IfOk result (λ a. All (IsInAll (kept_claims kept.now) (concept_of class.now)) a.yes) }
     ensures unknown { IfOk result (λ a. All (IsUnknown (kept_claims kept.now) names.now budget (concept_of class.now)) a.unknown) }
-    ensures kept_has_unknown { IfOk result (λ a. All (λ n. IsIn (kept_interp kept.now) (concept_of class.now) (element_of (kept_interp kept.now) n)) a.unknown) }
-    ensures others { IfOk result (λ a. (n : WordId) → Contains names.now n → ¬ Contains a.yes n → ¬ Contains a.unknown n → IsOutsideSome (kept_claims kept.now) (concept_of class.now) n) }
+    ensures kept_has_unknown { IfOk result
+        (λ a. All (λ n. IsIn (kept_interp kept.now) (concept_of class.now) (element_of (kept_interp kept.now) n)) a.unknown) }
+    ensures others { IfOk result (λ a. (n : WordId) → Contains names.now n → ¬ Contains a.yes n → ¬ Contains a.unknown n
+        → IsOutsideSome (kept_claims kept.now) (concept_of class.now) n) }
     ensures given { IfOk result (λ a. All (Contains names.now) a.yes × All (Contains names.now) a.unknown) }
     ensures apart { IfOk result (λ a. (n : WordId) → Contains a.yes n → ¬ Contains a.unknown n) }
 {
@@ -96,8 +100,10 @@ fn all_decided(
     requires plain { IsTrue (are_plain (kept_claims kept.now) && is_plain (concept_of class.now)) }
     ensures yes { IfOk result (λ a. All (IsInAll (kept_claims kept.now) (concept_of class.now)) a.yes) }
     ensures unknown { IfOk result (λ a. All (IsUnknown (kept_claims kept.now) names.now budget (concept_of class.now)) a.unknown) }
-    ensures kept_has_unknown { IfOk result (λ a. All (λ n. IsIn (kept_interp kept.now) (concept_of class.now) (element_of (kept_interp kept.now) n)) a.unknown) }
-    ensures others { IfOk result (λ a. (n : WordId) → Contains names.now n → ¬ Contains a.yes n → ¬ Contains a.unknown n → IsOutsideSome (kept_claims kept.now) (concept_of class.now) n) }
+    ensures kept_has_unknown { IfOk result
+        (λ a. All (λ n. IsIn (kept_interp kept.now) (concept_of class.now) (element_of (kept_interp kept.now) n)) a.unknown) }
+    ensures others { IfOk result (λ a. (n : WordId) → Contains names.now n → ¬ Contains a.yes n → ¬ Contains a.unknown n
+        → IsOutsideSome (kept_claims kept.now) (concept_of class.now) n) }
     ensures given { IfOk result (λ a. All (Contains names.now) a.yes × All (Contains names.now) a.unknown) }
     ensures apart { IfOk result (λ a. (n : WordId) → Contains a.yes n → ¬ Contains a.unknown n) }
 {

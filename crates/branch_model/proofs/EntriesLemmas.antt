@@ -15,22 +15,27 @@ module _ {X : Type 0} where
   abbrev pub items_of : WordId → List (WordId × List X) → List X
   items_of word es = unwrap_or (lookup (is_word word) es) []
 
-  pub placed-less : (word : WordId) (x : X) (e : WordId × List X) (es : List (WordId × List X)) → nat_lt e.0.0 word.0 ≡ true → placed word x (e ∷ es) ≡ e ∷ placed word x es
+  pub placed-less : (word : WordId) (x : X) (e : WordId × List X) (es : List (WordId × List X)) → nat_lt e.0.0 word.0 ≡ true
+      → placed word x (e ∷ es) ≡ e ∷ placed word x es
   placed-less word x e es less =
       cond-true (nat_lt e.0.0 word.0) (e ∷ placed word x es) (if e.0.0 == word.0 then (e.0, e.1 ++ x ∷ []) ∷ es else (word, x ∷ []) ∷ e ∷ es) less
 
-  pub placed-same : (word : WordId) (x : X) (e : WordId × List X) (es : List (WordId × List X)) → nat_lt e.0.0 word.0 ≡ false → (e.0.0 == word.0) ≡ true → placed word x (e ∷ es) ≡ (e.0, e.1 ++ x ∷ []) ∷ es
+  pub placed-same : (word : WordId) (x : X) (e : WordId × List X) (es : List (WordId × List X)) → nat_lt e.0.0 word.0 ≡ false → (e.0.0 == word.0) ≡ true
+      → placed word x (e ∷ es) ≡ (e.0, e.1 ++ x ∷ []) ∷ es
   placed-same word x e es less same =
       cond-false (nat_lt e.0.0 word.0) (e ∷ placed word x es) (if e.0.0 == word.0 then (e.0, e.1 ++ x ∷ []) ∷ es else (word, x ∷ []) ∷ e ∷ es) less
       ∙ cond-true (e.0.0 == word.0) ((e.0, e.1 ++ x ∷ []) ∷ es) ((word, x ∷ []) ∷ e ∷ es) same
 
-  pub placed-more : (word : WordId) (x : X) (e : WordId × List X) (es : List (WordId × List X)) → nat_lt e.0.0 word.0 ≡ false → (e.0.0 == word.0) ≡ false → placed word x (e ∷ es) ≡ (word, x ∷ []) ∷ e ∷ es
+  pub placed-more : (word : WordId) (x : X) (e : WordId × List X) (es : List (WordId × List X)) → nat_lt e.0.0 word.0 ≡ false → (e.0.0 == word.0) ≡ false
+      → placed word x (e ∷ es) ≡ (word, x ∷ []) ∷ e ∷ es
   placed-more word x e es less same =
       cond-false (nat_lt e.0.0 word.0) (e ∷ placed word x es) (if e.0.0 == word.0 then (e.0, e.1 ++ x ∷ []) ∷ es else (word, x ∷ []) ∷ e ∷ es) less
       ∙ cond-false (e.0.0 == word.0) ((e.0, e.1 ++ x ∷ []) ∷ es) ((word, x ∷ []) ∷ e ∷ es) same
 
   -- the three places of a word against an entry's
-  three : (word : WordId) (e : WordId × List X) → (nat_lt e.0.0 word.0 ≡ true) ⊎ (((nat_lt e.0.0 word.0 ≡ false) × ((e.0.0 == word.0) ≡ true)) ⊎ ((nat_lt e.0.0 word.0 ≡ false) × ((e.0.0 == word.0) ≡ false)))
+  three : (word : WordId) (e : WordId × List X)
+      → (nat_lt e.0.0 word.0 ≡ true) ⊎ (((nat_lt e.0.0 word.0 ≡ false) × ((e.0.0 == word.0) ≡ true))
+      ⊎ ((nat_lt e.0.0 word.0 ≡ false) × ((e.0.0 == word.0) ≡ false)))
   three word e = elim (cases_Bool (nat_lt e.0.0 word.0)) [
     | inl less ↦ inl less
     | inr no_less ↦ elim (cases_Bool (e.0.0 == word.0)) [ inl same ↦ inr (inl (no_less, same)) | inr other ↦ inr (inr (no_less, other)) ]
@@ -42,7 +47,8 @@ module _ {X : Type 0} where
   above_placed v word x (e ∷ es) lt up =
       let two = and_parts (nat_lt v.0 e.0.0) (words_above e.0 es) up in
       elim (three word e) [
-        | inl less ↦ ap (words_above v) (placed-less word x e es less) ∙ and_from (nat_lt v.0 e.0.0) (words_above e.0 (placed word x es)) two.0 (above_placed e.0 word x es (ltb-true e.0.0 word.0 less) two.1)
+        | inl less ↦ ap (words_above v) (placed-less word x e es less)
+            ∙ and_from (nat_lt v.0 e.0.0) (words_above e.0 (placed word x es)) two.0 (above_placed e.0 word x es (ltb-true e.0.0 word.0 less) two.1)
         | inr rest ↦ elim rest [
           | inl same ↦ ap (words_above v) (placed-same word x e es same.0 same.1) ∙ up
           | inr more ↦ ap (words_above v) (placed-more word x e es more.0 more.1)
@@ -63,7 +69,8 @@ module _ {X : Type 0} where
     | inl less ↦ ap words_rise (placed-less word x e es less) ∙ above_placed e.0 word x es (ltb-true e.0.0 word.0 less) up
     | inr rest ↦ elim rest [
       | inl same ↦ ap words_rise (placed-same word x e es same.0 same.1) ∙ up
-      | inr more ↦ ap words_rise (placed-more word x e es more.0 more.1) ∙ and_from (nat_lt word.0 e.0.0) (words_above e.0 es) (lt-ltb word.0 e.0.0 (above_it more)) up
+      | inr more ↦ ap words_rise (placed-more word x e es more.0 more.1)
+          ∙ and_from (nat_lt word.0 e.0.0) (words_above e.0 es) (lt-ltb word.0 e.0.0 (above_it more)) up
     ]
   ]
     where
@@ -96,10 +103,13 @@ module _ {X : Type 0} where
         ∙ items_same word x es (tail_rises e es up) ∙ ap (λ xs. xs ++ x ∷ []) (sym (items_past word e es (λ same. omega arith))))
     | inr rest ↦ elim rest [
       | inl same ↦ (let is = eqb-true e.0.0 word.0 same.1 in
-          ap (items_of word) (placed-same word x e es same.0 same.1) ∙ items_here word (e.0, e.1 ++ x ∷ []) es (sym is) ∙ ap (λ xs. xs ++ x ∷ []) (sym (items_here word e es (sym is))))
+          ap (items_of word) (placed-same word x e es same.0 same.1) ∙ items_here word (e.0, e.1 ++ x ∷ []) es (sym is)
+          ∙ ap (λ xs. xs ++ x ∷ []) (sym (items_here word e es (sym is))))
       | inr more ↦ (let le = ltb-false e.0.0 word.0 more.0 in
           ap (items_of word) (placed-more word x e es more.0 more.1) ∙ items_here word (word, x ∷ []) (e ∷ es) refl
-          ∙ ap (λ xs. xs ++ x ∷ []) (sym (items_past word e es (λ same. Rattle.std.proofs.lemmas.Bool.eqb-false e.0.0 word.0 more.1 (sym same)) ∙ ap (λ o. unwrap_or o []) (none_above word e.0 es le (tail_above e es up)))))
+          ∙ ap (λ xs. xs ++ x ∷ []) (sym
+          (items_past word e es (λ same. Rattle.std.proofs.lemmas.Bool.eqb-false e.0.0 word.0 more.1 (sym same))
+          ∙ ap (λ o. unwrap_or o []) (none_above word e.0 es le (tail_above e es up)))))
     ]
   ]
     where
@@ -119,22 +129,27 @@ module _ {X : Type 0} where
     ]
     | inr rest ↦ elim rest [
       | inl same ↦ (let is = eqb-true e.0.0 word.0 same.1 in
-          ap (items_of v) (placed-same word x e es same.0 same.1) ∙ items_past v (e.0, e.1 ++ x ∷ []) es (λ at. ne (at ∙ is)) ∙ sym (items_past v e es (λ at. ne (at ∙ is))))
+          ap (items_of v) (placed-same word x e es same.0 same.1) ∙ items_past v (e.0, e.1 ++ x ∷ []) es (λ at. ne (at ∙ is))
+          ∙ sym (items_past v e es (λ at. ne (at ∙ is))))
       | inr more ↦ ap (items_of v) (placed-more word x e es more.0 more.1) ∙ items_past v (word, x ∷ []) (e ∷ es) ne
     ]
   ]
 
   -- what all items pass, one more passes
-  pub all_placed : (test : X → Bool) (word : WordId) (x : X) (es : List (WordId × List X)) → test x ≡ true → list_all (λ e. list_all test e.1) es ≡ true → list_all (λ e. list_all test e.1) (placed word x es) ≡ true
+  pub all_placed : (test : X → Bool) (word : WordId) (x : X) (es : List (WordId × List X)) → test x ≡ true → list_all (λ e. list_all test e.1) es ≡ true
+      → list_all (λ e. list_all test e.1) (placed word x es) ≡ true
   all_placed test word x [] here h = and_from (test x && true) true (and_from (test x) true here refl) refl
   all_placed test word x (e ∷ es) here h =
       let two = and_parts (list_all test e.1) (list_all (λ e. list_all test e.1) es) h in
       elim (three word e) [
-        | inl less ↦ ap (list_all (λ e. list_all test e.1)) (placed-less word x e es less) ∙ and_from (list_all test e.1) (list_all (λ e. list_all test e.1) (placed word x es)) two.0 (all_placed test word x es here two.1)
+        | inl less ↦ ap (list_all (λ e. list_all test e.1)) (placed-less word x e es less)
+            ∙ and_from (list_all test e.1) (list_all (λ e. list_all test e.1) (placed word x es)) two.0 (all_placed test word x es here two.1)
         | inr rest ↦ elim rest [
           | inl same ↦ ap (list_all (λ e. list_all test e.1)) (placed-same word x e es same.0 same.1)
-              ∙ and_from (list_all test (e.1 ++ x ∷ [])) (list_all (λ e. list_all test e.1) es) (list_all-append test e.1 (x ∷ []) ∙ and_from (list_all test e.1) (test x && true) two.0 (and_from (test x) true here refl)) two.1
-          | inr more ↦ ap (list_all (λ e. list_all test e.1)) (placed-more word x e es more.0 more.1) ∙ and_from (test x && true) (list_all (λ e. list_all test e.1) (e ∷ es)) (and_from (test x) true here refl) h
+              ∙ and_from (list_all test (e.1 ++ x ∷ [])) (list_all (λ e. list_all test e.1) es)
+              (list_all-append test e.1 (x ∷ []) ∙ and_from (list_all test e.1) (test x && true) two.0 (and_from (test x) true here refl)) two.1
+          | inr more ↦ ap (list_all (λ e. list_all test e.1)) (placed-more word x e es more.0 more.1)
+              ∙ and_from (test x && true) (list_all (λ e. list_all test e.1) (e ∷ es)) (and_from (test x) true here refl) h
         ]
       ]
 
@@ -155,9 +170,14 @@ module _ {X : Type 0} where
       | inl same ↦ subst (λ xs. Contains xs y) (sym (at_same v same)) (Contains-append_left (items_of v es) (x ∷ []) y h)
       | inr other ↦ subst (λ xs. Contains xs y) (sym (items_other v word x es other)) h
     ];
-    added = λ v y h. subst (λ xs. Contains xs y) (sym (at_same v (ap (λ w. w.0) h.0))) (subst (λ z. Contains (items_of v es ++ x ∷ []) z) h.1 (Contains-push (items_of v es) x));
+    added = λ v y h. subst (λ xs. Contains xs y) (sym (at_same v (ap (λ w. w.0) h.0)))
+        (subst (λ z. Contains (items_of v es ++ x ∷ []) z) h.1 (Contains-push (items_of v es) x));
     only = λ v y h. elim (cases_eq v.0 word.0) [
-      | inl same ↦ elim (Contains-push_cases (items_of v es) x y (subst (λ xs. Contains xs y) (at_same v same) h)) [ inl old ↦ inl old | inr new ↦ inr (word_is v same, new) ]
+      | inl same ↦ elim (Contains-push_cases (items_of v es) x y (subst (λ xs. Contains xs y) (at_same v same) h)) [
+        | inl old ↦ inl old
+        | inr new ↦
+            inr (word_is v same, new)
+      ]
       | inr other ↦ inl (subst (λ xs. Contains xs y) (items_other v word x es other) h)
     ];
   }
@@ -179,7 +199,8 @@ module _ {X : Type 0} where
     ];
   }
 
-  pub adds_as : (es fs : List (WordId × List X)) (P Q : WordId → X → Type 0) → ((v : WordId) (y : X) → P v y → Q v y) → ((v : WordId) (y : X) → Q v y → P v y) → Adds es fs P → Adds es fs Q
+  pub adds_as : (es fs : List (WordId × List X)) (P Q : WordId → X → Type 0) → ((v : WordId) (y : X) → P v y → Q v y) → ((v : WordId) (y : X) → Q v y → P v y)
+      → Adds es fs P → Adds es fs Q
   adds_as es fs P Q to from one = record {
     rises = one.rises;
     kept = one.kept;

@@ -41,22 +41,25 @@ has-append cs ds c = list_any-append (λ d. same_concept d c) cs ds
 pub kept_one : (label : List Concept) (c d : Concept) → has_concept label d ≡ true → has_concept (with_class label c) d ≡ true
 kept_one label c d h = elim (cases_Bool (has_concept label c)) [
   | inl t ↦ ap (λ l. has_concept l d) (cond-true (has_concept label c) label (label ++ c ∷ []) t) ∙ h
-  | inr f ↦ ap (λ l. has_concept l d) (cond-false (has_concept label c) label (label ++ c ∷ []) f) ∙ has-append label (c ∷ []) d ∙ or_left (has_concept label d) (has_concept (c ∷ []) d) h
+  | inr f ↦ ap (λ l. has_concept l d) (cond-false (has_concept label c) label (label ++ c ∷ []) f) ∙ has-append label (c ∷ []) d
+      ∙ or_left (has_concept label d) (has_concept (c ∷ []) d) h
 ]
 
 new_one : (label : List Concept) (c : Concept) → has_concept (with_class label c) c ≡ true
 new_one label c = elim (cases_Bool (has_concept label c)) [
   | inl t ↦ ap (λ l. has_concept l c) (cond-true (has_concept label c) label (label ++ c ∷ []) t) ∙ t
-  | inr f ↦ ap (λ l. has_concept l c) (cond-false (has_concept label c) label (label ++ c ∷ []) f) ∙ has-append label (c ∷ []) c ∙ or_right (has_concept label c) (has_concept (c ∷ []) c) (or_left (same_concept c c) false (concept_refl c))
+  | inr f ↦ ap (λ l. has_concept l c) (cond-false (has_concept label c) label (label ++ c ∷ []) f) ∙ has-append label (c ∷ []) c
+      ∙ or_right (has_concept label c) (has_concept (c ∷ []) c) (or_left (same_concept c c) false (concept_refl c))
 ]
 
 only_one : (label : List Concept) (c d : Concept) → has_concept (with_class label c) d ≡ true → (has_concept label d ≡ true) ⊎ (c ≡ d)
 only_one label c d h = elim (cases_Bool (has_concept label c)) [
   | inl t ↦ inl (sym (ap (λ l. has_concept l d) (cond-true (has_concept label c) label (label ++ c ∷ []) t)) ∙ h)
-  | inr f ↦ elim (or_cases (has_concept label d) (has_concept (c ∷ []) d) (sym (ap (λ l. has_concept l d) (cond-false (has_concept label c) label (label ++ c ∷ []) f) ∙ has-append label (c ∷ []) d) ∙ h)) [
-    | inl old ↦ inl old
-    | inr new ↦ elim (or_cases (same_concept c d) false new) [ inl same ↦ inr (concept_true c d same) | inr never ↦ absurd (both never) ]
-  ]
+  | inr f ↦ elim (or_cases (has_concept label d) (has_concept (c ∷ []) d)
+      (sym (ap (λ l. has_concept l d) (cond-false (has_concept label c) label (label ++ c ∷ []) f) ∙ has-append label (c ∷ []) d) ∙ h)) [
+        | inl old ↦ inl old
+        | inr new ↦ elim (or_cases (same_concept c d) false new) [ inl same ↦ inr (concept_true c d same) | inr never ↦ absurd (both never) ]
+      ]
 ]
   where
     both : false ≡ true → ⊥
@@ -74,7 +77,8 @@ new_classes label (c ∷ cs) d h = elim (or_cases (same_concept c d) (has_concep
   | inr later ↦ new_classes (with_class label c) cs d later
 ]
 
-pub only_classes : (label cs : List Concept) (d : Concept) → has_concept (with_classes label cs) d ≡ true → (has_concept label d ≡ true) ⊎ (has_concept cs d ≡ true)
+pub only_classes : (label cs : List Concept) (d : Concept) → has_concept (with_classes label cs) d ≡ true
+    → (has_concept label d ≡ true) ⊎ (has_concept cs d ≡ true)
 only_classes label [] d h = inl h
 only_classes label (c ∷ cs) d h = elim (only_classes (with_class label c) cs d h) [
   | inl before ↦ elim (only_one label c d before) [

@@ -49,13 +49,17 @@ module _ (k : Theory) (lawful : IsLawful k) (plain : is_plain_theory k ≡ true)
       (one.0, and_parts (list_all (λ e. is_plain e.1) k.unfoldings) (list_all is_plain k.general) one.1)
 
   fit_assertions : list_all (λ e. fits k e.1) k.assertions ≡ true
-  fit_assertions = all_items (λ e. fits k e.1) k.assertions (λ j d lt. fits_from k (get_or k.assertions j d).1 (each_item (λ e. is_plain e.1) k.assertions plain_parts.0 j d lt) (and_parts (is_given k (get_or k.assertions j d).0) (names_given k (get_or k.assertions j d).1) (lawful.assertions j d lt)).1)
+  fit_assertions = all_items (λ e. fits k e.1) k.assertions
+      (λ j d lt. fits_from k (get_or k.assertions j d).1 (each_item (λ e. is_plain e.1) k.assertions plain_parts.0 j d lt)
+      (and_parts (is_given k (get_or k.assertions j d).0) (names_given k (get_or k.assertions j d).1) (lawful.assertions j d lt)).1)
 
   fit_unfoldings : list_all (λ e. fits k e.1) k.unfoldings ≡ true
-  fit_unfoldings = all_items (λ e. fits k e.1) k.unfoldings (λ j d lt. fits_from k (get_or k.unfoldings j d).1 (each_item (λ e. is_plain e.1) k.unfoldings plain_parts.1.0 j d lt) (lawful.unfoldings j d lt))
+  fit_unfoldings = all_items (λ e. fits k e.1) k.unfoldings
+      (λ j d lt. fits_from k (get_or k.unfoldings j d).1 (each_item (λ e. is_plain e.1) k.unfoldings plain_parts.1.0 j d lt) (lawful.unfoldings j d lt))
 
   fit_general : list_all (fits k) k.general ≡ true
-  fit_general = all_items (fits k) k.general (λ j d lt. fits_from k (get_or k.general j d) (each_item is_plain k.general plain_parts.1.1 j d lt) (lawful.general j d lt))
+  fit_general = all_items (fits k) k.general
+      (λ j d lt. fits_from k (get_or k.general j d) (each_item is_plain k.general plain_parts.1.1 j d lt) (lawful.general j d lt))
 
   -- every branch is sound
   pub branch_sound : {g : Graph} → IsBranch k g → IsSound k g
@@ -86,7 +90,8 @@ module _ (k : Theory) (lawful : IsLawful k) (plain : is_plain_theory k ≡ true)
             (Rattle.std.proofs.lemmas.Bool.and_left (is_anonymous k y) (has_twin k g y (ancestors g y) && not (blocks k g (ancestors g y))) not_anonymous)
             (indirectly-none k g y (sound.rooted y low))
 
-    true_at : (c : Concept) → fits k c ≡ true → (x : ℕ) → x < length g.nodes → is_blocked k g x ≡ false → has_concept (label_at g x) c ≡ true → IsIn i c (place x)
+    true_at : (c : Concept) → fits k c ≡ true → (x : ℕ) → x < length g.nodes → is_blocked k g x ≡ false → has_concept (label_at g x) c ≡ true
+        → IsIn i c (place x)
     true_at c fit x lt clear has =
         let two = and_parts (is_normal c) (names_given k c) fit in
         truth k g i place pictures ended.1 ended.0 named c two.0 two.1 x lt clear has
@@ -103,11 +108,13 @@ module _ (k : Theory) (lawful : IsLawful k) (plain : is_plain_theory k ≡ true)
           | inl forth ↦ (let p = and_parts (e.from == x) ((e.to == y) && is_below k e.role r) forth in
               let q = and_parts (e.to == y) (is_below k e.role r) p.1 in
               or_left ((e.from == x) && ((e.to == y) && is_below k e.role s)) ((e.from == y) && ((e.to == x) && is_below k (inverse e.role) s))
-              (and_from (e.from == x) ((e.to == y) && is_below k e.role s) p.0 (and_from (e.to == y) (is_below k e.role s) q.0 (lawful.transitive e.role r s q.1 up))))
+              (and_from (e.from == x) ((e.to == y) && is_below k e.role s) p.0
+              (and_from (e.to == y) (is_below k e.role s) q.0 (lawful.transitive e.role r s q.1 up))))
           | inr back ↦ (let p = and_parts (e.from == y) ((e.to == x) && is_below k (inverse e.role) r) back in
               let q = and_parts (e.to == x) (is_below k (inverse e.role) r) p.1 in
               or_right ((e.from == x) && ((e.to == y) && is_below k e.role s)) ((e.from == y) && ((e.to == x) && is_below k (inverse e.role) s))
-              (and_from (e.from == y) ((e.to == x) && is_below k (inverse e.role) s) p.0 (and_from (e.to == x) (is_below k (inverse e.role) s) q.0 (lawful.transitive (inverse e.role) r s q.1 up))))
+              (and_from (e.from == y) ((e.to == x) && is_below k (inverse e.role) s) p.0
+              (and_from (e.to == x) (is_below k (inverse e.role) s) q.0 (lawful.transitive (inverse e.role) r s q.1 up))))
         ]
 
         go : (es : List Edge) → list_any (makes_neighbour k r x y) es ≡ true → list_any (makes_neighbour k s x y) es ≡ true
@@ -119,8 +126,10 @@ module _ (k : Theory) (lawful : IsLawful k) (plain : is_plain_theory k ≡ true)
 
     pair_below : (j : ℕ) (d : Role × Role) → j < length k.hierarchy → is_below k (get_or k.hierarchy j d).0 (get_or k.hierarchy j d).1 ≡ true
     pair_below j d lt =
-        or_right (same_role (get_or k.hierarchy j d).0 (get_or k.hierarchy j d).1) (list_any (λ p. same_role p.0 (get_or k.hierarchy j d).0 && same_role p.1 (get_or k.hierarchy j d).1) k.hierarchy)
-        (Rattle.std.proofs.lemmas.List.Folds.list_any_at (λ p. same_role p.0 (get_or k.hierarchy j d).0 && same_role p.1 (get_or k.hierarchy j d).1) k.hierarchy j d lt
+        or_right (same_role (get_or k.hierarchy j d).0 (get_or k.hierarchy j d).1)
+        (list_any (λ p. same_role p.0 (get_or k.hierarchy j d).0 && same_role p.1 (get_or k.hierarchy j d).1) k.hierarchy)
+        (Rattle.std.proofs.lemmas.List.Folds.list_any_at (λ p. same_role p.0 (get_or k.hierarchy j d).0 && same_role p.1 (get_or k.hierarchy j d).1) k.hierarchy
+        j d lt
         (and_from (same_role (get_or k.hierarchy j d).0 (get_or k.hierarchy j d).0) (same_role (get_or k.hierarchy j d).1 (get_or k.hierarchy j d).1)
         (Rattle.branch_model.proofs.Same.role_refl (get_or k.hierarchy j d).0) (Rattle.branch_model.proofs.Same.role_refl (get_or k.hierarchy j d).1)))
 
@@ -132,45 +141,56 @@ module _ (k : Theory) (lawful : IsLawful k) (plain : is_plain_theory k ≡ true)
       hierarchy = λ j d lt e below f low related.
           let far = pictures.related (get_or k.hierarchy j d).0 e f related in
           let near = neighbour_up (get_or k.hierarchy j d).0 (get_or k.hierarchy j d).1 far.0 far.1 (pair_below j d lt) far.8 in
-          subst (λ a. Relates i (get_or k.hierarchy j d).1 a f) far.6 (subst (Relates i (get_or k.hierarchy j d).1 (place far.0)) far.7 (pictures.relates (get_or k.hierarchy j d).1 far.0 far.1 far.4 far.5 near));
+          subst (λ a. Relates i (get_or k.hierarchy j d).1 a f) far.6
+          (subst (Relates i (get_or k.hierarchy j d).1 (place far.0)) far.7 (pictures.relates (get_or k.hierarchy j d).1 far.0 far.1 far.4 far.5 near));
       assertions = λ j d lt.
           let given = and_parts (is_given k (get_or k.assertions j d).0) (names_given k (get_or k.assertions j d).1) (lawful.assertions j d lt) in
           let node = named (get_or k.assertions j d).0 given.0 in
           subst (IsIn i (get_or k.assertions j d).1) (sym (pictures.names (get_or k.assertions j d).0 node.0 node.1))
-          (true_at (get_or k.assertions j d).1 (each_item (λ e. fits k e.1) k.assertions fit_assertions j d lt) node.0 node.2 node.3 (sound.asserted j d lt node.0 node.1));
+          (true_at (get_or k.assertions j d).1 (each_item (λ e. fits k e.1) k.assertions fit_assertions j d lt) node.0 node.2 node.3
+          (sound.asserted j d lt node.0 node.1));
       edges = λ j d lt.
           let given = and_parts (is_given k (get_or k.edges j d).1) (is_given k (get_or k.edges j d).2) (lawful.edges j d lt) in
           let one = named (get_or k.edges j d).1 given.0 in
           let other = named (get_or k.edges j d).2 given.1 in
           subst (λ a. Relates i (get_or k.edges j d).0 a (element_of i (get_or k.edges j d).2)) (sym (pictures.names (get_or k.edges j d).1 one.0 one.1))
           (subst (Relates i (get_or k.edges j d).0 (place one.0)) (sym (pictures.names (get_or k.edges j d).2 other.0 other.1))
-          (pictures.relates (get_or k.edges j d).0 one.0 other.0 (free_of one.0 one.3) (free_of other.0 other.3) (sound.stated j d lt one.0 other.0 one.1 other.1)));
+          (pictures.relates (get_or k.edges j d).0 one.0 other.0 (free_of one.0 one.3) (free_of other.0 other.3)
+          (sound.stated j d lt one.0 other.0 one.1 other.1)));
       differences = λ j d lt same. apart j d lt same;
       unfoldings = λ j d lt e below inside.
           let z = pictures.reached e below in
-          let has : has_concept (label_at g z.0) (Atomic (get_or k.unfoldings j d).0) ≡ true = pictures.classes (get_or k.unfoldings j d).0 z.0 z.1 (free_of z.0 z.2) (subst (Contains (elements_of i (get_or k.unfoldings j d).0)) (sym z.3) inside) in
+          let has : has_concept (label_at g z.0) (Atomic (get_or k.unfoldings j d).0) ≡ true =
+          pictures.classes (get_or k.unfoldings j d).0 z.0 z.1 (free_of z.0 z.2)
+          (subst (Contains (elements_of i (get_or k.unfoldings j d).0)) (sym z.3) inside) in
           let all = unfold_done k g ended.1 z.0 z.1 (free_of z.0 z.2) (get_or k.unfoldings j d).0 has in
-          let there = entry_has (λ u. is_word (get_or k.unfoldings j d).0 u.0) k.unfoldings j d lt (Rattle.std.proofs.lemmas.Bool.eq-eqb (get_or k.unfoldings j d).0.0 (get_or k.unfoldings j d).0.0 refl) in
+          let there = entry_has (λ u. is_word (get_or k.unfoldings j d).0 u.0) k.unfoldings j d lt
+          (Rattle.std.proofs.lemmas.Bool.eq-eqb (get_or k.unfoldings j d).0.0 (get_or k.unfoldings j d).0.0 refl) in
           subst (IsIn i (get_or k.unfoldings j d).1) z.3
-          (true_at (get_or k.unfoldings j d).1 (each_item (λ e. fits k e.1) k.unfoldings fit_unfoldings j d lt) z.0 z.1 z.2 (each_has (has_concept (label_at g z.0)) (unfoldings_of k (get_or k.unfoldings j d).0) (get_or k.unfoldings j d).1 all there));
+          (true_at (get_or k.unfoldings j d).1 (each_item (λ e. fits k e.1) k.unfoldings fit_unfoldings j d lt) z.0 z.1 z.2
+          (each_has (has_concept (label_at g z.0)) (unfoldings_of k (get_or k.unfoldings j d).0) (get_or k.unfoldings j d).1 all there));
       general = λ j d lt e below inside.
           let z = pictures.reached e below in
           subst (IsIn i (get_or k.general j d)) z.3
-          (true_at (get_or k.general j d) (each_item (fits k) k.general fit_general j d lt) z.0 z.1 z.2 (sound.general z.0 (get_or k.general j d) z.1 (here k.general j d lt)));
+          (true_at (get_or k.general j d) (each_item (fits k) k.general fit_general j d lt) z.0 z.1 z.2
+          (sound.general z.0 (get_or k.general j d) z.1 (here k.general j d lt)));
     }
       where
         here : (cs : List Concept) (j : ℕ) (d : Concept) → j < length cs → has_concept cs (get_or cs j d) ≡ true
-        here cs j d lt = Rattle.std.proofs.lemmas.List.Folds.list_any_at (λ c. Rattle.logic_terms.specs.Same.same_concept c (get_or cs j d)) cs j d lt (Rattle.branch_model.proofs.Same.concept_refl (get_or cs j d))
+        here cs j d lt = Rattle.std.proofs.lemmas.List.Folds.list_any_at (λ c. Rattle.logic_terms.specs.Same.same_concept c (get_or cs j d)) cs j d lt
+            (Rattle.branch_model.proofs.Same.concept_refl (get_or cs j d))
 
         both : {b : Bool} → b ≡ true → b ≡ false → ⊥
         both t f = cc
 
-        apart : (j : ℕ) (d : WordId × WordId) → j < length k.differences → element_of i (get_or k.differences j d).0 ≡ element_of i (get_or k.differences j d).1 → ⊥
+        apart : (j : ℕ) (d : WordId × WordId) → j < length k.differences → element_of i (get_or k.differences j d).0 ≡ element_of i (get_or k.differences j d).1
+            → ⊥
         apart j d lt same =
             let given = and_parts (is_given k (get_or k.differences j d).0) (is_given k (get_or k.differences j d).1) (lawful.differences j d lt) in
             let one = named (get_or k.differences j d).0 given.0 in
             let other = named (get_or k.differences j d).1 given.1 in
-            let places : place one.0 ≡ place other.0 = sym (pictures.names (get_or k.differences j d).0 one.0 one.1) ∙ same ∙ pictures.names (get_or k.differences j d).1 other.0 other.1 in
+            let places : place one.0 ≡ place other.0 =
+            sym (pictures.names (get_or k.differences j d).0 one.0 one.1) ∙ same ∙ pictures.names (get_or k.differences j d).1 other.0 other.1 in
             let node : one.0 ≡ other.0 = pictures.alone one.0 other.0 (get_or k.differences j d).1 one.2 (free_of one.0 one.3) other.1 places in
             let root = root_of k (get_or k.differences j d).0 one.0 one.1 in
             let root' = root_of k (get_or k.differences j d).1 other.0 other.1 in
@@ -179,5 +199,6 @@ module _ (k : Theory) (lawful : IsLawful k) (plain : is_plain_theory k ≡ true)
             let yes : are_joined k (get_or k.differences j d).0 (get_or k.differences j d).1 ≡ true =
             ap (λ o. passes o (λ r. passes (representative k (get_or k.differences j d).1) (is_word r))) root.1
             ∙ ap (λ o. passes o (is_word root.0)) root'.1 ∙ ap (is_word root.0) (sym rep) ∙ Rattle.std.proofs.lemmas.Bool.eq-eqb root.0.0 root.0.0 refl in
-            let differ' : are_joined k (get_or k.differences j d).0 (get_or k.differences j d).1 ≡ false = differ k g ended.0 (get_or k.differences j d) (Contains-get_or k.differences j d lt) in
+            let differ' : are_joined k (get_or k.differences j d).0 (get_or k.differences j d).1 ≡ false =
+            differ k g ended.0 (get_or k.differences j d) (Contains-get_or k.differences j d lt) in
             both yes differ'

@@ -3,9 +3,12 @@ use Rattle.std.proofs.Common.{◌≡◌, ℕ, zero, suc, ◌+◌, ◌<◌, ◌�
 use Rattle.std.specs.Prelude.{◌⊎◌, ◌↔◌, nat_lt, if◌then◌else◌, not}
 use Rattle.std.specs.List.{list_any, list_all}
 use Rattle.std.specs.Option.{option_and_then}
-use Rattle.std.proofs.lemmas.Bool.{cases_Bool, or_cases, or_left, or_right, or_parts, and_from, and_parts, eqb-true, eq-eqb, ltb-true, lt-ltb, not-true}
+use Rattle.std.proofs.lemmas.Bool.{or_cases, or_left, or_right, and_from, and_parts, eqb-true, eq-eqb, ltb-true, lt-ltb}
 use Rattle.std.proofs.lemmas.Option.{slice_get_within, slice_get-get_or}
+use Rattle.std.proofs.Math.Bool.{not-not}
 use Rattle.wiki_base.specs.declared.numbers.WordId.{WordId}
+use Rattle.wiki_base.proofs.BoolLaws.{same_tests, not_both}
+use Rattle.logic_terms.proofs.SameLemmas.{role_equal, same_role-self}
 use Rattle.logic_terms.specs.declared.expressions.Role.{Role}
 use Rattle.logic_terms.specs.Concept.{Concept, Atomic}
 use Rattle.logic_terms.specs.Interpretation.{Interpretation, element_of, elements_of, pairs_of, Relates}
@@ -14,37 +17,25 @@ use Rattle.logic_terms.specs.Theory.{Theory, is_below, IsLawful}
 use Rattle.tableau_rules.specs.declared.branch.Edge.{Edge}
 use Rattle.tableau_rules.specs.Graph.{Graph, label_at}
 use Rattle.tableau_rules.specs.Neighbours.{roots, node_of, makes_neighbour, is_neighbour}
-use Rattle.tableau_rules.specs.Blocking.{is_anonymous, same_classes, is_blocked, is_directly_blocked, is_indirectly_blocked, has_twin, ancestors, blocks}
-use Rattle.branch_model.specs.Elements.{IsTwin, StandsFor, ArePlaced}
-use Rattle.branch_model.specs.Extents.{extents, stand_of, links}
-use Rattle.branch_model.proofs.Same.{same_has, same_has_back, role_true, role_refl}
+use Rattle.tableau_rules.specs.Blocking.{is_anonymous, is_indirectly_blocked, has_twin, ancestors, blocks}
+use Rattle.branch_model.specs.Elements.{StandsFor, ArePlaced}
+use Rattle.branch_model.specs.Extents.{stand_of, links}
+use Rattle.branch_model.proofs.Same.{same_has, same_has_back}
 use Rattle.branch_model.proofs.Sound.{IsSound}
 use Rattle.branch_model.proofs.Start.{noded}
 use Rattle.branch_model.proofs.EntriesLemmas.{items_of, Adds}
-use Rattle.branch_model.proofs.ExtentsLemmas.{Labels, IsPair, IsPairAbove, IsLink, AreLinks}
+use Rattle.branch_model.proofs.ExtentsLemmas.{Labels, IsPair, IsPairAbove, AreLinks}
 use Rattle.branch_model.proofs.Truth.{Pictures}
 
 -- the element that a node stands for
 abbrev pub place_of : List (Option ℕ) → ℕ → ℕ
 place_of stands x = unwrap_or (stand_of stands x) 0
 
-same_test : (a b : Bool) → (a ≡ true → b ≡ true) → (b ≡ true → a ≡ true) → a ≡ b
-same_test true b to from = sym (to refl)
-same_test false true to from = from refl
-same_test false false to from = refl
-
-never : {b : Bool} → b ≡ true → b ≡ false → ⊥
-never t f = cc
-
 one_some : {X : Type 0} {a b : X} → Some a ≡ Some b → a ≡ b
 one_some h = cc
 
-turned_twice : (b : Bool) → not (not b) ≡ b
-turned_twice true = refl
-turned_twice false = refl
-
 inverse_twice : (r : Role) → inverse (inverse r) ≡ r
-inverse_twice r = λ j. record { id = r.id; inverted = turned_twice r.inverted j }
+inverse_twice r = λ j. record { id = r.id; inverted = not-not r.inverted j }
 
 -- a role with the word of another is that role or its inverse
 same_or_turned : (r role : Role) → role.id ≡ r.id → (r ≡ role) ⊎ (r ≡ inverse role)
@@ -75,14 +66,16 @@ turn_pair false a b = refl
 relates_pair : (i : Interpretation) (role : Role) (e f : ℕ) → Relates i role e f → Contains (pairs_of i role.id) (turned_pair role.inverted e f)
 relates_pair i role e f h = by role.inverted h
   where
-    by : (t : Bool) → MatchBool t (Contains (pairs_of i role.id) (f, e)) (Contains (pairs_of i role.id) (e, f)) → Contains (pairs_of i role.id) (turned_pair t e f)
+    by : (t : Bool) → MatchBool t (Contains (pairs_of i role.id) (f, e)) (Contains (pairs_of i role.id) (e, f))
+        → Contains (pairs_of i role.id) (turned_pair t e f)
     by true p = p
     by false p = p
 
 pair_relates : (i : Interpretation) (role : Role) (e f : ℕ) → Contains (pairs_of i role.id) (turned_pair role.inverted e f) → Relates i role e f
 pair_relates i role e f h = by role.inverted h
   where
-    by : (t : Bool) → Contains (pairs_of i role.id) (turned_pair t e f) → MatchBool t (Contains (pairs_of i role.id) (f, e)) (Contains (pairs_of i role.id) (e, f))
+    by : (t : Bool) → Contains (pairs_of i role.id) (turned_pair t e f)
+        → MatchBool t (Contains (pairs_of i role.id) (f, e)) (Contains (pairs_of i role.id) (e, f))
     by true p = p
     by false p = p
 
@@ -90,22 +83,27 @@ no_items : {X : Type 0} (v : WordId) (y : X) → Contains (items_of {X = X} v []
 no_items v y (j, lt, at) = absurd (omega arith)
 
 -- an edge among those of a list makes a neighbour
-edge_found : (k : Theory) (role : Role) (x y : ℕ) (es : List Edge) → list_any (makes_neighbour k role x y) es ≡ true → (j : ℕ) × (e : Edge) × (slice_get es j ≡ Some e) × (makes_neighbour k role x y e ≡ true)
+edge_found : (k : Theory) (role : Role) (x y : ℕ) (es : List Edge) → list_any (makes_neighbour k role x y) es ≡ true
+    → (j : ℕ) × (e : Edge) × (slice_get es j ≡ Some e) × (makes_neighbour k role x y e ≡ true)
 edge_found k role x y [] h = cc
 edge_found k role x y (e ∷ es) h = elim (or_cases (makes_neighbour k role x y e) (list_any (makes_neighbour k role x y) es) h) [
   | inl here ↦ (0, e, refl, here)
   | inr later ↦ (let found = edge_found k role x y es later in (suc found.0, found.1, found.2, found.3))
 ]
 
-edge_any : (k : Theory) (role : Role) (x y : ℕ) (es : List Edge) (j : ℕ) (e : Edge) → slice_get es j ≡ Some e → makes_neighbour k role x y e ≡ true → list_any (makes_neighbour k role x y) es ≡ true
+edge_any : (k : Theory) (role : Role) (x y : ℕ) (es : List Edge) (j : ℕ) (e : Edge) → slice_get es j ≡ Some e → makes_neighbour k role x y e ≡ true
+    → list_any (makes_neighbour k role x y) es ≡ true
 edge_any k role x y [] j e at h = absurd (nothing j at)
   where
     nothing : (j : ℕ) → slice_get {X = Edge} [] j ≡ Some e → ⊥
     nothing j q = cc
-edge_any k role x y (f ∷ es) zero e at h = or_left (makes_neighbour k role x y f) (list_any (makes_neighbour k role x y) es) (ap (makes_neighbour k role x y) (one_some at) ∙ h)
-edge_any k role x y (f ∷ es) (suc j) e at h = or_right (makes_neighbour k role x y f) (list_any (makes_neighbour k role x y) es) (edge_any k role x y es j e at h)
+edge_any k role x y (f ∷ es) zero e at h =
+    or_left (makes_neighbour k role x y f) (list_any (makes_neighbour k role x y) es) (ap (makes_neighbour k role x y) (one_some at) ∙ h)
+edge_any k role x y (f ∷ es) (suc j) e at h =
+    or_right (makes_neighbour k role x y f) (list_any (makes_neighbour k role x y) es) (edge_any k role x y es j e at h)
 
-edge_ends : (n : ℕ) (es : List Edge) (j : ℕ) (e : Edge) → list_all (λ e. nat_lt e.from n && nat_lt e.to n) es ≡ true → slice_get es j ≡ Some e → (e.from < n) × (e.to < n)
+edge_ends : (n : ℕ) (es : List Edge) (j : ℕ) (e : Edge) → list_all (λ e. nat_lt e.from n && nat_lt e.to n) es ≡ true → slice_get es j ≡ Some e
+    → (e.from < n) × (e.to < n)
 edge_ends n [] j e h at = absurd (nothing j at)
   where
     nothing : (j : ℕ) → slice_get {X = Edge} [] j ≡ Some e → ⊥
@@ -114,28 +112,34 @@ edge_ends n (f ∷ es) zero e h at =
     let one = and_parts (nat_lt f.from n && nat_lt f.to n) (list_all (λ e. nat_lt e.from n && nat_lt e.to n) es) h in
     let two = and_parts (nat_lt f.from n) (nat_lt f.to n) one.0 in
     subst (λ g. (g.from < n) × (g.to < n)) (one_some at) (ltb-true f.from n two.0, ltb-true f.to n two.1)
-edge_ends n (f ∷ es) (suc j) e h at = edge_ends n es j e (and_parts (nat_lt f.from n && nat_lt f.to n) (list_all (λ e. nat_lt e.from n && nat_lt e.to n) es) h).1 at
+edge_ends n (f ∷ es) (suc j) e h at = edge_ends n es j e
+    (and_parts (nat_lt f.from n && nat_lt f.to n) (list_all (λ e. nat_lt e.from n && nat_lt e.to n) es) h).1 at
 
-pair_found : (ps : List (Role × Role)) (r s : Role) → list_any (λ p. same_role p.0 r && same_role p.1 s) ps ≡ true → (j : ℕ) × (p : Role × Role) × (slice_get ps j ≡ Some p) × (same_role p.0 r ≡ true) × (p.1 ≡ s)
+pair_found : (ps : List (Role × Role)) (r s : Role) → list_any (λ p. same_role p.0 r && same_role p.1 s) ps ≡ true
+    → (j : ℕ) × (p : Role × Role) × (slice_get ps j ≡ Some p) × (same_role p.0 r ≡ true) × (p.1 ≡ s)
 pair_found [] r s h = cc
 pair_found (p ∷ ps) r s h = elim (or_cases (same_role p.0 r && same_role p.1 s) (list_any (λ p. same_role p.0 r && same_role p.1 s) ps) h) [
-  | inl here ↦ (let two = and_parts (same_role p.0 r) (same_role p.1 s) here in (0, p, refl, two.0, role_true p.1 s two.1))
+  | inl here ↦ (let two = and_parts (same_role p.0 r) (same_role p.1 s) here in (0, p, refl, two.0, role_equal p.1 s two.1))
   | inr later ↦ (let found = pair_found ps r s later in (suc found.0, found.1, found.2, found.3, found.4))
 ]
 
-pair_any : (ps : List (Role × Role)) (r : Role) (j : ℕ) (p : Role × Role) → slice_get ps j ≡ Some p → same_role p.0 r ≡ true → list_any (λ q. same_role q.0 r && same_role q.1 p.1) ps ≡ true
+pair_any : (ps : List (Role × Role)) (r : Role) (j : ℕ) (p : Role × Role) → slice_get ps j ≡ Some p → same_role p.0 r ≡ true
+    → list_any (λ q. same_role q.0 r && same_role q.1 p.1) ps ≡ true
 pair_any [] r j p at h = absurd (nothing j at)
   where
     nothing : (j : ℕ) → slice_get {X = Role × Role} [] j ≡ Some p → ⊥
     nothing j q = cc
 pair_any (q ∷ ps) r zero p at h =
     or_left (same_role q.0 r && same_role q.1 p.1) (list_any (λ q. same_role q.0 r && same_role q.1 p.1) ps)
-    (ap (λ (s : Role × Role). same_role s.0 r && same_role s.1 p.1) (one_some at) ∙ and_from (same_role p.0 r) (same_role p.1 p.1) h (role_refl p.1))
-pair_any (q ∷ ps) r (suc j) p at h = or_right (same_role q.0 r && same_role q.1 p.1) (list_any (λ q. same_role q.0 r && same_role q.1 p.1) ps) (pair_any ps r j p at h)
+    (ap (λ (s : Role × Role). same_role s.0 r && same_role s.1 p.1) (one_some at) ∙ and_from (same_role p.0 r) (same_role p.1 p.1) h (same_role-self p.1))
+pair_any (q ∷ ps) r (suc j) p at h = or_right (same_role q.0 r && same_role q.1 p.1) (list_any (λ q. same_role q.0 r && same_role q.1 p.1) ps)
+    (pair_any ps r j p at h)
 
-module _ (k : Theory) (lawful : IsLawful k) (g : Graph) (sound : IsSound k g) (owners : List ℕ) (stands : List (Option ℕ)) (placed : ArePlaced k g (length g.nodes) owners stands) where
+module _ (k : Theory) (lawful : IsLawful k) (g : Graph) (sound : IsSound k g) (owners : List ℕ) (stands : List (Option ℕ))
+    (placed : ArePlaced k g (length g.nodes) owners stands) where
   -- what a node that is not indirectly blocked stands for
-  standing : (x : ℕ) → x < length g.nodes → is_indirectly_blocked k g x ≡ false → (e : ℕ) × (z : ℕ) × (stand_of stands x ≡ Some e) × (slice_get owners e ≡ Some z) × StandsFor k g x z
+  standing : (x : ℕ) → x < length g.nodes → is_indirectly_blocked k g x ≡ false
+      → (e : ℕ) × (z : ℕ) × (stand_of stands x ≡ Some e) × (slice_get owners e ≡ Some z) × StandsFor k g x z
   standing x lt free = let s = placed.shown x lt free in (s.0, s.1, ap (option_and_then (λ s. s)) s.2, s.3, s.4)
 
   placed_at : (x e : ℕ) → stand_of stands x ≡ Some e → place_of stands x ≡ e
@@ -145,7 +149,8 @@ module _ (k : Theory) (lawful : IsLawful k) (g : Graph) (sound : IsSound k g) (o
   labels_of : (x z : ℕ) → StandsFor k g x z → (c : Concept) → has_concept (label_at g x) c ≡ has_concept (label_at g z) c
   labels_of x z h c = elim h [
     | inl own ↦ ap (λ w. has_concept (label_at g w) c) own.1
-    | inr twin ↦ same_test (has_concept (label_at g x) c) (has_concept (label_at g z) c) (same_has (label_at g x) (label_at g z) c twin.1.same) (same_has_back (label_at g x) (label_at g z) c twin.1.same)
+    | inr twin ↦ same_tests (has_concept (label_at g x) c) (has_concept (label_at g z) c) (same_has (label_at g x) (label_at g z) c twin.1.same)
+        (same_has_back (label_at g x) (label_at g z) c twin.1.same)
   ]
 
   -- only a node that is not indirectly blocked stands for an element
@@ -168,37 +173,59 @@ module _ (k : Theory) (lawful : IsLawful k) (g : Graph) (sound : IsSound k g) (o
       in_nodes : (x e : ℕ) → stand_of stands x ≡ Some e → x < length g.nodes
       in_nodes x e at = elim (Rattle.std.proofs.lemmas.Bool.cases_lt x (length g.nodes)) [
         | inl lt ↦ lt
-        | inr past ↦ (let none : stand_of stands x ≡ None = ap (option_and_then (λ s. s)) (Rattle.std.proofs.lemmas.Option.slice_get_past stands x (subst (λ n. n ≤ x) (sym placed.all) past)) in absurd (gone (sym none ∙ at)))
+        | inr past ↦ (let none : stand_of stands x ≡ None =
+            ap (option_and_then (λ s. s)) (Rattle.std.proofs.lemmas.Option.slice_get_past stands x (subst (λ n. n ≤ x) (sym placed.all) past)) in
+            absurd (gone (sym none ∙ at)))
       ]
         where
           gone : None ≡ Some e → ⊥
           gone q = cc
 
   -- a role above that of an edge, in the one direction or the other, makes a neighbour
-  forth : (role : Role) (j : ℕ) (edge : Edge) → slice_get g.edges j ≡ Some edge → is_below k edge.role role ≡ true → is_neighbour k g role edge.from edge.to ≡ true
+  forth : (role : Role) (j : ℕ) (edge : Edge) → slice_get g.edges j ≡ Some edge → is_below k edge.role role ≡ true
+      → is_neighbour k g role edge.from edge.to ≡ true
   forth role j edge at up =
       edge_any k role edge.from edge.to g.edges j edge at
-      (or_left ((edge.from == edge.from) && ((edge.to == edge.to) && is_below k edge.role role)) ((edge.from == edge.to) && ((edge.to == edge.from) && is_below k (inverse edge.role) role))
-      (and_from (edge.from == edge.from) ((edge.to == edge.to) && is_below k edge.role role) (eq-eqb edge.from edge.from refl) (and_from (edge.to == edge.to) (is_below k edge.role role) (eq-eqb edge.to edge.to refl) up)))
+      (or_left ((edge.from == edge.from) && ((edge.to == edge.to) && is_below k edge.role role))
+      ((edge.from == edge.to) && ((edge.to == edge.from) && is_below k (inverse edge.role) role))
+      (and_from (edge.from == edge.from) ((edge.to == edge.to) && is_below k edge.role role) (eq-eqb edge.from edge.from refl)
+      (and_from (edge.to == edge.to) (is_below k edge.role role) (eq-eqb edge.to edge.to refl) up)))
 
-  back : (role : Role) (j : ℕ) (edge : Edge) → slice_get g.edges j ≡ Some edge → is_below k edge.role (inverse role) ≡ true → is_neighbour k g role edge.to edge.from ≡ true
+  back : (role : Role) (j : ℕ) (edge : Edge) → slice_get g.edges j ≡ Some edge → is_below k edge.role (inverse role) ≡ true
+      → is_neighbour k g role edge.to edge.from ≡ true
   back role j edge at up =
-      let up' : is_below k (inverse edge.role) role ≡ true = subst (λ r. is_below k (inverse edge.role) r ≡ true) (inverse_twice role) (lawful.inverses edge.role (inverse role) up) in
+      let up' : is_below k (inverse edge.role) role ≡ true =
+      subst (λ r. is_below k (inverse edge.role) r ≡ true) (inverse_twice role) (lawful.inverses edge.role (inverse role) up) in
       edge_any k role edge.to edge.from g.edges j edge at
-      (or_right ((edge.from == edge.to) && ((edge.to == edge.from) && is_below k edge.role role)) ((edge.from == edge.from) && ((edge.to == edge.to) && is_below k (inverse edge.role) role))
-      (and_from (edge.from == edge.from) ((edge.to == edge.to) && is_below k (inverse edge.role) role) (eq-eqb edge.from edge.from refl) (and_from (edge.to == edge.to) (is_below k (inverse edge.role) role) (eq-eqb edge.to edge.to refl) up')))
+      (or_right ((edge.from == edge.to) && ((edge.to == edge.from) && is_below k edge.role role))
+      ((edge.from == edge.from) && ((edge.to == edge.to) && is_below k (inverse edge.role) role))
+      (and_from (edge.from == edge.from) ((edge.to == edge.to) && is_below k (inverse edge.role) role) (eq-eqb edge.from edge.from refl)
+      (and_from (edge.to == edge.to) (is_below k (inverse edge.role) role) (eq-eqb edge.to edge.to refl) up')))
 
   -- the role of a pair is the edge's or one above it
-  role_above : (edge : Edge) (a b : ℕ) (v : WordId) (y : ℕ × ℕ) → IsPair edge.role a b v y ⊎ IsPairAbove k.hierarchy edge.role a b v y → (r : Role) × (is_below k edge.role r ≡ true) × IsPair r a b v y
+  role_above : (edge : Edge) (a b : ℕ) (v : WordId) (y : ℕ × ℕ) → IsPair edge.role a b v y ⊎ IsPairAbove k.hierarchy edge.role a b v y
+      → (r : Role) × (is_below k edge.role r ≡ true) × IsPair r a b v y
   role_above edge a b v y h = elim h [
-    | inl own ↦ (edge.role, or_left (same_role edge.role edge.role) (list_any (λ p. same_role p.0 edge.role && same_role p.1 edge.role) k.hierarchy) (role_refl edge.role), own)
-    | inr (j, p, at, same, pair) ↦ (p.1, or_right (same_role edge.role p.1) (list_any (λ q. same_role q.0 edge.role && same_role q.1 p.1) k.hierarchy) (pair_any k.hierarchy edge.role j p at same), pair)
+    | inl own ↦ (
+      edge.role,
+      or_left (same_role edge.role edge.role) (list_any (λ p. same_role p.0 edge.role && same_role p.1 edge.role) k.hierarchy)
+          (same_role-self edge.role),
+      own,
+    )
+    | inr (j, p, at, same, pair) ↦ (
+      p.1,
+      or_right (same_role edge.role p.1) (list_any (λ q. same_role q.0 edge.role && same_role q.1 p.1) k.hierarchy)
+          (pair_any k.hierarchy edge.role j p at same),
+      pair,
+    )
   ]
 
-  above_role : (edge : Edge) (r : Role) (a b : ℕ) (v : WordId) (y : ℕ × ℕ) → is_below k edge.role r ≡ true → IsPair r a b v y → IsPair edge.role a b v y ⊎ IsPairAbove k.hierarchy edge.role a b v y
+  above_role : (edge : Edge) (r : Role) (a b : ℕ) (v : WordId) (y : ℕ × ℕ) → is_below k edge.role r ≡ true → IsPair r a b v y
+      → IsPair edge.role a b v y ⊎ IsPairAbove k.hierarchy edge.role a b v y
   above_role edge r a b v y up pair = elim (or_cases (same_role edge.role r) (list_any (λ p. same_role p.0 edge.role && same_role p.1 r) k.hierarchy) up) [
-    | inl same ↦ inl (subst (λ q. IsPair q a b v y) (sym (role_true edge.role r same)) pair)
-    | inr there ↦ (let found = pair_found k.hierarchy edge.role r there in inr (found.0, found.1, found.2, found.3, subst (λ q. IsPair q a b v y) (sym found.4) pair))
+    | inl same ↦ inl (subst (λ q. IsPair q a b v y) (sym (role_equal edge.role r same)) pair)
+    | inr there ↦ (let found = pair_found k.hierarchy edge.role r there in
+        inr (found.0, found.1, found.2, found.3, subst (λ q. IsPair q a b v y) (sym found.4) pair))
   ]
 
   module _ (i : Interpretation) (size : i.size ≡ length owners)
@@ -207,46 +234,51 @@ module _ (k : Theory) (lawful : IsLawful k) (g : Graph) (sound : IsSound k g) (o
       (classes : (v : WordId) (x : ℕ) → Contains (elements_of i v) x ↔ Contains (items_of v es) x)
       (relations : (v : WordId) (p : ℕ × ℕ) → Contains (pairs_of i v) p ↔ Contains (items_of v rs) p)
       (names : (name : WordId) (y : ℕ) → node_of k name ≡ Some y → element_of i name ≡ place_of stands y) where
-    linked_to : (role : Role) (e f : ℕ) → Relates i role e f → (x : ℕ) × (y : ℕ) × (x < length g.nodes) × (y < length g.nodes) × (is_indirectly_blocked k g x ≡ false) × (is_indirectly_blocked k g y ≡ false) × (place_of stands x ≡ e) × (place_of stands y ≡ f) × (is_neighbour k g role x y ≡ true)
-    linked_to role e f related = elim (adds_rs.only role.id (turned_pair role.inverted e f) ((relations role.id (turned_pair role.inverted e f)).0 (relates_pair i role e f related))) [
-      | inl none ↦ absurd (no_items role.id (turned_pair role.inverted e f) none)
-      | inr (j, edge, at, (a, b, from, to, pair)) ↦
-          (let ends = edge_ends (length g.nodes) g.edges j edge sound.ends at in
-          let above = role_above edge a b role.id (turned_pair role.inverted e f) pair in
-          let free_from = shown_free edge.from a ends.0 from in
-          let free_to = shown_free edge.to b ends.1 to in
-          elim (same_or_turned above.0 role above.2.0) [
-            | inl same ↦ (let is = pair_same role.inverted a b e f (sym (ap (λ (r : Role). turned_pair r.inverted a b) same) ∙ above.2.1) in (
-              edge.from,
-              edge.to,
-              ends.0,
-              ends.1,
-              free_from,
-              free_to,
-              placed_at edge.from a from ∙ is.0,
-              placed_at edge.to b to ∙ is.1,
-              forth role j edge at (subst (λ r. is_below k edge.role r ≡ true) same above.1),
-            ))
-            | inr turned ↦ (let is = pair_turned role.inverted a b e f (sym (ap (λ (r : Role). turned_pair r.inverted a b) turned) ∙ above.2.1) in (
-              edge.to,
-              edge.from,
-              ends.1,
-              ends.0,
-              free_to,
-              free_from,
-              placed_at edge.to b to ∙ is.1,
-              placed_at edge.from a from ∙ is.0,
-              back role j edge at (subst (λ r. is_below k edge.role r ≡ true) turned above.1),
-            ))
-          ])
-    ]
+    linked_to : (role : Role) (e f : ℕ) → Relates i role e f
+        → (x : ℕ) × (y : ℕ) × (x < length g.nodes) × (y < length g.nodes) × (is_indirectly_blocked k g x ≡ false) × (is_indirectly_blocked k g y ≡ false)
+        × (place_of stands x ≡ e) × (place_of stands y ≡ f) × (is_neighbour k g role x y ≡ true)
+    linked_to role e f related = elim (adds_rs.only role.id (turned_pair role.inverted e f)
+        ((relations role.id (turned_pair role.inverted e f)).0 (relates_pair i role e f related))) [
+          | inl none ↦ absurd (no_items role.id (turned_pair role.inverted e f) none)
+          | inr (j, edge, at, (a, b, from, to, pair)) ↦
+              (let ends = edge_ends (length g.nodes) g.edges j edge sound.ends at in
+              let above = role_above edge a b role.id (turned_pair role.inverted e f) pair in
+              let free_from = shown_free edge.from a ends.0 from in
+              let free_to = shown_free edge.to b ends.1 to in
+              elim (same_or_turned above.0 role above.2.0) [
+                | inl same ↦ (let is = pair_same role.inverted a b e f (sym (ap (λ (r : Role). turned_pair r.inverted a b) same) ∙ above.2.1) in (
+                  edge.from,
+                  edge.to,
+                  ends.0,
+                  ends.1,
+                  free_from,
+                  free_to,
+                  placed_at edge.from a from ∙ is.0,
+                  placed_at edge.to b to ∙ is.1,
+                  forth role j edge at (subst (λ r. is_below k edge.role r ≡ true) same above.1),
+                ))
+                | inr turned ↦ (let is = pair_turned role.inverted a b e f (sym (ap (λ (r : Role). turned_pair r.inverted a b) turned) ∙ above.2.1) in (
+                  edge.to,
+                  edge.from,
+                  ends.1,
+                  ends.0,
+                  free_to,
+                  free_from,
+                  placed_at edge.to b to ∙ is.1,
+                  placed_at edge.from a from ∙ is.0,
+                  back role j edge at (subst (λ r. is_below k edge.role r ≡ true) turned above.1),
+                ))
+              ])
+        ]
 
-    linked_from : (role : Role) (x y : ℕ) → is_indirectly_blocked k g x ≡ false → is_indirectly_blocked k g y ≡ false → is_neighbour k g role x y ≡ true → Relates i role (place_of stands x) (place_of stands y)
+    linked_from : (role : Role) (x y : ℕ) → is_indirectly_blocked k g x ≡ false → is_indirectly_blocked k g y ≡ false → is_neighbour k g role x y ≡ true
+        → Relates i role (place_of stands x) (place_of stands y)
     linked_from role x y free_x free_y near =
         let found = edge_found k role x y g.edges near in
         let edge = found.1 in
         let ends = edge_ends (length g.nodes) g.edges found.0 edge sound.ends found.2 in
-        elim (or_cases ((edge.from == x) && ((edge.to == y) && is_below k edge.role role)) ((edge.from == y) && ((edge.to == x) && is_below k (inverse edge.role) role)) found.3) [
+        elim (or_cases ((edge.from == x) && ((edge.to == y) && is_below k edge.role role))
+        ((edge.from == y) && ((edge.to == x) && is_below k (inverse edge.role) role)) found.3) [
           | inl go ↦ (let p = and_parts (edge.from == x) ((edge.to == y) && is_below k edge.role role) go in
               let q = and_parts (edge.to == y) (is_below k edge.role role) p.1 in
               let from_is = eqb-true edge.from x p.0 in
@@ -271,7 +303,8 @@ module _ (k : Theory) (lawful : IsLawful k) (g : Graph) (sound : IsSound k g) (o
               let to_is = eqb-true edge.to x q.0 in
               let sx = standing x (subst (λ n. n < length g.nodes) to_is ends.1) free_x in
               let sy = standing y (subst (λ n. n < length g.nodes) from_is ends.0) free_y in
-              let up : is_below k edge.role (inverse role) ≡ true = subst (λ r. is_below k r (inverse role) ≡ true) (inverse_twice edge.role) (lawful.inverses (inverse edge.role) role q.1) in
+              let up : is_below k edge.role (inverse role) ≡ true =
+              subst (λ r. is_below k r (inverse role) ≡ true) (inverse_twice edge.role) (lawful.inverses (inverse edge.role) role q.1) in
               shown role x y sx.0 sy.0 sx.2 sy.2 (
                 found.0,
                 edge,
@@ -286,7 +319,8 @@ module _ (k : Theory) (lawful : IsLawful k) (g : Graph) (sound : IsSound k g) (o
               ))
         ]
       where
-        shown : (role : Role) (x y a b : ℕ) → stand_of stands x ≡ Some a → stand_of stands y ≡ Some b → AreLinks k stands g.edges role.id (turned_pair role.inverted a b) → Relates i role (place_of stands x) (place_of stands y)
+        shown : (role : Role) (x y a b : ℕ) → stand_of stands x ≡ Some a → stand_of stands y ≡ Some b
+            → AreLinks k stands g.edges role.id (turned_pair role.inverted a b) → Relates i role (place_of stands x) (place_of stands y)
         shown role x y a b at_x at_y links =
             subst (λ e. Relates i role e (place_of stands y)) (sym (placed_at x a at_x))
             (subst (Relates i role a) (sym (placed_at y b at_y))
@@ -331,7 +365,8 @@ module _ (k : Theory) (lawful : IsLawful k) (g : Graph) (sound : IsSound k g) (o
       labelled = λ word x lt free has.
           let s = standing x lt free in
           (classes word (place_of stands x)).1
-          (adds_es.added word (place_of stands x) (s.0, s.1, s.3, zero_plus s.0 (place_of stands x) (placed_at x s.0 s.2), sym (labels_of x s.1 s.4 (Atomic word)) ∙ has));
+          (adds_es.added word (place_of stands x)
+          (s.0, s.1, s.3, zero_plus s.0 (place_of stands x) (placed_at x s.0 s.2), sym (labels_of x s.1 s.4 (Atomic word)) ∙ has));
       names = names;
       reached = λ e below.
           let lt : e < length owners = subst (λ n. e < n) size below in
@@ -350,11 +385,11 @@ module _ (k : Theory) (lawful : IsLawful k) (g : Graph) (sound : IsSound k g) (o
         own_root : (y z : ℕ) → is_anonymous k y ≡ false → StandsFor k g y z → z ≡ y
         own_root y z named h = elim h [
           | inl own ↦ sym own.1
-          | inr twin ↦ absurd (never (and_parts (is_anonymous k y) (has_twin k g y (ancestors g y) && not (blocks k g (ancestors g y))) twin.0).0 named)
+          | inr twin ↦ absurd (not_both (and_parts (is_anonymous k y) (has_twin k g y (ancestors g y) && not (blocks k g (ancestors g y))) twin.0).0 named)
         ]
 
         by_kind : (x y z : ℕ) → z ≡ y → is_anonymous k y ≡ false → StandsFor k g x z → x ≡ y
         by_kind x y z is named h = elim h [
           | inl own ↦ own.1 ∙ is
-          | inr twin ↦ absurd (never (subst (λ w. is_anonymous k w ≡ true) is twin.1.anonymous) named)
+          | inr twin ↦ absurd (not_both (subst (λ w. is_anonymous k w ≡ true) is twin.1.anonymous) named)
         ]

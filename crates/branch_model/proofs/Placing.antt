@@ -35,13 +35,18 @@ module _ (k : Theory) (g : Graph) (n : ℕ) (owners : List ℕ) (stands : List (
   count : (s : Option ℕ) → length (stands ++ s ∷ []) ≡ n + 1
   count s = length-append stands (s ∷ []) ∙ ap (λ m. m + 1) placed.all
 
-  owned_still : (s : Option ℕ) (e z : ℕ) → slice_get owners e ≡ Some z → (z < n + 1) × (is_blocked k g z ≡ false) × (slice_get (stands ++ s ∷ []) z ≡ Some (Some e))
+  owned_still : (s : Option ℕ) (e z : ℕ) → slice_get owners e ≡ Some z
+      → (z < n + 1) × (is_blocked k g z ≡ false) × (slice_get (stands ++ s ∷ []) z ≡ Some (Some e))
   owned_still s e z at = let o = placed.owned e z at in (omega (arith, o.0), o.1, old s z o.0 ∙ o.2)
 
   pub placed_hidden : is_indirectly_blocked k g n ≡ true → ArePlaced k g (n + 1) owners (stands ++ None ∷ [])
   placed_hidden blocked = record {
     all = count None;
-    hidden = λ x lt h. elim (below_or_at x n lt) [ inl below ↦ old None x below ∙ placed.hidden x below h | inr at ↦ subst (λ y. slice_get (stands ++ None ∷ []) y ≡ Some None) (sym at) (new None) ];
+    hidden = λ x lt h. elim (below_or_at x n lt) [
+      | inl below ↦ old None x below ∙ placed.hidden x below h
+      | inr at ↦
+          subst (λ y. slice_get (stands ++ None ∷ []) y ≡ Some None) (sym at) (new None)
+    ];
     shown = λ x lt free. elim (below_or_at x n lt) [
       | inl below ↦ (let s = placed.shown x below free in (s.0, s.1, old None x below ∙ s.2, s.3, s.4))
       | inr at ↦ absurd (both blocked (subst (λ y. is_indirectly_blocked k g y ≡ false) at free))
@@ -52,13 +57,19 @@ module _ (k : Theory) (g : Graph) (n : ℕ) (owners : List ℕ) (stands : List (
       both : {b : Bool} → b ≡ true → b ≡ false → ⊥
       both t f = cc
 
-  pub placed_twin : (z : ℕ) (s : Option ℕ) → is_directly_blocked k g n ≡ true → IsTwin k g n z → slice_get stands z ≡ Some s → ArePlaced k g (n + 1) owners (stands ++ s ∷ [])
+  pub placed_twin : (z : ℕ) (s : Option ℕ) → is_directly_blocked k g n ≡ true → IsTwin k g n z → slice_get stands z ≡ Some s
+      → ArePlaced k g (n + 1) owners (stands ++ s ∷ [])
   placed_twin z s blocked twin at_z = record {
     all = count s;
-    hidden = λ x lt h. elim (below_or_at x n lt) [ inl below ↦ old s x below ∙ placed.hidden x below h | inr at ↦ absurd (both (subst (λ y. is_indirectly_blocked k g y ≡ true) at h) (directly_parts k g n blocked).1.1) ];
+    hidden = λ x lt h. elim (below_or_at x n lt) [
+      | inl below ↦ old s x below ∙ placed.hidden x below h
+      | inr at ↦
+          absurd (both (subst (λ y. is_indirectly_blocked k g y ≡ true) at h) (directly_parts k g n blocked).1.1)
+    ];
     shown = λ x lt free. elim (below_or_at x n lt) [
       | inl below ↦ (let t = placed.shown x below free in (t.0, t.1, old s x below ∙ t.2, t.3, t.4))
-      | inr at ↦ subst (λ y. (e : ℕ) × (w : ℕ) × (slice_get (stands ++ s ∷ []) y ≡ Some (Some e)) × (slice_get owners e ≡ Some w) × StandsFor k g y w) (sym at) here
+      | inr at ↦ subst (λ y. (e : ℕ) × (w : ℕ) × (slice_get (stands ++ s ∷ []) y ≡ Some (Some e)) × (slice_get owners e ≡ Some w) × StandsFor k g y w) (sym at)
+          here
     ];
     owned = owned_still s;
   }
@@ -82,18 +93,30 @@ module _ (k : Theory) (g : Graph) (n : ℕ) (owners : List ℕ) (stands : List (
           by_kind : (w : ℕ) → StandsFor k g z w → z ≡ w
           by_kind w h = elim h [
             | inl own ↦ own.1
-            | inr other ↦ absurd (both other.0 (Rattle.std.proofs.lemmas.Bool.or_parts (is_directly_blocked k g z) (is_indirectly_blocked k g z) twin.unblocked).0)
+            | inr other ↦ absurd (both other.0
+                (Rattle.std.proofs.lemmas.Bool.or_parts (is_directly_blocked k g z) (is_indirectly_blocked k g z) twin.unblocked).0)
           ]
 
-  pub placed_own : is_directly_blocked k g n ≡ false → is_indirectly_blocked k g n ≡ false → ArePlaced k g (n + 1) (owners ++ n ∷ []) (stands ++ Some (length owners) ∷ [])
+  pub placed_own : is_directly_blocked k g n ≡ false → is_indirectly_blocked k g n ≡ false
+      → ArePlaced k g (n + 1) (owners ++ n ∷ []) (stands ++ Some (length owners) ∷ [])
   placed_own direct free_n = record {
     all = count (Some (length owners));
-    hidden = λ x lt h. elim (below_or_at x n lt) [ inl below ↦ old (Some (length owners)) x below ∙ placed.hidden x below h | inr at ↦ absurd (both (subst (λ y. is_indirectly_blocked k g y ≡ true) at h) free_n) ];
+    hidden = λ x lt h. elim (below_or_at x n lt) [
+      | inl below ↦ old (Some (length owners)) x below ∙ placed.hidden x below h
+      | inr at ↦
+          absurd (both (subst (λ y. is_indirectly_blocked k g y ≡ true) at h) free_n)
+    ];
     shown = λ x lt free. elim (below_or_at x n lt) [
       | inl below ↦ (let t = placed.shown x below free in
           (t.0, t.1, old (Some (length owners)) x below ∙ t.2, get_push_old owners n t.0 (slice_get_within owners t.0 t.1 t.3) ∙ t.3, t.4))
-      | inr at ↦ subst (λ y. (e : ℕ) × (w : ℕ) × (slice_get (stands ++ Some (length owners) ∷ []) y ≡ Some (Some e)) × (slice_get (owners ++ n ∷ []) e ≡ Some w) × StandsFor k g y w) (sym at)
-          (length owners, n, new (Some (length owners)), get_push_new owners n, inl (or_from (is_directly_blocked k g n) (is_indirectly_blocked k g n) direct free_n, refl))
+      | inr at ↦ subst (λ y. (e : ℕ) × (w : ℕ) × (slice_get (stands ++ Some (length owners) ∷ []) y ≡ Some (Some e)) × (slice_get (owners ++ n ∷ []) e ≡ Some w)
+          × StandsFor k g y w) (sym at) (
+            length owners,
+            n,
+            new (Some (length owners)),
+            get_push_new owners n,
+            inl (or_from (is_directly_blocked k g n) (is_indirectly_blocked k g n) direct free_n, refl),
+          )
     ];
     owned = λ e z at. elim (cases_lt e (length owners)) [
       | inl below ↦ owned_still (Some (length owners)) e z (sym (get_push_old owners n e below) ∙ at)

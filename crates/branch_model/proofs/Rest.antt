@@ -1,39 +1,27 @@
 -- What a branch has where no step applies and no clash is there.
-use Rattle.std.proofs.Common.{◌≡◌, ℕ, zero, suc, ◌+◌, ◌<◌, ◌≤◌, ◌==◌, ◌&&◌, ◌||◌, Bool, true, false, List, [], ◌∷◌, map, length, Option, Some, None, slice_get, refl, sym, ap, ◌∙◌, subst, inl, inr, arith}
-use Rattle.std.specs.Prelude.{not, ◌⊎◌, if◌then◌else◌, filter}
+use Rattle.std.proofs.Common.{◌≡◌, ℕ, zero, suc, ◌+◌, ◌<◌, ◌≤◌, ◌==◌, ◌&&◌, ◌||◌, Bool, true, false, List, [], ◌∷◌, length, Option, Some, None, refl, sym, ap, ◌∙◌, inl, inr, arith}
+use Rattle.std.specs.Prelude.{not, ◌⊎◌, if◌then◌else◌}
 use Rattle.std.specs.List.{list_any, list_all}
-use Rattle.std.specs.Option.{option_map, option_map_or, option_and_then, option_or}
-use Rattle.std.proofs.lemmas.Bool.{cases_Bool, cases_eq, and_parts, and_from, and_cases, or_cases, or_parts, or_left, or_right, not-false, not-true, cond-false, eq-eqb}
+use Rattle.std.specs.Option.{option_map, option_and_then, option_or}
+use Rattle.std.proofs.lemmas.Bool.{cases_eq, and_parts, and_from, and_cases, or_cases, or_parts, or_left, or_right, not-false, not-true, cond-false}
 use Rattle.wiki_base.specs.declared.numbers.WordId.{WordId}
+use Rattle.wiki_base.proofs.OptionLaws.{option_or-first_none, option_or-second_none, option_map-none}
 use Rattle.logic_terms.specs.declared.expressions.Role.{Role}
-use Rattle.logic_terms.specs.Concept.{Concept, Concepts, Everything, Atomic, ComplementOf, IntersectionOf, UnionOf, SomeValuesFrom, AllValuesFrom, HasValue, no_concept, also_concept}
+use Rattle.logic_terms.specs.Concept.{Concept, Concepts, Everything, Atomic, ComplementOf, IntersectionOf, UnionOf, SomeValuesFrom, AllValuesFrom, HasValue}
 use Rattle.logic_terms.specs.Meaning.{some_below}
 use Rattle.logic_terms.specs.Parts.{members_in}
 use Rattle.logic_terms.specs.Same.{same_concept, has_concept}
-use Rattle.logic_terms.specs.Theory.{Theory, representative}
+use Rattle.logic_terms.specs.Theory.{Theory}
 use Rattle.tableau_rules.specs.declared.step.Rule.{Rule}
 use Rattle.tableau_rules.specs.declared.step.Rule.TheVariants as rule
 use Rattle.tableau_rules.specs.declared.step.Step.{Step}
 use Rattle.tableau_rules.specs.First.{first_below, where_true}
-use Rattle.tableau_rules.specs.Graph.{Graph, label_at, class_at}
+use Rattle.tableau_rules.specs.Graph.{Graph, label_at}
 use Rattle.tableau_rules.specs.Neighbours.{node_of, is_neighbour}
 use Rattle.tableau_rules.specs.Blocking.{is_blocked, is_indirectly_blocked}
 use Rattle.tableau_rules.specs.Rules.{lacks_some, lacks_all, unfoldings_of, serves, needs, row, site, site_at, first_at, first_by, first_step}
 use Rattle.tableau_rules.specs.Clashes.{passes, are_joined, clashes_at, has_clash}
-use Rattle.branch_model.proofs.Same.{place_of, each_has, concept_refl}
-
--- of two options neither is there
-left_none : {X : Type 0} (a b : Option X) → option_or a b ≡ None → a ≡ None
-left_none None b h = refl
-left_none (Some x) b h = cc
-
-right_none : {X : Type 0} (a b : Option X) → option_or a b ≡ None → b ≡ None
-right_none None b h = h
-right_none (Some x) b h = cc
-
-map_none : {X Y : Type 0} (f : X → Y) (o : Option X) → option_map f o ≡ None → o ≡ None
-map_none f None h = refl
-map_none f (Some x) h = cc
+use Rattle.branch_model.proofs.Same.{place_of, each_has}
 
 where_none : {X : Type 0} (test : Bool) (x : X) → where_true test x ≡ None → test ≡ false
 where_none true x h = cc
@@ -42,8 +30,8 @@ where_none false x h = refl
 first_none : {X : Type 0} (n : ℕ) (f : ℕ → Option X) → first_below n f ≡ None → (m : ℕ) → m < n → f m ≡ None
 first_none zero f h m lt = absurd (omega arith)
 first_none (suc n) f h m lt = elim (cases_eq m n) [
-  | inl same ↦ ap f same ∙ right_none (first_below n f) (f n) h
-  | inr other ↦ first_none n f (left_none (first_below n f) (f n) h) m (omega arith)
+  | inl same ↦ ap f same ∙ option_or-second_none (first_below n f) (f n) h
+  | inr other ↦ first_none n f (option_or-first_none (first_below n f) (f n) h) m (omega arith)
 ]
 
 none_below : (n : ℕ) (test : ℕ → Bool) → some_below n test ≡ false → (m : ℕ) → m < n → test m ≡ false
@@ -78,24 +66,42 @@ one_there label (c ∷ cs) h = elim (and_cases (not (has_concept label c)) (lack
 
 module _ (k : Theory) (g : Graph) (done : first_step k g ≡ None) where
   no_first : (r : Rule) → first_by k g r ≡ None
-  no_first rule.And = left_none (first_by k g rule.And) rest1 done
+  no_first rule.And = option_or-first_none (first_by k g rule.And) rest1 done
     where
       rest1 : Option Step
-      rest1 = option_or (first_by k g rule.Unfold) (option_or (first_by k g rule.All) (option_or (first_by k g rule.Value) (option_or (first_by k g rule.Unit) (option_or (first_by k g rule.Or) (first_by k g rule.Some)))))
-  no_first rule.Unfold = left_none (first_by k g rule.Unfold) _ (right_none (first_by k g rule.And) _ done)
-  no_first rule.All = left_none (first_by k g rule.All) _ (right_none (first_by k g rule.Unfold) _ (right_none (first_by k g rule.And) _ done))
-  no_first rule.Value = left_none (first_by k g rule.Value) _ (right_none (first_by k g rule.All) _ (right_none (first_by k g rule.Unfold) _ (right_none (first_by k g rule.And) _ done)))
-  no_first rule.Unit = left_none (first_by k g rule.Unit) _ (right_none (first_by k g rule.Value) _ (right_none (first_by k g rule.All) _ (right_none (first_by k g rule.Unfold) _ (right_none (first_by k g rule.And) _ done))))
-  no_first rule.Or = left_none (first_by k g rule.Or) _ (right_none (first_by k g rule.Unit) _ (right_none (first_by k g rule.Value) _ (right_none (first_by k g rule.All) _ (right_none (first_by k g rule.Unfold) _ (right_none (first_by k g rule.And) _ done)))))
-  no_first rule.Some = right_none (first_by k g rule.Or) _ (right_none (first_by k g rule.Unit) _ (right_none (first_by k g rule.Value) _ (right_none (first_by k g rule.All) _ (right_none (first_by k g rule.Unfold) _ (right_none (first_by k g rule.And) _ done)))))
+      rest1 = option_or (first_by k g rule.Unfold)
+          (option_or (first_by k g rule.All)
+          (option_or (first_by k g rule.Value) (option_or (first_by k g rule.Unit) (option_or (first_by k g rule.Or) (first_by k g rule.Some)))))
+  no_first rule.Unfold = option_or-first_none (first_by k g rule.Unfold) _ (option_or-second_none (first_by k g rule.And) _ done)
+  no_first rule.All = option_or-first_none (first_by k g rule.All) _
+      (option_or-second_none (first_by k g rule.Unfold) _ (option_or-second_none (first_by k g rule.And) _ done))
+  no_first rule.Value = option_or-first_none (first_by k g rule.Value) _
+      (option_or-second_none (first_by k g rule.All) _
+      (option_or-second_none (first_by k g rule.Unfold) _ (option_or-second_none (first_by k g rule.And) _ done)))
+  no_first rule.Unit = option_or-first_none (first_by k g rule.Unit) _
+      (option_or-second_none (first_by k g rule.Value) _
+      (option_or-second_none (first_by k g rule.All) _
+      (option_or-second_none (first_by k g rule.Unfold) _ (option_or-second_none (first_by k g rule.And) _ done))))
+  no_first rule.Or = option_or-first_none (first_by k g rule.Or) _
+      (option_or-second_none (first_by k g rule.Unit) _
+      (option_or-second_none (first_by k g rule.Value) _
+      (option_or-second_none (first_by k g rule.All) _
+      (option_or-second_none (first_by k g rule.Unfold) _ (option_or-second_none (first_by k g rule.And) _ done)))))
+  no_first rule.Some = option_or-second_none (first_by k g rule.Or) _
+      (option_or-second_none (first_by k g rule.Unit) _
+      (option_or-second_none (first_by k g rule.Value) _
+      (option_or-second_none (first_by k g rule.All) _
+      (option_or-second_none (first_by k g rule.Unfold) _ (option_or-second_none (first_by k g rule.And) _ done)))))
 
   -- no rule has a row for a class of the label of a node that is not indirectly blocked
-  no_row : (r : Rule) (x : ℕ) (c : Concept) → x < length g.nodes → is_indirectly_blocked k g x ≡ false → has_concept (label_at g x) c ≡ true → row k g r x c ≡ None
+  no_row : (r : Rule) (x : ℕ) (c : Concept) → x < length g.nodes → is_indirectly_blocked k g x ≡ false → has_concept (label_at g x) c ≡ true
+      → row k g r x c ≡ None
   no_row r x c lt free has =
       let at = place_of (label_at g x) c has in
       let here = first_none (length g.nodes) (first_at k g r) (no_first r) x lt in
-      let site_none = map_none (λ y. record { rule = r; node = x; class = at.0; other = y }) (site_at k g r x at.0)
-      (first_none (length (label_at g x)) (λ place. option_map (λ y. record { rule = r; node = x; class = place; other = y }) (site_at k g r x place)) here at.0 at.1) in
+      let site_none = option_map-none (λ y. record { rule = r; node = x; class = at.0; other = y }) (site_at k g r x at.0)
+      (first_none (length (label_at g x)) (λ place. option_map (λ y. record { rule = r; node = x; class = place; other = y }) (site_at k g r x place)) here at.0
+      at.1) in
       sym (cond-false (is_indirectly_blocked k g x) None (row k g r x c) free)
       ∙ sym (ap (λ o. option_and_then (site k g r x) o) at.2) ∙ site_none
 
@@ -106,15 +112,18 @@ module _ (k : Theory) (g : Graph) (done : first_step k g ≡ None) where
 
     pub unfold_done : (word : WordId) → has_concept (label_at g x) (Atomic word) ≡ true → list_all (has_concept (label_at g x)) (unfoldings_of k word) ≡ true
     unfold_done word has =
-        each_there (label_at g x) (unfoldings_of k word) (where_none (lacks_some (label_at g x) (unfoldings_of k word)) 0 (no_row rule.Unfold x (Atomic word) lt free has))
+        each_there (label_at g x) (unfoldings_of k word)
+        (where_none (lacks_some (label_at g x) (unfoldings_of k word)) 0 (no_row rule.Unfold x (Atomic word) lt free has))
 
     pub or_done : (cs : Concepts) → has_concept (label_at g x) (UnionOf cs) ≡ true → list_any (has_concept (label_at g x)) (members_in cs) ≡ true
     or_done cs has =
         one_there (label_at g x) (members_in cs) (where_none (lacks_all (label_at g x) (members_in cs)) 0 (no_row rule.Or x (UnionOf cs) lt free has))
 
-    pub all_done : (role : Role) (c : Concept) → has_concept (label_at g x) (AllValuesFrom role c) ≡ true → (y : ℕ) → y < length g.nodes → is_neighbour k g role x y ≡ true → is_indirectly_blocked k g y ≡ false → has_concept (label_at g y) c ≡ true
+    pub all_done : (role : Role) (c : Concept) → has_concept (label_at g x) (AllValuesFrom role c) ≡ true → (y : ℕ) → y < length g.nodes
+        → is_neighbour k g role x y ≡ true → is_indirectly_blocked k g y ≡ false → has_concept (label_at g y) c ≡ true
     all_done role c has y below near clear =
-        let none = where_none (needs k g role c x y) y (first_none (length g.nodes) (λ y. where_true (needs k g role c x y) y) (no_row rule.All x (AllValuesFrom role c) lt free has) y below) in
+        let none = where_none (needs k g role c x y) y
+        (first_none (length g.nodes) (λ y. where_true (needs k g role c x y) y) (no_row rule.All x (AllValuesFrom role c) lt free has) y below) in
         elim (and_cases (is_neighbour k g role x y) (not (is_indirectly_blocked k g y) && not (has_concept (label_at g y) c)) none) [
           | inl far ↦ absurd (both near far)
           | inr rest ↦ elim (and_cases (not (is_indirectly_blocked k g y)) (not (has_concept (label_at g y) c)) rest) [
@@ -126,10 +135,12 @@ module _ (k : Theory) (g : Graph) (done : first_step k g ≡ None) where
         both : {b : Bool} → b ≡ true → b ≡ false → ⊥
         both t f = cc
 
-    pub value_done : (role : Role) (name : WordId) (y : ℕ) → has_concept (label_at g x) (HasValue role name) ≡ true → is_blocked k g x ≡ false → node_of k name ≡ Some y → is_neighbour k g role x y ≡ true
+    pub value_done : (role : Role) (name : WordId) (y : ℕ) → has_concept (label_at g x) (HasValue role name) ≡ true → is_blocked k g x ≡ false
+        → node_of k name ≡ Some y → is_neighbour k g role x y ≡ true
     value_done role name y has clear node =
         let none = where_none (not (is_blocked k g x) && not (is_neighbour k g role x y)) 0
-        (sym (ap (λ o. option_and_then (λ y. where_true (not (is_blocked k g x) && not (is_neighbour k g role x y)) 0) o) node) ∙ no_row rule.Value x (HasValue role name) lt free has) in
+        (sym (ap (λ o. option_and_then (λ y. where_true (not (is_blocked k g x) && not (is_neighbour k g role x y)) 0) o) node)
+        ∙ no_row rule.Value x (HasValue role name) lt free has) in
         elim (and_cases (not (is_blocked k g x)) (not (is_neighbour k g role x y)) none) [
           | inl blocked ↦ (let t : is_blocked k g x ≡ true = not-false (is_blocked k g x) blocked in absurd (both t clear))
           | inr near ↦ not-false (is_neighbour k g role x y) near
@@ -138,9 +149,11 @@ module _ (k : Theory) (g : Graph) (done : first_step k g ≡ None) where
         both : {b : Bool} → b ≡ true → b ≡ false → ⊥
         both t f = cc
 
-    pub some_done : (role : Role) (c : Concept) → has_concept (label_at g x) (SomeValuesFrom role c) ≡ true → is_blocked k g x ≡ false → (y : ℕ) × (y < length g.nodes) × (is_neighbour k g role x y ≡ true) × (is_indirectly_blocked k g y ≡ false) × (has_concept (label_at g y) c ≡ true)
+    pub some_done : (role : Role) (c : Concept) → has_concept (label_at g x) (SomeValuesFrom role c) ≡ true → is_blocked k g x ≡ false
+        → (y : ℕ) × (y < length g.nodes) × (is_neighbour k g role x y ≡ true) × (is_indirectly_blocked k g y ≡ false) × (has_concept (label_at g y) c ≡ true)
     some_done role c has clear =
-        let none = where_none (not (is_blocked k g x) && not (some_below (length g.nodes) (serves k g role c x))) 0 (no_row rule.Some x (SomeValuesFrom role c) lt free has) in
+        let none = where_none (not (is_blocked k g x) && not (some_below (length g.nodes) (serves k g role c x))) 0
+        (no_row rule.Some x (SomeValuesFrom role c) lt free has) in
         elim (and_cases (not (is_blocked k g x)) (not (some_below (length g.nodes) (serves k g role c x))) none) [
           | inl blocked ↦ (let t : is_blocked k g x ≡ true = not-false (is_blocked k g x) blocked in absurd (both t clear))
           | inr there ↦ (let found = some_found (length g.nodes) (serves k g role c x) (not-false (some_below (length g.nodes) (serves k g role c x)) there) in
@@ -154,31 +167,39 @@ module _ (k : Theory) (g : Graph) (done : first_step k g ≡ None) where
 
 module _ (k : Theory) (g : Graph) (calm : has_clash k g ≡ false) where
   none_joined : list_any (λ d. are_joined k d.0 d.1) k.differences ≡ false
-  none_joined = (or_parts (list_any (λ d. are_joined k d.0 d.1) k.differences) (some_below (length g.nodes) (λ x. list_any (clashes_at k g x) (label_at g x))) calm).0
+  none_joined = (or_parts (list_any (λ d. are_joined k d.0 d.1) k.differences) (some_below (length g.nodes) (λ x. list_any (clashes_at k g x) (label_at g x)))
+      calm).0
 
   pub differ : (d : WordId × WordId) → Rattle.std.proofs.Common.Contains k.differences d → are_joined k d.0 d.1 ≡ false
   differ d h = go k.differences none_joined h
     where
-      go : (ds : List (WordId × WordId)) → list_any (λ d. are_joined k d.0 d.1) ds ≡ false → Rattle.std.proofs.Common.Contains ds d → are_joined k d.0 d.1 ≡ false
+      go : (ds : List (WordId × WordId)) → list_any (λ d. are_joined k d.0 d.1) ds ≡ false → Rattle.std.proofs.Common.Contains ds d
+          → are_joined k d.0 d.1 ≡ false
       go [] none (j, lt, at) = absurd (omega arith)
-      go (e ∷ ds) none (zero, lt, at) = ap (λ q. are_joined k q.0 q.1) (sym at) ∙ (or_parts (are_joined k e.0 e.1) (list_any (λ d. are_joined k d.0 d.1) ds) none).0
+      go (e ∷ ds) none (zero, lt, at) = ap (λ q. are_joined k q.0 q.1) (sym at)
+          ∙ (or_parts (are_joined k e.0 e.1) (list_any (λ d. are_joined k d.0 d.1) ds) none).0
       go (e ∷ ds) none (suc j, lt, at) = go ds (or_parts (are_joined k e.0 e.1) (list_any (λ d. are_joined k d.0 d.1) ds) none).1 (j, omega arith, at)
 
   no_clash_at : (x : ℕ) (c : Concept) → x < length g.nodes → has_concept (label_at g x) c ≡ true → clashes_at k g x c ≡ false
   no_clash_at x c lt has =
-      let none = none_below (length g.nodes) (λ x. list_any (clashes_at k g x) (label_at g x)) (or_parts (list_any (λ d. are_joined k d.0 d.1) k.differences) (some_below (length g.nodes) (λ x. list_any (clashes_at k g x) (label_at g x))) calm).1 x lt in
+      let none = none_below (length g.nodes) (λ x. list_any (clashes_at k g x) (label_at g x))
+      (or_parts (list_any (λ d. are_joined k d.0 d.1) k.differences) (some_below (length g.nodes) (λ x. list_any (clashes_at k g x) (label_at g x))) calm).1
+      x lt in
       not-true (clashes_at k g x c) (each_has (λ d. not (clashes_at k g x d)) (label_at g x) c (none_all (label_at g x) none) has)
     where
       none_all : (cs : List Concept) → list_any (clashes_at k g x) cs ≡ false → list_all (λ d. not (clashes_at k g x d)) cs ≡ true
       none_all [] h = refl
       none_all (d ∷ cs) h =
           let two = or_parts (clashes_at k g x d) (list_any (clashes_at k g x) cs) h in
-          and_from (not (clashes_at k g x d)) (list_all (λ d. not (clashes_at k g x d)) cs) (Rattle.std.proofs.lemmas.Bool.not_from_false (clashes_at k g x d) two.0) (none_all cs two.1)
+          and_from (not (clashes_at k g x d)) (list_all (λ d. not (clashes_at k g x d)) cs)
+          (Rattle.std.proofs.lemmas.Bool.not_from_false (clashes_at k g x d) two.0) (none_all cs two.1)
 
   module _ (x : ℕ) (lt : x < length g.nodes) where
     pub no_pair : (word : WordId) → has_concept (label_at g x) (Atomic word) ≡ true → has_concept (label_at g x) (ComplementOf (Atomic word)) ≡ true → ⊥
     no_pair word has denied =
-        let f : has_concept (label_at g x) (ComplementOf (Atomic word)) ≡ false = (or_parts (has_concept (label_at g x) (ComplementOf (Atomic word))) (same_concept (Atomic word) (ComplementOf Everything) || false) (no_clash_at x (Atomic word) lt has)).0 in
+        let f : has_concept (label_at g x) (ComplementOf (Atomic word)) ≡ false =
+        (or_parts (has_concept (label_at g x) (ComplementOf (Atomic word))) (same_concept (Atomic word) (ComplementOf Everything) || false)
+        (no_clash_at x (Atomic word) lt has)).0 in
         cc
 
     pub no_nothing : has_concept (label_at g x) (ComplementOf Everything) ≡ true → ⊥
@@ -187,7 +208,8 @@ module _ (k : Theory) (g : Graph) (calm : has_clash k g ≡ false) where
         let t : clashes_at k g x (ComplementOf Everything) ≡ true = refl in
         cc
 
-    pub no_value : (role : Role) (name : WordId) (y : ℕ) → has_concept (label_at g x) (ComplementOf (HasValue role name)) ≡ true → node_of k name ≡ Some y → is_neighbour k g role x y ≡ false
+    pub no_value : (role : Role) (name : WordId) (y : ℕ) → has_concept (label_at g x) (ComplementOf (HasValue role name)) ≡ true → node_of k name ≡ Some y
+        → is_neighbour k g role x y ≡ false
     no_value role name y has node =
         sym (ap (λ o. passes o (is_neighbour k g role x)) node)
         ∙ no_clash_at x (ComplementOf (HasValue role name)) lt has

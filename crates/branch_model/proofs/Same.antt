@@ -1,20 +1,13 @@
 -- Classes that are written alike are one, and labels with the same classes have each class of each other.
-use Rattle.std.proofs.Common.{◌≡◌, ℕ, zero, suc, ◌<◌, ◌&&◌, ◌||◌, Bool, true, false, List, [], ◌∷◌, ◌++◌, length, Some, slice_get, refl, sym, ap, ◌∙◌, subst, inl, inr, arith}
-use Rattle.std.specs.Prelude.{not, ◌⊎◌}
-use Rattle.std.specs.List.{list_any, list_all}
-use Rattle.std.proofs.lemmas.Bool.{and_parts, and_from, or_cases, or_left, or_right, eqb-true, eq-eqb}
-use Rattle.wiki_base.specs.declared.numbers.WordId.{WordId}
-use Rattle.logic_terms.specs.declared.expressions.Role.{Role}
+use Rattle.std.proofs.Common.{◌≡◌, ℕ, zero, suc, ◌<◌, ◌&&◌, ◌||◌, Bool, true, false, List, [], ◌∷◌, ◌++◌, length, Some, slice_get, refl, sym, ap, ◌∙◌, inl, inr, arith}
+use Rattle.std.specs.Prelude.{◌⊎◌}
+use Rattle.std.specs.List.{list_all}
+use Rattle.std.proofs.lemmas.Bool.{and_parts, and_from, or_cases, or_left, or_right}
+use Rattle.logic_terms.proofs.SameLemmas.{word_equal, same_word, role_equal, same_role-self}
 use Rattle.logic_terms.specs.Interpretation.{is_word}
 use Rattle.logic_terms.specs.Concept.{Concept, Concepts, Everything, Atomic, ComplementOf, IntersectionOf, UnionOf, SomeValuesFrom, AllValuesFrom, HasValue, no_concept, also_concept}
 use Rattle.logic_terms.specs.Same.{same_direction, same_role, same_concept, same_concepts, has_concept}
 use Rattle.tableau_rules.specs.Blocking.{same_classes}
-
-word_true : (v w : WordId) → is_word v w ≡ true → v ≡ w
-word_true v w h = λ j. record { 0 = eqb-true v.0 w.0 h j }
-
-word_refl : (w : WordId) → is_word w w ≡ true
-word_refl w = eq-eqb w.0 w.0 refl
 
 direction_true : (a b : Bool) → same_direction a b ≡ true → a ≡ b
 direction_true true true h = refl
@@ -26,27 +19,19 @@ direction_refl : (a : Bool) → same_direction a a ≡ true
 direction_refl true = refl
 direction_refl false = refl
 
-pub role_true : (r s : Role) → same_role r s ≡ true → r ≡ s
-role_true r s h =
-    let p = and_parts (is_word r.id s.id) (same_direction r.inverted s.inverted) h in
-    λ j. record { id = word_true r.id s.id p.0 j; inverted = direction_true r.inverted s.inverted p.1 j }
-
-pub role_refl : (r : Role) → same_role r r ≡ true
-role_refl r = and_from (is_word r.id r.id) (same_direction r.inverted r.inverted) (word_refl r.id) (direction_refl r.inverted)
-
 mutual
   pub concept_true : (c d : Concept) → same_concept c d ≡ true → c ≡ d
   concept_true Everything Everything h = refl
-  concept_true (Atomic v) (Atomic w) h = ap Atomic (word_true v w h)
+  concept_true (Atomic v) (Atomic w) h = ap Atomic (word_equal v w h)
   concept_true (ComplementOf c) (ComplementOf d) h = ap ComplementOf (concept_true c d h)
   concept_true (IntersectionOf cs) (IntersectionOf ds) h = ap IntersectionOf (concepts_true cs ds h)
   concept_true (UnionOf cs) (UnionOf ds) h = ap UnionOf (concepts_true cs ds h)
   concept_true (SomeValuesFrom r c) (SomeValuesFrom s d) h =
-      let p = and_parts (same_role r s) (same_concept c d) h in λ j. SomeValuesFrom (role_true r s p.0 j) (concept_true c d p.1 j)
+      let p = and_parts (same_role r s) (same_concept c d) h in λ j. SomeValuesFrom (role_equal r s p.0 j) (concept_true c d p.1 j)
   concept_true (AllValuesFrom r c) (AllValuesFrom s d) h =
-      let p = and_parts (same_role r s) (same_concept c d) h in λ j. AllValuesFrom (role_true r s p.0 j) (concept_true c d p.1 j)
+      let p = and_parts (same_role r s) (same_concept c d) h in λ j. AllValuesFrom (role_equal r s p.0 j) (concept_true c d p.1 j)
   concept_true (HasValue r a) (HasValue s b) h =
-      let p = and_parts (same_role r s) (is_word a b) h in λ j. HasValue (role_true r s p.0 j) (word_true a b p.1 j)
+      let p = and_parts (same_role r s) (is_word a b) h in λ j. HasValue (role_equal r s p.0 j) (word_equal a b p.1 j)
   concept_true _ _ h = cc
 
   concepts_true : (cs ds : Concepts) → same_concepts cs ds ≡ true → cs ≡ ds
@@ -58,13 +43,13 @@ mutual
 mutual
   pub concept_refl : (c : Concept) → same_concept c c ≡ true
   concept_refl Everything = refl
-  concept_refl (Atomic w) = word_refl w
+  concept_refl (Atomic w) = same_word w
   concept_refl (ComplementOf c) = concept_refl c
   concept_refl (IntersectionOf cs) = concepts_refl cs
   concept_refl (UnionOf cs) = concepts_refl cs
-  concept_refl (SomeValuesFrom r c) = and_from (same_role r r) (same_concept c c) (role_refl r) (concept_refl c)
-  concept_refl (AllValuesFrom r c) = and_from (same_role r r) (same_concept c c) (role_refl r) (concept_refl c)
-  concept_refl (HasValue r a) = and_from (same_role r r) (is_word a a) (role_refl r) (word_refl a)
+  concept_refl (SomeValuesFrom r c) = and_from (same_role r r) (same_concept c c) (same_role-self r) (concept_refl c)
+  concept_refl (AllValuesFrom r c) = and_from (same_role r r) (same_concept c c) (same_role-self r) (concept_refl c)
+  concept_refl (HasValue r a) = and_from (same_role r r) (is_word a a) (same_role-self r) (same_word a)
 
   concepts_refl : (cs : Concepts) → same_concepts cs cs ≡ true
   concepts_refl no_concept = refl

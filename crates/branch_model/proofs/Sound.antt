@@ -1,20 +1,19 @@
 -- What every branch of lawful knowledge keeps.
-use Rattle.std.proofs.Common.{◌≡◌, ℕ, zero, suc, ◌+◌, ◌<◌, ◌≤◌, ◌==◌, ◌&&◌, ◌||◌, Bool, true, false, List, [], ◌∷◌, ◌++◌, map, length, set, All, Contains, Option, Some, None, slice_get, refl, sym, ap, ◌∙◌, subst, inl, inr, arith, length-append, length-set}
+use Rattle.std.proofs.Common.{◌≡◌, ℕ, zero, suc, ◌+◌, ◌<◌, ◌≤◌, ◌==◌, ◌&&◌, ◌||◌, Bool, true, false, List, [], ◌∷◌, ◌++◌, map, length, set, All, Option, Some, None, slice_get, refl, sym, ap, ◌∙◌, subst, inl, inr, arith, length-append, length-set}
 use Rattle.std.specs.Prelude.{◌⊎◌, filter, not, nat_lt, if◌then◌else◌}
 use Rattle.std.specs.List.{list_any, list_all}
 use Rattle.std.specs.Option.{option_map_or, option_and_then, option_to_list, option_or}
-use Rattle.std.proofs.lemmas.Bool.{cases_eq, cases_lt, cases_Bool, and_parts, and_from, or_cases, or_left, or_right, eqb-true}
-use Rattle.std.proofs.lemmas.Option.{slice_get_within, slice_get_past}
+use Rattle.std.proofs.lemmas.Bool.{cases_eq, cases_lt, and_parts, and_from, or_left, or_right, ltb-true, lt-ltb}
+use Rattle.std.proofs.lemmas.Option.{slice_get_past}
 use Rattle.std.proofs.lemmas.List.Folds.{list_any-append, list_all-append}
-use Rattle.std.proofs.lemmas.List.Elements.{All-push, All-weaker}
 use Rattle.wiki_base.specs.declared.numbers.WordId.{WordId}
 use Rattle.logic_terms.specs.declared.expressions.Role.{Role}
-use Rattle.logic_terms.specs.Concept.{Concept, Concepts, Everything, Atomic, ComplementOf, IntersectionOf, UnionOf, SomeValuesFrom, AllValuesFrom, HasValue, no_concept, also_concept}
+use Rattle.logic_terms.specs.Concept.{Concept, Concepts, IntersectionOf, UnionOf, SomeValuesFrom, AllValuesFrom, no_concept, also_concept}
 use Rattle.logic_terms.specs.Complement.{complement, is_normal, each_normal}
 use Rattle.logic_terms.specs.Interpretation.{is_word}
 use Rattle.logic_terms.specs.Parts.{members_in, word_part, intersection_part, union_part, some_part, all_part, value_part}
 use Rattle.logic_terms.specs.Same.{has_concept}
-use Rattle.logic_terms.specs.Theory.{Theory, names_given, each_names_given, is_given}
+use Rattle.logic_terms.specs.Theory.{Theory, names_given, each_names_given}
 use Rattle.tableau_rules.specs.declared.branch.Edge.{Edge}
 use Rattle.tableau_rules.specs.declared.step.Rule.{Rule}
 use Rattle.tableau_rules.specs.declared.step.Rule.TheVariants as rule
@@ -22,7 +21,7 @@ use Rattle.tableau_rules.specs.declared.step.Step.{Step}
 use Rattle.tableau_rules.specs.Graph.{Graph, Vertex, label_at, class_at, parent_of}
 use Rattle.tableau_rules.specs.Neighbours.{roots, node_of, makes_neighbour, is_neighbour}
 use Rattle.tableau_rules.specs.Rules.{unfoldings_of, open_members, unit_member, with_classes, adding, with_edge, with_node, effect, after}
-use Rattle.branch_model.proofs.Same.{place_of, each_has, has_here}
+use Rattle.branch_model.proofs.Same.{each_has, has_here}
 use Rattle.branch_model.proofs.Labels.{get_set_same, get_set_other, get_push_old, get_push_new, kept_classes, new_classes, only_classes}
 use Rattle.branch_model.specs.Elements.{ParentsBelow}
 
@@ -51,38 +50,36 @@ pub record Grows (k : Theory) (g h : Graph) : Type 0 where
   pub labels : (x : ℕ) (c : Concept) → has_concept (label_at g x) c ≡ true → has_concept (label_at h x) c ≡ true
   pub edges : (role : Role) (x y : ℕ) → is_neighbour k g role x y ≡ true → is_neighbour k h role x y ≡ true
 
-lt_true : (a b : ℕ) → nat_lt a b ≡ true → a < b
-lt_true a b h = Rattle.std.proofs.lemmas.Bool.ltb-true a b h
-
-true_lt : (a b : ℕ) → a < b → nat_lt a b ≡ true
-true_lt a b h = Rattle.std.proofs.lemmas.Bool.lt-ltb a b h
-
 -- edges between nodes stay so where nodes are added
-ends_longer : (n m : ℕ) (es : List Edge) → n ≤ m → list_all (λ e. nat_lt e.from n && nat_lt e.to n) es ≡ true → list_all (λ e. nat_lt e.from m && nat_lt e.to m) es ≡ true
+ends_longer : (n m : ℕ) (es : List Edge) → n ≤ m → list_all (λ e. nat_lt e.from n && nat_lt e.to n) es ≡ true
+    → list_all (λ e. nat_lt e.from m && nat_lt e.to m) es ≡ true
 ends_longer n m [] le h = refl
 ends_longer n m (e ∷ es) le h =
     let two = and_parts (nat_lt e.from n && nat_lt e.to n) (list_all (λ e. nat_lt e.from n && nat_lt e.to n) es) h in
     let one = and_parts (nat_lt e.from n) (nat_lt e.to n) two.0 in
-    let a = lt_true e.from n one.0 in
-    let b = lt_true e.to n one.1 in
+    let a = ltb-true e.from n one.0 in
+    let b = ltb-true e.to n one.1 in
     and_from (nat_lt e.from m && nat_lt e.to m) (list_all (λ e. nat_lt e.from m && nat_lt e.to m) es)
-    (and_from (nat_lt e.from m) (nat_lt e.to m) (true_lt e.from m (omega arith)) (true_lt e.to m (omega arith))) (ends_longer n m es le two.1)
+    (and_from (nat_lt e.from m) (nat_lt e.to m) (lt-ltb e.from m (omega arith)) (lt-ltb e.to m (omega arith))) (ends_longer n m es le two.1)
 
 -- a node with a class in its label is there
 pub has_node : (g : Graph) (x : ℕ) (c : Concept) → has_concept (label_at g x) c ≡ true → x < length g.nodes
 has_node g x c h = elim (cases_lt x (length g.nodes)) [
   | inl lt ↦ lt
-  | inr past ↦ (let none : has_concept (label_at g x) c ≡ false = ap (λ o. has_concept (option_map_or (λ v. v.label) o []) c) (slice_get_past g.nodes x past) in absurd (both h none))
+  | inr past ↦ (let none : has_concept (label_at g x) c ≡ false = ap (λ o. has_concept (option_map_or (λ v. v.label) o []) c) (slice_get_past g.nodes x past) in
+      absurd (both h none))
 ]
   where
     both : {b : Bool} → b ≡ true → b ≡ false → ⊥
     both t f = cc
 
 -- what growing keeps
-asserted_grows : (k : Theory) (g h : Graph) → Grows k g h → IsSound k g → All (λ e. (y : ℕ) → node_of k e.0 ≡ Some y → has_concept (label_at h y) e.1 ≡ true) k.assertions
+asserted_grows : (k : Theory) (g h : Graph) → Grows k g h → IsSound k g
+    → All (λ e. (y : ℕ) → node_of k e.0 ≡ Some y → has_concept (label_at h y) e.1 ≡ true) k.assertions
 asserted_grows k g h grows sound = λ j d lt y at. grows.labels y _ (sound.asserted j d lt y at)
 
-stated_grows : (k : Theory) (g h : Graph) → Grows k g h → IsSound k g → All (λ e. (x y : ℕ) → node_of k e.1 ≡ Some x → node_of k e.2 ≡ Some y → is_neighbour k h e.0 x y ≡ true) k.edges
+stated_grows : (k : Theory) (g h : Graph) → Grows k g h → IsSound k g
+    → All (λ e. (x y : ℕ) → node_of k e.1 ≡ Some x → node_of k e.2 ≡ Some y → is_neighbour k h e.0 x y ≡ true) k.edges
 stated_grows k g h grows sound = λ j d lt x y from to. grows.edges _ x y (sound.stated j d lt x y from to)
 
 -- classes are added to a label
@@ -90,7 +87,8 @@ adding-none : (g : Graph) (x : ℕ) (cs : List Concept) → slice_get g.nodes x 
 adding-none g x cs at =
     ap (λ o. option_map_or (λ v. record { nodes = set g.nodes x (record { parent = v.parent; label = with_classes v.label cs }); edges = g.edges }) o g) at
 
-adding-some : (g : Graph) (x : ℕ) (cs : List Concept) (v : Vertex) → slice_get g.nodes x ≡ Some v → adding g x cs ≡ record { nodes = set g.nodes x (record { parent = v.parent; label = with_classes v.label cs }); edges = g.edges }
+adding-some : (g : Graph) (x : ℕ) (cs : List Concept) (v : Vertex) → slice_get g.nodes x ≡ Some v
+    → adding g x cs ≡ record { nodes = set g.nodes x (record { parent = v.parent; label = with_classes v.label cs }); edges = g.edges }
 adding-some g x cs v at =
     ap (λ o. option_map_or (λ v. record { nodes = set g.nodes x (record { parent = v.parent; label = with_classes v.label cs }); edges = g.edges }) o g) at
 
@@ -117,7 +115,8 @@ module _ (k : Theory) (g : Graph) (x : ℕ) (cs : List Concept) (v : Vertex) (at
   parent_same : (y : ℕ) → parent_of relabelled y ≡ parent_of g y
   parent_same y = elim (cases_eq x y) [
     | inl same ↦ subst (λ z. parent_of relabelled z ≡ parent_of g z) same
-        (ap (λ o. option_and_then (λ u. u.parent) o) (get_set_same g.nodes x v (record { parent = v.parent; label = with_classes v.label cs }) at) ∙ sym (ap (λ o. option_and_then (λ u. u.parent) o) at))
+        (ap (λ o. option_and_then (λ u. u.parent) o) (get_set_same g.nodes x v (record { parent = v.parent; label = with_classes v.label cs }) at)
+        ∙ sym (ap (λ o. option_and_then (λ u. u.parent) o) at))
     | inr other ↦ ap (λ o. option_and_then (λ u. u.parent) o) (get_set_other g.nodes x y (record { parent = v.parent; label = with_classes v.label cs }) other)
   ]
 
@@ -130,10 +129,11 @@ module _ (k : Theory) (g : Graph) (x : ℕ) (cs : List Concept) (v : Vertex) (at
 
   labels_only : (y : ℕ) (c : Concept) → has_concept (label_at relabelled y) c ≡ true → (has_concept (label_at g y) c ≡ true) ⊎ (has_concept cs c ≡ true)
   labels_only y c h = elim (cases_eq x y) [
-    | inl same ↦ elim (only_classes (label_at g x) cs c (sym (ap (λ l. has_concept l c) label_same) ∙ subst (λ z. has_concept (label_at relabelled z) c ≡ true) (sym same) h)) [
-      | inl old ↦ inl (subst (λ z. has_concept (label_at g z) c ≡ true) same old)
-      | inr new ↦ inr new
-    ]
+    | inl same ↦ elim (only_classes (label_at g x) cs c
+        (sym (ap (λ l. has_concept l c) label_same) ∙ subst (λ z. has_concept (label_at relabelled z) c ≡ true) (sym same) h)) [
+          | inl old ↦ inl (subst (λ z. has_concept (label_at g z) c ≡ true) same old)
+          | inr new ↦ inr new
+        ]
     | inr other ↦ inl (sym (ap (λ l. has_concept l c) (label_other y other)) ∙ h)
   ]
 
@@ -166,14 +166,17 @@ adding_sound k g x cs fit sound = elim (cases_vertex (slice_get g.nodes x)) [
   | inr (v, at) ↦ subst (IsSound k) (sym (adding-some g x cs v at)) (relabelled_sound k g x cs v at fit sound)
 ]
 
-neighbour_more : (k : Theory) (es : List Edge) (e : Edge) (role : Role) (x y : ℕ) → list_any (makes_neighbour k role x y) es ≡ true → list_any (makes_neighbour k role x y) (es ++ e ∷ []) ≡ true
-neighbour_more k es e role x y h = list_any-append (makes_neighbour k role x y) es (e ∷ []) ∙ or_left (list_any (makes_neighbour k role x y) es) (list_any (makes_neighbour k role x y) (e ∷ [])) h
+neighbour_more : (k : Theory) (es : List Edge) (e : Edge) (role : Role) (x y : ℕ) → list_any (makes_neighbour k role x y) es ≡ true
+    → list_any (makes_neighbour k role x y) (es ++ e ∷ []) ≡ true
+neighbour_more k es e role x y h = list_any-append (makes_neighbour k role x y) es (e ∷ [])
+    ∙ or_left (list_any (makes_neighbour k role x y) es) (list_any (makes_neighbour k role x y) (e ∷ [])) h
 
-ends_more : (n : ℕ) (es : List Edge) (e : Edge) → list_all (λ e. nat_lt e.from n && nat_lt e.to n) es ≡ true → e.from < n → e.to < n → list_all (λ e. nat_lt e.from n && nat_lt e.to n) (es ++ e ∷ []) ≡ true
+ends_more : (n : ℕ) (es : List Edge) (e : Edge) → list_all (λ e. nat_lt e.from n && nat_lt e.to n) es ≡ true → e.from < n → e.to < n
+    → list_all (λ e. nat_lt e.from n && nat_lt e.to n) (es ++ e ∷ []) ≡ true
 ends_more n es e h from to =
     list_all-append (λ e. nat_lt e.from n && nat_lt e.to n) es (e ∷ [])
     ∙ and_from (list_all (λ e. nat_lt e.from n && nat_lt e.to n) es) ((nat_lt e.from n && nat_lt e.to n) && true) h
-    (and_from (nat_lt e.from n && nat_lt e.to n) true (and_from (nat_lt e.from n) (nat_lt e.to n) (true_lt e.from n from) (true_lt e.to n to)) refl)
+    (and_from (nat_lt e.from n && nat_lt e.to n) true (and_from (nat_lt e.from n) (nat_lt e.to n) (lt-ltb e.from n from) (lt-ltb e.to n to)) refl)
 
 -- an edge is added
 pub with_edge_sound : (k : Theory) (g : Graph) (e : Edge) → e.from < length g.nodes → e.to < length g.nodes → IsSound k g → IsSound k (with_edge g e)
@@ -230,7 +233,8 @@ module _ (k : Theory) (g : Graph) (x : ℕ) (role : Role) (cs : List Concept) (b
 
   past_label : (y : ℕ) (c : Concept) → length larger.nodes ≤ y → has_concept (label_at larger y) c ≡ true → ⊥
   past_label y c past h =
-      let none : has_concept (label_at larger y) c ≡ false = ap (λ o. has_concept (option_map_or (λ u. u.label) o []) c) (slice_get_past larger.nodes y past) in cc
+      let none : has_concept (label_at larger y) c ≡ false = ap (λ o. has_concept (option_map_or (λ u. u.label) o []) c) (slice_get_past larger.nodes y past) in
+      cc
 
   larger_grows : Grows k g larger
   larger_grows = record {
@@ -262,23 +266,28 @@ module _ (k : Theory) (g : Graph) (x : ℕ) (role : Role) (cs : List Concept) (b
       | inl old ↦ ap (λ l. has_concept l c) (old_label y old) ∙ sound.general y c old h
       | inr rest ↦ elim rest [
         | inl new ↦ subst (λ z. has_concept (label_at larger z) c ≡ true) (sym new)
-            (ap (λ l. has_concept l c) new_label ∙ new_classes [] (cs ++ k.general) c (list_any-append (λ d. Rattle.logic_terms.specs.Same.same_concept d c) cs k.general ∙ or_right (has_concept cs c) (has_concept k.general c) h))
+            (ap (λ l. has_concept l c) new_label
+            ∙ new_classes [] (cs ++ k.general) c
+            (list_any-append (λ d. Rattle.logic_terms.specs.Same.same_concept d c) cs k.general ∙ or_right (has_concept cs c) (has_concept k.general c) h))
         | inr past ↦ absurd (omega arith)
       ]
     ];
     fit = λ y c h. elim (where_is y) [
       | inl old ↦ sound.fit y c (sym (ap (λ l. has_concept l c) (old_label y old)) ∙ h)
       | inr rest ↦ elim rest [
-        | inl new ↦ elim (only_classes [] (cs ++ k.general) c (sym (ap (λ l. has_concept l c) new_label) ∙ subst (λ z. has_concept (label_at larger z) c ≡ true) new h)) [
-          | inl none ↦ absurd (nothing c none)
-          | inr there ↦ each_has (fits k) (cs ++ k.general) c (list_all-append (fits k) cs k.general ∙ and_from (list_all (fits k) cs) (list_all (fits k) k.general) fit fit_general) there
-        ]
+        | inl new ↦ elim (only_classes [] (cs ++ k.general) c
+            (sym (ap (λ l. has_concept l c) new_label) ∙ subst (λ z. has_concept (label_at larger z) c ≡ true) new h)) [
+              | inl none ↦ absurd (nothing c none)
+              | inr there ↦ each_has (fits k) (cs ++ k.general) c
+                  (list_all-append (fits k) cs k.general ∙ and_from (list_all (fits k) cs) (list_all (fits k) k.general) fit fit_general) there
+            ]
         | inr past ↦ absurd (past_label y c past h)
       ]
     ];
     asserted = asserted_grows k g larger larger_grows sound;
     stated = stated_grows k g larger larger_grows sound;
-    ends = ends_more (length larger.nodes) g.edges link (ends_longer (length g.nodes) (length larger.nodes) g.edges (omega (arith, larger_count)) sound.ends) (omega (arith, larger_count)) (omega (arith, larger_count));
+    ends = ends_more (length larger.nodes) g.edges link (ends_longer (length g.nodes) (length larger.nodes) g.edges (omega (arith, larger_count)) sound.ends)
+        (omega (arith, larger_count)) (omega (arith, larger_count));
   }
     where
       nothing : (c : Concept) → has_concept [] c ≡ true → ⊥
@@ -316,12 +325,15 @@ some_fits k (SomeValuesFrom role d) p h at =
     let same : ◌≡◌ {A = Role × Concept} (role, d) p = cc in ap (λ q. fits k q.1) (sym same) ∙ h
 some_fits k _ p h at = cc
 
-kept_fit : (k : Theory) (e : WordId × Concept) (rest : List (WordId × Concept)) → fits k e.1 ≡ true → list_all (fits k) (map (λ (e : WordId × Concept). e.1) rest) ≡ true → (b : Bool) → list_all (fits k) (map (λ (e : WordId × Concept). e.1) (if b then e ∷ rest else rest)) ≡ true
+kept_fit : (k : Theory) (e : WordId × Concept) (rest : List (WordId × Concept)) → fits k e.1 ≡ true
+    → list_all (fits k) (map (λ (e : WordId × Concept). e.1) rest) ≡ true → (b : Bool)
+    → list_all (fits k) (map (λ (e : WordId × Concept). e.1) (if b then e ∷ rest else rest)) ≡ true
 kept_fit k e rest here later true = and_from (fits k e.1) (list_all (fits k) (map (λ (e : WordId × Concept). e.1) rest)) here later
 kept_fit k e rest here later false = later
 
 -- the classes of entries that pass a test
-pub entries_fit : (k : Theory) (test : WordId × Concept → Bool) (es : List (WordId × Concept)) → list_all (λ e. fits k e.1) es ≡ true → list_all (fits k) (map (λ (e : WordId × Concept). e.1) (filter test es)) ≡ true
+pub entries_fit : (k : Theory) (test : WordId × Concept → Bool) (es : List (WordId × Concept)) → list_all (λ e. fits k e.1) es ≡ true
+    → list_all (fits k) (map (λ (e : WordId × Concept). e.1) (filter test es)) ≡ true
 entries_fit k test [] all = refl
 entries_fit k test (e ∷ es) all =
     let two = and_parts (fits k e.1) (list_all (λ e. fits k e.1) es) all in
@@ -341,16 +353,19 @@ open_fits k label (c ∷ cs) h =
     let two = and_parts (fits k c) (list_all (fits k) cs) h in
     by_test two.0 (open_fits k label cs two.1) (not (has_concept label (complement c)))
   where
-    by_test : fits k c ≡ true → list_all (fits k) (open_members label cs) ≡ true → (b : Bool) → list_all (fits k) (if b then c ∷ open_members label cs else open_members label cs) ≡ true
+    by_test : fits k c ≡ true → list_all (fits k) (open_members label cs) ≡ true → (b : Bool)
+        → list_all (fits k) (if b then c ∷ open_members label cs else open_members label cs) ≡ true
     by_test here later true = and_from (fits k c) (list_all (fits k) (open_members label cs)) here later
     by_test here later false = later
 
-either_fits : (k : Theory) (a b : Option Concept) → list_all (fits k) (option_to_list a) ≡ true → list_all (fits k) (option_to_list b) ≡ true → list_all (fits k) (option_to_list (option_or a b)) ≡ true
+either_fits : (k : Theory) (a b : Option Concept) → list_all (fits k) (option_to_list a) ≡ true → list_all (fits k) (option_to_list b) ≡ true
+    → list_all (fits k) (option_to_list (option_or a b)) ≡ true
 either_fits k None b p q = q
 either_fits k (Some c) b p q = p
 
 -- every step keeps what a branch keeps
-module _ (k : Theory) (g : Graph) (sound : IsSound k g) (fit_unfoldings : list_all (λ e. fits k e.1) k.unfoldings ≡ true) (fit_general : list_all (fits k) k.general ≡ true) (noded : (name : WordId) (y : ℕ) → node_of k name ≡ Some y → y < length (roots k)) where
+module _ (k : Theory) (g : Graph) (sound : IsSound k g) (fit_unfoldings : list_all (λ e. fits k e.1) k.unfoldings ≡ true)
+    (fit_general : list_all (fits k) k.general ≡ true) (noded : (name : WordId) (y : ℕ) → node_of k name ≡ Some y → y < length (roots k)) where
   effect_sound : (r : Rule) (x : ℕ) (c : Concept) (y choice : ℕ) → has_concept (label_at g x) c ≡ true → IsSound k (effect k g r x c y choice)
   effect_sound rule.And x c y choice has = go (intersection_part c) refl
     where
@@ -369,11 +384,13 @@ module _ (k : Theory) (g : Graph) (sound : IsSound k g) (fit_unfoldings : list_a
       go (Some p) e = adding_sound k g y (p.1 ∷ []) (and_from (fits k p.1) true (all_fits k c p (sound.fit x c has) e) refl) sound
   effect_sound rule.Value x c y choice has = go (value_part c)
     where
-      inner : (role : Role) (name : WordId) (o : Option ℕ) → node_of k name ≡ o → IsSound k (option_map_or (λ z. with_edge g (record { from = x; role = role; to = z })) o g)
+      inner : (role : Role) (name : WordId) (o : Option ℕ) → node_of k name ≡ o
+          → IsSound k (option_map_or (λ z. with_edge g (record { from = x; role = role; to = z })) o g)
       inner role name None e = sound
       inner role name (Some z) e = with_edge_sound k g (record { from = x; role = role; to = z }) (has_node g x c has) (sound.named z (noded name z e)) sound
 
-      go : (o : Option (Role × WordId)) → IsSound k (option_map_or (λ p. option_map_or (λ z. with_edge g (record { from = x; role = p.0; to = z })) (node_of k p.1) g) o g)
+      go : (o : Option (Role × WordId)) → IsSound k
+          (option_map_or (λ p. option_map_or (λ z. with_edge g (record { from = x; role = p.0; to = z })) (node_of k p.1) g) o g)
       go None = sound
       go (Some p) = inner p.0 p.1 (node_of k p.1) refl
   effect_sound rule.Unit x c y choice has = go (union_part c) refl
@@ -383,7 +400,8 @@ module _ (k : Theory) (g : Graph) (sound : IsSound k g) (fit_unfoldings : list_a
       go (Some ms) e =
           let fit = union_fits k c ms (sound.fit x c has) e in
           adding_sound k g x (option_to_list (unit_member (label_at g x) ms))
-          (either_fits k (slice_get (open_members (label_at g x) ms) 0) (slice_get ms 0) (item_fits k (open_members (label_at g x) ms) 0 (open_fits k (label_at g x) ms fit)) (item_fits k ms 0 fit)) sound
+          (either_fits k (slice_get (open_members (label_at g x) ms) 0) (slice_get ms 0)
+          (item_fits k (open_members (label_at g x) ms) 0 (open_fits k (label_at g x) ms fit)) (item_fits k ms 0 fit)) sound
   effect_sound rule.Or x c y choice has = go (union_part c) refl
     where
       go : (o : Option (List Concept)) → union_part c ≡ o → IsSound k (option_map_or (λ cs. adding g x (option_to_list (slice_get cs choice))) o g)
@@ -391,9 +409,12 @@ module _ (k : Theory) (g : Graph) (sound : IsSound k g) (fit_unfoldings : list_a
       go (Some ms) e = adding_sound k g x (option_to_list (slice_get ms choice)) (item_fits k ms choice (union_fits k c ms (sound.fit x c has) e)) sound
   effect_sound rule.Some x c y choice has = go (some_part c) refl
     where
-      go : (o : Option (Role × Concept)) → some_part c ≡ o → IsSound k (option_map_or (λ p. with_node g (record { parent = Some x; label = with_classes [] (p.1 ∷ k.general) }) (record { from = x; role = p.0; to = length g.nodes })) o g)
+      go : (o : Option (Role × Concept)) → some_part c ≡ o
+          → IsSound k (option_map_or (λ p. with_node g (record { parent = Some x; label = with_classes [] (p.1 ∷ k.general) })
+          (record { from = x; role = p.0; to = length g.nodes })) o g)
       go None e = sound
-      go (Some p) e = larger_sound k g x p.0 (p.1 ∷ []) (has_node g x c has) (and_from (fits k p.1) true (some_fits k c p (sound.fit x c has) e) refl) fit_general sound
+      go (Some p) e = larger_sound k g x p.0 (p.1 ∷ []) (has_node g x c has) (and_from (fits k p.1) true (some_fits k c p (sound.fit x c has) e) refl)
+          fit_general sound
 
   pub after_sound : (s : Step) (choice : ℕ) → IsSound k (after k g s choice)
   after_sound s choice = go (class_at g s.node s.class) refl

@@ -1,34 +1,29 @@
 -- The first branch of lawful knowledge, and the nodes of names.
-use Rattle.std.proofs.Common.{◌≡◌, ℕ, zero, suc, ◌+◌, ◌<◌, ◌≤◌, ◌==◌, ◌&&◌, ◌||◌, Bool, true, false, List, [], ◌∷◌, ◌++◌, map, length, get_or, All, Contains, Option, Some, None, slice_get, refl, sym, ap, ◌∙◌, subst, inl, inr, arith}
-use Rattle.std.specs.Prelude.{◌⊎◌, filter, filter_map, not, nat_lt, if◌then◌else◌, IsTrue}
+use Rattle.std.proofs.Common.{◌≡◌, ℕ, zero, suc, ◌+◌, ◌<◌, ◌≤◌, ◌==◌, ◌&&◌, ◌||◌, Bool, true, false, List, [], ◌∷◌, ◌++◌, map, length, get_or, Contains, Option, Some, None, slice_get, refl, sym, ap, ◌∙◌, subst, inl, inr, arith}
+use Rattle.std.specs.Prelude.{◌⊎◌, filter, filter_map, nat_lt, if◌then◌else◌}
 use Rattle.std.specs.List.{list_any, list_all}
 use Rattle.std.specs.Map.{lookup}
 use Rattle.std.specs.Option.{option_map, option_map_or, option_and_then}
-use Rattle.std.proofs.lemmas.Bool.{cases_Bool, cases_lt, and_parts, and_from, or_cases, or_left, or_right, cond-true, cond-false, eqb-true, eq-eqb, ltb-true, lt-ltb}
+use Rattle.std.proofs.lemmas.Bool.{cases_Bool, and_parts, and_from, or_left, or_right, cond-true, cond-false, eqb-true, eq-eqb, ltb-true, lt-ltb}
 use Rattle.std.proofs.lemmas.Option.{slice_get_within}
 use Rattle.std.proofs.lemmas.List.Folds.{list_any-append, list_all-append}
 use Rattle.std.proofs.lemmas.List.Elements.{All-contains}
 use Rattle.wiki_base.specs.declared.numbers.WordId.{WordId}
+use Rattle.logic_terms.proofs.SameLemmas.{word_equal, same_word, same_role-self}
 use Rattle.logic_terms.specs.declared.expressions.Role.{Role}
 use Rattle.logic_terms.specs.Concept.{Concept}
 use Rattle.logic_terms.specs.Interpretation.{is_word, words_above, words_rise}
 use Rattle.logic_terms.specs.Same.{same_role, same_concept, has_concept, inverse}
-use Rattle.logic_terms.specs.Theory.{Theory, representative, is_below, is_given, names_given, IsLawful}
+use Rattle.logic_terms.specs.Theory.{Theory, representative, is_below, is_given, IsLawful}
 use Rattle.tableau_rules.specs.declared.branch.Edge.{Edge}
-use Rattle.tableau_rules.specs.Graph.{Graph, Vertex, label_at, parent_of}
-use Rattle.tableau_rules.specs.Neighbours.{roots, roots_in, place_in, node_of, makes_neighbour, is_neighbour}
+use Rattle.tableau_rules.specs.Graph.{Vertex, label_at, parent_of}
+use Rattle.tableau_rules.specs.Neighbours.{roots, roots_in, place_in, node_of, makes_neighbour}
 use Rattle.tableau_rules.specs.Clashes.{passes}
 use Rattle.tableau_rules.specs.Rules.{with_classes}
 use Rattle.tableau_rules.specs.Branches.{asserted, first_node, first_nodes, first_edge, start}
-use Rattle.branch_model.proofs.Same.{role_refl, concept_refl, each_has}
+use Rattle.branch_model.proofs.Same.{concept_refl, each_has}
 use Rattle.branch_model.proofs.Labels.{new_classes, only_classes}
 use Rattle.branch_model.proofs.Sound.{IsSound, fits, entries_fit}
-
-same_word : (a b : WordId) → is_word a b ≡ true → a ≡ b
-same_word a b e = λ j. record { 0 = eqb-true a.0 b.0 e j }
-
-word_refl : (a : WordId) → is_word a a ≡ true
-word_refl a = eq-eqb a.0 a.0 refl
 
 -- the place of a word in a list
 pub place_there : (ws : List WordId) (word : WordId) (y : ℕ) → place_in ws word ≡ Some y → slice_get ws y ≡ Some word
@@ -36,11 +31,12 @@ place_there [] word y h = cc
 place_there (w ∷ ws) word y h = elim (cases_Bool (is_word word w)) [
   | inl here ↦ (let e : Some 0 ≡ Some y = sym (cond-true (is_word word w) (Some 0) (option_map suc (place_in ws word)) here) ∙ h in
       let zero_is : 0 ≡ y = cc in
-      subst (λ z. slice_get (w ∷ ws) z ≡ Some word) zero_is (ap Some (sym (same_word word w here))))
+      subst (λ z. slice_get (w ∷ ws) z ≡ Some word) zero_is (ap Some (sym (word_equal word w here))))
   | inr past ↦ on (place_in ws word) refl (sym (cond-false (is_word word w) (Some 0) (option_map suc (place_in ws word)) past) ∙ h) (place_there ws word)
 ]
   where
-    on : (o : Option ℕ) → place_in ws word ≡ o → option_map suc o ≡ Some y → ((z : ℕ) → place_in ws word ≡ Some z → slice_get ws z ≡ Some word) → slice_get (w ∷ ws) y ≡ Some word
+    on : (o : Option ℕ) → place_in ws word ≡ o → option_map suc o ≡ Some y → ((z : ℕ) → place_in ws word ≡ Some z → slice_get ws z ≡ Some word)
+        → slice_get (w ∷ ws) y ≡ Some word
     on None e up later = cc
     on (Some z) e up later = let next : suc z ≡ y = cc in subst (λ n. slice_get (w ∷ ws) n ≡ Some word) next (later z e)
 
@@ -61,10 +57,12 @@ noded k name y h = go (representative k name) h
     go (Some r) e = slice_get_within (roots k) y r (place_there (roots k) r y e)
 
 -- the root at a name's node is its representative
-pub root_of : (k : Theory) (name : WordId) (y : ℕ) → node_of k name ≡ Some y → (r : WordId) × (representative k name ≡ Some r) × (slice_get (roots k) y ≡ Some r)
+pub root_of : (k : Theory) (name : WordId) (y : ℕ) → node_of k name ≡ Some y
+    → (r : WordId) × (representative k name ≡ Some r) × (slice_get (roots k) y ≡ Some r)
 root_of k name y h = go (representative k name) refl h
   where
-    go : (o : Option WordId) → representative k name ≡ o → option_and_then (place_in (roots k)) o ≡ Some y → (r : WordId) × (representative k name ≡ Some r) × (slice_get (roots k) y ≡ Some r)
+    go : (o : Option WordId) → representative k name ≡ o → option_and_then (place_in (roots k)) o ≡ Some y
+        → (r : WordId) × (representative k name ≡ Some r) × (slice_get (roots k) y ≡ Some r)
     go None rep e = cc
     go (Some r) rep e = (r, rep, place_there (roots k) r y e)
 
@@ -73,12 +71,13 @@ found_entry : {X : Type 0} (es : List (WordId × X)) (name : WordId) (r : X) →
 found_entry [] name r h = cc
 found_entry (e ∷ es) name r h = elim (cases_Bool (is_word name e.0)) [
   | inl here ↦ (let same : Some e.1 ≡ Some r = sym (cond-true (is_word name e.0) (Some e.1) (lookup (is_word name) es) here) ∙ h in
-      let is : e.1 ≡ r = cc in (0, omega arith, λ j. (sym (same_word name e.0 here) j, is j)))
+      let is : e.1 ≡ r = cc in (0, omega arith, λ j. (sym (word_equal name e.0 here) j, is j)))
   | inr past ↦ (let later = found_entry es name r (sym (cond-false (is_word name e.0) (Some e.1) (lookup (is_word name) es) past) ∙ h) in
       Rattle.std.proofs.lemmas.List.Elements.Contains-append_right (e ∷ []) es (name, r) later)
 ]
 
-lookup_there : {X : Type 0} (es : List (WordId × X)) (name : WordId) → list_any (λ e. is_word name e.0) es ≡ true → (r : X) × (lookup (is_word name) es ≡ Some r)
+lookup_there : {X : Type 0} (es : List (WordId × X)) (name : WordId) → list_any (λ e. is_word name e.0) es ≡ true
+    → (r : X) × (lookup (is_word name) es ≡ Some r)
 lookup_there [] name h = cc
 lookup_there (e ∷ es) name h = elim (cases_Bool (is_word name e.0)) [
   | inl here ↦ (e.1, cond-true (is_word name e.0) (Some e.1) (lookup (is_word name) es) here)
@@ -100,9 +99,10 @@ rise_tail : {X : Type 0} (e : WordId × X) (es : List (WordId × X)) → words_r
 rise_tail e [] up = refl
 rise_tail e (f ∷ es) up = (and_parts (nat_lt e.0.0 f.0.0) (words_above f.0 es) up).1
 
-pub own_entry : {X : Type 0} (es : List (WordId × X)) → words_rise es ≡ true → (j : ℕ) (d : WordId × X) → j < length es → lookup (is_word (get_or es j d).0) es ≡ Some (get_or es j d).1
+pub own_entry : {X : Type 0} (es : List (WordId × X)) → words_rise es ≡ true → (j : ℕ) (d : WordId × X) → j < length es
+    → lookup (is_word (get_or es j d).0) es ≡ Some (get_or es j d).1
 own_entry [] up j d lt = absurd (omega arith)
-own_entry (e ∷ es) up zero d lt = cond-true (is_word e.0 e.0) (Some e.1) (lookup (is_word e.0) es) (word_refl e.0)
+own_entry (e ∷ es) up zero d lt = cond-true (is_word e.0 e.0) (Some e.1) (lookup (is_word e.0) es) (same_word e.0)
 own_entry (e ∷ es) up (suc j) d lt =
     cond-false (is_word (get_or es j d).0 e.0) (Some e.1) (lookup (is_word (get_or es j d).0) es) (differ (is_word (get_or es j d).0 e.0) refl)
     ∙ own_entry es (rise_tail e es up) j d (omega arith)
@@ -119,17 +119,21 @@ own_root : (es : List (WordId × WordId)) (r : WordId) → Contains es (r, r) �
 own_root [] r (j, lt, at) = absurd (omega arith)
 own_root (e ∷ es) r (j, lt, at) = by_place j lt at (own_root es r)
   where
-    kept : (b : Bool) → list_any (is_word r) (roots_in es) ≡ true → list_any (is_word r) (map (λ (f : WordId × WordId). f.0) (if b then e ∷ filter (λ f. is_word f.0 f.1) es else filter (λ f. is_word f.0 f.1) es)) ≡ true
+    kept : (b : Bool) → list_any (is_word r) (roots_in es) ≡ true
+        → list_any (is_word r) (map (λ (f : WordId × WordId). f.0) (if b then e ∷ filter (λ f. is_word f.0 f.1) es else filter (λ f. is_word f.0 f.1) es))
+        ≡ true
     kept true h = or_right (is_word r e.0) (list_any (is_word r) (roots_in es)) h
     kept false h = h
 
     here : e ≡ (r, r) → list_any (is_word r) (roots_in (e ∷ es)) ≡ true
     here same =
-        ap (λ b. list_any (is_word r) (map (λ (f : WordId × WordId). f.0) (if b then e ∷ filter (λ f. is_word f.0 f.1) es else filter (λ f. is_word f.0 f.1) es)))
-        (ap (λ (f : WordId × WordId). is_word f.0 f.1) same ∙ word_refl r)
-        ∙ or_left (is_word r e.0) (list_any (is_word r) (roots_in es)) (ap (λ (f : WordId × WordId). is_word r f.0) same ∙ word_refl r)
+        ap (λ b. list_any (is_word r) (map (λ (f : WordId × WordId). f.0)
+        (if b then e ∷ filter (λ f. is_word f.0 f.1) es else filter (λ f. is_word f.0 f.1) es)))
+        (ap (λ (f : WordId × WordId). is_word f.0 f.1) same ∙ same_word r)
+        ∙ or_left (is_word r e.0) (list_any (is_word r) (roots_in es)) (ap (λ (f : WordId × WordId). is_word r f.0) same ∙ same_word r)
 
-    by_place : (j : ℕ) → j < length (e ∷ es) → get_or (e ∷ es) j (r, r) ≡ (r, r) → (Contains es (r, r) → list_any (is_word r) (roots_in es) ≡ true) → list_any (is_word r) (roots_in (e ∷ es)) ≡ true
+    by_place : (j : ℕ) → j < length (e ∷ es) → get_or (e ∷ es) j (r, r) ≡ (r, r) → (Contains es (r, r) → list_any (is_word r) (roots_in es) ≡ true)
+        → list_any (is_word r) (roots_in (e ∷ es)) ≡ true
     by_place zero lt at later = here at
     by_place (suc i) lt at later = kept (is_word e.0 e.1) (later (i, omega arith, at))
 
@@ -139,13 +143,15 @@ module _ (k : Theory) (lawful : IsLawful k) where
   given_node name h =
       let found = lookup_there k.names name h in
       let entry = found_entry k.names name found.0 found.1 in
-      let own : representative k found.0 ≡ Some found.0 = All-contains (λ e. representative k e.1 ≡ Some e.1) k.names (name, found.0) lawful.representatives entry in
+      let own : representative k found.0 ≡ Some found.0 =
+      All-contains (λ e. representative k e.1 ≡ Some e.1) k.names (name, found.0) lawful.representatives entry in
       let root = own_root k.names found.0 (found_entry k.names found.0 found.0 own) in
       let place = place_found (roots k) found.0 root in
       (place.0, ap (option_and_then (place_in (roots k))) found.1 ∙ place.1)
 
   -- a name and its representative have one node
-  pub same_node : (j : ℕ) (d : WordId × WordId) → j < length k.names → (y : ℕ) × (node_of k (get_or k.names j d).0 ≡ Some y) × (node_of k (get_or k.names j d).1 ≡ Some y)
+  pub same_node : (j : ℕ) (d : WordId × WordId) → j < length k.names
+      → (y : ℕ) × (node_of k (get_or k.names j d).0 ≡ Some y) × (node_of k (get_or k.names j d).1 ≡ Some y)
   same_node j d lt =
       let rep : representative k (get_or k.names j d).0 ≡ Some (get_or k.names j d).1 = own_entry k.names lawful.rising j d lt in
       let own : representative k (get_or k.names j d).1 ≡ Some (get_or k.names j d).1 = lawful.representatives j d lt in
@@ -166,13 +172,15 @@ one_node k (suc x) v h = absurd (nothing x h)
     nothing : (x : ℕ) → slice_get {X = Vertex} [] x ≡ Some v → ⊥
     nothing x e = cc
 
-node_at : (k : Theory) (rs : List WordId) (x : ℕ) (v : Vertex) → slice_get (map (λ r. first_node k (asserted k r)) rs) x ≡ Some v → (r : WordId) × (v ≡ first_node k (asserted k r))
+node_at : (k : Theory) (rs : List WordId) (x : ℕ) (v : Vertex) → slice_get (map (λ r. first_node k (asserted k r)) rs) x ≡ Some v
+    → (r : WordId) × (v ≡ first_node k (asserted k r))
 node_at k [] x v h = cc
 node_at k (r ∷ rs) zero v h = let same : first_node k (asserted k r) ≡ v = cc in (r, sym same)
 node_at k (r ∷ rs) (suc x) v h = node_at k rs x v h
 
 -- each first node is one of these classes
-first_at : (k : Theory) (rs : List WordId) (x : ℕ) (v : Vertex) → slice_get (first_nodes k rs) x ≡ Some v → (cs : List Concept) × (v ≡ first_node k cs) × ((cs ≡ []) ⊎ ((r : WordId) × (cs ≡ asserted k r)))
+first_at : (k : Theory) (rs : List WordId) (x : ℕ) (v : Vertex) → slice_get (first_nodes k rs) x ≡ Some v
+    → (cs : List Concept) × (v ≡ first_node k cs) × ((cs ≡ []) ⊎ ((r : WordId) × (cs ≡ asserted k r)))
 first_at k [] x v h = ([], one_node k x v h, inl refl)
 first_at k (r ∷ rs) x v h = let found = node_at k (r ∷ rs) x v h in (asserted k found.0, found.1, inr (found.0, refl))
 
@@ -203,14 +211,16 @@ roots_first : (k : Theory) (rs : List WordId) (x : ℕ) → x < length rs → x 
 roots_first k [] x lt = absurd (omega arith)
 roots_first k (r ∷ rs) x lt = let e = Rattle.std.proofs.lemmas.List.length-map (r ∷ rs) (λ r. first_node k (asserted k r)) in omega arith
 
-start_label : (k : Theory) (x : ℕ) → x < length (start k).nodes → (cs : List Concept) × (label_at (start k) x ≡ with_classes [] (cs ++ k.general)) × ((cs ≡ []) ⊎ ((r : WordId) × (cs ≡ asserted k r)))
+start_label : (k : Theory) (x : ℕ) → x < length (start k).nodes
+    → (cs : List Concept) × (label_at (start k) x ≡ with_classes [] (cs ++ k.general)) × ((cs ≡ []) ⊎ ((r : WordId) × (cs ≡ asserted k r)))
 start_label k x lt = elim (cases_vertex (slice_get (start k).nodes x)) [
   | inl none ↦ absurd (missing none)
   | inr (v, at) ↦ (let found = first_at k (roots k) x v at in (found.0, ap (λ o. option_map_or (λ v. v.label) o []) at ∙ ap (λ u. u.label) found.1, found.2))
 ]
   where
     missing : slice_get (start k).nodes x ≡ None → ⊥
-    missing none = let some : slice_get (start k).nodes x ≡ Some (get_or (start k).nodes x (first_node k [])) = Rattle.std.proofs.lemmas.Option.slice_get-get_or (start k).nodes x (first_node k []) lt in cc
+    missing none = let some : slice_get (start k).nodes x ≡ Some (get_or (start k).nodes x (first_node k [])) =
+        Rattle.std.proofs.lemmas.Option.slice_get-get_or (start k).nodes x (first_node k []) lt in cc
 
 has_append_right : (cs ds : List Concept) (c : Concept) → has_concept ds c ≡ true → has_concept (cs ++ ds) c ≡ true
 has_append_right cs ds c h = list_any-append (λ d. same_concept d c) cs ds ∙ or_right (has_concept cs c) (has_concept ds c) h
@@ -219,38 +229,49 @@ has_append_left : (cs ds : List Concept) (c : Concept) → has_concept cs c ≡ 
 has_append_left cs ds c h = list_any-append (λ d. same_concept d c) cs ds ∙ or_left (has_concept cs c) (has_concept ds c) h
 
 -- an entry that passes a test is among those that do
-pub entry_has : (test : WordId × Concept → Bool) (es : List (WordId × Concept)) (j : ℕ) (d : WordId × Concept) → j < length es → test (get_or es j d) ≡ true → has_concept (map (λ (e : WordId × Concept). e.1) (filter test es)) (get_or es j d).1 ≡ true
+pub entry_has : (test : WordId × Concept → Bool) (es : List (WordId × Concept)) (j : ℕ) (d : WordId × Concept) → j < length es → test (get_or es j d) ≡ true
+    → has_concept (map (λ (e : WordId × Concept). e.1) (filter test es)) (get_or es j d).1 ≡ true
 entry_has test [] j d lt h = absurd (omega arith)
 entry_has test (e ∷ es) zero d lt h =
     ap (λ b. has_concept (map (λ (e : WordId × Concept). e.1) (if b then e ∷ filter test es else filter test es)) e.1) h
     ∙ or_left (same_concept e.1 e.1) (has_concept (map (λ (e : WordId × Concept). e.1) (filter test es)) e.1) (concept_refl e.1)
 entry_has test (e ∷ es) (suc j) d lt h = kept (test e) (entry_has test es j d (omega arith) h)
   where
-    kept : (b : Bool) → has_concept (map (λ (e : WordId × Concept). e.1) (filter test es)) (get_or es j d).1 ≡ true → has_concept (map (λ (e : WordId × Concept). e.1) (if b then e ∷ filter test es else filter test es)) (get_or es j d).1 ≡ true
+    kept : (b : Bool) → has_concept (map (λ (e : WordId × Concept). e.1) (filter test es)) (get_or es j d).1 ≡ true
+        → has_concept (map (λ (e : WordId × Concept). e.1) (if b then e ∷ filter test es else filter test es)) (get_or es j d).1 ≡ true
     kept true later = or_right (same_concept e.1 (get_or es j d).1) (has_concept (map (λ (e : WordId × Concept). e.1) (filter test es)) (get_or es j d).1) later
     kept false later = later
 
 -- the edges of property assertions
-made_edge : (k : Theory) (es : List (Role × WordId × WordId)) (j : ℕ) (d : Role × WordId × WordId) (x y : ℕ) → j < length es → node_of k (get_or es j d).1 ≡ Some x → node_of k (get_or es j d).2 ≡ Some y → list_any (makes_neighbour k (get_or es j d).0 x y) (filter_map (first_edge k) es) ≡ true
+made_edge : (k : Theory) (es : List (Role × WordId × WordId)) (j : ℕ) (d : Role × WordId × WordId) (x y : ℕ) → j < length es
+    → node_of k (get_or es j d).1 ≡ Some x → node_of k (get_or es j d).2 ≡ Some y
+    → list_any (makes_neighbour k (get_or es j d).0 x y) (filter_map (first_edge k) es) ≡ true
 made_edge k [] j d x y lt from to = absurd (omega arith)
 made_edge k (e ∷ es) zero d x y lt from to =
     ap (λ o. list_any (makes_neighbour k e.0 x y) (Rattle.std.specs.List.cons_option o (filter_map (first_edge k) es)))
-    (ap (λ o. option_and_then (λ x. option_map (λ y. record { from = x; role = e.0; to = y }) (node_of k e.2)) o) from ∙ ap (option_map (λ y. record { from = x; role = e.0; to = y })) to)
+    (ap (λ o. option_and_then (λ x. option_map (λ y. record { from = x; role = e.0; to = y }) (node_of k e.2)) o) from
+    ∙ ap (option_map (λ y. record { from = x; role = e.0; to = y })) to)
     ∙ or_left (makes_neighbour k e.0 x y (record { from = x; role = e.0; to = y })) (list_any (makes_neighbour k e.0 x y) (filter_map (first_edge k) es))
     (or_left ((x == x) && ((y == y) && is_below k e.0 e.0)) ((x == y) && ((y == x) && is_below k (inverse e.0) e.0))
     (and_from (x == x) ((y == y) && is_below k e.0 e.0) (eq-eqb x x refl) (and_from (y == y) (is_below k e.0 e.0) (eq-eqb y y refl)
-    (or_left (same_role e.0 e.0) (list_any (λ p. same_role p.0 e.0 && same_role p.1 e.0) k.hierarchy) (role_refl e.0)))))
+    (or_left (same_role e.0 e.0) (list_any (λ p. same_role p.0 e.0 && same_role p.1 e.0) k.hierarchy) (same_role-self e.0)))))
 made_edge k (e ∷ es) (suc j) d x y lt from to = kept (first_edge k e) (made_edge k es j d x y (omega arith) from to)
   where
-    kept : (o : Option Edge) → list_any (makes_neighbour k (get_or es j d).0 x y) (filter_map (first_edge k) es) ≡ true → list_any (makes_neighbour k (get_or es j d).0 x y) (Rattle.std.specs.List.cons_option o (filter_map (first_edge k) es)) ≡ true
+    kept : (o : Option Edge) → list_any (makes_neighbour k (get_or es j d).0 x y) (filter_map (first_edge k) es) ≡ true
+        → list_any (makes_neighbour k (get_or es j d).0 x y) (Rattle.std.specs.List.cons_option o (filter_map (first_edge k) es)) ≡ true
     kept None later = later
-    kept (Some f) later = or_right (makes_neighbour k (get_or es j d).0 x y f) (list_any (makes_neighbour k (get_or es j d).0 x y) (filter_map (first_edge k) es)) later
+    kept (Some f) later = or_right (makes_neighbour k (get_or es j d).0 x y f)
+        (list_any (makes_neighbour k (get_or es j d).0 x y) (filter_map (first_edge k) es)) later
 
-ends_of : (k : Theory) (n : ℕ) → ((name : WordId) (y : ℕ) → node_of k name ≡ Some y → y < n) → (es : List (Role × WordId × WordId)) → list_all (λ e. nat_lt e.from n && nat_lt e.to n) (filter_map (first_edge k) es) ≡ true
+ends_of : (k : Theory) (n : ℕ) → ((name : WordId) (y : ℕ) → node_of k name ≡ Some y → y < n) → (es : List (Role × WordId × WordId))
+    → list_all (λ e. nat_lt e.from n && nat_lt e.to n) (filter_map (first_edge k) es) ≡ true
 ends_of k n within [] = refl
 ends_of k n within (e ∷ es) = by_ends (node_of k e.1) (node_of k e.2) refl refl (ends_of k n within es)
   where
-    by_ends : (a b : Option ℕ) → node_of k e.1 ≡ a → node_of k e.2 ≡ b → list_all (λ e. nat_lt e.from n && nat_lt e.to n) (filter_map (first_edge k) es) ≡ true → list_all (λ e. nat_lt e.from n && nat_lt e.to n) (Rattle.std.specs.List.cons_option (option_and_then (λ x. option_map (λ y. record { from = x; role = e.0; to = y }) b) a) (filter_map (first_edge k) es)) ≡ true
+    by_ends : (a b : Option ℕ) → node_of k e.1 ≡ a → node_of k e.2 ≡ b → list_all (λ e. nat_lt e.from n && nat_lt e.to n) (filter_map (first_edge k) es) ≡ true
+        → list_all (λ e. nat_lt e.from n && nat_lt e.to n)
+        (Rattle.std.specs.List.cons_option (option_and_then (λ x. option_map (λ y. record { from = x; role = e.0; to = y }) b) a)
+        (filter_map (first_edge k) es)) ≡ true
     by_ends None b p q later = later
     by_ends (Some x) None p q later = later
     by_ends (Some x) (Some y) p q later =
@@ -273,15 +294,18 @@ start_sound k fit_assertions fit_general = record {
       let at = start_label k x lt in
       elim (only_classes [] (at.0 ++ k.general) c (sym (ap (λ l. has_concept l c) at.1) ∙ h)) [
         | inl nothing ↦ absurd (empty c nothing)
-        | inr there ↦ each_has (fits k) (at.0 ++ k.general) c (list_all-append (fits k) at.0 k.general ∙ and_from (list_all (fits k) at.0) (list_all (fits k) k.general) (by_kind at.0 at.2) fit_general) there
+        | inr there ↦ each_has (fits k) (at.0 ++ k.general) c
+            (list_all-append (fits k) at.0 k.general ∙ and_from (list_all (fits k) at.0) (list_all (fits k) k.general) (by_kind at.0 at.2) fit_general) there
       ];
   asserted = λ j d lt y at.
       let found = root_of k (get_or k.assertions j d).0 y at in
       let node = root_node k (roots k) y found.0 found.2 in
-      let test : passes (representative k (get_or k.assertions j d).0) (is_word found.0) ≡ true = ap (λ o. passes o (is_word found.0)) found.1 ∙ word_refl found.0 in
+      let test : passes (representative k (get_or k.assertions j d).0) (is_word found.0) ≡ true =
+      ap (λ o. passes o (is_word found.0)) found.1 ∙ same_word found.0 in
       ap (λ o. has_concept (option_map_or (λ v. v.label) o []) (get_or k.assertions j d).1) node
       ∙ new_classes [] (asserted k found.0 ++ k.general) (get_or k.assertions j d).1
-      (has_append_left (asserted k found.0) k.general (get_or k.assertions j d).1 (entry_has (λ e. passes (representative k e.0) (is_word found.0)) k.assertions j d lt test));
+      (has_append_left (asserted k found.0) k.general (get_or k.assertions j d).1
+      (entry_has (λ e. passes (representative k e.0) (is_word found.0)) k.assertions j d lt test));
   stated = λ j d lt x y from to. made_edge k k.edges j d x y lt from to;
   ends = ends_of k (length (start k).nodes) (λ name y at. roots_first k (roots k) y (noded k name y at)) k.edges;
 }

@@ -24,17 +24,27 @@ use Rattle.branch_model.proofs.Rest.{and_done, or_done, all_done, value_done, so
 -- same classes
 pub record Pictures (k : Theory) (g : Graph) (i : Interpretation) (place : ℕ → ℕ) : Type 0 where
   pub within : (x : ℕ) → x < length g.nodes → is_indirectly_blocked k g x ≡ false → place x < i.size
-  pub owner : (x : ℕ) → x < length g.nodes → is_indirectly_blocked k g x ≡ false → (z : ℕ) × (z < length g.nodes) × (is_blocked k g z ≡ false) × (place z ≡ place x) × ((c : Concept) → has_concept (label_at g x) c ≡ has_concept (label_at g z) c)
-  pub same : (x y : ℕ) → x < length g.nodes → y < length g.nodes → is_indirectly_blocked k g x ≡ false → is_indirectly_blocked k g y ≡ false → place x ≡ place y → (c : Concept) → has_concept (label_at g x) c ≡ has_concept (label_at g y) c
+  pub owner : (x : ℕ) → x < length g.nodes → is_indirectly_blocked k g x ≡ false
+      → (z : ℕ) × (z < length g.nodes) × (is_blocked k g z ≡ false) × (place z ≡ place x)
+      × ((c : Concept) → has_concept (label_at g x) c ≡ has_concept (label_at g z) c)
+  pub same : (x y : ℕ) → x < length g.nodes → y < length g.nodes → is_indirectly_blocked k g x ≡ false → is_indirectly_blocked k g y ≡ false → place x ≡ place y
+      → (c : Concept) → has_concept (label_at g x) c ≡ has_concept (label_at g y) c
   pub alone : (x y : ℕ) (name : WordId) → x < length g.nodes → is_indirectly_blocked k g x ≡ false → node_of k name ≡ Some y → place x ≡ place y → x ≡ y
-  pub classes : (word : WordId) (x : ℕ) → x < length g.nodes → is_indirectly_blocked k g x ≡ false → Contains (elements_of i word) (place x) → has_concept (label_at g x) (Atomic word) ≡ true
-  pub related : (role : Role) (e f : ℕ) → Relates i role e f → (x : ℕ) × (y : ℕ) × (x < length g.nodes) × (y < length g.nodes) × (is_indirectly_blocked k g x ≡ false) × (is_indirectly_blocked k g y ≡ false) × (place x ≡ e) × (place y ≡ f) × (is_neighbour k g role x y ≡ true)
-  pub relates : (role : Role) (x y : ℕ) → is_indirectly_blocked k g x ≡ false → is_indirectly_blocked k g y ≡ false → is_neighbour k g role x y ≡ true → Relates i role (place x) (place y)
-  pub labelled : (word : WordId) (x : ℕ) → x < length g.nodes → is_indirectly_blocked k g x ≡ false → has_concept (label_at g x) (Atomic word) ≡ true → Contains (elements_of i word) (place x)
+  pub classes : (word : WordId) (x : ℕ) → x < length g.nodes → is_indirectly_blocked k g x ≡ false → Contains (elements_of i word) (place x)
+      → has_concept (label_at g x) (Atomic word) ≡ true
+  pub related : (role : Role) (e f : ℕ) → Relates i role e f
+      → (x : ℕ) × (y : ℕ) × (x < length g.nodes) × (y < length g.nodes) × (is_indirectly_blocked k g x ≡ false) × (is_indirectly_blocked k g y ≡ false)
+      × (place x ≡ e) × (place y ≡ f) × (is_neighbour k g role x y ≡ true)
+  pub relates : (role : Role) (x y : ℕ) → is_indirectly_blocked k g x ≡ false → is_indirectly_blocked k g y ≡ false → is_neighbour k g role x y ≡ true
+      → Relates i role (place x) (place y)
+  pub labelled : (word : WordId) (x : ℕ) → x < length g.nodes → is_indirectly_blocked k g x ≡ false → has_concept (label_at g x) (Atomic word) ≡ true
+      → Contains (elements_of i word) (place x)
   pub names : (name : WordId) (y : ℕ) → node_of k name ≡ Some y → element_of i name ≡ place y
   pub reached : (e : ℕ) → e < i.size → (z : ℕ) × (z < length g.nodes) × (is_blocked k g z ≡ false) × (place z ≡ e)
 
-module _ (k : Theory) (g : Graph) (i : Interpretation) (place : ℕ → ℕ) (pictures : Pictures k g i place) (done : first_step k g ≡ None) (calm : has_clash k g ≡ false) (named : (name : WordId) → is_given k name ≡ true → (y : ℕ) × (node_of k name ≡ Some y) × (y < length g.nodes) × (is_blocked k g y ≡ false)) where
+module _ (k : Theory) (g : Graph) (i : Interpretation) (place : ℕ → ℕ) (pictures : Pictures k g i place) (done : first_step k g ≡ None)
+    (calm : has_clash k g ≡ false) (named : (name : WordId) → is_given k name ≡ true
+    → (y : ℕ) × (node_of k name ≡ Some y) × (y < length g.nodes) × (is_blocked k g y ≡ false)) where
   Has : ℕ → Concept → Type 0
   Has x c = has_concept (label_at g x) c ≡ true
 
@@ -42,7 +52,8 @@ module _ (k : Theory) (g : Graph) (i : Interpretation) (place : ℕ → ℕ) (pi
   free_of x clear = (or_parts (is_directly_blocked k g x) (is_indirectly_blocked k g x) clear).1
 
   mutual
-    pub truth : (c : Concept) → is_normal c ≡ true → names_given k c ≡ true → (x : ℕ) → x < length g.nodes → is_blocked k g x ≡ false → has_concept (label_at g x) c ≡ true → IsIn i c (place x)
+    pub truth : (c : Concept) → is_normal c ≡ true → names_given k c ≡ true → (x : ℕ) → x < length g.nodes → is_blocked k g x ≡ false
+        → has_concept (label_at g x) c ≡ true → IsIn i c (place x)
     truth Everything plain given x lt clear has = tt
     truth (Atomic word) plain given x lt clear has = pictures.labelled word x lt (free_of x clear) has
     truth (ComplementOf c) plain given x lt clear has = untruth c plain given x lt clear has
@@ -51,8 +62,12 @@ module _ (k : Theory) (g : Graph) (i : Interpretation) (place : ℕ → ℕ) (pi
     truth (SomeValuesFrom role c) plain given x lt clear has =
         let found = some_done k g done x lt (free_of x clear) role c has clear in
         let own = pictures.owner found.0 found.1 found.3 in
-        let inside : IsIn i c (place own.0) = truth c plain given own.0 own.1 own.2 (sym (own.4 c) ∙ found.4) in
-        (place found.0, pictures.within found.0 found.1 found.3, pictures.relates role x found.0 (free_of x clear) found.3 found.2, subst (IsIn i c) own.3 inside)
+        let inside : IsIn i c (place own.0) = truth c plain given own.0 own.1 own.2 (sym (own.4 c) ∙ found.4) in (
+          place found.0,
+          pictures.within found.0 found.1 found.3,
+          pictures.relates role x found.0 (free_of x clear) found.3 found.2,
+          subst (IsIn i c) own.3 inside,
+        )
     truth (AllValuesFrom role c) plain given x lt clear has = λ e below related.
         let far = pictures.related role (place x) e related in
         let at_x = pictures.same x far.0 lt far.2 (free_of x clear) far.4 (sym far.6) (AllValuesFrom role c) in
@@ -62,10 +77,12 @@ module _ (k : Theory) (g : Graph) (i : Interpretation) (place : ℕ → ℕ) (pi
     truth (HasValue role name) plain given x lt clear has =
         let node = named name given in
         subst (Relates i role (place x)) (sym (pictures.names name node.0 node.1))
-        (pictures.relates role x node.0 (free_of x clear) (free_of node.0 node.3) (value_done k g done x lt (free_of x clear) role name node.0 has clear node.1))
+        (pictures.relates role x node.0 (free_of x clear) (free_of node.0 node.3)
+        (value_done k g done x lt (free_of x clear) role name node.0 has clear node.1))
 
     -- a class whose complement is in the label
-    untruth : (c : Concept) → is_simple c ≡ true → names_given k c ≡ true → (x : ℕ) → x < length g.nodes → is_blocked k g x ≡ false → has_concept (label_at g x) (ComplementOf c) ≡ true → ¬ IsIn i c (place x)
+    untruth : (c : Concept) → is_simple c ≡ true → names_given k c ≡ true → (x : ℕ) → x < length g.nodes → is_blocked k g x ≡ false
+        → has_concept (label_at g x) (ComplementOf c) ≡ true → ¬ IsIn i c (place x)
     untruth Everything plain given x lt clear has = λ inside. no_nothing k g calm x lt has
     untruth (Atomic word) plain given x lt clear has = λ inside. no_pair k g calm x lt word (pictures.classes word x lt (free_of x clear) inside) has
     untruth (HasValue role name) plain given x lt clear has = λ inside.
@@ -85,7 +102,8 @@ module _ (k : Theory) (g : Graph) (i : Interpretation) (place : ℕ → ℕ) (pi
     untruth (SomeValuesFrom role c) plain given x lt clear has = cc
     untruth (AllValuesFrom role c) plain given x lt clear has = cc
 
-    truth_each : (cs : Concepts) → each_normal cs ≡ true → each_names_given k cs ≡ true → (x : ℕ) → x < length g.nodes → is_blocked k g x ≡ false → list_all (has_concept (label_at g x)) (members_in cs) ≡ true → IsInEach i cs (place x)
+    truth_each : (cs : Concepts) → each_normal cs ≡ true → each_names_given k cs ≡ true → (x : ℕ) → x < length g.nodes → is_blocked k g x ≡ false
+        → list_all (has_concept (label_at g x)) (members_in cs) ≡ true → IsInEach i cs (place x)
     truth_each no_concept plain given x lt clear has = tt
     truth_each (also_concept c cs) plain given x lt clear has =
         let n = and_parts (is_normal c) (each_normal cs) plain in
@@ -93,7 +111,8 @@ module _ (k : Theory) (g : Graph) (i : Interpretation) (place : ℕ → ℕ) (pi
         let h = and_parts (has_concept (label_at g x) c) (list_all (has_concept (label_at g x)) (members_in cs)) has in
         (truth c n.0 q.0 x lt clear h.0, truth_each cs n.1 q.1 x lt clear h.1)
 
-    truth_some : (cs : Concepts) → each_normal cs ≡ true → each_names_given k cs ≡ true → (x : ℕ) → x < length g.nodes → is_blocked k g x ≡ false → list_any (has_concept (label_at g x)) (members_in cs) ≡ true → IsInSome i cs (place x)
+    truth_some : (cs : Concepts) → each_normal cs ≡ true → each_names_given k cs ≡ true → (x : ℕ) → x < length g.nodes → is_blocked k g x ≡ false
+        → list_any (has_concept (label_at g x)) (members_in cs) ≡ true → IsInSome i cs (place x)
     truth_some no_concept plain given x lt clear has = cc
     truth_some (also_concept c cs) plain given x lt clear has =
         let n = and_parts (is_normal c) (each_normal cs) plain in

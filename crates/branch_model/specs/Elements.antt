@@ -1,4 +1,4 @@
--- The elements of a branch's model: the nodes that are not blocked, in order.
+-- The elements of a branch's model: the nodes that are not blocked, in order. Only private calls speak of it.
 use Rattle.std.specs.Prelude.{ℕ, ◌≡◌, ◌<◌, ◌⊎◌, Bool, true, false, List, length, Option, Some, None, slice_get}
 use Rattle.logic_terms.specs.Theory.{Theory}
 use Rattle.tableau_rules.specs.Graph.{Graph, label_at, parent_of}
@@ -23,5 +23,6 @@ StandsFor k g x z = ((is_blocked k g x ≡ false) × (x ≡ z)) ⊎ ((is_directl
 pub record ArePlaced (k : Theory) (g : Graph) (count : ℕ) (owners : List ℕ) (stands : List (Option ℕ)) : Type 0 where
   pub all : length stands ≡ count
   pub hidden : (x : ℕ) → x < count → is_indirectly_blocked k g x ≡ true → slice_get stands x ≡ Some None
-  pub shown : (x : ℕ) → x < count → is_indirectly_blocked k g x ≡ false → (e : ℕ) × (z : ℕ) × (slice_get stands x ≡ Some (Some e)) × (slice_get owners e ≡ Some z) × StandsFor k g x z
+  pub shown : (x : ℕ) → x < count → is_indirectly_blocked k g x ≡ false
+      → (e : ℕ) × (z : ℕ) × (slice_get stands x ≡ Some (Some e)) × (slice_get owners e ≡ Some z) × StandsFor k g x z
   pub owned : (e z : ℕ) → slice_get owners e ≡ Some z → (z < count) × (is_blocked k g z ≡ false) × (slice_get stands z ≡ Some (Some e))

@@ -1,4 +1,4 @@
--- Words with lists, in order of the words.
+-- Words with lists, in order of the words. Only private calls speak of it.
 use Rattle.std.specs.Prelude.{ℕ, ◌==◌, List, [], ◌∷◌, ◌++◌, nat_lt, if◌then◌else◌}
 use Rattle.wiki_base.specs.declared.numbers.WordId.{WordId}
 

@@ -1,4 +1,4 @@
--- The elements of class words, and the pairs of relation words, in a branch's model.
+-- The elements of class words, and the pairs of relation words, in a branch's model. Only private calls speak of it.
 use Rattle.std.specs.Prelude.{ℕ, ◌+◌, List, [], ◌∷◌, Option, Some, None, slice_get, if◌then◌else◌}
 use Rattle.std.specs.Option.{option_map_or, option_and_then}
 use Rattle.wiki_base.specs.declared.numbers.WordId.{WordId}
@@ -37,7 +37,8 @@ stand_of stands x = option_and_then (λ s. s) (slice_get stands x)
 -- the pairs of an edge between nodes with elements
 abbrev pub linked : Theory → List (Option ℕ) → Edge → List (WordId × List (ℕ × ℕ)) → List (WordId × List (ℕ × ℕ))
 linked k stands edge es =
-    option_map_or (λ a. option_map_or (λ b. paired_above k.hierarchy edge.role a b (paired edge.role a b es)) (stand_of stands edge.to) es) (stand_of stands edge.from) es
+    option_map_or (λ a. option_map_or (λ b. paired_above k.hierarchy edge.role a b (paired edge.role a b es)) (stand_of stands edge.to) es)
+    (stand_of stands edge.from) es
 
 -- the pairs of edges
 abbrev pub links : Theory → List (Option ℕ) → List Edge → List (WordId × List (ℕ × ℕ)) → List (WordId × List (ℕ × ℕ))

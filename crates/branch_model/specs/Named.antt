@@ -1,4 +1,4 @@
--- The elements of names in a branch's model.
+-- The elements of names in a branch's model. Only private calls speak of it.
 use Rattle.std.specs.Prelude.{ℕ, List, map, Option, unwrap_or}
 use Rattle.std.specs.Option.{option_map_or}
 use Rattle.wiki_base.specs.declared.numbers.WordId.{WordId}

@@ -3,58 +3,19 @@ use Rattle.std.proofs.Common.{◌≡◌, ℕ, suc, zero, ◌+◌, ◌<◌, ◌�
 use Rattle.std.specs.Prelude.{slice_get}
 use Rattle.std.proofs.lemmas.Option.{same_Some}
 use Rattle.std.proofs.lemmas.Bool.Decides.{nat_tests}
+use Rattle.std.proofs.lemmas.List.{take-append-le, take-take, take_all, length-take-le, map_push}
 use Rattle.codeco_terms.specs.declared.categories.Ground.{Ground}
 use Rattle.codeco_terms.specs.GrammarParts.{GrammarParts}
 use Rattle.derivation_trees.specs.Trees.{Node}
 use Rattle.derivation_trees.specs.Settings.{Setting}
 use Rattle.derivation_trees.specs.Derives.{IsDerivation}
 use Rattle.wiki_base.specs.declared.tokens.TheConstants.{MOST_TOKENS}
+use Rattle.wiki_base.proofs.ListLaws.{slice_get-append, slice_get-take, length_mapped}
 use Rattle.chart.specs.Charts.{first_of, IsChart}
-
-slice_front : {X : Type 0} (xs ys : List X) (i : ℕ) → i < length xs → slice_get (xs ++ ys) i ≡ slice_get xs i
-slice_front [] ys i lt = absurd (omega arith)
-slice_front (x ∷ xs) ys zero lt = refl
-slice_front (x ∷ xs) ys (suc i) lt = slice_front xs ys i (omega arith)
 
 slice_end : {X : Type 0} (xs : List X) (x : X) → slice_get (xs ++ x ∷ []) (length xs) ≡ Some x
 slice_end [] x = refl
 slice_end (y ∷ xs) x = slice_end xs x
-
-slice_take : {X : Type 0} (n i : ℕ) (xs : List X) → i < n → slice_get (take n xs) i ≡ slice_get xs i
-slice_take zero i xs lt = absurd (omega arith)
-slice_take (suc n) i [] lt = refl
-slice_take (suc n) zero (x ∷ xs) lt = refl
-slice_take (suc n) (suc i) (x ∷ xs) lt = slice_take n i xs (omega arith)
-
-take_front : {X : Type 0} (n : ℕ) (xs ys : List X) → n ≤ length xs → take n (xs ++ ys) ≡ take n xs
-take_front zero xs ys le = refl
-take_front (suc n) [] ys le = absurd (omega arith)
-take_front (suc n) (x ∷ xs) ys le = ap (λ l. x ∷ l) (take_front n xs ys (omega arith))
-
-take_less : {X : Type 0} (n m : ℕ) (xs : List X) → n ≤ m → take n (take m xs) ≡ take n xs
-take_less zero m xs le = refl
-take_less (suc n) zero xs le = absurd (omega arith)
-take_less (suc n) (suc m) [] le = refl
-take_less (suc n) (suc m) (x ∷ xs) le = ap (λ l. x ∷ l) (take_less n m xs (omega arith))
-
-take_whole : {X : Type 0} (n : ℕ) (xs : List X) → length xs ≤ n → take n xs ≡ xs
-take_whole zero [] le = refl
-take_whole zero (x ∷ xs) le = absurd (omega arith)
-take_whole (suc n) [] le = refl
-take_whole (suc n) (x ∷ xs) le = ap (λ ys. x ∷ ys) (take_whole n xs (omega arith))
-
-take_long : {X : Type 0} (n : ℕ) (xs : List X) → n ≤ length xs → length (take n xs) ≡ n
-take_long zero xs le = refl
-take_long (suc n) [] le = absurd (omega arith)
-take_long (suc n) (x ∷ xs) le = let rest = take_long n xs (omega arith) in omega arith
-
-length_map : {X Y : Type 0} (f : X → Y) (xs : List X) → length (map f xs) ≡ length xs
-length_map f [] = refl
-length_map f (x ∷ xs) = let rest = length_map f xs in omega arith
-
-map_push : {X Y : Type 0} (f : X → Y) (xs : List X) (x : X) → map f (xs ++ x ∷ []) ≡ map f xs ++ f x ∷ []
-map_push f [] x = refl
-map_push f (y ∷ xs) x = ap (λ l. f y ∷ l) (map_push f xs x)
 
 -- the tokens have a derivation
 abbrev pub Derived : Setting → Type 0
@@ -79,39 +40,51 @@ none_told g told_of is = record {
     at zero b le h = subst (λ x. IsTrue x ↔ Derived (setting g [] [])) (same_Some told_of b h) is
     at (suc count) b le h = absurd (omega arith)
 
-pub chart_none : (g : GrammarParts) (tokens : List (List ℕ)) (readings : List (List Ground)) (derives : List Bool) (told_of : Bool) → tokens ≡ [] → readings ≡ [] → derives ≡ told_of ∷ [] → IsTrue told_of ↔ Derived (setting g [] []) → IsChart (setting g tokens readings) derives
+pub chart_none : (g : GrammarParts) (tokens : List (List ℕ)) (readings : List (List Ground)) (derives : List Bool) (told_of : Bool) → tokens ≡ []
+    → readings ≡ [] → derives ≡ told_of ∷ [] → IsTrue told_of ↔ Derived (setting g [] []) → IsChart (setting g tokens readings) derives
 chart_none g tokens readings derives told_of t r d is =
-    subst (λ x. IsChart (setting g x readings) derives) (sym t) (subst (λ x. IsChart (setting g [] x) derives) (sym r) (subst (IsChart (setting g [] [])) (sym d) (none_told g told_of is)))
+    subst (λ x. IsChart (setting g x readings) derives) (sym t)
+    (subst (λ x. IsChart (setting g [] x) derives) (sym r) (subst (IsChart (setting g [] [])) (sym d) (none_told g told_of is)))
 
 -- one more token, whose readings a function of tokens gives
-pub chart_more : (g : GrammarParts) (f : List ℕ → List Ground) (tokens : List (List ℕ)) (token : List ℕ) (derives : List Bool) (told_of : Bool) → length tokens < MOST_TOKENS → IsChart (setting g tokens (map f tokens)) derives → IsTrue told_of ↔ Derived (setting g (tokens ++ token ∷ []) (map f (tokens ++ token ∷ []))) → IsChart (setting g (tokens ++ token ∷ []) (map f (tokens ++ token ∷ []))) (derives ++ told_of ∷ [])
+pub chart_more : (g : GrammarParts) (f : List ℕ → List Ground) (tokens : List (List ℕ)) (token : List ℕ) (derives : List Bool) (told_of : Bool)
+    → length tokens < MOST_TOKENS → IsChart (setting g tokens (map f tokens)) derives
+    → IsTrue told_of ↔ Derived (setting g (tokens ++ token ∷ []) (map f (tokens ++ token ∷ [])))
+    → IsChart (setting g (tokens ++ token ∷ []) (map f (tokens ++ token ∷ []))) (derives ++ told_of ∷ [])
 chart_more g f tokens token derives told_of room chart is = record {
   few = omega (arith, length-append tokens (token ∷ []));
-  read = length_map f (tokens ++ token ∷ []);
+  read = length_mapped f (tokens ++ token ∷ []);
   all = let before = chart.all in omega (arith, length-append derives (told_of ∷ []), length-append tokens (token ∷ []));
   told = λ count b le h. by_last count b le h (nat_lt (length tokens) count) refl;
 }
   where
-    by_last : (count : ℕ) (b : Bool) → count ≤ length (tokens ++ token ∷ []) → slice_get (derives ++ told_of ∷ []) count ≡ Some b → (last : Bool) → nat_lt (length tokens) count ≡ last → IsTrue b ↔ Derived (first_of (setting g (tokens ++ token ∷ []) (map f (tokens ++ token ∷ []))) count)
+    by_last : (count : ℕ) (b : Bool) → count ≤ length (tokens ++ token ∷ []) → slice_get (derives ++ told_of ∷ []) count ≡ Some b → (last : Bool)
+        → nat_lt (length tokens) count ≡ last → IsTrue b ↔ Derived (first_of (setting g (tokens ++ token ∷ []) (map f (tokens ++ token ∷ []))) count)
     by_last count b le h true t =
         let lt : length tokens < count = grind (arith, nat_tests) in
         let all = chart.all in
         let here : count ≡ length derives = omega (arith, length-append tokens (token ∷ [])) in
         let same : told_of ≡ b = same_Some told_of b (sym (slice_end derives told_of) ∙ ap (slice_get (derives ++ told_of ∷ [])) (sym here) ∙ h) in
-        let whole : take count (tokens ++ token ∷ []) ≡ tokens ++ token ∷ [] = take_whole count (tokens ++ token ∷ []) (omega (arith, length-append tokens (token ∷ []))) in
-        let whole_readings : take count (map f (tokens ++ token ∷ [])) ≡ map f (tokens ++ token ∷ []) = take_whole count (map f (tokens ++ token ∷ [])) (omega (arith, length-append tokens (token ∷ []), length_map f (tokens ++ token ∷ []))) in
-        subst (λ x. IsTrue x ↔ Derived (first_of (setting g (tokens ++ token ∷ []) (map f (tokens ++ token ∷ []))) count)) same (subst (λ s. IsTrue told_of ↔ Derived s) (sym (setting_same g _ _ _ _ whole whole_readings)) is)
+        let whole : take count (tokens ++ token ∷ []) ≡ tokens ++ token ∷ [] =
+        take_all count (tokens ++ token ∷ []) (omega (arith, length-append tokens (token ∷ []))) in
+        let whole_readings : take count (map f (tokens ++ token ∷ [])) ≡ map f (tokens ++ token ∷ []) =
+        take_all count (map f (tokens ++ token ∷ [])) (omega (arith, length-append tokens (token ∷ []), length_mapped f (tokens ++ token ∷ []))) in
+        subst (λ x. IsTrue x ↔ Derived (first_of (setting g (tokens ++ token ∷ []) (map f (tokens ++ token ∷ []))) count)) same
+        (subst (λ s. IsTrue told_of ↔ Derived s) (sym (setting_same g _ _ _ _ whole whole_readings)) is)
     by_last count b le h false t =
         let within : count ≤ length tokens = grind (arith, nat_tests) in
         let all = chart.all in
         let lt : count < length derives = omega arith in
-        let front : take count (tokens ++ token ∷ []) ≡ take count tokens = take_front count tokens (token ∷ []) within in
-        let in_readings : count ≤ length (map f tokens) = omega (arith, length_map f tokens) in
-        let front_readings : take count (map f (tokens ++ token ∷ [])) ≡ take count (map f tokens) = ap (take count) (map_push f tokens token) ∙ take_front count (map f tokens) (f token ∷ []) in_readings in
-        subst (λ s. IsTrue b ↔ Derived s) (sym (setting_same g _ _ _ _ front front_readings)) (chart.told count b within (sym (slice_front derives (told_of ∷ []) count lt) ∙ h))
+        let front : take count (tokens ++ token ∷ []) ≡ take count tokens = take-append-le count tokens (token ∷ []) within in
+        let in_readings : count ≤ length (map f tokens) = omega (arith, length_mapped f tokens) in
+        let front_readings : take count (map f (tokens ++ token ∷ [])) ≡ take count (map f tokens) =
+        ap (take count) (map_push f tokens token) ∙ take-append-le count (map f tokens) (f token ∷ []) in_readings in
+        subst (λ s. IsTrue b ↔ Derived s) (sym (setting_same g _ _ _ _ front front_readings))
+        (chart.told count b within (sym (slice_get-append derives (told_of ∷ []) count lt) ∙ h))
 
 -- all but the last token
-pub chart_less : (s : Setting) (derives : List Bool) (count : ℕ) → count ≤ length s.tokens → IsChart s derives → IsChart (first_of s count) (take (count + 1) derives)
+pub chart_less : (s : Setting) (derives : List Bool) (count : ℕ) → count ≤ length s.tokens → IsChart s derives
+    → IsChart (first_of s count) (take (count + 1) derives)
 chart_less s derives count le chart =
     let all = chart.all in
     let few = chart.few in
@@ -119,46 +92,62 @@ chart_less s derives count le chart =
     let in_readings : count ≤ length s.readings = omega arith in
     let in_derives : count + 1 ≤ length derives = omega arith in
     record {
-      few = omega (arith, take_long count s.tokens le);
-      read = take_long count s.readings in_readings ∙ sym (take_long count s.tokens le);
-      all = take_long (count + 1) derives in_derives ∙ ap (λ k. k + 1) (sym (take_long count s.tokens le));
+      few = omega (arith, length-take-le count s.tokens le);
+      read = length-take-le count s.readings in_readings ∙ sym (length-take-le count s.tokens le);
+      all = length-take-le (count + 1) derives in_derives ∙ ap (λ k. k + 1) (sym (length-take-le count s.tokens le));
       told = λ k b within h.
-          let less : k ≤ count = omega (arith, take_long count s.tokens le) in
+          let less : k ≤ count = omega (arith, length-take-le count s.tokens le) in
           let lt : k < count + 1 = omega arith in
           let inside : k ≤ length s.tokens = omega arith in
-          subst (λ x. IsTrue b ↔ Derived x) (sym (setting_same s.grammar _ _ _ _ (take_less k count s.tokens less) (take_less k count s.readings less))) (chart.told k b inside (sym (slice_take (count + 1) k derives lt) ∙ h));
+          subst (λ x. IsTrue b ↔ Derived x) (sym (setting_same s.grammar _ _ _ _ (take-take k count s.tokens less) (take-take k count s.readings less)))
+          (chart.told k b inside (sym (slice_get-take (count + 1) k derives lt) ∙ h));
     }
 
 -- all tokens
-pub chart_told : (s : Setting) (derives : List Bool) (told_of : Bool) → IsChart s derives → slice_get derives (length s.tokens) ≡ Some told_of → IsTrue told_of ↔ Derived s
+pub chart_told : (s : Setting) (derives : List Bool) (told_of : Bool) → IsChart s derives → slice_get derives (length s.tokens) ≡ Some told_of
+    → IsTrue told_of ↔ Derived s
 chart_told s derives told_of chart h =
     let read = chart.read in
-    subst (λ x. IsTrue told_of ↔ Derived x) (setting_same s.grammar _ _ _ _ (take_whole (length s.tokens) s.tokens (omega arith)) (take_whole (length s.tokens) s.readings (omega arith))) (chart.told (length s.tokens) told_of (omega arith) h)
+    subst (λ x. IsTrue told_of ↔ Derived x)
+    (setting_same s.grammar _ _ _ _ (take_all (length s.tokens) s.tokens (omega arith)) (take_all (length s.tokens) s.readings (omega arith)))
+    (chart.told (length s.tokens) told_of (omega arith) h)
 
 -- the chart after an advance, by what it kept
-pub chart_grown : (g kept : GrammarParts) (f : List ℕ → List Ground) (s : Setting) (old : List (List ℕ)) (old_readings : List (List Ground)) (token : List ℕ) (tokens : List (List ℕ)) (readings : List (List Ground)) (derives grown : List Bool) (b : Bool) → setting kept old old_readings ≡ s → s ≡ setting g s.tokens (map f s.tokens) → length s.tokens < MOST_TOKENS → IsChart (setting kept old old_readings) derives → tokens ≡ old ++ token ∷ [] → readings ≡ map f tokens → grown ≡ derives ++ b ∷ [] → IsTrue b ↔ Derived (setting g tokens (map f tokens)) → IsChart (setting kept tokens readings) grown
+pub chart_grown : (g kept : GrammarParts) (f : List ℕ → List Ground) (s : Setting) (old : List (List ℕ)) (old_readings : List (List Ground)) (token : List ℕ)
+    (tokens : List (List ℕ)) (readings : List (List Ground)) (derives grown : List Bool) (b : Bool) → setting kept old old_readings ≡ s
+    → s ≡ setting g s.tokens (map f s.tokens) → length s.tokens < MOST_TOKENS → IsChart (setting kept old old_readings) derives → tokens ≡ old ++ token ∷ []
+    → readings ≡ map f tokens → grown ≡ derives ++ b ∷ [] → IsTrue b ↔ Derived (setting g tokens (map f tokens)) → IsChart (setting kept tokens readings) grown
 chart_grown g kept f s old old_readings token tokens readings derives grown b view is_kept room chart t r d is =
     let grammar_is : kept ≡ g = ap (λ x. x.grammar) (view ∙ is_kept) in
     let old_is : old ≡ s.tokens = ap (λ x. x.tokens) view in
     let readings_are : old_readings ≡ map f old = ap (λ x. x.readings) (view ∙ is_kept) ∙ ap (map f) (sym old_is) in
     let below : length old < MOST_TOKENS = subst (λ x. length x < MOST_TOKENS) (sym old_is) room in
-    let before : IsChart (setting g old (map f old)) derives = subst (λ x. IsChart x derives) (ap (λ x. setting x old old_readings) grammar_is ∙ ap (setting g old) readings_are) chart in
+    let before : IsChart (setting g old (map f old)) derives =
+    subst (λ x. IsChart x derives) (ap (λ x. setting x old old_readings) grammar_is ∙ ap (setting g old) readings_are) chart in
     let told : IsTrue b ↔ Derived (setting g (old ++ token ∷ []) (map f (old ++ token ∷ []))) = subst (λ x. IsTrue b ↔ Derived (setting g x (map f x))) t is in
     let after = chart_more g f old token derives b below before told in
-    let same : setting kept tokens readings ≡ setting g (old ++ token ∷ []) (map f (old ++ token ∷ [])) = ap (λ x. setting x tokens readings) grammar_is ∙ ap (setting g tokens) r ∙ ap (λ x. setting g x (map f x)) t in
+    let same : setting kept tokens readings ≡ setting g (old ++ token ∷ []) (map f (old ++ token ∷ [])) =
+    ap (λ x. setting x tokens readings) grammar_is ∙ ap (setting g tokens) r ∙ ap (λ x. setting g x (map f x)) t in
     subst (λ x. IsChart x grown) (sym same) (subst (IsChart (setting g (old ++ token ∷ []) (map f (old ++ token ∷ [])))) (sym d) after)
 
 -- a chart by its own tokens
-pub kept_on : (g : GrammarParts) (f : List ℕ → List Ground) (s : Setting) (tokens : List (List ℕ)) → s ≡ setting g tokens (map f tokens) → s ≡ setting g s.tokens (map f s.tokens)
+pub kept_on : (g : GrammarParts) (f : List ℕ → List Ground) (s : Setting) (tokens : List (List ℕ)) → s ≡ setting g tokens (map f tokens)
+    → s ≡ setting g s.tokens (map f s.tokens)
 kept_on g f s tokens e = e ∙ ap (λ t. setting g t (map f t)) (sym (ap (λ x. x.tokens) e))
 
 -- the readings that a chart keeps are those that the lexicon gives
-pub readings_kept : (g kept : GrammarParts) (f : List ℕ → List Ground) (s : Setting) (old : List (List ℕ)) (old_readings : List (List Ground)) → setting kept old old_readings ≡ s → s ≡ setting g s.tokens (map f s.tokens) → old_readings ≡ map f old
+pub readings_kept : (g kept : GrammarParts) (f : List ℕ → List Ground) (s : Setting) (old : List (List ℕ)) (old_readings : List (List Ground))
+    → setting kept old old_readings ≡ s → s ≡ setting g s.tokens (map f s.tokens) → old_readings ≡ map f old
 readings_kept g kept f s old old_readings view is_kept =
     ap (λ x. x.readings) (view ∙ is_kept) ∙ ap (map f) (sym (ap (λ x. x.tokens) view))
 
 -- the first tokens, which read as before
-pub chart_unchanged : (s : Setting) (derives : List Bool) (f : List ℕ → List Ground) (n : ℕ) (g : GrammarParts) (tokens : List (List ℕ)) (readings : List (List Ground)) (told_of : List Bool) → g ≡ s.grammar → tokens ≡ take n s.tokens → readings ≡ map f tokens → take n s.readings ≡ map f (take n s.tokens) → told_of ≡ take (n + 1) derives → n ≤ length s.tokens → IsChart s derives → IsChart (setting g tokens readings) told_of
+pub chart_unchanged : (s : Setting) (derives : List Bool) (f : List ℕ → List Ground) (n : ℕ) (g : GrammarParts) (tokens : List (List ℕ))
+    (readings : List (List Ground)) (told_of : List Bool) → g ≡ s.grammar → tokens ≡ take n s.tokens → readings ≡ map f tokens
+    → take n s.readings ≡ map f (take n s.tokens) → told_of ≡ take (n + 1) derives → n ≤ length s.tokens → IsChart s derives
+    → IsChart (setting g tokens readings) told_of
 chart_unchanged s derives f n g tokens readings told_of same first read alike told_is within chart =
-    let is : setting g tokens readings ≡ first_of s n = ap (λ x. setting x tokens readings) same ∙ setting_same s.grammar tokens (take n s.tokens) readings (take n s.readings) first (read ∙ ap (map f) first ∙ sym alike) in
+    let is : setting g tokens readings ≡ first_of s n =
+    ap (λ x. setting x tokens readings) same
+    ∙ setting_same s.grammar tokens (take n s.tokens) readings (take n s.readings) first (read ∙ ap (map f) first ∙ sym alike) in
     subst (λ x. IsChart x told_of) (sym is) (subst (IsChart (first_of s n)) (sym told_is) (chart_less s derives n within chart))

@@ -76,11 +76,14 @@ form_at live e h =
 
 at_form : (live : List Word) (e : Group × List ℕ) → FormAt live e → Has (forms_among live) e
 at_form live e f =
-    subst (λ g. Has (forms_among live) (g, e.1)) f.group (among_flat_map forms_in live f.word (group_of f.word.forms.kind, e.1) (slice_among live f.place f.word f.lives) (among_map (λ t. (group_of f.word.forms.kind, t)) f.word.forms.texts e.1 (slice_among f.word.forms.texts f.at e.1 f.is)))
+    subst (λ g. Has (forms_among live) (g, e.1)) f.group
+    (among_flat_map forms_in live f.word (group_of f.word.forms.kind, e.1) (slice_among live f.place f.word f.lives)
+    (among_map (λ t. (group_of f.word.forms.kind, t)) f.word.forms.texts e.1 (slice_among f.word.forms.texts f.at e.1 f.is)))
 
 -- what is told of a list of asks, in two parts
 
-told_split : (s : Setting) (n : ℕ) (xs ys : List Ask) (bs : List Bool) → Told s n (xs ++ ys) bs → (one : List Bool) × ((two : List Bool) × (bs ≡ one ++ two) × Told s n xs one × Told s n ys two)
+told_split : (s : Setting) (n : ℕ) (xs ys : List Ask) (bs : List Bool) → Told s n (xs ++ ys) bs
+    → (one : List Bool) × ((two : List Bool) × (bs ≡ one ++ two) × Told s n xs one × Told s n ys two)
 told_split s n [] ys bs told = ([], (bs, refl, tt, told))
 told_split s n (x ∷ xs) ys [] told = absurd told
 told_split s n (x ∷ xs) ys (b ∷ bs) told =
@@ -108,7 +111,8 @@ record FormFound (s : Setting) (n : ℕ) (k : Kind) (id : WordId) (group : Group
   group_is : group ≡ e.0
   asked : AsksAt s n (ask.Reading (reading k id (place + at) e.1))
 
-form_found : (s : Setting) (n : ℕ) (k : Kind) (id : WordId) (group : Group) (place : ℕ) (forms : List (List ℕ)) (bs : List Bool) (e : Group × List ℕ) → Told s n (form_asks k id place forms) bs → Has (chosen (map (λ t. (group, t)) forms) bs) e → FormFound s n k id group place forms e
+form_found : (s : Setting) (n : ℕ) (k : Kind) (id : WordId) (group : Group) (place : ℕ) (forms : List (List ℕ)) (bs : List Bool) (e : Group × List ℕ)
+    → Told s n (form_asks k id place forms) bs → Has (chosen (map (λ t. (group, t)) forms) bs) e → FormFound s n k id group place forms e
 form_found s n k id group place [] bs e told h = absurd h
 form_found s n k id group place (form ∷ forms) [] e told h = absurd told
 form_found s n k id group place (form ∷ forms) (false ∷ bs) e told h =
@@ -126,26 +130,32 @@ form_found s n k id group place (form ∷ forms) (true ∷ bs) e told (inl h) =
       at = 0;
       is = ap Some text;
       group_is = ap (λ (x : Group × List ℕ). x.0) (sym h);
-      asked = subst (λ p. AsksAt s n (ask.Reading (reading k id p e.1))) none_more (subst (λ t. AsksAt s n (ask.Reading (reading k id place t))) text (told.0.0 refl));
+      asked = subst (λ p. AsksAt s n (ask.Reading (reading k id p e.1))) none_more
+          (subst (λ t. AsksAt s n (ask.Reading (reading k id place t))) text (told.0.0 refl));
     }
 
-found_form : (s : Setting) (n : ℕ) (k : Kind) (id : WordId) (group : Group) (place : ℕ) (forms : List (List ℕ)) (bs : List Bool) (at : ℕ) (text : List ℕ) → Told s n (form_asks k id place forms) bs → slice_get forms at ≡ Some text → AsksAt s n (ask.Reading (reading k id (place + at) text)) → Has (chosen (map (λ t. (group, t)) forms) bs) (group, text)
+found_form : (s : Setting) (n : ℕ) (k : Kind) (id : WordId) (group : Group) (place : ℕ) (forms : List (List ℕ)) (bs : List Bool) (at : ℕ) (text : List ℕ)
+    → Told s n (form_asks k id place forms) bs → slice_get forms at ≡ Some text → AsksAt s n (ask.Reading (reading k id (place + at) text))
+    → Has (chosen (map (λ t. (group, t)) forms) bs) (group, text)
 found_form s n k id group place [] bs at text told is asked = absurd (cc)
 found_form s n k id group place (form ∷ forms) [] at text told is asked = absurd told
 found_form s n k id group place (form ∷ forms) (true ∷ bs) zero text told is asked = inl (ap (λ t. (group, t)) (sym (same_Some form text is)))
 found_form s n k id group place (form ∷ forms) (false ∷ bs) zero text told is asked =
     let none_less : place + 0 ≡ place = omega arith in
-    let no : false ≡ true = told.0.1 (subst (λ t. AsksAt s n (ask.Reading (reading k id place t))) (sym (same_Some form text is)) (subst (λ p. AsksAt s n (ask.Reading (reading k id p text))) none_less asked)) in
+    let no : false ≡ true = told.0.1 (subst (λ t. AsksAt s n (ask.Reading (reading k id place t))) (sym (same_Some form text is))
+    (subst (λ p. AsksAt s n (ask.Reading (reading k id p text))) none_less asked)) in
     absurd (cc)
 found_form s n k id group place (form ∷ forms) (b ∷ bs) (suc at) text told is asked =
     let next : place + suc at ≡ place + 1 + at = omega arith in
     by b (found_form s n k id group (place + 1) forms bs at text told.1 is (subst (λ p. AsksAt s n (ask.Reading (reading k id p text))) next asked))
   where
-    by : (c : Bool) → Has (chosen (map (λ t. (group, t)) forms) bs) (group, text) → Has (if c then (group, form) ∷ chosen (map (λ t. (group, t)) forms) bs else chosen (map (λ t. (group, t)) forms) bs) (group, text)
+    by : (c : Bool) → Has (chosen (map (λ t. (group, t)) forms) bs) (group, text)
+        → Has (if c then (group, form) ∷ chosen (map (λ t. (group, t)) forms) bs else chosen (map (λ t. (group, t)) forms) bs) (group, text)
     by true h = inr h
     by false h = h
 
-asks_long : (k : Kind) (id : WordId) (place : ℕ) (forms : List (List ℕ)) (group : Group) → length (form_asks k id place forms) ≡ length {A = Group × List ℕ} (map (λ t. (group, t)) forms)
+asks_long : (k : Kind) (id : WordId) (place : ℕ) (forms : List (List ℕ)) (group : Group)
+    → length (form_asks k id place forms) ≡ length {A = Group × List ℕ} (map (λ t. (group, t)) forms)
 asks_long k id place [] group = refl
 asks_long k id place (form ∷ forms) group = let rest = asks_long k id (place + 1) forms group in omega arith
 
@@ -159,20 +169,27 @@ record UsedFound (s : Setting) (n : ℕ) (rs : List (List Ground)) (ws : List Wo
 abbrev further : (w : Word) (ws : List Word) (e : Group × List ℕ) → FormAt ws e → FormAt (w ∷ ws) e
 further w ws e f = record { place = suc f.place; word = f.word; lives = f.lives; at = f.at; is = f.is; group = f.group }
 
-used_found : (s : Setting) (n : ℕ) (rs : List (List Ground)) (ws : List Word) (bs : List Bool) (e : Group × List ℕ) → Told s n (used_asks rs ws) bs → Has (chosen (used_forms rs ws) bs) e → UsedFound s n rs ws e
+used_found : (s : Setting) (n : ℕ) (rs : List (List Ground)) (ws : List Word) (bs : List Bool) (e : Group × List ℕ) → Told s n (used_asks rs ws) bs
+    → Has (chosen (used_forms rs ws) bs) e → UsedFound s n rs ws e
 used_found s n rs [] bs e told h = absurd h
 used_found s n rs (w ∷ ws) bs e told h = by (is_used rs w.id) refl (λ cs t m. later (used_found s n rs ws cs e t m)) told h
   where
     later : UsedFound s n rs ws e → UsedFound s n rs (w ∷ ws) e
     later r = record { form = further w ws e r.form; used = r.used; asked = r.asked }
 
-    by : (b : Bool) → is_used rs w.id ≡ b → ((cs : List Bool) → Told s n (used_asks rs ws) cs → Has (chosen (used_forms rs ws) cs) e → UsedFound s n rs (w ∷ ws) e) → Told s n (if b then form_asks w.forms.kind w.id 0 w.forms.texts ++ used_asks rs ws else used_asks rs ws) bs → Has (chosen (if b then forms_in w ++ used_forms rs ws else used_forms rs ws) bs) e → UsedFound s n rs (w ∷ ws) e
+    by : (b : Bool) → is_used rs w.id ≡ b
+        → ((cs : List Bool) → Told s n (used_asks rs ws) cs → Has (chosen (used_forms rs ws) cs) e → UsedFound s n rs (w ∷ ws) e)
+        → Told s n (if b then form_asks w.forms.kind w.id 0 w.forms.texts ++ used_asks rs ws else used_asks rs ws) bs
+        → Has (chosen (if b then forms_in w ++ used_forms rs ws else used_forms rs ws) bs) e → UsedFound s n rs (w ∷ ws) e
     by false is rest t m = rest bs t m
     by true is rest t m =
         let r = told_split s n (form_asks w.forms.kind w.id 0 w.forms.texts) (used_asks rs ws) bs t in
-        let long : length r.0 ≡ length (forms_in w) = told_long s n (form_asks w.forms.kind w.id 0 w.forms.texts) r.0 r.1.2 ∙ asks_long w.forms.kind w.id 0 w.forms.texts (group_of w.forms.kind) in
-        let parts : Has (chosen (forms_in w) r.0 ++ chosen (used_forms rs ws) r.1.0) e = subst (λ l. Has l e) (ap (chosen (forms_in w ++ used_forms rs ws)) r.1.1 ∙ chosen_append (forms_in w) (used_forms rs ws) r.0 r.1.0 long) m in
-        either (λ here. first (form_found s n w.forms.kind w.id (group_of w.forms.kind) 0 w.forms.texts r.0 e r.1.2 here)) (λ there. rest r.1.0 r.1.3 there) (either_among (chosen (forms_in w) r.0) (chosen (used_forms rs ws) r.1.0) e parts)
+        let long : length r.0 ≡ length (forms_in w) =
+        told_long s n (form_asks w.forms.kind w.id 0 w.forms.texts) r.0 r.1.2 ∙ asks_long w.forms.kind w.id 0 w.forms.texts (group_of w.forms.kind) in
+        let parts : Has (chosen (forms_in w) r.0 ++ chosen (used_forms rs ws) r.1.0) e =
+        subst (λ l. Has l e) (ap (chosen (forms_in w ++ used_forms rs ws)) r.1.1 ∙ chosen_append (forms_in w) (used_forms rs ws) r.0 r.1.0 long) m in
+        either (λ here. first (form_found s n w.forms.kind w.id (group_of w.forms.kind) 0 w.forms.texts r.0 e r.1.2 here)) (λ there. rest r.1.0 r.1.3 there)
+        (either_among (chosen (forms_in w) r.0) (chosen (used_forms rs ws) r.1.0) e parts)
       where
         first : FormFound s n w.forms.kind w.id (group_of w.forms.kind) 0 w.forms.texts e → UsedFound s n rs (w ∷ ws) e
         first f =
@@ -183,28 +200,45 @@ used_found s n rs (w ∷ ws) bs e told h = by (is_used rs w.id) refl (λ cs t m.
               asked = subst (λ p. AsksAt s n (ask.Reading (reading w.forms.kind w.id p e.1))) none_less f.asked;
             }
 
-found_used : (s : Setting) (n : ℕ) (rs : List (List Ground)) (ws : List Word) (bs : List Bool) (place : ℕ) (word : Word) (at : ℕ) (text : List ℕ) → Told s n (used_asks rs ws) bs → slice_get ws place ≡ Some word → slice_get word.forms.texts at ≡ Some text → is_used rs word.id ≡ true → AsksAt s n (ask.Reading (reading word.forms.kind word.id at text)) → Has (chosen (used_forms rs ws) bs) (group_of word.forms.kind, text)
+found_used : (s : Setting) (n : ℕ) (rs : List (List Ground)) (ws : List Word) (bs : List Bool) (place : ℕ) (word : Word) (at : ℕ) (text : List ℕ)
+    → Told s n (used_asks rs ws) bs → slice_get ws place ≡ Some word → slice_get word.forms.texts at ≡ Some text → is_used rs word.id ≡ true
+    → AsksAt s n (ask.Reading (reading word.forms.kind word.id at text)) → Has (chosen (used_forms rs ws) bs) (group_of word.forms.kind, text)
 found_used s n rs [] bs place word at text told lives is used asked = absurd (cc)
 found_used s n rs (w ∷ ws) bs zero word at text told lives is used asked =
     let same : w ≡ word = same_Some w word lives in
-    subst (λ (x : Word). Has (chosen (used_forms rs (w ∷ ws)) bs) (group_of x.forms.kind, text)) same (here (ap (λ (x : Word). is_used rs x.id) same ∙ used) (ap (λ (x : Word). slice_get x.forms.texts at) same ∙ is) (subst (λ (x : Word). AsksAt s n (ask.Reading (reading x.forms.kind x.id at text))) (sym same) asked))
+    subst (λ (x : Word). Has (chosen (used_forms rs (w ∷ ws)) bs) (group_of x.forms.kind, text)) same
+    (here (ap (λ (x : Word). is_used rs x.id) same ∙ used) (ap (λ (x : Word). slice_get x.forms.texts at) same ∙ is)
+    (subst (λ (x : Word). AsksAt s n (ask.Reading (reading x.forms.kind x.id at text))) (sym same) asked))
   where
-    here : is_used rs w.id ≡ true → slice_get w.forms.texts at ≡ Some text → AsksAt s n (ask.Reading (reading w.forms.kind w.id at text)) → Has (chosen (used_forms rs (w ∷ ws)) bs) (group_of w.forms.kind, text)
+    here : is_used rs w.id ≡ true → slice_get w.forms.texts at ≡ Some text → AsksAt s n (ask.Reading (reading w.forms.kind w.id at text))
+        → Has (chosen (used_forms rs (w ∷ ws)) bs) (group_of w.forms.kind, text)
     here u i a =
-        let t : Told s n (form_asks w.forms.kind w.id 0 w.forms.texts ++ used_asks rs ws) bs = subst (λ b. Told s n (if b then form_asks w.forms.kind w.id 0 w.forms.texts ++ used_asks rs ws else used_asks rs ws) bs) u told in
+        let t : Told s n (form_asks w.forms.kind w.id 0 w.forms.texts ++ used_asks rs ws) bs =
+        subst (λ b. Told s n (if b then form_asks w.forms.kind w.id 0 w.forms.texts ++ used_asks rs ws else used_asks rs ws) bs) u told in
         let r = told_split s n (form_asks w.forms.kind w.id 0 w.forms.texts) (used_asks rs ws) bs t in
-        let long : length r.0 ≡ length (forms_in w) = told_long s n (form_asks w.forms.kind w.id 0 w.forms.texts) r.0 r.1.2 ∙ asks_long w.forms.kind w.id 0 w.forms.texts (group_of w.forms.kind) in
+        let long : length r.0 ≡ length (forms_in w) =
+        told_long s n (form_asks w.forms.kind w.id 0 w.forms.texts) r.0 r.1.2 ∙ asks_long w.forms.kind w.id 0 w.forms.texts (group_of w.forms.kind) in
         let none_more : at ≡ 0 + at = omega arith in
-        let m = found_form s n w.forms.kind w.id (group_of w.forms.kind) 0 w.forms.texts r.0 at text r.1.2 i (subst (λ p. AsksAt s n (ask.Reading (reading w.forms.kind w.id p text))) none_more a) in
-        subst (λ b. Has (chosen (if b then forms_in w ++ used_forms rs ws else used_forms rs ws) bs) (group_of w.forms.kind, text)) (sym u) (subst (λ l. Has l (group_of w.forms.kind, text)) (sym (ap (chosen (forms_in w ++ used_forms rs ws)) r.1.1 ∙ chosen_append (forms_in w) (used_forms rs ws) r.0 r.1.0 long)) (among_left (chosen (forms_in w) r.0) (chosen (used_forms rs ws) r.1.0) (group_of w.forms.kind, text) m))
-found_used s n rs (w ∷ ws) bs (suc place) word at text told lives is used asked = by (is_used rs w.id) (λ cs t. found_used s n rs ws cs place word at text t lives is used asked) told
+        let m = found_form s n w.forms.kind w.id (group_of w.forms.kind) 0 w.forms.texts r.0 at text r.1.2 i
+        (subst (λ p. AsksAt s n (ask.Reading (reading w.forms.kind w.id p text))) none_more a) in
+        subst (λ b. Has (chosen (if b then forms_in w ++ used_forms rs ws else used_forms rs ws) bs) (group_of w.forms.kind, text)) (sym u)
+        (subst (λ l. Has l (group_of w.forms.kind, text))
+        (sym (ap (chosen (forms_in w ++ used_forms rs ws)) r.1.1 ∙ chosen_append (forms_in w) (used_forms rs ws) r.0 r.1.0 long))
+        (among_left (chosen (forms_in w) r.0) (chosen (used_forms rs ws) r.1.0) (group_of w.forms.kind, text) m))
+found_used s n rs (w ∷ ws) bs (suc place) word at text told lives is used asked =
+    by (is_used rs w.id) (λ cs t. found_used s n rs ws cs place word at text t lives is used asked) told
   where
-    by : (b : Bool) → ((cs : List Bool) → Told s n (used_asks rs ws) cs → Has (chosen (used_forms rs ws) cs) (group_of word.forms.kind, text)) → Told s n (if b then form_asks w.forms.kind w.id 0 w.forms.texts ++ used_asks rs ws else used_asks rs ws) bs → Has (chosen (if b then forms_in w ++ used_forms rs ws else used_forms rs ws) bs) (group_of word.forms.kind, text)
+    by : (b : Bool) → ((cs : List Bool) → Told s n (used_asks rs ws) cs → Has (chosen (used_forms rs ws) cs) (group_of word.forms.kind, text))
+        → Told s n (if b then form_asks w.forms.kind w.id 0 w.forms.texts ++ used_asks rs ws else used_asks rs ws) bs
+        → Has (chosen (if b then forms_in w ++ used_forms rs ws else used_forms rs ws) bs) (group_of word.forms.kind, text)
     by false rest t = rest bs t
     by true rest t =
         let r = told_split s n (form_asks w.forms.kind w.id 0 w.forms.texts) (used_asks rs ws) bs t in
-        let long : length r.0 ≡ length (forms_in w) = told_long s n (form_asks w.forms.kind w.id 0 w.forms.texts) r.0 r.1.2 ∙ asks_long w.forms.kind w.id 0 w.forms.texts (group_of w.forms.kind) in
-        subst (λ l. Has l (group_of word.forms.kind, text)) (sym (ap (chosen (forms_in w ++ used_forms rs ws)) r.1.1 ∙ chosen_append (forms_in w) (used_forms rs ws) r.0 r.1.0 long)) (among_right (chosen (forms_in w) r.0) (chosen (used_forms rs ws) r.1.0) (group_of word.forms.kind, text) (rest r.1.0 r.1.3))
+        let long : length r.0 ≡ length (forms_in w) =
+        told_long s n (form_asks w.forms.kind w.id 0 w.forms.texts) r.0 r.1.2 ∙ asks_long w.forms.kind w.id 0 w.forms.texts (group_of w.forms.kind) in
+        subst (λ l. Has l (group_of word.forms.kind, text))
+        (sym (ap (chosen (forms_in w ++ used_forms rs ws)) r.1.1 ∙ chosen_append (forms_in w) (used_forms rs ws) r.0 r.1.0 long))
+        (among_right (chosen (forms_in w) r.0) (chosen (used_forms rs ws) r.1.0) (group_of word.forms.kind, text) (rest r.1.0 r.1.3))
 
 -- the forms of other words
 
@@ -214,7 +248,8 @@ record ToldForm (told : List Bool) (k : Kind) (place : ℕ) (forms : List (List 
   group : group_of k ≡ e.0
   yes : slice_index_or told (class_of k (place + at) e.1) false ≡ true
 
-told_form : (told : List Bool) (k : Kind) (place : ℕ) (forms : List (List ℕ)) (e : Group × List ℕ) → Has (told_forms told k place forms) e → ToldForm told k place forms e
+told_form : (told : List Bool) (k : Kind) (place : ℕ) (forms : List (List ℕ)) (e : Group × List ℕ) → Has (told_forms told k place forms) e
+    → ToldForm told k place forms e
 told_form told k place [] e h = absurd h
 told_form told k place (form ∷ forms) e h = by (slice_index_or told (class_of k place form) false) refl (λ m. later (told_form told k (place + 1) forms e m)) h
   where
@@ -223,7 +258,10 @@ told_form told k place (form ∷ forms) e h = by (slice_index_or told (class_of 
         let next : place + 1 + r.at ≡ place + suc r.at = omega arith in
         record { at = suc r.at; is = r.is; group = r.group; yes = subst (λ p. slice_index_or told (class_of k p e.1) false ≡ true) next r.yes }
 
-    by : (b : Bool) → slice_index_or told (class_of k place form) false ≡ b → (Has (told_forms told k (place + 1) forms) e → ToldForm told k place (form ∷ forms) e) → Has (if b then (group_of k, form) ∷ told_forms told k (place + 1) forms else told_forms told k (place + 1) forms) e → ToldForm told k place (form ∷ forms) e
+    by : (b : Bool) → slice_index_or told (class_of k place form) false ≡ b
+        → (Has (told_forms told k (place + 1) forms) e → ToldForm told k place (form ∷ forms) e)
+        → Has (if b then (group_of k, form) ∷ told_forms told k (place + 1) forms else told_forms told k (place + 1) forms) e
+        → ToldForm told k place (form ∷ forms) e
     by false y rest m = rest m
     by true y rest (inr m) = rest m
     by true y rest (inl m) =
@@ -233,21 +271,27 @@ told_form told k place (form ∷ forms) e h = by (slice_index_or told (class_of 
           at = 0;
           is = ap Some text;
           group = ap (λ (x : Group × List ℕ). x.0) (sym m);
-          yes = subst (λ p. slice_index_or told (class_of k p e.1) false ≡ true) none_more (subst (λ t. slice_index_or told (class_of k place t) false ≡ true) text y);
+          yes = subst (λ p. slice_index_or told (class_of k p e.1) false ≡ true) none_more
+              (subst (λ t. slice_index_or told (class_of k place t) false ≡ true) text y);
         }
 
-form_told : (told : List Bool) (k : Kind) (place : ℕ) (forms : List (List ℕ)) (at : ℕ) (text : List ℕ) → slice_get forms at ≡ Some text → slice_index_or told (class_of k (place + at) text) false ≡ true → Has (told_forms told k place forms) (group_of k, text)
+form_told : (told : List Bool) (k : Kind) (place : ℕ) (forms : List (List ℕ)) (at : ℕ) (text : List ℕ) → slice_get forms at ≡ Some text
+    → slice_index_or told (class_of k (place + at) text) false ≡ true → Has (told_forms told k place forms) (group_of k, text)
 form_told told k place [] at text is tells = absurd (cc)
 form_told told k place (form ∷ forms) zero text is tells =
     let none_less : place + 0 ≡ place = omega arith in
     let same : form ≡ text = same_Some form text is in
-    let y : slice_index_or told (class_of k place form) false ≡ true = ap (λ t. slice_index_or told (class_of k place t) false) same ∙ ap (λ p. slice_index_or told (class_of k p text) false) (sym none_less) ∙ tells in
-    subst (λ b. Has (if b then (group_of k, form) ∷ told_forms told k (place + 1) forms else told_forms told k (place + 1) forms) (group_of k, text)) (sym y) (inl (ap (λ t. (group_of k, t)) (sym same)))
+    let y : slice_index_or told (class_of k place form) false ≡ true =
+    ap (λ t. slice_index_or told (class_of k place t) false) same ∙ ap (λ p. slice_index_or told (class_of k p text) false) (sym none_less) ∙ tells in
+    subst (λ b. Has (if b then (group_of k, form) ∷ told_forms told k (place + 1) forms else told_forms told k (place + 1) forms) (group_of k, text)) (sym y)
+    (inl (ap (λ t. (group_of k, t)) (sym same)))
 form_told told k place (form ∷ forms) (suc at) text is tells =
     let next : place + suc at ≡ place + 1 + at = omega arith in
-    by (slice_index_or told (class_of k place form) false) (form_told told k (place + 1) forms at text is (subst (λ p. slice_index_or told (class_of k p text) false ≡ true) next tells))
+    by (slice_index_or told (class_of k place form) false)
+    (form_told told k (place + 1) forms at text is (subst (λ p. slice_index_or told (class_of k p text) false ≡ true) next tells))
   where
-    by : (b : Bool) → Has (told_forms told k (place + 1) forms) (group_of k, text) → Has (if b then (group_of k, form) ∷ told_forms told k (place + 1) forms else told_forms told k (place + 1) forms) (group_of k, text)
+    by : (b : Bool) → Has (told_forms told k (place + 1) forms) (group_of k, text)
+        → Has (if b then (group_of k, form) ∷ told_forms told k (place + 1) forms else told_forms told k (place + 1) forms) (group_of k, text)
     by true h = inr h
     by false h = h
 
@@ -263,9 +307,11 @@ new_form rs told (w ∷ ws) e h = by (is_used rs w.id) refl (λ m. later (new_fo
     later : NewForm rs told ws e → NewForm rs told (w ∷ ws) e
     later r = record { form = further w ws e r.form; new = r.new; yes = r.yes }
 
-    by : (b : Bool) → is_used rs w.id ≡ b → (Has (new_forms rs told ws) e → NewForm rs told (w ∷ ws) e) → Has (if b then new_forms rs told ws else told_forms told w.forms.kind 0 w.forms.texts ++ new_forms rs told ws) e → NewForm rs told (w ∷ ws) e
+    by : (b : Bool) → is_used rs w.id ≡ b → (Has (new_forms rs told ws) e → NewForm rs told (w ∷ ws) e)
+        → Has (if b then new_forms rs told ws else told_forms told w.forms.kind 0 w.forms.texts ++ new_forms rs told ws) e → NewForm rs told (w ∷ ws) e
     by true is rest m = rest m
-    by false is rest m = either (λ here. first (told_form told w.forms.kind 0 w.forms.texts e here)) rest (either_among (told_forms told w.forms.kind 0 w.forms.texts) (new_forms rs told ws) e m)
+    by false is rest m = either (λ here. first (told_form told w.forms.kind 0 w.forms.texts e here)) rest
+        (either_among (told_forms told w.forms.kind 0 w.forms.texts) (new_forms rs told ws) e m)
       where
         first : ToldForm told w.forms.kind 0 w.forms.texts e → NewForm rs told (w ∷ ws) e
         first f =
@@ -276,20 +322,29 @@ new_form rs told (w ∷ ws) e h = by (is_used rs w.id) refl (λ m. later (new_fo
               yes = subst (λ p. slice_index_or told (class_of w.forms.kind p e.1) false ≡ true) none_less f.yes;
             }
 
-form_new : (rs : List (List Ground)) (told : List Bool) (ws : List Word) (place : ℕ) (word : Word) (at : ℕ) (text : List ℕ) → slice_get ws place ≡ Some word → slice_get word.forms.texts at ≡ Some text → is_used rs word.id ≡ false → slice_index_or told (class_of word.forms.kind at text) false ≡ true → Has (new_forms rs told ws) (group_of word.forms.kind, text)
+form_new : (rs : List (List Ground)) (told : List Bool) (ws : List Word) (place : ℕ) (word : Word) (at : ℕ) (text : List ℕ) → slice_get ws place ≡ Some word
+    → slice_get word.forms.texts at ≡ Some text → is_used rs word.id ≡ false → slice_index_or told (class_of word.forms.kind at text) false ≡ true
+    → Has (new_forms rs told ws) (group_of word.forms.kind, text)
 form_new rs told [] place word at text lives is new tells = absurd (cc)
 form_new rs told (w ∷ ws) zero word at text lives is new tells =
     let same : w ≡ word = same_Some w word lives in
-    subst (λ (x : Word). Has (new_forms rs told (w ∷ ws)) (group_of x.forms.kind, text)) same (here (ap (λ (x : Word). is_used rs x.id) same ∙ new) (ap (λ (x : Word). slice_get x.forms.texts at) same ∙ is) (ap (λ (x : Word). slice_index_or told (class_of x.forms.kind at text) false) same ∙ tells))
+    subst (λ (x : Word). Has (new_forms rs told (w ∷ ws)) (group_of x.forms.kind, text)) same
+    (here (ap (λ (x : Word). is_used rs x.id) same ∙ new) (ap (λ (x : Word). slice_get x.forms.texts at) same ∙ is)
+    (ap (λ (x : Word). slice_index_or told (class_of x.forms.kind at text) false) same ∙ tells))
   where
-    here : is_used rs w.id ≡ false → slice_get w.forms.texts at ≡ Some text → slice_index_or told (class_of w.forms.kind at text) false ≡ true → Has (new_forms rs told (w ∷ ws)) (group_of w.forms.kind, text)
+    here : is_used rs w.id ≡ false → slice_get w.forms.texts at ≡ Some text → slice_index_or told (class_of w.forms.kind at text) false ≡ true
+        → Has (new_forms rs told (w ∷ ws)) (group_of w.forms.kind, text)
     here u i y =
         let none_more : at ≡ 0 + at = omega arith in
-        let m = form_told told w.forms.kind 0 w.forms.texts at text i (subst (λ p. slice_index_or told (class_of w.forms.kind p text) false ≡ true) none_more y) in
-        subst (λ b. Has (if b then new_forms rs told ws else told_forms told w.forms.kind 0 w.forms.texts ++ new_forms rs told ws) (group_of w.forms.kind, text)) (sym u) (among_left (told_forms told w.forms.kind 0 w.forms.texts) (new_forms rs told ws) (group_of w.forms.kind, text) m)
+        let m = form_told told w.forms.kind 0 w.forms.texts at text i
+        (subst (λ p. slice_index_or told (class_of w.forms.kind p text) false ≡ true) none_more y) in
+        subst (λ b. Has (if b then new_forms rs told ws else told_forms told w.forms.kind 0 w.forms.texts ++ new_forms rs told ws)
+        (group_of w.forms.kind, text)) (sym u)
+        (among_left (told_forms told w.forms.kind 0 w.forms.texts) (new_forms rs told ws) (group_of w.forms.kind, text) m)
 form_new rs told (w ∷ ws) (suc place) word at text lives is new tells = by (is_used rs w.id) (form_new rs told ws place word at text lives is new tells)
   where
-    by : (b : Bool) → Has (new_forms rs told ws) (group_of word.forms.kind, text) → Has (if b then new_forms rs told ws else told_forms told w.forms.kind 0 w.forms.texts ++ new_forms rs told ws) (group_of word.forms.kind, text)
+    by : (b : Bool) → Has (new_forms rs told ws) (group_of word.forms.kind, text)
+        → Has (if b then new_forms rs told ws else told_forms told w.forms.kind 0 w.forms.texts ++ new_forms rs told ws) (group_of word.forms.kind, text)
     by true h = h
     by false h = among_right (told_forms told w.forms.kind 0 w.forms.texts) (new_forms rs told ws) (group_of word.forms.kind, text) h
 
@@ -308,12 +363,14 @@ function_at p (t ∷ ts) e h = by (p t) refl (λ m. later (function_at p ts e m)
     later : FunctionAt p ts e → FunctionAt p (t ∷ ts) e
     later r = record { text = r.text; among = inr r.among; is = r.is; yes = r.yes }
 
-    by : (b : Bool) → p t ≡ b → (Has (functions_in (filter p ts)) e → FunctionAt p (t ∷ ts) e) → Has (functions_in (if b then t ∷ filter p ts else filter p ts)) e → FunctionAt p (t ∷ ts) e
+    by : (b : Bool) → p t ≡ b → (Has (functions_in (filter p ts)) e → FunctionAt p (t ∷ ts) e)
+        → Has (functions_in (if b then t ∷ filter p ts else filter p ts)) e → FunctionAt p (t ∷ ts) e
     by true y rest (inl m) = record { text = t; among = inl refl; is = m; yes = y }
     by true y rest (inr m) = rest m
     by false y rest m = rest m
 
-at_function : (p : List ℕ → Bool) (texts : List (List ℕ)) (text : List ℕ) → Among texts text → p text ≡ true → Has (functions_in (filter p texts)) (Function, text)
+at_function : (p : List ℕ → Bool) (texts : List (List ℕ)) (text : List ℕ) → Among texts text → p text ≡ true
+    → Has (functions_in (filter p texts)) (Function, text)
 at_function p [] text h tells = absurd h
 at_function p (t ∷ ts) text (inl e) tells =
     subst (λ b. Has (functions_in (if b then t ∷ filter p ts else filter p ts)) (Function, text)) (sym (ap p (sym e) ∙ tells)) (inl (ap (λ x. (Function, x)) e))
@@ -349,43 +406,62 @@ pub record AllFound (g : GrammarParts) (l : Listed) (tokens texts : List (List �
 IsCandidate : GrammarParts → Listed → List (List ℕ) → List (List ℕ) → Group × List ℕ → Type 0
 IsCandidate g l tokens texts e = (Has (functions_in texts) e ⊎ Has (forms_among l.live) e) × IsBeginning g l (tokens ++ e.1 ∷ [])
 
-known_candidate : (g : GrammarParts) (l : Listed) (tokens texts : List (List ℕ)) (middle : List (Group × List ℕ)) (e : Group × List ℕ) → IsSound g → IsLexicon l → g.terminals ≡ l.terminals → AreTexts texts g.terminals → KnownFound g l.live tokens texts [] middle → Among middle e → IsCandidate g l tokens texts e
+known_candidate : (g : GrammarParts) (l : Listed) (tokens texts : List (List ℕ)) (middle : List (Group × List ℕ)) (e : Group × List ℕ) → IsSound g → IsLexicon l
+    → g.terminals ≡ l.terminals → AreTexts texts g.terminals → KnownFound g l.live tokens texts [] middle → Among middle e → IsCandidate g l tokens texts e
 unfolding IsCandidate
 known_candidate g l tokens texts middle e sound lexicon same are k h =
-    either (λ m. function (function_at (λ text. some_follows text g.terminals k.terminals) texts e m)) (λ m. form (used_found (with_last g tokens (reads l tokens) k.token []) (length tokens) (reads l tokens) l.live k.forms e k.told_forms m)) (either_among (functions_in (filter (λ text. some_follows text g.terminals k.terminals) texts)) (chosen (used_forms (reads l tokens) l.live) k.forms) e (subst (λ es. Has es e) k.found h))
+    either (λ m. function (function_at (λ text. some_follows text g.terminals k.terminals) texts e m))
+    (λ m. form (used_found (with_last g tokens (reads l tokens) k.token []) (length tokens) (reads l tokens) l.live k.forms e k.told_forms m))
+    (either_among (functions_in (filter (λ text. some_follows text g.terminals k.terminals) texts)) (chosen (used_forms (reads l tokens) l.live) k.forms) e
+    (subst (λ es. Has es e) k.found h))
   where
-    function : FunctionAt (λ text. some_follows text g.terminals k.terminals) texts e → (Has (functions_in texts) e ⊎ Has (forms_among l.live) e) × IsBeginning g l (tokens ++ e.1 ∷ [])
+    function : FunctionAt (λ text. some_follows text g.terminals k.terminals) texts e
+        → (Has (functions_in texts) e ⊎ Has (forms_among l.live) e) × IsBeginning g l (tokens ++ e.1 ∷ [])
     function f =
-        let spelled : is_terminal l.terminals f.text ≡ true = ap (λ ts. is_terminal ts f.text) (sym same) ∙ one_of_terminals g.terminals f.text (are.of f.text f.among) in
-        (inl (subst (λ x. Has (functions_in texts) x) (sym f.is) (among_map (λ t. (Function, t)) texts f.text f.among)), subst (λ (x : Group × List ℕ). IsBeginning g l (tokens ++ x.1 ∷ [])) (sym f.is) ((terminal_law g l tokens f.text k.token k.terminals sound lexicon spelled k.told_terminals).0 f.yes))
+        let spelled : is_terminal l.terminals f.text ≡ true =
+        ap (λ ts. is_terminal ts f.text) (sym same) ∙ one_of_terminals g.terminals f.text (are.of f.text f.among) in (
+          inl (subst (λ x. Has (functions_in texts) x) (sym f.is) (among_map (λ t. (Function, t)) texts f.text f.among)),
+          subst (λ (x : Group × List ℕ). IsBeginning g l (tokens ++ x.1 ∷ [])) (sym f.is)
+              ((terminal_law g l tokens f.text k.token k.terminals sound lexicon spelled k.told_terminals).0 f.yes),
+        )
 
-    form : UsedFound (with_last g tokens (reads l tokens) k.token []) (length tokens) (reads l tokens) l.live e → (Has (functions_in texts) e ⊎ Has (forms_among l.live) e) × IsBeginning g l (tokens ++ e.1 ∷ [])
+    form : UsedFound (with_last g tokens (reads l tokens) k.token []) (length tokens) (reads l tokens) l.live e
+        → (Has (functions_in texts) e ⊎ Has (forms_among l.live) e) × IsBeginning g l (tokens ++ e.1 ∷ [])
     form u =
         let f = u.form in
         (inr (at_form l.live e f), used_form_follows g l tokens f.place f.word f.at e.1 k.token sound lexicon f.lives f.is u.used u.asked)
 
-is_first : (g : GrammarParts) (l : Listed) (tokens : List (List ℕ)) (middle found : List (Group × List ℕ)) → IsLexicon l → (n : NewFound g l.live tokens middle found) → IsFirst l tokens n.form n.word
+is_first : (g : GrammarParts) (l : Listed) (tokens : List (List ℕ)) (middle found : List (Group × List ℕ)) → IsLexicon l
+    → (n : NewFound g l.live tokens middle found) → IsFirst l tokens n.form n.word
 is_first g l tokens middle found lexicon n =
     record { place = n.place; lives = n.lives; form_is = n.form_is; new = n.new; above = number_above l lexicon n.place n.word n.lives }
 
-found_candidate : (g : GrammarParts) (l : Listed) (tokens texts : List (List ℕ)) (found : List (Group × List ℕ)) (e : Group × List ℕ) → IsSound g → IsLexicon l → g.terminals ≡ l.terminals → AreTexts texts g.terminals → AllFound g l tokens texts found → Among found e → IsCandidate g l tokens texts e
+found_candidate : (g : GrammarParts) (l : Listed) (tokens texts : List (List ℕ)) (found : List (Group × List ℕ)) (e : Group × List ℕ) → IsSound g → IsLexicon l
+    → g.terminals ≡ l.terminals → AreTexts texts g.terminals → AllFound g l tokens texts found → Among found e → IsCandidate g l tokens texts e
 unfolding IsCandidate
 found_candidate g l tokens texts found e sound lexicon same are all h = by all.new
   where
     before : Among all.middle e → (Has (functions_in texts) e ⊎ Has (forms_among l.live) e) × IsBeginning g l (tokens ++ e.1 ∷ [])
     before m = known_candidate g l tokens texts all.middle e sound lexicon same are all.known m
 
-    by : NoneNew l.live tokens all.middle found ⊎ NewFound g l.live tokens all.middle found → (Has (functions_in texts) e ⊎ Has (forms_among l.live) e) × IsBeginning g l (tokens ++ e.1 ∷ [])
+    by : NoneNew l.live tokens all.middle found ⊎ NewFound g l.live tokens all.middle found
+        → (Has (functions_in texts) e ⊎ Has (forms_among l.live) e) × IsBeginning g l (tokens ++ e.1 ∷ [])
     by (inl n) = before (subst (λ es. Has es e) n.found h)
-    by (inr n) = either before (λ m. form (new_form (reads l tokens) n.told l.live e m)) (either_among all.middle (new_forms (reads l tokens) n.told l.live) e (subst (λ es. Has es e) n.found h))
+    by (inr n) = either before (λ m. form (new_form (reads l tokens) n.told l.live e m))
+        (either_among all.middle (new_forms (reads l tokens) n.told l.live) e (subst (λ es. Has es e) n.found h))
       where
         form : NewForm (reads l tokens) n.told l.live e → (Has (functions_in texts) e ⊎ Has (forms_among l.live) e) × IsBeginning g l (tokens ++ e.1 ∷ [])
         form u =
             let f = u.form in
-            let asked = (class_told (with_last g tokens (reads l tokens) n.token (readings_of l.live n.form)) (length tokens) n.told f.word.forms.kind n.word.id f.at e.1 n.told_classes).0 u.yes in
-            (inr (at_form l.live e f), new_form_follows g l tokens f.place f.word n.word f.at e.1 n.form n.token sound lexicon (is_first g l tokens all.middle found lexicon n) f.lives f.is u.new (number_above l lexicon f.place f.word f.lives) asked)
+            let asked = (class_told (with_last g tokens (reads l tokens) n.token (readings_of l.live n.form)) (length tokens) n.told f.word.forms.kind n.word.id
+            f.at e.1 n.told_classes).0 u.yes in (
+              inr (at_form l.live e f),
+              new_form_follows g l tokens f.place f.word n.word f.at e.1 n.form n.token sound lexicon
+                  (is_first g l tokens all.middle found lexicon n) f.lives f.is u.new (number_above l lexicon f.place f.word f.lives) asked,
+            )
 
-candidate_found : (g : GrammarParts) (l : Listed) (tokens texts : List (List ℕ)) (found : List (Group × List ℕ)) (e : Group × List ℕ) → IsSound g → IsLexicon l → g.terminals ≡ l.terminals → AreTexts texts g.terminals → AllFound g l tokens texts found → IsCandidate g l tokens texts e → Among found e
+candidate_found : (g : GrammarParts) (l : Listed) (tokens texts : List (List ℕ)) (found : List (Group × List ℕ)) (e : Group × List ℕ) → IsSound g → IsLexicon l
+    → g.terminals ≡ l.terminals → AreTexts texts g.terminals → AllFound g l tokens texts found → IsCandidate g l tokens texts e → Among found e
 unfolding IsCandidate
 candidate_found g l tokens texts found e sound lexicon same are all c = either function (λ m. form (form_at l.live e m)) c.0
   where
@@ -402,11 +478,14 @@ candidate_found g l tokens texts found e sound lexicon same are all c = either f
     function : Has (functions_in texts) e → Among found e
     function m =
         let t : Mapped (λ t. (Function, t)) texts e = from_map (λ t. (Function, t)) texts e m in
-        let spelled : is_terminal l.terminals t.from ≡ true = ap (λ ts. is_terminal ts t.from) (sym same) ∙ one_of_terminals g.terminals t.from (are.of t.from t.among) in
+        let spelled : is_terminal l.terminals t.from ≡ true =
+        ap (λ ts. is_terminal ts t.from) (sym same) ∙ one_of_terminals g.terminals t.from (are.of t.from t.among) in
         let goes : IsBeginning g l (tokens ++ t.from ∷ []) = subst (λ (x : Group × List ℕ). IsBeginning g l (tokens ++ x.1 ∷ [])) t.is c.1 in
         let tells = (terminal_law g l tokens t.from k.token k.terminals sound lexicon spelled k.told_terminals).1 goes in
         let at = at_function (λ text. some_follows text g.terminals k.terminals) texts t.from t.among tells in
-        kept (subst (λ es. Has es e) (sym k.found) (among_left (functions_in (filter (λ text. some_follows text g.terminals k.terminals) texts)) (chosen (used_forms (reads l tokens) l.live) k.forms) e (subst (λ x. Has (functions_in (filter (λ text. some_follows text g.terminals k.terminals) texts)) x) (sym t.is) at)))
+        kept (subst (λ es. Has es e) (sym k.found)
+        (among_left (functions_in (filter (λ text. some_follows text g.terminals k.terminals) texts)) (chosen (used_forms (reads l tokens) l.live) k.forms)
+        e (subst (λ x. Has (functions_in (filter (λ text. some_follows text g.terminals k.terminals) texts)) x) (sym t.is) at)))
 
     form : FormAt l.live e → Among found e
     form f = by (is_used (reads l tokens) f.word.id) refl
@@ -414,19 +493,28 @@ candidate_found g l tokens texts found e sound lexicon same are all c = either f
         has : has_form e.1 f.word ≡ true
         has = form_among f.word.forms.texts f.at e.1 f.is
 
-        new_one : is_used (reads l tokens) f.word.id ≡ false → NoneNew l.live tokens all.middle found ⊎ NewFound g l.live tokens all.middle found → Among found e
+        new_one : is_used (reads l tokens) f.word.id ≡ false → NoneNew l.live tokens all.middle found ⊎ NewFound g l.live tokens all.middle found
+            → Among found e
         new_one is (inl n) = let z : true ≡ false = sym (n.used f.place f.word f.lives) ∙ is in absurd (cc)
         new_one is (inr n) =
-            let r = new_form_asked g l tokens f.place f.word n.word e.1 n.form n.token sound lexicon same (is_first g l tokens all.middle found lexicon n) f.lives has is (number_above l lexicon f.place f.word f.lives) c.1 in
-            let tells = (class_told (with_last g tokens (reads l tokens) n.token (readings_of l.live n.form)) (length tokens) n.told f.word.forms.kind n.word.id r.0 e.1 n.told_classes).1 r.2 in
+            let r = new_form_asked g l tokens f.place f.word n.word e.1 n.form n.token sound lexicon same (is_first g l tokens all.middle found lexicon n)
+            f.lives has is (number_above l lexicon f.place f.word f.lives) c.1 in
+            let tells = (class_told (with_last g tokens (reads l tokens) n.token (readings_of l.live n.form)) (length tokens) n.told f.word.forms.kind n.word.id
+            r.0 e.1 n.told_classes).1 r.2 in
             let m = form_new (reads l tokens) n.told l.live f.place f.word r.0 e.1 f.lives r.1 is tells in
-            subst (λ es. Has es e) (sym n.found) (among_right all.middle (new_forms (reads l tokens) n.told l.live) e (subst (λ group. Has (new_forms (reads l tokens) n.told l.live) (group, e.1)) f.group m))
+            subst (λ es. Has es e) (sym n.found)
+            (among_right all.middle (new_forms (reads l tokens) n.told l.live) e
+            (subst (λ group. Has (new_forms (reads l tokens) n.told l.live) (group, e.1)) f.group m))
 
         by : (b : Bool) → is_used (reads l tokens) f.word.id ≡ b → Among found e
         by true is =
             let r = used_form_asked g l tokens f.place f.word e.1 k.token sound lexicon same f.lives has is c.1 in
-            let m = found_used (with_last g tokens (reads l tokens) k.token []) (length tokens) (reads l tokens) l.live k.forms f.place f.word r.0 e.1 k.told_forms f.lives r.1 is r.2 in
-            kept (subst (λ es. Has es e) (sym k.found) (among_right (functions_in (filter (λ text. some_follows text g.terminals k.terminals) texts)) (chosen (used_forms (reads l tokens) l.live) k.forms) e (subst (λ group. Has (chosen (used_forms (reads l tokens) l.live) k.forms) (group, e.1)) f.group m)))
+            let m = found_used (with_last g tokens (reads l tokens) k.token []) (length tokens) (reads l tokens) l.live k.forms f.place f.word r.0 e.1
+            k.told_forms f.lives r.1 is r.2 in
+            kept (subst (λ es. Has es e) (sym k.found)
+            (among_right (functions_in (filter (λ text. some_follows text g.terminals k.terminals) texts))
+            (chosen (used_forms (reads l tokens) l.live) k.forms) e
+            (subst (λ group. Has (chosen (used_forms (reads l tokens) l.live) k.forms) (group, e.1)) f.group m)))
         by false is = new_one is all.new
 
 -- lists in order with the same entries are the same
@@ -443,12 +531,14 @@ not_both x y h k =
 not_itself : (x y : Group × List ℕ) → entry_cmp x y ≡ Less → x ≡ y → ⊥
 not_itself x y h e = not_both x y h (ap (λ z. entry_cmp z x) (sym e) ∙ ap (entry_cmp x) e ∙ h)
 
-same_in_order : (xs ys : List (Group × List ℕ)) → IsInOrder xs → IsInOrder ys → ((e : Group × List ℕ) → Among xs e → Among ys e) → ((e : Group × List ℕ) → Among ys e → Among xs e) → xs ≡ ys
+same_in_order : (xs ys : List (Group × List ℕ)) → IsInOrder xs → IsInOrder ys → ((e : Group × List ℕ) → Among xs e → Among ys e)
+    → ((e : Group × List ℕ) → Among ys e → Among xs e) → xs ≡ ys
 same_in_order [] [] a b forth back = refl
 same_in_order [] (y ∷ ys) a b forth back = absurd (back y (inl refl))
 same_in_order (x ∷ xs) [] a b forth back = absurd (forth x (inl refl))
 same_in_order (x ∷ xs) (y ∷ ys) a b forth back =
-    ap (λ l. x ∷ l) (same_in_order xs ys a.1 b.1 (λ e h. later x y xs ys head a.0 e h (forth e (inr h))) (λ e h. later y x ys xs (sym head) b.0 e h (back e (inr h)))) ∙ ap (λ z. z ∷ ys) head
+    ap (λ l. x ∷ l) (same_in_order xs ys a.1 b.1 (λ e h. later x y xs ys head a.0 e h (forth e (inr h)))
+    (λ e h. later y x ys xs (sym head) b.0 e h (back e (inr h)))) ∙ ap (λ z. z ∷ ys) head
   where
     by : (x ≡ y) ⊎ Among ys x → (y ≡ x) ⊎ Among xs y → x ≡ y
     by (inl e) k = e
@@ -458,38 +548,52 @@ same_in_order (x ∷ xs) (y ∷ ys) a b forth back =
     head : x ≡ y
     head = by (forth x (inl refl)) (back y (inl refl))
 
-    later : (u v : Group × List ℕ) (us vs : List (Group × List ℕ)) → u ≡ v → AllBefore u us → (e : Group × List ℕ) → Among us e → (e ≡ v) ⊎ Among vs e → Among vs e
+    later : (u v : Group × List ℕ) (us vs : List (Group × List ℕ)) → u ≡ v → AllBefore u us → (e : Group × List ℕ) → Among us e → (e ≡ v) ⊎ Among vs e
+        → Among vs e
     later u v us vs same before e h (inl is) = absurd (not_itself u e (before_among u e us before h) (same ∙ sym is))
     later u v us vs same before e h (inr k) = k
 
 -- the entries in order are what is gathered by trying each
-pub asked_gathered : (g : GrammarParts) (l : Listed) (tokens texts : List (List ℕ)) (found entries : List (Group × List ℕ)) → IsSound g → IsLexicon l → g.terminals ≡ l.terminals → AreTexts texts g.terminals → AllFound g l tokens texts found → IsOrdered found entries → entries ≡ gathered g l tokens texts
+pub asked_gathered : (g : GrammarParts) (l : Listed) (tokens texts : List (List ℕ)) (found entries : List (Group × List ℕ)) → IsSound g → IsLexicon l
+    → g.terminals ≡ l.terminals → AreTexts texts g.terminals → AllFound g l tokens texts found → IsOrdered found entries → entries ≡ gathered g l tokens texts
 unfolding IsCandidate
 asked_gathered g l tokens texts found entries sound lexicon same are all ordered =
     same_in_order entries (gathered g l tokens texts) ordered.ordered in_order forth back
   where
     in_order : IsInOrder (gathered g l tokens texts)
-    in_order = all_tried_in_order (goes_on g l tokens) (forms_among l.live) (all_tried (goes_on g l tokens) (functions_in texts) []) (all_tried_in_order (goes_on g l tokens) (functions_in texts) [] tt)
+    in_order = all_tried_in_order (goes_on g l tokens) (forms_among l.live) (all_tried (goes_on g l tokens) (functions_in texts) [])
+        (all_tried_in_order (goes_on g l tokens) (functions_in texts) [] tt)
 
     forth : (e : Group × List ℕ) → Among entries e → Among (gathered g l tokens texts) e
     forth e h =
         let c = found_candidate g l tokens texts found e sound lexicon same are all (ordered.only e h) in
         let goes = test_from_beginning g l (tokens ++ e.1 ∷ []) sound c.1 in
-        either (λ m. all_tried_keeps (goes_on g l tokens) (forms_among l.live) (all_tried (goes_on g l tokens) (functions_in texts) []) e (all_tried_has (goes_on g l tokens) (functions_in texts) [] e m goes)) (λ m. all_tried_has (goes_on g l tokens) (forms_among l.live) (all_tried (goes_on g l tokens) (functions_in texts) []) e m goes) c.0
+        either (λ m. all_tried_keeps (goes_on g l tokens) (forms_among l.live) (all_tried (goes_on g l tokens) (functions_in texts) []) e
+        (all_tried_has (goes_on g l tokens) (functions_in texts) [] e m goes))
+        (λ m. all_tried_has (goes_on g l tokens) (forms_among l.live) (all_tried (goes_on g l tokens) (functions_in texts) []) e m goes) c.0
 
     back : (e : Group × List ℕ) → Among (gathered g l tokens texts) e → Among entries e
-    back e h = ordered.kept e (either (λ m. candidate_found g l tokens texts found e sound lexicon same are all (inr m.0, beginning_from_test g l (tokens ++ e.1 ∷ []) sound m.1)) (λ m. either (λ k. candidate_found g l tokens texts found e sound lexicon same are all (inl k.0, beginning_from_test g l (tokens ++ e.1 ∷ []) sound k.1)) (λ k. absurd k) (all_tried_from (goes_on g l tokens) (functions_in texts) [] e m)) (all_tried_from (goes_on g l tokens) (forms_among l.live) (all_tried (goes_on g l tokens) (functions_in texts) []) e h))
+    back e h = ordered.kept e (either (λ m. candidate_found g l tokens texts found e sound lexicon same are all
+        (inr m.0, beginning_from_test g l (tokens ++ e.1 ∷ []) sound m.1))
+        (λ m. either (λ k. candidate_found g l tokens texts found e sound lexicon same are all
+        (inl k.0, beginning_from_test g l (tokens ++ e.1 ∷ []) sound k.1)) (λ k. absurd k) (all_tried_from (goes_on g l tokens) (functions_in texts) [] e m))
+        (all_tried_from (goes_on g l tokens) (forms_among l.live) (all_tried (goes_on g l tokens) (functions_in texts) []) e h))
 
 -- the entries of what is sorted and put in order
 
 all_among : (cs xs : List (Group × List ℕ)) (e : Group × List ℕ) → Among (all_tried (λ x. true) cs xs) e → Among cs e ⊎ Among xs e
 all_among cs xs e h = either (λ m. inl m.0) inr (all_tried_from (λ x. true) cs xs e h)
 
-pub put_ordered : (found sorted entries : List (Group × Bor (List ℕ))) → IsPermutation found sorted → map shown entries ≡ all_tried (λ e. true) (map shown sorted) [] → IsOrdered (map shown found) (map shown entries)
+pub put_ordered : (found sorted entries : List (Group × Bor (List ℕ))) → IsPermutation found sorted
+    → map shown entries ≡ all_tried (λ e. true) (map shown sorted) [] → IsOrdered (map shown found) (map shown entries)
 put_ordered found sorted entries moved is =
     let p = IsPermutation-map shown found sorted moved in
     record {
       ordered = subst IsInOrder (sym is) (all_tried_in_order (λ e. true) (map shown sorted) [] tt);
-      kept = λ e h. subst (λ es. Has es e) (sym is) (all_tried_has (λ x. true) (map shown sorted) [] e (contains_among (map shown sorted) e (Contains-permutation (map shown found) (map shown sorted) e p (among_contains (map shown found) e h))) refl);
-      only = λ e h. contains_among (map shown found) e (Contains-permutation (map shown sorted) (map shown found) e (IsPermutation-sym (map shown found) (map shown sorted) p) (among_contains (map shown sorted) e (either (λ m. m) (λ m. absurd m) (all_among (map shown sorted) [] e (subst (λ es. Has es e) is h)))));
+      kept = λ e h. subst (λ es. Has es e) (sym is)
+          (all_tried_has (λ x. true) (map shown sorted) [] e
+          (contains_among (map shown sorted) e (Contains-permutation (map shown found) (map shown sorted) e p (among_contains (map shown found) e h))) refl);
+      only = λ e h. contains_among (map shown found) e
+          (Contains-permutation (map shown sorted) (map shown found) e (IsPermutation-sym (map shown found) (map shown sorted) p)
+          (among_contains (map shown sorted) e (either (λ m. m) (λ m. absurd m) (all_among (map shown sorted) [] e (subst (λ es. Has es e) is h)))));
     }

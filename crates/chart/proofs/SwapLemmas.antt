@@ -1,11 +1,14 @@
 -- Two words without a form among the tokens may change places, and a last token that brings no new word may be any other.
-use Rattle.std.proofs.Common.{◌≡◌, ℕ, suc, zero, ◌-◌, ◌<◌, List, [], ◌∷◌, ◌++◌, Bool, true, false, ◌&&◌, ◌||◌, map, length, length-append, Some, None, refl, sym, ap, ◌∙◌, subst, arith, nat_lt}
+use Rattle.std.proofs.Common.{◌≡◌, ℕ, suc, zero, ◌-◌, ◌<◌, List, [], ◌∷◌, ◌++◌, Bool, true, false, ◌&&◌, ◌||◌, map, length, length-append, Some, None, refl, sym, ap, ◌∙◌, subst, nat_lt}
 use Rattle.std.specs.Prelude.{if◌then◌else◌, ◌==◌, not, option_map, slice_get}
 use Rattle.std.specs.Option.{option_map_or}
 use Rattle.std.specs.List.{list_any, list_all}
 use Rattle.std.specs.Str.{bytes_eq}
-use Rattle.std.proofs.lemmas.Bool.Decides.{nat_tests}
-use Rattle.std.proofs.lemmas.Option.{same_Some}
+use Rattle.std.proofs.lemmas.Option.{same_Some, slice_get-map}
+use Rattle.std.proofs.lemmas.Bool.{eqb-true, eqb-false, eq-eqb, ne_eqb}
+use Rattle.std.proofs.lemmas.List.Folds.{list_any-append}
+use Rattle.std.proofs.Math.Bool.{or-false}
+use Rattle.wiki_base.proofs.ListLaws.{slice_get-append}
 use Rattle.codeco_terms.specs.declared.values.Value.{Value}
 use Rattle.codeco_terms.specs.declared.values.Value.TheVariants.{Atom, Word, Pos}
 use Rattle.codeco_terms.specs.declared.values.Term.{Term}
@@ -25,7 +28,7 @@ use Rattle.chart_table.specs.declared.asks.Ask.TheVariants as ask
 use Rattle.chart_table.specs.Asks.{AskLeads}
 use Rattle.chart_table.proofs.PassLemmas.{both_true}
 use Rattle.chart.specs.Offers.{with_last, has_in}
-use Rattle.chart.proofs.TurnedLemmas.{Binds, IsTurn, turned, turned_all, turned_ground, turned_readings, Alike, AllWritten, PatternsWritten, value_same, any_turned, has_turned, slice_turned}
+use Rattle.chart.proofs.TurnedLemmas.{Binds, IsTurn, turned, turned_all, turned_ground, turned_readings, Alike, AllWritten, PatternsWritten, value_same, any_turned, has_turned}
 use Rattle.chart.proofs.TurnedTrees.{ElementWritten, BodyWritten, RuleWritten, RulesWritten, turned_ask, ask_turned}
 
 -- the other of two numbers, or the number itself where it is neither
@@ -48,31 +51,15 @@ lacks_word a readings = list_all (lacks_in a) readings
 
 -- numbers
 
-number_is : (x y : ℕ) → (x == y) ≡ true → x ≡ y
-number_is x y h = grind (arith, nat_tests)
-
-number_not : (x y : ℕ) → (x == y) ≡ false → x ≡ y → ⊥
-number_not x y h e = let z : (x == y) ≡ true = grind (arith, nat_tests) in let c : true ≡ false = sym z ∙ h in absurd (cc)
-
-number_same : (x y : ℕ) → x ≡ y → (x == y) ≡ true
-number_same x y e = grind (arith, nat_tests)
-
-number_apart : (x y : ℕ) → (x ≡ y → ⊥) → (x == y) ≡ false
-number_apart x y n = at (x == y) refl
-  where
-    at : (b : Bool) → (x == y) ≡ b → (x == y) ≡ false
-    at true e = absurd (n (number_is x y e))
-    at false e = e
-
 pub swapped_first : (a b : ℕ) → swapped a b a ≡ b
-swapped_first a b = ap (λ t. if t then b else (if a == b then a else a)) (number_same a a refl)
+swapped_first a b = ap (λ t. if t then b else (if a == b then a else a)) (eq-eqb a a refl)
 
 pub swapped_second : (a b : ℕ) → swapped a b b ≡ a
 swapped_second a b = at (b == a) refl
   where
     at : (t : Bool) → (b == a) ≡ t → swapped a b b ≡ a
-    at true e = ap (λ t. if t then b else (if b == b then a else b)) e ∙ number_is b a e
-    at false e = ap (λ t. if t then b else (if b == b then a else b)) e ∙ ap (λ t. if t then a else b) (number_same b b refl)
+    at true e = ap (λ t. if t then b else (if b == b then a else b)) e ∙ eqb-true b a e
+    at false e = ap (λ t. if t then b else (if b == b then a else b)) e ∙ ap (λ t. if t then a else b) (eq-eqb b b refl)
 
 swapped_other : (a b x : ℕ) → (x == a) ≡ false → (x == b) ≡ false → swapped a b x ≡ x
 swapped_other a b x n m = ap (λ t. if t then b else (if x == b then a else x)) n ∙ ap (λ t. if t then a else x) m
@@ -81,8 +68,8 @@ swapped_twice : (a b x : ℕ) → swapped a b (swapped a b x) ≡ x
 swapped_twice a b x = at (x == a) (x == b) refl refl
   where
     at : (t u : Bool) → (x == a) ≡ t → (x == b) ≡ u → swapped a b (swapped a b x) ≡ x
-    at true u e f = let is = number_is x a e in ap (λ y. swapped a b (swapped a b y)) is ∙ ap (swapped a b) (swapped_first a b) ∙ swapped_second a b ∙ sym is
-    at false true e f = let is = number_is x b f in ap (λ y. swapped a b (swapped a b y)) is ∙ ap (swapped a b) (swapped_second a b) ∙ swapped_first a b ∙ sym is
+    at true u e f = let is = eqb-true x a e in ap (λ y. swapped a b (swapped a b y)) is ∙ ap (swapped a b) (swapped_first a b) ∙ swapped_second a b ∙ sym is
+    at false true e f = let is = eqb-true x b f in ap (λ y. swapped a b (swapped a b y)) is ∙ ap (swapped a b) (swapped_second a b) ∙ swapped_first a b ∙ sym is
     at false false e f = ap (swapped a b) (swapped_other a b x e f) ∙ swapped_other a b x e f
 
 back_same : (a b x y : ℕ) → swapped a b x ≡ swapped a b y → x ≡ y
@@ -92,8 +79,8 @@ same_tests : (x y u v : ℕ) → (x ≡ y → u ≡ v) → (u ≡ v → x ≡ y)
 same_tests x y u v to back = at (u == v) refl
   where
     at : (t : Bool) → (u == v) ≡ t → (x == y) ≡ t
-    at true e = number_same x y (back (number_is u v e))
-    at false e = number_apart x y (λ h. number_not u v e (to h))
+    at true e = eq-eqb x y (back (eqb-true u v e))
+    at false e = ne_eqb x y (λ h. eqb-false u v e (to h))
 
 pub swap_turns : (a b : ℕ) → (a ≡ 0 → ⊥) → (b ≡ 0 → ⊥) → IsTurn (swapped a b)
 swap_turns a b na nb = record {
@@ -102,7 +89,7 @@ swap_turns a b na nb = record {
 }
   where
     zero_stays : swapped a b 0 ≡ 0
-    zero_stays = swapped_other a b 0 (number_apart 0 a (λ e. na (sym e))) (number_apart 0 b (λ e. nb (sym e)))
+    zero_stays = swapped_other a b 0 (ne_eqb 0 a (λ e. na (sym e))) (ne_eqb 0 b (λ e. nb (sym e)))
 
 -- readings
 
@@ -139,7 +126,8 @@ grounds_stay a b [] h k = refl
 grounds_stay a b (r ∷ rs) h k =
     both_true (list_all (λ p. lacks_value a p.1) r.vals) (lacks_in a rs) h (λ h1 h2.
     both_true (list_all (λ p. lacks_value b p.1) r.vals) (lacks_in b rs) k (λ k1 k2.
-    ap (λ vs. record { name = r.name; vals = vs } ∷ map (turned_ground (swapped a b)) rs) (all_stay a b r.vals h1 k1) ∙ ap (λ l. r ∷ l) (grounds_stay a b rs h2 k2)))
+    ap (λ vs. record { name = r.name; vals = vs } ∷ map (turned_ground (swapped a b)) rs) (all_stay a b r.vals h1 k1)
+    ∙ ap (λ l. r ∷ l) (grounds_stay a b rs h2 k2)))
 
 readings_stay : (a b : ℕ) (rss : List (List Ground)) → lacks_word a rss ≡ true → lacks_word b rss ≡ true → turned_readings (swapped a b) rss ≡ rss
 readings_stay a b [] h k = refl
@@ -183,7 +171,8 @@ element_written Opener h = tt
 element_written (Forward c) h = both_true _ (is_written c) h (λ _ b. category_written c b)
 element_written (Strong c) h = both_true _ (is_written c) h (λ _ b. category_written c b)
 element_written (Back ps ns) h =
-    both_true (not (is_empty ps) && list_all is_written_pattern ps) (list_all is_plain_pattern ns) h (λ a b. both_true (not (is_empty ps)) (list_all is_written_pattern ps) a (λ _ c. (patterns_written ps c, plains_written ns b)))
+    both_true (not (is_empty ps) && list_all is_written_pattern ps) (list_all is_plain_pattern ns) h
+    (λ a b. both_true (not (is_empty ps)) (list_all is_written_pattern ps) a (λ _ c. (patterns_written ps c, plains_written ns b)))
 element_written (NoBack ps) h = both_true (not (is_empty ps)) (list_all is_plain_pattern ps) h (λ _ b. plains_written ps b)
 
 body_written : (es : List Element) → list_all is_written_element es ≡ true → BodyWritten es
@@ -191,7 +180,8 @@ body_written [] h = tt
 body_written (e ∷ es) h = both_true (is_written_element e) (list_all is_written_element es) h (λ a b. (element_written e a, body_written es b))
 
 rule_written : (r : Rule) → is_written_rule r ≡ true → RuleWritten r
-rule_written r h = both_true (is_written_name r.head) (list_all is_written_element r.body) h (λ a b. (both_true _ (is_written r.head) a (λ _ c. category_written r.head c), body_written r.body b))
+rule_written r h = both_true (is_written_name r.head) (list_all is_written_element r.body) h
+    (λ a b. (both_true _ (is_written r.head) a (λ _ c. category_written r.head c), body_written r.body b))
 
 all_at : (xs : List Rule) (i : ℕ) (r : Rule) → list_all is_written_rule xs ≡ true → slice_get xs i ≡ Some r → is_written_rule r ≡ true
 all_at [] i r h e = absurd (cc)
@@ -207,31 +197,19 @@ rules_written g sound number rule has = at (number == 0) has
 
 -- settings that differ in the last token
 
-slice_before : {X : Type 0} (xs ys : List X) (i : ℕ) → i < length xs → slice_get (xs ++ ys) i ≡ slice_get xs i
-slice_before [] ys i lt = absurd (omega arith)
-slice_before (x ∷ xs) ys zero lt = refl
-slice_before (x ∷ xs) ys (suc i) lt = slice_before xs ys i (omega arith)
-
-pub any_append : {X : Type 0} (p : X → Bool) (xs ys : List X) → list_any p (xs ++ ys) ≡ (list_any p xs || list_any p ys)
-any_append p [] ys = refl
-any_append p (x ∷ xs) ys = ap (λ b. p x || b) (any_append p xs ys) ∙ at (p x)
-  where
-    at : (b : Bool) → (b || (list_any p xs || list_any p ys)) ≡ ((b || list_any p xs) || list_any p ys)
-    at true = refl
-    at false = refl
-
-pub or_false : (b : Bool) → (b || false) ≡ b
-or_false true = refl
-or_false false = refl
-
-alike_last : (h : ℕ → ℕ) (g : GrammarParts) (tokens : List (List ℕ)) (rs : List (List Ground)) (one other : List ℕ) (q r : List Ground) → length rs ≡ length tokens → turned_readings h rs ≡ rs → ((v : Value) → has_word (with_last g tokens rs other r) (turned h v) ≡ has_word (with_last g tokens rs one q) v) → Alike (length tokens) h (with_last g tokens rs one q) (with_last g tokens rs other r)
+alike_last : (h : ℕ → ℕ) (g : GrammarParts) (tokens : List (List ℕ)) (rs : List (List Ground)) (one other : List ℕ) (q r : List Ground)
+    → length rs ≡ length tokens → turned_readings h rs ≡ rs
+    → ((v : Value) → has_word (with_last g tokens rs other r) (turned h v) ≡ has_word (with_last g tokens rs one q) v)
+    → Alike (length tokens) h (with_last g tokens rs one q) (with_last g tokens rs other r)
 alike_last h g tokens rs one other q r long stays words = record {
   grammar = refl;
   count = length-append tokens (other ∷ []) ∙ sym (length-append tokens (one ∷ []));
-  terminals = λ t place lt. ap (λ o. option_map_or (λ token. option_map_or (bytes_eq token) (slice_get g.terminals t) false) o false) (slice_before tokens (other ∷ []) place lt ∙ sym (slice_before tokens (one ∷ []) place lt));
+  terminals = λ t place lt. ap (λ o. option_map_or (λ token. option_map_or (bytes_eq token) (slice_get g.terminals t) false) o false)
+      (slice_get-append tokens (other ∷ []) place lt ∙ sym (slice_get-append tokens (one ∷ []) place lt));
   readings = λ place lt.
       let below : place < length rs = subst (λ k. place < k) (sym long) lt in
-      slice_before rs (r ∷ []) place below ∙ ap (λ x. slice_get x place) (sym stays) ∙ slice_turned (map (turned_ground h)) rs place ∙ ap (option_map (map (turned_ground h))) (sym (slice_before rs (q ∷ []) place below));
+      slice_get-append rs (r ∷ []) place below ∙ ap (λ x. slice_get x place) (sym stays) ∙ slice_get-map (map (turned_ground h)) rs place
+      ∙ ap (option_map (map (turned_ground h))) (sym (slice_get-append rs (q ∷ []) place below));
   words = words;
 }
 
@@ -239,17 +217,22 @@ alike_last h g tokens rs one other q r long stays words = record {
 abbrev words_in : List (List Ground) → Value → Bool
 words_in rs v = list_any (λ one. has_in one v) rs
 
-pub last_words : (g : GrammarParts) (tokens : List (List ℕ)) (rs : List (List Ground)) (one : List ℕ) (q : List Ground) (v : Value) → has_word (with_last g tokens rs one q) v ≡ (words_in rs v || has_in q v)
+pub last_words : (g : GrammarParts) (tokens : List (List ℕ)) (rs : List (List Ground)) (one : List ℕ) (q : List Ground) (v : Value)
+    → has_word (with_last g tokens rs one q) v ≡ (words_in rs v || has_in q v)
 last_words g tokens rs one q v =
-    any_append (λ readings. has_in readings v) rs (q ∷ []) ∙ ap (λ b. words_in rs v || b) (or_false (has_in q v))
+    list_any-append (λ readings. has_in readings v) rs (q ∷ []) ∙ ap (λ b. words_in rs v || b) (or-false (has_in q v))
 
 words_turned : (h : ℕ → ℕ) → IsTurn h → (rs : List (List Ground)) (v : Value) → turned_readings h rs ≡ rs → words_in rs (turned h v) ≡ words_in rs v
 words_turned h t rs v stays =
-    ap (λ x. words_in x (turned h v)) (sym stays) ∙ any_turned _ _ (map (turned_ground h)) rs (λ readings. any_turned _ _ (turned_ground h) readings (λ r. has_turned h t r.vals (3, v)))
+    ap (λ x. words_in x (turned h v)) (sym stays)
+    ∙ any_turned _ _ (map (turned_ground h)) rs (λ readings. any_turned _ _ (turned_ground h) readings (λ r. has_turned h t r.vals (3, v)))
 
-last_turned : (h : ℕ → ℕ) → IsTurn h → (g : GrammarParts) (tokens : List (List ℕ)) (rs : List (List Ground)) (one other : List ℕ) (q r : List Ground) → turned_readings h rs ≡ rs → ((v : Value) → has_in r (turned h v) ≡ has_in q v) → (v : Value) → has_word (with_last g tokens rs other r) (turned h v) ≡ has_word (with_last g tokens rs one q) v
+last_turned : (h : ℕ → ℕ) → IsTurn h → (g : GrammarParts) (tokens : List (List ℕ)) (rs : List (List Ground)) (one other : List ℕ) (q r : List Ground)
+    → turned_readings h rs ≡ rs → ((v : Value) → has_in r (turned h v) ≡ has_in q v) → (v : Value)
+    → has_word (with_last g tokens rs other r) (turned h v) ≡ has_word (with_last g tokens rs one q) v
 last_turned h t g tokens rs one other q r stays same v =
-    last_words g tokens rs other r (turned h v) ∙ ap (λ b. b || has_in r (turned h v)) (words_turned h t rs v stays) ∙ ap (λ b. words_in rs v || b) (same v) ∙ sym (last_words g tokens rs one q v)
+    last_words g tokens rs other r (turned h v) ∙ ap (λ b. b || has_in r (turned h v)) (words_turned h t rs v stays) ∙ ap (λ b. words_in rs v || b) (same v)
+    ∙ sym (last_words g tokens rs one q v)
 
 -- what is asked for, of the category of sentences, at the place of the last token
 abbrev pub Asked : GrammarParts → List (List ℕ) → List (List Ground) → List ℕ → List Ground → Ask → Type 0
@@ -262,30 +245,41 @@ Asked g tokens rs token read asks =
 abbrev pub HasWord : List Ground → ℕ → Type 0
 HasWord q w = (v : Value) → has_in q v ≡ same_value (Word (record { 0 = w })) v
 
-value_of_swapped : (a b : ℕ) (q r : List Ground) → (a ≡ 0 → ⊥) → (b ≡ 0 → ⊥) → HasWord q a → HasWord r b → (v : Value) → has_in r (turned (swapped a b) v) ≡ has_in q v
+value_of_swapped : (a b : ℕ) (q r : List Ground) → (a ≡ 0 → ⊥) → (b ≡ 0 → ⊥) → HasWord q a → HasWord r b → (v : Value)
+    → has_in r (turned (swapped a b) v) ≡ has_in q v
 value_of_swapped a b q r na nb hq hr v =
-    hr (turned (swapped a b) v) ∙ ap (λ x. same_value (Word (record { 0 = x })) (turned (swapped a b) v)) (sym (swapped_first a b)) ∙ same (Word (record { 0 = a })) v ∙ sym (hq v)
+    hr (turned (swapped a b) v) ∙ ap (λ x. same_value (Word (record { 0 = x })) (turned (swapped a b) v)) (sym (swapped_first a b))
+    ∙ same (Word (record { 0 = a })) v ∙ sym (hq v)
   where
     same : (x y : Value) → same_value (turned (swapped a b) x) (turned (swapped a b) y) ≡ same_value x y
     same x y = value_same (swapped a b) (swap_turns a b na nb) x y
 
-value_of_swapped_back : (a b : ℕ) (q r : List Ground) → (a ≡ 0 → ⊥) → (b ≡ 0 → ⊥) → HasWord q a → HasWord r b → (v : Value) → has_in q (turned (swapped a b) v) ≡ has_in r v
+value_of_swapped_back : (a b : ℕ) (q r : List Ground) → (a ≡ 0 → ⊥) → (b ≡ 0 → ⊥) → HasWord q a → HasWord r b → (v : Value)
+    → has_in q (turned (swapped a b) v) ≡ has_in r v
 value_of_swapped_back a b q r na nb hq hr v =
-    hq (turned (swapped a b) v) ∙ ap (λ x. same_value (Word (record { 0 = x })) (turned (swapped a b) v)) (sym (swapped_second a b)) ∙ same (Word (record { 0 = b })) v ∙ sym (hr v)
+    hq (turned (swapped a b) v) ∙ ap (λ x. same_value (Word (record { 0 = x })) (turned (swapped a b) v)) (sym (swapped_second a b))
+    ∙ same (Word (record { 0 = b })) v ∙ sym (hr v)
   where
     same : (x y : Value) → same_value (turned (swapped a b) x) (turned (swapped a b) y) ≡ same_value x y
     same x y = value_same (swapped a b) (swap_turns a b na nb) x y
 
 -- two new words may change places in what is asked for
-pub asked_new : (g : GrammarParts) (tokens : List (List ℕ)) (rs : List (List Ground)) (one other : List ℕ) (q r : List Ground) (a b : ℕ) → IsSound g → length rs ≡ length tokens → (a ≡ 0 → ⊥) → (b ≡ 0 → ⊥) → lacks_word a rs ≡ true → lacks_word b rs ≡ true → HasWord q a → HasWord r b → (x : Ground) → (Asked g tokens rs one q (ask.Reading x) → Asked g tokens rs other r (ask.Reading (turned_ground (swapped a b) x))) × (Asked g tokens rs other r (ask.Reading (turned_ground (swapped a b) x)) → Asked g tokens rs one q (ask.Reading x))
+pub asked_new : (g : GrammarParts) (tokens : List (List ℕ)) (rs : List (List Ground)) (one other : List ℕ) (q r : List Ground) (a b : ℕ) → IsSound g
+    → length rs ≡ length tokens → (a ≡ 0 → ⊥) → (b ≡ 0 → ⊥) → lacks_word a rs ≡ true → lacks_word b rs ≡ true → HasWord q a → HasWord r b → (x : Ground)
+    → (Asked g tokens rs one q (ask.Reading x) → Asked g tokens rs other r (ask.Reading (turned_ground (swapped a b) x)))
+    × (Asked g tokens rs other r (ask.Reading (turned_ground (swapped a b) x)) → Asked g tokens rs one q (ask.Reading x))
 asked_new g tokens rs one other q r a b sound long na nb la lb hq hr x =
     let h = swapped a b in
     let t = swap_turns a b na nb in
     let stays = readings_stay a b rs la lb in
     let forth = alike_last h g tokens rs one other q r long stays (last_turned h t g tokens rs one other q r stays (value_of_swapped a b q r na nb hq hr)) in
-    let back = alike_last h g tokens rs other one r q long stays (last_turned h t g tokens rs other one r q stays (value_of_swapped_back a b q r na nb hq hr)) in (
-      λ l. ask_turned (length tokens) h t (with_last g tokens rs one q) (with_last g tokens rs other r) forth (rules_written g sound) (ask.Reading x) text_category (record { place = 0; list = [] }) l,
-      λ l. subst (λ y. Asked g tokens rs one q (ask.Reading y)) (ground_twice a b x) (ask_turned (length tokens) h t (with_last g tokens rs other r) (with_last g tokens rs one q) back (rules_written g sound) (ask.Reading (turned_ground h x)) text_category (record { place = 0; list = [] }) l),
+    let back = alike_last h g tokens rs other one r q long stays
+    (last_turned h t g tokens rs other one r q stays (value_of_swapped_back a b q r na nb hq hr)) in (
+      λ l. ask_turned (length tokens) h t (with_last g tokens rs one q) (with_last g tokens rs other r) forth (rules_written g sound) (ask.Reading x)
+          text_category (record { place = 0; list = [] }) l,
+      λ l. subst (λ y. Asked g tokens rs one q (ask.Reading y)) (ground_twice a b x)
+          (ask_turned (length tokens) h t (with_last g tokens rs other r) (with_last g tokens rs one q) back (rules_written g sound)
+          (ask.Reading (turned_ground h x)) text_category (record { place = 0; list = [] }) l),
     )
 
 -- a last token that brings no new word, and another that has no readings
@@ -318,16 +312,22 @@ ask_kept (ask.Reading r) = ap ask.Reading (ground_kept r)
 none_turns : IsTurn (λ x. x)
 none_turns = record { same = λ x y. refl; none = λ x. refl }
 
-asked_kept : (g : GrammarParts) (tokens : List (List ℕ)) (rs : List (List Ground)) (one other : List ℕ) (q r : List Ground) → IsSound g → length rs ≡ length tokens → ((v : Value) → has_word (with_last g tokens rs other r) v ≡ has_word (with_last g tokens rs one q) v) → (asks : Ask) → Asked g tokens rs one q asks → Asked g tokens rs other r asks
+asked_kept : (g : GrammarParts) (tokens : List (List ℕ)) (rs : List (List Ground)) (one other : List ℕ) (q r : List Ground) → IsSound g
+    → length rs ≡ length tokens → ((v : Value) → has_word (with_last g tokens rs other r) v ≡ has_word (with_last g tokens rs one q) v) → (asks : Ask)
+    → Asked g tokens rs one q asks → Asked g tokens rs other r asks
 asked_kept g tokens rs one other q r sound long same asks l =
-    let alike = alike_last (λ x. x) g tokens rs one other q r long (readings_kept rs) (λ v. ap (has_word (with_last g tokens rs other r)) (value_kept v) ∙ same v) in
-    subst (Asked g tokens rs other r) (ask_kept asks) (ask_turned (length tokens) (λ x. x) none_turns (with_last g tokens rs one q) (with_last g tokens rs other r) alike (rules_written g sound) asks text_category (record { place = 0; list = [] }) l)
+    let alike = alike_last (λ x. x) g tokens rs one other q r long (readings_kept rs)
+    (λ v. ap (has_word (with_last g tokens rs other r)) (value_kept v) ∙ same v) in
+    subst (Asked g tokens rs other r) (ask_kept asks)
+    (ask_turned (length tokens) (λ x. x) none_turns (with_last g tokens rs one q) (with_last g tokens rs other r) alike (rules_written g sound) asks
+    text_category (record { place = 0; list = [] }) l)
 
 -- the words of the last token are among those of the others
 abbrev pub BringsNone : List (List Ground) → List Ground → Type 0
 BringsNone rs q = (v : Value) → has_in q v ≡ true → list_any (λ one. has_in one v) rs ≡ true
 
-same_words : (g : GrammarParts) (tokens : List (List ℕ)) (rs : List (List Ground)) (one other : List ℕ) (q : List Ground) → BringsNone rs q → (v : Value) → has_word (with_last g tokens rs other []) v ≡ has_word (with_last g tokens rs one q) v
+same_words : (g : GrammarParts) (tokens : List (List ℕ)) (rs : List (List Ground)) (one other : List ℕ) (q : List Ground) → BringsNone rs q → (v : Value)
+    → has_word (with_last g tokens rs other []) v ≡ has_word (with_last g tokens rs one q) v
 same_words g tokens rs one other q brings v =
     last_words g tokens rs other [] v ∙ at (words_in rs v) (has_in q v) (brings v) ∙ sym (last_words g tokens rs one q v)
   where
@@ -336,6 +336,10 @@ same_words g tokens rs one other q brings v =
     at false true h = h refl
     at false false h = refl
 
-pub asked_old : (g : GrammarParts) (tokens : List (List ℕ)) (rs : List (List Ground)) (one other : List ℕ) (q : List Ground) → IsSound g → length rs ≡ length tokens → BringsNone rs q → (asks : Ask) → (Asked g tokens rs one q asks → Asked g tokens rs other [] asks) × (Asked g tokens rs other [] asks → Asked g tokens rs one q asks)
-asked_old g tokens rs one other q sound long brings asks =
-    (λ l. asked_kept g tokens rs one other q [] sound long (same_words g tokens rs one other q brings) asks l, λ l. asked_kept g tokens rs other one [] q sound long (λ v. sym (same_words g tokens rs one other q brings v)) asks l)
+pub asked_old : (g : GrammarParts) (tokens : List (List ℕ)) (rs : List (List Ground)) (one other : List ℕ) (q : List Ground) → IsSound g
+    → length rs ≡ length tokens → BringsNone rs q → (asks : Ask)
+    → (Asked g tokens rs one q asks → Asked g tokens rs other [] asks) × (Asked g tokens rs other [] asks → Asked g tokens rs one q asks)
+asked_old g tokens rs one other q sound long brings asks = (
+  λ l. asked_kept g tokens rs one other q [] sound long (same_words g tokens rs one other q brings) asks l,
+  λ l. asked_kept g tokens rs other one [] q sound long (λ v. sym (same_words g tokens rs one other q brings v)) asks l,
+)

@@ -14,4 +14,5 @@ pub record IsChart (s : Setting) (derives : List Bool) : Type 0 where
   pub few : length s.tokens ≤ MOST_TOKENS
   pub read : length s.readings ≡ length s.tokens
   pub all : length derives ≡ length s.tokens + 1
-  pub told : (count : ℕ) (yes : Bool) → count ≤ length s.tokens → slice_get derives count ≡ Some yes → IsTrue yes ↔ ((tree : Node) × IsDerivation (first_of s count) tree)
+  pub told : (count : ℕ) (yes : Bool) → count ≤ length s.tokens → slice_get derives count ≡ Some yes
+      → IsTrue yes ↔ ((tree : Node) × IsDerivation (first_of s count) tree)

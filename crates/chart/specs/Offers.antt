@@ -1,4 +1,4 @@
--- Which tokens may follow, by what is asked for where the tokens end.
+-- Which tokens may follow, by what is asked for where the tokens end. Only private calls speak of it.
 use Rattle.std.specs.Prelude.{◌≡◌, ℕ, ◌+◌, ◌==◌, ◌&&◌, ◌||◌, if◌then◌else◌, Bool, true, false, List, [], ◌∷◌, ◌++◌, length, map, filter, slice_get, slice_index_or, Some, codes, IsTrue, ◌↔◌}
 use Rattle.std.specs.List.{list_any}
 use Rattle.std.specs.Str.{bytes_eq}
@@ -88,7 +88,9 @@ class_of kind.Adjective place form = 10
 -- the readings of the forms of the classes, with the word
 abbrev pub class_readings : WordId → List Ground
 class_readings id =
-    reading kind.Name id 0 (codes "b") ∷ reading kind.Noun id 0 (codes "a") ∷ reading kind.Noun id 0 (codes "b") ∷ reading kind.Noun id 1 (codes "a") ∷ reading kind.Noun id 1 (codes "b") ∷ reading kind.Of id 0 (codes "a") ∷ reading kind.Of id 0 (codes "b") ∷ reading kind.Verb id 0 (codes "b") ∷ reading kind.Verb id 1 (codes "b") ∷ reading kind.Verb id 2 (codes "b") ∷ reading kind.Adjective id 0 (codes "b") ∷ []
+    reading kind.Name id 0 (codes "b") ∷ reading kind.Noun id 0 (codes "a") ∷ reading kind.Noun id 0 (codes "b") ∷ reading kind.Noun id 1 (codes "a")
+    ∷ reading kind.Noun id 1 (codes "b") ∷ reading kind.Of id 0 (codes "a") ∷ reading kind.Of id 0 (codes "b") ∷ reading kind.Verb id 0 (codes "b")
+    ∷ reading kind.Verb id 1 (codes "b") ∷ reading kind.Verb id 2 (codes "b") ∷ reading kind.Adjective id 0 (codes "b") ∷ []
 
 -- the forms of a word, of which the first has the place, of whose class it is told that it may follow
 abbrev pub told_forms : List Bool → Kind → ℕ → List (List ℕ) → List (Group × List ℕ)
@@ -104,13 +106,15 @@ new_forms readings told (w ∷ ws) =
 
 -- What is found of terminals and of forms of words among the tokens: those of which it is told that they may follow, by one
 -- table, of the tokens with one more that has no readings.
-pub record KnownFound (g : GrammarParts) (live : List Word) (tokens : List (List ℕ)) (texts : List (List ℕ)) (before after : List (Group × List ℕ)) : Type 0 where
-  pub token : List ℕ
-  pub terminals : List Bool
-  pub forms : List Bool
-  pub told_terminals : Told (with_last g tokens (map (readings_of live) tokens) token []) (length tokens) (terminal_asks 0 g.terminals) terminals
-  pub told_forms : Told (with_last g tokens (map (readings_of live) tokens) token []) (length tokens) (used_asks (map (readings_of live) tokens) live) forms
-  pub found : after ≡ (before ++ functions_in (filter (λ text. some_follows text g.terminals terminals) texts)) ++ chosen (used_forms (map (readings_of live) tokens) live) forms
+pub record KnownFound (g : GrammarParts) (live : List Word) (tokens : List (List ℕ)) (texts : List (List ℕ)) (before after : List (Group × List ℕ)) : Type 0
+  where
+    pub token : List ℕ
+    pub terminals : List Bool
+    pub forms : List Bool
+    pub told_terminals : Told (with_last g tokens (map (readings_of live) tokens) token []) (length tokens) (terminal_asks 0 g.terminals) terminals
+    pub told_forms : Told (with_last g tokens (map (readings_of live) tokens) token []) (length tokens) (used_asks (map (readings_of live) tokens) live) forms
+    pub found : after ≡ (before ++ functions_in (filter (λ text. some_follows text g.terminals terminals) texts))
+        ++ chosen (used_forms (map (readings_of live) tokens) live) forms
 
 -- What is found of forms of other words: those of whose class it is told that it may follow, by one table, of the tokens with
 -- one more that reads as a form of a word that has no form among the tokens.
@@ -123,7 +127,8 @@ pub record NewFound (g : GrammarParts) (live : List Word) (tokens : List (List �
   pub lives : slice_get live place ≡ Some word
   pub form_is : slice_get word.forms.texts 0 ≡ Some form
   pub new : is_used (map (readings_of live) tokens) word.id ≡ false
-  pub told_classes : Told (with_last g tokens (map (readings_of live) tokens) token (readings_of live form)) (length tokens) (map ask.Reading (class_readings word.id)) told
+  pub told_classes : Told (with_last g tokens (map (readings_of live) tokens) token (readings_of live form)) (length tokens)
+      (map ask.Reading (class_readings word.id)) told
   pub found : after ≡ before ++ new_forms (map (readings_of live) tokens) told live
 
 -- every word has a form among the tokens, and so there is no other to be found

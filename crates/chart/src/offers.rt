@@ -213,7 +213,8 @@ pub(crate) fn add_known<'a>(
 
 // The place of the first word without a form among the tokens.
 fn first_new(lexicon: &Lexicon, readings: &[Readings]) -> Option<usize>
-    ensures new { IfSome result (λ place. (place < length lexicon.now.live) × ((word : TheEntry) → slice_get lexicon.now.live place ≡ Some word → offers.is_used readings.now word.id ≡ false)) }
+    ensures new { IfSome result (λ place. (place < length lexicon.now.live)
+        × ((word : TheEntry) → slice_get lexicon.now.live place ≡ Some word → offers.is_used readings.now word.id ≡ false)) }
     ensures lexicon { IsLexicon lexicon.now }
     ensures none { IfNone result ((place : ℕ) (word : TheEntry) → slice_get lexicon.now.live place ≡ Some word → offers.is_used readings.now word.id ≡ true) }
 {

@@ -15,7 +15,8 @@ first_set g l tokens n = ap (λ r. record { grammar = g; tokens = take n tokens;
 
 -- the tokens that are left are read by the same lexicon
 pub dropped_kept : (g : GrammarParts) (l : Listed) (old new : Setting) (dropped : Bool) → old ≡ setting_of g l old.tokens
-    → (dropped ≡ false → (old.tokens ≡ []) × (new ≡ old)) → (dropped ≡ true → (0 < length old.tokens) × (new ≡ first_of old (length old.tokens - 1))) → new ≡ setting_of g l new.tokens
+    → (dropped ≡ false → (old.tokens ≡ []) × (new ≡ old)) → (dropped ≡ true → (0 < length old.tokens) × (new ≡ first_of old (length old.tokens - 1)))
+    → new ≡ setting_of g l new.tokens
 dropped_kept g l old new false kept none last =
     let same = (none refl).1 in
     kept_on g (readings_of l.live) new old.tokens (same ∙ kept)

@@ -3,13 +3,14 @@ use Rattle.std.proofs.Common.{◌≡◌, ℕ, zero, suc, List, [], ◌∷◌, Bo
 use Rattle.std.specs.Prelude.{◌==◌, option_and_then, slice_get}
 use Rattle.std.specs.Option.{option_map_or}
 use Rattle.std.specs.List.{list_all, list_any}
+use Rattle.std.proofs.lemmas.Bool.{or_right}
 use Rattle.codeco_terms.specs.declared.values.Value.{Value}
 use Rattle.codeco_terms.specs.declared.categories.Category.{Category}
 use Rattle.codeco_terms.specs.declared.categories.Ground.{Ground}
 use Rattle.codeco_terms.specs.declared.elements.Element.{Element}
 use Rattle.codeco_terms.specs.declared.elements.Element.TheVariants.{Terminal, Preterminal, Sub, Position, Opener, Forward, Strong, Back, NoBack}
 use Rattle.codeco_terms.specs.declared.rules.Rule.{Rule}
-use Rattle.scopes.specs.declared.tests.Test.{Test}
+use Rattle.scopes.specs.declared.agreement.Test.{Test}
 use Rattle.scopes.specs.Resolution.{agrees, has_value}
 use Rattle.derivation_trees.specs.Settings.{Setting, matches_preterminal}
 use Rattle.derivation_trees.specs.Instances.{under, own_values}
@@ -28,22 +29,22 @@ use Rattle.chart_table.proofs.PassLemmas.{both_true}
 true_is_false : true ≡ false → ⊥
 true_is_false w = cc
 
-or_right : (a b : Bool) → b ≡ true → (a || b) ≡ true
-or_right true b h = refl
-or_right false b h = h
-
-some_named : (readings : List Ground) (asked : Test) → list_any (λ reading. agrees reading asked) readings ≡ true → list_any (λ reading. reading.name == asked.name) readings ≡ true
+some_named : (readings : List Ground) (asked : Test) → list_any (λ reading. agrees reading asked) readings ≡ true
+    → list_any (λ reading. reading.name == asked.name) readings ≡ true
 some_named [] asked h = h
 some_named (r ∷ rs) asked h = by (λ k. some_named rs asked k) (agrees r asked) refl h
   where
-    by : (list_any (λ reading. agrees reading asked) rs ≡ true → list_any (λ reading. reading.name == asked.name) rs ≡ true) → (b : Bool) → agrees r asked ≡ b → (b || list_any (λ reading. agrees reading asked) rs) ≡ true → list_any (λ reading. reading.name == asked.name) (r ∷ rs) ≡ true
-    by later true e k = both_true (r.name == asked.name) (list_all (has_value r.vals) asked.values) e (λ n _. ap (λ b. b || list_any (λ reading. reading.name == asked.name) rs) n)
+    by : (list_any (λ reading. agrees reading asked) rs ≡ true → list_any (λ reading. reading.name == asked.name) rs ≡ true) → (b : Bool) → agrees r asked ≡ b
+        → (b || list_any (λ reading. agrees reading asked) rs) ≡ true → list_any (λ reading. reading.name == asked.name) (r ∷ rs) ≡ true
+    by later true e k = both_true (r.name == asked.name) (list_all (has_value r.vals) asked.values) e
+        (λ n _. ap (λ b. b || list_any (λ reading. reading.name == asked.name) rs) n)
     by later false e k = or_right (r.name == asked.name) _ (later k)
 
 kind_there : (s : Setting) (asked : Test) (place : ℕ) → matches_preterminal s asked place ≡ true → has_kind s asked.name place ≡ true
 kind_there s asked place h = by (slice_get s.readings place) h
   where
-    by : (o : Option (List Ground)) → option_map_or (λ readings. list_any (λ reading. agrees reading asked) readings) o false ≡ true → option_map_or (λ readings. list_any (λ reading. reading.name == asked.name) readings) o false ≡ true
+    by : (o : Option (List Ground)) → option_map_or (λ readings. list_any (λ reading. agrees reading asked) readings) o false ≡ true
+        → option_map_or (λ readings. list_any (λ reading. reading.name == asked.name) readings) o false ≡ true
     by None k = k
     by (Some readings) k = some_named readings asked k
 
@@ -56,12 +57,15 @@ path_starts s v own [] at last h = refl
 path_starts s v own (Terminal t ∷ es) at last h = h.1.0
 path_starts s v own (Preterminal c ∷ es) at last h = kind_there s (under v c) at.place h.1.0
 path_starts s v own (Sub c ∷ es) at last h = refl
-path_starts s v own (Position x ∷ es) at last h = stays s es at h.0 (ap (λ (a : At). a.place) h.1.1) (path_starts s v (own_past s (Position x) own) es h.0 last h.2)
+path_starts s v own (Position x ∷ es) at last h =
+    stays s es at h.0 (ap (λ (a : At). a.place) h.1.1) (path_starts s v (own_past s (Position x) own) es h.0 last h.2)
 path_starts s v own (Opener ∷ es) at last h = stays s es at h.0 (ap (λ (a : At). a.place) h.1) (path_starts s v (own_past s Opener own) es h.0 last h.2)
 path_starts s v own (Forward c ∷ es) at last h = stays s es at h.0 (ap (λ (a : At). a.place) h.1) (path_starts s v (own_past s (Forward c) own) es h.0 last h.2)
 path_starts s v own (Strong c ∷ es) at last h = stays s es at h.0 (ap (λ (a : At). a.place) h.1) (path_starts s v (own_past s (Strong c) own) es h.0 last h.2)
-path_starts s v own (Back positive negative ∷ es) at last h = stays s es at h.0 (ap (λ (a : At). a.place) h.1.1) (path_starts s v (own_past s (Back positive negative) own) es h.0 last h.2)
-path_starts s v own (NoBack patterns ∷ es) at last h = stays s es at h.0 (ap (λ (a : At). a.place) h.1.1) (path_starts s v (own_past s (NoBack patterns) own) es h.0 last h.2)
+path_starts s v own (Back positive negative ∷ es) at last h =
+    stays s es at h.0 (ap (λ (a : At). a.place) h.1.1) (path_starts s v (own_past s (Back positive negative) own) es h.0 last h.2)
+path_starts s v own (NoBack patterns ∷ es) at last h =
+    stays s es at h.0 (ap (λ (a : At). a.place) h.1.1) (path_starts s v (own_past s (NoBack patterns) own) es h.0 last h.2)
 
 -- what stops a node after so many of the elements: the place where phrases are cut off, or a category that comes next
 abbrev StopsIn : Aims → List Element → ℕ → At → Type 0
@@ -89,28 +93,37 @@ moved : (s : Setting) (aim : Aims) (es : List Element) (at between : At) → bet
 moved s aim es at between same (inl h) = inl (stays s es at between same h)
 moved s aim es at between same (inr h) = inr (sym same ∙ h)
 
-cut_starts : (s : Setting) (aim : Aims) (v own : List (ℕ × Value)) (es : List Element) (k : ℕ) (at last : At) → Path s v own (take k es) at last → StopsIn aim es k last → Starts s aim es at
+cut_starts : (s : Setting) (aim : Aims) (v own : List (ℕ × Value)) (es : List Element) (k : ℕ) (at last : At) → Path s v own (take k es) at last
+    → StopsIn aim es k last → Starts s aim es at
 cut_starts s aim v own [] k at last h stop = inl refl
 cut_starts s aim v own (e ∷ es) zero at last h (inl stop) = inr (ap (λ (a : At). a.place) h ∙ stop)
 cut_starts s aim v own (e ∷ es) zero at last h (inr c) = category_next s aim e es at c.0 c.1
 cut_starts s aim v own (Terminal t ∷ es) (suc k) at last h stop = inl h.1.0
 cut_starts s aim v own (Preterminal c ∷ es) (suc k) at last h stop = inl (kind_there s (under v c) at.place h.1.0)
 cut_starts s aim v own (Sub c ∷ es) (suc k) at last h stop = inl refl
-cut_starts s aim v own (Position x ∷ es) (suc k) at last h stop = moved s aim es at h.0 (ap (λ (a : At). a.place) h.1.1) (cut_starts s aim v (own_past s (Position x) own) es k h.0 last h.2 stop)
-cut_starts s aim v own (Opener ∷ es) (suc k) at last h stop = moved s aim es at h.0 (ap (λ (a : At). a.place) h.1) (cut_starts s aim v (own_past s Opener own) es k h.0 last h.2 stop)
-cut_starts s aim v own (Forward c ∷ es) (suc k) at last h stop = moved s aim es at h.0 (ap (λ (a : At). a.place) h.1) (cut_starts s aim v (own_past s (Forward c) own) es k h.0 last h.2 stop)
-cut_starts s aim v own (Strong c ∷ es) (suc k) at last h stop = moved s aim es at h.0 (ap (λ (a : At). a.place) h.1) (cut_starts s aim v (own_past s (Strong c) own) es k h.0 last h.2 stop)
-cut_starts s aim v own (Back positive negative ∷ es) (suc k) at last h stop = moved s aim es at h.0 (ap (λ (a : At). a.place) h.1.1) (cut_starts s aim v (own_past s (Back positive negative) own) es k h.0 last h.2 stop)
-cut_starts s aim v own (NoBack patterns ∷ es) (suc k) at last h stop = moved s aim es at h.0 (ap (λ (a : At). a.place) h.1.1) (cut_starts s aim v (own_past s (NoBack patterns) own) es k h.0 last h.2 stop)
+cut_starts s aim v own (Position x ∷ es) (suc k) at last h stop =
+    moved s aim es at h.0 (ap (λ (a : At). a.place) h.1.1) (cut_starts s aim v (own_past s (Position x) own) es k h.0 last h.2 stop)
+cut_starts s aim v own (Opener ∷ es) (suc k) at last h stop =
+    moved s aim es at h.0 (ap (λ (a : At). a.place) h.1) (cut_starts s aim v (own_past s Opener own) es k h.0 last h.2 stop)
+cut_starts s aim v own (Forward c ∷ es) (suc k) at last h stop =
+    moved s aim es at h.0 (ap (λ (a : At). a.place) h.1) (cut_starts s aim v (own_past s (Forward c) own) es k h.0 last h.2 stop)
+cut_starts s aim v own (Strong c ∷ es) (suc k) at last h stop =
+    moved s aim es at h.0 (ap (λ (a : At). a.place) h.1) (cut_starts s aim v (own_past s (Strong c) own) es k h.0 last h.2 stop)
+cut_starts s aim v own (Back positive negative ∷ es) (suc k) at last h stop =
+    moved s aim es at h.0 (ap (λ (a : At). a.place) h.1.1) (cut_starts s aim v (own_past s (Back positive negative) own) es k h.0 last h.2 stop)
+cut_starts s aim v own (NoBack patterns ∷ es) (suc k) at last h stop =
+    moved s aim es at h.0 (ap (λ (a : At). a.place) h.1.1) (cut_starts s aim v (own_past s (NoBack patterns) own) es k h.0 last h.2 stop)
 
-pub idle_ends : (s : Setting) (aim : Aims) (rule : Rule) (known : List (ℕ × Value)) (at : At) (ends : List End) → IsIdle s aim rule at.place → HasEndsOfRule s rule known at ends ends
+pub idle_ends : (s : Setting) (aim : Aims) (rule : Rule) (known : List (ℕ × Value)) (at : At) (ends : List End) → IsIdle s aim rule at.place
+    → HasEndsOfRule s rule known at ends ends
 idle_ends s aim rule known at ends idle = record {
   kept = λ e o. o;
   new = λ v last instance agrees path. absurd (true_is_false (sym (path_starts s v (own_values rule v) rule.body at last path) ∙ idle.not));
   only = λ e o. inl o;
 }
 
-pub idle_cuts : (s : Setting) (aim : Aims) (rule : Rule) (known : List (ℕ × Value)) (at : At) (cuts : List Cut) → IsIdle s aim rule at.place → HasCutsOfRule s aim rule known at cuts cuts
+pub idle_cuts : (s : Setting) (aim : Aims) (rule : Rule) (known : List (ℕ × Value)) (at : At) (cuts : List Cut) → IsIdle s aim rule at.place
+    → HasCutsOfRule s aim rule known at cuts cuts
 idle_cuts s aim rule known at cuts idle = record {
   kept = λ j values o. o;
   new = λ j v k last instance agrees path stop. absurd (never (cut_starts s aim v (own_values rule v) rule.body k at last path (stops j v k last stop)));
@@ -126,12 +139,14 @@ idle_cuts s aim rule known at cuts idle = record {
     never (inr h) = idle.before h
 
 -- as the program tests it
-pub idle_is : (s : Setting) (aim : Aims) (rule : Rule) (place count : ℕ) (body : List Element) (b : Bool) → count ≡ aim.halt → body ≡ rule.body → (place ≡ count → ⊥) → b ≡ may_start s place body → b ≡ false → IsIdle s aim rule place
+pub idle_is : (s : Setting) (aim : Aims) (rule : Rule) (place count : ℕ) (body : List Element) (b : Bool) → count ≡ aim.halt → body ≡ rule.body
+    → (place ≡ count → ⊥) → b ≡ may_start s place body → b ≡ false → IsIdle s aim rule place
 idle_is s aim rule place count body b c e not is off = record {
   before = λ h. not (h ∙ sym c);
   not = ap (may_start s place) (sym e) ∙ sym is ∙ off;
 }
 
-pub idle_instances : (s : Setting) (rule : Rule) (known : List (ℕ × Value)) (at : At) (body : List Element) (b : Bool) (found : List (List (ℕ × Value))) → body ≡ rule.body → b ≡ may_start s at.place body → b ≡ false → HasInstances s rule known at found
+pub idle_instances : (s : Setting) (rule : Rule) (known : List (ℕ × Value)) (at : At) (body : List Element) (b : Bool) (found : List (List (ℕ × Value)))
+    → body ≡ rule.body → b ≡ may_start s at.place body → b ≡ false → HasInstances s rule known at found
 idle_instances s rule known at body b found e is off values last instance agrees path =
     absurd (true_is_false (sym (path_starts s values (own_values rule values) rule.body at last path) ∙ ap (may_start s at.place) (sym e) ∙ sym is ∙ off))

@@ -1,12 +1,13 @@
 -- Elements of a tree, and where they lead.
-use Rattle.std.proofs.Common.{◌≡◌, ℕ, suc, zero, List, [], ◌∷◌, Bool, true, false, ◌&&◌, ◌||◌, map, filter, length, drop, Option, Some, None, refl, sym, ap, ◌∙◌, arith, cond}
-use Rattle.std.specs.Prelude.{if◌then◌else◌, ◌==◌, not, option_and_then, slice_get}
+use Rattle.std.proofs.Common.{◌≡◌, ℕ, List, [], ◌∷◌, Bool, true, false, ◌&&◌, ◌||◌, Option, Some, None, refl, sym, ap, ◌∙◌, arith}
+use Rattle.std.specs.Prelude.{if◌then◌else◌, ◌==◌, option_and_then, slice_get}
 use Rattle.std.specs.List.{list_any}
 use Rattle.std.proofs.lemmas.Bool.Decides.{nat_tests}
 use Rattle.std.proofs.lemmas.Option.{option_and_then_some, same_Some}
+use Rattle.std.proofs.lemmas.Bool.{and_from}
+use Rattle.wiki_base.proofs.NumberLaws.{eqb_refl}
 use Rattle.codeco_terms.specs.declared.values.Value.{Value}
 use Rattle.codeco_terms.specs.declared.values.Value.TheVariants.{Atom, Word, Pos}
-use Rattle.codeco_terms.specs.declared.values.Term.{Term}
 use Rattle.codeco_terms.specs.declared.categories.Category.{Category}
 use Rattle.codeco_terms.specs.declared.categories.Pattern.{Pattern}
 use Rattle.codeco_terms.specs.declared.elements.Element.{Element}
@@ -15,12 +16,12 @@ use Rattle.codeco_terms.specs.declared.rules.Rule.{Rule}
 use Rattle.codeco_terms.specs.Values.{same_value}
 use Rattle.codeco_checked.specs.Numbering.{has}
 use Rattle.scopes.specs.declared.entries.Entry.{Entry}
-use Rattle.scopes.specs.declared.tests.Test.{Test}
+use Rattle.scopes.specs.declared.agreement.Test.{Test}
 use Rattle.scopes.specs.Resolution.{Finding, is_agreeing, closest_finding}
 use Rattle.derivation_trees.specs.Trees.{Nodes, node, none, more}
 use Rattle.derivation_trees.specs.Settings.{Setting, matches_terminal, matches_preterminal}
-use Rattle.derivation_trees.specs.Instances.{looked_up, value_under, under, tests_under, is_instance, own_values, features_of}
-use Rattle.derivation_trees.specs.Derives.{At, Stand, pass, run, pass_child, pass_finding, is_found, takes, own_after, own_rest, reference_tests, phrase_of, phrases_of, phrase, begun, ended, is_none_left, rule_with, fits}
+use Rattle.derivation_trees.specs.Instances.{value_under, under, tests_under, is_instance, own_values, features_of}
+use Rattle.derivation_trees.specs.Derives.{At, Stand, pass, run, pass_child, pass_finding, is_found, takes, own_rest, reference_tests, phrase_of, phrases_of, phrase, begun, ended, is_none_left, rule_with, fits}
 use Rattle.chart_table.specs.Leading.{Leads, ElementLeads, Path, RuleLeads, own_past, closed_at}
 
 -- what holds where a choice gives something
@@ -47,55 +48,10 @@ same_value_is (Pos p) (Atom b) h = absurd (cc)
 same_value_is (Pos p) (Word w) h = absurd (cc)
 same_value_is (Pos p) (Pos q) h = let e : p ≡ q = grind (arith, nat_tests) in ap Pos e
 
-pub same_number : (n : ℕ) → (n == n) ≡ true
-same_number n = grind (arith, nat_tests)
-
 pub same_value-refl : (v : Value) → same_value v v ≡ true
-same_value-refl (Atom a) = same_number a
-same_value-refl (Word w) = same_number w.0
-same_value-refl (Pos p) = same_number p
-
--- own variables
-
-swapped : (a b : ℕ) → (a == b) ≡ (b == a)
-swapped a b = grind (arith, nat_tests)
-
--- a feature is looked up exactly where it is written
-lookup_has_at : (feats : List (ℕ × Term)) (p : ℕ × Term) (f : ℕ) (b : Bool) (o : Option Term) → (p.0 == f) ≡ b → (o ≡ None → has (map (λ q. q.0) feats) f ≡ false) → (if b then Some p.1 else o) ≡ None → has (map (λ q. q.0) (p ∷ feats)) f ≡ false
-lookup_has_at feats p f true o e rest h = absurd (cc)
-lookup_has_at feats p f false o e rest h = ap (λ b. b || has (map (λ q. q.0) feats) f) (swapped f p.0 ∙ e) ∙ rest h
-
-lookup_none : (feats : List (ℕ × Term)) (f : ℕ) → looked_up feats f ≡ None → has (map (λ q. q.0) feats) f ≡ false
-lookup_none [] f h = refl
-lookup_none (p ∷ feats) f h = lookup_has_at feats p f (p.0 == f) (looked_up feats f) refl (lookup_none feats f) h
-
-lookup_has_some : (feats : List (ℕ × Term)) (p : ℕ × Term) (f : ℕ) (t : Term) (b : Bool) (o : Option Term) → (p.0 == f) ≡ b → (o ≡ Some t → has (map (λ q. q.0) feats) f ≡ true) → (if b then Some p.1 else o) ≡ Some t → has (map (λ q. q.0) (p ∷ feats)) f ≡ true
-lookup_has_some feats p f t true o e rest h = ap (λ b. b || has (map (λ q. q.0) feats) f) (swapped f p.0 ∙ e)
-lookup_has_some feats p f t false o e rest h = ap (λ b. b || has (map (λ q. q.0) feats) f) (swapped f p.0 ∙ e) ∙ rest h
-
-lookup_some : (feats : List (ℕ × Term)) (f : ℕ) (t : Term) → looked_up feats f ≡ Some t → has (map (λ q. q.0) feats) f ≡ true
-lookup_some [] f t h = absurd (cc)
-lookup_some (p ∷ feats) f t h = lookup_has_some feats p f t (p.0 == f) (looked_up feats f) refl (lookup_some feats f t) h
-
--- the features of a list that aren't written
-abbrev others : List (ℕ × Term) → List ℕ → List ℕ
-others feats fs = filter (λ f. not (has (map (λ p. p.0) feats) f)) fs
-
-own_rest_at : (feats : List (ℕ × Term)) (f : ℕ) (fs : List ℕ) (own : List (ℕ × Value)) (o : Option Term) → looked_up feats f ≡ o → ((own2 : List (ℕ × Value)) → own_rest feats fs own2 ≡ drop (length (others feats fs)) own2) → own_rest feats fs (own_after own o) ≡ drop (length (others feats (f ∷ fs))) own
-own_rest_at feats f fs own (Some t) e rest =
-    rest own ∙ ap (λ b. drop (length (cond (not b) (f ∷ others feats fs) (others feats fs))) own) (sym (lookup_some feats f t e))
-own_rest_at feats f fs own None e rest =
-    rest (drop 1 own) ∙ drop_drop (length (others feats fs)) own ∙ ap (λ b. drop (length (cond (not b) (f ∷ others feats fs) (others feats fs))) own) (sym (lookup_none feats f e))
-  where
-    drop_drop : (n : ℕ) (own : List (ℕ × Value)) → drop n (drop 1 own) ≡ drop (suc n) own
-    drop_drop zero [] = refl
-    drop_drop (suc n) [] = refl
-    drop_drop n (p ∷ own) = refl
-
--- what is left of the own variables after the features
-pub own_rest_is : (feats : List (ℕ × Term)) (fs : List ℕ) (own : List (ℕ × Value)) → own_rest feats fs own ≡ drop (length (others feats fs)) own
-own_rest_is feats [] own = refl
-own_rest_is feats (f ∷ fs) own = own_rest_at feats f fs own (looked_up feats f) refl (own_rest_is feats fs)
+same_value-refl (Atom a) = eqb_refl a
+same_value-refl (Word w) = eqb_refl w.0
+same_value-refl (Pos p) = eqb_refl p
 
 -- From a tree to where its elements lead
 
@@ -108,7 +64,8 @@ pub record Passed (s : Setting) (values : List (ℕ × Value)) (e : Element) (at
 abbrev pub stand_at : Setting → At → List ℕ → List (ℕ × Value) → Nodes → Stand
 stand_at s at found own ns = record { at = at; found = found; own = own; children = phrases_of s ns }
 
-child_passed : (s : Setting) (values : List (ℕ × Value)) (c : Category) (at : At) (found : List ℕ) (own : List (ℕ × Value)) (ns : Nodes) (after : Stand) → pass_child (under values c) (phrases_of s ns) (stand_at s at found own ns) ≡ Some after → Passed s values (Sub c) at own after
+child_passed : (s : Setting) (values : List (ℕ × Value)) (c : Category) (at : At) (found : List ℕ) (own : List (ℕ × Value)) (ns : Nodes) (after : Stand)
+    → pass_child (under values c) (phrases_of s ns) (stand_at s at found own ns) ≡ Some after → Passed s values (Sub c) at own after
 child_passed s values c at found own none after h = absurd (cc)
 child_passed s values c at found own (more n ns) after h =
     option_and_then_some _ (phrase_of s n (under values c) at) after h (λ a led e.
@@ -120,7 +77,9 @@ child_passed s values c at found own (more n ns) after h =
       children = sym (ap (λ st. st.children) same);
     })
 
-found_passed : (s : Setting) (values : List (ℕ × Value)) (positive negative : List Pattern) (at : At) (own : List (ℕ × Value)) (ns : Nodes) (after : Stand) (o : Option Finding) (found : List ℕ) → closest_finding (reference_tests values positive negative) at.list ≡ o → (stand : Stand) → stand ≡ stand_at s at found own ns → pass_finding values positive o found stand ≡ Some after → Passed s values (Back positive negative) at own after
+found_passed : (s : Setting) (values : List (ℕ × Value)) (positive negative : List Pattern) (at : At) (own : List (ℕ × Value)) (ns : Nodes) (after : Stand)
+    (o : Option Finding) (found : List ℕ) → closest_finding (reference_tests values positive negative) at.list ≡ o → (stand : Stand)
+    → stand ≡ stand_at s at found own ns → pass_finding values positive o found stand ≡ Some after → Passed s values (Back positive negative) at own after
 found_passed s values positive negative at own ns after o [] is stand st h = absurd (cc)
 found_passed s values positive negative at own ns after None (pos ∷ rest) is stand st h = absurd (cc)
 found_passed s values positive negative at own ns after (Some finding) (pos ∷ rest) is stand st h =
@@ -133,32 +92,59 @@ found_passed s values positive negative at own ns after (Some finding) (pos ∷ 
       children = sym (ap (λ x. x.children) same) ∙ ap (λ x. x.children) st;
     }))
 
-pub passed : (s : Setting) (values : List (ℕ × Value)) (e : Element) (at : At) (found : List ℕ) (own : List (ℕ × Value)) (ns : Nodes) (after : Stand) → pass s values e (stand_at s at found own ns) ≡ Some after → Passed s values e at own after
+pub passed : (s : Setting) (values : List (ℕ × Value)) (e : Element) (at : At) (found : List ℕ) (own : List (ℕ × Value)) (ns : Nodes) (after : Stand)
+    → pass s values e (stand_at s at found own ns) ≡ Some after → Passed s values e at own after
 passed s values (Terminal t) at found own ns after h =
-    if_some (matches_terminal s t at.place) _ after h (λ b same. record { leads = (b, sym (ap (λ x. x.at) same)); own_is = sym (ap (λ x. x.own) same); left = ns; children = sym (ap (λ x. x.children) same) })
+    if_some (matches_terminal s t at.place) _ after h
+    (λ b same. record {
+      leads = (b, sym (ap (λ x. x.at) same));
+      own_is = sym (ap (λ x. x.own) same);
+      left = ns;
+      children = sym (ap (λ x. x.children) same);
+    })
 passed s values (Preterminal c) at found own ns after h =
-    if_some (matches_preterminal s (under values c) at.place) _ after h (λ b same. record { leads = (b, sym (ap (λ x. x.at) same)); own_is = sym (ap (λ x. x.own) same); left = ns; children = sym (ap (λ x. x.children) same) })
+    if_some (matches_preterminal s (under values c) at.place) _ after h
+    (λ b same. record {
+      leads = (b, sym (ap (λ x. x.at) same));
+      own_is = sym (ap (λ x. x.own) same);
+      left = ns;
+      children = sym (ap (λ x. x.children) same);
+    })
 passed s values (Sub c) at found own ns after h = child_passed s values c at found own ns after h
 passed s values (Position x) at found own ns after h =
-    if_some (same_value (value_under values x) (Pos at.place)) _ after h (λ b same. record { leads = (same_value_is _ _ b, sym (ap (λ x. x.at) same)); own_is = sym (ap (λ x. x.own) same); left = ns; children = sym (ap (λ x. x.children) same) })
+    if_some (same_value (value_under values x) (Pos at.place)) _ after h
+    (λ b same. record {
+      leads = (same_value_is _ _ b, sym (ap (λ x. x.at) same));
+      own_is = sym (ap (λ x. x.own) same);
+      left = ns;
+      children = sym (ap (λ x. x.children) same);
+    })
 passed s values Opener at found own ns after h =
     let same = same_Some _ _ h in
     record { leads = sym (ap (λ x. x.at) same); own_is = sym (ap (λ x. x.own) same); left = ns; children = sym (ap (λ x. x.children) same) }
 passed s values (Forward c) at found own ns after h =
     let same = same_Some _ _ h in
-    record { leads = sym (ap (λ x. x.at) same); own_is = sym (ap (λ x. x.own) same) ∙ own_rest_is c.feats (features_of s.grammar c.name) own; left = ns; children = sym (ap (λ x. x.children) same) }
+    record { leads = sym (ap (λ x. x.at) same); own_is = sym (ap (λ x. x.own) same); left = ns; children = sym (ap (λ x. x.children) same) }
 passed s values (Strong c) at found own ns after h =
     let same = same_Some _ _ h in
-    record { leads = sym (ap (λ x. x.at) same); own_is = sym (ap (λ x. x.own) same) ∙ own_rest_is c.feats (features_of s.grammar c.name) own; left = ns; children = sym (ap (λ x. x.children) same) }
+    record { leads = sym (ap (λ x. x.at) same); own_is = sym (ap (λ x. x.own) same); left = ns; children = sym (ap (λ x. x.children) same) }
 passed s values (Back positive negative) at found own ns after h =
-    found_passed s values positive negative at own ns after (closest_finding (reference_tests values positive negative) at.list) found refl (stand_at s at found own ns) refl h
+    found_passed s values positive negative at own ns after (closest_finding (reference_tests values positive negative) at.list) found refl
+    (stand_at s at found own ns) refl h
 passed s values (NoBack patterns) at found own ns after h =
-    unless_some (list_any (is_agreeing (tests_under values patterns)) at.list) _ after h (λ b same. record { leads = (b, sym (ap (λ x. x.at) same)); own_is = sym (ap (λ x. x.own) same); left = ns; children = sym (ap (λ x. x.children) same) })
+    unless_some (list_any (is_agreeing (tests_under values patterns)) at.list) _ after h
+    (λ b same. record {
+      leads = (b, sym (ap (λ x. x.at) same));
+      own_is = sym (ap (λ x. x.own) same);
+      left = ns;
+      children = sym (ap (λ x. x.children) same);
+    })
 
 -- From where elements lead to a tree
 
 -- what a node has for an element: found positions and children, after which those to come are left
-pub record Passes (s : Setting) (values : List (ℕ × Value)) (e : Element) (at : At) (own : List (ℕ × Value)) (after : At) (to_find : List ℕ) (to_come : Nodes) : Type 0 where
+pub record Passes (s : Setting) (values : List (ℕ × Value)) (e : Element) (at : At) (own : List (ℕ × Value)) (after : At) (to_find : List ℕ)
+    (to_come : Nodes) : Type 0 where
   pub found : List ℕ
   pub children : Nodes
   pub is : pass s values e (stand_at s at found own children) ≡ Some (stand_at s after to_find (own_past s e own) to_come)
@@ -171,11 +157,8 @@ pub if_false : {X : Type 0} (b : Bool) (x y : X) → b ≡ false → x ≡ y →
 if_false true x y h e = absurd (cc)
 if_false false x y h e = ap Some e
 
-pub and_both : (a b : Bool) → a ≡ true → b ≡ true → (a && b) ≡ true
-and_both true b h k = k
-and_both false b h k = absurd (cc)
-
-pub passes : (s : Setting) (values : List (ℕ × Value)) (e : Element) (at : At) (own : List (ℕ × Value)) (after : At) (to_find : List ℕ) (to_come : Nodes) → ElementLeads s values own e at after → Passes s values e at own after to_find to_come
+pub passes : (s : Setting) (values : List (ℕ × Value)) (e : Element) (at : At) (own : List (ℕ × Value)) (after : At) (to_find : List ℕ) (to_come : Nodes)
+    → ElementLeads s values own e at after → Passes s values e at own after to_find to_come
 passes s values (Terminal t) at own after to_find to_come h = record {
   found = to_find;
   children = to_come;
@@ -194,7 +177,8 @@ passes s values (Sub c) at own after to_find to_come h = record {
 passes s values (Position x) at own after to_find to_come h = record {
   found = to_find;
   children = to_come;
-  is = if_true (same_value (value_under values x) (Pos at.place)) _ _ (ap (λ v. same_value v (Pos at.place)) h.0 ∙ same_value-refl (Pos at.place)) (ap (λ a. stand_at s a to_find own to_come) (sym h.1));
+  is = if_true (same_value (value_under values x) (Pos at.place)) _ _ (ap (λ v. same_value v (Pos at.place)) h.0 ∙ same_value-refl (Pos at.place))
+      (ap (λ a. stand_at s a to_find own to_come) (sym h.1));
 }
 passes s values Opener at own after to_find to_come h = record {
   found = to_find;
@@ -204,19 +188,21 @@ passes s values Opener at own after to_find to_come h = record {
 passes s values (Forward c) at own after to_find to_come h = record {
   found = to_find;
   children = to_come;
-  is = ap (λ a. Some (stand_at s a to_find (own_rest c.feats (features_of s.grammar c.name) own) to_come)) (sym h) ∙ ap (λ o. Some (stand_at s after to_find o to_come)) (own_rest_is c.feats (features_of s.grammar c.name) own);
+  is = ap (λ a. Some (stand_at s a to_find (own_rest c.feats (features_of s.grammar c.name) own) to_come)) (sym h);
 }
 passes s values (Strong c) at own after to_find to_come h = record {
   found = to_find;
   children = to_come;
-  is = ap (λ a. Some (stand_at s a to_find (own_rest c.feats (features_of s.grammar c.name) own) to_come)) (sym h) ∙ ap (λ o. Some (stand_at s after to_find o to_come)) (own_rest_is c.feats (features_of s.grammar c.name) own);
+  is = ap (λ a. Some (stand_at s a to_find (own_rest c.feats (features_of s.grammar c.name) own) to_come)) (sym h);
 }
 passes s values (Back positive negative) at own after to_find to_come h =
     let finding = h.0.0 in
     record {
       found = finding.pos ∷ to_find;
       children = to_come;
-      is = ap (λ o. pass_finding values positive o (finding.pos ∷ to_find) (stand_at s at (finding.pos ∷ to_find) own to_come)) h.0.1.0 ∙ if_true (is_found values positive finding.pos (Some finding)) _ _ (and_both _ _ (same_number finding.pos) h.0.1.1) (ap (λ a. stand_at s a to_find own to_come) (sym h.1));
+      is = ap (λ o. pass_finding values positive o (finding.pos ∷ to_find) (stand_at s at (finding.pos ∷ to_find) own to_come)) h.0.1.0
+          ∙ if_true (is_found values positive finding.pos (Some finding)) _ _ (and_from _ _ (eqb_refl finding.pos) h.0.1.1)
+          (ap (λ a. stand_at s a to_find own to_come) (sym h.1));
     }
 passes s values (NoBack patterns) at own after to_find to_come h = record {
   found = to_find;
@@ -226,12 +212,18 @@ passes s values (NoBack patterns) at own after to_find to_come h = record {
 
 -- elements after one another
 
-pub run_path : (s : Setting) (values : List (ℕ × Value)) (es : List Element) (at : At) (found : List ℕ) (own : List (ℕ × Value)) (ns : Nodes) (last : Stand) → run s values es (stand_at s at found own ns) ≡ Some last → Path s values own es at last.at
+pub run_path : (s : Setting) (values : List (ℕ × Value)) (es : List Element) (at : At) (found : List ℕ) (own : List (ℕ × Value)) (ns : Nodes) (last : Stand)
+    → run s values es (stand_at s at found own ns) ≡ Some last → Path s values own es at last.at
 run_path s values [] at found own ns last h = ap (λ st. st.at) (same_Some _ _ h)
 run_path s values (e ∷ es) at found own ns last h =
     option_and_then_some _ (pass s values e (stand_at s at found own ns)) last h (λ mid passed_e rest.
-    let p = passed s values e at found own ns mid passed_e in
-    (mid.at, p.leads, run_path s values es mid.at mid.found (own_past s e own) p.left last (ap (λ o. run s values es (record { at = mid.at; found = mid.found; own = o; children = phrases_of s p.left })) (sym p.own_is) ∙ ap (λ c. run s values es (record { at = mid.at; found = mid.found; own = mid.own; children = c })) (sym p.children) ∙ rest)))
+    let p = passed s values e at found own ns mid passed_e in (
+      mid.at,
+      p.leads,
+      run_path s values es mid.at mid.found (own_past s e own) p.left last
+          (ap (λ o. run s values es (record { at = mid.at; found = mid.found; own = o; children = phrases_of s p.left })) (sym p.own_is)
+          ∙ ap (λ c. run s values es (record { at = mid.at; found = mid.found; own = mid.own; children = c })) (sym p.children) ∙ rest),
+    ))
 
 -- a node's found positions and children, by which its elements lead
 pub record Runs (s : Setting) (values : List (ℕ × Value)) (es : List Element) (at : At) (own : List (ℕ × Value)) (after : At) : Type 0 where
@@ -240,7 +232,8 @@ pub record Runs (s : Setting) (values : List (ℕ × Value)) (es : List Element)
   pub own_left : List (ℕ × Value)
   pub is : run s values es (stand_at s at found own children) ≡ Some (record { at = after; found = []; own = own_left; children = [] })
 
-pub path_runs : (s : Setting) (values : List (ℕ × Value)) (es : List Element) (at : At) (own : List (ℕ × Value)) (after : At) → Path s values own es at after → Runs s values es at own after
+pub path_runs : (s : Setting) (values : List (ℕ × Value)) (es : List Element) (at : At) (own : List (ℕ × Value)) (after : At) → Path s values own es at after
+    → Runs s values es at own after
 path_runs s values [] at own after h = record {
   found = [];
   children = none;
@@ -262,7 +255,8 @@ path_runs s values (e ∷ es) at own after h =
 ended_at : (rule : Rule) (list : List Entry) (last : Stand) (after : At) → ended rule list last ≡ Some after → after ≡ closed_at rule list last.at
 ended_at rule list last after h = if_some (is_none_left last.found && is_none_left last.children) _ after h (λ b same. sym same)
 
-pub phrase_leads : (s : Setting) (rule : Rule) (values : List (ℕ × Value)) (found : List ℕ) (ns : Nodes) (asked : Test) (at after : At) → phrase s rule values found (phrases_of s ns) asked at ≡ Some after → RuleLeads s rule values asked at after
+pub phrase_leads : (s : Setting) (rule : Rule) (values : List (ℕ × Value)) (found : List ℕ) (ns : Nodes) (asked : Test) (at after : At)
+    → phrase s rule values found (phrases_of s ns) asked at ≡ Some after → RuleLeads s rule values asked at after
 phrase_leads s rule values found ns asked at after h =
     option_and_then_some _ (begun s rule values found (phrases_of s ns) asked at) after h (λ start starts runs.
     if_some (fits (under values rule.head) asked && is_instance s rule values) _ start starts (λ b same.
@@ -289,10 +283,15 @@ rule_of_leads s asked at after (node n values found ns, h) =
     option_and_then_some _ (rule_with s.grammar n) after h (λ rule has leads.
     record { number = n; rule = rule; has = has; values = values; leads = phrase_leads s rule values found ns asked at after leads })
 
-pub leads_of_rule : (s : Setting) (asked : Test) (at after : At) (number : ℕ) (rule : Rule) (values : List (ℕ × Value)) → rule_with s.grammar number ≡ Some rule → RuleLeads s rule values asked at after → Leads s asked at after
+pub leads_of_rule : (s : Setting) (asked : Test) (at after : At) (number : ℕ) (rule : Rule) (values : List (ℕ × Value)) → rule_with s.grammar number ≡ Some rule
+    → RuleLeads s rule values asked at after → Leads s asked at after
 leads_of_rule s asked at after number rule values has h =
     let ran = path_runs s values rule.body at (own_values rule values) h.last h.path in
     let kids = phrases_of s ran.children in
     let begins : begun s rule values ran.found kids asked at ≡ Some (stand_at s at ran.found (own_values rule values) ran.children) =
-    if_true _ _ _ (and_both _ _ h.head h.instance) refl in
-    (node number values ran.found ran.children, ap (option_and_then (λ r. phrase s r values ran.found kids asked at)) has ∙ ap (option_and_then (λ stand. option_and_then (ended rule at.list) (run s values rule.body stand))) begins ∙ ap (option_and_then (ended rule at.list)) ran.is ∙ ap Some (sym h.end))
+    if_true _ _ _ (and_from _ _ h.head h.instance) refl in (
+      node number values ran.found ran.children,
+      ap (option_and_then (λ r. phrase s r values ran.found kids asked at)) has
+          ∙ ap (option_and_then (λ stand. option_and_then (ended rule at.list) (run s values rule.body stand))) begins
+          ∙ ap (option_and_then (ended rule at.list)) ran.is ∙ ap Some (sym h.end),
+    )

@@ -26,11 +26,14 @@ RowAt s aim row name known place list =
     IsEnds s name known (record { place = place; list = list }) row.ends × AreCuts s aim name known (record { place = place; list = list }) row.cuts
 
 -- a row that is found has the ends that are asked for
-pub found_row : (s : Setting) (aim : Aims) (rows : List Row) (number name : ℕ) (known : List (ℕ × Value)) (place : ℕ) (list : List Entry) → AreRows s aim rows → IsFound rows number name known place list → HasRow s aim rows number name known (record { place = place; list = list })
+pub found_row : (s : Setting) (aim : Aims) (rows : List Row) (number name : ℕ) (known : List (ℕ × Value)) (place : ℕ) (list : List Entry) → AreRows s aim rows
+    → IsFound rows number name known place list → HasRow s aim rows number name known (record { place = place; list = list })
 found_row s aim rows number name known place list rs found =
     let row_is = all_slice (IsRow s aim) rows number found.row rs.all found.is in
-    let named : RowAt s aim found.row name found.row.known found.row.place found.row.list = subst (λ n. RowAt s aim found.row n found.row.known found.row.place found.row.list) found.name_is (row_is.ends, row_is.cuts) in
-    let knows : RowAt s aim found.row name known found.row.place found.row.list = subst (λ k. RowAt s aim found.row name k found.row.place found.row.list) found.known_is named in
+    let named : RowAt s aim found.row name found.row.known found.row.place found.row.list =
+    subst (λ n. RowAt s aim found.row n found.row.known found.row.place found.row.list) found.name_is (row_is.ends, row_is.cuts) in
+    let knows : RowAt s aim found.row name known found.row.place found.row.list =
+    subst (λ k. RowAt s aim found.row name k found.row.place found.row.list) found.known_is named in
     let placed : RowAt s aim found.row name known place found.row.list = subst (λ p. RowAt s aim found.row name known p found.row.list) found.place_is knows in
     let listed : RowAt s aim found.row name known place list = subst (λ l. RowAt s aim found.row name known place l) found.list_is placed in
     record { row = found.row; is = found.is; ends = listed.0; cuts = listed.1 }
@@ -40,7 +43,8 @@ slice_last [] row = refl
 slice_last (x ∷ xs) row = slice_last xs row
 
 -- a new row at the end
-pub new_row : (s : Setting) (aim : Aims) (rows : List Row) (row : Row) → IsRow s aim row → HasRow s aim (rows ++ row ∷ []) (length rows) row.name row.known (row_at row)
+pub new_row : (s : Setting) (aim : Aims) (rows : List Row) (row : Row) → IsRow s aim row
+    → HasRow s aim (rows ++ row ∷ []) (length rows) row.name row.known (row_at row)
 new_row s aim rows row is = record { row = row; is = slice_last rows row; ends = is.ends; cuts = is.cuts }
 
 pub rows_more : (s : Setting) (aim : Aims) (rows : List Row) (row : Row) → AreRows s aim rows → IsRow s aim row → AreRows s aim (rows ++ row ∷ [])
@@ -55,7 +59,8 @@ row_below (y ∷ ys) zero row h = omega arith
 row_below (y ∷ ys) (suc i) row h = let lt = row_below ys i row h in omega arith
 
 -- a row that was looked at is found
-pub found_here : (rows : List Row) (i : ℕ) (row : Row) (name : ℕ) (known : List (ℕ × Value)) (place : ℕ) (list : List Entry) → i < length rows → row ≡ get_or rows i row → row.name ≡ name → row.known ≡ known → row.place ≡ place → row.list ≡ list → IsFound rows i name known place list
+pub found_here : (rows : List Row) (i : ℕ) (row : Row) (name : ℕ) (known : List (ℕ × Value)) (place : ℕ) (list : List Entry) → i < length rows
+    → row ≡ get_or rows i row → row.name ≡ name → row.known ≡ known → row.place ≡ place → row.list ≡ list → IsFound rows i name known place list
 found_here rows i row name known place list lt is n k p l = record {
   row = row;
   is = slice_get-get_or rows i row lt ∙ ap Some (sym is);
@@ -75,7 +80,8 @@ append_nothing [] = refl
 append_nothing (x ∷ xs) = ap (λ ys. x ∷ ys) (append_nothing xs)
 
 -- how many there are for the one item at a place
-pub count_at : {X : Type 0} (f : X → List ℕ) (xs : List X) (i : ℕ) (e : X) (all : List ℕ) → all ≡ flat_map f (slice_range xs i (i + 1)) → slice_get xs i ≡ Some e → length all ≡ length (f e)
+pub count_at : {X : Type 0} (f : X → List ℕ) (xs : List X) (i : ℕ) (e : X) (all : List ℕ) → all ≡ flat_map f (slice_range xs i (i + 1))
+    → slice_get xs i ≡ Some e → length all ≡ length (f e)
 count_at f xs i e all is h =
     let one : (i + 1) - i ≡ 1 = omega arith in
     ap length (is ∙ ap (flat_map f) (ap (λ n. take n (drop i xs)) one ∙ take_one xs i e h) ∙ append_nothing (f e))

@@ -4,9 +4,9 @@ use Rattle.codeco_terms.specs.declared.values.Value.{Value}
 use Rattle.codeco_terms.specs.declared.categories.Category.{Category}
 use Rattle.codeco_terms.specs.declared.categories.Ground.{Ground}
 use Rattle.codeco_terms.specs.declared.elements.Element.{Element}
-use Rattle.codeco_terms.specs.declared.elements.Element.TheVariants.{Terminal, Preterminal, Sub, Position, Opener, Forward, Strong, Back, NoBack}
+use Rattle.codeco_terms.specs.declared.elements.Element.TheVariants.{Terminal, Preterminal}
 use Rattle.codeco_terms.specs.declared.rules.Rule.{Rule}
-use Rattle.scopes.specs.declared.tests.Test.{Test}
+use Rattle.scopes.specs.declared.agreement.Test.{Test}
 use Rattle.scopes.specs.Resolution.{agrees}
 use Rattle.derivation_trees.specs.Settings.{Setting, matches_terminal}
 use Rattle.derivation_trees.specs.Instances.{under, own_values, is_instance}
@@ -19,27 +19,13 @@ use Rattle.chart_table.specs.Branches.{OneOf}
 
 -- the element takes a token that reads so
 abbrev pub takes_reading : List (ℕ × Value) → Ground → Element → Bool
-takes_reading values reading (Terminal t) = false
 takes_reading values reading (Preterminal c) = agrees reading (under values c)
-takes_reading values reading (Sub c) = false
-takes_reading values reading (Position x) = false
-takes_reading values reading Opener = false
-takes_reading values reading (Forward c) = false
-takes_reading values reading (Strong c) = false
-takes_reading values reading (Back positive negative) = false
-takes_reading values reading (NoBack patterns) = false
+takes_reading _ _ _ = false
 
 -- the element is the terminal with the number
 abbrev pub takes_terminal : ℕ → Element → Bool
 takes_terminal number (Terminal t) = t == number
-takes_terminal number (Preterminal c) = false
-takes_terminal number (Sub c) = false
-takes_terminal number (Position x) = false
-takes_terminal number Opener = false
-takes_terminal number (Forward c) = false
-takes_terminal number (Strong c) = false
-takes_terminal number (Back positive negative) = false
-takes_terminal number (NoBack patterns) = false
+takes_terminal _ _ = false
 
 -- the next element, if there is one, meets the ask in the instance: whatever it is, or it is the terminal, or it is a
 -- preterminal with which the reading agrees
@@ -69,7 +55,8 @@ AskLeads s halt asks asked at = (cut : CutNode) × (cut_end s cut asked at ≡ S
 -- ask, or a category comes next that is cut off itself.
 abbrev pub AskStops : Setting → ℕ → Ask → Rule → List (ℕ × Value) → ℕ → At → Type 0
 AskStops s halt asks rule values count last =
-    ((last.place ≡ halt) × (is_met rule values count asks ≡ true)) ⊎ ((c : Category) × (next_category rule count ≡ Some c) × AskLeads s halt asks (under values c) last)
+    ((last.place ≡ halt) × (is_met rule values count asks ≡ true))
+    ⊎ ((c : Category) × (next_category rule count ≡ Some c) × AskLeads s halt asks (under values c) last)
 
 -- the rule is cut off in the instance, as a phrase for the category: after some of its elements it stands at the place and
 -- its next element meets the ask, or a category comes next that is cut off itself

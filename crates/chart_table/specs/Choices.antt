@@ -10,7 +10,7 @@ use Rattle.codeco_terms.specs.declared.categories.Ground.{Ground}
 use Rattle.codeco_terms.specs.declared.declarations.Declared.{Declared}
 use Rattle.codeco_terms.specs.declared.declarations.Declared.TheVariants as declared
 use Rattle.codeco_terms.specs.declared.elements.Element.{Element}
-use Rattle.codeco_terms.specs.declared.elements.Element.TheVariants.{Terminal, Preterminal, Sub, Position, Opener, Forward, Strong, Back, NoBack}
+use Rattle.codeco_terms.specs.declared.elements.Element.TheVariants.{Preterminal, Sub, Forward, Strong, Back, NoBack}
 use Rattle.codeco_terms.specs.declared.rules.Rule.{Rule}
 use Rattle.codeco_terms.specs.GrammarParts.{GrammarParts}
 use Rattle.codeco_checked.specs.Numbering.{has}
@@ -28,15 +28,13 @@ pattern_terms p = p.cat.feats ++ map marked p.taken
 
 -- the features that an element writes, with their terms
 abbrev pub element_terms : Element → List (ℕ × Term)
-element_terms (Terminal t) = []
 element_terms (Preterminal c) = c.feats
 element_terms (Sub c) = c.feats
-element_terms (Position x) = []
-element_terms Opener = []
 element_terms (Forward c) = c.feats
 element_terms (Strong c) = c.feats
 element_terms (Back positive negative) = flat_map pattern_terms positive ++ flat_map pattern_terms negative
 element_terms (NoBack patterns) = flat_map pattern_terms patterns
+element_terms _ = []
 
 -- the features that a rule writes, with their terms
 abbrev pub terms_of : Rule → List (ℕ × Term)
@@ -125,4 +123,5 @@ ArePlans s plans = EachPlan s.grammar s.grammar.rules plans
 -- the values have the numbers of the plan's variables, and are values of the features and positions that it tells
 abbrev pub planned_instance : Setting → Plan → List (ℕ × Value) → Bool
 planned_instance s plan values =
-    ((same_numbers (map (λ p. p.0) values) plan.variables && list_all (term_fits s values) plan.terms) && list_all (λ x. is_value s declared.Positions (value_under values x)) plan.places) && own_fit s plan.own (drop plan.written values)
+    ((same_numbers (map (λ p. p.0) values) plan.variables && list_all (term_fits s values) plan.terms)
+    && list_all (λ x. is_value s declared.Positions (value_under values x)) plan.places) && own_fit s plan.own (drop plan.written values)

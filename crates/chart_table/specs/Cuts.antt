@@ -4,9 +4,9 @@ use Rattle.codeco_terms.specs.declared.values.Value.{Value}
 use Rattle.codeco_terms.specs.declared.categories.Category.{Category}
 use Rattle.codeco_terms.specs.declared.categories.Ground.{Ground}
 use Rattle.codeco_terms.specs.declared.elements.Element.{Element}
-use Rattle.codeco_terms.specs.declared.elements.Element.TheVariants.{Terminal, Preterminal, Sub, Position, Opener, Forward, Strong, Back, NoBack}
+use Rattle.codeco_terms.specs.declared.elements.Element.TheVariants.{Preterminal}
 use Rattle.codeco_terms.specs.declared.rules.Rule.{Rule}
-use Rattle.scopes.specs.declared.tests.Test.{Test}
+use Rattle.scopes.specs.declared.agreement.Test.{Test}
 use Rattle.derivation_trees.specs.Settings.{Setting}
 use Rattle.derivation_trees.specs.Instances.{under, feats_under, own_values, is_instance}
 use Rattle.derivation_trees.specs.Derives.{At, fits, rule_with}
@@ -36,7 +36,8 @@ Met aim j values next = (a : Ask) × (slice_get aim.asks j ≡ Some a) × (meets
 -- ask, or a category comes next that is cut off itself.
 abbrev pub Stops : Setting → Aims → ℕ → Rule → List (ℕ × Value) → ℕ → At → Type 0
 Stops s aim j rule values count last =
-    ((last.place ≡ aim.halt) × Met aim j values (slice_get rule.body count)) ⊎ ((c : Category) × (next_category rule count ≡ Some c) × CutLeads s aim j (under values c) last)
+    ((last.place ≡ aim.halt) × Met aim j values (slice_get rule.body count))
+    ⊎ ((c : Category) × (next_category rule count ≡ Some c) × CutLeads s aim j (under values c) last)
 
 -- the rule is cut off in the instance, as a phrase for the category: after some of its elements it stands at the place and
 -- its next element meets the ask, or a category comes next that is cut off itself
@@ -60,8 +61,10 @@ cut_head name values = record { name = name; values = values }
 -- the values of their heads: each category that fits one has a cut-off node, and each category with the known values that has
 -- one fits one.
 pub record AreCuts (s : Setting) (aim : Aims) (name : ℕ) (known : List (ℕ × Value)) (at : At) (cuts : List Cut) : Type 0 where
-  pub sound : (j : ℕ) (values : List (ℕ × Value)) → HasCut cuts j values → (asked : Test) → asked.name ≡ name → fits (cut_head name values) asked ≡ true → CutLeads s aim j asked at
-  pub complete : (j : ℕ) (asked : Test) → asked.name ≡ name → ((p : ℕ × Value) → OneOf known p → OneOf asked.values p) → CutLeads s aim j asked at → (values : List (ℕ × Value)) × HasCut cuts j values × (fits (cut_head name values) asked ≡ true)
+  pub sound : (j : ℕ) (values : List (ℕ × Value)) → HasCut cuts j values → (asked : Test) → asked.name ≡ name → fits (cut_head name values) asked ≡ true
+      → CutLeads s aim j asked at
+  pub complete : (j : ℕ) (asked : Test) → asked.name ≡ name → ((p : ℕ × Value) → OneOf known p → OneOf asked.values p) → CutLeads s aim j asked at
+      → (values : List (ℕ × Value)) × HasCut cuts j values × (fits (cut_head name values) asked ≡ true)
 
 -- the own variables that are to come after elements
 abbrev pub own_after : Setting → List Element → List (ℕ × Value) → List (ℕ × Value)
@@ -72,8 +75,10 @@ own_after s (e ∷ es) own = own_after s es (own_past s e own)
 pub record AreAfter (s : Setting) (rule : Rule) (starts : List State) (n count : ℕ) (states : List State) : Type 0 where
   pub numbered : 16 ≤ n
   pub own_is : (v : List (ℕ × Value)) → own_after s (take count rule.body) (own_values rule v) ≡ drop (n - 16) (own_values rule v)
-  pub forth : (v : List (ℕ × Value)) (last : At) → is_instance s rule v ≡ true → CoversPath s v (own_values rule v) (take count rule.body) last starts → Covers v last states
-  pub back : (v : List (ℕ × Value)) (last : At) → is_instance s rule v ≡ true → Covers v last states → CoversPath s v (own_values rule v) (take count rule.body) last starts
+  pub forth : (v : List (ℕ × Value)) (last : At) → is_instance s rule v ≡ true → CoversPath s v (own_values rule v) (take count rule.body) last starts
+      → Covers v last states
+  pub back : (v : List (ℕ × Value)) (last : At) → is_instance s rule v ≡ true → Covers v last states
+      → CoversPath s v (own_values rule v) (take count rule.body) last starts
 
 -- the states after all elements of a rule
 abbrev pub AreAllAfter : Setting → Rule → List State → List State → Type 0
@@ -102,7 +107,8 @@ CutBefore s aim rule starts count j v =
 pub record HasHeads (s : Setting) (rule : Rule) (P : ℕ → List (ℕ × Value) → Type 0) (before after : List Cut) : Type 0 where
   pub kept : (j : ℕ) (values : List (ℕ × Value)) → HasCut before j values → HasCut after j values
   pub new : (j : ℕ) (v : List (ℕ × Value)) → is_instance s rule v ≡ true → P j v → HasCut after j (feats_under v rule.head.feats)
-  pub only : (j : ℕ) (values : List (ℕ × Value)) → HasCut after j values → HasCut before j values ⊎ ((v : List (ℕ × Value)) × (is_instance s rule v ≡ true) × P j v × (values ≡ feats_under v rule.head.feats))
+  pub only : (j : ℕ) (values : List (ℕ × Value)) → HasCut after j values
+      → HasCut before j values ⊎ ((v : List (ℕ × Value)) × (is_instance s rule v ≡ true) × P j v × (values ≡ feats_under v rule.head.feats))
 
 -- for the ask with the number, the instance extends one of the assignments
 abbrev pub IsOf : ℕ → List (List (ℕ × Value)) → ℕ → List (ℕ × Value) → Type 0
@@ -132,15 +138,8 @@ OneBefore {X = X} xs P count j v = (k : ℕ) × (k < count) × ((x : X) × (slic
 
 -- the assignments under which the element takes a token that reads so
 abbrev pub reading_binds : Ground → Element → List (ℕ × Value) → List (List (ℕ × Value))
-reading_binds reading (Terminal t) bound = []
 reading_binds reading (Preterminal c) bound = read_as c bound reading
-reading_binds reading (Sub c) bound = []
-reading_binds reading (Position x) bound = []
-reading_binds reading Opener bound = []
-reading_binds reading (Forward c) bound = []
-reading_binds reading (Strong c) bound = []
-reading_binds reading (Back positive negative) bound = []
-reading_binds reading (NoBack patterns) bound = []
+reading_binds _ _ _ = []
 
 -- the assignments under which the next element meets the ask
 abbrev pub met_binds : Option Element → List (ℕ × Value) → Ask → List (List (ℕ × Value))
@@ -175,7 +174,8 @@ pub record IsRuleCut (s : Setting) (aim : Aims) (rule : Rule) (at : At) (j : ℕ
 -- each instance that agrees with the known values and is cut off has its head among these
 abbrev pub HasRuleCuts : Setting → Aims → Rule → List (ℕ × Value) → At → List Cut → Type 0
 HasRuleCuts s aim rule known at cuts =
-    (j : ℕ) (v : List (ℕ × Value)) (k : ℕ) (last : At) → is_instance s rule v ≡ true → Agrees known rule v → Path s v (own_values rule v) (take k rule.body) at last → Stops s aim j rule v k last → HasCut cuts j (feats_under v rule.head.feats)
+    (j : ℕ) (v : List (ℕ × Value)) (k : ℕ) (last : At) → is_instance s rule v ≡ true → Agrees known rule v
+    → Path s v (own_values rule v) (take k rule.body) at last → Stops s aim j rule v k last → HasCut cuts j (feats_under v rule.head.feats)
 
 -- the later list has the cut-off phrases of the first, and those of the rule
 pub record HasCutsOfRule (s : Setting) (aim : Aims) (rule : Rule) (known : List (ℕ × Value)) (at : At) (before after : List Cut) : Type 0 where
@@ -199,7 +199,8 @@ pub record IsCutOf (s : Setting) (aim : Aims) (name : ℕ) (at : At) (j : ℕ) (
 -- what the rules up to this number give
 pub record HasCutsUpTo (s : Setting) (aim : Aims) (name : ℕ) (known : List (ℕ × Value)) (at : At) (count : ℕ) (cuts : List Cut) : Type 0 where
   pub sound : (j : ℕ) (head : List (ℕ × Value)) → HasCut cuts j head → IsCutOf s aim name at j head
-  pub complete : (number : ℕ) (rule : Rule) → rule_with s.grammar number ≡ Some rule → number ≤ count → rule.head.name ≡ name → HasRuleCuts s aim rule known at cuts
+  pub complete : (number : ℕ) (rule : Rule) → rule_with s.grammar number ≡ Some rule → number ≤ count → rule.head.name ≡ name
+      → HasRuleCuts s aim rule known at cuts
 
 -- nothing is cut off at the place, and the rule's first element that takes tokens can't stand there
 pub record IsIdle (s : Setting) (aim : Aims) (rule : Rule) (place : ℕ) : Type 0 where

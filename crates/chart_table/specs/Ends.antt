@@ -7,7 +7,7 @@ use Rattle.codeco_terms.specs.declared.values.Term.TheVariants.{Var}
 use Rattle.codeco_terms.specs.declared.elements.Element.{Element}
 use Rattle.codeco_terms.specs.declared.rules.Rule.{Rule}
 use Rattle.scopes.specs.declared.entries.Entry.{Entry}
-use Rattle.scopes.specs.declared.tests.Test.{Test}
+use Rattle.scopes.specs.declared.agreement.Test.{Test}
 use Rattle.scopes.specs.AccessList.{closed}
 use Rattle.derivation_trees.specs.Settings.{Setting}
 use Rattle.codeco_terms.specs.Values.{same_value}
@@ -32,7 +32,8 @@ end_head name e = record { name = name; values = e.values }
 -- leads there, and each phrase for a category that has the known values leads to an end that the category fits.
 pub record IsEnds (s : Setting) (name : ℕ) (known : List (ℕ × Value)) (at : At) (ends : List End) : Type 0 where
   pub sound : (e : End) → OneOf ends e → (asked : Test) → asked.name ≡ name → fits (end_head name e) asked ≡ true → Leads s asked at (end_at at e)
-  pub complete : (asked : Test) (after : At) → asked.name ≡ name → ((p : ℕ × Value) → OneOf known p → OneOf asked.values p) → Leads s asked at after → (e : End) × OneOf ends e × (fits (end_head name e) asked ≡ true) × (after ≡ end_at at e)
+  pub complete : (asked : Test) (after : At) → asked.name ≡ name → ((p : ℕ × Value) → OneOf known p → OneOf asked.values p) → Leads s asked at after
+      → (e : End) × OneOf ends e × (fits (end_head name e) asked ≡ true) × (after ≡ end_at at e)
 
 -- what is left of what a phrase of the rule has added to the list
 abbrev pub left_of : Rule → List Entry → List Entry
@@ -59,7 +60,8 @@ pub record IsRuleEnd (s : Setting) (rule : Rule) (at : At) (e : End) : Type 0 wh
 -- each instance of the rule that agrees with the known values has an end
 abbrev pub HasRuleEnds : Setting → Rule → List (ℕ × Value) → At → List End → Type 0
 HasRuleEnds s rule known at ends =
-    (values : List (ℕ × Value)) (last : At) → is_instance s rule values ≡ true → Agrees known rule values → Path s values (own_values rule values) rule.body at last → (e : End) × OneOf ends e × EndsAt rule values at.list last e
+    (values : List (ℕ × Value)) (last : At) → is_instance s rule values ≡ true → Agrees known rule values
+    → Path s values (own_values rule values) rule.body at last → (e : End) × OneOf ends e × EndsAt rule values at.list last e
 
 -- the end is that of an instance of a rule with the name
 pub record IsEndOf (s : Setting) (name : ℕ) (at : At) (e : End) : Type 0 where
@@ -130,8 +132,10 @@ OwnFrom v own n = (j : ℕ) → first_value (drop j own) ≡ value_under v (n + 
 
 -- the states after an element cover exactly where it leads from a state
 pub record IsStep (s : Setting) (rule : Rule) (n : ℕ) (e : Element) (state : State) (news : List State) : Type 0 where
-  pub forth : (v own : List (ℕ × Value)) (after : At) → is_instance s rule v ≡ true → OwnFrom v own n → Extends v state.binds → ElementLeads s v own e (at_of state) after → Covers v after news
-  pub back : (v own : List (ℕ × Value)) (after : At) → is_instance s rule v ≡ true → OwnFrom v own n → Covers v after news → Extends v state.binds × ElementLeads s v own e (at_of state) after
+  pub forth : (v own : List (ℕ × Value)) (after : At) → is_instance s rule v ≡ true → OwnFrom v own n → Extends v state.binds
+      → ElementLeads s v own e (at_of state) after → Covers v after news
+  pub back : (v own : List (ℕ × Value)) (after : At) → is_instance s rule v ≡ true → OwnFrom v own n → Covers v after news
+      → Extends v state.binds × ElementLeads s v own e (at_of state) after
 
 -- the states after an element cover exactly where it leads from the states
 pub record AreSteps (s : Setting) (rule : Rule) (n : ℕ) (e : Element) (states news : List State) : Type 0 where
@@ -141,8 +145,10 @@ pub record AreSteps (s : Setting) (rule : Rule) (n : ℕ) (e : Element) (states 
 -- Where the elements that are left lead from the states is where all elements lead from the states at the start.
 pub record AreReached (s : Setting) (rule : Rule) (starts : List State) (n : ℕ) (es : List Element) (states : List State) : Type 0 where
   pub numbered : 16 ≤ n
-  pub forth : (v : List (ℕ × Value)) (last : At) → is_instance s rule v ≡ true → CoversPath s v (own_values rule v) rule.body last starts → CoversPath s v (drop (n - 16) (own_values rule v)) es last states
-  pub back : (v : List (ℕ × Value)) (last : At) → is_instance s rule v ≡ true → CoversPath s v (drop (n - 16) (own_values rule v)) es last states → CoversPath s v (own_values rule v) rule.body last starts
+  pub forth : (v : List (ℕ × Value)) (last : At) → is_instance s rule v ≡ true → CoversPath s v (own_values rule v) rule.body last starts
+      → CoversPath s v (drop (n - 16) (own_values rule v)) es last states
+  pub back : (v : List (ℕ × Value)) (last : At) → is_instance s rule v ≡ true → CoversPath s v (drop (n - 16) (own_values rule v)) es last states
+      → CoversPath s v (own_values rule v) rule.body last starts
 
 -- the states after all elements of a rule
 abbrev pub AreLast : Setting → Rule → List State → List State → Type 0

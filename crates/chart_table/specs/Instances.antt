@@ -14,7 +14,8 @@ use Rattle.chart_table.specs.Ends.{Agrees, as_terms, values_of_all}
 -- each instance of the rule that agrees with the known values, and by which the elements lead somewhere, is one of these
 abbrev pub HasInstances : Setting → Rule → List (ℕ × Value) → At → List (List (ℕ × Value)) → Type 0
 HasInstances s rule known at instances =
-    (values : List (ℕ × Value)) (last : At) → is_instance s rule values ≡ true → Agrees known rule values → Path s values (own_values rule values) rule.body at last → OneOf instances values
+    (values : List (ℕ × Value)) (last : At) → is_instance s rule values ≡ true → Agrees known rule values
+    → Path s values (own_values rule values) rule.body at last → OneOf instances values
 
 -- the values of all variables of the rule in a state, in each way
 abbrev pub closed_values : Setting → Rule → State → List (List (ℕ × Value))

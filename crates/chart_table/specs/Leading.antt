@@ -8,7 +8,7 @@ use Rattle.codeco_terms.specs.declared.elements.Element.TheVariants.{Terminal, P
 use Rattle.codeco_terms.specs.declared.rules.Rule.{Rule}
 use Rattle.scopes.specs.declared.entries.Entry.{Entry}
 use Rattle.scopes.specs.declared.entries.Entry.TheVariants as entry
-use Rattle.scopes.specs.declared.tests.Test.{Test}
+use Rattle.scopes.specs.declared.agreement.Test.{Test}
 use Rattle.scopes.specs.AccessList.{introduced}
 use Rattle.scopes.specs.Resolution.{Finding, is_agreeing, closest_finding}
 use Rattle.derivation_trees.specs.Trees.{Node}
@@ -31,7 +31,8 @@ entered at e = record { place = at.place; list = at.list ++ e ∷ [] }
 -- the reference finds a referent, and its first agreeing pattern takes its values
 abbrev pub Finds : List (ℕ × Value) → Element → Finding → List Entry → Type 0
 Finds values (Back positive negative) finding list =
-    (closest_finding (reference_tests values positive negative) list ≡ Some finding) × (takes values finding.referent (slice_get positive finding.pattern) ≡ true)
+    (closest_finding (reference_tests values positive negative) list ≡ Some finding)
+    × (takes values finding.referent (slice_get positive finding.pattern) ≡ true)
 Finds values e finding list = (true ≡ false)
 
 -- An element of a rule leads, in an instance, from a place and a list to a place and a list. The own variables that are

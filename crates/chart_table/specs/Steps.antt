@@ -1,4 +1,4 @@
--- Where a node may stand after one more element, as a list of states.
+-- Where a node may stand after one more element, as a list of states. Only private calls speak of it.
 use Rattle.std.specs.Prelude.{◌≡◌, ℕ, ◌+◌, if◌then◌else◌, Bool, true, false, List, [], ◌∷◌, ◌++◌, map, slice_get, Option, Some, None, ◌⊎◌, flat_map, unwrap_or}
 use Rattle.std.specs.List.{list_any}
 use Rattle.codeco_terms.specs.declared.values.Value.{Value}
@@ -106,7 +106,8 @@ plain_steps s choices n Opener state = placed state.place (state.list ++ entry.O
 plain_steps s choices n (Forward c) state = introducing s choices n c false state
 plain_steps s choices n (Strong c) state = introducing s choices n c true state
 plain_steps s choices n (Back positive negative) state =
-    placed state.place state.list (refer positive negative state.list (closing_patterns choices negative (closing_patterns choices positive (state.binds ∷ []))))
+    placed state.place state.list (refer positive negative state.list
+    (closing_patterns choices negative (closing_patterns choices positive (state.binds ∷ []))))
 plain_steps s choices n (NoBack patterns) state =
     placed state.place state.list (refer_none patterns state.list (closing_patterns choices patterns (state.binds ∷ [])))
 

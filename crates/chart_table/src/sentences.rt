@@ -147,7 +147,8 @@ pub fn may_follow(
     asks: &[Ask],
 ) -> Result<List<bool>, Memory>
     ensures count { IfOk result (λ follows. length follows ≡ length asks.now) }
-    ensures each { IfOk result (λ follows. (j : ℕ) (a : OneAsk) (yes : Bool) → slice_get asks.now j ≡ Some a → slice_get follows j ≡ Some yes → IsTrue yes ↔ AskLeads setting.now halt a text_category (record { place = 0; list = [] })) }
+    ensures each { IfOk result (λ follows. (j : ℕ) (a : OneAsk) (yes : Bool) → slice_get asks.now j ≡ Some a → slice_get follows j ≡ Some yes
+        → IsTrue yes ↔ AskLeads setting.now halt a text_category (record { place = 0; list = [] })) }
 {
     let aim = Aim { halt, asks };
     let row = text_row(alloc, setting, &aim)?;

@@ -352,7 +352,8 @@ fn push_named(
     requires plan { choosing.IsPlan setting.now rule.now plan.now }
     ensures rows { OnOk result (tables.AreRows setting.now aim.now rows.new) }
     ensures ends { OnOk result (ending.HasEndsIfNamed setting.now rule.now name known.now (record { place = place; list = start.now }) ends.old ends.new) }
-    ensures cuts { OnOk result (cutting.HasCutsIfNamed setting.now aim.now rule.now name known.now (record { place = place; list = start.now }) cuts.old cuts.new) }
+    ensures cuts { OnOk result (cutting.HasCutsIfNamed setting.now aim.now rule.now name known.now (record { place = place; list = start.now }) cuts.old
+        cuts.new) }
 {
     if rule.head.name == name {
         push_rule(
@@ -427,7 +428,8 @@ pub(crate) fn last_states(
     requires plan { choosing.IsPlan setting.now rule.now plan.now }
     ensures rows { OnOk result (tables.AreRows setting.now aim.now rows.new) }
     ensures last { IfOk result (λ states. cutting.AreAllAfter setting.now rule.now starts states) }
-    ensures cuts { OnOk result (cutting.HasHeads setting.now rule.now (cutting.CutBefore setting.now aim.now rule.now starts (length rule.now.body)) cuts.old cuts.new) }
+    ensures cuts { OnOk result (cutting.HasHeads setting.now rule.now (cutting.CutBefore setting.now aim.now rule.now starts (length rule.now.body)) cuts.old
+        cuts.new) }
 {
     let body = rule.body.as_slice();
     let mut states = starts;
@@ -487,7 +489,8 @@ fn next_states(
     requires features { features.now ≡ listing.element_features setting.now.grammar element.now }
     ensures rows { OnOk result (tables.AreRows setting.now aim.now rows.new) }
     ensures steps { IfOk result (λ news. ending.AreSteps setting.now rule.now number element.now states.now news) }
-    ensures cuts { OnOk result (cutting.HasHeads setting.now rule.now (λ j v. cutting.Among (cutting.Enters setting.now aim.now element.now j v) states.now) cuts.old cuts.new) }
+    ensures cuts { OnOk result (cutting.HasHeads setting.now rule.now (λ j v. cutting.Among (cutting.Enters setting.now aim.now element.now j v) states.now)
+        cuts.old cuts.new) }
 {
     let mut news = List::new(alloc);
     for state in states {
@@ -562,8 +565,10 @@ fn push_category(
     requires plans { choosing.ArePlans setting.now plans.now }
     requires plan { choosing.IsPlan setting.now rule.now plan.now }
     ensures rows { OnOk result (tables.AreRows setting.now aim.now rows.new) }
-    ensures step { OnOk result ((news : List OneState) × (out.new ≡ out.old ++ news) × ending.IsStep setting.now rule.now number (Sub category.now) state.now news) }
-    ensures cuts { OnOk result (cutting.HasHeads setting.now rule.now (λ j v. cutting.Enters setting.now aim.now (Sub category.now) j v state.now) cuts.old cuts.new) }
+    ensures step { OnOk result ((news : List OneState) × (out.new ≡ out.old ++ news)
+        × ending.IsStep setting.now rule.now number (Sub category.now) state.now news) }
+    ensures cuts { OnOk result (cutting.HasHeads setting.now rule.now (λ j v. cutting.Enters setting.now aim.now (Sub category.now) j v state.now) cuts.old
+        cuts.new) }
 {
     let deeper = depth.checked_sub(1).ok_or(Memory)?;
     let known = known_features(alloc, state.binds.as_slice(), category.feats.as_slice())?;

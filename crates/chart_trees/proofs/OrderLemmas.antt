@@ -6,9 +6,10 @@ use Rattle.std.proofs.lemmas.Bool.Decides.{nat_tests}
 use Rattle.std.specs.declared.cmp.Ordering.TheVariants.{Less, Equal, Greater}
 use Rattle.std.specs.Ordering.{nat_cmp, ordering_then}
 use Rattle.std.specs.Cmp.Lexicographic.{slice_cmp}
+use Rattle.std.proofs.lemmas.List.{take_all}
+use Rattle.wiki_base.proofs.ListLaws.{take_slice_get}
 use Rattle.codeco_terms.specs.declared.values.Value.{Value}
 use Rattle.derivation_trees.specs.Trees.{Node, node, nodes_from}
-use Rattle.derivation_trees.proofs.CodeLemmas.{take_next}
 use Rattle.chart_trees.specs.Order.{node_code, nodes_code, codes, Lower, AtMost}
 
 pub lower_append : (xs ys us ws : List ℕ) → Lower xs ys → Lower (xs ++ us) (ys ++ ws)
@@ -58,7 +59,8 @@ lower_at (suc i) (a ∷ xs) (b ∷ ys) same lt le less =
     tails a b us ws h = cc
 
 -- as the program tests it
-pub lower_tested : (i : ℕ) (xs ys : List ℕ) → take i xs ≡ take i ys → i < length xs → i < length ys → IsTrue (nat_lt (get_or xs i 0) (get_or ys i 0)) → Lower xs ys
+pub lower_tested : (i : ℕ) (xs ys : List ℕ) → take i xs ≡ take i ys → i < length xs → i < length ys → IsTrue (nat_lt (get_or xs i 0) (get_or ys i 0))
+    → Lower xs ys
 lower_tested i xs ys same lt le t = lower_at i xs ys same lt le (tested (get_or xs i 0) (get_or ys i 0) t)
   where
     tested : (x y : ℕ) → IsTrue (nat_lt x y) → x < y
@@ -75,7 +77,8 @@ lower_less (x ∷ xs) (y ∷ ys) (inr h) =
     let e = h.0 in
     let f : nat_lt x y ≡ false = grind (arith, nat_tests) in
     let t : (x == y) ≡ true = grind (arith, nat_tests) in
-    ap (λ b. ordering_then (cond b Less (cond (x == y) Equal Greater)) (slice_cmp nat_cmp xs ys)) f ∙ ap (λ b. ordering_then (cond b Equal Greater) (slice_cmp nat_cmp xs ys)) t ∙ lower_less xs ys h.1
+    ap (λ b. ordering_then (cond b Less (cond (x == y) Equal Greater)) (slice_cmp nat_cmp xs ys)) f
+    ∙ ap (λ b. ordering_then (cond b Equal Greater) (slice_cmp nat_cmp xs ys)) t ∙ lower_less xs ys h.1
 
 -- the codes of trees
 
@@ -90,20 +93,20 @@ pub codes_push : (ns : List Node) (n : Node) → codes (ns ++ n ∷ []) ≡ code
 codes_push ns n = codes_append ns (n ∷ []) ∙ ap (λ l. codes ns ++ l) (append-nil (node_code n))
 
 -- the codes of one more tree
-pub codes_next : (ns : List Node) (i : ℕ) (n : Node) (first before after : List ℕ) → slice_get ns i ≡ Some n → before ≡ first ++ codes (take i ns) → after ≡ before ++ node_code n → after ≡ first ++ codes (take (i + 1) ns)
+pub codes_next : (ns : List Node) (i : ℕ) (n : Node) (first before after : List ℕ) → slice_get ns i ≡ Some n → before ≡ first ++ codes (take i ns)
+    → after ≡ before ++ node_code n → after ≡ first ++ codes (take (i + 1) ns)
 codes_next ns i n first before after at h k =
-    k ∙ ap (λ l. l ++ node_code n) h ∙ append_assoc first (codes (take i ns)) (node_code n) ∙ ap (λ l. first ++ l) (sym (codes_push (take i ns) n) ∙ ap codes (sym (take_next ns i n at)))
+    k ∙ ap (λ l. l ++ node_code n) h ∙ append_assoc first (codes (take i ns)) (node_code n)
+    ∙ ap (λ l. first ++ l) (sym (codes_push (take i ns) n) ∙ ap codes (sym (take_slice_get ns i n at)))
 
 -- the code of a tree, in parts
-pub code_whole : (n : Node) (rule : ℕ) (values : List (ℕ × Value)) (found shown : List ℕ) (ns : List Node) (first before middle after : List ℕ) → n ≡ node rule values found (nodes_from ns) → shown ≡ found → before ≡ first ++ rule ∷ [] → middle ≡ before ++ shown → after ≡ middle ++ codes ns → after ≡ first ++ node_code n
+pub code_whole : (n : Node) (rule : ℕ) (values : List (ℕ × Value)) (found shown : List ℕ) (ns : List Node) (first before middle after : List ℕ)
+    → n ≡ node rule values found (nodes_from ns) → shown ≡ found → before ≡ first ++ rule ∷ [] → middle ≡ before ++ shown → after ≡ middle ++ codes ns
+    → after ≡ first ++ node_code n
 code_whole n rule values found shown ns first before middle after is same a b c =
-    c ∙ ap (λ l. l ++ codes ns) (b ∙ ap (λ l. l ++ shown) a ∙ ap (λ l. (first ++ rule ∷ []) ++ l) same) ∙ append_assoc (first ++ rule ∷ []) found (codes ns) ∙ append_assoc first (rule ∷ []) (found ++ codes ns) ∙ ap (λ l. first ++ rule ∷ (found ++ l)) (sym (nodes_code_from ns)) ∙ ap (λ m. first ++ node_code m) (sym is)
-
-all_taken : {X : Type 0} (n : ℕ) (xs : List X) → length xs ≤ n → take n xs ≡ xs
-all_taken zero [] le = refl
-all_taken zero (x ∷ xs) le = absurd (omega arith)
-all_taken (suc n) [] le = refl
-all_taken (suc n) (x ∷ xs) le = ap (λ ys. x ∷ ys) (all_taken n xs (omega arith))
+    c ∙ ap (λ l. l ++ codes ns) (b ∙ ap (λ l. l ++ shown) a ∙ ap (λ l. (first ++ rule ∷ []) ++ l) same) ∙ append_assoc (first ++ rule ∷ []) found (codes ns)
+    ∙ append_assoc first (rule ∷ []) (found ++ codes ns) ∙ ap (λ l. first ++ rule ∷ (found ++ l)) (sym (nodes_code_from ns))
+    ∙ ap (λ m. first ++ node_code m) (sym is)
 
 pub codes_done : (ns : List Node) (i : ℕ) (first code : List ℕ) → length ns ≤ i → code ≡ first ++ codes (take i ns) → code ≡ first ++ codes ns
-codes_done ns i first code le h = h ∙ ap (λ l. first ++ codes l) (all_taken i ns le)
+codes_done ns i first code le h = h ∙ ap (λ l. first ++ codes l) (take_all i ns le)

@@ -1,4 +1,4 @@
--- The codes of trees, and which of two codes is lower.
+-- The codes of trees, and which of two codes is lower. Only private calls speak of it.
 use Rattle.std.specs.Prelude.{◌≡◌, ℕ, ◌<◌, List, [], ◌∷◌, ◌++◌, ◌⊎◌}
 use Rattle.std.specs.List.{flat_map}
 use Rattle.derivation_trees.specs.Trees.{Node, Nodes, node, none, more}

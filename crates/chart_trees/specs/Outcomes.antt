@@ -1,9 +1,9 @@
--- The least trees for each end.
+-- The least trees for each end. Only private calls speak of it.
 use Rattle.std.specs.Prelude.{◌≡◌, ℕ, ◌≤◌, List, length, drop, slice_get, Some, ◌⊎◌}
 use Rattle.codeco_terms.specs.declared.values.Value.{Value}
 use Rattle.codeco_terms.specs.declared.rules.Rule.{Rule}
 use Rattle.scopes.specs.declared.entries.Entry.{Entry}
-use Rattle.scopes.specs.declared.tests.Test.{Test}
+use Rattle.scopes.specs.declared.agreement.Test.{Test}
 use Rattle.derivation_trees.specs.Trees.{Node, Nodes, node, node_of, nodes_from}
 use Rattle.derivation_trees.specs.Settings.{Setting}
 use Rattle.derivation_trees.specs.Derives.{At, phrase_of}
@@ -40,7 +40,8 @@ pub record IsBest (s : Setting) (asked : Test) (at : At) (outcomes : List Outcom
 -- where an outcome belongs among others
 abbrev pub IsSeat : List Outcome → Outcome → Seat → Type 0
 IsSeat outcomes new seat.Taken = Holds outcomes new.place new.tail new.code
-IsSeat outcomes new (seat.At place) = (old : Outcome) × (slice_get outcomes place ≡ Some old) × (new.place ≡ old.place) × (new.tail ≡ old.tail) × AtMost new.code old.code
+IsSeat outcomes new (seat.At place) = (old : Outcome) × (slice_get outcomes place ≡ Some old) × (new.place ≡ old.place) × (new.tail ≡ old.tail)
+    × AtMost new.code old.code
 IsSeat outcomes new seat.Free = Unit {0}
 
 -- the later list has the ends of the first and that of one more outcome, each with as low a code
@@ -60,7 +61,8 @@ pub record IsEnded (number : ℕ) (rule : Rule) (values : List (ℕ × Value)) (
 pub record HasEnded (number : ℕ) (rule : Rule) (values : List (ℕ × Value)) (begun : List Entry) (paths : List Path) (before after : List Outcome) : Type 0 where
   pub sound : (o : Outcome) → Among after o → Among before o ⊎ ((p : Path) × Among paths p × IsEnded number rule values begun (path_of p) o)
   pub kept : (o : Outcome) → Among before o → Holds after o.place o.tail o.code
-  pub new : (p : Path) → Among paths p → Holds after p.place (left_of rule (drop (length begun) p.list)) (node_code (node number values (path_of p).found (nodes_from (path_of p).children)))
+  pub new : (p : Path) → Among paths p → Holds after p.place (left_of rule (drop (length begun) p.list))
+      (node_code (node number values (path_of p).found (nodes_from (path_of p).children)))
 
 -- the tree is one with the rule and the instance
 abbrev pub IsOfInstance : ℕ → List (ℕ × Value) → Node → Type 0
@@ -84,4 +86,5 @@ pub record HasTrees (s : Setting) (asked : Test) (at : At) (P : Node → Type 0)
 -- the least trees for a category with the rules up to this number
 pub record HasTreesUpTo (s : Setting) (asked : Test) (at : At) (count : ℕ) (outcomes : List Outcome) : Type 0 where
   pub sound : (o : Outcome) → Among outcomes o → IsOutcome s asked at o
-  pub least : (number : ℕ) (n : Node) (end : At) → number ≤ count → IsOfRule number n → phrase_of s n asked at ≡ Some end → Covers outcomes at.list end (node_code n)
+  pub least : (number : ℕ) (n : Node) (end : At) → number ≤ count → IsOfRule number n → phrase_of s n asked at ≡ Some end
+      → Covers outcomes at.list end (node_code n)

@@ -1,4 +1,4 @@
--- Paths and outcomes as the program holds them.
+-- Paths and outcomes as the program holds them. Only private calls speak of it.
 use Rattle.std.specs.Prelude.{List, ◌++◌}
 use Rattle.scopes.specs.declared.entries.Entry.{Entry}
 use Rattle.derivation_trees.specs.Trees.{node_of, nodes_of}

@@ -1,7 +1,7 @@
--- The table of least trees.
+-- The table of least trees. Only private calls speak of it.
 use Rattle.std.specs.Prelude.{◌≡◌, ℕ, List, slice_get, Some, All}
 use Rattle.scopes.specs.declared.entries.Entry.{Entry}
-use Rattle.scopes.specs.declared.tests.Test.{Test}
+use Rattle.scopes.specs.declared.agreement.Test.{Test}
 use Rattle.derivation_trees.specs.Settings.{Setting}
 use Rattle.derivation_trees.specs.Derives.{At}
 use Rattle.chart_table.specs.Table.{AreRows, no_asks}

@@ -319,7 +319,8 @@ fn push_instances(
     requires has { rule_with setting.now.grammar number ≡ Some rule.now }
     requires plan { IsPlan setting.now rule.now plan.now }
     ensures tables { OnOk result (tabled.AreTables setting.now tables.new) }
-    ensures trees { OnOk result (ends.HasTrees setting.now asked.now (record { place = place; list = start.now }) (ends.IsOfInstances number instances.now) out.old out.new) }
+    ensures trees { OnOk result (ends.HasTrees setting.now asked.now (record { place = place; list = start.now }) (ends.IsOfInstances number instances.now)
+        out.old out.new) }
 {
     for values in instances {
         push_instance(
@@ -364,7 +365,8 @@ fn push_instance(
     requires has { rule_with setting.now.grammar number ≡ Some rule.now }
     requires plan { IsPlan setting.now rule.now plan.now }
     ensures tables { OnOk result (tabled.AreTables setting.now tables.new) }
-    ensures trees { OnOk result (ends.HasTrees setting.now asked.now (record { place = place; list = start.now }) (ends.IsOfInstance number values.now) out.old out.new) }
+    ensures trees { OnOk result (ends.HasTrees setting.now asked.now (record { place = place; list = start.now }) (ends.IsOfInstance number values.now) out.old
+        out.new) }
 {
     if !may_begin(alloc, setting, rule, plan, asked, values)? {
         return Ok(());

@@ -4,25 +4,11 @@ use Rattle.std.specs.Prelude.{not, ◌⊎◌, nat_lt, slice_set}
 use Rattle.std.specs.List.{list_any, list_all}
 use Rattle.std.specs.Option.{option_or}
 use Rattle.std.specs.Map.{lookup}
-use Rattle.std.proofs.lemmas.Bool.{cases_eq, ltb-true}
+use Rattle.std.proofs.lemmas.Bool.{cases_eq, ltb-true, or_cases}
+use Rattle.wiki_base.proofs.BoolLaws.{and_first, and_second}
 use Rattle.logic_terms.specs.Meaning.{some_below, each_below, implies}
 use Rattle.tableau_rules.specs.First.{first_below, where_true}
 use Rattle.tableau_rules.specs.Clashes.{passes}
-
-pub both_left : (a b : Bool) → (a && b) ≡ true → a ≡ true
-both_left true b h = refl
-both_left false b h = h
-
-pub both_right : (a b : Bool) → (a && b) ≡ true → b ≡ true
-both_right true b h = h
-both_right false b h = cc
-
-pub both : (a b : Bool) → a ≡ true → b ≡ true → (a && b) ≡ true
-both a b p q = ap (λ z. z && b) p ∙ q
-
-pub either : (a b : Bool) → (a || b) ≡ true → (a ≡ true) ⊎ (b ≡ true)
-either true b h = inl refl
-either false b h = inr h
 
 pub not_both : (a : Bool) → a ≡ true → not a ≡ true → ⊥
 not_both true p q = cc
@@ -32,54 +18,30 @@ pub implied : (a b : Bool) → implies a b ≡ true → a ≡ true → b ≡ tru
 implied true b h p = h
 implied false b h p = cc
 
-pub not_false : (a : Bool) → not a ≡ true → a ≡ false
-not_false true h = cc
-not_false false h = refl
-
-pub tested : (a : Bool) → (a ≡ true) ⊎ (a ≡ false)
-tested true = inl refl
-tested false = inr refl
-
 -- what passes of an optional value is there
 pub passes_some : {X : Type 0} (o : Option X) (test : X → Bool) → passes o test ≡ true → (x : X) × (o ≡ Some x) × (test x ≡ true)
 passes_some None test h = cc
 passes_some (Some x) test h = (x, refl, h)
 
-pub all_at : {X : Type 0} (test : X → Bool) (xs : List X) (i : ℕ) (x : X) → list_all test xs ≡ true → slice_get xs i ≡ Some x → test x ≡ true
-all_at test [] i x h at = cc
-all_at test (y ∷ ys) zero x h at =
-    let e : y ≡ x = cc in
-    ap test (sym e) ∙ both_left (test y) (list_all test ys) h
-all_at test (y ∷ ys) (suc i) x h at = all_at test ys i x (both_right (test y) (list_all test ys) h) at
-
-pub all_append : {X : Type 0} (test : X → Bool) (xs ys : List X) → list_all test xs ≡ true → list_all test ys ≡ true → list_all test (xs ++ ys) ≡ true
-all_append test [] ys p q = q
-all_append test (x ∷ xs) ys p q =
-    both (test x) (list_all test (xs ++ ys)) (both_left (test x) (list_all test xs) p)
-    (all_append test xs ys (both_right (test x) (list_all test xs) p) q)
-
-pub all_weaker : {X : Type 0} (test other : X → Bool) → ((x : X) → test x ≡ true → other x ≡ true) → (xs : List X) → list_all test xs ≡ true → list_all other xs ≡ true
-all_weaker test other step [] h = refl
-all_weaker test other step (x ∷ xs) h =
-    both (other x) (list_all other xs) (step x (both_left (test x) (list_all test xs) h))
-    (all_weaker test other step xs (both_right (test x) (list_all test xs) h))
-
 -- an item that passes one test passes the other too, where all do
-pub any_with_all : {X : Type 0} (some each : X → Bool) (xs : List X) → list_any some xs ≡ true → list_all each xs ≡ true → (x : X) × (some x ≡ true) × (each x ≡ true)
+pub any_with_all : {X : Type 0} (some each : X → Bool) (xs : List X) → list_any some xs ≡ true → list_all each xs ≡ true
+    → (x : X) × (some x ≡ true) × (each x ≡ true)
 any_with_all some each [] p q = cc
-any_with_all some each (x ∷ xs) p q = elim (either (some x) (list_any some xs) p) [
-  | inl here ↦ (x, here, both_left (each x) (list_all each xs) q)
-  | inr there ↦ any_with_all some each xs there (both_right (each x) (list_all each xs) q)
+any_with_all some each (x ∷ xs) p q = elim (or_cases (some x) (list_any some xs) p) [
+  | inl here ↦ (x, here, and_first (each x) (list_all each xs) q)
+  | inr there ↦ any_with_all some each xs there (and_second (each x) (list_all each xs) q)
 ]
 
-pub any_at : {X : Type 0} (test : X → Bool) (xs : List X) → list_any test xs ≡ true → (i : ℕ) × (i < length xs) × ((x : X) × (slice_get xs i ≡ Some x) × (test x ≡ true))
+pub any_at : {X : Type 0} (test : X → Bool) (xs : List X) → list_any test xs ≡ true
+    → (i : ℕ) × (i < length xs) × ((x : X) × (slice_get xs i ≡ Some x) × (test x ≡ true))
 any_at test [] h = cc
-any_at test (x ∷ xs) h = elim (either (test x) (list_any test xs) h) [
+any_at test (x ∷ xs) h = elim (or_cases (test x) (list_any test xs) h) [
   | inl here ↦ (0, omega arith, (x, refl, here))
   | inr there ↦ (let w = any_at test xs there in (suc w.0, omega (arith, w.1), (w.2.0, w.2.1, w.2.2)))
 ]
 
-kept_any : {X : Type 0} (test : X → Bool) (b : Bool) (x : X) (rest : List X) → (test x ≡ true) ⊎ (list_any test rest ≡ true) → (test x ≡ true → b ≡ true) → list_any test (cond b (x ∷ rest) rest) ≡ true
+kept_any : {X : Type 0} (test : X → Bool) (b : Bool) (x : X) (rest : List X) → (test x ≡ true) ⊎ (list_any test rest ≡ true) → (test x ≡ true → b ≡ true)
+    → list_any test (cond b (x ∷ rest) rest) ≡ true
 kept_any test true x rest (inl p) step = ap (λ z. z || list_any test rest) p
 kept_any test true x rest (inr q) step = or_true (test x) (list_any test rest) q
   where
@@ -93,17 +55,19 @@ kept_any test false x rest (inl p) step = absurd (never (step p))
 kept_any test false x rest (inr q) step = q
 
 -- those that are kept have one that passes, where each that passes is kept
-pub any_kept : {X : Type 0} (test keep : X → Bool) → ((x : X) → test x ≡ true → keep x ≡ true) → (xs : List X) → list_any test xs ≡ true → list_any test (filter keep xs) ≡ true
+pub any_kept : {X : Type 0} (test keep : X → Bool) → ((x : X) → test x ≡ true → keep x ≡ true) → (xs : List X) → list_any test xs ≡ true
+    → list_any test (filter keep xs) ≡ true
 any_kept test keep step [] h = h
 any_kept test keep step (x ∷ xs) h =
     kept_any test (keep x) x (filter keep xs)
-    (elim (either (test x) (list_any test xs) h) [ inl here ↦ inl here | inr there ↦ inr (any_kept test keep step xs there) ])
+    (elim (or_cases (test x) (list_any test xs) h) [ inl here ↦ inl here | inr there ↦ inr (any_kept test keep step xs there) ])
     (step x)
 
 -- one that passes among at most one is the first
-pub only_one : {X : Type 0} (test : X → Bool) (xs : List X) → list_any test xs ≡ true → nat_lt (length xs) 2 ≡ true → (x : X) × (slice_get xs 0 ≡ Some x) × (test x ≡ true)
+pub only_one : {X : Type 0} (test : X → Bool) (xs : List X) → list_any test xs ≡ true → nat_lt (length xs) 2 ≡ true
+    → (x : X) × (slice_get xs 0 ≡ Some x) × (test x ≡ true)
 only_one test [] h few = cc
-only_one test (x ∷ []) h few = (x, refl, elim (either (test x) false h) [ inl here ↦ here | inr there ↦ absurd (never there) ])
+only_one test (x ∷ []) h few = (x, refl, elim (or_cases (test x) false h) [ inl here ↦ here | inr there ↦ absurd (never there) ])
   where
     never : false ≡ true → ⊥
     never e = cc
@@ -115,13 +79,13 @@ only_one test (x ∷ y ∷ ys) h few = absurd (too_many (length ys) few)
 pub each_at : (n : ℕ) (test : ℕ → Bool) (x : ℕ) → each_below n test ≡ true → x < n → test x ≡ true
 each_at zero test x h lt = absurd (omega arith)
 each_at (suc n) test x h lt = elim (cases_eq x n) [
-  | inl same ↦ ap test same ∙ both_left (test n) (each_below n test) h
-  | inr ne ↦ each_at n test x (both_right (test n) (each_below n test) h) (omega arith)
+  | inl same ↦ ap test same ∙ and_first (test n) (each_below n test) h
+  | inr ne ↦ each_at n test x (and_second (test n) (each_below n test) h) (omega arith)
 ]
 
 pub some_at : (n : ℕ) (test : ℕ → Bool) → some_below n test ≡ true → (x : ℕ) × (x < n) × (test x ≡ true)
 some_at zero test h = cc
-some_at (suc n) test h = elim (either (test n) (some_below n test) h) [
+some_at (suc n) test h = elim (or_cases (test n) (some_below n test) h) [
   | inl here ↦ (n, omega arith, here)
   | inr there ↦ (let w = some_at n test there in (w.0, omega (arith, w.1), w.2))
 ]
@@ -135,7 +99,8 @@ pub first_passes : (n : ℕ) (test : ℕ → Bool) (z : ℕ) → first_below n (
 first_passes zero test z h = cc
 first_passes (suc n) test z h = go (first_passes n test z) (first_below n (λ y. where_true (test y) y)) refl h
   where
-    go : (first_below n (λ y. where_true (test y) y) ≡ Some z → test z ≡ true) → (o : Option ℕ) → first_below n (λ y. where_true (test y) y) ≡ o → option_or o (where_true (test n) n) ≡ Some z → test z ≡ true
+    go : (first_below n (λ y. where_true (test y) y) ≡ Some z → test z ≡ true) → (o : Option ℕ) → first_below n (λ y. where_true (test y) y) ≡ o
+        → option_or o (where_true (test n) n) ≡ Some z → test z ≡ true
     go before None e k = (let w = where_some (test n) n z k in ap test (sym w.1) ∙ w.0)
     go before (Some y) e k = before (e ∙ k)
 
@@ -143,7 +108,8 @@ pub where_holds : {X : Type 0} (b : Bool) (x z : X) → where_true b x ≡ Some 
 where_holds true x z h = refl
 where_holds false x z h = cc
 
-pub set_cases : {X : Type 0} (xs : List X) (i : ℕ) (v : X) (y : ℕ) → (slice_get (slice_set xs i v) y ≡ slice_get xs y) ⊎ ((y ≡ i) × (slice_get (slice_set xs i v) y ≡ Some v))
+pub set_cases : {X : Type 0} (xs : List X) (i : ℕ) (v : X) (y : ℕ)
+    → (slice_get (slice_set xs i v) y ≡ slice_get xs y) ⊎ ((y ≡ i) × (slice_get (slice_set xs i v) y ≡ Some v))
 set_cases [] i v y = inl refl
 set_cases (x ∷ xs) zero v zero = inr (refl, refl)
 set_cases (x ∷ xs) zero v (suc y) = inl refl
@@ -153,7 +119,8 @@ set_cases (x ∷ xs) (suc i) v (suc y) = elim (set_cases xs i v y) [
   | inr there ↦ inr (ap suc there.0, there.1)
 ]
 
-pub push_cases : {X : Type 0} (xs : List X) (v : X) (y : ℕ) → ((y ≢ length xs) × (slice_get (xs ++ v ∷ []) y ≡ slice_get xs y)) ⊎ ((y ≡ length xs) × (slice_get (xs ++ v ∷ []) y ≡ Some v))
+pub push_cases : {X : Type 0} (xs : List X) (v : X) (y : ℕ)
+    → ((y ≢ length xs) × (slice_get (xs ++ v ∷ []) y ≡ slice_get xs y)) ⊎ ((y ≡ length xs) × (slice_get (xs ++ v ∷ []) y ≡ Some v))
 push_cases [] v zero = inr (refl, refl)
 push_cases [] v (suc y) = inl ((λ e. absurd (omega arith)), refl)
 push_cases (x ∷ xs) v zero = inl ((λ e. absurd (omega arith)), refl)
@@ -163,12 +130,14 @@ push_cases (x ∷ xs) v (suc y) = elim (push_cases xs v y) [
 ]
 
 -- what is found of a key passes the test of some entry with the key
-pub lookup_entry : {K X : Type 0} (is : K → Bool) (each : K × X → Bool) (es : List (K × X)) (x : X) → lookup is es ≡ Some x → list_all each es ≡ true → (key : K) × (is key ≡ true) × (each (key, x) ≡ true)
+pub lookup_entry : {K X : Type 0} (is : K → Bool) (each : K × X → Bool) (es : List (K × X)) (x : X) → lookup is es ≡ Some x → list_all each es ≡ true
+    → (key : K) × (is key ≡ true) × (each (key, x) ≡ true)
 lookup_entry is each [] x h q = cc
 lookup_entry {K} {X} is each (e ∷ es) x h q =
-    go (λ k. lookup_entry is each es x k (both_right (each e) (list_all each es) q)) (is e.0) refl h
+    go (λ k. lookup_entry is each es x k (and_second (each e) (list_all each es) q)) (is e.0) refl h
   where
-    go : (lookup is es ≡ Some x → (key : K) × (is key ≡ true) × (each (key, x) ≡ true)) → (b : Bool) → is e.0 ≡ b → cond b (Some e.1) (lookup is es) ≡ Some x → (key : K) × (is key ≡ true) × (each (key, x) ≡ true)
+    go : (lookup is es ≡ Some x → (key : K) × (is key ≡ true) × (each (key, x) ≡ true)) → (b : Bool) → is e.0 ≡ b → cond b (Some e.1) (lookup is es) ≡ Some x
+        → (key : K) × (is key ≡ true) × (each (key, x) ≡ true)
     go further true here k =
-        (let same : e.1 ≡ x = cc in (e.0, here, ap (λ z. each (e.0, z)) (sym same) ∙ both_left (each e) (list_all each es) q))
+        (let same : e.1 ≡ x = cc in (e.0, here, ap (λ z. each (e.0, z)) (sym same) ∙ and_first (each e) (list_all each es) q))
     go further false here k = further k

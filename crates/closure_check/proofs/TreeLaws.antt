@@ -22,14 +22,16 @@ pub tree_of-Step : (s : Step) (ts : List Closed) → tree_of (closed.Step s ts) 
 tree_of-Step s ts = ap tree_of (sym (closed.rolls-Step s ts)) ∙ fold-roll-Closed Tree tree_layer (layers.Step s ts)
 
 module _ (k : Theory) (g : Graph) where
-  closes_step : (t : Closed) (s : Step) (ts : List Closed) → t ≡ closed.Step s ts → closes k g (tree_of t) ≡ (applies k g s && close_from k g s 0 (trees_from (map tree_of ts)))
+  closes_step : (t : Closed) (s : Step) (ts : List Closed) → t ≡ closed.Step s ts
+      → closes k g (tree_of t) ≡ (applies k g s && close_from k g s 0 (trees_from (map tree_of ts)))
   closes_step t s ts e = ap (λ u. closes k g (tree_of u)) e ∙ ap (closes k g) (tree_of-Step s ts)
 
   -- what is left of the subtrees decides
   abbrev pub close_left : Step → ℕ → List Closed → Bool
   close_left s n ts = close_from k g s n (trees_from (map tree_of ts))
 
-  pub step_begins : (t : Closed) (s : Step) (ts us : List Closed) → t ≡ closed.Step s ts → us ≡ ts → applies k g s ≡ true → closes k g (tree_of t) ≡ close_left s 0 us
+  pub step_begins : (t : Closed) (s : Step) (ts us : List Closed) → t ≡ closed.Step s ts → us ≡ ts → applies k g s ≡ true
+      → closes k g (tree_of t) ≡ close_left s 0 us
   step_begins t s ts us e given is =
       closes_step t s ts e ∙ (ap (λ b. b && close_left s 0 ts) is ∙ ap (close_left s 0) (sym given))
 
@@ -48,14 +50,17 @@ module _ (k : Theory) (g : Graph) (s : Step) where
       (wrong_count (n + 1) ts (λ same. other (sym (count_on n (length ts)) ∙ same)))
 
   -- the choices before the last one, and the last one
-  pub last_decides : (n : ℕ) (ts : List Closed) (t : Closed) → n + (length ts + 1) ≡ choices g s → close_left k g s n (ts ++ t ∷ []) ≡ (close_firsts k g s n (map tree_of ts) && closes k (after k g s (n + length ts)) (tree_of t))
+  pub last_decides : (n : ℕ) (ts : List Closed) (t : Closed) → n + (length ts + 1) ≡ choices g s
+      → close_left k g s n (ts ++ t ∷ []) ≡ (close_firsts k g s n (map tree_of ts) && closes k (after k g s (n + length ts)) (tree_of t))
   last_decides n [] t count =
       ap (λ b. closes k (after k g s n) (tree_of t) && b) (eq-eqb (n + 1) (choices g s) count)
       ∙ (and-true (closes k (after k g s n) (tree_of t)) ∙ ap (λ m. closes k (after k g s m) (tree_of t)) (sym (add-zero n)))
   last_decides n (u ∷ us) t count =
       ap (λ b. closes k (after k g s n) (tree_of u) && b) (last_decides (n + 1) us t (counted n (length us) (choices g s) count))
-      ∙ (sym (and_assoc (closes k (after k g s n) (tree_of u)) (close_firsts k g s (n + 1) (map tree_of us)) (closes k (after k g s ((n + 1) + length us)) (tree_of t)))
-      ∙ ap (λ m. (closes k (after k g s n) (tree_of u) && close_firsts k g s (n + 1) (map tree_of us)) && closes k (after k g s m) (tree_of t)) (count_on n (length us)))
+      ∙ (sym (and_assoc (closes k (after k g s n) (tree_of u)) (close_firsts k g s (n + 1) (map tree_of us))
+      (closes k (after k g s ((n + 1) + length us)) (tree_of t)))
+      ∙ ap (λ m. (closes k (after k g s n) (tree_of u) && close_firsts k g s (n + 1) (map tree_of us)) && closes k (after k g s m) (tree_of t))
+      (count_on n (length us)))
     where
       counted : (n m c : ℕ) → n + (suc m + 1) ≡ c → (n + 1) + (m + 1) ≡ c
       counted n m c e = omega arith
@@ -71,13 +76,18 @@ whole ts x some at =
     ∙ (take_more ts (length ts - 1) x (omega arith) ∙ ap (λ y. take (length ts - 1) ts ++ y ∷ []) (sym at))
 
 -- a step whose last choice goes on
-module _ (k : Theory) (g : Graph) (s : Step) (ts slice : List Closed) (x : Closed) (given : slice ≡ ts) (some : 1 ≤ length slice) (at : x ≡ get_or slice (length slice - 1) x) where
-  pub last_left : (t : Closed) → t ≡ closed.Step s ts → applies k g s ≡ true → choices g s ≡ length ts → closes k g (tree_of t) ≡ (close_firsts k g s 0 (map tree_of (take (length slice - 1) slice)) && closes k (after k g s (length (take (length slice - 1) slice))) (tree_of x))
+module _ (k : Theory) (g : Graph) (s : Step) (ts slice : List Closed) (x : Closed) (given : slice ≡ ts) (some : 1 ≤ length slice)
+    (at : x ≡ get_or slice (length slice - 1) x) where
+  pub last_left : (t : Closed) → t ≡ closed.Step s ts → applies k g s ≡ true → choices g s ≡ length ts
+      → closes k g (tree_of t) ≡ (close_firsts k g s 0 (map tree_of (take (length slice - 1) slice))
+      && closes k (after k g s (length (take (length slice - 1) slice))) (tree_of x))
   last_left t e is count =
       step_begins k g t s ts slice e given is
       ∙ (ap (close_left k g s 0) (whole slice x some at)
-      ∙ (last_decides k g s 0 (take (length slice - 1) slice) x (counted (length slice) (length (take (length slice - 1) slice)) (choices g s) some firsts (count ∙ ap length (sym given)))
-      ∙ ap (λ n. close_firsts k g s 0 (map tree_of (take (length slice - 1) slice)) && closes k (after k g s n) (tree_of x)) (zero-add (length (take (length slice - 1) slice)))))
+      ∙ (last_decides k g s 0 (take (length slice - 1) slice) x
+      (counted (length slice) (length (take (length slice - 1) slice)) (choices g s) some firsts (count ∙ ap length (sym given)))
+      ∙ ap (λ n. close_firsts k g s 0 (map tree_of (take (length slice - 1) slice)) && closes k (after k g s n) (tree_of x))
+      (zero-add (length (take (length slice - 1) slice)))))
     where
       firsts : length (take (length slice - 1) slice) ≡ length slice - 1
       firsts = length-take-le (length slice - 1) slice (omega arith)

@@ -1,4 +1,4 @@
--- The choices of a step before its last one.
+-- The choices of a step before its last one. Only private calls speak of it.
 use Rattle.std.specs.Prelude.{ℕ, ◌≡◌, ◌≤◌, ◌+◌, ◌&&◌, Bool, true, List, [], ◌∷◌}
 use Rattle.logic_terms.specs.Theory.{Theory}
 use Rattle.tableau_rules.specs.declared.step.Step.{Step}

@@ -60,7 +60,8 @@ fn follow<'a>(
     b: &mut Branch,
     closed: &'a Closed,
 ) -> Result<Option<&'a Closed>, Memory>
-    ensures { IfOk result (λ found. MatchOption found (closes (theory_of k.now) (graph_of b.old) (tree_of closed.now) ≡ false) (λ t. Follows (theory_of k.now) (graph_of b.old) closed.now (graph_of b.new) t.now)) }
+    ensures { IfOk result (λ found. MatchOption found (closes (theory_of k.now) (graph_of b.old) (tree_of closed.now) ≡ false)
+        (λ t. Follows (theory_of k.now) (graph_of b.old) closed.now (graph_of b.new) t.now)) }
 {
     let mut tree = closed;
     while let Some((step, next)) = only_subtree(tree) {

@@ -1,9 +1,10 @@
 -- That no fault holds, from tests that compute: rule by rule, and for left recursion by a rank of each category.
-use Rattle.std.proofs.Common.{◌≡◌, ℕ, zero, suc, ◌+◌, ◌-◌, ◌<◌, Bool, true, false, ltb, eqb, not, ◌&&◌, ◌||◌, List, [], ◌∷◌, length, get_or, take, refl, sym, ap, ◌∙◌, subst, arith, inl, inr}
+use Rattle.std.proofs.Common.{◌≡◌, ℕ, zero, suc, ◌+◌, ◌-◌, ◌<◌, Bool, true, false, ltb, eqb, not, ◌&&◌, ◌||◌, List, [], ◌∷◌, length, get_or, take, refl, ◌∙◌, subst, arith, inl, inr}
 use Rattle.std.specs.Prelude.{slice_get}
 use Rattle.std.specs.List.{list_all, list_any}
 use Rattle.std.specs.Option.{option_map_or}
-use Rattle.std.proofs.lemmas.Bool.{both_ways, cases_Bool, or_parts, or_cases, or_left, or_right, and_parts, and_from, or_from, and_right, ltb-true, eqb-true, not-true, not_from_true, true_from_ne_false}
+use Rattle.std.proofs.lemmas.Bool.{both_ways, or_parts, or_cases, and_parts, and_from, or_from, and_right, ltb-true, eqb-true, not_from_true}
+use Rattle.wiki_base.proofs.BoolLaws.{same_tests}
 use Rattle.codeco_terms.specs.declared.rules.Rule.{Rule}
 use Rattle.codeco_terms.specs.GrammarParts.{GrammarParts}
 use Rattle.codeco_checked.specs.declared.fault.GrammarFault.{GrammarFault}
@@ -70,7 +71,8 @@ step_falls g rank h from to step =
     let low : ltb (rank to) (rank r.head.name) ≡ true = subst (λ o. option_map_or (λ c. ltb (rank c) (rank r.head.name)) o true ≡ true) step.3 here in
     subst (λ n. rank to < rank n) step.2 (ltb-true (rank to) (rank r.head.name) low)
 
-leads_falls : (g : GrammarParts) (rank : ℕ → ℕ) → list_all (falls rank) g.rules ≡ true → (from : ℕ) (between : List ℕ) (to : ℕ) → Leads g from between to → rank to < rank from
+leads_falls : (g : GrammarParts) (rank : ℕ → ℕ) → list_all (falls rank) g.rules ≡ true → (from : ℕ) (between : List ℕ) (to : ℕ) → Leads g from between to
+    → rank to < rank from
 leads_falls g rank h from [] to leads = step_falls g rank h from to leads
 leads_falls g rank h from (c ∷ cs) to leads =
     let first = step_falls g rank h from c leads.0 in
@@ -84,28 +86,26 @@ not_recursive g rank h name loops =
 
 -- Kinds that fit all rules
 
-same_Bool : (a b : Bool) → (a ≡ true → b ≡ true) → (b ≡ true → a ≡ true) → a ≡ b
-same_Bool true b f g = sym (f refl)
-same_Bool false true f g = g refl
-same_Bool false false f g = refl
-
 -- one of two, where the first is not denied
 second_of : (a b : Bool) → (not a || b) ≡ true → a ≡ true → b ≡ true
 second_of true b h e = h
 second_of false b h e = absurd cc
 
-marked_is_mark : (kinds : List Kind) (rs : List Rule) (name : ℕ) → list_all (is_marked_right kinds) rs ≡ true → is_mark_in rs name ≡ true → is_mark (kind_in kinds name) ≡ true
+marked_is_mark : (kinds : List Kind) (rs : List Rule) (name : ℕ) → list_all (is_marked_right kinds) rs ≡ true → is_mark_in rs name ≡ true
+    → is_mark (kind_in kinds name) ≡ true
 marked_is_mark kinds [] name h e = absurd cc
 marked_is_mark kinds (r ∷ rs) name h e =
     let right = and_parts (is_marked_right kinds r) (list_all (is_marked_right kinds) rs) h in
     elim (or_cases (is_mark_rule r && eqb r.head.name name) (is_mark_in rs name) e) [
       | inl here ↦
           let parts = and_parts (is_mark_rule r) (eqb r.head.name name) here in
-          subst (λ n. is_mark (kind_in kinds n) ≡ true) (eqb-true r.head.name name parts.1) (second_of (is_mark_rule r) (is_mark (kind_in kinds r.head.name)) right.0 parts.0)
+          subst (λ n. is_mark (kind_in kinds n) ≡ true) (eqb-true r.head.name name parts.1)
+          (second_of (is_mark_rule r) (is_mark (kind_in kinds r.head.name)) right.0 parts.0)
       | inr others ↦ marked_is_mark kinds rs name right.1 others
     ]
 
-mark_is_marked : (rules : List Rule) (from : ℕ) (kinds : List Kind) (k : ℕ) → are_marks rules from kinds ≡ true → is_mark (kind_in kinds k) ≡ true → is_mark_in rules (from + k) ≡ true
+mark_is_marked : (rules : List Rule) (from : ℕ) (kinds : List Kind) (k : ℕ) → are_marks rules from kinds ≡ true → is_mark (kind_in kinds k) ≡ true
+    → is_mark_in rules (from + k) ≡ true
 mark_is_marked rules from [] k h e = absurd cc
 mark_is_marked rules from (l ∷ ls) zero h e =
     let parts = and_parts (not (is_mark l) || is_mark_in rules from) (are_marks rules (from + 1) ls) h in
@@ -125,7 +125,9 @@ all_taken p (x ∷ xs) (suc n) h =
 
 pub kinds_fit : (g : GrammarParts) (rank : ℕ → ℕ) (kinds : List Kind) → PassesTests g rank kinds → (n : ℕ) → FitKinds g.rules n (kind_in kinds)
 kinds_fit g rank kinds t n = record {
-  marks = λ name. same_Bool (is_mark (kind_in kinds name)) (is_mark_in g.rules name) (λ e. subst (λ m. is_mark_in g.rules m ≡ true) (omega arith) (mark_is_marked g.rules 0 kinds name t.marks e)) (marked_is_mark kinds g.rules name t.marked);
+  marks = λ name. same_tests (is_mark (kind_in kinds name)) (is_mark_in g.rules name)
+      (λ e. subst (λ m. is_mark_in g.rules m ≡ true) (omega arith) (mark_is_marked g.rules 0 kinds name t.marks e))
+      (marked_is_mark kinds g.rules name t.marked);
   text = t.text;
   fit = all_taken (fits_label (kind_in kinds)) g.rules n t.fit;
 }
@@ -141,7 +143,8 @@ no_misfit g rank kinds t n h =
 
 not_large : (g : GrammarParts) (rank : ℕ → ℕ) (kinds : List Kind) → PassesTests g rank kinds → (n : ℕ) → is_too_large g n ≡ false
 not_large g rank kinds t n =
-    or_from _ _ (or_from _ _ (or_from _ _ (and_right (eqb n 0) (has_large_declarations g) t.declarations) (and_right (eqb n 1) (has_broad_category g) t.broad)) (at_rule_none (is_large_rule g) g.rules n t.large)) (and_right (eqb n 501) (ltb 500 (length g.rules)) t.count)
+    or_from _ _ (or_from _ _ (or_from _ _ (and_right (eqb n 0) (has_large_declarations g) t.declarations) (and_right (eqb n 1) (has_broad_category g) t.broad))
+    (at_rule_none (is_large_rule g) g.rules n t.large)) (and_right (eqb n 501) (ltb 500 (length g.rules)) t.count)
 
 not_bad : (g : GrammarParts) (rank : ℕ → ℕ) (kinds : List Kind) → PassesTests g rank kinds → (n : ℕ) → is_bad_value g n ≡ false
 not_bad g rank kinds t n = or_from _ _ (and_right (eqb n 0) (has_double_declaration g) t.double) (at_rule_none (is_bad_rule g) g.rules n t.bad)

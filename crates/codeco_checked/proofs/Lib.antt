@@ -1,1 +1,2 @@
 pub mod FaultTests
+pub mod NumberingLemmas

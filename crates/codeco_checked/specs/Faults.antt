@@ -9,7 +9,7 @@ use Rattle.codeco_terms.specs.declared.values.Term.TheVariants.{Val, Var}
 use Rattle.codeco_terms.specs.declared.categories.Category.{Category}
 use Rattle.codeco_terms.specs.declared.categories.Pattern.{Pattern}
 use Rattle.codeco_terms.specs.declared.elements.Element.{Element}
-use Rattle.codeco_terms.specs.declared.elements.Element.TheVariants.{Terminal, Preterminal, Sub, Position, Opener, Forward, Strong, Back, NoBack}
+use Rattle.codeco_terms.specs.declared.elements.Element.TheVariants.{Terminal, Preterminal, Sub}
 use Rattle.codeco_terms.specs.declared.declarations.Declared.{Declared}
 use Rattle.codeco_terms.specs.declared.declarations.Declared.TheVariants as declared
 use Rattle.codeco_terms.specs.declared.rules.Rule.{Rule}
@@ -66,21 +66,10 @@ is_undeclared_rule g r = list_any (λ f. not (is_declared (values_of g f.0))) (r
 -- the same values, atoms as a set
 abbrev pub same_values : Declared → Declared → Bool
 same_values declared.Undeclared declared.Undeclared = true
-same_values declared.Undeclared declared.Words = false
-same_values declared.Undeclared declared.Positions = false
-same_values declared.Undeclared (declared.Atoms ys) = false
-same_values declared.Words declared.Undeclared = false
 same_values declared.Words declared.Words = true
-same_values declared.Words declared.Positions = false
-same_values declared.Words (declared.Atoms ys) = false
-same_values declared.Positions declared.Undeclared = false
-same_values declared.Positions declared.Words = false
 same_values declared.Positions declared.Positions = true
-same_values declared.Positions (declared.Atoms ys) = false
-same_values (declared.Atoms xs) declared.Undeclared = false
-same_values (declared.Atoms xs) declared.Words = false
-same_values (declared.Atoms xs) declared.Positions = false
 same_values (declared.Atoms xs) (declared.Atoms ys) = list_all (has ys) xs && list_all (has xs) ys
+same_values _ _ = false
 
 abbrev pub value_fits : Declared → Value → Bool
 value_fits d (Atom a) = has (declared_atoms d) a
@@ -88,12 +77,12 @@ value_fits d (Word w) = false
 value_fits d (Pos p) = false
 
 -- a variable, or an atom that is among the values
-abbrev pub term_fits : Declared → Term → Bool
-term_fits d (Val v) = value_fits d v
-term_fits d (Var x) = true
+abbrev pub fits_declared : Declared → Term → Bool
+fits_declared d (Val v) = value_fits d v
+fits_declared d (Var x) = true
 
 abbrev pub has_wrong_atom : GrammarParts → Rule → Bool
-has_wrong_atom g r = list_any (λ f. not (term_fits (values_of g f.0) f.1)) (rule_features r)
+has_wrong_atom g r = list_any (λ f. not (fits_declared (values_of g f.0) f.1)) (rule_features r)
 
 abbrev pub same_variable : Term → Term → Bool
 same_variable (Val v) u = false
@@ -101,11 +90,13 @@ same_variable (Var x) u = has (term_variables u) x
 
 -- a variable in two features of different values
 abbrev pub has_mixed_variable : GrammarParts → Rule → Bool
-has_mixed_variable g r = list_any (λ f. list_any (λ h. same_variable f.1 h.1 && not (same_values (values_of g f.0) (values_of g h.0))) (rule_features r)) (rule_features r)
+has_mixed_variable g r = list_any (λ f. list_any (λ h. same_variable f.1 h.1 && not (same_values (values_of g f.0) (values_of g h.0))) (rule_features r))
+    (rule_features r)
 
 -- #X where X stands in a feature that isn't of positions
 abbrev pub has_wrong_position : GrammarParts → Rule → Bool
-has_wrong_position g r = list_any (λ x. list_any (λ f. has (term_variables f.1) x && not (same_values (values_of g f.0) declared.Positions)) (rule_features r)) (flat_map positions r.body)
+has_wrong_position g r = list_any (λ x. list_any (λ f. has (term_variables f.1) x && not (same_values (values_of g f.0) declared.Positions)) (rule_features r))
+    (flat_map positions r.body)
 
 abbrev pub is_double : List ℕ → Bool
 is_double xs = nat_lt (count_different xs) (length xs)
@@ -116,22 +107,17 @@ has_double_feature r = list_any (λ c. is_double (map (λ f. f.0) c.feats)) (rul
 
 -- the features that the words of a kind give, by the number of the preterminal
 abbrev pub given_features : ℕ → List ℕ
-given_features name = if name == 0 then 3 ∷ [] else (if name == 1 then 0 ∷ 1 ∷ 3 ∷ [] else (if name == 2 then 1 ∷ 3 ∷ [] else (if name == 3 then 2 ∷ 3 ∷ [] else (if name == 4 then 3 ∷ [] else []))))
+given_features name = if name == 0 then 3 ∷ []
+    else (if name == 1 then 0 ∷ 1 ∷ 3 ∷ [] else (if name == 2 then 1 ∷ 3 ∷ [] else (if name == 3 then 2 ∷ 3 ∷ [] else (if name == 4 then 3 ∷ [] else []))))
 
 -- the values of the features that words give: num is sg or pl, vow yes or no, form third, inf or part, and w a word
 abbrev pub given_values : ℕ → Declared
-given_values f = if f == 0 then declared.Atoms (0 ∷ 1 ∷ []) else (if f == 1 then declared.Atoms (2 ∷ 3 ∷ []) else (if f == 2 then declared.Atoms (4 ∷ 5 ∷ 6 ∷ []) else declared.Words))
+given_values f = if f == 0 then declared.Atoms (0 ∷ 1 ∷ [])
+    else (if f == 1 then declared.Atoms (2 ∷ 3 ∷ []) else (if f == 2 then declared.Atoms (4 ∷ 5 ∷ 6 ∷ []) else declared.Words))
 
 abbrev pub preterminals : Element → List Category
-preterminals (Terminal t) = []
 preterminals (Preterminal c) = c ∷ []
-preterminals (Sub c) = []
-preterminals (Position x) = []
-preterminals Opener = []
-preterminals (Forward c) = []
-preterminals (Strong c) = []
-preterminals (Back ps ns) = []
-preterminals (NoBack ps) = []
+preterminals _ = []
 
 abbrev pub is_wrong_preterminal : GrammarParts → Category → Bool
 is_wrong_preterminal g c = list_any (λ f. not (has (given_features c.name) f.0 && same_values (values_of g f.0) (given_values f.0))) c.feats
@@ -157,12 +143,7 @@ abbrev pub is_phrase : Element → Bool
 is_phrase (Terminal t) = true
 is_phrase (Preterminal c) = true
 is_phrase (Sub c) = true
-is_phrase (Position x) = false
-is_phrase Opener = false
-is_phrase (Forward c) = false
-is_phrase (Strong c) = false
-is_phrase (Back ps ns) = false
-is_phrase (NoBack ps) = false
+is_phrase _ = false
 
 abbrev pub is_empty_rule : Rule → Bool
 is_empty_rule r = not (list_any is_phrase r.body)
@@ -170,15 +151,8 @@ is_empty_rule r = not (list_any is_phrase r.body)
 -- LeftRecursion
 
 abbrev pub sub_name : Element → Option ℕ
-sub_name (Terminal t) = None
-sub_name (Preterminal c) = None
 sub_name (Sub c) = Some c.name
-sub_name (Position x) = None
-sub_name Opener = None
-sub_name (Forward c) = None
-sub_name (Strong c) = None
-sub_name (Back ps ns) = None
-sub_name (NoBack ps) = None
+sub_name _ = None
 
 -- the category that stands first in a body, where special elements are passed over
 abbrev pub first_category : List Element → Option ℕ

@@ -1,9 +1,9 @@
 -- Labels of rules: what each asks of the rule that has it, and the kinds of phrases that fit the rules of a grammar.
-use Rattle.std.specs.Prelude.{◌≡◌, ℕ, ◌-◌, ◌<◌, ◌==◌, ◌⊎◌, if◌then◌else◌, Bool, true, false, not, ◌&&◌, ◌||◌, List, [], ◌∷◌, map, filter, flat_map, count_by, take, slice_get, Option, Some, None, is_some, IsTrue}
+use Rattle.std.specs.Prelude.{◌≡◌, ℕ, ◌-◌, ◌<◌, ◌==◌, ◌⊎◌, if◌then◌else◌, Bool, true, false, not, ◌&&◌, ◌||◌, List, [], ◌∷◌, map, filter, flat_map, count_by, take, slice_get, Some, is_some, IsTrue}
 use Rattle.std.specs.List.{list_all, list_any, filter_map}
 use Rattle.std.specs.Option.{option_map_or}
 use Rattle.codeco_terms.specs.declared.elements.Element.{Element}
-use Rattle.codeco_terms.specs.declared.elements.Element.TheVariants.{Terminal, Preterminal, Sub, Position, Opener, Forward, Strong, Back, NoBack}
+use Rattle.codeco_terms.specs.declared.elements.Element.TheVariants.{Terminal, Preterminal, Position, Opener, Forward, Strong, Back}
 use Rattle.codeco_terms.specs.declared.rules.Label.{Label}
 use Rattle.codeco_terms.specs.declared.rules.Label.TheVariants as label
 use Rattle.codeco_terms.specs.declared.rules.Rule.{Rule}
@@ -118,15 +118,8 @@ abbrev pub word_names : List Element → List ℕ
 word_names body = map (λ c. c.name) (flat_map preterminals body)
 
 abbrev pub is_word : Element → Bool
-is_word (Terminal t) = false
 is_word (Preterminal c) = true
-is_word (Sub c) = false
-is_word (Position x) = false
-is_word Opener = false
-is_word (Forward c) = false
-is_word (Strong c) = false
-is_word (Back ps ns) = false
-is_word (NoBack ps) = false
+is_word _ = false
 
 -- what stands behind the first word
 abbrev pub behind_word : List Element → List Element
@@ -134,38 +127,21 @@ behind_word [] = []
 behind_word (e ∷ es) = if is_word e then es else behind_word es
 
 abbrev pub is_introduction : Element → Bool
-is_introduction (Terminal t) = false
-is_introduction (Preterminal c) = false
-is_introduction (Sub c) = false
-is_introduction (Position x) = false
-is_introduction Opener = false
 is_introduction (Forward c) = true
 is_introduction (Strong c) = true
-is_introduction (Back ps ns) = false
-is_introduction (NoBack ps) = false
+is_introduction _ = false
 
 abbrev pub is_reference : Element → Bool
-is_reference (Terminal t) = false
-is_reference (Preterminal c) = false
-is_reference (Sub c) = false
-is_reference (Position x) = false
-is_reference Opener = false
-is_reference (Forward c) = false
-is_reference (Strong c) = false
 is_reference (Back ps ns) = true
-is_reference (NoBack ps) = false
+is_reference _ = false
 
 -- whether the elements up to and with this one end with a terminal or a word, where # and // are passed over
 abbrev pub ends_with_token : Bool → Element → Bool
 ends_with_token before (Terminal t) = true
 ends_with_token before (Preterminal c) = true
-ends_with_token before (Sub c) = false
 ends_with_token before (Position x) = before
 ends_with_token before Opener = before
-ends_with_token before (Forward c) = false
-ends_with_token before (Strong c) = false
-ends_with_token before (Back ps ns) = false
-ends_with_token before (NoBack ps) = false
+ends_with_token _ _ = false
 
 -- each referent is introduced right behind a terminal or a word
 abbrev pub introduces_behind_tokens : Bool → List Element → Bool
@@ -231,4 +207,5 @@ differs_from_first (first ∷ rules) r = if is_some first.label then not (is_som
 
 -- rule n has a label and rule 1 has none, or the other way round; or no kinds of the categories fit the first n rules
 abbrev pub IsMisfit : List Rule → ℕ → Type 0
-IsMisfit rules n = (r : Rule) × (0 < n) × (slice_get rules (n - 1) ≡ Some r) × (IsTrue (differs_from_first rules r) ⊎ ((kinds : ℕ → Kind) → FitKinds rules n kinds → ⊥))
+IsMisfit rules n = (r : Rule) × (0 < n) × (slice_get rules (n - 1) ≡ Some r)
+    × (IsTrue (differs_from_first rules r) ⊎ ((kinds : ℕ → Kind) → FitKinds rules n kinds → ⊥))

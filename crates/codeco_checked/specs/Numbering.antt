@@ -2,7 +2,7 @@
 use Rattle.std.specs.Prelude.{ℕ, ◌+◌, ◌==◌, nat_lt, if◌then◌else◌, Bool, true, false, not, ◌&&◌, List, [], ◌∷◌, length, map, flat_map, codes, drop, IsTrue}
 use Rattle.std.specs.List.{list_all, list_any}
 use Rattle.codeco_terms.specs.declared.declarations.Declared.{Declared}
-use Rattle.codeco_terms.specs.declared.declarations.Declared.TheVariants.{Undeclared, Words, Positions, Atoms}
+use Rattle.codeco_terms.specs.declared.declarations.Declared.TheVariants.{Undeclared, Atoms}
 use Rattle.codeco_terms.specs.declared.rules.Rule.{Rule}
 use Rattle.codeco_terms.specs.GrammarParts.{GrammarParts}
 use Rattle.codeco_text.specs.Names.{same_bytes, is_among}
@@ -39,10 +39,8 @@ abbrev pub first_atoms : List (List ℕ)
 first_atoms = codes "sg" ∷ codes "pl" ∷ codes "yes" ∷ codes "no" ∷ codes "third" ∷ codes "inf" ∷ codes "part" ∷ []
 
 abbrev pub declared_atoms : Declared → List ℕ
-declared_atoms Undeclared = []
-declared_atoms Words = []
-declared_atoms Positions = []
 declared_atoms (Atoms xs) = xs
+declared_atoms _ = []
 
 -- the atoms of all declarations, in the order of the features' numbers and of their places
 abbrev pub grammar_atoms : GrammarParts → List ℕ
@@ -57,9 +55,7 @@ grammar_terminals g = flat_map rule_terminals g.rules
 
 abbrev pub is_declared : Declared → Bool
 is_declared Undeclared = false
-is_declared Words = true
-is_declared Positions = true
-is_declared (Atoms xs) = true
+is_declared _ = true
 
 abbrev pub begins_with : List (List ℕ) → List (List ℕ) → Bool
 begins_with [] names = true

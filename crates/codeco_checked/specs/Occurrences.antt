@@ -5,7 +5,7 @@ use Rattle.codeco_terms.specs.declared.values.Term.TheVariants.{Val, Var}
 use Rattle.codeco_terms.specs.declared.categories.Category.{Category}
 use Rattle.codeco_terms.specs.declared.categories.Pattern.{Pattern}
 use Rattle.codeco_terms.specs.declared.elements.Element.{Element}
-use Rattle.codeco_terms.specs.declared.elements.Element.TheVariants.{Terminal, Preterminal, Sub, Position, Opener, Forward, Strong, Back, NoBack}
+use Rattle.codeco_terms.specs.declared.elements.Element.TheVariants.{Terminal, Preterminal, Sub, Position, Forward, Strong, Back, NoBack}
 use Rattle.codeco_terms.specs.declared.rules.Rule.{Rule}
 
 -- a feature with its term, put among others that stand in order of number, before the first of a greater number
@@ -24,15 +24,13 @@ whole p = record { name = p.cat.name; feats = with_taken p.cat.feats p.taken }
 
 -- the categories that an element writes
 abbrev pub mentions : Element → List Category
-mentions (Terminal t) = []
 mentions (Preterminal c) = c ∷ []
 mentions (Sub c) = c ∷ []
-mentions (Position x) = []
-mentions Opener = []
 mentions (Forward c) = c ∷ []
 mentions (Strong c) = c ∷ []
 mentions (Back ps ns) = map whole ps ++ map whole ns
 mentions (NoBack ps) = map whole ps
+mentions _ = []
 
 -- the categories that a rule writes, the head first
 abbrev pub rule_mentions : Rule → List Category
@@ -51,15 +49,8 @@ category_variables c = flat_map (λ f. term_variables f.1) c.feats
 
 -- the variables of #X
 abbrev pub positions : Element → List ℕ
-positions (Terminal t) = []
-positions (Preterminal c) = []
-positions (Sub c) = []
 positions (Position x) = x ∷ []
-positions Opener = []
-positions (Forward c) = []
-positions (Strong c) = []
-positions (Back ps ns) = []
-positions (NoBack ps) = []
+positions _ = []
 
 -- the variables that an element writes
 abbrev pub element_variables : Element → List ℕ
@@ -71,14 +62,7 @@ rule_variables r = category_variables r.head ++ flat_map element_variables r.bod
 
 abbrev pub element_terminals : Element → List ℕ
 element_terminals (Terminal t) = t ∷ []
-element_terminals (Preterminal c) = []
-element_terminals (Sub c) = []
-element_terminals (Position x) = []
-element_terminals Opener = []
-element_terminals (Forward c) = []
-element_terminals (Strong c) = []
-element_terminals (Back ps ns) = []
-element_terminals (NoBack ps) = []
+element_terminals _ = []
 
 -- the terminals that a rule writes
 abbrev pub rule_terminals : Rule → List ℕ
@@ -86,12 +70,6 @@ rule_terminals r = flat_map element_terminals r.body
 
 -- the patterns of an element
 abbrev pub patterns : Element → List Pattern
-patterns (Terminal t) = []
-patterns (Preterminal c) = []
-patterns (Sub c) = []
-patterns (Position x) = []
-patterns Opener = []
-patterns (Forward c) = []
-patterns (Strong c) = []
 patterns (Back ps ns) = ps ++ ns
 patterns (NoBack ps) = ps
+patterns _ = []

@@ -8,7 +8,7 @@ use Rattle.codeco_terms.specs.declared.values.Term.TheVariants.{Val, Var}
 use Rattle.codeco_terms.specs.declared.categories.Category.{Category}
 use Rattle.codeco_terms.specs.declared.categories.Pattern.{Pattern}
 use Rattle.codeco_terms.specs.declared.elements.Element.{Element}
-use Rattle.codeco_terms.specs.declared.elements.Element.TheVariants.{Terminal, Preterminal, Sub, Position, Opener, Forward, Strong, Back, NoBack}
+use Rattle.codeco_terms.specs.declared.elements.Element.TheVariants.{Preterminal, Sub, Forward, Strong, Back, NoBack}
 use Rattle.codeco_terms.specs.declared.declarations.Declared.{Declared}
 use Rattle.codeco_terms.specs.declared.declarations.Declared.TheVariants as declared
 use Rattle.codeco_terms.specs.declared.rules.Rule.{Rule}
@@ -68,25 +68,21 @@ abbrev pub is_plain_pattern : Pattern → Bool
 is_plain_pattern p = is_written_name p.cat && is_empty p.taken
 
 abbrev pub is_written_element : Element → Bool
-is_written_element (Terminal t) = true
 is_written_element (Preterminal c) = nat_lt c.name 5 && is_written c
 is_written_element (Sub c) = is_written_name c
-is_written_element (Position x) = true
-is_written_element Opener = true
 is_written_element (Forward c) = is_written_name c
 is_written_element (Strong c) = is_written_name c
 is_written_element (Back ps ns) = not (is_empty ps) && list_all is_written_pattern ps && list_all is_plain_pattern ns
 is_written_element (NoBack ps) = not (is_empty ps) && list_all is_plain_pattern ps
+is_written_element _ = true
 
 abbrev pub is_written_rule : Rule → Bool
 is_written_rule r = is_written_name r.head && list_all is_written_element r.body
 
 -- words, positions, or one atom or more
 abbrev pub has_values : Declared → Bool
-has_values declared.Undeclared = true
-has_values declared.Words = true
-has_values declared.Positions = true
 has_values (declared.Atoms xs) = not (is_empty xs)
+has_values _ = true
 
 -- The grammar has a text in the notation: the references have their patterns, marked features stand in positive patterns
 -- alone, values are atoms, preterminals have the names from 0 to 4 and other categories those from 5 on, features stand

@@ -109,103 +109,55 @@ fn introducing(heads: Heads, children: Children, words: Words) -> LabelRow
     }
 }
 
+fn referring(heads: Heads, children: Children, words: Words) -> LabelRow
+    ensures { result ≡ labels.referring heads children words }
+{
+    LabelRow {
+        heads,
+        children,
+        words,
+        introduces: false,
+        refers: true,
+    }
+}
+
 /// What a label asks of a rule.
 pub fn label_row(label: Label) -> LabelRow
     ensures { result ≡ labels.label_row label }
 {
+    use Children::{Alike, Maybe, One, Two, TwoAlike};
+    use Heads::{Clauses, Meanings, Only};
     use Kind::{Mark, NounBar, NounPhrase, Question, Sentence, Text, VerbPhrase};
     match label {
-        Label::Statement => row(Heads::Only(Text), Children::One(Sentence), Words::No),
-        Label::Ask => row(Heads::Only(Text), Children::One(Question), Words::No),
-        Label::If => row(
-            Heads::Only(Sentence),
-            Children::Two(Sentence, Sentence),
-            Words::No,
-        ),
-        Label::Say => row(
-            Heads::Only(Sentence),
-            Children::Two(NounPhrase, VerbPhrase),
-            Words::No,
-        ),
-        Label::And => row(Heads::Clauses, Children::TwoAlike, Words::No),
-        Label::Or => row(Heads::Clauses, Children::TwoAlike, Words::No),
-        Label::Pass => row(Heads::Meanings, Children::Alike, Words::No),
-        Label::Not => row(
-            Heads::Only(VerbPhrase),
-            Children::One(VerbPhrase),
-            Words::No,
-        ),
-        Label::Does => row(
-            Heads::Only(VerbPhrase),
-            Children::One(NounPhrase),
-            Words::Relation,
-        ),
-        Label::Done => row(
-            Heads::Only(VerbPhrase),
-            Children::One(NounPhrase),
-            Words::Verb,
-        ),
-        Label::Class => row(
-            Heads::Only(VerbPhrase),
-            Children::Maybe(VerbPhrase),
-            Words::Noun,
-        ),
-        Label::Top => row(Heads::Only(VerbPhrase), Children::No, Words::No),
-        Label::Same => row(
-            Heads::Only(VerbPhrase),
-            Children::One(NounPhrase),
-            Words::No,
-        ),
-        Label::Only => introducing(Heads::Only(VerbPhrase), Children::No, Words::VerbThenNoun),
-        Label::Gap => row(
-            Heads::Only(VerbPhrase),
-            Children::One(NounPhrase),
-            Words::Verb,
-        ),
-        Label::Name => introducing(Heads::Only(NounPhrase), Children::No, Words::Name),
-        Label::Refer => LabelRow {
-            heads: Heads::Only(NounPhrase),
-            children: Children::No,
-            words: Words::Any,
-            introduces: false,
-            refers: true,
-        },
-        Label::Var => introducing(Heads::Only(NounPhrase), Children::No, Words::No),
-        Label::Noun => introducing(
-            Heads::Only(NounBar),
-            Children::Maybe(VerbPhrase),
-            Words::Noun,
-        ),
-        Label::Part => introducing(Heads::Only(NounBar), Children::One(NounPhrase), Words::Of),
-        Label::Some => row(Heads::Only(NounPhrase), Children::One(NounBar), Words::No),
-        Label::Every => row(Heads::Only(NounPhrase), Children::One(NounBar), Words::No),
-        Label::No => row(Heads::Only(NounPhrase), Children::One(NounBar), Words::No),
-        Label::Something => introducing(
-            Heads::Only(NounPhrase),
-            Children::Maybe(VerbPhrase),
-            Words::No,
-        ),
-        Label::Everything => introducing(
-            Heads::Only(NounPhrase),
-            Children::Maybe(VerbPhrase),
-            Words::No,
-        ),
-        Label::Nothing => introducing(
-            Heads::Only(NounPhrase),
-            Children::Maybe(VerbPhrase),
-            Words::No,
-        ),
-        Label::What => introducing(Heads::Only(Question), Children::One(VerbPhrase), Words::No),
-        Label::Which => row(
-            Heads::Only(Question),
-            Children::Two(NounBar, VerbPhrase),
-            Words::No,
-        ),
-        Label::Whichobj => row(
-            Heads::Only(Question),
-            Children::Two(NounBar, NounPhrase),
-            Words::VerbBehind,
-        ),
-        Label::Mark => row(Heads::Only(Mark), Children::No, Words::No),
+        Label::Statement => row(Only(Text), One(Sentence), Words::No),
+        Label::Ask => row(Only(Text), One(Question), Words::No),
+        Label::If => row(Only(Sentence), Two(Sentence, Sentence), Words::No),
+        Label::Say => row(Only(Sentence), Two(NounPhrase, VerbPhrase), Words::No),
+        Label::And => row(Clauses, TwoAlike, Words::No),
+        Label::Or => row(Clauses, TwoAlike, Words::No),
+        Label::Pass => row(Meanings, Alike, Words::No),
+        Label::Not => row(Only(VerbPhrase), One(VerbPhrase), Words::No),
+        Label::Does => row(Only(VerbPhrase), One(NounPhrase), Words::Relation),
+        Label::Done => row(Only(VerbPhrase), One(NounPhrase), Words::Verb),
+        Label::Class => row(Only(VerbPhrase), Maybe(VerbPhrase), Words::Noun),
+        Label::Top => row(Only(VerbPhrase), Children::No, Words::No),
+        Label::Same => row(Only(VerbPhrase), One(NounPhrase), Words::No),
+        Label::Only => introducing(Only(VerbPhrase), Children::No, Words::VerbThenNoun),
+        Label::Gap => row(Only(VerbPhrase), One(NounPhrase), Words::Verb),
+        Label::Name => introducing(Only(NounPhrase), Children::No, Words::Name),
+        Label::Refer => referring(Only(NounPhrase), Children::No, Words::Any),
+        Label::Var => introducing(Only(NounPhrase), Children::No, Words::No),
+        Label::Noun => introducing(Only(NounBar), Maybe(VerbPhrase), Words::Noun),
+        Label::Part => introducing(Only(NounBar), One(NounPhrase), Words::Of),
+        Label::Some => row(Only(NounPhrase), One(NounBar), Words::No),
+        Label::Every => row(Only(NounPhrase), One(NounBar), Words::No),
+        Label::No => row(Only(NounPhrase), One(NounBar), Words::No),
+        Label::Something => introducing(Only(NounPhrase), Maybe(VerbPhrase), Words::No),
+        Label::Everything => introducing(Only(NounPhrase), Maybe(VerbPhrase), Words::No),
+        Label::Nothing => introducing(Only(NounPhrase), Maybe(VerbPhrase), Words::No),
+        Label::What => introducing(Only(Question), One(VerbPhrase), Words::No),
+        Label::Which => row(Only(Question), Two(NounBar, VerbPhrase), Words::No),
+        Label::Whichobj => row(Only(Question), Two(NounBar, NounPhrase), Words::VerbBehind),
+        Label::Mark => row(Only(Mark), Children::No, Words::No),
     }
 }

@@ -1,6 +1,7 @@
 -- What is allowed by both.
 use Rattle.std.proofs.Common.{◌≡◌, ℕ, Bool, true, false, eqb, not, ◌&&◌, cond, refl, sym, ap, ◌∙◌}
 use Rattle.std.proofs.lemmas.Bool.{eqb-true, eq-eqb, and_parts}
+use Rattle.std.proofs.Math.Bool.{and_comm}
 use Rattle.codeco_checked.specs.declared.labels.Kind.{Kind}
 use Rattle.codeco_checked.specs.declared.labels.Kind.TheVariants.{Text, Sentence, VerbPhrase, NounPhrase, NounBar, Question, Mark}
 use Rattle.codeco_checked.specs.declared.labels.Heads.{Heads}
@@ -13,17 +14,13 @@ use Rattle.codeco_labels.specs.Kinds.{allows, of_heads, of_mark, is_nothing, kee
 -- Kinds
 
 kind_of : ℕ → Kind
-kind_of n = cond (eqb n 0) Text (cond (eqb n 1) Sentence (cond (eqb n 2) VerbPhrase (cond (eqb n 3) NounPhrase (cond (eqb n 4) NounBar (cond (eqb n 5) Question Mark)))))
+kind_of n = cond (eqb n 0) Text (cond (eqb n 1) Sentence
+    (cond (eqb n 2) VerbPhrase (cond (eqb n 3) NounPhrase (cond (eqb n 4) NounBar (cond (eqb n 5) Question Mark)))))
 
 kind_back : (k : Kind) → kind_of (kind_number k) ≡ k
 unfolding kind_of
 kind_back Text = refl
-kind_back Sentence = refl
-kind_back VerbPhrase = refl
-kind_back NounPhrase = refl
-kind_back NounBar = refl
-kind_back Question = refl
-kind_back Mark = refl
+kind_back k = refl
 
 pub same_kind_is : (k l : Kind) → same_kind k l ≡ true → k ≡ l
 same_kind_is k l h = sym (kind_back k) ∙ ap kind_of (eqb-true (kind_number k) (kind_number l) h) ∙ kind_back l
@@ -43,7 +40,10 @@ same_Bool_is false false h = refl
 
 -- two tests give one answer for each kind
 abbrev agree : (Kind → Bool) → (Kind → Bool) → Bool
-agree f g = same_Bool (f Text) (g Text) && (same_Bool (f Sentence) (g Sentence) && (same_Bool (f VerbPhrase) (g VerbPhrase) && (same_Bool (f NounPhrase) (g NounPhrase) && (same_Bool (f NounBar) (g NounBar) && (same_Bool (f Question) (g Question) && same_Bool (f Mark) (g Mark))))))
+agree f g = same_Bool (f Text) (g Text) && (same_Bool (f Sentence) (g Sentence)
+    && (same_Bool (f VerbPhrase) (g VerbPhrase)
+    && (same_Bool (f NounPhrase) (g NounPhrase)
+    && (same_Bool (f NounBar) (g NounBar) && (same_Bool (f Question) (g Question) && same_Bool (f Mark) (g Mark))))))
 
 agree_at : (f g : Kind → Bool) → agree f g ≡ true → (k : Kind) → f k ≡ g k
 agree_at f g h k =
@@ -77,10 +77,6 @@ and_twice : (x : Bool) → x ≡ (x && x)
 and_twice true = refl
 and_twice false = refl
 
-and_turned : (x y : Bool) → (x && y) ≡ (y && x)
-and_turned true y = and_true y
-and_turned false y = and_false y
-
 and_same : (s x y : Bool) → (s ≡ true → x ≡ y) → (s && x) ≡ (s && y)
 and_same true x y h = h refl
 and_same false x y h = refl
@@ -98,17 +94,17 @@ pub meet_allows : (a b : Allowed) (k : Kind) → allows (meet a b) k ≡ (allows
 meet_allows NoMark NoMark k = and_twice (allows NoMark k)
 meet_allows NoMark Meanings k = agree_at (allows Meanings) (λ x. allows NoMark x && allows Meanings x) refl k
 meet_allows NoMark Clauses k = agree_at (allows Clauses) (λ x. allows NoMark x && allows Clauses x) refl k
-meet_allows NoMark (Only l) k = keep_allows NoMark l k ∙ and_turned (same_kind k l) (allows NoMark k)
+meet_allows NoMark (Only l) k = keep_allows NoMark l k ∙ and_comm (same_kind k l) (allows NoMark k)
 meet_allows NoMark Nothing k = and_false (allows NoMark k)
 meet_allows Meanings NoMark k = agree_at (allows Meanings) (λ x. allows Meanings x && allows NoMark x) refl k
 meet_allows Meanings Meanings k = and_twice (allows Meanings k)
 meet_allows Meanings Clauses k = agree_at (allows Clauses) (λ x. allows Meanings x && allows Clauses x) refl k
-meet_allows Meanings (Only l) k = keep_allows Meanings l k ∙ and_turned (same_kind k l) (allows Meanings k)
+meet_allows Meanings (Only l) k = keep_allows Meanings l k ∙ and_comm (same_kind k l) (allows Meanings k)
 meet_allows Meanings Nothing k = and_false (allows Meanings k)
 meet_allows Clauses NoMark k = agree_at (allows Clauses) (λ x. allows Clauses x && allows NoMark x) refl k
 meet_allows Clauses Meanings k = agree_at (allows Clauses) (λ x. allows Clauses x && allows Meanings x) refl k
 meet_allows Clauses Clauses k = and_twice (allows Clauses k)
-meet_allows Clauses (Only l) k = keep_allows Clauses l k ∙ and_turned (same_kind k l) (allows Clauses k)
+meet_allows Clauses (Only l) k = keep_allows Clauses l k ∙ and_comm (same_kind k l) (allows Clauses k)
 meet_allows Clauses Nothing k = and_false (allows Clauses k)
 meet_allows (Only l) b k = keep_allows b l k
 meet_allows Nothing b k = refl
@@ -126,11 +122,8 @@ pick_allowed (Only k) h = same_kind_from k k refl
 pick_allowed Nothing h = sym h
 
 pub something_allowed : (a : Allowed) (k : Kind) → allows a k ≡ true → is_nothing a ≡ false
-something_allowed NoMark k h = refl
-something_allowed Meanings k h = refl
-something_allowed Clauses k h = refl
-something_allowed (Only l) k h = refl
 something_allowed Nothing k h = sym h
+something_allowed a k h = refl
 
 pub of_mark_allows : (mark : Bool) (k : Kind) → allows (of_mark mark) k ≡ true → is_mark k ≡ mark
 of_mark_allows true k h = h

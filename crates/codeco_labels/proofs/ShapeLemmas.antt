@@ -37,7 +37,8 @@ pub words_run : (marks : List Bool) (s : Shape) (body : List Element) → (run m
 words_run marks s [] = refl
 words_run marks s (Terminal t ∷ es) = words_run marks (with_element marks s (Terminal t)) es
 words_run marks s (Preterminal c ∷ es) = words_run marks (with_element marks s (Preterminal c)) es
-words_run marks s (Sub c ∷ es) = words_run marks (with_element marks s (Sub c)) es ∙ ap (λ w. and_all w (word_names es)) (same (slice_index_or marks c.name false))
+words_run marks s (Sub c ∷ es) = words_run marks (with_element marks s (Sub c)) es
+    ∙ ap (λ w. and_all w (word_names es)) (same (slice_index_or marks c.name false))
   where
     same : (mark : Bool) → (with_child mark s c.name).words ≡ s.words
     same true = refl
@@ -55,7 +56,8 @@ children_run marks s (Terminal t ∷ es) = children_run marks (with_element mark
 children_run marks s (Preterminal c ∷ es) = children_run marks (with_element marks s (Preterminal c)) es
 children_run marks s (Sub c ∷ es) = children_run marks (with_element marks s (Sub c)) es ∙ one (slice_index_or marks c.name false)
   where
-    one : (mark : Bool) → and_all (with_child mark s c.name).children (meant marks es) ≡ and_all s.children (cond (not mark) (c.name ∷ meant marks es) (meant marks es))
+    one : (mark : Bool) → and_all (with_child mark s c.name).children (meant marks es)
+        ≡ and_all s.children (cond (not mark) (c.name ∷ meant marks es) (meant marks es))
     one true = refl
     one false = refl
 children_run marks s (Position x ∷ es) = children_run marks s es
@@ -71,7 +73,8 @@ and_joined : (x y z : Bool) → ((x && y) && z) ≡ (x && (y && z))
 and_joined true y z = refl
 and_joined false y z = refl
 
-pub behind_run : (marks : List Bool) (s : Shape) (body : List Element) → (run marks s body).behind_tokens ≡ (s.behind_tokens && introduces_behind_tokens s.after_token body)
+pub behind_run : (marks : List Bool) (s : Shape) (body : List Element)
+    → (run marks s body).behind_tokens ≡ (s.behind_tokens && introduces_behind_tokens s.after_token body)
 behind_run marks s [] = all s.behind_tokens
   where
     all : (x : Bool) → x ≡ (x && true)
@@ -81,13 +84,16 @@ behind_run marks s (Terminal t ∷ es) = behind_run marks (with_element marks s 
 behind_run marks s (Preterminal c ∷ es) = behind_run marks (with_element marks s (Preterminal c)) es
 behind_run marks s (Sub c ∷ es) = behind_run marks (with_element marks s (Sub c)) es ∙ one (slice_index_or marks c.name false)
   where
-    one : (mark : Bool) → ((with_child mark s c.name).behind_tokens && introduces_behind_tokens (with_child mark s c.name).after_token es) ≡ (s.behind_tokens && introduces_behind_tokens false es)
+    one : (mark : Bool) → ((with_child mark s c.name).behind_tokens && introduces_behind_tokens (with_child mark s c.name).after_token es)
+        ≡ (s.behind_tokens && introduces_behind_tokens false es)
     one true = refl
     one false = refl
 behind_run marks s (Position x ∷ es) = behind_run marks s es
 behind_run marks s (Opener ∷ es) = behind_run marks s es
-behind_run marks s (Forward c ∷ es) = behind_run marks (with_element marks s (Forward c)) es ∙ and_joined s.behind_tokens s.after_token (introduces_behind_tokens false es)
-behind_run marks s (Strong c ∷ es) = behind_run marks (with_element marks s (Strong c)) es ∙ and_joined s.behind_tokens s.after_token (introduces_behind_tokens false es)
+behind_run marks s (Forward c ∷ es) = behind_run marks (with_element marks s (Forward c)) es
+    ∙ and_joined s.behind_tokens s.after_token (introduces_behind_tokens false es)
+behind_run marks s (Strong c ∷ es) = behind_run marks (with_element marks s (Strong c)) es
+    ∙ and_joined s.behind_tokens s.after_token (introduces_behind_tokens false es)
 behind_run marks s (Back ps ns ∷ es) = behind_run marks (with_element marks s (Back ps ns)) es
 behind_run marks s (NoBack ps ∷ es) = behind_run marks (with_element marks s (NoBack ps)) es
 
@@ -146,7 +152,8 @@ count_end n = let same : n ≡ n + 0 = omega arith in ap times_of same
 count_one : (n m : ℕ) → times_of ((n + 1) + m) ≡ times_of (n + (1 + m))
 count_one n m = let same : (n + 1) + m ≡ n + (1 + m) = omega arith in ap times_of same
 
-introduced_run : (marks : List Bool) (s : Shape) (n : ℕ) (body : List Element) → s.introduced ≡ times_of n → (run marks s body).introduced ≡ times_of (n + tally is_introduction body)
+introduced_run : (marks : List Bool) (s : Shape) (n : ℕ) (body : List Element) → s.introduced ≡ times_of n
+    → (run marks s body).introduced ≡ times_of (n + tally is_introduction body)
 introduced_run marks s n [] e = e ∙ count_end n
 introduced_run marks s n (Terminal t ∷ es) e = introduced_run marks (with_element marks s (Terminal t)) n es e
 introduced_run marks s n (Preterminal c ∷ es) e = introduced_run marks (with_element marks s (Preterminal c)) n es e
@@ -157,12 +164,15 @@ introduced_run marks s n (Sub c ∷ es) e = introduced_run marks (with_element m
     same false = refl
 introduced_run marks s n (Position x ∷ es) e = introduced_run marks s n es e
 introduced_run marks s n (Opener ∷ es) e = introduced_run marks s n es e
-introduced_run marks s n (Forward c ∷ es) e = introduced_run marks (with_element marks s (Forward c)) (n + 1) es (ap once_more e ∙ times_more n) ∙ count_one n (tally is_introduction es)
-introduced_run marks s n (Strong c ∷ es) e = introduced_run marks (with_element marks s (Strong c)) (n + 1) es (ap once_more e ∙ times_more n) ∙ count_one n (tally is_introduction es)
+introduced_run marks s n (Forward c ∷ es) e =
+    introduced_run marks (with_element marks s (Forward c)) (n + 1) es (ap once_more e ∙ times_more n) ∙ count_one n (tally is_introduction es)
+introduced_run marks s n (Strong c ∷ es) e =
+    introduced_run marks (with_element marks s (Strong c)) (n + 1) es (ap once_more e ∙ times_more n) ∙ count_one n (tally is_introduction es)
 introduced_run marks s n (Back ps ns ∷ es) e = introduced_run marks (with_element marks s (Back ps ns)) n es e
 introduced_run marks s n (NoBack ps ∷ es) e = introduced_run marks (with_element marks s (NoBack ps)) n es e
 
-referred_run : (marks : List Bool) (s : Shape) (n : ℕ) (body : List Element) → s.referred ≡ times_of n → (run marks s body).referred ≡ times_of (n + tally is_reference body)
+referred_run : (marks : List Bool) (s : Shape) (n : ℕ) (body : List Element) → s.referred ≡ times_of n
+    → (run marks s body).referred ≡ times_of (n + tally is_reference body)
 referred_run marks s n [] e = e ∙ count_end n
 referred_run marks s n (Terminal t ∷ es) e = referred_run marks (with_element marks s (Terminal t)) n es e
 referred_run marks s n (Preterminal c ∷ es) e = referred_run marks (with_element marks s (Preterminal c)) n es e
@@ -175,17 +185,24 @@ referred_run marks s n (Position x ∷ es) e = referred_run marks s n es e
 referred_run marks s n (Opener ∷ es) e = referred_run marks s n es e
 referred_run marks s n (Forward c ∷ es) e = referred_run marks (with_element marks s (Forward c)) n es e
 referred_run marks s n (Strong c ∷ es) e = referred_run marks (with_element marks s (Strong c)) n es e
-referred_run marks s n (Back ps ns ∷ es) e = referred_run marks (with_element marks s (Back ps ns)) (n + 1) es (ap once_more e ∙ times_more n) ∙ count_one n (tally is_reference es)
+referred_run marks s n (Back ps ns ∷ es) e =
+    referred_run marks (with_element marks s (Back ps ns)) (n + 1) es (ap once_more e ∙ times_more n) ∙ count_one n (tally is_reference es)
 referred_run marks s n (NoBack ps ∷ es) e = referred_run marks (with_element marks s (NoBack ps)) n es e
 
 from_zero : (n : ℕ) → 0 + n ≡ n
 from_zero n = omega arith
 
-pub introduced_is : (marks : List Bool) (s : Shape) (body : List Element) (wanted : Bool) → s.introduced ≡ Never → is_times wanted (run marks s body).introduced ≡ eqb (count_by is_introduction body) (one_if wanted)
-introduced_is marks s body wanted e = ap (is_times wanted) (introduced_run marks s 0 body e ∙ ap times_of (from_zero (tally is_introduction body) ∙ tally_is is_introduction body)) ∙ is_times_of wanted (count_by is_introduction body)
+pub introduced_is : (marks : List Bool) (s : Shape) (body : List Element) (wanted : Bool) → s.introduced ≡ Never
+    → is_times wanted (run marks s body).introduced ≡ eqb (count_by is_introduction body) (one_if wanted)
+introduced_is marks s body wanted e = ap (is_times wanted)
+    (introduced_run marks s 0 body e ∙ ap times_of (from_zero (tally is_introduction body) ∙ tally_is is_introduction body))
+    ∙ is_times_of wanted (count_by is_introduction body)
 
-pub referred_is : (marks : List Bool) (s : Shape) (body : List Element) (wanted : Bool) → s.referred ≡ Never → is_times wanted (run marks s body).referred ≡ eqb (count_by is_reference body) (one_if wanted)
-referred_is marks s body wanted e = ap (is_times wanted) (referred_run marks s 0 body e ∙ ap times_of (from_zero (tally is_reference body) ∙ tally_is is_reference body)) ∙ is_times_of wanted (count_by is_reference body)
+pub referred_is : (marks : List Bool) (s : Shape) (body : List Element) (wanted : Bool) → s.referred ≡ Never
+    → is_times wanted (run marks s body).referred ≡ eqb (count_by is_reference body) (one_if wanted)
+referred_is marks s body wanted e = ap (is_times wanted)
+    (referred_run marks s 0 body e ∙ ap times_of (from_zero (tally is_reference body) ∙ tally_is is_reference body))
+    ∙ is_times_of wanted (count_by is_reference body)
 
 -- A child behind a word
 
@@ -199,7 +216,8 @@ and_one_some (One y) x = refl
 and_one_some (Two y z) x = refl
 and_one_some More x = refl
 
-late_run : (marks : List Bool) (s : Shape) (body : List Element) → (run marks s body).child_behind_word ≡ (s.child_behind_word || cond (is_no s.words) (some (meant marks (behind_word body))) (some (meant marks body)))
+late_run : (marks : List Bool) (s : Shape) (body : List Element)
+    → (run marks s body).child_behind_word ≡ (s.child_behind_word || cond (is_no s.words) (some (meant marks (behind_word body))) (some (meant marks body)))
 late_run marks s [] = none s.child_behind_word (is_no s.words)
   where
     none : (x b : Bool) → x ≡ (x || cond b false false)
@@ -208,7 +226,9 @@ late_run marks s [] = none s.child_behind_word (is_no s.words)
     none false false = refl
 late_run marks s (Terminal t ∷ es) = late_run marks (with_element marks s (Terminal t)) es
 late_run marks s (Preterminal c ∷ es) =
-    late_run marks (with_element marks s (Preterminal c)) es ∙ ap (λ b. s.child_behind_word || cond b (some (meant marks (behind_word es))) (some (meant marks es))) (and_one_some s.words c.name) ∙ ap (λ b. s.child_behind_word || b) (both (is_no s.words))
+    late_run marks (with_element marks s (Preterminal c)) es
+    ∙ ap (λ b. s.child_behind_word || cond b (some (meant marks (behind_word es))) (some (meant marks es))) (and_one_some s.words c.name)
+    ∙ ap (λ b. s.child_behind_word || b) (both (is_no s.words))
   where
     both : (b : Bool) → some (meant marks es) ≡ cond b (some (meant marks es)) (some (meant marks es))
     both true = refl
@@ -221,8 +241,10 @@ late_run marks s (Sub c ∷ es) = late_run marks (with_element marks s (Sub c)) 
     late false true y z = refl
     late false false y z = refl
 
-    one : (mark : Bool) → ((with_child mark s c.name).child_behind_word || cond (is_no (with_child mark s c.name).words) (some (meant marks (behind_word es))) (some (meant marks es)))
-        ≡ (s.child_behind_word || cond (is_no s.words) (some (meant marks (behind_word es))) (some (cond (not mark) (c.name ∷ meant marks es) (meant marks es))))
+    one : (mark : Bool) → ((with_child mark s c.name).child_behind_word
+        || cond (is_no (with_child mark s c.name).words) (some (meant marks (behind_word es))) (some (meant marks es)))
+        ≡ (s.child_behind_word || cond (is_no s.words) (some (meant marks (behind_word es)))
+        (some (cond (not mark) (c.name ∷ meant marks es) (meant marks es))))
     one true = refl
     one false = late s.child_behind_word (is_no s.words) (some (meant marks (behind_word es))) (some (meant marks es))
 late_run marks s (Position x ∷ es) = late_run marks s es
@@ -232,8 +254,10 @@ late_run marks s (Strong c ∷ es) = late_run marks (with_element marks s (Stron
 late_run marks s (Back ps ns ∷ es) = late_run marks (with_element marks s (Back ps ns)) es
 late_run marks s (NoBack ps ∷ es) = late_run marks (with_element marks s (NoBack ps)) es
 
-pub late_is : (marks : List Bool) (s : Shape) (body : List Element) → s.child_behind_word ≡ false → s.words ≡ No → (run marks s body).child_behind_word ≡ some (meant marks (behind_word body))
-late_is marks s body e w = late_run marks s body ∙ ap (λ b. b || cond (is_no s.words) (some (meant marks (behind_word body))) (some (meant marks body))) e ∙ ap (λ f. cond (is_no f) (some (meant marks (behind_word body))) (some (meant marks body))) w
+pub late_is : (marks : List Bool) (s : Shape) (body : List Element) → s.child_behind_word ≡ false → s.words ≡ No
+    → (run marks s body).child_behind_word ≡ some (meant marks (behind_word body))
+late_is marks s body e w = late_run marks s body ∙ ap (λ b. b || cond (is_no s.words) (some (meant marks (behind_word body))) (some (meant marks body))) e
+    ∙ ap (λ f. cond (is_no f) (some (meant marks (behind_word body))) (some (meant marks body))) w
 
 -- Names below a number
 
@@ -245,7 +269,8 @@ meant_below marks n (Sub c ∷ es) h =
     let parts = and_parts (ltb c.name n) (list_all (element_below n) es) h in
     one parts.0 (meant_below marks n es parts.1) (has_meaning marks c.name)
   where
-    one : ltb c.name n ≡ true → list_all (λ x. ltb x n) (meant marks es) ≡ true → (b : Bool) → list_all (λ x. ltb x n) (cond b (c.name ∷ meant marks es) (meant marks es)) ≡ true
+    one : ltb c.name n ≡ true → list_all (λ x. ltb x n) (meant marks es) ≡ true → (b : Bool)
+        → list_all (λ x. ltb x n) (cond b (c.name ∷ meant marks es) (meant marks es)) ≡ true
     one p q true = and_from (ltb c.name n) (list_all (λ x. ltb x n) (meant marks es)) p q
     one p q false = q
 meant_below marks n (Position x ∷ es) h = meant_below marks n es h

@@ -169,12 +169,17 @@ joined_narrows t new one other one_in other_in sizes size groups here there =
       alive = λ some. still_alive t new one other (meet a b) one_in other_in sizes size groups here there (not-true (is_nothing (meet a b)) some);
       only = λ kinds old test.
           let alike = same_kind_is (kinds other) (kinds one) test in
-          let allowed = both_allow a b (kinds one) (old.allowed one one_in) (ap (allows b) (sym alike) ∙ old.allowed other other_in) in
-          (not_from_false (is_nothing (meet a b)) (something_allowed (meet a b) (kinds one) allowed), meets_new t new one other (meet a b) one_in other_in sizes size groups here there kinds old alike allowed);
+          let allowed = both_allow a b (kinds one) (old.allowed one one_in) (ap (allows b) (sym alike) ∙ old.allowed other other_in) in (
+            not_from_false (is_nothing (meet a b)) (something_allowed (meet a b) (kinds one) allowed),
+            meets_new t new one other (meet a b) one_in other_in sizes size groups here there kinds old alike allowed,
+          );
       all = λ some kinds met.
           let of_kept : (k : Kind) → allows (meet a b) k ≡ true → allows a k ≡ true = λ k h. (each_allows a b k h).0 in
-          let of_gone : (k : Kind) → allows (meet a b) k ≡ true → allows b k ≡ true = λ k h. (each_allows a b k h).1 in
-          (meets_old t new one other (meet a b) one_in other_in sizes size groups here there kinds met of_kept of_gone, same_kind_from (kinds other) (kinds one) (now_alike t new one other (meet a b) one_in other_in sizes size groups here there kinds met of_kept of_gone));
+          let of_gone : (k : Kind) → allows (meet a b) k ≡ true → allows b k ≡ true = λ k h. (each_allows a b k h).1 in (
+            meets_old t new one other (meet a b) one_in other_in sizes size groups here there kinds met of_kept of_gone,
+            same_kind_from (kinds other) (kinds one)
+                (now_alike t new one other (meet a b) one_in other_in sizes size groups here there kinds met of_kept of_gone),
+          );
     }
 
 moved_self : (g h : ℕ) → g ≡ moved h h g
@@ -189,18 +194,23 @@ pub restricted_narrows : (t new : KindRows) (one : ℕ) (to : Allowed) → one <
 restricted_narrows t new one to one_in sizes same here there =
     let a : Allowed = allowed_at t one in
     let size : length new.groups ≡ length t.groups = ap length same in
-    let groups : (c : ℕ) → c < length t.groups → slice_index new.groups c ≡ moved (slice_index t.groups one) (slice_index t.groups one) (slice_index t.groups c) =
+    let groups : (c : ℕ) → c < length t.groups
+    → slice_index new.groups c ≡ moved (slice_index t.groups one) (slice_index t.groups one) (slice_index t.groups c) =
     λ c lt. ap (λ gs. slice_index gs c) same ∙ moved_self (slice_index t.groups c) (slice_index t.groups one) in
     record {
       size = size;
       whole = still_whole t new one one (meet a to) one_in one_in sizes size groups here there;
       alive = λ some. still_alive t new one one (meet a to) one_in one_in sizes size groups here there (not-true (is_nothing (meet a to)) some);
       only = λ kinds old test.
-          let allowed = both_allow a to (kinds one) (old.allowed one one_in) test in
-          (not_from_false (is_nothing (meet a to)) (something_allowed (meet a to) (kinds one) allowed), meets_new t new one one (meet a to) one_in one_in sizes size groups here there kinds old refl allowed);
+          let allowed = both_allow a to (kinds one) (old.allowed one one_in) test in (
+            not_from_false (is_nothing (meet a to)) (something_allowed (meet a to) (kinds one) allowed),
+            meets_new t new one one (meet a to) one_in one_in sizes size groups here there kinds old refl allowed,
+          );
       all = λ some kinds met.
-          let of_kept : (k : Kind) → allows (meet a to) k ≡ true → allows a k ≡ true = λ k h. (each_allows a to k h).0 in
-          (meets_old t new one one (meet a to) one_in one_in sizes size groups here there kinds met of_kept of_kept, (each_allows a to (kinds one) (now_allowed t new one one (meet a to) one_in one_in sizes size groups here there kinds met of_kept of_kept)).1);
+          let of_kept : (k : Kind) → allows (meet a to) k ≡ true → allows a k ≡ true = λ k h. (each_allows a to k h).0 in (
+            meets_old t new one one (meet a to) one_in one_in sizes size groups here there kinds met of_kept of_kept,
+            (each_allows a to (kinds one) (now_allowed t new one one (meet a to) one_in one_in sizes size groups here there kinds met of_kept of_kept)).1,
+          );
     }
 
 -- The same, as the code reads and writes.
@@ -210,14 +220,16 @@ pub restricted_written : (t new : KindRows) (one g : ℕ) (to a m : Allowed) (no
     → new.groups ≡ t.groups → new.allowed ≡ slice_set t.allowed g m → Narrows t new (not nothing) (λ kinds. allows to (kinds one))
 restricted_written t new one g to a m nothing whole one_in group read met none same written =
     let at_g : g ≡ slice_index t.groups one = get_or_read t.groups one g one_in group 0 in
-    let g_in : g < length t.allowed = subst (λ n. n < length t.allowed) (sym at_g) (subst (λ n. slice_index t.groups one < n) (sym whole.sized) (whole.inside one one_in)) in
+    let g_in : g < length t.allowed = subst (λ n. n < length t.allowed) (sym at_g)
+    (subst (λ n. slice_index t.groups one < n) (sym whole.sized) (whole.inside one one_in)) in
     let is_a : a ≡ allowed_at t one = get_or_read t.allowed g a g_in read Nothing ∙ ap (allowed_of t) at_g in
     let is_m : m ≡ meet (allowed_at t one) to = met ∙ ap (λ x. meet x to) is_a in
     let answer : not (is_nothing (meet (allowed_at t one) to)) ≡ not nothing = ap (λ x. not (is_nothing x)) (sym is_m) ∙ ap not (sym none) in
     subst (λ b. Narrows t new b (λ kinds. allows to (kinds one))) answer
     (restricted_narrows t new one to one_in
     (ap length written ∙ length-set t.allowed g m) same
-    (ap (λ al. slice_index_or al (slice_index t.groups one) Nothing) written ∙ ap (λ h. slice_index_or (slice_set t.allowed g m) h Nothing) (sym at_g) ∙ get_or-set_same t.allowed g m Nothing g_in ∙ is_m)
+    (ap (λ al. slice_index_or al (slice_index t.groups one) Nothing) written ∙ ap (λ h. slice_index_or (slice_set t.allowed g m) h Nothing) (sym at_g)
+    ∙ get_or-set_same t.allowed g m Nothing g_in ∙ is_m)
     (λ h ne. ap (λ al. slice_index_or al h Nothing) written ∙ get_or-set_other t.allowed g h m Nothing (λ e. ne (e ∙ at_g))))
 
 pub joined_written : (t new : KindRows) (one other g h : ℕ) (a b m : Allowed) (nothing : Bool) → IsWhole t → one < length t.groups → other < length t.groups
@@ -227,8 +239,10 @@ pub joined_written : (t new : KindRows) (one other g h : ℕ) (a b m : Allowed) 
 joined_written t new one other g h a b m nothing whole one_in other_in group gone read read_gone met none size moves written =
     let at_g : g ≡ slice_index t.groups one = get_or_read t.groups one g one_in group 0 in
     let at_h : h ≡ slice_index t.groups other = get_or_read t.groups other h other_in gone 0 in
-    let g_in : g < length t.allowed = subst (λ n. n < length t.allowed) (sym at_g) (subst (λ n. slice_index t.groups one < n) (sym whole.sized) (whole.inside one one_in)) in
-    let h_in : h < length t.allowed = subst (λ n. n < length t.allowed) (sym at_h) (subst (λ n. slice_index t.groups other < n) (sym whole.sized) (whole.inside other other_in)) in
+    let g_in : g < length t.allowed = subst (λ n. n < length t.allowed) (sym at_g)
+    (subst (λ n. slice_index t.groups one < n) (sym whole.sized) (whole.inside one one_in)) in
+    let h_in : h < length t.allowed = subst (λ n. n < length t.allowed) (sym at_h)
+    (subst (λ n. slice_index t.groups other < n) (sym whole.sized) (whole.inside other other_in)) in
     let is_a : a ≡ allowed_at t one = get_or_read t.allowed g a g_in read Nothing ∙ ap (allowed_of t) at_g in
     let is_b : b ≡ allowed_at t other = get_or_read t.allowed h b h_in read_gone Nothing ∙ ap (allowed_of t) at_h in
     let is_m : m ≡ meet (allowed_at t one) (allowed_at t other) = met ∙ ap (λ x. meet x b) is_a ∙ ap (meet (allowed_at t one)) is_b in
@@ -237,7 +251,8 @@ joined_written t new one other g h a b m nothing whole one_in other_in group gon
     (joined_narrows t new one other one_in other_in
     (ap length written ∙ length-set t.allowed g m) size
     (λ c lt. moves c lt ∙ ap (λ x. moved x g (slice_index t.groups c)) at_h ∙ ap (λ x. moved (slice_index t.groups other) x (slice_index t.groups c)) at_g)
-    (ap (λ al. slice_index_or al (slice_index t.groups one) Nothing) written ∙ ap (λ x. slice_index_or (slice_set t.allowed g m) x Nothing) (sym at_g) ∙ get_or-set_same t.allowed g m Nothing g_in ∙ is_m)
+    (ap (λ al. slice_index_or al (slice_index t.groups one) Nothing) written ∙ ap (λ x. slice_index_or (slice_set t.allowed g m) x Nothing) (sym at_g)
+    ∙ get_or-set_same t.allowed g m Nothing g_in ∙ is_m)
     (λ x ne. ap (λ al. slice_index_or al x Nothing) written ∙ get_or-set_other t.allowed g x m Nothing (λ e. ne (e ∙ at_g))))
 
 -- Steps one behind the other
@@ -253,7 +268,8 @@ unchanged_narrows t answer test same = record {
 }
 
 -- the same test in other words
-pub same_narrows : (t new : KindRows) (answer : Bool) (p q : (ℕ → Kind) → Bool) → ((kinds : ℕ → Kind) → p kinds ≡ q kinds) → Narrows t new answer p → Narrows t new answer q
+pub same_narrows : (t new : KindRows) (answer : Bool) (p q : (ℕ → Kind) → Bool) → ((kinds : ℕ → Kind) → p kinds ≡ q kinds) → Narrows t new answer p
+    → Narrows t new answer q
 same_narrows t new answer p q same n = record {
   size = n.size;
   whole = n.whole;
@@ -263,7 +279,8 @@ same_narrows t new answer p q same n = record {
 }
 
 -- the first step says no
-pub refused_narrows : (t new : KindRows) (p q : (ℕ → Kind) → Bool) (first : Bool) → first ≡ false → Narrows t new first p → Narrows t new false (λ kinds. p kinds && q kinds)
+pub refused_narrows : (t new : KindRows) (p q : (ℕ → Kind) → Bool) (first : Bool) → first ≡ false → Narrows t new first p
+    → Narrows t new false (λ kinds. p kinds && q kinds)
 refused_narrows t new p q first e n = record {
   size = n.size;
   whole = n.whole;
@@ -276,7 +293,8 @@ refused_narrows t new p q first e n = record {
 }
 
 -- the first step says yes, and then the second decides
-pub then_narrows : (t mid new : KindRows) (p q : (ℕ → Kind) → Bool) (first answer : Bool) → first ≡ true → Narrows t mid first p → Narrows mid new answer q → Narrows t new answer (λ kinds. p kinds && q kinds)
+pub then_narrows : (t mid new : KindRows) (p q : (ℕ → Kind) → Bool) (first answer : Bool) → first ≡ true → Narrows t mid first p → Narrows mid new answer q
+    → Narrows t new answer (λ kinds. p kinds && q kinds)
 then_narrows t mid new p q first answer e n m = record {
   size = m.size ∙ n.size;
   whole = λ w. m.whole (n.whole w);
@@ -292,18 +310,24 @@ then_narrows t mid new p q first answer e n m = record {
 
 -- Rows: what a body has, then the head, then the children
 
-row_test : (row : LabelRow) (head : ℕ) (s : Shape) (a : Allowed) → has_shape row s ≡ true → a ≡ of_heads row.heads → (kinds : ℕ → Kind) → (allows a (kinds head) && children_have row.children head kinds s.children) ≡ row_holds row head s kinds
+row_test : (row : LabelRow) (head : ℕ) (s : Shape) (a : Allowed) → has_shape row s ≡ true → a ≡ of_heads row.heads → (kinds : ℕ → Kind)
+    → (allows a (kinds head) && children_have row.children head kinds s.children) ≡ row_holds row head s kinds
 row_test row head s a has is kinds =
     ap (λ b. allows b (kinds head) && children_have row.children head kinds s.children) is
     ∙ ap (λ b. b && children_have row.children head kinds s.children) (of_heads_allows row.heads (kinds head))
     ∙ ap (λ b. b && (head_fits row.heads (kinds head) && children_have row.children head kinds s.children)) (sym has)
 
-pub fit_refused : (t new : KindRows) (row : LabelRow) (head : ℕ) (s : Shape) (a : Allowed) (first : Bool) → has_shape row s ≡ true → a ≡ of_heads row.heads → first ≡ false → Narrows t new first (λ kinds. allows a (kinds head)) → Narrows t new false (row_holds row head s)
+pub fit_refused : (t new : KindRows) (row : LabelRow) (head : ℕ) (s : Shape) (a : Allowed) (first : Bool) → has_shape row s ≡ true → a ≡ of_heads row.heads
+    → first ≡ false → Narrows t new first (λ kinds. allows a (kinds head)) → Narrows t new false (row_holds row head s)
 fit_refused t new row head s a first has is refused n =
-    same_narrows t new false (λ kinds. allows a (kinds head) && children_have row.children head kinds s.children) (row_holds row head s) (row_test row head s a has is)
+    same_narrows t new false (λ kinds. allows a (kinds head) && children_have row.children head kinds s.children) (row_holds row head s)
+    (row_test row head s a has is)
     (refused_narrows t new (λ kinds. allows a (kinds head)) (λ kinds. children_have row.children head kinds s.children) first refused n)
 
-pub fit_then : (t mid new : KindRows) (row : LabelRow) (head : ℕ) (s : Shape) (a : Allowed) (first answer : Bool) → has_shape row s ≡ true → a ≡ of_heads row.heads → first ≡ true → Narrows t mid first (λ kinds. allows a (kinds head)) → Narrows mid new answer (λ kinds. children_have row.children head kinds s.children) → Narrows t new answer (row_holds row head s)
+pub fit_then : (t mid new : KindRows) (row : LabelRow) (head : ℕ) (s : Shape) (a : Allowed) (first answer : Bool) → has_shape row s ≡ true
+    → a ≡ of_heads row.heads → first ≡ true → Narrows t mid first (λ kinds. allows a (kinds head))
+    → Narrows mid new answer (λ kinds. children_have row.children head kinds s.children) → Narrows t new answer (row_holds row head s)
 fit_then t mid new row head s a first answer has is accepted n m =
-    same_narrows t new answer (λ kinds. allows a (kinds head) && children_have row.children head kinds s.children) (row_holds row head s) (row_test row head s a has is)
+    same_narrows t new answer (λ kinds. allows a (kinds head) && children_have row.children head kinds s.children) (row_holds row head s)
+    (row_test row head s a has is)
     (then_narrows t mid new (λ kinds. allows a (kinds head)) (λ kinds. children_have row.children head kinds s.children) first answer accepted n m)

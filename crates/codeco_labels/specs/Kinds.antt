@@ -1,5 +1,5 @@
--- The kinds that a category may still have, by what is known of it.
-use Rattle.std.specs.Prelude.{ℕ, if◌then◌else◌, Bool, true, false, not}
+-- The kinds that a category may still have, by what is known of it. Only private calls speak of it.
+use Rattle.std.specs.Prelude.{if◌then◌else◌, Bool, true, false, not}
 use Rattle.codeco_checked.specs.declared.labels.Kind.{Kind}
 use Rattle.codeco_checked.specs.declared.labels.Kind.TheVariants.{Sentence, Mark}
 use Rattle.codeco_checked.specs.declared.labels.Heads.{Heads}
@@ -25,11 +25,8 @@ abbrev pub of_mark : Bool → Allowed
 of_mark mark = if mark then Only Mark else NoMark
 
 abbrev pub is_nothing : Allowed → Bool
-is_nothing NoMark = false
-is_nothing Meanings = false
-is_nothing Clauses = false
-is_nothing (Only k) = false
 is_nothing Nothing = true
+is_nothing _ = false
 
 -- the one kind, where it is among them
 abbrev pub keep : Allowed → Kind → Allowed

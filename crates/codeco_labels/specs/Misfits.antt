@@ -10,7 +10,8 @@ use Rattle.codeco_labels.specs.Tables.{KindRows, Meets}
 
 -- the first place, from 0, of a rule that doesn't fit; or none where all do
 abbrev pub FirstMisfit : List Rule → Option ℕ → Type 0
-FirstMisfit rules found = MatchOption found ((n : ℕ) → IsMisfit rules n → ⊥) (λ place. IsMisfit rules (place + 1) × ((n : ℕ) → n ≤ place → IsMisfit rules n → ⊥))
+FirstMisfit rules found = MatchOption found ((n : ℕ) → IsMisfit rules n → ⊥)
+    (λ place. IsMisfit rules (place + 1) × ((n : ℕ) → n ≤ place → IsMisfit rules n → ⊥))
 
 -- the set has exactly the categories that are marks
 abbrev pub AreMarks : List Rule → List Bool → Type 0

@@ -1,4 +1,4 @@
--- What of a body matters to its rule's label.
+-- What of a body matters to its rule's label. Only private calls speak of it.
 use Rattle.std.specs.Prelude.{ℕ, ◌==◌, nat_lt, if◌then◌else◌, Bool, true, false, not, ◌&&◌, ◌||◌, List, slice_index_or, Option, Some, None, fold}
 use Rattle.std.specs.List.{list_all}
 use Rattle.std.specs.Option.{option_map_or}
@@ -33,23 +33,17 @@ once_more Often = Often
 
 abbrev pub is_no : Found → Bool
 is_no No = true
-is_no (One x) = false
-is_no (Two x y) = false
-is_no More = false
+is_no _ = false
 
 -- the one, where there is one
 abbrev pub one_of : Found → Option ℕ
-one_of No = None
 one_of (One x) = Some x
-one_of (Two x y) = None
-one_of More = None
+one_of _ = None
 
 -- the two, where there are two
 abbrev pub two_of : Found → Option (ℕ × ℕ)
-two_of No = None
-two_of (One x) = None
 two_of (Two x y) = Some (x, y)
-two_of More = None
+two_of _ = None
 
 -- once, or never
 abbrev pub is_times : Bool → Times → Bool
@@ -111,7 +105,8 @@ children_have (child.One k) head kinds found = option_map_or (λ c. same_kind (k
 children_have (child.Maybe k) head kinds found = is_no found || option_map_or (λ c. same_kind (kinds c) k) (one_of found) false
 children_have (child.Two k l) head kinds found = option_map_or (λ p. same_kind (kinds p.0) k && same_kind (kinds p.1) l) (two_of found) false
 children_have child.Alike head kinds found = option_map_or (λ c. same_kind (kinds c) (kinds head)) (one_of found) false
-children_have child.TwoAlike head kinds found = option_map_or (λ p. same_kind (kinds p.0) (kinds head) && same_kind (kinds p.1) (kinds head)) (two_of found) false
+children_have child.TwoAlike head kinds found =
+    option_map_or (λ p. same_kind (kinds p.0) (kinds head) && same_kind (kinds p.1) (kinds head)) (two_of found) false
 
 -- the rule has all that a row asks for
 abbrev pub row_holds : LabelRow → ℕ → Shape → (ℕ → Kind) → Bool

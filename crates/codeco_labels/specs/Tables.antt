@@ -1,4 +1,4 @@
--- Categories in groups, where those of one group have one kind, and what each group may be.
+-- Categories in groups, where those of one group have one kind, and what each group may be. Only private calls speak of it.
 use Rattle.std.specs.Prelude.{◌≡◌, ℕ, ◌<◌, ◌==◌, if◌then◌else◌, Bool, true, false, List, length, slice_index, slice_index_or}
 use Rattle.codeco_checked.specs.declared.labels.Kind.{Kind}
 use Rattle.codeco_labels.specs.declared.allowed.Allowed.{Allowed}

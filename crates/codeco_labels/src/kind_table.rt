@@ -50,8 +50,10 @@ impl KindTable {
         ensures size { IfOk result (λ table. length table.groups ≡ length marks.now) }
         ensures whole { IfOk result (λ table. IsWhole table) }
         ensures alive { IfOk result (λ table. IsAlive table) }
-        ensures meets { IfOk result (λ table. (kinds : ℕ → Kind) → ((c : ℕ) → labels.is_mark (kinds c) ≡ slice_index_or marks.now c false) → Meets table kinds) }
-        ensures marks { IfOk result (λ table. (kinds : ℕ → Kind) → Meets table kinds → (c : ℕ) → c < length marks.now → labels.is_mark (kinds c) ≡ slice_index_or marks.now c false) }
+        ensures meets { IfOk result (λ table. (kinds : ℕ → Kind) → ((c : ℕ) → labels.is_mark (kinds c) ≡ slice_index_or marks.now c false)
+            → Meets table kinds) }
+        ensures marks { IfOk result (λ table. (kinds : ℕ → Kind) → Meets table kinds → (c : ℕ) → c < length marks.now
+            → labels.is_mark (kinds c) ≡ slice_index_or marks.now c false) }
     {
         let mut groups = Vec::new(alloc);
         let mut allowed = Vec::new(alloc);

@@ -18,7 +18,8 @@ pointwise_same (x ∷ xs) (y ∷ ys) = λ i. eqb x y && pointwise_same xs ys i
 
 pub number_most : (names : List (List ℕ)) (w : List ℕ) → number_of names w ≤ length names
 number_most [] w = omega arith
-number_most (x ∷ xs) w = let rest = number_most xs w in elim (same_bytes w x) as (λ b. cond b 0 (number_of xs w + 1) ≤ length (x ∷ xs)) [ true ↦ omega arith | false ↦ omega arith ]
+number_most (x ∷ xs) w = let rest = number_most xs w in
+    elim (same_bytes w x) as (λ b. cond b 0 (number_of xs w + 1) ≤ length (x ∷ xs)) [ true ↦ omega arith | false ↦ omega arith ]
 
 module _ {X : Type 0} (bytes : X → List ℕ) (w : List ℕ) where
   pub any_among : (keys : List X) → list_any (λ k. pointwise nat_eq w (bytes k)) keys ≡ is_among (map bytes keys) w
@@ -29,7 +30,8 @@ module _ {X : Type 0} (bytes : X → List ℕ) (w : List ℕ) where
   place_number [] = refl
   place_number (k ∷ ks) =
       ap (λ b. cond (not b) (1 + position_or_len (λ x. pointwise nat_eq w (bytes x)) ks) 0) (pointwise_same w (bytes k))
-      ∙ (let rest = place_number ks in elim (same_bytes w (bytes k)) as (λ b. cond (not b) (1 + position_or_len (λ x. pointwise nat_eq w (bytes x)) ks) 0 ≡ cond b 0 (number_of (map bytes ks) w + 1)) [ true ↦ refl | false ↦ omega arith ])
+      ∙ (let rest = place_number ks in elim (same_bytes w (bytes k)) as (λ b. cond (not b) (1 + position_or_len (λ x. pointwise nat_eq w (bytes x)) ks) 0
+      ≡ cond b 0 (number_of (map bytes ks) w + 1)) [ true ↦ refl | false ↦ omega arith ])
 
   -- the place that a set finds, or how many keys there are, is the number
   pub found_number : (keys : List X) → unwrap_or (position (λ k. pointwise nat_eq w (bytes k)) keys) (length keys) ≡ number_of (map bytes keys) w
@@ -37,13 +39,16 @@ module _ {X : Type 0} (bytes : X → List ℕ) (w : List ℕ) where
       let most = prefix_len-le-length (λ x. not (pointwise nat_eq w (bytes x))) keys in
       elim (cases_lt place (length keys)) [
         | inl lt ↦ ap (λ b. unwrap_or (cond b (Some place) None) (length keys)) (lt-ltb place (length keys) lt) ∙ place_number keys
-        | inr ge ↦ ap (λ b. unwrap_or (cond b (Some place) None) (length keys)) (le-ltb place (length keys) ge) ∙ (let e : length keys ≡ place = omega arith in e) ∙ place_number keys
+        | inr ge ↦ ap (λ b. unwrap_or (cond b (Some place) None) (length keys)) (le-ltb place (length keys) ge)
+            ∙ (let e : length keys ≡ place = omega arith in e) ∙ place_number keys
       ]
     where
       place : ℕ
       place = position_or_len (λ k. pointwise nat_eq w (bytes k)) keys
 
-  pub key_added : (keys : List X) (k : X) → bytes k ≡ w → map bytes (cond (list_any (λ x. pointwise nat_eq w (bytes x)) keys) keys (keys ++ k ∷ [])) ≡ cond (is_among (map bytes keys) w) (map bytes keys) (map bytes keys ++ w ∷ [])
+  pub key_added : (keys : List X) (k : X) → bytes k ≡ w
+      → map bytes (cond (list_any (λ x. pointwise nat_eq w (bytes x)) keys) keys (keys ++ k ∷ []))
+      ≡ cond (is_among (map bytes keys) w) (map bytes keys) (map bytes keys ++ w ∷ [])
   key_added keys k is = ap (λ b. map bytes (cond b keys (keys ++ k ∷ []))) (any_among keys) ∙ by (is_among (map bytes keys) w)
     where
       by : (b : Bool) → map bytes (cond b keys (keys ++ k ∷ [])) ≡ cond b (map bytes keys) (map bytes keys ++ w ∷ [])

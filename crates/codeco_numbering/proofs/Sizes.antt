@@ -8,14 +8,15 @@ use Rattle.codeco_checked.specs.Numbering.{differ}
 use Rattle.codeco_checked.specs.Faults.{count_texts}
 use Rattle.codeco_numbering.specs.Numbered.{gathered}
 use Rattle.codeco_numbering.proofs.Gathers.{gathered_append}
-use Rattle.codeco_numbering.proofs.SoundCounts.{length_gathered_all}
+use Rattle.codeco_numbering.proofs.Sound.Counts.{length_gathered_all}
 
 -- at most each word is gathered
 pub gathered_most : (names ws : List (List ℕ)) → length (gathered names ws) ≤ length names + length ws
 gathered_most names [] = omega arith
 gathered_most names (w ∷ ws) = by (is_among names w) (gathered_most names ws) (gathered_most (names ++ w ∷ []) ws)
   where
-    by : (b : Bool) → length (gathered names ws) ≤ length names + length ws → length (gathered (names ++ w ∷ []) ws) ≤ length (names ++ w ∷ []) + length ws → length (gathered (cond b names (names ++ w ∷ [])) ws) ≤ length names + length (w ∷ ws)
+    by : (b : Bool) → length (gathered names ws) ≤ length names + length ws → length (gathered (names ++ w ∷ []) ws) ≤ length (names ++ w ∷ []) + length ws
+        → length (gathered (cond b names (names ++ w ∷ [])) ws) ≤ length names + length (w ∷ ws)
     by true old new = omega arith
     by false old new = let e = length-append names (w ∷ []) in omega arith
 
@@ -30,7 +31,8 @@ count_behind (x ∷ xs) ys = by (is_among (xs ++ ys) x) (count_behind xs ys)
 -- behind names that were gathered, at most the different words are
 pub gathered_different : (names ws : List (List ℕ)) → gathered [] names ≡ names → length (gathered names ws) ≤ length names + count_texts ws
 gathered_different names ws own =
-    let all : length (gathered names ws) ≡ count_texts (names ++ ws) = ap (λ (ns : List (List ℕ)). length (gathered ns ws)) (sym own) ∙ ap length (sym (gathered_append [] names ws)) ∙ length_gathered_all (names ++ ws) in
+    let all : length (gathered names ws) ≡ count_texts (names ++ ws) =
+    ap (λ (ns : List (List ℕ)). length (gathered ns ws)) (sym own) ∙ ap length (sym (gathered_append [] names ws)) ∙ length_gathered_all (names ++ ws) in
     let most = count_behind names ws in
     omega arith
 
@@ -47,7 +49,8 @@ module _ {X : Type 0} (name : X → List ℕ) (p : X → Bool) where
   filter_among w [] h = h
   filter_among w (x ∷ xs) h = by (p x) h (filter_among w xs)
     where
-      by : (b : Bool) → is_among (map name (cond b (x ∷ filter p xs) (filter p xs))) w ≡ true → (is_among (map name (filter p xs)) w ≡ true → is_among (map name xs) w ≡ true) → is_among (map name (x ∷ xs)) w ≡ true
+      by : (b : Bool) → is_among (map name (cond b (x ∷ filter p xs) (filter p xs))) w ≡ true
+          → (is_among (map name (filter p xs)) w ≡ true → is_among (map name xs) w ≡ true) → is_among (map name (x ∷ xs)) w ≡ true
       by true h rest = elim (or_cases (same_bytes w (name x)) (is_among (map name (filter p xs)) w) h) [
         | inl e ↦ or_left (same_bytes w (name x)) (is_among (map name xs) w) e
         | inr e ↦ or_right (same_bytes w (name x)) (is_among (map name xs) w) (rest e)
@@ -60,10 +63,14 @@ module _ {X : Type 0} (name : X → List ℕ) (p : X → Bool) where
   filter_differ (x ∷ xs) h = by (p x) (filter_differ xs (and_parts (not (is_among (map name xs) (name x))) (differ (map name xs)) h).1)
     where
       new : is_among (map name (filter p xs)) (name x) ≡ false
-      new = false_from_ne_true (is_among (map name (filter p xs)) (name x)) (λ e. both_ways (is_among (map name xs) (name x)) (not-true (is_among (map name xs) (name x)) (and_parts (not (is_among (map name xs) (name x))) (differ (map name xs)) h).0) (filter_among (name x) xs e))
+      new = false_from_ne_true (is_among (map name (filter p xs)) (name x))
+          (λ e. both_ways (is_among (map name xs) (name x))
+          (not-true (is_among (map name xs) (name x)) (and_parts (not (is_among (map name xs) (name x))) (differ (map name xs)) h).0)
+          (filter_among (name x) xs e))
 
       by : (b : Bool) → differ (map name (filter p xs)) ≡ true → differ (map name (cond b (x ∷ filter p xs) (filter p xs))) ≡ true
-      by true rest = and_from (not (is_among (map name (filter p xs)) (name x))) (differ (map name (filter p xs))) (not_from_false (is_among (map name (filter p xs)) (name x)) new) rest
+      by true rest = and_from (not (is_among (map name (filter p xs)) (name x))) (differ (map name (filter p xs)))
+          (not_from_false (is_among (map name (filter p xs)) (name x)) new) rest
       by false rest = rest
 
 filter_all : {X : Type 0} (p : X → Bool) (xs : List X) → list_all p xs ≡ true → length (filter p xs) ≡ length xs

@@ -37,14 +37,7 @@ small_rule g r h =
 
 terminals_element : (e : WrittenElement) → length (written_terminals e) ≤ 1
 terminals_element (element.Terminal w) = omega arith
-terminals_element (element.Preterminal c) = omega arith
-terminals_element (element.Sub c) = omega arith
-terminals_element (element.Position w) = omega arith
-terminals_element element.Opener = omega arith
-terminals_element (element.Forward c) = omega arith
-terminals_element (element.Strong c) = omega arith
-terminals_element (element.Back ps ns) = omega arith
-terminals_element (element.NoBack ps) = omega arith
+terminals_element e = omega arith
 
 terminals_body : (es : List WrittenElement) → length (flat_map written_terminals es) ≤ length es
 terminals_body [] = omega arith
@@ -55,13 +48,6 @@ terminals_body (e ∷ es) =
     omega arith
 
 names_element : (t : Tables) (e : WrittenElement) → length (plain_categories e) ≤ 1 + length (patterns (numbered_element t e))
-names_element t (element.Terminal w) = omega arith
-names_element t (element.Preterminal c) = omega arith
-names_element t (element.Sub c) = omega arith
-names_element t (element.Position w) = omega arith
-names_element t element.Opener = omega arith
-names_element t (element.Forward c) = omega arith
-names_element t (element.Strong c) = omega arith
 names_element t (element.Back ps ns) =
     let a = length-append ps ns in
     let b = length-append (map (numbered_pattern t) ps) (map (numbered_pattern t) ns) in
@@ -69,8 +55,10 @@ names_element t (element.Back ps ns) =
     let d = length-map ns (numbered_pattern t) in
     omega arith
 names_element t (element.NoBack ps) = let c = length-map ps (numbered_pattern t) in omega arith
+names_element t e = omega arith
 
-names_body : (t : Tables) (es : List WrittenElement) → length (flat_map plain_categories es) ≤ length es + length (flat_map patterns (map (numbered_element t) es))
+names_body : (t : Tables) (es : List WrittenElement)
+    → length (flat_map plain_categories es) ≤ length es + length (flat_map patterns (map (numbered_element t) es))
 names_body t [] = omega arith
 names_body t (e ∷ es) =
     let one = names_element t e in
@@ -96,7 +84,8 @@ rule_names_few t r small =
     omega arith
 
 -- where each part has at most 33, all have at most 33 times their number
-pub parts_few : {X Y : Type 0} (F : X → List Y) (good : X → Bool) → ((x : X) → good x ≡ true → length (F x) ≤ 33) → (xs : List X) → list_all good xs ≡ true → length (flat_map F xs) ≤ 33 * length xs
+pub parts_few : {X Y : Type 0} (F : X → List Y) (good : X → Bool) → ((x : X) → good x ≡ true → length (F x) ≤ 33) → (xs : List X) → list_all good xs ≡ true
+    → length (flat_map F xs) ≤ 33 * length xs
 parts_few F good few [] h = omega arith
 parts_few F good few (x ∷ xs) h =
     let parts = and_parts (good x) (list_all good xs) h in

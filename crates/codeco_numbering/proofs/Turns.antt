@@ -1,20 +1,21 @@
 -- A loop's turn over a list.
-use Rattle.std.proofs.Common.{◌≡◌, ℕ, suc, ◌+◌, ◌<◌, List, [], ◌∷◌, ◌++◌, All, length, get_or, drop, sym, ap, ◌∙◌, append_assoc, arith, add-one, drop-cons}
+use Rattle.std.proofs.Common.{◌≡◌, ℕ, suc, ◌+◌, ◌<◌, List, [], ◌∷◌, ◌++◌, All, length, get_or, drop, sym, ap, ◌∙◌, append_assoc, arith}
 use Rattle.std.proofs.lemmas.List.Elements.{All-cons}
-
--- the first of what is left
-pub left_first : {X : Type 0} (xs : List X) (i : ℕ) (x : X) → i < length xs → x ≡ get_or xs i x → drop i xs ≡ x ∷ drop (i + 1) xs
-left_first {X} xs i x lt is = rw (add-one, drop-cons xs i x) (ap (λ (y : X). y ∷ drop (suc i) xs) (sym is))
+use Rattle.wiki_base.proofs.ListLaws.{drop_get_or}
 
 -- what was made, with what the rest makes, is the whole
-pub turn_by : {X Y : Type 0} (F : List X → List Y) (G : X → List Y) → ((x : X) (xs : List X) → F (x ∷ xs) ≡ G x ++ F xs) → (made next whole : List Y) (xs : List X) (i : ℕ) (x : X) → i < length xs → x ≡ get_or xs i x → made ++ F (drop i xs) ≡ whole → next ≡ made ++ G x → next ++ F (drop (i + 1) xs) ≡ whole
+pub turn_by : {X Y : Type 0} (F : List X → List Y) (G : X → List Y) → ((x : X) (xs : List X) → F (x ∷ xs) ≡ G x ++ F xs)
+    → (made next whole : List Y) (xs : List X) (i : ℕ) (x : X) → i < length xs → x ≡ get_or xs i x → made ++ F (drop i xs) ≡ whole → next ≡ made ++ G x
+    → next ++ F (drop (i + 1) xs) ≡ whole
 turn_by {X} {Y} F G split made next whole xs i x lt is before step =
     ap (λ (ys : List Y). ys ++ F (drop (i + 1) xs)) step
     ∙ append_assoc made (G x) (F (drop (i + 1) xs))
-    ∙ ap (λ (ys : List Y). made ++ ys) (sym (split x (drop (i + 1) xs)) ∙ ap F (sym (left_first xs i x lt is)))
+    ∙ ap (λ (ys : List Y). made ++ ys) (sym (split x (drop (i + 1) xs)) ∙ ap F (sym (drop_get_or xs i x lt is)))
     ∙ before
 
-pub turn : {X Y : Type 0} (F : List X → List Y) → ((x : X) (xs : List X) → F (x ∷ xs) ≡ F (x ∷ []) ++ F xs) → (made next whole : List Y) (xs : List X) (i : ℕ) (x : X) → i < length xs → x ≡ get_or xs i x → made ++ F (drop i xs) ≡ whole → next ≡ made ++ F (x ∷ []) → next ++ F (drop (i + 1) xs) ≡ whole
+pub turn : {X Y : Type 0} (F : List X → List Y) → ((x : X) (xs : List X) → F (x ∷ xs) ≡ F (x ∷ []) ++ F xs)
+    → (made next whole : List Y) (xs : List X) (i : ℕ) (x : X) → i < length xs → x ≡ get_or xs i x → made ++ F (drop i xs) ≡ whole → next ≡ made ++ F (x ∷ [])
+    → next ++ F (drop (i + 1) xs) ≡ whole
 turn F split = turn_by F (λ x. F (x ∷ [])) split
 
 -- what holds of all of two parts holds of all of each

@@ -1,8 +1,8 @@
--- What has to fit the number types.
+-- What has to fit the number types. Only private calls speak of it.
 use Rattle.std.specs.Prelude.{◌<◌, length}
 use Rattle.codeco_text.specs.declared.written.WrittenRule.{WrittenRule}
 use Rattle.codeco_numbering.specs.declared.tables.GrammarTables.{GrammarTables}
-use Rattle.codeco_numbering.specs.Numbered.{Tables, variables_of}
+use Rattle.codeco_numbering.specs.Numbered.{Tables, variable_names}
 
 -- each number that the tables give, and the number that follows, fits its type
 pub record HasRoom (t : Tables) : Type 0 where
@@ -14,4 +14,4 @@ pub record HasRoom (t : Tables) : Type 0 where
 
 -- the tables of a grammar, with the variables of a rule
 abbrev pub rule_tables : GrammarTables → WrittenRule → Tables
-rule_tables g r = record { features = g.features; atoms = g.atoms; terminals = g.terminals; categories = g.categories; variables = variables_of g.features r }
+rule_tables g r = record { features = g.features; atoms = g.atoms; terminals = g.terminals; categories = g.categories; variables = variable_names g.features r }

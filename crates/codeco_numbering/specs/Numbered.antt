@@ -57,7 +57,8 @@ is_open (Some d) = false
 -- with a declaration: at the feature of this name that has none yet, or else behind the others
 abbrev pub with_declaration : List NamedFeature → List ℕ → Domain → List NamedFeature
 with_declaration [] name d = record { name = name; domain = Some d } ∷ []
-with_declaration (f ∷ fs) name d = if same_bytes name f.name && is_open f.domain then record { name = name; domain = Some d } ∷ fs else f ∷ with_declaration fs name d
+with_declaration (f ∷ fs) name d = if same_bytes name f.name && is_open f.domain then record { name = name; domain = Some d } ∷ fs
+    else f ∷ with_declaration fs name d
 
 abbrev pub with_item : List NamedFeature → WrittenItem → List NamedFeature
 with_item fs (item.Feature name d) = with_declaration fs name d
@@ -68,15 +69,13 @@ with_items fs [] = fs
 with_items fs (i ∷ is) = with_items (with_item fs i) is
 
 abbrev pub element_categories : WrittenElement → List WrittenCategory
-element_categories (element.Terminal w) = []
 element_categories (element.Preterminal c) = c ∷ []
 element_categories (element.Sub c) = c ∷ []
-element_categories (element.Position w) = []
-element_categories element.Opener = []
 element_categories (element.Forward c) = c ∷ []
 element_categories (element.Strong c) = c ∷ []
 element_categories (element.Back ps ns) = ps ++ ns
 element_categories (element.NoBack ps) = ps
+element_categories _ = []
 
 abbrev pub item_rules : WrittenItem → List WrittenRule
 item_rules (item.Feature name d) = []
@@ -98,8 +97,8 @@ abbrev pub written_features : WrittenRule → List (List ℕ)
 written_features r = flat_map category_features (r.head ∷ flat_map element_categories r.body)
 
 -- the features: the four first ones, the others that are declared, and those that rules write without a declaration
-abbrev pub features_of : List WrittenItem → List NamedFeature
-features_of items = with_undeclared (with_items (map undeclared first_features) items) (flat_map written_features (rules_of items))
+abbrev pub all_features : List WrittenItem → List NamedFeature
+all_features items = with_undeclared (with_items (map undeclared first_features) items) (flat_map written_features (rules_of items))
 
 abbrev pub domain_atoms : Domain → List (List ℕ)
 domain_atoms domain.Words = []
@@ -208,8 +207,8 @@ element_names features (element.Back ps ns) = flat_map (category_names features)
 element_names features (element.NoBack ps) = flat_map (category_names features) ps
 
 -- the variables of a rule in the order of their first occurrence, the head first
-abbrev pub variables_of : List (List ℕ) → WrittenRule → List (List ℕ)
-variables_of features r = gathered [] (category_names features r.head ++ flat_map (element_names features) r.body)
+abbrev pub variable_names : List (List ℕ) → WrittenRule → List (List ℕ)
+variable_names features r = gathered [] (category_names features r.head ++ flat_map (element_names features) r.body)
 
 -- the label of this name among these
 abbrev pub label_among : List Label → List ℕ → Option Label
@@ -230,15 +229,12 @@ numbered_rule t r = record {
 
 -- the categories of an element that are no preterminals
 abbrev pub plain_categories : WrittenElement → List WrittenCategory
-plain_categories (element.Terminal w) = []
-plain_categories (element.Preterminal c) = []
 plain_categories (element.Sub c) = c ∷ []
-plain_categories (element.Position w) = []
-plain_categories element.Opener = []
 plain_categories (element.Forward c) = c ∷ []
 plain_categories (element.Strong c) = c ∷ []
 plain_categories (element.Back ps ns) = ps ++ ns
 plain_categories (element.NoBack ps) = ps
+plain_categories _ = []
 
 -- the names of the categories that a rule writes and that are no preterminals, the head first
 abbrev pub rule_names : WrittenRule → List (List ℕ)
@@ -246,19 +242,12 @@ rule_names r = map (λ c. c.name) (r.head ∷ flat_map plain_categories r.body)
 
 abbrev pub written_terminals : WrittenElement → List (List ℕ)
 written_terminals (element.Terminal w) = w ∷ []
-written_terminals (element.Preterminal c) = []
-written_terminals (element.Sub c) = []
-written_terminals (element.Position w) = []
-written_terminals element.Opener = []
-written_terminals (element.Forward c) = []
-written_terminals (element.Strong c) = []
-written_terminals (element.Back ps ns) = []
-written_terminals (element.NoBack ps) = []
+written_terminals _ = []
 
 -- the grammar that declarations and rules make
 abbrev pub numbered_of : List WrittenItem → GrammarParts
 numbered_of items =
-    let features = features_of items in
+    let features = all_features items in
     let rules = rules_of items in
     let names = map (λ f. f.name) features in
     let atoms = atoms_of features in
@@ -269,5 +258,11 @@ numbered_of items =
       atoms = atoms;
       terminals = terminals;
       categories = kinds ++ categories;
-      rules = map (λ r. numbered_rule (record { features = names; atoms = atoms; terminals = terminals; categories = categories; variables = variables_of names r }) r) rules;
+      rules = map (λ r. numbered_rule (record {
+        features = names;
+        atoms = atoms;
+        terminals = terminals;
+        categories = categories;
+        variables = variable_names names r;
+      }) r) rules;
     }

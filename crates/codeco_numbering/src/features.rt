@@ -13,7 +13,7 @@ ghost use Rattle.codeco_numbering.specs.Numbered.{
   written_features,
   item_rules,
   rules_of,
-  features_of,
+  all_features,
 };
 
 use crate::names::Names;
@@ -247,9 +247,9 @@ fn first_features<'a>(alloc: Global) -> Result<FeatureTable<'a>, Memory>
 }
 
 /// The features of a text.
-pub fn features_of(alloc: Global, items: &WrittenItems) -> Result<FeatureTable<'_>, Memory>
+pub fn all_features(alloc: Global, items: &WrittenItems) -> Result<FeatureTable<'_>, Memory>
     requires { differ (map (λ f. f.name) (with_items (map undeclared first_features) items.now)) ≡ true }
-    ensures { IfOk result (λ table. table ≡ features_of items.now) }
+    ensures { IfOk result (λ table. table ≡ all_features items.now) }
 {
     let table = first_features(alloc)?.declare_items(alloc, items)?;
     table.note_items(alloc, items)

@@ -5,7 +5,7 @@ ghost use Rattle.codeco_numbering.specs.Fitting.{HasRoom, rule_tables};
 
 use crate::labels::label_of;
 use crate::tables::{GrammarTables, Tables};
-use crate::variables::variables_of;
+use crate::variables::variable_names;
 use codeco_terms::{Element, Elements, Patterns, Rule, Rules};
 use codeco_text::{
     WrittenCategories, WrittenElement, WrittenElements, WrittenItem, WrittenItems, WrittenRule,
@@ -79,7 +79,7 @@ fn numbered_rule(alloc: Global, grammar: &GrammarTables, rule: &WrittenRule) -> 
     requires { HasRoom (rule_tables grammar.now rule.now) }
     ensures { IfOk result (λ numbered. numbered ≡ numbered_rule (rule_tables grammar.now rule.now) rule.now) }
 {
-    let variables = variables_of(alloc, &grammar.features, rule)?;
+    let variables = variable_names(alloc, &grammar.features, rule)?;
     let tables = Tables { grammar, variables };
     tables.rule(alloc, rule)
 }

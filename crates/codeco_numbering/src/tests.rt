@@ -5,7 +5,7 @@ use crate::gathering::{categories_of, terminals_of};
 use crate::labels::label_of;
 use crate::names::Names;
 use crate::tables::{GrammarTables, Tables};
-use crate::variables::variables_of;
+use crate::variables::variable_names;
 use codeco_terms::{Element, Label, Pattern, Rule, Symbol, Symbols, Term};
 use codeco_text::{WrittenItem, WrittenItems, WrittenRule, read_items};
 use std::alloc::Global;
@@ -67,7 +67,7 @@ fn variables_come_in_order_of_their_features(rt: HostRuntime) -> Result<(), Fail
     features.add(rt.alloc(), b"k")?;
     features.add(rt.alloc(), b"m")?;
     let items = read_items(rt.alloc(), b"text --> < +a(m: X, k: ?Y) #X.")?;
-    let variables = variables_of(rt.alloc(), &features, only_rule(&items)?)?;
+    let variables = variable_names(rt.alloc(), &features, only_rule(&items)?)?;
     assert_names(&rt, &variables.symbols(rt.alloc())?, &[b"Y", b"X"]);
     Ok(())
 }

@@ -1,6 +1,6 @@
 // The variables of a rule, by first occurrence.
 ghost use Rattle.std.specs.Prelude.{◌≡◌, ◌<◌, length, flat_map, IfOk, OnOk};
-ghost use Rattle.codeco_numbering.specs.Numbered.{gathered, term_names, category_names, element_names, variables_of};
+ghost use Rattle.codeco_numbering.specs.Numbered.{gathered, term_names, category_names, element_names, variable_names};
 
 use crate::categories::ordered;
 use crate::names::Names;
@@ -81,9 +81,9 @@ fn add_element(
 }
 
 /// The variables of a rule, the head's first.
-pub fn variables_of(alloc: Global, features: &Names, rule: &WrittenRule) -> Result<Names, Memory>
+pub fn variable_names(alloc: Global, features: &Names, rule: &WrittenRule) -> Result<Names, Memory>
     requires { length features.now < 65536 }
-    ensures { IfOk result (λ names. names ≡ variables_of features.now rule.now) }
+    ensures { IfOk result (λ names. names ≡ variable_names features.now rule.now) }
 {
     let mut names = Names::new(alloc);
     add_category(alloc, features, &rule.head, &mut names)?;

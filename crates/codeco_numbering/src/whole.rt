@@ -6,7 +6,7 @@ ghost use Rattle.codeco_numbering.specs.Numbered.{numbered_of};
 ghost use Rattle.codeco_numbering.specs.Early.{HasNoEarlyFault};
 
 use crate::atoms::{atoms_of, numbered_features};
-use crate::features::features_of;
+use crate::features::all_features;
 use crate::gathering::{categories_of, terminals_of};
 use crate::rules::numbered_rules;
 use crate::tables::GrammarTables;
@@ -35,7 +35,7 @@ pub fn number_items(alloc: Global, items: &WrittenItems) -> Result<Grammar, Memo
     requires early { HasNoEarlyFault items.now }
     ensures { IfOk result (λ grammar. grammar ≡ numbered_of items.now) }
 {
-    let table = features_of(alloc, items)?;
+    let table = all_features(alloc, items)?;
     let atoms = atoms_of(alloc, &table)?;
     let features = numbered_features(alloc, &atoms, &table)?;
     let tables = GrammarTables {

@@ -17,9 +17,9 @@ use Rattle.codeco_checked.specs.Numbering.{counts_up, first_categories, grammar_
 use Rattle.codeco_checked.specs.Sound.{IsSound, ascends, is_empty, is_written, is_written_name, is_written_pattern, is_plain_pattern, is_written_element, is_written_rule}
 use Rattle.codeco_printer.specs.Unnumbered.{name_at, written_pattern, written_element, written_rule}
 use Rattle.codeco_numbering.specs.Numbered.{gathered, plain_categories, rule_names}
-use Rattle.codeco_numbering.proofs.SoundLowered.{lowered, lowered_append, lowered_counts}
+use Rattle.codeco_numbering.proofs.Sound.Lowered.{lowered, lowered_append, lowered_counts}
 use Rattle.wiki_base.proofs.ListLaws.{all_weaken}
-use Rattle.codeco_numbering.proofs.SoundCounts.{counted}
+use Rattle.codeco_checked.proofs.NumberingLemmas.{counted}
 use Rattle.codeco_printer.proofs.Tables.{gathered_counts, begins_take}
 
 -- Names
@@ -40,7 +40,8 @@ names_append g xs ys = ap (map (name_at (drop 5 g.categories))) (lowered_append 
 plain_number : (c : Category) → is_written_name c ≡ true → 5 ≤ c.name
 plain_number c h = leb-true 5 c.name (and_parts (leb 5 c.name) (is_written c) h).0
 
-one_plain : (g : GrammarParts) (c : Category) (ns : List ℕ) → is_written_name c ≡ true → names_from g (c.name ∷ ns) ≡ name_at g.categories c.name ∷ names_from g ns
+one_plain : (g : GrammarParts) (c : Category) (ns : List ℕ) → is_written_name c ≡ true
+    → names_from g (c.name ∷ ns) ≡ name_at g.categories c.name ∷ names_from g ns
 one_plain g c ns h =
     let n = c.name in
     let le : 5 ≤ n = plain_number c h in
@@ -48,21 +49,26 @@ one_plain g c ns h =
     ap (map (name_at (drop 5 g.categories))) (cond-false (ltb n 5) (lowered ns) ((n - 5) ∷ lowered ns) (le-ltb n 5 le))
     ∙ ap (λ (w : List ℕ). w ∷ names_from g ns) (get_or-drop 5 g.categories (n - 5) [] ∙ ap (name_at g.categories) same)
 
-patterns_names : (g : GrammarParts) (ps : List Pattern) → list_all (λ p. is_written_name p.cat) ps ≡ true → written_names (map (written_pattern g) ps) ≡ names_from g (numbered_names (map whole ps))
+patterns_names : (g : GrammarParts) (ps : List Pattern) → list_all (λ p. is_written_name p.cat) ps ≡ true
+    → written_names (map (written_pattern g) ps) ≡ names_from g (numbered_names (map whole ps))
 patterns_names g [] h = refl
 patterns_names g (p ∷ ps) h =
     let parts = and_parts (is_written_name p.cat) (list_all (λ q. is_written_name q.cat) ps) h in
-    ap (λ (x : List (List ℕ)). name_at g.categories p.cat.name ∷ x) (patterns_names g ps parts.1) ∙ sym (one_plain g p.cat (numbered_names (map whole ps)) parts.0)
+    ap (λ (x : List (List ℕ)). name_at g.categories p.cat.name ∷ x) (patterns_names g ps parts.1)
+    ∙ sym (one_plain g p.cat (numbered_names (map whole ps)) parts.0)
 
 written_patterns : (ps : List Pattern) → list_all is_written_pattern ps ≡ true → list_all (λ p. is_written_name p.cat) ps ≡ true
-written_patterns ps h = all_weaken is_written_pattern (λ p. is_written_name p.cat) (λ p q. (and_parts (is_written_name p.cat) (ascends (map (λ t. t.0) p.taken)) q).0) ps h
+written_patterns ps h = all_weaken is_written_pattern (λ p. is_written_name p.cat)
+    (λ p q. (and_parts (is_written_name p.cat) (ascends (map (λ t. t.0) p.taken)) q).0) ps h
 
 plain_patterns : (ps : List Pattern) → list_all is_plain_pattern ps ≡ true → list_all (λ p. is_written_name p.cat) ps ≡ true
 plain_patterns ps h = all_weaken is_plain_pattern (λ p. is_written_name p.cat) (λ p q. (and_parts (is_written_name p.cat) (is_empty p.taken) q).0) ps h
 
-element_names : (g : GrammarParts) (e : Element) → is_written_element e ≡ true → written_names (plain_categories (written_element g e)) ≡ names_from g (numbered_names (mentions e))
+element_names : (g : GrammarParts) (e : Element) → is_written_element e ≡ true
+    → written_names (plain_categories (written_element g e)) ≡ names_from g (numbered_names (mentions e))
 element_names g (Terminal t) w = refl
-element_names g (Preterminal c) w = sym (ap (map (name_at (drop 5 g.categories))) (cond-true (ltb c.name 5) [] ((c.name - 5) ∷ []) (and_parts (ltb c.name 5) (is_written c) w).0))
+element_names g (Preterminal c) w = sym (ap (map (name_at (drop 5 g.categories)))
+    (cond-true (ltb c.name 5) [] ((c.name - 5) ∷ []) (and_parts (ltb c.name 5) (is_written c) w).0))
 element_names g (Sub c) w = sym (one_plain g c [] w)
 element_names g (Position x) w = refl
 element_names g Opener w = refl
@@ -80,7 +86,8 @@ element_names g (NoBack ps) w =
     let parts = and_parts (not (is_empty ps)) (list_all is_plain_pattern ps) w in
     patterns_names g ps (plain_patterns ps parts.1)
 
-body_names : (g : GrammarParts) (es : List Element) → list_all is_written_element es ≡ true → written_names (flat_map plain_categories (map (written_element g) es)) ≡ names_from g (numbered_names (flat_map mentions es))
+body_names : (g : GrammarParts) (es : List Element) → list_all is_written_element es ≡ true
+    → written_names (flat_map plain_categories (map (written_element g) es)) ≡ names_from g (numbered_names (flat_map mentions es))
 body_names g [] w = refl
 body_names g (e ∷ es) w =
     let parts = and_parts (is_written_element e) (list_all is_written_element es) w in
@@ -92,13 +99,15 @@ body_names g (e ∷ es) w =
     ∙ sym (names_append g (numbered_names (mentions e)) (numbered_names (flat_map mentions es)))
     ∙ ap (names_from g) (sym (map-append (λ c. c.name) (mentions e) (flat_map mentions es)))
 
-rules_names : (g : GrammarParts) (rs : List Rule) → list_all is_written_rule rs ≡ true → flat_map rule_names (map (written_rule g) rs) ≡ names_from g (flat_map (λ r. map (λ c. c.name) (rule_mentions r)) rs)
+rules_names : (g : GrammarParts) (rs : List Rule) → list_all is_written_rule rs ≡ true
+    → flat_map rule_names (map (written_rule g) rs) ≡ names_from g (flat_map (λ r. map (λ c. c.name) (rule_mentions r)) rs)
 rules_names g [] w = refl
 rules_names g (r ∷ rs) w =
     let parts = and_parts (is_written_rule r) (list_all is_written_rule rs) w in
     let here = and_parts (is_written_name r.head) (list_all is_written_element r.body) parts.0 in
     ap (λ (x : List (List ℕ)). (name_at g.categories r.head.name ∷ x) ++ flat_map rule_names (map (written_rule g) rs)) (body_names g r.body here.1)
-    ∙ ap (λ (x : List (List ℕ)). x ++ flat_map rule_names (map (written_rule g) rs)) (sym (one_plain g r.head (numbered_names (flat_map mentions r.body)) here.0))
+    ∙ ap (λ (x : List (List ℕ)). x ++ flat_map rule_names (map (written_rule g) rs))
+    (sym (one_plain g r.head (numbered_names (flat_map mentions r.body)) here.0))
     ∙ ap (λ (x : List (List ℕ)). names_from g (numbered_names (rule_mentions r)) ++ x) (rules_names g rs parts.1)
     ∙ sym (names_append g (numbered_names (rule_mentions r)) (flat_map (λ y. map (λ c. c.name) (rule_mentions y)) rs))
 
@@ -119,7 +128,8 @@ categories_back g s =
     let len : length others ≡ length g.categories - 5 = length-drop 5 g.categories in
     let most = (counted 6 (length g.categories) (grammar_names g) s.numbered.categories).0 in
     let total : length g.categories ≡ length others + 5 = omega arith in
-    let counts : counts_up 1 (length others) (lowered (grammar_names g)) ≡ true = lowered_counts 1 (length others) (grammar_names g) (subst (λ (n : ℕ). counts_up 6 n (grammar_names g) ≡ true) total s.numbered.categories) in
+    let counts : counts_up 1 (length others) (lowered (grammar_names g)) ≡ true =
+    lowered_counts 1 (length others) (grammar_names g) (subst (λ (n : ℕ). counts_up 6 n (grammar_names g) ≡ true) total s.numbered.categories) in
     ap (gathered (codes "text" ∷ [])) (rules_names g g.rules s.written.rules)
     ∙ ap (λ (x : List (List ℕ)). gathered x (names_from g (grammar_names g))) (sym (first_text g s))
     ∙ gathered_counts others 1 (lowered (grammar_names g)) s.numbered.different_categories counts

@@ -47,7 +47,8 @@ q = Val (Atom 8)
 -- n --> [n] #P > x(k: q, id: P). r --> < +x(k: K, id: ?I) [r].
 abbrev references : GrammarParts
 references = record {
-  features = feature (codes "num") Undeclared ∷ feature (codes "vow") Undeclared ∷ feature (codes "form") Undeclared ∷ feature (codes "w") Undeclared ∷ feature (codes "k") (Atoms (7 ∷ 8 ∷ [])) ∷ feature (codes "id") Positions ∷ [];
+  features = feature (codes "num") Undeclared ∷ feature (codes "vow") Undeclared ∷ feature (codes "form") Undeclared ∷ feature (codes "w") Undeclared
+      ∷ feature (codes "k") (Atoms (7 ∷ 8 ∷ [])) ∷ feature (codes "id") Positions ∷ [];
   atoms = first_atoms ++ codes "p" ∷ codes "q" ∷ [];
   terminals = codes "e" ∷ codes "m" ∷ codes "n" ∷ codes "r" ∷ [];
   categories = first_categories ++ codes "m" ∷ codes "n" ∷ codes "r" ∷ codes "x" ∷ [];
@@ -58,7 +59,8 @@ references = record {
       ∷ [];
 }
 
-references_text : text_of references ≡ codes "feature k:p,q.feature id:position.text-->m n r[e].m-->[m]#A>x(k:p,id:A).n-->[n]#A>x(k:q,id:A).r--><+x(k:A,id:?B)[r]."
+references_text : text_of references ≡ codes
+    "feature k:p,q.feature id:position.text-->m n r[e].m-->[m]#A>x(k:p,id:A).n-->[n]#A>x(k:q,id:A).r--><+x(k:A,id:?B)[r]."
 references_text = refl
 
 references_back : numbered_of (written_of references) ≡ references
@@ -67,7 +69,8 @@ references_back = refl
 -- every kind of element, a label, a scope-closing rule, and a marked feature before one that is written plain
 abbrev everything : GrammarParts
 everything = record {
-  features = feature (codes "num") (Atoms (0 ∷ 1 ∷ [])) ∷ feature (codes "vow") Undeclared ∷ feature (codes "form") Undeclared ∷ feature (codes "w") Words ∷ feature (codes "k") (Atoms (7 ∷ [])) ∷ feature (codes "id") Positions ∷ [];
+  features = feature (codes "num") (Atoms (0 ∷ 1 ∷ [])) ∷ feature (codes "vow") Undeclared ∷ feature (codes "form") Undeclared ∷ feature (codes "w") Words
+      ∷ feature (codes "k") (Atoms (7 ∷ [])) ∷ feature (codes "id") Positions ∷ [];
   atoms = first_atoms ++ codes "p" ∷ [];
   terminals = codes "a" ∷ codes "." ∷ [];
   categories = first_categories ++ codes "s" ∷ codes "x" ∷ [];
@@ -83,7 +86,8 @@ everything = record {
       ∷ [];
 }
 
-everything_text : text_of everything ≡ codes "feature num:sg,pl.feature w:word.feature k:p.feature id:position.{statement}text(num:A)~~>//[a]$noun(num:A,w:B)s#C>x(id:C)>>x(id:C)<+x(k:p,id:?D)-x(k:p)/<+x(id:C).s-->[.]<+x(num:?A,k:p)."
+everything_text : text_of everything ≡ codes
+    "feature num:sg,pl.feature w:word.feature k:p.feature id:position.{statement}text(num:A)~~>//[a]$noun(num:A,w:B)s#C>x(id:C)>>x(id:C)<+x(k:p,id:?D)-x(k:p)/<+x(id:C).s-->[.]<+x(num:?A,k:p)."
 everything_text = refl
 
 everything_back : numbered_of (written_of everything) ≡ everything
@@ -96,12 +100,14 @@ neighbours = record {
   atoms = first_atoms;
   terminals = codes "t" ∷ [];
   categories = first_categories ++ codes "s" ∷ [];
-  rules = rule (category 5 []) (Sub (category 6 []) ∷ Sub (category 6 []) ∷ Terminal 0 ∷ Sub (category 6 []) ∷ Opener ∷ Strong (category 6 []) ∷ Forward (category 6 []) ∷ Forward (category 6 []) ∷ []) ∷ [];
+  rules = rule (category 5 []) (Sub (category 6 []) ∷ Sub (category 6 []) ∷ Terminal 0 ∷ Sub (category 6 []) ∷ Opener ∷ Strong (category 6 [])
+      ∷ Forward (category 6 []) ∷ Forward (category 6 []) ∷ []) ∷ [];
 }
 
 neighbours_text : text_of neighbours ≡ codes "text-->s s[t]s//>>s>s>s."
 neighbours_text = refl
 
 -- between signs too, where a longer one would be read
-signs_text : printed (lexeme.Sign sign.Weak ∷ lexeme.Sign sign.Weak ∷ lexeme.Identifier (codes "x") ∷ lexeme.Sign sign.Strong ∷ lexeme.Sign sign.Weak ∷ lexeme.Sign sign.Minus ∷ lexeme.Sign sign.Minus ∷ lexeme.Sign sign.Weak ∷ []) ≡ codes "> >x>>>- ->"
+signs_text : printed (lexeme.Sign sign.Weak ∷ lexeme.Sign sign.Weak ∷ lexeme.Identifier (codes "x") ∷ lexeme.Sign sign.Strong ∷ lexeme.Sign sign.Weak
+    ∷ lexeme.Sign sign.Minus ∷ lexeme.Sign sign.Minus ∷ lexeme.Sign sign.Weak ∷ []) ≡ codes "> >x>>>- ->"
 signs_text = refl

@@ -40,9 +40,11 @@ spaces_needed g s front x back split long =
     needs_space x (printed back) back parts.0 long
 
 -- the declarations and then the rules, written one behind the other
-pub parts_written : (g : GrammarParts) (o declared ruled : Output) → declared ≡ write o (lexemes (flat_map (written_feature g) g.features)) → ruled ≡ write declared (lexemes (map (λ r. item.Rule (written_rule g r)) g.rules)) → ruled ≡ write o (lexemes (written_of g))
+pub parts_written : (g : GrammarParts) (o declared ruled : Output) → declared ≡ write o (lexemes (flat_map (written_feature g) g.features))
+    → ruled ≡ write declared (lexemes (map (λ r. item.Rule (written_rule g r)) g.rules)) → ruled ≡ write o (lexemes (written_of g))
 parts_written g o declared ruled is_declared is_ruled =
     let front = lexemes (flat_map (written_feature g) g.features) in
     let back = lexemes (map (λ r. item.Rule (written_rule g r)) g.rules) in
-    let joined : lexemes (written_of g) ≡ front ++ back = flat_map-append item_lexemes (flat_map (written_feature g) g.features) (map (λ r. item.Rule (written_rule g r)) g.rules) in
+    let joined : lexemes (written_of g) ≡ front ++ back =
+    flat_map-append item_lexemes (flat_map (written_feature g) g.features) (map (λ r. item.Rule (written_rule g r)) g.rules) in
     is_ruled ∙ ap (λ m. write m back) is_declared ∙ sym (write_append o front back) ∙ ap (write o) (sym joined)

@@ -20,13 +20,9 @@ use Rattle.codeco_printer.proofs.WriteLaws.{category_closed}
 use Rattle.std.proofs.Common.{Option, Some, None}
 
 abbrev pub is_word : Lexeme → Bool
-is_word (lexeme.Identifier w) = true
-is_word (lexeme.Variable w) = true
-is_word (lexeme.Keyword w) = true
-is_word (lexeme.Label w) = true
-is_word (lexeme.Kind w) = true
 is_word (lexeme.Terminal t) = false
 is_word (lexeme.Sign s) = false
+is_word _ = true
 
 abbrev pub leads_sign : Sign → Bool
 leads_sign sign.Weak = true
@@ -54,8 +50,10 @@ led_term (term.Taken w) rest = refl
 led_feats : (opened : Bool) (fs : List WrittenFeat) (rest : List Lexeme) → led (closed_feats opened fs ++ rest) ≡ led rest
 led_feats false [] rest = refl
 led_feats true [] rest = refl
-led_feats false (f ∷ fs) rest = ap led (append_assoc (term_lexemes f.term) (closed_feats true fs) rest) ∙ led_term f.term (closed_feats true fs ++ rest) ∙ led_feats true fs rest
-led_feats true (f ∷ fs) rest = ap led (append_assoc (term_lexemes f.term) (closed_feats true fs) rest) ∙ led_term f.term (closed_feats true fs ++ rest) ∙ led_feats true fs rest
+led_feats false (f ∷ fs) rest = ap led (append_assoc (term_lexemes f.term) (closed_feats true fs) rest) ∙ led_term f.term (closed_feats true fs ++ rest)
+    ∙ led_feats true fs rest
+led_feats true (f ∷ fs) rest = ap led (append_assoc (term_lexemes f.term) (closed_feats true fs) rest) ∙ led_term f.term (closed_feats true fs ++ rest)
+    ∙ led_feats true fs rest
 
 led_named : (c : WrittenCategory) (rest : List Lexeme) → led (named c ++ rest) ≡ led rest
 led_named c rest = ap (λ (x : List Lexeme). led (x ++ rest)) (category_closed (lexeme.Identifier c.name) c.feats) ∙ led_feats false c.feats rest
@@ -92,7 +90,8 @@ led_element (element.Position x) rest = refl
 led_element element.Opener rest = refl
 led_element (element.Forward c) rest = led_sign sign.Weak c rest
 led_element (element.Strong c) rest = led_sign sign.Strong c rest
-led_element (element.Back ps ns) rest = ap led (append_assoc (signed sign.Plus ps) (signed sign.Minus ns) rest) ∙ led_signed sign.Plus ps (signed sign.Minus ns ++ rest) ∙ led_signed sign.Minus ns rest
+led_element (element.Back ps ns) rest = ap led (append_assoc (signed sign.Plus ps) (signed sign.Minus ns) rest)
+    ∙ led_signed sign.Plus ps (signed sign.Minus ns ++ rest) ∙ led_signed sign.Minus ns rest
 led_element (element.NoBack ps) rest = led_signed sign.Plus ps rest
 
 led_body : (es : List WrittenElement) (rest : List Lexeme) → led (body_lexemes es ++ rest) ≡ led rest

@@ -2,7 +2,7 @@
 use Rattle.std.proofs.Common.{◌≡◌, ℕ, List, sym, ap, ◌∙◌}
 use Rattle.codeco_text.specs.declared.written.WrittenItem.{WrittenItem}
 use Rattle.codeco_text.specs.Notation.{IsSpelling}
-use Rattle.codeco_text.specs.Building.{so_far}
+use Rattle.codeco_text.proofs.SoFar.{so_far}
 use Rattle.codeco_text.proofs.Exactness.{spelling_ends}
 use Rattle.codeco_text.proofs.OneSpelling.{lexemes_same}
 use Rattle.codeco_terms.specs.GrammarParts.{GrammarParts}
@@ -19,5 +19,6 @@ one_spelling text is js s t =
     lexemes_same is js (sym a.3 ∙ ap so_far same ∙ b.3)
 
 -- whatever the text of a sound grammar spells makes that grammar
-pub read_back : (g : GrammarParts) (text : List ℕ) → IsSound g → IsSpelling text (written_of g) → (items : List WrittenItem) → IsSpelling text items → numbered_of items ≡ g
+pub read_back : (g : GrammarParts) (text : List ℕ) → IsSound g → IsSpelling text (written_of g) → (items : List WrittenItem) → IsSpelling text items
+    → numbered_of items ≡ g
 read_back g text s printed items other = ap numbered_of (one_spelling text items (written_of g) other printed) ∙ numbered_of-written_of g s

@@ -12,7 +12,7 @@ use Rattle.codeco_checked.specs.Occurrences.{put_feature, with_taken, term_varia
 use Rattle.codeco_checked.specs.Sound.{ascends}
 use Rattle.codeco_printer.specs.Unnumbered.{letter, written_term, plain_terms, taken_terms, below, from, merged}
 use Rattle.codeco_numbering.specs.Numbered.{put_in_order, in_order, term_names}
-use Rattle.codeco_numbering.proofs.SoundOrder.{rises}
+use Rattle.codeco_numbering.proofs.Sound.Order.{rises}
 
 pub in_order_rises : (n : ℕ) (xs : List (ℕ × WrittenTerm)) → rises n xs ≡ true → in_order xs ≡ xs
 in_order_rises n [] h = refl
@@ -26,7 +26,8 @@ in_order_rises n (x ∷ xs) h =
         let here = leb-true y.0 z.0 (and_parts (leb y.0 z.0) (rises z.0 zs) e).0 in
         cond-false (ltb z.0 y.0) (z ∷ put_in_order y zs) (y ∷ z ∷ zs) (le-ltb z.0 y.0 here)
 
-rises_below : (n f : ℕ) (x : ℕ × WrittenTerm) (ts rest : List (ℕ × WrittenTerm)) → f ≡ x.0 → n ≤ f → rises n ts ≡ true → rises x.0 rest ≡ true → rises n (below f ts ++ x ∷ rest) ≡ true
+rises_below : (n f : ℕ) (x : ℕ × WrittenTerm) (ts rest : List (ℕ × WrittenTerm)) → f ≡ x.0 → n ≤ f → rises n ts ≡ true → rises x.0 rest ≡ true
+    → rises n (below f ts ++ x ∷ rest) ≡ true
 rises_below n f x [] rest is le h k = and_from (leb n x.0) (rises x.0 rest) (le-leb n x.0 (omega arith)) k
 rises_below n f x (t ∷ ts) rest is le h k =
     let parts = and_parts (leb n t.0) (rises t.0 ts) h in
@@ -46,7 +47,8 @@ rises_from n f (t ∷ ts) h =
     let parts = and_parts (leb n t.0) (rises t.0 ts) h in
     elim (cases_Bool (ltb t.0 f)) [
       | inl low ↦ ap (rises f) (cond-true (ltb t.0 f) (from f ts) (t ∷ ts) low) ∙ rises_from t.0 f ts parts.1
-      | inr high ↦ ap (rises f) (cond-false (ltb t.0 f) (from f ts) (t ∷ ts) high) ∙ and_from (leb f t.0) (rises t.0 ts) (le-leb f t.0 (ltb-false t.0 f high)) parts.1
+      | inr high ↦ ap (rises f) (cond-false (ltb t.0 f) (from f ts) (t ∷ ts) high)
+          ∙ and_from (leb f t.0) (rises t.0 ts) (le-leb f t.0 (ltb-false t.0 f high)) parts.1
     ]
 
 pub rises_merged : (n : ℕ) (fs ts : List (ℕ × WrittenTerm)) → rises n fs ≡ true → rises n ts ≡ true → rises n (merged fs ts) ≡ true
@@ -109,7 +111,8 @@ all_from n m (t ∷ ts) h le =
 -- where the others begin with a feature that isn't above the marked ones, it comes first
 merged_first : (f : ℕ × WrittenTerm) (fs ts : List (ℕ × WrittenTerm)) (n : ℕ) → rises n ts ≡ true → f.0 ≤ n → merged (f ∷ fs) ts ≡ f ∷ merged fs ts
 merged_first f fs ts n h le =
-    ap (λ (x : List (ℕ × WrittenTerm)). x ++ f ∷ merged fs (from f.0 ts)) (none_below n f.0 ts h le) ∙ ap (λ (x : List (ℕ × WrittenTerm)). f ∷ merged fs x) (all_from n f.0 ts h le)
+    ap (λ (x : List (ℕ × WrittenTerm)). x ++ f ∷ merged fs (from f.0 ts)) (none_below n f.0 ts h le)
+    ∙ ap (λ (x : List (ℕ × WrittenTerm)). f ∷ merged fs x) (all_from n f.0 ts h le)
 
 -- a marked feature below the first of the others comes before it
 merged_marked : (t f : ℕ × WrittenTerm) (fs ts : List (ℕ × WrittenTerm)) → t.0 < f.0 → merged (f ∷ fs) (t ∷ ts) ≡ t ∷ merged (f ∷ fs) ts
@@ -119,7 +122,8 @@ merged_marked t f fs ts lt =
     ∙ ap (λ (x : List (ℕ × WrittenTerm)). (t ∷ below f.0 ts) ++ f ∷ merged fs x) (cond-true (ltb t.0 f.0) (from f.0 ts) (t ∷ ts) low)
 
 -- a marked feature put among the others has its variable at the same place
-put_letters : (g : GrammarParts) (t : ℕ × ℕ) (fs : List (ℕ × Term)) (ts : List (ℕ × ℕ)) → rises t.0 (taken_terms ts) ≡ true → names_of (merged (plain_terms g fs) (taken_terms (t ∷ ts))) ≡ names_of (merged (plain_terms g (put_feature (t.0, Var t.1) fs)) (taken_terms ts))
+put_letters : (g : GrammarParts) (t : ℕ × ℕ) (fs : List (ℕ × Term)) (ts : List (ℕ × ℕ)) → rises t.0 (taken_terms ts) ≡ true
+    → names_of (merged (plain_terms g fs) (taken_terms (t ∷ ts))) ≡ names_of (merged (plain_terms g (put_feature (t.0, Var t.1) fs)) (taken_terms ts))
 put_letters g t [] ts h = ap names_of (sym (merged_first (t.0, term.Variable (letter t.1)) [] (taken_terms ts) t.0 h (omega arith)))
 put_letters g t (f ∷ fs) ts h =
     let pf : ℕ × WrittenTerm = (f.0, written_term g f.1) in
@@ -131,14 +135,16 @@ put_letters g t (f ∷ fs) ts h =
       | inl low ↦
           ap names_of (merged_marked mt pf rest marks (ltb-true t.0 f.0 low))
           ∙ ap names_of (sym (merged_first pt (pf ∷ rest) marks t.0 h (omega arith)))
-          ∙ ap (λ (x : List (ℕ × Term)). names_of (merged (plain_terms g x) marks)) (sym (cond-true (ltb t.0 f.0) ((t.0, Var t.1) ∷ f ∷ fs) (f ∷ put_feature (t.0, Var t.1) fs) low))
+          ∙ ap (λ (x : List (ℕ × Term)). names_of (merged (plain_terms g x) marks))
+          (sym (cond-true (ltb t.0 f.0) ((t.0, Var t.1) ∷ f ∷ fs) (f ∷ put_feature (t.0, Var t.1) fs) low))
       | inr high ↦
           let le = ltb-false t.0 f.0 high in
           let marked : rises t.0 (mt ∷ marks) ≡ true = and_from (leb t.0 t.0) (rises t.0 marks) (le-leb t.0 t.0 (omega arith)) h in
           ap names_of (merged_first pf rest (mt ∷ marks) t.0 marked le)
           ∙ ap (λ (x : List (List ℕ)). term_names (written_term g f.1) ++ x) (put_letters g t fs ts h)
           ∙ ap names_of (sym (merged_first pf (plain_terms g (put_feature (t.0, Var t.1) fs)) marks t.0 h le))
-          ∙ ap (λ (x : List (ℕ × Term)). names_of (merged (plain_terms g x) marks)) (sym (cond-false (ltb t.0 f.0) ((t.0, Var t.1) ∷ f ∷ fs) (f ∷ put_feature (t.0, Var t.1) fs) high))
+          ∙ ap (λ (x : List (ℕ × Term)). names_of (merged (plain_terms g x) marks))
+          (sym (cond-false (ltb t.0 f.0) ((t.0, Var t.1) ∷ f ∷ fs) (f ∷ put_feature (t.0, Var t.1) fs) high))
     ]
 
 rises_tail : (t : ℕ × ℕ) (ts : List (ℕ × ℕ)) → ascends (map (λ x. x.0) (t ∷ ts)) ≡ true → rises t.0 (taken_terms ts) ≡ true
@@ -153,7 +159,8 @@ none_merged [] = refl
 none_merged (f ∷ fs) = ap (λ (x : List (ℕ × WrittenTerm)). f ∷ x) (none_merged fs)
 
 -- the variables of a pattern, in order
-pub pattern_letters : (g : GrammarParts) (fs : List (ℕ × Term)) (ts : List (ℕ × ℕ)) → ascends (map (λ t. t.0) ts) ≡ true → names_of (merged (plain_terms g fs) (taken_terms ts)) ≡ map letter (variables_in (with_taken fs ts))
+pub pattern_letters : (g : GrammarParts) (fs : List (ℕ × Term)) (ts : List (ℕ × ℕ)) → ascends (map (λ t. t.0) ts) ≡ true
+    → names_of (merged (plain_terms g fs) (taken_terms ts)) ≡ map letter (variables_in (with_taken fs ts))
 pattern_letters g fs [] h = ap names_of (none_merged (plain_terms g fs)) ∙ plain_letters g fs
 pattern_letters g fs (t ∷ ts) h = put_letters g t fs ts (rises_tail t ts h) ∙ pattern_letters g (put_feature (t.0, Var t.1) fs) ts (ascends_tail t ts h)
 
@@ -161,6 +168,9 @@ pub below_from : (n : ℕ) (ts : List (ℕ × WrittenTerm)) → below n ts ++ fr
 below_from n [] = refl
 below_from n (t ∷ ts) =
     elim (cases_Bool (ltb t.0 n)) [
-      | inl low ↦ ap (λ (x : List (ℕ × WrittenTerm)). x ++ from n (t ∷ ts)) (cond-true (ltb t.0 n) (t ∷ below n ts) [] low) ∙ ap (λ (x : List (ℕ × WrittenTerm)). (t ∷ below n ts) ++ x) (cond-true (ltb t.0 n) (from n ts) (t ∷ ts) low) ∙ ap (λ (x : List (ℕ × WrittenTerm)). t ∷ x) (below_from n ts)
-      | inr high ↦ ap (λ (x : List (ℕ × WrittenTerm)). x ++ from n (t ∷ ts)) (cond-false (ltb t.0 n) (t ∷ below n ts) [] high) ∙ cond-false (ltb t.0 n) (from n ts) (t ∷ ts) high
+      | inl low ↦ ap (λ (x : List (ℕ × WrittenTerm)). x ++ from n (t ∷ ts)) (cond-true (ltb t.0 n) (t ∷ below n ts) [] low)
+          ∙ ap (λ (x : List (ℕ × WrittenTerm)). (t ∷ below n ts) ++ x) (cond-true (ltb t.0 n) (from n ts) (t ∷ ts) low)
+          ∙ ap (λ (x : List (ℕ × WrittenTerm)). t ∷ x) (below_from n ts)
+      | inr high ↦ ap (λ (x : List (ℕ × WrittenTerm)). x ++ from n (t ∷ ts)) (cond-false (ltb t.0 n) (t ∷ below n ts) [] high)
+          ∙ cond-false (ltb t.0 n) (from n ts) (t ∷ ts) high
     ]

@@ -17,13 +17,8 @@ sign_ends_at_space sign.Minus rest = refl
 sign_ends_at_space _ rest = refl
 
 ends_at_space : (x : Lexeme) (rest : List ℕ) → goes_on x (32 ∷ rest) ≡ false
-ends_at_space (lexeme.Identifier w) rest = refl
-ends_at_space (lexeme.Variable w) rest = refl
-ends_at_space (lexeme.Keyword w) rest = refl
-ends_at_space (lexeme.Label w) rest = refl
-ends_at_space (lexeme.Kind w) rest = refl
-ends_at_space (lexeme.Terminal t) rest = refl
 ends_at_space (lexeme.Sign s) rest = sign_ends_at_space s rest
+ends_at_space x rest = refl
 
 ends_spaced : (x : Lexeme) (rest : List ℕ) (long : Bool) → goes_on x rest ≡ long → goes_on x (cond long (32 ∷ rest) rest) ≡ false
 ends_spaced x rest true h = ends_at_space x rest
@@ -44,8 +39,11 @@ pub spells-printed : (xs : List Lexeme) → list_all is_symbol xs ≡ true → S
 spells-printed [] h = refl
 spells-printed (x ∷ xs) h =
     let parts = and_parts (is_symbol x) (list_all is_symbol xs) h in
-    let rest = printed xs in
-    (spaced x rest, record { gap = []; between = refl; symbol = parts.0; longest = ends_spaced x rest (goes_on x rest) refl; parts = refl }, spells_spaced (goes_on x rest) rest xs (spells-printed xs parts.1))
+    let rest = printed xs in (
+      spaced x rest,
+      record { gap = []; between = refl; symbol = parts.0; longest = ends_spaced x rest (goes_on x rest) refl; parts = refl },
+      spells_spaced (goes_on x rest) rest xs (spells-printed xs parts.1),
+    )
 
 -- no gap begins as a symbol does
 abbrev begins_gap : List ℕ → Bool
@@ -56,13 +54,19 @@ lower_no_gap : (b : ℕ) (bs : List ℕ) → is_lower b ≡ true → begins_gap 
 lower_no_gap b bs h =
     let parts = and_parts (leb 97 b) (leb b 122) h in
     let low : 97 ≤ b = leb-true 97 b parts.0 in
-    or_from (eqb b 37) (is_space b) (ne_eqb b 37 (λ e. omega arith)) (or_from (eqb b 32 || eqb b 9 || eqb b 13) (eqb b 10) (or_from (eqb b 32 || eqb b 9) (eqb b 13) (or_from (eqb b 32) (eqb b 9) (ne_eqb b 32 (λ e. omega arith)) (ne_eqb b 9 (λ e. omega arith))) (ne_eqb b 13 (λ e. omega arith))) (ne_eqb b 10 (λ e. omega arith)))
+    or_from (eqb b 37) (is_space b) (ne_eqb b 37 (λ e. omega arith))
+    (or_from (eqb b 32 || eqb b 9 || eqb b 13) (eqb b 10)
+    (or_from (eqb b 32 || eqb b 9) (eqb b 13) (or_from (eqb b 32) (eqb b 9) (ne_eqb b 32 (λ e. omega arith)) (ne_eqb b 9 (λ e. omega arith)))
+    (ne_eqb b 13 (λ e. omega arith))) (ne_eqb b 10 (λ e. omega arith)))
 
 upper_no_gap : (b : ℕ) (bs : List ℕ) → is_upper b ≡ true → begins_gap (b ∷ bs) ≡ false
 upper_no_gap b bs h =
     let parts = and_parts (leb 65 b) (leb b 90) h in
     let low : 65 ≤ b = leb-true 65 b parts.0 in
-    or_from (eqb b 37) (is_space b) (ne_eqb b 37 (λ e. omega arith)) (or_from (eqb b 32 || eqb b 9 || eqb b 13) (eqb b 10) (or_from (eqb b 32 || eqb b 9) (eqb b 13) (or_from (eqb b 32) (eqb b 9) (ne_eqb b 32 (λ e. omega arith)) (ne_eqb b 9 (λ e. omega arith))) (ne_eqb b 13 (λ e. omega arith))) (ne_eqb b 10 (λ e. omega arith)))
+    or_from (eqb b 37) (is_space b) (ne_eqb b 37 (λ e. omega arith))
+    (or_from (eqb b 32 || eqb b 9 || eqb b 13) (eqb b 10)
+    (or_from (eqb b 32 || eqb b 9) (eqb b 13) (or_from (eqb b 32) (eqb b 9) (ne_eqb b 32 (λ e. omega arith)) (ne_eqb b 9 (λ e. omega arith)))
+    (ne_eqb b 13 (λ e. omega arith))) (ne_eqb b 10 (λ e. omega arith)))
 
 -- words begin with a byte of words
 abbrev pub begins_lower : List ℕ → Bool
@@ -91,7 +95,8 @@ among_begins (x ∷ xs) w all h =
 
 pub identifier_begins : (w : List ℕ) → is_identifier w ≡ true → begins_lower w ≡ true
 identifier_begins [] h = absurd cc
-identifier_begins (b ∷ bs) h = (and_parts (is_lower b) (list_all is_word_byte bs) (and_parts (is_lower b && list_all is_word_byte bs) (not (is_among keywords (b ∷ bs))) h).0).0
+identifier_begins (b ∷ bs) h = (and_parts (is_lower b) (list_all is_word_byte bs)
+    (and_parts (is_lower b && list_all is_word_byte bs) (not (is_among keywords (b ∷ bs))) h).0).0
 
 lower_front : (w rest : List ℕ) → begins_lower w ≡ true → begins_gap (w ++ rest) ≡ false
 lower_front [] rest h = absurd cc
@@ -99,24 +104,7 @@ lower_front (b ∷ bs) rest h = lower_no_gap b (bs ++ rest) h
 
 sign_front : (s : Sign) (rest : List ℕ) → begins_gap (sign_bytes s ++ rest) ≡ false
 sign_front sign.Colon rest = refl
-sign_front sign.Comma rest = refl
-sign_front sign.Stop rest = refl
-sign_front sign.OpenBrace rest = refl
-sign_front sign.CloseBrace rest = refl
-sign_front sign.OpenParen rest = refl
-sign_front sign.CloseParen rest = refl
-sign_front sign.Normal rest = refl
-sign_front sign.Closing rest = refl
-sign_front sign.Dollar rest = refl
-sign_front sign.Hash rest = refl
-sign_front sign.Scope rest = refl
-sign_front sign.Weak rest = refl
-sign_front sign.Strong rest = refl
-sign_front sign.Back rest = refl
-sign_front sign.NoBack rest = refl
-sign_front sign.Plus rest = refl
-sign_front sign.Minus rest = refl
-sign_front sign.Question rest = refl
+sign_front s rest = refl
 
 -- a symbol begins with a byte that no gap begins with, whatever stands behind it
 front_no_gap : (x : Lexeme) (rest : List ℕ) → is_symbol x ≡ true → begins_gap (lexeme_bytes x ++ rest) ≡ false
@@ -131,11 +119,13 @@ front_no_gap (lexeme.Sign s) rest h = sign_front s rest
 
 gap_front : (b : ℕ) (bs : List ℕ) → eqb b 37 ≡ false → is_space b ≡ false → is_gap false false (b ∷ bs) ≡ true → ⊥
 gap_front b bs mark space h =
-    let e : is_gap false false (b ∷ bs) ≡ (is_space b && is_gap false false bs) = cond-false (eqb b 37) (is_gap false true bs) (is_space b && is_gap false false bs) mark in
+    let e : is_gap false false (b ∷ bs) ≡ (is_space b && is_gap false false bs) =
+    cond-false (eqb b 37) (is_gap false true bs) (is_space b && is_gap false false bs) mark in
     both_ways (is_space b) space (and_parts (is_space b) (is_gap false false bs) (sym e ∙ h)).0
 
 -- a gap in front of a symbol is all of what stands before it
-no_gap : (gap front rest : List ℕ) (back : List ℕ) → begins_gap (front ++ rest) ≡ false → is_gap false false gap ≡ true → front ++ rest ≡ gap ++ (front ++ back) → rest ≡ back
+no_gap : (gap front rest : List ℕ) (back : List ℕ) → begins_gap (front ++ rest) ≡ false → is_gap false false gap ≡ true → front ++ rest ≡ gap ++ (front ++ back)
+    → rest ≡ back
 no_gap [] front rest back begins h e = append_cancel_left front rest back e
 no_gap (b ∷ bs) front rest back begins h e =
     let here : begins_gap (b ∷ bs ++ (front ++ back)) ≡ false = sym (ap begins_gap e) ∙ begins in

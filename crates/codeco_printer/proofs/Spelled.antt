@@ -20,7 +20,7 @@ use Rattle.codeco_text.specs.Names.{is_identifier, is_variable, is_terminal, is_
 use Rattle.codeco_text.specs.Notation.{labels, kinds, is_symbol, listed, term_lexemes, category_lexemes, named, signed, element_lexemes, label_lexemes, arrow, body_lexemes, domain_lexemes, item_lexemes, lexemes}
 use Rattle.codeco_printer.specs.Writing.{closed_feats}
 use Rattle.codeco_printer.proofs.WriteLaws.{category_closed}
-use Rattle.codeco_numbering.proofs.SoundSpelled.{term_spelled, feat_spelled, category_spelled, element_spelled, label_spelled, domain_spelled, item_spelled}
+use Rattle.codeco_numbering.proofs.Sound.Spelled.{term_spelled, feat_spelled, category_spelled, element_spelled, label_spelled, domain_spelled, item_spelled}
 use Rattle.wiki_base.proofs.ListLaws.{all_append}
 
 abbrev AreSymbols : List Lexeme → Type 0
@@ -37,11 +37,13 @@ feats_symbols true [] h = refl
 feats_symbols false (f ∷ fs) h =
     let parts = and_parts (feat_spelled f) (list_all feat_spelled fs) h in
     let here = and_parts (is_identifier f.name) (term_spelled f.term) parts.0 in
-    and_from (is_identifier f.name) (list_all is_symbol (term_lexemes f.term ++ closed_feats true fs)) here.0 (all_append is_symbol (term_lexemes f.term) (closed_feats true fs) (term_symbols f.term here.1) (feats_symbols true fs parts.1))
+    and_from (is_identifier f.name) (list_all is_symbol (term_lexemes f.term ++ closed_feats true fs)) here.0
+    (all_append is_symbol (term_lexemes f.term) (closed_feats true fs) (term_symbols f.term here.1) (feats_symbols true fs parts.1))
 feats_symbols true (f ∷ fs) h =
     let parts = and_parts (feat_spelled f) (list_all feat_spelled fs) h in
     let here = and_parts (is_identifier f.name) (term_spelled f.term) parts.0 in
-    and_from (is_identifier f.name) (list_all is_symbol (term_lexemes f.term ++ closed_feats true fs)) here.0 (all_append is_symbol (term_lexemes f.term) (closed_feats true fs) (term_symbols f.term here.1) (feats_symbols true fs parts.1))
+    and_from (is_identifier f.name) (list_all is_symbol (term_lexemes f.term ++ closed_feats true fs)) here.0
+    (all_append is_symbol (term_lexemes f.term) (closed_feats true fs) (term_symbols f.term here.1) (feats_symbols true fs parts.1))
 
 category_symbols : (name : Lexeme) (fs : List WrittenFeat) → is_symbol name ≡ true → list_all feat_spelled fs ≡ true → AreSymbols (category_lexemes name fs)
 category_symbols name fs h k =
@@ -102,14 +104,16 @@ arrow_symbol false = refl
 item_symbols : (i : WrittenItem) → item_spelled i ≡ true → AreSymbols (item_lexemes i)
 item_symbols (item.Feature name d) h =
     let parts = and_parts (is_identifier name) (domain_spelled d) h in
-    and_from (is_identifier name) (list_all is_symbol (domain_lexemes d ++ lexeme.Sign sign.Stop ∷ [])) parts.0 (all_append is_symbol (domain_lexemes d) (lexeme.Sign sign.Stop ∷ []) (domain_symbols d parts.1) refl)
+    and_from (is_identifier name) (list_all is_symbol (domain_lexemes d ++ lexeme.Sign sign.Stop ∷ [])) parts.0
+    (all_append is_symbol (domain_lexemes d) (lexeme.Sign sign.Stop ∷ []) (domain_symbols d parts.1) refl)
 item_symbols (item.Rule r) h =
     let parts = and_parts (label_spelled r.label) (category_spelled r.head && list_all element_spelled r.body) h in
     let inner = and_parts (category_spelled r.head) (list_all element_spelled r.body) parts.1 in
     let stop : List Lexeme = lexeme.Sign sign.Stop ∷ [] in
     let body = all_append is_symbol (body_lexemes r.body) stop (body_symbols r.body inner.1) refl in
     all_append is_symbol (label_lexemes r.label) (named r.head ++ (arrow r.closing ∷ (body_lexemes r.body ++ stop))) (label_symbols r.label parts.0)
-    (all_append is_symbol (named r.head) (arrow r.closing ∷ (body_lexemes r.body ++ stop)) (named_symbols r.head inner.0) (and_from (is_symbol (arrow r.closing)) (list_all is_symbol (body_lexemes r.body ++ stop)) (arrow_symbol r.closing) body))
+    (all_append is_symbol (named r.head) (arrow r.closing ∷ (body_lexemes r.body ++ stop)) (named_symbols r.head inner.0)
+    (and_from (is_symbol (arrow r.closing)) (list_all is_symbol (body_lexemes r.body ++ stop)) (arrow_symbol r.closing) body))
 
 pub items_symbols : (items : List WrittenItem) → list_all item_spelled items ≡ true → list_all is_symbol (lexemes items) ≡ true
 items_symbols [] h = refl

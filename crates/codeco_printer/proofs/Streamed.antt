@@ -20,29 +20,13 @@ lower_word (b ∷ bs) rest h = or_left _ (eqb b 95) (or_left _ _ (or_left (is_lo
 
 sign_word : (s : Sign) (rest : List ℕ) → begins_by is_word_byte (sign_bytes s ++ rest) ≡ false
 sign_word sign.Colon rest = refl
-sign_word sign.Comma rest = refl
-sign_word sign.Stop rest = refl
-sign_word sign.OpenBrace rest = refl
-sign_word sign.CloseBrace rest = refl
-sign_word sign.OpenParen rest = refl
-sign_word sign.CloseParen rest = refl
-sign_word sign.Normal rest = refl
-sign_word sign.Closing rest = refl
-sign_word sign.Dollar rest = refl
-sign_word sign.Hash rest = refl
-sign_word sign.Scope rest = refl
-sign_word sign.Weak rest = refl
-sign_word sign.Strong rest = refl
-sign_word sign.Back rest = refl
-sign_word sign.NoBack rest = refl
-sign_word sign.Plus rest = refl
-sign_word sign.Minus rest = refl
-sign_word sign.Question rest = refl
+sign_word s rest = refl
 
 symbol_word : (x : Lexeme) (rest : List ℕ) → is_symbol x ≡ true → begins_by is_word_byte (lexeme_bytes x ++ rest) ≡ is_word x
 symbol_word (lexeme.Identifier w) rest h = lower_word w rest (identifier_begins w h)
 symbol_word (lexeme.Variable []) rest h = absurd cc
-symbol_word (lexeme.Variable (b ∷ bs)) rest h = or_left _ (eqb b 95) (or_left _ _ (or_right (is_lower b) (is_upper b) (and_parts (is_upper b) (list_all is_word_byte bs) h).0))
+symbol_word (lexeme.Variable (b ∷ bs)) rest h =
+    or_left _ (eqb b 95) (or_left _ _ (or_right (is_lower b) (is_upper b) (and_parts (is_upper b) (list_all is_word_byte bs) h).0))
 symbol_word (lexeme.Keyword w) rest h = lower_word w rest (among_begins keywords w refl h)
 symbol_word (lexeme.Label w) rest h = lower_word w rest (among_begins labels w refl h)
 symbol_word (lexeme.Kind w) rest h = lower_word w rest (among_begins kinds w refl h)
@@ -55,21 +39,19 @@ words_begin (x ∷ xs) h = symbol_word x (spaced x (printed xs)) (and_parts (is_
 
 no_front : (c : ℕ) (cs text : List ℕ) → is_word_byte c ≡ false → begins_by is_word_byte text ≡ true → has_front (c ∷ cs) text ≡ false
 no_front c cs [] h begins = refl
-no_front c cs (b ∷ bs) h begins = and_left (eqb c b) (has_front cs bs) (ne_eqb c b (λ e. both_ways (is_word_byte b) (subst (λ n. is_word_byte n ≡ false) e h) begins))
+no_front c cs (b ∷ bs) h begins = and_left (eqb c b) (has_front cs bs)
+    (ne_eqb c b (λ e. both_ways (is_word_byte b) (subst (λ n. is_word_byte n ≡ false) e h) begins))
 
 sign_goes : (s : Sign) (xs : List Lexeme) → (not (leads_sign s) || begins_word xs) ≡ true → list_all is_symbol xs ≡ true → sign_goes_on s (printed xs) ≡ false
 sign_goes sign.Weak xs l h = no_front 62 [] (printed xs) refl (words_begin xs h ∙ l)
 sign_goes sign.Minus xs l h = no_front 45 (62 ∷ []) (printed xs) refl (words_begin xs h ∙ l)
 sign_goes _ xs l h = refl
 
-goes : (x : Lexeme) (xs : List Lexeme) → (not (leads x) || begins_word xs) ≡ true → list_all is_symbol xs ≡ true → goes_on x (printed xs) ≡ (is_word x && begins_word xs)
-goes (lexeme.Identifier w) xs l h = words_begin xs h
-goes (lexeme.Variable w) xs l h = words_begin xs h
-goes (lexeme.Keyword w) xs l h = words_begin xs h
-goes (lexeme.Label w) xs l h = words_begin xs h
-goes (lexeme.Kind w) xs l h = words_begin xs h
+goes : (x : Lexeme) (xs : List Lexeme) → (not (leads x) || begins_word xs) ≡ true → list_all is_symbol xs ≡ true
+    → goes_on x (printed xs) ≡ (is_word x && begins_word xs)
 goes (lexeme.Terminal t) xs l h = refl
 goes (lexeme.Sign s) xs l h = sign_goes s xs l h
+goes x xs l h = words_begin xs h
 
 abbrev pub text_after : Bool → List Lexeme → List ℕ
 text_after after_word xs = cond (after_word && begins_word xs) (32 ∷ printed xs) (printed xs)
@@ -86,24 +68,12 @@ put_bytes bytes true (lexeme.Variable w) = append_assoc bytes (32 ∷ []) w
 put_bytes bytes true (lexeme.Keyword w) = append_assoc bytes (32 ∷ []) w
 put_bytes bytes true (lexeme.Label w) = append_assoc bytes (32 ∷ []) w
 put_bytes bytes true (lexeme.Kind w) = append_assoc bytes (32 ∷ []) w
-put_bytes bytes true (lexeme.Terminal t) = refl
-put_bytes bytes true (lexeme.Sign s) = refl
 put_bytes bytes false (lexeme.Identifier w) = refl
-put_bytes bytes false (lexeme.Variable w) = refl
-put_bytes bytes false (lexeme.Keyword w) = refl
-put_bytes bytes false (lexeme.Label w) = refl
-put_bytes bytes false (lexeme.Kind w) = refl
-put_bytes bytes false (lexeme.Terminal t) = refl
-put_bytes bytes false (lexeme.Sign s) = refl
+put_bytes bytes after_word x = refl
 
 put_after : (bytes : List ℕ) (after_word : Bool) (x : Lexeme) → (put (output bytes after_word) x).after_word ≡ is_word x
 put_after bytes after_word (lexeme.Identifier w) = refl
-put_after bytes after_word (lexeme.Variable w) = refl
-put_after bytes after_word (lexeme.Keyword w) = refl
-put_after bytes after_word (lexeme.Label w) = refl
-put_after bytes after_word (lexeme.Kind w) = refl
-put_after bytes after_word (lexeme.Terminal t) = refl
-put_after bytes after_word (lexeme.Sign s) = refl
+put_after bytes after_word x = refl
 
 gap_text : (b : Bool) (text : List ℕ) → cond b (32 ∷ []) [] ++ text ≡ cond b (32 ∷ text) text
 gap_text true text = refl
@@ -113,7 +83,8 @@ none_after : (b : Bool) → cond {A = List ℕ} (b && false) (32 ∷ []) [] ≡ 
 none_after true = refl
 none_after false = refl
 
-pub write_is : (bytes : List ℕ) (after_word : Bool) (xs : List Lexeme) → led xs ≡ true → list_all is_symbol xs ≡ true → (write (output bytes after_word) xs).bytes ≡ bytes ++ text_after after_word xs
+pub write_is : (bytes : List ℕ) (after_word : Bool) (xs : List Lexeme) → led xs ≡ true → list_all is_symbol xs ≡ true
+    → (write (output bytes after_word) xs).bytes ≡ bytes ++ text_after after_word xs
 write_is bytes after_word [] l h = sym (ap (λ (x : List ℕ). bytes ++ x) (none_after after_word) ∙ append-nil bytes)
 write_is bytes after_word (x ∷ xs) l h =
     let leads_parts = and_parts (not (leads x) || begins_word xs) (led xs) l in
@@ -125,4 +96,5 @@ write_is bytes after_word (x ∷ xs) l h =
     ∙ ap (λ (t : List ℕ). next.bytes ++ t) rest
     ∙ ap (λ (t : List ℕ). t ++ spaced x (printed xs)) (put_bytes bytes after_word x)
     ∙ append_assoc bytes (gap after_word x ++ lexeme_bytes x) (spaced x (printed xs))
-    ∙ ap (λ (t : List ℕ). bytes ++ t) (append_assoc (gap after_word x) (lexeme_bytes x) (spaced x (printed xs)) ∙ gap_text (after_word && is_word x) (lexeme_bytes x ++ spaced x (printed xs)))
+    ∙ ap (λ (t : List ℕ). bytes ++ t) (append_assoc (gap after_word x) (lexeme_bytes x) (spaced x (printed xs))
+    ∙ gap_text (after_word && is_word x) (lexeme_bytes x ++ spaced x (printed xs)))

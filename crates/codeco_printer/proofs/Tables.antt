@@ -3,13 +3,13 @@ use Rattle.std.proofs.Common.{◌≡◌, ℕ, zero, suc, ◌+◌, ◌<◌, ◌�
 use Rattle.std.specs.List.{list_all, range_with_len}
 use Rattle.std.proofs.lemmas.List.{take_all, take_more, get_or-take, length-take-le}
 use Rattle.std.proofs.lemmas.Bool.{and_parts, and_from, or_parts, or_right, cases_Bool, ltb-true, eqb-true, cond-true, cond-false, not-true, not_from_false, agree_below_at}
+use Rattle.codeco_checked.proofs.NumberingLemmas.{counted}
 use Rattle.codeco_text.specs.Names.{same_bytes, is_among}
-use Rattle.codeco_text.proofs.Growth.{same_is}
+use Rattle.codeco_text.proofs.Growth.{same_is, same_bytes_refl}
 use Rattle.codeco_checked.specs.Numbering.{counts_up, differ, begins_with}
 use Rattle.codeco_printer.specs.Unnumbered.{name_at, letter}
 use Rattle.codeco_numbering.specs.Numbered.{gathered, number_of}
-use Rattle.codeco_numbering.proofs.SoundTables.{same_bytes_refl, differs_comm}
-use Rattle.codeco_numbering.proofs.SoundCounts.{counted}
+use Rattle.codeco_numbering.proofs.Sound.Tables.{differs_comm}
 
 -- a name that stands at a place is among the names
 pub among_at : (names : List (List ℕ)) (n : ℕ) → n < length names → is_among names (name_at names n) ≡ true
@@ -47,23 +47,32 @@ old_at names next n most lt =
     subst (λ w. is_among (take next names) w ≡ true) (get_or-take next names n [] lt) (among_at (take next names) n (omega arith))
 
 -- the names of numbers that are given by first occurrence are gathered in order of number
-pub gathered_counts : (names : List (List ℕ)) (next : ℕ) (ns : List ℕ) → differ names ≡ true → counts_up next (length names) ns ≡ true → gathered (take next names) (map (name_at names) ns) ≡ names
+pub gathered_counts : (names : List (List ℕ)) (next : ℕ) (ns : List ℕ) → differ names ≡ true → counts_up next (length names) ns ≡ true
+    → gathered (take next names) (map (name_at names) ns) ≡ names
 gathered_counts names next [] d h = let e = eqb-true next (length names) h in take_all next names (omega arith)
 gathered_counts names next (n ∷ ns) d h =
     let most = (counted next (length names) (n ∷ ns) h).0 in
     elim (cases_Bool (ltb n next)) [
       | inl low ↦
-          let rest : counts_up next (length names) ns ≡ true = sym (cond-true (ltb n next) (counts_up next (length names) ns) (eqb n next && counts_up (next + 1) (length names) ns) low) ∙ h in
+          let rest : counts_up next (length names) ns ≡ true =
+          sym (cond-true (ltb n next) (counts_up next (length names) ns) (eqb n next && counts_up (next + 1) (length names) ns) low) ∙ h in
           let old = old_at names next n most (ltb-true n next low) in
-          ap (λ (x : List (List ℕ)). gathered x (map (name_at names) ns)) (cond-true (is_among (take next names) (name_at names n)) (take next names) (take next names ++ name_at names n ∷ []) old) ∙ gathered_counts names next ns d rest
+          ap (λ (x : List (List ℕ)). gathered x (map (name_at names) ns))
+          (cond-true (is_among (take next names) (name_at names n)) (take next names) (take next names ++ name_at names n ∷ []) old)
+          ∙ gathered_counts names next ns d rest
       | inr high ↦
-          let parts = and_parts (eqb n next) (counts_up (next + 1) (length names) ns) (sym (cond-false (ltb n next) (counts_up next (length names) ns) (eqb n next && counts_up (next + 1) (length names) ns) high) ∙ h) in
+          let parts = and_parts (eqb n next) (counts_up (next + 1) (length names) ns)
+          (sym (cond-false (ltb n next) (counts_up next (length names) ns) (eqb n next && counts_up (next + 1) (length names) ns) high) ∙ h) in
           let same : n ≡ next = eqb-true n next parts.0 in
           let more = (counted (next + 1) (length names) ns parts.1).0 in
           let lt : next < length names = omega arith in
-          let fresh : is_among (take next names) (name_at names n) ≡ false = subst (λ k. is_among (take next names) (name_at names k) ≡ false) (sym same) (fresh_at names next d lt) in
-          let grown : take next names ++ name_at names n ∷ [] ≡ take (next + 1) names = ap (λ k. take next names ++ name_at names k ∷ []) same ∙ sym (take_more names next [] lt) in
-          ap (λ (x : List (List ℕ)). gathered x (map (name_at names) ns)) (cond-false (is_among (take next names) (name_at names n)) (take next names) (take next names ++ name_at names n ∷ []) fresh ∙ grown) ∙ gathered_counts names (next + 1) ns d parts.1
+          let fresh : is_among (take next names) (name_at names n) ≡ false =
+          subst (λ k. is_among (take next names) (name_at names k) ≡ false) (sym same) (fresh_at names next d lt) in
+          let grown : take next names ++ name_at names n ∷ [] ≡ take (next + 1) names =
+          ap (λ k. take next names ++ name_at names k ∷ []) same ∙ sym (take_more names next [] lt) in
+          ap (λ (x : List (List ℕ)). gathered x (map (name_at names) ns))
+          (cond-false (is_among (take next names) (name_at names n)) (take next names) (take next names ++ name_at names n ∷ []) fresh ∙ grown)
+          ∙ gathered_counts names (next + 1) ns d parts.1
     ]
 
 pub begins_take : (xs names : List (List ℕ)) → begins_with xs names ≡ true → take (length xs) names ≡ xs
@@ -86,7 +95,8 @@ differ_take names zero h = refl
 differ_take [] (suc n) h = refl
 differ_take (x ∷ xs) (suc n) h =
     let parts = and_parts (not (is_among xs x)) (differ xs) h in
-    and_from (not (is_among (take n xs) x)) (differ (take n xs)) (not_from_false (is_among (take n xs) x) (not_among_take xs x n (not-true (is_among xs x) parts.0))) (differ_take xs n parts.1)
+    and_from (not (is_among (take n xs) x)) (differ (take n xs))
+    (not_from_false (is_among (take n xs) x) (not_among_take xs x n (not-true (is_among xs x) parts.0))) (differ_take xs n parts.1)
   where
     not_among_take : (ys : List (List ℕ)) (w : List ℕ) (k : ℕ) → is_among ys w ≡ false → is_among (take k ys) w ≡ false
     not_among_take ys w zero e = refl
@@ -114,7 +124,8 @@ letters_at : (k : ℕ) (xs : List ℕ) → k ≤ 16 → list_all (λ x. ltb x k)
 letters_at k [] most h = refl
 letters_at k (x ∷ xs) most h =
     let parts = and_parts (ltb x k) (list_all (λ y. ltb y k) xs) h in
-    ap (λ (w : List ℕ). w ∷ map letter xs) (sym (variable_at k x most (ltb-true x k parts.0))) ∙ ap (λ (ws : List (List ℕ)). name_at (take k sixteen) x ∷ ws) (letters_at k xs most parts.1)
+    ap (λ (w : List ℕ). w ∷ map letter xs) (sym (variable_at k x most (ltb-true x k parts.0)))
+    ∙ ap (λ (ws : List (List ℕ)). name_at (take k sixteen) x ∷ ws) (letters_at k xs most parts.1)
 
 -- the variables of a rule are gathered as letters
 pub gathered_letters : (k : ℕ) (xs : List ℕ) → k ≤ 16 → counts_up 0 k xs ≡ true → gathered [] (map letter xs) ≡ take k sixteen

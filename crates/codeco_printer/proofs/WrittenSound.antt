@@ -27,11 +27,11 @@ use Rattle.codeco_checked.specs.Numbering.{declared_atoms}
 use Rattle.codeco_checked.specs.Sound.{IsSound, is_empty, is_written, is_written_name, is_written_pattern, is_plain_pattern, is_written_element, is_written_rule, has_values}
 use Rattle.codeco_printer.specs.Unnumbered.{name_at, feature_name, letter, written_term, plain_terms, taken_terms, below, from, merged, with_names, written_category, written_pattern, written_element, written_rule, declaration, written_feature, written_of}
 use Rattle.codeco_numbering.specs.Labels.{label_name}
-use Rattle.codeco_numbering.proofs.SoundMentions.{with_taken_all}
+use Rattle.codeco_numbering.proofs.Sound.Mentions.{with_taken_all}
 use Rattle.wiki_base.proofs.ListLaws.{all_append, all_split, all_flat, flat_all, all_weaken, all_both}
 use Rattle.codeco_printer.proofs.WriteLaws.{merged_none}
 use Rattle.codeco_printer.proofs.SoundNames.{letter_variable, label_named, kind_named, term_named, feat_named, category_named, atoms_named, mentions_named, terminals_named}
-use Rattle.codeco_numbering.proofs.SoundSpelled.{term_spelled, feat_spelled, category_spelled, element_spelled, label_spelled, item_spelled}
+use Rattle.codeco_numbering.proofs.Sound.Spelled.{term_spelled, feat_spelled, category_spelled, element_spelled, label_spelled, item_spelled}
 
 -- Marked features among the others
 
@@ -76,7 +76,8 @@ plain_written g (f ∷ fs) h =
     and_from (is_identifier (feature_name g.features f.0) && term_spelled (written_term g f.1)) (list_all (pair_spelled g) (plain_terms g fs))
     (and_from (is_identifier (feature_name g.features f.0)) (term_spelled (written_term g f.1)) here.0 (term_written g f.1 here.1)) (plain_written g fs parts.1)
 
-taken_written : (g : GrammarParts) (taken : List (ℕ × ℕ)) → list_all (λ t. feat_named g (t.0, Var t.1)) taken ≡ true → list_all (pair_spelled g) (taken_terms taken) ≡ true
+taken_written : (g : GrammarParts) (taken : List (ℕ × ℕ)) → list_all (λ t. feat_named g (t.0, Var t.1)) taken ≡ true
+    → list_all (pair_spelled g) (taken_terms taken) ≡ true
 taken_written g [] h = refl
 taken_written g (t ∷ ts) h =
     let parts = and_parts (feat_named g (t.0, Var t.1)) (list_all (λ u. feat_named g (u.0, Var u.1)) ts) h in
@@ -90,7 +91,8 @@ named_spelled g fs h = all-map feat_spelled (λ f. record { name = feature_name 
 category_written : (g : GrammarParts) (c : Category) → category_named g c ≡ true → category_spelled (written_category g c) ≡ true
 category_written g c h =
     let parts = and_parts (is_identifier (name_at g.categories c.name)) (list_all (feat_named g) c.feats) h in
-    and_from (is_identifier (name_at g.categories c.name)) (list_all feat_spelled (with_names g (plain_terms g c.feats))) parts.0 (named_spelled g (plain_terms g c.feats) (plain_written g c.feats parts.1))
+    and_from (is_identifier (name_at g.categories c.name)) (list_all feat_spelled (with_names g (plain_terms g c.feats))) parts.0
+    (named_spelled g (plain_terms g c.feats) (plain_written g c.feats parts.1))
 
 pattern_written : (g : GrammarParts) (p : Pattern) → category_named g (whole p) ≡ true → category_spelled (written_pattern g p) ≡ true
 pattern_written g p h =
@@ -98,26 +100,31 @@ pattern_written g p h =
     let feats = with_taken_all (feat_named g) p.cat.feats p.taken parts.1 in
     let all = merged (plain_terms g p.cat.feats) (taken_terms p.taken) in
     and_from (is_identifier (name_at g.categories p.cat.name)) (list_all feat_spelled (with_names g all)) parts.0
-    (named_spelled g all (merged_all (pair_spelled g) (plain_terms g p.cat.feats) (taken_terms p.taken) (plain_written g p.cat.feats feats.0) (taken_written g p.taken feats.1)))
+    (named_spelled g all (merged_all (pair_spelled g) (plain_terms g p.cat.feats) (taken_terms p.taken) (plain_written g p.cat.feats feats.0)
+    (taken_written g p.taken feats.1)))
 
-patterns_written : (g : GrammarParts) (ps : List Pattern) → list_all (category_named g) (map whole ps) ≡ true → list_all category_spelled (map (written_pattern g) ps) ≡ true
+patterns_written : (g : GrammarParts) (ps : List Pattern) → list_all (category_named g) (map whole ps) ≡ true
+    → list_all category_spelled (map (written_pattern g) ps) ≡ true
 patterns_written g [] h = refl
 patterns_written g (p ∷ ps) h =
     let parts = and_parts (category_named g (whole p)) (list_all (category_named g) (map whole ps)) h in
-    and_from (category_spelled (written_pattern g p)) (list_all category_spelled (map (written_pattern g) ps)) (pattern_written g p parts.0) (patterns_written g ps parts.1)
+    and_from (category_spelled (written_pattern g p)) (list_all category_spelled (map (written_pattern g) ps)) (pattern_written g p parts.0)
+    (patterns_written g ps parts.1)
 
 -- Elements
 
 abbrev terminal_named : GrammarParts → ℕ → Bool
 terminal_named g t = is_terminal (name_at g.terminals t)
 
-element_written : (g : GrammarParts) (e : Element) → IsSound g → is_written_element e ≡ true → list_all (category_named g) (mentions e) ≡ true → list_all (terminal_named g) (element_terminals e) ≡ true → element_spelled (written_element g e) ≡ true
+element_written : (g : GrammarParts) (e : Element) → IsSound g → is_written_element e ≡ true → list_all (category_named g) (mentions e) ≡ true
+    → list_all (terminal_named g) (element_terminals e) ≡ true → element_spelled (written_element g e) ≡ true
 element_written g (Terminal t) s w m t' = (and_parts (terminal_named g t) true t').0
 element_written g (Preterminal c) s w m t =
     let here = and_parts (category_named g c) true m in
     let parts = and_parts (is_identifier (name_at g.categories c.name)) (list_all (feat_named g) c.feats) here.0 in
     let low = and_parts (ltb c.name 5) (is_written c) w in
-    and_from (is_among kinds (name_at g.categories c.name)) (list_all feat_spelled (with_names g (plain_terms g c.feats))) (kind_named g.categories c.name s.numbered.first_categories low.0) (named_spelled g (plain_terms g c.feats) (plain_written g c.feats parts.1))
+    and_from (is_among kinds (name_at g.categories c.name)) (list_all feat_spelled (with_names g (plain_terms g c.feats)))
+    (kind_named g.categories c.name s.numbered.first_categories low.0) (named_spelled g (plain_terms g c.feats) (plain_written g c.feats parts.1))
 element_written g (Sub c) s w m t = category_written g c (and_parts (category_named g c) true m).0
 element_written g (Position x) s w m t = letter_variable x
 element_written g Opener s w m t = refl
@@ -125,39 +132,49 @@ element_written g (Forward c) s w m t = category_written g c (and_parts (categor
 element_written g (Strong c) s w m t = category_written g c (and_parts (category_named g c) true m).0
 element_written g (Back ps ns) s w m t =
     let parts = all_split (category_named g) (map whole ps) (map whole ns) m in
-    and_from (list_all category_spelled (map (written_pattern g) ps)) (list_all category_spelled (map (written_pattern g) ns)) (patterns_written g ps parts.0) (patterns_written g ns parts.1)
+    and_from (list_all category_spelled (map (written_pattern g) ps)) (list_all category_spelled (map (written_pattern g) ns)) (patterns_written g ps parts.0)
+    (patterns_written g ns parts.1)
 element_written g (NoBack ps) s w m t = patterns_written g ps m
 
-body_written : (g : GrammarParts) (es : List Element) → IsSound g → list_all is_written_element es ≡ true → list_all (λ e. list_all (category_named g) (mentions e)) es ≡ true → list_all (λ e. list_all (terminal_named g) (element_terminals e)) es ≡ true → list_all element_spelled (map (written_element g) es) ≡ true
+body_written : (g : GrammarParts) (es : List Element) → IsSound g → list_all is_written_element es ≡ true
+    → list_all (λ e. list_all (category_named g) (mentions e)) es ≡ true → list_all (λ e. list_all (terminal_named g) (element_terminals e)) es ≡ true
+    → list_all element_spelled (map (written_element g) es) ≡ true
 body_written g [] s w m t = refl
 body_written g (e ∷ es) s w m t =
     let ws = and_parts (is_written_element e) (list_all is_written_element es) w in
     let ms = and_parts (list_all (category_named g) (mentions e)) (list_all (λ x. list_all (category_named g) (mentions x)) es) m in
     let ts = and_parts (list_all (terminal_named g) (element_terminals e)) (list_all (λ x. list_all (terminal_named g) (element_terminals x)) es) t in
-    and_from (element_spelled (written_element g e)) (list_all element_spelled (map (written_element g) es)) (element_written g e s ws.0 ms.0 ts.0) (body_written g es s ws.1 ms.1 ts.1)
+    and_from (element_spelled (written_element g e)) (list_all element_spelled (map (written_element g) es)) (element_written g e s ws.0 ms.0 ts.0)
+    (body_written g es s ws.1 ms.1 ts.1)
 
 label_written : (l : Option Label) → label_spelled (option_map label_name l) ≡ true
 label_written None = refl
 label_written (Some l) = label_named l
 
-rule_written : (g : GrammarParts) (r : Rule) → IsSound g → is_written_rule r ≡ true → list_all (category_named g) (rule_mentions r) ≡ true → list_all (terminal_named g) (rule_terminals r) ≡ true → item_spelled (item.Rule (written_rule g r)) ≡ true
+rule_written : (g : GrammarParts) (r : Rule) → IsSound g → is_written_rule r ≡ true → list_all (category_named g) (rule_mentions r) ≡ true
+    → list_all (terminal_named g) (rule_terminals r) ≡ true → item_spelled (item.Rule (written_rule g r)) ≡ true
 rule_written g r s w m t =
     let ws = and_parts (is_written_name r.head) (list_all is_written_element r.body) w in
     let ms = and_parts (category_named g r.head) (list_all (category_named g) (flat_map mentions r.body)) m in
-    and_from (label_spelled (option_map label_name r.label)) (category_spelled (written_category g r.head) && list_all element_spelled (map (written_element g) r.body)) (label_written r.label)
+    and_from (label_spelled (option_map label_name r.label))
+    (category_spelled (written_category g r.head) && list_all element_spelled (map (written_element g) r.body)) (label_written r.label)
     (and_from (category_spelled (written_category g r.head)) (list_all element_spelled (map (written_element g) r.body)) (category_written g r.head ms.0)
     (body_written g r.body s ws.1 (all_flat (category_named g) mentions r.body ms.1) (all_flat (terminal_named g) element_terminals r.body t)))
 
 -- Declarations
 
-atoms_written : (g : GrammarParts) (atoms : List ℕ) → list_all (λ a. is_identifier (name_at g.atoms a)) atoms ≡ true → list_all is_identifier (map (name_at g.atoms) atoms) ≡ true
+atoms_written : (g : GrammarParts) (atoms : List ℕ) → list_all (λ a. is_identifier (name_at g.atoms a)) atoms ≡ true
+    → list_all is_identifier (map (name_at g.atoms) atoms) ≡ true
 atoms_written g atoms h = all-map is_identifier (name_at g.atoms) atoms ∙ h
 
-declaration_written : (g : GrammarParts) (name : List ℕ) (d : Declared) → is_identifier name ≡ true → list_all (λ a. is_identifier (name_at g.atoms a)) (declared_atoms d) ≡ true → list_all item_spelled (declaration g name d) ≡ true
+declaration_written : (g : GrammarParts) (name : List ℕ) (d : Declared) → is_identifier name ≡ true
+    → list_all (λ a. is_identifier (name_at g.atoms a)) (declared_atoms d) ≡ true → list_all item_spelled (declaration g name d) ≡ true
 declaration_written g name declared.Undeclared h k = refl
 declaration_written g name declared.Words h k = and_from (is_identifier name && true) true (and_from (is_identifier name) true h refl) refl
 declaration_written g name declared.Positions h k = and_from (is_identifier name && true) true (and_from (is_identifier name) true h refl) refl
-declaration_written g name (declared.Atoms atoms) h k = and_from (is_identifier name && list_all is_identifier (map (name_at g.atoms) atoms)) true (and_from (is_identifier name) (list_all is_identifier (map (name_at g.atoms) atoms)) h (atoms_written g atoms k)) refl
+declaration_written g name (declared.Atoms atoms) h k =
+    and_from (is_identifier name && list_all is_identifier (map (name_at g.atoms) atoms)) true
+    (and_from (is_identifier name) (list_all is_identifier (map (name_at g.atoms) atoms)) h (atoms_written g atoms k)) refl
 
 -- the declarations and rules of a sound grammar have the names, variables and terminals of the notation
 pub written_spelled : (g : GrammarParts) → IsSound g → list_all item_spelled (written_of g) ≡ true
@@ -172,7 +189,8 @@ written_spelled g s =
     let P : Feature → Bool = λ f. is_identifier f.name in
     let Q : Feature → Bool = λ f. list_all (λ a. is_identifier (name_at g.atoms a)) (declared_atoms f.declared) in
     let declarations : list_all (λ f. list_all item_spelled (written_feature g f)) g.features ≡ true =
-    all_weaken (λ f. P f && Q f) (λ f. list_all item_spelled (written_feature g f)) (λ f h. let parts = and_parts (P f) (Q f) h in declaration_written g f.name f.declared parts.0 parts.1)
+    all_weaken (λ f. P f && Q f) (λ f. list_all item_spelled (written_feature g f))
+    (λ f h. let parts = and_parts (P f) (Q f) h in declaration_written g f.name f.declared parts.0 parts.1)
     g.features (all_both P Q g.features s.written.features (atoms_named g s)) in
     all_append item_spelled (flat_map (written_feature g) g.features) (map (λ r. item.Rule (written_rule g r)) g.rules)
     (flat_all item_spelled (written_feature g) g.features declarations)
@@ -186,10 +204,13 @@ term_plain g (Var x) = refl
 
 plain_fits : (g : GrammarParts) (feats : List (ℕ × Term)) → list_all (λ f. not (is_marked f.term)) (with_names g (plain_terms g feats)) ≡ true
 plain_fits g [] = refl
-plain_fits g (f ∷ fs) = and_from (not (is_marked (written_term g f.1))) (list_all (λ h. not (is_marked h.term)) (with_names g (plain_terms g fs))) (term_plain g f.1) (plain_fits g fs)
+plain_fits g (f ∷ fs) = and_from (not (is_marked (written_term g f.1))) (list_all (λ h. not (is_marked h.term)) (with_names g (plain_terms g fs)))
+    (term_plain g f.1) (plain_fits g fs)
 
-none_taken : (g : GrammarParts) (feats : List (ℕ × Term)) (taken : List (ℕ × ℕ)) → is_empty taken ≡ true → list_all (λ f. not (is_marked f.term)) (with_names g (merged (plain_terms g feats) (taken_terms taken))) ≡ true
-none_taken g feats [] h = ap (λ (x : List (ℕ × WrittenTerm)). list_all (λ (f : WrittenFeat). not (is_marked f.term)) (with_names g x)) (merged_none (plain_terms g feats)) ∙ plain_fits g feats
+none_taken : (g : GrammarParts) (feats : List (ℕ × Term)) (taken : List (ℕ × ℕ)) → is_empty taken ≡ true
+    → list_all (λ f. not (is_marked f.term)) (with_names g (merged (plain_terms g feats) (taken_terms taken))) ≡ true
+none_taken g feats [] h = ap (λ (x : List (ℕ × WrittenTerm)). list_all (λ (f : WrittenFeat). not (is_marked f.term)) (with_names g x))
+    (merged_none (plain_terms g feats)) ∙ plain_fits g feats
 none_taken g feats (t ∷ ts) h = absurd cc
 
 plain_patterns : (g : GrammarParts) (ps : List Pattern) → list_all is_plain_pattern ps ≡ true → list_all is_plain (map (written_pattern g) ps) ≡ true
@@ -197,7 +218,8 @@ plain_patterns g [] h = refl
 plain_patterns g (p ∷ ps) h =
     let parts = and_parts (is_plain_pattern p) (list_all is_plain_pattern ps) h in
     let here = and_parts (is_written_name p.cat) (is_empty p.taken) parts.0 in
-    and_from (is_plain (written_pattern g p)) (list_all is_plain (map (written_pattern g) ps)) (none_taken g p.cat.feats p.taken here.1) (plain_patterns g ps parts.1)
+    and_from (is_plain (written_pattern g p)) (list_all is_plain (map (written_pattern g) ps)) (none_taken g p.cat.feats p.taken here.1)
+    (plain_patterns g ps parts.1)
 
 some_patterns : (g : GrammarParts) (ps : List Pattern) → not (is_empty ps) ≡ true → not (notation.is_empty (map (written_pattern g) ps)) ≡ true
 some_patterns g [] h = absurd cc
@@ -214,21 +236,25 @@ element_written_fits g (Strong c) h = plain_fits g c.feats
 element_written_fits g (Back ps ns) h =
     let parts = and_parts (not (is_empty ps) && list_all is_written_pattern ps) (list_all is_plain_pattern ns) h in
     let front = and_parts (not (is_empty ps)) (list_all is_written_pattern ps) parts.0 in
-    and_from (not (notation.is_empty (map (written_pattern g) ps))) (list_all is_plain (map (written_pattern g) ns)) (some_patterns g ps front.0) (plain_patterns g ns parts.1)
+    and_from (not (notation.is_empty (map (written_pattern g) ps))) (list_all is_plain (map (written_pattern g) ns)) (some_patterns g ps front.0)
+    (plain_patterns g ns parts.1)
 element_written_fits g (NoBack ps) h =
     let parts = and_parts (not (is_empty ps)) (list_all is_plain_pattern ps) h in
-    and_from (not (notation.is_empty (map (written_pattern g) ps))) (list_all is_plain (map (written_pattern g) ps)) (some_patterns g ps parts.0) (plain_patterns g ps parts.1)
+    and_from (not (notation.is_empty (map (written_pattern g) ps))) (list_all is_plain (map (written_pattern g) ps)) (some_patterns g ps parts.0)
+    (plain_patterns g ps parts.1)
 
 body_fits : (g : GrammarParts) (es : List Element) → list_all is_written_element es ≡ true → list_all element_fits (map (written_element g) es) ≡ true
 body_fits g [] h = refl
 body_fits g (e ∷ es) h =
     let parts = and_parts (is_written_element e) (list_all is_written_element es) h in
-    and_from (element_fits (written_element g e)) (list_all element_fits (map (written_element g) es)) (element_written_fits g e parts.0) (body_fits g es parts.1)
+    and_from (element_fits (written_element g e)) (list_all element_fits (map (written_element g) es)) (element_written_fits g e parts.0)
+    (body_fits g es parts.1)
 
 rule_fits : (g : GrammarParts) (r : Rule) → is_written_rule r ≡ true → item_fits (item.Rule (written_rule g r)) ≡ true
 rule_fits g r h =
     let parts = and_parts (is_written_name r.head) (list_all is_written_element r.body) h in
-    and_from (is_plain (written_category g r.head)) (list_all element_fits (map (written_element g) r.body)) (plain_fits g r.head.feats) (body_fits g r.body parts.1)
+    and_from (is_plain (written_category g r.head)) (list_all element_fits (map (written_element g) r.body)) (plain_fits g r.head.feats)
+    (body_fits g r.body parts.1)
 
 some_atoms : (g : GrammarParts) (atoms : List ℕ) → not (is_empty atoms) ≡ true → not (notation.is_empty (map (name_at g.atoms) atoms)) ≡ true
 some_atoms g [] h = absurd cc
@@ -244,5 +270,8 @@ declaration_fits g name (declared.Atoms atoms) h = and_from (not (notation.is_em
 pub written_fits : (g : GrammarParts) → IsSound g → list_all item_fits (written_of g) ≡ true
 written_fits g s =
     all_append item_fits (flat_map (written_feature g) g.features) (map (λ r. item.Rule (written_rule g r)) g.rules)
-    (flat_all item_fits (written_feature g) g.features (all_weaken (λ f. has_values f.declared) (λ f. list_all item_fits (written_feature g f)) (λ f h. declaration_fits g f.name f.declared h) g.features s.written.values))
-    (all-map item_fits (λ r. item.Rule (written_rule g r)) g.rules ∙ all_weaken is_written_rule (λ r. item_fits (item.Rule (written_rule g r))) (rule_fits g) g.rules s.written.rules)
+    (flat_all item_fits (written_feature g) g.features
+    (all_weaken (λ f. has_values f.declared) (λ f. list_all item_fits (written_feature g f)) (λ f h. declaration_fits g f.name f.declared h) g.features
+    s.written.values))
+    (all-map item_fits (λ r. item.Rule (written_rule g r)) g.rules
+    ∙ all_weaken is_written_rule (λ r. item_fits (item.Rule (written_rule g r))) (rule_fits g) g.rules s.written.rules)

@@ -14,4 +14,5 @@ printed (x ∷ xs) = lexeme_bytes x ++ spaced x (printed xs)
 
 -- Where a space is put between a symbol and those behind it, the text without that space would not spell them.
 abbrev pub NeedsSpaces : List Lexeme → Type 0
-NeedsSpaces xs = (front : List Lexeme) (x : Lexeme) (back : List Lexeme) → xs ≡ front ++ x ∷ back → goes_on x (printed back) ≡ true → ¬ Spells (lexeme_bytes x ++ printed back) (x ∷ back)
+NeedsSpaces xs = (front : List Lexeme) (x : Lexeme) (back : List Lexeme) → xs ≡ front ++ x ∷ back → goes_on x (printed back) ≡ true
+    → ¬ Spells (lexeme_bytes x ++ printed back) (x ∷ back)

@@ -1,4 +1,4 @@
--- An example: the grammar of the text `text --> [a].`
+-- An example: the grammar of the text `text --> [a].` Only private calls speak of it.
 use Rattle.std.specs.Prelude.{ℕ, false, List, [], ◌∷◌, map, codes, None}
 use Rattle.codeco_terms.specs.declared.elements.Element.TheVariants.{Terminal}
 use Rattle.codeco_terms.specs.declared.declarations.Declared.TheVariants.{Undeclared}

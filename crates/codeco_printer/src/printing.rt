@@ -134,7 +134,9 @@ fn print_feature(
     feature: u16,
     term: Term,
 ) -> Result<usize, Memory>
-    ensures written { OnOk result (out.new ≡ write out.old (opened_feats opened (with_names grammar.now (below feature (taken_terms taken.now) ++ (feature, written_term grammar.now term) ∷ [])))) }
+    ensures written { OnOk result (out.new
+        ≡ write out.old (opened_feats opened
+        (with_names grammar.now (below feature (taken_terms taken.now) ++ (feature, written_term grammar.now term) ∷ [])))) }
     ensures bound { IfOk result (λ count. count ≤ length taken.now) }
     ensures from { IfOk result (λ count. taken_terms (drop count taken.now) ≡ from feature (taken_terms taken.now)) }
 {
@@ -169,7 +171,8 @@ fn print_features(
     feats: &[(u16, Term)],
     taken: &[(u16, u8)],
 ) -> Result<(), Memory>
-    ensures { OnOk result (out.new ≡ write out.old (closed_feats false (with_names grammar.now (merged (plain_terms grammar.now feats.now) (taken_terms taken.now))))) }
+    ensures { OnOk result (out.new ≡ write out.old
+        (closed_feats false (with_names grammar.now (merged (plain_terms grammar.now feats.now) (taken_terms taken.now))))) }
 {
     let mut done = 0;
     let mut opened = false;

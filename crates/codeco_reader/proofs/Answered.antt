@@ -20,7 +20,8 @@ IsOnly text items = (others : List WrittenItem) → IsSpelling text others → i
 same_grammar : (text : List ℕ) (items : List WrittenItem) (g : GrammarParts) → IsOnly text items → Makes text g → numbered_of items ≡ g
 same_grammar text items g only m = ap numbered_of (only m.0 m.1) ∙ m.2
 
-not_faulty : (text : List ℕ) (items : List WrittenItem) (g : GrammarParts) (fault : GrammarFault) → IsOnly text items → Makes text g → IsFaultless g → MakesFaulty text fault → ⊥
+not_faulty : (text : List ℕ) (items : List WrittenItem) (g : GrammarParts) (fault : GrammarFault) → IsOnly text items → Makes text g → IsFaultless g
+    → MakesFaulty text fault → ⊥
 not_faulty text items g fault only m none bad =
     let same : bad.0 ≡ g = sym (same_grammar text items bad.0 only bad.1) ∙ same_grammar text items g only m in
     none fault (subst (λ x. Holds x fault) same bad.2.holds)
@@ -44,6 +45,7 @@ pub printed_makes : (text : List ℕ) (g : GrammarParts) → IsSound g → text 
 printed_makes text g sound is = (written_of g, printed_spells g sound text is, numbered_of-written_of g sound)
 
 -- an error that is want of memory
-pub memory_given : (g : GrammarParts) (fault : GrammarFault) (r : Result GrammarParts GrammarFault) → IsErr r → IsErrAnd r (λ e. e ≡ fault) → fault ≡ Memory → Gives g r
+pub memory_given : (g : GrammarParts) (fault : GrammarFault) (r : Result GrammarParts GrammarFault) → IsErr r → IsErrAnd r (λ e. e ≡ fault) → fault ≡ Memory
+    → Gives g r
 memory_given g fault (Ok given) err same memory = absurd cc
 memory_given g fault (Err e) err same memory = same ∙ memory

@@ -11,8 +11,8 @@ ghost use Rattle.codeco_printer.specs.Unnumbered.{written_of};
 ghost use Rattle.codeco_reader.specs.Texts.{is_in_size, Makes, IsFaultless, SaysOf, Gives};
 
 use codeco_checked::{CheckedGrammar, GrammarFault};
-use codeco_faults::first_fault;
-use codeco_limits::first_early_fault;
+use codeco_early_faults::first_early_fault;
+use codeco_late_faults::first_fault;
 use codeco_numbering::number_items;
 use codeco_text::{SyntaxFault, WrittenItems, read_items};
 use std::alloc::Global;
@@ -61,7 +61,8 @@ pub fn read_grammar(alloc: Global, text: &str) -> Result<CheckedGrammar, Grammar
     ensures accepts { (grammar : GrammarParts) → IsTrue (is_in_size text.now) → Makes text.now grammar → IsFaultless grammar → Gives grammar result }
 
     // The printed text of a grammar is read back as an equal one, where it is in size.
-    ensures printed { (grammar : GrammarParts) → IsSound grammar → text.now ≡ printed (lexemes (written_of grammar)) → IsTrue (is_in_size text.now) → Gives grammar result }
+    ensures printed { (grammar : GrammarParts) → IsSound grammar → text.now ≡ printed (lexemes (written_of grammar)) → IsTrue (is_in_size text.now)
+        → Gives grammar result }
 {
     if text.len() > SIZE_LIMIT {
         return Err(GrammarFault::TooLarge(0));

@@ -6,12 +6,12 @@ mod categories;
 mod declarations;
 mod elements;
 mod environment;
-#[cfg(test)]
-mod examples;
 mod feature_lists;
 mod grammar;
 mod rules;
 mod symbols;
+#[cfg(test)]
+mod tests;
 mod unification;
 mod values;
 

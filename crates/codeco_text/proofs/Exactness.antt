@@ -5,15 +5,15 @@ use Rattle.std.specs.Prelude.{IfOk, IfErr}
 use Rattle.std.proofs.lemmas.List.{append-nil, take_at}
 use Rattle.std.proofs.lemmas.Bool.{cases_Bool}
 use Rattle.codeco_text.specs.declared.symbols.Lexeme.{Lexeme}
-use Rattle.codeco_text.specs.declared.stand.Stand.{Stand}
-use Rattle.codeco_text.specs.declared.stand.Stand.TheVariants as stand
+use Rattle.codeco_text.specs.declared.spot.Spot.{Spot}
+use Rattle.codeco_text.specs.declared.spot.Spot.TheVariants as spot
 use Rattle.codeco_text.specs.declared.written.WrittenItem.{WrittenItem}
 use Rattle.codeco_text.specs.declared.builder.Builder.{Builder}
 use Rattle.codeco_text.specs.declared.syntax_fault.SyntaxFault.{SyntaxFault}
 use Rattle.codeco_text.specs.declared.syntax_fault.SyntaxFault.TheVariants as fault
 use Rattle.codeco_text.specs.Notation.{lexemes, item_fits, Spells, SpellsFrom, IsSpelling, IsSentence, HasContinuation, IsSyntaxFault, TellsFault, Finds}
 use Rattle.codeco_text.specs.Reading.{◌>>=◌}
-use Rattle.codeco_text.specs.Building.{so_far, so_far_at}
+use Rattle.codeco_text.proofs.SoFar.{so_far, so_far_at}
 use Rattle.codeco_text.specs.Scanning.{Mode, between, fresh, guard, finish, step, is_between_items, ended, ok_or_place, carry, reading}
 use Rattle.codeco_text.specs.Scanner.{Reads}
 use Rattle.codeco_text.proofs.Trees.{runs, only_if, items_run}
@@ -23,28 +23,29 @@ use Rattle.codeco_text.proofs.Complete.{spelled_final}
 use Rattle.codeco_text.proofs.OneSpelling.{lexemes_same}
 use Rattle.codeco_text.proofs.Continuing.{Fits, reach, reach_final, reach_fits, continuation}
 
-items_stand : (s : Stand) → is_between_items s ≡ true → s ≡ stand.Items
-items_stand stand.Items h = refl
-items_stand _ h = absurd cc
+items_spot : (s : Spot) → is_between_items s ≡ true → s ≡ spot.Items
+items_spot spot.Items h = refl
+items_spot _ h = absurd cc
 
 -- a reading that ends between items
 pub record EndsBetween (b : Builder) (m : Mode) (text : List ℕ) (items : List WrittenItem) : Type 0 where
   pub last : Builder
   pub taken : final b m text ≡ Some last
-  pub stands : last.stand ≡ stand.Items
+  pub stands : last.spot ≡ spot.Items
   pub has : last.items ≡ items
 
 ended_ends : (b : Builder) (m : Mode) (items : List WrittenItem) → ended b m ≡ Some items → EndsBetween b m [] items
 ended_ends b m items e =
-    let c = bind_some (finish b m) (λ c. guard (is_between_items c.stand) c.items) items e in
-    let g = guard_some (is_between_items c.0.stand) c.0.items items c.2 in
-    record { last = c.0; taken = c.1; stands = items_stand c.0.stand g.0; has = g.1 }
+    let c = bind_some (finish b m) (λ c. guard (is_between_items c.spot) c.items) items e in
+    let g = guard_some (is_between_items c.0.spot) c.0.items items c.2 in
+    record { last = c.0; taken = c.1; stands = items_spot c.0.spot g.0; has = g.1 }
 
 place_ok : (o : Option (List WrittenItem)) (n : ℕ) (items : List WrittenItem) → ok_or_place o n ≡ Ok items → o ≡ Some items
 place_ok None n items e = absurd cc
 place_ok (Some x) n items e = let is : x ≡ items = cc in ap Some is
 
-carry_ok : (o : Option (Builder × Mode)) (n : ℕ) (f : Builder × Mode → Result (List WrittenItem) ℕ) (items : List WrittenItem) → carry o n f ≡ Ok items → (s : Builder × Mode) × (o ≡ Some s) × (f s ≡ Ok items)
+carry_ok : (o : Option (Builder × Mode)) (n : ℕ) (f : Builder × Mode → Result (List WrittenItem) ℕ) (items : List WrittenItem) → carry o n f ≡ Ok items
+    → (s : Builder × Mode) × (o ≡ Some s) × (f s ≡ Ok items)
 carry_ok None n f items e = absurd cc
 carry_ok (Some s) n f items e = (s, refl, e)
 
@@ -53,27 +54,33 @@ reading_ok [] b m n items e = ended_ends b m items (place_ok (ended b m) n items
 reading_ok (x ∷ xs) b m n items e =
     let s = carry_ok (step b m x) n (λ s. reading s.0 s.1 xs (n + 1)) items e in
     let rest = reading_ok xs s.0.0 s.0.1 (n + 1) items s.2 in
-    record { last = rest.last; taken = ap (λ (o : Option (Builder × Mode)). o >>= λ t. final t.0 t.1 xs) s.1 ∙ rest.taken; stands = rest.stands; has = rest.has }
+    record {
+      last = rest.last;
+      taken = ap (λ (o : Option (Builder × Mode)). o >>= λ t. final t.0 t.1 xs) s.1 ∙ rest.taken;
+      stands = rest.stands;
+      has = rest.has;
+    }
 
 -- what the reading has is spelled
 pub ends_spelling : (text : List ℕ) (items : List WrittenItem) → EndsBetween fresh between text items → IsSpelling text items
 ends_spelling text items e =
     let s = final_spelled text fresh e.last between e.taken in
-    let symbols : lexemes items ≡ s.symbols = sym (ap lexemes e.has) ∙ sym (ap (λ (t : Stand). so_far_at t e.last) e.stands) ∙ s.grows in
-    let leads : runs stand.Items (lexemes items) ≡ Some stand.Items = ap (runs stand.Items) symbols ∙ s.leads ∙ ap (λ (t : Stand). Some t) e.stands in
+    let symbols : lexemes items ≡ s.symbols = sym (ap lexemes e.has) ∙ sym (ap (λ (t : Spot). so_far_at t e.last) e.stands) ∙ s.grows in
+    let leads : runs spot.Items (lexemes items) ≡ Some spot.Items = ap (runs spot.Items) symbols ∙ s.leads ∙ ap (λ (t : Spot). Some t) e.stands in
     record {
       fits = fits_from (list_all item_fits items) (sym (items_run items) ∙ leads);
       spells = subst (λ (xs : List Lexeme). SpellsFrom false text xs) (sym symbols) s.spells;
     } where
-      fits_from : (t : Bool) → only_if t (Some stand.Items) ≡ Some stand.Items → t ≡ true
+      fits_from : (t : Bool) → only_if t (Some spot.Items) ≡ Some spot.Items → t ≡ true
       fits_from true h = refl
       fits_from false h = absurd cc
 
 -- what is spelled is taken
-pub spelling_ends : (text : List ℕ) (items : List WrittenItem) → IsSpelling text items → (d : Builder) × (final fresh between text ≡ Some d) × (d.stand ≡ stand.Items) × (so_far d ≡ lexemes items)
+pub spelling_ends : (text : List ℕ) (items : List WrittenItem) → IsSpelling text items
+    → (d : Builder) × (final fresh between text ≡ Some d) × (d.spot ≡ spot.Items) × (so_far d ≡ lexemes items)
 spelling_ends text items s =
-    let leads : runs stand.Items (lexemes items) ≡ Some stand.Items = items_run items ∙ ap (λ (t : Bool). only_if t (Some stand.Items)) s.fits in
-    spelled_final (lexemes items) text false fresh stand.Items s.spells leads
+    let leads : runs spot.Items (lexemes items) ≡ Some spot.Items = items_run items ∙ ap (λ (t : Bool). only_if t (Some spot.Items)) s.fits in
+    spelled_final (lexemes items) text false fresh spot.Items s.spells leads
 
 -- where a reading stops
 pub record Stops (b : Builder) (m : Mode) (text : List ℕ) (n place : ℕ) : Type 0 where
@@ -90,7 +97,8 @@ place_err : (o : Option (List WrittenItem)) (n place : ℕ) → ok_or_place o n 
 place_err None n place e = (refl, cc)
 place_err (Some x) n place e = absurd cc
 
-carry_err : (o : Option (Builder × Mode)) (n place : ℕ) (f : Builder × Mode → Result (List WrittenItem) ℕ) → carry o n f ≡ Err place → ((o ≡ None) × (n ≡ place)) ⊎ ((s : Builder × Mode) × (o ≡ Some s) × (f s ≡ Err place))
+carry_err : (o : Option (Builder × Mode)) (n place : ℕ) (f : Builder × Mode → Result (List WrittenItem) ℕ) → carry o n f ≡ Err place
+    → ((o ≡ None) × (n ≡ place)) ⊎ ((s : Builder × Mode) × (o ≡ Some s) × (f s ≡ Err place))
 carry_err None n place f e = inl (refl, cc)
 carry_err (Some s) n place f e = inr (s, refl, e)
 
@@ -116,7 +124,8 @@ reading_err (x ∷ xs) b m n place e = elim (carry_err (step b m x) n place (λ 
 ]
 
 -- no sentence goes on from where a step fails
-dead_end : (front : List ℕ) (x : ℕ) (more : List ℕ) (c : Builder) (k : Mode) → reach fresh between front ≡ Some (c, k) → step c k x ≡ None → IsSentence ((front ++ x ∷ []) ++ more) → ⊥
+dead_end : (front : List ℕ) (x : ℕ) (more : List ℕ) (c : Builder) (k : Mode) → reach fresh between front ≡ Some (c, k) → step c k x ≡ None
+    → IsSentence ((front ++ x ∷ []) ++ more) → ⊥
 dead_end front x more c k reached stops sentence =
     let d = spelling_ends ((front ++ x ∷ []) ++ more) sentence.0 sentence.1 in
     let here : final fresh between ((front ++ x ∷ []) ++ more) ≡ None =
@@ -135,8 +144,8 @@ open_end front c k reached stops sentence =
     ∙ reach_final front [] fresh between
     ∙ ap (λ (o : Option (Builder × Mode)). o >>= λ s. final s.0 s.1 []) reached in
     let whole : ended c k ≡ Some d.0.items =
-    ap (λ (o : Option Builder). o >>= λ c. guard (is_between_items c.stand) c.items) (sym here ∙ d.1)
-    ∙ ap (λ (s : Stand). guard (is_between_items s) d.0.items) d.2 in
+    ap (λ (o : Option Builder). o >>= λ c. guard (is_between_items c.spot) c.items) (sym here ∙ d.1)
+    ∙ ap (λ (s : Spot). guard (is_between_items s) d.0.items) d.2 in
     clash (ended c k) d.0.items stops whole where
       clash : (o : Option (List WrittenItem)) (items : List WrittenItem) → o ≡ None → o ≡ Some items → ⊥
       clash o items p q = cc
@@ -191,12 +200,12 @@ is_fault text (Ok items) h = tt
 is_fault text (Err (fault.At place)) h = stops_fault text place (reading_err text fresh between 0 place h)
 is_fault text (Err fault.Memory) h = tt
 
-place_some : (b : Builder) (m : Mode) (d : Builder) (n : ℕ) → finish b m ≡ Some d → d.stand ≡ stand.Items → ok_or_place (ended b m) n ≡ Ok d.items
+place_some : (b : Builder) (m : Mode) (d : Builder) (n : ℕ) → finish b m ≡ Some d → d.spot ≡ spot.Items → ok_or_place (ended b m) n ≡ Ok d.items
 place_some b m d n e f =
-    ap (λ (o : Option Builder). ok_or_place (o >>= λ c. guard (is_between_items c.stand) c.items) n) e
-    ∙ ap (λ (s : Stand). ok_or_place (guard (is_between_items s) d.items) n) f
+    ap (λ (o : Option Builder). ok_or_place (o >>= λ c. guard (is_between_items c.spot) c.items) n) e
+    ∙ ap (λ (s : Spot). ok_or_place (guard (is_between_items s) d.items) n) f
 
-reading_from : (text : List ℕ) (b : Builder) (m : Mode) (n : ℕ) (d : Builder) → final b m text ≡ Some d → d.stand ≡ stand.Items → reading b m text n ≡ Ok d.items
+reading_from : (text : List ℕ) (b : Builder) (m : Mode) (n : ℕ) (d : Builder) → final b m text ≡ Some d → d.spot ≡ spot.Items → reading b m text n ≡ Ok d.items
 reading_from [] b m n d e f = place_some b m d n e f
 reading_from (x ∷ xs) b m n d e f =
     let s = bind_some (step b m x) (λ s. final s.0 s.1 xs) d e in
@@ -206,10 +215,11 @@ reading_from (x ∷ xs) b m n d e f =
 spelling_read : (text : List ℕ) (items : List WrittenItem) → IsSpelling text items → reading fresh between text 0 ≡ Ok items
 spelling_read text items s =
     let d = spelling_ends text items s in
-    let same : d.0.items ≡ items = lexemes_same d.0.items items (sym (ap (λ (t : Stand). so_far_at t d.0) d.2) ∙ d.3) in
+    let same : d.0.items ≡ items = lexemes_same d.0.items items (sym (ap (λ (t : Spot). so_far_at t d.0) d.2) ∙ d.3) in
     reading_from text fresh between 0 d.0 d.1 d.2 ∙ ap (λ (x : List WrittenItem). Ok x) same
 
-pub is_only : (text : List ℕ) (r : Result (List WrittenItem) SyntaxFault) → Reads r (reading fresh between text 0) → (items : List WrittenItem) → IsSpelling text items → Finds items r
+pub is_only : (text : List ℕ) (r : Result (List WrittenItem) SyntaxFault) → Reads r (reading fresh between text 0) → (items : List WrittenItem)
+    → IsSpelling text items → Finds items r
 is_only text (Ok found) h items s = let clash = sym h ∙ spelling_read text items s in cc
 is_only text (Err (fault.At place)) h items s = absurd (let clash = sym h ∙ spelling_read text items s in cc)
 is_only text (Err fault.Memory) h items s = tt

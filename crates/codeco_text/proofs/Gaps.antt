@@ -22,7 +22,8 @@ gap_byte : (last : Bool) (b : ℕ) (bs : List ℕ) → is_gap last true (b ∷ b
 gap_byte last b bs = refl
 
 -- what begins behind a longer gap
-begins_more : (from to : Bool) (b : ℕ) (text : List ℕ) (x : Lexeme) (rest : List ℕ) → ((gap : List ℕ) → is_gap false to (b ∷ gap) ≡ is_gap false from gap) → Begins from text x rest → Begins to (b ∷ text) x rest
+begins_more : (from to : Bool) (b : ℕ) (text : List ℕ) (x : Lexeme) (rest : List ℕ) → ((gap : List ℕ) → is_gap false to (b ∷ gap) ≡ is_gap false from gap)
+    → Begins from text x rest → Begins to (b ∷ text) x rest
 begins_more from to b text x rest same begins = record {
   gap = b ∷ begins.gap;
   between = same begins.gap ∙ begins.between;
@@ -31,7 +32,8 @@ begins_more from to b text x rest same begins = record {
   parts = ap (λ (t : List ℕ). b ∷ t) begins.parts;
 }
 
-pub spells_more : (from to : Bool) (b : ℕ) (text : List ℕ) (xs : List Lexeme) → ((last : Bool) (gap : List ℕ) → is_gap last to (b ∷ gap) ≡ is_gap last from gap) → SpellsFrom from text xs → SpellsFrom to (b ∷ text) xs
+pub spells_more : (from to : Bool) (b : ℕ) (text : List ℕ) (xs : List Lexeme) → ((last : Bool) (gap : List ℕ) → is_gap last to (b ∷ gap) ≡ is_gap last from gap)
+    → SpellsFrom from text xs → SpellsFrom to (b ∷ text) xs
 spells_more from to b text [] same spells = same true text ∙ spells
 spells_more from to b text (x ∷ xs) same spells = (spells.0, begins_more from to b text x spells.0 (same false) spells.1, spells.2)
 
@@ -72,7 +74,8 @@ continues_more front b text xs c = record {
 }
 
 -- the symbol is whole with this byte
-pub continues_whole : (front : List ℕ) (b : ℕ) (text : List ℕ) (x : Lexeme) (xs : List Lexeme) → lexeme_bytes x ≡ push front b → is_symbol x ≡ true → goes_on x text ≡ false → SpellsFrom false text xs → Continues front (b ∷ text) (x ∷ xs)
+pub continues_whole : (front : List ℕ) (b : ℕ) (text : List ℕ) (x : Lexeme) (xs : List Lexeme) → lexeme_bytes x ≡ push front b → is_symbol x ≡ true
+    → goes_on x text ≡ false → SpellsFrom false text xs → Continues front (b ∷ text) (x ∷ xs)
 continues_whole front b text x xs bytes symbol longest spells = record {
   symbol = x;
   more = b ∷ [];
@@ -87,7 +90,8 @@ continues_whole front b text x xs bytes symbol longest spells = record {
 }
 
 -- the symbol was whole before
-pub continues_before : (front text : List ℕ) (x : Lexeme) (xs : List Lexeme) → lexeme_bytes x ≡ front → is_symbol x ≡ true → goes_on x text ≡ false → SpellsFrom false text xs → Continues front text (x ∷ xs)
+pub continues_before : (front text : List ℕ) (x : Lexeme) (xs : List Lexeme) → lexeme_bytes x ≡ front → is_symbol x ≡ true → goes_on x text ≡ false
+    → SpellsFrom false text xs → Continues front text (x ∷ xs)
 continues_before front text x xs bytes symbol longest spells = record {
   symbol = x;
   more = [];

@@ -2,6 +2,7 @@ pub mod Growth
 pub mod Trees
 pub mod Fronts
 pub mod Slices
+pub mod SoFar
 pub mod Steps
 pub mod Gaps
 pub mod Soundness

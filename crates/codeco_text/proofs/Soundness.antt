@@ -1,30 +1,22 @@
 -- What a reading takes is spelled by the text.
-use Rattle.std.proofs.Common.{◌≡◌, ℕ, Bool, true, false, cond, not, eqb, ◌&&◌, ◌||◌, ◌⊎◌, List, [], ◌∷◌, ◌++◌, Option, Some, None, refl, sym, ap, subst, ◌∙◌, append_assoc, arith, inl, inr}
-use Rattle.std.specs.Prelude.{is_some, codes}
+use Rattle.std.proofs.Common.{◌≡◌, ℕ, Bool, true, false, cond, ◌&&◌, ◌||◌, ◌⊎◌, List, [], ◌∷◌, ◌++◌, Option, Some, None, refl, sym, ap, ◌∙◌, inl, inr}
+use Rattle.std.specs.Prelude.{codes}
 use Rattle.std.specs.Option.{option_map}
-use Rattle.std.proofs.lemmas.List.{append-nil}
-use Rattle.std.proofs.lemmas.Bool.{eqb-true, cases_Bool, both_ways}
-use Rattle.codeco_text.specs.declared.symbols.Sign.{Sign}
+use Rattle.std.proofs.lemmas.Bool.{cases_Bool}
 use Rattle.codeco_text.specs.declared.symbols.Sign.TheVariants as sign
 use Rattle.codeco_text.specs.declared.symbols.Lexeme.{Lexeme}
 use Rattle.codeco_text.specs.declared.symbols.Lexeme.TheVariants as lexeme
-use Rattle.codeco_text.specs.declared.stand.Role.{Role}
-use Rattle.codeco_text.specs.declared.stand.Role.TheVariants as role
-use Rattle.codeco_text.specs.declared.stand.Part.{Part}
-use Rattle.codeco_text.specs.declared.stand.Part.TheVariants as part
-use Rattle.codeco_text.specs.declared.stand.Stand.{Stand}
-use Rattle.codeco_text.specs.declared.stand.Stand.TheVariants as stand
-use Rattle.codeco_text.specs.declared.stand.Wanted.{Wanted}
-use Rattle.codeco_text.specs.declared.stand.Wanted.TheVariants as wanted
+use Rattle.codeco_text.specs.declared.spot.Part.TheVariants as part
+use Rattle.codeco_text.specs.declared.spot.Spot.{Spot}
+use Rattle.codeco_text.specs.declared.spot.Spot.TheVariants as spot
+use Rattle.codeco_text.specs.declared.spot.Wanted.{Wanted}
+use Rattle.codeco_text.specs.declared.spot.Wanted.TheVariants as wanted
 use Rattle.codeco_text.specs.declared.builder.Builder.{Builder}
-use Rattle.codeco_text.specs.Names.{same_bytes, is_among, is_space, is_word_byte, is_identifier, is_variable, is_terminal, is_terminal_byte, keywords}
-use Rattle.codeco_text.specs.Notation.{labels, kinds, lexeme_bytes, is_symbol, goes_on, has_front, SpellsFrom}
-use Rattle.codeco_text.specs.Reading.{◌>>=◌, wants, as_word, identifier, may_begin, may_go_on, advance, is_sign, begins_pattern, settled, closed, ready_stand, next_stand}
-use Rattle.codeco_text.specs.Building.{push, so_far, settle_at, settled_builder, close_at, closed_builder, is_named, ready, moved, with_lexeme, take_ready, grow}
-use Rattle.codeco_text.specs.Scanning.{Mode, between, comment, word, terminal, dash, dashes, tilde, tildes, slash, greater, takes_sign, takes_terminal, guard, behind, single, begin, begin_sign, begin_dash, begin_single, finish, step, if_terminal}
-use Rattle.codeco_text.proofs.Growth.{grow_adds}
-use Rattle.codeco_text.proofs.Trees.{runs}
-use Rattle.codeco_text.proofs.Gaps.{Continues, spells_space, spells_comment, spells_in_comment, continues_more, continues_whole, continues_before, begins_here}
+use Rattle.codeco_text.specs.Names.{same_bytes, is_among, is_word_byte, is_identifier, is_variable, keywords}
+use Rattle.codeco_text.specs.Notation.{labels, kinds, lexeme_bytes, is_symbol, goes_on}
+use Rattle.codeco_text.specs.Reading.{◌>>=◌, as_word, identifier, advance, is_sign, begins_pattern, settled, closed, ready_spot, next_spot}
+use Rattle.codeco_text.specs.Building.{settle_at, settled_builder, close_at, is_named, ready, moved, with_lexeme, grow}
+use Rattle.codeco_text.specs.Scanning.{Mode, between, word, guard, behind}
 
 pub bind_some : {A B : Type 0} (o : Option A) (f : A → Option B) (y : B) → (o >>= f) ≡ Some y → (x : A) × (o ≡ Some x) × (f x ≡ Some y)
 bind_some None f y e = absurd cc
@@ -44,90 +36,66 @@ chosen false x y z e = inr (refl, e)
 
 -- The stand of what takes a symbol
 
-settled_is : (s : Stand) (b : Builder) (o : Bool) → b.stand ≡ s → (cond (is_named s && o) b (settle_at s b)).stand ≡ settled s o
-settled_is (stand.Category part.Named r) b true e = e
-settled_is (stand.Category part.Named r) b false e = refl
-settled_is (stand.Category part.Whole r) b o e = refl
-settled_is (stand.Category part.Name r) b o e = e
-settled_is (stand.Category part.Feature r) b o e = e
-settled_is (stand.Category part.Colon r) b o e = e
-settled_is (stand.Category part.Term r) b o e = e
-settled_is (stand.Category part.Taken r) b o e = e
-settled_is (stand.Category part.Next r) b o e = e
-settled_is stand.Items b o e = e
-settled_is stand.LabelName b o e = e
-settled_is stand.LabelEnd b o e = e
-settled_is stand.RuleHead b o e = e
-settled_is stand.FeatureName b o e = e
-settled_is stand.FeatureColon b o e = e
-settled_is stand.FeatureValue b o e = e
-settled_is stand.AtomNext b o e = e
-settled_is stand.AtomName b o e = e
-settled_is stand.FeatureEnd b o e = e
-settled_is stand.Arrow b o e = e
-settled_is stand.Body b o e = e
-settled_is stand.PositionName b o e = e
-settled_is stand.BackPattern b o e = e
-settled_is stand.Positives b o e = e
-settled_is stand.Negatives b o e = e
-settled_is stand.AbsentPattern b o e = e
-settled_is stand.Absents b o e = e
+settled_is : (s : Spot) (b : Builder) (o : Bool) → b.spot ≡ s → (cond (is_named s && o) b (settle_at s b)).spot ≡ settled s o
+settled_is (spot.Category part.Named r) b false e = refl
+settled_is (spot.Category part.Whole r) b o e = refl
+settled_is s b o e = e
 
-same_either : (p : Bool) (b : Builder) (s : Stand) → b.stand ≡ s → (cond p b b).stand ≡ s
+same_either : (p : Bool) (b : Builder) (s : Spot) → b.spot ≡ s → (cond p b b).spot ≡ s
 same_either true b s e = e
 same_either false b s e = e
 
-closed_is : (s : Stand) (b : Builder) (p : Bool) → b.stand ≡ s → (cond p b (close_at s b)).stand ≡ closed s p
-closed_is stand.Positives b true e = e
-closed_is stand.Positives b false e = refl
-closed_is stand.Negatives b true e = e
-closed_is stand.Negatives b false e = refl
-closed_is stand.Absents b true e = e
-closed_is stand.Absents b false e = refl
-closed_is (stand.Category p r) b o e = same_either o b (stand.Category p r) e
-closed_is stand.Items b o e = same_either o b stand.Items e
-closed_is stand.LabelName b o e = same_either o b stand.LabelName e
-closed_is stand.LabelEnd b o e = same_either o b stand.LabelEnd e
-closed_is stand.RuleHead b o e = same_either o b stand.RuleHead e
-closed_is stand.FeatureName b o e = same_either o b stand.FeatureName e
-closed_is stand.FeatureColon b o e = same_either o b stand.FeatureColon e
-closed_is stand.FeatureValue b o e = same_either o b stand.FeatureValue e
-closed_is stand.AtomNext b o e = same_either o b stand.AtomNext e
-closed_is stand.AtomName b o e = same_either o b stand.AtomName e
-closed_is stand.FeatureEnd b o e = same_either o b stand.FeatureEnd e
-closed_is stand.Arrow b o e = same_either o b stand.Arrow e
-closed_is stand.Body b o e = same_either o b stand.Body e
-closed_is stand.PositionName b o e = same_either o b stand.PositionName e
-closed_is stand.BackPattern b o e = same_either o b stand.BackPattern e
-closed_is stand.AbsentPattern b o e = same_either o b stand.AbsentPattern e
+closed_is : (s : Spot) (b : Builder) (p : Bool) → b.spot ≡ s → (cond p b (close_at s b)).spot ≡ closed s p
+closed_is spot.Positives b true e = e
+closed_is spot.Positives b false e = refl
+closed_is spot.Negatives b true e = e
+closed_is spot.Negatives b false e = refl
+closed_is spot.Absents b true e = e
+closed_is spot.Absents b false e = refl
+closed_is (spot.Category p r) b o e = same_either o b (spot.Category p r) e
+closed_is spot.Items b o e = same_either o b spot.Items e
+closed_is spot.LabelName b o e = same_either o b spot.LabelName e
+closed_is spot.LabelEnd b o e = same_either o b spot.LabelEnd e
+closed_is spot.RuleHead b o e = same_either o b spot.RuleHead e
+closed_is spot.FeatureName b o e = same_either o b spot.FeatureName e
+closed_is spot.FeatureColon b o e = same_either o b spot.FeatureColon e
+closed_is spot.FeatureValue b o e = same_either o b spot.FeatureValue e
+closed_is spot.AtomNext b o e = same_either o b spot.AtomNext e
+closed_is spot.AtomName b o e = same_either o b spot.AtomName e
+closed_is spot.FeatureEnd b o e = same_either o b spot.FeatureEnd e
+closed_is spot.Arrow b o e = same_either o b spot.Arrow e
+closed_is spot.Body b o e = same_either o b spot.Body e
+closed_is spot.PositionName b o e = same_either o b spot.PositionName e
+closed_is spot.BackPattern b o e = same_either o b spot.BackPattern e
+closed_is spot.AbsentPattern b o e = same_either o b spot.AbsentPattern e
 
-pub ready_is : (b : Builder) (x : Lexeme) → (ready b x).stand ≡ ready_stand b.stand x
+pub ready_is : (b : Builder) (x : Lexeme) → (ready b x).spot ≡ ready_spot b.spot x
 ready_is b x =
-    let whole = cond (is_named b.stand && is_sign sign.OpenParen x) b (settled_builder b) in
-    let first : whole.stand ≡ settled b.stand (is_sign sign.OpenParen x) = settled_is b.stand b (is_sign sign.OpenParen x) refl in
-    closed_is whole.stand whole (begins_pattern x) refl ∙ ap (λ (s : Stand). closed s (begins_pattern x)) first
+    let whole = cond (is_named b.spot && is_sign sign.OpenParen x) b (settled_builder b) in
+    let first : whole.spot ≡ settled b.spot (is_sign sign.OpenParen x) = settled_is b.spot b (is_sign sign.OpenParen x) refl in
+    closed_is whole.spot whole (begins_pattern x) refl ∙ ap (λ (s : Spot). closed s (begins_pattern x)) first
 
-moved_stand : (o : Option Stand) (b d : Builder) → option_map (moved b) o ≡ Some d → o ≡ Some d.stand
-moved_stand None b d e = absurd cc
-moved_stand (Some v) b d e =
+moved_spot : (o : Option Spot) (b d : Builder) → option_map (moved b) o ≡ Some d → o ≡ Some d.spot
+moved_spot None b d e = absurd cc
+moved_spot (Some v) b d e =
     let is : moved b v ≡ d = cc in
-    ap (λ (t : Builder). Some t.stand) is
+    ap (λ (t : Builder). Some t.spot) is
 
 -- a symbol that is taken leads to the next stand
-pub grow_stand : (b : Builder) (x : Lexeme) (d : Builder) → grow b x ≡ Some d → next_stand b.stand x ≡ Some d.stand
-grow_stand b x d e =
+pub grow_spot : (b : Builder) (x : Lexeme) (d : Builder) → grow b x ≡ Some d → next_spot b.spot x ≡ Some d.spot
+grow_spot b x d e =
     let c = ready b x in
-    ap (λ (s : Stand). advance s x) (sym (ready_is b x)) ∙ moved_stand (advance c.stand x) (with_lexeme c x) d e
+    ap (λ (s : Spot). advance s x) (sym (ready_is b x)) ∙ moved_spot (advance c.spot x) (with_lexeme c x) d e
 
-option_grows : (o : Option Stand) (b : Builder) (t : Stand) → o ≡ Some t → (d : Builder) × (option_map (moved b) o ≡ Some d) × (d.stand ≡ t)
+option_grows : (o : Option Spot) (b : Builder) (t : Spot) → o ≡ Some t → (d : Builder) × (option_map (moved b) o ≡ Some d) × (d.spot ≡ t)
 option_grows None b t e = absurd cc
 option_grows (Some v) b t e = (moved b v, refl, cc)
 
 -- and one that may stand here is taken
-pub stand_grow : (b : Builder) (x : Lexeme) (t : Stand) → next_stand b.stand x ≡ Some t → (d : Builder) × (grow b x ≡ Some d) × (d.stand ≡ t)
-stand_grow b x t e =
+pub spot_grow : (b : Builder) (x : Lexeme) (t : Spot) → next_spot b.spot x ≡ Some t → (d : Builder) × (grow b x ≡ Some d) × (d.spot ≡ t)
+spot_grow b x t e =
     let c = ready b x in
-    option_grows (advance c.stand x) (with_lexeme c x) t (ap (λ (s : Stand). advance s x) (ready_is b x) ∙ e)
+    option_grows (advance c.spot x) (with_lexeme c x) t (ap (λ (s : Spot). advance s x) (ready_is b x) ∙ e)
 
 -- Words
 
@@ -148,13 +116,15 @@ value_among w h = elim (cases_Bool (same_bytes w (codes "feature"))) [
   ])
 ]
 
-keyword_some : (t : Bool) (w : List ℕ) (x : Lexeme) → (t ≡ true → is_among keywords w ≡ true) → cond t (Some (lexeme.Keyword w)) (identifier w) ≡ Some x → (lexeme_bytes x ≡ w) × (is_symbol x ≡ true)
+keyword_some : (t : Bool) (w : List ℕ) (x : Lexeme) → (t ≡ true → is_among keywords w ≡ true) → cond t (Some (lexeme.Keyword w)) (identifier w) ≡ Some x
+    → (lexeme_bytes x ≡ w) × (is_symbol x ≡ true)
 keyword_some true w x h e =
     let is : lexeme.Keyword w ≡ x = cc in
     (ap lexeme_bytes (sym is), ap is_symbol (sym is) ∙ h refl)
 keyword_some false w x h e = identifier_some w x e
 
-variable_some : (t : Bool) (w : List ℕ) (x : Lexeme) → (t ≡ true → is_variable w ≡ true) → cond t (Some (lexeme.Variable w)) (identifier w) ≡ Some x → (lexeme_bytes x ≡ w) × (is_symbol x ≡ true)
+variable_some : (t : Bool) (w : List ℕ) (x : Lexeme) → (t ≡ true → is_variable w ≡ true) → cond t (Some (lexeme.Variable w)) (identifier w) ≡ Some x
+    → (lexeme_bytes x ≡ w) × (is_symbol x ≡ true)
 variable_some true w x h e =
     let is : lexeme.Variable w ≡ x = cc in
     (ap lexeme_bytes (sym is), ap is_symbol (sym is) ∙ h refl)
@@ -178,13 +148,9 @@ word_some wanted.Term w x e = variable_some (is_variable w) w x (λ h. h) e
 
 -- a word, which goes on with bytes of words alone
 abbrev pub is_word : Lexeme → Bool
-is_word (lexeme.Identifier w) = true
-is_word (lexeme.Variable w) = true
-is_word (lexeme.Keyword w) = true
-is_word (lexeme.Label w) = true
-is_word (lexeme.Kind w) = true
 is_word (lexeme.Terminal t) = false
 is_word (lexeme.Sign s) = false
+is_word _ = true
 
 identifier_word : (w : List ℕ) (x : Lexeme) → identifier w ≡ Some x → is_word x ≡ true
 identifier_word w x e = ap is_word (sym (guard_some (is_identifier w) (lexeme.Identifier w) x e).1)
@@ -206,13 +172,9 @@ word_is wanted.Variable w x e = ap is_word (sym (guard_some (is_variable w) (lex
 word_is wanted.Term w x e = either_word (is_variable w) w (lexeme.Variable w) x refl e
 
 pub word_stops : (x : Lexeme) (b : ℕ) (bs : List ℕ) → is_word x ≡ true → is_word_byte b ≡ false → goes_on x (b ∷ bs) ≡ false
-word_stops (lexeme.Identifier w) b bs h n = n
-word_stops (lexeme.Variable w) b bs h n = n
-word_stops (lexeme.Keyword w) b bs h n = n
-word_stops (lexeme.Label w) b bs h n = n
-word_stops (lexeme.Kind w) b bs h n = n
 word_stops (lexeme.Terminal t) b bs h n = absurd cc
 word_stops (lexeme.Sign s) b bs h n = absurd cc
+word_stops x b bs h n = n
 
 pub ends_all : (x : Lexeme) → goes_on x [] ≡ false
 ends_all (lexeme.Identifier w) = refl

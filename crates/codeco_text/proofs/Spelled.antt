@@ -1,28 +1,28 @@
 -- A reading that comes to its end has read what the text spells.
-use Rattle.std.proofs.Common.{◌≡◌, ℕ, Bool, true, false, cond, not, eqb, ◌&&◌, ◌||◌, ◌⊎◌, List, [], ◌∷◌, ◌++◌, Option, Some, None, refl, sym, ap, subst, ◌∙◌, append_assoc, arith, inl, inr}
-use Rattle.std.specs.Prelude.{is_some, codes}
+use Rattle.std.proofs.Common.{◌≡◌, ℕ, Bool, true, false, cond, not, eqb, ◌&&◌, ◌||◌, ◌⊎◌, List, [], ◌∷◌, ◌++◌, Option, Some, None, refl, sym, ap, subst, ◌∙◌, append_assoc, inl, inr}
+use Rattle.std.specs.Prelude.{codes}
 use Rattle.std.proofs.lemmas.List.{append-nil}
 use Rattle.std.proofs.lemmas.Bool.{eqb-true, eq-eqb, cases_Bool, both_ways, and_parts}
+use Rattle.std.proofs.lemmas.Option.{same_Some}
 use Rattle.codeco_text.specs.declared.symbols.Sign.{Sign}
 use Rattle.codeco_text.specs.declared.symbols.Sign.TheVariants as sign
 use Rattle.codeco_text.specs.declared.symbols.Lexeme.{Lexeme}
 use Rattle.codeco_text.specs.declared.symbols.Lexeme.TheVariants as lexeme
-use Rattle.codeco_text.specs.declared.stand.Role.{Role}
-use Rattle.codeco_text.specs.declared.stand.Role.TheVariants as role
-use Rattle.codeco_text.specs.declared.stand.Part.{Part}
-use Rattle.codeco_text.specs.declared.stand.Part.TheVariants as part
-use Rattle.codeco_text.specs.declared.stand.Stand.{Stand}
-use Rattle.codeco_text.specs.declared.stand.Stand.TheVariants as stand
+use Rattle.codeco_text.specs.declared.spot.Role.TheVariants as role
+use Rattle.codeco_text.specs.declared.spot.Part.TheVariants as part
+use Rattle.codeco_text.specs.declared.spot.Spot.{Spot}
+use Rattle.codeco_text.specs.declared.spot.Spot.TheVariants as spot
 use Rattle.codeco_text.specs.declared.builder.Builder.{Builder}
 use Rattle.codeco_text.specs.Names.{is_space, is_word_byte, is_terminal, is_terminal_byte}
 use Rattle.codeco_text.specs.Notation.{lexeme_bytes, is_symbol, goes_on, has_front, sign_bytes, SpellsFrom}
-use Rattle.codeco_text.specs.Reading.{◌>>=◌, wants, as_word, may_begin, may_go_on, next_stand}
-use Rattle.codeco_text.specs.Building.{push, so_far, grow}
+use Rattle.codeco_text.specs.Reading.{◌>>=◌, wants, as_word, may_begin, may_go_on, next_spot}
+use Rattle.codeco_text.specs.Building.{push, grow}
+use Rattle.codeco_text.proofs.SoFar.{so_far}
 use Rattle.codeco_text.specs.Scanning.{Mode, between, comment, word, terminal, dash, dashes, tilde, tildes, slash, greater, takes_sign, takes_terminal, guard, behind, single, begin, begin_sign, begin_dash, begin_single, finish, step, if_terminal}
 use Rattle.codeco_text.proofs.Growth.{grow_adds}
 use Rattle.codeco_text.proofs.Trees.{runs}
 use Rattle.codeco_text.proofs.Gaps.{Continues, spells_space, spells_comment, spells_in_comment, continues_more, continues_whole, continues_before, begins_here}
-use Rattle.codeco_text.proofs.Soundness.{bind_some, guard_some, behind_some, chosen, grow_stand, word_some, word_is, word_stops, ends_all}
+use Rattle.codeco_text.proofs.Soundness.{bind_some, guard_some, behind_some, chosen, grow_spot, word_some, word_is, word_stops, ends_all}
 
 -- the first bytes of the symbol that a reading is in
 abbrev pub front : Mode → List ℕ
@@ -60,66 +60,35 @@ pub record Spelled (b : Builder) (m : Mode) (text : List ℕ) (c : Builder) : Ty
   pub symbols : List Lexeme
   pub spells : From m text symbols
   pub grows : so_far c ≡ so_far b ++ symbols
-  pub leads : runs b.stand symbols ≡ Some c.stand
+  pub leads : runs b.spot symbols ≡ Some c.spot
 
 -- nothing was taken
-same_builder : (b c : Builder) (m k : Mode) (text rest : List ℕ) → ((xs : List Lexeme) → From k rest xs → From m text xs) → Spelled b k rest c → Spelled b m text c
+same_builder : (b c : Builder) (m k : Mode) (text rest : List ℕ) → ((xs : List Lexeme) → From k rest xs → From m text xs) → Spelled b k rest c
+    → Spelled b m text c
 same_builder b c m k text rest h s = record { symbols = s.symbols; spells = h s.symbols s.spells; grows = s.grows; leads = s.leads }
 
 -- a symbol was taken
-new_symbol : (b d c : Builder) (x : Lexeme) (m k : Mode) (text rest : List ℕ) → grow b x ≡ Some d → ((xs : List Lexeme) → From k rest xs → From m text (x ∷ xs)) → Spelled d k rest c → Spelled b m text c
+new_symbol : (b d c : Builder) (x : Lexeme) (m k : Mode) (text rest : List ℕ) → grow b x ≡ Some d → ((xs : List Lexeme) → From k rest xs → From m text (x ∷ xs))
+    → Spelled d k rest c → Spelled b m text c
 new_symbol b d c x m k text rest grown h s = record {
   symbols = x ∷ s.symbols;
   spells = h s.symbols s.spells;
   grows = s.grows ∙ ap (λ (t : List Lexeme). t ++ s.symbols) (grow_adds b x d grown) ∙ append_assoc (so_far b) (x ∷ []) s.symbols;
-  leads = ap (λ (o : Option Stand). o >>= λ t. runs t s.symbols) (grow_stand b x d grown) ∙ s.leads;
+  leads = ap (λ (o : Option Spot). o >>= λ t. runs t s.symbols) (grow_spot b x d grown) ∙ s.leads;
 }
 
 -- only a reference's patterns have a - before them
-pub minus_stand : (s t : Stand) → next_stand s (lexeme.Sign sign.Minus) ≡ Some t → t ≡ stand.Category part.Name role.Negative
-minus_stand stand.Items t e = absurd cc
-minus_stand stand.LabelName t e = absurd cc
-minus_stand stand.LabelEnd t e = absurd cc
-minus_stand stand.RuleHead t e = absurd cc
-minus_stand stand.FeatureName t e = absurd cc
-minus_stand stand.FeatureColon t e = absurd cc
-minus_stand stand.FeatureValue t e = absurd cc
-minus_stand stand.AtomNext t e = absurd cc
-minus_stand stand.AtomName t e = absurd cc
-minus_stand stand.FeatureEnd t e = absurd cc
-minus_stand (stand.Category part.Name r) t e = absurd cc
-minus_stand (stand.Category part.Named role.Positive) t e = cc
-minus_stand (stand.Category part.Named role.Negative) t e = cc
-minus_stand (stand.Category part.Named role.Head) t e = absurd cc
-minus_stand (stand.Category part.Named role.Preterminal) t e = absurd cc
-minus_stand (stand.Category part.Named role.Sub) t e = absurd cc
-minus_stand (stand.Category part.Named role.Forward) t e = absurd cc
-minus_stand (stand.Category part.Named role.Strong) t e = absurd cc
-minus_stand (stand.Category part.Named role.Absent) t e = absurd cc
-minus_stand (stand.Category part.Feature r) t e = absurd cc
-minus_stand (stand.Category part.Colon r) t e = absurd cc
-minus_stand (stand.Category part.Term r) t e = absurd cc
-minus_stand (stand.Category part.Taken r) t e = absurd cc
-minus_stand (stand.Category part.Next r) t e = absurd cc
-minus_stand (stand.Category part.Whole role.Positive) t e = cc
-minus_stand (stand.Category part.Whole role.Negative) t e = cc
-minus_stand (stand.Category part.Whole role.Head) t e = absurd cc
-minus_stand (stand.Category part.Whole role.Preterminal) t e = absurd cc
-minus_stand (stand.Category part.Whole role.Sub) t e = absurd cc
-minus_stand (stand.Category part.Whole role.Forward) t e = absurd cc
-minus_stand (stand.Category part.Whole role.Strong) t e = absurd cc
-minus_stand (stand.Category part.Whole role.Absent) t e = absurd cc
-minus_stand stand.Arrow t e = absurd cc
-minus_stand stand.Body t e = absurd cc
-minus_stand stand.PositionName t e = absurd cc
-minus_stand stand.BackPattern t e = absurd cc
-minus_stand stand.Positives t e = cc
-minus_stand stand.Negatives t e = cc
-minus_stand stand.AbsentPattern t e = absurd cc
-minus_stand stand.Absents t e = absurd cc
+pub minus_spot : (s t : Spot) → next_spot s (lexeme.Sign sign.Minus) ≡ Some t → t ≡ spot.Category part.Name role.Negative
+minus_spot (spot.Category part.Named role.Positive) t e = cc
+minus_spot (spot.Category part.Named role.Negative) t e = cc
+minus_spot (spot.Category part.Whole role.Positive) t e = cc
+minus_spot (spot.Category part.Whole role.Negative) t e = cc
+minus_spot spot.Positives t e = cc
+minus_spot spot.Negatives t e = cc
+minus_spot s t e = absurd cc
 
 -- where a name comes, no - stands
-no_dash : (d : Builder) → d.stand ≡ stand.Category part.Name role.Negative → begin d 45 ≡ None
+no_dash : (d : Builder) → d.spot ≡ spot.Category part.Name role.Negative → begin d 45 ≡ None
 no_dash d e = rw e refl
 
 front_dash : (b : ℕ) (rest : List ℕ) → has_front (codes "->") (b ∷ rest) ≡ true → b ≡ 45
@@ -129,7 +98,8 @@ pub none_some : (o : Option Builder) (c : Builder) → o ≡ None → o ≡ Some
 none_some o c p q = cc
 
 -- what stands behind a - that was taken doesn't make it an arrow
-minus_longest : (d c : Builder) (rest : List ℕ) → d.stand ≡ stand.Category part.Name role.Negative → final d between rest ≡ Some c → has_front (codes "->") rest ≡ false
+minus_longest : (d c : Builder) (rest : List ℕ) → d.spot ≡ spot.Category part.Name role.Negative → final d between rest ≡ Some c
+    → has_front (codes "->") rest ≡ false
 minus_longest d c [] e f = refl
 minus_longest d c (b ∷ rest) e f = elim (cases_Bool (has_front (codes "->") (b ∷ rest))) [
   | inl h ↦
@@ -144,13 +114,15 @@ minus_longest d c (b ∷ rest) e f = elim (cases_Bool (has_front (codes "->") (b
 IsSingle : ℕ → Sign → Type 0
 IsSingle b x = (sign_bytes x ≡ b ∷ []) × ((rest : List ℕ) → goes_on (lexeme.Sign x) rest ≡ false)
 
-single_at : (n b : ℕ) (one x : Sign) (o : Option Sign) → ((sign_bytes one ≡ n ∷ []) × ((rest : List ℕ) → goes_on (lexeme.Sign one) rest ≡ false)) → (o ≡ Some x → (sign_bytes x ≡ b ∷ []) × ((rest : List ℕ) → goes_on (lexeme.Sign x) rest ≡ false))
+single_at : (n b : ℕ) (one x : Sign) (o : Option Sign) → ((sign_bytes one ≡ n ∷ []) × ((rest : List ℕ) → goes_on (lexeme.Sign one) rest ≡ false))
+    → (o ≡ Some x → (sign_bytes x ≡ b ∷ []) × ((rest : List ℕ) → goes_on (lexeme.Sign x) rest ≡ false))
     → cond (eqb b n) (Some one) o ≡ Some x → (sign_bytes x ≡ b ∷ []) × ((rest : List ℕ) → goes_on (lexeme.Sign x) rest ≡ false)
 single_at n b one x o good others e = elim (chosen (eqb b n) (Some one) o (Some x) e) [
   | inl h ↦
       let is : one ≡ x = let p = h.1 in cc in
       let byte : n ≡ b = sym (eqb-true b n h.0) in
-      subst (λ (k : ℕ). (sign_bytes x ≡ k ∷ []) × ((rest : List ℕ) → goes_on (lexeme.Sign x) rest ≡ false)) byte (subst (λ (t : Sign). (sign_bytes t ≡ n ∷ []) × ((rest : List ℕ) → goes_on (lexeme.Sign t) rest ≡ false)) is good)
+      subst (λ (k : ℕ). (sign_bytes x ≡ k ∷ []) × ((rest : List ℕ) → goes_on (lexeme.Sign x) rest ≡ false)) byte
+      (subst (λ (t : Sign). (sign_bytes t ≡ n ∷ []) × ((rest : List ℕ) → goes_on (lexeme.Sign t) rest ≡ false)) is good)
   | inr h ↦ others h.1
 ]
 
@@ -173,12 +145,15 @@ single_is b x =
     (single_at 63 b sign.Question x None (refl, λ rest. refl) (none_sign x))))))))))))
 
 -- a symbol of one byte
-one_byte : (d e c : Builder) (x : Lexeme) (b : ℕ) (rest : List ℕ) → grow d x ≡ Some e → lexeme_bytes x ≡ b ∷ [] → is_symbol x ≡ true → goes_on x rest ≡ false → Spelled e between rest c → Spelled d between (b ∷ rest) c
+one_byte : (d e c : Builder) (x : Lexeme) (b : ℕ) (rest : List ℕ) → grow d x ≡ Some e → lexeme_bytes x ≡ b ∷ [] → is_symbol x ≡ true → goes_on x rest ≡ false
+    → Spelled e between rest c → Spelled d between (b ∷ rest) c
 one_byte d e c x b rest grown bytes symbol longest s =
-    new_symbol d e c x between between (b ∷ rest) rest grown (λ xs h. begins_here [] (b ∷ rest) (x ∷ xs) (continues_whole [] b rest x xs bytes symbol longest h)) s
+    new_symbol d e c x between between (b ∷ rest) rest grown
+    (λ xs h. begins_here [] (b ∷ rest) (x ∷ xs) (continues_whole [] b rest x xs bytes symbol longest h)) s
 
 -- a symbol that begins
-begins_by : (d c : Builder) (m : Mode) (b : ℕ) (rest : List ℕ) → ((xs : List Lexeme) → From m rest xs → Continues (b ∷ []) rest xs) → Spelled d m rest c → Spelled d between (b ∷ rest) c
+begins_by : (d c : Builder) (m : Mode) (b : ℕ) (rest : List ℕ) → ((xs : List Lexeme) → From m rest xs → Continues (b ∷ []) rest xs) → Spelled d m rest c
+    → Spelled d between (b ∷ rest) c
 begins_by d c m b rest h s = same_builder d c between m (b ∷ rest) rest (λ xs f. begins_here (b ∷ []) rest xs (h xs f)) s
 
 abbrev Goal : Builder → Builder → List ℕ → ℕ → Type 0
@@ -193,15 +168,17 @@ spelled_at : (s t : Builder × Mode) (rest : List ℕ) (c : Builder) → t ≡ s
 spelled_at s t rest c e h = subst (λ (u : Builder × Mode). Behind u rest c) (sym e) h
 
 dash_spelled : (d c : Builder) (rest : List ℕ) (s : Builder × Mode) → begin_dash d ≡ Some s → Behind s rest c → Spelled d between (45 ∷ rest) c
-dash_spelled d c rest s e h = elim (chosen (takes_sign d sign.Minus) (behind (grow d (lexeme.Sign sign.Minus))) (guard (takes_sign d sign.Normal) (d, dash)) (Some s) e) [
-  | inl p ↦
-      let g = behind_some (grow d (lexeme.Sign sign.Minus)) s p.1 in
-      let after = spelled_at s (g.0, between) rest c g.2 h in
-      one_byte d g.0 c (lexeme.Sign sign.Minus) 45 rest g.1 refl refl (minus_longest g.0 c rest (minus_stand d.stand g.0.stand (grow_stand d (lexeme.Sign sign.Minus) g.0 g.1)) after.ends) after.spelled
-  | inr p ↦
-      let g = guard_some (takes_sign d sign.Normal) (d, dash) s p.1 in
-      begins_by d c dash 45 rest (λ xs f. f) (spelled_at s (d, dash) rest c g.1 h).spelled
-]
+dash_spelled d c rest s e h = elim (chosen (takes_sign d sign.Minus) (behind (grow d (lexeme.Sign sign.Minus))) (guard (takes_sign d sign.Normal) (d, dash))
+    (Some s) e) [
+      | inl p ↦
+          let g = behind_some (grow d (lexeme.Sign sign.Minus)) s p.1 in
+          let after = spelled_at s (g.0, between) rest c g.2 h in
+          one_byte d g.0 c (lexeme.Sign sign.Minus) 45 rest g.1 refl refl
+          (minus_longest g.0 c rest (minus_spot d.spot g.0.spot (grow_spot d (lexeme.Sign sign.Minus) g.0 g.1)) after.ends) after.spelled
+      | inr p ↦
+          let g = guard_some (takes_sign d sign.Normal) (d, dash) s p.1 in
+          begins_by d c dash 45 rest (λ xs f. f) (spelled_at s (d, dash) rest c g.1 h).spelled
+    ]
 
 single_spelled : (d c : Builder) (b : ℕ) (rest : List ℕ) (s : Builder × Mode) → begin_single d b ≡ Some s → Behind s rest c → Spelled d between (b ∷ rest) c
 single_spelled d c b rest s e h =
@@ -236,16 +213,15 @@ sign_spelled d c b rest s e h = elim (chosen (eqb b 91) (guard (takes_terminal d
   ]
 ]
 
-some_is : {A : Type 0} (x y : A) → Some x ≡ Some y → x ≡ y
-some_is x y e = cc
-
 begin_spelled : (d c : Builder) (b : ℕ) (rest : List ℕ) (s : Builder × Mode) → begin d b ≡ Some s → Behind s rest c → Spelled d between (b ∷ rest) c
 begin_spelled d c b rest s e h = elim (chosen (is_space b) (Some (d, between)) _ (Some s) e) [
-  | inl p ↦ same_builder d c between between (b ∷ rest) rest (λ xs. spells_space b rest xs p.0) (spelled_at s (d, between) rest c (some_is (d, between) s p.1) h).spelled
+  | inl p ↦ same_builder d c between between (b ∷ rest) rest (λ xs. spells_space b rest xs p.0)
+      (spelled_at s (d, between) rest c (same_Some (d, between) s p.1) h).spelled
   | inr p ↦ elim (chosen (eqb b 37) (Some (d, comment)) _ (Some s) p.1) [
-    | inl q ↦ same_builder d c between comment (b ∷ rest) rest (λ xs. spells_comment b rest xs (eqb-true b 37 q.0)) (spelled_at s (d, comment) rest c (some_is (d, comment) s q.1) h).spelled
-    | inr q ↦ elim (chosen (may_begin (wants d.stand) b) (Some (d, word (b ∷ []))) (begin_sign d b) (Some s) q.1) [
-      | inl r ↦ begins_by d c (word (b ∷ [])) b rest (λ xs f. f) (spelled_at s (d, word (b ∷ [])) rest c (some_is (d, word (b ∷ [])) s r.1) h).spelled
+    | inl q ↦ same_builder d c between comment (b ∷ rest) rest (λ xs. spells_comment b rest xs (eqb-true b 37 q.0))
+        (spelled_at s (d, comment) rest c (same_Some (d, comment) s q.1) h).spelled
+    | inr q ↦ elim (chosen (may_begin (wants d.spot) b) (Some (d, word (b ∷ []))) (begin_sign d b) (Some s) q.1) [
+      | inl r ↦ begins_by d c (word (b ∷ [])) b rest (λ xs f. f) (spelled_at s (d, word (b ∷ [])) rest c (same_Some (d, word (b ∷ [])) s r.1) h).spelled
       | inr r ↦ sign_spelled d c b rest s r.1 h
     ]
   ]
@@ -257,57 +233,70 @@ comment_from : (t : Bool) (rest : List ℕ) (xs : List Lexeme) → From (cond t 
 comment_from true rest xs h = h
 comment_from false rest xs h = h
 
-word_spelled : (b c : Builder) (w : List ℕ) (x : ℕ) (rest : List ℕ) (s : Builder × Mode) → step b (word w) x ≡ Some s → Behind s rest c → Spelled b (word w) (x ∷ rest) c
-word_spelled b c w x rest s e h = elim (chosen (is_word_byte x) (guard (may_go_on (wants b.stand) (push w x)) (b, word (push w x))) (finish b (word w) >>= λ d. begin d x) (Some s) e) [
-  | inl p ↦
-      let g = guard_some (may_go_on (wants b.stand) (push w x)) (b, word (push w x)) s p.1 in
-      same_builder b c (word w) (word (push w x)) (x ∷ rest) rest (λ xs f. continues_more w x rest xs f) (spelled_at s (b, word (push w x)) rest c g.1 h).spelled
-  | inr p ↦
-      let f = bind_some (finish b (word w)) (λ d. begin d x) s p.1 in
-      let y = bind_some (as_word (wants b.stand) w) (λ y. grow b y) f.0 f.1 in
-      let is = word_some (wants b.stand) w y.0 y.1 in
-      new_symbol b f.0 c y.0 (word w) between (x ∷ rest) (x ∷ rest) y.2
-      (λ xs k. continues_before w (x ∷ rest) y.0 xs is.0 is.1 (word_stops y.0 x rest (word_is (wants b.stand) w y.0 y.1) p.0) k)
-      (begin_spelled f.0 c x rest s f.2 h)
-]
+word_spelled : (b c : Builder) (w : List ℕ) (x : ℕ) (rest : List ℕ) (s : Builder × Mode) → step b (word w) x ≡ Some s → Behind s rest c
+    → Spelled b (word w) (x ∷ rest) c
+word_spelled b c w x rest s e h = elim (chosen (is_word_byte x) (guard (may_go_on (wants b.spot) (push w x)) (b, word (push w x)))
+    (finish b (word w) >>= λ d. begin d x) (Some s) e) [
+      | inl p ↦
+          let g = guard_some (may_go_on (wants b.spot) (push w x)) (b, word (push w x)) s p.1 in
+          same_builder b c (word w) (word (push w x)) (x ∷ rest) rest (λ xs f. continues_more w x rest xs f)
+          (spelled_at s (b, word (push w x)) rest c g.1 h).spelled
+      | inr p ↦
+          let f = bind_some (finish b (word w)) (λ d. begin d x) s p.1 in
+          let y = bind_some (as_word (wants b.spot) w) (λ y. grow b y) f.0 f.1 in
+          let is = word_some (wants b.spot) w y.0 y.1 in
+          new_symbol b f.0 c y.0 (word w) between (x ∷ rest) (x ∷ rest) y.2
+          (λ xs k. continues_before w (x ∷ rest) y.0 xs is.0 is.1 (word_stops y.0 x rest (word_is (wants b.spot) w y.0 y.1) p.0) k)
+          (begin_spelled f.0 c x rest s f.2 h)
+    ]
 
-terminal_spelled : (b c : Builder) (t : List ℕ) (x : ℕ) (rest : List ℕ) (s : Builder × Mode) → step b (terminal t) x ≡ Some s → Behind s rest c → Spelled b (terminal t) (x ∷ rest) c
+terminal_spelled : (b c : Builder) (t : List ℕ) (x : ℕ) (rest : List ℕ) (s : Builder × Mode) → step b (terminal t) x ≡ Some s → Behind s rest c
+    → Spelled b (terminal t) (x ∷ rest) c
 terminal_spelled b c t x rest s e h = elim (chosen (eqb x 93) (if_terminal b t) (guard (is_terminal_byte x) (b, terminal (push t x))) (Some s) e) [
   | inl p ↦ elim (chosen (is_terminal t) (behind (grow b (lexeme.Terminal t))) None (Some s) p.1) [
     | inl q ↦
         let g = behind_some (grow b (lexeme.Terminal t)) s q.1 in
         subst (λ (n : ℕ). Spelled b (terminal t) (n ∷ rest) c) (sym (eqb-true x 93 p.0))
-        (new_symbol b g.0 c (lexeme.Terminal t) (terminal t) between (93 ∷ rest) rest g.1 (λ xs k. continues_whole (91 ∷ t) 93 rest (lexeme.Terminal t) xs refl q.0 refl k) (spelled_at s (g.0, between) rest c g.2 h).spelled)
+        (new_symbol b g.0 c (lexeme.Terminal t) (terminal t) between (93 ∷ rest) rest g.1
+        (λ xs k. continues_whole (91 ∷ t) 93 rest (lexeme.Terminal t) xs refl q.0 refl k) (spelled_at s (g.0, between) rest c g.2 h).spelled)
     | inr q ↦ absurd (let f = q.1 in cc)
   ]
   | inr p ↦
       let g = guard_some (is_terminal_byte x) (b, terminal (push t x)) s p.1 in
-      same_builder b c (terminal t) (terminal (push t x)) (x ∷ rest) rest (λ xs f. continues_more (91 ∷ t) x rest xs f) (spelled_at s (b, terminal (push t x)) rest c g.1 h).spelled
+      same_builder b c (terminal t) (terminal (push t x)) (x ∷ rest) rest (λ xs f. continues_more (91 ∷ t) x rest xs f)
+      (spelled_at s (b, terminal (push t x)) rest c g.1 h).spelled
 ]
 
 -- a further byte of a sign
-further : (b c : Builder) (m k : Mode) (n x : ℕ) (rest : List ℕ) (s : Builder × Mode) → ((xs : List Lexeme) → From k rest xs → From m (n ∷ rest) xs) → guard (eqb x n) (b, k) ≡ Some s → Behind s rest c → Spelled b m (x ∷ rest) c
+further : (b c : Builder) (m k : Mode) (n x : ℕ) (rest : List ℕ) (s : Builder × Mode) → ((xs : List Lexeme) → From k rest xs → From m (n ∷ rest) xs)
+    → guard (eqb x n) (b, k) ≡ Some s → Behind s rest c → Spelled b m (x ∷ rest) c
 further b c m k n x rest s f e h =
     let g = guard_some (eqb x n) (b, k) s e in
     subst (λ (v : ℕ). Spelled b m (v ∷ rest) c) (sym (eqb-true x n g.0)) (same_builder b c m k (n ∷ rest) rest f (spelled_at s (b, k) rest c g.1 h).spelled)
 
 -- the last byte of a sign
-last : (b c : Builder) (m : Mode) (y : Sign) (n x : ℕ) (rest : List ℕ) (s : Builder × Mode) → eqb x n ≡ true → ((xs : List Lexeme) → SpellsFrom false rest xs → From m (n ∷ rest) (lexeme.Sign y ∷ xs)) → behind (grow b (lexeme.Sign y)) ≡ Some s → Behind s rest c → Spelled b m (x ∷ rest) c
+last : (b c : Builder) (m : Mode) (y : Sign) (n x : ℕ) (rest : List ℕ) (s : Builder × Mode) → eqb x n ≡ true
+    → ((xs : List Lexeme) → SpellsFrom false rest xs → From m (n ∷ rest) (lexeme.Sign y ∷ xs)) → behind (grow b (lexeme.Sign y)) ≡ Some s → Behind s rest c
+    → Spelled b m (x ∷ rest) c
 last b c m y n x rest s t f e h =
     let g = behind_some (grow b (lexeme.Sign y)) s e in
-    subst (λ (v : ℕ). Spelled b m (v ∷ rest) c) (sym (eqb-true x n t)) (new_symbol b g.0 c (lexeme.Sign y) m between (n ∷ rest) rest g.1 f (spelled_at s (g.0, between) rest c g.2 h).spelled)
+    subst (λ (v : ℕ). Spelled b m (v ∷ rest) c) (sym (eqb-true x n t))
+    (new_symbol b g.0 c (lexeme.Sign y) m between (n ∷ rest) rest g.1 f (spelled_at s (g.0, between) rest c g.2 h).spelled)
 
-last_only : (b c : Builder) (m : Mode) (y : Sign) (n x : ℕ) (rest : List ℕ) (s : Builder × Mode) → ((xs : List Lexeme) → SpellsFrom false rest xs → From m (n ∷ rest) (lexeme.Sign y ∷ xs)) → cond (eqb x n) (behind (grow b (lexeme.Sign y))) None ≡ Some s → Behind s rest c → Spelled b m (x ∷ rest) c
+last_only : (b c : Builder) (m : Mode) (y : Sign) (n x : ℕ) (rest : List ℕ) (s : Builder × Mode)
+    → ((xs : List Lexeme) → SpellsFrom false rest xs → From m (n ∷ rest) (lexeme.Sign y ∷ xs)) → cond (eqb x n) (behind (grow b (lexeme.Sign y))) None ≡ Some s
+    → Behind s rest c → Spelled b m (x ∷ rest) c
 last_only b c m y n x rest s f e h = elim (chosen (eqb x n) (behind (grow b (lexeme.Sign y))) None (Some s) e) [
   | inl p ↦ last b c m y n x rest s p.0 f p.1 h
   | inr p ↦ absurd (let q = p.1 in cc)
 ]
 
 slash_spelled : (b c : Builder) (x : ℕ) (rest : List ℕ) (s : Builder × Mode) → step b slash x ≡ Some s → Behind s rest c → Spelled b slash (x ∷ rest) c
-slash_spelled b c x rest s e h = elim (chosen (eqb x 47) (behind (grow b (lexeme.Sign sign.Scope))) (cond (eqb x 60) (behind (grow b (lexeme.Sign sign.NoBack))) None) (Some s) e) [
-  | inl p ↦ last b c slash sign.Scope 47 x rest s p.0 (λ xs k. continues_whole (47 ∷ []) 47 rest (lexeme.Sign sign.Scope) xs refl refl refl k) p.1 h
-  | inr p ↦ last_only b c slash sign.NoBack 60 x rest s (λ xs k. continues_whole (47 ∷ []) 60 rest (lexeme.Sign sign.NoBack) xs refl refl refl k) p.1 h
-]
+slash_spelled b c x rest s e h = elim (chosen (eqb x 47) (behind (grow b (lexeme.Sign sign.Scope)))
+    (cond (eqb x 60) (behind (grow b (lexeme.Sign sign.NoBack))) None) (Some s) e) [
+      | inl p ↦ last b c slash sign.Scope 47 x rest s p.0 (λ xs k. continues_whole (47 ∷ []) 47 rest (lexeme.Sign sign.Scope) xs refl refl refl k) p.1 h
+      | inr p ↦ last_only b c slash sign.NoBack 60 x rest s (λ xs k. continues_whole (47 ∷ []) 60 rest (lexeme.Sign sign.NoBack) xs refl refl refl k) p.1 h
+    ]
 
 other_way : (a b : ℕ) → eqb a b ≡ false → eqb b a ≡ false
 other_way a b h = elim (cases_Bool (eqb b a)) [
@@ -332,13 +321,15 @@ step_spelled : (b c : Builder) (m : Mode) (x : ℕ) (rest : List ℕ) (s : Build
 step_spelled b c between x rest s e h = begin_spelled b c x rest s e h
 step_spelled b c comment x rest s e h =
     same_builder b c comment (cond (eqb x 10) between comment) (x ∷ rest) rest (λ xs f. spells_in_comment x rest xs (comment_from (eqb x 10) rest xs f))
-    (spelled_at s (b, cond (eqb x 10) between comment) rest c (some_is (b, cond (eqb x 10) between comment) s e) h).spelled
+    (spelled_at s (b, cond (eqb x 10) between comment) rest c (same_Some (b, cond (eqb x 10) between comment) s e) h).spelled
 step_spelled b c (word w) x rest s e h = word_spelled b c w x rest s e h
 step_spelled b c (terminal t) x rest s e h = terminal_spelled b c t x rest s e h
 step_spelled b c dash x rest s e h = further b c dash dashes 45 x rest s (λ xs f. continues_more (45 ∷ []) 45 rest xs f) e h
-step_spelled b c dashes x rest s e h = last_only b c dashes sign.Normal 62 x rest s (λ xs k. continues_whole (45 ∷ 45 ∷ []) 62 rest (lexeme.Sign sign.Normal) xs refl refl refl k) e h
+step_spelled b c dashes x rest s e h = last_only b c dashes sign.Normal 62 x rest s
+    (λ xs k. continues_whole (45 ∷ 45 ∷ []) 62 rest (lexeme.Sign sign.Normal) xs refl refl refl k) e h
 step_spelled b c tilde x rest s e h = further b c tilde tildes 126 x rest s (λ xs f. continues_more (126 ∷ []) 126 rest xs f) e h
-step_spelled b c tildes x rest s e h = last_only b c tildes sign.Closing 62 x rest s (λ xs k. continues_whole (126 ∷ 126 ∷ []) 62 rest (lexeme.Sign sign.Closing) xs refl refl refl k) e h
+step_spelled b c tildes x rest s e h = last_only b c tildes sign.Closing 62 x rest s
+    (λ xs k. continues_whole (126 ∷ 126 ∷ []) 62 rest (lexeme.Sign sign.Closing) xs refl refl refl k) e h
 step_spelled b c slash x rest s e h = slash_spelled b c x rest s e h
 step_spelled b c greater x rest s e h = greater_spelled b c x rest s e h
 
@@ -349,13 +340,13 @@ nothing_left b c m f e = subst (λ (t : Builder). Spelled b m [] t) e (record { 
 
 word_ends : (b c : Builder) (w : List ℕ) → finish b (word w) ≡ Some c → Spelled b (word w) [] c
 word_ends b c w e =
-    let y = bind_some (as_word (wants b.stand) w) (λ y. grow b y) c e in
-    let is = word_some (wants b.stand) w y.0 y.1 in
+    let y = bind_some (as_word (wants b.spot) w) (λ y. grow b y) c e in
+    let is = word_some (wants b.spot) w y.0 y.1 in
     new_symbol b c c y.0 (word w) between [] [] y.2 (λ xs k. continues_before w [] y.0 xs is.0 is.1 (ends_all y.0) k) (nothing_left c c between refl refl)
 
 ends_spelled : (b c : Builder) (m : Mode) → finish b m ≡ Some c → Spelled b m [] c
-ends_spelled b c between e = nothing_left b c between refl (some_is b c e)
-ends_spelled b c comment e = nothing_left b c comment refl (some_is b c e)
+ends_spelled b c between e = nothing_left b c between refl (same_Some b c e)
+ends_spelled b c comment e = nothing_left b c comment refl (same_Some b c e)
 ends_spelled b c (word w) e = word_ends b c w e
 ends_spelled b c (terminal t) e = absurd cc
 ends_spelled b c dash e = absurd cc
@@ -363,7 +354,8 @@ ends_spelled b c dashes e = absurd cc
 ends_spelled b c tilde e = absurd cc
 ends_spelled b c tildes e = absurd cc
 ends_spelled b c slash e = absurd cc
-ends_spelled b c greater e = new_symbol b c c (lexeme.Sign sign.Weak) greater between [] [] e (λ xs k. continues_before (62 ∷ []) [] (lexeme.Sign sign.Weak) xs refl refl refl k) (nothing_left c c between refl refl)
+ends_spelled b c greater e = new_symbol b c c (lexeme.Sign sign.Weak) greater between [] [] e
+    (λ xs k. continues_before (62 ∷ []) [] (lexeme.Sign sign.Weak) xs refl refl refl k) (nothing_left c c between refl refl)
 
 -- what a reading takes up to the end is spelled by the text
 pub final_spelled : (text : List ℕ) (b c : Builder) (m : Mode) → final b m text ≡ Some c → Spelled b m text c

@@ -11,7 +11,8 @@ use Rattle.codeco_text.specs.Building.{push, grow}
 use Rattle.codeco_text.specs.Scanning as scanning
 use Rattle.codeco_text.specs.Scanner.{seen, StartsWithin, Steps}
 
-guard_steps : (t : Bool) (b : Builder) (text : List ℕ) (next : ℕ) (m : Mode) (sm : scanning.Mode) → sm ≡ seen text next m → StartsWithin next m → Steps (scanning.guard t (b, sm)) text next (Ok (scanning.guard t m)) b
+guard_steps : (t : Bool) (b : Builder) (text : List ℕ) (next : ℕ) (m : Mode) (sm : scanning.Mode) → sm ≡ seen text next m → StartsWithin next m
+    → Steps (scanning.guard t (b, sm)) text next (Ok (scanning.guard t m)) b
 guard_steps true b text next m sm e within = (ap (λ (s : scanning.Mode). Some (b, s)) e, within)
 guard_steps false b text next m sm e within = refl
 

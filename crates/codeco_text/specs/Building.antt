@@ -1,33 +1,28 @@
 -- What a reading has of the declarations and rules, symbol by symbol. Only calls inside the crate speak of it.
-use Rattle.std.specs.Prelude.{◌≡◌, ℕ, Bool, true, false, ◌&&◌, List, [], ◌∷◌, ◌++◌, flat_map, codes, Option, Some, None, option_map, if◌then◌else◌, Result, Ok, Err}
+use Rattle.std.specs.Prelude.{◌≡◌, ℕ, Bool, true, false, ◌&&◌, List, [], ◌∷◌, ◌++◌, codes, Option, Some, None, option_map, if◌then◌else◌, Result, Ok, Err}
 use Rattle.codeco_text.specs.declared.symbols.Sign.{Sign}
 use Rattle.codeco_text.specs.declared.symbols.Sign.TheVariants as sign
 use Rattle.codeco_text.specs.declared.symbols.Lexeme.{Lexeme}
 use Rattle.codeco_text.specs.declared.symbols.Lexeme.TheVariants as lexeme
-use Rattle.codeco_text.specs.declared.stand.Role.{Role}
-use Rattle.codeco_text.specs.declared.stand.Role.TheVariants as role
-use Rattle.codeco_text.specs.declared.stand.Part.{Part}
-use Rattle.codeco_text.specs.declared.stand.Part.TheVariants as part
-use Rattle.codeco_text.specs.declared.stand.Stand.{Stand}
-use Rattle.codeco_text.specs.declared.stand.Stand.TheVariants as stand
-use Rattle.codeco_text.specs.declared.written.WrittenTerm.{WrittenTerm}
+use Rattle.codeco_text.specs.declared.spot.Role.{Role}
+use Rattle.codeco_text.specs.declared.spot.Role.TheVariants as role
+use Rattle.codeco_text.specs.declared.spot.Part.{Part}
+use Rattle.codeco_text.specs.declared.spot.Part.TheVariants as part
+use Rattle.codeco_text.specs.declared.spot.Spot.{Spot}
+use Rattle.codeco_text.specs.declared.spot.Spot.TheVariants as spot
 use Rattle.codeco_text.specs.declared.written.WrittenTerm.TheVariants as term
 use Rattle.codeco_text.specs.declared.written.WrittenFeat.{WrittenFeat}
 use Rattle.codeco_text.specs.declared.written.WrittenCategory.{WrittenCategory}
 use Rattle.codeco_text.specs.declared.written.WrittenElement.{WrittenElement}
 use Rattle.codeco_text.specs.declared.written.WrittenElement.TheVariants as element
-use Rattle.codeco_text.specs.declared.written.WrittenRule.{WrittenRule}
 use Rattle.codeco_text.specs.declared.written.Domain.{Domain}
 use Rattle.codeco_text.specs.declared.written.Domain.TheVariants as domain
-use Rattle.codeco_text.specs.declared.written.WrittenItem.{WrittenItem}
 use Rattle.codeco_text.specs.declared.written.WrittenItem.TheVariants as item
-use Rattle.codeco_text.specs.declared.builder.OpenDeclaration.{OpenDeclaration}
 use Rattle.codeco_text.specs.declared.builder.OpenCategory.{OpenCategory}
 use Rattle.codeco_text.specs.declared.builder.OpenRule.{OpenRule}
 use Rattle.codeco_text.specs.declared.builder.Builder.{Builder}
 use Rattle.lists.specs.declared.memory.Memory.{Memory}
 use Rattle.codeco_text.specs.Names.{same_bytes}
-use Rattle.codeco_text.specs.Notation.{lexemes, label_lexemes, named, arrow, body_lexemes, signed, feat_lexemes, category_lexemes}
 use Rattle.codeco_text.specs.Reading.{after_category, advance, is_sign, begins_pattern}
 
 abbrev pub push : {X : Type 0} → List X → X → List X
@@ -48,27 +43,27 @@ with_part_identifier part.Taken c w = c
 with_part_identifier part.Next c w = c
 with_part_identifier part.Whole c w = c
 
-abbrev pub identifier_at : Stand → Builder → List ℕ → Builder
-identifier_at stand.Items b w = record b { category = named_category b.category w; rule = record b.rule { label = None } }
-identifier_at stand.RuleHead b w = record b { category = named_category b.category w }
-identifier_at stand.FeatureName b w = record b { declaration = record b.declaration { name = w } }
-identifier_at stand.FeatureValue b w = record b { declaration = record b.declaration { atom = w; atoms = [] } }
-identifier_at stand.AtomName b w = record b { declaration = record b.declaration { atom = w } }
-identifier_at (stand.Category p r) b w = record b { category = with_part_identifier p b.category w }
-identifier_at stand.Body b w = record b { category = named_category b.category w }
+abbrev pub identifier_at : Spot → Builder → List ℕ → Builder
+identifier_at spot.Items b w = record b { category = named_category b.category w; rule = record b.rule { label = None } }
+identifier_at spot.RuleHead b w = record b { category = named_category b.category w }
+identifier_at spot.FeatureName b w = record b { declaration = record b.declaration { name = w } }
+identifier_at spot.FeatureValue b w = record b { declaration = record b.declaration { atom = w; atoms = [] } }
+identifier_at spot.AtomName b w = record b { declaration = record b.declaration { atom = w } }
+identifier_at (spot.Category p r) b w = record b { category = with_part_identifier p b.category w }
+identifier_at spot.Body b w = record b { category = named_category b.category w }
 identifier_at _ b w = b
 
 abbrev pub with_identifier : Builder → List ℕ → Builder
-with_identifier b w = identifier_at b.stand b w
+with_identifier b w = identifier_at b.spot b w
 
-abbrev pub variable_at : Stand → Builder → List ℕ → Builder
-variable_at (stand.Category part.Term r) b w = record b { category = record b.category { term = term.Variable w } }
-variable_at (stand.Category part.Taken r) b w = record b { category = record b.category { term = term.Taken w } }
-variable_at stand.PositionName b w = record b { rule = record b.rule { body = push b.rule.body (element.Position w) } }
+abbrev pub variable_at : Spot → Builder → List ℕ → Builder
+variable_at (spot.Category part.Term r) b w = record b { category = record b.category { term = term.Variable w } }
+variable_at (spot.Category part.Taken r) b w = record b { category = record b.category { term = term.Taken w } }
+variable_at spot.PositionName b w = record b { rule = record b.rule { body = push b.rule.body (element.Position w) } }
 variable_at _ b w = b
 
 abbrev pub with_variable : Builder → List ℕ → Builder
-with_variable b w = variable_at b.stand b w
+with_variable b w = variable_at b.spot b w
 
 abbrev pub with_keyword : Builder → List ℕ → Builder
 with_keyword b w = record b { declaration = record b.declaration { positions = same_bytes w (codes "position") } }
@@ -92,7 +87,10 @@ values_domain false = domain.Words
 
 -- a declaration at the end of the items
 abbrev pub with_declaration : Builder → Domain → Builder
-with_declaration b d = record b { items = push b.items (item.Feature b.declaration.name d); declaration = record b.declaration { name = []; atom = []; atoms = [] } }
+with_declaration b d = record b {
+  items = push b.items (item.Feature b.declaration.name d);
+  declaration = record b.declaration { name = []; atom = []; atoms = [] };
+}
 
 abbrev pub nothing : WrittenCategory
 nothing = record { name = []; feats = [] }
@@ -122,21 +120,21 @@ abbrev pub end_atom : Builder → Sign → Builder
 end_atom b sign.Stop = with_declaration b (domain.Atoms (push b.declaration.atoms b.declaration.atom))
 end_atom b _ = record b { declaration = record b.declaration { atoms = push b.declaration.atoms b.declaration.atom; atom = [] } }
 
-abbrev pub sign_at : Stand → Builder → Sign → Builder
-sign_at stand.LabelEnd b s = record b { rule = record b.rule { label = Some b.rule.pending; pending = [] } }
-sign_at stand.AtomNext b s = end_atom b s
-sign_at stand.FeatureEnd b s = with_declaration b (values_domain b.declaration.positions)
-sign_at (stand.Category part.Named r) b s = record b { category = record b.category { feats = [] } }
-sign_at (stand.Category part.Next r) b s = record b { category = with_feat b.category }
-sign_at stand.Arrow b s = arrow_at b s
-sign_at stand.Body b s = body_sign_at b s
-sign_at stand.BackPattern b s = record b { rule = with_patterns b.rule }
-sign_at stand.AbsentPattern b s = record b { rule = with_patterns b.rule }
-sign_at stand.Positives b sign.Minus = record b { rule = record b.rule { negatives = [] } }
+abbrev pub sign_at : Spot → Builder → Sign → Builder
+sign_at spot.LabelEnd b s = record b { rule = record b.rule { label = Some b.rule.pending; pending = [] } }
+sign_at spot.AtomNext b s = end_atom b s
+sign_at spot.FeatureEnd b s = with_declaration b (values_domain b.declaration.positions)
+sign_at (spot.Category part.Named r) b s = record b { category = record b.category { feats = [] } }
+sign_at (spot.Category part.Next r) b s = record b { category = with_feat b.category }
+sign_at spot.Arrow b s = arrow_at b s
+sign_at spot.Body b s = body_sign_at b s
+sign_at spot.BackPattern b s = record b { rule = with_patterns b.rule }
+sign_at spot.AbsentPattern b s = record b { rule = with_patterns b.rule }
+sign_at spot.Positives b sign.Minus = record b { rule = record b.rule { negatives = [] } }
 sign_at _ b s = b
 
 abbrev pub with_sign : Builder → Sign → Builder
-with_sign b s = sign_at b.stand b s
+with_sign b s = sign_at b.spot b s
 
 -- What is whole
 
@@ -153,43 +151,43 @@ settled_rule role.Absent r c = record r { positives = push r.positives c }
 -- a category that is whole stands in its place
 abbrev pub settle_into : Builder → Role → List WrittenFeat → Builder
 settle_into b r feats = record b {
-  stand = after_category r;
+  spot = after_category r;
   category = named_category b.category [];
   rule = settled_rule r b.rule (record { name = b.category.name; feats = feats });
 }
 
-abbrev pub settle_at : Stand → Builder → Builder
-settle_at (stand.Category part.Named r) b = settle_into b r []
-settle_at (stand.Category part.Whole r) b = settle_into b r b.category.feats
+abbrev pub settle_at : Spot → Builder → Builder
+settle_at (spot.Category part.Named r) b = settle_into b r []
+settle_at (spot.Category part.Whole r) b = settle_into b r b.category.feats
 settle_at _ b = b
 
 abbrev pub settled_builder : Builder → Builder
-settled_builder b = settle_at b.stand b
+settled_builder b = settle_at b.spot b
 
 -- a reference that is whole stands in the body
 abbrev pub close_into : Builder → WrittenElement → Builder
-close_into b e = record b { stand = stand.Body; rule = record b.rule { body = push b.rule.body e; positives = []; negatives = [] } }
+close_into b e = record b { spot = spot.Body; rule = record b.rule { body = push b.rule.body e; positives = []; negatives = [] } }
 
-abbrev pub close_at : Stand → Builder → Builder
-close_at stand.Positives b = close_into b (element.Back b.rule.positives [])
-close_at stand.Negatives b = close_into b (element.Back b.rule.positives b.rule.negatives)
-close_at stand.Absents b = close_into b (element.NoBack b.rule.positives)
+abbrev pub close_at : Spot → Builder → Builder
+close_at spot.Positives b = close_into b (element.Back b.rule.positives [])
+close_at spot.Negatives b = close_into b (element.Back b.rule.positives b.rule.negatives)
+close_at spot.Absents b = close_into b (element.NoBack b.rule.positives)
 close_at _ b = b
 
 abbrev pub closed_builder : Builder → Builder
-closed_builder b = close_at b.stand b
+closed_builder b = close_at b.spot b
 
-abbrev pub is_named : Stand → Bool
-is_named (stand.Category part.Named r) = true
+abbrev pub is_named : Spot → Bool
+is_named (spot.Category part.Named r) = true
 is_named _ = false
 
-abbrev pub opens_features : Stand → Lexeme → Bool
+abbrev pub opens_features : Spot → Lexeme → Bool
 opens_features s x = is_named s && is_sign sign.OpenParen x
 
 -- what takes the symbol
 abbrev pub ready : Builder → Lexeme → Builder
 ready b x =
-    let whole = if opens_features b.stand x then b else settled_builder b in
+    let whole = if opens_features b.spot x then b else settled_builder b in
     if begins_pattern x then whole else closed_builder whole
 
 -- The symbol taken
@@ -203,11 +201,11 @@ with_lexeme b (lexeme.Kind w) = with_kind b w
 with_lexeme b (lexeme.Terminal t) = with_terminal b t
 with_lexeme b (lexeme.Sign s) = with_sign b s
 
-abbrev pub moved : Builder → Stand → Builder
-moved b s = record b { stand = s }
+abbrev pub moved : Builder → Spot → Builder
+moved b s = record b { spot = s }
 
 abbrev pub take_ready : Builder → Lexeme → Option Builder
-take_ready b x = option_map (moved (with_lexeme b x)) (advance b.stand x)
+take_ready b x = option_map (moved (with_lexeme b x)) (advance b.spot x)
 
 abbrev pub grow : Builder → Lexeme → Option Builder
 grow b x = take_ready (ready b x) x
@@ -217,92 +215,3 @@ abbrev pub Takes : Option Builder → Result Bool Memory → Builder → Type 0
 Takes grown (Ok true) new = grown ≡ Some new
 Takes grown (Ok false) new = grown ≡ None
 Takes grown (Err e) new = Unit {0}
-
--- What was read, as symbols
-
-abbrev pub word_sign : Sign → Lexeme
-word_sign s = lexeme.Sign s
-
--- `name ( f: t, ..,`
-abbrev pub opened : Lexeme → List WrittenFeat → List Lexeme
-opened name feats = name ∷ lexeme.Sign sign.OpenParen ∷ flat_map (λ f. push (feat_lexemes f) (lexeme.Sign sign.Comma)) feats
-
-abbrev pub name_lexeme : Role → List ℕ → Lexeme
-name_lexeme role.Preterminal w = lexeme.Kind w
-name_lexeme _ w = lexeme.Identifier w
-
-abbrev pub part_lexemes : Part → Role → OpenCategory → List Lexeme
-part_lexemes part.Name r c = []
-part_lexemes part.Named r c = name_lexeme r c.name ∷ []
-part_lexemes part.Feature r c = opened (name_lexeme r c.name) c.feats
-part_lexemes part.Colon r c = push (opened (name_lexeme r c.name) c.feats) (lexeme.Identifier c.feature)
-part_lexemes part.Term r c = push (push (opened (name_lexeme r c.name) c.feats) (lexeme.Identifier c.feature)) (lexeme.Sign sign.Colon)
-part_lexemes part.Taken r c = push (push (push (opened (name_lexeme r c.name) c.feats) (lexeme.Identifier c.feature)) (lexeme.Sign sign.Colon)) (lexeme.Sign sign.Question)
-part_lexemes part.Next r c = opened (name_lexeme r c.name) c.feats ++ feat_lexemes (record { name = c.feature; term = c.term })
-part_lexemes part.Whole r c = category_lexemes (name_lexeme r c.name) c.feats
-
-abbrev pub atoms_open : List (List ℕ) → List Lexeme
-atoms_open atoms = flat_map (λ a. lexeme.Identifier a ∷ lexeme.Sign sign.Comma ∷ []) atoms
-
-abbrev pub declaration_front : List WrittenItem → List Lexeme
-declaration_front items = push (lexemes items) (lexeme.Keyword (codes "feature"))
-
-abbrev pub value_front : List WrittenItem → List ℕ → List Lexeme
-value_front items name = push (push (declaration_front items) (lexeme.Identifier name)) (lexeme.Sign sign.Colon)
-
-abbrev pub values_word : Bool → List ℕ
-values_word true = codes "position"
-values_word false = codes "word"
-
-abbrev pub head_front : List WrittenItem → OpenRule → List Lexeme
-head_front items r = lexemes items ++ label_lexemes r.label
-
-abbrev pub arrow_front : List WrittenItem → OpenRule → List Lexeme
-arrow_front items r = head_front items r ++ named r.head
-
-abbrev pub body_front : List WrittenItem → OpenRule → List Lexeme
-body_front items r = push (arrow_front items r) (arrow r.closing) ++ body_lexemes r.body
-
-abbrev pub back_front : List WrittenItem → OpenRule → List Lexeme
-back_front items r = push (body_front items r) (lexeme.Sign sign.Back) ++ signed sign.Plus r.positives
-
-abbrev pub negative_front : List WrittenItem → OpenRule → List Lexeme
-negative_front items r = back_front items r ++ signed sign.Minus r.negatives
-
-abbrev pub absent_front : List WrittenItem → OpenRule → List Lexeme
-absent_front items r = push (body_front items r) (lexeme.Sign sign.NoBack) ++ signed sign.Plus r.positives
-
-abbrev pub role_front : Role → List WrittenItem → OpenRule → List Lexeme
-role_front role.Head items r = head_front items r
-role_front role.Preterminal items r = push (body_front items r) (lexeme.Sign sign.Dollar)
-role_front role.Sub items r = body_front items r
-role_front role.Forward items r = push (body_front items r) (lexeme.Sign sign.Weak)
-role_front role.Strong items r = push (body_front items r) (lexeme.Sign sign.Strong)
-role_front role.Positive items r = push (back_front items r) (lexeme.Sign sign.Plus)
-role_front role.Negative items r = push (negative_front items r) (lexeme.Sign sign.Minus)
-role_front role.Absent items r = push (absent_front items r) (lexeme.Sign sign.Plus)
-
-abbrev pub so_far_at : Stand → Builder → List Lexeme
-so_far_at stand.Items b = lexemes b.items
-so_far_at stand.LabelName b = push (lexemes b.items) (lexeme.Sign sign.OpenBrace)
-so_far_at stand.LabelEnd b = push (push (lexemes b.items) (lexeme.Sign sign.OpenBrace)) (lexeme.Label b.rule.pending)
-so_far_at stand.RuleHead b = head_front b.items b.rule
-so_far_at stand.FeatureName b = declaration_front b.items
-so_far_at stand.FeatureColon b = push (declaration_front b.items) (lexeme.Identifier b.declaration.name)
-so_far_at stand.FeatureValue b = value_front b.items b.declaration.name
-so_far_at stand.AtomNext b = push (value_front b.items b.declaration.name ++ atoms_open b.declaration.atoms) (lexeme.Identifier b.declaration.atom)
-so_far_at stand.AtomName b = value_front b.items b.declaration.name ++ atoms_open b.declaration.atoms
-so_far_at stand.FeatureEnd b = push (value_front b.items b.declaration.name) (lexeme.Keyword (values_word b.declaration.positions))
-so_far_at (stand.Category p r) b = role_front r b.items b.rule ++ part_lexemes p r b.category
-so_far_at stand.Arrow b = arrow_front b.items b.rule
-so_far_at stand.Body b = body_front b.items b.rule
-so_far_at stand.PositionName b = push (body_front b.items b.rule) (lexeme.Sign sign.Hash)
-so_far_at stand.BackPattern b = push (body_front b.items b.rule) (lexeme.Sign sign.Back)
-so_far_at stand.Positives b = back_front b.items b.rule
-so_far_at stand.Negatives b = negative_front b.items b.rule
-so_far_at stand.AbsentPattern b = push (body_front b.items b.rule) (lexeme.Sign sign.NoBack)
-so_far_at stand.Absents b = absent_front b.items b.rule
-
--- the symbols that were read
-abbrev pub so_far : Builder → List Lexeme
-so_far b = so_far_at b.stand b

@@ -1,5 +1,5 @@
 -- The notation: what a text spells.
-use Rattle.std.specs.Prelude.{◌≡◌, ℕ, Bool, true, false, not, ◌&&◌, ◌||◌, ◌==◌, List, [], ◌∷◌, ◌++◌, map, flat_map, codes, IsTrue, Option, Some, None, Result, Ok, Err, if◌then◌else◌, length, take, ◌<◌, ◌≤◌, ◌+◌}
+use Rattle.std.specs.Prelude.{◌≡◌, ℕ, Bool, true, false, not, ◌&&◌, ◌||◌, ◌==◌, List, [], ◌∷◌, ◌++◌, map, flat_map, codes, Option, Some, None, Result, Ok, Err, if◌then◌else◌, length, take, ◌<◌, ◌≤◌, ◌+◌}
 use Rattle.std.specs.List.{list_all}
 use Rattle.codeco_text.specs.declared.symbols.Sign.{Sign}
 use Rattle.codeco_text.specs.declared.symbols.Sign.TheVariants as sign
@@ -11,7 +11,6 @@ use Rattle.codeco_text.specs.declared.written.WrittenFeat.{WrittenFeat}
 use Rattle.codeco_text.specs.declared.written.WrittenCategory.{WrittenCategory}
 use Rattle.codeco_text.specs.declared.written.WrittenElement.{WrittenElement}
 use Rattle.codeco_text.specs.declared.written.WrittenElement.TheVariants as element
-use Rattle.codeco_text.specs.declared.written.WrittenRule.{WrittenRule}
 use Rattle.codeco_text.specs.declared.written.Domain.{Domain}
 use Rattle.codeco_text.specs.declared.written.Domain.TheVariants as domain
 use Rattle.codeco_text.specs.declared.written.WrittenItem.{WrittenItem}
@@ -90,13 +89,9 @@ sign_goes_on _ rest = false
 
 -- whether a longer symbol stands where this one does, with the rest behind it
 abbrev pub goes_on : Lexeme → List ℕ → Bool
-goes_on (lexeme.Identifier w) rest = begins_by is_word_byte rest
-goes_on (lexeme.Variable w) rest = begins_by is_word_byte rest
-goes_on (lexeme.Keyword w) rest = begins_by is_word_byte rest
-goes_on (lexeme.Label w) rest = begins_by is_word_byte rest
-goes_on (lexeme.Kind w) rest = begins_by is_word_byte rest
 goes_on (lexeme.Terminal t) rest = false
 goes_on (lexeme.Sign s) rest = sign_goes_on s rest
+goes_on _ rest = begins_by is_word_byte rest
 
 -- White space and comments. A comment is open at the front where `comment` says so; one that is open at the end is
 -- closed by the text's end, where this is the `last` gap of the text.
@@ -175,7 +170,8 @@ domain_lexemes domain.Positions = lexeme.Keyword (codes "position") ∷ []
 domain_lexemes (domain.Atoms atoms) = listed (map (λ a. lexeme.Identifier a ∷ []) atoms)
 
 abbrev pub item_lexemes : WrittenItem → List Lexeme
-item_lexemes (item.Feature name d) = lexeme.Keyword (codes "feature") ∷ lexeme.Identifier name ∷ lexeme.Sign sign.Colon ∷ domain_lexemes d ++ lexeme.Sign sign.Stop ∷ []
+item_lexemes (item.Feature name d) = lexeme.Keyword (codes "feature") ∷ lexeme.Identifier name ∷ lexeme.Sign sign.Colon ∷ domain_lexemes d
+    ++ lexeme.Sign sign.Stop ∷ []
 item_lexemes (item.Rule r) = label_lexemes r.label ++ (named r.head ++ (arrow r.closing ∷ (body_lexemes r.body ++ lexeme.Sign sign.Stop ∷ [])))
 
 -- the symbols of declarations and rules
@@ -197,15 +193,13 @@ is_empty (x ∷ xs) = false
 
 -- a reference has a positive pattern, and only such patterns of < have marked variables
 abbrev pub element_fits : WrittenElement → Bool
-element_fits (element.Terminal t) = true
 element_fits (element.Preterminal c) = is_plain c
 element_fits (element.Sub c) = is_plain c
-element_fits (element.Position x) = true
-element_fits element.Opener = true
 element_fits (element.Forward c) = is_plain c
 element_fits (element.Strong c) = is_plain c
 element_fits (element.Back ps ns) = not (is_empty ps) && list_all is_plain ns
 element_fits (element.NoBack ps) = not (is_empty ps) && list_all is_plain ps
+element_fits _ = true
 
 abbrev pub domain_fits : Domain → Bool
 domain_fits domain.Words = true

@@ -24,29 +24,18 @@ seen text at mode.Greater = scanning.greater
 
 -- a word or a terminal begins before this place
 abbrev pub StartsWithin : ℕ → Mode → Type 0
-StartsWithin at mode.Between = Unit {0}
-StartsWithin at mode.Comment = Unit {0}
 StartsWithin at (mode.Word start) = start ≤ at
 StartsWithin at (mode.Terminal start) = start ≤ at
-StartsWithin at mode.Dash = Unit {0}
-StartsWithin at mode.Dashes = Unit {0}
-StartsWithin at mode.Tilde = Unit {0}
-StartsWithin at mode.Tildes = Unit {0}
-StartsWithin at mode.Slash = Unit {0}
-StartsWithin at mode.Greater = Unit {0}
+StartsWithin _ _ = Unit {0}
 
 -- in a sign of several bytes other than >>
 abbrev pub IsSignMode : Mode → Type 0
-IsSignMode mode.Between = ⊥
-IsSignMode mode.Comment = ⊥
-IsSignMode (mode.Word start) = ⊥
-IsSignMode (mode.Terminal start) = ⊥
 IsSignMode mode.Dash = Unit {0}
 IsSignMode mode.Dashes = Unit {0}
 IsSignMode mode.Tilde = Unit {0}
 IsSignMode mode.Tildes = Unit {0}
 IsSignMode mode.Slash = Unit {0}
-IsSignMode mode.Greater = ⊥
+IsSignMode _ = ⊥
 
 -- whether a call went on as a step does, unless memory ran out
 abbrev pub Steps : Option (Builder × scanning.Mode) → List ℕ → ℕ → Result (Option Mode) Memory → Builder → Type 0

@@ -5,12 +5,12 @@ use Rattle.codeco_text.specs.declared.symbols.Sign.{Sign}
 use Rattle.codeco_text.specs.declared.symbols.Sign.TheVariants as sign
 use Rattle.codeco_text.specs.declared.symbols.Lexeme.{Lexeme}
 use Rattle.codeco_text.specs.declared.symbols.Lexeme.TheVariants as lexeme
-use Rattle.codeco_text.specs.declared.stand.Stand.{Stand}
-use Rattle.codeco_text.specs.declared.stand.Stand.TheVariants as stand
+use Rattle.codeco_text.specs.declared.spot.Spot.{Spot}
+use Rattle.codeco_text.specs.declared.spot.Spot.TheVariants as spot
 use Rattle.codeco_text.specs.declared.written.WrittenItem.{WrittenItem}
 use Rattle.codeco_text.specs.declared.builder.Builder.{Builder}
 use Rattle.codeco_text.specs.Names.{is_space, is_word_byte, is_terminal_byte, is_terminal}
-use Rattle.codeco_text.specs.Reading.{◌>>=◌, wants, as_word, may_begin, may_go_on, next_stand}
+use Rattle.codeco_text.specs.Reading.{◌>>=◌, wants, as_word, may_begin, may_go_on, next_spot}
 use Rattle.codeco_text.specs.Building.{push, grow, nothing}
 use Rattle.codeco_text.specs.declared.written.WrittenTerm.TheVariants as term
 
@@ -30,7 +30,7 @@ pub data Mode : Type 0 where
 -- a reading that has read nothing
 abbrev pub fresh : Builder
 fresh = record {
-  stand = stand.Items;
+  spot = spot.Items;
   items = [];
   declaration = record { name = []; atom = []; atoms = []; positions = false };
   category = record { name = []; feats = []; feature = []; term = term.Atom [] };
@@ -38,10 +38,10 @@ fresh = record {
 }
 
 abbrev pub takes_sign : Builder → Sign → Bool
-takes_sign b s = is_some (next_stand b.stand (lexeme.Sign s))
+takes_sign b s = is_some (next_spot b.spot (lexeme.Sign s))
 
 abbrev pub takes_terminal : Builder → Bool
-takes_terminal b = is_some (next_stand b.stand (lexeme.Terminal []))
+takes_terminal b = is_some (next_spot b.spot (lexeme.Terminal []))
 
 abbrev pub guard : {A : Type 0} → Bool → A → Option A
 guard t x = if t then Some x else None
@@ -87,14 +87,14 @@ abbrev pub begin : Builder → ℕ → Option (Builder × Mode)
 begin b x =
     if is_space x then Some (b, between)
     else (if x == 37 then Some (b, comment)
-    else (if may_begin (wants b.stand) x then Some (b, word (x ∷ []))
+    else (if may_begin (wants b.spot) x then Some (b, word (x ∷ []))
     else begin_sign b x))
 
 -- where the symbol that is being read is whole
 abbrev pub finish : Builder → Mode → Option Builder
 finish b between = Some b
 finish b comment = Some b
-finish b (word w) = as_word (wants b.stand) w >>= λ x. grow b x
+finish b (word w) = as_word (wants b.spot) w >>= λ x. grow b x
 finish b (terminal t) = None
 finish b dash = None
 finish b dashes = None
@@ -111,7 +111,7 @@ if_terminal b t = if is_terminal t then behind (grow b (lexeme.Terminal t)) else
 abbrev pub step : Builder → Mode → ℕ → Option (Builder × Mode)
 step b between x = begin b x
 step b comment x = Some (b, if x == 10 then between else comment)
-step b (word w) x = if is_word_byte x then guard (may_go_on (wants b.stand) (push w x)) (b, word (push w x)) else (finish b (word w) >>= λ c. begin c x)
+step b (word w) x = if is_word_byte x then guard (may_go_on (wants b.spot) (push w x)) (b, word (push w x)) else (finish b (word w) >>= λ c. begin c x)
 step b (terminal t) x = if x == 93 then if_terminal b t else guard (is_terminal_byte x) (b, terminal (push t x))
 step b dash x = guard (x == 45) (b, dashes)
 step b dashes x = if x == 62 then behind (grow b (lexeme.Sign sign.Normal)) else None
@@ -120,13 +120,13 @@ step b tildes x = if x == 62 then behind (grow b (lexeme.Sign sign.Closing)) els
 step b slash x = if x == 47 then behind (grow b (lexeme.Sign sign.Scope)) else (if x == 60 then behind (grow b (lexeme.Sign sign.NoBack)) else None)
 step b greater x = if x == 62 then behind (grow b (lexeme.Sign sign.Strong)) else (finish b greater >>= λ c. begin c x)
 
-abbrev pub is_between_items : Stand → Bool
-is_between_items stand.Items = true
+abbrev pub is_between_items : Spot → Bool
+is_between_items spot.Items = true
 is_between_items _ = false
 
 -- the items at the end of a text
 abbrev pub ended : Builder → Mode → Option (List WrittenItem)
-ended b m = finish b m >>= λ c. guard (is_between_items c.stand) c.items
+ended b m = finish b m >>= λ c. guard (is_between_items c.spot) c.items
 
 abbrev pub ok_or_place : {A : Type 0} → Option A → ℕ → Result A ℕ
 ok_or_place None n = Err n

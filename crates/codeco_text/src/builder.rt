@@ -3,7 +3,7 @@ ghost use Rattle.std.specs.Prelude.{◌≡◌, [], OnOk};
 ghost use Rattle.codeco_text.specs.Building.{nothing, closes, values_domain, is_named};
 
 use crate::moves::{advance, after_category, begins_pattern, opens_features};
-use crate::stand::{Part, Role, Stand};
+use crate::spot::{Part, Role, Spot};
 use crate::symbols::{Lexeme, Sign};
 use crate::words::same_bytes;
 use crate::written::{
@@ -48,7 +48,7 @@ pub struct OpenRule {
 /// Where a reading stands, and what it has read.
 #[derive(Drop)]
 pub struct Builder {
-    pub stand: Stand,
+    pub spot: Spot,
     pub items: WrittenItems,
     pub declaration: OpenDeclaration,
     pub category: OpenCategory,
@@ -162,7 +162,7 @@ impl Builder {
         ensures { result ≡ fresh }
     {
         Builder {
-            stand: Stand::Items,
+            spot: Spot::Items,
             items: WrittenItems::new(alloc),
             declaration: OpenDeclaration {
                 name: empty(alloc),
@@ -191,25 +191,25 @@ impl Builder {
     fn add_identifier(&mut self, alloc: Global, word: Symbol)
         ensures { self.new ≡ with_identifier self.old word }
     {
-        match self.stand {
-            Stand::Items => {
+        match self.spot {
+            Spot::Items => {
                 self.category.start(alloc, word);
                 self.rule.label = None;
             }
-            Stand::RuleHead => self.category.start(alloc, word),
-            Stand::FeatureName => self.declaration.name = word,
-            Stand::FeatureValue => {
+            Spot::RuleHead => self.category.start(alloc, word),
+            Spot::FeatureName => self.declaration.name = word,
+            Spot::FeatureValue => {
                 self.declaration.atom = word;
                 self.declaration.atoms = Symbols::new(alloc);
             }
-            Stand::AtomName => self.declaration.atom = word,
-            Stand::Category(part, _) => match part {
+            Spot::AtomName => self.declaration.atom = word,
+            Spot::Category(part, _) => match part {
                 Part::Name => self.category.start(alloc, word),
                 Part::Feature => self.category.feature = word,
                 Part::Term => self.category.term = WrittenTerm::Atom(word),
                 _ => {}
             },
-            Stand::Body => self.category.start(alloc, word),
+            Spot::Body => self.category.start(alloc, word),
             _ => {}
         }
     }
@@ -217,8 +217,8 @@ impl Builder {
     fn add_variable(&mut self, word: Symbol) -> Result<(), Memory>
         ensures { OnOk result (self.new ≡ with_variable self.old word) }
     {
-        match self.stand {
-            Stand::Category(part, _) => {
+        match self.spot {
+            Spot::Category(part, _) => {
                 match part {
                     Part::Term => self.category.term = WrittenTerm::Variable(word),
                     Part::Taken => self.category.term = WrittenTerm::Taken(word),
@@ -226,7 +226,7 @@ impl Builder {
                 }
                 Ok(())
             }
-            Stand::PositionName => self.rule.body.push(WrittenElement::Position(word)),
+            Spot::PositionName => self.rule.body.push(WrittenElement::Position(word)),
             _ => Ok(()),
         }
     }
@@ -270,17 +270,17 @@ impl Builder {
     fn add_sign(&mut self, alloc: Global, sign: Sign) -> Result<(), Memory>
         ensures { OnOk result (self.new ≡ with_sign self.old sign) }
     {
-        match self.stand {
-            Stand::LabelEnd => {
+        match self.spot {
+            Spot::LabelEnd => {
                 self.rule.label = Some(mem::replace(&mut self.rule.pending, empty(alloc)));
                 Ok(())
             }
-            Stand::AtomNext => self.end_atom(alloc, sign),
-            Stand::FeatureEnd => {
+            Spot::AtomNext => self.end_atom(alloc, sign),
+            Spot::FeatureEnd => {
                 let domain = values_domain(self.declaration.positions);
                 self.add_declaration(alloc, domain)
             }
-            Stand::Category(part, _) => match part {
+            Spot::Category(part, _) => match part {
                 Part::Named => {
                     self.category.feats = WrittenFeats::new(alloc);
                     Ok(())
@@ -288,21 +288,21 @@ impl Builder {
                 Part::Next => self.category.add_feat(alloc),
                 _ => Ok(()),
             },
-            Stand::Arrow => {
+            Spot::Arrow => {
                 self.rule.closing = closes(sign);
                 self.rule.body = WrittenElements::new(alloc);
                 Ok(())
             }
-            Stand::Body => self.add_body_sign(alloc, sign),
-            Stand::BackPattern => {
+            Spot::Body => self.add_body_sign(alloc, sign),
+            Spot::BackPattern => {
                 self.rule.start_patterns(alloc);
                 Ok(())
             }
-            Stand::AbsentPattern => {
+            Spot::AbsentPattern => {
                 self.rule.start_patterns(alloc);
                 Ok(())
             }
-            Stand::Positives => {
+            Spot::Positives => {
                 if matches!(sign, Sign::Minus) {
                     self.rule.negatives = WrittenCategories::new(alloc);
                 }
@@ -357,7 +357,7 @@ impl Builder {
     {
         let name = mem::replace(&mut self.category.name, empty(alloc));
         self.category.feats = WrittenFeats::new(alloc);
-        self.stand = after_category(role);
+        self.spot = after_category(role);
         self.rule.settle(role, WrittenCategory { name, feats })
     }
 
@@ -365,8 +365,8 @@ impl Builder {
     fn settle(&mut self, alloc: Global) -> Result<(), Memory>
         ensures { OnOk result (self.new ≡ settled_builder self.old) }
     {
-        match self.stand {
-            Stand::Category(part, role) => match part {
+        match self.spot {
+            Spot::Category(part, role) => match part {
                 Part::Named => self.settle_into(alloc, role, WrittenFeats::new(alloc)),
                 Part::Whole => {
                     let feats = mem::replace(&mut self.category.feats, WrittenFeats::new(alloc));
@@ -379,9 +379,9 @@ impl Builder {
     }
 
     fn close_into(&mut self, element: WrittenElement) -> Result<(), Memory>
-        ensures { OnOk result (self.new ≡ record self.old { stand = Stand.Body; rule = record self.old.rule { body = self.old.rule.body ++ element ∷ [] } }) }
+        ensures { OnOk result (self.new ≡ record self.old { spot = Spot.Body; rule = record self.old.rule { body = self.old.rule.body ++ element ∷ [] } }) }
     {
-        self.stand = Stand::Body;
+        self.spot = Spot::Body;
         self.rule.body.push(element)
     }
 
@@ -389,8 +389,8 @@ impl Builder {
     fn close(&mut self, alloc: Global) -> Result<(), Memory>
         ensures { OnOk result (self.new ≡ closed_builder self.old) }
     {
-        match self.stand {
-            Stand::Positives => {
+        match self.spot {
+            Spot::Positives => {
                 let positives = mem::replace(
                     &mut self.rule.positives,
                     WrittenCategories::new(alloc),
@@ -399,7 +399,7 @@ impl Builder {
                 let negatives = WrittenCategories::new(alloc);
                 self.close_into(WrittenElement::Back(positives, negatives))
             }
-            Stand::Negatives => {
+            Spot::Negatives => {
                 let positives = mem::replace(
                     &mut self.rule.positives,
                     WrittenCategories::new(alloc),
@@ -410,7 +410,7 @@ impl Builder {
                 );
                 self.close_into(WrittenElement::Back(positives, negatives))
             }
-            Stand::Absents => {
+            Spot::Absents => {
                 let positives = mem::replace(
                     &mut self.rule.positives,
                     WrittenCategories::new(alloc),
@@ -425,7 +425,7 @@ impl Builder {
     fn make_ready(&mut self, alloc: Global, lexeme: &Lexeme) -> Result<(), Memory>
         ensures { OnOk result (self.new ≡ ready self.old lexeme.now) }
     {
-        let inside = is_named(self.stand) && opens_features(lexeme);
+        let inside = is_named(self.spot) && opens_features(lexeme);
         if !inside {
             self.settle(alloc)?;
         }
@@ -441,11 +441,11 @@ impl Builder {
         ensures { Takes (grow self.old lexeme) result self.new }
     {
         self.make_ready(alloc, &lexeme)?;
-        match advance(self.stand, &lexeme) {
+        match advance(self.spot, &lexeme) {
             None => Ok(false),
             Some(next) => {
                 self.add(alloc, lexeme)?;
-                self.stand = next;
+                self.spot = next;
                 Ok(true)
             }
         }
@@ -463,11 +463,11 @@ fn values_domain(positions: bool) -> Domain
 }
 
 /// Whether a category's name was read, and its features may open.
-fn is_named(stand: Stand) -> bool
-    ensures { result ≡ is_named stand }
+fn is_named(spot: Spot) -> bool
+    ensures { result ≡ is_named spot }
 {
-    match stand {
-        Stand::Category(part, _) => matches!(part, Part::Named),
+    match spot {
+        Spot::Category(part, _) => matches!(part, Part::Named),
         _ => false,
     }
 }

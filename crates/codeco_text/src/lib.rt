@@ -6,7 +6,7 @@ mod bytes;
 mod mode;
 mod moves;
 mod scanner;
-mod stand;
+mod spot;
 mod symbols;
 mod syntax_fault;
 mod words;

@@ -18,8 +18,8 @@ ghost use Rattle.codeco_text.specs.Reading.{
   advance,
   settled,
   closed,
-  ready_stand,
-  next_stand,
+  ready_spot,
+  next_spot,
   is_sign,
   begins_pattern,
   part_wants,
@@ -30,7 +30,7 @@ ghost use Rattle.codeco_text.specs.Reading.{
   after_part_kind,
 };
 
-use crate::stand::{Part, Role, Stand, Wanted};
+use crate::spot::{Part, Role, Spot, Wanted};
 use crate::symbols::{Lexeme, Sign};
 use crate::words::same_bytes;
 
@@ -68,111 +68,111 @@ fn part_wants(part: Part, role: Role) -> Wanted
 }
 
 /// The words that may come next.
-pub fn wants(stand: Stand) -> Wanted
-    ensures { result ≡ wants stand }
+pub fn wants(spot: Spot) -> Wanted
+    ensures { result ≡ wants spot }
 {
-    match stand {
-        Stand::Items => Wanted::Item,
-        Stand::LabelName => Wanted::Label,
-        Stand::LabelEnd => Wanted::Nothing,
-        Stand::RuleHead => Wanted::Identifier,
-        Stand::FeatureName => Wanted::Identifier,
-        Stand::FeatureColon => Wanted::Nothing,
-        Stand::FeatureValue => Wanted::Value,
-        Stand::AtomNext => Wanted::Nothing,
-        Stand::AtomName => Wanted::Identifier,
-        Stand::FeatureEnd => Wanted::Nothing,
-        Stand::Category(part, role) => part_wants(part, role),
-        Stand::Arrow => Wanted::Nothing,
-        Stand::Body => Wanted::Identifier,
-        Stand::PositionName => Wanted::Variable,
-        Stand::BackPattern => Wanted::Nothing,
-        Stand::Positives => Wanted::Identifier,
-        Stand::Negatives => Wanted::Identifier,
-        Stand::AbsentPattern => Wanted::Nothing,
-        Stand::Absents => Wanted::Identifier,
+    match spot {
+        Spot::Items => Wanted::Item,
+        Spot::LabelName => Wanted::Label,
+        Spot::LabelEnd => Wanted::Nothing,
+        Spot::RuleHead => Wanted::Identifier,
+        Spot::FeatureName => Wanted::Identifier,
+        Spot::FeatureColon => Wanted::Nothing,
+        Spot::FeatureValue => Wanted::Value,
+        Spot::AtomNext => Wanted::Nothing,
+        Spot::AtomName => Wanted::Identifier,
+        Spot::FeatureEnd => Wanted::Nothing,
+        Spot::Category(part, role) => part_wants(part, role),
+        Spot::Arrow => Wanted::Nothing,
+        Spot::Body => Wanted::Identifier,
+        Spot::PositionName => Wanted::Variable,
+        Spot::BackPattern => Wanted::Nothing,
+        Spot::Positives => Wanted::Identifier,
+        Spot::Negatives => Wanted::Identifier,
+        Spot::AbsentPattern => Wanted::Nothing,
+        Spot::Absents => Wanted::Identifier,
     }
 }
 
 /// Where a reading stands behind a category that is whole.
-pub fn after_category(role: Role) -> Stand
+pub fn after_category(role: Role) -> Spot
     ensures { result ≡ after_category role }
 {
     match role {
-        Role::Head => Stand::Arrow,
-        Role::Preterminal => Stand::Body,
-        Role::Sub => Stand::Body,
-        Role::Forward => Stand::Body,
-        Role::Strong => Stand::Body,
-        Role::Positive => Stand::Positives,
-        Role::Negative => Stand::Negatives,
-        Role::Absent => Stand::Absents,
+        Role::Head => Spot::Arrow,
+        Role::Preterminal => Spot::Body,
+        Role::Sub => Spot::Body,
+        Role::Forward => Spot::Body,
+        Role::Strong => Spot::Body,
+        Role::Positive => Spot::Positives,
+        Role::Negative => Spot::Negatives,
+        Role::Absent => Spot::Absents,
     }
 }
 
-fn after_part_identifier(part: Part, role: Role) -> Option<Stand>
+fn after_part_identifier(part: Part, role: Role) -> Option<Spot>
     ensures { result ≡ after_part_identifier part role }
 {
     match part {
         Part::Name => match role {
             Role::Preterminal => None,
-            _ => Some(Stand::Category(Part::Named, role)),
+            _ => Some(Spot::Category(Part::Named, role)),
         },
-        Part::Feature => Some(Stand::Category(Part::Colon, role)),
-        Part::Term => Some(Stand::Category(Part::Next, role)),
+        Part::Feature => Some(Spot::Category(Part::Colon, role)),
+        Part::Term => Some(Spot::Category(Part::Next, role)),
         _ => None,
     }
 }
 
-fn after_identifier(stand: Stand) -> Option<Stand>
-    ensures { result ≡ after_identifier stand }
+fn after_identifier(spot: Spot) -> Option<Spot>
+    ensures { result ≡ after_identifier spot }
 {
-    match stand {
-        Stand::Items => Some(Stand::Category(Part::Named, Role::Head)),
-        Stand::RuleHead => Some(Stand::Category(Part::Named, Role::Head)),
-        Stand::FeatureName => Some(Stand::FeatureColon),
-        Stand::FeatureValue => Some(Stand::AtomNext),
-        Stand::AtomName => Some(Stand::AtomNext),
-        Stand::Category(part, role) => after_part_identifier(part, role),
-        Stand::Body => Some(Stand::Category(Part::Named, Role::Sub)),
+    match spot {
+        Spot::Items => Some(Spot::Category(Part::Named, Role::Head)),
+        Spot::RuleHead => Some(Spot::Category(Part::Named, Role::Head)),
+        Spot::FeatureName => Some(Spot::FeatureColon),
+        Spot::FeatureValue => Some(Spot::AtomNext),
+        Spot::AtomName => Some(Spot::AtomNext),
+        Spot::Category(part, role) => after_part_identifier(part, role),
+        Spot::Body => Some(Spot::Category(Part::Named, Role::Sub)),
         _ => None,
     }
 }
 
-fn after_part_variable(part: Part, role: Role) -> Option<Stand>
+fn after_part_variable(part: Part, role: Role) -> Option<Spot>
     ensures { result ≡ after_part_variable part role }
 {
     match part {
-        Part::Term => Some(Stand::Category(Part::Next, role)),
-        Part::Taken => Some(Stand::Category(Part::Next, role)),
+        Part::Term => Some(Spot::Category(Part::Next, role)),
+        Part::Taken => Some(Spot::Category(Part::Next, role)),
         _ => None,
     }
 }
 
-fn after_variable(stand: Stand) -> Option<Stand>
-    ensures { result ≡ after_variable stand }
+fn after_variable(spot: Spot) -> Option<Spot>
+    ensures { result ≡ after_variable spot }
 {
-    match stand {
-        Stand::Category(part, role) => after_part_variable(part, role),
-        Stand::PositionName => Some(Stand::Body),
+    match spot {
+        Spot::Category(part, role) => after_part_variable(part, role),
+        Spot::PositionName => Some(Spot::Body),
         _ => None,
     }
 }
 
-fn after_keyword(stand: Stand, word: &[u8]) -> Option<Stand>
-    ensures { result ≡ after_keyword stand word.now }
+fn after_keyword(spot: Spot, word: &[u8]) -> Option<Spot>
+    ensures { result ≡ after_keyword spot word.now }
 {
-    match stand {
-        Stand::Items => {
+    match spot {
+        Spot::Items => {
             if same_bytes(word, b"feature") {
-                Some(Stand::FeatureName)
+                Some(Spot::FeatureName)
             } else {
                 None
             }
         }
-        Stand::FeatureValue => {
+        Spot::FeatureValue => {
             if same_bytes(word, b"word") || same_bytes(word, b"position") {
-                Some(Stand::FeatureEnd)
+                Some(Spot::FeatureEnd)
             } else {
                 None
             }
@@ -181,64 +181,64 @@ fn after_keyword(stand: Stand, word: &[u8]) -> Option<Stand>
     }
 }
 
-fn after_label(stand: Stand) -> Option<Stand>
-    ensures { result ≡ after_label stand }
+fn after_label(spot: Spot) -> Option<Spot>
+    ensures { result ≡ after_label spot }
 {
-    match stand {
-        Stand::LabelName => Some(Stand::LabelEnd),
+    match spot {
+        Spot::LabelName => Some(Spot::LabelEnd),
         _ => None,
     }
 }
 
-fn after_part_kind(part: Part, role: Role) -> Option<Stand>
+fn after_part_kind(part: Part, role: Role) -> Option<Spot>
     ensures { result ≡ after_part_kind part role }
 {
     match part {
         Part::Name => match role {
-            Role::Preterminal => Some(Stand::Category(Part::Named, Role::Preterminal)),
+            Role::Preterminal => Some(Spot::Category(Part::Named, Role::Preterminal)),
             _ => None,
         },
         _ => None,
     }
 }
 
-fn after_kind(stand: Stand) -> Option<Stand>
-    ensures { result ≡ after_kind stand }
+fn after_kind(spot: Spot) -> Option<Spot>
+    ensures { result ≡ after_kind spot }
 {
-    match stand {
-        Stand::Category(part, role) => after_part_kind(part, role),
+    match spot {
+        Spot::Category(part, role) => after_part_kind(part, role),
         _ => None,
     }
 }
 
-fn after_terminal(stand: Stand) -> Option<Stand>
-    ensures { result ≡ after_terminal stand }
+fn after_terminal(spot: Spot) -> Option<Spot>
+    ensures { result ≡ after_terminal spot }
 {
-    match stand {
-        Stand::Body => Some(Stand::Body),
+    match spot {
+        Spot::Body => Some(Spot::Body),
         _ => None,
     }
 }
 
-fn question_after(role: Role) -> Option<Stand>
+fn question_after(role: Role) -> Option<Spot>
     ensures { result ≡ question_after role }
 {
     match role {
-        Role::Positive => Some(Stand::Category(Part::Taken, Role::Positive)),
+        Role::Positive => Some(Spot::Category(Part::Taken, Role::Positive)),
         _ => None,
     }
 }
 
-fn part_sign(part: Part, role: Role, sign: Sign) -> Option<Stand>
+fn part_sign(part: Part, role: Role, sign: Sign) -> Option<Spot>
     ensures { result ≡ part_sign part role sign }
 {
     match part {
         Part::Named => match sign {
-            Sign::OpenParen => Some(Stand::Category(Part::Feature, role)),
+            Sign::OpenParen => Some(Spot::Category(Part::Feature, role)),
             _ => None,
         },
         Part::Colon => match sign {
-            Sign::Colon => Some(Stand::Category(Part::Term, role)),
+            Sign::Colon => Some(Spot::Category(Part::Term, role)),
             _ => None,
         },
         Part::Term => match sign {
@@ -246,107 +246,107 @@ fn part_sign(part: Part, role: Role, sign: Sign) -> Option<Stand>
             _ => None,
         },
         Part::Next => match sign {
-            Sign::Comma => Some(Stand::Category(Part::Feature, role)),
-            Sign::CloseParen => Some(Stand::Category(Part::Whole, role)),
+            Sign::Comma => Some(Spot::Category(Part::Feature, role)),
+            Sign::CloseParen => Some(Spot::Category(Part::Whole, role)),
             _ => None,
         },
         _ => None,
     }
 }
 
-fn body_sign(sign: Sign) -> Option<Stand>
+fn body_sign(sign: Sign) -> Option<Spot>
     ensures { result ≡ body_sign sign }
 {
     match sign {
-        Sign::Stop => Some(Stand::Items),
-        Sign::Dollar => Some(Stand::Category(Part::Name, Role::Preterminal)),
-        Sign::Hash => Some(Stand::PositionName),
-        Sign::Scope => Some(Stand::Body),
-        Sign::Weak => Some(Stand::Category(Part::Name, Role::Forward)),
-        Sign::Strong => Some(Stand::Category(Part::Name, Role::Strong)),
-        Sign::Back => Some(Stand::BackPattern),
-        Sign::NoBack => Some(Stand::AbsentPattern),
+        Sign::Stop => Some(Spot::Items),
+        Sign::Dollar => Some(Spot::Category(Part::Name, Role::Preterminal)),
+        Sign::Hash => Some(Spot::PositionName),
+        Sign::Scope => Some(Spot::Body),
+        Sign::Weak => Some(Spot::Category(Part::Name, Role::Forward)),
+        Sign::Strong => Some(Spot::Category(Part::Name, Role::Strong)),
+        Sign::Back => Some(Spot::BackPattern),
+        Sign::NoBack => Some(Spot::AbsentPattern),
         _ => None,
     }
 }
 
-fn plus_after(sign: Sign, role: Role) -> Option<Stand>
+fn plus_after(sign: Sign, role: Role) -> Option<Spot>
     ensures { result ≡ plus_after sign role }
 {
     match sign {
-        Sign::Plus => Some(Stand::Category(Part::Name, role)),
+        Sign::Plus => Some(Spot::Category(Part::Name, role)),
         _ => None,
     }
 }
 
-fn item_sign(stand: Stand, sign: Sign) -> Option<Stand>
-    ensures { result ≡ item_sign stand sign }
+fn item_sign(spot: Spot, sign: Sign) -> Option<Spot>
+    ensures { result ≡ item_sign spot sign }
 {
-    match stand {
-        Stand::Items => match sign {
-            Sign::OpenBrace => Some(Stand::LabelName),
+    match spot {
+        Spot::Items => match sign {
+            Sign::OpenBrace => Some(Spot::LabelName),
             _ => None,
         },
-        Stand::LabelEnd => match sign {
-            Sign::CloseBrace => Some(Stand::RuleHead),
+        Spot::LabelEnd => match sign {
+            Sign::CloseBrace => Some(Spot::RuleHead),
             _ => None,
         },
-        Stand::FeatureColon => match sign {
-            Sign::Colon => Some(Stand::FeatureValue),
+        Spot::FeatureColon => match sign {
+            Sign::Colon => Some(Spot::FeatureValue),
             _ => None,
         },
-        Stand::AtomNext => match sign {
-            Sign::Comma => Some(Stand::AtomName),
-            Sign::Stop => Some(Stand::Items),
+        Spot::AtomNext => match sign {
+            Sign::Comma => Some(Spot::AtomName),
+            Sign::Stop => Some(Spot::Items),
             _ => None,
         },
-        Stand::FeatureEnd => match sign {
-            Sign::Stop => Some(Stand::Items),
+        Spot::FeatureEnd => match sign {
+            Sign::Stop => Some(Spot::Items),
             _ => None,
         },
         _ => None,
     }
 }
 
-fn after_sign(stand: Stand, sign: Sign) -> Option<Stand>
-    ensures { result ≡ after_sign stand sign }
+fn after_sign(spot: Spot, sign: Sign) -> Option<Spot>
+    ensures { result ≡ after_sign spot sign }
 {
-    match stand {
-        Stand::Category(part, role) => part_sign(part, role, sign),
-        Stand::Arrow => match sign {
-            Sign::Normal => Some(Stand::Body),
-            Sign::Closing => Some(Stand::Body),
+    match spot {
+        Spot::Category(part, role) => part_sign(part, role, sign),
+        Spot::Arrow => match sign {
+            Sign::Normal => Some(Spot::Body),
+            Sign::Closing => Some(Spot::Body),
             _ => None,
         },
-        Stand::Body => body_sign(sign),
-        Stand::BackPattern => plus_after(sign, Role::Positive),
-        Stand::Positives => match sign {
-            Sign::Plus => Some(Stand::Category(Part::Name, Role::Positive)),
-            Sign::Minus => Some(Stand::Category(Part::Name, Role::Negative)),
+        Spot::Body => body_sign(sign),
+        Spot::BackPattern => plus_after(sign, Role::Positive),
+        Spot::Positives => match sign {
+            Sign::Plus => Some(Spot::Category(Part::Name, Role::Positive)),
+            Sign::Minus => Some(Spot::Category(Part::Name, Role::Negative)),
             _ => None,
         },
-        Stand::Negatives => match sign {
-            Sign::Minus => Some(Stand::Category(Part::Name, Role::Negative)),
+        Spot::Negatives => match sign {
+            Sign::Minus => Some(Spot::Category(Part::Name, Role::Negative)),
             _ => None,
         },
-        Stand::AbsentPattern => plus_after(sign, Role::Absent),
-        Stand::Absents => plus_after(sign, Role::Absent),
-        _ => item_sign(stand, sign),
+        Spot::AbsentPattern => plus_after(sign, Role::Absent),
+        Spot::Absents => plus_after(sign, Role::Absent),
+        _ => item_sign(spot, sign),
     }
 }
 
 /// Where a reading that takes the symbol stands behind it.
-pub fn advance(stand: Stand, lexeme: &Lexeme) -> Option<Stand>
-    ensures { result ≡ advance stand lexeme.now }
+pub fn advance(spot: Spot, lexeme: &Lexeme) -> Option<Spot>
+    ensures { result ≡ advance spot lexeme.now }
 {
     match lexeme {
-        Lexeme::Identifier(_) => after_identifier(stand),
-        Lexeme::Variable(_) => after_variable(stand),
-        Lexeme::Keyword(word) => after_keyword(stand, word.as_bytes()),
-        Lexeme::Label(_) => after_label(stand),
-        Lexeme::Kind(_) => after_kind(stand),
-        Lexeme::Terminal(_) => after_terminal(stand),
-        Lexeme::Sign(sign) => after_sign(stand, *sign),
+        Lexeme::Identifier(_) => after_identifier(spot),
+        Lexeme::Variable(_) => after_variable(spot),
+        Lexeme::Keyword(word) => after_keyword(spot, word.as_bytes()),
+        Lexeme::Label(_) => after_label(spot),
+        Lexeme::Kind(_) => after_kind(spot),
+        Lexeme::Terminal(_) => after_terminal(spot),
+        Lexeme::Sign(sign) => after_sign(spot, *sign),
     }
 }
 
@@ -370,27 +370,27 @@ pub fn begins_pattern(lexeme: &Lexeme) -> bool
     }
 }
 
-fn settled(stand: Stand, opens: bool) -> Stand
-    ensures { result ≡ settled stand opens }
+fn settled(spot: Spot, opens: bool) -> Spot
+    ensures { result ≡ settled spot opens }
 {
-    match stand {
-        Stand::Category(part, role) => match part {
-            Part::Named => { if opens { stand } else { after_category(role) } }
+    match spot {
+        Spot::Category(part, role) => match part {
+            Part::Named => { if opens { spot } else { after_category(role) } }
             Part::Whole => after_category(role),
-            _ => stand,
+            _ => spot,
         },
-        _ => stand,
+        _ => spot,
     }
 }
 
-fn closed(stand: Stand, pattern: bool) -> Stand
-    ensures { result ≡ closed stand pattern }
+fn closed(spot: Spot, pattern: bool) -> Spot
+    ensures { result ≡ closed spot pattern }
 {
-    match stand {
-        Stand::Positives => { if pattern { stand } else { Stand::Body } }
-        Stand::Negatives => { if pattern { stand } else { Stand::Body } }
-        Stand::Absents => { if pattern { stand } else { Stand::Body } }
-        _ => stand,
+    match spot {
+        Spot::Positives => { if pattern { spot } else { Spot::Body } }
+        Spot::Negatives => { if pattern { spot } else { Spot::Body } }
+        Spot::Absents => { if pattern { spot } else { Spot::Body } }
+        _ => spot,
     }
 }
 
@@ -407,16 +407,16 @@ fn begins_by(sign: Sign) -> bool
 }
 
 /// Whether a reading that stands here may take the sign.
-pub fn takes_sign(stand: Stand, sign: Sign) -> bool
-    ensures { result ≡ is_some (next_stand stand (Lexeme.Sign sign)) }
+pub fn takes_sign(spot: Spot, sign: Sign) -> bool
+    ensures { result ≡ is_some (next_spot spot (Lexeme.Sign sign)) }
 {
-    let ready = closed(settled(stand, opens_by(sign)), begins_by(sign));
+    let ready = closed(settled(spot, opens_by(sign)), begins_by(sign));
     after_sign(ready, sign).is_some()
 }
 
 /// Whether a reading that stands here may take a terminal.
-pub fn takes_terminal(stand: Stand) -> bool
-    ensures { result ≡ is_some (next_stand stand (Lexeme.Terminal [])) }
+pub fn takes_terminal(spot: Spot) -> bool
+    ensures { result ≡ is_some (next_spot spot (Lexeme.Terminal [])) }
 {
-    after_terminal(closed(settled(stand, false), false)).is_some()
+    after_terminal(closed(settled(spot, false), false)).is_some()
 }

@@ -31,7 +31,7 @@ use crate::builder::Builder;
 use crate::bytes::{is_space, is_terminal_byte, is_word_byte};
 use crate::mode::Mode;
 use crate::moves::{takes_sign, takes_terminal, wants};
-use crate::stand::{Stand, Wanted};
+use crate::spot::{Spot, Wanted};
 use crate::symbols::{Lexeme, Sign};
 use crate::syntax_fault::SyntaxFault;
 use crate::words::{
@@ -169,10 +169,10 @@ fn single(byte: u8) -> Option<Sign>
 fn begin_dash(builder: &mut Builder, alloc: Global) -> Result<Option<Mode>, Memory>
     ensures { (text : List ℕ) (next : ℕ) → Steps (begin_dash builder.old) text next result builder.new }
 {
-    if takes_sign(builder.stand, Sign::Minus) {
+    if takes_sign(builder.spot, Sign::Minus) {
         take_whole(builder, alloc, Lexeme::Sign(Sign::Minus))
     } else {
-        Ok(if_it(takes_sign(builder.stand, Sign::Normal), Mode::Dash))
+        Ok(if_it(takes_sign(builder.spot, Sign::Normal), Mode::Dash))
     }
 }
 
@@ -196,11 +196,11 @@ fn begin_sign(
     ensures { (text : List ℕ) → Steps (begin_sign builder.old byte) text next result builder.new }
 {
     match byte {
-        b'[' => Ok(if_it(takes_terminal(builder.stand), Mode::Terminal(next))),
+        b'[' => Ok(if_it(takes_terminal(builder.spot), Mode::Terminal(next))),
         b'-' => begin_dash(builder, alloc),
-        b'~' => Ok(if_it(takes_sign(builder.stand, Sign::Closing), Mode::Tilde)),
-        b'/' => Ok(if_it(takes_sign(builder.stand, Sign::Scope), Mode::Slash)),
-        b'>' => Ok(if_it(takes_sign(builder.stand, Sign::Weak), Mode::Greater)),
+        b'~' => Ok(if_it(takes_sign(builder.spot, Sign::Closing), Mode::Tilde)),
+        b'/' => Ok(if_it(takes_sign(builder.spot, Sign::Scope), Mode::Slash)),
+        b'>' => Ok(if_it(takes_sign(builder.spot, Sign::Weak), Mode::Greater)),
         _ => begin_single(builder, alloc, byte),
     }
 }
@@ -223,7 +223,7 @@ fn begin(
     if byte == b'%' {
         return Ok(Some(Mode::Comment));
     }
-    if may_begin(wants(builder.stand), byte) {
+    if may_begin(wants(builder.spot), byte) {
         return Ok(Some(Mode::Word(at)));
     }
     begin_sign(builder, alloc, byte, at + 1)
@@ -233,7 +233,7 @@ fn begin(
 fn finish_word(builder: &mut Builder, alloc: Global, bytes: &[u8]) -> Result<bool, Memory>
     ensures { Takes (finish builder.old (word bytes.now)) result builder.new }
 {
-    match as_word(alloc, wants(builder.stand), bytes)? {
+    match as_word(alloc, wants(builder.spot), bytes)? {
         None => Ok(false),
         Some(lexeme) => builder.take(alloc, lexeme),
     }
@@ -253,7 +253,7 @@ fn step_word(
     ensures { Steps (step builder.old (word (slice_range text.now start at)) (slice_index text.now at)) text.now (at + 1) result builder.new }
 {
     if is_word_byte(text[at]) {
-        let goes_on = may_go_on(wants(builder.stand), &text[start..at + 1]);
+        let goes_on = may_go_on(wants(builder.spot), &text[start..at + 1]);
         return Ok(if_it(goes_on, Mode::Word(start)));
     }
     if finish_word(builder, alloc, &text[start..at])? {
@@ -392,10 +392,10 @@ fn finish(builder: &mut Builder, alloc: Global, mode: Mode, text: &[u8]) -> Resu
     }
 }
 
-fn is_between_items(stand: Stand) -> bool
-    ensures { result ≡ is_between_items stand }
+fn is_between_items(spot: Spot) -> bool
+    ensures { result ≡ is_between_items spot }
 {
-    matches!(stand, Stand::Items)
+    matches!(spot, Spot::Items)
 }
 
 /// The items at the end of a text.
@@ -408,7 +408,7 @@ fn ended(
     requires { StartsWithin (length text.now) mode }
     ensures { Reads result (ok_or_place (ended builder (seen text.now (length text.now) mode)) (length text.now)) }
 {
-    if finish(&mut builder, alloc, mode, text)? && is_between_items(builder.stand) {
+    if finish(&mut builder, alloc, mode, text)? && is_between_items(builder.spot) {
         Ok(builder.items)
     } else {
         Err(SyntaxFault::At(text.len()))

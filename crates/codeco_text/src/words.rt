@@ -15,7 +15,7 @@ ghost use Rattle.codeco_text.specs.Notation.{labels, kinds, has_front};
 ghost use Rattle.codeco_text.specs.Reading.{is_front_among, may_begin, may_go_on};
 
 use crate::bytes::{is_lower, is_terminal_byte, is_upper, is_word_byte};
-use crate::stand::Wanted;
+use crate::spot::Wanted;
 
 /// The thirty labels.
 const LABELS: [&[u8]; 30] = [

@@ -34,7 +34,8 @@ module _ (i : Interpretation) (k : Theory) (is : is_interpretation i ≡ true) (
       (w.2.0, subst (λ choice. Fits i k (after k g s choice) w.2.0) (first_is w.0 (choices g s) w.1 one) w.2.1)
 
 -- what such a branch shows of a name's node each model has
-pub shown_in_each : (k : Theory) (g : Graph) → ∥ IsForced k g ∥₁ → (c : Concept) (name : WordId) (x : ℕ) → node_of k name ≡ Some x → shows k g c x ≡ true → HasInEachModel k c name
+pub shown_in_each : (k : Theory) (g : Graph) → ∥ IsForced k g ∥₁ → (c : Concept) (name : WordId) (x : ℕ) → node_of k name ≡ Some x → shows k g c x ≡ true
+    → HasInEachModel k c name
 shown_in_each k g forced c name x at shown i is model =
     let parts : Parts i k = parts_of i k model in
     let fits : IsForced k g → is_in i c (element_of i name) ≡ true = λ h. (

@@ -4,7 +4,7 @@ use Rattle.std.specs.List.{list_any, list_all}
 use Rattle.std.specs.Option.{option_map_or}
 use Rattle.std.specs.declared.alloc.Global.{Global}
 use Rattle.std.specs.declared.boxed.Box.{Box}
-use Rattle.std.proofs.lemmas.Bool.{and_from, and_parts}
+use Rattle.std.proofs.lemmas.Bool.{and_from, and_parts, or_right}
 use Rattle.wiki_base.specs.declared.numbers.WordId.{WordId}
 use Rattle.logic_terms.specs.declared.expressions.Role.{Role}
 use Rattle.logic_terms.specs.declared.expressions.Class.{Class}
@@ -40,31 +40,40 @@ module _ (k : Theory) (g : Graph) (x : ℕ) (whole : Class) where
   shown : (kind : Class) (c : Concept) → whole ≡ kind → concept_of kind ≡ c → shows k g c x ≡ shows k g (concept_of whole) x
   shown kind c is shows_c = sym (ap (λ w. shows k g (concept_of w) x) is ∙ ap (λ w. shows k g w x) shows_c)
 
-  labelled : (kind : Class) (c : Concept) (r : Bool) → r ≡ has_concept (label_at g x) (concept_of whole) → whole ≡ kind → concept_of kind ≡ c → r ≡ has_concept (label_at g x) c
+  labelled : (kind : Class) (c : Concept) (r : Bool) → r ≡ has_concept (label_at g x) (concept_of whole) → whole ≡ kind → concept_of kind ≡ c
+      → r ≡ has_concept (label_at g x) c
   labelled kind c r h is shows_c = h ∙ (ap (λ w. has_concept (label_at g x) (concept_of w)) is ∙ ap (has_concept (label_at g x)) shows_c)
 
-  pub shown_named : (word : WordId) (r : Bool) → r ≡ has_concept (label_at g x) (concept_of whole) → whole ≡ class.Named word → r ≡ shows k g (concept_of whole) x
+  pub shown_named : (word : WordId) (r : Bool) → r ≡ has_concept (label_at g x) (concept_of whole) → whole ≡ class.Named word
+      → r ≡ shows k g (concept_of whole) x
   shown_named word r h is = labelled _ _ r h is (concept_of-Named word) ∙ shown _ _ is (concept_of-Named word)
 
-  pub shown_not : (inner : Box Class Global) (r : Bool) → r ≡ has_concept (label_at g x) (concept_of whole) → whole ≡ class.Not inner → r ≡ shows k g (concept_of whole) x
+  pub shown_not : (inner : Box Class Global) (r : Bool) → r ≡ has_concept (label_at g x) (concept_of whole) → whole ≡ class.Not inner
+      → r ≡ shows k g (concept_of whole) x
   shown_not inner r h is = labelled _ _ r h is (concept_of-Not inner) ∙ shown _ _ is (concept_of-Not inner)
 
-  pub shown_all : (role : Role) (inner : Box Class Global) (r : Bool) → r ≡ has_concept (label_at g x) (concept_of whole) → whole ≡ class.All role inner → r ≡ shows k g (concept_of whole) x
+  pub shown_all : (role : Role) (inner : Box Class Global) (r : Bool) → r ≡ has_concept (label_at g x) (concept_of whole) → whole ≡ class.All role inner
+      → r ≡ shows k g (concept_of whole) x
   shown_all role inner r h is = labelled _ _ r h is (concept_of-All role inner) ∙ shown _ _ is (concept_of-All role inner)
 
-  pub shown_and : (members : Classes) (r : Bool) → r ≡ list_all (λ c. shows k g c x) (concepts_of members) → whole ≡ class.And members → r ≡ shows k g (concept_of whole) x
+  pub shown_and : (members : Classes) (r : Bool) → r ≡ list_all (λ c. shows k g c x) (concepts_of members) → whole ≡ class.And members
+      → r ≡ shows k g (concept_of whole) x
   shown_and members r h is = h ∙ (each_shown k g x (concepts_of members) ∙ shown _ _ is (concept_of-And members))
 
-  pub shown_or : (members : Classes) (r : Bool) → r ≡ list_any (λ c. shows k g c x) (concepts_of members) → whole ≡ class.Or members → r ≡ shows k g (concept_of whole) x
+  pub shown_or : (members : Classes) (r : Bool) → r ≡ list_any (λ c. shows k g c x) (concepts_of members) → whole ≡ class.Or members
+      → r ≡ shows k g (concept_of whole) x
   shown_or members r h is = h ∙ (some_shown k g x (concepts_of members) ∙ shown _ _ is (concept_of-Or members))
 
-  pub shown_some : (role : Role) (b : Box Class Global) (inner : Class) (edges : List Edge) (r : Bool) → r ≡ list_any (λ e. makes_neighbour k role x (far_end x e) e && shows k g (concept_of inner) (far_end x e)) edges → edges ≡ edges_at g.edges x → inner ≡ b.value → whole ≡ class.Some role b → r ≡ shows k g (concept_of whole) x
+  pub shown_some : (role : Role) (b : Box Class Global) (inner : Class) (edges : List Edge) (r : Bool)
+      → r ≡ list_any (λ e. makes_neighbour k role x (far_end x e) e && shows k g (concept_of inner) (far_end x e)) edges → edges ≡ edges_at g.edges x
+      → inner ≡ b.value → whole ≡ class.Some role b → r ≡ shows k g (concept_of whole) x
   shown_some role b inner edges r h at same is =
       h ∙ (ap (λ es. list_any (λ e. makes_neighbour k role x (far_end x e) e && shows k g (concept_of inner) (far_end x e)) es) at
       ∙ (ap (λ c. list_any (λ e. makes_neighbour k role x (far_end x e) e && shows k g (concept_of c) (far_end x e)) (edges_at g.edges x)) same
       ∙ shown _ _ is (concept_of-Some role b)))
 
-  pub shown_value : (role : Role) (name : WordId) (r : Bool) → r ≡ option_map_or (λ y. is_neighbour k g role x y) (node_of k name) false → whole ≡ class.Value role name → r ≡ shows k g (concept_of whole) x
+  pub shown_value : (role : Role) (name : WordId) (r : Bool) → r ≡ option_map_or (λ y. is_neighbour k g role x y) (node_of k name) false
+      → whole ≡ class.Value role name → r ≡ shows k g (concept_of whole) x
   shown_value role name r h is = h ∙ shown _ _ is (concept_of-Value role name)
 
 -- what all items pass those pass that are kept
@@ -77,13 +86,11 @@ all_kept test keep (x ∷ xs) h =
     go rest true = both (test x) (list_all test (filter keep xs)) (both_left (test x) (list_all test xs) h) rest
     go rest false = rest
 
-or_true : (a b : Bool) → b ≡ true → (a || b) ≡ true
-or_true true b h = refl
-or_true false b h = h
-
 -- what a branch shows is so in each interpretation that fits it
-module _ (i : Interpretation) (k : Theory) (g : Graph) (f : ℕ → ℕ) (fits : Fits i k g f) (hierarchy : list_all (λ p. holds i (SubPropertyOf p.0 p.1)) k.hierarchy ≡ true) where
-  value_fits : (role : Role) (name : WordId) (x : ℕ) (o : Option ℕ) → node_of k name ≡ o → option_map_or (λ y. is_neighbour k g role x y) o false ≡ true → relates i role (f x) (element_of i name) ≡ true
+module _ (i : Interpretation) (k : Theory) (g : Graph) (f : ℕ → ℕ) (fits : Fits i k g f)
+    (hierarchy : list_all (λ p. holds i (SubPropertyOf p.0 p.1)) k.hierarchy ≡ true) where
+  value_fits : (role : Role) (name : WordId) (x : ℕ) (o : Option ℕ) → node_of k name ≡ o → option_map_or (λ y. is_neighbour k g role x y) o false ≡ true
+      → relates i role (f x) (element_of i name) ≡ true
   value_fits role name x None is h = cc
   value_fits role name x (Some y) is h =
       subst (λ a. relates i role (f x) a ≡ true) (fits.names name y is) (neighbours_pair i k f fits.elements hierarchy g fits.edges role x y h)
@@ -96,22 +103,25 @@ module _ (i : Interpretation) (k : Theory) (g : Graph) (f : ℕ → ℕ) (fits :
     shown_fits (IntersectionOf cs) x h = each_fits cs x h
     shown_fits (UnionOf cs) x h = some_fits cs x h
     shown_fits (SomeValuesFrom role c) x h =
-        let w = any_with_all (λ e. makes_neighbour k role x (far_end x e) e && shows k g c (far_end x e)) (pairs_up i f) (edges_at g.edges x) h (all_kept (pairs_up i f) (touches x) g.edges fits.edges) in
+        let w = any_with_all (λ e. makes_neighbour k role x (far_end x e) e && shows k g c (far_end x e)) (pairs_up i f) (edges_at g.edges x) h
+            (all_kept (pairs_up i f) (touches x) g.edges fits.edges) in
         let y : ℕ = far_end x w.0 in
         let both_are = and_parts (makes_neighbour k role x y w.0) (shows k g c y) w.1 in
         some_below_passes (λ z. relates i role (f x) z && is_in i c z) (f y) i.size (fits.elements y)
-        (and_from (relates i role (f x) (f y)) (is_in i c (f y)) (makes_pair i k f fits.elements hierarchy role x y w.0 both_are.0 w.2) (shown_fits c y both_are.1))
+        (and_from (relates i role (f x) (f y)) (is_in i c (f y)) (makes_pair i k f fits.elements hierarchy role x y w.0 both_are.0 w.2)
+            (shown_fits c y both_are.1))
     shown_fits (AllValuesFrom role c) x h = has_fits i k g f fits x (AllValuesFrom role c) h
     shown_fits (HasValue role name) x h = value_fits role name x (node_of k name) refl h
 
     each_fits : (cs : Concepts) (x : ℕ) → shows_each k g cs x ≡ true → is_in_each i cs (f x) ≡ true
     each_fits no_concept x h = refl
     each_fits (also_concept c cs) x h =
-        both (is_in i c (f x)) (is_in_each i cs (f x)) (shown_fits c x (both_left (shows k g c x) (shows_each k g cs x) h)) (each_fits cs x (both_right (shows k g c x) (shows_each k g cs x) h))
+        both (is_in i c (f x)) (is_in_each i cs (f x)) (shown_fits c x (both_left (shows k g c x) (shows_each k g cs x) h))
+            (each_fits cs x (both_right (shows k g c x) (shows_each k g cs x) h))
 
     some_fits : (cs : Concepts) (x : ℕ) → shows_some k g cs x ≡ true → is_in_some i cs (f x) ≡ true
     some_fits no_concept x h = cc
     some_fits (also_concept c cs) x h = elim (either (shows k g c x) (shows_some k g cs x) h) [
       | inl here ↦ ap (λ b. b || is_in_some i cs (f x)) (shown_fits c x here)
-      | inr there ↦ or_true (is_in i c (f x)) (is_in_some i cs (f x)) (some_fits cs x there)
+      | inr there ↦ or_right (is_in i c (f x)) (is_in_some i cs (f x)) (some_fits cs x there)
     ]

@@ -72,7 +72,8 @@ fn some_end_is_shown(
     node: u64,
     edges: &[Edge],
 ) -> bool
-    ensures { result ≡ list_any (λ e. makes_neighbour (theory_of k.now) role node (far_end node e) e && shows (theory_of k.now) (graph_of b.now) (concept_of class.now) (far_end node e)) edges.now }
+    ensures { result ≡ list_any (λ e. makes_neighbour (theory_of k.now) role node (far_end node e) e
+        && shows (theory_of k.now) (graph_of b.now) (concept_of class.now) (far_end node e)) edges.now }
 {
     for edge in edges {
         let other = far_end(node, *edge);

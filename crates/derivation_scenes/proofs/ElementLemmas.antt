@@ -10,7 +10,8 @@ use Rattle.derivation_scenes.specs.TokenElements.{is_token}
 true_is_false : {X : Type 0} → true ≡ false → X
 true_is_false w = cc
 
-pub pass_without_tokens : (s bare : Setting) (values : List (ℕ × Value)) (e : Element) (stand : Stand) → bare ≡ record { grammar = s.grammar; tokens = []; readings = [] } → is_token e ≡ false → pass bare values e stand ≡ pass s values e stand
+pub pass_without_tokens : (s bare : Setting) (values : List (ℕ × Value)) (e : Element) (stand : Stand)
+    → bare ≡ record { grammar = s.grammar; tokens = []; readings = [] } → is_token e ≡ false → pass bare values e stand ≡ pass s values e stand
 pass_without_tokens s bare values e stand same special = same_pass e special
   where
     same_pass : (e : Element) → is_token e ≡ false → pass bare values e stand ≡ pass s values e stand

@@ -1,6 +1,5 @@
 -- The code of a skeleton by its parts.
-use Rattle.std.proofs.Common.{◌≡◌, ℕ, zero, suc, ◌+◌, List, [], ◌∷◌, ◌++◌, map, take, Some, refl, sym, ap, ◌∙◌, append_assoc, add-one}
-use Rattle.std.specs.Prelude.{slice_get, unwrap_or}
+use Rattle.std.proofs.Common.{◌≡◌, ℕ, ◌+◌, List, [], ◌∷◌, ◌++◌, map, refl, sym, ap, ◌∙◌, append_assoc}
 use Rattle.std.specs.List.{flat_map}
 use Rattle.derivation_trees.specs.declared.skeletons.Skeleton.{Skeleton, out-Skeleton}
 use Rattle.derivation_trees.specs.declared.skeletons.Skeleton.TheFolds.{fold_out-Skeleton}
@@ -10,18 +9,16 @@ flat_map-map : {X : Type 0} (f : X → List ℕ) (xs : List X) → flat_map (λ 
 flat_map-map f [] = refl
 flat_map-map f (x ∷ xs) = ap (λ ys. f x ++ ys) (flat_map-map f xs)
 
-pub skeleton_code_is : (sk : Skeleton) → skeleton_code sk ≡ (out-Skeleton sk).rule ∷ (out-Skeleton sk).found ++ flat_map skeleton_code (out-Skeleton sk).children
+pub skeleton_code_is : (sk : Skeleton) → skeleton_code sk
+    ≡ (out-Skeleton sk).rule ∷ (out-Skeleton sk).found ++ flat_map skeleton_code (out-Skeleton sk).children
 skeleton_code_is sk =
-    fold_out-Skeleton (List ℕ) code_layer sk ∙ ap (λ ys. (out-Skeleton sk).rule ∷ (out-Skeleton sk).found ++ ys) (flat_map-map skeleton_code (out-Skeleton sk).children)
+    fold_out-Skeleton (List ℕ) code_layer sk
+    ∙ ap (λ ys. (out-Skeleton sk).rule ∷ (out-Skeleton sk).found ++ ys) (flat_map-map skeleton_code (out-Skeleton sk).children)
 
 -- the code of a skeleton, put after others in parts
-pub code_whole : (sk : Skeleton) (before code : List ℕ) → code ≡ (before ++ (out-Skeleton sk).rule ∷ (out-Skeleton sk).found) ++ flat_map skeleton_code (out-Skeleton sk).children → code ≡ before ++ skeleton_code sk
+pub code_whole : (sk : Skeleton) (before code : List ℕ)
+    → code ≡ (before ++ (out-Skeleton sk).rule ∷ (out-Skeleton sk).found) ++ flat_map skeleton_code (out-Skeleton sk).children
+    → code ≡ before ++ skeleton_code sk
 code_whole sk before code h =
-    h ∙ append_assoc before ((out-Skeleton sk).rule ∷ (out-Skeleton sk).found) (flat_map skeleton_code (out-Skeleton sk).children) ∙ ap (λ ys. before ++ ys) (sym (skeleton_code_is sk))
-
--- one more item
-pub take_next : {X : Type 0} (xs : List X) (n : ℕ) (x : X) → slice_get xs n ≡ Some x → take (n + 1) xs ≡ take n xs ++ x ∷ []
-take_next [] n x h = cc
-take_next (y ∷ ys) zero x h = ap (λ o. unwrap_or o y ∷ []) h
-take_next (y ∷ ys) (suc n) x h =
-    ap (λ k. take k (y ∷ ys)) (add-one (suc n)) ∙ ap (λ zs. y ∷ zs) (ap (λ k. take k ys) (sym (add-one n)) ∙ take_next ys n x h)
+    h ∙ append_assoc before ((out-Skeleton sk).rule ∷ (out-Skeleton sk).found) (flat_map skeleton_code (out-Skeleton sk).children)
+    ∙ ap (λ ys. before ++ ys) (sym (skeleton_code_is sk))

@@ -1,8 +1,10 @@
 pub mod PutLemmas
+pub mod RangeLemmas
 pub mod OccurrenceLemmas
 pub mod InstanceLemmas
 pub mod StandLemmas
 pub mod LimitLemmas
+pub mod OwnLemmas
 pub mod PieceLemmas
 pub mod WordLemmas
 pub mod CodeLemmas

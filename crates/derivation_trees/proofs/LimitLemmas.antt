@@ -1,12 +1,14 @@
 -- Checked grammars are within the limits.
-use Rattle.std.proofs.Common.{◌≡◌, ℕ, suc, zero, ◌+◌, ◌-◌, ◌<◌, ◌≤◌, List, [], ◌∷◌, ◌++◌, Bool, true, false, ◌||◌, ◌&&◌, map, length, get_or, Option, Some, None, refl, sym, ap, ◌∙◌, subst, inl, inr, ◌⊎◌, arith, nat_lt, nat_eq, cond, IsTrue, All, length-append}
+use Rattle.std.proofs.Common.{◌≡◌, ℕ, suc, zero, ◌+◌, ◌-◌, ◌<◌, ◌≤◌, List, [], ◌∷◌, ◌++◌, Bool, true, false, ◌||◌, ◌&&◌, map, length, get_or, Some, None, refl, sym, ap, ◌∙◌, subst, ◌⊎◌, arith, nat_lt, IsTrue, length-append}
 use Rattle.std.specs.Prelude.{if◌then◌else◌, ◌==◌, slice_get}
 use Rattle.std.specs.Option.{option_map_or}
-use Rattle.std.specs.List.{flat_map, list_any, range_with_len}
+use Rattle.std.specs.List.{flat_map, range_with_len}
 use Rattle.std.proofs.lemmas.Bool.Decides.{nat_tests}
 use Rattle.std.proofs.lemmas.List.{map-append}
 use Rattle.std.proofs.lemmas.List.FromFn.{length-range_with_len, get_or-range_with_len}
+use Rattle.std.proofs.lemmas.Bool.{eqb-true, ltb-true, or_left, or_right, or_parts}
 use Rattle.wiki_base.proofs.ListLaws.{any_at}
+use Rattle.wiki_base.proofs.NumberLaws.{eqb_refl}
 use Rattle.codeco_terms.specs.declared.categories.Category.{Category}
 use Rattle.codeco_terms.specs.declared.elements.Element.{Element}
 use Rattle.codeco_terms.specs.declared.elements.Element.TheVariants.{Terminal, Preterminal, Sub, Position, Opener, Forward, Strong, Back, NoBack}
@@ -17,10 +19,12 @@ use Rattle.codeco_checked.specs.Numbering.{has, counts_up, count_different, gram
 use Rattle.codeco_checked.specs.Occurrences.{mentions, rule_mentions, patterns}
 use Rattle.codeco_checked.specs.Faults.{features_written, has_broad_category, is_large_rule, is_too_large, at_rule}
 use Rattle.codeco_checked.specs.Sound.{IsSound}
-use Rattle.derivation_trees.specs.Instances.{put, put_all, features_of}
+use Rattle.derivation_trees.specs.Instances.{features_of}
+use Rattle.derivation_trees.specs.Putting.{put, put_all}
 use Rattle.derivation_trees.specs.Derives.{rule_with}
 use Rattle.derivation_trees.specs.Stands.{IsWithin, IsLimited}
 use Rattle.derivation_trees.proofs.PutLemmas.{put_comm, put_all_put}
+use Rattle.derivation_trees.proofs.RangeLemmas.{put_all_range}
 use Rattle.derivation_trees.proofs.OccurrenceLemmas.{has_append}
 
 -- Numbers that are put once
@@ -35,12 +39,9 @@ put_twice : (x : ℕ) (zs : List ℕ) → put x (put x zs) ≡ put x zs
 put_twice x [] = put_twice_none x
 put_twice x (z ∷ zs) = put_twice_step x z zs (put_twice x zs)
 
-same_number : (x y : ℕ) → (x == y) ≡ true → x ≡ y
-same_number x y h = grind (arith, nat_tests)
-
 put_again_at : (w y : ℕ) (t : List ℕ) (b : Bool) (c : Bool) → (w == y) ≡ b → (b || c) ≡ true → (c ≡ true → put w t ≡ t) → put w (put y t) ≡ put y t
 put_again_at w y t true c e h later =
-    ap (λ v. put w (put v t)) (sym (same_number w y e)) ∙ put_twice w t ∙ ap (λ v. put v t) (same_number w y e)
+    ap (λ v. put w (put v t)) (sym (eqb-true w y e)) ∙ put_twice w t ∙ ap (λ v. put v t) (eqb-true w y e)
 put_again_at w y t false c e h later = put_comm w y t ∙ ap (put y) (later h)
 
 put_again : (w : ℕ) (ws : List ℕ) → has ws w ≡ true → put w (put_all [] ws) ≡ put_all [] ws
@@ -62,18 +63,13 @@ count_put_at w s n false same le = omega (arith, length_put w s)
 count_put : (ws : List ℕ) → length (put_all [] ws) ≤ count_different ws
 count_put [] = omega arith
 count_put (w ∷ ws) =
-    subst (λ zs. length zs ≤ count_different (w ∷ ws)) (sym (put_all_put w [] ws)) (count_put_at w (put_all [] ws) (count_different ws) (has ws w) (put_again w ws) (count_put ws))
+    subst (λ zs. length zs ≤ count_different (w ∷ ws)) (sym (put_all_put w [] ws))
+    (count_put_at w (put_all [] ws) (count_different ws) (has ws w) (put_again w ws) (count_put ws))
 
 -- Names that are numbered by occurrence
 
-less_than : (a b : ℕ) → nat_lt a b ≡ true → a < b
-less_than a b h = grind (arith, nat_tests)
-
 at_most : (a b : ℕ) → nat_lt b a ≡ false → a ≤ b
 at_most a b h = grind (arith, nat_tests)
-
-equal_self : (n : ℕ) → (n == n) ≡ true
-equal_self n = grind (arith, nat_tests)
 
 total_at : (b p q e : Bool) (next total : ℕ) → (if b then p else (e && q)) ≡ true → (p ≡ true → next ≤ total) → (q ≡ true → next + 1 ≤ total) → next ≤ total
 total_at true p q e next total h hp hq = hp h
@@ -81,20 +77,22 @@ total_at false p q true next total h hp hq = omega (arith, hq h)
 total_at false p q false next total h hp hq = cc
 
 counts_up_total : (xs : List ℕ) (next total : ℕ) → counts_up next total xs ≡ true → next ≤ total
-counts_up_total [] next total h = let same = same_number next total h in omega arith
+counts_up_total [] next total h = let same = eqb-true next total h in omega arith
 counts_up_total (y ∷ ys) next total h =
-    total_at (nat_lt y next) (counts_up next total ys) (counts_up (next + 1) total ys) (y == next) next total h (counts_up_total ys next total) (counts_up_total ys (next + 1) total)
+    total_at (nat_lt y next) (counts_up next total ys) (counts_up (next + 1) total ys) (y == next) next total h (counts_up_total ys next total)
+    (counts_up_total ys (next + 1) total)
 
-below_at : (b a r p q e : Bool) (x y next total : ℕ) → nat_lt y next ≡ b → (x == y) ≡ a → (y == next) ≡ e → (a || r) ≡ true → (if b then p else (e && q)) ≡ true → (p ≡ true → next ≤ total) → (q ≡ true → next + 1 ≤ total) → (p ≡ true → r ≡ true → x < total) → (q ≡ true → r ≡ true → x < total) → x < total
+below_at : (b a r p q e : Bool) (x y next total : ℕ) → nat_lt y next ≡ b → (x == y) ≡ a → (y == next) ≡ e → (a || r) ≡ true → (if b then p else (e && q)) ≡ true
+    → (p ≡ true → next ≤ total) → (q ≡ true → next + 1 ≤ total) → (p ≡ true → r ≡ true → x < total) → (q ≡ true → r ≡ true → x < total) → x < total
 below_at true true r p q e x y next total lt is at or h hp hq kp kq =
-    let same = same_number x y is in
-    let less = less_than y next lt in
+    let same = eqb-true x y is in
+    let less = ltb-true y next lt in
     let most = hp h in
     omega arith
 below_at true false r p q e x y next total lt is at or h hp hq kp kq = kp h or
 below_at false true r p q true x y next total lt is at or h hp hq kp kq =
-    let same = same_number x y is in
-    let equal = same_number y next at in
+    let same = eqb-true x y is in
+    let equal = eqb-true y next at in
     let most = hq h in
     omega arith
 below_at false false r p q true x y next total lt is at or h hp hq kp kq = kq h or
@@ -104,34 +102,32 @@ below_at false a r p q false x y next total lt is at or h hp hq kp kq = cc
 counts_up_below : (xs : List ℕ) (next total x : ℕ) → counts_up next total xs ≡ true → has xs x ≡ true → x < total
 counts_up_below [] next total x h in_it = cc
 counts_up_below (y ∷ ys) next total x h in_it =
-    below_at (nat_lt y next) (x == y) (has ys x) (counts_up next total ys) (counts_up (next + 1) total ys) (y == next) x y next total refl refl refl in_it h (counts_up_total ys next total) (counts_up_total ys (next + 1) total) (counts_up_below ys next total x) (counts_up_below ys (next + 1) total x)
-
-or_left : (a b : Bool) → a ≡ true → (a || b) ≡ true
-or_left a b h = ap (λ x. x || b) h
-
-or_right : (a b : Bool) → b ≡ true → (a || b) ≡ true
-or_right true b h = refl
-or_right false b h = h
-
-or_both : (a b : Bool) → (a || b) ≡ false → (a ≡ false) × (b ≡ false)
-or_both true b h = cc
-or_both false b h = (refl, h)
+    below_at (nat_lt y next) (x == y) (has ys x) (counts_up next total ys) (counts_up (next + 1) total ys) (y == next) x y next total refl refl refl in_it h
+    (counts_up_total ys next total) (counts_up_total ys (next + 1) total) (counts_up_below ys next total x) (counts_up_below ys (next + 1) total x)
 
 -- a category that an element writes alone is among those of the body
-has_mention : (body : List Element) (k : ℕ) (d : Element) (c : Category) → k < length body → mentions (get_or body k d) ≡ c ∷ [] → has (map (λ q. q.name) (flat_map mentions body)) c.name ≡ true
+has_mention : (body : List Element) (k : ℕ) (d : Element) (c : Category) → k < length body → mentions (get_or body k d) ≡ c ∷ []
+    → has (map (λ q. q.name) (flat_map mentions body)) c.name ≡ true
 has_mention [] k d c lt is = absurd (omega arith)
 has_mention (e ∷ es) zero d c lt is =
-    ap (λ ms. has (map (λ q. q.name) (ms ++ flat_map mentions es)) c.name) is ∙ or_left (c.name == c.name) (has (map (λ q. q.name) (flat_map mentions es)) c.name) (equal_self c.name)
+    ap (λ ms. has (map (λ q. q.name) (ms ++ flat_map mentions es)) c.name) is
+    ∙ or_left (c.name == c.name) (has (map (λ q. q.name) (flat_map mentions es)) c.name) (eqb_refl c.name)
 has_mention (e ∷ es) (suc k) d c lt is =
-    ap (λ ns. has ns c.name) (map-append (λ (q : Category). q.name) (mentions e) (flat_map mentions es)) ∙ has_append (map (λ q. q.name) (mentions e)) (map (λ q. q.name) (flat_map mentions es)) c.name ∙ or_right (has (map (λ q. q.name) (mentions e)) c.name) (has (map (λ q. q.name) (flat_map mentions es)) c.name) (has_mention es k d c (omega arith) is)
+    ap (λ ns. has ns c.name) (map-append (λ (q : Category). q.name) (mentions e) (flat_map mentions es))
+    ∙ has_append (map (λ q. q.name) (mentions e)) (map (λ q. q.name) (flat_map mentions es)) c.name
+    ∙ or_right (has (map (λ q. q.name) (mentions e)) c.name) (has (map (λ q. q.name) (flat_map mentions es)) c.name) (has_mention es k d c (omega arith) is)
 
-has_rule : (rules : List Rule) (i : ℕ) (rule : Rule) (x : ℕ) → slice_get rules i ≡ Some rule → has (map (λ q. q.name) (rule_mentions rule)) x ≡ true → has (flat_map (λ r. map (λ q. q.name) (rule_mentions r)) rules) x ≡ true
+has_rule : (rules : List Rule) (i : ℕ) (rule : Rule) (x : ℕ) → slice_get rules i ≡ Some rule → has (map (λ q. q.name) (rule_mentions rule)) x ≡ true
+    → has (flat_map (λ r. map (λ q. q.name) (rule_mentions r)) rules) x ≡ true
 has_rule [] i rule x at h = cc
 has_rule (r ∷ rs) zero rule x at h =
     let same : r ≡ rule = cc in
-    has_append (map (λ q. q.name) (rule_mentions r)) (flat_map (λ q. map (λ c. c.name) (rule_mentions q)) rs) x ∙ or_left (has (map (λ q. q.name) (rule_mentions r)) x) (has (flat_map (λ q. map (λ c. c.name) (rule_mentions q)) rs) x) (ap (λ q. has (map (λ c. c.name) (rule_mentions q)) x) same ∙ h)
+    has_append (map (λ q. q.name) (rule_mentions r)) (flat_map (λ q. map (λ c. c.name) (rule_mentions q)) rs) x
+    ∙ or_left (has (map (λ q. q.name) (rule_mentions r)) x) (has (flat_map (λ q. map (λ c. c.name) (rule_mentions q)) rs) x)
+    (ap (λ q. has (map (λ c. c.name) (rule_mentions q)) x) same ∙ h)
 has_rule (r ∷ rs) (suc i) rule x at h =
-    has_append (map (λ q. q.name) (rule_mentions r)) (flat_map (λ q. map (λ c. c.name) (rule_mentions q)) rs) x ∙ or_right (has (map (λ q. q.name) (rule_mentions r)) x) (has (flat_map (λ q. map (λ c. c.name) (rule_mentions q)) rs) x) (has_rule rs i rule x at h)
+    has_append (map (λ q. q.name) (rule_mentions r)) (flat_map (λ q. map (λ c. c.name) (rule_mentions q)) rs) x
+    ∙ or_right (has (map (λ q. q.name) (rule_mentions r)) x) (has (flat_map (λ q. map (λ c. c.name) (rule_mentions q)) rs) x) (has_rule rs i rule x at h)
 
 -- No fault TooLarge
 
@@ -145,7 +141,7 @@ not_large g sound n = false_from (is_too_large g n) (sound.faultless (TooLarge n
 not_broad : (g : GrammarParts) → IsSound g → has_broad_category g ≡ false
 not_broad g sound =
     let h : is_too_large g 1 ≡ false = not_large g sound 1 in
-    (or_both _ _ (or_both _ _ h).0).0
+    (or_parts _ _ (or_parts _ _ h).0).0
 
 features_within : (g : GrammarParts) → IsSound g → (name : ℕ) → has (grammar_names g) name ≡ true → length (features_of g name) ≤ 16
 features_within g sound name there =
@@ -155,7 +151,8 @@ features_within g sound name there =
     let at : get_or (range_with_len 0 (length g.categories)) name 0 ≡ name = get_or-range_with_len 0 (length g.categories) name 0 low ∙ zero_plus name in
     let few : nat_lt 16 (count_different (features_written g name)) ≡ false = ap (λ x. nat_lt 16 (count_different (features_written g x))) (sym at) ∙ one in
     let most = at_most (count_different (features_written g name)) 16 few in
-    let count = count_put (features_written g name) in
+    let count : length (features_of g name) ≤ count_different (features_written g name) =
+    subst (λ fs. length fs ≤ count_different (features_written g name)) (put_all_range (features_written g name)) (count_put (features_written g name)) in
     omega arith
   where
     zero_plus : (n : ℕ) → 0 + n ≡ n
@@ -165,7 +162,8 @@ above_zero : (n : ℕ) → (n == 0) ≡ false → nat_lt 0 n ≡ true
 above_zero n h = grind (arith, nat_tests)
 
 -- the rule with a number stands at the place before it
-rule_at : (g : GrammarParts) (n : ℕ) (rule : Rule) (b : Bool) → (n == 0) ≡ b → rule_with g n ≡ Some rule → ((n == 0) ≡ false) × (slice_get g.rules (n - 1) ≡ Some rule)
+rule_at : (g : GrammarParts) (n : ℕ) (rule : Rule) (b : Bool) → (n == 0) ≡ b → rule_with g n ≡ Some rule
+    → ((n == 0) ≡ false) × (slice_get g.rules (n - 1) ≡ Some rule)
 rule_at g n rule true zero_is at =
     let none : None ≡ Some rule = sym (ap (λ b. if b then None else slice_get g.rules (n - 1)) zero_is) ∙ at in
     cc
@@ -174,8 +172,9 @@ rule_at g n rule false above at =
 
 rule_small : (g : GrammarParts) → IsSound g → (n : ℕ) (rule : Rule) → (n == 0) ≡ false → slice_get g.rules (n - 1) ≡ Some rule → is_large_rule g rule ≡ false
 rule_small g sound n rule above at =
-    let here : at_rule (is_large_rule g) g.rules n ≡ false = (or_both _ _ (or_both _ _ (not_large g sound n)).0).1 in
-    sym (ap (λ o. option_map_or (is_large_rule g) o false) at) ∙ sym (ap (λ b. b && option_map_or (is_large_rule g) (slice_get g.rules (n - 1)) false) (above_zero n above)) ∙ here
+    let here : at_rule (is_large_rule g) g.rules n ≡ false = (or_parts _ _ (or_parts _ _ (not_large g sound n)).0).1 in
+    sym (ap (λ o. option_map_or (is_large_rule g) o false) at)
+    ∙ sym (ap (λ b. b && option_map_or (is_large_rule g) (slice_get g.rules (n - 1)) false) (above_zero n above)) ∙ here
 
 pattern_room : (body : List Element) (k : ℕ) (d : Element) → k < length body → length (patterns (get_or body k d)) ≤ length (flat_map patterns body)
 pattern_room [] k d lt = absurd (omega arith)
@@ -184,23 +183,22 @@ pattern_room (e ∷ es) (suc k) d lt =
     let rest = pattern_room es k d (omega arith) in
     omega (arith, length-append (patterns e) (flat_map patterns es))
 
-within_at : (g : GrammarParts) → IsSound g → (n : ℕ) (rule : Rule) → (n == 0) ≡ false → slice_get g.rules (n - 1) ≡ Some rule → (k : ℕ) (d : Element) → k < length rule.body → (e : Element) → get_or rule.body k d ≡ e → IsWithin g e
-within_at g sound n rule above at k d lt (Terminal t) is = tt
-within_at g sound n rule above at k d lt (Preterminal c) is = tt
-within_at g sound n rule above at k d lt (Sub c) is = tt
-within_at g sound n rule above at k d lt (Position x) is = tt
-within_at g sound n rule above at k d lt Opener is = tt
+within_at : (g : GrammarParts) → IsSound g → (n : ℕ) (rule : Rule) → (n == 0) ≡ false → slice_get g.rules (n - 1) ≡ Some rule → (k : ℕ) (d : Element)
+    → k < length rule.body → (e : Element) → get_or rule.body k d ≡ e → IsWithin g e
 within_at g sound n rule above at k d lt (Forward c) is =
-    features_within g sound c.name (has_rule g.rules (n - 1) rule c.name at (or_right (c.name == rule.head.name) (has (map (λ q. q.name) (flat_map mentions rule.body)) c.name) (has_mention rule.body k d c lt (ap mentions is))))
+    features_within g sound c.name (has_rule g.rules (n - 1) rule c.name at
+    (or_right (c.name == rule.head.name) (has (map (λ q. q.name) (flat_map mentions rule.body)) c.name) (has_mention rule.body k d c lt (ap mentions is))))
 within_at g sound n rule above at k d lt (Strong c) is =
-    features_within g sound c.name (has_rule g.rules (n - 1) rule c.name at (or_right (c.name == rule.head.name) (has (map (λ q. q.name) (flat_map mentions rule.body)) c.name) (has_mention rule.body k d c lt (ap mentions is))))
+    features_within g sound c.name (has_rule g.rules (n - 1) rule c.name at
+    (or_right (c.name == rule.head.name) (has (map (λ q. q.name) (flat_map mentions rule.body)) c.name) (has_mention rule.body k d c lt (ap mentions is))))
 within_at g sound n rule above at k d lt (Back positive negative) is =
-    let few : nat_lt 16 (length (flat_map patterns rule.body)) ≡ false = (or_both _ _ (or_both _ _ (or_both _ _ (rule_small g sound n rule above at)).0).0).1 in
+    let few : nat_lt 16 (length (flat_map patterns rule.body)) ≡ false =
+    (or_parts _ _ (or_parts _ _ (or_parts _ _ (rule_small g sound n rule above at)).0).0).1 in
     let most = at_most (length (flat_map patterns rule.body)) 16 few in
     let room = pattern_room rule.body k d lt in
     let long : length (patterns (get_or rule.body k d)) ≡ length (positive ++ negative) = ap (λ e. length (patterns e)) is in
     omega (arith, length-append positive negative)
-within_at g sound n rule above at k d lt (NoBack patterns) is = tt
+within_at g sound n rule above at k d lt x is = tt
 
 -- the rules of a checked grammar are within the limits
 pub IsLimited-from_sound : (g : GrammarParts) → IsSound g → IsLimited g

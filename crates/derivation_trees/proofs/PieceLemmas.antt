@@ -3,7 +3,7 @@ use Rattle.std.proofs.Common.{◌≡◌, ℕ, suc, zero, ◌+◌, ◌-◌, ◌<�
 use Rattle.std.specs.Prelude.{if◌then◌else◌, ◌==◌, slice_index}
 use Rattle.std.specs.List.{list_all, slice_split, onto_first}
 use Rattle.std.specs.Char.{to_ascii_lowercase, to_ascii_uppercase}
-use Rattle.std.proofs.lemmas.Bool.{cases_lt}
+use Rattle.std.proofs.lemmas.Bool.{cases_lt, and_parts, not-true, and_from}
 use Rattle.std.proofs.lemmas.Bool.Decides.{nat_tests}
 use Rattle.std.proofs.lemmas.List.Splits.{slice_split-cons_no}
 use Rattle.std.proofs.lemmas.List.Elements.{filter-append}
@@ -16,34 +16,23 @@ use Rattle.derivation_trees.specs.Cutting.{is_kept, pieces, is_mark, ends_with_m
 
 -- Texts without a space
 
-pub and_both : (a b : Bool) → (a && b) ≡ true → (a ≡ true) × (b ≡ true)
-and_both true b h = (refl, h)
-and_both false b h = cc
-
-pub not_true : (a : Bool) → not a ≡ true → a ≡ false
-not_true true h = cc
-not_true false h = refl
-
-pub true_and : (a b : Bool) → a ≡ true → b ≡ true → (a && b) ≡ true
-true_and a b h k = ap (λ x. x && b) h ∙ k
-
 pub no_space_take : (n : ℕ) (bs : List ℕ) → has_no_space bs ≡ true → has_no_space (take n bs) ≡ true
 no_space_take zero bs h = refl
 no_space_take (suc n) [] h = refl
 no_space_take (suc n) (b ∷ bs) h =
-    let both = and_both (not (b == 32)) (has_no_space bs) h in
-    true_and (not (b == 32)) (has_no_space (take n bs)) both.0 (no_space_take n bs both.1)
+    let both = and_parts (not (b == 32)) (has_no_space bs) h in
+    and_from (not (b == 32)) (has_no_space (take n bs)) both.0 (no_space_take n bs both.1)
 
 pub no_space_drop : (n : ℕ) (bs : List ℕ) → has_no_space bs ≡ true → has_no_space (drop n bs) ≡ true
 no_space_drop zero bs h = h
 no_space_drop (suc n) [] h = refl
-no_space_drop (suc n) (b ∷ bs) h = no_space_drop n bs (and_both (not (b == 32)) (has_no_space bs) h).1
+no_space_drop (suc n) (b ∷ bs) h = no_space_drop n bs (and_parts (not (b == 32)) (has_no_space bs) h).1
 
 pub no_space_append : (xs ys : List ℕ) → has_no_space xs ≡ true → has_no_space ys ≡ true → has_no_space (xs ++ ys) ≡ true
 no_space_append [] ys h k = k
 no_space_append (x ∷ xs) ys h k =
-    let both = and_both (not (x == 32)) (has_no_space xs) h in
-    true_and (not (x == 32)) (has_no_space (xs ++ ys)) both.0 (no_space_append xs ys both.1 k)
+    let both = and_parts (not (x == 32)) (has_no_space xs) h in
+    and_from (not (x == 32)) (has_no_space (xs ++ ys)) both.0 (no_space_append xs ys both.1 k)
 
 -- each byte differs from a space
 differ : (b : ℕ) → ((b ≡ 32) → ⊥) → not (b == 32) ≡ true
@@ -52,26 +41,26 @@ differ b h = grind (arith, nat_tests)
 pub no_space_from_bytes : (bs : List ℕ) → ((i : ℕ) → i < length bs → get_or bs i 0 ≡ 32 → ⊥) → has_no_space bs ≡ true
 no_space_from_bytes [] h = refl
 no_space_from_bytes (b ∷ bs) h =
-    true_and (not (b == 32)) (has_no_space bs) (differ b (h 0 (omega arith))) (no_space_from_bytes bs (λ i lt. h (suc i) (omega arith)))
+    and_from (not (b == 32)) (has_no_space bs) (differ b (h 0 (omega arith))) (no_space_from_bytes bs (λ i lt. h (suc i) (omega arith)))
 
 none_pass : (bs : List ℕ) → has_no_space bs ≡ true → (i : ℕ) (d : ℕ) → i < length bs → (get_or bs i d == 32) ≡ false
 none_pass [] h i d lt = absurd (omega arith)
-none_pass (b ∷ bs) h zero d lt = not_true (b == 32) (and_both (not (b == 32)) (has_no_space bs) h).0
-none_pass (b ∷ bs) h (suc i) d lt = none_pass bs (and_both (not (b == 32)) (has_no_space bs) h).1 i d (omega arith)
+none_pass (b ∷ bs) h zero d lt = not-true (b == 32) (and_parts (not (b == 32)) (has_no_space bs) h).0
+none_pass (b ∷ bs) h (suc i) d lt = none_pass bs (and_parts (not (b == 32)) (has_no_space bs) h).1 i d (omega arith)
 
 -- a text without a space is one part
 split_one : (bs : List ℕ) → has_no_space bs ≡ true → slice_split (λ b. b == 32) bs ≡ bs ∷ []
 split_one [] h = refl
 split_one (b ∷ bs) h =
-    let both = and_both (not (b == 32)) (has_no_space bs) h in
-    slice_split-cons_no (λ x. x == 32) b bs (not_true (b == 32) both.0) ∙ ap (onto_first b) (split_one bs both.1)
+    let both = and_parts (not (b == 32)) (has_no_space bs) h in
+    slice_split-cons_no (λ x. x == 32) b bs (not-true (b == 32) both.0) ∙ ap (onto_first b) (split_one bs both.1)
 
 -- the first space ends the first part
 split_at_space : (xs ys : List ℕ) → has_no_space xs ≡ true → slice_split (λ b. b == 32) (xs ++ 32 ∷ ys) ≡ xs ∷ slice_split (λ b. b == 32) ys
 split_at_space [] ys h = refl
 split_at_space (x ∷ xs) ys h =
-    let both = and_both (not (x == 32)) (has_no_space xs) h in
-    slice_split-cons_no (λ b. b == 32) x (xs ++ 32 ∷ ys) (not_true (x == 32) both.0) ∙ ap (onto_first x) (split_at_space xs ys both.1)
+    let both = and_parts (not (x == 32)) (has_no_space xs) h in
+    slice_split-cons_no (λ b. b == 32) x (xs ++ 32 ∷ ys) (not-true (x == 32) both.0) ∙ ap (onto_first x) (split_at_space xs ys both.1)
 
 kept_cons : (t : List ℕ) (ts : List (List ℕ)) → filter is_kept (t ∷ ts) ≡ filter is_kept (t ∷ []) ++ filter is_kept ts
 kept_cons t ts = filter-append is_kept (t ∷ []) ts
@@ -88,9 +77,11 @@ pub pieces_space : (xs ys : List ℕ) → has_no_space xs ≡ true → pieces (x
 pieces_space xs ys h = ap (filter is_kept) (split_at_space xs ys h) ∙ kept_cons xs (slice_split (λ b. b == 32) ys)
 
 -- one more piece is taken off
-pub pieces_step : (tokens : List (List ℕ)) (text piece rest : List ℕ) → has_no_space piece ≡ true → text ≡ piece ++ 32 ∷ rest → (tokens ++ filter is_kept (piece ∷ [])) ++ pieces rest ≡ tokens ++ pieces text
+pub pieces_step : (tokens : List (List ℕ)) (text piece rest : List ℕ) → has_no_space piece ≡ true → text ≡ piece ++ 32 ∷ rest
+    → (tokens ++ filter is_kept (piece ∷ [])) ++ pieces rest ≡ tokens ++ pieces text
 pieces_step tokens text piece rest h e =
-    append_assoc tokens (filter is_kept (piece ∷ [])) (pieces rest) ∙ ap (λ x. tokens ++ x) (sym (pieces_space piece rest h)) ∙ ap (λ x. tokens ++ pieces x) (sym e)
+    append_assoc tokens (filter is_kept (piece ∷ [])) (pieces rest) ∙ ap (λ x. tokens ++ x) (sym (pieces_space piece rest h))
+    ∙ ap (λ x. tokens ++ pieces x) (sym e)
 
 pub pieces_end : (tokens : List (List ℕ)) (text : List ℕ) → has_no_space text ≡ true → tokens ++ filter is_kept (text ∷ []) ≡ tokens ++ pieces text
 pieces_end tokens text h = ap (λ x. tokens ++ x) (sym (pieces_last text h))
@@ -119,8 +110,12 @@ parted_mark : (t : List ℕ) (m : ℕ) → is_kept t ≡ true → is_mark m ≡ 
 parted_mark t m k h =
     let long : length (t ++ m ∷ []) - 1 ≡ length t = omega (arith, length_push t m) in
     let at : slice_index (t ++ m ∷ []) (length (t ++ m ∷ []) - 1) ≡ m = ap (slice_index (t ++ m ∷ [])) long ∙ get_or_at t m [] 0 (length t) refl in
-    let marked : ends_with_mark (t ++ m ∷ []) ≡ true = true_and (nat_lt 1 (length (t ++ m ∷ []))) (is_mark (slice_index (t ++ m ∷ []) (length (t ++ m ∷ []) - 1))) (above (length t) (length (t ++ m ∷ [])) k (length_push t m)) (ap is_mark at ∙ h) in
-    ap (λ b. if b then take (length (t ++ m ∷ []) - 1) (t ++ m ∷ []) ∷ drop (length (t ++ m ∷ []) - 1) (t ++ m ∷ []) ∷ [] else (t ++ m ∷ []) ∷ []) marked ∙ ap (λ n. take n (t ++ m ∷ []) ∷ drop n (t ++ m ∷ []) ∷ []) long ∙ ap (λ x. x ∷ drop (length t) (t ++ m ∷ []) ∷ []) (take_at t (m ∷ []) (length t) refl) ∙ ap (λ x. t ∷ x ∷ []) (drop_at t (m ∷ []) (length t) refl)
+    let marked : ends_with_mark (t ++ m ∷ []) ≡ true =
+    and_from (nat_lt 1 (length (t ++ m ∷ []))) (is_mark (slice_index (t ++ m ∷ []) (length (t ++ m ∷ []) - 1)))
+    (above (length t) (length (t ++ m ∷ [])) k (length_push t m)) (ap is_mark at ∙ h) in
+    ap (λ b. if b then take (length (t ++ m ∷ []) - 1) (t ++ m ∷ []) ∷ drop (length (t ++ m ∷ []) - 1) (t ++ m ∷ []) ∷ [] else (t ++ m ∷ []) ∷ []) marked
+    ∙ ap (λ n. take n (t ++ m ∷ []) ∷ drop n (t ++ m ∷ []) ∷ []) long
+    ∙ ap (λ x. x ∷ drop (length t) (t ++ m ∷ []) ∷ []) (take_at t (m ∷ []) (length t) refl) ∙ ap (λ x. t ∷ x ∷ []) (drop_at t (m ∷ []) (length t) refl)
 
 -- What is shown is cut into the same tokens
 
@@ -131,27 +126,34 @@ pub record Whole (t : List ℕ) : Type 0 where
 
 whole_parts : (t : List ℕ) → is_whole t ≡ true → Whole t
 whole_parts t h =
-    let outer = and_both (is_kept t && has_no_space t) (not (ends_with_mark t)) h in
-    let inner = and_both (is_kept t) (has_no_space t) outer.0 in
-    record { kept = inner.0; spaceless = inner.1; unmarked = not_true (ends_with_mark t) outer.1 }
+    let outer = and_parts (is_kept t && has_no_space t) (not (ends_with_mark t)) h in
+    let inner = and_parts (is_kept t) (has_no_space t) outer.0 in
+    record { kept = inner.0; spaceless = inner.1; unmarked = not-true (ends_with_mark t) outer.1 }
 
 pub whole_from_parts : (t : List ℕ) → Whole t → is_whole t ≡ true
 whole_from_parts t w =
-    true_and (is_kept t && has_no_space t) (not (ends_with_mark t)) (true_and (is_kept t) (has_no_space t) w.kept w.spaceless) (ap not w.unmarked)
+    and_from (is_kept t && has_no_space t) (not (ends_with_mark t)) (and_from (is_kept t) (has_no_space t) w.kept w.spaceless) (ap not w.unmarked)
 
 back_one : (t : List ℕ) → Whole t → parted_last (pieces (t ++ [])) ≡ t ∷ []
 back_one t w =
     ap (λ x. parted_last (pieces x)) (append-nil t) ∙ ap parted_last (pieces_last t w.spaceless ∙ kept_one t w.kept) ∙ parted_unmarked t w.unmarked
 
-back_more : (t u : List ℕ) (us : List (List ℕ)) → Whole t → gap u us ≡ 32 ∷ [] → parted_last (pieces (u ++ continued us)) ≡ u ∷ us → parted_last (pieces (t ++ continued (u ∷ us))) ≡ t ∷ u ∷ us
+back_more : (t u : List ℕ) (us : List (List ℕ)) → Whole t → gap u us ≡ 32 ∷ [] → parted_last (pieces (u ++ continued us)) ≡ u ∷ us
+    → parted_last (pieces (t ++ continued (u ∷ us))) ≡ t ∷ u ∷ us
 back_more t u us w g h =
-    ap (λ x. parted_last (pieces (t ++ (x ++ u ++ continued us)))) g ∙ ap parted_last (pieces_space t (u ++ continued us) w.spaceless ∙ ap (λ x. x ++ pieces (u ++ continued us)) (kept_one t w.kept)) ∙ parted_cons t (pieces (u ++ continued us)) u us h
+    ap (λ x. parted_last (pieces (t ++ (x ++ u ++ continued us)))) g
+    ∙ ap parted_last (pieces_space t (u ++ continued us) w.spaceless ∙ ap (λ x. x ++ pieces (u ++ continued us)) (kept_one t w.kept))
+    ∙ parted_cons t (pieces (u ++ continued us)) u us h
 
-back_mark : (t : List ℕ) (m : ℕ) → Whole t → has_no_space (m ∷ []) ≡ true → is_mark m ≡ true → parted_last (pieces (t ++ continued ((m ∷ []) ∷ []))) ≡ t ∷ (m ∷ []) ∷ []
+back_mark : (t : List ℕ) (m : ℕ) → Whole t → has_no_space (m ∷ []) ≡ true → is_mark m ≡ true
+    → parted_last (pieces (t ++ continued ((m ∷ []) ∷ []))) ≡ t ∷ (m ∷ []) ∷ []
 back_mark t m w k h =
-    ap (λ b. parted_last (pieces (t ++ ((if b then [] else 32 ∷ []) ++ (m ∷ []) ++ [])))) h ∙ ap parted_last (pieces_last (t ++ m ∷ []) (no_space_append t (m ∷ []) w.spaceless k) ∙ kept_one (t ++ m ∷ []) (above_zero (length t) (length (t ++ m ∷ [])) (length_push t m))) ∙ parted_mark t m w.kept h
+    ap (λ b. parted_last (pieces (t ++ ((if b then [] else 32 ∷ []) ++ (m ∷ []) ++ [])))) h
+    ∙ ap parted_last (pieces_last (t ++ m ∷ []) (no_space_append t (m ∷ []) w.spaceless k)
+    ∙ kept_one (t ++ m ∷ []) (above_zero (length t) (length (t ++ m ∷ [])) (length_push t m))) ∙ parted_mark t m w.kept h
 
-back_last_at : (t : List ℕ) (m : ℕ) (b : Bool) → is_mark m ≡ b → Whole t → Whole (m ∷ []) → parted_last (pieces (t ++ continued ((m ∷ []) ∷ []))) ≡ t ∷ (m ∷ []) ∷ []
+back_last_at : (t : List ℕ) (m : ℕ) (b : Bool) → is_mark m ≡ b → Whole t → Whole (m ∷ [])
+    → parted_last (pieces (t ++ continued ((m ∷ []) ∷ []))) ≡ t ∷ (m ∷ []) ∷ []
 back_last_at t m true h w v = back_mark t m w v.spaceless h
 back_last_at t m false h w v = back_more t (m ∷ []) [] w (ap (λ b. if b then [] else 32 ∷ []) h) (back_one (m ∷ []) v)
 
@@ -167,9 +169,9 @@ more_left u v vs =
 
 back : (t : List ℕ) (ts : List (List ℕ)) → Whole t → list_all is_whole ts ≡ true → parted_last (pieces (t ++ continued ts)) ≡ t ∷ ts
 back t [] w ws = back_one t w
-back t (u ∷ []) w ws = back_last t u w (whole_parts u (and_both (is_whole u) true ws).0)
+back t (u ∷ []) w ws = back_last t u w (whole_parts u (and_parts (is_whole u) true ws).0)
 back t (u ∷ v ∷ vs) w ws =
-    let both = and_both (is_whole u) (list_all is_whole (v ∷ vs)) ws in
+    let both = and_parts (is_whole u) (list_all is_whole (v ∷ vs)) ws in
     back_more t u (v ∷ vs) w (more_left u v vs) (back u (v ∷ vs) (whole_parts u both.0) both.1)
 
 -- The letter of the first token
@@ -209,15 +211,16 @@ same_end : (x y : ℕ) (bs : List ℕ) → ends_with_mark (x ∷ bs) ≡ ends_wi
 same_end x y [] = refl
 same_end x y (c ∷ cs) =
     let e : length (x ∷ c ∷ cs) - 1 ≡ suc (length cs) = omega arith in
-    ap (λ n. nat_lt 1 (length (x ∷ c ∷ cs)) && is_mark (slice_index (x ∷ c ∷ cs) n)) e ∙ sym (ap (λ n. nat_lt 1 (length (x ∷ c ∷ cs)) && is_mark (slice_index (y ∷ c ∷ cs) n)) e)
+    ap (λ n. nat_lt 1 (length (x ∷ c ∷ cs)) && is_mark (slice_index (x ∷ c ∷ cs) n)) e
+    ∙ sym (ap (λ n. nat_lt 1 (length (x ∷ c ∷ cs)) && is_mark (slice_index (y ∷ c ∷ cs) n)) e)
 
 whole_raised : (t : List ℕ) → Whole t → Whole (raised t)
 whole_raised [] w = w
 whole_raised (b ∷ bs) w =
-    let both = and_both (not (b == 32)) (has_no_space bs) w.spaceless in
+    let both = and_parts (not (b == 32)) (has_no_space bs) w.spaceless in
     record {
       kept = w.kept;
-      spaceless = true_and (not (to_ascii_uppercase b == 32)) (has_no_space bs) (raised_differs b both.0) both.1;
+      spaceless = and_from (not (to_ascii_uppercase b == 32)) (has_no_space bs) (raised_differs b both.0) both.1;
       unmarked = same_end (to_ascii_uppercase b) b bs ∙ w.unmarked;
     }
 
@@ -229,7 +232,8 @@ one_branch : (b : Bool) (t : List ℕ) → (if b then t else t) ≡ t
 one_branch true t = refl
 one_branch false t = refl
 
-read_plain_at : (terminals : List (List ℕ)) (b : ℕ) (bs : List ℕ) (c : Bool) → is_terminal terminals (lowered (b ∷ bs)) ≡ c → IsNotRaised terminals (b ∷ bs) → read_first terminals (b ∷ bs) ≡ b ∷ bs
+read_plain_at : (terminals : List (List ℕ)) (b : ℕ) (bs : List ℕ) (c : Bool) → is_terminal terminals (lowered (b ∷ bs)) ≡ c → IsNotRaised terminals (b ∷ bs)
+    → read_first terminals (b ∷ bs) ≡ b ∷ bs
 read_plain_at terminals b bs false is plain = ap (λ x. if x then lowered (b ∷ bs) else b ∷ bs) is
 read_plain_at terminals b bs true is plain =
     ap (λ x. if x then lowered (b ∷ bs) else b ∷ bs) is ∙ elim (raise_lowered b) [
@@ -241,14 +245,16 @@ read_plain : (terminals : List (List ℕ)) (t : List ℕ) → IsNotRaised termin
 read_plain terminals [] plain = one_branch (is_terminal terminals []) []
 read_plain terminals (b ∷ bs) plain = read_plain_at terminals b bs (is_terminal terminals (lowered (b ∷ bs))) refl plain
 
-read_raised : (terminals : List (List ℕ)) (b : ℕ) (bs : List ℕ) → is_terminal terminals (b ∷ bs) ≡ true → IsNotRaised terminals (b ∷ bs) → read_first terminals (raised (b ∷ bs)) ≡ b ∷ bs
+read_raised : (terminals : List (List ℕ)) (b : ℕ) (bs : List ℕ) → is_terminal terminals (b ∷ bs) ≡ true → IsNotRaised terminals (b ∷ bs)
+    → read_first terminals (raised (b ∷ bs)) ≡ b ∷ bs
 read_raised terminals b bs is plain =
     elim (lower_raised b) [
       | inl e ↦ ap (λ x. if is_terminal terminals (x ∷ bs) then x ∷ bs else raised (b ∷ bs)) e ∙ ap (λ x. if x then b ∷ bs else raised (b ∷ bs)) is
       | inr e ↦ ap (λ x. read_first terminals (x ∷ bs)) e ∙ read_plain terminals (b ∷ bs) plain
     ]
 
-read_back_at : (terminals : List (List ℕ)) (t : List ℕ) (c : Bool) → is_terminal terminals t ≡ c → IsNotRaised terminals t → read_first terminals (shown_first terminals t) ≡ t
+read_back_at : (terminals : List (List ℕ)) (t : List ℕ) (c : Bool) → is_terminal terminals t ≡ c → IsNotRaised terminals t
+    → read_first terminals (shown_first terminals t) ≡ t
 read_back_at terminals [] c is plain =
     ap (read_first terminals) (one_branch (is_terminal terminals []) []) ∙ read_plain terminals [] plain
 read_back_at terminals (b ∷ bs) true is plain =
@@ -257,15 +263,20 @@ read_back_at terminals (b ∷ bs) false is plain =
     ap (λ x. read_first terminals (if x then raised (b ∷ bs) else b ∷ bs)) is ∙ read_plain terminals (b ∷ bs) plain
 
 -- tokens that are shown and cut are the same
-pub cut_shown : (terminals tokens : List (List ℕ)) → list_all is_whole tokens ≡ true → FirstIsNotRaised terminals tokens → cut_of terminals (shown terminals tokens) ≡ tokens
+pub cut_shown : (terminals tokens : List (List ℕ)) → list_all is_whole tokens ≡ true → FirstIsNotRaised terminals tokens
+    → cut_of terminals (shown terminals tokens) ≡ tokens
 cut_shown terminals [] ws plain = refl
 cut_shown terminals (t ∷ ts) ws plain =
-    let both = and_both (is_whole t) (list_all is_whole ts) ws in
-    ap (lowered_first terminals) (back (shown_first terminals t) ts (whole_first (is_terminal terminals t) t (whole_parts t both.0)) both.1) ∙ ap (λ x. x ∷ ts) (read_back_at terminals t (is_terminal terminals t) refl plain)
+    let both = and_parts (is_whole t) (list_all is_whole ts) ws in
+    ap (lowered_first terminals) (back (shown_first terminals t) ts (whole_first (is_terminal terminals t) t (whole_parts t both.0)) both.1)
+    ∙ ap (λ x. x ∷ ts) (read_back_at terminals t (is_terminal terminals t) refl plain)
 
 -- Steps of the code
 
-pub split_cases : (text : List ℕ) (r : Option (Bor (List ℕ) × Bor (List ℕ))) → MatchOption r ((i : ℕ) → i < length text → get_or text i 0 ≢ 32) (λ x. (text ≡ x.0.now ++ (32 ∷ x.1.now)) × ((i : ℕ) → i < length x.0.now → get_or x.0.now i 0 ≢ 32)) → MatchOption r (has_no_space text ≡ true) (λ parts. (has_no_space parts.0.now ≡ true) × (text ≡ parts.0.now ++ 32 ∷ parts.1.now))
+pub split_cases : (text : List ℕ) (r : Option (Bor (List ℕ) × Bor (List ℕ)))
+    → MatchOption r ((i : ℕ) → i < length text → get_or text i 0 ≢ 32)
+    (λ x. (text ≡ x.0.now ++ (32 ∷ x.1.now)) × ((i : ℕ) → i < length x.0.now → get_or x.0.now i 0 ≢ 32))
+    → MatchOption r (has_no_space text ≡ true) (λ parts. (has_no_space parts.0.now ≡ true) × (text ≡ parts.0.now ++ 32 ∷ parts.1.now))
 split_cases text None h = no_space_from_bytes text h
 split_cases text (Some x) h = (no_space_from_bytes x.0.now h.1, h.0)
 

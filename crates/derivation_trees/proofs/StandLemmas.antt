@@ -13,7 +13,7 @@ use Rattle.codeco_terms.specs.declared.elements.Element.TheVariants.{Terminal, P
 use Rattle.codeco_terms.specs.declared.rules.Rule.{Rule}
 use Rattle.codeco_terms.specs.Values.{same_value}
 use Rattle.scopes.specs.declared.entries.Entry.{Entry}
-use Rattle.scopes.specs.declared.tests.Test.{Test}
+use Rattle.scopes.specs.declared.agreement.Test.{Test}
 use Rattle.scopes.specs.Resolution.{Finding, is_agreeing, closest_finding}
 use Rattle.derivation_trees.specs.declared.trees.Tree.{Tree, out-Tree}
 use Rattle.derivation_trees.specs.declared.trees.Trees.{Trees, out-Trees}
@@ -40,15 +40,8 @@ pub Begins-take : (xs ys : List Entry) → Begins xs ys → take (length xs) ys 
 Begins-take xs ys a = ap (take (length xs)) a.is ∙ take_at xs a.added (length xs) refl
 
 pub not_sub : (e : Element) → ((c : Category) → e ≡ Sub c → ⊥) → is_sub e ≡ false
-not_sub (Terminal t) h = refl
-not_sub (Preterminal c) h = refl
 not_sub (Sub c) h = absurd (h c refl)
-not_sub (Position x) h = refl
-not_sub Opener h = refl
-not_sub (Forward c) h = refl
-not_sub (Strong c) h = refl
-not_sub (Back ps ns) h = refl
-not_sub (NoBack ps) h = refl
+not_sub e h = refl
 
 -- what a stand gives, if it is there, has the list or more of it
 abbrev Keeps : Stand → Option Stand → Type 0
@@ -59,7 +52,8 @@ if_keeps : (b : Bool) (stand after : Stand) → Begins stand.at.list after.at.li
 if_keeps true stand after h = h
 if_keeps false stand after h = tt
 
-finding_keeps : (values : List (ℕ × Value)) (positive : List Pattern) (finding : Option Finding) (found : List ℕ) (stand : Stand) → Keeps stand (Rattle.derivation_trees.specs.Derives.pass_finding values positive finding found stand)
+finding_keeps : (values : List (ℕ × Value)) (positive : List Pattern) (finding : Option Finding) (found : List ℕ) (stand : Stand)
+    → Keeps stand (Rattle.derivation_trees.specs.Derives.pass_finding values positive finding found stand)
 finding_keeps values positive finding [] stand = tt
 finding_keeps values positive finding (pos ∷ rest) stand =
     if_keeps (is_found values positive pos finding) stand _ (Begins-refl stand.at.list)
@@ -72,7 +66,8 @@ pass_keeps s values (Position x) stand h = if_keeps (same_value (value_under val
 pass_keeps s values Opener stand h = record { added = _; is = refl }
 pass_keeps s values (Forward c) stand h = record { added = _; is = refl }
 pass_keeps s values (Strong c) stand h = record { added = _; is = refl }
-pass_keeps s values (Back positive negative) stand h = finding_keeps values positive (closest_finding (reference_tests values positive negative) stand.at.list) stand.found stand
+pass_keeps s values (Back positive negative) stand h =
+    finding_keeps values positive (closest_finding (reference_tests values positive negative) stand.at.list) stand.found stand
 pass_keeps s values (NoBack patterns) stand h = no_back_keeps (list_any (is_agreeing (tests_under values patterns)) stand.at.list)
   where
     no_back_keeps : (b : Bool) → Keeps stand (if b then None else Some stand)
@@ -80,7 +75,8 @@ pass_keeps s values (NoBack patterns) stand h = no_back_keeps (list_any (is_agre
     no_back_keeps false = Begins-refl stand.at.list
 
 -- an element that is no category only adds to the list
-pub pass_begins : (s : Setting) (values : List (ℕ × Value)) (e : Element) (stand after : Stand) → is_sub e ≡ false → Some after ≡ pass s values e stand → Begins stand.at.list after.at.list
+pub pass_begins : (s : Setting) (values : List (ℕ × Value)) (e : Element) (stand after : Stand) → is_sub e ≡ false → Some after ≡ pass s values e stand
+    → Begins stand.at.list after.at.list
 pass_begins s values e stand after h eq = subst (Keeps stand) (sym eq) (pass_keeps s values e stand h)
 
 pub phrases_of-from : (s : Setting) (ns : List Node) → phrases_of s (nodes_from ns) ≡ map (phrase_of s) ns
@@ -95,9 +91,13 @@ node_of_is t =
     fold_out-Tree Node Nodes tree_layer trees_layer t ∙ ap (node (out-Tree t).rule (values_in t) (found_in t)) (fold_children (out-Tree t).children)
 
 -- what a tree does, by its parts
-pub phrase_of_is : (s : Setting) (t : Tree) (asked : Test) (at : At) → phrase_of s (node_of t) asked at ≡ option_and_then (λ r. phrase s r (values_in t) (found_in t) (children_of s t) asked at) (rule_with s.grammar (out-Tree t).rule)
+pub phrase_of_is : (s : Setting) (t : Tree) (asked : Test) (at : At)
+    → phrase_of s (node_of t) asked at ≡ option_and_then (λ r. phrase s r (values_in t) (found_in t) (children_of s t) asked at)
+    (rule_with s.grammar (out-Tree t).rule)
 phrase_of_is s t asked at =
-    ap (λ n. phrase_of s n asked at) (node_of_is t) ∙ ap (λ ps. option_and_then (λ r. phrase s r (values_in t) (found_in t) ps asked at) (rule_with s.grammar (out-Tree t).rule)) (phrases_of-from s (nodes_of (out-Tree t).children))
+    ap (λ n. phrase_of s n asked at) (node_of_is t)
+    ∙ ap (λ ps. option_and_then (λ r. phrase s r (values_in t) (found_in t) ps asked at) (rule_with s.grammar (out-Tree t).rule))
+    (phrases_of-from s (nodes_of (out-Tree t).children))
 
 le_all : (n : ℕ) → true ≡ nat_le 0 n
 le_all n = grind (arith, nat_tests)
@@ -115,41 +115,69 @@ none_left_at (x ∷ xs) zero = le_none (length xs)
 none_left_at (x ∷ xs) (suc n) = none_left_at xs n ∙ le_both (length xs) n
 
 -- a tree fails where the elements of its rule do
-pub led_none : (s : Setting) (t : Tree) (asked : Test) (at : At) (rule : Rule) (start : Stand) → Some rule ≡ rule_with s.grammar (out-Tree t).rule → Some start ≡ begun s rule (values_in t) (found_in t) (children_of s t) asked at → None ≡ run s (values_in t) rule.body start → None ≡ phrase_of s (node_of t) asked at
+pub led_none : (s : Setting) (t : Tree) (asked : Test) (at : At) (rule : Rule) (start : Stand) → Some rule ≡ rule_with s.grammar (out-Tree t).rule
+    → Some start ≡ begun s rule (values_in t) (found_in t) (children_of s t) asked at → None ≡ run s (values_in t) rule.body start
+    → None ≡ phrase_of s (node_of t) asked at
 led_none s t asked at rule start has begins fails =
-    ap (option_and_then (ended rule at.list)) fails ∙ ap (option_and_then (λ stand. option_and_then (ended rule at.list) (run s (values_in t) rule.body stand))) begins ∙ ap (option_and_then (λ r. phrase s r (values_in t) (found_in t) (children_of s t) asked at)) has ∙ sym (phrase_of_is s t asked at)
+    ap (option_and_then (ended rule at.list)) fails
+    ∙ ap (option_and_then (λ stand. option_and_then (ended rule at.list) (run s (values_in t) rule.body stand))) begins
+    ∙ ap (option_and_then (λ r. phrase s r (values_in t) (found_in t) (children_of s t) asked at)) has ∙ sym (phrase_of_is s t asked at)
 
 -- a tree leads to where it ends after the elements of its rule
-pub led_some : (s : Setting) (t : Tree) (asked : Test) (at : At) (rule : Rule) (start after : Stand) → Some rule ≡ rule_with s.grammar (out-Tree t).rule → Some start ≡ begun s rule (values_in t) (found_in t) (children_of s t) asked at → Some after ≡ run s (values_in t) rule.body start → ended rule at.list after ≡ phrase_of s (node_of t) asked at
+pub led_some : (s : Setting) (t : Tree) (asked : Test) (at : At) (rule : Rule) (start after : Stand) → Some rule ≡ rule_with s.grammar (out-Tree t).rule
+    → Some start ≡ begun s rule (values_in t) (found_in t) (children_of s t) asked at → Some after ≡ run s (values_in t) rule.body start
+    → ended rule at.list after ≡ phrase_of s (node_of t) asked at
 led_some s t asked at rule start after has begins ran =
-    ap (option_and_then (ended rule at.list)) ran ∙ ap (option_and_then (λ stand. option_and_then (ended rule at.list) (run s (values_in t) rule.body stand))) begins ∙ ap (option_and_then (λ r. phrase s r (values_in t) (found_in t) (children_of s t) asked at)) has ∙ sym (phrase_of_is s t asked at)
+    ap (option_and_then (ended rule at.list)) ran
+    ∙ ap (option_and_then (λ stand. option_and_then (ended rule at.list) (run s (values_in t) rule.body stand))) begins
+    ∙ ap (option_and_then (λ r. phrase s r (values_in t) (found_in t) (children_of s t) asked at)) has ∙ sym (phrase_of_is s t asked at)
 
-next_child : (s : Setting) (ns : List Node) (n : Node) (used : ℕ) → slice_get ns used ≡ Some n → drop used (map (phrase_of s) ns) ≡ phrase_of s n ∷ drop (suc used) (map (phrase_of s) ns)
+next_child : (s : Setting) (ns : List Node) (n : Node) (used : ℕ) → slice_get ns used ≡ Some n
+    → drop used (map (phrase_of s) ns) ≡ phrase_of s n ∷ drop (suc used) (map (phrase_of s) ns)
 next_child s [] n used h = cc
 next_child s (m ∷ ms) n zero h = ap (λ o. phrase_of s (unwrap_or o m) ∷ map (phrase_of s) ms) h
 next_child s (m ∷ ms) n (suc used) h = next_child s ms n used h
 
 -- the next child fails as a phrase for the category
-pub step_none : (s : Setting) (values : List (ℕ × Value)) (e : Element) (c : Category) (ns : List Node) (n : Node) (used : ℕ) (at : At) (found : List ℕ) (own : List (ℕ × Value)) (asked : Test) → e ≡ Sub c → asked ≡ under values c → slice_get ns used ≡ Some n → None ≡ phrase_of s n asked at → None ≡ pass s values e (record { at = at; found = found; own = own; children = drop used (map (phrase_of s) ns) })
+pub step_none : (s : Setting) (values : List (ℕ × Value)) (e : Element) (c : Category) (ns : List Node) (n : Node) (used : ℕ) (at : At) (found : List ℕ)
+    (own : List (ℕ × Value)) (asked : Test) → e ≡ Sub c → asked ≡ under values c → slice_get ns used ≡ Some n → None ≡ phrase_of s n asked at
+    → None ≡ pass s values e (record { at = at; found = found; own = own; children = drop used (map (phrase_of s) ns) })
 step_none s values e c ns n used at found own asked is name child fails =
-    ap (option_and_then (λ a. Some (record { at = a; found = found; own = own; children = drop (suc used) (map (phrase_of s) ns) }))) fails ∙ ap (λ a. pass_child a (phrase_of s n ∷ drop (suc used) (map (phrase_of s) ns)) (record { at = at; found = found; own = own; children = drop used (map (phrase_of s) ns) })) name ∙ ap (λ ps. pass_child (under values c) ps (record { at = at; found = found; own = own; children = drop used (map (phrase_of s) ns) })) (sym (next_child s ns n used child)) ∙ ap (λ x. pass s values x (record { at = at; found = found; own = own; children = drop used (map (phrase_of s) ns) })) (sym is)
+    ap (option_and_then (λ a. Some (record { at = a; found = found; own = own; children = drop (suc used) (map (phrase_of s) ns) }))) fails
+    ∙ ap (λ a. pass_child a (phrase_of s n ∷ drop (suc used) (map (phrase_of s) ns))
+    (record { at = at; found = found; own = own; children = drop used (map (phrase_of s) ns) })) name
+    ∙ ap (λ ps. pass_child (under values c) ps (record { at = at; found = found; own = own; children = drop used (map (phrase_of s) ns) }))
+    (sym (next_child s ns n used child))
+    ∙ ap (λ x. pass s values x (record { at = at; found = found; own = own; children = drop used (map (phrase_of s) ns) })) (sym is)
 
 -- the next child leads on as a phrase for the category
-pub step_some : (s : Setting) (values : List (ℕ × Value)) (e : Element) (c : Category) (ns : List Node) (n : Node) (used : ℕ) (at after : At) (found : List ℕ) (own : List (ℕ × Value)) (asked : Test) → e ≡ Sub c → asked ≡ under values c → slice_get ns used ≡ Some n → Some after ≡ phrase_of s n asked at → Some (record { at = after; found = found; own = own; children = drop (used + 1) (map (phrase_of s) ns) }) ≡ pass s values e (record { at = at; found = found; own = own; children = drop used (map (phrase_of s) ns) })
+pub step_some : (s : Setting) (values : List (ℕ × Value)) (e : Element) (c : Category) (ns : List Node) (n : Node) (used : ℕ) (at after : At) (found : List ℕ)
+    (own : List (ℕ × Value)) (asked : Test) → e ≡ Sub c → asked ≡ under values c → slice_get ns used ≡ Some n → Some after ≡ phrase_of s n asked at
+    → Some (record { at = after; found = found; own = own; children = drop (used + 1) (map (phrase_of s) ns) })
+    ≡ pass s values e (record { at = at; found = found; own = own; children = drop used (map (phrase_of s) ns) })
 step_some s values e c ns n used at after found own asked is name child leads =
-    ap (λ k. Some (record { at = after; found = found; own = own; children = drop k (map (phrase_of s) ns) })) (add-one used) ∙ ap (option_and_then (λ a. Some (record { at = a; found = found; own = own; children = drop (suc used) (map (phrase_of s) ns) }))) leads ∙ ap (λ a. pass_child a (phrase_of s n ∷ drop (suc used) (map (phrase_of s) ns)) (record { at = at; found = found; own = own; children = drop used (map (phrase_of s) ns) })) name ∙ ap (λ ps. pass_child (under values c) ps (record { at = at; found = found; own = own; children = drop used (map (phrase_of s) ns) })) (sym (next_child s ns n used child)) ∙ ap (λ x. pass s values x (record { at = at; found = found; own = own; children = drop used (map (phrase_of s) ns) })) (sym is)
+    ap (λ k. Some (record { at = after; found = found; own = own; children = drop k (map (phrase_of s) ns) })) (add-one used)
+    ∙ ap (option_and_then (λ a. Some (record { at = a; found = found; own = own; children = drop (suc used) (map (phrase_of s) ns) }))) leads
+    ∙ ap (λ a. pass_child a (phrase_of s n ∷ drop (suc used) (map (phrase_of s) ns))
+    (record { at = at; found = found; own = own; children = drop used (map (phrase_of s) ns) })) name
+    ∙ ap (λ ps. pass_child (under values c) ps (record { at = at; found = found; own = own; children = drop used (map (phrase_of s) ns) }))
+    (sym (next_child s ns n used child))
+    ∙ ap (λ x. pass s values x (record { at = at; found = found; own = own; children = drop used (map (phrase_of s) ns) })) (sym is)
 
 body_at : (body : List Element) (i : ℕ) (e : Element) → i < length body → e ≡ get_or body i e → drop i body ≡ e ∷ drop (i + 1) body
 body_at body i e lt is = drop_more body i e lt ∙ ap (λ x. x ∷ drop (i + 1) body) (sym is)
 
 -- one element of a run
-pub run_more : (s : Setting) (values : List (ℕ × Value)) (body : List Element) (i : ℕ) (e : Element) (stand after : Stand) (r : Option Stand) → i < length body → e ≡ get_or body i e → Some after ≡ pass s values e stand → run s values (drop i body) stand ≡ r → run s values (drop (i + 1) body) after ≡ r
+pub run_more : (s : Setting) (values : List (ℕ × Value)) (body : List Element) (i : ℕ) (e : Element) (stand after : Stand) (r : Option Stand) → i < length body
+    → e ≡ get_or body i e → Some after ≡ pass s values e stand → run s values (drop i body) stand ≡ r → run s values (drop (i + 1) body) after ≡ r
 run_more s values body i e stand after r lt is step rest =
     ap (option_and_then (run s values (drop (i + 1) body))) step ∙ ap (λ es. run s values es stand) (sym (body_at body i e lt is)) ∙ rest
 
-pub run_none : (s : Setting) (values : List (ℕ × Value)) (body : List Element) (i : ℕ) (e : Element) (stand : Stand) (r : Option Stand) → i < length body → e ≡ get_or body i e → None ≡ pass s values e stand → run s values (drop i body) stand ≡ r → None ≡ r
+pub run_none : (s : Setting) (values : List (ℕ × Value)) (body : List Element) (i : ℕ) (e : Element) (stand : Stand) (r : Option Stand) → i < length body
+    → e ≡ get_or body i e → None ≡ pass s values e stand → run s values (drop i body) stand ≡ r → None ≡ r
 run_none s values body i e stand r lt is step rest =
     ap (option_and_then (run s values (drop (i + 1) body))) step ∙ ap (λ es. run s values es stand) (sym (body_at body i e lt is)) ∙ rest
 
-pub run_end : (s : Setting) (values : List (ℕ × Value)) (body : List Element) (i : ℕ) (stand : Stand) (r : Option Stand) → length body ≤ i → run s values (drop i body) stand ≡ r → Some stand ≡ r
+pub run_end : (s : Setting) (values : List (ℕ × Value)) (body : List Element) (i : ℕ) (stand : Stand) (r : Option Stand) → length body ≤ i
+    → run s values (drop i body) stand ≡ r → Some stand ≡ r
 run_end s values body i stand r le rest = ap (λ es. run s values es stand) (sym (drop_all i body le)) ∙ rest

@@ -7,6 +7,7 @@ use Rattle.std.proofs.lemmas.Bool.Decides.{nat_tests}
 use Rattle.std.proofs.lemmas.Slice.Eq.{bytes_eq-Decides}
 use Rattle.std.proofs.lemmas.Str.{encodes-chars, NoCharPasses-byte, IsUtf8-take, IsUtf8-drop, IsUtf8-from_ascii, IsCharBoundary-before_ascii, IsCharBoundary-after_ascii}
 use Rattle.std.proofs.lemmas.List.{take_at, drop_at, length_push, get_or_at}
+use Rattle.std.proofs.lemmas.Bool.{and_right, and_left, eqb-true, or_from, and_parts, not-true, and_from}
 use Rattle.wiki_base.proofs.OptionLaws.{option_map-none as none_inside}
 use Rattle.lexicon.specs.Terminals.{raised}
 use Rattle.ucd_derived.specs.Binary.{is_alphabetic}
@@ -19,8 +20,8 @@ use Rattle.codeco_text.specs.Names.{is_terminal_byte, ends_well, is_terminal}
 use Rattle.codeco_terms.specs.GrammarParts.{GrammarParts}
 use Rattle.codeco_checked.specs.Sound.{IsSound}
 use Rattle.derivation_trees.specs.Cutting as cutting
-use Rattle.derivation_trees.specs.Cutting.{is_kept, is_mark, ends_with_mark, is_whole, shown, cut_of, FirstIsNotRaised, IsWord, AreWords, gap, continued, shown_first}
-use Rattle.derivation_trees.proofs.PieceLemmas.{and_both, not_true, true_and, above_zero, Whole, whole_from_parts, no_space_from_bytes, cut_shown, more_left}
+use Rattle.derivation_trees.specs.Cutting.{is_kept, is_mark, ends_with_mark, is_whole, shown, cut_of, IsWord, AreWords, gap, continued, shown_first}
+use Rattle.derivation_trees.proofs.PieceLemmas.{above_zero, Whole, whole_from_parts, no_space_from_bytes, cut_shown, more_left}
 
 -- Terminals
 
@@ -31,24 +32,17 @@ first_fails false b c d e f h = refl
 spaceless : (bs : List ℕ) → list_all is_terminal_byte bs ≡ true → has_no_space bs ≡ true
 spaceless [] h = refl
 spaceless (b ∷ bs) h =
-    let both = and_both (is_terminal_byte b) (list_all is_terminal_byte bs) h in
-    true_and (not (b == 32)) (has_no_space bs) (first_fails (b == 32) (b == 9) (b == 13) (b == 10) (b == 91) (b == 93) both.0) (spaceless bs both.1)
+    let both = and_parts (is_terminal_byte b) (list_all is_terminal_byte bs) h in
+    and_from (not (b == 32)) (has_no_space bs) (first_fails (b == 32) (b == 9) (b == 13) (b == 10) (b == 91) (b == 93) both.0) (spaceless bs both.1)
 
 unmarked_end : (b : ℕ) (bs : List ℕ) → ends_well (b ∷ bs) ≡ true → is_mark (get_or (b ∷ bs) (length bs) 0) ≡ false
-unmarked_end b [] h = not_true (is_mark b) h
+unmarked_end b [] h = not-true (is_mark b) h
 unmarked_end b (c ∷ cs) h = unmarked_end c cs h
-
-and_false : (a b : Bool) → b ≡ false → (a && b) ≡ false
-and_false true b h = h
-and_false false b h = refl
-
-false_and : (a b : Bool) → a ≡ false → (a && b) ≡ false
-false_and a b h = ap (λ x. x && b) h
 
 unmarked_from_last : (b : ℕ) (bs : List ℕ) → is_mark (get_or (b ∷ bs) (length bs) 0) ≡ false → ends_with_mark (b ∷ bs) ≡ false
 unmarked_from_last b bs h =
     let e : length (b ∷ bs) - 1 ≡ length bs = omega arith in
-    and_false (nat_lt 1 (length (b ∷ bs))) (is_mark (slice_index (b ∷ bs) (length (b ∷ bs) - 1))) (ap (λ n. is_mark (slice_index (b ∷ bs) n)) e ∙ h)
+    and_right (nat_lt 1 (length (b ∷ bs))) (is_mark (slice_index (b ∷ bs) (length (b ∷ bs) - 1))) (ap (λ n. is_mark (slice_index (b ∷ bs) n)) e ∙ h)
 
 kept_here : (b : ℕ) (bs : List ℕ) → is_kept (b ∷ bs) ≡ true
 kept_here b bs = above_zero (length bs) (length (b ∷ bs)) (omega arith)
@@ -60,18 +54,19 @@ whole_terminal : (t : List ℕ) → is_terminal t ≡ true → Whole t
 whole_terminal [] h = cc
 whole_terminal (b ∷ []) h = record {
   kept = kept_here b [];
-  spaceless = spaceless (b ∷ []) (true_and (is_terminal_byte b) true h refl);
-  unmarked = false_and (nat_lt 1 (length (b ∷ []))) (is_mark (slice_index (b ∷ []) (length (b ∷ []) - 1))) (one_byte (length (b ∷ [])) (omega arith));
+  spaceless = spaceless (b ∷ []) (and_from (is_terminal_byte b) true h refl);
+  unmarked = and_left (nat_lt 1 (length (b ∷ []))) (is_mark (slice_index (b ∷ []) (length (b ∷ []) - 1))) (one_byte (length (b ∷ [])) (omega arith));
 }
 whole_terminal (b ∷ c ∷ bs) h =
-    let outer = and_both (is_terminal_byte b && list_all is_terminal_byte (c ∷ bs)) (ends_well (c ∷ bs)) h in
+    let outer = and_parts (is_terminal_byte b && list_all is_terminal_byte (c ∷ bs)) (ends_well (c ∷ bs)) h in
     record {
       kept = kept_here b (c ∷ bs);
       spaceless = spaceless (b ∷ c ∷ bs) outer.0;
       unmarked = unmarked_from_last b (c ∷ bs) (unmarked_end c bs outer.1);
     }
 
-spelled_at : (terminals : List (List ℕ)) (x t : List ℕ) (b : Bool) → bytes_eq t x ≡ b → is_terminal x ≡ true → (b || cutting.is_terminal terminals t) ≡ true → (cutting.is_terminal terminals t ≡ true → is_terminal t ≡ true) → is_terminal t ≡ true
+spelled_at : (terminals : List (List ℕ)) (x t : List ℕ) (b : Bool) → bytes_eq t x ≡ b → is_terminal x ≡ true → (b || cutting.is_terminal terminals t) ≡ true
+    → (cutting.is_terminal terminals t ≡ true → is_terminal t ≡ true) → is_terminal t ≡ true
 spelled_at terminals x t true is one among rest = ap is_terminal ((bytes_eq-Decides t x).0 is) ∙ one
 spelled_at terminals x t false is one among rest = rest among
 
@@ -79,7 +74,7 @@ spelled_at terminals x t false is one among rest = rest among
 spelled : (terminals : List (List ℕ)) (t : List ℕ) → list_all is_terminal terminals ≡ true → cutting.is_terminal terminals t ≡ true → is_terminal t ≡ true
 spelled [] t all among = cc
 spelled (x ∷ xs) t all among =
-    let both = and_both (is_terminal x) (list_all is_terminal xs) all in
+    let both = and_parts (is_terminal x) (list_all is_terminal xs) all in
     spelled_at xs x t (bytes_eq t x) refl both.0 among (spelled xs t both.1)
 
 -- Texts of letters
@@ -100,29 +95,30 @@ letter-question = refl
 abbrev is_other : ℕ → Bool
 is_other c = c == 32 || is_mark c
 
-same_number : (x y : ℕ) → (x == y) ≡ true → x ≡ y
-same_number x y h = grind (arith, nat_tests)
-
 out_of_place : (after : Bool) (d : ℕ) (rest : List ℕ) → is_letter d ≡ false → (d == 45) ≡ false → is_in_place after d rest ≡ false
 out_of_place after d rest unlettered other =
     ap (λ x. x || (d == 45 && (after && begins_with_letter rest))) unlettered ∙ ap (λ x. x && (after && begins_with_letter rest)) other
 
-excluded : (d : ℕ) (after : Bool) (c : ℕ) (rest : List ℕ) (b : Bool) → (c == d) ≡ b → is_letter d ≡ false → (d == 45) ≡ false → is_in_place after c rest ≡ true → (c == d) ≡ false
+excluded : (d : ℕ) (after : Bool) (c : ℕ) (rest : List ℕ) (b : Bool) → (c == d) ≡ b → is_letter d ≡ false → (d == 45) ≡ false → is_in_place after c rest ≡ true
+    → (c == d) ≡ false
 excluded d after c rest false is unlettered other h = is
 excluded d after c rest true is unlettered other h =
-    let at : true ≡ false = sym h ∙ ap (λ x. is_in_place after x rest) (same_number c d is) ∙ out_of_place after d rest unlettered other in
+    let at : true ≡ false = sym h ∙ ap (λ x. is_in_place after x rest) (eqb-true c d is) ∙ out_of_place after d rest unlettered other in
     cc
-
-or_false : (a b : Bool) → a ≡ false → b ≡ false → (a || b) ≡ false
-or_false a b h k = ap (λ x. x || b) h ∙ k
 
 letter_fails : (after : Bool) (c : ℕ) (rest : List ℕ) → is_in_place after c rest ≡ true → is_other c ≡ false
 letter_fails after c rest h =
-    or_false (c == 32) (is_mark c) (excluded 32 after c rest (c == 32) refl letter-space refl h) (or_false (c == 46) (c == 63) (excluded 46 after c rest (c == 46) refl letter-stop refl h) (excluded 63 after c rest (c == 63) refl letter-question refl h))
+    or_from (c == 32) (is_mark c) (excluded 32 after c rest (c == 32) refl letter-space refl h)
+    (or_from (c == 46) (c == 63) (excluded 46 after c rest (c == 46) refl letter-stop refl h)
+    (excluded 63 after c rest (c == 63) refl letter-question refl h))
 
-placed_step : (after : Bool) (d : ℕ) (ds : List ℕ) (b : Bool) → is_in_place after d ds ≡ b → misplaced after (d ∷ ds) ≡ None → (is_in_place after d ds ≡ true) × (misplaced (is_letter d) ds ≡ None)
-placed_step after d ds true is h =
-    (is, none_inside (λ n. length (encode_utf8 d) + n) (misplaced (is_letter d) ds) (sym (ap (λ b. if b then option_map (λ n. length (encode_utf8 d) + n) (misplaced (is_letter d) ds) else Some 0) is) ∙ h))
+placed_step : (after : Bool) (d : ℕ) (ds : List ℕ) (b : Bool) → is_in_place after d ds ≡ b → misplaced after (d ∷ ds) ≡ None
+    → (is_in_place after d ds ≡ true) × (misplaced (is_letter d) ds ≡ None)
+placed_step after d ds true is h = (
+  is,
+  none_inside (λ n. length (encode_utf8 d) + n) (misplaced (is_letter d) ds)
+      (sym (ap (λ b. if b then option_map (λ n. length (encode_utf8 d) + n) (misplaced (is_letter d) ds) else Some 0) is) ∙ h),
+)
 placed_step after d ds false is h =
     let here : Option ℕ = Some 0 in
     let at : here ≡ None = sym (ap (λ b. if b then option_map (λ n. length (encode_utf8 d) + n) (misplaced (is_letter d) ds) else Some 0) is) ∙ h in
@@ -162,8 +158,11 @@ whole_text (b ∷ bs) utf8 h =
     let none : NoCharPasses is_other (b ∷ bs) = (chars (b ∷ bs), encodes-chars (b ∷ bs) utf8, none_other false (chars (b ∷ bs)) placed) in
     record {
       kept = kept_here b bs;
-      spaceless = no_space_from_bytes (b ∷ bs) (λ i lt e. no_space_there (get_or (b ∷ bs) i 0) e (NoCharPasses-byte is_other (b ∷ bs) i none lt (omega (arith, e))));
-      unmarked = unmarked_from_last b bs (mark_fails (get_or (b ∷ bs) (length bs) 0) (is_mark (get_or (b ∷ bs) (length bs) 0)) refl (λ low. NoCharPasses-byte is_other (b ∷ bs) (length bs) none (omega arith) low));
+      spaceless = no_space_from_bytes (b ∷ bs)
+          (λ i lt e. no_space_there (get_or (b ∷ bs) i 0) e (NoCharPasses-byte is_other (b ∷ bs) i none lt (omega (arith, e))));
+      unmarked = unmarked_from_last b bs
+          (mark_fails (get_or (b ∷ bs) (length bs) 0) (is_mark (get_or (b ∷ bs) (length bs) 0)) refl
+          (λ low. NoCharPasses-byte is_other (b ∷ bs) (length bs) none (omega arith) low));
     }
 
 -- Each token of a text in UTF-8 is in UTF-8
@@ -176,8 +175,12 @@ split_utf8 : (xs ys : List ℕ) (b : ℕ) → b < 128 → IsUtf8 (xs ++ b ∷ ys
 split_utf8 xs ys b low utf8 =
     let there : length xs < length (xs ++ b ∷ ys) = omega (arith, length-append xs (b ∷ ys)) in
     let small : get_or (xs ++ b ∷ ys) (length xs) 0 < 128 = omega (arith, get_or_at xs b ys 0 (length xs) refl) in
-    let rest : drop (length xs + 1) (xs ++ b ∷ ys) ≡ ys = ap (drop (length xs + 1)) (sym (append_assoc xs (b ∷ []) ys)) ∙ drop_at (xs ++ b ∷ []) ys (length xs + 1) (length_push xs b) in
-    (subst IsUtf8 (take_at xs (b ∷ ys) (length xs) refl) (IsUtf8-take (xs ++ b ∷ ys) (length xs) utf8 (IsCharBoundary-before_ascii (xs ++ b ∷ ys) (length xs) there small)), subst IsUtf8 rest (IsUtf8-drop (xs ++ b ∷ ys) (length xs + 1) utf8 (IsCharBoundary-after_ascii (xs ++ b ∷ ys) (length xs) utf8 there small)))
+    let rest : drop (length xs + 1) (xs ++ b ∷ ys) ≡ ys =
+    ap (drop (length xs + 1)) (sym (append_assoc xs (b ∷ []) ys)) ∙ drop_at (xs ++ b ∷ []) ys (length xs + 1) (length_push xs b) in (
+      subst IsUtf8 (take_at xs (b ∷ ys) (length xs) refl)
+          (IsUtf8-take (xs ++ b ∷ ys) (length xs) utf8 (IsCharBoundary-before_ascii (xs ++ b ∷ ys) (length xs) there small)),
+      subst IsUtf8 rest (IsUtf8-drop (xs ++ b ∷ ys) (length xs + 1) utf8 (IsCharBoundary-after_ascii (xs ++ b ∷ ys) (length xs) utf8 there small)),
+    )
 
 utf8_space : (t u : List ℕ) (us : List (List ℕ)) → gap u us ≡ 32 ∷ [] → IsUtf8 (t ++ continued (u ∷ us)) → IsUtf8 t × IsUtf8 (u ++ continued us)
 utf8_space t u us g h =
@@ -215,24 +218,31 @@ whole_word : (terminals : List (List ℕ)) (t : List ℕ) → list_all is_termin
 whole_word terminals t written utf8 (inl among) = whole_terminal t (spelled terminals t written among)
 whole_word terminals t written utf8 (inr text) = whole_text t utf8 text
 
-whole_words : (terminals tokens : List (List ℕ)) → list_all is_terminal terminals ≡ true → AllUtf8 tokens → All (IsWord terminals) tokens → list_all is_whole tokens ≡ true
+whole_words : (terminals tokens : List (List ℕ)) → list_all is_terminal terminals ≡ true → AllUtf8 tokens → All (IsWord terminals) tokens
+    → list_all is_whole tokens ≡ true
 whole_words terminals [] written utf8 words = refl
 whole_words terminals (t ∷ ts) written utf8 words =
-    true_and (is_whole t) (list_all is_whole ts) (whole_from_parts t (whole_word terminals t written utf8.0 (words 0 t (omega arith)))) (whole_words terminals ts written utf8.1 (λ k d lt. words (suc k) d (omega arith)))
+    and_from (is_whole t) (list_all is_whole ts) (whole_from_parts t (whole_word terminals t written utf8.0 (words 0 t (omega arith))))
+    (whole_words terminals ts written utf8.1 (λ k d lt. words (suc k) d (omega arith)))
 
 -- the first token, where the token as shown is in UTF-8
-whole_first : (terminals : List (List ℕ)) (t : List ℕ) (b : Bool) → cutting.is_terminal terminals t ≡ b → list_all is_terminal terminals ≡ true → IsUtf8 (shown_first terminals t) → IsWord terminals t → Whole t
+whole_first : (terminals : List (List ℕ)) (t : List ℕ) (b : Bool) → cutting.is_terminal terminals t ≡ b → list_all is_terminal terminals ≡ true
+    → IsUtf8 (shown_first terminals t) → IsWord terminals t → Whole t
 whole_first terminals t true is written utf8 word = whole_terminal t (spelled terminals t written is)
 whole_first terminals t false is written utf8 word =
     whole_word terminals t written (subst IsUtf8 (ap (λ b. if b then raised t else t) is) utf8) word
 
-all_whole : (terminals tokens : List (List ℕ)) → list_all is_terminal terminals ≡ true → IsUtf8 (shown terminals tokens) → All (IsWord terminals) tokens → list_all is_whole tokens ≡ true
+all_whole : (terminals tokens : List (List ℕ)) → list_all is_terminal terminals ≡ true → IsUtf8 (shown terminals tokens) → All (IsWord terminals) tokens
+    → list_all is_whole tokens ≡ true
 all_whole terminals [] written utf8 words = refl
 all_whole terminals (t ∷ ts) written utf8 words =
     let each = utf8_tokens (shown_first terminals t) ts utf8 in
-    true_and (is_whole t) (list_all is_whole ts) (whole_from_parts t (whole_first terminals t (cutting.is_terminal terminals t) refl written each.0 (words 0 t (omega arith)))) (whole_words terminals ts written each.1 (λ k d lt. words (suc k) d (omega arith)))
+    and_from (is_whole t) (list_all is_whole ts)
+    (whole_from_parts t (whole_first terminals t (cutting.is_terminal terminals t) refl written each.0 (words 0 t (omega arith))))
+    (whole_words terminals ts written each.1 (λ k d lt. words (suc k) d (omega arith)))
 
 -- terminals of a checked grammar and forms that are shown and cut are the same tokens
-pub cut_shown_words : (g : GrammarParts) (tokens : List (List ℕ)) → IsSound g → IsUtf8 (shown g.terminals tokens) → AreWords g.terminals tokens → cut_of g.terminals (shown g.terminals tokens) ≡ tokens
+pub cut_shown_words : (g : GrammarParts) (tokens : List (List ℕ)) → IsSound g → IsUtf8 (shown g.terminals tokens) → AreWords g.terminals tokens
+    → cut_of g.terminals (shown g.terminals tokens) ≡ tokens
 cut_shown_words g tokens sound utf8 words =
     cut_shown g.terminals tokens (all_whole g.terminals tokens sound.written.terminals utf8 words.1) words.2

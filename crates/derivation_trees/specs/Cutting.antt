@@ -2,10 +2,11 @@
 use Rattle.std.specs.Prelude.{◌≡◌, ℕ, ◌-◌, ◌<◌, ◌≤◌, Bool, true, false, ◌&&◌, ◌||◌, not, IsTrue, ◌==◌, nat_lt, if◌then◌else◌, List, [], ◌∷◌, ◌++◌, length, take, drop, filter, slice_index, ◌⊎◌, All}
 use Rattle.std.specs.Char.{to_ascii_lowercase}
 use Rattle.std.specs.List.{list_any, list_all, slice_split}
+use Rattle.std.specs.Str.{bytes_eq}
 use Rattle.wiki_base.specs.declared.tokens.TheConstants.{MOST_TOKENS}
 use Rattle.wiki_base.specs.Text.{IsText}
 use Rattle.wiki_base.specs.Token.{has_no_space}
-use Rattle.lexicon.specs.Terminals.{raised, matches_terminal}
+use Rattle.lexicon.specs.Terminals.{raised}
 use Rattle.derivation_trees.specs.declared.cuts.Cut.{Cut}
 use Rattle.derivation_trees.specs.declared.cuts.Cut.TheVariants.{Tokens, TooMany}
 
@@ -38,7 +39,7 @@ parted_last (piece ∷ next ∷ more) = piece ∷ parted_last (next ∷ more)
 
 -- the token is one of the terminals
 abbrev pub is_terminal : List (List ℕ) → List ℕ → Bool
-is_terminal terminals token = list_any (matches_terminal token) terminals
+is_terminal terminals token = list_any (bytes_eq token) terminals
 
 -- the token with its first letter, if that is one from A to Z, lowered to lower case
 abbrev pub lowered : List ℕ → List ℕ

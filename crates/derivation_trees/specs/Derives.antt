@@ -14,13 +14,13 @@ use Rattle.codeco_terms.specs.GrammarParts.{GrammarParts}
 use Rattle.codeco_terms.specs.Values.{same_value}
 use Rattle.scopes.specs.declared.entries.Entry.{Entry}
 use Rattle.scopes.specs.declared.entries.Entry.TheVariants as entry
-use Rattle.scopes.specs.declared.tests.Test.{Test}
-use Rattle.scopes.specs.declared.tests.Tests.{Tests}
+use Rattle.scopes.specs.declared.agreement.Test.{Test}
+use Rattle.scopes.specs.declared.agreement.Tests.{Tests}
 use Rattle.scopes.specs.AccessList.{closed, introduced}
 use Rattle.scopes.specs.Resolution.{has_value, is_agreeing, Finding, closest_finding}
 use Rattle.derivation_trees.specs.Trees.{Node, Nodes, node, none, more}
 use Rattle.derivation_trees.specs.Settings.{Setting, matches_terminal, matches_preterminal}
-use Rattle.derivation_trees.specs.Instances.{looked_up, value_under, term_value, under, tests_under, features_of, left_out, written_variables, own_values, is_instance}
+use Rattle.derivation_trees.specs.Instances.{looked_up, unwritten, value_under, term_value, under, tests_under, features_of, left_out, written_variables, own_values, is_instance}
 
 -- a place in the tokens, the number of tokens before it, and the access list there
 pub record At : Type 0 where
@@ -74,10 +74,9 @@ filled values feats [] own = []
 filled values feats (f ∷ fs) own =
     (f, filled_value values own (looked_up feats f)) ∷ filled values feats fs (own_after own (looked_up feats f))
 
--- the own variables to come after the features
+-- the own variables to come after the features: one has gone for each that isn't written
 abbrev pub own_rest : List (ℕ × Term) → List ℕ → List (ℕ × Value) → List (ℕ × Value)
-own_rest feats [] own = own
-own_rest feats (f ∷ fs) own = own_rest feats fs (own_after own (looked_up feats f))
+own_rest feats features own = drop (length (unwritten feats features)) own
 
 -- the referent that a category introduces: it has all features of the category
 abbrev pub referent : GrammarParts → List (ℕ × Value) → Category → List (ℕ × Value) → Ground
@@ -143,7 +142,8 @@ list_after closing begun list = if closing then begun ++ closed (drop (length be
 -- where a phrase ends after its last element: no found position and no child is left over
 abbrev pub ended : Rule → List Entry → Stand → Option At
 ended rule begun stand =
-    if is_none_left stand.found && is_none_left stand.children then Some (record { place = stand.at.place; list = list_after rule.closing begun stand.at.list }) else None
+    if is_none_left stand.found && is_none_left stand.children then Some (record { place = stand.at.place; list = list_after rule.closing begun stand.at.list })
+    else None
 
 -- where the features are one, the values are the same
 abbrev pub same_where_both : (ℕ × Value) → (ℕ × Value) → Bool
@@ -156,7 +156,8 @@ fits head asked = (head.name == asked.name) && list_all (λ p. list_all (same_wh
 -- where a node begins, at a place with a list: its rule's head fits the category, and its values are an instance
 abbrev pub begun : Setting → Rule → List (ℕ × Value) → List ℕ → List Phrase → Test → At → Option Stand
 begun s rule values found children asked at =
-    if fits (under values rule.head) asked && is_instance s rule values then Some (record { at = at; found = found; own = own_values rule values; children = children }) else None
+    if fits (under values rule.head) asked && is_instance s rule values
+    then Some (record { at = at; found = found; own = own_values rule values; children = children }) else None
 
 -- what a node does whose rule, instance, found positions and children are these
 abbrev pub phrase : Setting → Rule → List (ℕ × Value) → List ℕ → List Phrase → Phrase

@@ -1,19 +1,18 @@
 -- Instances of a rule: a value for each of its variables.
-use Rattle.std.specs.Prelude.{◌≡◌, ℕ, ◌+◌, ◌-◌, ◌==◌, nat_lt, ◌&&◌, not, if◌then◌else◌, Bool, true, false, List, [], ◌∷◌, ◌++◌, length, map, filter, flat_map, drop, Option, Some, None, option_map, unwrap_or}
-use Rattle.std.specs.List.{list_all, list_any, range_with_len}
+use Rattle.std.specs.Prelude.{◌≡◌, ℕ, ◌+◌, max, ◌-◌, ◌==◌, nat_lt, ◌&&◌, not, if◌then◌else◌, Bool, true, false, List, [], ◌∷◌, ◌++◌, length, map, filter, flat_map, drop, Option, Some, None, unwrap_or}
+use Rattle.std.specs.List.{list_all, range_with_len}
 use Rattle.codeco_terms.specs.declared.values.Value.{Value}
-use Rattle.codeco_terms.specs.declared.values.Value.TheVariants.{Atom, Word, Pos}
+use Rattle.codeco_terms.specs.declared.values.Value.TheVariants.{Atom}
 use Rattle.codeco_terms.specs.declared.values.Term.{Term}
 use Rattle.codeco_terms.specs.declared.values.Term.TheVariants.{Val, Var}
 use Rattle.codeco_terms.specs.declared.categories.Category.{Category}
 use Rattle.codeco_terms.specs.declared.categories.Pattern.{Pattern}
-use Rattle.codeco_terms.specs.declared.categories.Ground.{Ground}
 use Rattle.codeco_terms.specs.declared.declarations.Declared.TheVariants as declared
 use Rattle.codeco_terms.specs.declared.elements.Element.{Element}
-use Rattle.codeco_terms.specs.declared.elements.Element.TheVariants.{Terminal, Preterminal, Sub, Position, Opener, Forward, Strong, Back, NoBack}
+use Rattle.codeco_terms.specs.declared.elements.Element.TheVariants.{Forward, Strong}
 use Rattle.codeco_terms.specs.declared.rules.Rule.{Rule}
 use Rattle.codeco_terms.specs.GrammarParts.{GrammarParts}
-use Rattle.scopes.specs.declared.tests.Test.{Test}
+use Rattle.scopes.specs.declared.agreement.Test.{Test}
 use Rattle.codeco_checked.specs.Occurrences.{rule_features, rule_variables, positions}
 use Rattle.codeco_checked.specs.Numbering.{has}
 use Rattle.codeco_checked.specs.Faults.{features_written}
@@ -49,39 +48,28 @@ tests_under values patterns = map (λ p. under values p.cat) patterns
 
 -- Features that a category leaves out
 
--- a number put among numbers that stand in order, where it isn't there yet
-abbrev pub put : ℕ → List ℕ → List ℕ
-put x [] = x ∷ []
-put x (y ∷ ys) = if nat_lt y x then y ∷ put x ys else (if x == y then y ∷ ys else x ∷ y ∷ ys)
-
--- numbers put among others, one after another
-abbrev pub put_all : List ℕ → List ℕ → List ℕ
-put_all sorted [] = sorted
-put_all sorted (x ∷ xs) = put_all (put x sorted) xs
-
--- the features that a written category has, where its name is this
-abbrev pub features_in : ℕ → Category → List ℕ
-features_in name category = if category.name == name then map (λ f. f.0) category.feats else []
+-- one more than the greatest of the numbers, and 0 of none
+abbrev pub past_all : List ℕ → ℕ
+past_all [] = 0
+past_all (x ∷ xs) = max (x + 1) (past_all xs)
 
 -- the features of a category, which are those written with its name anywhere in the grammar, in order of number
 abbrev pub features_of : GrammarParts → ℕ → List ℕ
-features_of g name = put_all [] (features_written g name)
+features_of g name = filter (has (features_written g name)) (range_with_len 0 (past_all (features_written g name)))
+
+-- those of the features that aren't written
+abbrev pub unwritten : List (ℕ × Term) → List ℕ → List ℕ
+unwritten feats features = filter (λ f. not (has (map (λ p. p.0) feats) f)) features
 
 -- the features that a category leaves out
 abbrev pub left_out : GrammarParts → Category → List ℕ
-left_out g category = filter (λ f. not (has (map (λ p. p.0) category.feats) f)) (features_of g category.name)
+left_out g category = unwritten category.feats (features_of g category.name)
 
 -- the features that an introduction leaves out
 abbrev pub own_features : GrammarParts → Element → List ℕ
-own_features g (Terminal t) = []
-own_features g (Preterminal c) = []
-own_features g (Sub c) = []
-own_features g (Position x) = []
-own_features g Opener = []
 own_features g (Forward c) = left_out g c
 own_features g (Strong c) = left_out g c
-own_features g (Back ps ns) = []
-own_features g (NoBack ps) = []
+own_features _ _ = []
 
 -- the features of a rule's own variables, in order of elements and features
 abbrev pub rule_own_features : GrammarParts → Rule → List ℕ
@@ -122,4 +110,6 @@ own_values rule values = drop (length (written_variables rule)) values
 -- An instance of a rule gives each of its variables one value of its feature, and a variable of `#` a position.
 unfoldable pub is_instance : Setting → Rule → List (ℕ × Value) → Bool
 is_instance s rule values =
-    same_numbers (map (λ p. p.0) values) (variables_of s.grammar rule) && list_all (term_fits s values) (rule_features rule) && list_all (λ x. is_value s declared.Positions (value_under values x)) (flat_map positions rule.body) && own_fit s (rule_own_features s.grammar rule) (own_values rule values)
+    same_numbers (map (λ p. p.0) values) (variables_of s.grammar rule) && list_all (term_fits s values) (rule_features rule)
+    && list_all (λ x. is_value s declared.Positions (value_under values x)) (flat_map positions rule.body)
+    && own_fit s (rule_own_features s.grammar rule) (own_values rule values)

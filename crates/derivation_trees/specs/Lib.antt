@@ -1,6 +1,7 @@
 pub mod Trees
 pub mod Settings
 pub mod Instances
+pub mod Putting
 pub mod Derives
 pub mod Stands
 pub mod Sentences

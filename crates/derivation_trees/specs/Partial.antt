@@ -3,11 +3,11 @@ use Rattle.std.specs.Prelude.{◌≡◌, ℕ, ◌≤◌, ◌&&◌, if◌then◌e
 use Rattle.codeco_terms.specs.declared.values.Value.{Value}
 use Rattle.codeco_terms.specs.declared.categories.Category.{Category}
 use Rattle.codeco_terms.specs.declared.elements.Element.{Element}
-use Rattle.codeco_terms.specs.declared.elements.Element.TheVariants.{Terminal, Preterminal, Sub, Position, Opener, Forward, Strong, Back, NoBack}
+use Rattle.codeco_terms.specs.declared.elements.Element.TheVariants.{Sub}
 use Rattle.codeco_terms.specs.declared.rules.Rule.{Rule}
 use Rattle.codeco_terms.specs.GrammarParts.{GrammarParts}
 use Rattle.lexicon.specs.Words.{Listed}
-use Rattle.scopes.specs.declared.tests.Test.{Test}
+use Rattle.scopes.specs.declared.agreement.Test.{Test}
 use Rattle.derivation_trees.specs.Trees.{Nodes}
 use Rattle.derivation_trees.specs.Settings.{Setting}
 use Rattle.derivation_trees.specs.Instances.{under}
@@ -33,15 +33,8 @@ front s rule values found children count asked at =
 
 -- the category that an element is
 abbrev pub sub_of : Element → Option Category
-sub_of (Terminal t) = None
-sub_of (Preterminal c) = None
 sub_of (Sub c) = Some c
-sub_of (Position x) = None
-sub_of Opener = None
-sub_of (Forward c) = None
-sub_of (Strong c) = None
-sub_of (Back positive negative) = None
-sub_of (NoBack patterns) = None
+sub_of _ = None
 
 -- the category that is the next element after the first `count`
 abbrev pub next_category : Rule → ℕ → Option Category
@@ -57,7 +50,8 @@ abbrev pub cut_end : Setting → CutNode → Test → At → Option ℕ
 cut_end s (stopped rule values found children count) asked at =
     option_map (λ stand. stand.at.place) (front_of s rule values found children count asked at)
 cut_end s (entered rule values found children count child) asked at =
-    option_and_then (λ stand. option_and_then (λ category. cut_end s child (under values category) stand.at) (option_and_then (λ r. next_category r count) (rule_with s.grammar rule)))
+    option_and_then (λ stand. option_and_then (λ category. cut_end s child (under values category) stand.at)
+    (option_and_then (λ r. next_category r count) (rule_with s.grammar rule)))
     (front_of s rule values found children count asked at)
 
 -- The cut-off node is a partial derivation of the tokens: one with a rule for `text`, from place 0 and the empty list, that

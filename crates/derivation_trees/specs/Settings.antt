@@ -1,5 +1,5 @@
 -- What a derivation is of: a grammar, tokens, and how each token reads by a lexicon.
-use Rattle.std.specs.Prelude.{◌≡◌, ℕ, ◌+◌, ◌==◌, nat_le, ◌&&◌, ◌||◌, Bool, true, false, List, [], ◌∷◌, length, slice_get}
+use Rattle.std.specs.Prelude.{◌≡◌, ℕ, ◌+◌, ◌==◌, nat_le, ◌&&◌, ◌||◌, Bool, false, List, [], ◌∷◌, length, slice_get}
 use Rattle.std.specs.List.{list_any}
 use Rattle.std.specs.Option.{option_map_or}
 use Rattle.std.specs.Str.{bytes_eq}
@@ -9,7 +9,7 @@ use Rattle.codeco_terms.specs.declared.categories.Ground.{Ground}
 use Rattle.codeco_terms.specs.declared.declarations.Declared.{Declared}
 use Rattle.codeco_terms.specs.declared.declarations.Declared.TheVariants as declared
 use Rattle.codeco_terms.specs.GrammarParts.{GrammarParts}
-use Rattle.scopes.specs.declared.tests.Test.{Test}
+use Rattle.scopes.specs.declared.agreement.Test.{Test}
 use Rattle.scopes.specs.Resolution.{has_value, agrees}
 use Rattle.codeco_checked.specs.Numbering.{has}
 use Rattle.codeco_checked.specs.Faults.{values_of}
@@ -37,16 +37,10 @@ has_word s word = list_any (λ readings. list_any (λ reading. has_value reading
 -- The values of a feature at the tokens are its atoms; or word 0 and the words with a form among the tokens; or the
 -- positions 0 to the number of tokens.
 abbrev pub is_value : Setting → Declared → Value → Bool
-is_value s declared.Undeclared v = false
-is_value s declared.Words (Atom a) = false
 is_value s declared.Words (Word w) = (w.0 == 0) || has_word s (Word w)
-is_value s declared.Words (Pos p) = false
-is_value s declared.Positions (Atom a) = false
-is_value s declared.Positions (Word w) = false
 is_value s declared.Positions (Pos p) = nat_le p (length s.tokens)
 is_value s (declared.Atoms atoms) (Atom a) = has atoms a
-is_value s (declared.Atoms atoms) (Word w) = false
-is_value s (declared.Atoms atoms) (Pos p) = false
+is_value _ _ _ = false
 
 -- the value is one of the feature with the number
 abbrev pub fits_feature : Setting → ℕ → Value → Bool

@@ -1,7 +1,6 @@
 -- The skeletons of derivations, and the least one.
-use Rattle.std.specs.Prelude.{◌≡◌, ◌≢◌, ℕ, List, [], ◌∷◌, ◌++◌, length, slice_get, Option, Some, None}
+use Rattle.std.specs.Prelude.{◌≡◌, ◌≢◌, ℕ, List, [], ◌∷◌, ◌++◌, slice_get}
 use Rattle.std.specs.Option.{option_map_or}
-use Rattle.std.specs.declared.cmp.Ordering.{Ordering}
 use Rattle.std.specs.declared.cmp.Ordering.TheVariants.{Less}
 use Rattle.std.specs.Ordering.{nat_cmp}
 use Rattle.std.specs.Cmp.Lexicographic.{slice_cmp}
@@ -10,7 +9,7 @@ use Rattle.codeco_terms.specs.declared.values.Value.{Value}
 use Rattle.codeco_terms.specs.declared.values.Value.TheVariants.{Atom, Word, Pos}
 use Rattle.codeco_terms.specs.declared.categories.Ground.{Ground}
 use Rattle.codeco_terms.specs.declared.elements.Element.{Element}
-use Rattle.codeco_terms.specs.declared.elements.Element.TheVariants.{Terminal, Preterminal, Sub, Position, Opener, Forward, Strong, Back, NoBack}
+use Rattle.codeco_terms.specs.declared.elements.Element.TheVariants.{Preterminal, Sub}
 use Rattle.codeco_terms.specs.declared.rules.Rule.{Rule}
 use Rattle.codeco_terms.specs.GrammarParts.{GrammarParts}
 use Rattle.lexicon.specs.Words.{Listed}
@@ -45,27 +44,13 @@ word_at s place = option_map_or word_in (slice_get s.readings place) (record { 0
 
 -- the word of a preterminal, whose token stands at the present place
 abbrev pub word_here : Setting → Element → At → List WordId
-word_here s (Terminal t) at = []
 word_here s (Preterminal c) at = word_at s at.place ∷ []
-word_here s (Sub c) at = []
-word_here s (Position x) at = []
-word_here s Opener at = []
-word_here s (Forward c) at = []
-word_here s (Strong c) at = []
-word_here s (Back positive negative) at = []
-word_here s (NoBack patterns) at = []
+word_here _ _ _ = []
 
 -- the place and the list from which the child of a category starts
 abbrev pub child_here : Element → At → List At
-child_here (Terminal t) at = []
-child_here (Preterminal c) at = []
 child_here (Sub c) at = at ∷ []
-child_here (Position x) at = []
-child_here Opener at = []
-child_here (Forward c) at = []
-child_here (Strong c) at = []
-child_here (Back positive negative) at = []
-child_here (NoBack patterns) at = []
+child_here _ _ = []
 
 -- what is met on the way over elements from left to right, where each shows something at the place and list before it
 abbrev pub met : {X : Type 0} → (Element → At → List X) → Setting → List (ℕ × Value) → List Element → Stand → List X

@@ -3,7 +3,7 @@ use Rattle.std.specs.Prelude.{◌≡◌, ℕ, ◌+◌, List, [], ◌∷◌, ◌+
 use Rattle.std.specs.Option.{option_map_or}
 use Rattle.wiki_base.specs.declared.numbers.WordId.{WordId}
 use Rattle.codeco_terms.specs.declared.elements.Element.{Element}
-use Rattle.codeco_terms.specs.declared.elements.Element.TheVariants.{Terminal, Preterminal, Sub, Position, Opener, Forward, Strong, Back, NoBack}
+use Rattle.codeco_terms.specs.declared.elements.Element.TheVariants.{Terminal, Preterminal, Sub}
 use Rattle.codeco_terms.specs.GrammarParts.{GrammarParts}
 use Rattle.derivation_trees.specs.declared.skeletons.Skeleton.{Skeleton, out-Skeleton}
 use Rattle.derivation_trees.specs.Trees.{Node, Nodes, node, none, more}
@@ -37,12 +37,7 @@ abbrev pub sketch_on : Setting → Element → Sketch → Sketch
 sketch_on s (Terminal t) k = sketch_token [] k
 sketch_on s (Preterminal c) k = sketch_token (word_at s k.place ∷ []) k
 sketch_on s (Sub c) k = sketch_child k.left k
-sketch_on s (Position x) k = k
-sketch_on s Opener k = k
-sketch_on s (Forward c) k = k
-sketch_on s (Strong c) k = k
-sketch_on s (Back positive negative) k = k
-sketch_on s (NoBack patterns) k = k
+sketch_on _ _ k = k
 
 abbrev pub sketch_over : Setting → List Element → Sketch → Sketch
 sketch_over s [] k = k

@@ -1,4 +1,4 @@
--- Sketches as the program holds them.
+-- Sketches as the program holds them. Only private calls speak of it.
 use Rattle.std.specs.Prelude.{ℕ, List, map, drop}
 use Rattle.derivation_trees.specs.declared.sketch.Sketch.{Sketch}
 use Rattle.derivation_trees.specs.declared.trees.Tree.{Tree, out-Tree}

@@ -2,7 +2,7 @@
 use Rattle.std.specs.Prelude.{◌≡◌, ℕ, ◌≤◌, Bool, true, false, List, ◌++◌, length, map, drop, All, Option, Some, option_map}
 use Rattle.codeco_terms.specs.declared.values.Value.{Value}
 use Rattle.codeco_terms.specs.declared.elements.Element.{Element}
-use Rattle.codeco_terms.specs.declared.elements.Element.TheVariants.{Terminal, Preterminal, Sub, Position, Opener, Forward, Strong, Back, NoBack}
+use Rattle.codeco_terms.specs.declared.elements.Element.TheVariants.{Sub, Forward, Strong, Back}
 use Rattle.codeco_terms.specs.GrammarParts.{GrammarParts}
 use Rattle.derivation_trees.specs.Instances.{features_of}
 use Rattle.codeco_terms.specs.declared.rules.Rule.{Rule}
@@ -24,27 +24,15 @@ stand_of children progress = record {
 
 -- an element within the limits of grammars: sixteen features of a category, and sixteen patterns of a reference
 abbrev pub IsWithin : GrammarParts → Element → Type 0
-IsWithin g (Terminal t) = Unit {0}
-IsWithin g (Preterminal c) = Unit {0}
-IsWithin g (Sub c) = Unit {0}
-IsWithin g (Position x) = Unit {0}
-IsWithin g Opener = Unit {0}
 IsWithin g (Forward c) = length (features_of g c.name) ≤ 16
 IsWithin g (Strong c) = length (features_of g c.name) ≤ 16
 IsWithin g (Back positive negative) = length positive ≤ 16
-IsWithin g (NoBack patterns) = Unit {0}
+IsWithin _ _ = Unit {0}
 
 -- the element is a category
 abbrev pub is_sub : Element → Bool
-is_sub (Terminal t) = false
-is_sub (Preterminal c) = false
 is_sub (Sub c) = true
-is_sub (Position x) = false
-is_sub Opener = false
-is_sub (Forward c) = false
-is_sub (Strong c) = false
-is_sub (Back positive negative) = false
-is_sub (NoBack patterns) = false
+is_sub _ = false
 
 -- what the program gives of a stand that may fail, whatever children are to come
 abbrev pub IsStand : (List Phrase → Option Stand) → Option Progress → Type 0

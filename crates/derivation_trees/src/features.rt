@@ -3,6 +3,7 @@ ghost use Rattle.std.specs.Prelude.{◌≡◌, ◌≤◌, length, insert, map, M
 ghost use Rattle.std.specs.List.{flat_map};
 ghost use Rattle.codeco_checked.specs.Occurrences.{mentions, whole};
 ghost use Rattle.derivation_trees.specs.Instances as instances;
+ghost use Rattle.derivation_trees.specs.Putting as putting;
 
 use codeco_terms::{Category, Element, Grammar, Pattern, Term};
 use std::alloc::Global;
@@ -10,7 +11,7 @@ use wiki_base::Memory;
 
 // Puts the number among the others, which stand in order, where it isn't there yet.
 pub(crate) fn put(numbers: &mut Vec<u16>, number: u16) -> Result<(), Memory>
-    ensures { OnOk result (numbers.new.items ≡ instances.put number numbers.old.items) }
+    ensures { OnOk result (numbers.new.items ≡ putting.put number numbers.old.items) }
 {
     if let Some(place) = place_for(numbers.as_slice(), number) {
         numbers.insert(place, number)?;
@@ -21,8 +22,8 @@ pub(crate) fn put(numbers: &mut Vec<u16>, number: u16) -> Result<(), Memory>
 // The place at which the number is missing.
 fn place_for(numbers: &[u16], number: u16) -> Option<usize>
     ensures { MatchOption result
-        (instances.put number numbers.now ≡ numbers.now)
-        (λ i. (i ≤ length numbers.now) × (insert numbers.now i number ≡ instances.put number numbers.now)) }
+        (putting.put number numbers.now ≡ numbers.now)
+        (λ i. (i ≤ length numbers.now) × (insert numbers.now i number ≡ putting.put number numbers.now)) }
 {
     for (place, other) in numbers.iter().enumerate() {
         if *other == number {
@@ -52,7 +53,7 @@ pub fn features_of(alloc: Global, grammar: &Grammar, name: u16) -> Result<Vec<u1
 fn put_body(features: &mut Vec<u16>, body: &[Element], name: u16) -> Result<(), Memory>
     ensures { OnOk result
         (features.new.items
-        ≡ instances.put_all features.old.items (flat_map (instances.features_in name) (flat_map mentions body.now))) }
+        ≡ putting.put_all features.old.items (flat_map (putting.features_in name) (flat_map mentions body.now))) }
 {
     for element in body {
         put_element(features, element, name)?;
@@ -64,7 +65,7 @@ fn put_body(features: &mut Vec<u16>, body: &[Element], name: u16) -> Result<(), 
 fn put_element(features: &mut Vec<u16>, element: &Element, name: u16) -> Result<(), Memory>
     ensures { OnOk result
         (features.new.items
-        ≡ instances.put_all features.old.items (flat_map (instances.features_in name) (mentions element.now))) }
+        ≡ putting.put_all features.old.items (flat_map (putting.features_in name) (mentions element.now))) }
 {
     match element {
         Element::Preterminal(category)
@@ -84,7 +85,7 @@ fn put_element(features: &mut Vec<u16>, element: &Element, name: u16) -> Result<
 fn put_patterns(features: &mut Vec<u16>, patterns: &[Pattern], name: u16) -> Result<(), Memory>
     ensures { OnOk result
         (features.new.items
-        ≡ instances.put_all features.old.items (flat_map (instances.features_in name) (map whole patterns.now))) }
+        ≡ putting.put_all features.old.items (flat_map (putting.features_in name) (map whole patterns.now))) }
 {
     for pattern in patterns {
         put_pattern(features, pattern, name)?;
@@ -96,7 +97,7 @@ fn put_patterns(features: &mut Vec<u16>, patterns: &[Pattern], name: u16) -> Res
 fn put_pattern(features: &mut Vec<u16>, pattern: &Pattern, name: u16) -> Result<(), Memory>
     ensures { OnOk result
         (features.new.items
-        ≡ instances.put_all features.old.items (instances.features_in name (whole pattern.now))) }
+        ≡ putting.put_all features.old.items (putting.features_in name (whole pattern.now))) }
 {
     if pattern.cat.name == name {
         put_feats(features, pattern.cat.feats.as_slice())?;
@@ -107,7 +108,7 @@ fn put_pattern(features: &mut Vec<u16>, pattern: &Pattern, name: u16) -> Result<
 
 fn put_category(features: &mut Vec<u16>, category: &Category, name: u16) -> Result<(), Memory>
     ensures { OnOk result
-        (features.new.items ≡ instances.put_all features.old.items (instances.features_in name category.now)) }
+        (features.new.items ≡ putting.put_all features.old.items (putting.features_in name category.now)) }
 {
     if category.name == name {
         put_feats(features, category.feats.as_slice())?;
@@ -117,7 +118,7 @@ fn put_category(features: &mut Vec<u16>, category: &Category, name: u16) -> Resu
 
 fn put_feats(features: &mut Vec<u16>, feats: &[(u16, Term)]) -> Result<(), Memory>
     ensures { OnOk result
-        (features.new.items ≡ instances.put_all features.old.items (map (λ f. f.0) feats.now)) }
+        (features.new.items ≡ putting.put_all features.old.items (map (λ f. f.0) feats.now)) }
 {
     for (feature, _) in feats {
         put(features, *feature)?;
@@ -127,7 +128,7 @@ fn put_feats(features: &mut Vec<u16>, feats: &[(u16, Term)]) -> Result<(), Memor
 
 fn put_taken(features: &mut Vec<u16>, taken: &[(u16, u8)]) -> Result<(), Memory>
     ensures { OnOk result
-        (features.new.items ≡ instances.put_all features.old.items (map (λ t. t.0) taken.now)) }
+        (features.new.items ≡ putting.put_all features.old.items (map (λ t. t.0) taken.now)) }
 {
     for (feature, _) in taken {
         put(features, *feature)?;

@@ -110,7 +110,7 @@ impl<'a> Menu<'a> {
     }
 
     /// An equal menu, whose texts are borrowed from where this one's are.
-    #[tactic(auto, using(crate::proofs::CodeLemmas::take_next))]
+    #[tactic(auto, using(wiki_base::proofs::ListLaws::take_slice_get))]
     pub fn copy(&self) -> Result<Menu<'a>, Memory>
         ensures { IfOk result (λ copied. copied ≡ self.now) }
     {

@@ -259,6 +259,7 @@ pub fn written(feats: &[(u16, Term)], feature: u16) -> Option<Term>
 
 // The values of features, where a category writes some and leaves the others to own variables; and the own variables
 // that are left.
+#[tactic(auto, using(crate::proofs::OwnLemmas::own_rest_more))]
 fn fill_all<'a>(
     values: &[(u8, Value)],
     feats: &[(u16, Term)],

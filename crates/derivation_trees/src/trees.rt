@@ -108,7 +108,7 @@ impl Tree {
 
 impl Trees {
     /// A list of the same nodes.
-    #[tactic(auto, using(crate::proofs::CodeLemmas::take_next))]
+    #[tactic(auto, using(wiki_base::proofs::ListLaws::take_slice_get))]
     #[cycle(copying)]
     pub fn copy(&self, alloc: Global) -> Result<Trees, Memory>
         ensures { IfOk result (λ copied. nodes_of copied ≡ nodes_of self.now) }

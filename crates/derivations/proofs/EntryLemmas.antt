@@ -1,8 +1,7 @@
 -- Entries stay in order as they are gathered, and each candidate that may follow becomes one.
-use Rattle.std.proofs.Common.{◌≡◌, ℕ, zero, suc, ◌+◌, ◌-◌, ◌<◌, ◌≤◌, List, [], ◌∷◌, ◌++◌, map, length, take, drop, get_or, Bool, true, false, ◌⊎◌, inl, inr, refl, sym, ap, subst, ◌∙◌, arith, IsTrue, Contains, All, append-nil}
-use Rattle.std.specs.Prelude.{if◌then◌else◌, slice_index_or, AllPairs, IsUtf8, ◌==◌}
-use Rattle.std.specs.List.{list_any, flat_map, insert}
-use Rattle.std.specs.Str.{bytes_eq}
+use Rattle.std.proofs.Common.{◌≡◌, ℕ, zero, suc, ◌+◌, ◌-◌, ◌<◌, ◌≤◌, List, [], ◌∷◌, ◌++◌, map, length, get_or, Bool, true, false, ◌⊎◌, inl, inr, refl, sym, ap, subst, ◌∙◌, arith, Contains}
+use Rattle.std.specs.Prelude.{if◌then◌else◌, slice_index_or, AllPairs, ◌==◌}
+use Rattle.std.specs.List.{insert}
 use Rattle.std.specs.Borrow.{Bor}
 use Rattle.std.proofs.lemmas.List.{length-map}
 use Rattle.std.proofs.lemmas.Bool.{cases_lt}
@@ -15,7 +14,7 @@ use Rattle.derivation_trees.specs.declared.menus.Group.{Group}
 use Rattle.derivation_trees.specs.declared.menus.Group.TheVariants.{Function, Name, Noun, Of, Verb, Adjective}
 use Rattle.derivation_trees.specs.Menus.{group_number, entry_cmp}
 use Rattle.derivations.specs.Entries.{shown, put_by, with_entry, AllBefore, IsInOrder, IsPlaceFor, tried, all_tried}
-use Rattle.derivations.proofs.Members.{Among, some_same}
+use Rattle.derivations.proofs.Members.{Among}
 
 -- the order of entries
 
@@ -49,11 +48,7 @@ group_at (suc (suc (suc (suc (suc n))))) = Adjective
 group_back : (g : Group) → group_at (group_number g) ≡ g
 unfolding group_at
 group_back Function = refl
-group_back Name = refl
-group_back Noun = refl
-group_back Of = refl
-group_back Verb = refl
-group_back Adjective = refl
+group_back g = refl
 
 both_equal : (a b : Ordering) → ordering_then a b ≡ Equal → (a ≡ Equal) × (b ≡ Equal)
 both_equal Less b h = less_equal h
@@ -67,8 +62,11 @@ number_tied a b Greater w h e = equal_greater (sym e)
 
 pub entry_same : (a b : Group × List ℕ) → entry_cmp a b ≡ Equal → a ≡ b
 entry_same a b h =
-    let parts : (nat_cmp (group_number a.0) (group_number b.0) ≡ Equal) × (slice_cmp nat_cmp a.1 b.1 ≡ Equal) = both_equal (nat_cmp (group_number a.0) (group_number b.0)) (slice_cmp nat_cmp a.1 b.1) h in
-    let numbers : group_number a.0 ≡ group_number b.0 = number_tied (group_number a.0) (group_number b.0) (nat_cmp (group_number a.0) (group_number b.0)) refl (ranks (group_number a.0) (group_number b.0)) parts.0 in
+    let parts : (nat_cmp (group_number a.0) (group_number b.0) ≡ Equal) × (slice_cmp nat_cmp a.1 b.1 ≡ Equal) =
+    both_equal (nat_cmp (group_number a.0) (group_number b.0)) (slice_cmp nat_cmp a.1 b.1) h in
+    let numbers : group_number a.0 ≡ group_number b.0 =
+    number_tied (group_number a.0) (group_number b.0) (nat_cmp (group_number a.0) (group_number b.0)) refl (ranks (group_number a.0) (group_number b.0))
+    parts.0 in
     let groups : a.0 ≡ b.0 = sym (group_back a.0) ∙ ap group_at numbers ∙ group_back b.0 in
     let texts : a.1 ≡ b.1 = same_text a.1 b.1 (sym (texts_ties a.1 b.1 ∙ ap is_eq parts.1)) in
     ap (λ g. (g, a.1)) groups ∙ ap (λ t. (b.0, t)) texts
@@ -152,20 +150,25 @@ pub all_tried_keeps : (test : Group × List ℕ → Bool) (cs xs : List (Group �
 all_tried_keeps test [] xs y h = h
 all_tried_keeps test (c ∷ cs) xs y h = all_tried_keeps test cs (tried test c xs) y (tried_keeps test c y xs h)
 
-pub all_tried_has : (test : Group × List ℕ → Bool) (cs xs : List (Group × List ℕ)) (y : Group × List ℕ) → Among cs y → test y ≡ true → Among (all_tried test cs xs) y
+pub all_tried_has : (test : Group × List ℕ → Bool) (cs xs : List (Group × List ℕ)) (y : Group × List ℕ) → Among cs y → test y ≡ true
+    → Among (all_tried test cs xs) y
 all_tried_has test [] xs y h k = absurd h
 all_tried_has test (c ∷ cs) xs y (inl e) k =
-    all_tried_keeps test cs (tried test c xs) y (subst (λ b. Among (if b then with_entry c xs else xs) y) (sym (ap test (sym e) ∙ k)) (subst (λ z. Among (with_entry c xs) z) (sym e) (with_entry_has c xs)))
+    all_tried_keeps test cs (tried test c xs) y
+    (subst (λ b. Among (if b then with_entry c xs else xs) y) (sym (ap test (sym e) ∙ k))
+    (subst (λ z. Among (with_entry c xs) z) (sym e) (with_entry_has c xs)))
 all_tried_has test (c ∷ cs) xs y (inr h) k = all_tried_has test cs (tried test c xs) y h k
 
-tried_from : (test : Group × List ℕ → Bool) (c y : Group × List ℕ) (xs : List (Group × List ℕ)) → Among (tried test c xs) y → ((y ≡ c) × (test y ≡ true)) ⊎ Among xs y
+tried_from : (test : Group × List ℕ → Bool) (c y : Group × List ℕ) (xs : List (Group × List ℕ)) → Among (tried test c xs) y
+    → ((y ≡ c) × (test y ≡ true)) ⊎ Among xs y
 tried_from test c y xs h = by (test c) refl h
   where
     by : (b : Bool) → test c ≡ b → Among (if b then with_entry c xs else xs) y → ((y ≡ c) × (test y ≡ true)) ⊎ Among xs y
     by true w k = elim (with_entry_from c y xs k) [ inl e ↦ inl (e, ap test e ∙ w) | inr m ↦ inr m ]
     by false w k = inr k
 
-pub all_tried_from : (test : Group × List ℕ → Bool) (cs xs : List (Group × List ℕ)) (y : Group × List ℕ) → Among (all_tried test cs xs) y → (Among cs y × (test y ≡ true)) ⊎ Among xs y
+pub all_tried_from : (test : Group × List ℕ → Bool) (cs xs : List (Group × List ℕ)) (y : Group × List ℕ) → Among (all_tried test cs xs) y
+    → (Among cs y × (test y ≡ true)) ⊎ Among xs y
 all_tried_from test [] xs y h = inr h
 all_tried_from test (c ∷ cs) xs y h = by (all_tried_from test cs (tried test c xs) y h)
   where
@@ -173,13 +176,15 @@ all_tried_from test (c ∷ cs) xs y h = by (all_tried_from test cs (tried test c
     by (inl k) = inl (inr k.0, k.1)
     by (inr k) = elim (tried_from test c y xs k) [ inl w ↦ inl (inl w.0, w.1) | inr m ↦ inr m ]
 
-pub all_tried-append : (test : Group × List ℕ → Bool) (cs ds xs : List (Group × List ℕ)) → all_tried test (cs ++ ds) xs ≡ all_tried test ds (all_tried test cs xs)
+pub all_tried-append : (test : Group × List ℕ → Bool) (cs ds xs : List (Group × List ℕ))
+    → all_tried test (cs ++ ds) xs ≡ all_tried test ds (all_tried test cs xs)
 all_tried-append test [] ds xs = refl
 all_tried-append test (c ∷ cs) ds xs = all_tried-append test cs ds (tried test c xs)
 
 -- order and membership, as menus have them
 
-before_at : (x : Group × List ℕ) (xs : List (Group × List ℕ)) → AllBefore x xs → (k : ℕ) (d : Group × List ℕ) → k < length xs → entry_cmp x (slice_index_or xs k d) ≡ Less
+before_at : (x : Group × List ℕ) (xs : List (Group × List ℕ)) → AllBefore x xs → (k : ℕ) (d : Group × List ℕ) → k < length xs
+    → entry_cmp x (slice_index_or xs k d) ≡ Less
 before_at x [] h k d lt = absurd (omega (arith, lt))
 before_at x (y ∷ ys) h zero d lt = h.0
 before_at x (y ∷ ys) h (suc k) d lt = before_at x ys h.1 k d (omega (arith, lt))
@@ -206,7 +211,8 @@ among_contains (y ∷ ys) x (inr h) = let one = among_contains ys x h in (suc on
 -- the place that a search finds
 
 -- where so many are before the entry, it is put behind them
-pub with_entry_at : (e : Group × List ℕ) (xs : List (Group × List ℕ)) (n : ℕ) → IsPlaceFor xs e n → ((d : Group × List ℕ) → n < length xs → entry_cmp (slice_index_or xs n d) e ≡ Equal → ⊥) → with_entry e xs ≡ insert xs n e
+pub with_entry_at : (e : Group × List ℕ) (xs : List (Group × List ℕ)) (n : ℕ) → IsPlaceFor xs e n
+    → ((d : Group × List ℕ) → n < length xs → entry_cmp (slice_index_or xs n d) e ≡ Equal → ⊥) → with_entry e xs ≡ insert xs n e
 with_entry_at e [] zero place other = refl
 with_entry_at e [] (suc n) place other = absurd (omega (arith, place.within))
 with_entry_at e (x ∷ xs) zero place other = by (entry_cmp x e) refl
@@ -216,14 +222,27 @@ with_entry_at e (x ∷ xs) zero place other = by (entry_cmp x e) refl
     by Equal w = absurd (other x (omega arith) w)
     by Greater w = refl
 with_entry_at e (x ∷ xs) (suc n) place other =
-    ap (λ o. put_by o e x xs (with_entry e xs)) (place.before 0 x (omega arith)) ∙ ap (λ ys. x ∷ ys) (with_entry_at e xs n (record { within = omega (arith, place.within); before = λ k d lt. place.before (suc k) d (omega (arith, lt)); at = λ d lt. place.at d (omega (arith, lt)) }) (λ d lt. other d (omega (arith, lt))))
+    ap (λ o. put_by o e x xs (with_entry e xs)) (place.before 0 x (omega arith))
+    ∙ ap (λ ys. x ∷ ys) (with_entry_at e xs n
+    (record {
+      within = omega (arith, place.within);
+      before = λ k d lt. place.before (suc k) d (omega (arith, lt));
+      at = λ d lt. place.at d (omega (arith, lt));
+    }) (λ d lt. other d (omega (arith, lt))))
 
 -- where the entry itself stands behind so many, nothing changes
-pub with_entry_there : (e d : Group × List ℕ) (xs : List (Group × List ℕ)) (n : ℕ) → IsPlaceFor xs e n → n < length xs → entry_cmp (slice_index_or xs n d) e ≡ Equal → with_entry e xs ≡ xs
+pub with_entry_there : (e d : Group × List ℕ) (xs : List (Group × List ℕ)) (n : ℕ) → IsPlaceFor xs e n → n < length xs
+    → entry_cmp (slice_index_or xs n d) e ≡ Equal → with_entry e xs ≡ xs
 with_entry_there e d [] n place lt h = absurd (omega (arith, lt))
 with_entry_there e d (x ∷ xs) zero place lt h = ap (λ o. put_by o e x xs (with_entry e xs)) h
 with_entry_there e d (x ∷ xs) (suc n) place lt h =
-    ap (λ o. put_by o e x xs (with_entry e xs)) (place.before 0 x (omega arith)) ∙ ap (λ ys. x ∷ ys) (with_entry_there e d xs n (record { within = omega (arith, place.within); before = λ k dd l. place.before (suc k) dd (omega (arith, l)); at = λ dd l. place.at dd (omega (arith, l)) }) (omega (arith, lt)) h)
+    ap (λ o. put_by o e x xs (with_entry e xs)) (place.before 0 x (omega arith))
+    ∙ ap (λ ys. x ∷ ys) (with_entry_there e d xs n
+    (record {
+      within = omega (arith, place.within);
+      before = λ k dd l. place.before (suc k) dd (omega (arith, l));
+      at = λ dd l. place.at dd (omega (arith, l));
+    }) (omega (arith, lt)) h)
 
 -- where a search between two places stands: what is below the one is before the entry, and what is at the other isn't
 pub record Between (xs : List (Group × List ℕ)) (e : Group × List ℕ) (low high : ℕ) : Type 0 where
@@ -235,12 +254,14 @@ pub record Between (xs : List (Group × List ℕ)) (e : Group × List ℕ) (low 
 pub shown_length : (xs : List (Group × Bor (List ℕ))) → length (map shown xs) ≡ length xs
 shown_length xs = length-map xs shown
 
-pub shown_get : (xs : List (Group × Bor (List ℕ))) (k : ℕ) (d : Group × List ℕ) (x : Group × Bor (List ℕ)) → k < length xs → slice_index_or (map shown xs) k d ≡ shown (get_or xs k x)
+pub shown_get : (xs : List (Group × Bor (List ℕ))) (k : ℕ) (d : Group × List ℕ) (x : Group × Bor (List ℕ)) → k < length xs
+    → slice_index_or (map shown xs) k d ≡ shown (get_or xs k x)
 shown_get [] k d x lt = absurd (omega (arith, lt))
 shown_get (y ∷ ys) zero d x lt = refl
 shown_get (y ∷ ys) (suc k) d x lt = shown_get ys k d x (omega (arith, lt))
 
-pub between_up : (xs : List (Group × Bor (List ℕ))) (e : Group × List ℕ) (low high middle : ℕ) (x : Group × Bor (List ℕ)) → IsInOrder (map shown xs) → Between (map shown xs) e low high → middle < high → entry_cmp (shown (get_or xs middle x)) e ≡ Less → Between (map shown xs) e (middle + 1) high
+pub between_up : (xs : List (Group × Bor (List ℕ))) (e : Group × List ℕ) (low high middle : ℕ) (x : Group × Bor (List ℕ)) → IsInOrder (map shown xs)
+    → Between (map shown xs) e low high → middle < high → entry_cmp (shown (get_or xs middle x)) e ≡ Less → Between (map shown xs) e (middle + 1) high
 between_up xs e low high middle x order old lt less = record {
   less = omega (arith, lt);
   within = old.within;
@@ -253,14 +274,16 @@ between_up xs e low high middle x order old lt less = record {
 
     by : (k : ℕ) (d : Group × List ℕ) → (k < middle) ⊎ (middle ≤ k) → k < middle + 1 → entry_cmp (slice_index_or (map shown xs) k d) e ≡ Less
     by k d (inl below) lt1 =
-        entry_trans (slice_index_or (map shown xs) k d) (slice_index_or (map shown xs) middle d) e (all_pairs_in_order (map shown xs) order k middle d below (omega (arith, lt, old.within))) (ap (λ y. entry_cmp y e) (here d) ∙ less)
+        entry_trans (slice_index_or (map shown xs) k d) (slice_index_or (map shown xs) middle d) e
+        (all_pairs_in_order (map shown xs) order k middle d below (omega (arith, lt, old.within))) (ap (λ y. entry_cmp y e) (here d) ∙ less)
     by k d (inr above) lt1 =
         let same : k ≡ middle = omega (arith, above, lt1) in
         ap (λ n. entry_cmp (slice_index_or (map shown xs) n d) e) same ∙ ap (λ y. entry_cmp y e) (here d) ∙ less
 
 -- putting at the place that was found
 
-pub put_there : (xs : List (Group × Bor (List ℕ))) (e : Group × List ℕ) (n : ℕ) (x : Group × Bor (List ℕ)) → IsPlaceFor (map shown xs) e n → n < length xs → entry_cmp (shown (get_or xs n x)) e ≡ Equal → map shown xs ≡ with_entry e (map shown xs)
+pub put_there : (xs : List (Group × Bor (List ℕ))) (e : Group × List ℕ) (n : ℕ) (x : Group × Bor (List ℕ)) → IsPlaceFor (map shown xs) e n → n < length xs
+    → entry_cmp (shown (get_or xs n x)) e ≡ Equal → map shown xs ≡ with_entry e (map shown xs)
 put_there xs e n x place lt h =
     sym (with_entry_there e (shown x) (map shown xs) n place (omega (arith, lt, shown_length xs)) (ap (λ y. entry_cmp y e) (shown_get xs n (shown x) x lt) ∙ h))
 
@@ -270,9 +293,12 @@ map_insert [] (suc n) x = refl
 map_insert (y ∷ ys) zero x = refl
 map_insert (y ∷ ys) (suc n) x = ap (λ zs. shown y ∷ zs) (map_insert ys n x)
 
-pub put_new : (xs : List (Group × Bor (List ℕ))) (e x : Group × Bor (List ℕ)) (n : ℕ) → IsPlaceFor (map shown xs) (shown e) n → (n < length xs → entry_cmp (shown (get_or xs n x)) (shown e) ≡ Equal → ⊥) → map shown (insert xs n e) ≡ with_entry (shown e) (map shown xs)
+pub put_new : (xs : List (Group × Bor (List ℕ))) (e x : Group × Bor (List ℕ)) (n : ℕ) → IsPlaceFor (map shown xs) (shown e) n
+    → (n < length xs → entry_cmp (shown (get_or xs n x)) (shown e) ≡ Equal → ⊥) → map shown (insert xs n e) ≡ with_entry (shown e) (map shown xs)
 put_new xs e x n place other =
-    map_insert xs n e ∙ sym (with_entry_at (shown e) (map shown xs) n place (λ d lt h. other (omega (arith, lt, shown_length xs)) (ap (λ y. entry_cmp y (shown e)) (sym (shown_get xs n d x (omega (arith, lt, shown_length xs)))) ∙ h)))
+    map_insert xs n e ∙ sym (with_entry_at (shown e) (map shown xs) n place
+    (λ d lt h. other (omega (arith, lt, shown_length xs))
+    (ap (λ y. entry_cmp y (shown e)) (sym (shown_get xs n d x (omega (arith, lt, shown_length xs)))) ∙ h)))
 
 pub index_equal : (r : Ordering) → (ordering_index r == 1) ≡ true → r ≡ Equal
 index_equal Less h = cc

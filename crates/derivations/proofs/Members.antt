@@ -1,8 +1,8 @@
 -- Members of lists.
 pub use Rattle.derivations.specs.Among.{Among}
-use Rattle.std.proofs.Common.{◌≡◌, ℕ, Option, Some, None, List, [], ◌∷◌, ◌++◌, map, Bool, true, false, ◌&&◌, ◌||◌, ◌⊎◌, inl, inr, refl, sym, ap, subst, ◌∙◌}
-use Rattle.std.specs.Prelude.{unwrap_or}
-use Rattle.std.specs.List.{flat_map, list_all, list_any}
+use Rattle.std.proofs.Common.{◌≡◌, List, [], ◌∷◌, ◌++◌, map, Bool, true, false, ◌&&◌, ◌||◌, ◌⊎◌, inl, inr, ap, subst, ◌∙◌}
+use Rattle.std.specs.List.{flat_map, list_all}
+use Rattle.wiki_base.proofs.BoolLaws.{and_first, and_second}
 
 pub among_left : {X : Type 0} (xs ys : List X) (x : X) → Among xs x → Among (xs ++ ys) x
 among_left [] ys x h = absurd h
@@ -23,30 +23,11 @@ among_flat_map f [] x y h k = absurd h
 among_flat_map f (z ∷ zs) x y (inl e) k = among_left (f z) (flat_map f zs) y (subst (λ w. Among (f w) y) e k)
 among_flat_map f (z ∷ zs) x y (inr h) k = among_right (f z) (flat_map f zs) y (among_flat_map f zs x y h k)
 
-pub first_of_and : (a b : Bool) → (a && b) ≡ true → a ≡ true
-first_of_and true b h = refl
-first_of_and false b h = h
-
-pub second_of_and : (a b : Bool) → (a && b) ≡ true → b ≡ true
-second_of_and true b h = h
-second_of_and false b h = cc
-
-pub either_of_or : (a b : Bool) → (a || b) ≡ true → (a ≡ true) ⊎ (b ≡ true)
-either_of_or true b h = inl refl
-either_of_or false b h = inr h
-
 -- a test that all pass is passed by each
 pub all_among : {X : Type 0} (p : X → Bool) (xs : List X) (x : X) → list_all p xs ≡ true → Among xs x → p x ≡ true
 all_among p [] x h k = absurd k
-all_among p (z ∷ zs) x h (inl e) = ap p e ∙ first_of_and (p z) (list_all p zs) h
-all_among p (z ∷ zs) x h (inr k) = all_among p zs x (second_of_and (p z) (list_all p zs) h) k
-
-pub map_of : {X Y : Type 0} (f : X → Y) (xs ys : List X) → map f (xs ++ ys) ≡ map f xs ++ map f ys
-map_of f [] ys = refl
-map_of f (x ∷ xs) ys = ap (λ zs. f x ∷ zs) (map_of f xs ys)
-
-pub some_same : {X : Type 0} (x y : X) → Some x ≡ Some y → x ≡ y
-some_same x y h = ap (λ o. unwrap_or o x) h
+all_among p (z ∷ zs) x h (inl e) = ap p e ∙ and_first (p z) (list_all p zs) h
+all_among p (z ∷ zs) x h (inr k) = all_among p zs x (and_second (p z) (list_all p zs) h) k
 
 pub true_is_false : {X : Type 0} → true ≡ false → X
 true_is_false w = cc

@@ -1,8 +1,10 @@
 -- The values to be tried for a feature are all its values.
-use Rattle.std.proofs.Common.{◌≡◌, ℕ, zero, suc, ◌+◌, ◌<◌, ◌≤◌, List, [], ◌∷◌, ◌++◌, map, length, Bool, true, false, not, ◌&&◌, ◌||◌, ◌⊎◌, inl, inr, refl, sym, ap, subst, ◌∙◌, arith, nat_lt, nat_le}
+use Rattle.std.proofs.Common.{◌≡◌, ℕ, zero, suc, ◌+◌, ◌<◌, ◌≤◌, List, [], ◌∷◌, ◌++◌, length, Bool, true, false, not, ◌&&◌, ◌||◌, ◌⊎◌, inl, inr, refl, sym, ap, subst, ◌∙◌, arith, nat_lt, nat_le}
 use Rattle.std.specs.Prelude.{if◌then◌else◌, ◌==◌}
 use Rattle.std.specs.List.{list_all, list_any, range_with_len}
 use Rattle.std.proofs.lemmas.Bool.Decides.{nat_tests}
+use Rattle.std.proofs.lemmas.Bool.{eqb-true, or_cases}
+use Rattle.wiki_base.proofs.BoolLaws.{and_first, and_second}
 use Rattle.codeco_terms.specs.declared.values.Value.{Value}
 use Rattle.codeco_terms.specs.declared.values.Value.TheVariants.{Atom, Word, Pos}
 use Rattle.codeco_terms.specs.declared.categories.Ground.{Ground}
@@ -14,28 +16,17 @@ use Rattle.codeco_checked.specs.Numbering.{has}
 use Rattle.codeco_checked.specs.Faults.{values_of}
 use Rattle.derivation_trees.specs.Settings.{Setting, has_word, is_value, fits_feature}
 use Rattle.derivation_trees.specs.Derives.{same_where_both}
-use Rattle.derivations.specs.Enumeration.{with_value, with_given, given, with_words, with_all_words, word_values, position_values, atom_values, declared_values, feature_values, has_feature}
-use Rattle.derivations.proofs.Members.{Among, among_left, among_right, among_map, first_of_and, second_of_and, either_of_or}
-
-pub same_number : (x y : ℕ) → (x == y) ≡ true → x ≡ y
-same_number x y h = grind (arith, nat_tests)
-
-pub number_is_same : (x : ℕ) → (x == x) ≡ true
-number_is_same x = grind (arith, nat_tests)
+use Rattle.derivations.specs.Enumeration.{with_value, with_given, with_words, with_all_words, declared_values, feature_values, has_feature}
+use Rattle.derivations.proofs.Members.{Among, among_left, among_right, among_map}
 
 number_turned : (x y : ℕ) → (x == y) ≡ true → (y == x) ≡ true
 number_turned x y h = grind (arith, nat_tests)
 
 pub same_value_is : (v w : Value) → same_value v w ≡ true → v ≡ w
-same_value_is (Atom a) (Atom b) h = ap (λ n. Atom n) (same_number a b h)
-same_value_is (Atom a) (Word w) h = cc
-same_value_is (Atom a) (Pos q) h = cc
-same_value_is (Word v) (Atom b) h = cc
-same_value_is (Word v) (Word w) h = ap (λ n. Word (record { 0 = n })) (same_number v.0 w.0 h)
-same_value_is (Word v) (Pos q) h = cc
-same_value_is (Pos p) (Atom b) h = cc
-same_value_is (Pos p) (Word w) h = cc
-same_value_is (Pos p) (Pos q) h = ap (λ n. Pos n) (same_number p q h)
+same_value_is (Atom a) (Atom b) h = ap (λ n. Atom n) (eqb-true a b h)
+same_value_is (Word v) (Word w) h = ap (λ n. Word (record { 0 = n })) (eqb-true v.0 w.0 h)
+same_value_is (Pos p) (Pos q) h = ap (λ n. Pos n) (eqb-true p q h)
+same_value_is v w h = cc
 
 add_keeps : (vs : List Value) (w v : Value) → Among vs v → Among (with_value vs w) v
 add_keeps vs w v h = by (list_any (same_value w) vs)
@@ -47,7 +38,7 @@ add_keeps vs w v h = by (list_any (same_value w) vs)
 any_same : (vs : List Value) (w : Value) → list_any (same_value w) vs ≡ true → Among vs w
 any_same [] w h = cc
 any_same (v ∷ vs) w h =
-    elim (either_of_or (same_value w v) (list_any (same_value w) vs) h) [ inl e ↦ inl (same_value_is w v e) | inr k ↦ inr (any_same vs w k) ]
+    elim (or_cases (same_value w v) (list_any (same_value w) vs) h) [ inl e ↦ inl (same_value_is w v e) | inr k ↦ inr (any_same vs w k) ]
 
 add_has : (vs : List Value) (w : Value) → Among (with_value vs w) w
 add_has vs w = by (list_any (same_value w) vs) refl
@@ -71,8 +62,9 @@ given_here vs p f v e same =
 given_has : (vs : List Value) (ps : List (ℕ × Value)) (f : ℕ) (v : Value) → has_value ps (f, v) ≡ true → Among (with_given vs ps f) v
 given_has vs [] f v h = cc
 given_has vs (p ∷ ps) f v h =
-    elim (either_of_or ((p.0 == f) && same_value p.1 v) (has_value ps (f, v)) h) [
-      | inl e ↦ given_keeps (if p.0 == f then with_value vs p.1 else vs) ps f v (given_here vs p f v (first_of_and (p.0 == f) (same_value p.1 v) e) (same_value_is p.1 v (second_of_and (p.0 == f) (same_value p.1 v) e)))
+    elim (or_cases ((p.0 == f) && same_value p.1 v) (has_value ps (f, v)) h) [
+      | inl e ↦ given_keeps (if p.0 == f then with_value vs p.1 else vs) ps f v
+          (given_here vs p f v (and_first (p.0 == f) (same_value p.1 v) e) (same_value_is p.1 v (and_second (p.0 == f) (same_value p.1 v) e)))
       | inr k ↦ given_has (if p.0 == f then with_value vs p.1 else vs) ps f v k
     ]
 
@@ -81,12 +73,15 @@ same_where f v p e h =
     sym (same_value_is v p.1 (subst (λ b. (not b || same_value v p.1) ≡ true) (number_turned p.0 f e) h))
 
 -- a feature that a category fixes has its value among those that are given
-pub given_fixed : (vs : List Value) (ps : List (ℕ × Value)) (f : ℕ) (v : Value) → has_feature ps f ≡ true → list_all (same_where_both (f, v)) ps ≡ true → Among (with_given vs ps f) v
+pub given_fixed : (vs : List Value) (ps : List (ℕ × Value)) (f : ℕ) (v : Value) → has_feature ps f ≡ true → list_all (same_where_both (f, v)) ps ≡ true
+    → Among (with_given vs ps f) v
 given_fixed vs [] f v h all = cc
 given_fixed vs (p ∷ ps) f v h all =
-    elim (either_of_or (p.0 == f) (has_feature ps f) h) [
-      | inl e ↦ given_keeps (if p.0 == f then with_value vs p.1 else vs) ps f v (given_here vs p f v e (same_where f v p e (first_of_and (same_where_both (f, v) p) (list_all (same_where_both (f, v)) ps) all)))
-      | inr k ↦ given_fixed (if p.0 == f then with_value vs p.1 else vs) ps f v k (second_of_and (same_where_both (f, v) p) (list_all (same_where_both (f, v)) ps) all)
+    elim (or_cases (p.0 == f) (has_feature ps f) h) [
+      | inl e ↦ given_keeps (if p.0 == f then with_value vs p.1 else vs) ps f v
+          (given_here vs p f v e (same_where f v p e (and_first (same_where_both (f, v) p) (list_all (same_where_both (f, v)) ps) all)))
+      | inr k ↦ given_fixed (if p.0 == f then with_value vs p.1 else vs) ps f v k
+          (and_second (same_where_both (f, v) p) (list_all (same_where_both (f, v)) ps) all)
     ]
 
 words_keep : (vs : List Value) (rs : List Ground) (v : Value) → Among vs v → Among (with_words vs rs) v
@@ -96,7 +91,7 @@ words_keep vs (r ∷ rs) v h = words_keep (with_given vs r.vals 3) rs v (given_k
 words_has : (vs : List Value) (rs : List Ground) (v : Value) → list_any (λ reading. has_value reading.vals (3, v)) rs ≡ true → Among (with_words vs rs) v
 words_has vs [] v h = cc
 words_has vs (r ∷ rs) v h =
-    elim (either_of_or (has_value r.vals (3, v)) (list_any (λ reading. has_value reading.vals (3, v)) rs) h) [
+    elim (or_cases (has_value r.vals (3, v)) (list_any (λ reading. has_value reading.vals (3, v)) rs) h) [
       | inl e ↦ words_keep (with_given vs r.vals 3) rs v (given_has vs r.vals 3 v e)
       | inr k ↦ words_has (with_given vs r.vals 3) rs v k
     ]
@@ -105,10 +100,12 @@ all_words_keep : (vs : List Value) (all : List (List Ground)) (v : Value) → Am
 all_words_keep vs [] v h = h
 all_words_keep vs (rs ∷ all) v h = all_words_keep (with_words vs rs) all v (words_keep vs rs v h)
 
-all_words_has : (vs : List Value) (all : List (List Ground)) (v : Value) → list_any (λ readings. list_any (λ reading. has_value reading.vals (3, v)) readings) all ≡ true → Among (with_all_words vs all) v
+all_words_has : (vs : List Value) (all : List (List Ground)) (v : Value)
+    → list_any (λ readings. list_any (λ reading. has_value reading.vals (3, v)) readings) all ≡ true → Among (with_all_words vs all) v
 all_words_has vs [] v h = cc
 all_words_has vs (rs ∷ all) v h =
-    elim (either_of_or (list_any (λ reading. has_value reading.vals (3, v)) rs) (list_any (λ readings. list_any (λ reading. has_value reading.vals (3, v)) readings) all) h) [
+    elim (or_cases (list_any (λ reading. has_value reading.vals (3, v)) rs)
+    (list_any (λ readings. list_any (λ reading. has_value reading.vals (3, v)) readings) all) h) [
       | inl e ↦ all_words_keep (with_words vs rs) all v (words_has vs rs v e)
       | inr k ↦ all_words_has (with_words vs rs) all v k
     ]
@@ -129,31 +126,25 @@ range_has (suc n) a x le lt = by (λ above. range_has n (a + 1) x above (omega a
 
 pub number_has : (ns : List ℕ) (n : ℕ) → has ns n ≡ true → Among ns n
 number_has [] n h = cc
-number_has (m ∷ ms) n h = elim (either_of_or (n == m) (has ms n) h) [ inl e ↦ inl (same_number n m e) | inr k ↦ inr (number_has ms n k) ]
+number_has (m ∷ ms) n h = elim (or_cases (n == m) (has ms n) h) [ inl e ↦ inl (eqb-true n m e) | inr k ↦ inr (number_has ms n k) ]
 
 at_most : (p n : ℕ) → nat_le p n ≡ true → p < 0 + (n + 1)
 at_most p n h = grind (arith, nat_tests)
 
 pub word_zero : (n : ℕ) → (n == 0) ≡ true → n ≡ 0
-word_zero n h = same_number n 0 h
+word_zero n h = eqb-true n 0 h
 
 -- each value of what is declared is among those that are tried
 pub value_has : (s : Setting) (d : Declared) (v : Value) → is_value s d v ≡ true → Among (declared_values s d) v
-value_has s declared.Undeclared v h = cc
-value_has s declared.Words (Atom a) h = cc
 value_has s declared.Words (Word w) h =
-    elim (either_of_or (w.0 == 0) (has_word s (Word w)) h) [
+    elim (or_cases (w.0 == 0) (has_word s (Word w)) h) [
       | inl e ↦ all_words_keep (Word (record { 0 = 0 }) ∷ []) s.readings (Word w) (inl (ap (λ n. Word (record { 0 = n })) (word_zero w.0 e)))
       | inr k ↦ all_words_has (Word (record { 0 = 0 }) ∷ []) s.readings (Word w) k
     ]
-value_has s declared.Words (Pos p) h = cc
-value_has s declared.Positions (Atom a) h = cc
-value_has s declared.Positions (Word w) h = cc
 value_has s declared.Positions (Pos p) h =
     among_map (λ q. Pos q) (range_with_len 0 (length s.tokens + 1)) p (range_has (length s.tokens + 1) 0 p (omega arith) (at_most p (length s.tokens) h))
 value_has s (declared.Atoms atoms) (Atom a) h = among_map (λ b. Atom b) atoms a (number_has atoms a h)
-value_has s (declared.Atoms atoms) (Word w) h = cc
-value_has s (declared.Atoms atoms) (Pos p) h = cc
+value_has s d v h = cc
 
 pub feature_has : (s : Setting) (f : ℕ) (v : Value) → fits_feature s f v ≡ true → Among (feature_values s f) v
 feature_has s f v h = value_has s (values_of s.grammar f) v h

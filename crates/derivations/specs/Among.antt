@@ -1,4 +1,4 @@
--- What stands in a list.
+-- What stands in a list. Only private calls speak of it.
 use Rattle.std.specs.Prelude.{◌≡◌, List, [], ◌∷◌, ◌⊎◌}
 
 -- x is one of the list

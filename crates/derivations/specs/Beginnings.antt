@@ -1,11 +1,11 @@
--- Whether there is a partial derivation, by listing the fronts of rules.
+-- Whether there is a partial derivation, by listing the fronts of rules. Only private calls speak of it.
 use Rattle.std.specs.Prelude.{◌≡◌, ℕ, zero, suc, ◌+◌, ◌*◌, ◌==◌, ◌&&◌, ◌||◌, Bool, false, List, [], ◌∷◌, length}
 use Rattle.std.specs.List.{list_any, flat_map}
 use Rattle.codeco_terms.specs.declared.values.Value.{Value}
 use Rattle.codeco_terms.specs.declared.elements.Element.{Element}
-use Rattle.codeco_terms.specs.declared.elements.Element.TheVariants.{Terminal, Preterminal, Sub, Position, Opener, Forward, Strong, Back, NoBack}
+use Rattle.codeco_terms.specs.declared.elements.Element.TheVariants.{Sub}
 use Rattle.codeco_terms.specs.declared.rules.Rule.{Rule}
-use Rattle.scopes.specs.declared.tests.Test.{Test}
+use Rattle.scopes.specs.declared.agreement.Test.{Test}
 use Rattle.derivation_trees.specs.Settings.{Setting}
 use Rattle.derivation_trees.specs.Instances.{under}
 use Rattle.derivation_trees.specs.Derives.{At, text_category}
@@ -17,15 +17,8 @@ is_at_end s path = path.at.place == length s.tokens
 
 -- the element is a category of which a cut-off child ends there, where the tests for cut-off nodes are given
 abbrev pub enters : (Test → At → Bool) → List (ℕ × Value) → Element → Path → Bool
-enters cuts values (Terminal t) path = false
-enters cuts values (Preterminal c) path = false
 enters cuts values (Sub c) path = cuts (under values c) path.at
-enters cuts values (Position x) path = false
-enters cuts values Opener path = false
-enters cuts values (Forward c) path = false
-enters cuts values (Strong c) path = false
-enters cuts values (Back positive negative) path = false
-enters cuts values (NoBack patterns) path = false
+enters _ _ _ _ = false
 
 -- one of the paths goes on to the end of the tokens over some of the elements
 abbrev pub goes_from : Setting → (Test → At → List Outcome) → (Test → At → Bool) → List (ℕ × Value) → List Element → List Path → Bool

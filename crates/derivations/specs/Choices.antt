@@ -1,4 +1,4 @@
--- Choices as the program holds them.
+-- Choices as the program holds them. Only private calls speak of it.
 use Rattle.std.specs.Prelude.{ℕ, List}
 use Rattle.codeco_terms.specs.declared.values.Value.{Value}
 use Rattle.derivations.specs.declared.choices.Choice.{Choice}

@@ -1,15 +1,13 @@
 -- How derivations are listed: rules are gone through top down, each with its ground instances, and a variable that the
--- category asked for has fixed isn't tried again.
-use Rattle.std.specs.Prelude.{◌≡◌, ℕ, zero, suc, ◌+◌, ◌==◌, ◌&&◌, if◌then◌else◌, Bool, true, false, List, [], ◌∷◌, ◌++◌, length, map, filter, Option, Some, None}
+-- category asked for has fixed isn't tried again. Only private calls speak of it.
+use Rattle.std.specs.Prelude.{◌≡◌, ℕ, zero, suc, ◌+◌, ◌==◌, ◌&&◌, if◌then◌else◌, Bool, false, List, [], ◌∷◌, ◌++◌, length, map, Option, Some, None}
 use Rattle.std.specs.List.{flat_map, list_any, range_with_len}
 use Rattle.std.specs.Option.{option_map_or}
-use Rattle.wiki_base.specs.declared.numbers.WordId.{WordId}
 use Rattle.codeco_terms.specs.declared.values.Value.{Value}
 use Rattle.codeco_terms.specs.declared.values.Value.TheVariants.{Atom, Word, Pos}
 use Rattle.codeco_terms.specs.declared.values.Term.{Term}
 use Rattle.codeco_terms.specs.declared.values.Term.TheVariants.{Val, Var}
 use Rattle.codeco_terms.specs.declared.categories.Pattern.{Pattern}
-use Rattle.codeco_terms.specs.declared.categories.Category.{Category}
 use Rattle.codeco_terms.specs.declared.categories.Ground.{Ground}
 use Rattle.codeco_terms.specs.declared.declarations.Declared.{Declared}
 use Rattle.codeco_terms.specs.declared.declarations.Declared.TheVariants as declared
@@ -18,10 +16,9 @@ use Rattle.codeco_terms.specs.declared.elements.Element.TheVariants.{Terminal, P
 use Rattle.codeco_terms.specs.declared.rules.Rule.{Rule}
 use Rattle.codeco_terms.specs.Values.{same_value}
 use Rattle.scopes.specs.declared.entries.Entry.{Entry}
-use Rattle.scopes.specs.declared.tests.Test.{Test}
+use Rattle.scopes.specs.declared.agreement.Test.{Test}
 use Rattle.scopes.specs.Resolution.{Finding, closest_finding}
 use Rattle.codeco_checked.specs.Faults.{values_of}
-use Rattle.codeco_checked.specs.Numbering.{has}
 use Rattle.derivation_trees.specs.Trees.{Node, node, nodes_from}
 use Rattle.derivation_trees.specs.Settings.{Setting}
 use Rattle.derivation_trees.specs.Instances.{under, written_variables, rule_own_features, own_values, is_instance}
@@ -99,15 +96,13 @@ pattern_terms p = p.cat.feats ++ taken_terms p.taken
 
 -- the features that are written in an element
 abbrev pub element_terms : Element → List (ℕ × Term)
-element_terms (Terminal t) = []
 element_terms (Preterminal c) = c.feats
 element_terms (Sub c) = c.feats
-element_terms (Position x) = []
-element_terms Opener = []
 element_terms (Forward c) = c.feats
 element_terms (Strong c) = c.feats
 element_terms (Back positive negative) = flat_map pattern_terms positive ++ flat_map pattern_terms negative
 element_terms (NoBack patterns) = flat_map pattern_terms patterns
+element_terms _ = []
 
 -- the features that are written in a rule
 abbrev pub rule_terms : Rule → List (ℕ × Term)
@@ -254,7 +249,8 @@ instance_trees s trees wanted at number rule values =
 -- the trees with a rule, of which the first element that takes tokens may stand at the place
 abbrev pub rule_trees : Setting → (Test → At → List Outcome) → Test → At → ℕ → Rule → List Outcome
 rule_trees s trees wanted at number rule =
-    if (rule.head.name == wanted.name) && may_start s at.place rule.body then flat_map (instance_trees s trees wanted at number rule) (instances s rule wanted) else []
+    if (rule.head.name == wanted.name) && may_start s at.place rule.body then flat_map (instance_trees s trees wanted at number rule) (instances s rule wanted)
+    else []
 
 -- the trees with any of the rules, of which the first has the number
 abbrev pub rules_trees : Setting → (Test → At → List Outcome) → Test → At → ℕ → List Rule → List Outcome

@@ -13,9 +13,15 @@ use Rattle.derivation_trees.specs.Sketches.{sketch_of}
 -- Of the derivations by a grammar: for given tokens and lexicon the code determines the skeleton; no code is a beginning of
 -- another one, whatever the tokens and lexicons; and the skeleton is the sketch of the tree from place 0.
 pub record CodesTell (g : GrammarParts) : Type 0 where
-  pub skeleton : (lexicon : Listed) (tokens : List (List ℕ)) (one other : Node) → IsDerivation (setting_of g lexicon tokens) one → IsDerivation (setting_of g lexicon tokens) other → skeleton_code (skeleton_of (setting_of g lexicon tokens) one) ≡ skeleton_code (skeleton_of (setting_of g lexicon tokens) other) → skeleton_of (setting_of g lexicon tokens) one ≡ skeleton_of (setting_of g lexicon tokens) other
-  pub no_beginning : (lexicon lexicon' : Listed) (tokens tokens' : List (List ℕ)) (one other : Node) (more : List ℕ) → IsDerivation (setting_of g lexicon tokens) one → IsDerivation (setting_of g lexicon' tokens') other → skeleton_code (skeleton_of (setting_of g lexicon tokens) one) ++ more ≡ skeleton_code (skeleton_of (setting_of g lexicon' tokens') other) → more ≡ []
-  pub sketch : (lexicon : Listed) (tokens : List (List ℕ)) (tree : Node) → IsDerivation (setting_of g lexicon tokens) tree → skeleton_of (setting_of g lexicon tokens) tree ≡ sketch_of (setting_of g lexicon tokens) tree 0
+  pub skeleton : (lexicon : Listed) (tokens : List (List ℕ)) (one other : Node) → IsDerivation (setting_of g lexicon tokens) one
+      → IsDerivation (setting_of g lexicon tokens) other
+      → skeleton_code (skeleton_of (setting_of g lexicon tokens) one) ≡ skeleton_code (skeleton_of (setting_of g lexicon tokens) other)
+      → skeleton_of (setting_of g lexicon tokens) one ≡ skeleton_of (setting_of g lexicon tokens) other
+  pub no_beginning : (lexicon lexicon' : Listed) (tokens tokens' : List (List ℕ)) (one other : Node) (more : List ℕ)
+      → IsDerivation (setting_of g lexicon tokens) one → IsDerivation (setting_of g lexicon' tokens') other
+      → skeleton_code (skeleton_of (setting_of g lexicon tokens) one) ++ more ≡ skeleton_code (skeleton_of (setting_of g lexicon' tokens') other) → more ≡ []
+  pub sketch : (lexicon : Listed) (tokens : List (List ℕ)) (tree : Node) → IsDerivation (setting_of g lexicon tokens) tree
+      → skeleton_of (setting_of g lexicon tokens) tree ≡ sketch_of (setting_of g lexicon tokens) tree 0
 
 -- no other skeleton is a least one of the tokens
 abbrev pub IsOnlyLeast : GrammarParts → Listed → List (List ℕ) → Skeleton → Type 0

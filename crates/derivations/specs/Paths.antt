@@ -1,4 +1,4 @@
--- Paths and outcomes as the program holds them.
+-- Paths and outcomes as the program holds them. Only private calls speak of it.
 use Rattle.derivation_trees.specs.Trees.{node_of, nodes_of}
 use Rattle.derivations.specs.declared.paths.Path.{Path}
 use Rattle.derivations.specs.declared.paths.Outcome.{Outcome}

@@ -3,7 +3,9 @@ use Rattle.std.proofs.Common.{◌≡◌, ℕ, suc, Bool, true, false, cond, List
 use Rattle.std.specs.Prelude.{◌==◌, ◌||◌, not, filter, slice_get, Contains, option_and_then}
 use Rattle.std.specs.Option.{option_map_or}
 use Rattle.std.specs.List.{list_any}
+use Rattle.std.proofs.lemmas.Bool.{and_parts, eqb-true}
 use Rattle.wiki_base.specs.declared.numbers.WordId.{WordId}
+use Rattle.wiki_base.proofs.NumberLaws.{eqb_refl}
 use Rattle.codeco_terms.specs.declared.rules.Label.{Label}
 use Rattle.codeco_terms.specs.declared.rules.Label.TheVariants as label
 use Rattle.codeco_terms.specs.declared.rules.Rule.{Rule}
@@ -21,20 +23,15 @@ use Rattle.logic_terms.specs.Free.{is_bound}
 use Rattle.drs_build.specs.Joining.{◌⊕◌, only, introduced}
 use Rattle.drs_build.specs.Meanings.{Meaning, nothing, Made, meaning}
 use Rattle.drs_build.specs.Nodes.{is_meant, meaning_in, meant_children, made_in, label_of}
-use Rattle.drs_build.proofs.OrderLemmas.{both_true, eq_true}
 use Rattle.drs_build.proofs.NodeLemmas.{meaning_by}
 
 -- Kinds
 
 -- a noun bar or a question
 abbrev pub is_asking : Kind → Bool
-is_asking Text = false
-is_asking Sentence = false
-is_asking VerbPhrase = false
-is_asking NounPhrase = false
 is_asking NounBar = true
 is_asking Question = true
-is_asking Mark = false
+is_asking _ = false
 
 pub bar_asks : (k : Kind) → same_kind k NounBar ≡ true → is_asking k ≡ true
 bar_asks Text h = cc
@@ -65,7 +62,7 @@ like_asks k NounPhrase h a = cc
 like_asks k Mark h a = cc
 
 same_back : (k l : Kind) → same_kind k l ≡ true → same_kind l k ≡ true
-same_back k l h = eq-eqb (kind_number l) (kind_number k) (sym (eq_true (kind_number k) (kind_number l) h))
+same_back k l h = eq-eqb (kind_number l) (kind_number k) (sym (eqb-true (kind_number k) (kind_number l) h))
 
 -- a head that asks fits no row for another kind
 wrong : (X : Type 0) (k head : Kind) → is_asking k ≡ false → same_kind head k ≡ true → is_asking head ≡ true → X
@@ -82,7 +79,7 @@ clause_wrong X Mark h a = absurd cc
 
 -- a label is that of marks where the head that it fits is one
 mark_same : (heads : Heads) (kind : Kind) → head_fits heads kind ≡ true → makes_mark heads ≡ is_mark kind
-mark_same (Only k) kind h = ap (λ n. n == 6) (sym (eq_true (kind_number kind) (kind_number k) h))
+mark_same (Only k) kind h = ap (λ n. n == 6) (sym (eqb-true (kind_number kind) (kind_number k) h))
 mark_same Clauses Text h = refl
 mark_same Clauses Sentence h = refl
 mark_same Clauses VerbPhrase h = refl
@@ -104,14 +101,12 @@ mark_same Meanings Mark h = cc
 abbrev pub Asks : Meaning → Type 0
 Asks m = is_bound (referents_in m.says) m.referent ≡ true
 
-same_self : (x : ℕ) → (x == x) ≡ true
-same_self x = eq-eqb x x refl
-
 any_left : (p : ℕ) (xs ys : List ℕ) → list_any (λ q. q == p) xs ≡ true → list_any (λ q. q == p) (xs ++ ys) ≡ true
 any_left p [] ys h = cc
 any_left p (x ∷ xs) ys h = by (x == p) refl (any_left p xs ys)
   where
-    by : (b : Bool) → (x == p) ≡ b → (list_any (λ q. q == p) xs ≡ true → list_any (λ q. q == p) (xs ++ ys) ≡ true) → list_any (λ q. q == p) (x ∷ (xs ++ ys)) ≡ true
+    by : (b : Bool) → (x == p) ≡ b → (list_any (λ q. q == p) xs ≡ true → list_any (λ q. q == p) (xs ++ ys) ≡ true)
+        → list_any (λ q. q == p) (x ∷ (xs ++ ys)) ≡ true
     by true e later = ap (λ b. b || list_any (λ q. q == p) (xs ++ ys)) e
     by false e later = ap (λ b. b || list_any (λ q. q == p) (xs ++ ys)) e ∙ later (sym (ap (λ b. b || list_any (λ q. q == p) xs) e) ∙ h)
 
@@ -119,7 +114,7 @@ left_bound : (k l : Structure) (p : ℕ) → is_bound (referents_in k) p ≡ tru
 left_bound (structure rs cs) (structure qs ds) p h = any_left p rs qs h
 
 here_bound : (p : ℕ) (k : Structure) → is_bound (referents_in (introduced p ⊕ k)) p ≡ true
-here_bound p k = left_bound (introduced p) k p (ap (λ b. b || false) (same_self p))
+here_bound p k = left_bound (introduced p) k p (ap (λ b. b || false) (eqb_refl p))
 
 noun_bound : (p : ℕ) (c : Condition) (k : Structure) → is_bound (referents_in ((introduced p ⊕ only c) ⊕ k)) p ≡ true
 noun_bound p c k = left_bound (introduced p ⊕ only c) k p (here_bound p (only c))
@@ -130,7 +125,7 @@ contained [] r h = absurd cc
 contained (x ∷ xs) r h = by (x == r) refl (contained xs r)
   where
     by : (b : Bool) → (x == r) ≡ b → (is_bound xs r ≡ true → Contains xs r) → Contains (x ∷ xs) r
-    by true e later = (0, omega arith, eq_true x r e)
+    by true e later = (0, omega arith, eqb-true x r e)
     by false e later =
         let there : Contains xs r = later (sym (ap (λ b. b || is_bound xs r) e) ∙ h) in
         (suc there.0, omega (arith, there.1), there.2)
@@ -149,30 +144,36 @@ AllGood g [] (k ∷ ks) = ⊥
 AllGood g (sk ∷ sks) [] = ⊥
 AllGood g (sk ∷ sks) (k ∷ ks) = Good g sk k × AllGood g sks ks
 
-kept_good : (g : GrammarParts) (sks : List Skeleton) (ks : List Kind) → AllGood g sks ks → AllGood g (filter (λ c. is_meant g (out-Skeleton c).rule) sks) (filter (λ k. not (is_mark k)) ks)
+kept_good : (g : GrammarParts) (sks : List Skeleton) (ks : List Kind) → AllGood g sks ks
+    → AllGood g (filter (λ c. is_meant g (out-Skeleton c).rule) sks) (filter (λ k. not (is_mark k)) ks)
 kept_good g [] [] all = tt
 kept_good g [] (k ∷ ks) all = absurd all
 kept_good g (sk ∷ sks) [] all = absurd all
 kept_good g (sk ∷ sks) (k ∷ ks) all = by (is_meant g (out-Skeleton sk).rule) (not (is_mark k)) all.0.meant (kept_good g sks ks all.1)
   where
-    by : (a b : Bool) → a ≡ b → AllGood g (filter (λ c. is_meant g (out-Skeleton c).rule) sks) (filter (λ x. not (is_mark x)) ks) → AllGood g (cond a (sk ∷ filter (λ c. is_meant g (out-Skeleton c).rule) sks) (filter (λ c. is_meant g (out-Skeleton c).rule) sks)) (cond b (k ∷ filter (λ x. not (is_mark x)) ks) (filter (λ x. not (is_mark x)) ks))
+    by : (a b : Bool) → a ≡ b → AllGood g (filter (λ c. is_meant g (out-Skeleton c).rule) sks) (filter (λ x. not (is_mark x)) ks)
+        → AllGood g (cond a (sk ∷ filter (λ c. is_meant g (out-Skeleton c).rule) sks) (filter (λ c. is_meant g (out-Skeleton c).rule) sks))
+        (cond b (k ∷ filter (λ x. not (is_mark x)) ks) (filter (λ x. not (is_mark x)) ks))
     by true true e later = (all.0, later)
     by false false e later = later
     by true false e later = absurd cc
     by false true e later = absurd cc
 
-child_asks : (g : GrammarParts) (sks : List Skeleton) (ks : List Kind) (l : Kind) (ls : List Kind) → AllGood g sks ks → same_kinds ks (l ∷ ls) ≡ true → ((k : Kind) → same_kind k l ≡ true → is_asking k ≡ true) → (names : List (ℕ × WordId)) → Asks (option_map_or (meaning_in g names) (slice_get sks 0) nothing)
+child_asks : (g : GrammarParts) (sks : List Skeleton) (ks : List Kind) (l : Kind) (ls : List Kind) → AllGood g sks ks → same_kinds ks (l ∷ ls) ≡ true
+    → ((k : Kind) → same_kind k l ≡ true → is_asking k ≡ true) → (names : List (ℕ × WordId))
+    → Asks (option_map_or (meaning_in g names) (slice_get sks 0) nothing)
 child_asks g [] [] l ls all h f names = absurd cc
 child_asks g [] (k ∷ ks) l ls all h f names = absurd all
 child_asks g (sk ∷ sks) [] l ls all h f names = absurd all
-child_asks g (sk ∷ sks) (k ∷ ks) l ls all h f names = all.0.asks (f k (both_true (same_kind k l) (same_kinds ks ls) h).0) names
+child_asks g (sk ∷ sks) (k ∷ ks) l ls all h f names = all.0.asks (f k (and_parts (same_kind k l) (same_kinds ks ls) h).0) names
 
 -- the first child asks where its kind does
 abbrev First : Made → List Kind → Type 0
 First m ks = (l : Kind) (ls : List Kind) → same_kinds ks (l ∷ ls) ≡ true → ((k : Kind) → same_kind k l ≡ true → is_asking k ≡ true) → Asks m.first
 
 -- what a label of a noun bar or a question gives
-asks_by : (l : Label) (m : Made) (head : Kind) (ks : List Kind) → head_fits (label_row l).heads head ≡ true → children_fit (label_row l).children head ks ≡ true → is_asking head ≡ true → First m ks → Asks (meaning l m)
+asks_by : (l : Label) (m : Made) (head : Kind) (ks : List Kind) → head_fits (label_row l).heads head ≡ true → children_fit (label_row l).children head ks ≡ true
+    → is_asking head ≡ true → First m ks → Asks (meaning l m)
 asks_by label.Statement m head ks h c a f = wrong (Asks (meaning label.Statement m)) Text head refl h a
 asks_by label.Ask m head ks h c a f = wrong (Asks (meaning label.Ask m)) Text head refl h a
 asks_by label.If m head ks h c a f = wrong (Asks (meaning label.If m)) Sentence head refl h a
@@ -201,23 +202,33 @@ asks_by label.Everything m head ks h c a f = wrong (Asks (meaning label.Everythi
 asks_by label.Nothing m head ks h c a f = wrong (Asks (meaning label.Nothing m)) NounPhrase head refl h a
 asks_by label.What m head ks h c a f = here_bound m.here (m.first.on (Ref m.here))
 asks_by label.Which m head ks h c a f = left_bound m.first.says (m.second.on (Ref m.first.referent)) m.first.referent (f NounBar (VerbPhrase ∷ []) c bar_asks)
-asks_by label.Whichobj m head ks h c a f = left_bound m.first.says (m.second.around (only (AreRelated m.word m.second.term (Ref m.first.referent)))) m.first.referent (f NounBar (NounPhrase ∷ []) c bar_asks)
+asks_by label.Whichobj m head ks h c a f =
+    left_bound m.first.says (m.second.around (only (AreRelated m.word m.second.term (Ref m.first.referent)))) m.first.referent
+    (f NounBar (NounPhrase ∷ []) c bar_asks)
 asks_by label.Mark m head ks h c a f = wrong (Asks (meaning label.Mark m)) Mark head refl h a
 
 label_same : (l k : Label) → Some l ≡ Some k → l ≡ k
 label_same l k h = cc
 
 -- a node whose rule fits its label, and whose children are good
-pub node_good : (g : GrammarParts) (sk : Skeleton) (r : Rule) (l : Label) (head : Kind) (kinds : List Kind) → rule_with g (out-Skeleton sk).rule ≡ Some r → r.label ≡ Some l → head_fits (label_row l).heads head ≡ true → children_fit (label_row l).children head (filter (λ k. not (is_mark k)) kinds) ≡ true → AllGood g (out-Skeleton sk).children kinds → Good g sk head
+pub node_good : (g : GrammarParts) (sk : Skeleton) (r : Rule) (l : Label) (head : Kind) (kinds : List Kind) → rule_with g (out-Skeleton sk).rule ≡ Some r
+    → r.label ≡ Some l → head_fits (label_row l).heads head ≡ true → children_fit (label_row l).children head (filter (λ k. not (is_mark k)) kinds) ≡ true
+    → AllGood g (out-Skeleton sk).children kinds → Good g sk head
 node_good g sk r l head kinds at is heads children all =
     let kept : AllGood g (meant_children g sk) (filter (λ k. not (is_mark k)) kinds) = kept_good g (out-Skeleton sk).children kinds all in
     let named : label_of g (out-Skeleton sk).rule ≡ Some l = ap (option_and_then (λ (x : Rule). x.label)) at ∙ is in
     record {
-      meant = ap (λ o. option_map_or (λ (x : Rule). not (is_mark_rule x)) o true) at ∙ ap (λ o. not (option_map_or (λ x. makes_mark (label_row x).heads) o false)) is ∙ ap not (mark_same (label_row l).heads head heads);
-      asks = λ a names. let P : Meaning → Type 0 = λ m. Asks m in subst P (sym (meaning_by g names sk l named)) (asks_by l (made_in g names sk) head (filter (λ k. not (is_mark k)) kinds) heads children a (λ k ks same f. child_asks g (meant_children g sk) (filter (λ x. not (is_mark x)) kinds) k ks kept same f names));
+      meant = ap (λ o. option_map_or (λ (x : Rule). not (is_mark_rule x)) o true) at
+          ∙ ap (λ o. not (option_map_or (λ x. makes_mark (label_row x).heads) o false)) is ∙ ap not (mark_same (label_row l).heads head heads);
+      asks = λ a names. let P : Meaning → Type 0 = λ m. Asks m in
+          subst P (sym (meaning_by g names sk l named))
+          (asks_by l (made_in g names sk) head (filter (λ k. not (is_mark k)) kinds) heads children a
+          (λ k ks same f. child_asks g (meant_children g sk) (filter (λ x. not (is_mark x)) kinds) k ks kept same f names));
       question = λ q names.
           let same : l ≡ label.Ask = label_same l label.Ask (sym named ∙ q) in
-          let fit : children_fit (label_row label.Ask).children head (filter (λ k. not (is_mark k)) kinds) ≡ true = ap (λ x. children_fit (label_row x).children head (filter (λ k. not (is_mark k)) kinds)) (sym same) ∙ children in
+          let fit : children_fit (label_row label.Ask).children head (filter (λ k. not (is_mark k)) kinds) ≡ true =
+          ap (λ x. children_fit (label_row x).children head (filter (λ k. not (is_mark k)) kinds)) (sym same) ∙ children in
           let P : Meaning → Type 0 = λ m. Asks m in
-          subst P (sym (meaning_by g names sk label.Ask q)) (child_asks g (meant_children g sk) (filter (λ k. not (is_mark k)) kinds) Question [] kept fit question_asks names);
+          subst P (sym (meaning_by g names sk label.Ask q))
+          (child_asks g (meant_children g sk) (filter (λ k. not (is_mark k)) kinds) Question [] kept fit question_asks names);
     }

@@ -2,7 +2,7 @@
 use Rattle.std.proofs.Common.{◌≡◌, ℕ, ◌+◌, ◌≤◌, Bool, true, false, cond, List, [], ◌∷◌, ◌++◌, refl, ap, ◌∙◌, arith, append-nil}
 use Rattle.std.specs.Prelude.{◌==◌, ◌&&◌, ◌||◌, not}
 use Rattle.std.specs.List.{list_any}
-use Rattle.std.proofs.lemmas.Bool.Decides.{nat_tests}
+use Rattle.wiki_base.proofs.NumberLaws.{eqb_refl}
 use Rattle.logic_terms.specs.Structure.{Condition, Conditions, Structure, Negation, Implication, Disjunction, no_condition, also_condition, structure}
 use Rattle.logic_terms.specs.Introduced.{introduced_in, introduced_in_all, introduced_in_condition, all_distinct}
 use Rattle.drs_build.specs.Joining.{both, ◌⊕◌, only}
@@ -26,11 +26,23 @@ times-append r (x ∷ xs) ys = omega (arith, times-append r xs ys)
 
 times-both : (r : ℕ) (cs ds : Conditions) → times r (introduced_in_all (both cs ds)) ≡ times r (introduced_in_all cs) + times r (introduced_in_all ds)
 times-both r no_condition ds = omega arith
-times-both r (also_condition c cs) ds = omega (arith, times-both r cs ds, times-append r (introduced_in_condition c) (introduced_in_all (both cs ds)), times-append r (introduced_in_condition c) (introduced_in_all cs))
+times-both r (also_condition c cs) ds = omega (
+  arith,
+  times-both r cs ds,
+  times-append r (introduced_in_condition c) (introduced_in_all (both cs ds)),
+  times-append r (introduced_in_condition c) (introduced_in_all cs),
+)
 
 pub joined_count : (r : ℕ) (k l : Structure) → count_in r (k ⊕ l) ≡ count_in r k + count_in r l
 joined_count r (structure rs cs) (structure qs ds) =
-    omega (arith, times-append r (rs ++ qs) (introduced_in_all (both cs ds)), times-append r rs qs, times-both r cs ds, times-append r rs (introduced_in_all cs), times-append r qs (introduced_in_all ds))
+    omega (
+      arith,
+      times-append r (rs ++ qs) (introduced_in_all (both cs ds)),
+      times-append r rs qs,
+      times-both r cs ds,
+      times-append r rs (introduced_in_all cs),
+      times-append r qs (introduced_in_all ds),
+    )
 
 alone_count : (r : ℕ) (c : Condition) → count_in r (only c) ≡ times r (introduced_in_condition c)
 alone_count r c = ap (times r) (append-nil (introduced_in_condition c))
@@ -52,13 +64,10 @@ not_there r (x ∷ xs) h = by (x == r) refl (λ le. not_there r xs le)
     by true e later = let k : one (x == r) ≡ 1 = ap one e in absurd (omega (arith, k))
     by false e later = ap (λ b. b || list_any (λ q. q == r) xs) e ∙ later (omega arith)
 
-same_self : (x : ℕ) → (x == x) ≡ true
-same_self x = grind (arith, nat_tests)
-
 -- a list in which nothing stands twice
 pub distinct_from_times : (xs : List ℕ) → ((r : ℕ) → times r xs ≤ 1) → all_distinct xs ≡ true
 distinct_from_times [] h = refl
 distinct_from_times (x ∷ xs) h =
-    let one_more : one (x == x) ≡ 1 = ap one (same_self x) in
+    let one_more : one (x == x) ≡ 1 = ap one (eqb_refl x) in
     let none : times x xs ≤ 0 = omega (arith, h x, one_more) in
     ap (λ b. not b && all_distinct xs) (not_there x xs none) ∙ distinct_from_times xs (λ r. omega (arith, h r))

@@ -2,7 +2,7 @@
 use Rattle.std.proofs.Common.{◌≡◌, ℕ, ◌+◌, ◌≤◌, Bool, true, List, [], ◌∷◌, ◌++◌, map, refl, sym, ap, subst, ◌∙◌, arith, append_assoc, append-nil, eq-eqb}
 use Rattle.std.specs.Prelude.{◌&&◌, ◌==◌, nat_le}
 use Rattle.std.specs.List.{list_all}
-use Rattle.std.proofs.lemmas.Bool.Decides.{nat_tests}
+use Rattle.std.proofs.lemmas.Bool.{le-leb, and_from}
 use Rattle.wiki_base.specs.declared.numbers.WordId.{WordId}
 use Rattle.codeco_terms.specs.declared.elements.Element.{Element}
 use Rattle.codeco_terms.specs.declared.elements.Element.TheVariants.{Terminal, Preterminal, Sub, Position, Opener, Forward, Strong, Back, NoBack}
@@ -29,12 +29,6 @@ use Rattle.drs_build.proofs.CountLemmas.{distinct_from_times}
 use Rattle.drs_build.proofs.WeightLemmas.{inside_small}
 use Rattle.drs_build.proofs.GrammarLemmas.{introducing}
 use Rattle.drs_build.proofs.SpanLemmas.{LightIn, AllLight, node_light}
-
-le_is : (m n : ℕ) → m ≤ n → nat_le m n ≡ true
-le_is m n h = grind (arith, nat_tests)
-
-both_are : (a b : Bool) → a ≡ true → b ≡ true → (a && b) ≡ true
-both_are a b p q = ap (λ x. x && b) p ∙ q
 
 -- a sketch of these parts
 abbrev at : ℕ → List WordId → List Skeleton → List (ℕ → Skeleton) → Sketch
@@ -63,10 +57,13 @@ record Childless (s : Setting) (es : List Element) (place : ℕ) (children : Lis
   pub same : after.children ≡ children
   pub leads : leads es place [] after.place ≡ true
 
-childless : (s : Setting) (es : List Element) (place : ℕ) (words : List WordId) (children : List Skeleton) → Childless s es place children (sketch_over s es (at place words children []))
+childless : (s : Setting) (es : List Element) (place : ℕ) (words : List WordId) (children : List Skeleton)
+    → Childless s es place children (sketch_over s es (at place words children []))
 childless s [] place words children = record { same = refl; leads = eq-eqb place place refl }
-childless s (Terminal t ∷ es) place words children = let later = childless s es (place + 1) (words ++ []) children in record { same = later.same; leads = later.leads }
-childless s (Preterminal c ∷ es) place words children = let later = childless s es (place + 1) (words ++ word_at s place ∷ []) children in record { same = later.same; leads = later.leads }
+childless s (Terminal t ∷ es) place words children = let later = childless s es (place + 1) (words ++ []) children in
+    record { same = later.same; leads = later.leads }
+childless s (Preterminal c ∷ es) place words children = let later = childless s es (place + 1) (words ++ word_at s place ∷ []) children in
+    record { same = later.same; leads = later.leads }
 childless s (Sub c ∷ es) place words children = let later = childless s es place words children in record { same = later.same; leads = later.leads }
 childless s (Position x ∷ es) place words children = let later = childless s es place words children in record { same = later.same; leads = later.leads }
 childless s (Opener ∷ es) place words children = let later = childless s es place words children in record { same = later.same; leads = later.leads }
@@ -75,11 +72,15 @@ childless s (Strong c ∷ es) place words children = let later = childless s es 
 childless s (Back ps ns ∷ es) place words children = let later = childless s es place words children in record { same = later.same; leads = later.leads }
 childless s (NoBack ps ∷ es) place words children = let later = childless s es place words children in record { same = later.same; leads = later.leads }
 
-walk : (s : Setting) (es : List Element) (ns : Nodes) (place : ℕ) (words : List WordId) (children : List Skeleton) → Orders s ns → Walked s es place children (sketch_over s es (at place words children (sketches_of s ns)))
+walk : (s : Setting) (es : List Element) (ns : Nodes) (place : ℕ) (words : List WordId) (children : List Skeleton) → Orders s ns
+    → Walked s es place children (sketch_over s es (at place words children (sketches_of s ns)))
 walk s [] ns place words children orders = record { more = []; added = sym (append-nil children); in_order = refl; leads = eq-eqb place place refl; light = tt }
-walk s (Terminal t ∷ es) ns place words children orders = let later = walk s es ns (place + 1) (words ++ []) children orders in record { more = later.more; added = later.added; in_order = later.in_order; leads = later.leads; light = later.light }
-walk s (Preterminal c ∷ es) ns place words children orders = let later = walk s es ns (place + 1) (words ++ word_at s place ∷ []) children orders in record { more = later.more; added = later.added; in_order = later.in_order; leads = later.leads; light = later.light }
-walk s (Sub c ∷ es) none place words children orders = let rest = childless s (Sub c ∷ es) place words children in record { more = []; added = rest.same ∙ sym (append-nil children); in_order = refl; leads = rest.leads; light = tt }
+walk s (Terminal t ∷ es) ns place words children orders = let later = walk s es ns (place + 1) (words ++ []) children orders in
+    record { more = later.more; added = later.added; in_order = later.in_order; leads = later.leads; light = later.light }
+walk s (Preterminal c ∷ es) ns place words children orders = let later = walk s es ns (place + 1) (words ++ word_at s place ∷ []) children orders in
+    record { more = later.more; added = later.added; in_order = later.in_order; leads = later.leads; light = later.light }
+walk s (Sub c ∷ es) none place words children orders = let rest = childless s (Sub c ∷ es) place words children in
+    record { more = []; added = rest.same ∙ sym (append-nil children); in_order = refl; leads = rest.leads; light = tt }
 walk s (Sub c ∷ es) (more n ns) place words children orders =
     let child = sketch_of s n place in
     let one = orders.0 place in
@@ -87,34 +88,55 @@ walk s (Sub c ∷ es) (more n ns) place words children orders =
     record {
       more = child ∷ later.more;
       added = later.added ∙ append_assoc children (child ∷ []) later.more;
-      in_order = both_are (is_in_order s.grammar child) (list_all (is_in_order s.grammar) later.more) one.in_order later.in_order;
-      leads = both_are ((out-Skeleton child).start == place) (nat_le (out-Skeleton child).start (out-Skeleton child).end && leads es (out-Skeleton child).end (map span_of later.more) (sketch_over s es (at (out-Skeleton child).end words (children ++ child ∷ []) (sketches_of s ns))).place) (eq-eqb (out-Skeleton child).start place one.start) (both_are (nat_le (out-Skeleton child).start (out-Skeleton child).end) (leads es (out-Skeleton child).end (map span_of later.more) (sketch_over s es (at (out-Skeleton child).end words (children ++ child ∷ []) (sketches_of s ns))).place) (ap (λ x. nat_le x (out-Skeleton child).end) one.start ∙ le_is place (out-Skeleton child).end one.up) later.leads);
+      in_order = and_from (is_in_order s.grammar child) (list_all (is_in_order s.grammar) later.more) one.in_order later.in_order;
+      leads = and_from ((out-Skeleton child).start == place)
+          (nat_le (out-Skeleton child).start (out-Skeleton child).end
+          && leads es (out-Skeleton child).end (map span_of later.more)
+          (sketch_over s es (at (out-Skeleton child).end words (children ++ child ∷ []) (sketches_of s ns))).place)
+          (eq-eqb (out-Skeleton child).start place one.start)
+          (and_from (nat_le (out-Skeleton child).start (out-Skeleton child).end)
+          (leads es (out-Skeleton child).end (map span_of later.more)
+          (sketch_over s es (at (out-Skeleton child).end words (children ++ child ∷ []) (sketches_of s ns))).place)
+          (ap (λ x. nat_le x (out-Skeleton child).end) one.start ∙ le-leb place (out-Skeleton child).end one.up) later.leads);
       light = (one.light, later.light);
     }
-walk s (Position x ∷ es) ns place words children orders = let later = walk s es ns place words children orders in record { more = later.more; added = later.added; in_order = later.in_order; leads = later.leads; light = later.light }
-walk s (Opener ∷ es) ns place words children orders = let later = walk s es ns place words children orders in record { more = later.more; added = later.added; in_order = later.in_order; leads = later.leads; light = later.light }
-walk s (Forward c ∷ es) ns place words children orders = let later = walk s es ns place words children orders in record { more = later.more; added = later.added; in_order = later.in_order; leads = later.leads; light = later.light }
-walk s (Strong c ∷ es) ns place words children orders = let later = walk s es ns place words children orders in record { more = later.more; added = later.added; in_order = later.in_order; leads = later.leads; light = later.light }
-walk s (Back positive negative ∷ es) ns place words children orders = let later = walk s es ns place words children orders in record { more = later.more; added = later.added; in_order = later.in_order; leads = later.leads; light = later.light }
-walk s (NoBack patterns ∷ es) ns place words children orders = let later = walk s es ns place words children orders in record { more = later.more; added = later.added; in_order = later.in_order; leads = later.leads; light = later.light }
+walk s (Position x ∷ es) ns place words children orders = let later = walk s es ns place words children orders in
+    record { more = later.more; added = later.added; in_order = later.in_order; leads = later.leads; light = later.light }
+walk s (Opener ∷ es) ns place words children orders = let later = walk s es ns place words children orders in
+    record { more = later.more; added = later.added; in_order = later.in_order; leads = later.leads; light = later.light }
+walk s (Forward c ∷ es) ns place words children orders = let later = walk s es ns place words children orders in
+    record { more = later.more; added = later.added; in_order = later.in_order; leads = later.leads; light = later.light }
+walk s (Strong c ∷ es) ns place words children orders = let later = walk s es ns place words children orders in
+    record { more = later.more; added = later.added; in_order = later.in_order; leads = later.leads; light = later.light }
+walk s (Back positive negative ∷ es) ns place words children orders = let later = walk s es ns place words children orders in
+    record { more = later.more; added = later.added; in_order = later.in_order; leads = later.leads; light = later.light }
+walk s (NoBack patterns ∷ es) ns place words children orders = let later = walk s es ns place words children orders in
+    record { more = later.more; added = later.added; in_order = later.in_order; leads = later.leads; light = later.light }
 
 -- the layer is in order
 abbrev layer_in_order : GrammarParts → Skeleton-F Skeleton → Bool
 layer_in_order g layer = leads (body_of g layer.rule) layer.start (map span_of layer.children) layer.end && list_all (is_in_order g) layer.children
 
 -- a node whose children are sketched in order is sketched in order
-node_in_order : (s : Setting) (number place : ℕ) (found : List ℕ) (after : Sketch) → Walked s (body_of s.grammar number) place [] after → is_in_order s.grammar (skeleton number place after.place found after.words after.children) ≡ true
+node_in_order : (s : Setting) (number place : ℕ) (found : List ℕ) (after : Sketch) → Walked s (body_of s.grammar number) place [] after
+    → is_in_order s.grammar (skeleton number place after.place found after.words after.children) ≡ true
 node_in_order s number place found after w =
     in_order_is s.grammar (skeleton number place after.place found after.words after.children)
-    ∙ ap (layer_in_order s.grammar) (out-roll-Skeleton (record { rule = number; start = place; end = after.place; found = found; words = after.words; children = after.children }))
+    ∙ ap (layer_in_order s.grammar) (out-roll-Skeleton
+    (record { rule = number; start = place; end = after.place; found = found; words = after.words; children = after.children }))
     ∙ ap (λ cs. leads (body_of s.grammar number) place (map span_of cs) after.place && list_all (is_in_order s.grammar) cs) w.added
-    ∙ both_are (leads (body_of s.grammar number) place (map span_of w.more) after.place) (list_all (is_in_order s.grammar) w.more) w.leads w.in_order
+    ∙ and_from (leads (body_of s.grammar number) place (map span_of w.more) after.place) (list_all (is_in_order s.grammar) w.more) w.leads w.in_order
 
 -- what a node means whose children are sketched
-node_sketched : (s : Setting) (number place : ℕ) (found : List ℕ) (after : Sketch) → Walked s (body_of s.grammar number) place [] after → LightIn s.grammar (skeleton number place after.place found after.words after.children)
+node_sketched : (s : Setting) (number place : ℕ) (found : List ℕ) (after : Sketch) → Walked s (body_of s.grammar number) place [] after
+    → LightIn s.grammar (skeleton number place after.place found after.words after.children)
 node_sketched s number place found after w =
-    let children : w.more ≡ (out-Skeleton (skeleton number place after.place found after.words after.children)).children = sym (ap (λ layer. layer.children) (out-roll-Skeleton (record { rule = number; start = place; end = after.place; found = found; words = after.words; children = after.children })) ∙ w.added) in
-    node_light s.grammar (skeleton number place after.place found after.words after.children) (node_in_order s number place found after w) (subst (AllLight s.grammar) children w.light)
+    let children : w.more ≡ (out-Skeleton (skeleton number place after.place found after.words after.children)).children =
+    sym (ap (λ layer. layer.children)
+    (out-roll-Skeleton (record { rule = number; start = place; end = after.place; found = found; words = after.words; children = after.children }))
+    ∙ w.added) in
+    node_light s.grammar (skeleton number place after.place found after.words after.children) (node_in_order s number place found after w)
+    (subst (AllLight s.grammar) children w.light)
 
 mutual
   pub sketch_in_order : (s : Setting) (n : Node) (place : ℕ) → Order s n place
@@ -134,14 +156,16 @@ mutual
 -- the skeleton of a derivation is in order
 pub derived_in_order : (g : GrammarParts) (sk : Skeleton) → IsDerived g sk → is_in_order g sk ≡ true
 derived_in_order g sk d =
-    ap (is_in_order g) (d.is ∙ skeleton_of_is (setting_of g d.lexicon d.tokens) d.tree d.derives) ∙ (sketch_in_order (setting_of g d.lexicon d.tokens) d.tree 0).in_order
+    ap (is_in_order g) (d.is ∙ skeleton_of_is (setting_of g d.lexicon d.tokens) d.tree d.derives)
+    ∙ (sketch_in_order (setting_of g d.lexicon d.tokens) d.tree 0).in_order
 
 -- the meaning of a derivation's skeleton introduces each referent once
 pub derived_once : (g : GrammarParts) (sk : Skeleton) → IsSound g → IsDerived g sk → IntroducesOnce (meaning_of g sk).says
 derived_once g sk sound d =
     let is : sketch_of (setting_of g d.lexicon d.tokens) d.tree 0 ≡ sk = sym (d.is ∙ skeleton_of_is (setting_of g d.lexicon d.tokens) d.tree d.derives) in
     let light : LightIn g sk = subst (LightIn g) is (sketch_in_order (setting_of g d.lexicon d.tokens) d.tree 0).light in
-    distinct_from_times (introduced_in (meaning_of g sk).says) (λ r. omega (arith, (light (introducing g sound) (names_of g sk)).says r, inside_small (span_of sk) r))
+    distinct_from_times (introduced_in (meaning_of g sk).says)
+    (λ r. omega (arith, (light (introducing g sound) (names_of g sk)).says r, inside_small (span_of sk) r))
 
 pub built_once : (g : GrammarParts) (sk : Skeleton) (k : Structure) → IsSound g → IsDerived g sk → k ≡ (meaning_of g sk).says → IntroducesOnce k
 built_once g sk k sound d is = subst IntroducesOnce (sym is) (derived_once g sk sound d)

@@ -15,7 +15,15 @@ use Rattle.drs_build.specs.Nodes.{Named, named, named_layer, names_of, own_name,
 
 -- Names
 
-named_is : (g : GrammarParts) (sk : Skeleton) → named g sk ≡ named_layer g (record { rule = (out-Skeleton sk).rule; start = (out-Skeleton sk).start; end = (out-Skeleton sk).end; found = (out-Skeleton sk).found; words = (out-Skeleton sk).words; children = map (named g) (out-Skeleton sk).children })
+named_is : (g : GrammarParts) (sk : Skeleton)
+    → named g sk ≡ named_layer g (record {
+      rule = (out-Skeleton sk).rule;
+      start = (out-Skeleton sk).start;
+      end = (out-Skeleton sk).end;
+      found = (out-Skeleton sk).found;
+      words = (out-Skeleton sk).words;
+      children = map (named g) (out-Skeleton sk).children;
+    })
 unfolding named
 named_is g sk = fold_out-Skeleton Named (named_layer g) sk
 
@@ -31,26 +39,37 @@ names_in_all g [] = refl
 names_in_all g (sk ∷ sks) = ap (λ ns. names_of g sk ++ ns) (names_in_all g sks)
 
 -- the names of a skeleton: its own, and those of its children
-pub names_of_is : (g : GrammarParts) (sk : Skeleton) → names_of g sk ≡ own_name g (out-Skeleton sk).rule (out-Skeleton sk).start (out-Skeleton sk).words (ends_of (out-Skeleton sk).children) ++ flat_map (names_of g) (out-Skeleton sk).children
+pub names_of_is : (g : GrammarParts) (sk : Skeleton)
+    → names_of g sk ≡ own_name g (out-Skeleton sk).rule (out-Skeleton sk).start (out-Skeleton sk).words (ends_of (out-Skeleton sk).children)
+    ++ flat_map (names_of g) (out-Skeleton sk).children
 names_of_is g sk =
     ap (λ n. n.names) (named_is g sk)
-    ∙ ap (λ es. own_name g (out-Skeleton sk).rule (out-Skeleton sk).start (out-Skeleton sk).words es ++ flat_map (λ c. c.names) (map (named g) (out-Skeleton sk).children)) (named_ends g (out-Skeleton sk).children)
-    ∙ ap (λ ns. own_name g (out-Skeleton sk).rule (out-Skeleton sk).start (out-Skeleton sk).words (ends_of (out-Skeleton sk).children) ++ ns) (names_in_all g (out-Skeleton sk).children)
+    ∙ ap (λ es. own_name g (out-Skeleton sk).rule (out-Skeleton sk).start (out-Skeleton sk).words es
+    ++ flat_map (λ c. c.names) (map (named g) (out-Skeleton sk).children)) (named_ends g (out-Skeleton sk).children)
+    ∙ ap (λ ns. own_name g (out-Skeleton sk).rule (out-Skeleton sk).start (out-Skeleton sk).words (ends_of (out-Skeleton sk).children) ++ ns)
+    (names_in_all g (out-Skeleton sk).children)
 
 -- the names of a skeleton, put after others in parts
-pub names_whole : (g : GrammarParts) (sk : Skeleton) (before all : List (ℕ × WordId)) → all ≡ (before ++ own_name g (out-Skeleton sk).rule (out-Skeleton sk).start (out-Skeleton sk).words (ends_of (out-Skeleton sk).children)) ++ flat_map (names_of g) (out-Skeleton sk).children → all ≡ before ++ names_of g sk
+pub names_whole : (g : GrammarParts) (sk : Skeleton) (before all : List (ℕ × WordId))
+    → all ≡ (before ++ own_name g (out-Skeleton sk).rule (out-Skeleton sk).start (out-Skeleton sk).words (ends_of (out-Skeleton sk).children))
+    ++ flat_map (names_of g) (out-Skeleton sk).children → all ≡ before ++ names_of g sk
 names_whole g sk before all h =
     h
-    ∙ append_assoc before (own_name g (out-Skeleton sk).rule (out-Skeleton sk).start (out-Skeleton sk).words (ends_of (out-Skeleton sk).children)) (flat_map (names_of g) (out-Skeleton sk).children)
+    ∙ append_assoc before (own_name g (out-Skeleton sk).rule (out-Skeleton sk).start (out-Skeleton sk).words (ends_of (out-Skeleton sk).children))
+    (flat_map (names_of g) (out-Skeleton sk).children)
     ∙ ap (λ ns. before ++ ns) (sym (names_of_is g sk))
 
-taken_more : (g : GrammarParts) (ks : List Skeleton) (n : ℕ) (child : Skeleton) → slice_get ks n ≡ Some child → flat_map (names_of g) (take (suc n) ks) ≡ flat_map (names_of g) (take n ks) ++ names_of g child
+taken_more : (g : GrammarParts) (ks : List Skeleton) (n : ℕ) (child : Skeleton) → slice_get ks n ≡ Some child
+    → flat_map (names_of g) (take (suc n) ks) ≡ flat_map (names_of g) (take n ks) ++ names_of g child
 taken_more g [] n child h = absurd cc
 taken_more g (k ∷ ks) zero child h = let same : k ≡ child = cc in ap (λ x. names_of g x ++ []) same ∙ append-nil (names_of g child)
-taken_more g (k ∷ ks) (suc n) child h = ap (λ ns. names_of g k ++ ns) (taken_more g ks n child h) ∙ sym (append_assoc (names_of g k) (flat_map (names_of g) (take n ks)) (names_of g child))
+taken_more g (k ∷ ks) (suc n) child h = ap (λ ns. names_of g k ++ ns) (taken_more g ks n child h)
+    ∙ sym (append_assoc (names_of g k) (flat_map (names_of g) (take n ks)) (names_of g child))
 
 -- the names of one child more
-pub names_more : (g : GrammarParts) (kids : List Skeleton) (place : ℕ) (child : Skeleton) (before some all : List (ℕ × WordId)) → slice_get kids place ≡ Some child → some ≡ before ++ flat_map (names_of g) (take place kids) → all ≡ some ++ names_of g child → all ≡ before ++ flat_map (names_of g) (take (place + 1) kids)
+pub names_more : (g : GrammarParts) (kids : List Skeleton) (place : ℕ) (child : Skeleton) (before some all : List (ℕ × WordId))
+    → slice_get kids place ≡ Some child → some ≡ before ++ flat_map (names_of g) (take place kids) → all ≡ some ++ names_of g child
+    → all ≡ before ++ flat_map (names_of g) (take (place + 1) kids)
 names_more g kids place child before some all at are more =
     more
     ∙ ap (λ ns. ns ++ names_of g child) are
@@ -60,13 +79,22 @@ names_more g kids place child before some all at are more =
 -- Meanings
 
 module _ (g : GrammarParts) (names : List (ℕ × WordId)) where
-  phrase_is : (sk : Skeleton) → phrase_in g names sk ≡ phrase_layer g names (record { rule = (out-Skeleton sk).rule; start = (out-Skeleton sk).start; end = (out-Skeleton sk).end; found = (out-Skeleton sk).found; words = (out-Skeleton sk).words; children = map (phrase_in g names) (out-Skeleton sk).children })
+  phrase_is : (sk : Skeleton) → phrase_in g names sk
+      ≡ phrase_layer g names (record {
+        rule = (out-Skeleton sk).rule;
+        start = (out-Skeleton sk).start;
+        end = (out-Skeleton sk).end;
+        found = (out-Skeleton sk).found;
+        words = (out-Skeleton sk).words;
+        children = map (phrase_in g names) (out-Skeleton sk).children;
+      })
   unfolding phrase_in
   phrase_is sk = fold_out-Skeleton Phrase (phrase_layer g names) sk
 
   phrase_ends : (sks : List Skeleton) → map (λ c. c.end) (map (phrase_in g names) sks) ≡ ends_of sks
   phrase_ends [] = refl
-  phrase_ends (sk ∷ sks) = ap (λ e. e ∷ map (λ c. c.end) (map (phrase_in g names) sks)) (ap (λ p. p.end) (phrase_is sk)) ∙ ap (λ es. (out-Skeleton sk).end ∷ es) (phrase_ends sks)
+  phrase_ends (sk ∷ sks) = ap (λ e. e ∷ map (λ c. c.end) (map (phrase_in g names) sks)) (ap (λ p. p.end) (phrase_is sk))
+      ∙ ap (λ es. (out-Skeleton sk).end ∷ es) (phrase_ends sks)
 
   meant_are : (sks : List Skeleton) → meant (map (phrase_in g names) sks) ≡ map (meaning_in g names) (filter (λ c. is_meant g (out-Skeleton c).rule) sks)
   meant_are [] = refl
@@ -74,17 +102,20 @@ module _ (g : GrammarParts) (names : List (ℕ × WordId)) where
       ap (λ b. cond b (meaning_in g names sk ∷ meant (map (phrase_in g names) sks)) (meant (map (phrase_in g names) sks))) (ap (λ p. p.is_meant) (phrase_is sk))
       ∙ ap (λ ms. cond (is_meant g (out-Skeleton sk).rule) (meaning_in g names sk ∷ ms) ms) (meant_are sks) ∙ out (is_meant g (out-Skeleton sk).rule)
     where
-      out : (b : Bool) → cond b (meaning_in g names sk ∷ map (meaning_in g names) (filter (λ c. is_meant g (out-Skeleton c).rule) sks)) (map (meaning_in g names) (filter (λ c. is_meant g (out-Skeleton c).rule) sks))
+      out : (b : Bool) → cond b (meaning_in g names sk ∷ map (meaning_in g names) (filter (λ c. is_meant g (out-Skeleton c).rule) sks))
+          (map (meaning_in g names) (filter (λ c. is_meant g (out-Skeleton c).rule) sks))
           ≡ map (meaning_in g names) (cond b (sk ∷ filter (λ c. is_meant g (out-Skeleton c).rule) sks) (filter (λ c. is_meant g (out-Skeleton c).rule) sks))
       out true = refl
       out false = refl
 
-  nth_meant : (sks : List Skeleton) (n : ℕ) → slice_index_or (map (meaning_in g names) sks) n nothing ≡ option_map_or (meaning_in g names) (slice_get sks n) nothing
+  nth_meant : (sks : List Skeleton) (n : ℕ)
+      → slice_index_or (map (meaning_in g names) sks) n nothing ≡ option_map_or (meaning_in g names) (slice_get sks n) nothing
   nth_meant [] n = refl
   nth_meant (sk ∷ sks) zero = refl
   nth_meant (sk ∷ sks) (suc n) = nth_meant sks n
 
-  made_is : (sk : Skeleton) → made g names (out-Skeleton sk).rule (out-Skeleton sk).start (out-Skeleton sk).found (out-Skeleton sk).words (map (phrase_in g names) (out-Skeleton sk).children) ≡ made_in g names sk
+  made_is : (sk : Skeleton) → made g names (out-Skeleton sk).rule (out-Skeleton sk).start (out-Skeleton sk).found (out-Skeleton sk).words
+      (map (phrase_in g names) (out-Skeleton sk).children) ≡ made_in g names sk
   made_is sk =
       let child : (n : ℕ) → slice_index_or (meant (map (phrase_in g names) (out-Skeleton sk).children)) n nothing ≡ child_meaning g names sk n =
       λ n. ap (λ ms. slice_index_or ms n nothing) (meant_are (out-Skeleton sk).children) ∙ nth_meant (meant_children g sk) n in
@@ -98,7 +129,8 @@ module _ (g : GrammarParts) (names : List (ℕ × WordId)) where
       } in
       let second = slice_index_or (meant (map (phrase_in g names) (out-Skeleton sk).children)) 1 nothing in
       let ends = map (λ c. c.end) (map (phrase_in g names) (out-Skeleton sk).children) in
-      ap (λ a. with a second ends) (child 0) ∙ ap (λ b. with (child_meaning g names sk 0) b ends) (child 1) ∙ ap (with (child_meaning g names sk 0) (child_meaning g names sk 1)) (phrase_ends (out-Skeleton sk).children)
+      ap (λ a. with a second ends) (child 0) ∙ ap (λ b. with (child_meaning g names sk 0) b ends) (child 1)
+      ∙ ap (with (child_meaning g names sk 0) (child_meaning g names sk 1)) (phrase_ends (out-Skeleton sk).children)
 
   -- the meaning of a node, by its label
   pub meaning_is : (sk : Skeleton) → meaning_in g names sk ≡ option_map_or (λ l. meaning l (made_in g names sk)) (label_of g (out-Skeleton sk).rule) nothing
@@ -116,10 +148,13 @@ module _ (g : GrammarParts) (names : List (ℕ × WordId)) where
 at_place : (kids : List Skeleton) (place : ℕ) (child : Skeleton) → place < length kids → child ≡ get_or kids place child → slice_get kids place ≡ Some child
 at_place kids place child below read = slice_get_read kids (length kids) place child refl below read
 
-pub child_meant : (g : GrammarParts) (names : List (ℕ × WordId)) (sk : Skeleton) (n : ℕ) (child : Skeleton) → slice_get (meant_children g sk) n ≡ Some child → meaning_in g names child ≡ child_meaning g names sk n
+pub child_meant : (g : GrammarParts) (names : List (ℕ × WordId)) (sk : Skeleton) (n : ℕ) (child : Skeleton) → slice_get (meant_children g sk) n ≡ Some child
+    → meaning_in g names child ≡ child_meaning g names sk n
 child_meant g names sk n child is = sym (ap (λ o. option_map_or (meaning_in g names) o nothing) is)
 
-pub here_meant : (p : Skeleton → Bool) (kids : List Skeleton) (place : ℕ) (child : Skeleton) → place < length kids → child ≡ get_or kids place child → p child ≡ true → slice_get (filter p (drop place kids)) 0 ≡ slice_get kids place
+pub here_meant : (p : Skeleton → Bool) (kids : List Skeleton) (place : ℕ) (child : Skeleton) → place < length kids → child ≡ get_or kids place child
+    → p child ≡ true → slice_get (filter p (drop place kids)) 0 ≡ slice_get kids place
 here_meant p kids place child below read is =
     let at : slice_get kids place ≡ Some child = at_place kids place child below read in
-    ap (λ ks. slice_get (filter p ks) 0) (drop_next kids place child at) ∙ ap (λ b. slice_get (cond b (child ∷ filter p (drop (suc place) kids)) (filter p (drop (suc place) kids))) 0) is ∙ sym at
+    ap (λ ks. slice_get (filter p ks) 0) (drop_next kids place child at)
+    ∙ ap (λ b. slice_get (cond b (child ∷ filter p (drop (suc place) kids)) (filter p (drop (suc place) kids))) 0) is ∙ sym at

@@ -37,7 +37,8 @@ kept_weight : (p : Skeleton → Bool) (sks : List Skeleton) (r : ℕ) → total 
 kept_weight p [] r = omega arith
 kept_weight p (sk ∷ sks) r = by (p sk) (kept_weight p sks r)
   where
-    by : (b : Bool) → total (map span_of (filter p sks)) r ≤ total (map span_of sks) r → total (map span_of (cond b (sk ∷ filter p sks) (filter p sks))) r ≤ inside (span_of sk) r + total (map span_of sks) r
+    by : (b : Bool) → total (map span_of (filter p sks)) r ≤ total (map span_of sks) r
+        → total (map span_of (cond b (sk ∷ filter p sks) (filter p sks))) r ≤ inside (span_of sk) r + total (map span_of sks) r
     by true h = omega arith
     by false h = omega arith
 
@@ -49,7 +50,8 @@ kept_light g p (sk ∷ sks) all = by (p sk) (kept_light g p sks all.1)
     by true later = (all.0, later)
     by false later = later
 
-nth_light : (g : GrammarParts) (sks : List Skeleton) (i : ℕ) → AllLight g sks → Introducing g → (names : List (ℕ × WordId)) → Light (λ r. weight_at sks i r) (option_map_or (meaning_in g names) (slice_get sks i) nothing)
+nth_light : (g : GrammarParts) (sks : List Skeleton) (i : ℕ) → AllLight g sks → Introducing g → (names : List (ℕ × WordId))
+    → Light (λ r. weight_at sks i r) (option_map_or (meaning_in g names) (slice_get sks i) nothing)
 nth_light g [] i all new names = light_nothing (λ r. weight_at [] i r)
 nth_light g (sk ∷ sks) zero all new names = all.0 new names
 nth_light g (sk ∷ sks) (suc i) all new names = nth_light g sks i all.1 new names
@@ -59,19 +61,34 @@ span_ends [] = refl
 span_ends (sk ∷ sks) = ap (λ es. (out-Skeleton sk).end ∷ es) (span_ends sks)
 
 -- a skeleton's own referent and those of its children lie in its span
-own_le : (g : GrammarParts) (sk : Skeleton) (l : Label) (r : ℕ) → is_in_order g sk ≡ true → label_of g (out-Skeleton sk).rule ≡ Some l → Introducing g → own l (position_in g sk) r + total (map span_of (out-Skeleton sk).children) r + past (out-Skeleton sk).end r ≤ past (out-Skeleton sk).start r
+own_le : (g : GrammarParts) (sk : Skeleton) (l : Label) (r : ℕ) → is_in_order g sk ≡ true → label_of g (out-Skeleton sk).rule ≡ Some l → Introducing g
+    → own l (position_in g sk) r + total (map span_of (out-Skeleton sk).children) r + past (out-Skeleton sk).end r ≤ past (out-Skeleton sk).start r
 own_le g sk l r ordered named new = by (label_row l).introduces refl
   where
-    by : (b : Bool) → (label_row l).introduces ≡ b → own l (position_in g sk) r + total (map span_of (out-Skeleton sk).children) r + past (out-Skeleton sk).end r ≤ past (out-Skeleton sk).start r
+    by : (b : Bool) → (label_row l).introduces ≡ b
+        → own l (position_in g sk) r + total (map span_of (out-Skeleton sk).children) r + past (out-Skeleton sk).end r ≤ past (out-Skeleton sk).start r
     by true e =
         let it : Introduces (body_of g (out-Skeleton sk).rule) = new (out-Skeleton sk).rule l named e in
         let mine : own l (position_in g sk) r ≡ one (position_in g sk == r) = ap (λ b. cond b (one (position_in g sk == r)) 0) e in
-        let here : one (introduced_at (body_of g (out-Skeleton sk).rule) (out-Skeleton sk).start (ends_in (map span_of (out-Skeleton sk).children)) == r) ≡ one (position_in g sk == r) = ap (λ es. one (introduced_at (body_of g (out-Skeleton sk).rule) (out-Skeleton sk).start es == r)) (span_ends (out-Skeleton sk).children) in
+        let here : one (introduced_at (body_of g (out-Skeleton sk).rule) (out-Skeleton sk).start (ends_in (map span_of (out-Skeleton sk).children)) == r)
+        ≡ one (position_in g sk == r) =
+        ap (λ es. one (introduced_at (body_of g (out-Skeleton sk).rule) (out-Skeleton sk).start es == r)) (span_ends (out-Skeleton sk).children) in
         let has : 1 ≤ count_by is_introduction (body_of g (out-Skeleton sk).rule) = omega (arith, it.once) in
-        omega (arith, mine, here, own_inside false (body_of g (out-Skeleton sk).rule) (out-Skeleton sk).start (map span_of (out-Skeleton sk).children) (out-Skeleton sk).end r (body_leads g sk ordered) it.behind has)
+        omega (
+          arith,
+          mine,
+          here,
+          own_inside false (body_of g (out-Skeleton sk).rule) (out-Skeleton sk).start (map span_of (out-Skeleton sk).children)
+              (out-Skeleton sk).end r (body_leads g sk ordered) it.behind has,
+        )
     by false e =
         let none : own l (position_in g sk) r ≡ 0 = ap (λ b. cond b (one (position_in g sk == r)) 0) e in
-        omega (arith, none, children_inside (body_of g (out-Skeleton sk).rule) (out-Skeleton sk).start (map span_of (out-Skeleton sk).children) (out-Skeleton sk).end r (body_leads g sk ordered))
+        omega (
+          arith,
+          none,
+          children_inside (body_of g (out-Skeleton sk).rule) (out-Skeleton sk).start (map span_of (out-Skeleton sk).children)
+              (out-Skeleton sk).end r (body_leads g sk ordered),
+        )
 
 -- a skeleton in order whose children introduce each referent once, in their spans, does so
 pub node_light : (g : GrammarParts) (sk : Skeleton) → is_in_order g sk ≡ true → AllLight g (out-Skeleton sk).children → LightIn g sk
@@ -84,7 +101,13 @@ node_light g sk ordered all new names = by (label_of g (out-Skeleton sk).rule) r
         let v : ℕ → ℕ = λ r. weight_at (meant_children g sk) 0 r in
         let w : ℕ → ℕ = λ r. weight_at (meant_children g sk) 1 r in
         let le : (r : ℕ) → own l (position_in g sk) r + weight_at (meant_children g sk) 0 r + weight_at (meant_children g sk) 1 r ≤ inside (span_of sk) r = λ r.
-        omega (arith, own_le g sk l r ordered e new, two_weights (meant_children g sk) r, kept_weight (λ c. is_meant g (out-Skeleton c).rule) (out-Skeleton sk).children r) in
+        omega (
+          arith,
+          own_le g sk l r ordered e new,
+          two_weights (meant_children g sk) r,
+          kept_weight (λ c. is_meant g (out-Skeleton c).rule) (out-Skeleton sk).children r,
+        ) in
         subst (Light (inside (span_of sk))) (sym (meaning_by g names sk l e))
-        (light_more (λ r. own l (position_in g sk) r + weight_at (meant_children g sk) 0 r + weight_at (meant_children g sk) 1 r) (inside (span_of sk)) (meaning l (made_in g names sk)) le
+        (light_more (λ r. own l (position_in g sk) r + weight_at (meant_children g sk) 0 r + weight_at (meant_children g sk) 1 r) (inside (span_of sk))
+        (meaning l (made_in g names sk)) le
         (light_label (made_in g names sk) v w (nth_light g (meant_children g sk) 0 light new names) (nth_light g (meant_children g sk) 1 light new names) l))

@@ -1,4 +1,4 @@
--- Structures in the making, as the program holds them.
+-- Structures in the making, as the program holds them. Only private calls speak of it.
 use Rattle.std.specs.Prelude.{map}
 use Rattle.logic_terms.specs.Structure.{Structure, structure, conditions_from}
 use Rattle.logic_terms.specs.Shown.{condition_of}

@@ -47,19 +47,17 @@ pub record Made : Type 0 where
 
 -- The equation of each label. Both meanings of `and` and `or` are those of sentences or those of verb phrases.
 abbrev pub meaning : Label → Made → Meaning
-meaning label.Statement m = m.first
-meaning label.Ask m = m.first
 meaning label.If m = saying (only (Implication m.first.says m.second.says))
 meaning label.Say m = saying (m.first.around (m.second.on m.first.term))
 meaning label.And m = record nothing { says = m.first.says ⊕ m.second.says; on = λ x. m.first.on x ⊕ m.second.on x }
 meaning label.Or m = record nothing { says = only (Disjunction m.first.says m.second.says); on = λ x. only (Disjunction (m.first.on x) (m.second.on x)) }
-meaning label.Pass m = m.first
 meaning label.Not m = verb_phrase (λ x. only (Negation (m.first.on x)))
 meaning label.Does m = verb_phrase (λ x. m.first.around (only (AreRelated m.word x m.first.term)))
 meaning label.Done m = verb_phrase (λ x. m.first.around (only (AreRelated m.word m.first.term x)))
 meaning label.Class m = verb_phrase (λ x. only (IsA m.word x) ⊕ m.first.on x)
 meaning label.Top m = verb_phrase (λ x. empty)
 meaning label.Same m = verb_phrase (λ x. m.first.around (only (AreSame x m.first.term)))
+meaning _ m = m.first
 meaning label.Only m =
     verb_phrase (λ x. only (Implication (introduced m.here ⊕ only (AreRelated m.word x (Ref m.here))) (only (IsA m.other_word (Ref m.here)))))
 meaning label.Gap m = verb_phrase (λ x. m.first.around (only (AreRelated m.word m.first.term x)))

@@ -41,15 +41,8 @@ introduced_at (NoBack ps ∷ es) place ends = introduced_at es place ends
 
 -- the label is name: the one whose word is a name
 abbrev pub is_name : Words → Bool
-is_name words.No = false
 is_name words.Name = true
-is_name words.Noun = false
-is_name words.Of = false
-is_name words.Verb = false
-is_name words.Relation = false
-is_name words.VerbThenNoun = false
-is_name words.VerbBehind = false
-is_name words.Any = false
+is_name _ = false
 
 abbrev pub is_naming : Option Label → Bool
 is_naming o = option_map_or (λ l. is_name (label_row l).words) o false

@@ -1,4 +1,4 @@
--- Skeletons in order: each phrase takes the places between its start and its end, from left to right.
+-- Skeletons in order: each phrase takes the places between its start and its end, from left to right. Only private calls speak of it.
 use Rattle.std.specs.Prelude.{◌≡◌, ℕ, ◌+◌, ◌<◌, ◌==◌, slice_get, Some, nat_le, Bool, true, false, ◌&&◌, List, [], ◌∷◌, map}
 use Rattle.std.specs.List.{list_all}
 use Rattle.codeco_terms.specs.declared.elements.Element.{Element}

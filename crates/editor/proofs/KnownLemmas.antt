@@ -39,7 +39,8 @@ found_word : (p : Word → Bool) (live : List Word) (word : Word) → find p liv
 found_word p [] word h = cc
 found_word p (w ∷ ws) word h = by (p w) refl h (found_word p ws word)
   where
-    by : (b : Bool) → p w ≡ b → (if b then Some w else find p ws) ≡ Some word → (find p ws ≡ Some word → Among ws word × (p word ≡ true)) → Among (w ∷ ws) word × (p word ≡ true)
+    by : (b : Bool) → p w ≡ b → (if b then Some w else find p ws) ≡ Some word → (find p ws ≡ Some word → Among ws word × (p word ≡ true))
+        → Among (w ∷ ws) word × (p word ≡ true)
     by true passes is later = let same : w ≡ word = cc in (inl (sym same), ap p (sym same) ∙ passes)
     by false fails is later = let rest = later is in (inr rest.0, rest.1)
 
@@ -53,7 +54,8 @@ found_none p (w ∷ ws) word h k passes = by (p w) refl h k (found_none p ws wor
     by false fails is (inl e) later = true_is_false (sym passes ∙ ap p e ∙ fails)
     by false fails is (inr k) later = later is k passes
 
-owner_known_at : (g : GrammarParts) (l : Listed) (text : List ℕ) (id : WordId) (o : Option Word) → find (has_form text) l.live ≡ o → option_map (λ word. word.id) o ≡ Some id → IsKnown g l text
+owner_known_at : (g : GrammarParts) (l : Listed) (text : List ℕ) (id : WordId) (o : Option Word) → find (has_form text) l.live ≡ o
+    → option_map (λ word. word.id) o ≡ Some id → IsKnown g l text
 owner_known_at g l text id None found h = cc
 owner_known_at g l text id (Some word) found h =
     let one = found_word (has_form text) l.live word found in
@@ -65,7 +67,8 @@ owner_known g l text id h = owner_known_at g l text id (find (has_form text) l.l
 pub terminal_known : (g : GrammarParts) (l : Listed) (text : List ℕ) → is_terminal g.terminals text ≡ true → IsKnown g l text
 terminal_known g l text h = (Function, h)
 
-no_owner : (l : Listed) (text : List ℕ) (o : Option Word) → find (has_form text) l.live ≡ o → option_map (λ word. word.id) o ≡ None → (word : Word) → Among l.live word → has_form text word ≡ true → ⊥
+no_owner : (l : Listed) (text : List ℕ) (o : Option Word) → find (has_form text) l.live ≡ o → option_map (λ word. word.id) o ≡ None → (word : Word)
+    → Among l.live word → has_form text word ≡ true → ⊥
 no_owner l text None found h word k form = found_none (has_form text) l.live word found k form
 no_owner l text (Some w) found h word k form = cc
 
@@ -112,11 +115,13 @@ known_is_token g l text sound is utf8 h = by h.0 h.1
 
 -- A text that is no terminal, by what is found of it
 
-pub known_by_owner : (g : GrammarParts) (l : Listed) (text : List ℕ) (o : Option WordId) (b : Bool) → is_terminal g.terminals text ≡ false → o ≡ owner l.live text → b ≡ is_some o → IsTrue b ↔ IsKnown g l text
+pub known_by_owner : (g : GrammarParts) (l : Listed) (text : List ℕ) (o : Option WordId) (b : Bool) → is_terminal g.terminals text ≡ false
+    → o ≡ owner l.live text → b ≡ is_some o → IsTrue b ↔ IsKnown g l text
 known_by_owner g l text None b terminal e test = (λ t. true_is_false (sym t ∙ test), λ k. absurd (nothing_known g l text terminal (sym e) k))
 known_by_owner g l text (Some id) b terminal e test = (λ t. owner_known g l text id (sym e), λ k. test)
 
-pub token_by_owner : (l : Listed) (text : List ℕ) (o : Option WordId) (b : Bool) → IsLexicon l → IsUtf8 text → o ≡ owner l.live text → b ≡ is_some o → b ≡ true → IsToken text
+pub token_by_owner : (l : Listed) (text : List ℕ) (o : Option WordId) (b : Bool) → IsLexicon l → IsUtf8 text → o ≡ owner l.live text → b ≡ is_some o → b ≡ true
+    → IsToken text
 token_by_owner l text None b is utf8 e test t = true_is_false (sym t ∙ test)
 token_by_owner l text (Some id) b is utf8 e test t = by (find (has_form text) l.live) refl (sym e)
   where

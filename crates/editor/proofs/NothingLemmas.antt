@@ -4,6 +4,10 @@ use Rattle.std.specs.Prelude.{if◌then◌else◌, ◌==◌, option_and_then, op
 use Rattle.std.specs.List.{flat_map, list_all, list_any, range_with_len}
 use Rattle.std.specs.Option.{option_map_or}
 use Rattle.std.proofs.lemmas.Bool.Decides.{nat_tests}
+use Rattle.std.proofs.lemmas.Bool.{and_from, or_left, or_right, not-false, false_from_ne_true, ltb-true, ltb-false, eqb-true}
+use Rattle.std.proofs.lemmas.List.{map-append}
+use Rattle.wiki_base.proofs.BoolLaws.{and_first, and_second}
+use Rattle.wiki_base.proofs.NumberLaws.{eqb_refl}
 use Rattle.codeco_terms.specs.declared.values.Value.{Value}
 use Rattle.codeco_terms.specs.declared.values.Value.TheVariants.{Atom, Word, Pos}
 use Rattle.codeco_terms.specs.declared.values.Term.{Term}
@@ -24,20 +28,19 @@ use Rattle.codeco_checked.specs.Sound.{IsSound, has_values}
 use Rattle.lexicon.specs.Words.{Listed}
 use Rattle.derivation_trees.specs.Trees.{none}
 use Rattle.derivation_trees.specs.Settings.{Setting, is_value, fits_feature}
-use Rattle.derivation_trees.specs.Instances.{looked_up, value_under, under, put, put_all, features_of, left_out, own_features, rule_own_features, written_variables, variables_of, same_numbers, term_fits, own_fit, own_values, is_instance}
+use Rattle.derivation_trees.specs.Instances.{looked_up, value_under, under, features_of, left_out, own_features, rule_own_features, written_variables, variables_of, same_numbers, term_fits, own_fit, own_values, is_instance}
+use Rattle.derivation_trees.specs.Putting.{put, put_all}
+use Rattle.derivation_trees.proofs.RangeLemmas.{put_all_range}
 use Rattle.derivation_trees.specs.Derives.{Stand, fits, run, same_where_both, rule_with, text_category}
 use Rattle.derivation_trees.specs.Partial.{stopped, used_up, front, cut_end, IsBeginning}
 use Rattle.derivation_trees.specs.Sentences.{setting_of}
 use Rattle.derivations.specs.Enumeration.{is_variable, feature_at}
-use Rattle.derivations.proofs.Members.{Among, among_left, among_right, among_flat_map, all_among, map_of, first_of_and, second_of_and, true_is_false}
-use Rattle.derivations.proofs.ValueLemmas.{same_number, number_is_same, range_has}
+use Rattle.derivations.proofs.Members.{Among, among_left, among_right, among_flat_map, all_among, true_is_false}
+use Rattle.derivations.proofs.ValueLemmas.{range_has}
 use Rattle.derivations.proofs.CutLemmas.{Passing, any_passes, passes_any}
 use Rattle.derivations.proofs.SoundLemmas.{Mapped, from_map, Flattened, from_flat_map, rule_numbered}
 
 -- Tests
-
-both : (a b : Bool) → a ≡ true → b ≡ true → (a && b) ≡ true
-both a b h k = ap (λ x. x && b) h ∙ k
 
 or_first : (a b : Bool) → (a || b) ≡ false → a ≡ false
 or_first true b h = h
@@ -46,21 +49,6 @@ or_first false b h = refl
 or_second : (a b : Bool) → (a || b) ≡ false → b ≡ false
 or_second true b h = true_is_false h
 or_second false b h = h
-
-or_left : (a b : Bool) → a ≡ true → (a || b) ≡ true
-or_left a b h = ap (λ x. x || b) h
-
-or_right : (a b : Bool) → b ≡ true → (a || b) ≡ true
-or_right true b h = refl
-or_right false b h = h
-
-not_false : (b : Bool) → not b ≡ false → b ≡ true
-not_false true h = refl
-not_false false h = sym h
-
-false_from : (b : Bool) → (b ≡ true → ⊥) → b ≡ false
-false_from true h = absurd (h refl)
-false_from false h = refl
 
 true_from : (b : Bool) → (not b ≡ true → ⊥) → b ≡ true
 true_from true h = refl
@@ -74,7 +62,7 @@ none_passes p (z ∷ zs) x h (inr k) = none_passes p zs x (or_second (p z) (list
 
 all_from : {X : Type 0} (p : X → Bool) (xs : List X) → ((x : X) → Among xs x → p x ≡ true) → list_all p xs ≡ true
 all_from p [] h = refl
-all_from p (x ∷ xs) h = both (p x) (list_all p xs) (h x (inl refl)) (all_from p xs (λ y k. h y (inr k)))
+all_from p (x ∷ xs) h = and_from (p x) (list_all p xs) (h x (inl refl)) (all_from p xs (λ y k. h y (inr k)))
 
 among_filter : {X : Type 0} (p : X → Bool) (xs : List X) (x : X) → Among xs x → p x ≡ true → Among (filter p xs) x
 among_filter p [] x h k = absurd h
@@ -95,7 +83,7 @@ from_filter p (z ∷ zs) x h = by (from_filter p zs x) (p z) h
     by later false k = inr (later k)
 
 among_has : (xs : List ℕ) (x : ℕ) → Among xs x → has xs x ≡ true
-among_has xs x h = passes_any (λ y. x == y) xs x h (number_is_same x)
+among_has xs x h = passes_any (λ y. x == y) xs x h (eqb_refl x)
 
 -- Faults
 
@@ -115,20 +103,23 @@ no_fault_in : (test : Rule → Bool) (rules : List Rule) (r : Rule) → Among ru
 no_fault_in test rules r h nowhere =
     let at = place_of rules r h in
     let here : at_rule test rules (1 + at.0) ≡ test r =
-    ap (λ b. b && option_map_or test (slice_get rules (1 + at.0 - 1)) false) (is_positive at.0) ∙ ap (λ k. option_map_or test (slice_get rules k) false) (one_less at.0)
+    ap (λ b. b && option_map_or test (slice_get rules (1 + at.0 - 1)) false) (is_positive at.0)
+    ∙ ap (λ k. option_map_or test (slice_get rules k) false) (one_less at.0)
     ∙ ap (λ o. option_map_or test o false) at.1
     in
-    false_from (test r) (λ t. nowhere (1 + at.0) (here ∙ t))
+    false_from_ne_true (test r) (λ t. nowhere (1 + at.0) (here ∙ t))
 
-is_declared_in : (g : GrammarParts) → IsSound g → (r : Rule) → Among g.rules r → (p : ℕ × Term) → Among (rule_features r) p → is_declared (values_of g p.0) ≡ true
+is_declared_in : (g : GrammarParts) → IsSound g → (r : Rule) → Among g.rules r → (p : ℕ × Term) → Among (rule_features r) p
+    → is_declared (values_of g p.0) ≡ true
 is_declared_in g sound r h p k =
     let fine : is_undeclared_rule g r ≡ false = no_fault_in (is_undeclared_rule g) g.rules r h (λ n t. sound.faultless (Undeclared n) t) in
-    not_false (is_declared (values_of g p.0)) (none_passes (λ (f : ℕ × Term). not (is_declared (values_of g f.0))) (rule_features r) p fine k)
+    not-false (is_declared (values_of g p.0)) (none_passes (λ (f : ℕ × Term). not (is_declared (values_of g f.0))) (rule_features r) p fine k)
 
-valued_at : (fs : List Feature) (n : ℕ) → list_all (λ f. has_values f.declared) fs ≡ true → has_values (option_map_or (λ x. x.declared) (slice_get fs n) declared.Undeclared) ≡ true
+valued_at : (fs : List Feature) (n : ℕ) → list_all (λ f. has_values f.declared) fs ≡ true
+    → has_values (option_map_or (λ x. x.declared) (slice_get fs n) declared.Undeclared) ≡ true
 valued_at [] n h = refl
-valued_at (f ∷ fs) zero h = first_of_and (has_values f.declared) (list_all (λ x. has_values x.declared) fs) h
-valued_at (f ∷ fs) (suc n) h = valued_at fs n (second_of_and (has_values f.declared) (list_all (λ x. has_values x.declared) fs) h)
+valued_at (f ∷ fs) zero h = and_first (has_values f.declared) (list_all (λ x. has_values x.declared) fs) h
+valued_at (f ∷ fs) (suc n) h = valued_at fs n (and_second (has_values f.declared) (list_all (λ x. has_values x.declared) fs) h)
 
 is_valued : (g : GrammarParts) → IsSound g → (f : ℕ) → has_values (values_of g f) ≡ true
 is_valued g sound f = valued_at g.features f sound.written.values
@@ -148,44 +139,42 @@ is_small g sound r h =
 
 -- Variables
 
-lt_from : (a b : ℕ) → nat_lt a b ≡ true → a < b
-lt_from a b h = grind (arith, nat_tests)
-
-at_most_from : (a b : ℕ) → nat_lt a b ≡ false → b ≤ a
-at_most_from a b h = grind (arith, nat_tests)
-
 -- numbers that count up are below their total
 abbrev Counted : ℕ → ℕ → List ℕ → Type 0
 Counted next total xs = (next ≤ total) × ((x : ℕ) → Among xs x → x < total)
 
 counted : (next total : ℕ) (xs : List ℕ) → counts_up next total xs ≡ true → Counted next total xs
-counted next total [] h = let e : next ≡ total = same_number next total h in (omega arith, λ x k. absurd k)
+counted next total [] h = let e : next ≡ total = eqb-true next total h in (omega arith, λ x k. absurd k)
 counted next total (y ∷ ys) h = by (nat_lt y next) refl h (counted next total ys) (counted (next + 1) total ys)
   where
     by : (b : Bool) → nat_lt y next ≡ b → (if b then counts_up next total ys else ((y == next) && counts_up (next + 1) total ys)) ≡ true
-        → (counts_up next total ys ≡ true → Counted next total ys) → (counts_up (next + 1) total ys ≡ true → Counted (next + 1) total ys) → Counted next total (y ∷ ys)
+        → (counts_up next total ys ≡ true → Counted next total ys) → (counts_up (next + 1) total ys ≡ true → Counted (next + 1) total ys)
+        → Counted next total (y ∷ ys)
     by true e h same more =
         let rest = same h in
-        let low : y < next = lt_from y next e in
+        let low : y < next = ltb-true y next e in
         let within : next ≤ total = rest.0 in
         (within, λ x k. elim k [ inl s ↦ omega (arith, s, low, within) | inr later ↦ rest.1 x later ])
     by false e h same more =
-        let rest = more (second_of_and (y == next) (counts_up (next + 1) total ys) h) in
-        let new : y ≡ next = same_number y next (first_of_and (y == next) (counts_up (next + 1) total ys) h) in
+        let rest = more (and_second (y == next) (counts_up (next + 1) total ys) h) in
+        let new : y ≡ next = eqb-true y next (and_first (y == next) (counts_up (next + 1) total ys) h) in
         let within : next + 1 ≤ total = rest.0 in
         (omega (arith, within), λ x k. elim k [ inl s ↦ omega (arith, s, new, within) | inr later ↦ rest.1 x later ])
 
 is_below_sixteen : (g : GrammarParts) → IsSound g → (r : Rule) → Among g.rules r → (x : ℕ) → Among (rule_variables r) x → x < 16
 is_below_sixteen g sound r h x k =
-    let few : nat_lt 16 (count_different (rule_variables r)) ≡ false = or_second _ (nat_lt 16 (count_different (rule_variables r))) (or_first _ _ (is_small g sound r h)) in
-    let most : count_different (rule_variables r) ≤ 16 = at_most_from 16 (count_different (rule_variables r)) few in
-    let below : x < count_different (rule_variables r) = (counted 0 (count_different (rule_variables r)) (rule_variables r) (all_among variables_count_up g.rules r sound.numbered.variables h)).1 x k in
+    let few : nat_lt 16 (count_different (rule_variables r)) ≡ false =
+    or_second _ (nat_lt 16 (count_different (rule_variables r))) (or_first _ _ (is_small g sound r h)) in
+    let most : count_different (rule_variables r) ≤ 16 = ltb-false 16 (count_different (rule_variables r)) few in
+    let below : x < count_different (rule_variables r) =
+    (counted 0 (count_different (rule_variables r)) (rule_variables r) (all_among variables_count_up g.rules r sound.numbered.variables h)).1 x k in
     omega (arith, most, below)
 
 is_written : (g : GrammarParts) → IsSound g → (r : Rule) → Among g.rules r → (x : ℕ) → Among (rule_variables r) x → Among (written_variables r) x
 unfolding written_variables
 is_written g sound r h x k =
-    among_filter (has (rule_variables r)) (range_with_len 0 16) x (range_has 16 0 x (omega arith) (let low = is_below_sixteen g sound r h x k in omega (arith, low))) (among_has (rule_variables r) x k)
+    among_filter (has (rule_variables r)) (range_with_len 0 16) x
+    (range_has 16 0 x (omega arith) (let low = is_below_sixteen g sound r h x k in omega (arith, low))) (among_has (rule_variables r) x k)
 
 -- the variables of a feature are variables of the rule
 variable_of_feature : (r : Rule) (f x : ℕ) → Among (rule_features r) (f, Var x) → Among (rule_variables r) x
@@ -245,7 +234,7 @@ some_value_fits_same s (declared.Atoms (a ∷ bs)) declared.Undeclared same h k 
 some_value_fits_same s (declared.Atoms (a ∷ bs)) declared.Words same h k = same
 some_value_fits_same s (declared.Atoms (a ∷ bs)) declared.Positions same h k = same
 some_value_fits_same s (declared.Atoms (a ∷ bs)) (declared.Atoms ys) same h k =
-    first_of_and (has ys a) (list_all (has ys) bs) (first_of_and (list_all (has ys) (a ∷ bs)) (list_all (has (a ∷ bs)) ys) same)
+    and_first (has ys a) (list_all (has ys) bs) (and_first (list_all (has ys) (a ∷ bs)) (list_all (has (a ∷ bs)) ys) same)
 
 -- An instance
 
@@ -284,32 +273,36 @@ first_at (p ∷ fs) x = by (is_variable x p.1) refl (feature_at x fs) (first_at 
 -- a variable is the term's variable
 variable_among : (x : ℕ) (t : Term) → is_variable x t ≡ true → Among (term_variables t) x
 variable_among x (Val v) h = true_is_false (sym h)
-variable_among x (Var y) h = inl (same_number x y h)
+variable_among x (Var y) h = inl (eqb-true x y h)
 
 same_as_variable : (x : ℕ) (t : Term) → is_variable x t ≡ true → same_variable t (Var x) ≡ true
 same_as_variable x (Val v) h = h
-same_as_variable x (Var y) h = or_left (y == x) false (subst (λ z. (z == x) ≡ true) (same_number x y h) (number_is_same x))
+same_as_variable x (Var y) h = or_left (y == x) false (subst (λ z. (z == x) ≡ true) (eqb-true x y h) (eqb_refl x))
 
 -- what the chosen value fits
-chosen_fits : (g : GrammarParts) → IsSound g → (r : Rule) → Among g.rules r → (s : Setting) → s.grammar ≡ g → (f x : ℕ) → Among (rule_features r) (f, Var x) → is_value s (values_of g f) (chosen_value g (rule_features r) x) ≡ true
+chosen_fits : (g : GrammarParts) → IsSound g → (r : Rule) → Among g.rules r → (s : Setting) → s.grammar ≡ g → (f x : ℕ) → Among (rule_features r) (f, Var x)
+    → is_value s (values_of g f) (chosen_value g (rule_features r) x) ≡ true
 unfolding chosen_value
 chosen_fits g sound r h s same f x k = by (feature_at x (rule_features r)) (first_at (rule_features r) x)
   where
     by : (o : Option ℕ) → IsFirstAt (rule_features r) x o → is_value s (values_of g f) (option_map_or (λ n. some_value (values_of g n)) o (Pos 0)) ≡ true
-    by None unwritten = true_is_false (sym (number_is_same x) ∙ unwritten (f, Var x) k)
+    by None unwritten = true_is_false (sym (eqb_refl x) ∙ unwritten (f, Var x) k)
     by (Some n) written =
         let one : list_any (λ (w : ℕ × Term). same_variable written.0 w.1 && not (same_values (values_of g n) (values_of g w.0))) (rule_features r) ≡ false =
-        none_passes (λ (v : ℕ × Term). list_any (λ (w : ℕ × Term). same_variable v.1 w.1 && not (same_values (values_of g v.0) (values_of g w.0))) (rule_features r)) (rule_features r) (n, written.0) (is_unmixed g sound r h) written.1
+        none_passes (λ (v : ℕ × Term). list_any (λ (w : ℕ × Term). same_variable v.1 w.1 && not (same_values (values_of g v.0) (values_of g w.0)))
+        (rule_features r)) (rule_features r) (n, written.0) (is_unmixed g sound r h) written.1
         in
         let two : (same_variable written.0 (Var x) && not (same_values (values_of g n) (values_of g f))) ≡ false =
         none_passes (λ (w : ℕ × Term). same_variable written.0 w.1 && not (same_values (values_of g n) (values_of g w.0))) (rule_features r) (f, Var x) one k
         in
         let alike : same_values (values_of g n) (values_of g f) ≡ true =
-        not_false (same_values (values_of g n) (values_of g f)) (sym (ap (λ b. b && not (same_values (values_of g n) (values_of g f))) (same_as_variable x written.0 written.2)) ∙ two)
+        not-false (same_values (values_of g n) (values_of g f))
+        (sym (ap (λ b. b && not (same_values (values_of g n) (values_of g f))) (same_as_variable x written.0 written.2)) ∙ two)
         in
         some_value_fits_same s (values_of g n) (values_of g f) alike (is_declared_in g sound r h (n, written.0) written.1) (is_valued g sound n)
 
-chosen_position : (g : GrammarParts) → IsSound g → (r : Rule) → Among g.rules r → (s : Setting) → (x : ℕ) → Among (flat_map positions r.body) x → is_value s declared.Positions (chosen_value g (rule_features r) x) ≡ true
+chosen_position : (g : GrammarParts) → IsSound g → (r : Rule) → Among g.rules r → (s : Setting) → (x : ℕ) → Among (flat_map positions r.body) x
+    → is_value s declared.Positions (chosen_value g (rule_features r) x) ≡ true
 unfolding chosen_value
 chosen_position g sound r h s x k = by (feature_at x (rule_features r)) (first_at (rule_features r) x)
   where
@@ -317,28 +310,34 @@ chosen_position g sound r h s x k = by (feature_at x (rule_features r)) (first_a
     by None unwritten = zero_within (length s.tokens)
     by (Some n) written =
         let one : list_any (λ (w : ℕ × Term). has (term_variables w.1) x && not (same_values (values_of g w.0) declared.Positions)) (rule_features r) ≡ false =
-        none_passes (λ y. list_any (λ (w : ℕ × Term). has (term_variables w.1) y && not (same_values (values_of g w.0) declared.Positions)) (rule_features r)) (flat_map positions r.body) x (is_well_placed g sound r h) k
+        none_passes (λ y. list_any (λ (w : ℕ × Term). has (term_variables w.1) y && not (same_values (values_of g w.0) declared.Positions)) (rule_features r))
+        (flat_map positions r.body) x (is_well_placed g sound r h) k
         in
         let two : (has (term_variables written.0) x && not (same_values (values_of g n) declared.Positions)) ≡ false =
-        none_passes (λ (w : ℕ × Term). has (term_variables w.1) x && not (same_values (values_of g w.0) declared.Positions)) (rule_features r) (n, written.0) one written.1
+        none_passes (λ (w : ℕ × Term). has (term_variables w.1) x && not (same_values (values_of g w.0) declared.Positions)) (rule_features r) (n, written.0)
+        one written.1
         in
         let alike : same_values (values_of g n) declared.Positions ≡ true =
-        not_false (same_values (values_of g n) declared.Positions) (sym (ap (λ b. b && not (same_values (values_of g n) declared.Positions)) (among_has (term_variables written.0) x (variable_among x written.0 written.2))) ∙ two)
+        not-false (same_values (values_of g n) declared.Positions)
+        (sym (ap (λ b. b && not (same_values (values_of g n) declared.Positions))
+        (among_has (term_variables written.0) x (variable_among x written.0 written.2))) ∙ two)
         in
         some_value_fits_same s (values_of g n) declared.Positions alike (is_declared_in g sound r h (n, written.0) written.1) (is_valued g sound n)
 
 -- a written variable has its chosen value
-value_is_chosen : (g : GrammarParts) (fs : List (ℕ × Term)) (xs : List ℕ) (more : List (ℕ × Value)) (x : ℕ) → Among xs x → value_under (paired g fs xs ++ more) x ≡ chosen_value g fs x
+value_is_chosen : (g : GrammarParts) (fs : List (ℕ × Term)) (xs : List ℕ) (more : List (ℕ × Value)) (x : ℕ) → Among xs x
+    → value_under (paired g fs xs ++ more) x ≡ chosen_value g fs x
 value_is_chosen g fs [] more x h = absurd h
 value_is_chosen g fs (y ∷ ys) more x h = by (y == x) refl (value_is_chosen g fs ys more x)
   where
-    by : (b : Bool) → (y == x) ≡ b → (Among ys x → value_under (paired g fs ys ++ more) x ≡ chosen_value g fs x) → unwrap_or (if b then Some (chosen_value g fs y) else looked_up (paired g fs ys ++ more) x) (Atom 0) ≡ chosen_value g fs x
-    by true e later = ap (chosen_value g fs) (same_number y x e)
-    by false e later = later (elim h [ inl same ↦ true_is_false (sym (ap (λ z. z == x) (sym same) ∙ number_is_same x) ∙ e) | inr k ↦ k ])
+    by : (b : Bool) → (y == x) ≡ b → (Among ys x → value_under (paired g fs ys ++ more) x ≡ chosen_value g fs x)
+        → unwrap_or (if b then Some (chosen_value g fs y) else looked_up (paired g fs ys ++ more) x) (Atom 0) ≡ chosen_value g fs x
+    by true e later = ap (chosen_value g fs) (eqb-true y x e)
+    by false e later = later (elim h [ inl same ↦ true_is_false (sym (ap (λ z. z == x) (sym same) ∙ eqb_refl x) ∙ e) | inr k ↦ k ])
 
 numbers_same : (xs : List ℕ) → same_numbers xs xs ≡ true
 numbers_same [] = refl
-numbers_same (x ∷ xs) = both (x == x) (same_numbers xs xs) (number_is_same x) (numbers_same xs)
+numbers_same (x ∷ xs) = and_from (x == x) (same_numbers xs xs) (eqb_refl x) (numbers_same xs)
 
 paired_numbers : (g : GrammarParts) (fs : List (ℕ × Term)) (xs : List ℕ) → map (λ (p : ℕ × Value). p.0) (paired g fs xs) ≡ xs
 paired_numbers g fs [] = refl
@@ -350,7 +349,7 @@ own_numbers g n (f ∷ fs) = ap (λ ys. n ∷ ys) (own_numbers g (n + 1) fs)
 
 chosen_numbers : (g : GrammarParts) (r : Rule) → map (λ (p : ℕ × Value). p.0) (chosen_values g r) ≡ variables_of g r
 chosen_numbers g r =
-    map_of (λ (p : ℕ × Value). p.0) (paired g (rule_features r) (written_variables r)) (own_paired g 16 (rule_own_features g r))
+    map-append (λ (p : ℕ × Value). p.0) (paired g (rule_features r) (written_variables r)) (own_paired g 16 (rule_own_features g r))
     ∙ ap (λ ys. ys ++ map (λ (p : ℕ × Value). p.0) (own_paired g 16 (rule_own_features g r))) (paired_numbers g (rule_features r) (written_variables r))
     ∙ ap (λ ys. written_variables r ++ ys) (own_numbers g 16 (rule_own_features g r))
 
@@ -365,7 +364,8 @@ put_from x [] f (inl e) = inl e
 put_from x [] f (inr k) = absurd k
 put_from x (y ∷ ys) f h = by (nat_lt y x) (x == y) h (put_from x ys f)
   where
-    by : (b c : Bool) → Among (if b then y ∷ put x ys else (if c then y ∷ ys else x ∷ y ∷ ys)) f → (Among (put x ys) f → (f ≡ x) ⊎ Among ys f) → (f ≡ x) ⊎ Among (y ∷ ys) f
+    by : (b c : Bool) → Among (if b then y ∷ put x ys else (if c then y ∷ ys else x ∷ y ∷ ys)) f → (Among (put x ys) f → (f ≡ x) ⊎ Among ys f)
+        → (f ≡ x) ⊎ Among (y ∷ ys) f
     by true c (inl e) later = inr (inl e)
     by true c (inr k) later = elim (later k) [ inl e ↦ inl e | inr m ↦ inr (inr m) ]
     by false true k later = inr k
@@ -374,20 +374,27 @@ put_from x (y ∷ ys) f h = by (nat_lt y x) (x == y) h (put_from x ys f)
 
 put_all_from : (sorted xs : List ℕ) (f : ℕ) → Among (put_all sorted xs) f → Among sorted f ⊎ Among xs f
 put_all_from sorted [] f h = inl h
-put_all_from sorted (x ∷ xs) f h = elim (put_all_from (put x sorted) xs f h) [ inl k ↦ elim (put_from x sorted f k) [ inl e ↦ inr (inl e) | inr m ↦ inl m ] | inr k ↦ inr (inr k) ]
+put_all_from sorted (x ∷ xs) f h = elim (put_all_from (put x sorted) xs f h) [
+  | inl k ↦
+      elim (put_from x sorted f k) [ inl e ↦ inr (inl e) | inr m ↦ inl m ]
+  | inr k ↦ inr (inr k)
+]
 
 -- a feature that is written with a category's name is declared
 written_is_declared : (g : GrammarParts) → IsSound g → (name f : ℕ) → Among (features_written g name) f → is_declared (values_of g f) ≡ true
 written_is_declared g sound name f h =
-    let rule : Flattened (λ (r : Rule). flat_map (λ (c : Category). if c.name == name then map (λ (p : ℕ × Term). p.0) c.feats else []) (rule_mentions r)) g.rules f =
+    let rule : Flattened (λ (r : Rule). flat_map (λ (c : Category). if c.name == name then map (λ (p : ℕ × Term). p.0) c.feats else []) (rule_mentions r))
+    g.rules f =
     from_flat_map (λ (r : Rule). flat_map (λ (c : Category). if c.name == name then map (λ (p : ℕ × Term). p.0) c.feats else []) (rule_mentions r)) g.rules f h
     in
     let category : Flattened (λ (c : Category). if c.name == name then map (λ (p : ℕ × Term). p.0) c.feats else []) (rule_mentions rule.from) f =
     from_flat_map (λ (c : Category). if c.name == name then map (λ (p : ℕ × Term). p.0) c.feats else []) (rule_mentions rule.from) f rule.is
     in
-    let written : Mapped (λ (p : ℕ × Term). p.0) category.from.feats f = from_map (λ (p : ℕ × Term). p.0) category.from.feats f (of_name (category.from.name == name) category.from category.is) in
+    let written : Mapped (λ (p : ℕ × Term). p.0) category.from.feats f =
+    from_map (λ (p : ℕ × Term). p.0) category.from.feats f (of_name (category.from.name == name) category.from category.is) in
     subst (λ n. is_declared (values_of g n) ≡ true) (sym written.is)
-    (is_declared_in g sound rule.from rule.among written.from (among_flat_map (λ (c : Category). c.feats) (rule_mentions rule.from) category.from written.from category.among written.among))
+    (is_declared_in g sound rule.from rule.among written.from
+    (among_flat_map (λ (c : Category). c.feats) (rule_mentions rule.from) category.from written.from category.among written.among))
   where
     of_name : (b : Bool) (c : Category) → Among (if b then map (λ (p : ℕ × Term). p.0) c.feats else []) f → Among (map (λ (p : ℕ × Term). p.0) c.feats) f
     of_name true c k = k
@@ -395,7 +402,10 @@ written_is_declared g sound name f h =
 
 left_out_is_declared : (g : GrammarParts) → IsSound g → (c : Category) (f : ℕ) → Among (left_out g c) f → is_declared (values_of g f) ≡ true
 left_out_is_declared g sound c f h =
-    written_is_declared g sound c.name f (by (put_all_from [] (features_written g c.name) f (from_filter (λ n. not (has (map (λ (p : ℕ × Term). p.0) c.feats) n)) (features_of g c.name) f h)))
+    written_is_declared g sound c.name f
+    (by (put_all_from [] (features_written g c.name) f
+    (subst (λ fs. Among fs f) (sym (put_all_range (features_written g c.name)))
+    (from_filter (λ n. not (has (map (λ (p : ℕ × Term). p.0) c.feats) n)) (features_of g c.name) f h))))
   where
     by : ⊥ ⊎ Among (features_written g c.name) f → Among (features_written g c.name) f
     by (inl k) = absurd k
@@ -412,9 +422,10 @@ own_is_declared g sound (Strong c) f h = left_out_is_declared g sound c f h
 own_is_declared g sound (Back ps ns) f h = absurd h
 own_is_declared g sound (NoBack ps) f h = absurd h
 
-own_paired_fit : (s : Setting) (n : ℕ) (fs : List ℕ) → ((f : ℕ) → Among fs f → fits_feature s f (some_value (values_of s.grammar f)) ≡ true) → own_fit s fs (own_paired s.grammar n fs) ≡ true
+own_paired_fit : (s : Setting) (n : ℕ) (fs : List ℕ) → ((f : ℕ) → Among fs f → fits_feature s f (some_value (values_of s.grammar f)) ≡ true)
+    → own_fit s fs (own_paired s.grammar n fs) ≡ true
 own_paired_fit s n [] h = refl
-own_paired_fit s n (f ∷ fs) h = both _ _ (h f (inl refl)) (own_paired_fit s (n + 1) fs (λ e k. h e (inr k)))
+own_paired_fit s n (f ∷ fs) h = and_from _ _ (h f (inl refl)) (own_paired_fit s (n + 1) fs (λ e k. h e (inr k)))
 
 -- the chosen values are an instance
 chosen_instance : (s : Setting) → IsSound s.grammar → (r : Rule) → Among s.grammar.rules r → is_instance s r (chosen_values s.grammar r) ≡ true
@@ -426,7 +437,8 @@ chosen_instance s sound r h =
     let chosen : (x : ℕ) → Among (rule_variables r) x → value_under values x ≡ chosen_value g fs x =
     λ x k. value_is_chosen g fs (written_variables r) (own_paired g 16 (rule_own_features g r)) x (is_written g sound r h x k)
     in
-    let numbers : same_numbers (map (λ (p : ℕ × Value). p.0) values) (variables_of g r) ≡ true = ap (λ ns. same_numbers ns (variables_of g r)) (chosen_numbers g r) ∙ numbers_same (variables_of g r) in
+    let numbers : same_numbers (map (λ (p : ℕ × Value). p.0) values) (variables_of g r) ≡ true =
+    ap (λ ns. same_numbers ns (variables_of g r)) (chosen_numbers g r) ∙ numbers_same (variables_of g r) in
     let terms : list_all (term_fits s values) fs ≡ true = all_from (term_fits s values) fs (λ p k. term_at chosen p.0 p.1 k) in
     let places : list_all (λ x. is_value s declared.Positions (value_under values x)) (flat_map positions r.body) ≡ true =
     all_from (λ x. is_value s declared.Positions (value_under values x)) (flat_map positions r.body)
@@ -436,9 +448,10 @@ chosen_instance s sound r h =
     ap (own_fit s (rule_own_features g r)) (paired_dropped g fs (written_variables r) (own_paired g 16 (rule_own_features g r)))
     ∙ own_paired_fit s 16 (rule_own_features g r) (λ f k. own_at f (from_flat_map (own_features g) r.body f k))
     in
-    both _ _ (both _ _ (both _ _ numbers terms) places) own
+    and_from _ _ (and_from _ _ (and_from _ _ numbers terms) places) own
   where
-    term_at : ((x : ℕ) → Among (rule_variables r) x → value_under (chosen_values s.grammar r) x ≡ chosen_value s.grammar (rule_features r) x) → (f : ℕ) (t : Term) → Among (rule_features r) (f, t) → term_fits s (chosen_values s.grammar r) (f, t) ≡ true
+    term_at : ((x : ℕ) → Among (rule_variables r) x → value_under (chosen_values s.grammar r) x ≡ chosen_value s.grammar (rule_features r) x)
+        → (f : ℕ) (t : Term) → Among (rule_features r) (f, t) → term_fits s (chosen_values s.grammar r) (f, t) ≡ true
     term_at chosen f (Val v) k = refl
     term_at chosen f (Var x) k = ap (fits_feature s f) (chosen x (variable_of_feature r f x k)) ∙ chosen_fits s.grammar sound r h s refl f x k
 
@@ -446,11 +459,13 @@ chosen_instance s sound r h =
     own_at f e = some_value_fits s (values_of s.grammar f) (own_is_declared s.grammar sound e.from f e.is) (is_valued s.grammar sound f)
 
 -- a rule that fits `text` has a node that is cut off before its first element
-cut_at_once : (s : Setting) (n : ℕ) (r : Rule) (values : List (ℕ × Value)) → rule_with s.grammar n ≡ Some r → fits (under values r.head) text_category ≡ true → is_instance s r values ≡ true → cut_end s (stopped n values [] none 0) text_category (record { place = 0; list = [] }) ≡ Some 0
+cut_at_once : (s : Setting) (n : ℕ) (r : Rule) (values : List (ℕ × Value)) → rule_with s.grammar n ≡ Some r → fits (under values r.head) text_category ≡ true
+    → is_instance s r values ≡ true → cut_end s (stopped n values [] none 0) text_category (record { place = 0; list = [] }) ≡ Some 0
 cut_at_once s n r values at fit instance =
     ap (λ o. option_map (λ stand. stand.at.place) (option_and_then (λ rule. front s rule values [] [] 0 text_category (record { place = 0; list = [] })) o)) at
     ∙ ap (λ (b : Bool). option_map (λ (stand : Stand). stand.at.place) (option_and_then (λ stand. option_and_then used_up (run s values [] stand))
-    (if b then Some (record { at = record { place = 0; list = [] }; found = []; own = own_values r values; children = [] }) else None))) (both _ _ fit instance)
+    (if b then Some (record { at = record { place = 0; list = [] }; found = []; own = own_values r values; children = [] }) else None)))
+    (and_from _ _ fit instance)
 
 -- no tokens have a partial derivation
 pub begins_with_nothing : (g : GrammarParts) (lexicon : Listed) → IsSound g → IsBeginning g lexicon []
@@ -459,5 +474,9 @@ begins_with_nothing g lexicon sound =
     let rule : Passing (λ (r : Rule). r.head.name == 5) g.rules = any_passes (λ (r : Rule). r.head.name == 5) g.rules starts in
     let place = place_of g.rules rule.one rule.among in
     let values = chosen_values g rule.one in
-    let fit : fits (under values rule.one.head) text_category ≡ true = both _ _ rule.passes (all_from (λ p. list_all (same_where_both p) []) (under values rule.one.head).values (λ p k. refl)) in
-    (stopped (1 + place.0) values [] none 0, cut_at_once (setting_of g lexicon []) (1 + place.0) rule.one values (rule_numbered g place.0 rule.one place.1) fit (chosen_instance (setting_of g lexicon []) sound rule.one rule.among))
+    let fit : fits (under values rule.one.head) text_category ≡ true =
+    and_from _ _ rule.passes (all_from (λ p. list_all (same_where_both p) []) (under values rule.one.head).values (λ p k. refl)) in (
+      stopped (1 + place.0) values [] none 0,
+      cut_at_once (setting_of g lexicon []) (1 + place.0) rule.one values (rule_numbered g place.0 rule.one place.1) fit
+          (chosen_instance (setting_of g lexicon []) sound rule.one rule.among),
+    )

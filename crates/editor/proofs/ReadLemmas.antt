@@ -1,11 +1,12 @@
 -- Each token that a partial derivation passes is a terminal or has a reading.
-use Rattle.std.proofs.Common.{◌≡◌, ℕ, zero, suc, ◌+◌, ◌<◌, ◌≤◌, List, [], ◌∷◌, map, length, take, Bool, true, false, ◌&&◌, ◌||◌, ◌⊎◌, inl, inr, Option, Some, refl, sym, ap, subst, ◌∙◌, arith}
-use Rattle.std.specs.Prelude.{option_and_then, option_map, slice_get}
+use Rattle.std.proofs.Common.{◌≡◌, ℕ, zero, suc, ◌+◌, ◌<◌, ◌≤◌, List, [], ◌∷◌, length, take, Bool, true, false, ◌&&◌, ◌||◌, ◌⊎◌, inl, inr, Option, Some, refl, sym, ap, subst, ◌∙◌, arith}
+use Rattle.std.specs.Prelude.{option_and_then, slice_get}
 use Rattle.std.specs.List.{list_any}
 use Rattle.std.specs.Option.{option_map_or}
 use Rattle.std.specs.Str.{bytes_eq}
 use Rattle.std.proofs.lemmas.Bool.{cases_lt}
 use Rattle.std.proofs.lemmas.Option.{option_and_then_some, same_Some}
+use Rattle.wiki_base.proofs.ListLaws.{slice_get_mapped}
 use Rattle.codeco_terms.specs.declared.values.Value.{Value}
 use Rattle.codeco_terms.specs.declared.values.Value.TheVariants.{Pos}
 use Rattle.codeco_terms.specs.declared.categories.Pattern.{Pattern}
@@ -15,7 +16,7 @@ use Rattle.codeco_terms.specs.declared.elements.Element.TheVariants.{Terminal, P
 use Rattle.codeco_terms.specs.declared.rules.Rule.{Rule}
 use Rattle.codeco_terms.specs.GrammarParts.{GrammarParts}
 use Rattle.codeco_terms.specs.Values.{same_value}
-use Rattle.scopes.specs.declared.tests.Test.{Test}
+use Rattle.scopes.specs.declared.agreement.Test.{Test}
 use Rattle.scopes.specs.Resolution.{Finding, agrees, is_agreeing, closest_finding}
 use Rattle.lexicon.specs.Words.{Listed}
 use Rattle.lexicon.specs.Readings.{readings_of}
@@ -64,7 +65,8 @@ read_one : (s : Setting) (i : ℕ) → IsReadAt s i → Read s i (i + 1)
 read_one s i h k le lt = let same : i ≡ k = omega (arith, le, lt) in subst (IsReadAt s) same h
 
 -- an element that passes no token
-stays : (s : Setting) (stand next after : Stand) → next ≡ after → next.at.place ≡ stand.at.place → next.children ≡ stand.children → AllReads s stand.children → Passed s stand after
+stays : (s : Setting) (stand next after : Stand) → next ≡ after → next.at.place ≡ stand.at.place → next.children ≡ stand.children → AllReads s stand.children
+    → Passed s stand after
 stays s stand next after is place children kids =
     subst (Passed s stand) is (record {
       read = subst (Read s stand.at.place) (sym place) (read_none s stand.at.place);
@@ -72,25 +74,29 @@ stays s stand next after is place children kids =
     })
 
 -- an element that passes one token
-steps : (s : Setting) (stand next after : Stand) → next ≡ after → next.at.place ≡ stand.at.place + 1 → next.children ≡ stand.children → AllReads s stand.children → IsReadAt s stand.at.place → Passed s stand after
+steps : (s : Setting) (stand next after : Stand) → next ≡ after → next.at.place ≡ stand.at.place + 1 → next.children ≡ stand.children
+    → AllReads s stand.children → IsReadAt s stand.at.place → Passed s stand after
 steps s stand next after is place children kids here =
     subst (Passed s stand) is (record {
       read = subst (Read s stand.at.place) (sym place) (read_one s stand.at.place here);
       left = subst (AllReads s) (sym children) kids;
     })
 
-child_reads : (s : Setting) (asked : Test) (children : List Phrase) (stand after : Stand) → AllReads s children → pass_child asked children stand ≡ Some after → Passed s stand after
+child_reads : (s : Setting) (asked : Test) (children : List Phrase) (stand after : Stand) → AllReads s children → pass_child asked children stand ≡ Some after
+    → Passed s stand after
 child_reads s asked [] stand after kids h = absurd (cc)
 child_reads s asked (p ∷ ps) stand after kids h =
     option_and_then_some _ (p asked stand.at) after h (λ at led is.
     subst (Passed s stand) (same_Some _ _ is) (record { read = kids.0 asked stand.at at led; left = kids.1 }))
 
-finding_reads : (s : Setting) (values : List (ℕ × Value)) (positive : List Pattern) (finding : Option Finding) (found : List ℕ) (stand after : Stand) → AllReads s stand.children → pass_finding values positive finding found stand ≡ Some after → Passed s stand after
+finding_reads : (s : Setting) (values : List (ℕ × Value)) (positive : List Pattern) (finding : Option Finding) (found : List ℕ) (stand after : Stand)
+    → AllReads s stand.children → pass_finding values positive finding found stand ≡ Some after → Passed s stand after
 finding_reads s values positive finding [] stand after kids h = absurd (cc)
 finding_reads s values positive finding (pos ∷ rest) stand after kids h =
     if_some (is_found values positive pos finding) _ after h (λ b is. stays s stand _ after is refl refl kids)
 
-pass_reads : (s : Setting) (values : List (ℕ × Value)) (e : Element) (stand after : Stand) → AllReads s stand.children → pass s values e stand ≡ Some after → Passed s stand after
+pass_reads : (s : Setting) (values : List (ℕ × Value)) (e : Element) (stand after : Stand) → AllReads s stand.children → pass s values e stand ≡ Some after
+    → Passed s stand after
 pass_reads s values (Terminal t) stand after kids h =
     if_some (matches_terminal s t stand.at.place) _ after h (λ b is. steps s stand _ after is refl refl kids (inl (t, b)))
 pass_reads s values (Preterminal c) stand after kids h =
@@ -106,7 +112,8 @@ pass_reads s values (Back positive negative) stand after kids h =
 pass_reads s values (NoBack patterns) stand after kids h =
     unless_some (list_any (is_agreeing (tests_under values patterns)) stand.at.list) _ after h (λ b is. stays s stand _ after is refl refl kids)
 
-run_reads : (s : Setting) (values : List (ℕ × Value)) (es : List Element) (stand after : Stand) → AllReads s stand.children → run s values es stand ≡ Some after → Passed s stand after
+run_reads : (s : Setting) (values : List (ℕ × Value)) (es : List Element) (stand after : Stand) → AllReads s stand.children → run s values es stand ≡ Some after
+    → Passed s stand after
 run_reads s values [] stand after kids h = stays s stand _ after (same_Some _ _ h) refl refl kids
 run_reads s values (e ∷ es) stand after kids h =
     option_and_then_some (run s values es) (pass s values e stand) after h (λ mid first rest.
@@ -115,11 +122,13 @@ run_reads s values (e ∷ es) stand after kids h =
     record { read = read_on s stand.at.place mid.at.place after.at.place one.read others.read; left = others.left })
 
 -- where a node begins
-begins_at : (s : Setting) (rule : Rule) (values : List (ℕ × Value)) (found : List ℕ) (children : List Phrase) (asked : Test) (at : At) (stand : Stand) → begun s rule values found children asked at ≡ Some stand → (stand.at ≡ at) × (stand.children ≡ children)
+begins_at : (s : Setting) (rule : Rule) (values : List (ℕ × Value)) (found : List ℕ) (children : List Phrase) (asked : Test) (at : At) (stand : Stand)
+    → begun s rule values found children asked at ≡ Some stand → (stand.at ≡ at) × (stand.children ≡ children)
 begins_at s rule values found children asked at stand h =
     if_some (fits (under values rule.head) asked && is_instance s rule values) _ stand h (λ b is. (sym (ap (λ st. st.at) is), sym (ap (λ st. st.children) is)))
 
-phrase_reads : (s : Setting) (rule : Rule) (values : List (ℕ × Value)) (found : List ℕ) (children : List Phrase) → AllReads s children → Reads s (phrase s rule values found children)
+phrase_reads : (s : Setting) (rule : Rule) (values : List (ℕ × Value)) (found : List ℕ) (children : List Phrase) → AllReads s children
+    → Reads s (phrase s rule values found children)
 phrase_reads s rule values found children kids asked at after h =
     option_and_then_some _ (begun s rule values found children asked at) after h (λ start starts runs.
     let at_start = begins_at s rule values found children asked at start starts in
@@ -131,7 +140,8 @@ phrase_reads s rule values found children kids asked at after h =
 mutual
   node_reads : (s : Setting) (n : Node) → Reads s (phrase_of s n)
   node_reads s (node number values found ns) asked at after h =
-      option_and_then_some _ (rule_with s.grammar number) after h (λ rule has leads. phrase_reads s rule values found (phrases_of s ns) (nodes_read s ns) asked at after leads)
+      option_and_then_some _ (rule_with s.grammar number) after h
+      (λ rule has leads. phrase_reads s rule values found (phrases_of s ns) (nodes_read s ns) asked at after leads)
 
   nodes_read : (s : Setting) (ns : Nodes) → AllReads s (phrases_of s ns)
   nodes_read s none = tt
@@ -139,17 +149,21 @@ mutual
 
 -- cut-off nodes
 
-front_reads : (s : Setting) (rule : Rule) (values : List (ℕ × Value)) (found : List ℕ) (children : List Phrase) (count : ℕ) (asked : Test) (at : At) (stand : Stand) → AllReads s children → front s rule values found children count asked at ≡ Some stand → Read s at.place stand.at.place
+front_reads : (s : Setting) (rule : Rule) (values : List (ℕ × Value)) (found : List ℕ) (children : List Phrase) (count : ℕ) (asked : Test) (at : At)
+    (stand : Stand) → AllReads s children → front s rule values found children count asked at ≡ Some stand → Read s at.place stand.at.place
 front_reads s rule values found children count asked at stand kids h =
     option_and_then_some _ (begun s rule values found children asked at) stand h (λ start starts runs.
     let at_start = begins_at s rule values found children asked at start starts in
     option_and_then_some used_up (run s values (take count rule.body) start) stand runs (λ last ran used.
     let passed = run_reads s values (take count rule.body) start last (subst (AllReads s) (sym at_start.1) kids) ran in
-    subst (λ (to : Stand). Read s at.place to.at.place) (all_used last stand used) (subst (λ (from : At). Read s from.place last.at.place) at_start.0 passed.read)))
+    subst (λ (to : Stand). Read s at.place to.at.place) (all_used last stand used)
+    (subst (λ (from : At). Read s from.place last.at.place) at_start.0 passed.read)))
 
-front_of_reads : (s : Setting) (number : ℕ) (values : List (ℕ × Value)) (found : List ℕ) (ns : Nodes) (count : ℕ) (asked : Test) (at : At) (stand : Stand) → front_of s number values found ns count asked at ≡ Some stand → Read s at.place stand.at.place
+front_of_reads : (s : Setting) (number : ℕ) (values : List (ℕ × Value)) (found : List ℕ) (ns : Nodes) (count : ℕ) (asked : Test) (at : At) (stand : Stand)
+    → front_of s number values found ns count asked at ≡ Some stand → Read s at.place stand.at.place
 front_of_reads s number values found ns count asked at stand h =
-    option_and_then_some _ (rule_with s.grammar number) stand h (λ rule has fronts. front_reads s rule values found (phrases_of s ns) count asked at stand (nodes_read s ns) fronts)
+    option_and_then_some _ (rule_with s.grammar number) stand h
+    (λ rule has fronts. front_reads s rule values found (phrases_of s ns) count asked at stand (nodes_read s ns) fronts)
 
 cut_reads : (s : Setting) (cut : CutNode) (asked : Test) (at : At) (n : ℕ) → cut_end s cut asked at ≡ Some n → Read s at.place n
 cut_reads s (stopped number values found ns count) asked at n h =
@@ -157,7 +171,8 @@ cut_reads s (stopped number values found ns count) asked at n h =
     subst (Read s at.place) place (front_of_reads s number values found ns count asked at stand is))
 cut_reads s (entered number values found ns count child) asked at n h =
     option_and_then_some _ (front_of s number values found ns count asked at) n h (λ stand is ends.
-    option_and_then_some (λ category. cut_end s child (under values category) stand.at) (option_and_then (λ r. next_category r count) (rule_with s.grammar number)) n ends (λ c next deep.
+    option_and_then_some (λ category. cut_end s child (under values category) stand.at)
+    (option_and_then (λ r. next_category r count) (rule_with s.grammar number)) n ends (λ c next deep.
     read_on s at.place stand.at.place n (front_of_reads s number values found ns count asked at stand is) (cut_reads s child (under values c) stand.at n deep)))
 
 -- Tokens
@@ -167,12 +182,8 @@ among_place [] x h = absurd h
 among_place (y ∷ ys) x (inl e) = (0, omega arith, ap Some (sym e))
 among_place (y ∷ ys) x (inr h) = let one = among_place ys x h in (suc one.0, omega (arith, one.1), one.2)
 
-mapped_place : {X Y : Type 0} (f : X → Y) (xs : List X) (k : ℕ) (x : X) → slice_get xs k ≡ Some x → slice_get (map f xs) k ≡ Some (f x)
-mapped_place f [] k x h = cc
-mapped_place f (y ∷ ys) zero x h = ap (λ o. option_map f o) h
-mapped_place f (y ∷ ys) (suc k) x h = mapped_place f ys k x h
-
-terminal_at : (terminals : List (List ℕ)) (t : ℕ) (token : List ℕ) → option_map_or (bytes_eq token) (slice_get terminals t) false ≡ true → is_terminal terminals token ≡ true
+terminal_at : (terminals : List (List ℕ)) (t : ℕ) (token : List ℕ) → option_map_or (bytes_eq token) (slice_get terminals t) false ≡ true
+    → is_terminal terminals token ≡ true
 terminal_at [] t token h = h
 terminal_at (x ∷ xs) zero token h = ap (λ b. b || is_terminal xs token) h
 terminal_at (x ∷ xs) (suc t) token h = by (bytes_eq token x) (terminal_at xs t token h)
@@ -186,7 +197,8 @@ abbrev pub IsReadable : GrammarParts → Listed → List ℕ → Type 0
 IsReadable g l token = (is_terminal g.terminals token ≡ true) ⊎ (readings_of l.live token ≡ [] → ⊥)
 
 -- each token of a list that has a partial derivation is readable
-pub beginning_readable : (g : GrammarParts) (l : Listed) (tokens : List (List ℕ)) → IsBeginning g l tokens → (token : List ℕ) → Among tokens token → IsReadable g l token
+pub beginning_readable : (g : GrammarParts) (l : Listed) (tokens : List (List ℕ)) → IsBeginning g l tokens → (token : List ℕ) → Among tokens token
+    → IsReadable g l token
 beginning_readable g l tokens h token k =
     let place = among_place tokens token k in
     let s = setting_of g l tokens in
@@ -194,9 +206,11 @@ beginning_readable g l tokens h token k =
   where
     by : (n : ℕ) → slice_get tokens n ≡ Some token → IsReadAt (setting_of g l tokens) n → IsReadable g l token
     by n at (inl terminal) =
-        inl (terminal_at g.terminals terminal.0 token (sym (ap (λ o. option_map_or (λ (t : List ℕ). option_map_or (bytes_eq t) (slice_get g.terminals terminal.0) false) o false) at) ∙ terminal.1))
+        inl (terminal_at g.terminals terminal.0 token
+        (sym (ap (λ o. option_map_or (λ (t : List ℕ). option_map_or (bytes_eq t) (slice_get g.terminals terminal.0) false) o false) at) ∙ terminal.1))
     by n at (inr asked) =
         let reads : list_any (λ reading. agrees reading asked.0) (readings_of l.live token) ≡ true =
-        sym (ap (λ o. option_map_or (λ (readings : List Ground). list_any (λ reading. agrees reading asked.0) readings) o false) (mapped_place (readings_of l.live) tokens n token at)) ∙ asked.1
+        sym (ap (λ o. option_map_or (λ (readings : List Ground). list_any (λ reading. agrees reading asked.0) readings) o false)
+        (slice_get_mapped (readings_of l.live) tokens n token at)) ∙ asked.1
         in
         inr (λ empty. true_is_false (sym reads ∙ ap (λ (readings : List Ground). list_any (λ reading. agrees reading asked.0) readings) empty))

@@ -2,20 +2,20 @@
 use Rattle.std.proofs.Common.{◌≡◌, ℕ, ◌+◌, List, [], ◌∷◌, ◌++◌, map, Bool, true, false, ◌||◌, inl, inr, Option, Some, None, find, option_map, refl, sym, ap, ◌∙◌}
 use Rattle.std.specs.Prelude.{if◌then◌else◌}
 use Rattle.std.specs.List.{flat_map}
-use Rattle.std.specs.Option.{option_or}
 use Rattle.std.specs.Str.{bytes_eq}
 use Rattle.std.proofs.lemmas.Slice.Eq.{bytes_eq-Decides}
 use Rattle.wiki_base.specs.declared.numbers.WordId.{WordId}
+use Rattle.wiki_base.proofs.OptionLaws.{option_or-first_none, option_or-second_none}
+use Rattle.lexicon.proofs.Reading.{readings_from_none}
 use Rattle.codeco_terms.specs.declared.categories.Ground.{Ground}
 use Rattle.codeco_terms.specs.GrammarParts.{GrammarParts}
-use Rattle.lexicon.specs.declared.kinds.Kind.{Kind}
 use Rattle.lexicon.specs.declared.kinds.Forms.{Forms}
 use Rattle.lexicon.specs.declared.words.Word.{Word}
 use Rattle.lexicon.specs.declared.words.LexFault.{LexFault}
 use Rattle.lexicon.specs.declared.words.LexFault.TheVariants.{Taken, Reserved}
 use Rattle.lexicon.specs.Words.{Listed, is_among, has_form, owner, next_word, with_word, first_taken, first_reserved, fullness, forms_refusal, add_refusal}
 use Rattle.lexicon.specs.Terminals.{is_reserved, raised}
-use Rattle.lexicon.specs.Readings.{reading, readings_from, readings_of_word, readings_of}
+use Rattle.lexicon.specs.Readings.{readings_of_word, readings_of}
 use Rattle.derivation_trees.specs.Settings.{Setting}
 use Rattle.derivation_trees.specs.Cutting.{is_terminal}
 use Rattle.derivation_trees.specs.Sentences.{setting_of}
@@ -26,25 +26,17 @@ use Rattle.editor.proofs.EditingLemmas.{typeable_by, whole_begins}
 
 -- Readings
 
-no_readings_from : (kind : Kind) (id : WordId) (token : List ℕ) (place : ℕ) (forms : List (List ℕ)) → is_among forms token ≡ false → readings_from kind id token place forms ≡ []
-no_readings_from kind id token place [] h = refl
-no_readings_from kind id token place (form ∷ forms) h = by (bytes_eq token form) h (no_readings_from kind id token (place + 1) forms)
-  where
-    by : (b : Bool) → (b || is_among forms token) ≡ false → (is_among forms token ≡ false → readings_from kind id token (place + 1) forms ≡ [])
-        → (if b then reading kind id place form ∷ readings_from kind id token (place + 1) forms else readings_from kind id token (place + 1) forms) ≡ []
-    by true k later = true_is_false k
-    by false k later = later k
-
 -- a word without the form gives no reading
 no_readings : (token : List ℕ) (word : Word) → has_form token word ≡ false → readings_of_word token word ≡ []
-no_readings token word h = no_readings_from word.forms.kind word.id token 0 word.forms.texts h
+no_readings token word h = readings_from_none word.forms.kind word.id token 0 word.forms.texts h
 
 -- a form that no word has reads as nothing
 unread : (live : List Word) (token : List ℕ) → owner live token ≡ None → readings_of live token ≡ []
 unread [] token h = refl
 unread (word ∷ live) token h = by (has_form token word) refl h (unread live token)
   where
-    by : (b : Bool) → has_form token word ≡ b → option_map (λ (w : Word). w.id) (if b then Some word else find (has_form token) live) ≡ None → (owner live token ≡ None → readings_of live token ≡ []) → readings_of (word ∷ live) token ≡ []
+    by : (b : Bool) → has_form token word ≡ b → option_map (λ (w : Word). w.id) (if b then Some word else find (has_form token) live) ≡ None
+        → (owner live token ≡ None → readings_of live token ≡ []) → readings_of (word ∷ live) token ≡ []
     by true e k later = cc
     by false e k later = ap (λ (rs : List Ground). rs ++ readings_of live token) (no_readings token word e) ∙ later k
 
@@ -53,14 +45,6 @@ flat_map_last f [] x h = ap (λ ys. ys ++ []) h
 flat_map_last f (y ∷ ys) x h = ap (λ zs. f y ++ zs) (flat_map_last f ys x h)
 
 -- Causes that don't stand
-
-neither_first : {X : Type 0} (a b : Option X) → option_or a b ≡ None → a ≡ None
-neither_first (Some x) b h = h
-neither_first None b h = refl
-
-neither_second : {X : Type 0} (a b : Option X) → option_or a b ≡ None → b ≡ None
-neither_second (Some x) b h = cc
-neither_second None b h = h
 
 no_owner_taken : (text : List ℕ) (o : Option WordId) → option_map (Taken text) o ≡ None → o ≡ None
 no_owner_taken text None h = refl
@@ -72,10 +56,13 @@ same_bytes xs ys h = (bytes_eq-Decides xs ys).0 h
 -- a form that is not taken has no owner
 not_taken : (live : List Word) (texts : List (List ℕ)) (token : List ℕ) → first_taken live texts ≡ None → is_among texts token ≡ true → owner live token ≡ None
 not_taken live [] token h k = true_is_false (sym k)
-not_taken live (text ∷ texts) token h k = by (bytes_eq token text) refl k (not_taken live texts token (neither_second (option_map (Taken text) (owner live text)) (first_taken live texts) h))
+not_taken live (text ∷ texts) token h k =
+    by (bytes_eq token text) refl k (not_taken live texts token (option_or-second_none (option_map (Taken text) (owner live text)) (first_taken live texts) h))
   where
-    by : (b : Bool) → bytes_eq token text ≡ b → (b || is_among texts token) ≡ true → (is_among texts token ≡ true → owner live token ≡ None) → owner live token ≡ None
-    by true e k later = ap (owner live) (same_bytes token text e) ∙ no_owner_taken text (owner live text) (neither_first (option_map (Taken text) (owner live text)) (first_taken live texts) h)
+    by : (b : Bool) → bytes_eq token text ≡ b → (b || is_among texts token) ≡ true → (is_among texts token ≡ true → owner live token ≡ None)
+        → owner live token ≡ None
+    by true e k later = ap (owner live) (same_bytes token text e)
+        ∙ no_owner_taken text (owner live text) (option_or-first_none (option_map (Taken text) (owner live text)) (first_taken live texts) h)
     by false e k later = later k
 
 reserved_none : (b : Bool) (text : List ℕ) (o : Option LexFault) → (if b then Some (Reserved text) else o) ≡ None → (b ≡ false) × (o ≡ None)
@@ -87,30 +74,36 @@ not_spelled : (terminals : List (List ℕ)) (token : List ℕ) → is_reserved t
 not_spelled [] token h = refl
 not_spelled (t ∷ ts) token h = by (bytes_eq token t) (bytes_eq token (raised t)) h (not_spelled ts token)
   where
-    by : (b c : Bool) → ((b || c) || is_reserved ts token) ≡ false → (is_reserved ts token ≡ false → is_terminal ts token ≡ false) → (b || is_terminal ts token) ≡ false
+    by : (b c : Bool) → ((b || c) || is_reserved ts token) ≡ false → (is_reserved ts token ≡ false → is_terminal ts token ≡ false)
+        → (b || is_terminal ts token) ≡ false
     by true c k later = k
     by false true k later = true_is_false k
     by false false k later = later k
 
-not_reserved : (terminals texts : List (List ℕ)) (token : List ℕ) → first_reserved terminals texts ≡ None → is_among texts token ≡ true → is_terminal terminals token ≡ false
+not_reserved : (terminals texts : List (List ℕ)) (token : List ℕ) → first_reserved terminals texts ≡ None → is_among texts token ≡ true
+    → is_terminal terminals token ≡ false
 not_reserved terminals [] token h k = true_is_false (sym k)
 not_reserved terminals (text ∷ texts) token h k =
     let free = reserved_none (is_reserved terminals text) text (first_reserved terminals texts) h in
     by (bytes_eq token text) refl free.0 k (not_reserved terminals texts token free.1)
   where
-    by : (b : Bool) → bytes_eq token text ≡ b → is_reserved terminals text ≡ false → (b || is_among texts token) ≡ true → (is_among texts token ≡ true → is_terminal terminals token ≡ false) → is_terminal terminals token ≡ false
+    by : (b : Bool) → bytes_eq token text ≡ b → is_reserved terminals text ≡ false → (b || is_among texts token) ≡ true
+        → (is_among texts token ≡ true → is_terminal terminals token ≡ false) → is_terminal terminals token ≡ false
     by true e free k later = not_spelled terminals token (ap (is_reserved terminals) (same_bytes token text e) ∙ free)
     by false e free k later = later k
 
 -- Kept readings
 
 -- a readable token is no form of a word that can be added
-not_a_new_form : (g : GrammarParts) (l : Listed) (forms : Forms) (token : List ℕ) → l.terminals ≡ g.terminals → add_refusal l forms ≡ None → IsReadable g l token → (b : Bool) → is_among forms.texts token ≡ b → b ≡ false
+not_a_new_form : (g : GrammarParts) (l : Listed) (forms : Forms) (token : List ℕ) → l.terminals ≡ g.terminals → add_refusal l forms ≡ None
+    → IsReadable g l token → (b : Bool) → is_among forms.texts token ≡ b → b ≡ false
 not_a_new_form g l forms token same free readable false e = refl
 not_a_new_form g l forms token same free readable true e =
-    let given = neither_first (forms_refusal l.live l.terminals forms) (fullness l) free in
-    let owned : owner l.live token ≡ None = not_taken l.live forms.texts token (neither_first (first_taken l.live forms.texts) (first_reserved l.terminals forms.texts) given) e in
-    let spelled : is_terminal l.terminals token ≡ false = not_reserved l.terminals forms.texts token (neither_second (first_taken l.live forms.texts) (first_reserved l.terminals forms.texts) given) e in
+    let given = option_or-first_none (forms_refusal l.live l.terminals forms) (fullness l) free in
+    let owned : owner l.live token ≡ None =
+    not_taken l.live forms.texts token (option_or-first_none (first_taken l.live forms.texts) (first_reserved l.terminals forms.texts) given) e in
+    let spelled : is_terminal l.terminals token ≡ false =
+    not_reserved l.terminals forms.texts token (option_or-second_none (first_taken l.live forms.texts) (first_reserved l.terminals forms.texts) given) e in
     by owned (ap (λ ts. is_terminal ts token) (sym same) ∙ spelled) readable
   where
     by : owner l.live token ≡ None → is_terminal g.terminals token ≡ false → IsReadable g l token → true ≡ false
@@ -122,8 +115,11 @@ map_alike f h [] same = refl
 map_alike f h (x ∷ xs) same = ap (λ y. y ∷ map f xs) (same x (inl refl)) ∙ ap (λ ys. h x ∷ ys) (map_alike f h xs (λ y k. same y (inr k)))
 
 -- what is kept by a lexicon is kept by the same with a word more
-pub kept_with_word : (g : GrammarParts) (l : Listed) (forms : Forms) (s : Setting) → l.terminals ≡ g.terminals → add_refusal l forms ≡ None → s ≡ setting_of g l s.tokens → IsTypeableAsKept s → s ≡ setting_of g (with_word l forms) s.tokens
+pub kept_with_word : (g : GrammarParts) (l : Listed) (forms : Forms) (s : Setting) → l.terminals ≡ g.terminals → add_refusal l forms ≡ None
+    → s ≡ setting_of g l s.tokens → IsTypeableAsKept s → s ≡ setting_of g (with_word l forms) s.tokens
 kept_with_word g l forms s same free kept typeable =
-    kept ∙ ap (λ (readings : List (List Ground)). let made : Setting = record { grammar = g; tokens = s.tokens; readings = readings } in made) (map_alike (readings_of l.live) (readings_of (l.live ++ next_word l forms ∷ [])) s.tokens (λ token k.
+    kept ∙ ap (λ (readings : List (List Ground)). let made : Setting = record { grammar = g; tokens = s.tokens; readings = readings } in made)
+    (map_alike (readings_of l.live) (readings_of (l.live ++ next_word l forms ∷ [])) s.tokens (λ token k.
     let readable = beginning_readable g l s.tokens (whole_begins g l s.tokens (typeable_by g l s kept typeable)) token k in
-    sym (flat_map_last (readings_of_word token) l.live (next_word l forms) (no_readings token (next_word l forms) (not_a_new_form g l forms token same free readable (is_among forms.texts token) refl)))))
+    sym (flat_map_last (readings_of_word token) l.live (next_word l forms)
+    (no_readings token (next_word l forms) (not_a_new_form g l forms token same free readable (is_among forms.texts token) refl)))))

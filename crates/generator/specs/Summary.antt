@@ -53,7 +53,8 @@ said_text s = counted (codes "words") s.words (counted (codes "sentences") s.sen
 
 -- how many statements have no axioms, and what questions were answered
 abbrev pub answered_text : Summary → List ℕ
-answered_text s = counted (codes "outside") s.outside (counted (codes "questions") s.questions (counted (codes "answers") s.answers (counted (codes "unknown") s.unknown [])))
+answered_text s = counted (codes "outside") s.outside
+    (counted (codes "questions") s.questions (counted (codes "answers") s.answers (counted (codes "unknown") s.unknown [])))
 
 -- The eight lines of a summary.
 abbrev pub summary_text : Summary → List ℕ

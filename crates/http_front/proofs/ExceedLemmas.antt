@@ -28,14 +28,17 @@ newlines-field f = newlines-back (f.name ++ colon ∷ f.raw) (print_end f.end) 1
 newlines-fields : (fields : List Field) → length fields ≤ newlines (flat_map print_field fields)
 newlines-fields [] = omega arith
 newlines-fields (f ∷ fields) =
-    let whole : newlines (flat_map print_field (f ∷ fields)) ≡ newlines (print_field f) + newlines (flat_map print_field fields) = newlines-append (print_field f) (flat_map print_field fields) in
+    let whole : newlines (flat_map print_field (f ∷ fields)) ≡ newlines (print_field f) + newlines (flat_map print_field fields) =
+    newlines-append (print_field f) (flat_map print_field fields) in
     omega (arith, whole, newlines-field f, newlines-fields fields)
 
-lines_of : (target version line fields last : List ℕ) (n : ℕ) → n ≤ newlines fields → newlines line ≡ 1 → newlines last ≡ 1 → n + 2 ≤ newlines (target ++ (version ++ (line ++ (fields ++ last))))
+lines_of : (target version line fields last : List ℕ) (n : ℕ) → n ≤ newlines fields → newlines line ≡ 1 → newlines last ≡ 1
+    → n + 2 ≤ newlines (target ++ (version ++ (line ++ (fields ++ last))))
 lines_of target version line fields last n some one end =
     let section : newlines (fields ++ last) ≡ newlines fields + newlines last = newlines-append fields last in
     let lines : newlines (line ++ (fields ++ last)) ≡ newlines line + newlines (fields ++ last) = newlines-append line (fields ++ last) in
-    newlines-back target (version ++ (line ++ (fields ++ last))) (n + 2) (newlines-back version (line ++ (fields ++ last)) (n + 2) (omega (arith, section, lines, some, one, end)))
+    newlines-back target (version ++ (line ++ (fields ++ last))) (n + 2)
+    (newlines-back version (line ++ (fields ++ last)) (n + 2) (omega (arith, section, lines, some, one, end)))
 
 -- what a head has behind its method
 abbrev start_of : RequestHead → List ℕ
@@ -86,7 +89,8 @@ record Behind (bytes start : List ℕ) : Type 0 where
   is : after_blank bytes ≡ z ∷ zs
   lines : newlines start ≤ newlines (z ∷ zs)
 
-behind : (ends : List LineEnd) (method start : List ℕ) → 0 < length method → All (λ b. IsTrue (is_token_byte b)) method → Behind (print_blank ends ++ (method ++ start)) start
+behind : (ends : List LineEnd) (method start : List ℕ) → 0 < length method → All (λ b. IsTrue (is_token_byte b)) method
+    → Behind (print_blank ends ++ (method ++ start)) start
 behind ends [] start some all = absurd (omega arith)
 behind ends (m ∷ ms) start some all = record {
   z = m;
@@ -95,7 +99,10 @@ behind ends (m ∷ ms) start some all = record {
   lines = newlines-back (m ∷ ms) start (newlines start) (omega arith);
 }
 
-lost_step : (t : Bool) (x : ℕ) (xs ys : List ℕ) (z : ℕ) (zs : List ℕ) → (after_blank (xs ++ 10 ∷ []) ≡ z ∷ zs → newlines (z ∷ zs) ≤ newlines (after_blank (xs ++ ys)) + 1) → (if t then after_blank (xs ++ 10 ∷ []) else x ∷ xs ++ 10 ∷ []) ≡ z ∷ zs → newlines (z ∷ zs) ≤ newlines (if t then after_blank (xs ++ ys) else x ∷ xs ++ ys) + 1
+lost_step : (t : Bool) (x : ℕ) (xs ys : List ℕ) (z : ℕ) (zs : List ℕ)
+    → (after_blank (xs ++ 10 ∷ []) ≡ z ∷ zs → newlines (z ∷ zs) ≤ newlines (after_blank (xs ++ ys)) + 1)
+    → (if t then after_blank (xs ++ 10 ∷ []) else x ∷ xs ++ 10 ∷ []) ≡ z ∷ zs
+    → newlines (z ∷ zs) ≤ newlines (if t then after_blank (xs ++ ys) else x ∷ xs ++ ys) + 1
 lost_step true x xs ys z zs lost_rest h = lost_rest h
 lost_step false x xs ys z zs lost_rest h =
     let same : newlines (x ∷ xs ++ 10 ∷ []) ≡ newlines (z ∷ zs) = ap newlines h in
@@ -117,7 +124,8 @@ right_nested b m t v e s =
 
 print_request-is : (h : RequestHead) → print_request h ++ [] ≡ print_blank h.blank ++ (h.method ++ start_of h)
 unfolding print_request
-print_request-is h = right_nested (print_blank h.blank) h.method (space ∷ h.target) (space ∷ print_version h.minor) (print_end h.line_end) (print_section h.fields h.last)
+print_request-is h = right_nested (print_blank h.blank) h.method (space ∷ h.target) (space ∷ print_version h.minor) (print_end h.line_end)
+    (print_section h.fields h.last)
 
 -- a head with more fields than there is room for has a newline for each that fits, and two more
 pub exceeds_newlines : (room : ℕ) (bytes : List ℕ) → RequestExceeds room bytes → room + 2 ≤ newlines (after_blank bytes)

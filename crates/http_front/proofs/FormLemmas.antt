@@ -17,10 +17,14 @@ pub value_end : (name : List ℕ) → value_in name [] ≡ None
 unfolding value_in
 value_end name = refl
 
-pub value_hit : (name key value : List ℕ) (pairs : List (List ℕ × List ℕ)) → bytes_eq (decoded key) name ≡ true → value_in name ((key, value) ∷ pairs) ≡ Some (decoded value)
+pub value_hit : (name key value : List ℕ) (pairs : List (List ℕ × List ℕ)) → bytes_eq (decoded key) name ≡ true
+    → value_in name ((key, value) ∷ pairs) ≡ Some (decoded value)
 unfolding value_in
-value_hit name key value pairs h = ap (λ b. option_map (λ (pair : List ℕ × List ℕ). decoded pair.1) (if b then Some (key, value) else find (λ pair. bytes_eq (decoded pair.0) name) pairs)) h
+value_hit name key value pairs h = ap (λ b. option_map (λ (pair : List ℕ × List ℕ). decoded pair.1)
+    (if b then Some (key, value) else find (λ pair. bytes_eq (decoded pair.0) name) pairs)) h
 
-pub value_miss : (name key value : List ℕ) (pairs : List (List ℕ × List ℕ)) → bytes_eq (decoded key) name ≡ false → value_in name ((key, value) ∷ pairs) ≡ value_in name pairs
+pub value_miss : (name key value : List ℕ) (pairs : List (List ℕ × List ℕ)) → bytes_eq (decoded key) name ≡ false
+    → value_in name ((key, value) ∷ pairs) ≡ value_in name pairs
 unfolding value_in
-value_miss name key value pairs h = ap (λ b. option_map (λ (pair : List ℕ × List ℕ). decoded pair.1) (if b then Some (key, value) else find (λ pair. bytes_eq (decoded pair.0) name) pairs)) h
+value_miss name key value pairs h = ap (λ b. option_map (λ (pair : List ℕ × List ℕ). decoded pair.1)
+    (if b then Some (key, value) else find (λ pair. bytes_eq (decoded pair.0) name) pairs)) h

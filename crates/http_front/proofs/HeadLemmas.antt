@@ -35,12 +35,21 @@ begun_same part headers r h at =
     ∙ ap (λ x. begun_of h.method h.target h.minor x r.len) at.fields
     ∙ ap (λ x. begun_of h.method h.target h.minor (map name_and_value h.fields) x) at.len
 
-fields_fit : (part : List ℕ) (headers : List HeaderSpan) (r : RequestSpans) (h : RequestHead) → IsRequestAt part headers r h → r.headers ≤ length headers → length h.fields ≤ length headers
+fields_fit : (part : List ℕ) (headers : List HeaderSpan) (r : RequestSpans) (h : RequestHead) → IsRequestAt part headers r h → r.headers ≤ length headers
+    → length h.fields ≤ length headers
 fields_fit part headers r h at fits =
     let same = ap length at.fields in
-    omega (arith, fits, same, length-map (take r.headers headers) (header_bytes part), length-map h.fields name_and_value, length-take-le r.headers headers fits)
+    omega (
+      arith,
+      fits,
+      same,
+      length-map (take r.headers headers) (header_bytes part),
+      length-map h.fields name_and_value,
+      length-take-le r.headers headers fits,
+    )
 
-whole_by : (bytes part : List ℕ) (headers : List HeaderSpan) (r : RequestSpans) (begun : Begun) → part ≡ head_part bytes → length headers ≡ MOST_FIELDS → IsRequestWithin part headers r → (whole : IsRequestOf part headers r)
+whole_by : (bytes part : List ℕ) (headers : List HeaderSpan) (r : RequestSpans) (begun : Begun) → part ≡ head_part bytes → length headers ≡ MOST_FIELDS
+    → IsRequestWithin part headers r → (whole : IsRequestOf part headers r)
     → begun ≡ begun_by_head whole.0 → Begins bytes begun
 whole_by bytes part headers r begun is room within (h, at) told =
     let fits = fields_fit part headers r h at within.section.count_fits in
@@ -49,7 +58,8 @@ whole_by bytes part headers r begun is room within (h, at) told =
     inr (inr (h, subst (BeginsWith h) is begins, told))
 
 -- the spans of a whole head were told
-pub begins_whole : (bytes part method target : List ℕ) (headers spans : List HeaderSpan) (r : RequestSpans) (begun : Begun) → part ≡ head_part bytes → length headers ≡ MOST_FIELDS → spans ≡ take r.headers headers
+pub begins_whole : (bytes part method target : List ℕ) (headers spans : List HeaderSpan) (r : RequestSpans) (begun : Begun) → part ≡ head_part bytes
+    → length headers ≡ MOST_FIELDS → spans ≡ take r.headers headers
     → method ≡ span_bytes part r.method → target ≡ span_bytes part r.path → IsRequestWithin part headers r → IsRequestOf part headers r
     → begun ≡ begun_of method target r.version (map (header_bytes part) spans) r.len → Begins bytes begun
 begins_whole bytes part method target headers spans r begun is room cut by at within whole told =
@@ -64,20 +74,24 @@ pub of_complete : {A : Type 0} (E : Type 0) (P : A → Type 0) (s : Status A) (x
 of_complete {A} E P s x is h = subst (λ t. IfComplete {A = A} {E = E} (Ok t) P) is h
 
 -- a target that was read is a text
-pub target_text : (part target : List ℕ) (headers : List HeaderSpan) (r : RequestSpans) → target ≡ span_bytes part r.path → IsRequestOf part headers r → IsUtf8 target
+pub target_text : (part target : List ℕ) (headers : List HeaderSpan) (r : RequestSpans) → target ≡ span_bytes part r.path → IsRequestOf part headers r
+    → IsUtf8 target
 target_text part target headers r at whole = subst IsUtf8 (sym (at ∙ whole.1.path)) whole.1.reads.0.target_text
 
-pub begins_half : (bytes part : List ℕ) (begun : Begun) → part ≡ head_part bytes → HasNoRequest part → MayBecomeRequest part → begun ≡ half_begun (length bytes) → Begins bytes begun
+pub begins_half : (bytes part : List ℕ) (begun : Begun) → part ≡ head_part bytes → HasNoRequest part → MayBecomeRequest part → begun ≡ half_begun (length bytes)
+    → Begins bytes begun
 begins_half bytes part begun is none may told = inr (inl (subst IsHalfHead is (none, may), told))
 
 pub begins_never : (bytes part : List ℕ) (begun : Begun) → part ≡ head_part bytes → NeverHasRequest part → begun ≡ refused 400 → Begins bytes begun
 begins_never bytes part begun is never told = inl (subst IsNoHead is (inl never), told)
 
-pub begins_exceeds : (bytes part : List ℕ) (begun : Begun) → part ≡ head_part bytes → RequestOverflows MOST_FIELDS part → RequestExceeds MOST_FIELDS part → begun ≡ refused 400 → Begins bytes begun
+pub begins_exceeds : (bytes part : List ℕ) (begun : Begun) → part ≡ head_part bytes → RequestOverflows MOST_FIELDS part → RequestExceeds MOST_FIELDS part
+    → begun ≡ refused 400 → Begins bytes begun
 begins_exceeds bytes part begun is overflows exceeds told = inl (subst IsNoHead is (inr (overflows, exceeds, exceeds_newlines MOST_FIELDS part exceeds)), told)
 
 -- a prefix of the first bytes stays one when more bytes come
-pub prefix_stays : (n : ℕ) (bytes more front rest : List ℕ) → take n bytes ≡ front ++ rest → take n (bytes ++ more) ≡ front ++ drop (length front) (take n (bytes ++ more))
+pub prefix_stays : (n : ℕ) (bytes more front rest : List ℕ) → take n bytes ≡ front ++ rest
+    → take n (bytes ++ more) ≡ front ++ drop (length front) (take n (bytes ++ more))
 prefix_stays n bytes more [] rest h = refl
 prefix_stays zero bytes more (x ∷ front) rest h = cc
 prefix_stays (suc n) [] more (x ∷ front) rest h = cc
@@ -101,7 +115,8 @@ begins_on bytes more head (inr (inr whole)) =
 pub sees_on : (bytes more : List ℕ) (head : Head) → Begins bytes (begun.Head head) → Sees (bytes ++ more) (seen_after head (bytes ++ more))
 sees_on bytes more head begins = (begun.Head head, begins_on bytes more head begins, refl)
 
-pub sees_same : (before more bytes : List ℕ) (head : Head) (seen : Seen) → Begins before (begun.Head head) → bytes ≡ before ++ more → seen ≡ seen_after head bytes → Sees bytes seen
+pub sees_same : (before more bytes : List ℕ) (head : Head) (seen : Seen) → Begins before (begun.Head head) → bytes ≡ before ++ more
+    → seen ≡ seen_after head bytes → Sees bytes seen
 sees_same before more bytes head seen begins is told =
     subst (Sees bytes) (sym told) (subst (λ bs. Sees bs (seen_after head bs)) (sym is) (sees_on before more head begins))
 

@@ -10,13 +10,15 @@ use Rattle.matchit.specs.declared.error.InsertError.{InsertError}
 use Rattle.http_front.specs.declared.goals.Goal.{Goal}
 use Rattle.http_front.specs.Routes.{route_shown, with_scan, with_route, table, segment_of}
 
-inserted_by : (parsed : Result Scan InsertError) (goal : Goal) (old new : RowsOf (RouteOf Goal)) (u : Unit {0}) → InsertsRead parsed goal old new (Ok u) → new ≡ with_scan goal old parsed
+inserted_by : (parsed : Result Scan InsertError) (goal : Goal) (old new : RowsOf (RouteOf Goal)) (u : Unit {0}) → InsertsRead parsed goal old new (Ok u)
+    → new ≡ with_scan goal old parsed
 inserted_by (Ok scan) goal old new u h = h.1
 inserted_by (Err error) goal old new u (same, inl e) = cc
 inserted_by (Err error) goal old new u (same, inr e) = cc
 
 -- a route that was put into the router is one more of the table
-pub inserted : (path : List ℕ) (goal : Goal) (old new : RowsOf (RouteOf Goal)) (u : Unit {0}) → InsertsRead (parse_route path) goal old new (Ok u) → new ≡ with_route old (path, goal)
+pub inserted : (path : List ℕ) (goal : Goal) (old new : RowsOf (RouteOf Goal)) (u : Unit {0}) → InsertsRead (parse_route path) goal old new (Ok u)
+    → new ≡ with_route old (path, goal)
 unfolding with_route
 inserted path goal old new u h = inserted_by (parse_route path) goal old new u h
 

@@ -27,7 +27,8 @@ add_asked word body = option_map (λ text. (requests.Add word None text, answers
 
 -- another sentence at a place: `at` and `text`
 unfoldable pub edit_asked : List ℕ → List ℕ → Option (Request × Then)
-edit_asked word body = option_and_then (λ place. option_map (λ text. (requests.Edit word place text, answers.Go (article_path word))) (field (codes "text") body))
+edit_asked word body = option_and_then (λ place. option_map (λ text. (requests.Edit word place text, answers.Go (article_path word)))
+    (field (codes "text") body))
     (number_field (codes "at") body)
 
 -- a request for a place of an article: `at`

@@ -58,7 +58,8 @@ none_from : (after : Bool) (c : ℕ) (cs : List ℕ) → is_in_place after c cs 
 none_from after c cs placed rest = rw (placed, rest) refl
 
 -- a character in front of another ending that begins with a letter is in place too
-in_place_before : (after : Bool) (c : ℕ) (cs ending letters : List ℕ) → begins_with_letter letters ≡ true → is_in_place after c (cs ++ ending) ≡ true → is_in_place after c (cs ++ letters) ≡ true
+in_place_before : (after : Bool) (c : ℕ) (cs ending letters : List ℕ) → begins_with_letter letters ≡ true → is_in_place after c (cs ++ ending) ≡ true
+    → is_in_place after c (cs ++ letters) ≡ true
 in_place_before after c cs ending letters begins placed =
     by_tests (is_letter c) (eqb c 45) after (begins_with_letter (cs ++ ending)) (begins_with_letter (cs ++ letters)) (first cs) placed
   where
@@ -102,11 +103,15 @@ some_letters [] begins = absurd (false≢true begins)
 some_letters (c ∷ cs) begins = omega arith
 
 -- a text with its ending replaced by letters
-pub text-new_ending : (front ending letters text : List ℕ) → IsUtf8 front → chars ending ≡ ending → text ≡ front ++ ending → IsText text → AreLetters letters → length (front ++ letters) ≤ 64 → IsText (front ++ letters)
+pub text-new_ending : (front ending letters text : List ℕ) → IsUtf8 front → chars ending ≡ ending → text ≡ front ++ ending → IsText text → AreLetters letters
+    → length (front ++ letters) ≤ 64 → IsText (front ++ letters)
 text-new_ending front ending letters text utf8 plain split is are few =
-    let old : misplaced false (chars front ++ ending) ≡ None = subst (λ cs. misplaced false cs ≡ None) (ap chars split ∙ chars-append front ending utf8 ∙ ap (λ cs. chars front ++ cs) plain) (placed_in_text text is) in
+    let old : misplaced false (chars front ++ ending) ≡ None =
+    subst (λ cs. misplaced false cs ≡ None) (ap chars split ∙ chars-append front ending utf8 ∙ ap (λ cs. chars front ++ cs) plain)
+    (placed_in_text text is) in
     let new : chars (front ++ letters) ≡ chars front ++ letters = chars-append front letters utf8 ∙ ap (λ cs. chars front ++ cs) are.ascii in
-    text_from_placed (front ++ letters) (omega (arith, length-append front letters, some_letters letters are.first)) few (rw new (new_ending false (chars front) ending letters are old))
+    text_from_placed (front ++ letters) (omega (arith, length-append front letters, some_letters letters are.first)) few
+    (rw new (new_ending false (chars front) ending letters are old))
 
 -- a text with letters after it
 pub text-with_letters : (text letters : List ℕ) → IsUtf8 text → IsText text → AreLetters letters → length (text ++ letters) ≤ 64 → IsText (text ++ letters)
@@ -133,11 +138,13 @@ before_y text front is = by_tests (ends_in text (121 ∷ [])) (ends_in_consonant
     by_tests false c is = cc
 
 -- a text that changes its `y`, with letters in place of that
-pub text-past_y : (text front letters : List ℕ) → IsUtf8 text → IsText text → Some front ≡ (if changes_y text then Some (stem text) else None) → AreLetters letters → length (front ++ letters) ≤ 64 → IsText (front ++ letters)
+pub text-past_y : (text front letters : List ℕ) → IsUtf8 text → IsText text → Some front ≡ (if changes_y text then Some (stem text) else None)
+    → AreLetters letters → length (front ++ letters) ≤ 64 → IsText (front ++ letters)
 text-past_y text front letters utf8 is before are few =
     let facts = before_y text front before in
     let split : text ≡ stem text ++ 121 ∷ [] = (ends_is Decides-eqb text (121 ∷ []) (ends_in text (121 ∷ [])) refl).0 facts.0 in
     let seam : IsCharBoundary text (length (stem text)) = IsCharBoundary-at_seam text (stem text) (121 ∷ []) split utf8-y in
     let front_utf8 : IsUtf8 (take (length (stem text)) text) = IsUtf8-take text (length (stem text)) utf8 seam in
-    let front_is : take (length (stem text)) text ≡ front = subst (λ bs. take (length (stem text)) bs ≡ front) (sym split) (take-append_seam (stem text) (121 ∷ []) ∙ sym facts.1) in
+    let front_is : take (length (stem text)) text ≡ front =
+    subst (λ bs. take (length (stem text)) bs ≡ front) (sym split) (take-append_seam (stem text) (121 ∷ []) ∙ sym facts.1) in
     text-new_ending front (121 ∷ []) letters text (subst (λ bs. IsUtf8 bs) front_is front_utf8) chars-y (rw facts.1 split) is are few

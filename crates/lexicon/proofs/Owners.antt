@@ -21,20 +21,24 @@ owner_lives (word ∷ live) text id is = by_test (has_form text word) is (owner_
     here true same = refl
     here false same = absurd (false≢true same)
 
-    later : (b : Bool) → IsSome (forms_of live id) → IsSome (option_map (λ (w : Word). w.forms) (cond b (Some word) (find (λ (w : Word). eqb w.id.0 id.0) live)))
+    later : (b : Bool) → IsSome (forms_of live id)
+        → IsSome (option_map (λ (w : Word). w.forms) (cond b (Some word) (find (λ (w : Word). eqb w.id.0 id.0) live)))
     later true lives = refl
     later false lives = lives
 
-    by_test : (b : Bool) → option_map (λ (w : Word). w.id) (cond b (Some word) (find (has_form text) live)) ≡ Some id → (owner live text ≡ Some id → IsSome (forms_of live id)) → IsSome (forms_of (word ∷ live) id)
+    by_test : (b : Bool) → option_map (λ (w : Word). w.id) (cond b (Some word) (find (has_form text) live)) ≡ Some id
+        → (owner live text ≡ Some id → IsSome (forms_of live id)) → IsSome (forms_of (word ∷ live) id)
     by_test true is rest = here (eqb word.id.0 id.0) (let same : word.id ≡ id = cc in grind (arith, nat_tests, ap (λ (i : WordId). i.0) same))
     by_test false is rest = later (eqb word.id.0 id.0) (rest is)
 
 -- a text that is said to be taken is a form of the word that is named
-pub owner-taken : (live : List Word) (texts : List (List ℕ)) (text : List ℕ) (id : WordId) → first_taken live texts ≡ Some (Taken text id) → owner live text ≡ Some id
+pub owner-taken : (live : List Word) (texts : List (List ℕ)) (text : List ℕ) (id : WordId) → first_taken live texts ≡ Some (Taken text id)
+    → owner live text ≡ Some id
 owner-taken live [] text id is = cc
 owner-taken live (first ∷ texts) text id is = by_owner (owner live first) refl is (owner-taken live texts text id)
   where
-    by_owner : (o : Option WordId) → owner live first ≡ o → option_or (option_map (Taken first) o) (first_taken live texts) ≡ Some (Taken text id) → (first_taken live texts ≡ Some (Taken text id) → owner live text ≡ Some id) → owner live text ≡ Some id
+    by_owner : (o : Option WordId) → owner live first ≡ o → option_or (option_map (Taken first) o) (first_taken live texts) ≡ Some (Taken text id)
+        → (first_taken live texts ≡ Some (Taken text id) → owner live text ≡ Some id) → owner live text ≡ Some id
     by_owner (Some word) found is rest =
         let same_text : first ≡ text = cc in
         let same_word : word ≡ id = cc in
@@ -46,7 +50,8 @@ reserved_not_taken : (terminals texts : List (List ℕ)) (text : List ℕ) (id :
 reserved_not_taken terminals [] text id is = cc
 reserved_not_taken terminals (first ∷ texts) text id is = by_test (is_reserved terminals first) is (reserved_not_taken terminals texts text id)
   where
-    by_test : (b : Bool) → cond b (Some (Reserved first)) (first_reserved terminals texts) ≡ Some (Taken text id) → (first_reserved terminals texts ≡ Some (Taken text id) → ⊥) → ⊥
+    by_test : (b : Bool) → cond b (Some (Reserved first)) (first_reserved terminals texts) ≡ Some (Taken text id)
+        → (first_reserved terminals texts ≡ Some (Taken text id) → ⊥) → ⊥
     by_test true is rest = cc
     by_test false is rest = rest is
 
@@ -64,14 +69,19 @@ first_names (Some y) b x not is = is
 first_names None b x not is = absurd (not is)
 
 -- so it is where forms are refused for it
-pub owner-forms_refusal : (live : List Word) (terminals : List (List ℕ)) (forms : Forms) (text : List ℕ) (id : WordId) → forms_refusal live terminals forms ≡ Some (Taken text id) → owner live text ≡ Some id
+pub owner-forms_refusal : (live : List Word) (terminals : List (List ℕ)) (forms : Forms) (text : List ℕ) (id : WordId)
+    → forms_refusal live terminals forms ≡ Some (Taken text id) → owner live text ≡ Some id
 owner-forms_refusal live terminals forms text id is =
-    owner-taken live forms.texts text id (first_names (first_taken live forms.texts) (first_reserved terminals forms.texts) (Taken text id) (reserved_not_taken terminals forms.texts text id) is)
+    owner-taken live forms.texts text id
+    (first_names (first_taken live forms.texts) (first_reserved terminals forms.texts) (Taken text id) (reserved_not_taken terminals forms.texts text id)
+    is)
 
 -- so it is where an added word is refused for it
-pub owner-add_refusal : (listed : Listed) (forms : Forms) (text : List ℕ) (id : WordId) → add_refusal listed forms ≡ Some (Taken text id) → owner listed.live text ≡ Some id
+pub owner-add_refusal : (listed : Listed) (forms : Forms) (text : List ℕ) (id : WordId) → add_refusal listed forms ≡ Some (Taken text id)
+    → owner listed.live text ≡ Some id
 owner-add_refusal listed forms text id is =
-    owner-forms_refusal listed.live listed.terminals forms text id (first_names (forms_refusal listed.live listed.terminals forms) (fullness listed) (Taken text id) (full_not_taken listed text id) is)
+    owner-forms_refusal listed.live listed.terminals forms text id
+    (first_names (forms_refusal listed.live listed.terminals forms) (fullness listed) (Taken text id) (full_not_taken listed text id) is)
 
 -- neither of two causes is this one
 neither : {X : Type 0} (a b : Option X) (x : X) → (a ≡ Some x → ⊥) → (b ≡ Some x → ⊥) → option_or a b ≡ Some x → ⊥
@@ -82,7 +92,8 @@ taken_not_absent : (live : List Word) (texts : List (List ℕ)) (id : WordId) �
 taken_not_absent live [] id is = cc
 taken_not_absent live (text ∷ texts) id is = by_owner (owner live text) is (taken_not_absent live texts id)
   where
-    by_owner : (o : Option WordId) → option_or (option_map (Taken text) o) (first_taken live texts) ≡ Some (NoWord id) → (first_taken live texts ≡ Some (NoWord id) → ⊥) → ⊥
+    by_owner : (o : Option WordId) → option_or (option_map (Taken text) o) (first_taken live texts) ≡ Some (NoWord id)
+        → (first_taken live texts ≡ Some (NoWord id) → ⊥) → ⊥
     by_owner None is rest = rest is
     by_owner (Some word) is rest = cc
 
@@ -90,7 +101,8 @@ reserved_not_absent : (terminals texts : List (List ℕ)) (id : WordId) → firs
 reserved_not_absent terminals [] id is = cc
 reserved_not_absent terminals (text ∷ texts) id is = by_test (is_reserved terminals text) is (reserved_not_absent terminals texts id)
   where
-    by_test : (b : Bool) → cond b (Some (Reserved text)) (first_reserved terminals texts) ≡ Some (NoWord id) → (first_reserved terminals texts ≡ Some (NoWord id) → ⊥) → ⊥
+    by_test : (b : Bool) → cond b (Some (Reserved text)) (first_reserved terminals texts) ≡ Some (NoWord id)
+        → (first_reserved terminals texts ≡ Some (NoWord id) → ⊥) → ⊥
     by_test true is rest = cc
     by_test false is rest = rest is
 
@@ -106,5 +118,6 @@ full_not_absent listed id is = by_tests (eqb (length listed.live) MOST_WORDS) (e
 pub add_refusal_names_none : (listed : Listed) (forms : Forms) (id : WordId) → add_refusal listed forms ≡ Some (NoWord id) → ⊥
 add_refusal_names_none listed forms id is =
     neither (forms_refusal listed.live listed.terminals forms) (fullness listed) (NoWord id)
-    (neither (first_taken listed.live forms.texts) (first_reserved listed.terminals forms.texts) (NoWord id) (taken_not_absent listed.live forms.texts id) (reserved_not_absent listed.terminals forms.texts id))
+    (neither (first_taken listed.live forms.texts) (first_reserved listed.terminals forms.texts) (NoWord id) (taken_not_absent listed.live forms.texts id)
+    (reserved_not_absent listed.terminals forms.texts id))
     (full_not_absent listed id) is

@@ -1,24 +1,15 @@
 -- What a search among words that stand in order of number finds.
-use Rattle.std.proofs.Common.{◌≡◌, ℕ, ◌<◌, ◌≤◌, eqb, List, [], ◌∷◌, length, get_or, Option, Some, None, Result, Ok, Err, MatchOption, is_some, Bool, true, false, find, AllPairs, ◌⊎◌, inl, inr, refl, sym, ap, arith}
+use Rattle.std.proofs.Common.{◌≡◌, ℕ, ◌<◌, ◌≤◌, eqb, List, [], ◌∷◌, length, get_or, Option, Some, None, Result, Ok, Err, MatchOption, is_some, true, false, AllPairs, ◌⊎◌, inl, inr, refl, sym, ap, arith}
 use Rattle.std.specs.List.Sorted.{IsSearchInRange, IsBinarySearchResult, IsNonDecreasingBy}
 use Rattle.std.specs.Ordering.{nat_cmp, ordering_index}
 use Rattle.std.specs.Result.{result_ok}
 use Rattle.std.proofs.lemmas.Cmp.{ranked}
 use Rattle.std.proofs.lemmas.Bool.{cases_lt}
 use Rattle.std.proofs.lemmas.Bool.Decides.{nat_tests}
-use Rattle.std.proofs.lemmas.List.Recursion.{found_at, found_nowhere}
 use Rattle.wiki_base.specs.declared.numbers.WordId.{WordId}
+use Rattle.wiki_base.proofs.ListLaws.{find_none, find_first}
 use Rattle.lexicon.specs.declared.words.Word.{Word}
 use Rattle.lexicon.specs.Words.{forms_of, IsPlaceOf}
-
--- a test that no element passes finds none
-pub find_none : {X : Type 0} (p : X → Bool) (xs : List X) → ((k : ℕ) (d : X) → k < length xs → p (get_or xs k d) ≡ false) → find p xs ≡ None
-find_none p [] fails = refl
-find_none p (x ∷ xs) fails = found_nowhere (find p) p Some None refl (λ _ _. refl) (x ∷ xs) x (λ k in_range. fails k x in_range)
-
--- a test finds the first element that passes
-pub find_first : {X : Type 0} (p : X → Bool) (xs : List X) (i : ℕ) (d : X) → i < length xs → ((k : ℕ) → k < i → p (get_or xs k d) ≡ false) → p (get_or xs i d) ≡ true → find p xs ≡ Some (get_or xs i d)
-find_first p xs i d in_range before here = found_at (find p) p Some None refl (λ _ _. refl) xs i d in_range before here
 
 module _ (live : List Word) (in_order : AllPairs (λ word later. word.id.0 < later.id.0) live) (id : WordId) where
   -- the numbers rise along the list, as a binary search asks
@@ -30,11 +21,14 @@ module _ (live : List Word) (in_order : AllPairs (λ word later. word.id.0 < lat
   -- the word at the place of the number is the one that has it
   pub forms_at_place : (place : ℕ) (d : Word) → IsPlaceOf live id place → forms_of live id ≡ Some (get_or live place d).forms
   forms_at_place place d is_place =
-      let first = find_first (λ word. eqb word.id.0 id.0) live place d is_place.in_range (λ k before. grind (arith, nat_tests, in_order k place d before is_place.in_range, is_place.numbered d)) (grind (arith, nat_tests, is_place.numbered d)) in
+      let first = find_first (λ word. eqb word.id.0 id.0) live place d is_place.in_range
+      (λ k before. grind (arith, nat_tests, in_order k place d before is_place.in_range, is_place.numbered d))
+      (grind (arith, nat_tests, is_place.numbered d)) in
       rw first refl
 
   -- a binary search by number ends at the word that has it, or no word has it
-  pub searched : (r : Result ℕ ℕ) → IsSearchInRange r (length live) → IsBinarySearchResult (λ word. nat_cmp word.id.0 id.0) live r → MatchOption (result_ok r) (forms_of live id ≡ None) (IsPlaceOf live id)
+  pub searched : (r : Result ℕ ℕ) → IsSearchInRange r (length live) → IsBinarySearchResult (λ word. nat_cmp word.id.0 id.0) live r
+      → MatchOption (result_ok r) (forms_of live id ≡ None) (IsPlaceOf live id)
   searched (Ok place) in_range equal = record { in_range = in_range; numbered = λ d. ranked _ id.0 _ (sym (equal d)) }
   searched (Err gap) in_range parted =
       let absent = find_none (λ word. eqb word.id.0 id.0) live (λ k d bound. unequal k d bound (cases_lt k gap)) in

@@ -9,13 +9,9 @@ abbrev pub raised : List ℕ → List ℕ
 raised [] = []
 raised (b ∷ bs) = to_ascii_uppercase b ∷ bs
 
--- the token is the terminal
-abbrev pub matches_terminal : List ℕ → List ℕ → Bool
-matches_terminal token terminal = bytes_eq token terminal
-
 -- the text is the terminal, or is the terminal raised
 abbrev pub is_spelling_of : List ℕ → List ℕ → Bool
-is_spelling_of text terminal = matches_terminal text terminal || bytes_eq text (raised terminal)
+is_spelling_of text terminal = bytes_eq text terminal || bytes_eq text (raised terminal)
 
 -- the text is one of the terminals, or one of them raised
 abbrev pub is_reserved : List (List ℕ) → List ℕ → Bool

@@ -35,15 +35,19 @@ agree_moved r rs bound f g agree q h =
     ∙ moved_in (r == q) (is_bound rs q) (is_bound bound q)
     (sym (ap (λ b. (r == q) || b) (list_any-append (λ p. p == q) rs bound)) ∙ h))
 
-some_agree : (n : ℕ) (rs : List ℕ) (test : (ℕ → ℕ) → Bool) (bound : List ℕ) → ((f g : ℕ → ℕ) → Agree (rs ++ bound) f g → test f ≡ test g) → (f g : ℕ → ℕ) → Agree bound f g → some_extension n rs test f ≡ some_extension n rs test g
+some_agree : (n : ℕ) (rs : List ℕ) (test : (ℕ → ℕ) → Bool) (bound : List ℕ) → ((f g : ℕ → ℕ) → Agree (rs ++ bound) f g → test f ≡ test g) → (f g : ℕ → ℕ)
+    → Agree bound f g → some_extension n rs test f ≡ some_extension n rs test g
 some_agree n [] test bound keep f g agree = keep f g agree
 some_agree n (r ∷ rs) test bound keep f g agree =
-    ap (some_below n) (λ j x. some_agree n rs test (r ∷ bound) (λ f' g' a. keep f' g' (agree_moved r rs bound f' g' a)) (giving f r x) (giving g r x) (agree_more bound f g r x agree) j)
+    ap (some_below n) (λ j x. some_agree n rs test (r ∷ bound) (λ f' g' a. keep f' g' (agree_moved r rs bound f' g' a)) (giving f r x) (giving g r x)
+    (agree_more bound f g r x agree) j)
 
-each_agree : (n : ℕ) (rs : List ℕ) (test : (ℕ → ℕ) → Bool) (bound : List ℕ) → ((f g : ℕ → ℕ) → Agree (rs ++ bound) f g → test f ≡ test g) → (f g : ℕ → ℕ) → Agree bound f g → each_extension n rs test f ≡ each_extension n rs test g
+each_agree : (n : ℕ) (rs : List ℕ) (test : (ℕ → ℕ) → Bool) (bound : List ℕ) → ((f g : ℕ → ℕ) → Agree (rs ++ bound) f g → test f ≡ test g) → (f g : ℕ → ℕ)
+    → Agree bound f g → each_extension n rs test f ≡ each_extension n rs test g
 each_agree n [] test bound keep f g agree = keep f g agree
 each_agree n (r ∷ rs) test bound keep f g agree =
-    ap (each_below n) (λ j x. each_agree n rs test (r ∷ bound) (λ f' g' a. keep f' g' (agree_moved r rs bound f' g' a)) (giving f r x) (giving g r x) (agree_more bound f g r x agree) j)
+    ap (each_below n) (λ j x. each_agree n rs test (r ∷ bound) (λ f' g' a. keep f' g' (agree_moved r rs bound f' g' a)) (giving f r x) (giving g r x)
+    (agree_more bound f g r x agree) j)
 
 -- what has no first free referent has none on either side
 none_left : (a b : Option ℕ) → option_or a b ≡ None → a ≡ None
@@ -63,23 +67,30 @@ thing_agree i (Ref r) bound f g agree h = agree r (bound_if (is_bound bound r) r
 thing_agree i (Name name) bound f g agree h = refl
 
 mutual
-  pub is_true-agree : (i : Interpretation) (k : Structure) (bound : List ℕ) (f g : ℕ → ℕ) → Agree bound f g → free_in bound k ≡ None → is_true i k f ≡ is_true i k g
+  pub is_true-agree : (i : Interpretation) (k : Structure) (bound : List ℕ) (f g : ℕ → ℕ) → Agree bound f g → free_in bound k ≡ None
+      → is_true i k f ≡ is_true i k g
   is_true-agree i (structure rs cs) bound f g agree none =
       some_agree i.size rs (λ h. all_true i cs h) bound (λ f' g' a. all_true-agree i cs (rs ++ bound) f' g' a none) f g agree
 
   -- the right side's truth is known to rest on its free referents
-  pub implies_test-agree : (i : Interpretation) (k l : Structure) → ((bound : List ℕ) (f g : ℕ → ℕ) → Agree bound f g → free_in bound l ≡ None → is_true i l f ≡ is_true i l g) → (bound : List ℕ) (f g : ℕ → ℕ) → Agree bound f g → free_in bound k ≡ None → free_in (referents_in k ++ bound) l ≡ None → implies_test i k (is_true i l) f ≡ implies_test i k (is_true i l) g
+  pub implies_test-agree : (i : Interpretation) (k l : Structure)
+      → ((bound : List ℕ) (f g : ℕ → ℕ) → Agree bound f g → free_in bound l ≡ None → is_true i l f ≡ is_true i l g) → (bound : List ℕ) (f g : ℕ → ℕ)
+      → Agree bound f g → free_in bound k ≡ None → free_in (referents_in k ++ bound) l ≡ None
+      → implies_test i k (is_true i l) f ≡ implies_test i k (is_true i l) g
   implies_test-agree i (structure rs cs) l right bound f g agree none_k none_l =
       each_agree i.size rs (λ h. implies (all_true i cs h) (is_true i l h)) bound
-      (λ f' g' a. ap (λ b. implies b (is_true i l f')) (all_true-agree i cs (rs ++ bound) f' g' a none_k) ∙ ap (implies (all_true i cs g')) (right (rs ++ bound) f' g' a none_l)) f g agree
+      (λ f' g' a. ap (λ b. implies b (is_true i l f')) (all_true-agree i cs (rs ++ bound) f' g' a none_k)
+      ∙ ap (implies (all_true i cs g')) (right (rs ++ bound) f' g' a none_l)) f g agree
 
-  pub all_true-agree : (i : Interpretation) (cs : Conditions) (bound : List ℕ) (f g : ℕ → ℕ) → Agree bound f g → free_in_all bound cs ≡ None → all_true i cs f ≡ all_true i cs g
+  pub all_true-agree : (i : Interpretation) (cs : Conditions) (bound : List ℕ) (f g : ℕ → ℕ) → Agree bound f g → free_in_all bound cs ≡ None
+      → all_true i cs f ≡ all_true i cs g
   all_true-agree i no_condition bound f g agree none = refl
   all_true-agree i (also_condition c cs) bound f g agree none =
       ap (λ b. b && all_true i cs f) (condition_true-agree i c bound f g agree (none_left (free_in_condition bound c) (free_in_all bound cs) none))
       ∙ ap (λ b. condition_true i c g && b) (all_true-agree i cs bound f g agree (none_right (free_in_condition bound c) (free_in_all bound cs) none))
 
-  pub condition_true-agree : (i : Interpretation) (c : Condition) (bound : List ℕ) (f g : ℕ → ℕ) → Agree bound f g → free_in_condition bound c ≡ None → condition_true i c f ≡ condition_true i c g
+  pub condition_true-agree : (i : Interpretation) (c : Condition) (bound : List ℕ) (f g : ℕ → ℕ) → Agree bound f g → free_in_condition bound c ≡ None
+      → condition_true i c f ≡ condition_true i c g
   condition_true-agree i (IsA noun thing) bound f g agree none =
       ap (has_element i noun) (thing_agree i thing bound f g agree none)
   condition_true-agree i (AreRelated word from to) bound f g agree none =

@@ -2,16 +2,14 @@
 use Rattle.std.proofs.Common.{◌≡◌, ℕ, zero, suc, ◌&&◌, ◌||◌, Bool, true, false, List, [], ◌∷◌, map, refl, sym, ap, ◌∙◌, Decides}
 use Rattle.std.specs.Prelude.{not, ◌↔◌}
 use Rattle.std.proofs.lemmas.Bool.Decides.{Decides-at, Decides-not}
+use Rattle.std.proofs.Math.Bool.{not-not}
+use Rattle.std.proofs.lemmas.Bool.{and_from}
 use Rattle.logic_terms.specs.Concept.{Concept, Concepts, Everything, Atomic, ComplementOf, IntersectionOf, UnionOf, SomeValuesFrom, AllValuesFrom, HasValue, no_concept, also_concept, concepts_from}
 use Rattle.logic_terms.specs.Interpretation.{Interpretation, relates}
 use Rattle.logic_terms.specs.Meaning.{some_below, each_below, implies, is_in, is_in_each, is_in_some}
 use Rattle.logic_terms.specs.Reading.{IsIn}
 use Rattle.logic_terms.proofs.MeaningLemmas.{is_in-Decides}
 use Rattle.logic_terms.specs.Complement.{normal_form, complement, normal_forms, complements, is_normal, each_normal, has_two, is_wide, each_wide}
-
-pub not_not : (a : Bool) → not (not a) ≡ a
-not_not true = refl
-not_not false = refl
 
 pub not_and : (a b : Bool) → not (a && b) ≡ (not a || not b)
 not_and true b = refl
@@ -57,7 +55,7 @@ mutual
   pub is_in-complement : (i : Interpretation) (c : Concept) (x : ℕ) → is_in i (complement c) x ≡ not (is_in i c x)
   is_in-complement i Everything x = refl
   is_in-complement i (Atomic word) x = refl
-  is_in-complement i (ComplementOf c) x = is_in-normal_form i c x ∙ sym (not_not (is_in i c x))
+  is_in-complement i (ComplementOf c) x = is_in-normal_form i c x ∙ sym (not-not (is_in i c x))
   is_in-complement i (IntersectionOf cs) x = is_in_some-complements i cs x
   is_in-complement i (UnionOf cs) x = is_in_each-complements i cs x
   is_in-complement i (SomeValuesFrom role c) x =
@@ -94,10 +92,7 @@ mutual
       ∙ ap (λ b. not (is_in i c x) || b) (is_in_some-complements i cs x)
       ∙ sym (not_and (is_in i c x) (is_in_each i cs x))
 
-both : (a b : Bool) → a ≡ true → b ≡ true → (a && b) ≡ true
-both a b p q = ap (λ z. z && b) p ∙ q
-
--- both are in normal form
+-- and_from are in normal form
 mutual
   pub is_normal-normal_form : (c : Concept) → is_normal (normal_form c) ≡ true
   is_normal-normal_form Everything = refl
@@ -122,12 +117,12 @@ mutual
   pub each_normal-normal_forms : (cs : Concepts) → each_normal (normal_forms cs) ≡ true
   each_normal-normal_forms no_concept = refl
   each_normal-normal_forms (also_concept c cs) =
-      both (is_normal (normal_form c)) (each_normal (normal_forms cs)) (is_normal-normal_form c) (each_normal-normal_forms cs)
+      and_from (is_normal (normal_form c)) (each_normal (normal_forms cs)) (is_normal-normal_form c) (each_normal-normal_forms cs)
 
   pub each_normal-complements : (cs : Concepts) → each_normal (complements cs) ≡ true
   each_normal-complements no_concept = refl
   each_normal-complements (also_concept c cs) =
-      both (is_normal (complement c)) (each_normal (complements cs)) (is_normal-complement c) (each_normal-complements cs)
+      and_from (is_normal (complement c)) (each_normal (complements cs)) (is_normal-complement c) (each_normal-complements cs)
 
 has_two-normal_forms : (cs : Concepts) → has_two (normal_forms cs) ≡ has_two cs
 has_two-normal_forms no_concept = refl
@@ -142,7 +137,7 @@ has_two-complements (also_concept c (also_concept d cs)) = refl
 wide_both : (a b c d : Bool) → a ≡ c → b ≡ d → (a && b) ≡ (c && d)
 wide_both a b c d p q = λ j. p j && q j
 
--- both have members as before
+-- and_from have members as before
 mutual
   pub is_wide-normal_form : (c : Concept) → is_wide (normal_form c) ≡ is_wide c
   is_wide-normal_form Everything = refl

@@ -63,7 +63,8 @@ itself n f = record { introduced = λ r h. absurd (not_in_none r h); others = λ
 same_function : (n : ℕ) (f g : ℕ → ℕ) → Extends n [] f g → g ≡ f
 same_function n f g e = λ j q. e.others q (not_in_none q) j
 
-pub some_extension-Decides : (n : ℕ) (rs : List ℕ) (test : (ℕ → ℕ) → Bool) (P : (ℕ → ℕ) → Type 0) → ((g : ℕ → ℕ) → Decides (test g) (P g)) → (f : ℕ → ℕ) → Decides (some_extension n rs test f) ((g : ℕ → ℕ) × Extends n rs f g × P g)
+pub some_extension-Decides : (n : ℕ) (rs : List ℕ) (test : (ℕ → ℕ) → Bool) (P : (ℕ → ℕ) → Type 0) → ((g : ℕ → ℕ) → Decides (test g) (P g)) → (f : ℕ → ℕ)
+    → Decides (some_extension n rs test f) ((g : ℕ → ℕ) × Extends n rs f g × P g)
 some_extension-Decides n [] test P each f =
     Decides-like (test f) (λ p. (f, itself n f, p)) (λ w. subst P (same_function n f w.0 w.1) w.2) (each f)
 some_extension-Decides n (r ∷ rs) test P each f =
@@ -73,7 +74,8 @@ some_extension-Decides n (r ∷ rs) test P each f =
     (some_below-Decides n (λ x. some_extension n rs test (giving f r x)) (λ x. (g : ℕ → ℕ) × Extends n rs (giving f r x) g × P g)
     (λ x. some_extension-Decides n rs test P each (giving f r x)))
 
-pub each_extension-Decides : (n : ℕ) (rs : List ℕ) (test : (ℕ → ℕ) → Bool) (P : (ℕ → ℕ) → Type 0) → ((g : ℕ → ℕ) → Decides (test g) (P g)) → (f : ℕ → ℕ) → Decides (each_extension n rs test f) ((g : ℕ → ℕ) → Extends n rs f g → P g)
+pub each_extension-Decides : (n : ℕ) (rs : List ℕ) (test : (ℕ → ℕ) → Bool) (P : (ℕ → ℕ) → Type 0) → ((g : ℕ → ℕ) → Decides (test g) (P g)) → (f : ℕ → ℕ)
+    → Decides (each_extension n rs test f) ((g : ℕ → ℕ) → Extends n rs f g → P g)
 each_extension-Decides n [] test P each f =
     Decides-like (test f) (λ p g e. subst P (sym (same_function n f g e)) p) (λ all. all f (itself n f)) (each f)
 each_extension-Decides n (r ∷ rs) test P each f =
@@ -89,7 +91,8 @@ mutual
       some_extension-Decides i.size rs (λ g. all_true i cs g) (AllTrueUnder i cs) (λ g. all_true-Decides i cs g) f
 
   -- the right side is known to be decided
-  pub implies_test-Decides : (i : Interpretation) (k l : Structure) → ((g : ℕ → ℕ) → Decides (is_true i l g) (IsTrueUnder i l g)) → (f : ℕ → ℕ) → Decides (implies_test i k (is_true i l) f) (ImpliesOf i k (IsTrueUnder i l) f)
+  pub implies_test-Decides : (i : Interpretation) (k l : Structure) → ((g : ℕ → ℕ) → Decides (is_true i l g) (IsTrueUnder i l g)) → (f : ℕ → ℕ)
+      → Decides (implies_test i k (is_true i l) f) (ImpliesOf i k (IsTrueUnder i l) f)
   implies_test-Decides i (structure rs cs) l right f =
       each_extension-Decides i.size rs (λ g. implies (all_true i cs g) (is_true i l g)) (λ g. AllTrueUnder i cs g → IsTrueUnder i l g)
       (λ g. implies-Decides (all_true i cs g) (is_true i l g) (AllTrueUnder i cs g) (IsTrueUnder i l g) (all_true-Decides i cs g) (right g)) f

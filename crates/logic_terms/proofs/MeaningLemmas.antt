@@ -26,7 +26,9 @@ list_any-Contains_pair ps x y =
     Decides-contains ps (x, y) (list_any test ps)
     (Decides-by_or test (λ p. p ≡ (x, y)) (list_any test) (λ p. pair_eq p x y) refl (λ _ _. refl) ps)
 
-relates_by : (b : Bool) (ps : List (ℕ × ℕ)) (x y : ℕ) → Decides (if b then list_any (λ p. (p.0 == y) && (p.1 == x)) ps else list_any (λ p. (p.0 == x) && (p.1 == y)) ps) (MatchBool b (Contains ps (y, x)) (Contains ps (x, y)))
+relates_by : (b : Bool) (ps : List (ℕ × ℕ)) (x y : ℕ)
+    → Decides (if b then list_any (λ p. (p.0 == y) && (p.1 == x)) ps else list_any (λ p. (p.0 == x) && (p.1 == y)) ps)
+    (MatchBool b (Contains ps (y, x)) (Contains ps (x, y)))
 relates_by true ps x y = list_any-Contains_pair ps y x
 relates_by false ps x y = list_any-Contains_pair ps x y
 
@@ -79,7 +81,8 @@ holds-Decides i (SubClassOf c d) =
     each_below-Decides i.size (λ x. implies (is_in i c x) (is_in i d x)) (λ x. IsIn i c x → IsIn i d x)
     (λ x. implies-Decides (is_in i c x) (is_in i d x) (IsIn i c x) (IsIn i d x) (is_in-Decides i c x) (is_in-Decides i d x))
 holds-Decides i (SubPropertyOf r s) =
-    each_below-Decides i.size (λ x. each_below i.size (λ y. implies (relates i r x y) (relates i s x y))) (λ x. (y : ℕ) → y < i.size → Relates i r x y → Relates i s x y)
+    each_below-Decides i.size (λ x. each_below i.size (λ y. implies (relates i r x y) (relates i s x y)))
+    (λ x. (y : ℕ) → y < i.size → Relates i r x y → Relates i s x y)
     (λ x. each_below-Decides i.size (λ y. implies (relates i r x y) (relates i s x y)) (λ y. Relates i r x y → Relates i s x y)
     (λ y. implies-Decides (relates i r x y) (relates i s x y) (Relates i r x y) (Relates i s x y) (relates-Decides i r x y) (relates-Decides i s x y)))
 holds-Decides i (ClassAssertion c name) = is_in-Decides i c (element_of i name)

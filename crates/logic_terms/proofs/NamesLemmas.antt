@@ -5,7 +5,8 @@ use Rattle.std.proofs.lemmas.List.Elements.{All-head, All-tail}
 use Rattle.wiki_base.specs.declared.numbers.WordId.{WordId}
 use Rattle.logic_terms.specs.Names.{names_above, names_rise}
 
-names_above-push : (n : WordId) (ns : List WordId) (name : WordId) → n.0 < name.0 → All (λ m. m.0 < name.0) ns → names_above n ns ≡ true → names_above n (ns ++ name ∷ []) ≡ true
+names_above-push : (n : WordId) (ns : List WordId) (name : WordId) → n.0 < name.0 → All (λ m. m.0 < name.0) ns → names_above n ns ≡ true
+    → names_above n (ns ++ name ∷ []) ≡ true
 names_above-push n [] name lt all up = and_from (ltb n.0 name.0) true (lt-ltb n.0 name.0 lt) refl
 names_above-push n (m ∷ ns) name lt all up =
     let parts = and_parts (ltb n.0 m.0) (names_above m ns) up in

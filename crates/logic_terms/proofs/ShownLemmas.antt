@@ -33,7 +33,8 @@ pub conditions_in_is : (d : Drs) → conditions_in (structure_of d) ≡ conditio
 conditions_in_is d =
     ap conditions_in (structure_of_is d) ∙ condition_list-conditions_from (conditions_of d.conditions)
 
-fold_members : (m : Classes) → Rattle.logic_terms.specs.declared.expressions.Class.TheFolds.fold-Classes Concept Concepts concept_layer members_layer m ≡ concepts_from (concepts_of m)
+fold_members : (m : Classes) → Rattle.logic_terms.specs.declared.expressions.Class.TheFolds.fold-Classes Concept Concepts concept_layer members_layer m
+    ≡ concepts_from (concepts_of m)
 fold_members m = fold_out-Classes Concept Concepts concept_layer members_layer m
 
 pub concept_of-Thing : concept_of class.Thing ≡ Everything

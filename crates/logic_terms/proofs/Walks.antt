@@ -1,15 +1,10 @@
 -- What is left of a list decides: one item further, and at the end.
 use Rattle.std.proofs.Common.{◌≡◌, ℕ, ◌+◌, ◌≤◌, List, [], ◌∷◌, length, drop, Some, slice_get, ap, ◌∙◌}
-use Rattle.std.proofs.lemmas.List.{drop_more, drop_all}
-use Rattle.std.proofs.lemmas.Option.{slice_get_within, get_or_from_slice_get}
-
-pub drop_get : {X : Type 0} (xs : List X) (k : ℕ) (x : X) → slice_get xs k ≡ Some x → drop k xs ≡ x ∷ drop (k + 1) xs
-drop_get xs k x at =
-    drop_more xs k x (slice_get_within xs k x at)
-    ∙ ap (λ y. y ∷ drop (k + 1) xs) (get_or_from_slice_get xs k x x at)
+use Rattle.std.proofs.lemmas.List.{drop_all}
+use Rattle.wiki_base.proofs.ListLaws.{drop_slice_get}
 
 pub left_more : {X Y : Type 0} (F : List X → Y) (xs : List X) (k : ℕ) (x : X) → slice_get xs k ≡ Some x → F (drop k xs) ≡ F (x ∷ drop (k + 1) xs)
-left_more F xs k x at = ap F (drop_get xs k x at)
+left_more F xs k x at = ap F (drop_slice_get xs k x at)
 
 pub left_none : {X Y : Type 0} (F : List X → Y) (xs : List X) (k : ℕ) → length xs ≤ k → F (drop k xs) ≡ F []
 left_none F xs k past = ap F (drop_all k xs past)

@@ -37,11 +37,7 @@ abbrev pub is_simple : Concept → Bool
 is_simple Everything = true
 is_simple (Atomic word) = true
 is_simple (HasValue role name) = true
-is_simple (ComplementOf c) = false
-is_simple (IntersectionOf cs) = false
-is_simple (UnionOf cs) = false
-is_simple (SomeValuesFrom role c) = false
-is_simple (AllValuesFrom role c) = false
+is_simple _ = false
 
 -- whether a class is in negation normal form
 abbrev mutual

@@ -1,7 +1,7 @@
 -- The form that classes have wherever they are reasoned with.
 use Rattle.std.specs.Prelude.{Bool, true, ◌&&◌, List}
 use Rattle.std.specs.List.{list_all}
-use Rattle.logic_terms.specs.Concept.{Concept, Claim, SubClassOf, SubPropertyOf, ClassAssertion, PropertyAssertion, NegativePropertyAssertion, SameIndividual, DifferentIndividuals}
+use Rattle.logic_terms.specs.Concept.{Concept, Claim, SubClassOf, ClassAssertion}
 use Rattle.logic_terms.specs.Complement.{is_normal, is_wide}
 use Rattle.logic_terms.specs.Theory.{Theory}
 
@@ -11,12 +11,8 @@ is_plain c = is_normal c && is_wide c
 
 abbrev pub is_plain_claim : Claim → Bool
 is_plain_claim (SubClassOf c d) = is_plain c && is_plain d
-is_plain_claim (SubPropertyOf r s) = true
 is_plain_claim (ClassAssertion c name) = is_plain c
-is_plain_claim (PropertyAssertion r from to) = true
-is_plain_claim (NegativePropertyAssertion r from to) = true
-is_plain_claim (SameIndividual one other) = true
-is_plain_claim (DifferentIndividuals one other) = true
+is_plain_claim _ = true
 
 -- whether each class in axioms is so, and each class in knowledge
 abbrev pub are_plain : List Claim → Bool

@@ -20,7 +20,8 @@ impl Class {
 
     /// What a complement stands before.
     pub fn complemented(&self) -> Option<&Class>
-        ensures part { MatchOption result (complement_part (concept_of self.now) ≡ None) (λ c. complement_part (concept_of self.now) ≡ Some (concept_of c.now)) }
+        ensures part { MatchOption result (complement_part (concept_of self.now) ≡ None)
+            (λ c. complement_part (concept_of self.now) ≡ Some (concept_of c.now)) }
         ensures smaller { IfSome result (λ c. size-Class c.now < size-Class self.now) }
     {
         match self {
@@ -31,7 +32,8 @@ impl Class {
 
     /// The members of an intersection.
     pub fn intersection(&self) -> Option<&Classes>
-        ensures part { MatchOption result (intersection_part (concept_of self.now) ≡ None) (λ m. intersection_part (concept_of self.now) ≡ Some (concepts_of m.now)) }
+        ensures part { MatchOption result (intersection_part (concept_of self.now) ≡ None)
+            (λ m. intersection_part (concept_of self.now) ≡ Some (concepts_of m.now)) }
         ensures smaller { IfSome result (λ m. size-Classes m.now < size-Class self.now) }
     {
         match self {

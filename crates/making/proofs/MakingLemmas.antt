@@ -35,12 +35,15 @@ adds_up-none step a s = record { replies = []; steps = refl; sum = refl }
 
 -- What is left to ask decides: a run over the rest makes one over all.
 abbrev pub Leads : {S : Type 0} → (S → Request → Reply → S → Type 0) → S → List Request → Summary → S → List Request → Summary → Type 0
-Leads {S} step first requests before now rest so_far = (last : S) (after : Summary) → AddsUp step now rest so_far last after → AddsUp step first requests before last after
+Leads {S} step first requests before now rest so_far = (last : S) (after : Summary) → AddsUp step now rest so_far last after
+    → AddsUp step first requests before last after
 
 -- one request more was asked
-pub leads-on : {S : Type 0} (step : S → Request → Reply → S → Type 0) (first : S) (qs : List Request) (before : Summary) (now next : S) (q : Request) (rest : List Request) (s t : Summary)
+pub leads-on : {S : Type 0} (step : S → Request → Reply → S → Type 0) (first : S) (qs : List Request) (before : Summary) (now next : S) (q : Request)
+    (rest : List Request) (s t : Summary)
     → AddsUp step now (q ∷ []) s next t → Leads step first qs before now (q ∷ rest) s → Leads step first qs before next rest t
-leads-on step first qs before now next q rest s t one leads = λ last after more. leads last after (adds_up-append step now next last (q ∷ []) rest s t after one more)
+leads-on step first qs before now next q rest s t one leads =
+    λ last after more. leads last after (adds_up-append step now next last (q ∷ []) rest s t after one more)
 
 one_more : (n m : ℕ) → n < m → m - n ≡ suc (m - (n + 1))
 one_more n m below = omega arith
@@ -50,15 +53,18 @@ left_of_range : (n m : ℕ) → n < m → range_with_len n (m - n) ≡ n ∷ ran
 left_of_range n m below = ap (range_with_len n) (one_more n m below)
 
 -- the request with the next number was asked
-pub leads-item : {S : Type 0} (step : S → Request → Reply → S → Type 0) (first : S) (qs : List Request) (before : Summary) (f : ℕ → Request) (now next : S) (n m : ℕ) (q : Request) (s t : Summary)
+pub leads-item : {S : Type 0} (step : S → Request → Reply → S → Type 0) (first : S) (qs : List Request) (before : Summary) (f : ℕ → Request) (now next : S)
+    (n m : ℕ) (q : Request) (s t : Summary)
     → n < m → q ≡ f n → AddsUp step now (q ∷ []) s next t → Leads step first qs before now (map f (range_with_len n (m - n))) s
     → Leads step first qs before next (map f (range_with_len (n + 1) (m - (n + 1)))) t
 leads-item step first qs before f now next n m q s t below is one leads =
     leads-on step first qs before now next q (map f (range_with_len (n + 1) (m - (n + 1)))) s t one
-    (subst (λ rest. Leads step first qs before now rest s) (ap (map f) (left_of_range n m below) ∙ ap (λ x. x ∷ map f (range_with_len (n + 1) (m - (n + 1)))) (sym is)) leads)
+    (subst (λ rest. Leads step first qs before now rest s)
+    (ap (map f) (left_of_range n m below) ∙ ap (λ x. x ∷ map f (range_with_len (n + 1) (m - (n + 1)))) (sym is)) leads)
 
 -- the next sentence was added
-pub leads-sentence : {S : Type 0} (step : S → Request → Reply → S → Type 0) (first : S) (qs : List Request) (before : Summary) (now next : S) (n m d e : ℕ) (q : Request) (s t : Summary)
+pub leads-sentence : {S : Type 0} (step : S → Request → Reply → S → Type 0) (first : S) (qs : List Request) (before : Summary) (now next : S) (n m d e : ℕ)
+    (q : Request) (s t : Summary)
     → n < m → e ≡ next_draw (next_draw (next_draw d)) → q ≡ sentence_of_kind (n % 5) (next_draw d) (next_draw (next_draw d)) e
     → AddsUp step now (q ∷ []) s next t → Leads step first qs before now (sentences_from n (m - n) d) s
     → Leads step first qs before next (sentences_from (n + 1) (m - (n + 1)) e) t
@@ -70,5 +76,6 @@ leads-sentence step first qs before now next n m d e q s t below drawn is one le
     ∙ ap (λ x. x ∷ sentences_from (n + 1) (m - (n + 1)) e) (sym is)) leads)
 
 -- one request was asked
-pub adds_up-one : {S : Type 0} (step : S → Request → Reply → S → Type 0) (a b : S) (q : Request) (r : Reply) (s t : Summary) → step a q r b → t ≡ with_reply s r → AddsUp step a (q ∷ []) s b t
+pub adds_up-one : {S : Type 0} (step : S → Request → Reply → S → Type 0) (a b : S) (q : Request) (r : Reply) (s t : Summary) → step a q r b → t ≡ with_reply s r
+    → AddsUp step a (q ∷ []) s b t
 adds_up-one step a b q r s t h e = record { replies = r ∷ []; steps = (b, h, refl); sum = e }

@@ -17,7 +17,8 @@ StepsAll step first (request ∷ requests) [] last = ⊥
 StepsAll {S} step first (request ∷ requests) (reply ∷ replies) last = (next : S) × step first request reply next × StepsAll step next requests replies last
 
 -- requests were stepped, and their replies were added to a summary
-pub record AddsUp {S : Type 0} (step : S → Request → Reply → S → Type 0) (first : S) (requests : List Request) (before : Summary) (last : S) (after : Summary) : Type 0 where
+pub record AddsUp {S : Type 0} (step : S → Request → Reply → S → Type 0) (first : S) (requests : List Request) (before : Summary) (last : S)
+    (after : Summary) : Type 0 where
   pub replies : List Reply
   pub steps : StepsAll step first requests replies last
   pub sum : after ≡ summed before replies

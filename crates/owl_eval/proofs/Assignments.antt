@@ -22,7 +22,8 @@ assigned_from-push f (d ∷ es) e = assigned_from-push (giving f d.0 d.1) es e
 pub assigned-push : (es : List (ℕ × ℕ)) (e : ℕ × ℕ) → assigned (es ++ e ∷ []) ≡ giving (assigned es) e.0 e.1
 assigned-push es e = assigned_from-push nothing_given es e
 
-pub assigned_more : (es : List (ℕ × ℕ)) (k q : ℕ) → k < length es → assigned (take (k + 1) es) q ≡ giving (assigned (take k es)) (get_or es k (0, 0)).0 (get_or es k (0, 0)).1 q
+pub assigned_more : (es : List (ℕ × ℕ)) (k q : ℕ) → k < length es
+    → assigned (take (k + 1) es) q ≡ giving (assigned (take k es)) (get_or es k (0, 0)).0 (get_or es k (0, 0)).1 q
 assigned_more es k q lt =
     ap (λ xs. assigned xs q) (take_more es k (0, 0) lt) ∙ (λ j. assigned-push (take k es) (get_or es k (0, 0)) j q)
 
@@ -31,14 +32,17 @@ all_from : (i : Interpretation) (cs : List Condition) (f : ℕ → ℕ) → each
 all_from i [] f = refl
 all_from i (c ∷ cs) f = ap (λ b. condition_true i c f && b) (all_from i cs f)
 
-some_all : (i : Interpretation) (rs : List ℕ) (cs : List Condition) (f : ℕ → ℕ) → some_extension i.size rs (each_condition i cs) f ≡ is_true i (structure rs (conditions_from cs)) f
+some_all : (i : Interpretation) (rs : List ℕ) (cs : List Condition) (f : ℕ → ℕ)
+    → some_extension i.size rs (each_condition i cs) f ≡ is_true i (structure rs (conditions_from cs)) f
 some_all i rs cs f = λ j. some_extension i.size rs (λ g. all_from i cs g j) f
 
-each_all : (i : Interpretation) (rs : List ℕ) (cs : List Condition) (l : Structure) (f : ℕ → ℕ) → each_extension i.size rs (carries_over i cs l) f ≡ implies_test i (structure rs (conditions_from cs)) (is_true i l) f
+each_all : (i : Interpretation) (rs : List ℕ) (cs : List Condition) (l : Structure) (f : ℕ → ℕ)
+    → each_extension i.size rs (carries_over i cs l) f ≡ implies_test i (structure rs (conditions_from cs)) (is_true i l) f
 each_all i rs cs l f = λ j. each_extension i.size rs (λ g. implies (all_from i cs g j) (is_true i l g)) f
 
 -- what is true in an assignment that was built with one more referent
-pub after_push : (test : (ℕ → ℕ) → Bool) (start es fs : List (ℕ × ℕ)) (r x : ℕ) → fs ≡ es ++ (r, x) ∷ [] → es ≡ start → test (assigned fs) ≡ test (giving (assigned start) r x)
+pub after_push : (test : (ℕ → ℕ) → Bool) (start es fs : List (ℕ × ℕ)) (r x : ℕ) → fs ≡ es ++ (r, x) ∷ [] → es ≡ start
+    → test (assigned fs) ≡ test (giving (assigned start) r x)
 after_push test start es fs r x pushed same =
     ap (λ z. test (assigned z)) pushed ∙ (ap test (assigned-push es (r, x)) ∙ ap (λ z. test (giving (assigned z) r x)) same)
 
@@ -50,7 +54,8 @@ back_again (also_condition c cs) = ap (also_condition c) (back_again cs)
 whole_again : (k : Structure) → structure (referents_in k) (conditions_from (conditions_in k)) ≡ k
 whole_again (structure rs cs) = ap (structure rs) (back_again cs)
 
-module _ (i : Interpretation) (k : Structure) (rs : List ℕ) (cs : List Condition) (f : ℕ → ℕ) (referents : rs ≡ referents_in k) (conditions : cs ≡ conditions_in k) where
+module _ (i : Interpretation) (k : Structure) (rs : List ℕ) (cs : List Condition) (f : ℕ → ℕ) (referents : rs ≡ referents_in k)
+    (conditions : cs ≡ conditions_in k) where
   pub of_structure : some_extension i.size rs (each_condition i cs) f ≡ is_true i k f
   of_structure =
       some_all i rs cs f
@@ -85,6 +90,7 @@ ok_decides (Ok answer) b P same decides = Decides-at answer b same decides
 ok_decides (Err e) b P same decides = tt
 
 -- the same under every assignment, for a structure with no free referent
-pub ok_closed : (r : Result Bool Memory) (i : Interpretation) (k : Structure) (g : ℕ → ℕ) → IfOk r (λ answer. answer ≡ is_true i k g) → IfOk r (λ answer. IsClosed k → (f : ℕ → ℕ) → IsTrue answer ↔ IsTrueUnder i k f)
+pub ok_closed : (r : Result Bool Memory) (i : Interpretation) (k : Structure) (g : ℕ → ℕ) → IfOk r (λ answer. answer ≡ is_true i k g)
+    → IfOk r (λ answer. IsClosed k → (f : ℕ → ℕ) → IsTrue answer ↔ IsTrueUnder i k f)
 ok_closed (Ok answer) i k g same = λ closed f. Decides-at answer (is_true i k f) (same ∙ is_true-closed i k closed g f) (is_true-Decides i k f)
 ok_closed (Err e) i k g same = tt

@@ -50,7 +50,8 @@ module _ {X : Type 0} (p : X → Bool) where
   all-remove_range xs i j all = both (take i xs) (drop j xs) (front i xs all) (back j xs all)
 
 -- items that grew where there was memory, and else stayed
-pub grown-all : {X Y T E : Type 0} (f : X → Y) (p : Y → Bool) (result : Result T E) (xs ys grown : List X) (i : ℕ) → OnOk result (grown ≡ insert_slice xs i ys) → OnErr result (grown ≡ xs)
+pub grown-all : {X Y T E : Type 0} (f : X → Y) (p : Y → Bool) (result : Result T E) (xs ys grown : List X) (i : ℕ) → OnOk result (grown ≡ insert_slice xs i ys)
+    → OnErr result (grown ≡ xs)
     → list_all p (map f xs) ≡ true → list_all p (map f ys) ≡ true → list_all p (map f grown) ≡ true
 grown-all {X} f p (Ok done) xs ys grown i ok err all more =
     ap (λ (zs : List X). list_all p (map f zs)) ok ∙ ap (list_all p) (map-insert_slice f xs i ys) ∙ all-insert_slice p (map f xs) i (map f ys) all more

@@ -12,7 +12,8 @@ use Rattle.std.proofs.lemmas.List.Folds.{list_any_none, list_any_at}
 use Rattle.std.proofs.lemmas.List.Sorted.{searchable_from_sorted}
 
 -- the search finds the item exactly where some item is equal to it
-pub found : {K : Type 0} {R : K → K → Ordering} (total : IsTotalOrder R) (E : K → K → Bool) (same : (x y : K) → E x y ≡ is_eq (R x y)) (xs : List K) (x : K) → IsSorted R xs → (r : Result ℕ ℕ) → IsSearchInRange r (length xs) → IsBinarySearchResult (λ y. R y x) xs r → is_ok r ≡ list_any (λ y. E y x) xs
+pub found : {K : Type 0} {R : K → K → Ordering} (total : IsTotalOrder R) (E : K → K → Bool) (same : (x y : K) → E x y ≡ is_eq (R x y)) (xs : List K) (x : K)
+    → IsSorted R xs → (r : Result ℕ ℕ) → IsSearchInRange r (length xs) → IsBinarySearchResult (λ y. R y x) xs r → is_ok r ≡ list_any (λ y. E y x) xs
 found {K} {R} total E same xs x up (Ok i) bound at =
     sym (list_any_at (λ y. E y x) xs i x bound (same (get_or xs i x) x ∙ ap is_eq (at x)))
 found {K} {R} total E same xs x up (Err i) bound at =

@@ -32,7 +32,8 @@ module _ {V : Type 0} where
   adjacent (e ∷ es) rise (suc k) d lt = adjacent es (rise_above e.0 es rise) k d (omega arith)
 
   -- the word at a place is the only one of its kind
-  at_place : (es : List (WordId × V)) → words_rise es ≡ true → (word : WordId) (k : ℕ) (d : WordId × V) → k < length es → (get_or es k d).0.0 ≡ word.0 → lookup (is_word word) es ≡ Some (get_or es k d).1
+  at_place : (es : List (WordId × V)) → words_rise es ≡ true → (word : WordId) (k : ℕ) (d : WordId × V) → k < length es → (get_or es k d).0.0 ≡ word.0
+      → lookup (is_word word) es ≡ Some (get_or es k d).1
   at_place [] rise word k d lt same = absurd (omega arith)
   at_place (e ∷ es) rise word zero d lt same =
       ap (λ b. cond b (Some e.1) (lookup (is_word word) es)) (eq-eqb word.0 e.0.0 (sym same))
@@ -40,17 +41,22 @@ module _ {V : Type 0} where
       ap (λ b. cond b (Some e.1) (lookup (is_word word) es)) (ne_eqb word.0 e.0.0 (λ h. omega (arith, above e.0 es rise k d (omega arith))))
       ∙ at_place es (rise_above e.0 es rise) word k d (omega arith) same
 
-  no_place : (es : List (WordId × V)) (word : WordId) → ((k : ℕ) (d : WordId × V) → k < length es → (get_or es k d).0.0 ≡ word.0 → ⊥) → lookup (is_word word) es ≡ None
+  no_place : (es : List (WordId × V)) (word : WordId) → ((k : ℕ) (d : WordId × V) → k < length es → (get_or es k d).0.0 ≡ word.0 → ⊥)
+      → lookup (is_word word) es ≡ None
   no_place [] word none = refl
   no_place (e ∷ es) word none =
       ap (λ b. cond b (Some e.1) (lookup (is_word word) es)) (ne_eqb word.0 e.0.0 (λ h. none 0 e (omega arith) (sym h)))
       ∙ no_place es word (λ k d lt. none (suc k) d (omega arith))
 
   -- what the search tells of the look-up
-  pub searched : (es : List (WordId × V)) → words_rise es ≡ true → (word : WordId) (r : Result ℕ ℕ) → IsSearchInRange r (length es) → IsBinarySearchResult (λ e. nat_cmp e.0.0 word.0) es r → MatchResult r (λ k. (d : WordId × V) → lookup (is_word word) es ≡ Some (get_or es k d).1) (λ _. lookup (is_word word) es ≡ None)
+  pub searched : (es : List (WordId × V)) → words_rise es ≡ true → (word : WordId) (r : Result ℕ ℕ) → IsSearchInRange r (length es)
+      → IsBinarySearchResult (λ e. nat_cmp e.0.0 word.0) es r
+      → MatchResult r (λ k. (d : WordId × V) → lookup (is_word word) es ≡ Some (get_or es k d).1) (λ _. lookup (is_word word) es ≡ None)
   searched es rise word (Ok k) bound at = λ d. at_place es rise word k d bound (ranked (get_or es k d).0.0 word.0 Equal (sym (at d)))
   searched es rise word (Err k) bound at =
-      let sorted = searchable_from_sorted nat_cmp_total (λ (e : WordId × V). e.0.0) es word.0 (λ j d low lt. strictly (get_or es j d).0.0 (get_or es (j + 1) d).0.0 (subst (λ n. (get_or es j d).0.0 < (get_or es n d).0.0) (one j) (adjacent es rise j d (omega arith)))) in
+      let sorted = searchable_from_sorted nat_cmp_total (λ (e : WordId × V). e.0.0) es word.0
+      (λ j d low lt. strictly (get_or es j d).0.0 (get_or es (j + 1) d).0.0
+      (subst (λ n. (get_or es j d).0.0 < (get_or es n d).0.0) (one j) (adjacent es rise j d (omega arith)))) in
       let parted = at sorted in
       no_place es word (λ j d lt same. elim (cases_lt j k) [
         | inl below ↦ different_less (get_or es j d).0.0 word.0 (parted.0 j d (omega arith) below) same

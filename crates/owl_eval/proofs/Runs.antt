@@ -74,7 +74,8 @@ starts_first x (p ∷ ps) (suc s) zero le start end =
 starts_first x (p ∷ ps) (suc s) (suc e) le start end =
     omega (arith, starts_first x ps s e (omega arith) (tail_point (below x) p ps s start) (tail_point (upto x) p ps e end))
 
-run_by_count : (x : ℕ) (ps : List (ℕ × ℕ)) (s n : ℕ) → s + n ≤ length ps → StartsAt ps x s → EndsAt ps x (s + n) → take n (drop s ps) ≡ filter (λ q. q.0 == x) ps
+run_by_count : (x : ℕ) (ps : List (ℕ × ℕ)) (s n : ℕ) → s + n ≤ length ps → StartsAt ps x s → EndsAt ps x (s + n)
+    → take n (drop s ps) ≡ filter (λ q. q.0 == x) ps
 run_by_count x ps zero n le start end = front_is_filter x ps n (omega arith) start (subst (EndsAt ps x) (omega arith) end)
 run_by_count x [] (suc s) n le start end = absurd (omega arith)
 run_by_count x (p ∷ ps) (suc s) n le start end =
@@ -82,7 +83,8 @@ run_by_count x (p ∷ ps) (suc s) n le start end =
     run_by_count x ps s n (omega arith) (tail_point (below x) p ps s start) (tail_point (upto x) p ps (s + n) next)
     ∙ sym (not_here x p ps (λ e. omega (arith, ltb-true p.0 x (head_in (below x) p ps s start))))
 
-pub run_is_filter : (x : ℕ) (ps : List (ℕ × ℕ)) (s e : ℕ) → s ≤ length ps → e ≤ length ps → StartsAt ps x s → EndsAt ps x e → take (e - s) (drop s ps) ≡ filter (λ q. q.0 == x) ps
+pub run_is_filter : (x : ℕ) (ps : List (ℕ × ℕ)) (s e : ℕ) → s ≤ length ps → e ≤ length ps → StartsAt ps x s → EndsAt ps x e
+    → take (e - s) (drop s ps) ≡ filter (λ q. q.0 == x) ps
 run_is_filter x ps s e ls le start end =
     let first : s ≤ e = starts_first x ps s e ls start end in
     run_by_count x ps s (e - s) (omega arith) start (subst (EndsAt ps x) (omega arith) end)

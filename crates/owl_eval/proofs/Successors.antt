@@ -4,8 +4,8 @@ use Rattle.std.specs.Prelude.{nat_lt, not, if◌then◌else◌}
 use Rattle.std.specs.List.{list_any, list_all}
 use Rattle.std.specs.Map.{lookup}
 use Rattle.std.proofs.lemmas.Bool.{ltb-true, and_parts, eq-eqb, ne_eqb, cases_eq}
-use Rattle.std.proofs.Math.Bool.{or-false as or_none}
-use Rattle.wiki_base.proofs.BoolLaws.{or-turn as swap_or}
+use Rattle.std.proofs.Math.Bool.{or-false as or_none, and_comm}
+use Rattle.wiki_base.proofs.BoolLaws.{or-turn as swap_or, and-not}
 use Rattle.wiki_base.specs.declared.numbers.WordId.{WordId}
 use Rattle.logic_terms.specs.declared.expressions.Role.{Role}
 use Rattle.logic_terms.specs.Interpretation.{Interpretation, is_interpretation, is_word, words_rise, pairs_of, relates}
@@ -46,13 +46,9 @@ not_or : (a b : Bool) → (not (not a) && not b) ≡ not (not a || b)
 not_or true b = refl
 not_or false b = refl
 
-both_not : (a b : Bool) → (a && not b) ≡ not (not a || b)
-both_not true b = refl
-both_not false b = refl
-
 each_below-not : (n : ℕ) (test : ℕ → Bool) → each_below n test ≡ not (some_below n (λ k. not (test k)))
 each_below-not zero test = refl
-each_below-not (suc n) test = ap (λ b. test n && b) (each_below-not n test) ∙ both_not (test n) (some_below n (λ k. not (test k)))
+each_below-not (suc n) test = ap (λ b. test n && b) (each_below-not n test) ∙ and-not (test n) (some_below n (λ k. not (test k)))
 
 not_implies : (a b : Bool) → not (implies a b) ≡ (a && not b)
 not_implies true b = refl
@@ -76,7 +72,8 @@ abbrev pub ends_fit : ℕ → List (ℕ × ℕ) → Bool
 ends_fit n ps = list_all (λ p. nat_lt p.0 n && nat_lt p.1 n) ps
 
 -- some pair that begins with x ends in the test, exactly where some element below n does that is paired with x
-pub any_successor : (n : ℕ) (ps : List (ℕ × ℕ)) → ends_fit n ps ≡ true → (x : ℕ) (test : ℕ → Bool) → list_any (λ p. (p.0 == x) && test p.1) ps ≡ some_below n (λ y. paired ps x y && test y)
+pub any_successor : (n : ℕ) (ps : List (ℕ × ℕ)) → ends_fit n ps ≡ true → (x : ℕ) (test : ℕ → Bool)
+    → list_any (λ p. (p.0 == x) && test p.1) ps ≡ some_below n (λ y. paired ps x y && test y)
 any_successor n [] fit x test = sym (none_below n (λ y. false && test y) (λ y. refl))
 any_successor n (p ∷ ps) fit x test =
     let parts = and_parts (nat_lt p.0 n && nat_lt p.1 n) (ends_fit n ps) fit in
@@ -90,7 +87,8 @@ any_successor n (p ∷ ps) fit x test =
     ap (λ b. (a && test p.1) || b) (any_successor n ps parts.1 x test)
     ∙ (ap (λ b. (a && b) || some_below n g) (sym (some_below-one n p.1 test below)) ∙ sym split)
 
-pub each_successor : (n : ℕ) (ps : List (ℕ × ℕ)) → ends_fit n ps ≡ true → (x : ℕ) (test : ℕ → Bool) → list_all (λ p. implies (p.0 == x) (test p.1)) ps ≡ each_below n (λ y. implies (paired ps x y) (test y))
+pub each_successor : (n : ℕ) (ps : List (ℕ × ℕ)) → ends_fit n ps ≡ true → (x : ℕ) (test : ℕ → Bool)
+    → list_all (λ p. implies (p.0 == x) (test p.1)) ps ≡ each_below n (λ y. implies (paired ps x y) (test y))
 each_successor n ps fit x test =
     list_all-not (λ p. implies (p.0 == x) (test p.1)) ps
     ∙ (ap not (ap (λ t. list_any t ps) (λ j p. not_implies (p.0 == x) (test p.1) j)
@@ -107,20 +105,14 @@ list_all-map : {X Y : Type 0} (f : X → Y) (test : Y → Bool) (xs : List X) �
 list_all-map f test [] = refl
 list_all-map f test (x ∷ xs) = ap (λ b. test (f x) && b) (list_all-map f test xs)
 
-and_swap : (a b : Bool) → (a && b) ≡ (b && a)
-and_swap true true = refl
-and_swap true false = refl
-and_swap false true = refl
-and_swap false false = refl
-
 paired_swapped : (ps : List (ℕ × ℕ)) (x y : ℕ) → paired (map swapped ps) x y ≡ paired ps y x
 paired_swapped ps x y =
-    list_any-map swapped (λ p. (p.0 == x) && (p.1 == y)) ps ∙ ap (λ t. list_any t ps) (λ j p. and_swap (p.1 == x) (p.0 == y) j)
+    list_any-map swapped (λ p. (p.0 == x) && (p.1 == y)) ps ∙ ap (λ t. list_any t ps) (λ j p. and_comm (p.1 == x) (p.0 == y) j)
 
 fit_swapped : (n : ℕ) (ps : List (ℕ × ℕ)) → ends_fit n ps ≡ true → ends_fit n (map swapped ps) ≡ true
 fit_swapped n ps fit =
     list_all-map swapped (λ p. nat_lt p.0 n && nat_lt p.1 n) ps
-    ∙ (ap (λ t. list_all t ps) (λ j p. and_swap (nat_lt p.1 n) (nat_lt p.0 n) j) ∙ fit)
+    ∙ (ap (λ t. list_all t ps) (λ j p. and_comm (nat_lt p.1 n) (nat_lt p.0 n) j) ∙ fit)
 
 along_by : (b : Bool) (ps : List (ℕ × ℕ)) (x y : ℕ) → paired (if b then map swapped ps else ps) x y ≡ (if b then paired ps y x else paired ps x y)
 along_by true ps x y = paired_swapped ps x y
@@ -130,18 +122,21 @@ pub paired_along : (i : Interpretation) (role : Role) (x y : ℕ) → paired (pa
 paired_along i role x y = along_by role.inverted (pairs_of i role.id) x y
 
 -- what holds of each list of a map holds of the one that is looked up, or of none
-fit_either : (n : ℕ) (b : Bool) (ps : List (ℕ × ℕ)) (other : Option (List (ℕ × ℕ))) → ends_fit n ps ≡ true → ends_fit n (unwrap_or other []) ≡ true → ends_fit n (unwrap_or (cond b (Some ps) other) []) ≡ true
+fit_either : (n : ℕ) (b : Bool) (ps : List (ℕ × ℕ)) (other : Option (List (ℕ × ℕ))) → ends_fit n ps ≡ true → ends_fit n (unwrap_or other []) ≡ true
+    → ends_fit n (unwrap_or (cond b (Some ps) other) []) ≡ true
 fit_either n true ps other here there = here
 fit_either n false ps other here there = there
 
-fit_lookup : (n : ℕ) (test : WordId → Bool) (es : List (WordId × List (ℕ × ℕ))) → list_all (λ e. ends_fit n e.1) es ≡ true → ends_fit n (unwrap_or (lookup test es) []) ≡ true
+fit_lookup : (n : ℕ) (test : WordId → Bool) (es : List (WordId × List (ℕ × ℕ))) → list_all (λ e. ends_fit n e.1) es ≡ true
+    → ends_fit n (unwrap_or (lookup test es) []) ≡ true
 fit_lookup n test [] fit = refl
 fit_lookup n test (e ∷ es) fit =
     let parts = and_parts (ends_fit n e.1) (list_all (λ f. ends_fit n f.1) es) fit in
     fit_either n (test e.0) e.1 (lookup test es) parts.0 (fit_lookup n test es parts.1)
 
 -- the parts of the test of an interpretation
-seven : (a b c d e f g : Bool) → (a && b && c && d && e && f && g) ≡ true → (a ≡ true) × (b ≡ true) × (c ≡ true) × (d ≡ true) × (e ≡ true) × (f ≡ true) × (g ≡ true)
+seven : (a b c d e f g : Bool) → (a && b && c && d && e && f && g) ≡ true
+    → (a ≡ true) × (b ≡ true) × (c ≡ true) × (d ≡ true) × (e ≡ true) × (f ≡ true) × (g ≡ true)
 seven true true true true true true true h = (refl, refl, refl, refl, refl, refl, refl)
 seven true true true true true true false h = cc
 seven true true true true true false g h = cc
@@ -151,8 +146,12 @@ seven true true false d e f g h = cc
 seven true false c d e f g h = cc
 seven false b c d e f g h = cc
 
-pub parts_of : (i : Interpretation) → is_interpretation i ≡ true → (nat_lt 0 i.size ≡ true) × (words_rise i.names ≡ true) × (words_rise i.classes ≡ true) × (words_rise i.relations ≡ true) × (list_all (λ e. nat_lt e.1 i.size) i.names ≡ true) × (list_all (λ e. list_all (λ x. nat_lt x i.size) e.1) i.classes ≡ true) × (list_all (λ e. ends_fit i.size e.1) i.relations ≡ true)
-parts_of i h = seven (nat_lt 0 i.size) (words_rise i.names) (words_rise i.classes) (words_rise i.relations) (list_all (λ e. nat_lt e.1 i.size) i.names) (list_all (λ e. list_all (λ x. nat_lt x i.size) e.1) i.classes) (list_all (λ e. ends_fit i.size e.1) i.relations) h
+pub parts_of : (i : Interpretation) → is_interpretation i ≡ true
+    → (nat_lt 0 i.size ≡ true) × (words_rise i.names ≡ true) × (words_rise i.classes ≡ true) × (words_rise i.relations ≡ true)
+    × (list_all (λ e. nat_lt e.1 i.size) i.names ≡ true) × (list_all (λ e. list_all (λ x. nat_lt x i.size) e.1) i.classes ≡ true)
+    × (list_all (λ e. ends_fit i.size e.1) i.relations ≡ true)
+parts_of i h = seven (nat_lt 0 i.size) (words_rise i.names) (words_rise i.classes) (words_rise i.relations) (list_all (λ e. nat_lt e.1 i.size) i.names)
+    (list_all (λ e. list_all (λ x. nat_lt x i.size) e.1) i.classes) (list_all (λ e. ends_fit i.size e.1) i.relations) h
 
 along_fits : (b : Bool) (n : ℕ) (ps : List (ℕ × ℕ)) → ends_fit n ps ≡ true → ends_fit n (if b then map swapped ps else ps) ≡ true
 along_fits true n ps fit = fit_swapped n ps fit
@@ -161,18 +160,21 @@ along_fits false n ps fit = fit
 fits_along : (i : Interpretation) → is_interpretation i ≡ true → (role : Role) → ends_fit i.size (pairs_along role i.relations) ≡ true
 fits_along i h role = along_fits role.inverted i.size (pairs_of i role.id) (fit_lookup i.size (is_word role.id) i.relations (parts_of i h).6)
 
-pub some_along : (i : Interpretation) → is_interpretation i ≡ true → (role : Role) (x : ℕ) (test : ℕ → Bool) → list_any (λ p. (p.0 == x) && test p.1) (pairs_along role i.relations) ≡ some_below i.size (λ y. relates i role x y && test y)
+pub some_along : (i : Interpretation) → is_interpretation i ≡ true → (role : Role) (x : ℕ) (test : ℕ → Bool)
+    → list_any (λ p. (p.0 == x) && test p.1) (pairs_along role i.relations) ≡ some_below i.size (λ y. relates i role x y && test y)
 some_along i h role x test =
     any_successor i.size (pairs_along role i.relations) (fits_along i h role) x test
     ∙ ap (some_below i.size) (λ j y. paired_along i role x y j && test y)
 
-pub each_along : (i : Interpretation) → is_interpretation i ≡ true → (role : Role) (x : ℕ) (test : ℕ → Bool) → list_all (λ p. implies (p.0 == x) (test p.1)) (pairs_along role i.relations) ≡ each_below i.size (λ y. implies (relates i role x y) (test y))
+pub each_along : (i : Interpretation) → is_interpretation i ≡ true → (role : Role) (x : ℕ) (test : ℕ → Bool)
+    → list_all (λ p. implies (p.0 == x) (test p.1)) (pairs_along role i.relations) ≡ each_below i.size (λ y. implies (relates i role x y) (test y))
 each_along i h role x test =
     each_successor i.size (pairs_along role i.relations) (fits_along i h role) x test
     ∙ ap (each_below i.size) (λ j y. implies (paired_along i role x y j) (test y))
 
 -- a role that is not inverted has the pairs of its word
-pub straight : (role : Role) (relations : List (WordId × List (ℕ × ℕ))) (ps : List (ℕ × ℕ)) → role.inverted ≡ false → Some ps ≡ lookup (is_word role.id) relations → ps ≡ pairs_along role relations
+pub straight : (role : Role) (relations : List (WordId × List (ℕ × ℕ))) (ps : List (ℕ × ℕ)) → role.inverted ≡ false
+    → Some ps ≡ lookup (is_word role.id) relations → ps ≡ pairs_along role relations
 straight role relations ps up found =
     let pairs : List (ℕ × ℕ) = unwrap_or (lookup (is_word role.id) relations) [] in
     ap (λ o. unwrap_or o []) found ∙ sym (ap (λ b. if b then map swapped pairs else pairs) up)

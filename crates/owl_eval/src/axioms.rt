@@ -69,7 +69,8 @@ fn is_subclass(interp: &Interp, below: &Class, above: &Class) -> bool
 
 // Whether each pair of the one role is one of the other.
 fn is_subrole(interp: &Interp, below: Role, above: Role) -> bool
-    ensures { result ≡ each_below interp.now.size (λ x. each_below interp.now.size (λ y. implies (relates interp.now below x y) (relates interp.now above x y))) }
+    ensures { result ≡ each_below interp.now.size
+        (λ x. each_below interp.now.size (λ y. implies (relates interp.now below x y) (relates interp.now above x y))) }
 {
     for element in 0..interp.size() {
         if !each_end_relates(interp, above, element, interp.successors(below, element)) {

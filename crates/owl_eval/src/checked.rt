@@ -59,7 +59,8 @@ impl CheckedModel {
     pub fn insert(&mut self, at: usize, more: Axioms) -> Result<bool, Memory>
         requires { at ≤ length (kept_claims self.old) }
         ensures accepts { IfOk result (λ taken. IsTrue taken ↔ IsModel (kept_interp self.old) (claims_of more)) }
-        ensures axioms { IfOk result (λ taken. kept_claims self.new ≡ (if taken then insert_slice (kept_claims self.old) at (claims_of more) else kept_claims self.old)) }
+        ensures axioms { IfOk result (λ taken. kept_claims self.new
+            ≡ (if taken then insert_slice (kept_claims self.old) at (claims_of more) else kept_claims self.old)) }
         ensures interp { kept_interp self.new ≡ kept_interp self.old }
         ensures err { OnErr result (kept_claims self.new ≡ kept_claims self.old) }
     {

@@ -35,7 +35,8 @@ impl Model for Interp {
 
     ghost view = { λ i. record { size = i.size; names = i.names.items; classes = i.classes.items; relations = i.relations.items } };
 
-    ghost invariant = { λ i. is_interpretation (record { size = i.size; names = i.names.items; classes = i.classes.items; relations = i.relations.items }) ≡ true };
+    ghost invariant = { λ i. is_interpretation (record { size = i.size; names = i.names.items; classes = i.classes.items; relations = i.relations.items })
+        ≡ true };
 }
 
 impl Interp {
@@ -204,7 +205,8 @@ impl Interp {
     // The pairs by which an element has its successors by a role: that element, then the successor.
     pub(crate) fn successors(&self, role: Role, element: u64) -> &[(u64, u64)]
         ensures some { (test : ℕ → Bool) → list_any (λ p. test p.1) result.now ≡ some_below self.now.size (λ y. relates self.now role element y && test y) }
-        ensures each { (test : ℕ → Bool) → list_all (λ p. test p.1) result.now ≡ each_below self.now.size (λ y. implies (relates self.now role element y) (test y)) }
+        ensures each { (test : ℕ → Bool)
+            → list_all (λ p. test p.1) result.now ≡ each_below self.now.size (λ y. implies (relates self.now role element y) (test y)) }
     {
         successors_in(self.relations.as_slice(), role, element)
     }
@@ -247,7 +249,8 @@ fn relation_in(relations: &[Relation], word: WordId) -> Option<&Relation>
 fn successors_in(relations: &[Relation], role: Role, element: u64) -> &[(u64, u64)]
     requires { IsTrue (words_rise relations.now) }
     ensures some { (test : ℕ → Bool) → list_any (λ p. test p.1) result.now ≡ list_any (λ p. (p.0 == element) && test p.1) (pairs_along role relations.now) }
-    ensures each { (test : ℕ → Bool) → list_all (λ p. test p.1) result.now ≡ list_all (λ p. implies (p.0 == element) (test p.1)) (pairs_along role relations.now) }
+    ensures each { (test : ℕ → Bool) → list_all (λ p. test p.1) result.now
+        ≡ list_all (λ p. implies (p.0 == element) (test p.1)) (pairs_along role relations.now) }
 {
     match relation_in(relations, role.id) {
         None => &[],

@@ -39,7 +39,8 @@ fn some_extension_true(
     conditions: &Conds,
     given: &mut Vec<(u16, u64)>,
 ) -> Result<bool, Memory>
-    ensures truth { IfOk result (λ answer. answer ≡ some_extension interp.now.size referents.now (each_condition interp.now (conditions_of conditions.now)) (assigned given.old.items)) }
+    ensures truth { IfOk result (λ answer. answer
+        ≡ some_extension interp.now.size referents.now (each_condition interp.now (conditions_of conditions.now)) (assigned given.old.items)) }
     ensures kept { OnOk result (given.new.items ≡ given.old.items) }
 {
     let Some((first, rest)) = referents.split_first() else {
@@ -65,7 +66,9 @@ fn each_extension_true(
     right: &Drs,
     given: &mut Vec<(u16, u64)>,
 ) -> Result<bool, Memory>
-    ensures truth { IfOk result (λ answer. answer ≡ each_extension interp.now.size referents.now (carries_over interp.now (conditions_of conditions.now) (structure_of right.now)) (assigned given.old.items)) }
+    ensures truth { IfOk result (λ answer. answer
+        ≡ each_extension interp.now.size referents.now (carries_over interp.now (conditions_of conditions.now) (structure_of right.now))
+        (assigned given.old.items)) }
     ensures kept { OnOk result (given.new.items ≡ given.old.items) }
 {
     let Some((first, rest)) = referents.split_first() else {
@@ -90,7 +93,8 @@ fn if_then_true(
     right: &Drs,
     given: &mut Vec<(u16, u64)>,
 ) -> Result<bool, Memory>
-    ensures truth { IfOk result (λ answer. answer ≡ carries_over interp.now (conditions_of conditions.now) (structure_of right.now) (assigned given.old.items)) }
+    ensures truth { IfOk result (λ answer. answer
+        ≡ carries_over interp.now (conditions_of conditions.now) (structure_of right.now) (assigned given.old.items)) }
     ensures kept { OnOk result (given.new.items ≡ given.old.items) }
 {
     if conditions_true(interp, conditions, given)? {
@@ -147,7 +151,8 @@ fn either_true(
     right: &Drs,
     given: &mut Vec<(u16, u64)>,
 ) -> Result<bool, Memory>
-    ensures truth { IfOk result (λ answer. answer ≡ (is_true interp.now (structure_of left.now) (assigned given.old.items) || is_true interp.now (structure_of right.now) (assigned given.old.items))) }
+    ensures truth { IfOk result (λ answer. answer
+        ≡ (is_true interp.now (structure_of left.now) (assigned given.old.items) || is_true interp.now (structure_of right.now) (assigned given.old.items))) }
     ensures kept { OnOk result (given.new.items ≡ given.old.items) }
 {
     if structure_true(interp, left, given)? {

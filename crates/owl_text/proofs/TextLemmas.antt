@@ -20,12 +20,15 @@ drop_at xs k x at =
     ∙ ap (λ y. y ∷ drop (suc k) xs) (get_or_from_slice_get xs k x x at)
     ∙ ap (λ n. x ∷ drop n xs) (sym (add-one k))
 
-first_of : (form : WordId → Option (List ℕ)) (later : Bool) (c : Concept) (cs : List Concept) → rest_text form later (c ∷ cs) ≡ (if later then codes " " else []) ++ (class_text form c ++ more_text form (concepts_from cs))
+first_of : (form : WordId → Option (List ℕ)) (later : Bool) (c : Concept) (cs : List Concept)
+    → rest_text form later (c ∷ cs) ≡ (if later then codes " " else []) ++ (class_text form c ++ more_text form (concepts_from cs))
 first_of form true c cs = refl
 first_of form false c cs = refl
 
 -- one more member is written behind those before it
-pub written_on : (form : WordId → Option (List ℕ)) (cs : List Concept) (k : ℕ) (c : Concept) (start out spaced more : List ℕ) → slice_get cs k ≡ Some c → spaced ≡ out ++ (if nat_lt 0 k then codes " " else []) → more ≡ spaced ++ class_text form c → out ++ rest_text form (nat_lt 0 k) (drop k cs) ≡ start → more ++ rest_text form (nat_lt 0 (k + 1)) (drop (k + 1) cs) ≡ start
+pub written_on : (form : WordId → Option (List ℕ)) (cs : List Concept) (k : ℕ) (c : Concept) (start out spaced more : List ℕ) → slice_get cs k ≡ Some c
+    → spaced ≡ out ++ (if nat_lt 0 k then codes " " else []) → more ≡ spaced ++ class_text form c → out ++ rest_text form (nat_lt 0 k) (drop k cs) ≡ start
+    → more ++ rest_text form (nat_lt 0 (k + 1)) (drop (k + 1) cs) ≡ start
 written_on form cs k c start out spaced more at space now left =
     let gap : List ℕ = if nat_lt 0 k then codes " " else [] in
     let rest : List ℕ = more_text form (concepts_from (drop (k + 1) cs)) in
@@ -45,7 +48,8 @@ nothing_left form true = refl
 nothing_left form false = refl
 
 -- past the last member all are written
-pub written_all : (form : WordId → Option (List ℕ)) (cs : List Concept) (k : ℕ) (later : Bool) (start out : List ℕ) → length cs ≤ k → out ++ rest_text form later (drop k cs) ≡ start → out ≡ start
+pub written_all : (form : WordId → Option (List ℕ)) (cs : List Concept) (k : ℕ) (later : Bool) (start out : List ℕ) → length cs ≤ k
+    → out ++ rest_text form later (drop k cs) ≡ start → out ≡ start
 written_all form cs k later start out past left =
     sym (append-nil out)
     ∙ ap (λ t. out ++ t) (sym (nothing_left form later))

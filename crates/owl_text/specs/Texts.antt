@@ -48,6 +48,7 @@ claim_text form (SubClassOf c d) = two_arguments (codes "SubClassOf(") (class_te
 claim_text form (SubPropertyOf r s) = two_arguments (codes "SubObjectPropertyOf(") (role_text form r) (role_text form s)
 claim_text form (ClassAssertion c name) = two_arguments (codes "ClassAssertion(") (class_text form c) (word_text form name)
 claim_text form (PropertyAssertion r from to) = three_arguments (codes "ObjectPropertyAssertion(") (role_text form r) (word_text form from) (word_text form to)
-claim_text form (NegativePropertyAssertion r from to) = three_arguments (codes "NegativeObjectPropertyAssertion(") (role_text form r) (word_text form from) (word_text form to)
+claim_text form (NegativePropertyAssertion r from to) =
+    three_arguments (codes "NegativeObjectPropertyAssertion(") (role_text form r) (word_text form from) (word_text form to)
 claim_text form (SameIndividual one other) = two_arguments (codes "SameIndividual(") (word_text form one) (word_text form other)
 claim_text form (DifferentIndividuals one other) = two_arguments (codes "DifferentIndividuals(") (word_text form one) (word_text form other)

@@ -122,7 +122,8 @@ fn put_filled<L: Spelled>(
     inner: &Class,
     lexicon: &L,
 ) -> Result<(), Memory>
-    ensures { OnOk result (out.new ≡ out.old ++ two_arguments name.now (role_text (L.canonical_form lexicon.now) role) (class_text (L.canonical_form lexicon.now) (concept_of inner.now))) }
+    ensures { OnOk result (out.new ≡ out.old
+        ++ two_arguments name.now (role_text (L.canonical_form lexicon.now) role) (class_text (L.canonical_form lexicon.now) (concept_of inner.now))) }
 {
     out.push_str(name)?;
     put_role(out, role, lexicon)?;
@@ -138,7 +139,8 @@ fn put_value<L: Spelled>(
     name: WordId,
     lexicon: &L,
 ) -> Result<(), Memory>
-    ensures { OnOk result (out.new ≡ out.old ++ two_arguments kind.now (role_text (L.canonical_form lexicon.now) role) (word_text (L.canonical_form lexicon.now) name)) }
+    ensures { OnOk result (out.new ≡ out.old
+        ++ two_arguments kind.now (role_text (L.canonical_form lexicon.now) role) (word_text (L.canonical_form lexicon.now) name)) }
 {
     out.push_str(kind)?;
     put_role(out, role, lexicon)?;
@@ -194,7 +196,9 @@ fn put_subclass<L: Spelled>(
     above: &Class,
     lexicon: &L,
 ) -> Result<(), Memory>
-    ensures { OnOk result (out.new ≡ out.old ++ two_arguments kind.now (class_text (L.canonical_form lexicon.now) (concept_of below.now)) (class_text (L.canonical_form lexicon.now) (concept_of above.now))) }
+    ensures { OnOk result (out.new ≡ out.old
+        ++ two_arguments kind.now (class_text (L.canonical_form lexicon.now) (concept_of below.now))
+        (class_text (L.canonical_form lexicon.now) (concept_of above.now))) }
 {
     out.push_str(kind)?;
     put_class(out, below, lexicon)?;
@@ -210,7 +214,8 @@ fn put_subrole<L: Spelled>(
     above: Role,
     lexicon: &L,
 ) -> Result<(), Memory>
-    ensures { OnOk result (out.new ≡ out.old ++ two_arguments kind.now (role_text (L.canonical_form lexicon.now) below) (role_text (L.canonical_form lexicon.now) above)) }
+    ensures { OnOk result (out.new ≡ out.old
+        ++ two_arguments kind.now (role_text (L.canonical_form lexicon.now) below) (role_text (L.canonical_form lexicon.now) above)) }
 {
     out.push_str(kind)?;
     put_role(out, below, lexicon)?;
@@ -226,7 +231,8 @@ fn put_member<L: Spelled>(
     name: WordId,
     lexicon: &L,
 ) -> Result<(), Memory>
-    ensures { OnOk result (out.new ≡ out.old ++ two_arguments kind.now (class_text (L.canonical_form lexicon.now) (concept_of class.now)) (word_text (L.canonical_form lexicon.now) name)) }
+    ensures { OnOk result (out.new ≡ out.old
+        ++ two_arguments kind.now (class_text (L.canonical_form lexicon.now) (concept_of class.now)) (word_text (L.canonical_form lexicon.now) name)) }
 {
     out.push_str(kind)?;
     put_class(out, class, lexicon)?;
@@ -243,7 +249,9 @@ fn put_related<L: Spelled>(
     to: WordId,
     lexicon: &L,
 ) -> Result<(), Memory>
-    ensures { OnOk result (out.new ≡ out.old ++ three_arguments kind.now (role_text (L.canonical_form lexicon.now) role) (word_text (L.canonical_form lexicon.now) from) (word_text (L.canonical_form lexicon.now) to)) }
+    ensures { OnOk result (out.new ≡ out.old
+        ++ three_arguments kind.now (role_text (L.canonical_form lexicon.now) role) (word_text (L.canonical_form lexicon.now) from)
+        (word_text (L.canonical_form lexicon.now) to)) }
 {
     out.push_str(kind)?;
     put_role(out, role, lexicon)?;
@@ -261,7 +269,8 @@ fn put_names<L: Spelled>(
     other: WordId,
     lexicon: &L,
 ) -> Result<(), Memory>
-    ensures { OnOk result (out.new ≡ out.old ++ two_arguments kind.now (word_text (L.canonical_form lexicon.now) one) (word_text (L.canonical_form lexicon.now) other)) }
+    ensures { OnOk result (out.new ≡ out.old
+        ++ two_arguments kind.now (word_text (L.canonical_form lexicon.now) one) (word_text (L.canonical_form lexicon.now) other)) }
 {
     out.push_str(kind)?;
     put_word(out, one, lexicon)?;

@@ -142,17 +142,21 @@ module _ (names : List WordId) where
       let parts = and_parts (fits names claim) (list_all (fits names) claims) h in
       and_from (is_plain_claim claim) (list_all is_plain_claim claims) (claim_plain names claim parts.0) (each_plain claims parts.1)
 
-  pub each_over : (claims : List Claim) → list_all (fits names) claims ≡ true → list_all (λ claim. list_all (is_among names) (names_in_claim claim)) claims ≡ true
+  pub each_over : (claims : List Claim) → list_all (fits names) claims ≡ true
+      → list_all (λ claim. list_all (is_among names) (names_in_claim claim)) claims ≡ true
   each_over [] h = refl
   each_over (claim ∷ claims) h =
       let parts = and_parts (fits names claim) (list_all (fits names) claims) h in
-      and_from (list_all (is_among names) (names_in_claim claim)) (list_all (λ c. list_all (is_among names) (names_in_claim c)) claims) (claim_over names claim parts.0) (each_over claims parts.1)
+      and_from (list_all (is_among names) (names_in_claim claim)) (list_all (λ c. list_all (is_among names) (names_in_claim c)) claims)
+      (claim_over names claim parts.0) (each_over claims parts.1)
 
 -- all members of a list were passed
-pub all_members : (names : List WordId) (cs : List Concept) (n : ℕ) → length cs ≤ n → 2 ≤ length cs → list_all (is_fit names) (take n cs) ≡ true → members_fit names cs ≡ true
+pub all_members : (names : List WordId) (cs : List Concept) (n : ℕ) → length cs ≤ n → 2 ≤ length cs → list_all (is_fit names) (take n cs) ≡ true
+    → members_fit names cs ≡ true
 all_members names cs n past many h = enough names cs many ∙ (ap (list_all (is_fit names)) (sym (take_all n cs past)) ∙ h)
 
-pub all_over : (names : List WordId) (claims : List Claim) (n : ℕ) → length claims ≤ n → list_all (fits names) (take n claims) ≡ true → are_over names claims ≡ true
+pub all_over : (names : List WordId) (claims : List Claim) (n : ℕ) → length claims ≤ n → list_all (fits names) (take n claims) ≡ true
+    → are_over names claims ≡ true
 all_over names claims n past h = each_over names claims (ap (list_all (fits names)) (sym (take_all n claims past)) ∙ h)
 
 pub all_plain : (names : List WordId) (claims : List Claim) (n : ℕ) → length claims ≤ n → list_all (fits names) (take n claims) ≡ true → are_plain claims ≡ true

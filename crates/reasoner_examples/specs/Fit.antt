@@ -1,4 +1,4 @@
--- Which axioms a verdict may be asked on, over these names.
+-- Which axioms a verdict may be asked on, over these names. Only private calls speak of it.
 use Rattle.std.specs.Prelude.{◌&&◌, Bool, true, List, length, nat_lt, not}
 use Rattle.std.specs.List.{list_all}
 use Rattle.wiki_base.specs.declared.numbers.WordId.{WordId}

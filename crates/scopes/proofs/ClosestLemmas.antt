@@ -5,7 +5,7 @@ use Rattle.std.specs.List.{filter_map, cons_option}
 use Rattle.std.proofs.lemmas.List.Elements.{filter_map-append}
 use Rattle.std.proofs.lemmas.List.{append-nil}
 use Rattle.scopes.specs.declared.entries.Entry.{Entry}
-use Rattle.scopes.specs.declared.tests.Tests.{Tests}
+use Rattle.scopes.specs.declared.agreement.Tests.{Tests}
 use Rattle.scopes.specs.Resolution.{Finding, finding, closest_finding, last_of}
 
 pub last_of-push : {X : Type 0} (xs : List X) (x : X) → last_of (xs ++ x ∷ []) ≡ Some x
@@ -22,11 +22,13 @@ closest_push tests xs e =
     ap last_of (filter_map-append (finding tests) xs (e ∷ [])) ∙ last_with (finding tests e) (filter_map (finding tests) xs)
 
 -- where the newest entry gives something, the list finds it
-pub found_newest : (tests : Tests) (older all : List Entry) (e : Entry) (f : Finding) → Some f ≡ finding tests e → closest_finding tests (older ++ e ∷ []) ≡ closest_finding tests all → Some f ≡ closest_finding tests all
+pub found_newest : (tests : Tests) (older all : List Entry) (e : Entry) (f : Finding) → Some f ≡ finding tests e
+    → closest_finding tests (older ++ e ∷ []) ≡ closest_finding tests all → Some f ≡ closest_finding tests all
 found_newest tests older all e f here same =
     ap (λ o. option_or o (closest_finding tests older)) here ∙ sym (closest_push tests older e) ∙ same
 
 -- where it gives nothing, the older entries decide
-pub passed_newest : (tests : Tests) (older all : List Entry) (e : Entry) → None ≡ finding tests e → closest_finding tests (older ++ e ∷ []) ≡ closest_finding tests all → closest_finding tests older ≡ closest_finding tests all
+pub passed_newest : (tests : Tests) (older all : List Entry) (e : Entry) → None ≡ finding tests e
+    → closest_finding tests (older ++ e ∷ []) ≡ closest_finding tests all → closest_finding tests older ≡ closest_finding tests all
 passed_newest tests older all e here same =
     ap (λ o. option_or o (closest_finding tests older)) here ∙ sym (closest_push tests older e) ∙ same

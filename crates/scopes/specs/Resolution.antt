@@ -6,8 +6,8 @@ use Rattle.codeco_terms.specs.declared.categories.Ground.{Ground}
 use Rattle.codeco_terms.specs.Values.{same_value}
 use Rattle.scopes.specs.declared.entries.Entry.{Entry}
 use Rattle.scopes.specs.declared.entries.Entry.TheVariants.{Opener, Weak, Strong}
-use Rattle.scopes.specs.declared.tests.Test.{Test}
-use Rattle.scopes.specs.declared.tests.Tests.{Tests}
+use Rattle.scopes.specs.declared.agreement.Test.{Test}
+use Rattle.scopes.specs.declared.agreement.Tests.{Tests}
 
 -- the values have this one at this feature
 abbrev pub has_value : List (ℕ × Value) → (ℕ × Value) → Bool
@@ -32,7 +32,8 @@ pub record Finding : Type 0 where
 -- what a reference finds at a referent: it agrees with a positive test and with no negative one
 abbrev pub finding_at : Tests → Ground → ℕ → Option Finding
 finding_at tests referent pos =
-    if list_any (agrees referent) tests.negative then None else option_map (λ k. record { pos = pos; referent = referent; pattern = k }) (position (agrees referent) tests.positive)
+    if list_any (agrees referent) tests.negative then None
+    else option_map (λ k. record { pos = pos; referent = referent; pattern = k }) (position (agrees referent) tests.positive)
 
 abbrev pub finding : Tests → Entry → Option Finding
 finding tests Opener = None

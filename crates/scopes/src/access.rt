@@ -8,7 +8,7 @@ ghost use Rattle.scopes.specs.Links.{entries};
 ghost use Rattle.scopes.specs.Resolution.{closest_finding, finding, finding_at, is_agreeing};
 ghost use Rattle.scopes.specs.Findings.{shown};
 
-use crate::tests::{agrees_with_any, first_agreeing};
+use crate::agreement::{agrees_with_any, first_agreeing};
 use crate::{Entry, Tests};
 use codeco_terms::Ground;
 use std::alloc::Global;

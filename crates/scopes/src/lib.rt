@@ -3,11 +3,11 @@
 #![tactic(auto)]
 
 mod access;
+mod agreement;
 mod entries;
 #[cfg(test)]
-mod examples;
 mod tests;
 
 pub use access::{Access, Found};
+pub use agreement::{Test, TestList, TestValues, Tests, agrees, has_value};
 pub use entries::Entry;
-pub use tests::{Test, TestList, TestValues, Tests, agrees, has_value};

@@ -1,62 +1,139 @@
-// What a reference asks of a referent.
-ghost use Rattle.std.specs.Prelude.{◌≡◌, position};
-ghost use Rattle.std.specs.List.{list_any, list_all};
-ghost use Rattle.scopes.specs.Resolution as resolution;
+// What closing a scope leaves, and what a reference finds.
+use crate::*;
+use codeco_terms::{Ground, Vals, Value};
+use std::alloc::Global;
+use std::test::Fail;
+use wiki_base::Memory;
 
-use codeco_terms::{Ground, Value};
-use wiki_base::List;
+const NOUN: u16 = 6;
 
-/// A test of a referent: the name of its category, and values that it must have.
-#[derive(Drop)]
-pub struct Test {
-    pub name: u16,
-    pub values: TestValues,
+const NAME: u16 = 7;
+
+// A referent of the category with this value at feature 3.
+fn referent(name: u16, value: u16) -> Ground {
+    let mut vals = Vals::new();
+    vals.push(3, Value::Atom(value));
+    Ground { name, vals }
 }
 
-/// What a reference asks: the referent agrees with a positive test and with no negative one.
-#[derive(Drop)]
-pub struct Tests {
-    pub positive: TestList,
-    pub negative: TestList,
+fn test(alloc: Global, name: u16, values: &[(u16, Value)]) -> Result<Test, Memory> {
+    Ok(Test {
+        name,
+        values: TestValues::from_vec(values.to_vec(alloc)?),
+    })
 }
 
-/// The values that a test asks for, each with its feature.
-pub type TestValues = List<(u16, Value)>;
-
-/// Tests, in the order of the patterns that they come from.
-pub type TestList = List<Test>;
-
-/// Whether the values have this one at this feature.
-pub fn has_value(vals: &[(u16, Value)], wanted: (u16, Value)) -> bool
-    ensures { result ≡ resolution.has_value vals.now wanted }
-{
-    vals.iter().any(|p| p.0 == wanted.0 && p.1.is(wanted.1))
+fn tests(alloc: Global, positive: &[(u16, u16)], negative: &[(u16, u16)]) -> Result<Tests, Memory> {
+    Ok(Tests {
+        positive: list(alloc, positive)?,
+        negative: list(alloc, negative)?,
+    })
 }
 
-// Whether the values have each of these.
-fn has_values(vals: &[(u16, Value)], wanted: &[(u16, Value)]) -> bool
-    ensures { result ≡ list_all (resolution.has_value vals.now) wanted.now }
-{
-    wanted.iter().all(|one| has_value(vals, *one))
+fn list(alloc: Global, items: &[(u16, u16)]) -> Result<TestList, Memory> {
+    let mut tests = TestList::new(alloc);
+    for (name, value) in items {
+        tests.push(test(alloc, *name, &[(3, Value::Atom(*value))])?)?;
+    }
+    Ok(tests)
 }
 
-/// Whether the referent agrees with the test: the names are equal, and the referent has each value of the test.
-pub fn agrees(referent: &Ground, test: &Test) -> bool
-    ensures { result ≡ resolution.agrees referent.now test.now }
-{
-    referent.name == test.name && has_values(referent.vals.as_slice(), test.values.as_slice())
+// Where the reference finds something, its position and pattern.
+fn found(access: &Access, tests: &Tests) -> Option<(u16, u8)> {
+    if tests.positive.len() > 16 {
+        return None;
+    }
+    access
+        .closest(tests)
+        .map(|found| (found.pos, found.pattern))
 }
 
-// Whether the referent agrees with one of the tests.
-pub(crate) fn agrees_with_any(referent: &Ground, tests: &[Test]) -> bool
-    ensures { result ≡ list_any (resolution.agrees referent.now) tests.now }
-{
-    tests.iter().any(|test| agrees(referent, test))
+// The positions of the referents of a category that are found one after another, by their values.
+fn all(alloc: Global, access: &Access, name: u16) -> Result<[bool; 4], Memory> {
+    let mut seen = [false; 4];
+    for (value, place) in (0..4).zip(seen.iter_mut()) {
+        *place = !access.none(&tests(alloc, &[(name, value)], &[])?);
+    }
+    Ok(seen)
 }
 
-// The place of the first test that the referent agrees with.
-pub(crate) fn first_agreeing(referent: &Ground, tests: &[Test]) -> Option<usize>
-    ensures { result ≡ position (resolution.agrees referent.now) tests.now }
-{
-    tests.iter().position(|test| agrees(referent, test))
+#[test]
+fn closing_keeps_what_came_before_the_opener_and_the_strong(rt: HostRuntime) -> Result<(), Fail> {
+    let alloc = rt.alloc();
+    let before = Access::empty(alloc);
+    let list = before.refer(referent(NOUN, 1), 1, false)?.push_opener()?;
+    let list = list
+        .refer(referent(NOUN, 2), 2, false)?
+        .refer(referent(NOUN, 3), 3, true)?;
+    assert_eq!(rt;
+        all(alloc, &list.close(&before)?, NOUN)?,
+        [false, true, false, true]
+    );
+    Ok(())
+}
+
+#[test]
+fn a_phrase_without_an_opener_keeps_all(rt: HostRuntime) -> Result<(), Fail> {
+    let alloc = rt.alloc();
+    let before = Access::empty(alloc)
+        .refer(referent(NOUN, 0), 1, false)?
+        .push_opener()?;
+    let list = before
+        .refer(referent(NOUN, 1), 2, false)?
+        .refer(referent(NOUN, 2), 3, true)?;
+    assert_eq!(rt;
+        all(alloc, &list.close(&before)?, NOUN)?,
+        [true, true, true, false]
+    );
+    Ok(())
+}
+
+#[test]
+fn an_inner_scope_closes_by_itself(rt: HostRuntime) -> Result<(), Fail> {
+    let alloc = rt.alloc();
+    let before = Access::empty(alloc)
+        .push_opener()?
+        .refer(referent(NOUN, 0), 1, false)?;
+    let list = before.push_opener()?.refer(referent(NOUN, 1), 2, false)?;
+    let list = list.push_opener()?.refer(referent(NOUN, 2), 3, true)?;
+    assert_eq!(rt;
+        all(alloc, &list.close(&before)?, NOUN)?,
+        [true, false, true, false]
+    );
+    assert_eq!(rt;
+        all(alloc, &list.share()?, NOUN)?,
+        [true, true, true, false]
+    );
+    Ok(())
+}
+
+#[test]
+fn the_last_that_agrees_is_found_with_its_first_pattern(rt: HostRuntime) -> Result<(), Fail> {
+    let alloc = rt.alloc();
+    let list = Access::empty(alloc).refer(referent(NOUN, 1), 1, false)?;
+    let list = list
+        .refer(referent(NAME, 1), 4, true)?
+        .refer(referent(NOUN, 2), 6, false)?;
+    let both = [(NOUN, 1), (NAME, 1)];
+    assert_eq!(rt; found(&list, &tests(alloc, &both, &[])?), Some((4, 1)));
+    assert_eq!(rt;
+        found(&list, &tests(alloc, &both, &[(NAME, 1)])?),
+        Some((1, 0))
+    );
+    assert_eq!(rt; found(&list, &tests(alloc, &[(NAME, 2)], &[])?), None);
+    Ok(())
+}
+
+#[test]
+fn a_referent_that_lacks_a_tested_feature_does_not_agree(rt: HostRuntime) -> Result<(), Fail> {
+    let alloc = rt.alloc();
+    assert!(rt; agrees(&referent(NOUN, 1), &test(alloc, NOUN, &[])?));
+    assert!(rt;
+        !agrees(
+            &referent(NOUN, 1),
+            &test(alloc, NOUN, &[(4, Value::Atom(1))])?
+        )
+    );
+    assert!(rt; !agrees(&referent(NOUN, 1), &test(alloc, NAME, &[])?));
+    Ok(())
 }

@@ -30,7 +30,8 @@ among_shown n [] = refl
 among_shown n (c ∷ items) = ap (λ b. (c.number == n) || b) (among_shown n items)
 
 -- a connection with this number stands somewhere
-pub found : (n : ℕ) (items : List Connection) (kept : List Kept) → map shown items ≡ kept → IsTrue (is_among (numbers kept) n) → position (λ c. c.number == n) items ≡ None → ⊥
+pub found : (n : ℕ) (items : List Connection) (kept : List Kept) → map shown items ≡ kept → IsTrue (is_among (numbers kept) n)
+    → position (λ c. c.number == n) items ≡ None → ⊥
 found n items kept view among none =
     let any : list_any (λ (c : Connection). c.number == n) items ≡ true = sym (among_shown n items) ∙ ap (λ k. is_among (numbers k) n) view ∙ among in
     let inside : ltb (position_or_len (λ c. c.number == n) items) (length items) ≡ true = lt-ltb _ _ (within (λ c. c.number == n) items any) in
@@ -54,13 +55,15 @@ pub placed : (n : ℕ) (piece : List ℕ) (items : List Connection) (place : ℕ
 placed n piece [] place new d inside here before number bytes = absurd (omega arith)
 placed n piece (c ∷ items) zero new d inside here before number bytes = rw (here, number, bytes) refl
 placed n piece (c ∷ items) (suc place) new d inside here before number bytes =
-    rw (before 0 (omega arith)) (ap (λ cs. shown c ∷ cs) (placed n piece items place new d (omega arith) here (λ k below. before (suc k) (omega arith)) number bytes))
+    rw (before 0 (omega arith)) (ap (λ cs. shown c ∷ cs)
+    (placed n piece items place new d (omega arith) here (λ k below. before (suc k) (omega arith)) number bytes))
 
 -- without a connection, as they are seen
 pub closed_shown : (n : ℕ) (items : List Connection) → map shown (filter (λ c. not (c.number == n)) items) ≡ closed n (map shown items)
 closed_shown n [] = refl
 closed_shown n (c ∷ items) =
-    let Claim : Bool → Type 0 = λ b. map shown (cond (not b) (c ∷ filter (λ c. not (c.number == n)) items) (filter (λ c. not (c.number == n)) items)) ≡ cond (not b) (shown c ∷ closed n (map shown items)) (closed n (map shown items)) in
+    let Claim : Bool → Type 0 = λ b. map shown (cond (not b) (c ∷ filter (λ c. not (c.number == n)) items) (filter (λ c. not (c.number == n)) items))
+    ≡ cond (not b) (shown c ∷ closed n (map shown items)) (closed n (map shown items)) in
     let cases : (b : Bool) → Claim b = λ b. elim b as Claim [
       | true ↦ closed_shown n items
       | false ↦ ap (λ cs. shown c ∷ cs) (closed_shown n items)
@@ -71,7 +74,8 @@ closed_shown n (c ∷ items) =
 pub closed_piece : (n : ℕ) (piece : List ℕ) (kept : List Kept) → closed n (with_piece n piece kept) ≡ closed n kept
 closed_piece n piece [] = refl
 closed_piece n piece (c ∷ kept) =
-    let Claim : Bool → Type 0 = λ b. (c.number == n) ≡ b → closed n (if b then record c { bytes = c.bytes ++ piece } ∷ kept else c ∷ with_piece n piece kept) ≡ closed n (c ∷ kept) in
+    let Claim : Bool → Type 0 = λ b. (c.number == n) ≡ b
+    → closed n (if b then record c { bytes = c.bytes ++ piece } ∷ kept else c ∷ with_piece n piece kept) ≡ closed n (c ∷ kept) in
     let cases : (b : Bool) → Claim b = λ b. elim b as Claim [
       | true ↦ λ is. rw is refl
       | false ↦ λ is. rw is (ap (λ cs. c ∷ cs) (closed_piece n piece kept))
@@ -108,7 +112,8 @@ module _ (kept : List Kept) (items : List Connection) (n place : ℕ) (piece : L
   added = placed n piece items place new one inside here before (number ∙ ap (λ (c : Connection). c.number) is_there)
       (bytes ∙ ap (λ (c : Connection). c.bytes ++ piece) is_there) ∙ ap (with_piece n piece) view
 
-  pub takes_piece : (turn : Turn) (after : List Kept) → IsSeen one.number (one.bytes ++ piece) turn → after ≡ kept_after n piece turn kept → TakesPiece kept n piece turn after
+  pub takes_piece : (turn : Turn) (after : List Kept) → IsSeen one.number (one.bytes ++ piece) turn → after ≡ kept_after n piece turn kept
+      → TakesPiece kept n piece turn after
   takes_piece turn after is_seen is = record {
     seen = is_seen.seen;
     sees = subst (λ bs. Sees (bs ++ piece) is_seen.seen) (sym own) is_seen.sees;

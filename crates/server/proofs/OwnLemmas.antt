@@ -18,7 +18,8 @@ by_number m n P same other =
 -- the bytes of each connection stay
 pub bytes_of-push : (n m : ℕ) (kept : List Kept) → bytes_of n (kept ++ fresh m ∷ []) ≡ bytes_of n kept
 bytes_of-push n m [] = by_number m n (bytes_of n (fresh m ∷ []) ≡ []) (λ is. rw is refl) (λ is. rw is refl)
-bytes_of-push n m (c ∷ kept) = by_number c.number n (bytes_of n ((c ∷ kept) ++ fresh m ∷ []) ≡ bytes_of n (c ∷ kept)) (λ is. rw is refl) (λ is. rw is (bytes_of-push n m kept))
+bytes_of-push n m (c ∷ kept) = by_number c.number n (bytes_of n ((c ∷ kept) ++ fresh m ∷ []) ≡ bytes_of n (c ∷ kept)) (λ is. rw is refl)
+    (λ is. rw is (bytes_of-push n m kept))
 
 -- it and those before are among them
 pub numbers-push : (n m : ℕ) (kept : List Kept) → (m == n) ≡ false → is_among (numbers (kept ++ fresh m ∷ [])) n ≡ is_among (numbers kept) n
@@ -40,7 +41,8 @@ numbers-piece n piece (c ∷ kept) = by_number c.number n (numbers (with_piece n
     (λ is. rw is refl) (λ is. rw is (ap (λ ns. c.number ∷ ns) (numbers-piece n piece kept)))
 
 -- the connection has it
-pub bytes_of-piece : (n : ℕ) (piece : List ℕ) (kept : List Kept) → is_among (numbers kept) n ≡ true → bytes_of n (with_piece n piece kept) ≡ bytes_of n kept ++ piece
+pub bytes_of-piece : (n : ℕ) (piece : List ℕ) (kept : List Kept) → is_among (numbers kept) n ≡ true
+    → bytes_of n (with_piece n piece kept) ≡ bytes_of n kept ++ piece
 bytes_of-piece n piece [] among = absurd (false≢true among)
 bytes_of-piece n piece (c ∷ kept) among = by_number c.number n (bytes_of n (with_piece n piece (c ∷ kept)) ≡ bytes_of n (c ∷ kept) ++ piece)
     (λ is. rw is (rw is refl))
@@ -53,7 +55,8 @@ bytes_of-other_piece n m piece (c ∷ kept) other = by_number c.number m (bytes_
     (λ is.
     let not_this : (c.number == n) ≡ false = ap (λ k. k == n) (eqb-true c.number m is) ∙ other in
     rw is (rw not_this refl))
-    (λ is. rw is (by_number c.number n (bytes_of n (c ∷ with_piece m piece kept) ≡ bytes_of n (c ∷ kept)) (λ this. rw this refl) (λ this. rw this (bytes_of-other_piece n m piece kept other))))
+    (λ is. rw is (by_number c.number n (bytes_of n (c ∷ with_piece m piece kept) ≡ bytes_of n (c ∷ kept)) (λ this. rw this refl)
+    (λ this. rw this (bytes_of-other_piece n m piece kept other))))
 
 -- ---- one connection fewer
 
@@ -82,4 +85,5 @@ bytes_of-others n m (c ∷ kept) other = by_number c.number m (bytes_of n (close
     (λ is.
     let not_this : (c.number == n) ≡ false = ap (λ k. k == n) (eqb-true c.number m is) ∙ other in
     rw is (rw not_this (bytes_of-others n m kept other)))
-    (λ is. rw is (by_number c.number n (bytes_of n (c ∷ closed m kept) ≡ bytes_of n (c ∷ kept)) (λ this. rw this refl) (λ this. rw this (bytes_of-others n m kept other))))
+    (λ is. rw is (by_number c.number n (bytes_of n (c ∷ closed m kept) ≡ bytes_of n (c ∷ kept)) (λ this. rw this refl)
+    (λ this. rw this (bytes_of-others n m kept other))))

@@ -15,7 +15,8 @@ use Rattle.server.specs.Taking.{turn_of}
 use Rattle.server.specs.Reading.{IsSeen}
 
 -- a head stays when more bytes come
-pub begins_more : (head : Option Head) (bytes piece : List ℕ) → IfSome head (λ h. Begins bytes (begun.Head h)) → IfSome head (λ h. Begins (bytes ++ piece) (begun.Head h))
+pub begins_more : (head : Option Head) (bytes piece : List ℕ) → IfSome head (λ h. Begins bytes (begun.Head h))
+    → IfSome head (λ h. Begins (bytes ++ piece) (begun.Head h))
 begins_more None bytes piece begins = tt
 begins_more (Some h) bytes piece begins = begins_on bytes piece h begins
 
@@ -28,7 +29,8 @@ seen_wait n bytes part b same begins is = record {
   turn_is = refl;
 }
 
-pub seen_refusal : (n : ℕ) (bytes part : List ℕ) (b : Begun) (status : ℕ) (allow : Option Verb) (response : List ℕ) → part ≡ bytes → Begins part b → b ≡ begun.Refuse status allow
+pub seen_refusal : (n : ℕ) (bytes part : List ℕ) (b : Begun) (status : ℕ) (allow : Option Verb) (response : List ℕ) → part ≡ bytes → Begins part b
+    → b ≡ begun.Refuse status allow
     → response ≡ status_response status allow false → IsSeen n bytes (turns.Refuse n response)
 seen_refusal n bytes part b status allow response same begins is told = record {
   seen = seen.Refuse status allow false;
@@ -39,7 +41,8 @@ seen_refusal n bytes part b status allow response same begins is told = record {
 pub begins_head : (bytes part : List ℕ) (b : Begun) (head : Head) → part ≡ bytes → Begins part b → b ≡ begun.Head head → Begins bytes (begun.Head head)
 begins_head bytes part b head same begins is = subst (λ bs. Begins bs (begun.Head head)) same (subst (λ x. Begins part x) is begins)
 
-pub seen_head : (n : ℕ) (bytes part : List ℕ) (head : Head) (s : Seen) (turn : Turn) → part ≡ bytes → Begins bytes (begun.Head head) → s ≡ seen_after head part → turn ≡ turn_of n s → IsSeen n bytes turn
+pub seen_head : (n : ℕ) (bytes part : List ℕ) (head : Head) (s : Seen) (turn : Turn) → part ≡ bytes → Begins bytes (begun.Head head) → s ≡ seen_after head part
+    → turn ≡ turn_of n s → IsSeen n bytes turn
 seen_head n bytes part head s turn same begins is told = record {
   seen = s;
   sees = sees_head bytes head s begins (is ∙ ap (seen_after head) same);

@@ -27,7 +27,8 @@ not_opened n m kept free same = subst (λ k. is_among (numbers kept) k ≡ false
     from_not false h = refl
 
 -- without a connection
-own-closed : (m : ℕ) (kept : List Kept) (own after : ℕ → List ℕ) → ((n : ℕ) → (m == n) ≡ false → after n ≡ own n) → KeepsOwn kept own → KeepsOwn (closed m kept) after
+own-closed : (m : ℕ) (kept : List Kept) (own after : ℕ → List ℕ) → ((n : ℕ) → (m == n) ≡ false → after n ≡ own n) → KeepsOwn kept own
+    → KeepsOwn (closed m kept) after
 own-closed m kept own after same keeps n among = by_number m n (bytes_of n (closed m kept) ≡ after n)
     (λ this. absurd (false≢true (sym (numbers-closed n m kept this) ∙ among)))
     (λ other. bytes_of-others n m kept other ∙ keeps n (sym (numbers-others n m kept other) ∙ among) ∙ sym (same n other))
@@ -50,12 +51,16 @@ own-piece : (m : ℕ) (piece : List ℕ) (old : List Kept) (turn : Turn) (own : 
 own-piece m piece old turns.Wait own among_m keeps = λ n among. by_number m n (bytes_of n (with_piece m piece old) ≡ own_after n (own n) (Piece m piece))
     (λ this.
     let is : m ≡ n = eqb-true m n this in
-    rw this (subst (λ k. bytes_of k (with_piece m piece old) ≡ own k ++ piece) is (bytes_of-piece m piece old among_m ∙ ap (λ bs. bs ++ piece) (keeps m among_m))))
+    rw this (subst (λ k. bytes_of k (with_piece m piece old) ≡ own k ++ piece) is
+    (bytes_of-piece m piece old among_m ∙ ap (λ bs. bs ++ piece) (keeps m among_m))))
     (λ other. rw other (bytes_of-other_piece n m piece old other ∙ keeps n (sym (ap (λ ns. is_among ns n) (numbers-piece m piece old)) ∙ among)))
-own-piece m piece old (turns.Refuse k response) own among_m keeps = own-closed m old own (λ n. own_after n (own n) (Piece m piece)) (λ n other. rw other refl) keeps
-own-piece m piece old (turns.Ask k request answer) own among_m keeps = own-closed m old own (λ n. own_after n (own n) (Piece m piece)) (λ n other. rw other refl) keeps
+own-piece m piece old (turns.Refuse k response) own among_m keeps =
+    own-closed m old own (λ n. own_after n (own n) (Piece m piece)) (λ n other. rw other refl) keeps
+own-piece m piece old (turns.Ask k request answer) own among_m keeps =
+    own-closed m old own (λ n. own_after n (own n) (Piece m piece)) (λ n other. rw other refl) keeps
 
-own-event : (old : List Kept) (event : Event) (turn : Turn) (new : List Kept) (own : ℕ → List ℕ) → IsTrue (can_come (numbers old) event) → Takes old event turn new
+own-event : (old : List Kept) (event : Event) (turn : Turn) (new : List Kept) (own : ℕ → List ℕ) → IsTrue (can_come (numbers old) event)
+    → Takes old event turn new
     → KeepsOwn old own → KeepsOwn new (λ n. own_after n (own n) event)
 own-event old (Opened m) turn new own comes takes keeps = own-opened m old new turn own comes takes keeps
 own-event old (Piece m piece) turn new own comes takes keeps =
@@ -71,12 +76,14 @@ own-all old (event ∷ events) [] new own run keeps = absurd run
 own-all old (event ∷ events) (turn ∷ turns) new own run keeps =
     own-all run.0 events turns new (λ n. own_after n (own n) event) run.3 (own-event old event turn run.0 own run.1 run.2 keeps)
 
-own_after_all-push : (n : ℕ) (bytes : List ℕ) (events : List Event) (event : Event) → own_after_all n bytes (events ++ event ∷ []) ≡ own_after n (own_after_all n bytes events) event
+own_after_all-push : (n : ℕ) (bytes : List ℕ) (events : List Event) (event : Event)
+    → own_after_all n bytes (events ++ event ∷ []) ≡ own_after n (own_after_all n bytes events) event
 own_after_all-push n bytes [] event = refl
 own_after_all-push n bytes (e ∷ events) event = own_after_all-push n (own_after n bytes e) events event
 
 -- at a piece the turn is what came over its own connection
-pub take_apart : (kept : List Kept) (event : Event) (turn : Turn) (new : List Kept) → IsTrue (can_come (numbers kept) event) → Takes kept event turn new → IsApart kept event turn
+pub take_apart : (kept : List Kept) (event : Event) (turn : Turn) (new : List Kept) → IsTrue (can_come (numbers kept) event) → Takes kept event turn new
+    → IsApart kept event turn
 take_apart kept (Opened n) turn new comes takes = λ events turns run. tt
 take_apart kept (Piece n piece) turn new comes takes = λ events turns run.
     let own = own-all [] events turns kept (λ n. []) run (λ n among. absurd (false≢true among)) n comes in
@@ -88,7 +95,8 @@ take_apart kept (Piece n piece) turn new comes takes = λ events turns run.
 take_apart kept (Ended n) turn new comes takes = λ events turns run. tt
 
 -- one event more
-pub TakesAll-push : (first : List Kept) (events : List Event) (turns : List Turn) (event : Event) (turn : Turn) (before last : List Kept) → TakesAll first events turns before
+pub TakesAll-push : (first : List Kept) (events : List Event) (turns : List Turn) (event : Event) (turn : Turn) (before last : List Kept)
+    → TakesAll first events turns before
     → IsTrue (can_come (numbers before) event) → Takes before event turn last → TakesAll first (events ++ event ∷ []) (turns ++ turn ∷ []) last
 TakesAll-push first [] [] event turn before last run comes takes =
     (last, subst (λ k. IsTrue (can_come (numbers k) event)) run comes, subst (λ k. Takes k event turn last) run takes, refl)
@@ -104,7 +112,8 @@ own_behind before turns_before kept run [] turns new rest = tt
 own_behind before turns_before kept run (event ∷ events) [] new rest = tt
 own_behind before turns_before kept run (event ∷ events) (turn ∷ turns) new rest = (
   take_apart kept event turn rest.0 rest.1 rest.2 before turns_before run,
-  own_behind (before ++ event ∷ []) (turns_before ++ turn ∷ []) rest.0 (TakesAll-push [] before turns_before event turn kept rest.0 run rest.1 rest.2) events turns new rest.3,
+  own_behind (before ++ event ∷ []) (turns_before ++ turn ∷ []) rest.0 (TakesAll-push [] before turns_before event turn kept rest.0 run rest.1 rest.2) events
+      turns new rest.3,
 )
 
 pub own_each : (events : List Event) (turns : List Turn) (kept : List Kept) → TakesAll [] events turns kept → AreOwn [] events turns

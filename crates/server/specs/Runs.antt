@@ -14,7 +14,8 @@ abbrev pub TakesAll : List Kept → List Event → List Turn → List Kept → T
 TakesAll old [] [] new = new ≡ old
 TakesAll old [] (turn ∷ turns) new = ⊥
 TakesAll old (event ∷ events) [] new = ⊥
-TakesAll old (event ∷ events) (turn ∷ turns) new = (next : List Kept) × IsTrue (can_come (numbers old) event) × Takes old event turn next × TakesAll next events turns new
+TakesAll old (event ∷ events) (turn ∷ turns) new =
+    (next : List Kept) × IsTrue (can_come (numbers old) event) × Takes old event turn next × TakesAll next events turns new
 
 -- what has come over a connection since its opening, after one event more
 abbrev pub own_after : ℕ → List ℕ → Event → List ℕ

@@ -1,7 +1,8 @@
 -- The connections that a link has open, and those that a server keeps.
-use Rattle.std.proofs.Common.{◌≡◌, ℕ, ◌==◌, ◌||◌, eqb, Bool, true, false, not, List, [], ◌∷◌, ◌++◌, map, refl, sym, ap, subst, ◌∙◌, IsTrue, inl, inr, length, ◌<◌, ◌≤◌}
-use Rattle.std.proofs.lemmas.Bool.{false≢true, cases_lt, eq-eqb}
+use Rattle.std.proofs.Common.{◌≡◌, ℕ, ◌==◌, ◌||◌, true, false, List, [], ◌∷◌, ◌++◌, refl, sym, ap, subst, ◌∙◌, IsTrue, inl, inr, length, ◌<◌, ◌≤◌}
+use Rattle.std.proofs.lemmas.Bool.{false≢true, cases_lt, not-true}
 use Rattle.std.proofs.lemmas.List.{map-append}
+use Rattle.wiki_base.proofs.NumberLaws.{eqb_refl}
 use Rattle.wiki_io.specs.declared.links.Event.{Event}
 use Rattle.wiki_io.specs.declared.links.Event.TheVariants.{Opened, Piece, Ended}
 use Rattle.wiki_io.specs.Link.{is_among, without, can_come, connections_after}
@@ -12,21 +13,18 @@ use Rattle.http_front.specs.declared.seen.Seen.TheVariants as seen
 use Rattle.server.specs.declared.limits.TheConstants.{MOST_OPEN}
 use Rattle.server.specs.declared.turns.Turn.{Turn}
 use Rattle.server.specs.declared.turns.Turn.TheVariants as turns
-use Rattle.server.specs.Kept.{Kept, numbers, fresh, with_piece, closed}
-use Rattle.server.specs.Taking.{Takes, TakesOpening, TakesPiece, TakesEnd, turn_of}
+use Rattle.server.specs.Kept.{Kept, numbers, fresh, closed}
+use Rattle.server.specs.Taking.{Takes, TakesOpening, TakesPiece, turn_of}
 use Rattle.server.proofs.OwnLemmas.{by_number, numbers-piece}
 
 -- ---- lists of numbers
 
-same_number : (n : ℕ) → (n == n) ≡ true
-same_number n = eq-eqb n n refl
-
 among_push : (n : ℕ) (ns : List ℕ) → is_among (ns ++ n ∷ []) n ≡ true
-among_push n [] = rw (same_number n) refl
+among_push n [] = rw (eqb_refl n) refl
 among_push n (m ∷ ns) = by_number m n (is_among ((m ∷ ns) ++ n ∷ []) n ≡ true) (λ is. rw is refl) (λ is. rw is (among_push n ns))
 
 without_push : (n : ℕ) (ns : List ℕ) → is_among ns n ≡ false → without n (ns ++ n ∷ []) ≡ ns
-without_push n [] none = rw (same_number n) refl
+without_push n [] none = rw (eqb_refl n) refl
 without_push n (m ∷ ns) none = by_number m n (without n ((m ∷ ns) ++ n ∷ []) ≡ m ∷ ns)
     (λ is. absurd (false≢true (sym none ∙ ap (λ b. b || is_among ns n) is)))
     (λ is. rw is (ap (λ l. m ∷ l) (without_push n ns (sym (ap (λ b. b || is_among ns n) is) ∙ none))))
@@ -36,10 +34,6 @@ numbers_closed n [] = refl
 numbers_closed n (c ∷ kept) = by_number c.number n (numbers (closed n (c ∷ kept)) ≡ without n (numbers (c ∷ kept)))
     (λ is. rw is (numbers_closed n kept))
     (λ is. rw is (ap (λ l. c.number ∷ l) (numbers_closed n kept)))
-
-not_true : (b : Bool) → not b ≡ true → b ≡ false
-not_true true h = absurd (false≢true h)
-not_true false h = refl
 
 -- ---- a turn with a response on a connection
 
@@ -76,27 +70,34 @@ module _ (old new : List Kept) (n : ℕ) where
   unfolding IsOn IsAnswered
   on_piece m piece turns.Wait among takes on = absurd on
   on_piece m piece (turns.Refuse k response) among takes on =
-      let is = on_own n m takes.seen (turns.Refuse k response) takes.turn_is on in
-      (subst (λ k. is_among (numbers old) k ≡ true) is among, subst (λ k. without k (numbers old) ≡ numbers new) is (sym (ap numbers takes.new_is ∙ numbers_closed m old)))
+      let is = on_own n m takes.seen (turns.Refuse k response) takes.turn_is on in (
+        subst (λ k. is_among (numbers old) k ≡ true) is among,
+        subst (λ k. without k (numbers old) ≡ numbers new) is (sym (ap numbers takes.new_is ∙ numbers_closed m old)),
+      )
   on_piece m piece (turns.Ask k request answer) among takes on =
-      let is = on_own n m takes.seen (turns.Ask k request answer) takes.turn_is on in
-      (subst (λ k. is_among (numbers old) k ≡ true) is among, subst (λ k. without k (numbers old) ≡ numbers new) is (sym (ap numbers takes.new_is ∙ numbers_closed m old)))
+      let is = on_own n m takes.seen (turns.Ask k request answer) takes.turn_is on in (
+        subst (λ k. is_among (numbers old) k ≡ true) is among,
+        subst (λ k. without k (numbers old) ≡ numbers new) is (sym (ap numbers takes.new_is ∙ numbers_closed m old)),
+      )
 
-answered_by : (old : List Kept) (event : Event) (turn : Turn) (new : List Kept) (n : ℕ) → IsTrue (can_come (numbers old) event) → Takes old event turn new → IsOn n turn
+answered_by : (old : List Kept) (event : Event) (turn : Turn) (new : List Kept) (n : ℕ) → IsTrue (can_come (numbers old) event) → Takes old event turn new
+    → IsOn n turn
     → IsAnswered old new n (connections_after (numbers old) event)
 unfolding IsOn
-answered_by old (Opened m) turn new n comes takes on = on_opening old new n m turn (not_true (is_among (numbers old) m) comes) takes on
+answered_by old (Opened m) turn new n comes takes on = on_opening old new n m turn (not-true (is_among (numbers old) m) comes) takes on
 answered_by old (Piece m piece) turn new n comes takes on = on_piece old new n m piece turn comes takes on
 answered_by old (Ended m) turn new n comes takes on = absurd (subst (IsOn n) takes.turn_is on)
 
 -- where the link has these open, a response can be sent on the connection
-pub open_on : (old : List Kept) (event : Event) (turn : Turn) (new : List Kept) (n : ℕ) (open_now : List ℕ) → IsTrue (can_come (numbers old) event) → Takes old event turn new → IsOn n turn
+pub open_on : (old : List Kept) (event : Event) (turn : Turn) (new : List Kept) (n : ℕ) (open_now : List ℕ) → IsTrue (can_come (numbers old) event)
+    → Takes old event turn new → IsOn n turn
     → open_now ≡ connections_after (numbers old) event → IsTrue (is_among open_now n)
 unfolding IsAnswered
 open_on old event turn new n open_now comes takes on is = subst (λ ns. is_among ns n ≡ true) (sym is) (answered_by old event turn new n comes takes on).0
 
 -- and when it is closed then, the link has those open that the server keeps
-pub open_after : (old : List Kept) (event : Event) (turn : Turn) (new : List Kept) (n : ℕ) (open_now open_then : List ℕ) → IsTrue (can_come (numbers old) event) → Takes old event turn new → IsOn n turn
+pub open_after : (old : List Kept) (event : Event) (turn : Turn) (new : List Kept) (n : ℕ) (open_now open_then : List ℕ) → IsTrue (can_come (numbers old) event)
+    → Takes old event turn new → IsOn n turn
     → open_now ≡ connections_after (numbers old) event → open_then ≡ without n open_now → open_then ≡ numbers new
 unfolding IsAnswered
 open_after old event turn new n open_now open_then comes takes on is closes =

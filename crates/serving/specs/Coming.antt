@@ -1,4 +1,4 @@
--- What a link hands in.
+-- What a link hands in. Only private calls speak of it.
 use Rattle.std.specs.Prelude.{◌≡◌, ◌⊎◌, ℕ, List, [], ◌∷◌}
 use Rattle.wiki_io.specs.declared.links.Event.{Event}
 use Rattle.wiki_io.specs.declared.links.Event.TheVariants.{Piece}

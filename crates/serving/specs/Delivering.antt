@@ -28,7 +28,8 @@ cut (d ∷ deliveries) = lacking d.unsent + cut deliveries
 
 -- These responses were sent, each on its connection, one after another; no more of them were cut than sends failed, unless
 -- these weren't counted any more.
-pub record Delivers (responses : List (ℕ × List ℕ)) (sent : Option (List (ℕ × List ℕ))) (faults : ℕ) (sent_after : Option (List (ℕ × List ℕ))) (faults_after : ℕ) : Type 0 where
+pub record Delivers (responses : List (ℕ × List ℕ)) (sent : Option (List (ℕ × List ℕ))) (faults : ℕ) (sent_after : Option (List (ℕ × List ℕ)))
+    (faults_after : ℕ) : Type 0 where
   pub deliveries : List Delivery
   pub whole : map response deliveries ≡ responses
   pub pieces : List (ℕ × List ℕ)

@@ -23,7 +23,8 @@ pub record Outside : Type 0 where
 
 -- Events one after another: the server takes each in turn, the machine is asked what they ask, in order and in one run,
 -- the accepted changes are written to the journal, and each response is sent on its connection.
-pub record RunsEvents {S : Type 0} (step : S → Request → Reply → S → Type 0) (first : S) (kept : List Kept) (outside : Outside) (events : List Event) (last : S) (kept_after : List Kept) (outside_after : Outside) : Type 0 where
+pub record RunsEvents {S : Type 0} (step : S → Request → Reply → S → Type 0) (first : S) (kept : List Kept) (outside : Outside) (events : List Event) (last : S)
+    (kept_after : List Kept) (outside_after : Outside) : Type 0 where
   pub handlings : List Handling
   pub turns : TakesAll kept events (map turn_in handlings) kept_after
   pub steps : Turns step first (flat_map exchange_in handlings) last
@@ -31,7 +32,8 @@ pub record RunsEvents {S : Type 0} (step : S → Request → Reply → S → Typ
   pub responses : Delivers (flat_map response_in handlings) outside.sent outside.send_faults outside_after.sent outside_after.send_faults
 
 -- one event alone, as far as the server and the machine go
-pub record Handles {S : Type 0} (step : S → Request → Reply → S → Type 0) (old : S) (kept : List Kept) (event : Event) (handling : Handling) (new : S) (kept_after : List Kept) : Type 0 where
+pub record Handles {S : Type 0} (step : S → Request → Reply → S → Type 0) (old : S) (kept : List Kept) (event : Event) (handling : Handling) (new : S)
+    (kept_after : List Kept) : Type 0 where
   pub takes : Takes kept event (turn_in handling) kept_after
   pub steps : Turns step old (exchange_in handling) new
 
@@ -40,7 +42,8 @@ abbrev pub WasHandled : {S : Type 0} → (S → Request → Reply → S → Type
 WasHandled step old kept event new = (new ≡ old) ⊎ ((handling : Handling) × (after : List Kept) × Handles step old kept event handling new after)
 
 -- the machine has stepped for an event, and of the journal's line a front was written
-pub record CutsJournal {S : Type 0} (step : S → Request → Reply → S → Type 0) (old : S) (kept : List Kept) (event : Event) (taken : Option (List ℕ)) (new : S) (kept_after : List Kept) (taken_after : Option (List ℕ)) : Type 0 where
+pub record CutsJournal {S : Type 0} (step : S → Request → Reply → S → Type 0) (old : S) (kept : List Kept) (event : Event) (taken : Option (List ℕ)) (new : S)
+    (kept_after : List Kept) (taken_after : Option (List ℕ)) : Type 0 where
   pub handling : Handling
   pub handles : Handles step old kept event handling new kept_after
   pub count : ℕ
@@ -49,7 +52,8 @@ pub record CutsJournal {S : Type 0} (step : S → Request → Reply → S → Ty
 
 -- Events that were handed in before the journal cut the last of them off: those before it were handled, for it the machine
 -- has stepped, of its line a front was written, and nothing was sent.
-pub record RunsUntilJournal {S : Type 0} (step : S → Request → Reply → S → Type 0) (first : S) (outside : Outside) (events : List Event) (outside_after : Outside) : Type 0 where
+pub record RunsUntilJournal {S : Type 0} (step : S → Request → Reply → S → Type 0) (first : S) (outside : Outside) (events : List Event)
+    (outside_after : Outside) : Type 0 where
   pub handled : List Event
   pub last_event : Event
   pub all : events ≡ handled ++ last_event ∷ []
@@ -64,7 +68,8 @@ pub record RunsUntilJournal {S : Type 0} (step : S → Request → Reply → S �
 
 -- The same where there was no memory for the last of them: the machine is as before it, or has stepped for it, and nothing was
 -- written or sent.
-pub record RunsUntilMemory {S : Type 0} (step : S → Request → Reply → S → Type 0) (first : S) (outside : Outside) (events : List Event) (outside_after : Outside) : Type 0 where
+pub record RunsUntilMemory {S : Type 0} (step : S → Request → Reply → S → Type 0) (first : S) (outside : Outside) (events : List Event)
+    (outside_after : Outside) : Type 0 where
   pub handled : List Event
   pub last_event : Event
   pub all : events ≡ handled ++ last_event ∷ []
@@ -75,7 +80,8 @@ pub record RunsUntilMemory {S : Type 0} (step : S → Request → Reply → S �
   pub was_handled : WasHandled step before kept last_event last
 
 -- all events that were handed in were handled
-pub record RunsAll {S : Type 0} (step : S → Request → Reply → S → Type 0) (first : S) (outside : Outside) (events : List Event) (outside_after : Outside) : Type 0 where
+pub record RunsAll {S : Type 0} (step : S → Request → Reply → S → Type 0) (first : S) (outside : Outside) (events : List Event) (outside_after : Outside) : Type
+    0 where
   pub last : S
   pub kept : List Kept
   pub run : RunsEvents step first [] outside events last kept outside_after
@@ -83,12 +89,16 @@ pub record RunsAll {S : Type 0} (step : S → Request → Reply → S → Type 0
 -- What serving has done when it ends so: it handled what was handed in, and ends where the link is over or as many events were
 -- handled as there are to be, where the link failed, where a write to the journal failed, or where there was no memory.
 abbrev pub EndsServing : {S : Type 0} → (S → Request → Reply → S → Type 0) → S → ℕ → Outside → List Event → Served → Option (List Event) → Outside → Type 0
-EndsServing step first most outside events served.Done left outside_after = RunsAll step first outside events outside_after × (IsOver left ⊎ (length events ≡ most))
+EndsServing step first most outside events served.Done left outside_after =
+    RunsAll step first outside events outside_after × (IsOver left ⊎ (length events ≡ most))
 EndsServing step first most outside events served.LinkFault left outside_after = RunsAll step first outside events outside_after
 EndsServing step first most outside events served.JournalFault left outside_after = RunsUntilJournal step first outside events outside_after
-EndsServing step first most outside events served.Memory left outside_after = RunsAll step first outside events outside_after ⊎ RunsUntilMemory step first outside events outside_after
+EndsServing step first most outside events served.Memory left outside_after =
+    RunsAll step first outside events outside_after ⊎ RunsUntilMemory step first outside events outside_after
 
 -- What was served up to an end, from a first state on: the events that were handed in, at most so many, and that end.
-abbrev pub Ended : {S : Type 0} → (S → Request → Reply → S → Type 0) → S → Outside → Option (List Event) → ℕ → Option (List Event) → Served → Option (List Event) → Outside → Type 0
+abbrev pub Ended : {S : Type 0} → (S → Request → Reply → S → Type 0) → S → Outside → Option (List Event) → ℕ → Option (List Event) → Served
+    → Option (List Event) → Outside → Type 0
 Ended step first outside handed_first most handed ended_so left outside_after =
-    (events : List Event) × (handed ≡ with_more handed_first events) × (length events ≤ most) × EndsServing step first most outside events ended_so left outside_after
+    (events : List Event) × (handed ≡ with_more handed_first events) × (length events ≤ most)
+    × EndsServing step first most outside events ended_so left outside_after

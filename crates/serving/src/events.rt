@@ -52,7 +52,8 @@ pub fn event<W: Machine, K: Sink, L: Link>(
 
     // A write to the journal failed, and nothing was sent.
     ensures journal_fault { result ≡ Handled.JournalFault → Rose (K.faults journal.old) (K.faults journal.new) }
-    ensures journal { result ≡ Handled.JournalFault → CutsJournal W.Steps machine.old server.old event.now (K.taken journal.old) machine.new server.new (K.taken journal.new) }
+    ensures journal { result ≡ Handled.JournalFault
+        → CutsJournal W.Steps machine.old server.old event.now (K.taken journal.old) machine.new server.new (K.taken journal.new) }
 
     // There was no memory, and nothing was written or sent.
     ensures memory { result ≡ Handled.Memory → WasHandled W.Steps machine.old server.old event.now machine.new }

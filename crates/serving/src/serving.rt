@@ -38,7 +38,8 @@ pub fn serve<W: Machine, K: Sink, L: Link>(
     link: &mut L,
 ) -> Served
     requires { L.connections link.old ≡ [] }
-    ensures serves { Ended W.Steps machine.old (record { journal = K.taken journal.old; sent = L.sent link.old; send_faults = L.send_faults link.old }) (L.handed link.old)
+    ensures serves { Ended W.Steps machine.old (record { journal = K.taken journal.old; sent = L.sent link.old; send_faults = L.send_faults link.old })
+        (L.handed link.old)
         most (L.handed link.new) result (L.left link.new) (record { journal = K.taken journal.new; sent = L.sent link.new; send_faults = L.send_faults link.new }) }
     ensures link_fault { result ≡ Served.LinkFault → Rose (L.faults link.old) (L.faults link.new) }
     ensures journal_fault { result ≡ Served.JournalFault → Rose (K.faults journal.old) (K.faults journal.new) }
@@ -59,7 +60,8 @@ fn serve_with<W: Machine, K: Sink, L: Link>(
 ) -> Served
     requires none { server.old ≡ [] }
     requires connections { L.connections link.old ≡ [] }
-    ensures serves { Ended W.Steps machine.old (record { journal = K.taken journal.old; sent = L.sent link.old; send_faults = L.send_faults link.old }) (L.handed link.old)
+    ensures serves { Ended W.Steps machine.old (record { journal = K.taken journal.old; sent = L.sent link.old; send_faults = L.send_faults link.old })
+        (L.handed link.old)
         most (L.handed link.new) result (L.left link.new) (record { journal = K.taken journal.new; sent = L.sent link.new; send_faults = L.send_faults link.new }) }
     ensures link_fault { result ≡ Served.LinkFault → Rose (L.faults link.old) (L.faults link.new) }
     ensures journal_fault { result ≡ Served.JournalFault → Rose (K.faults journal.old) (K.faults journal.new) }
@@ -91,7 +93,8 @@ fn serve_events<W: Machine, K: Sink, L: Link>(
     requires none { server.old ≡ [] }
     requires connections { L.connections link.old ≡ [] }
     requires room { 0 < length buffer.old }
-    ensures serves { Ended W.Steps machine.old (record { journal = K.taken journal.old; sent = L.sent link.old; send_faults = L.send_faults link.old }) (L.handed link.old)
+    ensures serves { Ended W.Steps machine.old (record { journal = K.taken journal.old; sent = L.sent link.old; send_faults = L.send_faults link.old })
+        (L.handed link.old)
         most (L.handed link.new) result (L.left link.new) (record { journal = K.taken journal.new; sent = L.sent link.new; send_faults = L.send_faults link.new }) }
     ensures link_fault { result ≡ Served.LinkFault → Rose (L.faults link.old) (L.faults link.new) }
     ensures journal_fault { result ≡ Served.JournalFault → Rose (K.faults journal.old) (K.faults journal.new) }

@@ -12,5 +12,6 @@ both true false h k = k
 both false b h k = h
 
 -- one whole event more
-pub whole_push : (events : List Event) (event : Event) → IsTrue (list_all is_whole events) → IsTrue (is_whole event) → IsTrue (list_all is_whole (events ++ event ∷ []))
+pub whole_push : (events : List Event) (event : Event) → IsTrue (list_all is_whole events) → IsTrue (is_whole event)
+    → IsTrue (list_all is_whole (events ++ event ∷ []))
 whole_push events event all one = list_all-append is_whole events (event ∷ []) ∙ both (list_all is_whole events) (is_whole event) all one

@@ -13,13 +13,15 @@ use Rattle.sessions.specs.declared.session.Session.{Session}
 use Rattle.sessions.specs.Sessions.{PlainSession, plain, all_plain, AreKept, AreOfGrammar, AreTypeable, AreSessions}
 
 -- each session's tokens are typeable by the grammar and the lexicon that are kept
-pub kept_typeable : (g : GrammarParts) (l : Listed) (sessions : List Session) → AreSessions sessions → AreKept g l sessions → AreTypeable g l (all_plain sessions)
+pub kept_typeable : (g : GrammarParts) (l : Listed) (sessions : List Session) → AreSessions sessions → AreKept g l sessions
+    → AreTypeable g l (all_plain sessions)
 kept_typeable g l sessions are kept =
     All-map (λ (session : PlainSession). IsTypeable g l session.tokens) plain sessions
     (λ k d bound. typeable_by g l (get_or sessions k d).editor (kept k d bound) (are.edited k d bound).typeable)
 
 -- where a word is added, the readings that are kept are those of the new lexicon
-pub kept_by_word : (g : GrammarParts) (l : Listed) (forms : Forms) (sessions : List Session) → l.terminals ≡ g.terminals → add_refusal l forms ≡ None → AreSessions sessions → AreKept g l sessions → AreKept g (with_word l forms) sessions
+pub kept_by_word : (g : GrammarParts) (l : Listed) (forms : Forms) (sessions : List Session) → l.terminals ≡ g.terminals → add_refusal l forms ≡ None
+    → AreSessions sessions → AreKept g l sessions → AreKept g (with_word l forms) sessions
 kept_by_word g l forms sessions same free are kept =
     λ k d bound. kept_with_word g l forms (get_or sessions k d).editor same free (kept k d bound) (are.edited k d bound).typeable
 

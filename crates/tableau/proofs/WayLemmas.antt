@@ -3,6 +3,8 @@ use Rattle.std.proofs.Common.{◌≡◌, ℕ, zero, suc, ◌+◌, ◌<◌, ◌�
 use Rattle.std.specs.Prelude.{nat_lt, is_some, IsTrue, not, ◌⊎◌}
 use Rattle.std.specs.Option.{option_and_then, option_map, option_map_or, option_or}
 use Rattle.std.proofs.lemmas.Bool.{and_from, cond-true, cond-false, lt-ltb, le-ltb, eq-eqb, not_from_false}
+use Rattle.std.proofs.lemmas.List.{map_push}
+use Rattle.wiki_base.proofs.ListLaws.{length_mapped}
 use Rattle.logic_terms.specs.Theory.{Theory}
 use Rattle.tableau_rules.specs.declared.branch.Branch.{Branch}
 use Rattle.tableau_rules.specs.declared.step.Step.{Step}
@@ -13,7 +15,7 @@ use Rattle.tableau_rules.specs.declared.step.Closed.{Closed}
 use Rattle.tableau_rules.specs.declared.step.Closed.TheVariants as closed
 use Rattle.tableau_rules.specs.declared.step.Closed.TheOpen as layers
 use Rattle.tableau_rules.specs.declared.step.Closed.TheFolds.{fold-roll-Closed}
-use Rattle.tableau_rules.specs.Graph.{Graph, class_at}
+use Rattle.tableau_rules.specs.Graph.{Graph}
 use Rattle.tableau_rules.specs.First.{first_below}
 use Rattle.tableau_rules.specs.Clashes.{is_clash, has_clash}
 use Rattle.tableau_rules.specs.Rules.{site_at, first_at, first_by, first_step, applies, choices, after}
@@ -44,7 +46,8 @@ module _ (k : Theory) (g : Graph) where
   some_same : {X : Type 0} (a b : X) → Some a ≡ Some b → a ≡ b
   some_same a b e = cc
 
-  found_site : (r : Rule) (x place : ℕ) (s : Step) (o : Option ℕ) → site_at k g r x place ≡ o → option_map (λ y. record { rule = r; node = x; class = place; other = y }) o ≡ Some s → applies k g s ≡ true
+  found_site : (r : Rule) (x place : ℕ) (s : Step) (o : Option ℕ) → site_at k g r x place ≡ o
+      → option_map (λ y. record { rule = r; node = x; class = place; other = y }) o ≡ Some s → applies k g s ≡ true
   found_site r x place s None at h = cc
   found_site r x place s (Some y) at h =
       let t : Step = record { rule = r; node = x; class = place; other = y } in
@@ -54,7 +57,8 @@ module _ (k : Theory) (g : Graph) where
   found_by : (r : Rule) (s : Step) → first_by k g r ≡ Some s → applies k g s ≡ true
   found_by r s h =
       let node = found_below (length g.nodes) (first_at k g r) s h in
-      let place = found_below (length (Rattle.tableau_rules.specs.Graph.label_at g node.0)) (λ place. option_map (λ y. record { rule = r; node = node.0; class = place; other = y }) (site_at k g r node.0 place)) s node.1 in
+      let place = found_below (length (Rattle.tableau_rules.specs.Graph.label_at g node.0))
+      (λ place. option_map (λ y. record { rule = r; node = node.0; class = place; other = y }) (site_at k g r node.0 place)) s node.1 in
       found_site r node.0 place.0 s (site_at k g r node.0 place.0) refl place.1
 
   pub first_applies : (s : Step) → first_step k g ≡ Some s → applies k g s ≡ true
@@ -85,16 +89,9 @@ tree_of-Clash clash = ap tree_of (sym (closed.rolls-Clash clash)) ∙ fold-roll-
 pub tree_of-Step : (step : Step) (ts : List Closed) → tree_of (closed.Step step ts) ≡ splits step (trees_from (map tree_of ts))
 tree_of-Step step ts = ap tree_of (sym (closed.rolls-Step step ts)) ∙ fold-roll-Closed Tree tree_layer (layers.Step step ts)
 
-map_push : {X Y : Type 0} (f : X → Y) (xs : List X) (x : X) → map f (xs ++ x ∷ []) ≡ map f xs ++ f x ∷ []
-map_push f [] x = refl
-map_push f (y ∷ xs) x = ap (λ zs. f y ∷ zs) (map_push f xs x)
-
-map_length : {X Y : Type 0} (f : X → Y) (xs : List X) → length (map f xs) ≡ length xs
-map_length f [] = refl
-map_length f (x ∷ xs) = ap suc (map_length f xs)
-
 -- one tree more closes one choice more
-each_push : (k : Theory) (g : Graph) (step : Step) (n m : ℕ) (ts : List Tree) (t : Tree) → n + length ts ≡ m → CloseEach k g step n ts → closes k (after k g step m) t ≡ true → CloseEach k g step n (ts ++ t ∷ [])
+each_push : (k : Theory) (g : Graph) (step : Step) (n m : ℕ) (ts : List Tree) (t : Tree) → n + length ts ≡ m → CloseEach k g step n ts
+    → closes k (after k g step m) t ≡ true → CloseEach k g step n (ts ++ t ∷ [])
 each_push k g step n m [] t sum each here =
     let same : m ≡ n = omega (arith, sum) in
     (subst (λ i. closes k (after k g step i) t ≡ true) same here, tt)
@@ -103,7 +100,8 @@ each_push k g step n m (u ∷ ts) t sum each here =
     (each.0, each_push k g step (n + 1) m ts t sum' each.1 here)
 
 -- trees of all choices close the branch
-each_from : (k : Theory) (g : Graph) (step : Step) (n : ℕ) (ts : List Tree) → n + length ts ≡ choices g step → CloseEach k g step n ts → close_from k g step n (trees_from ts) ≡ true
+each_from : (k : Theory) (g : Graph) (step : Step) (n : ℕ) (ts : List Tree) → n + length ts ≡ choices g step → CloseEach k g step n ts
+    → close_from k g step n (trees_from ts) ≡ true
 each_from k g step n [] sum each = eq-eqb n (choices g step) (omega (arith, sum))
 each_from k g step n (t ∷ ts) sum each =
     let sum' : (n + 1) + length ts ≡ choices g step = omega (arith, sum) in
@@ -112,11 +110,13 @@ each_from k g step n (t ∷ ts) sum each =
 pub closes_clash : (k : Theory) (g : Graph) (clash : Clash) → IsTrue (is_clash k g clash) → closes k g (tree_of (closed.Clash clash)) ≡ true
 closes_clash k g clash there = ap (closes k g) (tree_of-Clash clash) ∙ there
 
-pub closes_step : (k : Theory) (g : Graph) (step : Step) (ts : List Closed) → first_step k g ≡ Some step → length ts ≡ choices g step → CloseEach k g step 0 (map tree_of ts) → closes k g (tree_of (closed.Step step ts)) ≡ true
+pub closes_step : (k : Theory) (g : Graph) (step : Step) (ts : List Closed) → first_step k g ≡ Some step → length ts ≡ choices g step
+    → CloseEach k g step 0 (map tree_of ts) → closes k g (tree_of (closed.Step step ts)) ≡ true
 closes_step k g step ts first count each =
-    let sum : 0 + length (map tree_of ts) ≡ choices g step = omega (arith, map_length tree_of ts, count) in
+    let sum : 0 + length (map tree_of ts) ≡ choices g step = omega (arith, length_mapped tree_of ts, count) in
     ap (closes k g) (tree_of-Step step ts)
-    ∙ and_from (applies k g step) (close_from k g step 0 (trees_from (map tree_of ts))) (first_applies k g step first) (each_from k g step 0 (map tree_of ts) sum each)
+    ∙ and_from (applies k g step) (close_from k g step 0 (trees_from (map tree_of ts))) (first_applies k g step first)
+    (each_from k g step 0 (map tree_of ts) sum each)
 
 -- what is left open behind a choice
 remaining_there : (o : OpenChoice) → o.next < choices o.graph o.step → remaining o ≡ o ∷ []
@@ -128,21 +128,25 @@ remaining_none o le = cond-false (nat_lt o.next (choices o.graph o.step)) (o ∷
 open_clash : (k : Theory) (s : Searching) → has_clash k s.graph ≡ true → open_choices k s ≡ Some s.waiting
 open_clash k s clash = cond-true (has_clash k s.graph) (Some s.waiting) _ clash
 
-open_first : (k : Theory) (s : Searching) (step : Step) → has_clash k s.graph ≡ false → first_step k s.graph ≡ Some step → open_choices k s ≡ Some (remaining (choice_of s.graph step 0) ++ s.waiting)
+open_first : (k : Theory) (s : Searching) (step : Step) → has_clash k s.graph ≡ false → first_step k s.graph ≡ Some step
+    → open_choices k s ≡ Some (remaining (choice_of s.graph step 0) ++ s.waiting)
 open_first k s step calm first =
-    cond-false (has_clash k s.graph) (Some s.waiting) (option_map_or (λ step. Some (remaining (choice_of s.graph step 0) ++ s.waiting)) (first_step k s.graph) None) calm
+    cond-false (has_clash k s.graph) (Some s.waiting)
+    (option_map_or (λ step. Some (remaining (choice_of s.graph step 0) ++ s.waiting)) (first_step k s.graph) None) calm
     ∙ ap (λ o. option_map_or (λ step. Some (remaining (choice_of s.graph step 0) ++ s.waiting)) o None) first
 
 -- where no choice is left at the branch, those that wait are the open ones
 pub waits_at_clash : (k : Theory) (s : Searching) → has_clash k s.graph ≡ true → open_choices k s ≡ Some s.waiting
 waits_at_clash k s clash = open_clash k s clash
 
-pub waits_at_none : (k : Theory) (s : Searching) (step : Step) → has_clash k s.graph ≡ false → first_step k s.graph ≡ Some step → choices s.graph step ≡ 0 → open_choices k s ≡ Some s.waiting
+pub waits_at_none : (k : Theory) (s : Searching) (step : Step) → has_clash k s.graph ≡ false → first_step k s.graph ≡ Some step → choices s.graph step ≡ 0
+    → open_choices k s ≡ Some s.waiting
 waits_at_none k s step calm first none =
     open_first k s step calm first ∙ ap (λ r. Some (r ++ s.waiting)) (remaining_none (choice_of s.graph step 0) (omega (arith, none)))
 
 -- the next application takes the first open choice
-takes : (k : Theory) (s h : Searching) (step : Step) (n : ℕ) → open_choices k s ≡ Some (choice_of h.graph step n ∷ h.waiting) → next_search k s ≡ Some (chosen k h step n)
+takes : (k : Theory) (s h : Searching) (step : Step) (n : ℕ) → open_choices k s ≡ Some (choice_of h.graph step n ∷ h.waiting)
+    → next_search k s ≡ Some (chosen k h step n)
 takes k s h step n behind = ap (option_and_then (resumed k)) behind
 
 -- the way, one choice further
@@ -150,7 +154,8 @@ led_push : (k : Theory) (s : Searching) (ts : List Taken) (t : Taken) → led k 
 led_push k s [] t = refl
 led_push k s (u ∷ ts) t = led_push k (chosen k s u.step (length u.trees)) ts t
 
-way_push : (k : Theory) (s : Searching) (ts : List Taken) (t : Taken) → IsWay k s ts → IsOpen k (led k s ts) t.step t.trees → IsKept (led k s ts).graph t.step (length t.trees) t.kept → IsWay k s (ts ++ t ∷ [])
+way_push : (k : Theory) (s : Searching) (ts : List Taken) (t : Taken) → IsWay k s ts → IsOpen k (led k s ts) t.step t.trees
+    → IsKept (led k s ts).graph t.step (length t.trees) t.kept → IsWay k s (ts ++ t ∷ [])
 way_push k s [] t way choice kept = (choice, (kept, tt))
 way_push k s (u ∷ ts) t way choice kept = (way.0, (way.1.0, way_push k (chosen k s u.step (length u.trees)) ts t way.1.1 choice kept))
 
@@ -181,7 +186,8 @@ leads_to_branch k ts leads = way_branch k (begun_search k) ts leads begun
 pub reached_push : (k : Theory) (ts us : List Taken) (t : Taken) → us ≡ ts ++ t ∷ [] → reached k us ≡ chosen k (reached k ts) t.step (length t.trees)
 reached_push k ts us t grown = ap (reached k) grown ∙ led_push k (begun_search k) ts t
 
-pub leads_push : (k : Theory) (ts us : List Taken) (t : Taken) → us ≡ ts ++ t ∷ [] → Leads k ts → IsOpen k (reached k ts) t.step t.trees → IsKept (reached k ts).graph t.step (length t.trees) t.kept → Leads k us
+pub leads_push : (k : Theory) (ts us : List Taken) (t : Taken) → us ≡ ts ++ t ∷ [] → Leads k ts → IsOpen k (reached k ts) t.step t.trees
+    → IsKept (reached k ts).graph t.step (length t.trees) t.kept → Leads k us
 leads_push k ts us t grown leads choice kept = subst (Leads k) (sym grown) (way_push k (begun_search k) ts t leads choice kept)
 
 -- on the way back: a tree closes the branch at the end of the way, and the waiting choices are as they were
@@ -190,13 +196,16 @@ pub record IsShut (k : Theory) (waiting : List OpenChoice) (way : List Taken) (t
   pub shut : closes k (reached k way).graph (tree_of tree) ≡ true
   pub same : waiting ≡ (reached k way).waiting
 
-pub begins_shut : (k : Theory) (way : List Taken) (tree : Closed) → Leads k way → closes k (reached k way).graph (tree_of tree) ≡ true → IsShut k (reached k way).waiting way tree
+pub begins_shut : (k : Theory) (way : List Taken) (tree : Closed) → Leads k way → closes k (reached k way).graph (tree_of tree) ≡ true
+    → IsShut k (reached k way).waiting way tree
 begins_shut k way tree leads shut = record { leads = leads; shut = shut; same = refl }
 
-pub ends_shut : (k : Theory) (waiting : List OpenChoice) (way : List Taken) (tree : Closed) → way ≡ [] → IsShut k waiting way tree → IsTrue (is_closed k (tree_of tree))
+pub ends_shut : (k : Theory) (waiting : List OpenChoice) (way : List Taken) (tree : Closed) → way ≡ [] → IsShut k waiting way tree
+    → IsTrue (is_closed k (tree_of tree))
 ends_shut k waiting way tree none shut = subst (λ w. closes k (reached k w).graph (tree_of tree) ≡ true) none shut.shut
 
-module _ (k : Theory) (waiting : List OpenChoice) (old new : List Taken) (t : Taken) (tree : Closed) (trees : List Closed) (popped : old ≡ new ++ t ∷ []) (grown : trees ≡ t.trees ++ tree ∷ []) (shut : IsShut k waiting old tree) where
+module _ (k : Theory) (waiting : List OpenChoice) (old new : List Taken) (t : Taken) (tree : Closed) (trees : List Closed) (popped : old ≡ new ++ t ∷ [])
+    (grown : trees ≡ t.trees ++ tree ∷ []) (shut : IsShut k waiting old tree) where
   last : IsLastOf k (begun_search k) new t
   last = way_pop k (begun_search k) new t (subst (Leads k) popped shut.leads)
 
@@ -208,9 +217,10 @@ module _ (k : Theory) (waiting : List OpenChoice) (old new : List Taken) (t : Ta
 
   tried : CloseEach k (reached k new).graph t.step 0 (map tree_of trees)
   tried =
-      let sum : 0 + length (map tree_of t.trees) ≡ length t.trees = omega (arith, map_length tree_of t.trees) in
+      let sum : 0 + length (map tree_of t.trees) ≡ length t.trees = omega (arith, length_mapped tree_of t.trees) in
       subst (CloseEach k (reached k new).graph t.step 0) (sym (ap (map tree_of) grown ∙ map_push tree_of t.trees tree))
-      (each_push k (reached k new).graph t.step 0 (length t.trees) (map tree_of t.trees) (tree_of tree) sum last.choice.tried (sym (ap (λ s. closes k s.graph (tree_of tree)) before) ∙ shut.shut))
+      (each_push k (reached k new).graph t.step 0 (length t.trees) (map tree_of t.trees) (tree_of tree) sum last.choice.tried
+      (sym (ap (λ s. closes k s.graph (tree_of tree)) before) ∙ shut.shut))
 
   kept_as : (o : Option Branch) → t.kept ≡ o → IsKept (reached k new).graph t.step (length t.trees) o
   kept_as o e = subst (IsKept (reached k new).graph t.step (length t.trees)) e last.kept
@@ -221,7 +231,8 @@ module _ (k : Theory) (waiting : List OpenChoice) (old new : List Taken) (t : Ta
       record {
         leads = last.way;
         shut = closes_step k (reached k new).graph t.step trees last.choice.first all tried;
-        same = shut.same ∙ (ap (λ s. s.waiting) before ∙ ap (λ r. r ++ (reached k new).waiting) (remaining_none (choice_of (reached k new).graph t.step (length t.trees + 1)) (kept_as None none)));
+        same = shut.same ∙ (ap (λ s. s.waiting) before
+            ∙ ap (λ r. r ++ (reached k new).waiting) (remaining_none (choice_of (reached k new).graph t.step (length t.trees + 1)) (kept_as None none)));
       }
 
   pub goes_back : (b : Branch) → t.kept ≡ Some b → IsLast k waiting new t.step trees (graph_of b)
@@ -251,12 +262,15 @@ turns_back k s way (turn.Back step trees b) at back = record {
   next = takes k s (reached k way) step (length trees) (at ∙ ap Some back.first);
 }
 
-pub turns_forward : (k : Theory) (way : List Taken) (step : Step) → Leads k way → has_clash k (reached k way).graph ≡ false → first_step k (reached k way).graph ≡ Some step → 0 < choices (reached k way).graph step → IsNext k (reached k way) way step [] (reached k way).graph
+pub turns_forward : (k : Theory) (way : List Taken) (step : Step) → Leads k way → has_clash k (reached k way).graph ≡ false
+    → first_step k (reached k way).graph ≡ Some step → 0 < choices (reached k way).graph step → IsNext k (reached k way) way step [] (reached k way).graph
 turns_forward k way step leads calm first there = record {
   leads = leads;
   choice = record { calm = calm; first = first; there = there; tried = tt };
   before = refl;
-  next = takes k (reached k way) (reached k way) step 0 (open_first k (reached k way) step calm first ∙ ap (λ r. Some (r ++ (reached k way).waiting)) (remaining_there (choice_of (reached k way).graph step 0) there));
+  next = takes k (reached k way) (reached k way) step 0
+      (open_first k (reached k way) step calm first
+      ∙ ap (λ r. Some (r ++ (reached k way).waiting)) (remaining_there (choice_of (reached k way).graph step 0) there));
 }
 
 pub finished_from : (k : Theory) (g : Graph) → has_clash k g ≡ false → first_step k g ≡ None → IsTrue (is_finished k g)
@@ -278,18 +292,21 @@ cut_at k n s t g at next here = record {
 }
 
 -- ends
-pub ends_at : (k : Theory) (way new : List Taken) (g : Graph) (t : Turn) → Leads k way → g ≡ (reached k way).graph → IsTurn k (reached k way) new t → t ≡ turn.Finished → IsEnd k g
+pub ends_at : (k : Theory) (way new : List Taken) (g : Graph) (t : Turn) → Leads k way → g ≡ (reached k way).graph → IsTurn k (reached k way) new t
+    → t ≡ turn.Finished → IsEnd k g
 ends_at k way new g t leads here turned is = record {
   branch = subst (IsBranch k) (sym here) (leads_to_branch k way leads);
   finished = subst (λ h. IsTrue (is_finished k h)) (sym here) (subst (IsTurn k (reached k way) new) is turned);
 }
 
-pub cut_forward : (k : Theory) (n m : ℕ) (way new : List Taken) (g : Graph) (t : Turn) (step : Step) → n ≡ m → searched k n ≡ Some (reached k way) → g ≡ (reached k way).graph → IsTurn k (reached k way) new t → t ≡ turn.Forward step → IsCutAt k m g
+pub cut_forward : (k : Theory) (n m : ℕ) (way new : List Taken) (g : Graph) (t : Turn) (step : Step) → n ≡ m → searched k n ≡ Some (reached k way)
+    → g ≡ (reached k way).graph → IsTurn k (reached k way) new t → t ≡ turn.Forward step → IsCutAt k m g
 cut_forward k n m way new g t step same at here turned is =
     let next : IsNext k (reached k way) new step [] (reached k way).graph = subst (IsTurn k (reached k way) new) is turned in
     subst (λ i. IsCutAt k i g) same (cut_at k n (reached k way) (chosen k (reached k new) step 0) g at next.next here)
 
-pub cut_back : (k : Theory) (n m : ℕ) (way new : List Taken) (g : Graph) (t : Turn) (step : Step) (trees : List Closed) (b : Branch) → n ≡ m → searched k n ≡ Some (reached k way) → g ≡ (reached k way).graph → IsTurn k (reached k way) new t → t ≡ turn.Back step trees b → IsCutAt k m g
+pub cut_back : (k : Theory) (n m : ℕ) (way new : List Taken) (g : Graph) (t : Turn) (step : Step) (trees : List Closed) (b : Branch) → n ≡ m
+    → searched k n ≡ Some (reached k way) → g ≡ (reached k way).graph → IsTurn k (reached k way) new t → t ≡ turn.Back step trees b → IsCutAt k m g
 cut_back k n m way new g t step trees b same at here turned is =
     let next : IsNext k (reached k way) new step trees (graph_of b) = subst (IsTurn k (reached k way) new) is turned in
     subst (λ i. IsCutAt k i g) same (cut_at k n (reached k way) (chosen k (reached k new) step (length trees)) g at next.next here)

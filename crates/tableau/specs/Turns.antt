@@ -1,4 +1,4 @@
--- What a search does next.
+-- What a search does next. Only private calls speak of it.
 use Rattle.std.specs.Prelude.{◌≡◌, List, [], ◌∷◌, length, Some, IsTrue}
 use Rattle.logic_terms.specs.Theory.{Theory}
 use Rattle.tableau_rules.specs.declared.step.Closed.{Closed}

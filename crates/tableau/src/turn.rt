@@ -64,7 +64,8 @@ pub(crate) fn next_turn(
 
 // Goes back from a branch that a tree closes to the last choice that is left.
 fn back(tree: Closed, way: &mut List<Taken>) -> Result<Turn, Memory>
-    ensures { IfOk result (λ t. (k : Theory) → Leads k way.old → closes k (reached k way.old).graph (tree_of tree) ≡ true → IsBack k (reached k way.old).waiting way.new t) }
+    ensures { IfOk result (λ t. (k : Theory) → Leads k way.old → closes k (reached k way.old).graph (tree_of tree) ≡ true
+        → IsBack k (reached k way.old).waiting way.new t) }
 {
     let mut closed = tree;
     while let Some(last) = way.pop() {

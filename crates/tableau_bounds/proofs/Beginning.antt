@@ -2,6 +2,7 @@
 use Rattle.std.proofs.Common.{◌≡◌, ℕ, zero, suc, ◌≤◌, List, [], ◌∷◌, ◌++◌, map, length, Option, Some, None, slice_get, refl, sym, ap, subst, inl, inr, arith}
 use Rattle.std.specs.Option.{option_map_or, option_and_then}
 use Rattle.std.proofs.lemmas.List.{length-map}
+use Rattle.std.proofs.lemmas.Option.{same_Some}
 use Rattle.wiki_base.specs.declared.numbers.WordId.{WordId}
 use Rattle.logic_terms.specs.Concept.{Concept}
 use Rattle.logic_terms.specs.Theory.{Theory}
@@ -17,20 +18,19 @@ use Rattle.tableau_bounds.proofs.Labels.{only_classes, Unique, unique_classes}
 IsFirst : Theory → Vertex → Type 0
 IsFirst k v = (cs : List Concept) × (v ≡ first_node k cs) × Within cs (class_occurrences k)
 
-some_same : {X : Type 0} (a b : X) → Some a ≡ Some b → a ≡ b
-some_same a b e = cc
-
 module _ (k : Theory) where
-  mapped : (rs : List WordId) (y : ℕ) (v : Vertex) → slice_get (map (λ r. first_node k (asserted k r)) rs) y ≡ Some v → (cs : List Concept) × (v ≡ first_node k cs) × Within cs (class_occurrences k)
+  mapped : (rs : List WordId) (y : ℕ) (v : Vertex) → slice_get (map (λ r. first_node k (asserted k r)) rs) y ≡ Some v
+      → (cs : List Concept) × (v ≡ first_node k cs) × Within cs (class_occurrences k)
   mapped [] y v at = absurd (nothing y at)
     where
       nothing : (y : ℕ) → slice_get {X = Vertex} [] y ≡ Some v → ⊥
       nothing y e = cc
-  mapped (r ∷ rs) zero v at = (asserted k r, sym (some_same (first_node k (asserted k r)) v at), asserted_within k r)
+  mapped (r ∷ rs) zero v at = (asserted k r, sym (same_Some (first_node k (asserted k r)) v at), asserted_within k r)
   mapped (r ∷ rs) (suc y) v at = mapped rs y v at
 
-  first : (rs : List WordId) (y : ℕ) (v : Vertex) → slice_get (first_nodes k rs) y ≡ Some v → (cs : List Concept) × (v ≡ first_node k cs) × Within cs (class_occurrences k)
-  first [] zero v at = ([], sym (some_same (first_node k []) v at), λ e h. cc)
+  first : (rs : List WordId) (y : ℕ) (v : Vertex) → slice_get (first_nodes k rs) y ≡ Some v
+      → (cs : List Concept) × (v ≡ first_node k cs) × Within cs (class_occurrences k)
+  first [] zero v at = ([], sym (same_Some (first_node k []) v at), λ e h. cc)
   first [] (suc y) v at = absurd (nothing y at)
     where
       nothing : (y : ℕ) → slice_get {X = Vertex} [] y ≡ Some v → ⊥

@@ -51,7 +51,8 @@ module _ (k : Theory) where
     down = λ y p up. absurd (none_made y p up);
     first = le_self (length (start k).nodes);
     made = λ y p up. absurd (none_made y p up);
-    room = sum (length (start k).nodes) (class_count k * tree_size (class_count k) (most_deep k)) (total (room k (most_deep k) (start k)) (length (start k).nodes))
+    room = sum (length (start k).nodes) (class_count k * tree_size (class_count k) (most_deep k))
+        (total (room k (most_deep k) (start k)) (length (start k).nodes))
         (total_most (room k (most_deep k) (start k)) (length (start k).nodes) (class_count k * tree_size (class_count k) (most_deep k)) (λ y lt. each y));
   }
     where
@@ -60,7 +61,8 @@ module _ (k : Theory) where
 
       each : (y : ℕ) → room k (most_deep k) (start k) y ≤ class_count k * tree_size (class_count k) (most_deep k)
       each y =
-          subst (λ z. (class_count k - used k (start k) y) * tree_size (class_count k) z ≤ class_count k * tree_size (class_count k) (most_deep k)) (sym (top (depth (start k) y) (ap length (ancestors-none (start k) y (start_parent k y)))))
+          subst (λ z. (class_count k - used k (start k) y) * tree_size (class_count k) z ≤ class_count k * tree_size (class_count k) (most_deep k))
+          (sym (top (depth (start k) y) (ap length (ancestors-none (start k) y (start_parent k y)))))
           (mul-le-mul_right (tree_size (class_count k) (most_deep k)) (less (class_count k) (used k (start k) y)))
         where
           top : (d : ℕ) → d ≡ 0 → most_deep k - d ≡ most_deep k
@@ -74,7 +76,8 @@ module _ (k : Theory) where
 
   made_anonymous : (g : Graph) → IsBounded k g → (y p : ℕ) → parent_of g y ≡ Some p → is_anonymous k y ≡ true
   made_anonymous g bounded y p up =
-      not_from_false (nat_lt y (length (roots k))) (le-ltb y (length (roots k)) (through (length (roots k)) (length (start k).nodes) y (start_roots k) (bounded.made y p up)))
+      not_from_false (nat_lt y (length (roots k)))
+      (le-ltb y (length (roots k)) (through (length (roots k)) (length (start k).nodes) y (start_roots k) (bounded.made y p up)))
     where
       through : (a b c : ℕ) → a ≤ b → b ≤ c → a ≤ c
       through a b c le up = omega arith
@@ -104,7 +107,8 @@ module _ (k : Theory) where
   -- no branch has more nodes
   pub bounded_nodes : (g : Graph) → IsBounded k g → length g.nodes ≤ most_nodes k
   bounded_nodes g bounded =
-      sum (length g.nodes) (total (room k (most_deep k) g) (length g.nodes)) (length (start k).nodes * tree_size (class_count k) (suc (most_deep k))) (most_nodes k) bounded.room
+      sum (length g.nodes) (total (room k (most_deep k) g) (length g.nodes)) (length (start k).nodes * tree_size (class_count k) (suc (most_deep k)))
+      (most_nodes k) bounded.room
       (mul-le-mul_left (length (start k).nodes) (tree_size_most (class_count k) (most_deep k)))
     where
       sum : (a t b c : ℕ) → a + t ≤ b → b ≤ c → a ≤ c
@@ -130,7 +134,8 @@ module _ (k : Theory) where
         few : (a m : ℕ) → a ≤ m → a < m + 1
         few a m le = omega arith
 
-        of_union : (c : Concept) → has_concept (class_occurrences k) c ≡ true → (o : Option (List Concept)) → union_part c ≡ o → option_map_or length o 1 < class_count k + 1
+        of_union : (c : Concept) → has_concept (class_occurrences k) c ≡ true → (o : Option (List Concept)) → union_part c ≡ o
+            → option_map_or length o 1 < class_count k + 1
         of_union c h None part = one (class_count k) (some_class c (class_occurrences k) h)
         of_union c h (Some cs) part = few (length cs) (class_count k) (union_few k c cs h part)
 
@@ -138,7 +143,8 @@ module _ (k : Theory) where
         by_rule rule.Or c h = of_union c h (union_part c) refl
         by_rule _ c h = one (class_count k) (some_class c (class_occurrences k) h)
 
-        go : (o : Option Concept) → class_at g s.node s.class ≡ o → option_map_or (λ y. y == s.other) (option_and_then (site k g s.rule s.node) o) false ≡ true → option_map_or (choices_for s.rule) o 1 < class_count k + 1
+        go : (o : Option Concept) → class_at g s.node s.class ≡ o → option_map_or (λ y. y == s.other) (option_and_then (site k g s.rule s.node) o) false ≡ true
+            → option_map_or (choices_for s.rule) o 1 < class_count k + 1
         go None at e = cc
         go (Some c) at e = by_rule s.rule c (bounded.within s.node c (has_here (label_at g s.node) s.class c at))
 
@@ -146,7 +152,8 @@ module _ (k : Theory) where
     ranked = record {
       base = pos (class_count k);
       most = λ g branch. let bounded = branch_bounded g branch in rank_most k g bounded.within bounded.unique (most_nodes k) (bounded_nodes g bounded);
-      rises = λ g s n branch on lt. up (rank k g) (rank k (after k g s n)) (rank_up k g (after k g s n) (after_step k g filled (branch_bounded g branch).within s n on lt));
+      rises = λ g s n branch on lt. up (rank k g) (rank k (after k g s n))
+          (rank_up k g (after k g s n) (after_step k g filled (branch_bounded g branch).within s n on lt));
       few = λ g s branch on. choices_few g (branch_bounded g branch) s on;
     }
       where

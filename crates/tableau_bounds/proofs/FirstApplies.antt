@@ -26,7 +26,8 @@ module _ (k : Theory) (g : Graph) where
   some_same : {X : Type 0} (a b : X) → Some a ≡ Some b → a ≡ b
   some_same a b e = cc
 
-  found_site : (r : Rule) (x place : ℕ) (s : Step) (o : Option ℕ) → site_at k g r x place ≡ o → option_map (λ y. record { rule = r; node = x; class = place; other = y }) o ≡ Some s → applies k g s ≡ true
+  found_site : (r : Rule) (x place : ℕ) (s : Step) (o : Option ℕ) → site_at k g r x place ≡ o
+      → option_map (λ y. record { rule = r; node = x; class = place; other = y }) o ≡ Some s → applies k g s ≡ true
   found_site r x place s None at h = cc
   found_site r x place s (Some y) at h =
       let t : Step = record { rule = r; node = x; class = place; other = y } in
@@ -36,7 +37,8 @@ module _ (k : Theory) (g : Graph) where
   found_by : (r : Rule) (s : Step) → first_by k g r ≡ Some s → applies k g s ≡ true
   found_by r s h =
       let node = found_below (length g.nodes) (first_at k g r) s h in
-      let place = found_below (length (label_at g node.0)) (λ place. option_map (λ y. record { rule = r; node = node.0; class = place; other = y }) (site_at k g r node.0 place)) s node.1 in
+      let place = found_below (length (label_at g node.0))
+      (λ place. option_map (λ y. record { rule = r; node = node.0; class = place; other = y }) (site_at k g r node.0 place)) s node.1 in
       found_site r node.0 place.0 s (site_at k g r node.0 place.0) refl place.1
 
   pub first_applies : (s : Step) → first_step k g ≡ Some s → applies k g s ≡ true

@@ -2,7 +2,8 @@
 use Rattle.std.proofs.Common.{◌≡◌, ℕ, zero, suc, ◌+◌, ◌<◌, ◌≤◌, ◌||◌, ◌⊎◌, Bool, true, false, List, [], ◌∷◌, ◌++◌, filter, length, set, cond, Some, slice_get, refl, sym, ap, ◌∙◌, subst, inl, inr, arith, length-append, append_assoc, append-nil}
 use Rattle.std.specs.Prelude.{not}
 use Rattle.std.specs.List.{list_all}
-use Rattle.std.proofs.lemmas.Bool.{cases_Bool, or_cases, or_left, or_right, or_parts, or_from, and_parts, cond-true, cond-false, false_from_ne_true, not_from_false}
+use Rattle.std.proofs.lemmas.Bool.{cases_Bool, or_cases, or_left, or_right, or_parts, or_from, and_parts, cond-true, cond-false, false_from_ne_true, not_from_false, not-true}
+use Rattle.wiki_base.proofs.BoolLaws.{not_both}
 use Rattle.logic_terms.specs.Concept.{Concept}
 use Rattle.logic_terms.specs.Same.{same_concept, has_concept}
 use Rattle.logic_terms.proofs.SameLemmas.{same_concept-equal, same_concept-self}
@@ -55,7 +56,8 @@ pub filter_within : (p : Concept → Bool) (cs : List Concept) → Within (filte
 filter_within p [] e h = h
 filter_within p (c ∷ cs) e h = go (p c) h (filter_within p cs e)
   where
-    go : (b : Bool) → has_concept (cond b (c ∷ filter p cs) (filter p cs)) e ≡ true → (has_concept (filter p cs) e ≡ true → has_concept cs e ≡ true) → has_concept (c ∷ cs) e ≡ true
+    go : (b : Bool) → has_concept (cond b (c ∷ filter p cs) (filter p cs)) e ≡ true → (has_concept (filter p cs) e ≡ true → has_concept cs e ≡ true)
+        → has_concept (c ∷ cs) e ≡ true
     go true there rest = elim (or_cases (same_concept c e) (has_concept (filter p cs) e) there) [
       | inl same ↦ or_left (same_concept c e) (has_concept cs e) same
       | inr later ↦ or_right (same_concept c e) (has_concept cs e) (rest later)
@@ -70,13 +72,6 @@ each_has test (d ∷ ds) c all h =
       | inl same ↦ subst (λ z. test z ≡ true) (same_concept-equal d c same) parts.0
       | inr later ↦ each_has test ds c parts.1 later
     ]
-
-pub not_true : (b : Bool) → not b ≡ true → b ≡ false
-not_true true h = cc
-not_true false h = refl
-
-both : {b : Bool} → b ≡ true → b ≡ false → ⊥
-both t f = cc
 
 pub one_within : (d : Concept) (ds : List Concept) → has_concept ds d ≡ true → Within (d ∷ []) ds
 one_within d ds h e there = elim (or_cases (same_concept d e) false there) [
@@ -94,7 +89,8 @@ kept_one label c d h = elim (cases_Bool (has_concept label c)) [
 new_one : (label : List Concept) (c : Concept) → has_concept (with_class label c) c ≡ true
 new_one label c = elim (cases_Bool (has_concept label c)) [
   | inl t ↦ ap (λ l. has_concept l c) (cond-true (has_concept label c) label (label ++ c ∷ []) t) ∙ t
-  | inr f ↦ ap (λ l. has_concept l c) (cond-false (has_concept label c) label (label ++ c ∷ []) f) ∙ in_second label (c ∷ []) c (or_left (same_concept c c) false (same_concept-self c))
+  | inr f ↦ ap (λ l. has_concept l c) (cond-false (has_concept label c) label (label ++ c ∷ []) f)
+      ∙ in_second label (c ∷ []) c (or_left (same_concept c c) false (same_concept-self c))
 ]
 
 only_one : (label : List Concept) (c d : Concept) → has_concept (with_class label c) d ≡ true → (has_concept label d ≡ true) ⊎ (has_concept (c ∷ []) d ≡ true)
@@ -145,7 +141,7 @@ with_classes_begins label (c ∷ cs) = elim (cases_Bool (has_concept label c)) [
 missing : (label cs : List Concept) → lacks_some label cs ≡ true → (d : Concept) × (has_concept cs d ≡ true) × (has_concept label d ≡ false)
 missing label [] h = cc
 missing label (c ∷ cs) h = elim (or_cases (not (has_concept label c)) (lacks_some label cs) h) [
-  | inl here ↦ (c, or_left (same_concept c c) (has_concept cs c) (same_concept-self c), not_true (has_concept label c) here)
+  | inl here ↦ (c, or_left (same_concept c c) (has_concept cs c) (same_concept-self c), not-true (has_concept label c) here)
   | inr later ↦ let rest = missing label cs later in (rest.0, or_right (same_concept c rest.0) (has_concept cs rest.0) rest.1, rest.2)
 ]
 
@@ -158,15 +154,16 @@ lacking_grows label cs h =
     sum : (a b n : ℕ) → n ≡ a + suc b → a < n
     sum a b n e = omega arith
 
-    go : (more : List Concept) → with_classes label cs ≡ label ++ more → (d : Concept) → has_concept (with_classes label cs) d ≡ true → has_concept label d ≡ false → length label < length (with_classes label cs)
-    go [] is d there lacks = absurd (both (sym (ap (λ l. has_concept l d) (is ∙ append-nil label)) ∙ there) lacks)
+    go : (more : List Concept) → with_classes label cs ≡ label ++ more → (d : Concept) → has_concept (with_classes label cs) d ≡ true
+        → has_concept label d ≡ false → length label < length (with_classes label cs)
+    go [] is d there lacks = absurd (not_both (sym (ap (λ l. has_concept l d) (is ∙ append-nil label)) ∙ there) lacks)
     go (c ∷ more) is d there lacks = sum (length label) (length more) (length (with_classes label cs)) (ap length is ∙ length-append label (c ∷ more))
 
 pub lacks_one : (label : List Concept) (d : Concept) → has_concept label d ≡ false → lacks_some label (d ∷ []) ≡ true
 lacks_one label d h = or_left (not (has_concept label d)) false (not_from_false (has_concept label d) h)
 
 pub lacks_member : (label cs : List Concept) (d : Concept) → lacks_all label cs ≡ true → has_concept cs d ≡ true → has_concept label d ≡ false
-lacks_member label cs d all h = not_true (has_concept label d) (each_has (λ c. not (has_concept label c)) cs d all h)
+lacks_member label cs d all h = not-true (has_concept label d) (each_has (λ c. not (has_concept label c)) cs d all h)
 
 -- each class once
 abbrev pub Unique : List Concept → Type 0
@@ -177,8 +174,12 @@ unique_push : (cs : List Concept) (c : Concept) → Unique cs → has_concept cs
 unique_push [] c unique new = (refl, tt)
 unique_push (d ∷ ds) c unique new =
     let parts = or_parts (same_concept d c) (has_concept ds c) new in
-    let other : same_concept c d ≡ false = false_from_ne_true (same_concept c d) (λ t. both (subst (λ z. same_concept d z ≡ true) (sym (same_concept-equal c d t)) (same_concept-self d)) parts.0) in
-    (has-append ds (c ∷ []) d ∙ or_from (has_concept ds d) (same_concept c d || false) unique.0 (or_from (same_concept c d) false other refl), unique_push ds c unique.1 parts.1)
+    let other : same_concept c d ≡ false =
+    false_from_ne_true (same_concept c d)
+    (λ t. not_both (subst (λ z. same_concept d z ≡ true) (sym (same_concept-equal c d t)) (same_concept-self d)) parts.0) in (
+      has-append ds (c ∷ []) d ∙ or_from (has_concept ds d) (same_concept c d || false) unique.0 (or_from (same_concept c d) false other refl),
+      unique_push ds c unique.1 parts.1,
+    )
 
 pub unique_classes : (label cs : List Concept) → Unique label → Unique (with_classes label cs)
 unique_classes label [] unique = unique
@@ -196,7 +197,8 @@ without_length : (c : Concept) (ds : List Concept) → has_concept ds c ≡ true
 without_length c [] h = cc
 without_length c (d ∷ ds) h = go (same_concept d c) h (without_length c ds)
   where
-    go : (b : Bool) → (b || has_concept ds c) ≡ true → (has_concept ds c ≡ true → length ds ≡ suc (length (without c ds))) → suc (length ds) ≡ suc (length (cond b ds (d ∷ without c ds)))
+    go : (b : Bool) → (b || has_concept ds c) ≡ true → (has_concept ds c ≡ true → length ds ≡ suc (length (without c ds)))
+        → suc (length ds) ≡ suc (length (cond b ds (d ∷ without c ds)))
     go true e rest = refl
     go false e rest = ap suc (rest e)
 
@@ -204,8 +206,9 @@ without_still : (c : Concept) (ds : List Concept) (e : Concept) → has_concept 
 without_still c [] e h other = h
 without_still c (d ∷ ds) e h other = go (same_concept d c) refl (or_cases (same_concept d e) (has_concept ds e) h) (λ there. without_still c ds e there other)
   where
-    go : (b : Bool) → same_concept d c ≡ b → (same_concept d e ≡ true) ⊎ (has_concept ds e ≡ true) → (has_concept ds e ≡ true → has_concept (without c ds) e ≡ true) → has_concept (cond b ds (d ∷ without c ds)) e ≡ true
-    go true is (inl same) rest = absurd (both (subst (λ z. same_concept z e ≡ true) (same_concept-equal d c is) same) other)
+    go : (b : Bool) → same_concept d c ≡ b → (same_concept d e ≡ true) ⊎ (has_concept ds e ≡ true)
+        → (has_concept ds e ≡ true → has_concept (without c ds) e ≡ true) → has_concept (cond b ds (d ∷ without c ds)) e ≡ true
+    go true is (inl same) rest = absurd (not_both (subst (λ z. same_concept z e ≡ true) (same_concept-equal d c is) same) other)
     go true is (inr later) rest = later
     go false is (inl same) rest = or_left (same_concept d e) (has_concept (without c ds) e) same
     go false is (inr later) rest = or_right (same_concept d e) (has_concept (without c ds) e) (rest later)
@@ -216,8 +219,9 @@ unique_fits [] ds unique within = omega arith
 unique_fits (c ∷ cs) ds unique within =
     let less : length cs ≤ length (without c ds) =
     unique_fits cs (without c ds) unique.1 (λ e h. without_still c ds e (within e (or_right (same_concept c e) (has_concept cs e) h))
-    (false_from_ne_true (same_concept c e) (λ t. both (subst (λ z. has_concept cs z ≡ true) (sym (same_concept-equal c e t)) h) unique.0))) in
-    sum (length cs) (length (without c ds)) (length ds) less (without_length c ds (within c (or_left (same_concept c c) (has_concept cs c) (same_concept-self c))))
+    (false_from_ne_true (same_concept c e) (λ t. not_both (subst (λ z. has_concept cs z ≡ true) (sym (same_concept-equal c e t)) h) unique.0))) in
+    sum (length cs) (length (without c ds)) (length ds) less
+    (without_length c ds (within c (or_left (same_concept c c) (has_concept cs c) (same_concept-self c))))
   where
     sum : (a b n : ℕ) → a ≤ b → n ≡ suc b → suc a ≤ n
     sum a b n le e = omega arith

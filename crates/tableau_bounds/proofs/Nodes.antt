@@ -4,6 +4,7 @@ use Rattle.std.proofs.Common.{◌≡◌, ℕ, zero, suc, ◌+◌, ◌-◌, ◌*�
 use Rattle.std.specs.Prelude.{not}
 use Rattle.std.proofs.Math.Nat.{pow-zero}
 use Rattle.std.proofs.lemmas.Bool.{and_from, and_parts, eq-eqb, eqb-true, false_from_ne_true, not_from_false}
+use Rattle.wiki_base.proofs.BoolLaws.{not_both}
 use Rattle.logic_terms.specs.declared.expressions.Role.{Role}
 use Rattle.logic_terms.specs.Concept.{Concept}
 use Rattle.logic_terms.specs.Meaning.{some_below}
@@ -74,10 +75,8 @@ is_same (Some y) x h = ap Some (eqb-true y x h)
 same_is : (o : Option ℕ) (x : ℕ) → o ≡ Some x → passes o (λ z. z == x) ≡ true
 same_is o x h = ap (λ q. passes q (λ z. z == x)) h ∙ eq-eqb x x refl
 
-both : {b : Bool} → b ≡ true → b ≡ false → ⊥
-both t f = cc
-
-module _ (k : Theory) (g h : Graph) (step : IsStep k g h) (down : ParentsBelow g) (within : (y : ℕ) → Within (label_at g y) (class_occurrences k)) (unique : (y : ℕ) → Unique (label_at g y)) where
+module _ (k : Theory) (g h : Graph) (step : IsStep k g h) (down : ParentsBelow g) (within : (y : ℕ) → Within (label_at g y) (class_occurrences k))
+    (unique : (y : ℕ) → Unique (label_at g y)) where
   m : ℕ
   m = class_count k
 
@@ -97,11 +96,13 @@ module _ (k : Theory) (g h : Graph) (step : IsStep k g h) (down : ParentsBelow g
       through : (a b c : ℕ) → a < b → b ≤ c → a < c
       through a b c lt le = omega arith
 
-      go : (o : Option (Role × Concept)) → passes o (λ p. some_below (length g.nodes) (is_child k g p x)) ≡ true → passes o (λ p. some_below (length h.nodes) (is_child k h p x)) ≡ true
+      go : (o : Option (Role × Concept)) → passes o (λ p. some_below (length g.nodes) (is_child k g p x)) ≡ true
+          → passes o (λ p. some_below (length h.nodes) (is_child k h p x)) ≡ true
       go None e = cc
       go (Some p) e =
           let found = some_below_found (is_child k g p x) (length g.nodes) e in
-          some_below_passes (is_child k h p x) found.0 (length h.nodes) (through found.0 (length g.nodes) (length h.nodes) found.1 step.nodes) (child_up p x found.0 found.1 found.2)
+          some_below_passes (is_child k h p x) found.0 (length h.nodes) (through found.0 (length g.nodes) (length h.nodes) found.1 step.nodes)
+          (child_up p x found.0 found.1 found.2)
 
   used_up : (x : ℕ) → x < length g.nodes → used k g x ≤ used k h x
   used_up x lt =
@@ -122,30 +123,38 @@ module _ (k : Theory) (g h : Graph) (step : IsStep k g h) (down : ParentsBelow g
 
     same_room : length h.nodes ≡ length g.nodes → all_room k most h ≤ all_room k most g
     same_room same =
-        subst (λ n. n + total (room k most h) n ≤ all_room k most g) (sym same) (sum (length g.nodes) (total (room k most h) (length g.nodes)) (total (room k most g) (length g.nodes)) (total_le (room k most h) (room k most g) (length g.nodes) room_less))
+        subst (λ n. n + total (room k most h) n ≤ all_room k most g) (sym same)
+        (sum (length g.nodes) (total (room k most h) (length g.nodes)) (total (room k most g) (length g.nodes))
+        (total_le (room k most h) (room k most g) (length g.nodes) room_less))
       where
         sum : (n a b : ℕ) → a ≤ b → n + a ≤ n + b
         sum n a b le = omega arith
 
-    module _ (x : ℕ) (c : Concept) (p : Role × Concept) (lt : x < length g.nodes) (more : length h.nodes ≡ length g.nodes + 1) (up : parent_of h (length g.nodes) ≡ Some x) (has : has_concept (label_at g x) c ≡ true) (part : some_part c ≡ Some p) (free : is_blocked k g x ≡ false) (alone : some_below (length g.nodes) (serves k g p.0 p.1 x) ≡ false) (near : is_neighbour k h p.0 x (length g.nodes) ≡ true) (there : has_concept (label_at h (length g.nodes)) p.1 ≡ true) where
+    module _ (x : ℕ) (c : Concept) (p : Role × Concept) (lt : x < length g.nodes) (more : length h.nodes ≡ length g.nodes + 1)
+        (up : parent_of h (length g.nodes) ≡ Some x) (has : has_concept (label_at g x) c ≡ true) (part : some_part c ≡ Some p) (free : is_blocked k g x ≡ false)
+        (alone : some_below (length g.nodes) (serves k g p.0 p.1 x) ≡ false) (near : is_neighbour k h p.0 x (length g.nodes) ≡ true)
+        (there : has_concept (label_at h (length g.nodes)) p.1 ≡ true) where
       childless : has_child k g x c ≡ false
       childless = false_from_ne_true (has_child k g x c) (λ is. none (sym (ap (λ o. passes o (λ p. some_below (length g.nodes) (is_child k g p x))) part) ∙ is))
         where
           none : some_below (length g.nodes) (is_child k g p x) ≡ true → ⊥
           none is =
               let found = some_below_found (is_child k g p x) (length g.nodes) is in
-              let one = and_parts (passes (parent_of g found.0) (λ z. z == x)) (is_neighbour k g p.0 x found.0 && has_concept (label_at g found.0) p.1) found.2 in
+              let one = and_parts (passes (parent_of g found.0) (λ z. z == x)) (is_neighbour k g p.0 x found.0 && has_concept (label_at g found.0) p.1)
+              found.2 in
               let two = and_parts (is_neighbour k g p.0 x found.0) (has_concept (label_at g found.0) p.1) one.1 in
               let open_there : is_indirectly_blocked k g found.0 ≡ false = indirectly-some k g down found.0 x (is_same (parent_of g found.0) x one.0) ∙ free in
-              both (some_below_passes (serves k g p.0 p.1 x) found.0 (length g.nodes) found.1
+              not_both (some_below_passes (serves k g p.0 p.1 x) found.0 (length g.nodes) found.1
               (and_from (is_neighbour k g p.0 x found.0) (not (is_indirectly_blocked k g found.0) && has_concept (label_at g found.0) p.1) two.0
-              (and_from (not (is_indirectly_blocked k g found.0)) (has_concept (label_at g found.0) p.1) (not_from_false (is_indirectly_blocked k g found.0) open_there) two.1))) alone
+              (and_from (not (is_indirectly_blocked k g found.0)) (has_concept (label_at g found.0) p.1)
+              (not_from_false (is_indirectly_blocked k g found.0) open_there) two.1))) alone
 
       child_now : has_child k h x c ≡ true
       child_now =
           ap (λ o. passes o (λ p. some_below (length h.nodes) (is_child k h p x))) part
           ∙ some_below_passes (is_child k h p x) (length g.nodes) (length h.nodes) (below (length g.nodes) (length h.nodes) more)
-          (and_from (passes (parent_of h (length g.nodes)) (λ z. z == x)) (is_neighbour k h p.0 x (length g.nodes) && has_concept (label_at h (length g.nodes)) p.1) (same_is (parent_of h (length g.nodes)) x up)
+          (and_from (passes (parent_of h (length g.nodes)) (λ z. z == x))
+          (is_neighbour k h p.0 x (length g.nodes) && has_concept (label_at h (length g.nodes)) p.1) (same_is (parent_of h (length g.nodes)) x up)
           (and_from (is_neighbour k h p.0 x (length g.nodes)) (has_concept (label_at h (length g.nodes)) p.1) near there))
         where
           below : (a b : ℕ) → b ≡ a + 1 → a < b
@@ -154,7 +163,8 @@ module _ (k : Theory) (g h : Graph) (step : IsStep k g h) (down : ParentsBelow g
       used_more : used k g x + 1 ≤ used k h x
       used_more =
           let begins = step.labels x lt in
-          subst (λ l. used k g x + 1 ≤ tally (has_child k h x) l) (sym begins.1) (tally_more (has_child k g x) (has_child k h x) (has_child_up x) (label_at g x) begins.0 c has childless child_now)
+          subst (λ l. used k g x + 1 ≤ tally (has_child k h x) l) (sym begins.1)
+          (tally_more (has_child k g x) (has_child k h x) (has_child_up x) (label_at g x) begins.0 c has childless child_now)
 
       used_few : used k h x ≤ class_count k
       used_few =
@@ -166,8 +176,10 @@ module _ (k : Theory) (g h : Graph) (step : IsStep k g h) (down : ParentsBelow g
 
       room_taken : room k most h x + tree_size (class_count k) (most - depth g x) ≤ room k most g x
       room_taken =
-          subst (λ d. (class_count k - used k h x) * tree_size (class_count k) (most - d) + tree_size (class_count k) (most - depth g x) ≤ room k most g x) (sym (depth_same x lt))
-          (share (class_count k - used k h x) (class_count k - used k g x) (tree_size (class_count k) (most - depth g x)) (less (class_count k) (used k g x) (used k h x) used_more used_few))
+          subst (λ d. (class_count k - used k h x) * tree_size (class_count k) (most - d) + tree_size (class_count k) (most - depth g x) ≤ room k most g x)
+          (sym (depth_same x lt))
+          (share (class_count k - used k h x) (class_count k - used k g x) (tree_size (class_count k) (most - depth g x))
+          (less (class_count k) (used k g x) (used k h x) used_more used_few))
         where
           less : (a b c : ℕ) → b + 1 ≤ c → c ≤ a → suc (a - c) ≤ a - b
           less a b c le low = omega arith
@@ -181,9 +193,12 @@ module _ (k : Theory) (g h : Graph) (step : IsStep k g h) (down : ParentsBelow g
       module _ (low : depth g x < most) where
         room_new : room k most h (length g.nodes) + 1 ≤ tree_size (class_count k) (most - depth g x)
         room_new =
-            subst (λ d. (class_count k - used k h (length g.nodes)) * tree_size (class_count k) (most - d) + 1 ≤ tree_size (class_count k) (most - depth g x)) (sym depth_new)
-            (subst (λ z. (class_count k - used k h (length g.nodes)) * tree_size (class_count k) (most - suc (depth g x)) + 1 ≤ tree_size (class_count k) z) (one most (depth g x) low)
-            (sum ((class_count k - used k h (length g.nodes)) * tree_size (class_count k) (most - suc (depth g x))) (class_count k * tree_size (class_count k) (most - suc (depth g x)))
+            subst (λ d. (class_count k - used k h (length g.nodes)) * tree_size (class_count k) (most - d) + 1 ≤ tree_size (class_count k) (most - depth g x))
+            (sym depth_new)
+            (subst (λ z. (class_count k - used k h (length g.nodes)) * tree_size (class_count k) (most - suc (depth g x)) + 1 ≤ tree_size (class_count k) z)
+            (one most (depth g x) low)
+            (sum ((class_count k - used k h (length g.nodes)) * tree_size (class_count k) (most - suc (depth g x)))
+            (class_count k * tree_size (class_count k) (most - suc (depth g x)))
             (mul-le-mul_right (tree_size (class_count k) (most - suc (depth g x))) (less (class_count k) (used k h (length g.nodes))))))
           where
             one : (a d : ℕ) → d < a → suc (a - suc d) ≡ a - d
@@ -198,7 +213,8 @@ module _ (k : Theory) (g h : Graph) (step : IsStep k g h) (down : ParentsBelow g
         larger_room : all_room k most h ≤ all_room k most g
         larger_room =
             subst (λ n. n + total (room k most h) n ≤ all_room k most g) (next (length g.nodes) ∙ sym more)
-            (sum (length g.nodes) (total (room k most h) (length g.nodes)) (room k most h (length g.nodes)) (tree_size (class_count k) (most - depth g x)) (total (room k most g) (length g.nodes)) room_new
+            (sum (length g.nodes) (total (room k most h) (length g.nodes)) (room k most h (length g.nodes)) (tree_size (class_count k) (most - depth g x))
+            (total (room k most g) (length g.nodes)) room_new
             (total_more (room k most h) (room k most g) (length g.nodes) x (tree_size (class_count k) (most - depth g x)) lt room_taken room_less))
           where
             next : (n : ℕ) → suc n ≡ n + 1

@@ -38,7 +38,8 @@ HasParts ds c = Within (occurrences c) ds × (length (occurrences c) ≤ length 
 le_self : (n : ℕ) → n ≤ n
 le_self n = omega arith
 
-top : (d : Concept) (rest : List Concept) → occurrences d ≡ d ∷ rest → ((c : Concept) → has_concept rest c ≡ true → HasParts rest c) → (c : Concept) → has_concept (d ∷ rest) c ≡ true → HasParts (d ∷ rest) c
+top : (d : Concept) (rest : List Concept) → occurrences d ≡ d ∷ rest → ((c : Concept) → has_concept rest c ≡ true → HasParts rest c) → (c : Concept)
+    → has_concept (d ∷ rest) c ≡ true → HasParts (d ∷ rest) c
 top d rest is inside c h = elim (or_cases (same_concept d c) (has_concept rest c) h) [
   | inl here ↦ subst (HasParts (d ∷ rest)) (same_concept-equal d c here)
       ((λ e there. subst (λ l. has_concept l e ≡ true) is there), subst (λ l. length (occurrences d) ≤ length l) is (le_self (length (occurrences d))))
@@ -53,10 +54,15 @@ top d rest is inside c h = elim (or_cases (same_concept d c) (has_concept rest c
 leaf : (c : Concept) → has_concept [] c ≡ true → HasParts [] c
 leaf c h = cc
 
-both : (cs ds : List Concept) → ((c : Concept) → has_concept cs c ≡ true → HasParts cs c) → ((c : Concept) → has_concept ds c ≡ true → HasParts ds c) → (c : Concept) → has_concept (cs ++ ds) c ≡ true → HasParts (cs ++ ds) c
+both : (cs ds : List Concept) → ((c : Concept) → has_concept cs c ≡ true → HasParts cs c) → ((c : Concept) → has_concept ds c ≡ true → HasParts ds c)
+    → (c : Concept) → has_concept (cs ++ ds) c ≡ true → HasParts (cs ++ ds) c
 both cs ds first second c h = elim (in_one cs ds c h) [
-  | inl one ↦ let parts = first c one in ((λ e there. in_first cs ds e (parts.0 e there)), left (length (occurrences c)) (length cs) (length ds) (length (cs ++ ds)) parts.1 (length-append cs ds))
-  | inr two ↦ let parts = second c two in ((λ e there. in_second cs ds e (parts.0 e there)), right (length (occurrences c)) (length cs) (length ds) (length (cs ++ ds)) parts.1 (length-append cs ds))
+  | inl one ↦ let parts = first c one in
+      ((λ e there. in_first cs ds e (parts.0 e there)), left (length (occurrences c)) (length cs) (length ds) (length (cs ++ ds)) parts.1 (length-append cs ds))
+  | inr two ↦ let parts = second c two in (
+    (λ e there. in_second cs ds e (parts.0 e there)),
+    right (length (occurrences c)) (length cs) (length ds) (length (cs ++ ds)) parts.1 (length-append cs ds),
+  )
 ]
   where
     left : (a x y z : ℕ) → a ≤ x → z ≡ x + y → a ≤ z
@@ -122,7 +128,8 @@ one_at_least c = go (occurrences c) (occurs c)
 
 pub members_few : (cs : Concepts) → length (members_in cs) ≤ length (member_occurrences cs)
 members_few no_concept = omega arith
-members_few (also_concept c cs) = sum (length (occurrences c)) (length (members_in cs)) (length (member_occurrences cs)) (length (occurrences c ++ member_occurrences cs)) (one_at_least c) (members_few cs) (length-append (occurrences c) (member_occurrences cs))
+members_few (also_concept c cs) = sum (length (occurrences c)) (length (members_in cs)) (length (member_occurrences cs))
+    (length (occurrences c ++ member_occurrences cs)) (one_at_least c) (members_few cs) (length-append (occurrences c) (member_occurrences cs))
   where
     sum : (a x y z : ℕ) → 1 ≤ a → x ≤ y → z ≡ a + y → suc x ≤ z
     sum a x y z one le total = omega arith
@@ -134,7 +141,8 @@ pub map_within : {X : Type 0} (class_of : X → Concept) (p : X → Bool) (xs : 
 map_within class_of p [] e h = h
 map_within class_of p (x ∷ xs) e h = go (p x) h (map_within class_of p xs e)
   where
-    go : (b : Bool) → has_concept (map class_of (cond b (x ∷ filter p xs) (filter p xs))) e ≡ true → (has_concept (map class_of (filter p xs)) e ≡ true → has_concept (map class_of xs) e ≡ true) → has_concept (map class_of (x ∷ xs)) e ≡ true
+    go : (b : Bool) → has_concept (map class_of (cond b (x ∷ filter p xs) (filter p xs))) e ≡ true
+        → (has_concept (map class_of (filter p xs)) e ≡ true → has_concept (map class_of xs) e ≡ true) → has_concept (map class_of (x ∷ xs)) e ≡ true
     go true in_all rest = elim (or_cases (same_concept (class_of x) e) (has_concept (map class_of (filter p xs)) e) in_all) [
       | inl same ↦ or_left (same_concept (class_of x) e) (has_concept (map class_of xs) e) same
       | inr later ↦ or_right (same_concept (class_of x) e) (has_concept (map class_of xs) e) (rest later)
@@ -151,7 +159,8 @@ module _ (k : Theory) where
 
   pub general_within : Within k.general (class_occurrences k)
   general_within e h =
-      given_within e (in_second (map (λ a. a.1) k.assertions) (map (λ a. a.1) k.unfoldings ++ k.general) e (in_second (map (λ a. a.1) k.unfoldings) k.general e h))
+      given_within e (in_second (map (λ a. a.1) k.assertions) (map (λ a. a.1) k.unfoldings ++ k.general) e
+      (in_second (map (λ a. a.1) k.unfoldings) k.general e h))
 
   pub unfoldings_within : (word : WordId) → Within (unfoldings_of k word) (class_occurrences k)
   unfoldings_within word e h =
@@ -166,10 +175,12 @@ module _ (k : Theory) where
   option_same : {X : Type 0} (a b : X) → Some a ≡ Some b → a ≡ b
   option_same a b e = cc
 
-  pub intersection_within : (c : Concept) (cs : List Concept) → has_concept (class_occurrences k) c ≡ true → intersection_part c ≡ Some cs → Within cs (class_occurrences k)
+  pub intersection_within : (c : Concept) (cs : List Concept) → has_concept (class_occurrences k) c ≡ true → intersection_part c ≡ Some cs
+      → Within cs (class_occurrences k)
   intersection_within (IntersectionOf ds) cs h is e there =
       let same = option_same (members_in ds) cs is in
-      (parts_of (IntersectionOf ds) h).0 e (below (IntersectionOf ds) (member_occurrences ds) e (members_occur ds e (subst (λ l. has_concept l e ≡ true) (sym same) there)))
+      (parts_of (IntersectionOf ds) h).0 e
+      (below (IntersectionOf ds) (member_occurrences ds) e (members_occur ds e (subst (λ l. has_concept l e ≡ true) (sym same) there)))
   intersection_within _ cs h is e there = cc
 
   pub union_within : (c : Concept) (cs : List Concept) → has_concept (class_occurrences k) c ≡ true → union_part c ≡ Some cs → Within cs (class_occurrences k)
@@ -181,20 +192,25 @@ module _ (k : Theory) where
   pub union_few : (c : Concept) (cs : List Concept) → has_concept (class_occurrences k) c ≡ true → union_part c ≡ Some cs → length cs ≤ class_count k
   union_few (UnionOf ds) cs h is =
       let same = option_same (members_in ds) cs is in
-      subst (λ l. length l ≤ class_count k) same (sum (length (members_in ds)) (length (member_occurrences ds)) (class_count k) (members_few ds) (parts_of (UnionOf ds) h).1)
+      subst (λ l. length l ≤ class_count k) same
+      (sum (length (members_in ds)) (length (member_occurrences ds)) (class_count k) (members_few ds) (parts_of (UnionOf ds) h).1)
     where
       sum : (a x y : ℕ) → a ≤ x → suc x ≤ y → a ≤ y
       sum a x y le lt = omega arith
   union_few _ cs h is = cc
 
-  pub some_within : (c : Concept) (p : Role × Concept) → has_concept (class_occurrences k) c ≡ true → some_part c ≡ Some p → has_concept (class_occurrences k) p.1 ≡ true
+  pub some_within : (c : Concept) (p : Role × Concept) → has_concept (class_occurrences k) c ≡ true → some_part c ≡ Some p
+      → has_concept (class_occurrences k) p.1 ≡ true
   some_within (SomeValuesFrom role d) p h is =
       let same = option_same (role, d) p is in
-      subst (λ q. has_concept (class_occurrences k) q.1 ≡ true) same ((parts_of (SomeValuesFrom role d) h).0 d (below (SomeValuesFrom role d) (occurrences d) d (occurs d)))
+      subst (λ q. has_concept (class_occurrences k) q.1 ≡ true) same
+      ((parts_of (SomeValuesFrom role d) h).0 d (below (SomeValuesFrom role d) (occurrences d) d (occurs d)))
   some_within _ p h is = cc
 
-  pub all_class_within : (c : Concept) (p : Role × Concept) → has_concept (class_occurrences k) c ≡ true → all_part c ≡ Some p → has_concept (class_occurrences k) p.1 ≡ true
+  pub all_class_within : (c : Concept) (p : Role × Concept) → has_concept (class_occurrences k) c ≡ true → all_part c ≡ Some p
+      → has_concept (class_occurrences k) p.1 ≡ true
   all_class_within (AllValuesFrom role d) p h is =
       let same = option_same (role, d) p is in
-      subst (λ q. has_concept (class_occurrences k) q.1 ≡ true) same ((parts_of (AllValuesFrom role d) h).0 d (below (AllValuesFrom role d) (occurrences d) d (occurs d)))
+      subst (λ q. has_concept (class_occurrences k) q.1 ≡ true) same
+      ((parts_of (AllValuesFrom role d) h).0 d (below (AllValuesFrom role d) (occurrences d) d (occurs d)))
   all_class_within _ p h is = cc

@@ -15,7 +15,8 @@ use Rattle.tableau_bounds.specs.Enough.{occurrences, member_occurrences, all_occ
 use Rattle.tableau_bounds.proofs.Parts.{in_one}
 use Rattle.tableau_bounds.proofs.Stepping.{UnionsHaveMembers}
 
-top : (d : Concept) (rest : List Concept) → is_wide d ≡ true → ((c : Concept) → has_concept rest c ≡ true → is_wide c ≡ true) → (c : Concept) → has_concept (d ∷ rest) c ≡ true → is_wide c ≡ true
+top : (d : Concept) (rest : List Concept) → is_wide d ≡ true → ((c : Concept) → has_concept rest c ≡ true → is_wide c ≡ true) → (c : Concept)
+    → has_concept (d ∷ rest) c ≡ true → is_wide c ≡ true
 top d rest wide inside c h = elim (or_cases (same_concept d c) (has_concept rest c) h) [
   | inl same ↦ subst (λ z. is_wide z ≡ true) (same_concept-equal d c same) wide
   | inr later ↦ inside c later
@@ -30,7 +31,8 @@ mutual
   wide_parts Everything wide c h = top Everything [] wide leaf c h
   wide_parts (Atomic word) wide c h = top (Atomic word) [] wide leaf c h
   wide_parts (ComplementOf d) wide c h = top (ComplementOf d) (occurrences d) wide (wide_parts d wide) c h
-  wide_parts (IntersectionOf ds) wide c h = top (IntersectionOf ds) (member_occurrences ds) wide (wide_members ds (and_parts (has_two ds) (each_wide ds) wide).1) c h
+  wide_parts (IntersectionOf ds) wide c h =
+      top (IntersectionOf ds) (member_occurrences ds) wide (wide_members ds (and_parts (has_two ds) (each_wide ds) wide).1) c h
   wide_parts (UnionOf ds) wide c h = top (UnionOf ds) (member_occurrences ds) wide (wide_members ds (and_parts (has_two ds) (each_wide ds) wide).1) c h
   wide_parts (SomeValuesFrom role d) wide c h = top (SomeValuesFrom role d) (occurrences d) wide (wide_parts d wide) c h
   wide_parts (AllValuesFrom role d) wide c h = top (AllValuesFrom role d) (occurrences d) wide (wide_parts d wide) c h
@@ -62,7 +64,8 @@ given_plain k plain =
     let asserted : list_all is_plain (map (λ e. e.1) k.assertions) ≡ true = list_all-map is_plain (λ e. e.1) k.assertions ∙ one.0 in
     list_all-append is_plain (map (λ e. e.1) k.assertions) _
     ∙ and_from (list_all is_plain (map (λ e. e.1) k.assertions)) _ asserted
-    (list_all-append is_plain (map (λ e. e.1) k.unfoldings) k.general ∙ and_from (list_all is_plain (map (λ e. e.1) k.unfoldings)) (list_all is_plain k.general) unfolded two.1)
+    (list_all-append is_plain (map (λ e. e.1) k.unfoldings) k.general
+    ∙ and_from (list_all is_plain (map (λ e. e.1) k.unfoldings)) (list_all is_plain k.general) unfolded two.1)
 
 has_member : (c : Concept) (cs : List Concept) → is_wide c ≡ true → union_part c ≡ Some cs → 0 < length cs
 has_member (UnionOf no_concept) cs wide part = cc

@@ -29,7 +29,8 @@ module _ (k : Theory) (g h : Graph) (step : IsStep k g h) where
       inner p None e = cc
       inner p (Some y) e = step.edges p.0 x y e
 
-      go : (o : Option (Role × WordId)) → passes o (λ p. passes (node_of k p.1) (is_neighbour k g p.0 x)) ≡ true → passes o (λ p. passes (node_of k p.1) (is_neighbour k h p.0 x)) ≡ true
+      go : (o : Option (Role × WordId)) → passes o (λ p. passes (node_of k p.1) (is_neighbour k g p.0 x)) ≡ true
+          → passes o (λ p. passes (node_of k p.1) (is_neighbour k h p.0 x)) ≡ true
       go None e = cc
       go (Some p) e = inner p (node_of k p.1) e
 
@@ -47,7 +48,8 @@ module _ (k : Theory) (g h : Graph) (step : IsStep k g h) where
   node_up : (y : ℕ) → y < length g.nodes → node_rank k g y ≤ node_rank k h y
   node_up y lt =
       let begins = step.labels y lt in
-      sum (length (label_at g y)) (length (label_at h y)) (tally (is_linked k g y) (label_at g y)) (tally (is_linked k h y) (label_at h y)) (begun_length y begins) (linked_more y begins)
+      sum (length (label_at g y)) (length (label_at h y)) (tally (is_linked k g y) (label_at g y)) (tally (is_linked k h y) (label_at h y))
+      (begun_length y begins) (linked_more y begins)
     where
       sum : (a b x z : ℕ) → a ≤ b → x ≤ z → (1 + a) + x ≤ (1 + b) + z
       sum a b x z le up = omega arith
@@ -73,21 +75,28 @@ module _ (k : Theory) (g h : Graph) (step : IsStep k g h) where
 
       go : Move k g h → rank k g + 1 ≤ rank k h
       go (label_grows x lt same more) =
-          same_nodes x lt same (longer (length (label_at g x)) (length (label_at h x)) (tally (is_linked k g x) (label_at g x)) (tally (is_linked k h x) (label_at h x)) more (linked_more x (step.labels x lt)))
+          same_nodes x lt same (longer (length (label_at g x)) (length (label_at h x)) (tally (is_linked k g x) (label_at g x))
+          (tally (is_linked k h x) (label_at h x)) more (linked_more x (step.labels x lt)))
       go (edge_comes x c lt same has apart joined) =
           let begins = step.labels x lt in
-          same_nodes x lt same (linked (length (label_at g x)) (length (label_at h x)) (tally (is_linked k g x) (label_at g x)) (tally (is_linked k h x) (label_at h x)) (begun_length x begins)
-          (subst (λ l. tally (is_linked k g x) (label_at g x) + 1 ≤ tally (is_linked k h x) l) (sym begins.1) (tally_more (is_linked k g x) (is_linked k h x) (linked_up x) (label_at g x) begins.0 c has apart joined)))
+          same_nodes x lt same (linked (length (label_at g x)) (length (label_at h x)) (tally (is_linked k g x) (label_at g x))
+          (tally (is_linked k h x) (label_at h x)) (begun_length x begins)
+          (subst (λ l. tally (is_linked k g x) (label_at g x) + 1 ≤ tally (is_linked k h x) l) (sym begins.1)
+          (tally_more (is_linked k g x) (is_linked k h x) (linked_up x) (label_at g x) begins.0 c has apart joined)))
       go (node_comes x c p lt more up has part free alone near there) =
           subst (λ n. rank k g + 1 ≤ total (node_rank k h) n) (next (length g.nodes) ∙ sym more)
-          (larger (rank k g) (total (node_rank k h) (length g.nodes)) (length (label_at h (length g.nodes))) (tally (is_linked k h (length g.nodes)) (label_at h (length g.nodes)))
+          (larger (rank k g) (total (node_rank k h) (length g.nodes)) (length (label_at h (length g.nodes)))
+          (tally (is_linked k h (length g.nodes)) (label_at h (length g.nodes)))
           (total_le (node_rank k g) (node_rank k h) (length g.nodes) node_up))
 
 -- labels within the class occurrences, each class once, bound the rank by the nodes
-pub rank_most : (k : Theory) (g : Graph) → ((y : ℕ) → Within (label_at g y) (class_occurrences k)) → ((y : ℕ) → Unique (label_at g y)) → (n : ℕ) → length g.nodes ≤ n → rank k g ≤ n * (2 * class_count k + 1)
+pub rank_most : (k : Theory) (g : Graph) → ((y : ℕ) → Within (label_at g y) (class_occurrences k)) → ((y : ℕ) → Unique (label_at g y)) → (n : ℕ)
+    → length g.nodes ≤ n → rank k g ≤ n * (2 * class_count k + 1)
 rank_most k g within unique n few =
     through (rank k g) (length g.nodes * (2 * class_count k + 1)) (n * (2 * class_count k + 1))
-    (total_most (node_rank k g) (length g.nodes) (2 * class_count k + 1) (λ y lt. each (length (label_at g y)) (tally (is_linked k g y) (label_at g y)) (class_count k) (unique_fits (label_at g y) (class_occurrences k) (unique y) (within y)) (tally_most (is_linked k g y) (label_at g y))))
+    (total_most (node_rank k g) (length g.nodes) (2 * class_count k + 1)
+    (λ y lt. each (length (label_at g y)) (tally (is_linked k g y) (label_at g y)) (class_count k)
+    (unique_fits (label_at g y) (class_occurrences k) (unique y) (within y)) (tally_most (is_linked k g y) (label_at g y))))
     (mul-le-mul_right (2 * class_count k + 1) few)
   where
     through : (a b c : ℕ) → a ≤ b → b ≤ c → a ≤ c

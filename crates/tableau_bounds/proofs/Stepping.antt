@@ -3,7 +3,7 @@ use Rattle.std.proofs.Common.{◌≡◌, ℕ, zero, suc, ◌+◌, ◌<◌, ◌�
 use Rattle.std.specs.Prelude.{not, nat_lt, option_to_list}
 use Rattle.std.specs.List.{list_any}
 use Rattle.std.specs.Option.{option_map_or, option_and_then, option_or}
-use Rattle.std.proofs.lemmas.Bool.{cases_eq, cases_lt, and_parts, and_from, or_cases, or_left, or_right, eqb-true, eq-eqb}
+use Rattle.std.proofs.lemmas.Bool.{cases_eq, cases_lt, and_parts, and_from, or_cases, or_left, or_right, eqb-true, eq-eqb, not-true}
 use Rattle.std.proofs.lemmas.Option.{slice_get_within, slice_get_past}
 use Rattle.std.proofs.lemmas.List.Folds.{list_any-append}
 use Rattle.wiki_base.specs.declared.numbers.WordId.{WordId}
@@ -27,7 +27,7 @@ use Rattle.tableau_rules.specs.Blocking.{is_blocked, is_indirectly_blocked}
 use Rattle.tableau_rules.specs.Rules.{lacks_some, lacks_all, unfoldings_of, open_members, unit_member, serves, needs, row, site, applies, with_classes, adding, with_edge, with_node, choices_for, choices, effect, after}
 use Rattle.tableau_bounds.specs.Enough.{class_occurrences}
 use Rattle.tableau_bounds.proofs.Parts.{Within, general_within, unfoldings_within, intersection_within, union_within, some_within, all_class_within}
-use Rattle.tableau_bounds.proofs.Labels.{get_set_same, get_set_other, get_push_old, get_push_new, there_is, has_here, filter_within, one_within, new_classes, only_classes, BeginsWith, with_classes_begins, lacking_grows, lacks_one, lacks_member, not_true, Unique, unique_classes}
+use Rattle.tableau_bounds.proofs.Labels.{get_set_same, get_set_other, get_push_old, get_push_new, there_is, has_here, filter_within, one_within, new_classes, only_classes, BeginsWith, with_classes_begins, lacking_grows, lacks_one, lacks_member, Unique, unique_classes}
 
 -- whether the node of a value class is a neighbour by its role
 abbrev pub is_linked : Theory → Graph → ℕ → Concept → Bool
@@ -36,8 +36,11 @@ is_linked k g x c = passes (value_part c) (λ p. passes (node_of k p.1) (is_neig
 -- a label got longer, a value class got its edge, or a class of some successor got its node
 pub data Move (k : Theory) (g h : Graph) : Type 0 where
   label_grows : (x : ℕ) → x < length g.nodes → length h.nodes ≡ length g.nodes → length (label_at g x) < length (label_at h x) → Move k g h
-  edge_comes : (x : ℕ) (c : Concept) → x < length g.nodes → length h.nodes ≡ length g.nodes → has_concept (label_at g x) c ≡ true → is_linked k g x c ≡ false → is_linked k h x c ≡ true → Move k g h
-  node_comes : (x : ℕ) (c : Concept) (p : Role × Concept) → x < length g.nodes → length h.nodes ≡ length g.nodes + 1 → parent_of h (length g.nodes) ≡ Some x → has_concept (label_at g x) c ≡ true → some_part c ≡ Some p → is_blocked k g x ≡ false → some_below (length g.nodes) (serves k g p.0 p.1 x) ≡ false → is_neighbour k h p.0 x (length g.nodes) ≡ true → has_concept (label_at h (length g.nodes)) p.1 ≡ true → Move k g h
+  edge_comes : (x : ℕ) (c : Concept) → x < length g.nodes → length h.nodes ≡ length g.nodes → has_concept (label_at g x) c ≡ true → is_linked k g x c ≡ false
+      → is_linked k h x c ≡ true → Move k g h
+  node_comes : (x : ℕ) (c : Concept) (p : Role × Concept) → x < length g.nodes → length h.nodes ≡ length g.nodes + 1 → parent_of h (length g.nodes) ≡ Some x
+      → has_concept (label_at g x) c ≡ true → some_part c ≡ Some p → is_blocked k g x ≡ false → some_below (length g.nodes) (serves k g p.0 p.1 x) ≡ false
+      → is_neighbour k h p.0 x (length g.nodes) ≡ true → has_concept (label_at h (length g.nodes)) p.1 ≡ true → Move k g h
 
 abbrev pub ParentsBelow : Graph → Type 0
 ParentsBelow g = (y p : ℕ) → parent_of g y ≡ Some p → p < y
@@ -57,7 +60,8 @@ pub record IsStep (k : Theory) (g h : Graph) : Type 0 where
 pub has_node : (g : Graph) (x : ℕ) (c : Concept) → has_concept (label_at g x) c ≡ true → x < length g.nodes
 has_node g x c h = elim (cases_lt x (length g.nodes)) [
   | inl lt ↦ lt
-  | inr past ↦ (let none : has_concept (label_at g x) c ≡ false = ap (λ o. has_concept (option_map_or (λ v. v.label) o []) c) (slice_get_past g.nodes x past) in absurd (both h none))
+  | inr past ↦ (let none : has_concept (label_at g x) c ≡ false = ap (λ o. has_concept (option_map_or (λ v. v.label) o []) c) (slice_get_past g.nodes x past) in
+      absurd (both h none))
 ]
   where
     both : {b : Bool} → b ≡ true → b ≡ false → ⊥
@@ -72,7 +76,8 @@ module _ (k : Theory) (g : Graph) (x : ℕ) (cs : List Concept) (v : Vertex) (at
   relabelled = record { nodes = set g.nodes x (record { parent = v.parent; label = with_classes v.label cs }); edges = g.edges }
 
   adding_is : adding g x cs ≡ relabelled
-  adding_is = ap (λ o. option_map_or (λ v. record { nodes = set g.nodes x (record { parent = v.parent; label = with_classes v.label cs }); edges = g.edges }) o g) at
+  adding_is = ap (λ o. option_map_or (λ v. record { nodes = set g.nodes x (record { parent = v.parent; label = with_classes v.label cs }); edges = g.edges }) o
+      g) at
 
   count : length relabelled.nodes ≡ length g.nodes
   count = length-set g.nodes x (record { parent = v.parent; label = with_classes v.label cs })
@@ -88,7 +93,8 @@ module _ (k : Theory) (g : Graph) (x : ℕ) (cs : List Concept) (v : Vertex) (at
   parent_same : (y : ℕ) → parent_of relabelled y ≡ parent_of g y
   parent_same y = elim (cases_eq x y) [
     | inl same ↦ subst (λ z. parent_of relabelled z ≡ parent_of g z) same
-        (ap (λ o. option_and_then (λ u. u.parent) o) (get_set_same g.nodes x v (record { parent = v.parent; label = with_classes v.label cs }) at) ∙ sym (ap (λ o. option_and_then (λ u. u.parent) o) at))
+        (ap (λ o. option_and_then (λ u. u.parent) o) (get_set_same g.nodes x v (record { parent = v.parent; label = with_classes v.label cs }) at)
+        ∙ sym (ap (λ o. option_and_then (λ u. u.parent) o) at))
     | inr other ↦ ap (λ o. option_and_then (λ u. u.parent) o) (get_set_other g.nodes x y (record { parent = v.parent; label = with_classes v.label cs }) other)
   ]
 
@@ -98,7 +104,8 @@ module _ (k : Theory) (g : Graph) (x : ℕ) (cs : List Concept) (v : Vertex) (at
     parents = λ y lt. parent_same y;
     down = λ down y p up. down y p (sym (parent_same y) ∙ up);
     labels = λ y lt. elim (cases_eq x y) [
-      | inl same ↦ subst (λ z. BeginsWith (label_at g z) (label_at relabelled z)) same (subst (BeginsWith (label_at g x)) (sym label_same) (with_classes_begins (label_at g x) cs))
+      | inl same ↦ subst (λ z. BeginsWith (label_at g z) (label_at relabelled z)) same
+          (subst (BeginsWith (label_at g x)) (sym label_same) (with_classes_begins (label_at g x) cs))
       | inr other ↦ begins_same (label_at g y) (label_at relabelled y) (label_other y other)
     ];
     edges = λ role y z h. h;
@@ -111,35 +118,47 @@ module _ (k : Theory) (g : Graph) (x : ℕ) (cs : List Concept) (v : Vertex) (at
       | inl same ↦ subst (λ z. Unique (label_at relabelled z)) same (subst Unique (sym label_same) (unique_classes (label_at g x) cs (old x)))
       | inr other ↦ subst Unique (sym (label_other y other)) (old y)
     ];
-    move = label_grows x (slice_get_within g.nodes x v at) count (subst (λ l. length (label_at g x) < length l) (sym label_same) (lacking_grows (label_at g x) cs lacks));
+    move = label_grows x (slice_get_within g.nodes x v at) count
+        (subst (λ l. length (label_at g x) < length l) (sym label_same) (lacking_grows (label_at g x) cs lacks));
   }
     where
       same_le : (a b : ℕ) → b ≡ a → a ≤ b
       same_le a b e = omega arith
 
-pub adding_step : (k : Theory) (g : Graph) (x : ℕ) (cs : List Concept) → x < length g.nodes → lacks_some (label_at g x) cs ≡ true → Within cs (class_occurrences k) → IsStep k g (adding g x cs)
+pub adding_step : (k : Theory) (g : Graph) (x : ℕ) (cs : List Concept) → x < length g.nodes → lacks_some (label_at g x) cs ≡ true
+    → Within cs (class_occurrences k) → IsStep k g (adding g x cs)
 adding_step k g x cs lt lacks inside =
     let v = there_is g.nodes x lt in
     subst (IsStep k g) (sym (adding_is k g x cs v.0 v.1)) (relabelled_step k g x cs v.0 v.1 lacks inside)
 
-neighbour_more : (k : Theory) (es : List Edge) (e : Edge) (role : Role) (x y : ℕ) → list_any (makes_neighbour k role x y) es ≡ true → list_any (makes_neighbour k role x y) (es ++ e ∷ []) ≡ true
-neighbour_more k es e role x y h = list_any-append (makes_neighbour k role x y) es (e ∷ []) ∙ or_left (list_any (makes_neighbour k role x y) es) (list_any (makes_neighbour k role x y) (e ∷ [])) h
+neighbour_more : (k : Theory) (es : List Edge) (e : Edge) (role : Role) (x y : ℕ) → list_any (makes_neighbour k role x y) es ≡ true
+    → list_any (makes_neighbour k role x y) (es ++ e ∷ []) ≡ true
+neighbour_more k es e role x y h = list_any-append (makes_neighbour k role x y) es (e ∷ [])
+    ∙ or_left (list_any (makes_neighbour k role x y) es) (list_any (makes_neighbour k role x y) (e ∷ [])) h
 
 -- an edge makes its ends neighbours by its role
-neighbour_new : (k : Theory) (es : List Edge) (role : Role) (x y : ℕ) → (let e : Edge = record { from = x; role = role; to = y } in list_any (makes_neighbour k role x y) (es ++ e ∷ []) ≡ true)
+neighbour_new : (k : Theory) (es : List Edge) (role : Role) (x y : ℕ)
+    → (let e : Edge = record { from = x; role = role; to = y } in list_any (makes_neighbour k role x y) (es ++ e ∷ []) ≡ true)
 neighbour_new k es role x y =
     let e : Edge = record { from = x; role = role; to = y } in
-    let below : is_below k role role ≡ true = or_left (same_role role role) (list_any (λ p. same_role p.0 role && same_role p.1 role) k.hierarchy) (same_role-self role) in
-    let there : ((x == x) && ((y == y) && is_below k role role)) ≡ true = and_from (x == x) ((y == y) && is_below k role role) (eq-eqb x x refl) (and_from (y == y) (is_below k role role) (eq-eqb y y refl) below) in
-    let made : makes_neighbour k role x y e ≡ true = or_left ((x == x) && ((y == y) && is_below k role role)) ((e.from == y) && ((e.to == x) && is_below k (inverse e.role) role)) there in
-    list_any-append (makes_neighbour k role x y) es (e ∷ []) ∙ or_right (list_any (makes_neighbour k role x y) es) (list_any (makes_neighbour k role x y) (e ∷ [])) (or_left (makes_neighbour k role x y e) false made)
+    let below : is_below k role role ≡ true =
+    or_left (same_role role role) (list_any (λ p. same_role p.0 role && same_role p.1 role) k.hierarchy) (same_role-self role) in
+    let there : ((x == x) && ((y == y) && is_below k role role)) ≡ true =
+    and_from (x == x) ((y == y) && is_below k role role) (eq-eqb x x refl) (and_from (y == y) (is_below k role role) (eq-eqb y y refl) below) in
+    let made : makes_neighbour k role x y e ≡ true =
+    or_left ((x == x) && ((y == y) && is_below k role role)) ((e.from == y) && ((e.to == x) && is_below k (inverse e.role) role)) there in
+    list_any-append (makes_neighbour k role x y) es (e ∷ [])
+    ∙ or_right (list_any (makes_neighbour k role x y) es) (list_any (makes_neighbour k role x y) (e ∷ []))
+    (or_left (makes_neighbour k role x y e) false made)
 
-linked_is : (k : Theory) (h : Graph) (x : ℕ) (c : Concept) (p : Role × WordId) (z : ℕ) → value_part c ≡ Some p → node_of k p.1 ≡ Some z → is_linked k h x c ≡ is_neighbour k h p.0 x z
+linked_is : (k : Theory) (h : Graph) (x : ℕ) (c : Concept) (p : Role × WordId) (z : ℕ) → value_part c ≡ Some p → node_of k p.1 ≡ Some z
+    → is_linked k h x c ≡ is_neighbour k h p.0 x z
 linked_is k h x c p z value node =
     ap (λ o. passes o (λ p. passes (node_of k p.1) (is_neighbour k h p.0 x))) value ∙ ap (λ o. passes o (is_neighbour k h p.0 x)) node
 
 -- an edge is added
-with_edge_step : (k : Theory) (g : Graph) (x : ℕ) (c : Concept) (p : Role × WordId) (z : ℕ) → has_concept (label_at g x) c ≡ true → value_part c ≡ Some p → node_of k p.1 ≡ Some z → is_neighbour k g p.0 x z ≡ false → (let e : Edge = record { from = x; role = p.0; to = z } in IsStep k g (with_edge g e))
+with_edge_step : (k : Theory) (g : Graph) (x : ℕ) (c : Concept) (p : Role × WordId) (z : ℕ) → has_concept (label_at g x) c ≡ true → value_part c ≡ Some p
+    → node_of k p.1 ≡ Some z → is_neighbour k g p.0 x z ≡ false → (let e : Edge = record { from = x; role = p.0; to = z } in IsStep k g (with_edge g e))
 with_edge_step k g x c p z has value node apart =
     let e : Edge = record { from = x; role = p.0; to = z } in
     record {
@@ -150,7 +169,8 @@ with_edge_step k g x c p z has value node apart =
       edges = λ role y w h. neighbour_more k g.edges e role y w h;
       within = λ old. old;
       unique = λ old. old;
-      move = edge_comes x c (has_node g x c has) refl has (linked_is k g x c p z value node ∙ apart) (linked_is k (with_edge g e) x c p z value node ∙ neighbour_new k g.edges p.0 x z);
+      move = edge_comes x c (has_node g x c has) refl has (linked_is k g x c p z value node ∙ apart)
+          (linked_is k (with_edge g e) x c p z value node ∙ neighbour_new k g.edges p.0 x z);
     }
   where
     le_self : (n : ℕ) → n ≤ n
@@ -202,7 +222,8 @@ module _ (k : Theory) (g : Graph) (x : ℕ) (c : Concept) (p : Role × Concept) 
         | inr general ↦ general_within k e general
       ])
 
-  larger_step : some_part c ≡ Some p → has_concept (class_occurrences k) p.1 ≡ true → is_blocked k g x ≡ false → some_below (length g.nodes) (serves k g p.0 p.1 x) ≡ false → IsStep k g larger
+  larger_step : some_part c ≡ Some p → has_concept (class_occurrences k) p.1 ≡ true → is_blocked k g x ≡ false
+      → some_below (length g.nodes) (serves k g p.0 p.1 x) ≡ false → IsStep k g larger
   larger_step part there free alone = record {
     nodes = more (length g.nodes) (length larger.nodes) larger_count;
     parents = old_parent;
@@ -220,7 +241,8 @@ module _ (k : Theory) (g : Graph) (x : ℕ) (c : Concept) (p : Role × Concept) 
     within = λ old y. elim (where_is y) [
       | inl here ↦ subst (λ l. Within l (class_occurrences k)) (sym (old_label y here)) (old y)
       | inr rest ↦ elim rest [
-        | inl new ↦ subst (λ z. Within (label_at larger z) (class_occurrences k)) new (subst (λ l. Within l (class_occurrences k)) (sym new_label) (fresh_within there))
+        | inl new ↦ subst (λ z. Within (label_at larger z) (class_occurrences k)) new
+            (subst (λ l. Within l (class_occurrences k)) (sym new_label) (fresh_within there))
         | inr past ↦ subst (λ l. Within l (class_occurrences k)) (sym (past_label y past)) (λ e h. cc)
       ]
     ];
@@ -279,25 +301,33 @@ abbrev pub UnionsHaveMembers : Theory → Type 0
 UnionsHaveMembers k = (c : Concept) (cs : List Concept) → has_concept (class_occurrences k) c ≡ true → union_part c ≡ Some cs → 0 < length cs
 
 module _ (k : Theory) (g : Graph) (filled : UnionsHaveMembers k) (inside : (y : ℕ) → Within (label_at g y) (class_occurrences k)) where
-  one_member : (x : ℕ) (cs : List Concept) (d : Concept) (o : Option Concept) → o ≡ Some d → x < length g.nodes → lacks_all (label_at g x) cs ≡ true → has_concept cs d ≡ true → has_concept (class_occurrences k) d ≡ true → IsStep k g (adding g x (option_to_list o))
+  one_member : (x : ℕ) (cs : List Concept) (d : Concept) (o : Option Concept) → o ≡ Some d → x < length g.nodes → lacks_all (label_at g x) cs ≡ true
+      → has_concept cs d ≡ true → has_concept (class_occurrences k) d ≡ true → IsStep k g (adding g x (option_to_list o))
   one_member x cs d o is lt lacks has there =
       subst (λ q. IsStep k g (adding g x (option_to_list q))) (sym is)
       (adding_step k g x (d ∷ []) lt (lacks_one (label_at g x) d (lacks_member (label_at g x) cs d lacks has)) (one_within d (class_occurrences k) there))
 
-  effect_step : (r : Rule) (x : ℕ) (c : Concept) (y choice : ℕ) → has_concept (label_at g x) c ≡ true → row k g r x c ≡ Some y → choice < choices_for r c → IsStep k g (effect k g r x c y choice)
+  effect_step : (r : Rule) (x : ℕ) (c : Concept) (y choice : ℕ) → has_concept (label_at g x) c ≡ true → row k g r x c ≡ Some y → choice < choices_for r c
+      → IsStep k g (effect k g r x c y choice)
   effect_step rule.And x c y choice has applies choose = go (intersection_part c) refl applies
     where
-      go : (o : Option (List Concept)) → intersection_part c ≡ o → option_and_then (λ cs. where_true (lacks_some (label_at g x) cs) 0) o ≡ Some y → IsStep k g (option_map_or (adding g x) o g)
+      go : (o : Option (List Concept)) → intersection_part c ≡ o → option_and_then (λ cs. where_true (lacks_some (label_at g x) cs) 0) o ≡ Some y
+          → IsStep k g (option_map_or (adding g x) o g)
       go None part on = cc
-      go (Some cs) part on = adding_step k g x cs (has_node g x c has) (where_parts (lacks_some (label_at g x) cs) 0 y on).0 (intersection_within k c cs (inside x c has) part)
+      go (Some cs) part on = adding_step k g x cs (has_node g x c has) (where_parts (lacks_some (label_at g x) cs) 0 y on).0
+          (intersection_within k c cs (inside x c has) part)
   effect_step rule.Unfold x c y choice has applies choose = go (word_part c) applies
     where
-      go : (o : Option WordId) → option_and_then (λ word. where_true (lacks_some (label_at g x) (unfoldings_of k word)) 0) o ≡ Some y → IsStep k g (option_map_or (λ word. adding g x (unfoldings_of k word)) o g)
+      go : (o : Option WordId) → option_and_then (λ word. where_true (lacks_some (label_at g x) (unfoldings_of k word)) 0) o ≡ Some y
+          → IsStep k g (option_map_or (λ word. adding g x (unfoldings_of k word)) o g)
       go None on = cc
-      go (Some word) on = adding_step k g x (unfoldings_of k word) (has_node g x c has) (where_parts (lacks_some (label_at g x) (unfoldings_of k word)) 0 y on).0 (unfoldings_within k word)
+      go (Some word) on = adding_step k g x (unfoldings_of k word) (has_node g x c has)
+          (where_parts (lacks_some (label_at g x) (unfoldings_of k word)) 0 y on).0 (unfoldings_within k word)
   effect_step rule.All x c y choice has applies choose = go (all_part c) refl applies
     where
-      go : (o : Option (Role × Concept)) → all_part c ≡ o → option_and_then (λ p. first_below (length g.nodes) (λ z. where_true (needs k g p.0 p.1 x z) z)) o ≡ Some y → IsStep k g (option_map_or (λ p. adding g y (p.1 ∷ [])) o g)
+      go : (o : Option (Role × Concept)) → all_part c ≡ o
+          → option_and_then (λ p. first_below (length g.nodes) (λ z. where_true (needs k g p.0 p.1 x z) z)) o ≡ Some y
+          → IsStep k g (option_map_or (λ p. adding g y (p.1 ∷ [])) o g)
       go None part on = cc
       go (Some p) part on =
           let found = found_below (length g.nodes) (λ z. where_true (needs k g p.0 p.1 x z) z) y on in
@@ -305,31 +335,40 @@ module _ (k : Theory) (g : Graph) (filled : UnionsHaveMembers k) (inside : (y : 
           let one = and_parts (is_neighbour k g p.0 x found.0) (not (is_indirectly_blocked k g found.0) && not (has_concept (label_at g found.0) p.1)) is.0 in
           let two = and_parts (not (is_indirectly_blocked k g found.0)) (not (has_concept (label_at g found.0) p.1)) one.1 in
           subst (λ z. IsStep k g (adding g z (p.1 ∷ []))) is.1
-          (adding_step k g found.0 (p.1 ∷ []) found.1 (lacks_one (label_at g found.0) p.1 (not_true (has_concept (label_at g found.0) p.1) two.1))
+          (adding_step k g found.0 (p.1 ∷ []) found.1 (lacks_one (label_at g found.0) p.1 (not-true (has_concept (label_at g found.0) p.1) two.1))
           (one_within p.1 (class_occurrences k) (all_class_within k c p (inside x c has) part)))
   effect_step rule.Value x c y choice has applies choose = go (value_part c) refl applies
     where
-      inner : (p : Role × WordId) → value_part c ≡ Some p → (o : Option ℕ) → node_of k p.1 ≡ o → option_and_then (λ z. where_true (not (is_blocked k g x) && not (is_neighbour k g p.0 x z)) 0) o ≡ Some y → IsStep k g (option_map_or (λ z. with_edge g (record { from = x; role = p.0; to = z })) o g)
+      inner : (p : Role × WordId) → value_part c ≡ Some p → (o : Option ℕ) → node_of k p.1 ≡ o
+          → option_and_then (λ z. where_true (not (is_blocked k g x) && not (is_neighbour k g p.0 x z)) 0) o ≡ Some y
+          → IsStep k g (option_map_or (λ z. with_edge g (record { from = x; role = p.0; to = z })) o g)
       inner p part None node on = cc
       inner p part (Some z) node on =
           let is = where_parts (not (is_blocked k g x) && not (is_neighbour k g p.0 x z)) 0 y on in
-          with_edge_step k g x c p z has part node (not_true (is_neighbour k g p.0 x z) (and_parts (not (is_blocked k g x)) (not (is_neighbour k g p.0 x z)) is.0).1)
+          with_edge_step k g x c p z has part node
+          (not-true (is_neighbour k g p.0 x z) (and_parts (not (is_blocked k g x)) (not (is_neighbour k g p.0 x z)) is.0).1)
 
-      go : (o : Option (Role × WordId)) → value_part c ≡ o → option_and_then (λ p. option_and_then (λ z. where_true (not (is_blocked k g x) && not (is_neighbour k g p.0 x z)) 0) (node_of k p.1)) o ≡ Some y → IsStep k g (option_map_or (λ p. option_map_or (λ z. with_edge g (record { from = x; role = p.0; to = z })) (node_of k p.1) g) o g)
+      go : (o : Option (Role × WordId)) → value_part c ≡ o
+          → option_and_then (λ p. option_and_then (λ z. where_true (not (is_blocked k g x) && not (is_neighbour k g p.0 x z)) 0) (node_of k p.1)) o ≡ Some y
+          → IsStep k g (option_map_or (λ p. option_map_or (λ z. with_edge g (record { from = x; role = p.0; to = z })) (node_of k p.1) g) o g)
       go None part on = cc
       go (Some p) part on = inner p part (node_of k p.1) refl on
   effect_step rule.Unit x c y choice has applies choose = go (union_part c) refl applies
     where
-      go : (o : Option (List Concept)) → union_part c ≡ o → option_and_then (λ cs. where_true (lacks_all (label_at g x) cs && nat_lt (length (open_members (label_at g x) cs)) 2) 0) o ≡ Some y → IsStep k g (option_map_or (λ cs. adding g x (option_to_list (unit_member (label_at g x) cs))) o g)
+      go : (o : Option (List Concept)) → union_part c ≡ o
+          → option_and_then (λ cs. where_true (lacks_all (label_at g x) cs && nat_lt (length (open_members (label_at g x) cs)) 2) 0) o ≡ Some y
+          → IsStep k g (option_map_or (λ cs. adding g x (option_to_list (unit_member (label_at g x) cs))) o g)
       go None part on = cc
       go (Some cs) part on =
           let is = where_parts (lacks_all (label_at g x) cs && nat_lt (length (open_members (label_at g x) cs)) 2) 0 y on in
           let lacks = (and_parts (lacks_all (label_at g x) cs) (nat_lt (length (open_members (label_at g x) cs)) 2) is.0).0 in
           let found = unit_found (label_at g x) cs (filled c cs (inside x c has) part) in
-          one_member x cs found.0 (unit_member (label_at g x) cs) found.1 (has_node g x c has) lacks found.2 (union_within k c cs (inside x c has) part found.0 found.2)
+          one_member x cs found.0 (unit_member (label_at g x) cs) found.1 (has_node g x c has) lacks found.2
+          (union_within k c cs (inside x c has) part found.0 found.2)
   effect_step rule.Or x c y choice has applies choose = go (union_part c) refl applies choose
     where
-      go : (o : Option (List Concept)) → union_part c ≡ o → option_and_then (λ cs. where_true (lacks_all (label_at g x) cs) 0) o ≡ Some y → choice < option_map_or length o 1 → IsStep k g (option_map_or (λ cs. adding g x (option_to_list (slice_get cs choice))) o g)
+      go : (o : Option (List Concept)) → union_part c ≡ o → option_and_then (λ cs. where_true (lacks_all (label_at g x) cs) 0) o ≡ Some y
+          → choice < option_map_or length o 1 → IsStep k g (option_map_or (λ cs. adding g x (option_to_list (slice_get cs choice))) o g)
       go None part on lt = cc
       go (Some cs) part on lt =
           let is = where_parts (lacks_all (label_at g x) cs) 0 y on in
@@ -338,12 +377,16 @@ module _ (k : Theory) (g : Graph) (filled : UnionsHaveMembers k) (inside : (y : 
           one_member x cs found.0 (slice_get cs choice) found.1 (has_node g x c has) is.0 member (union_within k c cs (inside x c has) part found.0 member)
   effect_step rule.Some x c y choice has applies choose = go (some_part c) refl applies
     where
-      go : (o : Option (Role × Concept)) → some_part c ≡ o → option_and_then (λ p. where_true (not (is_blocked k g x) && not (some_below (length g.nodes) (serves k g p.0 p.1 x))) 0) o ≡ Some y → IsStep k g (option_map_or (λ p. with_node g (record { parent = Some x; label = with_classes [] (p.1 ∷ k.general) }) (record { from = x; role = p.0; to = length g.nodes })) o g)
+      go : (o : Option (Role × Concept)) → some_part c ≡ o
+          → option_and_then (λ p. where_true (not (is_blocked k g x) && not (some_below (length g.nodes) (serves k g p.0 p.1 x))) 0) o ≡ Some y
+          → IsStep k g (option_map_or (λ p. with_node g (record { parent = Some x; label = with_classes [] (p.1 ∷ k.general) })
+          (record { from = x; role = p.0; to = length g.nodes })) o g)
       go None part on = cc
       go (Some p) part on =
           let is = where_parts (not (is_blocked k g x) && not (some_below (length g.nodes) (serves k g p.0 p.1 x))) 0 y on in
           let two = and_parts (not (is_blocked k g x)) (not (some_below (length g.nodes) (serves k g p.0 p.1 x))) is.0 in
-          larger_step k g x c p has part (some_within k c p (inside x c has) part) (not_true (is_blocked k g x) two.0) (not_true (some_below (length g.nodes) (serves k g p.0 p.1 x)) two.1)
+          larger_step k g x c p has part (some_within k c p (inside x c has) part) (not-true (is_blocked k g x) two.0)
+          (not-true (some_below (length g.nodes) (serves k g p.0 p.1 x)) two.1)
 
   site_parts : (r : Rule) (x : ℕ) (c : Concept) (y : ℕ) (b : Bool) → cond b None (row k g r x c) ≡ Some y → row k g r x c ≡ Some y
   site_parts r x c y true h = cc
@@ -353,12 +396,15 @@ module _ (k : Theory) (g : Graph) (filled : UnionsHaveMembers k) (inside : (y : 
   pub after_step : (s : Step) (choice : ℕ) → applies k g s ≡ true → choice < choices g s → IsStep k g (after k g s choice)
   after_step s choice on choose = go (class_at g s.node s.class) refl on choose
     where
-      found : (c : Concept) → class_at g s.node s.class ≡ Some c → choice < choices_for s.rule c → (o : Option ℕ) → site k g s.rule s.node c ≡ o → option_map_or (λ y. y == s.other) o false ≡ true → IsStep k g (effect k g s.rule s.node c s.other choice)
+      found : (c : Concept) → class_at g s.node s.class ≡ Some c → choice < choices_for s.rule c → (o : Option ℕ) → site k g s.rule s.node c ≡ o
+          → option_map_or (λ y. y == s.other) o false ≡ true → IsStep k g (effect k g s.rule s.node c s.other choice)
       found c at lt None is e = cc
       found c at lt (Some y) is e =
           subst (λ z. IsStep k g (effect k g s.rule s.node c z choice)) (eqb-true y s.other e)
-          (effect_step s.rule s.node c y choice (has_here (label_at g s.node) s.class c at) (site_parts s.rule s.node c y (is_indirectly_blocked k g s.node) is) lt)
+          (effect_step s.rule s.node c y choice (has_here (label_at g s.node) s.class c at) (site_parts s.rule s.node c y (is_indirectly_blocked k g s.node) is)
+          lt)
 
-      go : (o : Option Concept) → class_at g s.node s.class ≡ o → option_map_or (λ y. y == s.other) (option_and_then (site k g s.rule s.node) o) false ≡ true → choice < option_map_or (choices_for s.rule) o 1 → IsStep k g (option_map_or (λ c. effect k g s.rule s.node c s.other choice) o g)
+      go : (o : Option Concept) → class_at g s.node s.class ≡ o → option_map_or (λ y. y == s.other) (option_and_then (site k g s.rule s.node) o) false ≡ true
+          → choice < option_map_or (choices_for s.rule) o 1 → IsStep k g (option_map_or (λ c. effect k g s.rule s.node c s.other choice) o g)
       go None at e lt = cc
       go (Some c) at e lt = found c at lt (site k g s.rule s.node c) refl e

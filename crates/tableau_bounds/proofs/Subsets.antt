@@ -2,7 +2,7 @@
 use Rattle.std.proofs.Common.{◌≡◌, ℕ, suc, ◌+◌, ◌*◌, ◌^◌, ◌≤◌, ◌&&◌, Bool, true, false, List, [], ◌∷◌, filter, length, cond, refl, sym, ap, ◌∙◌, arith, pow-suc}
 use Rattle.std.specs.Prelude.{not}
 use Rattle.std.specs.List.{list_any}
-use Rattle.std.proofs.lemmas.Bool.{or_parts}
+use Rattle.std.proofs.lemmas.Bool.{or_parts, not-true}
 use Rattle.std.proofs.lemmas.Bool.{or_from}
 use Rattle.std.proofs.lemmas.List.Filters.{length-filter_both}
 
@@ -40,7 +40,8 @@ module _ {X C : Type 0} (has : X → C → Bool) (c : C) (cs : List C) (p : X �
       let parts = or_parts (agree has (c ∷ cs) x y) (list_any (agree has (c ∷ cs) x) ys) none in
       go (p y) refl parts.0 (none_agrees x one ys parts.1)
     where
-      go : (d : Bool) → p y ≡ d → agree has (c ∷ cs) x y ≡ false → list_any (agree has cs x) (filter p ys) ≡ false → list_any (agree has cs x) (cond d (y ∷ filter p ys) (filter p ys)) ≡ false
+      go : (d : Bool) → p y ≡ d → agree has (c ∷ cs) x y ≡ false → list_any (agree has cs x) (filter p ys) ≡ false
+          → list_any (agree has cs x) (cond d (y ∷ filter p ys) (filter p ys)) ≡ false
       go true is differ rest = or_from (agree has cs x y) (list_any (agree has cs x) (filter p ys)) (others x y one (kept y is) differ) rest
       go false is differ rest = rest
 
@@ -51,10 +52,6 @@ module _ {X C : Type 0} (has : X → C → Bool) (c : C) (cs : List C) (p : X �
       go : (d : Bool) → p x ≡ d → Apart has cs (filter p xs) → Apart has cs (cond d (x ∷ filter p xs) (filter p xs))
       go true is rest = (none_agrees x (kept x is) xs apart.0, rest)
       go false is rest = rest
-
-not_true_false : (b : Bool) → not b ≡ true → b ≡ false
-not_true_false true h = cc
-not_true_false false h = refl
 
 -- so many tests tell apart at most two to the power of their number
 pub most_apart : {X C : Type 0} (has : X → C → Bool) (cs : List C) (xs : List X) → Apart has cs xs → length xs ≤ 2 ^ length cs
@@ -67,6 +64,6 @@ most_apart has [] (x ∷ (y ∷ ys)) apart = absurd (never apart.0)
 most_apart has (c ∷ cs) xs apart =
     double (length (filter (λ x. has x c) xs)) (length (filter (λ x. not (has x c)) xs)) (length xs) (2 ^ length cs) (2 ^ suc (length cs))
     (most_apart has cs (filter (λ x. has x c) xs) (apart_kept has c cs (λ x. has x c) true (λ x h. h) xs apart))
-    (most_apart has cs (filter (λ x. not (has x c)) xs) (apart_kept has c cs (λ x. not (has x c)) false (λ x h. not_true_false (has x c) h) xs apart))
+    (most_apart has cs (filter (λ x. not (has x c)) xs) (apart_kept has c cs (λ x. not (has x c)) false (λ x h. not-true (has x c) h) xs apart))
     (length-filter_both (λ x. has x c) (λ x. not (has x c)) (λ x. refl) xs)
     (pow-suc 2 (length cs))

@@ -27,7 +27,8 @@ pub total_more : (f g : ℕ → ℕ) (n x a : ℕ) → x < n → f x + a ≤ g x
 total_more f g zero x a lt more each = absurd (omega arith)
 total_more f g (suc n) x a lt more each = elim (cases_eq x n) [
   | inl same ↦ last (total f n) (f n) (total g n) (g n) (total_le f g n (λ y below. each y (later y n below))) (subst (λ z. f z + a ≤ g z) same more)
-  | inr other ↦ first (total f n) (f n) (total g n) (g n) (total_more f g n x a (before x n lt other) more (λ y below. each y (later y n below))) (each n (here n))
+  | inr other ↦ first (total f n) (f n) (total g n) (g n) (total_more f g n x a (before x n lt other) more (λ y below. each y (later y n below)))
+      (each n (here n))
 ]
   where
     last : (t b u d : ℕ) → t ≤ u → b + a ≤ d → (t + b) + a ≤ u + d

@@ -5,6 +5,8 @@ use Rattle.std.specs.List.{list_any, list_all}
 use Rattle.std.specs.Option.{option_map_or}
 use Rattle.std.proofs.lemmas.Bool.{and_from, and_parts, or_cases, or_left, or_right, or_parts, or_from, false_from_ne_true, not_from_false}
 use Rattle.std.proofs.lemmas.List.{length-map}
+use Rattle.wiki_base.proofs.BoolLaws.{not_both}
+use Rattle.tableau_rules.proofs.Climbing.{climb-top}
 use Rattle.logic_terms.specs.Concept.{Concept}
 use Rattle.logic_terms.specs.Same.{same_concept, has_concept}
 use Rattle.logic_terms.specs.Theory.{Theory}
@@ -15,10 +17,6 @@ use Rattle.tableau_bounds.specs.Enough.{class_occurrences, class_count}
 use Rattle.tableau_bounds.proofs.Parts.{Within}
 use Rattle.tableau_bounds.proofs.Stepping.{ParentsBelow}
 use Rattle.tableau_bounds.proofs.Subsets.{alike, agree, Apart, most_apart}
-
-climb-none : (n : ℕ) (g : Graph) (x : ℕ) → parent_of g x ≡ None → climb n g x ≡ []
-climb-none zero g x up = refl
-climb-none (suc n) g x up = ap (λ o. option_map_or (λ p. p ∷ climb n g p) o []) up
 
 climb-some : (n : ℕ) (g : Graph) (x p : ℕ) → parent_of g x ≡ Some p → climb (suc n) g x ≡ p ∷ climb n g p
 climb-some n g x p up = ap (λ o. option_map_or (λ p. p ∷ climb n g p) o []) up
@@ -33,15 +31,15 @@ parent_cases g x = cases_parent (parent_of g x)
 -- x steps suffice to climb from x
 climb_enough : (n m : ℕ) (g : Graph) → ParentsBelow g → (x : ℕ) → x ≤ n → x ≤ m → climb n g x ≡ climb m g x
 climb_enough zero m g down x low high = elim (parent_cases g x) [
-  | inl up ↦ climb-none zero g x up ∙ sym (climb-none m g x up)
+  | inl up ↦ climb-top zero g x up ∙ sym (climb-top m g x up)
   | inr (p, up) ↦ (let lt = down x p up in absurd (omega arith))
 ]
 climb_enough (suc n) zero g down x low high = elim (parent_cases g x) [
-  | inl up ↦ climb-none (suc n) g x up ∙ sym (climb-none zero g x up)
+  | inl up ↦ climb-top (suc n) g x up ∙ sym (climb-top zero g x up)
   | inr (p, up) ↦ (let lt = down x p up in absurd (omega arith))
 ]
 climb_enough (suc n) (suc m) g down x low high = elim (parent_cases g x) [
-  | inl up ↦ climb-none (suc n) g x up ∙ sym (climb-none (suc m) g x up)
+  | inl up ↦ climb-top (suc n) g x up ∙ sym (climb-top (suc m) g x up)
   | inr (p, up) ↦ (let lt = down x p up in
       climb-some n g x p up ∙ ap (λ l. p ∷ l) (climb_enough n m g down p (omega arith) (omega arith)) ∙ sym (climb-some m g x p up))
 ]
@@ -55,24 +53,27 @@ ancestors-some g down x p up = go x (down x p up) up
     go (suc y) lt at = climb-some y g (suc y) p at ∙ ap (λ l. p ∷ l) (climb_enough y p g down p (omega arith) (omega arith))
 
 pub ancestors-none : (g : Graph) (x : ℕ) → parent_of g x ≡ None → ancestors g x ≡ []
-ancestors-none g x up = climb-none x g x up
+ancestors-none g x up = climb-top x g x up
 
 pub indirectly-some : (k : Theory) (g : Graph) → ParentsBelow g → (x p : ℕ) → parent_of g x ≡ Some p → is_indirectly_blocked k g x ≡ is_blocked k g p
 indirectly-some k g down x p up = ap (blocks k g) (ancestors-some g down x p up)
 
 -- where parents stay, so do ancestors
-climb_same : (n : ℕ) (g h : Graph) → ParentsBelow g → ((y : ℕ) → y < length g.nodes → parent_of h y ≡ parent_of g y) → (x : ℕ) → x < length g.nodes → climb n h x ≡ climb n g x
+climb_same : (n : ℕ) (g h : Graph) → ParentsBelow g → ((y : ℕ) → y < length g.nodes → parent_of h y ≡ parent_of g y) → (x : ℕ) → x < length g.nodes
+    → climb n h x ≡ climb n g x
 climb_same zero g h down same x lt = refl
 climb_same (suc n) g h down same x lt = elim (parent_cases g x) [
-  | inl up ↦ climb-none (suc n) h x (same x lt ∙ up) ∙ sym (climb-none (suc n) g x up)
+  | inl up ↦ climb-top (suc n) h x (same x lt ∙ up) ∙ sym (climb-top (suc n) g x up)
   | inr (p, up) ↦
-      climb-some n h x p (same x lt ∙ up) ∙ ap (λ l. p ∷ l) (climb_same n g h down same p (through p x (length g.nodes) (down x p up) lt)) ∙ sym (climb-some n g x p up)
+      climb-some n h x p (same x lt ∙ up) ∙ ap (λ l. p ∷ l) (climb_same n g h down same p (through p x (length g.nodes) (down x p up) lt))
+      ∙ sym (climb-some n g x p up)
 ]
   where
     through : (a b c : ℕ) → a < b → b < c → a < c
     through a b c le up = omega arith
 
-pub ancestors_same : (g h : Graph) → ParentsBelow g → ((y : ℕ) → y < length g.nodes → parent_of h y ≡ parent_of g y) → (x : ℕ) → x < length g.nodes → ancestors h x ≡ ancestors g x
+pub ancestors_same : (g h : Graph) → ParentsBelow g → ((y : ℕ) → y < length g.nodes → parent_of h y ≡ parent_of g y) → (x : ℕ) → x < length g.nodes
+    → ancestors h x ≡ ancestors g x
 ancestors_same g h down same x lt = climb_same x g h down same x lt
 
 -- how many nodes stand above one
@@ -89,7 +90,8 @@ both_back true b h t = refl
 both_back false true h t = cc
 both_back false false h t = cc
 
-agree_at : (all cs ds : List Concept) (e : Concept) → agree has_concept all cs ds ≡ true → has_concept all e ≡ true → alike (has_concept cs e) (has_concept ds e) ≡ true
+agree_at : (all cs ds : List Concept) (e : Concept) → agree has_concept all cs ds ≡ true → has_concept all e ≡ true
+    → alike (has_concept cs e) (has_concept ds e) ≡ true
 agree_at [] cs ds e same h = cc
 agree_at (c ∷ all) cs ds e same h =
     let parts = and_parts (alike (has_concept cs c) (has_concept ds c)) (agree has_concept all cs ds) same in
@@ -110,9 +112,6 @@ agree_same all cs ds one other same =
     (all_from (has_concept ds) cs (λ e h. both_true (has_concept cs e) (has_concept ds e) (agree_at all cs ds e same (one e h)) h))
     (all_from (has_concept cs) ds (λ e h. both_back (has_concept cs e) (has_concept ds e) (agree_at all cs ds e same (other e h)) h))
 
-both : {b : Bool} → b ≡ true → b ≡ false → ⊥
-both t f = cc
-
 module _ (k : Theory) (g : Graph) (within : (y : ℕ) → Within (label_at g y) (class_occurrences k)) where
   -- the labels of the anonymous nodes of a way
   abbrev labels_on : List ℕ → List (List Concept)
@@ -124,10 +123,15 @@ module _ (k : Theory) (g : Graph) (within : (y : ℕ) → Within (label_at g y) 
       let parts = or_parts (is_anonymous k z && same_classes (label_at g x) (label_at g z)) (has_twin k g x zs) none in
       go (is_anonymous k z) parts.0 (no_twin x zs parts.1)
     where
-      go : (b : Bool) → (b && same_classes (label_at g x) (label_at g z)) ≡ false → list_any (agree has_concept (class_occurrences k) (label_at g x)) (labels_on zs) ≡ false → list_any (agree has_concept (class_occurrences k) (label_at g x)) (map (label_at g) (cond b (z ∷ filter (is_anonymous k) zs) (filter (is_anonymous k) zs))) ≡ false
+      go : (b : Bool) → (b && same_classes (label_at g x) (label_at g z)) ≡ false
+          → list_any (agree has_concept (class_occurrences k) (label_at g x)) (labels_on zs) ≡ false
+          → list_any (agree has_concept (class_occurrences k) (label_at g x))
+          (map (label_at g) (cond b (z ∷ filter (is_anonymous k) zs) (filter (is_anonymous k) zs))) ≡ false
       go true differ rest =
-          or_from (agree has_concept (class_occurrences k) (label_at g x) (label_at g z)) (list_any (agree has_concept (class_occurrences k) (label_at g x)) (labels_on zs))
-          (false_from_ne_true (agree has_concept (class_occurrences k) (label_at g x) (label_at g z)) (λ t. both (agree_same (class_occurrences k) (label_at g x) (label_at g z) (within x) (within z) t) differ)) rest
+          or_from (agree has_concept (class_occurrences k) (label_at g x) (label_at g z))
+          (list_any (agree has_concept (class_occurrences k) (label_at g x)) (labels_on zs))
+          (false_from_ne_true (agree has_concept (class_occurrences k) (label_at g x) (label_at g z))
+          (λ t. not_both (agree_same (class_occurrences k) (label_at g x) (label_at g z) (within x) (within z) t) differ)) rest
       go false differ rest = rest
 
   labels_apart : (zs : List ℕ) → blocks k g zs ≡ false → Apart has_concept (class_occurrences k) (labels_on zs)
@@ -137,16 +141,19 @@ module _ (k : Theory) (g : Graph) (within : (y : ℕ) → Within (label_at g y) 
       go (is_anonymous k z) parts.0 parts.1 (labels_apart zs parts.1)
     where
       twin_free : (t b : Bool) → (t && not b) ≡ false → b ≡ false → t ≡ false
-      twin_free true b h f = absurd (both (not_from_false b f) h)
+      twin_free true b h f = absurd (not_both (not_from_false b f) h)
       twin_free false b h f = refl
 
-      go : (b : Bool) → (b && (has_twin k g z zs && not (blocks k g zs))) ≡ false → blocks k g zs ≡ false → Apart has_concept (class_occurrences k) (labels_on zs) → Apart has_concept (class_occurrences k) (map (label_at g) (cond b (z ∷ filter (is_anonymous k) zs) (filter (is_anonymous k) zs)))
+      go : (b : Bool) → (b && (has_twin k g z zs && not (blocks k g zs))) ≡ false → blocks k g zs ≡ false
+          → Apart has_concept (class_occurrences k) (labels_on zs)
+          → Apart has_concept (class_occurrences k) (map (label_at g) (cond b (z ∷ filter (is_anonymous k) zs) (filter (is_anonymous k) zs)))
       go true here above rest = (no_twin z zs (twin_free (has_twin k g z zs) (blocks k g zs) here above), rest)
       go false here above rest = rest
 
   anonymous_few : (zs : List ℕ) → blocks k g zs ≡ false → length (filter (is_anonymous k) zs) ≤ 2 ^ class_count k
   anonymous_few zs free =
-      subst (λ n. n ≤ 2 ^ class_count k) (length-map (filter (is_anonymous k) zs) (label_at g)) (most_apart has_concept (class_occurrences k) (labels_on zs) (labels_apart zs free))
+      subst (λ n. n ≤ 2 ^ class_count k) (length-map (filter (is_anonymous k) zs) (label_at g))
+      (most_apart has_concept (class_occurrences k) (labels_on zs) (labels_apart zs free))
 
   -- a node with parent is anonymous
   module _ (down : ParentsBelow g) (made : (y p : ℕ) → parent_of g y ≡ Some p → is_anonymous k y ≡ true) where
@@ -170,7 +177,8 @@ module _ (k : Theory) (g : Graph) (within : (y : ℕ) → Within (label_at g y) 
         up_one a b le = omega arith
 
     pub unblocked_low : (x : ℕ) → is_blocked k g x ≡ false → depth g x ≤ 2 ^ class_count k
-    unblocked_low x free = through (depth g x) (length (filter (is_anonymous k) (x ∷ ancestors g x))) (2 ^ class_count k) (deep_anonymous x x (le_self x)) (anonymous_few (x ∷ ancestors g x) free)
+    unblocked_low x free = through (depth g x) (length (filter (is_anonymous k) (x ∷ ancestors g x))) (2 ^ class_count k) (deep_anonymous x x (le_self x))
+        (anonymous_few (x ∷ ancestors g x) free)
       where
         through : (a b c : ℕ) → a ≤ b → b ≤ c → a ≤ c
         through a b c le up = omega arith

@@ -22,14 +22,17 @@ module _ (k : Theory) (g : Graph) (node at left : ℕ) (r : Bool) (now : r ≡ h
   pub twin_top : parent_of g at ≡ None → false ≡ r
   twin_top up = sym (now ∙ ap (has_twin k g node) (climb-top left g at up))
 
-  twin_on : (parent : ℕ) (b : Bool) → 0 < left → parent_of g at ≡ Some parent → (is_anonymous k parent && same_classes (label_at g node) (label_at g parent)) ≡ b → r ≡ (b || has_twin k g node (climb (left - 1) g parent))
+  twin_on : (parent : ℕ) (b : Bool) → 0 < left → parent_of g at ≡ Some parent
+      → (is_anonymous k parent && same_classes (label_at g node) (label_at g parent)) ≡ b → r ≡ (b || has_twin k g node (climb (left - 1) g parent))
   twin_on parent b lt up is =
       now ∙ (ap (has_twin k g node) (climb-on left g at parent lt up) ∙ ap (λ z. z || has_twin k g node (climb (left - 1) g parent)) is)
 
-  pub twin_here : (parent : ℕ) → 0 < left → parent_of g at ≡ Some parent → (is_anonymous k parent && same_classes (label_at g node) (label_at g parent)) ≡ true → true ≡ r
+  pub twin_here : (parent : ℕ) → 0 < left → parent_of g at ≡ Some parent → (is_anonymous k parent && same_classes (label_at g node) (label_at g parent)) ≡ true
+      → true ≡ r
   twin_here parent lt up is = sym (twin_on parent true lt up is)
 
-  pub twin_passed : (parent : ℕ) → 0 < left → parent_of g at ≡ Some parent → (is_anonymous k parent && same_classes (label_at g node) (label_at g parent)) ≡ false → r ≡ has_twin k g node (climb (left - 1) g parent)
+  pub twin_passed : (parent : ℕ) → 0 < left → parent_of g at ≡ Some parent
+      → (is_anonymous k parent && same_classes (label_at g node) (label_at g parent)) ≡ false → r ≡ has_twin k g node (climb (left - 1) g parent)
   twin_passed parent lt up is = twin_on parent false lt up is
 
 first_blocks : (a t b c : Bool) → (a && t) ≡ c → ((a && (t && not b)) || b) ≡ (c || b)
@@ -42,15 +45,18 @@ module _ (k : Theory) (g : Graph) (at left : ℕ) (r : Bool) (now : r ≡ blocks
   pub block_top : parent_of g at ≡ None → false ≡ r
   block_top up = sym (now ∙ ap (blocks k g) (climb-top left g at up))
 
-  block_on : (parent : ℕ) (c : Bool) → 0 < left → parent_of g at ≡ Some parent → (is_anonymous k parent && has_twin k g parent (climb (left - 1) g parent)) ≡ c → r ≡ (c || blocks k g (climb (left - 1) g parent))
+  block_on : (parent : ℕ) (c : Bool) → 0 < left → parent_of g at ≡ Some parent → (is_anonymous k parent && has_twin k g parent (climb (left - 1) g parent)) ≡ c
+      → r ≡ (c || blocks k g (climb (left - 1) g parent))
   block_on parent c lt up is =
       now ∙ (ap (blocks k g) (climb-on left g at parent lt up)
       ∙ first_blocks (is_anonymous k parent) (has_twin k g parent (climb (left - 1) g parent)) (blocks k g (climb (left - 1) g parent)) c is)
 
-  pub block_here : (parent : ℕ) → 0 < left → parent_of g at ≡ Some parent → (is_anonymous k parent && has_twin k g parent (climb (left - 1) g parent)) ≡ true → true ≡ r
+  pub block_here : (parent : ℕ) → 0 < left → parent_of g at ≡ Some parent → (is_anonymous k parent && has_twin k g parent (climb (left - 1) g parent)) ≡ true
+      → true ≡ r
   block_here parent lt up is = sym (block_on parent true lt up is)
 
-  pub block_passed : (parent : ℕ) → 0 < left → parent_of g at ≡ Some parent → (is_anonymous k parent && has_twin k g parent (climb (left - 1) g parent)) ≡ false → r ≡ blocks k g (climb (left - 1) g parent)
+  pub block_passed : (parent : ℕ) → 0 < left → parent_of g at ≡ Some parent → (is_anonymous k parent && has_twin k g parent (climb (left - 1) g parent)) ≡ false
+      → r ≡ blocks k g (climb (left - 1) g parent)
   block_passed parent lt up is = block_on parent false lt up is
 
 and_same : (a t b : Bool) → ((a && t) && not b) ≡ (a && (t && not b))

@@ -3,6 +3,7 @@ use Rattle.std.proofs.Common.{◌≡◌, ◌&&◌, ◌||◌, Bool, true, false, 
 use Rattle.std.specs.Prelude.{not}
 use Rattle.std.specs.List.{list_any, list_all}
 use Rattle.wiki_base.specs.declared.numbers.WordId.{WordId}
+use Rattle.wiki_base.proofs.ListLaws.{list_any-filter}
 use Rattle.logic_terms.specs.Concept.{Concept}
 use Rattle.logic_terms.specs.Interpretation.{is_word}
 use Rattle.logic_terms.specs.Same.{has_concept}
@@ -16,10 +17,6 @@ pub list_all-map : {X Y : Type 0} (test : Y → Bool) (f : X → Y) (xs : List X
 list_all-map test f [] = refl
 list_all-map test f (x ∷ xs) = ap (λ b. test (f x) && b) (list_all-map test f xs)
 
-pub list_any-same : {X : Type 0} (test other : X → Bool) → ((x : X) → test x ≡ other x) → (xs : List X) → list_any test xs ≡ list_any other xs
-list_any-same test other same [] = refl
-list_any-same test other same (x ∷ xs) = ap (λ b. b || list_any test xs) (same x) ∙ ap (λ b. other x || b) (list_any-same test other same xs)
-
 filter_step : {X Y : Type 0} (f : X → Y) (b : Bool) (x : X) (xs : List X) (ys : List Y) → map f xs ≡ ys → cond b (f x ∷ ys) ys ≡ map f (cond b (x ∷ xs) xs)
 filter_step f true x xs ys e = ap (λ zs. f x ∷ zs) (sym e)
 filter_step f false x xs ys e = sym e
@@ -30,16 +27,9 @@ filter-map test f (x ∷ xs) =
     ap (λ ys. cond (test (f x)) (f x ∷ ys) ys) (filter-map test f xs)
     ∙ filter_step f (test (f x)) x (filter (λ y. test (f y)) xs) (map f (filter (λ y. test (f y)) xs)) refl
 
-kept_any : {X : Type 0} (test : X → Bool) (b : Bool) (x : X) (rest : List X) (other : Bool) → list_any test rest ≡ other → list_any test (cond b (x ∷ rest) rest) ≡ ((b && test x) || other)
-kept_any test true x rest other h = ap (λ o. test x || o) h
-kept_any test false x rest other h = h
-
-pub list_any-filter : {X : Type 0} (test p : X → Bool) (xs : List X) → list_any test (filter p xs) ≡ list_any (λ x. p x && test x) xs
-list_any-filter test p [] = refl
-list_any-filter test p (x ∷ xs) = kept_any test (p x) x (filter p xs) (list_any (λ y. p y && test y) xs) (list_any-filter test p xs)
-
 -- some unfolding of a word is missing where some entry is one of the word and missing
-pub lacks_unfolding_as_list : (label : List Concept) (entries : List (WordId × Concept)) (word : WordId) → lacks_some label (map (λ e. e.1) (filter (λ e. is_word word e.0) entries)) ≡ list_any (λ e. is_word word e.0 && not (has_concept label e.1)) entries
+pub lacks_unfolding_as_list : (label : List Concept) (entries : List (WordId × Concept)) (word : WordId)
+    → lacks_some label (map (λ e. e.1) (filter (λ e. is_word word e.0) entries)) ≡ list_any (λ e. is_word word e.0 && not (has_concept label e.1)) entries
 lacks_unfolding_as_list label entries word =
     list_any-map (λ c. not (has_concept label c)) (λ e. e.1) (filter (λ e. is_word word e.0) entries)
     ∙ list_any-filter (λ e. not (has_concept label e.1)) (λ e. is_word word e.0) entries

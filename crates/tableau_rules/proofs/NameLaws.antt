@@ -18,12 +18,14 @@ module _ (es : List (WordId × WordId)) (i : ℕ) (d : WordId × WordId) (lt : i
   pub roots_in-own : (get_or es i d).0.0 ≡ (get_or es i d).1.0 → roots_in (drop i es) ≡ (get_or es i d).0 ∷ roots_in (drop (i + 1) es)
   roots_in-own own =
       ap roots_in (drop_more es i d lt)
-      ∙ roots_kept ((get_or es i d).0.0 == (get_or es i d).1.0) (get_or es i d) (filter (λ e. e.0.0 == e.1.0) (drop (i + 1) es)) (eq-eqb (get_or es i d).0.0 (get_or es i d).1.0 own)
+      ∙ roots_kept ((get_or es i d).0.0 == (get_or es i d).1.0) (get_or es i d) (filter (λ e. e.0.0 == e.1.0) (drop (i + 1) es))
+      (eq-eqb (get_or es i d).0.0 (get_or es i d).1.0 own)
 
   pub roots_in-other : ¬ ((get_or es i d).0.0 ≡ (get_or es i d).1.0) → roots_in (drop i es) ≡ roots_in (drop (i + 1) es)
   roots_in-other other =
       ap roots_in (drop_more es i d lt)
-      ∙ roots_left ((get_or es i d).0.0 == (get_or es i d).1.0) (get_or es i d) (filter (λ e. e.0.0 == e.1.0) (drop (i + 1) es)) (ne_eqb (get_or es i d).0.0 (get_or es i d).1.0 other)
+      ∙ roots_left ((get_or es i d).0.0 == (get_or es i d).1.0) (get_or es i d) (filter (λ e. e.0.0 == e.1.0) (drop (i + 1) es))
+      (ne_eqb (get_or es i d).0.0 (get_or es i d).1.0 other)
 
 -- the place counted on from a number
 abbrev pub place_from : ℕ → List WordId → WordId → Option ℕ
@@ -51,7 +53,8 @@ pub place_from-zero : (ws : List WordId) (word : WordId) → place_in ws word �
 place_from-zero ws word = onto (place_in ws word)
 
 -- what is left decides: the place is here, or further on
-module _ (es : List (WordId × WordId)) (i : ℕ) (d : WordId × WordId) (lt : i < length es) (word : WordId) (n : ℕ) (r : Option ℕ) (now : r ≡ place_from n (roots_in (drop i es)) word) where
+module _ (es : List (WordId × WordId)) (i : ℕ) (d : WordId × WordId) (lt : i < length es) (word : WordId) (n : ℕ) (r : Option ℕ)
+    (now : r ≡ place_from n (roots_in (drop i es)) word) where
   pub place_here : (get_or es i d).0.0 ≡ (get_or es i d).1.0 → word.0 ≡ (get_or es i d).0.0 → Some n ≡ r
   place_here own same =
       sym (now ∙ (ap (λ ws. place_from n ws word) (roots_in-own es i d lt own)

@@ -1,4 +1,4 @@
--- A change to a branch.
+-- A change to a branch. Only private calls speak of it.
 use Rattle.logic_terms.specs.Shown.{concepts_of}
 use Rattle.tableau_rules.specs.declared.changes.Change.{Change}
 use Rattle.tableau_rules.specs.declared.changes.Change.TheVariants as change

@@ -132,7 +132,8 @@ effect k g rule.Value x c y choice =
 effect k g rule.Unit x c y choice = option_map_or (λ cs. adding g x (option_to_list (unit_member (label_at g x) cs))) (union_part c) g
 effect k g rule.Or x c y choice = option_map_or (λ cs. adding g x (option_to_list (slice_get cs choice))) (union_part c) g
 effect k g rule.Some x c y choice =
-    option_map_or (λ p. with_node g (record { parent = Some x; label = with_classes [] (p.1 ∷ k.general) }) (record { from = x; role = p.0; to = length g.nodes }))
+    option_map_or (λ p. with_node g (record { parent = Some x; label = with_classes [] (p.1 ∷ k.general) })
+    (record { from = x; role = p.0; to = length g.nodes }))
     (some_part c) g
 
 -- the branch after a step with one of its choices

@@ -67,7 +67,8 @@ fn member_count(class: &Class) -> u64
 pub fn apply(k: &Knowledge, b: &mut Branch, step: &Step, choice: u64) -> Result<(), Memory>
     ensures ok { OnOk result (graph_of b.new ≡ after (theory_of k.now) (graph_of b.old) step.now choice) }
     ensures err { OnErr result (graph_of b.new ≡ graph_of b.old) }
-    ensures branch { OnOk result (IsBranch (theory_of k.now) (graph_of b.old) → IsTrue (applies (theory_of k.now) (graph_of b.old) step.now) → choice < choices (graph_of b.old) step.now → IsBranch (theory_of k.now) (graph_of b.new)) }
+    ensures branch { OnOk result (IsBranch (theory_of k.now) (graph_of b.old) → IsTrue (applies (theory_of k.now) (graph_of b.old) step.now)
+        → choice < choices (graph_of b.old) step.now → IsBranch (theory_of k.now) (graph_of b.new)) }
 {
     let change = planned(k, b, step, choice)?;
     carry_out(b, change)
@@ -101,7 +102,8 @@ fn planned_by(
     class: &Class,
     choice: u64,
 ) -> Result<Change, Memory>
-    ensures { IfOk result (λ change. changed (graph_of b.now) change ≡ effect (theory_of k.now) (graph_of b.now) step.now.rule step.now.node (concept_of class.now) step.now.other choice) }
+    ensures { IfOk result (λ change. changed (graph_of b.now) change
+        ≡ effect (theory_of k.now) (graph_of b.now) step.now.rule step.now.node (concept_of class.now) step.now.other choice) }
 {
     let node = step.node;
     match step.rule {
@@ -116,7 +118,8 @@ fn planned_by(
 }
 
 fn by_and(b: &Branch, node: u64, class: &Class) -> Result<Change, Memory>
-    ensures { IfOk result (λ change. changed (graph_of b.now) change ≡ option_map_or (adding (graph_of b.now) node) (intersection_part (concept_of class.now)) (graph_of b.now)) }
+    ensures { IfOk result (λ change. changed (graph_of b.now) change
+        ≡ option_map_or (adding (graph_of b.now) node) (intersection_part (concept_of class.now)) (graph_of b.now)) }
 {
     match class.intersection() {
         Some(members) => growing(b, node, members.as_slice()),
@@ -125,7 +128,8 @@ fn by_and(b: &Branch, node: u64, class: &Class) -> Result<Change, Memory>
 }
 
 fn by_unfold(k: &Knowledge, b: &Branch, node: u64, class: &Class) -> Result<Change, Memory>
-    ensures { IfOk result (λ change. changed (graph_of b.now) change ≡ option_map_or (λ word. adding (graph_of b.now) node (unfoldings_of (theory_of k.now) word)) (word_part (concept_of class.now)) (graph_of b.now)) }
+    ensures { IfOk result (λ change. changed (graph_of b.now) change
+        ≡ option_map_or (λ word. adding (graph_of b.now) node (unfoldings_of (theory_of k.now) word)) (word_part (concept_of class.now)) (graph_of b.now)) }
 {
     match class.word() {
         Some(word) => unfolding(k, b, node, word),
@@ -134,7 +138,8 @@ fn by_unfold(k: &Knowledge, b: &Branch, node: u64, class: &Class) -> Result<Chan
 }
 
 fn by_all(b: &Branch, other: u64, class: &Class) -> Result<Change, Memory>
-    ensures { IfOk result (λ change. changed (graph_of b.now) change ≡ option_map_or (λ p. adding (graph_of b.now) other (p.1 ∷ [])) (all_part (concept_of class.now)) (graph_of b.now)) }
+    ensures { IfOk result (λ change. changed (graph_of b.now) change
+        ≡ option_map_or (λ p. adding (graph_of b.now) other (p.1 ∷ [])) (all_part (concept_of class.now)) (graph_of b.now)) }
 {
     match class.universal() {
         Some(parts) => growing_by(b, other, Some(parts.1)),
@@ -143,7 +148,9 @@ fn by_all(b: &Branch, other: u64, class: &Class) -> Result<Change, Memory>
 }
 
 fn by_value(k: &Knowledge, b: &Branch, node: u64, class: &Class) -> Result<Change, Memory>
-    ensures { IfOk result (λ change. changed (graph_of b.now) change ≡ option_map_or (λ p. option_map_or (λ z. with_edge (graph_of b.now) (record { from = node; role = p.0; to = z })) (node_of (theory_of k.now) p.1) (graph_of b.now)) (value_part (concept_of class.now)) (graph_of b.now)) }
+    ensures { IfOk result (λ change. changed (graph_of b.now) change
+        ≡ option_map_or (λ p. option_map_or (λ z. with_edge (graph_of b.now) (record { from = node; role = p.0; to = z })) (node_of (theory_of k.now) p.1)
+        (graph_of b.now)) (value_part (concept_of class.now)) (graph_of b.now)) }
 {
     match class.value() {
         Some(parts) => match node_of(k, parts.1) {
@@ -159,7 +166,9 @@ fn by_value(k: &Knowledge, b: &Branch, node: u64, class: &Class) -> Result<Chang
 }
 
 fn by_unit(b: &Branch, node: u64, class: &Class) -> Result<Change, Memory>
-    ensures { IfOk result (λ change. changed (graph_of b.now) change ≡ option_map_or (λ cs. adding (graph_of b.now) node (option_to_list (unit_member (label_at (graph_of b.now) node) cs))) (union_part (concept_of class.now)) (graph_of b.now)) }
+    ensures { IfOk result (λ change. changed (graph_of b.now) change
+        ≡ option_map_or (λ cs. adding (graph_of b.now) node (option_to_list (unit_member (label_at (graph_of b.now) node) cs)))
+        (union_part (concept_of class.now)) (graph_of b.now)) }
 {
     match class.union() {
         Some(members) => growing_by(b, node, unit_member(b.label(node), members.as_slice())),
@@ -168,7 +177,8 @@ fn by_unit(b: &Branch, node: u64, class: &Class) -> Result<Change, Memory>
 }
 
 fn by_or(b: &Branch, node: u64, class: &Class, choice: u64) -> Result<Change, Memory>
-    ensures { IfOk result (λ change. changed (graph_of b.now) change ≡ option_map_or (λ cs. adding (graph_of b.now) node (option_to_list (slice_get cs choice))) (union_part (concept_of class.now)) (graph_of b.now)) }
+    ensures { IfOk result (λ change. changed (graph_of b.now) change
+        ≡ option_map_or (λ cs. adding (graph_of b.now) node (option_to_list (slice_get cs choice))) (union_part (concept_of class.now)) (graph_of b.now)) }
 {
     match class.union() {
         Some(members) => growing_by(b, node, member_at(members, choice)),
@@ -183,7 +193,9 @@ fn member_at(members: &Classes, choice: u64) -> Option<&Class>
 }
 
 fn by_some(k: &Knowledge, b: &Branch, node: u64, class: &Class) -> Result<Change, Memory>
-    ensures { IfOk result (λ change. changed (graph_of b.now) change ≡ option_map_or (λ p. with_node (graph_of b.now) (record { parent = Some node; label = with_classes [] (p.1 ∷ (theory_of k.now).general) }) (record { from = node; role = p.0; to = length (graph_of b.now).nodes })) (some_part (concept_of class.now)) (graph_of b.now)) }
+    ensures { IfOk result (λ change. changed (graph_of b.now) change
+        ≡ option_map_or (λ p. with_node (graph_of b.now) (record { parent = Some node; label = with_classes [] (p.1 ∷ (theory_of k.now).general) })
+        (record { from = node; role = p.0; to = length (graph_of b.now).nodes })) (some_part (concept_of class.now)) (graph_of b.now)) }
 {
     match class.existential() {
         Some(parts) => {
@@ -217,7 +229,8 @@ fn growing(b: &Branch, node: u64, classes: &[Class]) -> Result<Change, Memory>
 
 // A class that a node's label may lack, where there is one.
 fn growing_by(b: &Branch, node: u64, class: Option<&Class>) -> Result<Change, Memory>
-    ensures { IfOk result (λ change. changed (graph_of b.now) change ≡ adding (graph_of b.now) node (option_to_list (option_map (λ c. concept_of c.now) class.entry))) }
+    ensures { IfOk result (λ change. changed (graph_of b.now) change
+        ≡ adding (graph_of b.now) node (option_to_list (option_map (λ c. concept_of c.now) class.entry))) }
 {
     let more = missing_of(b.allocator(), b.label(node), class)?;
     Ok(Change::Classes(node, more))

@@ -91,7 +91,8 @@ fn has_difference(k: &Knowledge, one: WordId, other: WordId) -> bool
 }
 
 fn clash_of_nodes(k: &Knowledge, b: &Branch) -> Option<Clash>
-    ensures exact { is_some result ≡ some_below (length (graph_of b.now).nodes) (λ x. list_any (clashes_at (theory_of k.now) (graph_of b.now) x) (label_at (graph_of b.now) x)) }
+    ensures exact { is_some result ≡ some_below (length (graph_of b.now).nodes)
+        (λ x. list_any (clashes_at (theory_of k.now) (graph_of b.now) x) (label_at (graph_of b.now) x)) }
     ensures there { IfSome result (λ c. IsTrue (is_clash (theory_of k.now) (graph_of b.now) c)) }
 {
     for node in 0..b.len() {
@@ -145,7 +146,8 @@ fn clash_at(k: &Knowledge, b: &Branch, node: u64, place: u64, class: &Class) -> 
 // The clash of a class word with its complement.
 fn pair_clash(k: &Knowledge, b: &Branch, node: u64, place: u64, class: &Class) -> Option<Clash>
     requires { class_at (graph_of b.now) node place ≡ Some (concept_of class.now) }
-    ensures exact { is_some result ≡ passes (word_part (concept_of class.now)) (λ word. has_concept (label_at (graph_of b.now) node) (ComplementOf (Atomic word))) }
+    ensures exact { is_some result ≡ passes (word_part (concept_of class.now))
+        (λ word. has_concept (label_at (graph_of b.now) node) (ComplementOf (Atomic word))) }
     ensures there { IfSome result (λ c. IsTrue (is_clash (theory_of k.now) (graph_of b.now) c)) }
 {
     match class.word() {
@@ -217,7 +219,8 @@ fn is_thing(class: &Class) -> bool
 
 // Whether a class is the complement of a value whose node this edge makes a neighbour.
 fn is_no_value(k: &Knowledge, b: &Branch, node: u64, class: &Class, edge: u64) -> bool
-    ensures { result ≡ value_clashes (theory_of k.now) (concept_of class.now) (λ role y. passes (slice_get (graph_of b.now).edges edge) (makes_neighbour (theory_of k.now) role node y)) }
+    ensures { result ≡ value_clashes (theory_of k.now) (concept_of class.now)
+        (λ role y. passes (slice_get (graph_of b.now).edges edge) (makes_neighbour (theory_of k.now) role node y)) }
 {
     match denied_value(k, class) {
         Some(parts) => is_made_by(k, b, parts.0, node, parts.1, edge),
@@ -237,7 +240,8 @@ fn is_made_by(k: &Knowledge, b: &Branch, role: Role, from: u64, to: u64, place: 
 
 // The role, and the name's node, where a class is the complement of a value.
 fn denied_value(k: &Knowledge, class: &Class) -> Option<(Role, u64)>
-    ensures { result ≡ option_and_then (λ d. option_and_then (λ v. option_map (λ y. (v.0, y)) (node_of (theory_of k.now) v.1)) (value_part d)) (complement_part (concept_of class.now)) }
+    ensures { result ≡ option_and_then (λ d. option_and_then (λ v. option_map (λ y. (v.0, y)) (node_of (theory_of k.now) v.1)) (value_part d))
+        (complement_part (concept_of class.now)) }
 {
     match class.complemented() {
         Some(inner) => match inner.value() {
@@ -253,7 +257,8 @@ fn denied_value(k: &Knowledge, class: &Class) -> Option<(Role, u64)>
 
 fn value_clash(k: &Knowledge, b: &Branch, node: u64, place: u64, class: &Class) -> Option<Clash>
     requires { class_at (graph_of b.now) node place ≡ Some (concept_of class.now) }
-    ensures exact { is_some result ≡ value_clashes (theory_of k.now) (concept_of class.now) (λ role y. is_neighbour (theory_of k.now) (graph_of b.now) role node y) }
+    ensures exact { is_some result ≡ value_clashes (theory_of k.now) (concept_of class.now)
+        (λ role y. is_neighbour (theory_of k.now) (graph_of b.now) role node y) }
     ensures there { IfSome result (λ c. IsTrue (is_clash (theory_of k.now) (graph_of b.now) c)) }
 {
     match denied_value(k, class) {

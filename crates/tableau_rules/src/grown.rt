@@ -49,7 +49,8 @@ pub(crate) fn missing_of(
     label: &[Class],
     class: Option<&Class>,
 ) -> Result<Classes, Memory>
-    ensures { IfOk result (λ more. map concept_of label.now ++ concepts_of more ≡ with_classes (map concept_of label.now) (option_to_list (option_map (λ c. concept_of c.now) class.entry))) }
+    ensures { IfOk result (λ more. map concept_of label.now ++ concepts_of more
+        ≡ with_classes (map concept_of label.now) (option_to_list (option_map (λ c. concept_of c.now) class.entry))) }
 {
     match class {
         Some(found) => missing_one(alloc, label, found),
@@ -64,7 +65,8 @@ pub(crate) fn missing_unfoldings(
     label: &[Class],
     word: WordId,
 ) -> Result<Classes, Memory>
-    ensures { IfOk result (λ more. map concept_of label.now ++ concepts_of more ≡ with_classes (map concept_of label.now) (unfoldings_of (theory_of k.now) word)) }
+    ensures { IfOk result (λ more. map concept_of label.now ++ concepts_of more
+        ≡ with_classes (map concept_of label.now) (unfoldings_of (theory_of k.now) word)) }
 {
     let mut more = Classes::new(alloc);
     for entry in k.unfoldings() {

@@ -97,7 +97,8 @@ fn by_all(k: &Knowledge, b: &Branch, node: u64, class: &Class) -> Option<u64>
 
 // The least neighbour that is not indirectly blocked and lacks the class.
 fn first_in_need(k: &Knowledge, b: &Branch, role: Role, class: &Class, node: u64) -> Option<u64>
-    ensures { result ≡ first_below (length (graph_of b.now).nodes) (λ y. where_true (needs (theory_of k.now) (graph_of b.now) role (concept_of class.now) node y) y) }
+    ensures { result ≡ first_below (length (graph_of b.now).nodes)
+        (λ y. where_true (needs (theory_of k.now) (graph_of b.now) role (concept_of class.now) node y) y) }
 {
     let mut least = None;
     for edge in b.edges_at(node) {
@@ -118,7 +119,8 @@ fn lesser(least: Option<u64>, other: u64) -> u64
 }
 
 fn is_in_need(k: &Knowledge, b: &Branch, role: Role, class: &Class, node: u64, edge: Edge) -> bool
-    ensures { result ≡ reaches (theory_of k.now) role (length (graph_of b.now).nodes) node (λ y. not (is_indirectly_blocked (theory_of k.now) (graph_of b.now) y) && not (has_concept (label_at (graph_of b.now) y) (concept_of class.now))) edge }
+    ensures { result ≡ reaches (theory_of k.now) role (length (graph_of b.now).nodes) node
+        (λ y. not (is_indirectly_blocked (theory_of k.now) (graph_of b.now) y) && not (has_concept (label_at (graph_of b.now) y) (concept_of class.now))) edge }
 {
     let other = far_end(node, edge);
     leads_on(k, b, role, node, edge)
@@ -185,7 +187,8 @@ fn is_served(k: &Knowledge, b: &Branch, role: Role, class: &Class, node: u64) ->
 }
 
 fn is_witness(k: &Knowledge, b: &Branch, role: Role, class: &Class, node: u64, edge: Edge) -> bool
-    ensures { result ≡ reaches (theory_of k.now) role (length (graph_of b.now).nodes) node (λ y. not (is_indirectly_blocked (theory_of k.now) (graph_of b.now) y) && has_concept (label_at (graph_of b.now) y) (concept_of class.now)) edge }
+    ensures { result ≡ reaches (theory_of k.now) role (length (graph_of b.now).nodes) node
+        (λ y. not (is_indirectly_blocked (theory_of k.now) (graph_of b.now) y) && has_concept (label_at (graph_of b.now) y) (concept_of class.now)) edge }
 {
     let other = far_end(node, edge);
     leads_on(k, b, role, node, edge)

@@ -39,7 +39,8 @@ fn first_nodes(alloc: Global, k: &Knowledge) -> Result<Vec<Node>, Memory>
 }
 
 fn named_nodes(alloc: Global, k: &Knowledge) -> Result<Vec<Node>, Memory>
-    ensures { IfOk result (λ nodes. map vertex_of nodes.items ≡ map (λ r. first_node (theory_of k.now) (asserted (theory_of k.now) r)) (roots (theory_of k.now))) }
+    ensures { IfOk result (λ nodes. map vertex_of nodes.items
+        ≡ map (λ r. first_node (theory_of k.now) (asserted (theory_of k.now) r)) (roots (theory_of k.now))) }
 {
     let owners = owners(alloc, k)?;
     let mut nodes = Vec::new(alloc);
@@ -134,7 +135,8 @@ pub(crate) fn label_with(alloc: Global, k: &Knowledge, class: &Class) -> Result<
 
 // Adds the edges of the property assertions.
 fn join_first_edges(k: &Knowledge, b: Branch) -> Result<Branch, Memory>
-    ensures { IfOk result (λ joined. graph_of joined ≡ record { nodes = (graph_of b).nodes; edges = (graph_of b).edges ++ filter_map (first_edge (theory_of k.now)) (theory_of k.now).edges }) }
+    ensures { IfOk result (λ joined. graph_of joined
+        ≡ record { nodes = (graph_of b).nodes; edges = (graph_of b).edges ++ filter_map (first_edge (theory_of k.now)) (theory_of k.now).edges }) }
 {
     let mut joined = b;
     for entry in k.edges() {

@@ -1,4 +1,5 @@
 pub mod BoolLaws
 pub mod ListLaws
+pub mod NumberLaws
 pub mod OptionLaws
 pub mod TextLemmas

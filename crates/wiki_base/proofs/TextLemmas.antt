@@ -20,7 +20,8 @@ misplaced-here after bs rest c p utf8 step out =
     ∙ ap Some (add-zero p)
 
 -- past a character that is in place, the first stands in the rest
-pub misplaced-past : (after : Bool) (bs rest : List ℕ) (c p k : ℕ) → IsUtf8 bs → bs ≡ encode_utf8 c ++ rest → is_in_place after c (chars rest) ≡ true → k ≡ length (encode_utf8 c) →
+pub misplaced-past : (after : Bool) (bs rest : List ℕ) (c p k : ℕ) → IsUtf8 bs → bs ≡ encode_utf8 c ++ rest → is_in_place after c (chars rest) ≡ true
+    → k ≡ length (encode_utf8 c) →
     option_map (λ n. p + n) (misplaced after (chars bs)) ≡ option_map (λ n. p + k + n) (misplaced (is_letter c) (chars rest))
 misplaced-past after bs rest c p k utf8 step fits long =
     ap (λ cs. option_map (λ n. p + n) (misplaced after cs)) (chars_past_char bs rest c utf8 step)
@@ -47,14 +48,16 @@ option_map-some f (Some n) m some = (n, refl, cc)
 none-step : (after : Bool) (d : ℕ) (ds : List ℕ) → misplaced after (d ∷ ds) ≡ None →
     (is_in_place after d ds ≡ true) × (misplaced (is_letter d) ds ≡ None)
 none-step after d ds =
-    elim (is_in_place after d ds) as (λ b. (if b then option_map (λ n. length (encode_utf8 d) + n) (misplaced (is_letter d) ds) else Some 0) ≡ None → (b ≡ true) × (misplaced (is_letter d) ds ≡ None)) [
+    elim (is_in_place after d ds) as (λ b. (if b then option_map (λ n. length (encode_utf8 d) + n) (misplaced (is_letter d) ds) else Some 0) ≡ None
+    → (b ≡ true) × (misplaced (is_letter d) ds ≡ None)) [
       | true ↦ λ none. (refl, option_map-none (λ n. length (encode_utf8 d) + n) (misplaced (is_letter d) ds) none)
       | false ↦ λ none. absurd (cc)
     ]
 
 -- where some character is misplaced, it is the first, or it stands in the rest
 some-step : (after : Bool) (d : ℕ) (ds : List ℕ) (p : ℕ) → misplaced after (d ∷ ds) ≡ Some p →
-    ((is_in_place after d ds ≡ false) × (p ≡ 0)) ⊎ ((is_in_place after d ds ≡ true) × ((n : ℕ) × (misplaced (is_letter d) ds ≡ Some n) × (p ≡ length (encode_utf8 d) + n)))
+    ((is_in_place after d ds ≡ false) × (p ≡ 0))
+    ⊎ ((is_in_place after d ds ≡ true) × ((n : ℕ) × (misplaced (is_letter d) ds ≡ Some n) × (p ≡ length (encode_utf8 d) + n)))
 some-step after d ds p =
     elim (is_in_place after d ds) as (λ b. (if b then option_map (λ n. length (encode_utf8 d) + n) (misplaced (is_letter d) ds) else Some 0) ≡ Some p →
     ((b ≡ false) × (p ≡ 0)) ⊎ ((b ≡ true) × ((n : ℕ) × (misplaced (is_letter d) ds ≡ Some n) × (p ≡ length (encode_utf8 d) + n)))) [

@@ -1,67 +1,77 @@
 -- What a session sees is a function of what it hears, over whole runs.
-use Rattle.std.proofs.Common.{◌≡◌, ℕ, ◌+◌, ◌-◌, ◌<◌, ◌≤◌, ◌==◌, Bool, true, false, cond, List, [], ◌∷◌, ◌++◌, length, Option, Some, None, option_map, refl, sym, ap, subst, ◌∙◌, arith}
+use Rattle.std.proofs.Common.{◌≡◌, ℕ, ◌+◌, ◌-◌, ◌<◌, ◌≤◌, ◌==◌, Bool, true, false, cond, List, [], ◌∷◌, ◌++◌, Option, Some, None, option_map, refl, sym, ap, subst, ◌∙◌, arith}
 use Rattle.std.specs.List.{flat_map}
 use Rattle.std.specs.Option.{option_map_or}
-use Rattle.std.proofs.lemmas.Bool.{false≢true}
-use Rattle.std.proofs.lemmas.Option.{none-some}
+use Rattle.std.proofs.lemmas.Bool.{false≢true, eqb-true, ne_eqb}
+use Rattle.std.proofs.lemmas.Option.{none-some, same_Some}
 use Rattle.codeco_terms.specs.GrammarParts.{GrammarParts}
 use Rattle.lexicon.specs.Words.{Listed}
-use Rattle.sessions.specs.Sessions.{PlainSession, session_of}
+use Rattle.sessions.specs.Sessions.{PlainSession}
 use Rattle.wiki_talk.specs.declared.statuses.Status.{Status}
 use Rattle.wiki_talk.specs.declared.refusals.Refusal.TheVariants.{NoSession}
 use Rattle.wiki_talk.specs.declared.replies.Reply.{Reply}
 use Rattle.wiki_talk.specs.declared.replies.Reply.TheVariants as replies
 use Rattle.wiki_talk.specs.declared.requests.Request.{Request}
 use Rattle.wiki_talk.specs.declared.requests.Request.TheVariants as requests
-use Rattle.wiki_talk.specs.Turns.{Exchange, answered, no_request, Turn, Turns}
+use Rattle.wiki_talk.specs.Turns.{Exchange, answered, no_request, Turns}
 use Rattle.wiki_core.specs.State.{State, first_state}
 use Rattle.wiki_core.specs.Causes.{session_numbered}
 use Rattle.wiki_core.specs.Step.{StepsSession, Step}
 use Rattle.wiki_core.specs.Apart as apart
-use Rattle.wiki_core.proofs.KeyLaws.{eq_is, eq_other, some_is}
-use Rattle.wiki_core.proofs.SeenLemmas.{Own, own, own_of, RebasesOwn, ended}
+use Rattle.wiki_core.proofs.SeenLemmas.{Own, own, RebasesOwn, ended}
 use Rattle.wiki_core.proofs.HearLemmas.{Seen, Follows, follows_one, follows_append}
-use Rattle.wiki_core.proofs.RunLemmas.{seen, IsApt, Shows, shows_same, session_told, tells_commit, tells_begin, word_shows, reword_shows, unword_shows, other_shows, put_shows, back_shows, drop_shows, commit_shows, put_other, back_other, drop_other, commit_other, commit_refused, menu_shows, refresh_shows, begin_other, begin_shows}
+use Rattle.wiki_core.proofs.RunLemmas.{seen, IsApt, Shows, shows_same, session_told, tells_begin, word_shows, reword_shows, unword_shows, other_shows, put_shows, back_shows, drop_shows, commit_shows, put_other, back_other, drop_other, commit_other, commit_refused, menu_shows, refresh_shows, begin_other, begin_shows}
 
 module _ (g : GrammarParts) (old new : State) (number : ℕ) (over : old.pages.grammar ≡ g) (apt : IsApt old) where
   -- a step while the session is open
-  pub open_step : number ≤ old.last → (request : Request) (reply : Reply) → Step old request reply new → Shows g old new number (apart.heard_open number (answered request reply))
+  pub open_step : number ≤ old.last → (request : Request) (reply : Reply) → Step old request reply new
+      → Shows g old new number (apart.heard_open number (answered request reply))
   open_step below (requests.Word kind forms) reply step = word_shows g old new number over apt kind forms reply step
   open_step below (requests.Find word) reply step = other_shows g old new number over apt (requests.Find word) reply refl step.pages step.sessions step.last
   open_step below requests.Words reply step = other_shows g old new number over apt requests.Words reply refl step.pages step.sessions step.last
   open_step below (requests.Parse text) reply step = other_shows g old new number over apt (requests.Parse text) reply refl step.pages step.sessions step.last
   open_step below (requests.Reword form forms) reply step = reword_shows g old new number over apt form forms reply step
   open_step below (requests.Unword form) reply step = unword_shows g old new number over apt form reply step
-  open_step below (requests.Add article given text) reply step = other_shows g old new number over apt (requests.Add article given text) reply refl step.pages step.sessions step.last
-  open_step below (requests.Edit article place text) reply step = other_shows g old new number over apt (requests.Edit article place text) reply refl step.pages step.sessions step.last
-  open_step below (requests.Remove article place) reply step = other_shows g old new number over apt (requests.Remove article place) reply refl step.pages step.sessions step.last
-  open_step below (requests.Retract article place) reply step = other_shows g old new number over apt (requests.Retract article place) reply refl step.pages step.sessions step.last
-  open_step below (requests.Reassert article place) reply step = other_shows g old new number over apt (requests.Reassert article place) reply refl step.pages step.sessions step.last
-  open_step below (requests.Read article) reply step = other_shows g old new number over apt (requests.Read article) reply refl step.pages step.sessions step.last
-  open_step below (requests.Axioms article place) reply step = other_shows g old new number over apt (requests.Axioms article place) reply refl step.pages step.sessions step.last
-  open_step below (requests.Begin form) reply step = begin_other g old new number over apt form reply (eq_other (old.last + 1) number (λ same. omega (arith, same, below))) step
+  open_step below (requests.Add article given text) reply step =
+      other_shows g old new number over apt (requests.Add article given text) reply refl step.pages step.sessions step.last
+  open_step below (requests.Edit article place text) reply step =
+      other_shows g old new number over apt (requests.Edit article place text) reply refl step.pages step.sessions step.last
+  open_step below (requests.Remove article place) reply step =
+      other_shows g old new number over apt (requests.Remove article place) reply refl step.pages step.sessions step.last
+  open_step below (requests.Retract article place) reply step =
+      other_shows g old new number over apt (requests.Retract article place) reply refl step.pages step.sessions step.last
+  open_step below (requests.Reassert article place) reply step =
+      other_shows g old new number over apt (requests.Reassert article place) reply refl step.pages step.sessions step.last
+  open_step below (requests.Read article) reply step =
+      other_shows g old new number over apt (requests.Read article) reply refl step.pages step.sessions step.last
+  open_step below (requests.Axioms article place) reply step =
+      other_shows g old new number over apt (requests.Axioms article place) reply refl step.pages step.sessions step.last
+  open_step below (requests.Begin form) reply step =
+      begin_other g old new number over apt form reply (ne_eqb (old.last + 1) number (λ same. omega (arith, same, below))) step
   open_step below (requests.Put n text) reply step = by_test (n == number) refl
     where
       by_test : (b : Bool) → (n == number) ≡ b → Shows g old new number (cond b (apart.typed text ∷ []) [])
-      by_test true is = put_shows g old new number over apt text reply (subst (λ (k : ℕ). StepsSession old (requests.Put k text) reply new) (eq_is n number is) step)
+      by_test true is = put_shows g old new number over apt text reply
+          (subst (λ (k : ℕ). StepsSession old (requests.Put k text) reply new) (eqb-true n number is) step)
       by_test false is = put_other g old new number over apt n text reply is step
   open_step below (requests.Back n) reply step = by_test (n == number) refl
     where
       by_test : (b : Bool) → (n == number) ≡ b → Shows g old new number (cond b (apart.stepped_back ∷ []) [])
-      by_test true is = back_shows g old new number over apt reply (subst (λ (k : ℕ). StepsSession old (requests.Back k) reply new) (eq_is n number is) step)
+      by_test true is = back_shows g old new number over apt reply (subst (λ (k : ℕ). StepsSession old (requests.Back k) reply new) (eqb-true n number is) step)
       by_test false is = back_other g old new number over apt n reply is step
   open_step below (requests.Menu n) reply step = menu_shows g old new number over apt n reply step
   open_step below (requests.Commit n) (replies.Commit form status text) step = by_test (n == number) refl
     where
       by_test : (b : Bool) → (n == number) ≡ b → Shows g old new number (cond b (apart.committed ∷ []) [])
-      by_test true is = commit_shows g old new number over apt form status text (subst (λ (k : ℕ). StepsSession old (requests.Commit k) (replies.Commit form status text) new) (eq_is n number is) step)
+      by_test true is = commit_shows g old new number over apt form status text
+          (subst (λ (k : ℕ). StepsSession old (requests.Commit k) (replies.Commit form status text) new) (eqb-true n number is) step)
       by_test false is = commit_other g old new number over apt n form status text is step
   open_step below (requests.Commit n) reply step = commit_refused g old new number over apt n reply refl step
   open_step below (requests.Refresh n) reply step = refresh_shows g old new number over apt n reply step
   open_step below (requests.Drop n) reply step = by_test (n == number) refl
     where
       by_test : (b : Bool) → (n == number) ≡ b → Shows g old new number (cond b (apart.dropped ∷ []) [])
-      by_test true is = drop_shows g old new number over apt reply (subst (λ (k : ℕ). StepsSession old (requests.Drop k) reply new) (eq_is n number is) step)
+      by_test true is = drop_shows g old new number over apt reply (subst (λ (k : ℕ). StepsSession old (requests.Drop k) reply new) (eqb-true n number is) step)
       by_test false is = drop_other g old new number over apt n reply is step
 
   -- ---- before the session is open
@@ -69,20 +79,23 @@ module _ (g : GrammarParts) (old new : State) (number : ℕ) (over : old.pages.g
   module _ (none : session_numbered old number ≡ None) where
     put_none : (n : ℕ) (text : List ℕ) (reply : Reply) → (n == number) ≡ true → StepsSession old (requests.Put n text) reply new → Shows g old new number []
     put_none n text (replies.Refused refusal) is step = shows_same g old new number over apt step.1
-    put_none n text reply is step = absurd (none-some step.1.session (sym none ∙ ap (session_numbered old) (sym (eq_is n number is)) ∙ step.1.named))
+    put_none n text reply is step = absurd (none-some step.1.session (sym none ∙ ap (session_numbered old) (sym (eqb-true n number is)) ∙ step.1.named))
 
     back_none : (n : ℕ) (reply : Reply) → (n == number) ≡ true → StepsSession old (requests.Back n) reply new → Shows g old new number []
     back_none n (replies.Refused refusal) is step = shows_same g old new number over apt step.1
-    back_none n reply is step = absurd (none-some step.1.session (sym none ∙ ap (session_numbered old) (sym (eq_is n number is)) ∙ step.1.named))
+    back_none n reply is step = absurd (none-some step.1.session (sym none ∙ ap (session_numbered old) (sym (eqb-true n number is)) ∙ step.1.named))
 
     drop_none : (n : ℕ) (reply : Reply) → (n == number) ≡ true → StepsSession old (requests.Drop n) reply new → Shows g old new number []
     drop_none n (replies.Refused refusal) is step = shows_same g old new number over apt step.1
-    drop_none n reply is step = absurd (step.0 (NoSession n) (record { none = ap (session_numbered old) (eq_is n number is) ∙ none; told = refl }))
+    drop_none n reply is step = absurd (step.0 (NoSession n) (record { none = ap (session_numbered old) (eqb-true n number is) ∙ none; told = refl }))
 
-    commit_none : (n : ℕ) (form : List ℕ) (status : Status) (text : List ℕ) → (n == number) ≡ true → StepsSession old (requests.Commit n) (replies.Commit form status text) new → Shows g old new number []
-    commit_none n form status text is step = absurd (none-some step.1.session (sym none ∙ ap (session_numbered old) (sym (eq_is n number is)) ∙ step.1.named))
+    commit_none : (n : ℕ) (form : List ℕ) (status : Status) (text : List ℕ) → (n == number) ≡ true
+        → StepsSession old (requests.Commit n) (replies.Commit form status text) new → Shows g old new number []
+    commit_none n form status text is step =
+        absurd (none-some step.1.session (sym none ∙ ap (session_numbered old) (sym (eqb-true n number is)) ∙ step.1.named))
 
-    begin_none : (form : List ℕ) (reply : Reply) → apart.opened_by number (answered (requests.Begin form) reply) ≡ None → StepsSession old (requests.Begin form) reply new → Shows g old new number []
+    begin_none : (form : List ℕ) (reply : Reply) → apart.opened_by number (answered (requests.Begin form) reply) ≡ None
+        → StepsSession old (requests.Begin form) reply new → Shows g old new number []
     begin_none form (replies.Refused refusal) not_this step = shows_same g old new number over apt step.1
     begin_none form (replies.Begin session) not_this step =
         begin_other g old new number over apt form (replies.Begin session)
@@ -94,20 +107,30 @@ module _ (g : GrammarParts) (old new : State) (number : ℕ) (over : old.pages.g
     begin_none form reply not_this step = absurd (false≢true (ap tells_begin step.1.answer))
 
     -- a step before the session is open, which doesn't open it
-    pub before_step : (request : Request) (reply : Reply) → apart.opened_by number (answered request reply) ≡ None → Step old request reply new → Shows g old new number (apart.heard_of_words (answered request reply))
+    pub before_step : (request : Request) (reply : Reply) → apart.opened_by number (answered request reply) ≡ None → Step old request reply new
+        → Shows g old new number (apart.heard_of_words (answered request reply))
     before_step (requests.Word kind forms) reply not_this step = word_shows g old new number over apt kind forms reply step
-    before_step (requests.Find word) reply not_this step = other_shows g old new number over apt (requests.Find word) reply refl step.pages step.sessions step.last
+    before_step (requests.Find word) reply not_this step =
+        other_shows g old new number over apt (requests.Find word) reply refl step.pages step.sessions step.last
     before_step requests.Words reply not_this step = other_shows g old new number over apt requests.Words reply refl step.pages step.sessions step.last
-    before_step (requests.Parse text) reply not_this step = other_shows g old new number over apt (requests.Parse text) reply refl step.pages step.sessions step.last
+    before_step (requests.Parse text) reply not_this step =
+        other_shows g old new number over apt (requests.Parse text) reply refl step.pages step.sessions step.last
     before_step (requests.Reword form forms) reply not_this step = reword_shows g old new number over apt form forms reply step
     before_step (requests.Unword form) reply not_this step = unword_shows g old new number over apt form reply step
-    before_step (requests.Add article given text) reply not_this step = other_shows g old new number over apt (requests.Add article given text) reply refl step.pages step.sessions step.last
-    before_step (requests.Edit article place text) reply not_this step = other_shows g old new number over apt (requests.Edit article place text) reply refl step.pages step.sessions step.last
-    before_step (requests.Remove article place) reply not_this step = other_shows g old new number over apt (requests.Remove article place) reply refl step.pages step.sessions step.last
-    before_step (requests.Retract article place) reply not_this step = other_shows g old new number over apt (requests.Retract article place) reply refl step.pages step.sessions step.last
-    before_step (requests.Reassert article place) reply not_this step = other_shows g old new number over apt (requests.Reassert article place) reply refl step.pages step.sessions step.last
-    before_step (requests.Read article) reply not_this step = other_shows g old new number over apt (requests.Read article) reply refl step.pages step.sessions step.last
-    before_step (requests.Axioms article place) reply not_this step = other_shows g old new number over apt (requests.Axioms article place) reply refl step.pages step.sessions step.last
+    before_step (requests.Add article given text) reply not_this step =
+        other_shows g old new number over apt (requests.Add article given text) reply refl step.pages step.sessions step.last
+    before_step (requests.Edit article place text) reply not_this step =
+        other_shows g old new number over apt (requests.Edit article place text) reply refl step.pages step.sessions step.last
+    before_step (requests.Remove article place) reply not_this step =
+        other_shows g old new number over apt (requests.Remove article place) reply refl step.pages step.sessions step.last
+    before_step (requests.Retract article place) reply not_this step =
+        other_shows g old new number over apt (requests.Retract article place) reply refl step.pages step.sessions step.last
+    before_step (requests.Reassert article place) reply not_this step =
+        other_shows g old new number over apt (requests.Reassert article place) reply refl step.pages step.sessions step.last
+    before_step (requests.Read article) reply not_this step =
+        other_shows g old new number over apt (requests.Read article) reply refl step.pages step.sessions step.last
+    before_step (requests.Axioms article place) reply not_this step =
+        other_shows g old new number over apt (requests.Axioms article place) reply refl step.pages step.sessions step.last
     before_step (requests.Begin form) reply not_this step = begin_none form reply not_this step
     before_step (requests.Put n text) reply not_this step = by_test (n == number) refl
       where
@@ -144,7 +167,8 @@ rebases_none g words None is none rebased = rebased
 rebases_none g words (Some own) is none rebased = absurd (none-some own (sym none))
 
 -- changes of words open no session
-none_follows : (g : GrammarParts) (old new : Seen) (request : Request) (reply : Reply) → Follows g old (apart.heard_of_words (answered request reply)) new → old.own ≡ None → new.own ≡ None
+none_follows : (g : GrammarParts) (old new : Seen) (request : Request) (reply : Reply) → Follows g old (apart.heard_of_words (answered request reply)) new
+    → old.own ≡ None → new.own ≡ None
 none_follows g old new (requests.Word kind forms) replies.Word follows none =
     ap (λ (s : Seen). s.own) follows.2 ∙ rebases_none g follows.0.words old.own follows.0.own none follows.1.1
 none_follows g old new (requests.Reword form forms) replies.Reword follows none =
@@ -159,54 +183,66 @@ pub record Opens (number : ℕ) (request : Request) (reply : Reply) (form : List
   pub asked : request ≡ requests.Begin form
   pub told : reply ≡ replies.Begin number
 
-opens_by : (number : ℕ) (request : Request) (reply : Reply) (form : List ℕ) → apart.opened_by number (answered request reply) ≡ Some form → Opens number request reply form
-opens_by number (requests.Begin article) (replies.Begin session) form is = by_test (session == number) (eq_is session number) is
+opens_by : (number : ℕ) (request : Request) (reply : Reply) (form : List ℕ) → apart.opened_by number (answered request reply) ≡ Some form
+    → Opens number request reply form
+opens_by number (requests.Begin article) (replies.Begin session) form is = by_test (session == number) (eqb-true session number) is
   where
-    by_test : (b : Bool) → (b ≡ true → session ≡ number) → cond b (Some article) None ≡ Some form → Opens number (requests.Begin article) (replies.Begin session) form
-    by_test true same is = record { asked = ap requests.Begin (some_is article form is); told = ap replies.Begin (same refl) }
+    by_test : (b : Bool) → (b ≡ true → session ≡ number) → cond b (Some article) None ≡ Some form
+        → Opens number (requests.Begin article) (replies.Begin session) form
+    by_test true same is = record { asked = ap requests.Begin (same_Some article form is); told = ap replies.Begin (same refl) }
     by_test false same is = absurd (none-some form is)
 opens_by number request reply form is = absurd (none-some form is)
 
 -- ---- runs
 
 -- all turns while the session is open
-run_open : (g : GrammarParts) (number : ℕ) (exchanges : List (Exchange Request Reply)) (old last : State) → old.pages.grammar ≡ g → IsApt old → number ≤ old.last → Turns Step old exchanges last
+run_open : (g : GrammarParts) (number : ℕ) (exchanges : List (Exchange Request Reply)) (old last : State) → old.pages.grammar ≡ g → IsApt old
+    → number ≤ old.last → Turns Step old exchanges last
     → Follows g (seen old number) (flat_map (apart.heard_open number) exchanges) (seen last number)
 run_open g number [] old last over apt below turns = ap (λ (s : State). seen s number) turns
 run_open g number (no_request ∷ exchanges) old last over apt below (next, same, rest) =
     subst (λ (s : State). Follows g (seen s number) (flat_map (apart.heard_open number) exchanges) (seen last number)) same
-    (run_open g number exchanges next last (ap (λ (s : State). s.pages.grammar) same ∙ over) (subst IsApt (sym same) apt) (subst (λ (s : State). number ≤ s.last) (sym same) below) rest)
+    (run_open g number exchanges next last (ap (λ (s : State). s.pages.grammar) same ∙ over) (subst IsApt (sym same) apt)
+    (subst (λ (s : State). number ≤ s.last) (sym same) below) rest)
 run_open g number (answered request reply ∷ exchanges) old last over apt below (next, step, rest) =
     let shows = open_step g old next number over apt below request reply step in
     let later = shows.later in
-    follows_append g (seen old number) (apart.heard_open number (answered request reply)) (seen next number) (flat_map (apart.heard_open number) exchanges) (seen last number) shows.follows
+    follows_append g (seen old number) (apart.heard_open number (answered request reply)) (seen next number) (flat_map (apart.heard_open number) exchanges)
+    (seen last number) shows.follows
     (run_open g number exchanges next last shows.grammar shows.apt (omega (arith, below, later)) rest)
 
 -- all turns from before the session is open
-run_before : (g : GrammarParts) (number : ℕ) (exchanges : List (Exchange Request Reply)) (old last : State) → old.pages.grammar ≡ g → IsApt old → session_numbered old number ≡ None
+run_before : (g : GrammarParts) (number : ℕ) (exchanges : List (Exchange Request Reply)) (old last : State) → old.pages.grammar ≡ g → IsApt old
+    → session_numbered old number ≡ None
     → Turns Step old exchanges last → Follows g (seen old number) (apart.heard_by number exchanges) (seen last number)
 run_before g number [] old last over apt none turns = ap (λ (s : State). seen s number) turns
 run_before g number (no_request ∷ exchanges) old last over apt none (next, same, rest) =
     subst (λ (s : State). Follows g (seen s number) (apart.heard_by number exchanges) (seen last number)) same
-    (run_before g number exchanges next last (ap (λ (s : State). s.pages.grammar) same ∙ over) (subst IsApt (sym same) apt) (subst (λ (s : State). session_numbered s number ≡ None) (sym same) none) rest)
+    (run_before g number exchanges next last (ap (λ (s : State). s.pages.grammar) same ∙ over) (subst IsApt (sym same) apt)
+    (subst (λ (s : State). session_numbered s number ≡ None) (sym same) none) rest)
 run_before g number (answered request reply ∷ exchanges) old last over apt none (next, step, rest) =
     by_case (apart.opened_by number (answered request reply)) refl (run_before g number exchanges next last)
   where
     by_case : (o : Option (List ℕ)) → apart.opened_by number (answered request reply) ≡ o
-        → (next.pages.grammar ≡ g → IsApt next → session_numbered next number ≡ None → Turns Step next exchanges last → Follows g (seen next number) (apart.heard_by number exchanges) (seen last number))
+        → (next.pages.grammar ≡ g → IsApt next → session_numbered next number ≡ None → Turns Step next exchanges last
+        → Follows g (seen next number) (apart.heard_by number exchanges) (seen last number))
         → Follows g (seen old number)
-        (option_map_or (λ form. apart.opened form ∷ flat_map (apart.heard_open number) exchanges) o (apart.heard_of_words (answered request reply) ++ apart.heard_by number exchanges)) (seen last number)
+        (option_map_or (λ form. apart.opened form ∷ flat_map (apart.heard_open number) exchanges) o
+        (apart.heard_of_words (answered request reply) ++ apart.heard_by number exchanges)) (seen last number)
     by_case None is going_on =
         let shows = before_step g old next number over apt none request reply is step in
-        let still = none_seen (session_numbered next number) (none_follows g (seen old number) (seen next number) request reply shows.follows (ap (option_map own) none)) in
-        follows_append g (seen old number) (apart.heard_of_words (answered request reply)) (seen next number) (apart.heard_by number exchanges) (seen last number) shows.follows
+        let still = none_seen (session_numbered next number)
+        (none_follows g (seen old number) (seen next number) request reply shows.follows (ap (option_map own) none)) in
+        follows_append g (seen old number) (apart.heard_of_words (answered request reply)) (seen next number) (apart.heard_by number exchanges)
+        (seen last number) shows.follows
         (going_on shows.grammar shows.apt still rest)
     by_case (Some form) is going_on =
         let opens = opens_by number request reply form is in
         let step_on : StepsSession old (requests.Begin form) (replies.Begin number) next =
         subst (λ (r : Reply). Step old (requests.Begin form) r next) opens.told (subst (λ (q : Request). Step old q reply next) opens.asked step) in
         let shows = begin_shows g old next number over apt form none step_on in
-        follows_append g (seen old number) (apart.opened form ∷ []) (seen next number) (flat_map (apart.heard_open number) exchanges) (seen last number) shows.0.follows
+        follows_append g (seen old number) (apart.opened form ∷ []) (seen next number) (flat_map (apart.heard_open number) exchanges) (seen last number)
+        shows.0.follows
         (run_open g number exchanges next last shows.0.grammar shows.0.apt shows.1 rest)
 
 -- the tokens are seen

@@ -1,14 +1,13 @@
 -- A session's tokens that become a sentence.
-use Rattle.std.proofs.Common.{◌≡◌, ℕ, ◌+◌, ◌≤◌, ◌==◌, Bool, cond, List, [], ◌∷◌, length, Option, Some, None, option_map, IfSome, refl, sym, ap, subst, ◌∙◌, arith}
+use Rattle.std.proofs.Common.{◌≡◌, ℕ, ◌+◌, ◌≤◌, ◌==◌, Bool, cond, List, [], ◌∷◌, Option, Some, option_map, IfSome, refl, sym, ap, subst, ◌∙◌, arith}
+use Rattle.std.proofs.lemmas.Option.{same_Some}
 use Rattle.wiki_base.specs.declared.numbers.WordId.{WordId}
 use Rattle.wiki_base.specs.declared.numbers.Rev.{Rev}
-use Rattle.wiki_base.specs.declared.numbers.SessionId.{SessionId}
 use Rattle.logic_terms.specs.Concept.{Claim}
 use Rattle.logic_terms.specs.Reading.{IsModel}
 use Rattle.wiki_talk.specs.declared.statuses.Status.{Status}
 use Rattle.wiki_talk.specs.declared.statuses.Status.TheVariants.{Asserted, RedBudget}
 use Rattle.wiki_talk.specs.declared.refusals.Refusal.{Refusal}
-use Rattle.wiki_talk.specs.declared.replies.Reply.{Reply}
 use Rattle.wiki_talk.specs.declared.replies.Reply.TheVariants as replies
 use Rattle.articles.specs.declared.sentences.Sentence.{Sentence}
 use Rattle.articles.specs.declared.article.Article.{Article}
@@ -24,13 +23,12 @@ use Rattle.wiki_store.specs.Appending.{with_appended, SpendsAtEnd}
 use Rattle.wiki_core.specs.declared.committing.Draft.{Draft}
 use Rattle.wiki_core.specs.State.{State}
 use Rattle.wiki_core.specs.Holding.{Holding, pages_held}
-use Rattle.wiki_core.specs.Causes.{session_numbered}
 use Rattle.wiki_core.specs.Step.{CommitsSession}
 use Rattle.wiki_core.specs.Spending.{CommitSpendsBeyondKept}
 use Rattle.wiki_core.specs.Drafts.{IsDraftOf}
 use Rattle.wiki_core.specs.Keeping.{AreHeld}
-use Rattle.wiki_core.proofs.KeyLaws.{changed_at, find_changed, found_passes, some_is}
-use Rattle.wiki_core.proofs.PagesLemmas.{GoOn, go_on_changed}
+use Rattle.wiki_core.proofs.KeyLaws.{changed_at, find_changed, found_passes}
+use Rattle.wiki_core.proofs.PagesLemmas.{go_on_changed}
 use Rattle.wiki_core.proofs.HeldLemmas.{Fits, on_there, plain_in_order, held_changed}
 
 -- the session that begins its next sentence
@@ -40,7 +38,8 @@ begun revision session = with_revision revision (with_tokens (λ _. []) session)
 -- none of five causes stands where none of them does
 pub none_of_five : (a b c d e : Refusal → Type 0) → IsAbsent a → IsAbsent b → IsAbsent c → IsAbsent d → IsAbsent e → IsAbsent (FirstOf (a ∷ b ∷ c ∷ d ∷ e ∷ []))
 none_of_five a b c d e no_a no_b no_c no_d no_e =
-    none_stands a (b ∷ c ∷ d ∷ e ∷ []) no_a (none_stands b (c ∷ d ∷ e ∷ []) no_b (none_stands c (d ∷ e ∷ []) no_c (none_stands d (e ∷ []) no_d (none_stands e [] no_e nothing_stands))))
+    none_stands a (b ∷ c ∷ d ∷ e ∷ []) no_a
+    (none_stands b (c ∷ d ∷ e ∷ []) no_b (none_stands c (d ∷ e ∷ []) no_c (none_stands d (e ∷ []) no_d (none_stands e [] no_e nothing_stands))))
 
 -- none of three causes stands where none of them does
 pub none_of_three : (a b c : Refusal → Type 0) → IsAbsent a → IsAbsent b → IsAbsent c → IsAbsent (FirstOf (a ∷ b ∷ c ∷ []))
@@ -51,10 +50,14 @@ abbrev pub state_of : parts.State → List PlainSession → ℕ → State
 state_of pages sessions last = record { pages = pages; sessions = sessions; last = last }
 
 -- the commit of a draft that was stored
-pub commits : (pages : parts.State) (sessions : List PlainSession) (last number : ℕ) (draft : Draft) (status : Status) (new_pages : parts.State) (new_sessions : List PlainSession)
-    → IsDraftOf (record { pages = pages; sessions = sessions; last = last }) number draft → GetStatus (with_appended pages draft.word draft.tokens Asserted) draft.tokens status
-    → new_pages ≡ with_appended pages draft.word draft.tokens status → new_sessions ≡ with_change sessions (record { 0 = number }) (begun (record { 0 = draft.revision.0 + 1 }))
-    → CommitsSession (record { pages = pages; sessions = sessions; last = last }) number (replies.Commit draft.form status draft.shown) (record { pages = new_pages; sessions = new_sessions; last = last })
+pub commits : (pages : parts.State) (sessions : List PlainSession) (last number : ℕ) (draft : Draft) (status : Status) (new_pages : parts.State)
+    (new_sessions : List PlainSession)
+    → IsDraftOf (record { pages = pages; sessions = sessions; last = last }) number draft
+    → GetStatus (with_appended pages draft.word draft.tokens Asserted) draft.tokens status
+    → new_pages ≡ with_appended pages draft.word draft.tokens status
+    → new_sessions ≡ with_change sessions (record { 0 = number }) (begun (record { 0 = draft.revision.0 + 1 }))
+    → CommitsSession (record { pages = pages; sessions = sessions; last = last }) number (replies.Commit draft.form status draft.shown)
+    (record { pages = new_pages; sessions = new_sessions; last = last })
 commits pages sessions last number draft status new_pages new_sessions is gets pages_after sessions_after = record {
   session = is.session;
   named = is.named;
@@ -67,8 +70,10 @@ commits pages sessions last number draft status new_pages new_sessions is gets p
       (subst (λ (word : WordId). GetStatus (with_appended pages word draft.tokens Asserted) draft.tokens status) is.word gets);
   answer = ap (λ (text : List ℕ). replies.Commit draft.form status text) is.shows;
   after =
-      same_state new_pages (with_appended pages is.session.article is.session.tokens status) new_sessions (with_change sessions (record { 0 = number }) (begun (record { 0 = is.article.revision.0 + 1 })))
-      (pages_after ∙ ap (λ (word : WordId). with_appended pages word draft.tokens status) is.word ∙ ap (λ (tokens : List (List ℕ)). with_appended pages is.session.article tokens status) is.tokens)
+      same_state new_pages (with_appended pages is.session.article is.session.tokens status) new_sessions
+      (with_change sessions (record { 0 = number }) (begun (record { 0 = is.article.revision.0 + 1 })))
+      (pages_after ∙ ap (λ (word : WordId). with_appended pages word draft.tokens status) is.word
+      ∙ ap (λ (tokens : List (List ℕ)). with_appended pages is.session.article tokens status) is.tokens)
       (sessions_after ∙ ap (λ (revision : Rev). with_change sessions (record { 0 = number }) (begun (record { 0 = revision.0 + 1 }))) is.revision);
 }
   where
@@ -76,17 +81,20 @@ commits pages sessions last number draft status new_pages new_sessions is gets p
     same_state p q ss ts same also = ap (λ (r : parts.State). state_of r ss last) same ∙ ap (λ (us : List PlainSession). state_of q us last) also
 
 -- a draft that is red for the budget
-pub commit_spends : (old : Holding) (number : ℕ) (draft : Draft) (status : Status) → IsDraftOf old.state number draft → SpendsAtEnd (pages_held old) draft.word draft.tokens status
+pub commit_spends : (old : Holding) (number : ℕ) (draft : Draft) (status : Status) → IsDraftOf old.state number draft
+    → SpendsAtEnd (pages_held old) draft.word draft.tokens status
     → CommitSpendsBeyondKept old number (replies.Commit draft.form status draft.shown)
 commit_spends old number draft status is spends told =
-    subst (λ (o : Option PlainSession). IfSome (option_map (λ session. with_appended old.state.pages session.article session.tokens Asserted) o) (λ taken. (claims : List Claim) → Knows taken claims → IsModel old.interpretation claims → ⊥))
+    subst (λ (o : Option PlainSession). IfSome (option_map (λ session. with_appended old.state.pages session.article session.tokens Asserted) o)
+    (λ taken. (claims : List Claim) → Knows taken claims → IsModel old.interpretation claims → ⊥))
     (sym is.named)
-    (λ claims known. spends (some_is status RedBudget told) claims
+    (λ claims known. spends (same_Some status RedBudget told) claims
     (subst (λ (word : WordId). Knows (with_appended old.state.pages word draft.tokens Asserted) claims) (sym is.word)
     (subst (λ (tokens : List (List ℕ)). Knows (with_appended old.state.pages is.session.article tokens Asserted) claims) (sym is.tokens) known)))
 
 -- a session that begins its next sentence fits its article
-begun_fits : (articles : List Article) (session : PlainSession) (article : Article) (change : List Sentence → List Sentence) (revision : Rev) (last : ℕ) → article_of articles session.article ≡ Some article
+begun_fits : (articles : List Article) (session : PlainSession) (article : Article) (change : List Sentence → List Sentence) (revision : Rev) (last : ℕ)
+    → article_of articles session.article ≡ Some article
     → revision.0 ≡ article.revision.0 + 1 → session.number.0 ≤ last → Fits (with_article articles session.article change) last (begun revision session)
 begun_fits articles session article change revision last there next numbered = record {
   on = record {
@@ -101,12 +109,15 @@ begun_fits articles session article change revision last there next numbered = r
 }
 
 -- what is kept of sessions after a commit
-pub commit_held : (pages after : parts.State) (old new : List Session) (last number : ℕ) (draft : Draft) (status : Status) → AreHeld pages old last → AreSessions old
+pub commit_held : (pages after : parts.State) (old new : List Session) (last number : ℕ) (draft : Draft) (status : Status) → AreHeld pages old last
+    → AreSessions old
     → IsDraftOf (record { pages = pages; sessions = all_plain old; last = last }) number draft → after ≡ with_appended pages draft.word draft.tokens status
-    → all_plain new ≡ with_change (all_plain old) (record { 0 = number }) (begun (record { 0 = draft.revision.0 + 1 })) → AreKeptOn old new → AreHeld after new last
+    → all_plain new ≡ with_change (all_plain old) (record { 0 = number }) (begun (record { 0 = draft.revision.0 + 1 })) → AreKeptOn old new
+    → AreHeld after new last
 commit_held pages after old new last number draft status held are is after_is changed_is kept_on =
     subst (λ (p : parts.State). AreHeld p new last) (sym after_here)
-    (held_changed pages (with_appended pages is.session.article draft.tokens status) old new last (record { 0 = number }) (begun (record { 0 = draft.revision.0 + 1 })) is.session held
+    (held_changed pages (with_appended pages is.session.article draft.tokens status) old new last (record { 0 = number })
+    (begun (record { 0 = draft.revision.0 + 1 })) is.session held
     (plain_in_order old are.in_order) is.named (go_on_changed pages.articles is.session.article _) (kept_on pages.grammar pages.words held.kept) changed_is
     (begun_fits pages.articles is.session is.article _ (record { 0 = draft.revision.0 + 1 }) last is.on (ap (λ (revision : Rev). revision.0 + 1) is.revision)
     (on_there pages old last (record { 0 = number }) is.session held is.named).numbered))

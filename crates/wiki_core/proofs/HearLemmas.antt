@@ -1,7 +1,7 @@
 -- What a session sees after what it hears is one thing.
-use Rattle.std.proofs.Common.{◌≡◌, ℕ, ◌+◌, ◌-◌, ◌<◌, ◌≤◌, ◌==◌, ◌⊎◌, Bool, true, false, cond, List, [], ◌∷◌, ◌++◌, length, map, take, min, Option, Some, None, option_map, refl, sym, ap, subst, ◌∙◌, arith, inl, inr}
+use Rattle.std.proofs.Common.{◌≡◌, ℕ, ◌+◌, ◌-◌, ◌<◌, ◌≤◌, ◌==◌, ◌⊎◌, List, [], ◌∷◌, ◌++◌, length, take, min, Option, Some, None, option_map, sym, ap, subst, ◌∙◌, arith, inl, inr}
 use Rattle.std.proofs.lemmas.List.{length-take}
-use Rattle.std.proofs.lemmas.Option.{none-some}
+use Rattle.std.proofs.lemmas.Option.{same_Some}
 use Rattle.wiki_base.specs.declared.numbers.WordId.{WordId}
 use Rattle.wiki_base.specs.declared.tokens.TheConstants.{MOST_TOKENS}
 use Rattle.codeco_terms.specs.GrammarParts.{GrammarParts}
@@ -14,7 +14,6 @@ use Rattle.wiki_talk.specs.declared.requests.Request.{Request}
 use Rattle.wiki_talk.specs.declared.requests.Request.TheVariants as requests
 use Rattle.wiki_parts.specs.Words.{forms_given}
 use Rattle.wiki_core.specs.Apart as apart
-use Rattle.wiki_core.proofs.KeyLaws.{some_is}
 use Rattle.wiki_core.proofs.SeenLemmas.{Own, RebasesOwn, ended}
 
 -- what a session sees: the words, and itself where it is open
@@ -26,18 +25,21 @@ pub record Seen : Type 0 where
 abbrev pub WordsChange : Listed → Request → Listed → Type 0
 WordsChange old (requests.Word kind forms) new = new ≡ with_word old (forms_given kind forms)
 WordsChange old (requests.Reword form texts) new =
-    (word : WordId) × (forms : Forms) × (owner old.live form ≡ Some word) × (forms_of old.live word ≡ Some forms) × (new ≡ with_forms old word (forms_given forms.kind texts))
+    (word : WordId) × (forms : Forms) × (owner old.live form ≡ Some word) × (forms_of old.live word ≡ Some forms)
+    × (new ≡ with_forms old word (forms_given forms.kind texts))
 WordsChange old (requests.Unword form) new = (word : WordId) × (owner old.live form ≡ Some word) × (new ≡ without_word old word)
 WordsChange old request new = ⊥
 
 -- what a session sees of itself by a request that changes words
 abbrev pub OwnChanges : GrammarParts → Listed → Request → Listed → Option Own → Option Own → Type 0
-OwnChanges g old (requests.Unword form) words was is = (word : WordId) × (mid : Option Own) × (owner old.live form ≡ Some word) × RebasesOwn g words was mid × (is ≡ ended word mid)
+OwnChanges g old (requests.Unword form) words was is =
+    (word : WordId) × (mid : Option Own) × (owner old.live form ≡ Some word) × RebasesOwn g words was mid × (is ≡ ended word mid)
 OwnChanges g old request words was is = RebasesOwn g words was is
 
 -- a text isn't typed behind tokens: there are too many, or it isn't in their menu
 abbrev pub IsNotTyped : GrammarParts → Listed → List ℕ → List (List ℕ) → Type 0
-IsNotTyped g words text tokens = (MOST_TOKENS ≤ length tokens) ⊎ ((MOST_TOKENS ≤ length tokens → ⊥) × (IsInMenu g words tokens (typed g.terminals tokens text) → ⊥))
+IsNotTyped g words text tokens = (MOST_TOKENS ≤ length tokens)
+    ⊎ ((MOST_TOKENS ≤ length tokens → ⊥) × (IsInMenu g words tokens (typed g.terminals tokens text) → ⊥))
 
 -- what a session sees of itself where a text is typed
 abbrev pub OwnTypes : GrammarParts → Listed → List ℕ → Option Own → Option Own → Type 0
@@ -55,7 +57,8 @@ own_emptied own = record { article = own.article; tokens = [] }
 
 -- what the session sees after what it hears
 abbrev pub Goes : GrammarParts → Seen → apart.Heard → Seen → Type 0
-Goes g old (apart.opened form) new = (new.words ≡ old.words) × ((word : WordId) × (owner old.words.live form ≡ Some word) × (new.own ≡ Some (record { article = word; tokens = [] })))
+Goes g old (apart.opened form) new = (new.words ≡ old.words)
+    × ((word : WordId) × (owner old.words.live form ≡ Some word) × (new.own ≡ Some (record { article = word; tokens = [] })))
 Goes g old (apart.typed text) new = (new.words ≡ old.words) × OwnTypes g old.words text old.own new.own
 Goes g old apart.stepped_back new = (new.words ≡ old.words) × (new.own ≡ option_map own_back old.own)
 Goes g old apart.committed new = (new.words ≡ old.words) × (new.own ≡ option_map own_emptied old.own)
@@ -63,10 +66,12 @@ Goes g old apart.dropped new = (new.words ≡ old.words) × (new.own ≡ None)
 Goes g old (apart.changed request) new = WordsChange old.words request new.words × OwnChanges g old.words request new.words old.own new.own
 
 pub seen_is : (a b : Seen) → a.words ≡ b.words → a.own ≡ b.own → a ≡ b
-seen_is a b same_words same_own = ap (λ (words : Listed). record { words = words; own = a.own }) same_words ∙ ap (λ (own : Option Own). record { words = b.words; own = own }) same_own
+seen_is a b same_words same_own = ap (λ (words : Listed). record { words = words; own = a.own }) same_words
+    ∙ ap (λ (own : Option Own). record { words = b.words; own = own }) same_own
 
 -- rebased tokens are one
-rebased_one : (g : GrammarParts) (words : Listed) (tokens one other : List (List ℕ)) → IsRebased g words tokens one → IsRebased g words tokens other → other ≡ one
+rebased_one : (g : GrammarParts) (words : Listed) (tokens one other : List (List ℕ)) → IsRebased g words tokens one → IsRebased g words tokens other
+    → other ≡ one
 rebased_one g words tokens one other is its =
     let within = fits one is.prefix in
     let its_within = fits other its.prefix in
@@ -76,7 +81,8 @@ rebased_one g words tokens one other is its =
     sym its.prefix ∙ ap (λ (n : ℕ). take n tokens) same ∙ is.prefix
   where
     fits : (front : List (List ℕ)) → take (length front) tokens ≡ front → length front ≤ length tokens
-    fits front prefix = let same : min (length front) (length tokens) ≡ length front = sym (length-take (length front) tokens) ∙ ap (λ (ts : List (List ℕ)). length ts) prefix in omega (arith, same)
+    fits front prefix = let same : min (length front) (length tokens) ≡ length front =
+        sym (length-take (length front) tokens) ∙ ap (λ (ts : List (List ℕ)). length ts) prefix in omega (arith, same)
 
     typeable_again : (front : List (List ℕ)) → (is : IsRebased g words tokens front) → IsTypeable g words (take (length front) tokens)
     typeable_again front is = subst (IsTypeable g words) (sym is.prefix) is.typeable
@@ -84,28 +90,32 @@ rebased_one g words tokens one other is its =
 own_rebased_one : (g : GrammarParts) (words : Listed) (was one other : Option Own) → RebasesOwn g words was one → RebasesOwn g words was other → other ≡ one
 own_rebased_one g words None one other is its = its ∙ sym is
 own_rebased_one g words (Some old) one other (tokens, rebased, is) (its_tokens, its_rebased, its) =
-    its ∙ ap (λ (ts : List (List ℕ)). Some (record { article = old.article; tokens = ts })) (rebased_one g words old.tokens tokens its_tokens rebased its_rebased) ∙ sym is
+    its ∙ ap (λ (ts : List (List ℕ)). Some (record { article = old.article; tokens = ts }))
+    (rebased_one g words old.tokens tokens its_tokens rebased its_rebased) ∙ sym is
 
 words_one : (old : Listed) (request : Request) (one other : Listed) → WordsChange old request one → WordsChange old request other → other ≡ one
 words_one old (requests.Word kind forms) one other is its = its ∙ sym is
 words_one old (requests.Reword form texts) one other (word, forms, named, of_word, is) (its_word, its_forms, its_named, its_of_word, its) =
-    let same_word : its_word ≡ word = some_is its_word word (sym its_named ∙ named) in
-    let same_forms : its_forms ≡ forms = some_is its_forms forms (sym its_of_word ∙ ap (forms_of old.live) same_word ∙ of_word) in
-    its ∙ ap (λ (w : WordId). with_forms old w (forms_given its_forms.kind texts)) same_word ∙ ap (λ (f : Forms). with_forms old word (forms_given f.kind texts)) same_forms ∙ sym is
+    let same_word : its_word ≡ word = same_Some its_word word (sym its_named ∙ named) in
+    let same_forms : its_forms ≡ forms = same_Some its_forms forms (sym its_of_word ∙ ap (forms_of old.live) same_word ∙ of_word) in
+    its ∙ ap (λ (w : WordId). with_forms old w (forms_given its_forms.kind texts)) same_word
+    ∙ ap (λ (f : Forms). with_forms old word (forms_given f.kind texts)) same_forms ∙ sym is
 words_one old (requests.Unword form) one other (word, named, is) (its_word, its_named, its) =
-    let same_word : its_word ≡ word = some_is its_word word (sym its_named ∙ named) in
+    let same_word : its_word ≡ word = same_Some its_word word (sym its_named ∙ named) in
     its ∙ ap (without_word old) same_word ∙ sym is
 words_one old request one other is its = absurd is
 
 -- where words change to the same, the session sees the same of itself
-own_one : (g : GrammarParts) (old : Listed) (request : Request) (words : Listed) (was one other : Option Own) → OwnChanges g old request words was one → OwnChanges g old request words was other → other ≡ one
+own_one : (g : GrammarParts) (old : Listed) (request : Request) (words : Listed) (was one other : Option Own) → OwnChanges g old request words was one
+    → OwnChanges g old request words was other → other ≡ one
 own_one g old (requests.Unword form) words was one other (word, mid, named, rebased, is) (its_word, its_mid, its_named, its_rebased, its) =
-    let same_word : its_word ≡ word = some_is its_word word (sym its_named ∙ named) in
+    let same_word : its_word ≡ word = same_Some its_word word (sym its_named ∙ named) in
     let same_mid = own_rebased_one g words was mid its_mid rebased its_rebased in
     its ∙ ap (λ (w : WordId). ended w its_mid) same_word ∙ ap (ended word) same_mid ∙ sym is
 own_one g old request words was one other is its = own_rebased_one g words was one other is its
 
-typed_one : (g : GrammarParts) (words : Listed) (text : List ℕ) (was one other : Option Own) → OwnTypes g words text was one → OwnTypes g words text was other → other ≡ one
+typed_one : (g : GrammarParts) (words : Listed) (text : List ℕ) (was one other : Option Own) → OwnTypes g words text was one → OwnTypes g words text was other
+    → other ≡ one
 typed_one g words text None one other is its = its ∙ sym is
 typed_one g words text (Some own) one other (inl (not_typed, is)) (inl (not_its, its)) = its ∙ sym is
 typed_one g words text (Some own) one other (inl (not_typed, is)) (inr (free, its)) = absurd (free not_typed)
@@ -115,7 +125,7 @@ typed_one g words text (Some own) one other (inr (free, is)) (inr (its_free, its
 -- after what is heard the same is seen
 pub goes_one : (g : GrammarParts) (old : Seen) (heard : apart.Heard) (one other : Seen) → Goes g old heard one → Goes g old heard other → other ≡ one
 goes_one g old (apart.opened form) one other (same, (word, named, is)) (its_same, (its_word, its_named, its)) =
-    let same_word : its_word ≡ word = some_is its_word word (sym its_named ∙ named) in
+    let same_word : its_word ≡ word = same_Some its_word word (sym its_named ∙ named) in
     seen_is other one (its_same ∙ sym same) (its ∙ ap (λ (w : WordId). Some (record { article = w; tokens = [] })) same_word ∙ sym is)
 goes_one g old (apart.typed text) one other is its = seen_is other one (its.0 ∙ sym is.0) (typed_one g old.words text old.own one.own other.own is.1 its.1)
 goes_one g old apart.stepped_back one other is its = seen_is other one (its.0 ∙ sym is.0) (its.1 ∙ sym is.1)
@@ -131,12 +141,14 @@ abbrev pub Follows : GrammarParts → Seen → List apart.Heard → Seen → Typ
 Follows g old [] new = new ≡ old
 Follows g old (heard ∷ more) new = (mid : Seen) × Goes g old heard mid × Follows g mid more new
 
-pub follows_one : (g : GrammarParts) (old : Seen) (heard : List apart.Heard) (one other : Seen) → Follows g old heard one → Follows g old heard other → other ≡ one
+pub follows_one : (g : GrammarParts) (old : Seen) (heard : List apart.Heard) (one other : Seen) → Follows g old heard one → Follows g old heard other
+    → other ≡ one
 follows_one g old [] one other is its = its ∙ sym is
 follows_one g old (heard ∷ more) one other (mid, goes, rest) (its_mid, its_goes, its_rest) =
     follows_one g mid more one other rest (subst (λ (m : Seen). Follows g m more other) (goes_one g old heard mid its_mid goes its_goes) its_rest)
 
-pub follows_append : (g : GrammarParts) (old : Seen) (first : List apart.Heard) (mid : Seen) (second : List apart.Heard) (new : Seen) → Follows g old first mid → Follows g mid second new
+pub follows_append : (g : GrammarParts) (old : Seen) (first : List apart.Heard) (mid : Seen) (second : List apart.Heard) (new : Seen) → Follows g old first mid
+    → Follows g mid second new
     → Follows g old (first ++ second) new
 follows_append g old [] mid second new is rest = subst (λ (m : Seen). Follows g m second new) is rest
 follows_append g old (heard ∷ more) mid second new (next, goes, later) rest = (next, goes, follows_append g next more mid second new later rest)

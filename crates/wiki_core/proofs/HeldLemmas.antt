@@ -1,5 +1,5 @@
 -- What is kept of sessions, over each change of them.
-use Rattle.std.proofs.Common.{◌≡◌, ℕ, ◌+◌, ◌<◌, ◌≤◌, ◌==◌, Bool, true, false, not, cond, List, [], ◌∷◌, ◌++◌, length, map, filter, take, min, find, All, AllPairs, Option, Some, None, option_map, is_some, Result, Ok, Err, OnOk, OnErr, refl, sym, ap, subst, ◌∙◌, arith}
+use Rattle.std.proofs.Common.{◌≡◌, ℕ, ◌+◌, ◌<◌, ◌≤◌, ◌==◌, Bool, true, false, not, cond, List, [], ◌∷◌, ◌++◌, length, map, find, All, AllPairs, Option, Some, None, option_map, is_some, Result, Ok, Err, OnOk, OnErr, refl, sym, ap, subst, ◌∙◌, arith}
 use Rattle.std.proofs.lemmas.List.{length-map}
 use Rattle.std.proofs.lemmas.List.Kept.{AllPairs-cons}
 use Rattle.std.specs.Option.{IsSomeAnd}
@@ -8,24 +8,24 @@ use Rattle.wiki_base.specs.declared.numbers.WordId.{WordId}
 use Rattle.wiki_base.specs.declared.numbers.Rev.{Rev}
 use Rattle.wiki_base.specs.declared.numbers.SessionId.{SessionId}
 use Rattle.wiki_base.specs.declared.tokens.TheConstants.{MOST_TOKENS}
+use Rattle.wiki_base.proofs.ListLaws.{AllPairs-tail}
 use Rattle.codeco_terms.specs.GrammarParts.{GrammarParts}
 use Rattle.lexicon.specs.declared.words.Word.{Word}
 use Rattle.lexicon.specs.Words.{Listed, forms_of}
 use Rattle.editor.specs.declared.faults.TypeFault.{TypeFault}
 use Rattle.articles.specs.declared.article.Article.{Article}
 use Rattle.articles.specs.Articles.{article_of, without_article as without}
-use Rattle.editor.specs.Rebasing.{IsRebased}
 use Rattle.sessions.specs.declared.session.Session.{Session}
-use Rattle.sessions.specs.Sessions.{PlainSession, plain, all_plain, session_of, new_session, with_change, with_tokens, without_session, without_article, is_on, has_number, HasSession, AreSessions, AreRebased, IsRebasedSession, IsKept, AreKept}
+use Rattle.sessions.specs.Sessions.{PlainSession, plain, all_plain, session_of, new_session, with_change, with_tokens, without_session, without_article, is_on, has_number, HasSession, AreSessions, AreRebased, IsRebasedSession, AreKept}
 use Rattle.wiki_parts.specs.State as parts
 use Rattle.logic_terms.specs.Interpretation.{Interpretation}
 use Rattle.derivation_trees.specs.Partial.{IsTypeable}
 use Rattle.sessions.proofs.KeepingLaws.{kept_typeable}
 use Rattle.wiki_parts.specs.Holding as holding
 use Rattle.wiki_core.specs.State.{State, IsOnArticle, AreInOrder}
-use Rattle.wiki_core.specs.Holding.{Holding, IsKeptSession, IsKept as IsKeptWiki}
+use Rattle.wiki_core.specs.Holding.{IsKeptSession, IsKept as IsKeptWiki}
 use Rattle.wiki_core.specs.Keeping.{AreHeld}
-use Rattle.wiki_core.proofs.KeyLaws.{changed_at, find_changed, found_has, only_one, all_changed, all_filtered, pairs_head, pairs_tail}
+use Rattle.wiki_core.proofs.KeyLaws.{changed_at, find_changed, found_has, only_one, all_changed, all_filtered, pairs_head}
 use Rattle.wiki_core.proofs.PagesLemmas.{GoOn, KeepsWords, go_on_ended}
 
 -- the first of some numbers, and the numbers behind it
@@ -53,7 +53,8 @@ fits_each pages sessions last held = together (all_plain sessions) held.on held.
         (record { on = All-head (IsOnArticle pages.articles) s list on; numbered = All-head (λ (t : PlainSession). t.number.0 ≤ last) s list numbered })
         (together list (All-tail (IsOnArticle pages.articles) s list on) (All-tail (λ (t : PlainSession). t.number.0 ≤ last) s list numbered))
 
-pub held_by : (pages : parts.State) (sessions : List Session) (last : ℕ) → AreKept pages.grammar pages.words sessions → All (Fits pages.articles last) (all_plain sessions) → AreHeld pages sessions last
+pub held_by : (pages : parts.State) (sessions : List Session) (last : ℕ) → AreKept pages.grammar pages.words sessions
+    → All (Fits pages.articles last) (all_plain sessions) → AreHeld pages sessions last
 held_by pages sessions last kept fit = record {
   kept = kept;
   on = All-weaker (Fits pages.articles last) (IsOnArticle pages.articles) (λ s f. f.on) (all_plain sessions) fit;
@@ -65,7 +66,8 @@ pub held_over : (old new : parts.State) (sessions : List Session) (last : ℕ) �
 held_over old new sessions last held keeps = held_by new sessions last
     (let to_grammar = subst (λ (g : GrammarParts). AreKept g old.words sessions) (sym keeps.grammar) held.kept in
     subst (λ (words : Listed). AreKept new.grammar words sessions) (sym keeps.words) to_grammar)
-    (All-weaker (Fits old.articles last) (Fits new.articles last) (λ s f. record { on = keeps.on s f.on; numbered = f.numbered }) (all_plain sessions) (fits_each old sessions last held))
+    (All-weaker (Fits old.articles last) (Fits new.articles last) (λ s f. record { on = keeps.on s f.on; numbered = f.numbered }) (all_plain sessions)
+    (fits_each old sessions last held))
 
 -- where a session is opened
 pub held_opened : (pages : parts.State) (old new : List Session) (last : ℕ) (number : SessionId) (word : WordId) (revision : Rev) (article : Article)
@@ -85,7 +87,8 @@ held_opened pages old new last number word revision article held is_next there a
     fresh = record { on = record { article = article; there = there; seen = omega (arith, same) }; numbered = omega arith }
 
 -- where one session changes, and each article goes on
-pub held_changed : (pages after : parts.State) (old new : List Session) (last : ℕ) (number : SessionId) (change : PlainSession → PlainSession) (found : PlainSession)
+pub held_changed : (pages after : parts.State) (old new : List Session) (last : ℕ) (number : SessionId) (change : PlainSession → PlainSession)
+    (found : PlainSession)
     → AreHeld pages old last → AreInOrder (all_plain old) → session_of (all_plain old) number ≡ Some found → GoOn pages.articles after.articles
     → AreKept after.grammar after.words new → all_plain new ≡ with_change (all_plain old) number change → Fits after.articles last (change found)
     → AreHeld after new last
@@ -99,7 +102,9 @@ held_changed pages after old new last number change found held in_order is_found
 pub held_without : (pages : parts.State) (old new : List Session) (last : ℕ) (number : SessionId) → AreHeld pages old last
     → AreKept pages.grammar pages.words new → all_plain new ≡ without_session (all_plain old) number → AreHeld pages new last
 held_without pages old new last number held kept ended = held_by pages new last kept
-    (subst (All (Fits pages.articles last)) (sym ended) (all_filtered (Fits pages.articles last) (Fits pages.articles last) (λ (s : PlainSession). not (s.number.0 == number.0)) (λ s passes f. f) (all_plain old) (fits_each pages old last held)))
+    (subst (All (Fits pages.articles last)) (sym ended)
+    (all_filtered (Fits pages.articles last) (Fits pages.articles last) (λ (s : PlainSession). not (s.number.0 == number.0)) (λ s passes f. f)
+    (all_plain old) (fits_each pages old last held)))
 
 -- rebased sessions fit as they did
 pub fits_rebased : (g : GrammarParts) (words : Listed) (articles : List Article) (last : ℕ) (old new : List PlainSession) → AreRebased g words old new
@@ -108,7 +113,8 @@ fits_rebased g words articles last [] [] rebased fit = fit
 fits_rebased g words articles last [] (n ∷ new) rebased fit = absurd rebased
 fits_rebased g words articles last (o ∷ old) [] rebased fit = absurd rebased
 fits_rebased g words articles last (o ∷ old) (n ∷ new) rebased fit =
-    All-cons (Fits articles last) n new (fits rebased.0 (All-head (Fits articles last) o old fit)) (fits_rebased g words articles last old new rebased.1 (All-tail (Fits articles last) o old fit))
+    All-cons (Fits articles last) n new (fits rebased.0 (All-head (Fits articles last) o old fit))
+    (fits_rebased g words articles last old new rebased.1 (All-tail (Fits articles last) o old fit))
   where
     fits : IsRebasedSession g words o n → Fits articles last o → Fits articles last n
     fits is f =
@@ -122,10 +128,12 @@ fits_rebased g words articles last (o ∷ old) (n ∷ new) rebased fit =
 pub held_rebased : (pages : parts.State) (words : Listed) (old new : List Session) (last : ℕ) → AreHeld pages old last → AreKept pages.grammar words new
     → AreRebased pages.grammar words (all_plain old) (all_plain new) → AreHeld (record pages { words = words }) new last
 held_rebased pages words old new last held kept rebased =
-    held_by (record pages { words = words }) new last kept (fits_rebased pages.grammar words pages.articles last (all_plain old) (all_plain new) rebased (fits_each pages old last held))
+    held_by (record pages { words = words }) new last kept
+    (fits_rebased pages.grammar words pages.articles last (all_plain old) (all_plain new) rebased (fits_each pages old last held))
 
 -- where a word goes with its article, and the sessions on it end
-pub held_ended : (pages : parts.State) (words : Listed) (word : WordId) (old new : List Session) (rebased : List PlainSession) (last : ℕ) → AreHeld pages old last
+pub held_ended : (pages : parts.State) (words : Listed) (word : WordId) (old new : List Session) (rebased : List PlainSession) (last : ℕ)
+    → AreHeld pages old last
     → AreKept pages.grammar words new → AreRebased pages.grammar words (all_plain old) rebased → all_plain new ≡ without_article rebased word
     → AreHeld (record pages { words = words; articles = without pages.articles word }) new last
 held_ended pages words word old new rebased last held kept is_rebased ended =
@@ -146,8 +154,9 @@ pub plain_in_order : (sessions : List Session) → AllPairs (λ session later. s
 plain_in_order [] in_order = λ i j d before in_range. absurd (omega (arith, in_range))
 plain_in_order (s ∷ sessions) in_order =
     AllPairs-cons (λ session later. session.number.0 < later.number.0) (plain s) (all_plain sessions)
-    (All-map (λ (later : PlainSession). s.number.0 < later.number.0) plain sessions (pairs_head (λ (session later : Session). session.number.0 < later.number.0) s sessions in_order))
-    (plain_in_order sessions (pairs_tail (λ (session later : Session). session.number.0 < later.number.0) s sessions in_order))
+    (All-map (λ (later : PlainSession). s.number.0 < later.number.0) plain sessions
+    (pairs_head (λ (session later : Session). session.number.0 < later.number.0) s sessions in_order))
+    (plain_in_order sessions (AllPairs-tail (λ (session later : Session). session.number.0 < later.number.0) s sessions in_order))
 
 -- what the program keeps of each session is what the wiki promises of it
 kept_each : (state : State) (list : List PlainSession) → All (λ session. IsTypeable state.pages.grammar state.pages.words session.tokens) list
@@ -179,7 +188,8 @@ is_kept pages interpretation sessions last pages_kept are held = record {
 }
 
 -- where one session's tokens change, whichever they are
-pub held_tokens : (pages : parts.State) (old new : List Session) (last : ℕ) (number : SessionId) (change : List (List ℕ) → List (List ℕ)) → AreHeld pages old last
+pub held_tokens : (pages : parts.State) (old new : List Session) (last : ℕ) (number : SessionId) (change : List (List ℕ) → List (List ℕ))
+    → AreHeld pages old last
     → AreKept pages.grammar pages.words new → all_plain new ≡ with_change (all_plain old) number (with_tokens change) → AreHeld pages new last
 held_tokens pages old new last number change held kept is_changed = held_by pages new last kept
     (subst (All (Fits pages.articles last)) (sym is_changed) (each (all_plain old) (fits_each pages old last held)))
@@ -195,24 +205,31 @@ held_tokens pages old new last number change held kept is_changed = held_by page
         (by_test s (s.number.0 == number.0) (All-head (Fits pages.articles last) s list fit)) (each list (All-tail (Fits pages.articles last) s list fit))
 
 -- where a text is typed or not
-pub held_typed : (pages : parts.State) (old new : List Session) (last : ℕ) (number : SessionId) (change : List (List ℕ) → List (List ℕ)) (result : Result (Unit {0}) TypeFault) → AreHeld pages old last
-    → AreKept pages.grammar pages.words new → OnOk result (all_plain new ≡ with_change (all_plain old) number (with_tokens change)) → OnErr result (new ≡ old) → AreHeld pages new last
+pub held_typed : (pages : parts.State) (old new : List Session) (last : ℕ) (number : SessionId) (change : List (List ℕ) → List (List ℕ))
+    (result : Result (Unit {0}) TypeFault) → AreHeld pages old last
+    → AreKept pages.grammar pages.words new → OnOk result (all_plain new ≡ with_change (all_plain old) number (with_tokens change)) → OnErr result (new ≡ old)
+    → AreHeld pages new last
 held_typed pages old new last number change (Ok done) held kept is_changed same = held_tokens pages old new last number change held kept is_changed
 held_typed pages old new last number change (Err fault) held kept is_changed same = subst (λ (list : List Session). AreHeld pages list last) (sym same) held
 
 -- where a token is dropped or there was none
-pub held_back : {P : Type 0} (pages : parts.State) (old new : List Session) (last : ℕ) (number : SessionId) (change : List (List ℕ) → List (List ℕ)) (result : Bool) → AreHeld pages old last
-    → AreKept pages.grammar pages.words new → (result ≡ true → all_plain new ≡ with_change (all_plain old) number (with_tokens change)) → (result ≡ false → P × (new ≡ old)) → AreHeld pages new last
+pub held_back : {P : Type 0} (pages : parts.State) (old new : List Session) (last : ℕ) (number : SessionId) (change : List (List ℕ) → List (List ℕ))
+    (result : Bool) → AreHeld pages old last
+    → AreKept pages.grammar pages.words new → (result ≡ true → all_plain new ≡ with_change (all_plain old) number (with_tokens change))
+    → (result ≡ false → P × (new ≡ old)) → AreHeld pages new last
 held_back pages old new last number change true held kept is_changed same = held_tokens pages old new last number change held kept (is_changed refl)
 held_back pages old new last number change false held kept is_changed same = subst (λ (list : List Session). AreHeld pages list last) (sym (same refl).1) held
 
 -- the article that a session is on is there
-pub on_there : (pages : parts.State) (sessions : List Session) (last : ℕ) (number : SessionId) (session : PlainSession) → AreHeld pages sessions last → session_of (all_plain sessions) number ≡ Some session
+pub on_there : (pages : parts.State) (sessions : List Session) (last : ℕ) (number : SessionId) (session : PlainSession) → AreHeld pages sessions last
+    → session_of (all_plain sessions) number ≡ Some session
     → Fits pages.articles last session
-on_there pages sessions last number session held found = found_has (Fits pages.articles last) (has_number number) (all_plain sessions) session (fits_each pages sessions last held) found
+on_there pages sessions last number session held found =
+    found_has (Fits pages.articles last) (has_number number) (all_plain sessions) session (fits_each pages sessions last held) found
 
 -- the word of an article lives
-pub lives_with_article : (articles : List Article) (live : List Word) (word : WordId) → map (λ article. article.word) articles ≡ map (λ w. w.id) live → is_some (article_of articles word) ≡ is_some (forms_of live word)
+pub lives_with_article : (articles : List Article) (live : List Word) (word : WordId) → map (λ article. article.word) articles ≡ map (λ w. w.id) live
+    → is_some (article_of articles word) ≡ is_some (forms_of live word)
 lives_with_article [] [] word same = refl
 lives_with_article [] (w ∷ live) word same = let short = ap (λ (ids : List WordId). length ids) same in absurd (omega (arith, short))
 lives_with_article (a ∷ articles) [] word same = let short = ap (λ (ids : List WordId). length ids) same in absurd (omega (arith, short))
@@ -221,19 +238,24 @@ lives_with_article (a ∷ articles) (w ∷ live) word same =
     ∙ by_test (w.id.0 == word.0) (lives_with_article articles live word (ap behind_first same))
   where
     by_test : (b : Bool) → is_some (article_of articles word) ≡ is_some (forms_of live word)
-        → is_some (cond b (Some a) (article_of articles word)) ≡ is_some (option_map (λ (v : Word). v.forms) (cond b (Some w) (find (λ (v : Word). v.id.0 == word.0) live)))
+        → is_some (cond b (Some a) (article_of articles word))
+        ≡ is_some (option_map (λ (v : Word). v.forms) (cond b (Some w) (find (λ (v : Word). v.id.0 == word.0) live)))
     by_test true rest = refl
     by_test false rest = rest
 
 -- a session is there after a change of it
-pub has_changed : (sessions : List PlainSession) (number : SessionId) (change : PlainSession → PlainSession) → ((s : PlainSession) → (change s).number.0 ≡ s.number.0) → HasSession sessions number
+pub has_changed : (sessions : List PlainSession) (number : SessionId) (change : PlainSession → PlainSession)
+    → ((s : PlainSession) → (change s).number.0 ≡ s.number.0) → HasSession sessions number
     → HasSession (with_change sessions number change) number
 has_changed sessions number change keeps there =
-    subst (λ (o : Option PlainSession). IsSomeAnd o (λ _. Unit {0})) (sym (find_changed (λ (s : PlainSession). s.number.0) number.0 number.0 change keeps sessions)) (by_case (session_of sessions number) there)
+    subst (λ (o : Option PlainSession). IsSomeAnd o (λ _. Unit {0}))
+    (sym (find_changed (λ (s : PlainSession). s.number.0) number.0 number.0 change keeps sessions)) (by_case (session_of sessions number) there)
   where
-    by_case : (o : Option PlainSession) → IsSomeAnd o (λ _. Unit {0}) → IsSomeAnd (option_map (changed_at (λ (s : PlainSession). s.number.0) number.0 change) o) (λ _. Unit {0})
+    by_case : (o : Option PlainSession) → IsSomeAnd o (λ _. Unit {0})
+        → IsSomeAnd (option_map (changed_at (λ (s : PlainSession). s.number.0) number.0 change) o) (λ _. Unit {0})
     by_case None there = there
     by_case (Some s) there = tt
 
-pub has_found : (sessions : List PlainSession) (number : SessionId) (session : PlainSession) → session_of sessions number ≡ Some session → HasSession sessions number
+pub has_found : (sessions : List PlainSession) (number : SessionId) (session : PlainSession) → session_of sessions number ≡ Some session
+    → HasSession sessions number
 has_found sessions number session found = subst (λ (o : Option PlainSession). IsSomeAnd o (λ _. Unit {0})) (sym found) tt

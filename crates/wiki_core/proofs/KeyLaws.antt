@@ -1,31 +1,9 @@
 -- Laws on lists whose elements are found by a key.
-use Rattle.std.proofs.Common.{◌≡◌, ℕ, zero, suc, ◌<◌, ◌≤◌, ◌==◌, Bool, true, false, not, cond, List, [], ◌∷◌, ◌++◌, length, map, filter, find, All, AllPairs, Option, Some, None, option_map, refl, sym, ap, subst, ◌∙◌, arith}
-use Rattle.std.specs.Option.{option_or, option_map_or}
-use Rattle.std.proofs.lemmas.Bool.{false≢true}
-use Rattle.std.proofs.lemmas.Bool.Decides.{nat_tests}
+use Rattle.std.proofs.Common.{◌≡◌, ℕ, zero, suc, ◌<◌, ◌≤◌, ◌==◌, Bool, true, false, cond, List, [], ◌∷◌, ◌++◌, map, filter, find, All, AllPairs, Option, Some, None, option_map, refl, sym, ap, subst, ◌∙◌, arith}
+use Rattle.std.proofs.lemmas.Bool.{false≢true, eqb-true, eqb-false}
 use Rattle.std.proofs.lemmas.List.Elements.{All-nil, All-cons, All-head, All-tail, All-weaker}
-use Rattle.std.proofs.lemmas.Option.{none-some}
-
--- equal numbers are told as equal, and others as others
-pub eq_same : (a b : ℕ) → a ≡ b → (a == b) ≡ true
-eq_same a b is = grind (arith, nat_tests)
-
-pub eq_is : (a b : ℕ) → (a == b) ≡ true → a ≡ b
-eq_is a b is = grind (arith, nat_tests)
-
-pub eq_not : (a b : ℕ) → (a == b) ≡ false → a ≡ b → ⊥
-eq_not a b other is = false≢true (sym other ∙ eq_same a b is)
-
-pub eq_other : (a b : ℕ) → (a ≡ b → ⊥) → (a == b) ≡ false
-eq_other a b apart = by_test (a == b) (eq_is a b)
-  where
-    by_test : (t : Bool) → (t ≡ true → a ≡ b) → t ≡ false
-    by_test true same = absurd (apart (same refl))
-    by_test false same = refl
-
--- what is there is one thing
-pub some_is : {X : Type 0} (x y : X) → Some x ≡ Some y → x ≡ y
-some_is {X} x y same = ap (λ (o : Option X). option_map_or (λ z. z) o x) same
+use Rattle.std.proofs.lemmas.Option.{none-some, same_Some}
+use Rattle.wiki_base.proofs.ListLaws.{AllPairs-tail}
 
 -- what is found passes
 pub found_passes : {X : Type 0} (test : X → Bool) (xs : List X) (x : X) → find test xs ≡ Some x → test x ≡ true
@@ -33,7 +11,7 @@ found_passes test [] x found = absurd (none-some x found)
 found_passes {X} test (y ∷ ys) x found = by_test (test y) refl (found_passes test ys x) found
   where
     by_test : (b : Bool) → test y ≡ b → (find test ys ≡ Some x → test x ≡ true) → cond b (Some y) (find test ys) ≡ Some x → test x ≡ true
-    by_test true is rest here = subst (λ (z : X). test z ≡ true) (some_is y x here) is
+    by_test true is rest here = subst (λ (z : X). test z ≡ true) (same_Some y x here) is
     by_test false is rest later = rest later
 
 -- what is found is one of the list
@@ -42,7 +20,7 @@ found_has P test [] x all found = absurd (none-some x found)
 found_has {X} P test (y ∷ ys) x all found = by_test (test y) (found_has P test ys x (All-tail P y ys all)) found
   where
     by_test : (b : Bool) → (find test ys ≡ Some x → P x) → cond b (Some y) (find test ys) ≡ Some x → P x
-    by_test true rest here = subst P (some_is y x here) (All-head P y ys all)
+    by_test true rest here = subst P (same_Some y x here) (All-head P y ys all)
     by_test false rest later = rest later
 
 -- a filter that all pass that a search passes is as good as none
@@ -91,7 +69,8 @@ pub find_changed : {X : Type 0} (key : X → ℕ) (n m : ℕ) (change : X → X)
     → find (λ x. key x == m) (map (changed_at key n change) xs) ≡ option_map (changed_at key n change) (find (λ x. key x == m) xs)
 find_changed key n m change keeps [] = refl
 find_changed {X} key n m change keeps (x ∷ xs) =
-    ap (λ (k : ℕ). cond (k == m) (Some (changed_at key n change x)) (find (λ y. key y == m) (map (changed_at key n change) xs))) (key_stays key n change keeps x)
+    ap (λ (k : ℕ). cond (k == m) (Some (changed_at key n change x)) (find (λ y. key y == m) (map (changed_at key n change) xs)))
+    (key_stays key n change keeps x)
     ∙ by_test (key x == m) (find_changed key n m change keeps xs)
   where
     by_test : (b : Bool) → find (λ y. key y == m) (map (changed_at key n change) xs) ≡ option_map (changed_at key n change) (find (λ y. key y == m) xs)
@@ -104,23 +83,21 @@ find_changed {X} key n m change keeps (x ∷ xs) =
 pub pairs_head : {X : Type 0} (R : X → X → Type 0) (x : X) (xs : List X) → AllPairs R (x ∷ xs) → All (R x) xs
 pairs_head R x xs pairs k d in_range = pairs zero (suc k) d (omega arith) (omega arith)
 
-pub pairs_tail : {X : Type 0} (R : X → X → Type 0) (x : X) (xs : List X) → AllPairs R (x ∷ xs) → AllPairs R xs
-pairs_tail R x xs pairs i j d lt in_range = pairs (suc i) (suc j) d (omega arith) (omega arith)
-
 -- where keys rise, what is found is the only one with its key
 pub only_one : {X : Type 0} (key : X → ℕ) (n : ℕ) (xs : List X) → AllPairs (λ x y. key x < key y) xs → (found : X) → find (λ x. key x == n) xs ≡ Some found
     → All (λ x. key x ≡ n → x ≡ found) xs
 only_one key n [] rise found is = absurd (none-some found is)
-only_one {X} key n (x ∷ xs) rise found is = by_test (key x == n) refl (only_one key n xs (pairs_tail (λ x y. key x < key y) x xs rise) found) is
+only_one {X} key n (x ∷ xs) rise found is = by_test (key x == n) refl (only_one key n xs (AllPairs-tail (λ x y. key x < key y) x xs rise) found) is
   where
     later : All (λ y. key x < key y) xs
     later = pairs_head (λ x y. key x < key y) x xs rise
 
     by_test : (b : Bool) → (key x == n) ≡ b → (find (λ y. key y == n) xs ≡ Some found → All (λ y. key y ≡ n → y ≡ found) xs)
         → cond b (Some x) (find (λ y. key y == n) xs) ≡ Some found → All (λ y. key y ≡ n → y ≡ found) (x ∷ xs)
-    by_test true here rest is = All-cons (λ y. key y ≡ n → y ≡ found) x xs (λ _. some_is x found is)
-        (All-weaker (λ y. key x < key y) (λ y. key y ≡ n → y ≡ found) (λ y above same. let at = eq_is (key x) n here in absurd (omega (arith, above, same, at))) xs later)
-    by_test false not_here rest is = All-cons (λ y. key y ≡ n → y ≡ found) x xs (λ same. absurd (eq_not (key x) n not_here same)) (rest is)
+    by_test true here rest is = All-cons (λ y. key y ≡ n → y ≡ found) x xs (λ _. same_Some x found is)
+        (All-weaker (λ y. key x < key y) (λ y. key y ≡ n → y ≡ found)
+        (λ y above same. let at = eqb-true (key x) n here in absurd (omega (arith, above, same, at))) xs later)
+    by_test false not_here rest is = All-cons (λ y. key y ≡ n → y ≡ found) x xs (λ same. absurd (eqb-false (key x) n not_here same)) (rest is)
 
 -- what each element has, and what is found has after the change, each has after it
 pub all_changed : {X : Type 0} (P Q : X → Type 0) (key : X → ℕ) (n : ℕ) (change : X → X) (found : X) → ((x : X) → P x → Q x) → Q (change found)
@@ -131,7 +108,7 @@ all_changed {X} P Q key n change found gives here (x ∷ xs) all one =
     (all_changed P Q key n change found gives here xs (All-tail P x xs all) (All-tail (λ y. key y ≡ n → y ≡ found) x xs one))
   where
     by_test : (b : Bool) → (key x == n) ≡ b → Q (cond b (change x) x)
-    by_test true is = subst (λ (y : X). Q (change y)) (sym (All-head (λ y. key y ≡ n → y ≡ found) x xs one (eq_is (key x) n is))) here
+    by_test true is = subst (λ (y : X). Q (change y)) (sym (All-head (λ y. key y ≡ n → y ≡ found) x xs one (eqb-true (key x) n is))) here
     by_test false is = gives x (All-head P x xs all)
 
 -- two changes of the element with a key are one

@@ -1,18 +1,17 @@
 -- What is told of tokens is one thing.
-use Rattle.std.proofs.Common.{◌≡◌, ℕ, zero, suc, ◌<◌, ◌⊎◌, Bool, true, false, List, [], ◌∷◌, ◌++◌, length, All, AllPairs, Option, Some, None, option_map, IsTrue, ◌↔◌, refl, sym, ap, subst, ◌∙◌, arith, inl, inr}
+use Rattle.std.proofs.Common.{◌≡◌, ℕ, zero, suc, ◌<◌, ◌⊎◌, Bool, true, false, List, [], ◌∷◌, ◌++◌, All, AllPairs, Some, option_map, IsTrue, ◌↔◌, refl, sym, ap, subst, ◌∙◌, arith, inl, inr}
 use Rattle.std.specs.List.{Contains}
 use Rattle.std.specs.Str.{IsUtf8}
 use Rattle.std.specs.Ordering.{ordering_reverse}
 use Rattle.std.specs.declared.cmp.Ordering.TheVariants.{Less, Greater}
-use Rattle.std.proofs.lemmas.Bool.{false≢true}
-use Rattle.std.proofs.lemmas.Option.{none-some}
-use Rattle.std.proofs.lemmas.List.Elements.{All-head, All-tail, All-contains, All-contains_itself}
+use Rattle.std.proofs.lemmas.Option.{none-some, same_Some}
+use Rattle.std.proofs.lemmas.List.Elements.{All-contains}
+use Rattle.wiki_base.proofs.ListLaws.{AllPairs-tail}
 use Rattle.codeco_terms.specs.GrammarParts.{GrammarParts}
 use Rattle.lexicon.specs.Words.{Listed}
 use Rattle.derivation_trees.specs.declared.menus.Group.{Group}
 use Rattle.derivation_trees.specs.Cutting.{shown}
 use Rattle.derivation_trees.specs.Menus.{entry_cmp}
-use Rattle.derivation_trees.specs.Sentences.{IsSentence}
 use Rattle.derivations.proofs.EntryLemmas.{entry_total, entry_trans}
 use Rattle.derivation_trees.specs.Trees.{Node}
 use Rattle.derivation_trees.specs.Settings.{Setting}
@@ -29,8 +28,8 @@ use Rattle.wiki_parts.specs.Parsing.{told_menu}
 use Rattle.wiki_core.specs.State.{State}
 use Rattle.wiki_core.specs.Causes.{session_numbered}
 use Rattle.wiki_core.specs.Step.{Step, StepsSession, TellsMenu, TellsSession}
-use Rattle.wiki_core.specs.Apart.{tokens_in, AreAlike, MenuIsOwn}
-use Rattle.wiki_core.proofs.KeyLaws.{some_is, pairs_head, pairs_tail}
+use Rattle.wiki_core.specs.Apart.{tokens_in, MenuIsOwn}
+use Rattle.wiki_core.proofs.KeyLaws.{pairs_head}
 
 -- what is in a list is its head, or in its tail
 head_or_later : {X : Type 0} (y : X) (ys : List X) (x : X) → Contains (y ∷ ys) x → (y ≡ x) ⊎ Contains ys x
@@ -52,7 +51,8 @@ module _ {X : Type 0} (R : X → X → Type 0) (never : (x : X) → R x x → �
       by_cases (inl same) other = same
       by_cases (inr later) (inl same) = sym same
       by_cases (inr later) (inr its_later) =
-          absurd (never x (trans x y x (All-contains (R x) xs y (pairs_head R x xs rise) its_later) (All-contains (R y) ys x (pairs_head R y ys its_rise) later)))
+          absurd (never x (trans x y x (All-contains (R x) xs y (pairs_head R x xs rise) its_later)
+          (All-contains (R y) ys x (pairs_head R y ys its_rise) later)))
 
   rest_there : (x : X) (xs ys : List X) → AllPairs R (x ∷ xs) → ((e : X) → Contains (x ∷ xs) e → Contains (x ∷ ys) e) → (e : X) → Contains xs e → Contains ys e
   rest_there x xs ys rise there e within = by_case (head_or_later x ys e (there e (later_there x xs e within)))
@@ -61,7 +61,8 @@ module _ {X : Type 0} (R : X → X → Type 0) (never : (x : X) → R x x → �
       by_case (inl same) = absurd (never x (subst (R x) (sym same) (All-contains (R x) xs e (pairs_head R x xs rise) within)))
       by_case (inr later) = later
 
-  pub ordered_one : (xs ys : List X) → AllPairs R xs → AllPairs R ys → ((e : X) → Contains xs e → Contains ys e) → ((e : X) → Contains ys e → Contains xs e) → ys ≡ xs
+  pub ordered_one : (xs ys : List X) → AllPairs R xs → AllPairs R ys → ((e : X) → Contains xs e → Contains ys e) → ((e : X) → Contains ys e → Contains xs e)
+      → ys ≡ xs
   ordered_one [] [] rise its_rise there its_there = refl
   ordered_one [] (y ∷ ys) rise its_rise there its_there = let none = its_there y (head_there y ys) in absurd (omega (arith, none.1))
   ordered_one (x ∷ xs) [] rise its_rise there its_there = let none = there x (head_there x xs) in absurd (omega (arith, none.1))
@@ -70,7 +71,8 @@ module _ {X : Type 0} (R : X → X → Type 0) (never : (x : X) → R x x → �
       let its_rise_x = subst (λ (h : X). AllPairs R (h ∷ ys)) same its_rise in
       let there_x = subst (λ (h : X). (e : X) → Contains (x ∷ xs) e → Contains (h ∷ ys) e) same there in
       let its_there_x = subst (λ (h : X). (e : X) → Contains (h ∷ ys) e → Contains (x ∷ xs) e) same its_there in
-      let rest = ordered_one xs ys (pairs_tail R x xs rise) (pairs_tail R x ys its_rise_x) (rest_there x xs ys rise there_x) (rest_there x ys xs its_rise_x its_there_x) in
+      let rest = ordered_one xs ys (AllPairs-tail R x xs rise) (AllPairs-tail R x ys its_rise_x) (rest_there x xs ys rise there_x)
+      (rest_there x ys xs its_rise_x its_there_x) in
       ap (λ (h : X). h ∷ ys) same ∙ ap (λ (t : List X). x ∷ t) rest
 
 less_greater : Less ≡ Greater → ⊥
@@ -88,9 +90,11 @@ same_test false true there back = sym (back refl)
 same_test false false there back = refl
 
 -- what is told of tokens is one reply
-tells_one : (g : GrammarParts) (words : Listed) (tokens : List (List ℕ)) (one other : Reply) → TellsMenu g words tokens one → TellsMenu g words tokens other → other ≡ one
+tells_one : (g : GrammarParts) (words : Listed) (tokens : List (List ℕ)) (one other : Reply) → TellsMenu g words tokens one → TellsMenu g words tokens other
+    → other ≡ one
 tells_one g words tokens one other tells its =
-    let same = ordered_one (λ entry later. entry_cmp entry later ≡ Less) not_before_itself entry_trans tells.menu its.menu tells.follows.in_order its.follows.in_order
+    let same = ordered_one (λ entry later. entry_cmp entry later ≡ Less) not_before_itself entry_trans tells.menu its.menu tells.follows.in_order
+    its.follows.in_order
     (λ e there. its.follows.whole e (All-contains (λ entry. IsUtf8 entry.1) tells.menu e tells.texts there) (tells.follows.offered e there))
     (λ e there. tells.follows.whole e (All-contains (λ entry. IsUtf8 entry.1) its.menu e its.texts there) (its.follows.offered e there)) in
     let same_whole = same_test tells.whole its.whole (λ is. its.is_whole.1 (tells.is_whole.0 is)) (λ is. tells.is_whole.1 (its.is_whole.0 is)) in
@@ -100,12 +104,14 @@ tells_one g words tokens one other tells its =
     ∙ sym tells.answer
 
 -- the reply to `menu` of a session that is there tells of its tokens
-told_of : (state new : State) (number : ℕ) (tokens : List (List ℕ)) (reply : Reply) → tokens_in state number ≡ Some tokens → StepsSession state (requests.Menu number) reply new
+told_of : (state new : State) (number : ℕ) (tokens : List (List ℕ)) (reply : Reply) → tokens_in state number ≡ Some tokens
+    → StepsSession state (requests.Menu number) reply new
     → TellsMenu state.pages.grammar state.pages.words tokens reply
 told_of state new number tokens (replies.Refused refusal) there step =
     absurd (none-some tokens (ap (option_map (λ (s : PlainSession). s.tokens)) (sym step.0.none) ∙ there))
 told_of state new number tokens reply there step =
-    let same : step.1.session.tokens ≡ tokens = some_is step.1.session.tokens tokens (ap (option_map (λ (s : PlainSession). s.tokens)) (sym step.1.named) ∙ there) in
+    let same : step.1.session.tokens ≡ tokens =
+    same_Some step.1.session.tokens tokens (ap (option_map (λ (s : PlainSession). s.tokens)) (sym step.1.named) ∙ there) in
     subst (λ (ts : List (List ℕ)). TellsMenu state.pages.grammar state.pages.words ts reply) same step.1.tells
 
 -- so it is a function of the grammar, the words and the tokens
@@ -118,22 +124,29 @@ menu_own state new (requests.Menu number) reply step = λ other its_number said 
 menu_own state new request reply step = tt
 
 -- what an editor tells of a session is what is told of its tokens
-pub menu_told : (state : State) (number : ℕ) (session : Session) (g h : GrammarParts) (words : Listed) (tokens : List (List ℕ)) (menu : List (Group × List ℕ)) (view : MenuView) (whole : Bool) (text : List ℕ)
-    → g ≡ state.pages.grammar → h ≡ state.pages.grammar → words ≡ state.pages.words → tokens ≡ session.editor.tokens → session_numbered state number ≡ Some (plain session)
-    → IsKept state.pages.grammar state.pages.words session → IsTextMenu g words session.editor.tokens menu → All (λ entry. IsUtf8 entry.1) menu → view ≡ told_menu menu
-    → (IsTrue whole ↔ ((tree : Node) × IsDerivation session.editor tree)) → text ≡ shown h.terminals tokens → TellsSession state number (replies.Menu view whole text) state
-menu_told state number session g h words tokens menu view whole text same_g same_h same_words same_tokens named kept follows texts told is_whole shows = record {
-  session = plain session;
-  named = named;
-  tells = record {
-    menu = menu;
-    follows = subst (λ (p : GrammarParts). IsTextMenu p state.pages.words session.editor.tokens menu) same_g (subst (λ (w : Listed). IsTextMenu g w session.editor.tokens menu) same_words follows);
-    texts = texts;
-    whole = whole;
-    is_whole = subst (λ (s : Setting). IsTrue whole ↔ ((tree : Node) × IsDerivation s tree)) kept is_whole;
-    answer = ap (λ (v : MenuView). replies.Menu v whole text) told
-        ∙ ap (λ (t : List ℕ). replies.Menu (told_menu menu) whole t)
-        (shows ∙ ap (λ (p : GrammarParts). shown p.terminals tokens) same_h ∙ ap (λ (ts : List (List ℕ)). shown state.pages.grammar.terminals ts) same_tokens);
-  };
-  after = refl;
-}
+pub menu_told : (state : State) (number : ℕ) (session : Session) (g h : GrammarParts) (words : Listed) (tokens : List (List ℕ)) (menu : List (Group × List ℕ))
+    (view : MenuView) (whole : Bool) (text : List ℕ)
+    → g ≡ state.pages.grammar → h ≡ state.pages.grammar → words ≡ state.pages.words → tokens ≡ session.editor.tokens
+    → session_numbered state number ≡ Some (plain session)
+    → IsKept state.pages.grammar state.pages.words session → IsTextMenu g words session.editor.tokens menu → All (λ entry. IsUtf8 entry.1) menu
+    → view ≡ told_menu menu
+    → (IsTrue whole ↔ ((tree : Node) × IsDerivation session.editor tree)) → text ≡ shown h.terminals tokens
+    → TellsSession state number (replies.Menu view whole text) state
+menu_told state number session g h words tokens menu view whole text same_g same_h same_words same_tokens named kept follows texts told is_whole shows =
+    record {
+      session = plain session;
+      named = named;
+      tells = record {
+        menu = menu;
+        follows = subst (λ (p : GrammarParts). IsTextMenu p state.pages.words session.editor.tokens menu) same_g
+            (subst (λ (w : Listed). IsTextMenu g w session.editor.tokens menu) same_words follows);
+        texts = texts;
+        whole = whole;
+        is_whole = subst (λ (s : Setting). IsTrue whole ↔ ((tree : Node) × IsDerivation s tree)) kept is_whole;
+        answer = ap (λ (v : MenuView). replies.Menu v whole text) told
+            ∙ ap (λ (t : List ℕ). replies.Menu (told_menu menu) whole t)
+            (shows ∙ ap (λ (p : GrammarParts). shown p.terminals tokens) same_h
+            ∙ ap (λ (ts : List (List ℕ)). shown state.pages.grammar.terminals ts) same_tokens);
+      };
+      after = refl;
+    }

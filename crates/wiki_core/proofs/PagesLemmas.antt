@@ -1,12 +1,9 @@
 -- What becomes of words and of the articles that sessions are on, by a step on words and sentences.
-use Rattle.std.proofs.Common.{◌≡◌, ℕ, ◌+◌, ◌<◌, ◌≤◌, ◌==◌, ◌⊎◌, Bool, true, false, not, cond, List, [], ◌∷◌, ◌++◌, length, map, filter, find, All, Option, Some, None, option_map, IsTrue, refl, sym, ap, subst, ◌∙◌, arith, inl, inr}
-use Rattle.std.specs.Option.{option_or, option_map_or}
-use Rattle.std.proofs.lemmas.Bool.{false≢true}
+use Rattle.std.proofs.Common.{◌≡◌, ℕ, ◌+◌, ◌<◌, ◌≤◌, ◌==◌, ◌⊎◌, Bool, true, false, not, cond, List, [], ◌∷◌, ◌++◌, find, Option, option_map, refl, sym, ap, subst, ◌∙◌, arith, inl, inr}
+use Rattle.std.specs.Option.{option_or}
+use Rattle.std.proofs.lemmas.Bool.{false≢true, eqb-true}
 use Rattle.std.proofs.lemmas.List.Folds.{find-append}
-use Rattle.std.proofs.lemmas.Option.{none-some}
 use Rattle.wiki_base.specs.declared.numbers.WordId.{WordId}
-use Rattle.codeco_terms.specs.GrammarParts.{GrammarParts}
-use Rattle.lexicon.specs.Words.{Listed, with_word, add_refusal}
 use Rattle.wiki_talk.specs.declared.refusals.Refusal.{Refusal}
 use Rattle.wiki_talk.specs.declared.replies.Reply.{Reply}
 use Rattle.wiki_talk.specs.declared.replies.Reply.TheVariants as replies
@@ -14,13 +11,13 @@ use Rattle.wiki_talk.specs.declared.requests.Request.{Request}
 use Rattle.wiki_talk.specs.declared.requests.Request.TheVariants as requests
 use Rattle.articles.specs.declared.sentences.Sentence.{Sentence}
 use Rattle.articles.specs.declared.article.Article.{Article}
-use Rattle.articles.specs.Articles.{article_of, is_of, new_article, changed, with_change, without_article}
+use Rattle.articles.specs.Articles.{is_of, changed, with_change, without_article}
 use Rattle.sessions.specs.Sessions.{PlainSession}
 use Rattle.wiki_parts.specs.State as parts
 use Rattle.wiki_store.specs.Step as store
 use Rattle.wiki_core.specs.State.{IsOnArticle}
 use Rattle.wiki_core.specs.Keeping.{changes_words}
-use Rattle.wiki_core.proofs.KeyLaws.{changed_at, find_changed, find_filter, eq_is, eq_same, eq_not, some_is}
+use Rattle.wiki_core.proofs.KeyLaws.{changed_at, find_changed, find_filter}
 
 -- a session that was on an article is on it still
 abbrev pub GoOn : List Article → List Article → Type 0
@@ -61,7 +58,7 @@ go_on_ended old word session other on = record {
 }
   where
     stays : (a : Article) → is_of session.article a ≡ true → not (is_of word a) ≡ true
-    stays a is = ap (λ (n : ℕ). not (n == word.0)) (eq_is a.word.0 session.article.0 is) ∙ ap not other
+    stays a is = ap (λ (n : ℕ). not (n == word.0)) (eqb-true a.word.0 session.article.0 is) ∙ ap not other
 
 -- what a step that changes no words leaves of words, and of the articles that sessions are on
 pub record KeepsWords (old new : parts.State) : Type 0 where
@@ -78,7 +75,8 @@ keeps_same old new same = record {
 
 pub keeps_changed : (old new : parts.State) (word : WordId) (change : List Sentence → List Sentence)
     → new ≡ record old { articles = with_change old.articles word change } → KeepsWords old new
-keeps_changed old new word change after = subst (KeepsWords old) (sym after) (record { grammar = refl; words = refl; on = go_on_changed old.articles word change })
+keeps_changed old new word change after =
+    subst (KeepsWords old) (sym after) (record { grammar = refl; words = refl; on = go_on_changed old.articles word change })
 
 does_keeps : (old new : parts.State) (request : Request) (reply : Reply) → changes_words request ≡ false → store.Does old request reply new → KeepsWords old new
 does_keeps old new (requests.Word kind forms) reply no_words does = absurd (false≢true (sym no_words))
@@ -109,9 +107,11 @@ refused_or_done old new request (replies.Refused refusal) step = inl (refusal, r
 refused_or_done old new request reply step = inr step
 
 -- a step that changes no words keeps them
-pub step_keeps : (old new : parts.State) (request : Request) (reply : Reply) → changes_words request ≡ false → store.Step old request reply new → KeepsWords old new
+pub step_keeps : (old new : parts.State) (request : Request) (reply : Reply) → changes_words request ≡ false → store.Step old request reply new
+    → KeepsWords old new
 step_keeps old new request reply no_words step = by_case (refused_or_done old new request reply step)
   where
-    by_case : ((refusal : Refusal) × (reply ≡ replies.Refused refusal) × (new ≡ old)) ⊎ (store.IsFree old request × store.Does old request reply new) → KeepsWords old new
+    by_case : ((refusal : Refusal) × (reply ≡ replies.Refused refusal) × (new ≡ old)) ⊎ (store.IsFree old request × store.Does old request reply new)
+        → KeepsWords old new
     by_case (inl refused) = keeps_same old new refused.2
     by_case (inr done) = does_keeps old new request reply no_words done.1

@@ -1,38 +1,33 @@
 -- What each step of a wiki shows to one session.
-use Rattle.std.proofs.Common.{◌≡◌, ℕ, ◌+◌, ◌-◌, ◌<◌, ◌≤◌, ◌==◌, ◌⊎◌, Bool, true, false, not, cond, List, [], ◌∷◌, ◌++◌, length, map, filter, take, find, Option, Some, None, option_map, refl, sym, ap, subst, ◌∙◌, arith, inl, inr}
-use Rattle.std.specs.List.{flat_map}
-use Rattle.std.specs.Option.{option_or, option_map_or}
-use Rattle.std.proofs.lemmas.Bool.{false≢true}
-use Rattle.std.proofs.lemmas.Option.{none-some}
-use Rattle.wiki_base.specs.declared.numbers.WordId.{WordId}
+use Rattle.std.proofs.Common.{◌≡◌, ℕ, ◌+◌, ◌-◌, ◌<◌, ◌≤◌, ◌==◌, ◌⊎◌, Bool, true, false, not, cond, List, [], ◌∷◌, ◌++◌, length, take, Option, Some, None, option_map, refl, sym, ap, subst, ◌∙◌, arith, inl, inr}
+use Rattle.std.proofs.lemmas.Bool.{false≢true, eq-eqb}
+use Rattle.std.proofs.lemmas.Option.{none-some, same_Some}
 use Rattle.wiki_base.specs.declared.tokens.TheConstants.{MOST_TOKENS}
 use Rattle.codeco_terms.specs.GrammarParts.{GrammarParts}
 use Rattle.lexicon.specs.declared.kinds.Kind.{Kind}
-use Rattle.lexicon.specs.Words.{Listed, owner, forms_of, with_word, with_forms, without_word}
 use Rattle.editor.specs.Editing.{typed, IsInMenu}
-use Rattle.sessions.specs.Sessions.{PlainSession, has_number, session_of, with_change, with_tokens, with_revision, new_session, without_session, without_article, is_on, AreRebased}
+use Rattle.sessions.specs.Sessions.{PlainSession, has_number, session_of, with_change, with_tokens, with_revision, new_session, without_session, is_on, AreRebased}
 use Rattle.wiki_talk.specs.declared.statuses.Status.{Status}
 use Rattle.wiki_talk.specs.declared.refusals.Refusal.{Refusal}
-use Rattle.wiki_talk.specs.declared.refusals.Refusal.TheVariants.{NotOffered, Nothing}
+use Rattle.wiki_talk.specs.declared.refusals.Refusal.TheVariants.{NotOffered}
 use Rattle.wiki_talk.specs.declared.limits.Limit.TheVariants as limits
 use Rattle.wiki_talk.specs.declared.replies.Reply.{Reply}
 use Rattle.wiki_talk.specs.declared.replies.Reply.TheVariants as replies
 use Rattle.wiki_talk.specs.declared.requests.Request.{Request}
 use Rattle.wiki_talk.specs.declared.requests.Request.TheVariants as requests
-use Rattle.wiki_talk.specs.Turns.{Exchange, answered, no_request, Turn, Turns}
-use Rattle.articles.specs.declared.article.Article.{Article}
+use Rattle.wiki_talk.specs.Turns.{answered}
 use Rattle.wiki_parts.specs.State as parts
 use Rattle.wiki_parts.specs.Words.{full_at}
 use Rattle.wiki_store.specs.Step as store
-use Rattle.wiki_core.specs.State.{State, first_state}
-use Rattle.wiki_core.specs.Causes.{session_numbered, NamesNoSession, IsFullOfTokens, IsNotOffered, HasNoToken}
-use Rattle.wiki_core.specs.Step.{CarriesSessions, StepsPages, AreRebasedTo, EndOnArticle, Refuses, IsFree, Does, StepsSession, Step, begun_again}
+use Rattle.wiki_core.specs.State.{State}
+use Rattle.wiki_core.specs.Causes.{session_numbered}
+use Rattle.wiki_core.specs.Step.{StepsPages, AreRebasedTo, Refuses, IsFree, StepsSession, begun_again}
 use Rattle.wiki_core.specs.Apart as apart
 use Rattle.wiki_core.specs.Keeping.{changes_words}
-use Rattle.wiki_core.proofs.KeyLaws.{changed_at, find_changed, eq_is, eq_same, some_is}
+use Rattle.wiki_core.proofs.KeyLaws.{changed_at, find_changed}
 use Rattle.wiki_core.proofs.PagesLemmas.{KeepsWords, keeps_same, step_keeps}
-use Rattle.wiki_core.proofs.SeenLemmas.{Own, own, own_of, RiseTo, rise_lower, rise_filter, rise_append, rise_changed, rise_rebased, changed_own, changed_other, without_own, without_other, opened_own, opened_other, RebasesOwn, rebased_own, ended, ended_own}
-use Rattle.wiki_core.proofs.HearLemmas.{Seen, WordsChange, OwnChanges, IsNotTyped, OwnTypes, own_back, own_emptied, Goes, seen_is, Follows, follows_one, follows_append}
+use Rattle.wiki_core.proofs.SeenLemmas.{Own, own, own_of, RiseTo, rise_filter, rise_append, rise_changed, rise_rebased, changed_own, changed_other, without_own, without_other, opened_own, opened_other, rebased_own, ended_own}
+use Rattle.wiki_core.proofs.HearLemmas.{Seen, WordsChange, OwnChanges, IsNotTyped, OwnTypes, own_back, own_emptied, Goes, seen_is, Follows}
 
 -- what the session with the number sees of a wiki
 abbrev pub seen : State → ℕ → Seen
@@ -51,10 +46,12 @@ pub record Shows (g : GrammarParts) (old new : State) (number : ℕ) (heard : Li
 
 -- nothing changes
 pub shows_same : (g : GrammarParts) (old new : State) (number : ℕ) → old.pages.grammar ≡ g → IsApt old → new ≡ old → Shows g old new number []
-shows_same g old new number over apt same = subst (λ (s : State). Shows g old s number []) (sym same) (record { grammar = over; apt = apt; later = omega arith; follows = refl })
+shows_same g old new number over apt same =
+    subst (λ (s : State). Shows g old s number []) (sym same) (record { grammar = over; apt = apt; later = omega arith; follows = refl })
 
 -- no words and no sessions change
-shows_pages : (g : GrammarParts) (old new : State) (number : ℕ) → old.pages.grammar ≡ g → IsApt old → KeepsWords old.pages new.pages → new.sessions ≡ old.sessions → new.last ≡ old.last
+shows_pages : (g : GrammarParts) (old new : State) (number : ℕ) → old.pages.grammar ≡ g → IsApt old → KeepsWords old.pages new.pages
+    → new.sessions ≡ old.sessions → new.last ≡ old.last
     → Shows g old new number []
 shows_pages g old new number over apt keeps same last = record {
   grammar = keeps.grammar ∙ over;
@@ -64,9 +61,11 @@ shows_pages g old new number over apt keeps same last = record {
 }
 
 -- words change, and each session is rebased
-shows_words : (g : GrammarParts) (old new : State) (number : ℕ) (request : Request) → old.pages.grammar ≡ g → IsApt old → new.pages.grammar ≡ old.pages.grammar → new.last ≡ old.last
+shows_words : (g : GrammarParts) (old new : State) (number : ℕ) (request : Request) → old.pages.grammar ≡ g → IsApt old → new.pages.grammar ≡ old.pages.grammar
+    → new.last ≡ old.last
     → RiseTo 0 old.last new.sessions → WordsChange old.pages.words request new.pages.words
-    → OwnChanges g old.pages.words request new.pages.words (own_of old.sessions number) (own_of new.sessions number) → Shows g old new number (apart.changed request ∷ [])
+    → OwnChanges g old.pages.words request new.pages.words (own_of old.sessions number) (own_of new.sessions number)
+    → Shows g old new number (apart.changed request ∷ [])
 shows_words g old new number request over apt same last rise words changes = record {
   grammar = same ∙ over;
   apt = subst (λ (n : ℕ). RiseTo 0 n new.sessions) (sym last) rise;
@@ -102,28 +101,34 @@ session_told reply = 0
 
 module _ (g : GrammarParts) (old new : State) (number : ℕ) (over : old.pages.grammar ≡ g) (apt : IsApt old) where
   -- a rebased list of sessions, by the grammar itself
-  by_grammar : (sessions : List PlainSession) → new.pages.grammar ≡ old.pages.grammar → AreRebasedTo new.pages old.sessions sessions → AreRebased g new.pages.words old.sessions sessions
+  by_grammar : (sessions : List PlainSession) → new.pages.grammar ≡ old.pages.grammar → AreRebasedTo new.pages old.sessions sessions
+      → AreRebased g new.pages.words old.sessions sessions
   by_grammar sessions same rebased = subst (λ (h : GrammarParts). AreRebased h new.pages.words old.sessions sessions) (same ∙ over) rebased
 
   pub word_shows : (kind : Kind) (forms : List (List ℕ)) (reply : Reply) → StepsPages old (requests.Word kind forms) reply new
       → Shows g old new number (apart.heard_of_words (answered (requests.Word kind forms) reply))
-  word_shows kind forms (replies.Refused refusal) step = shows_pages g old new number over apt (keeps_same old.pages new.pages step.pages.1) step.sessions step.last
+  word_shows kind forms (replies.Refused refusal) step =
+      shows_pages g old new number over apt (keeps_same old.pages new.pages step.pages.1) step.sessions step.last
   word_shows kind forms replies.Word step =
       let same = ap (λ (s : parts.State). s.grammar) step.pages.1.after in
       let rebased = by_grammar new.sessions same step.sessions in
-      shows_words g old new number (requests.Word kind forms) over apt same step.last (rise_rebased g new.pages.words 0 old.last old.sessions new.sessions rebased apt)
+      shows_words g old new number (requests.Word kind forms) over apt same step.last
+      (rise_rebased g new.pages.words 0 old.last old.sessions new.sessions rebased apt)
       (ap (λ (s : parts.State). s.words) step.pages.1.after) (rebased_own g new.pages.words old.sessions new.sessions number rebased)
   word_shows kind forms reply step = absurd (false≢true (ap tells_word step.pages.1.answer))
 
   pub reword_shows : (form : List ℕ) (forms : List (List ℕ)) (reply : Reply) → StepsPages old (requests.Reword form forms) reply new
       → Shows g old new number (apart.heard_of_words (answered (requests.Reword form forms) reply))
-  reword_shows form forms (replies.Refused refusal) step = shows_pages g old new number over apt (keeps_same old.pages new.pages step.pages.1) step.sessions step.last
+  reword_shows form forms (replies.Refused refusal) step =
+      shows_pages g old new number over apt (keeps_same old.pages new.pages step.pages.1) step.sessions step.last
   reword_shows form forms replies.Reword step =
       let does = step.pages.1 in
       let same = ap (λ (s : parts.State). s.grammar) does.after in
       let rebased = by_grammar new.sessions same step.sessions in
-      shows_words g old new number (requests.Reword form forms) over apt same step.last (rise_rebased g new.pages.words 0 old.last old.sessions new.sessions rebased apt)
-      (does.word, does.forms, does.named, does.of_word, ap (λ (s : parts.State). s.words) does.after) (rebased_own g new.pages.words old.sessions new.sessions number rebased)
+      shows_words g old new number (requests.Reword form forms) over apt same step.last
+      (rise_rebased g new.pages.words 0 old.last old.sessions new.sessions rebased apt)
+      (does.word, does.forms, does.named, does.of_word, ap (λ (s : parts.State). s.words) does.after)
+      (rebased_own g new.pages.words old.sessions new.sessions number rebased)
   reword_shows form forms reply step = absurd (false≢true (ap tells_reword step.pages.1.answer))
 
   pub unword_shows : (form : List ℕ) (reply : Reply) → StepsPages old (requests.Unword form) reply new
@@ -146,9 +151,11 @@ module _ (g : GrammarParts) (old new : State) (number : ℕ) (over : old.pages.g
       )
   unword_shows form reply step = absurd (false≢true (ap tells_unword step.pages.1.answer))
 
-  pub other_shows : (request : Request) (reply : Reply) → changes_words request ≡ false → store.Step old.pages request reply new.pages → new.sessions ≡ old.sessions → new.last ≡ old.last
+  pub other_shows : (request : Request) (reply : Reply) → changes_words request ≡ false → store.Step old.pages request reply new.pages
+      → new.sessions ≡ old.sessions → new.last ≡ old.last
       → Shows g old new number []
-  other_shows request reply no_words step same last = shows_pages g old new number over apt (step_keeps old.pages new.pages request reply no_words step) same last
+  other_shows request reply no_words step same last =
+      shows_pages g old new number over apt (step_keeps old.pages new.pages request reply no_words step) same last
 
   -- ---- requests on sessions, each refused or done
 
@@ -162,47 +169,60 @@ module _ (g : GrammarParts) (old new : State) (number : ℕ) (over : old.pages.g
   one heard after goes = (after, goes, refl)
 
   -- a text is typed
-  not_typed : (text : List ℕ) (refusal : Refusal) → Refuses old (requests.Put number text) refusal → OwnTypes g old.pages.words text (own_of old.sessions number) (own_of old.sessions number)
+  not_typed : (text : List ℕ) (refusal : Refusal) → Refuses old (requests.Put number text) refusal
+      → OwnTypes g old.pages.words text (own_of old.sessions number) (own_of old.sessions number)
   not_typed text refusal refused = by_case (session_of old.sessions (record { 0 = number })) refl
     where
       same_session : (s t : PlainSession) → session_of old.sessions (record { 0 = number }) ≡ Some s → session_numbered old number ≡ Some t → t ≡ s
-      same_session s t is its = some_is t s (sym its ∙ is)
+      same_session s t is its = same_Some t s (sym its ∙ is)
 
-      why : (s : PlainSession) → session_of old.sessions (record { 0 = number }) ≡ Some s → Refuses old (requests.Put number text) refusal → IsNotTyped g old.pages.words text s.tokens
+      why : (s : PlainSession) → session_of old.sessions (record { 0 = number }) ≡ Some s → Refuses old (requests.Put number text) refusal
+          → IsNotTyped g old.pages.words text s.tokens
       why s is (inl gone) = absurd (none-some s (sym gone.none ∙ is))
       why s is (inr (there, inl full)) = inl (subst (λ (t : PlainSession). MOST_TOKENS ≤ length t.tokens) (same_session s full.session is full.named) full.full)
       why s is (inr (there, inr (not_full, inl not_offered))) =
           let same = same_session s not_offered.session is not_offered.named in
           let by_own : IsInMenu old.pages.grammar old.pages.words s.tokens (typed old.pages.grammar.terminals s.tokens text) → ⊥
-          = subst (λ (t : PlainSession). IsInMenu old.pages.grammar old.pages.words t.tokens (typed old.pages.grammar.terminals t.tokens text) → ⊥) same not_offered.not_there in
+          = subst (λ (t : PlainSession). IsInMenu old.pages.grammar old.pages.words t.tokens (typed old.pages.grammar.terminals t.tokens text) → ⊥) same
+          not_offered.not_there in
           inr (
             λ many. not_full (full_at limits.Tokens) (record { session = s; named = is; full = many; told = refl }),
             subst (λ (h : GrammarParts). IsInMenu h old.pages.words s.tokens (typed h.terminals s.tokens text) → ⊥) over by_own,
           )
       why s is (inr (there, inr (not_full, inr (offered, never)))) = absurd never
 
-      by_case : (o : Option PlainSession) → session_of old.sessions (record { 0 = number }) ≡ o → OwnTypes g old.pages.words text (option_map own o) (option_map own o)
+      by_case : (o : Option PlainSession) → session_of old.sessions (record { 0 = number }) ≡ o
+          → OwnTypes g old.pages.words text (option_map own o) (option_map own o)
       by_case None is = refl
       by_case (Some s) is = inl (why s is refused, refl)
 
   typed_on : (text : List ℕ) (session : PlainSession) → session_numbered old number ≡ Some session → IsFree old (requests.Put number text)
       → OwnTypes g old.pages.words text (own_of old.sessions number)
-      (option_map own (option_map (with_tokens (λ tokens. tokens ++ typed old.pages.grammar.terminals tokens text ∷ [])) (session_of old.sessions (record { 0 = number }))))
+      (option_map own (option_map (with_tokens (λ tokens. tokens ++ typed old.pages.grammar.terminals tokens text ∷ []))
+      (session_of old.sessions (record { 0 = number }))))
   typed_on text session is free =
-      subst (λ (o : Option PlainSession). OwnTypes g old.pages.words text (option_map own o) (option_map own (option_map (with_tokens (λ tokens. tokens ++ typed old.pages.grammar.terminals tokens text ∷ [])) o)))
-      (sym is) (inr (may, ap (λ (h : GrammarParts). Some (record { article = session.article; tokens = session.tokens ++ typed h.terminals session.tokens text ∷ [] })) over))
+      subst (λ (o : Option PlainSession). OwnTypes g old.pages.words text (option_map own o)
+      (option_map own (option_map (with_tokens (λ tokens. tokens ++ typed old.pages.grammar.terminals tokens text ∷ [])) o)))
+      (sym is) (inr (
+        may,
+        ap (λ (h : GrammarParts). Some
+            (record { article = session.article; tokens = session.tokens ++ typed h.terminals session.tokens text ∷ [] })) over,
+      ))
     where
       may : IsNotTyped g old.pages.words text session.tokens → ⊥
-      may (inl full) = free (full_at limits.Tokens) (inr (λ other gone. none-some session (sym gone.none ∙ is), inl (record { session = session; named = is; full = full; told = refl })))
+      may (inl full) = free (full_at limits.Tokens)
+          (inr (λ other gone. none-some session (sym gone.none ∙ is), inl (record { session = session; named = is; full = full; told = refl })))
       may (inr (not_full, not_there)) =
           free (NotOffered text) (inr (
             λ other gone. none-some session (sym gone.none ∙ is),
             inr (
-              λ other full. not_full (subst (λ (t : PlainSession). MOST_TOKENS ≤ length t.tokens) (some_is full.session session (sym full.named ∙ is)) full.full),
+              λ other full. not_full (subst (λ (t : PlainSession). MOST_TOKENS ≤ length t.tokens) (same_Some full.session session (sym full.named ∙ is))
+                  full.full),
               inl (record {
                 session = session;
                 named = is;
-                not_there = subst (λ (h : GrammarParts). IsInMenu h old.pages.words session.tokens (typed h.terminals session.tokens text) → ⊥) (sym over) not_there;
+                not_there = subst (λ (h : GrammarParts). IsInMenu h old.pages.words session.tokens (typed h.terminals session.tokens text) → ⊥) (sym over)
+                    not_there;
                 told = refl;
               }),
             ),
@@ -218,7 +238,8 @@ module _ (g : GrammarParts) (old new : State) (number : ℕ) (over : old.pages.g
       stays sessions (rise_changed number change (λ s. refl) 0 old.last old.sessions apt) step.1.after (apart.typed text ∷ [])
       (one (apart.typed text) (record { words = old.pages.words; own = own_of sessions number }) (
         refl,
-        subst (λ (o : Option PlainSession). OwnTypes g old.pages.words text (own_of old.sessions number) (option_map own o)) (sym (changed_own old.sessions number change (λ s. refl)))
+        subst (λ (o : Option PlainSession). OwnTypes g old.pages.words text (own_of old.sessions number) (option_map own o))
+            (sym (changed_own old.sessions number change (λ s. refl)))
             (typed_on text step.1.session step.1.named step.0),
       ))
 
@@ -226,15 +247,18 @@ module _ (g : GrammarParts) (old new : State) (number : ℕ) (over : old.pages.g
   not_back : (refusal : Refusal) → Refuses old (requests.Back number) refusal → own_of old.sessions number ≡ option_map own_back (own_of old.sessions number)
   not_back refusal refused = by_case (session_of old.sessions (record { 0 = number })) refl refused
     where
-      by_case : (o : Option PlainSession) → session_of old.sessions (record { 0 = number }) ≡ o → Refuses old (requests.Back number) refusal → option_map own o ≡ option_map own_back (option_map own o)
+      by_case : (o : Option PlainSession) → session_of old.sessions (record { 0 = number }) ≡ o → Refuses old (requests.Back number) refusal
+          → option_map own o ≡ option_map own_back (option_map own o)
       by_case None is refused = refl
       by_case (Some s) is (inl gone) = absurd (none-some s (sym gone.none ∙ is))
       by_case (Some s) is (inr (there, inl nothing)) =
-          let empty : s.tokens ≡ [] = ap (λ (t : PlainSession). t.tokens) (some_is s nothing.session (sym is ∙ nothing.named)) ∙ nothing.none in
-          ap (λ (tokens : List (List ℕ)). Some (record { article = s.article; tokens = tokens })) (empty ∙ ap (λ (tokens : List (List ℕ)). take (length tokens - 1) tokens) (sym empty))
+          let empty : s.tokens ≡ [] = ap (λ (t : PlainSession). t.tokens) (same_Some s nothing.session (sym is ∙ nothing.named)) ∙ nothing.none in
+          ap (λ (tokens : List (List ℕ)). Some (record { article = s.article; tokens = tokens }))
+          (empty ∙ ap (λ (tokens : List (List ℕ)). take (length tokens - 1) tokens) (sym empty))
       by_case (Some s) is (inr (there, inr (some, never))) = absurd never
 
-  mapped_twice : (f : PlainSession → PlainSession) (h : Own → Own) → ((s : PlainSession) → own (f s) ≡ h (own s)) → (o : Option PlainSession) → option_map own (option_map f o) ≡ option_map h (option_map own o)
+  mapped_twice : (f : PlainSession → PlainSession) (h : Own → Own) → ((s : PlainSession) → own (f s) ≡ h (own s)) → (o : Option PlainSession)
+      → option_map own (option_map f o) ≡ option_map h (option_map own o)
   mapped_twice f h same None = refl
   mapped_twice f h same (Some s) = ap Some (same s)
 
@@ -246,8 +270,11 @@ module _ (g : GrammarParts) (old new : State) (number : ℕ) (over : old.pages.g
       let change = with_tokens (λ tokens. take (length tokens - 1) tokens) in
       let sessions = with_change old.sessions (record { 0 = number }) change in
       stays sessions (rise_changed number change (λ s. refl) 0 old.last old.sessions apt) step.1.after (apart.stepped_back ∷ [])
-      (one apart.stepped_back (record { words = old.pages.words; own = own_of sessions number })
-      (refl, ap (option_map own) (changed_own old.sessions number change (λ s. refl)) ∙ mapped_twice change own_back (λ s. refl) (session_of old.sessions (record { 0 = number }))))
+      (one apart.stepped_back (record { words = old.pages.words; own = own_of sessions number }) (
+        refl,
+        ap (option_map own) (changed_own old.sessions number change (λ s. refl))
+            ∙ mapped_twice change own_back (λ s. refl) (session_of old.sessions (record { 0 = number })),
+      ))
 
   pub drop_shows : (reply : Reply) → StepsSession old (requests.Drop number) reply new → Shows g old new number (apart.dropped ∷ [])
   drop_shows (replies.Refused refusal) step =
@@ -258,7 +285,8 @@ module _ (g : GrammarParts) (old new : State) (number : ℕ) (over : old.pages.g
       stays sessions (rise_filter (λ s. not (has_number (record { 0 = number }) s)) 0 old.last old.sessions apt) step.1.after (apart.dropped ∷ [])
       (one apart.dropped (record { words = old.pages.words; own = own_of sessions number }) (refl, ap (option_map own) (without_own old.sessions number)))
 
-  pub commit_shows : (form : List ℕ) (status : Status) (text : List ℕ) → StepsSession old (requests.Commit number) (replies.Commit form status text) new → Shows g old new number (apart.committed ∷ [])
+  pub commit_shows : (form : List ℕ) (status : Status) (text : List ℕ) → StepsSession old (requests.Commit number) (replies.Commit form status text) new
+      → Shows g old new number (apart.committed ∷ [])
   commit_shows form status text step =
       let change = begun_again step.1.article in
       let sessions = with_change old.sessions (record { 0 = number }) change in
@@ -267,8 +295,11 @@ module _ (g : GrammarParts) (old new : State) (number : ℕ) (over : old.pages.g
         grammar = over;
         apt = rise_changed number change (λ s. refl) 0 old.last old.sessions apt;
         later = omega arith;
-        follows = one apart.committed (record { words = old.pages.words; own = own_of sessions number })
-            (refl, ap (option_map own) (changed_own old.sessions number change (λ s. refl)) ∙ mapped_twice change own_emptied (λ s. refl) (session_of old.sessions (record { 0 = number })));
+        follows = one apart.committed (record { words = old.pages.words; own = own_of sessions number }) (
+          refl,
+          ap (option_map own) (changed_own old.sessions number change (λ s. refl))
+              ∙ mapped_twice change own_emptied (λ s. refl) (session_of old.sessions (record { 0 = number })),
+        );
       })
 
   -- ---- requests on other sessions, and those that leave tokens
@@ -281,11 +312,13 @@ module _ (g : GrammarParts) (old new : State) (number : ℕ) (over : old.pages.g
       → new ≡ record old { sessions = with_change old.sessions (record { 0 = n }) change } → Shows g old new number []
   other_changes n change keeps apart_is same =
       stays (with_change old.sessions (record { 0 = n }) change) (rise_changed n change keeps 0 old.last old.sessions apt) same []
-      (seen_is (record { words = old.pages.words; own = own_of (with_change old.sessions (record { 0 = n }) change) number }) (seen old number) refl (other_own n change keeps apart_is))
+      (seen_is (record { words = old.pages.words; own = own_of (with_change old.sessions (record { 0 = n }) change) number }) (seen old number) refl
+      (other_own n change keeps apart_is))
 
   pub put_other : (n : ℕ) (text : List ℕ) (reply : Reply) → (n == number) ≡ false → StepsSession old (requests.Put n text) reply new → Shows g old new number []
   put_other n text (replies.Refused refusal) apart_is step = shows_same g old new number over apt step.1
-  put_other n text reply apart_is step = other_changes n (with_tokens (λ tokens. tokens ++ typed old.pages.grammar.terminals tokens text ∷ [])) (λ s. refl) apart_is step.1.after
+  put_other n text reply apart_is step =
+      other_changes n (with_tokens (λ tokens. tokens ++ typed old.pages.grammar.terminals tokens text ∷ [])) (λ s. refl) apart_is step.1.after
 
   pub back_other : (n : ℕ) (reply : Reply) → (n == number) ≡ false → StepsSession old (requests.Back n) reply new → Shows g old new number []
   back_other n (replies.Refused refusal) apart_is step = shows_same g old new number over apt step.1
@@ -296,9 +329,11 @@ module _ (g : GrammarParts) (old new : State) (number : ℕ) (over : old.pages.g
   drop_other n reply apart_is step =
       let sessions = without_session old.sessions (record { 0 = n }) in
       stays sessions (rise_filter (λ s. not (has_number (record { 0 = n }) s)) 0 old.last old.sessions apt) step.1.after []
-      (seen_is (record { words = old.pages.words; own = own_of sessions number }) (seen old number) refl (ap (option_map own) (without_other old.sessions n number apart_is)))
+      (seen_is (record { words = old.pages.words; own = own_of sessions number }) (seen old number) refl
+      (ap (option_map own) (without_other old.sessions n number apart_is)))
 
-  pub commit_other : (n : ℕ) (form : List ℕ) (status : Status) (text : List ℕ) → (n == number) ≡ false → StepsSession old (requests.Commit n) (replies.Commit form status text) new → Shows g old new number []
+  pub commit_other : (n : ℕ) (form : List ℕ) (status : Status) (text : List ℕ) → (n == number) ≡ false
+      → StepsSession old (requests.Commit n) (replies.Commit form status text) new → Shows g old new number []
   commit_other n form status text apart_is step =
       let change = begun_again step.1.article in
       let sessions = with_change old.sessions (record { 0 = n }) change in
@@ -325,18 +360,21 @@ module _ (g : GrammarParts) (old new : State) (number : ℕ) (over : old.pages.g
       let change = with_revision step.1.article.revision in
       stays (with_change old.sessions (record { 0 = n }) change) (rise_changed n change (λ s. refl) 0 old.last old.sessions apt) step.1.after []
       (seen_is (record { words = old.pages.words; own = own_of (with_change old.sessions (record { 0 = n }) change) number }) (seen old number) refl
-      (ap (option_map own) (find_changed (λ (s : PlainSession). s.number.0) n number change (λ s. refl) old.sessions) ∙ alike (session_of old.sessions (record { 0 = number }))))
+      (ap (option_map own) (find_changed (λ (s : PlainSession). s.number.0) n number change (λ s. refl) old.sessions)
+      ∙ alike (session_of old.sessions (record { 0 = number }))))
     where
       same_own : (b : Bool) (s : PlainSession) → own (cond b (with_revision step.1.article.revision s) s) ≡ own s
       same_own true s = refl
       same_own false s = refl
 
-      alike : (o : Option PlainSession) → option_map own (option_map (changed_at (λ (s : PlainSession). s.number.0) n (with_revision step.1.article.revision)) o) ≡ option_map own o
+      alike : (o : Option PlainSession) → option_map own
+          (option_map (changed_at (λ (s : PlainSession). s.number.0) n (with_revision step.1.article.revision)) o) ≡ option_map own o
       alike None = refl
       alike (Some s) = ap Some (same_own (s.number.0 == n) s)
 
   -- another session is opened
-  pub begin_other : (form : List ℕ) (reply : Reply) → (old.last + 1 == number) ≡ false → StepsSession old (requests.Begin form) reply new → Shows g old new number []
+  pub begin_other : (form : List ℕ) (reply : Reply) → (old.last + 1 == number) ≡ false → StepsSession old (requests.Begin form) reply new
+      → Shows g old new number []
   begin_other form (replies.Refused refusal) apart_is step = shows_same g old new number over apt step.1
   begin_other form reply apart_is step =
       let session = new_session (record { 0 = old.last + 1 }) step.1.word step.1.article.revision in
@@ -345,15 +383,17 @@ module _ (g : GrammarParts) (old new : State) (number : ℕ) (over : old.pages.g
         grammar = over;
         apt = rise_append 0 old.last old.sessions session refl apt;
         later = omega arith;
-        follows = seen_is (record { words = old.pages.words; own = own_of (old.sessions ++ session ∷ []) number }) (seen old number) refl (ap (option_map own) (opened_other old.sessions session number apart_is));
+        follows = seen_is (record { words = old.pages.words; own = own_of (old.sessions ++ session ∷ []) number }) (seen old number) refl
+            (ap (option_map own) (opened_other old.sessions session number apart_is));
       })
 
   -- the session itself is opened
-  pub begin_shows : (form : List ℕ) → session_numbered old number ≡ None → StepsSession old (requests.Begin form) (replies.Begin number) new → Shows g old new number (apart.opened form ∷ []) × (number ≤ new.last)
+  pub begin_shows : (form : List ℕ) → session_numbered old number ≡ None → StepsSession old (requests.Begin form) (replies.Begin number) new
+      → Shows g old new number (apart.opened form ∷ []) × (number ≤ new.last)
   begin_shows form none step =
       let session = new_session (record { 0 = old.last + 1 }) step.1.word step.1.article.revision in
       let is_next : number ≡ old.last + 1 = ap session_told step.1.answer in
-      let same : (old.last + 1 == number) ≡ true = eq_same (old.last + 1) number (sym is_next) in
+      let same : (old.last + 1 == number) ≡ true = eq-eqb (old.last + 1) number (sym is_next) in
       subst (λ (s : State). Shows g old s number (apart.opened form ∷ []) × (number ≤ s.last)) (sym step.1.after) (
         record {
           grammar = over;

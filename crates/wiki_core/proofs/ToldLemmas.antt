@@ -20,7 +20,8 @@ told_fault : (cause : Refusal → Type 0) (fault : Fault) (refusal : Refusal) �
 told_fault cause fault refusal is tells = let told = subst (IsFault cause) is tells in told
 
 -- a request on a session
-pub told_session : (old new : Holding) (request : Request) (done : Result Reply Fault) (reply : Reply) → IfOk done (λ made. StepsSession old.state request made new.state)
+pub told_session : (old new : Holding) (request : Request) (done : Result Reply Fault) (reply : Reply)
+    → IfOk done (λ made. StepsSession old.state request made new.state)
     → IfErr done (IsFault (Refuses old.state request)) → OnErr done (new ≡ old) → Tells done reply → StepsSession old.state request reply new.state
 told_session old new request (Ok made) reply step refused kept tells = subst (λ (r : Reply). StepsSession old.state request r new.state) (sym tells) step
 told_session old new request (Err fault) reply step refused kept tells =
@@ -28,7 +29,8 @@ told_session old new request (Err fault) reply step refused kept tells =
     (told_fault (Refuses old.state request) fault tells.0 tells.1 refused, ap (λ (h : Holding). h.state) kept)
 
 -- a request that changes words
-pub told_pages : (old new : Holding) (request : Request) (done : Result Reply Fault) (reply : Reply) → IfOk done (λ made. StepsPages old.state request made new.state)
+pub told_pages : (old new : Holding) (request : Request) (done : Result Reply Fault) (reply : Reply)
+    → IfOk done (λ made. StepsPages old.state request made new.state)
     → IfErr done (IsFault (store.Refuses old.state.pages request)) → OnErr done (new ≡ old) → Tells done reply
     → ((refusal : Refusal) → new ≡ old → CarriesSessions old.state request (replies.Refused refusal) new.state) → StepsPages old.state request reply new.state
 told_pages old new request (Ok made) reply step refused kept tells carried = subst (λ (r : Reply). StepsPages old.state request r new.state) (sym tells) step
@@ -46,26 +48,34 @@ is_done (Ok made) = true
 is_done (Err fault) = false
 
 -- want of memory is told of want of memory alone, which keeps all
-pub told_keeps : (P : Type 0) (done : Result Reply Fault) (result : Result Reply Memory) → OnErr result (done ≡ Err faults.Memory) → OnErr done P → OnErr result P
+pub told_keeps : (P : Type 0) (done : Result Reply Fault) (result : Result Reply Memory) → OnErr result (done ≡ Err faults.Memory) → OnErr done P
+    → OnErr result P
 told_keeps P (Ok made) (Ok reply) only kept = only
 told_keeps P (Err fault) (Ok reply) only kept = only
 told_keeps P (Ok made) (Err memory) only kept = absurd (false≢true (sym (ap is_done only)))
 told_keeps P (Err fault) (Err memory) only kept = kept
 
 -- what is told of a request on a session is its step
-pub session_step : (old new : Holding) (request asked : Request) → request ≡ asked → store.asks_store asked ≡ false → (done : Result Reply Fault) (result : Result Reply Memory)
-    → IfOk result (Tells done) → IfOk done (λ made. StepsSession old.state asked made new.state) → IfErr done (IsFault (Refuses old.state asked)) → OnErr done (new ≡ old)
+pub session_step : (old new : Holding) (request asked : Request) → request ≡ asked → store.asks_store asked ≡ false
+    → (done : Result Reply Fault) (result : Result Reply Memory)
+    → IfOk result (Tells done) → IfOk done (λ made. StepsSession old.state asked made new.state) → IfErr done (IsFault (Refuses old.state asked))
+    → OnErr done (new ≡ old)
     → IfOk result (λ reply. Step old.state request reply new.state)
 session_step old new request asked same on done (Err memory) tells step refused kept = tells
 session_step old new request asked same on done (Ok reply) tells step refused kept =
     subst (λ (q : Request). Step old.state q reply new.state) (sym same)
-    (subst (λ (b : Bool). MatchBool b (StepsPages old.state asked reply new.state) (StepsSession old.state asked reply new.state)) (sym on) (told_session old new asked done reply step refused kept tells))
+    (subst (λ (b : Bool). MatchBool b (StepsPages old.state asked reply new.state) (StepsSession old.state asked reply new.state)) (sym on)
+    (told_session old new asked done reply step refused kept tells))
 
 -- and what is told of a request that changes words
-pub pages_step : (old new : Holding) (request asked : Request) → request ≡ asked → store.asks_store asked ≡ true → (done : Result Reply Fault) (result : Result Reply Memory)
-    → IfOk result (Tells done) → IfOk done (λ made. StepsPages old.state asked made new.state) → IfErr done (IsFault (store.Refuses old.state.pages asked)) → OnErr done (new ≡ old)
-    → ((refusal : Refusal) → new ≡ old → CarriesSessions old.state asked (replies.Refused refusal) new.state) → IfOk result (λ reply. Step old.state request reply new.state)
+pub pages_step : (old new : Holding) (request asked : Request) → request ≡ asked → store.asks_store asked ≡ true
+    → (done : Result Reply Fault) (result : Result Reply Memory)
+    → IfOk result (Tells done) → IfOk done (λ made. StepsPages old.state asked made new.state) → IfErr done (IsFault (store.Refuses old.state.pages asked))
+    → OnErr done (new ≡ old)
+    → ((refusal : Refusal) → new ≡ old → CarriesSessions old.state asked (replies.Refused refusal) new.state)
+    → IfOk result (λ reply. Step old.state request reply new.state)
 pages_step old new request asked same on done (Err memory) tells step refused kept carried = tells
 pages_step old new request asked same on done (Ok reply) tells step refused kept carried =
     subst (λ (q : Request). Step old.state q reply new.state) (sym same)
-    (subst (λ (b : Bool). MatchBool b (StepsPages old.state asked reply new.state) (StepsSession old.state asked reply new.state)) (sym on) (told_pages old new asked done reply step refused kept tells carried))
+    (subst (λ (b : Bool). MatchBool b (StepsPages old.state asked reply new.state) (StepsSession old.state asked reply new.state)) (sym on)
+    (told_pages old new asked done reply step refused kept tells carried))

@@ -1,6 +1,6 @@
 -- What a word that is added leaves of sessions.
-use Rattle.std.proofs.Common.{◌≡◌, ℕ, ◌+◌, ◌<◌, ◌≤◌, ◌==◌, Bool, true, false, cond, List, [], ◌∷◌, ◌++◌, length, take, All, Option, Some, None, option_map, Result, Ok, Err, IfOk, OnErr, IsSome, is_some, IsTrue, refl, sym, ap, subst, ◌∙◌, arith}
-use Rattle.std.specs.Option.{option_or, option_map_or, option_and_then}
+use Rattle.std.proofs.Common.{◌≡◌, ℕ, ◌+◌, ◌<◌, ◌≤◌, ◌==◌, Bool, true, false, cond, List, [], ◌∷◌, ◌++◌, length, Option, Some, None, option_map, Result, Ok, Err, IfOk, OnErr, IsSome, is_some, refl, sym, ap, subst, ◌∙◌, arith}
+use Rattle.std.specs.Option.{option_or}
 use Rattle.std.proofs.lemmas.Bool.{false≢true}
 use Rattle.std.proofs.lemmas.Option.{none-some}
 use Rattle.std.proofs.lemmas.List.{take_all}
@@ -17,14 +17,13 @@ use Rattle.lexicon.specs.Terminals.{is_reserved}
 use Rattle.lexicon.specs.Words.{Listed, owner, forms_of, with_word, next_word, first_taken, first_reserved, fullness, forms_refusal, add_refusal}
 use Rattle.lexicon.proofs.Owners.{owner_lives, owner-add_refusal, add_refusal_names_none}
 use Rattle.derivation_trees.specs.Partial.{IsTypeable}
-use Rattle.editor.specs.Rebasing.{IsRebased}
 use Rattle.sessions.specs.declared.session.Session.{Session}
-use Rattle.sessions.specs.Sessions.{PlainSession, all_plain, AreSessions, AreKept, AreTypeable, AreRebased}
+use Rattle.sessions.specs.Sessions.{PlainSession, all_plain, AreSessions, AreTypeable, AreRebased}
 use Rattle.sessions.proofs.KeepingLaws.{kept_by_word, kept_typeable}
 use Rattle.wiki_base.specs.declared.numbers.WordId.{WordId}
+use Rattle.wiki_base.proofs.OptionLaws.{option_or-second_none}
 use Rattle.lists.specs.declared.memory.Memory.{Memory}
 use Rattle.articles.specs.Articles.{new_article}
-use Rattle.wiki_talk.specs.declared.refusals.Refusal.{Refusal}
 use Rattle.wiki_talk.specs.declared.refusals.Refusal.TheVariants as refusals
 use Rattle.wiki_talk.specs.declared.replies.Reply.{Reply}
 use Rattle.wiki_talk.specs.declared.replies.Reply.TheVariants as replies
@@ -32,10 +31,9 @@ use Rattle.wiki_talk.specs.declared.requests.Request.{Request}
 use Rattle.wiki_talk.specs.declared.requests.Request.TheVariants as requests
 use Rattle.wiki_parts.specs.State as parts
 use Rattle.wiki_parts.specs.Holding as holding
-use Rattle.wiki_parts.specs.Words.{canonical, bad_text, bad_count, lexicon_refusal, taken_refusal, told_fault, forms_given, word_refusal}
+use Rattle.wiki_parts.specs.Words.{canonical, bad_text, bad_count, lexicon_refusal, forms_given, word_refusal}
 use Rattle.wiki_store.specs.Step as store
-use Rattle.wiki_core.specs.State.{State}
-use Rattle.wiki_core.specs.Step.{StepsPages, CarriesSessions}
+use Rattle.wiki_core.specs.Step.{StepsPages}
 use Rattle.wiki_core.specs.Keeping.{is_word, changes_words, AreHeld}
 use Rattle.wiki_core.proofs.PagesLemmas.{keeps_same, step_keeps, go_on_begun}
 use Rattle.wiki_core.proofs.HeldLemmas.{Fits, fits_each, held_by, held_over}
@@ -50,7 +48,8 @@ never_taken : (live : List Word) (texts : List (List ℕ)) → first_taken live 
 never_taken live [] is = none-some faults.Memory is
 never_taken live (text ∷ texts) is = by_owner (owner live text) (never_taken live texts) is
   where
-    by_owner : (o : Option WordId) → (first_taken live texts ≡ Some faults.Memory → ⊥) → option_or (option_map (faults.Taken text) o) (first_taken live texts) ≡ Some faults.Memory → ⊥
+    by_owner : (o : Option WordId) → (first_taken live texts ≡ Some faults.Memory → ⊥)
+        → option_or (option_map (faults.Taken text) o) (first_taken live texts) ≡ Some faults.Memory → ⊥
     by_owner None rest is = rest is
     by_owner (Some id) rest is = false≢true (ap is_memory is)
 
@@ -58,7 +57,8 @@ never_reserved : (terminals texts : List (List ℕ)) → first_reserved terminal
 never_reserved terminals [] is = none-some faults.Memory is
 never_reserved terminals (text ∷ texts) is = by_test (is_reserved terminals text) (never_reserved terminals texts) is
   where
-    by_test : (b : Bool) → (first_reserved terminals texts ≡ Some faults.Memory → ⊥) → cond b (Some (faults.Reserved text)) (first_reserved terminals texts) ≡ Some faults.Memory → ⊥
+    by_test : (b : Bool) → (first_reserved terminals texts ≡ Some faults.Memory → ⊥)
+        → cond b (Some (faults.Reserved text)) (first_reserved terminals texts) ≡ Some faults.Memory → ⊥
     by_test true rest is = false≢true (ap is_memory is)
     by_test false rest is = rest is
 
@@ -77,12 +77,9 @@ either_or (Some fault) b not_a not_b is = not_a is
 never_memory : (words : Listed) (forms : Forms) → add_refusal words forms ≡ Some faults.Memory → ⊥
 never_memory words forms is =
     either_or (forms_refusal words.live words.terminals forms) (fullness words)
-    (either_or (first_taken words.live forms.texts) (first_reserved words.terminals forms.texts) (never_taken words.live forms.texts) (never_reserved words.terminals forms.texts))
+    (either_or (first_taken words.live forms.texts) (first_reserved words.terminals forms.texts) (never_taken words.live forms.texts)
+    (never_reserved words.terminals forms.texts))
     (never_full words) is
-
-second_none : {X : Type 0} (a b : Option X) → option_or a b ≡ None → b ≡ None
-second_none None b none = none
-second_none (Some x) b none = absurd (none-some x (sym none))
 
 -- a word that is told as the owner of a form lives
 told_taken : (text : List ℕ) (o : Option Forms) → IsSome o → option_map (λ (f : Forms). refusals.Taken text (canonical f)) o ≡ None → ⊥
@@ -104,8 +101,8 @@ free_of : (words : Listed) (kind : Kind) (texts : List (List ℕ)) → word_refu
 unfolding word_refusal
 free_of words kind texts none =
     free_by words (forms_given kind texts) (add_refusal words (forms_given kind texts)) refl
-    (second_none (bad_count kind texts) (lexicon_refusal words (add_refusal words (forms_given kind texts)))
-    (second_none (bad_text texts) (option_or (bad_count kind texts) (lexicon_refusal words (add_refusal words (forms_given kind texts)))) none))
+    (option_or-second_none (bad_count kind texts) (lexicon_refusal words (add_refusal words (forms_given kind texts)))
+    (option_or-second_none (bad_text texts) (option_or (bad_count kind texts) (lexicon_refusal words (add_refusal words (forms_given kind texts)))) none))
 
 none_of : {X : Type 0} (o : Option X) → ((x : X) → o ≡ Some x → ⊥) → o ≡ None
 none_of None never = refl
@@ -128,7 +125,8 @@ rebased_itself g words (s ∷ sessions) typeable = (
   rebased_itself g words sessions (All-tail (λ (t : PlainSession). IsTypeable g words t.tokens) s sessions typeable),
 )
 
-module _ (old new : parts.State) (sessions : List Session) (last : ℕ) (held : AreHeld old sessions last) (are : AreSessions sessions) (same : old.words.terminals ≡ old.grammar.terminals) where
+module _ (old new : parts.State) (sessions : List Session) (last : ℕ) (held : AreHeld old sessions last) (are : AreSessions sessions)
+    (same : old.words.terminals ≡ old.grammar.terminals) where
   -- a new word leaves what is kept
   word_held : (kind : Kind) (texts : List (List ℕ)) (reply : Reply) → store.Step old (requests.Word kind texts) reply new → AreHeld new sessions last
   word_held kind texts (replies.Refused refusal) step = held_over old new sessions last held (keeps_same old new step.1)
@@ -138,15 +136,18 @@ module _ (old new : parts.State) (sessions : List Session) (last : ℕ) (held : 
       subst (λ (s : parts.State). AreHeld s sessions last) (sym step.1.after)
       (held_by (record old { words = with_word old.words (forms_given kind texts); articles = old.articles ++ begun ∷ [] }) sessions last
       (kept_by_word old.grammar old.words (forms_given kind texts) sessions same free are held.kept)
-      (All-weaker (Fits old.articles last) (Fits (old.articles ++ begun ∷ []) last) (λ s f. record { on = go_on_begun old.articles begun s f.on; numbered = f.numbered }) (all_plain sessions) (fits_each old sessions last held)))
+      (All-weaker (Fits old.articles last) (Fits (old.articles ++ begun ∷ []) last)
+      (λ s f. record { on = go_on_begun old.articles begun s f.on; numbered = f.numbered }) (all_plain sessions) (fits_each old sessions last held)))
   word_held kind texts reply step = absurd (false≢true (ap tells_word step.1.answer))
 
   word_steps : (kind : Kind) (texts : List (List ℕ)) (reply : Reply) → store.Step old (requests.Word kind texts) reply new
-      → StepsPages (record { pages = old; sessions = all_plain sessions; last = last }) (requests.Word kind texts) reply (record { pages = new; sessions = all_plain sessions; last = last })
+      → StepsPages (record { pages = old; sessions = all_plain sessions; last = last }) (requests.Word kind texts) reply
+      (record { pages = new; sessions = all_plain sessions; last = last })
   word_steps kind texts (replies.Refused refusal) step = record { pages = step; sessions = refl; last = refl }
   word_steps kind texts replies.Word step = record {
     pages = step;
-    sessions = rebased_itself new.grammar new.words (all_plain sessions) (kept_typeable new.grammar new.words sessions are (word_held kind texts replies.Word step).kept);
+    sessions = rebased_itself new.grammar new.words (all_plain sessions)
+        (kept_typeable new.grammar new.words sessions are (word_held kind texts replies.Word step).kept);
     last = refl;
   }
   word_steps kind texts reply step = absurd (false≢true (ap tells_word step.1.answer))
@@ -156,24 +157,35 @@ module _ (old new : parts.State) (sessions : List Session) (last : ℕ) (held : 
   add_held request reply is step = absurd (false≢true is)
 
   pub add_steps : (request : Request) (reply : Reply) → is_word request ≡ true → store.Step old request reply new
-      → StepsPages (record { pages = old; sessions = all_plain sessions; last = last }) request reply (record { pages = new; sessions = all_plain sessions; last = last })
+      → StepsPages (record { pages = old; sessions = all_plain sessions; last = last }) request reply
+      (record { pages = new; sessions = all_plain sessions; last = last })
   add_steps (requests.Word kind texts) reply is step = word_steps kind texts reply step
   add_steps request reply is step = absurd (false≢true is)
 
 -- so does the store's step, whether it answers or not
-pub held_after_word : (old new : holding.Holding) (sessions : List Session) (last : ℕ) → AreHeld old.state sessions last → AreSessions sessions → old.state.words.terminals ≡ old.state.grammar.terminals
-    → (request : Request) → is_word request ≡ true → (result : Result Reply Memory) → IfOk result (λ reply. store.Step old.state request reply new.state) → OnErr result (new ≡ old) → AreHeld new.state sessions last
-held_after_word old new sessions last held are same request is (Ok reply) step kept = add_held old.state new.state sessions last held are same request reply is step
-held_after_word old new sessions last held are same request is (Err memory) step kept = subst (λ (h : holding.Holding). AreHeld h.state sessions last) (sym kept) held
-
-pub steps_word : (old new : holding.Holding) (sessions : List Session) (last : ℕ) → AreHeld old.state sessions last → AreSessions sessions → old.state.words.terminals ≡ old.state.grammar.terminals
+pub held_after_word : (old new : holding.Holding) (sessions : List Session) (last : ℕ) → AreHeld old.state sessions last → AreSessions sessions
+    → old.state.words.terminals ≡ old.state.grammar.terminals
     → (request : Request) → is_word request ≡ true → (result : Result Reply Memory) → IfOk result (λ reply. store.Step old.state request reply new.state)
-    → IfOk result (λ reply. StepsPages (record { pages = old.state; sessions = all_plain sessions; last = last }) request reply (record { pages = new.state; sessions = all_plain sessions; last = last }))
+    → OnErr result (new ≡ old) → AreHeld new.state sessions last
+held_after_word old new sessions last held are same request is (Ok reply) step kept =
+    add_held old.state new.state sessions last held are same request reply is step
+held_after_word old new sessions last held are same request is (Err memory) step kept =
+    subst (λ (h : holding.Holding). AreHeld h.state sessions last) (sym kept) held
+
+pub steps_word : (old new : holding.Holding) (sessions : List Session) (last : ℕ) → AreHeld old.state sessions last → AreSessions sessions
+    → old.state.words.terminals ≡ old.state.grammar.terminals
+    → (request : Request) → is_word request ≡ true → (result : Result Reply Memory) → IfOk result (λ reply. store.Step old.state request reply new.state)
+    → IfOk result (λ reply. StepsPages (record { pages = old.state; sessions = all_plain sessions; last = last }) request reply
+    (record { pages = new.state; sessions = all_plain sessions; last = last }))
 steps_word old new sessions last held are same request is (Ok reply) step = add_steps old.state new.state sessions last held are same request reply is step
 steps_word old new sessions last held are same request is (Err memory) step = step
 
 -- and a step that changes no words
-pub held_after_pages : (old new : holding.Holding) (sessions : List Session) (last : ℕ) → AreHeld old.state sessions last → (request : Request) → changes_words request ≡ false
-    → (result : Result Reply Memory) → IfOk result (λ reply. store.Step old.state request reply new.state) → OnErr result (new ≡ old) → AreHeld new.state sessions last
-held_after_pages old new sessions last held request no_words (Ok reply) step kept = held_over old.state new.state sessions last held (step_keeps old.state new.state request reply no_words step)
-held_after_pages old new sessions last held request no_words (Err memory) step kept = subst (λ (h : holding.Holding). AreHeld h.state sessions last) (sym kept) held
+pub held_after_pages : (old new : holding.Holding) (sessions : List Session) (last : ℕ) → AreHeld old.state sessions last → (request : Request)
+    → changes_words request ≡ false
+    → (result : Result Reply Memory) → IfOk result (λ reply. store.Step old.state request reply new.state) → OnErr result (new ≡ old)
+    → AreHeld new.state sessions last
+held_after_pages old new sessions last held request no_words (Ok reply) step kept =
+    held_over old.state new.state sessions last held (step_keeps old.state new.state request reply no_words step)
+held_after_pages old new sessions last held request no_words (Err memory) step kept =
+    subst (λ (h : holding.Holding). AreHeld h.state sessions last) (sym kept) held

@@ -71,7 +71,8 @@ opened_by number exchange = None
 abbrev pub heard_by : ℕ → List (Exchange Request Reply) → List Heard
 heard_by number [] = []
 heard_by number (exchange ∷ exchanges) =
-    option_map_or (λ form. opened form ∷ flat_map (heard_open number) exchanges) (opened_by number exchange) (heard_of_words exchange ++ heard_by number exchanges)
+    option_map_or (λ form. opened form ∷ flat_map (heard_open number) exchanges) (opened_by number exchange)
+    (heard_of_words exchange ++ heard_by number exchanges)
 
 -- A session's tokens are a function of the grammar and of what the session heard: in any two runs over the grammar, whatever the
 -- budgets are and whatever else was asked, two sessions that heard the same have the same tokens.

@@ -29,7 +29,8 @@ status_committed reply = None
 -- a session's tokens are red for the budget only where the kept interpretation is no model of what is known with them
 abbrev pub CommitSpendsBeyondKept : Holding → ℕ → Reply → Type 0
 CommitSpendsBeyondKept old number reply =
-    status_committed reply ≡ Some RedBudget → IfSome (taken_by_commit old.state number) (λ taken. (claims : List Claim) → Knows taken claims → ¬ IsModel old.interpretation claims)
+    status_committed reply ≡ Some RedBudget
+    → IfSome (taken_by_commit old.state number) (λ taken. (claims : List Claim) → Knows taken claims → ¬ IsModel old.interpretation claims)
 
 -- a new sentence is red for the budget only where the kept interpretation is no model of what is known with it
 abbrev pub SpendsBeyondKept : Holding → Request → Reply → Type 0

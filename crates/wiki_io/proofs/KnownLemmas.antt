@@ -53,7 +53,8 @@ HasWritten-all bytes rest first now written none =
 pub HasWritten-prefix : (bytes rest : List ℕ) (first now : Option (List ℕ)) → HasWritten bytes rest first now
     → (n : ℕ) × (n ≤ length bytes) × Appends first now (take n bytes)
 HasWritten-prefix bytes rest first now written =
-    let front_is : take (length written.front) bytes ≡ written.front = ap (λ (l : List ℕ). take (length written.front) l) written.all ∙ take_at written.front rest (length written.front) refl in
+    let front_is : take (length written.front) bytes ≡ written.front =
+    ap (λ (l : List ℕ). take (length written.front) l) written.all ∙ take_at written.front rest (length written.front) refl in
     (length written.front, omega (arith, ap length written.all, length-append written.front rest), subst (Appends first now) (sym front_is) written.taken)
 
 -- a read of n bytes of memory, which were copied before other bytes
@@ -64,4 +65,5 @@ read_part bytes copied others at n is fits =
     let copied_is : copied ≡ take n (drop at bytes) = is ∙ ap (λ (k : ℕ). take k (drop at bytes)) count in
     let size : length copied ≡ n = omega (arith, ap length copied_is, length-take n (drop at bytes), length-drop at bytes) in
     let first : take n (copied ++ others) ≡ take n (drop at bytes) = take_at copied others n size ∙ copied_is in
-    sym (take-append-drop n (drop at bytes)) ∙ ap (λ (l : List ℕ). take n (drop at bytes) ++ l) (drop-drop n at bytes) ∙ ap (λ (l : List ℕ). l ++ drop (at + n) bytes) (sym first)
+    sym (take-append-drop n (drop at bytes)) ∙ ap (λ (l : List ℕ). take n (drop at bytes) ++ l) (drop-drop n at bytes)
+    ∙ ap (λ (l : List ℕ). l ++ drop (at + n) bytes) (sym first)

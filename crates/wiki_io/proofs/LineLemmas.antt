@@ -32,12 +32,14 @@ before_newline (b ∷ bytes) = cond (eqb b NEWLINE) [] (b ∷ before_newline byt
 -- the first line of bytes, and the others
 onto_cut : (a : ℕ) (rest : List ℕ) → onto_first a (cut_lines rest) ≡ (a ∷ before_newline rest) ∷ cut_lines (after_newline rest)
 onto_cut a [] = refl
-onto_cut a (b ∷ rest) = elim (eqb b NEWLINE) as (λ t. onto_first a (cond t ([] ∷ cut_lines rest) (onto_first b (cut_lines rest))) ≡ (a ∷ cond t [] (b ∷ before_newline rest)) ∷ cut_lines (cond t rest (after_newline rest))) [
-  | true ↦ refl
-  | false ↦ rw (onto_cut b rest) refl
-]
+onto_cut a (b ∷ rest) = elim (eqb b NEWLINE) as (λ t. onto_first a (cond t ([] ∷ cut_lines rest) (onto_first b (cut_lines rest)))
+    ≡ (a ∷ cond t [] (b ∷ before_newline rest)) ∷ cut_lines (cond t rest (after_newline rest))) [
+      | true ↦ refl
+      | false ↦ rw (onto_cut b rest) refl
+    ]
 
-pub cut_lines-begun : (b : ℕ) (line rest : List ℕ) → HasNoNewline (b ∷ line) → cut_lines ((b ∷ line) ++ rest) ≡ ((b ∷ line) ++ before_newline rest) ∷ cut_lines (after_newline rest)
+pub cut_lines-begun : (b : ℕ) (line rest : List ℕ) → HasNoNewline (b ∷ line)
+    → cut_lines ((b ∷ line) ++ rest) ≡ ((b ∷ line) ++ before_newline rest) ∷ cut_lines (after_newline rest)
 cut_lines-begun b [] rest none = rw (head b [] none) (onto_cut b rest)
 cut_lines-begun b (c ∷ line) rest none = rw (head b (c ∷ line) none, cut_lines-begun c line rest (tail b (c ∷ line) none)) refl
 
@@ -72,7 +74,8 @@ joined-onto_first b bytes (line ∷ lines) (inr is) = inr (ap (λ (l : List ℕ)
 pub joined-cut_lines : (bytes : List ℕ) → (joined (cut_lines bytes) ≡ bytes) ⊎ (joined (cut_lines bytes) ≡ bytes ++ NEWLINE ∷ [])
 joined-cut_lines [] = inl refl
 joined-cut_lines (b ∷ bytes) = elim (cases_eq b NEWLINE) [
-  | inl is ↦ rw (eq-eqb b NEWLINE is, is) (elim (joined-cut_lines bytes) [ inl whole ↦ inl (ap (λ (l : List ℕ). NEWLINE ∷ l) whole) | inr part ↦ inr (ap (λ (l : List ℕ). NEWLINE ∷ l) part) ])
+  | inl is ↦ rw (eq-eqb b NEWLINE is, is)
+      (elim (joined-cut_lines bytes) [ inl whole ↦ inl (ap (λ (l : List ℕ). NEWLINE ∷ l) whole) | inr part ↦ inr (ap (λ (l : List ℕ). NEWLINE ∷ l) part) ])
   | inr ne ↦ rw (ne_eqb b NEWLINE ne) (joined-onto_first b bytes (cut_lines bytes) (joined-cut_lines bytes))
 ]
 
@@ -91,18 +94,22 @@ onto_first-append b [] part more = refl
 onto_first-append b (line ∷ lines) part more = refl
 
 -- a newline behind all makes one line more of the last part
-pub cut_lines-ended : (bytes more : List ℕ) → HasNoNewline more → cut_lines (bytes ++ more ++ NEWLINE ∷ []) ≡ cut_whole_lines bytes ++ (last_part bytes ++ more) ∷ []
+pub cut_lines-ended : (bytes more : List ℕ) → HasNoNewline more
+    → cut_lines (bytes ++ more ++ NEWLINE ∷ []) ≡ cut_whole_lines bytes ++ (last_part bytes ++ more) ∷ []
 cut_lines-ended bytes more none = ap cut_lines (append_assoc bytes more (NEWLINE ∷ [])) ∙ ended bytes
   where
     ended : (bytes : List ℕ) → cut_lines (bytes ++ (more ++ NEWLINE ∷ [])) ≡ cut_whole_lines bytes ++ (last_part bytes ++ more) ∷ []
     ended [] = cut_lines-line more [] none
-    ended (b ∷ bytes) = elim (eqb b NEWLINE) as (λ t. cond t ([] ∷ cut_lines (bytes ++ (more ++ NEWLINE ∷ []))) (onto_first b (cut_lines (bytes ++ (more ++ NEWLINE ∷ []))))
-        ≡ cond t ([] ∷ cut_whole_lines bytes) (into_first b (cut_whole_lines bytes)) ++ (cond t (last_part bytes) (onto_part b (cut_whole_lines bytes) (last_part bytes)) ++ more) ∷ []) [
+    ended (b ∷ bytes) = elim (eqb b NEWLINE) as (λ t. cond t ([] ∷ cut_lines (bytes ++ (more ++ NEWLINE ∷ [])))
+        (onto_first b (cut_lines (bytes ++ (more ++ NEWLINE ∷ []))))
+        ≡ cond t ([] ∷ cut_whole_lines bytes) (into_first b (cut_whole_lines bytes))
+        ++ (cond t (last_part bytes) (onto_part b (cut_whole_lines bytes) (last_part bytes)) ++ more) ∷ []) [
           | true ↦ ap (λ (l : List (List ℕ)). [] ∷ l) (ended bytes)
           | false ↦ ap (λ (l : List (List ℕ)). onto_first b l) (ended bytes) ∙ onto_first-append b (cut_whole_lines bytes) (last_part bytes) more
         ]
 
 -- the same of lines
-pub input_lines-ended : (bytes more : List ℕ) → HasNoNewline more → input_lines (bytes ++ more ++ NEWLINE ∷ []) ≡ whole_lines bytes ++ line_of (last_part bytes ++ more) ∷ []
+pub input_lines-ended : (bytes more : List ℕ) → HasNoNewline more
+    → input_lines (bytes ++ more ++ NEWLINE ∷ []) ≡ whole_lines bytes ++ line_of (last_part bytes ++ more) ∷ []
 input_lines-ended bytes more none =
     ap (map line_of) (cut_lines-ended bytes more none) ∙ map-append line_of (cut_whole_lines bytes) ((last_part bytes ++ more) ∷ [])

@@ -9,7 +9,8 @@ use Rattle.wiki_io.specs.MemoryLink.{is_whole, coming, begins_well}
 pub begins_well-coming : (connections : List ℕ) (events : List Event) → IsTrue (begins_well connections (coming connections events))
 begins_well-coming connections [] = refl
 begins_well-coming connections (event ∷ events) =
-    let Claim : Bool → Type 0 = λ b. b ≡ can_come connections event → IsTrue (begins_well connections (if b then event ∷ events else coming connections events)) in
+    let Claim : Bool → Type 0 = λ b. b ≡ can_come connections event
+    → IsTrue (begins_well connections (if b then event ∷ events else coming connections events)) in
     let cases : (b : Bool) → Claim b = λ b. elim b as Claim [
       | true ↦ λ is. sym is
       | false ↦ λ is. begins_well-coming connections events

@@ -120,7 +120,8 @@ module _ (buffer : List ℕ) (start mid window end : ℕ) (low : start ≤ mid) 
       let within : mid + at < window = omega (arith, inside, size) in
       let place : start + ((mid - start) + at) ≡ mid + at = omega arith in
       let first : HasNoNewline (slice_range buffer mid (mid + at)) = subst HasNoNewline (take-part-is buffer mid window at (omega arith)) none in
-      let whole : HasNoNewline (slice_range buffer start (mid + at)) = no_newline-part buffer start mid (mid + at) low (omega arith) (omega arith) before first in
+      let whole : HasNoNewline (slice_range buffer start (mid + at)) =
+      no_newline-part buffer start mid (mid + at) low (omega arith) (omega arith) before first in
       let part_is : take ((mid - start) + at) (slice_range buffer start end) ≡ slice_range buffer start (mid + at) =
       take-part-is buffer start end ((mid - start) + at) (omega arith) ∙ ap (λ (k : ℕ). slice_range buffer start k) place in
       record {

@@ -37,7 +37,8 @@ HasGivenFrom-call first given old new left after answer had call = record {
 -- at the end, all lines
 pub HasGiven-end : (bytes : List ℕ) (given : List InputLine) (reader : Reading) → HasGiven bytes given reader → reader.pending ≡ [] → given ≡ input_lines bytes
 HasGiven-end bytes given reader had pending =
-    sym (append-nil given) ∙ ap (λ (l : List InputLine). given ++ l) (sym (lines_to_come-none reader pending)) ∙ sym (had [] (λ _. refl)) ∙ ap input_lines (append-nil bytes)
+    sym (append-nil given) ∙ ap (λ (l : List InputLine). given ++ l) (sym (lines_to_come-none reader pending)) ∙ sym (had [] (λ _. refl))
+    ∙ ap input_lines (append-nil bytes)
 
 -- of a source that told its bytes
 told_end : (bytes all : List ℕ) (left : Option (List ℕ)) → Consumes (Some all) left bytes → IsAtEnd left → all ≡ bytes
@@ -45,17 +46,20 @@ told_end bytes all None is end = absurd is
 told_end bytes all (Some rest) is end =
     is ∙ ap (λ (l : List ℕ). bytes ++ l) end ∙ append-nil bytes
 
-pub HasGivenFrom-end : (first : Option (List ℕ)) (given : List InputLine) (reader : Reading) (left : Option (List ℕ)) (all : List ℕ) → HasGivenFrom first given reader left
+pub HasGivenFrom-end : (first : Option (List ℕ)) (given : List InputLine) (reader : Reading) (left : Option (List ℕ)) (all : List ℕ)
+    → HasGivenFrom first given reader left
     → reader.pending ≡ [] → IsAtEnd left → first ≡ Some all → given ≡ input_lines all
 HasGivenFrom-end first given reader left all had pending end told =
-    HasGiven-end had.bytes given reader had.lines pending ∙ ap input_lines (sym (told_end had.bytes all left (subst (λ (o : Option (List ℕ)). Consumes o left had.bytes) told had.source) end))
+    HasGiven-end had.bytes given reader had.lines pending
+    ∙ ap input_lines (sym (told_end had.bytes all left (subst (λ (o : Option (List ℕ)). Consumes o left had.bytes) told had.source) end))
 
 -- whenever, the lines given are the first ones
 told_left : (bytes all : List ℕ) (left : Option (List ℕ)) → Consumes (Some all) left bytes → (rest : List ℕ) × (left ≡ Some rest) × (all ≡ bytes ++ rest)
 told_left bytes all None is = absurd is
 told_left bytes all (Some rest) is = (rest, refl, is)
 
-pub HasGivenFrom-front : (first : Option (List ℕ)) (given : List InputLine) (reader : Reading) (left : Option (List ℕ)) (all : List ℕ) → HasGivenFrom first given reader left
+pub HasGivenFrom-front : (first : Option (List ℕ)) (given : List InputLine) (reader : Reading) (left : Option (List ℕ)) (all : List ℕ)
+    → HasGivenFrom first given reader left
     → (IsTrue reader.ended → IsAtEnd left) → first ≡ Some all → (more : List InputLine) × (input_lines all ≡ given ++ more)
 HasGivenFrom-front first given reader left all had end told =
     let known = told_left had.bytes all left (subst (λ (o : Option (List ℕ)). Consumes o left had.bytes) told had.source) in
@@ -63,7 +67,8 @@ HasGivenFrom-front first given reader left all had end told =
     (lines_to_come reader known.0, ap input_lines known.2 ∙ had.lines known.0 can)
 
 -- the lines given are known from what was read
-pub HasGiven-known : (bytes : List ℕ) (given : List InputLine) (reader : Reading) (left : Option (List ℕ)) → HasGiven bytes given reader → (IsTrue reader.ended → IsAtEnd left) → AreKnown bytes left given
+pub HasGiven-known : (bytes : List ℕ) (given : List InputLine) (reader : Reading) (left : Option (List ℕ)) → HasGiven bytes given reader
+    → (IsTrue reader.ended → IsAtEnd left) → AreKnown bytes left given
 HasGiven-known bytes given reader left had end = elim reader.ended as (λ b. reader.ended ≡ b → AreKnown bytes left given) [
   | true ↦ λ ended. inr (end ended, (lines_to_come reader [], ap input_lines (sym (append-nil bytes)) ∙ had [] (λ _. refl)))
   | false ↦ λ goes_on. inl (λ rest. (lines_to_come reader rest, had rest (λ ended. absurd (false≢true (sym goes_on ∙ ended)))))
@@ -89,7 +94,8 @@ module _ (bytes : List ℕ) (given : List InputLine) (reader : Reading) (had : H
       ∙ ap (λ (l : InputLine). l ∷ []) (line_of-short reader.pending no_line.short) in
       let ended = input_lines-ended bytes [] (λ k d lt. absurd (omega arith)) in
       let same : given ++ text reader.pending ∷ [] ≡ whole_lines bytes ++ line_of (last_part bytes ++ []) ∷ [] =
-      ap (λ (l : List InputLine). given ++ l) (sym last) ∙ sym (had (NEWLINE ∷ []) (can (NEWLINE ∷ []))) ∙ ap (λ (l : List ℕ). input_lines (l ++ NEWLINE ∷ [])) (sym (append-nil bytes)) ∙ ended in
+      ap (λ (l : List InputLine). given ++ l) (sym last) ∙ sym (had (NEWLINE ∷ []) (can (NEWLINE ∷ [])))
+      ∙ ap (λ (l : List ℕ). input_lines (l ++ NEWLINE ∷ [])) (sym (append-nil bytes)) ∙ ended in
       (same_from_push given (whole_lines bytes) (text reader.pending) (line_of (last_part bytes ++ [])) same).0
 
   given_too_long : (n : ℕ) → MAX_LINE ≤ n → reader.skips ≡ true → given ≡ whole_lines bytes ++ too_long ∷ []

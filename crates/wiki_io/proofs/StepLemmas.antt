@@ -34,7 +34,8 @@ pub GivesLine-too_long : (old new : Reading) (n : ℕ) → old.skips ≡ false �
     → new.skips ≡ true → new.pending ≡ drop n old.pending → GivesLine old TooLong new
 GivesLine-too_long old new n skips some long room none skipping pending rest =
     ap input_lines (bytes_to_come-given old rest skips) ∙ input_lines-too_long old.pending rest n none some long room
-    ∙ ap (λ (l : List ℕ). too_long ∷ input_lines l) (ap (λ (l : List ℕ). after_newline (l ++ rest)) (sym pending) ∙ sym (bytes_to_come-skipped new rest skipping))
+    ∙ ap (λ (l : List ℕ). too_long ∷ input_lines l)
+    (ap (λ (l : List ℕ). after_newline (l ++ rest)) (sym pending) ∙ sym (bytes_to_come-skipped new rest skipping))
 
 -- the newline of a line that was too long is skipped
 pub KeepsBytes-newline : (old new : Reading) (n : ℕ) → old.skips ≡ true → HasNoNewline (take n old.pending) → slice_get old.pending n ≡ Some NEWLINE
@@ -148,7 +149,8 @@ ReadsLine-last first old now new left answer goes_on read last ended pending cou
 }
 
 -- A call after the end.
-pub ReadsLine-ended : (left : Option (List ℕ)) (old new : Reading) → old.pending ≡ [] → new.pending ≡ [] → new.ended ≡ old.ended → old.ended ≡ true → new.count ≡ old.count
+pub ReadsLine-ended : (left : Option (List ℕ)) (old new : Reading) → old.pending ≡ [] → new.pending ≡ [] → new.ended ≡ old.ended → old.ended ≡ true
+    → new.count ≡ old.count
     → ReadsLine left old End new left
 ReadsLine-ended left old new was is same ended count = record {
   got = [];
@@ -157,14 +159,16 @@ ReadsLine-ended left old new was is same ended count = record {
   at_end = λ was. (refl, same ∙ was);
   lines = λ rest follows.
       let none : rest ≡ [] = follows (same ∙ ended) in
-      ap (λ (l : List ℕ). lines_to_come old l) none ∙ lines_to_come-none old was ∙ sym (lines_to_come-none new is) ∙ ap (λ (l : List ℕ). lines_to_come new l) (sym none);
+      ap (λ (l : List ℕ). lines_to_come old l) none ∙ lines_to_come-none old was ∙ sym (lines_to_come-none new is)
+      ∙ ap (λ (l : List ℕ). lines_to_come new l) (sym none);
 }
 
 -- what was read has no line
 pub whole_lines-none : (r : Reading) → HasNoLine r → whole_lines (bytes_to_come r []) ≡ []
 whole_lines-none r no_line = elim r.skips as (λ b. r.skips ≡ b → whole_lines (bytes_to_come r []) ≡ []) [
   | true ↦ λ skips. ap whole_lines (bytes_to_come-skipped r [] skips ∙ ap (λ (l : List ℕ). after_newline (l ++ [])) (no_line.skipped skips))
-  | false ↦ λ skips. ap whole_lines (bytes_to_come-given r [] skips ∙ append-nil r.pending) ∙ ap (map line_of) (cut_whole_lines-none r.pending no_line.no_newline)
+  | false ↦ λ skips. ap whole_lines (bytes_to_come-given r [] skips ∙ append-nil r.pending)
+      ∙ ap (map line_of) (cut_whole_lines-none r.pending no_line.no_newline)
 ] refl
 
 -- a step of the call: no line was cut, and a read came
@@ -176,7 +180,8 @@ HasRead-step first old now cut new before left answer read none count fills =
 -- and it is not too long yet
 bytes_to_come-short : (r : Reading) → HasNoLine r → length (bytes_to_come r []) < MAX_LINE
 bytes_to_come-short r no_line = elim r.skips as (λ b. r.skips ≡ b → length (bytes_to_come r []) < MAX_LINE) [
-  | true ↦ λ skips. let none : bytes_to_come r [] ≡ [] = bytes_to_come-skipped r [] skips ∙ ap (λ (l : List ℕ). after_newline (l ++ [])) (no_line.skipped skips) in omega (arith, ap length none)
+  | true ↦ λ skips. let none : bytes_to_come r [] ≡ [] =
+      bytes_to_come-skipped r [] skips ∙ ap (λ (l : List ℕ). after_newline (l ++ [])) (no_line.skipped skips) in omega (arith, ap length none)
   | false ↦ λ skips. omega (arith, no_line.short, ap length (bytes_to_come-given r [] skips), length-append r.pending [])
 ] refl
 

@@ -1,5 +1,5 @@
 -- Connections that are opened, bring bytes and end, and bytes that are sent on them.
-use Rattle.std.specs.Prelude.{◌≡◌, ℕ, ◌==◌, ◌<◌, ◌≤◌, Bool, true, false, not, List, [], ◌∷◌, ◌++◌, length, take, filter, flat_map, Option, Some, None, option_map, if◌then◌else◌, ⊤}
+use Rattle.std.specs.Prelude.{◌≡◌, ℕ, ◌==◌, ◌<◌, ◌≤◌, Bool, true, false, not, List, [], ◌∷◌, ◌++◌, take, filter, flat_map, Option, Some, None, option_map, if◌then◌else◌, ⊤}
 use Rattle.std.specs.List.{list_any}
 use Rattle.wiki_io.specs.declared.links.Event.{Event}
 use Rattle.wiki_io.specs.declared.links.Event.TheVariants.{Opened, Piece, Ended}
@@ -48,11 +48,8 @@ event_in next.Failed buffer = []
 
 -- where bytes came, there is one at least, and no more than a buffer of this length holds
 abbrev pub NextFits : Next → ℕ → Type 0
-NextFits (next.Opened n) len = ⊤
 NextFits (next.Bytes n size) len = (0 < size) × (size ≤ len)
-NextFits (next.Ended n) len = ⊤
-NextFits next.Over len = ⊤
-NextFits next.Failed len = ⊤
+NextFits _ _ = ⊤
 
 -- what was taken of a piece to be sent on a connection, if anything was
 abbrev pub piece_taken : ℕ → Took → List ℕ → List (ℕ × List ℕ)

@@ -4,7 +4,7 @@ use Rattle.std.specs.Io.KnownBytes.{Consumes}
 use Rattle.wiki_io.specs.Lines.{InputLine, text, too_long, input_lines, after_newline, HasNoNewline}
 use Rattle.wiki_io.specs.declared.limits.TheConstants.{MAX_LINE}
 use Rattle.wiki_io.specs.declared.reader.Line.{Line}
-use Rattle.wiki_io.specs.declared.reader.Line.TheVariants.{Text, TooLong, End, ReadFault, TooMuch}
+use Rattle.wiki_io.specs.declared.reader.Line.TheVariants.{Text, TooLong}
 use Rattle.wiki_io.specs.declared.sources.Got.{Got}
 use Rattle.wiki_io.specs.declared.sources.Got.TheVariants.{Bytes, End as AtEnd, Failed}
 
@@ -40,9 +40,7 @@ CanFollow reader rest = IsTrue reader.ended → rest ≡ []
 abbrev pub answered : Line → List ℕ → List InputLine
 answered Text line = text line ∷ []
 answered TooLong line = too_long ∷ []
-answered End line = []
-answered ReadFault line = []
-answered TooMuch line = []
+answered _ _ = []
 
 -- One call of `next_line`, from `left` and `old` to `left_after` and `new`. It reads some bytes. The lines to come before
 -- are the line that it gives and the lines to come after it, whatever follows in the input.

@@ -60,7 +60,21 @@ impl Model for MemoryLink {
 
     ghost Value = { HeldLink };
 
-    ghost view = { λ l. record { script = l.script.items; handed = l.handed.items; connections = l.connections.items; sent = l.sent.items; largest = l.largest; listen_fails = l.fails.listen.items; next_fails = l.fails.next.items; send_fails = l.fails.send.items; listens = l.listens; nexts = l.nexts; sends = l.sends; faults = l.faults; send_faults = l.send_faults } };
+    ghost view = { λ l. record {
+      script = l.script.items;
+      handed = l.handed.items;
+      connections = l.connections.items;
+      sent = l.sent.items;
+      largest = l.largest;
+      listen_fails = l.fails.listen.items;
+      next_fails = l.fails.next.items;
+      send_fails = l.fails.send.items;
+      listens = l.listens;
+      nexts = l.nexts;
+      sends = l.sends;
+      faults = l.faults;
+      send_faults = l.send_faults;
+    } };
 
     ghost invariant = { λ l. (0 < l.largest) × IsTrue (list_all is_whole l.script.items) };
 }
@@ -69,7 +83,21 @@ impl MemoryLink {
     /// A link with these events, whose calls of these numbers fail.
     pub fn new(alloc: Global, script: VecDeque<Event>, fails: Fails) -> Self
         requires { IsTrue (list_all is_whole script.items) }
-        ensures { result ≡ record { script = script.items; handed = []; connections = []; sent = []; largest = 2 ^ 64 - 1; listen_fails = fails.listen.items; next_fails = fails.next.items; send_fails = fails.send.items; listens = 0; nexts = 0; sends = 0; faults = 0; send_faults = 0 } }
+        ensures { result ≡ record {
+          script = script.items;
+          handed = [];
+          connections = [];
+          sent = [];
+          largest = 2 ^ 64 - 1;
+          listen_fails = fails.listen.items;
+          next_fails = fails.next.items;
+          send_fails = fails.send.items;
+          listens = 0;
+          nexts = 0;
+          sends = 0;
+          faults = 0;
+          send_faults = 0;
+        } }
     {
         MemoryLink::in_pieces(alloc, script, fails, usize::MAX)
     }
@@ -78,7 +106,21 @@ impl MemoryLink {
     pub fn in_pieces(alloc: Global, script: VecDeque<Event>, fails: Fails, largest: usize) -> Self
         requires largest { 0 < largest }
         requires whole { IsTrue (list_all is_whole script.items) }
-        ensures { result ≡ record { script = script.items; handed = []; connections = []; sent = []; largest = largest; listen_fails = fails.listen.items; next_fails = fails.next.items; send_fails = fails.send.items; listens = 0; nexts = 0; sends = 0; faults = 0; send_faults = 0 } }
+        ensures { result ≡ record {
+          script = script.items;
+          handed = [];
+          connections = [];
+          sent = [];
+          largest = largest;
+          listen_fails = fails.listen.items;
+          next_fails = fails.next.items;
+          send_fails = fails.send.items;
+          listens = 0;
+          nexts = 0;
+          sends = 0;
+          faults = 0;
+          send_faults = 0;
+        } }
     {
         MemoryLink {
             alloc,

@@ -11,7 +11,8 @@ pub first_of_two : (a b : Refusal → Type 0) (others : List (Refusal → Type 0
 first_of_two a b others refusal no_a here = inr (no_a, inl here)
 
 -- behind a cause that doesn't stand, the first of the others is the first of all
-pub first_behind : (a : Refusal → Type 0) (others : List (Refusal → Type 0)) (refusal : Refusal) → IsAbsent a → FirstOf others refusal → FirstOf (a ∷ others) refusal
+pub first_behind : (a : Refusal → Type 0) (others : List (Refusal → Type 0)) (refusal : Refusal) → IsAbsent a → FirstOf others refusal
+    → FirstOf (a ∷ others) refusal
 first_behind a others refusal no_a first = inr (no_a, first)
 
 -- where neither the one nor any of the others stands, none of all does
@@ -28,6 +29,7 @@ pub fault_first : (a : Refusal → Type 0) (others : List (Refusal → Type 0)) 
 fault_first a others (Refused refusal) is = inl is
 fault_first a others Memory is = tt
 
-pub fault_behind : (a : Refusal → Type 0) (others : List (Refusal → Type 0)) (fault : Fault) → IsAbsent a → IsFault (FirstOf others) fault → IsFault (FirstOf (a ∷ others)) fault
+pub fault_behind : (a : Refusal → Type 0) (others : List (Refusal → Type 0)) (fault : Fault) → IsAbsent a → IsFault (FirstOf others) fault
+    → IsFault (FirstOf (a ∷ others)) fault
 fault_behind a others (Refused refusal) no_a first = inr (no_a, first)
 fault_behind a others Memory no_a first = tt

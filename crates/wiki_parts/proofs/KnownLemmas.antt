@@ -27,7 +27,8 @@ stated_from_known g words (s ∷ ss) [] mean = absurd mean
 stated_from_known g words (s ∷ ss) (m ∷ ms) mean = by_status s.status m mean.0.0 mean.0.1 (stated_from_known g words ss ms mean.1)
   where
     by_status : (status : Status) (m : Meaning) → Means g words s.tokens m → FitsMeaning status m → AreStated g words ss (known_of ss ms)
-        → MatchBool (is_asserted status) (StatesFirst g words s.tokens (AreStated g words ss) (cond (is_asserted status) (stated_by m) [] ++ known_of ss ms)) (AreStated g words ss (cond (is_asserted status) (stated_by m) [] ++ known_of ss ms))
+        → MatchBool (is_asserted status) (StatesFirst g words s.tokens (AreStated g words ss) (cond (is_asserted status) (stated_by m) [] ++ known_of ss ms))
+        (AreStated g words ss (cond (is_asserted status) (stated_by m) [] ++ known_of ss ms))
     by_status Asserted (stating claims) means fits rest = record { own = claims; rest = known_of ss ms; means = means; follow = rest; joined = refl }
     by_status Asserted (outside cause) means fits rest = absurd fits
     by_status Asserted (asking concept) means fits rest = absurd fits
@@ -104,8 +105,10 @@ pub known_of-step : (sentences : List Sentence) (senses : List Sense) (i : ℕ) 
     → known_of (drop i sentences) (meanings_in (drop i senses))
     ≡ cond (is_asserted s.status) (stated_by (meaning_shown sense)) [] ++ known_of (drop (i + 1) sentences) (meanings_in (drop (i + 1) senses))
 known_of-step sentences senses i s sense in_sentences in_senses at at_sense =
-    ap (λ (ss : List Sentence). known_of ss (meanings_in (drop i senses))) (drop_more sentences i s in_sentences ∙ ap (λ (t : Sentence). t ∷ drop (i + 1) sentences) (sym at))
-    ∙ ap (λ (ms : List Sense). known_of (s ∷ drop (i + 1) sentences) (meanings_in ms)) (drop_more senses i sense in_senses ∙ ap (λ (t : Sense). t ∷ drop (i + 1) senses) (sym at_sense))
+    ap (λ (ss : List Sentence). known_of ss (meanings_in (drop i senses)))
+    (drop_more sentences i s in_sentences ∙ ap (λ (t : Sentence). t ∷ drop (i + 1) sentences) (sym at))
+    ∙ ap (λ (ms : List Sense). known_of (s ∷ drop (i + 1) sentences) (meanings_in ms))
+    (drop_more senses i sense in_senses ∙ ap (λ (t : Sense). t ∷ drop (i + 1) senses) (sym at_sense))
 
 pub known_in-step : (articles : List Article) (senses : List (List Sense)) (i : ℕ) (a : Article) (own : List Sense)
     → i < length articles → i < length senses → a ≡ get_or articles i a → own ≡ get_or senses i own
@@ -113,14 +116,16 @@ pub known_in-step : (articles : List Article) (senses : List (List Sense)) (i : 
     ≡ known_of a.sentences (meanings_in own) ++ known_in (drop (i + 1) articles) (drop (i + 1) senses)
 known_in-step articles senses i a own in_articles in_senses at at_senses =
     ap (λ (left : List Article). known_in left (drop i senses)) (drop_more articles i a in_articles ∙ ap (λ (t : Article). t ∷ drop (i + 1) articles) (sym at))
-    ∙ ap (λ (left : List (List Sense)). known_in (a ∷ drop (i + 1) articles) left) (drop_more senses i own in_senses ∙ ap (λ (t : List Sense). t ∷ drop (i + 1) senses) (sym at_senses))
+    ∙ ap (λ (left : List (List Sense)). known_in (a ∷ drop (i + 1) articles) left)
+    (drop_more senses i own in_senses ∙ ap (λ (t : List Sense). t ∷ drop (i + 1) senses) (sym at_senses))
 
 -- one more part is added, and the others are left
 pub joined_step : {X : Type 0} (old new own left all first : List X) → new ≡ old ++ own → old ++ (own ++ left) ≡ first ++ all → new ++ left ≡ first ++ all
 joined_step old new own left all first added before = ap (λ xs. xs ++ left) added ∙ append_assoc old own left ∙ before
 
 -- one more item is taken
-pub taken_more : {X : Type 0} (first old new xs : List X) (i : ℕ) (x : X) → old ≡ first ++ take i xs → slice_get xs i ≡ Some x → new ≡ old ++ x ∷ [] → new ≡ first ++ take (i + 1) xs
+pub taken_more : {X : Type 0} (first old new xs : List X) (i : ℕ) (x : X) → old ≡ first ++ take i xs → slice_get xs i ≡ Some x → new ≡ old ++ x ∷ []
+    → new ≡ first ++ take (i + 1) xs
 taken_more first old new xs i x before at added =
     added ∙ ap (λ ys. ys ++ x ∷ []) before ∙ append_assoc first (take i xs) (x ∷ [])
     ∙ ap (λ ys. first ++ ys) (sym (take_more xs i x (slice_get_within xs i x at) ∙ ap (λ y. take i xs ++ y ∷ []) (get_or_from_slice_get xs i x x at)))

@@ -5,7 +5,11 @@ use Rattle.std.specs.Option.{option_map_or}
 use Rattle.std.specs.Str.{bytes_eq}
 use Rattle.std.specs.List.{list_all, list_any}
 use Rattle.std.proofs.lemmas.List.Folds.{list_all-append}
+use Rattle.std.proofs.lemmas.Bool.{and_from, or_cases, and_parts, eqb-true}
+use Rattle.std.proofs.lemmas.Option.{same_Some}
 use Rattle.wiki_base.specs.declared.numbers.WordId.{WordId}
+use Rattle.wiki_base.proofs.ListLaws.{AllPairs-head, AllPairs-tail}
+use Rattle.wiki_base.proofs.BoolLaws.{and_first, and_second}
 use Rattle.codeco_text.specs.Names.{same_bytes}
 use Rattle.codeco_terms.specs.declared.values.Value.{Value}
 use Rattle.codeco_terms.specs.declared.values.Value.TheVariants.{Pos}
@@ -24,7 +28,7 @@ use Rattle.codeco_checked.specs.declared.labels.Words.TheVariants as words
 use Rattle.codeco_checked.specs.declared.fault.GrammarFault.TheVariants.{LabelKind}
 use Rattle.codeco_checked.specs.Labels.{label_row, child_kinds, word_names, head_fits, children_fit, words_fit, fits_row, fits_label, FitKinds, is_introduction, is_reference, introduces_behind_tokens, one_if}
 use Rattle.codeco_checked.specs.Sound.{IsSound}
-use Rattle.scopes.specs.declared.tests.Test.{Test}
+use Rattle.scopes.specs.declared.agreement.Test.{Test}
 use Rattle.scopes.specs.Resolution.{Finding, has_value, agrees, is_agreeing, closest_finding}
 use Rattle.lexicon.specs.declared.kinds.Kind.{Kind}
 use Rattle.lexicon.specs.declared.kinds.Kind.TheVariants.{Name, Noun, Of, Verb, Adjective}
@@ -41,26 +45,17 @@ use Rattle.derivation_trees.specs.Instances.{value_under, under, tests_under}
 use Rattle.derivation_trees.specs.Derives.{At, Stand, moved, pass, pass_token, pass_child, pass_finding, is_found, reference_tests, run, phrase, phrase_of, phrases_of, rule_with, text_category, IsDerivation}
 use Rattle.derivation_trees.specs.Skeletons.{word_among, word_in, word_at, word_here, child_here, met, start, end_place, skeleton, skeleton_at, skeletons_at, skeleton_of}
 use Rattle.derivation_trees.specs.Stands.{is_sub}
-use Rattle.derivations.proofs.Members.{either_of_or, some_same}
 use Rattle.derivations.proofs.ListingLemmas.{Parts, phrase_parts}
 use Rattle.drs_build.specs.Nodes.{label_of, is_naming, no_word, own_name, introduced_at, ends_of, names_of}
 use Rattle.drs_build.specs.Nodes.{is_name as is_name_word}
 use Rattle.derivation_trees.specs.Sketches.{body_of}
 use Rattle.drs_build.proofs.NodeLemmas.{names_of_is}
 use Rattle.drs_build.proofs.GrammarLemmas.{Found, found}
-use Rattle.drs_build.proofs.OrderLemmas.{both_true, eq_true}
-use Rattle.ace_to_owl.proofs.Forest.{and_l, and_r, both}
 use Rattle.wiki_parts.specs.Knowledge.{is_name, live_names}
 use Rattle.wiki_parts.proofs.NameLemmas.{names_among}
 use Rattle.wiki_parts.proofs.PassingLemmas.{words_pass}
 
 -- Readings
-
-pairs_head : {X : Type 0} (R : X → X → Type 0) (x : X) (xs : List X) → AllPairs R (x ∷ xs) → (k : ℕ) (d : X) → k < length xs → R x (get_or xs k d)
-pairs_head R x xs pairs k d in_range = pairs zero (suc k) d (omega arith) (omega arith)
-
-pairs_tail : {X : Type 0} (R : X → X → Type 0) (x : X) (xs : List X) → AllPairs R (x ∷ xs) → AllPairs R xs
-pairs_tail R x xs pairs i j d before in_range = pairs (suc i) (suc j) d (omega arith) (omega arith)
 
 -- a token that is none of the forms has no readings
 readings_from_none : (kind : Kind) (id : WordId) (token : List ℕ) (place : ℕ) (forms : List (List ℕ)) → is_form forms token ≡ false
@@ -77,19 +72,25 @@ readings_from_none kind id token place (form ∷ forms) lacks = by (bytes_eq tok
 readings_none : (live : List Word) (token : List ℕ) → ((k : ℕ) (d : Word) → k < length live → has_form token (get_or live k d) ≡ false)
     → readings_of live token ≡ []
 readings_none [] token lacks = refl
-readings_none (word ∷ live) token lacks = rw (readings_from_none word.forms.kind word.id token 0 word.forms.texts (lacks zero word (omega arith))) (readings_none live token (λ k d in_range. lacks (suc k) d (omega arith)))
+readings_none (word ∷ live) token lacks =
+    rw (readings_from_none word.forms.kind word.id token 0 word.forms.texts (lacks zero word (omega arith)))
+    (readings_none live token (λ k d in_range. lacks (suc k) d (omega arith)))
 
 not_name : (n : ℕ) (b : Bool) (asked : Test) → asked.name ≡ 0 → 0 < n → ((n == asked.name) && b) ≡ true → ⊥
-not_name n b asked named positive h = let e : n ≡ asked.name = eq_true n asked.name (and_l (n == asked.name) b h) in omega arith
+not_name n b asked named positive h = let e : n ≡ asked.name = eqb-true n asked.name (and_first (n == asked.name) b h) in omega arith
 
 -- only a name has a reading as $name
 reading_name : (kind : Kind) (id : WordId) (place : ℕ) (form : List ℕ) (asked : Test) → asked.name ≡ 0 → agrees (reading kind id place form) asked ≡ true
     → is_name kind ≡ true
 reading_name Name id place form asked named h = refl
-reading_name Noun id place form asked named h = absurd (not_name 1 (list_all (has_value (reading Noun id place form).vals) asked.values) asked named (omega arith) h)
-reading_name Of id place form asked named h = absurd (not_name 2 (list_all (has_value (reading Of id place form).vals) asked.values) asked named (omega arith) h)
-reading_name Verb id place form asked named h = absurd (not_name 3 (list_all (has_value (reading Verb id place form).vals) asked.values) asked named (omega arith) h)
-reading_name Adjective id place form asked named h = absurd (not_name 4 (list_all (has_value (reading Adjective id place form).vals) asked.values) asked named (omega arith) h)
+reading_name Noun id place form asked named h =
+    absurd (not_name 1 (list_all (has_value (reading Noun id place form).vals) asked.values) asked named (omega arith) h)
+reading_name Of id place form asked named h =
+    absurd (not_name 2 (list_all (has_value (reading Of id place form).vals) asked.values) asked named (omega arith) h)
+reading_name Verb id place form asked named h =
+    absurd (not_name 3 (list_all (has_value (reading Verb id place form).vals) asked.values) asked named (omega arith) h)
+reading_name Adjective id place form asked named h =
+    absurd (not_name 4 (list_all (has_value (reading Adjective id place form).vals) asked.values) asked named (omega arith) h)
 
 abbrev reads_as : Test → List Ground → Bool
 reads_as asked readings = list_any (λ reading. agrees reading asked) readings
@@ -100,9 +101,10 @@ from_name kind id token place [] asked named h = absurd cc
 from_name kind id token place (form ∷ forms) asked named h = by (from_name kind id token (place + 1) forms asked named) (bytes_eq token form) h
   where
     by : (reads_as asked (readings_from kind id token (place + 1) forms) ≡ true → is_name kind ≡ true)
-        → (b : Bool) → reads_as asked (cond b (reading kind id place form ∷ readings_from kind id token (place + 1) forms) (readings_from kind id token (place + 1) forms)) ≡ true → is_name kind ≡ true
+        → (b : Bool) → reads_as asked (cond b (reading kind id place form ∷ readings_from kind id token (place + 1) forms)
+        (readings_from kind id token (place + 1) forms)) ≡ true → is_name kind ≡ true
     by later true k =
-        elim (either_of_or (agrees (reading kind id place form) asked) (reads_as asked (readings_from kind id token (place + 1) forms)) k) [
+        elim (or_cases (agrees (reading kind id place form) asked) (reads_as asked (readings_from kind id token (place + 1) forms)) k) [
           | inl e ↦ reading_name kind id place form asked named e
           | inr e ↦ later e
         ]
@@ -123,7 +125,8 @@ first_word kind id token place (form ∷ forms) others h = by (first_word kind i
   where
     by : (is_form forms token ≡ true → word_in (readings_from kind id token (place + 1) forms ++ others) ≡ id)
         → (b : Bool) → (b || is_form forms token) ≡ true
-        → word_in (cond b (reading kind id place form ∷ readings_from kind id token (place + 1) forms) (readings_from kind id token (place + 1) forms) ++ others) ≡ id
+        → word_in (cond b (reading kind id place form ∷ readings_from kind id token (place + 1) forms) (readings_from kind id token (place + 1) forms)
+        ++ others) ≡ id
     by later true k = word_of_reading kind id place form
     by later false k = later k
 
@@ -131,8 +134,8 @@ first_word kind id token place (form ∷ forms) others h = by (first_word kind i
 
 taken : {X : Type 0} (p : X → Bool) (xs : List X) (i : ℕ) (x : X) → slice_get xs i ≡ Some x → list_all p (take (suc i) xs) ≡ true → p x ≡ true
 taken p [] i x at all = absurd cc
-taken p (y ∷ ys) zero x at all = let same : y ≡ x = cc in ap p (sym same) ∙ (both_true (p y) (list_all p (take 0 ys)) all).0
-taken p (y ∷ ys) (suc i) x at all = taken p ys i x at (both_true (p y) (list_all p (take (suc i) ys)) all).1
+taken p (y ∷ ys) zero x at all = let same : y ≡ x = cc in ap p (sym same) ∙ (and_parts (p y) (list_all p (take 0 ys)) all).0
+taken p (y ∷ ys) (suc i) x at all = taken p ys i x at (and_parts (p y) (list_all p (take (suc i) ys)) all).1
 
 -- one preterminal, $name
 abbrev names_once : List Element → Bool
@@ -150,10 +153,10 @@ row_names kinds row r naming h =
     let once = count_by is_introduction r.body == one_if row.introduces in
     let refers = count_by is_reference r.body == one_if row.refers in
     let behind = introduces_behind_tokens false r.body in
-    let last = both_true (heads && children && fit && once && refers) behind h in
-    let before = both_true (heads && children && fit && once) refers last.0 in
-    let here = both_true (heads && children && fit) once before.0 in
-    words_by row.words kinds r.body naming (both_true (heads && children) fit here.0).1
+    let last = and_parts (heads && children && fit && once && refers) behind h in
+    let before = and_parts (heads && children && fit && once) refers last.0 in
+    let here = and_parts (heads && children && fit) once before.0 in
+    words_by row.words kinds r.body naming (and_parts (heads && children) fit here.0).1
 
 -- in a sound grammar the rule of a label that names has the one preterminal $name
 pub naming_body : (g : GrammarParts) (n : ℕ) (r : Rule) (l : Label) → IsSound g → Found g n r → r.label ≡ Some l → is_name_word (label_row l).words ≡ true
@@ -164,12 +167,15 @@ naming_body g n r l sound at is naming = by (names_once r.body) refl
     fitting kinds fit =
         let positive : 0 < n = at.positive in
         let count : n ≡ suc (n - 1) = omega arith in
-        let all : list_all (fits_label kinds) (take (suc (n - 1)) g.rules) ≡ true = ap (λ i. list_all (fits_label kinds) (take i g.rules)) (sym count) ∙ fit.fit in
-        row_names kinds (label_row l) r naming (ap (λ o. option_map_or (λ x. fits_row kinds (label_row x) r) o true) (sym is) ∙ taken (fits_label kinds) g.rules (n - 1) r at.at all)
+        let all : list_all (fits_label kinds) (take (suc (n - 1)) g.rules) ≡ true =
+        ap (λ i. list_all (fits_label kinds) (take i g.rules)) (sym count) ∙ fit.fit in
+        row_names kinds (label_row l) r naming
+        (ap (λ o. option_map_or (λ x. fits_row kinds (label_row x) r) o true) (sym is) ∙ taken (fits_label kinds) g.rules (n - 1) r at.at all)
 
     by : (b : Bool) → names_once r.body ≡ b → names_once r.body ≡ true
     by true e = e
-    by false e = absurd (sound.faultless (LabelKind n) (r, at.positive, at.at, inr (λ kinds fit. let no : true ≡ false = sym (fitting kinds fit) ∙ e in absurd cc)))
+    by false e = absurd (sound.faultless (LabelKind n)
+        (r, at.positive, at.at, inr (λ kinds fit. let no : true ≡ false = sym (fitting kinds fit) ∙ e in absurd cc)))
 
 naming_rule : (g : GrammarParts) (n : ℕ) (r : Rule) → IsSound g → rule_with g n ≡ Some r → is_naming (label_of g n) ≡ true → names_once r.body ≡ true
 naming_rule g n r sound at naming = by r.label refl (sym (ap (λ o. is_naming (option_and_then (λ x. x.label) o)) at) ∙ naming)
@@ -181,16 +187,18 @@ naming_rule g n r sound at naming = by r.label refl (sym (ap (λ o. is_naming (o
 module _ (test : WordId → Bool) where
   head_passes : (w : Word) (ws : List Word) → is_name w.forms.kind ≡ true → list_all test (names_among (w ∷ ws)) ≡ true → test w.id ≡ true
   head_passes w ws named all =
-      and_l (test w.id) (list_all test (names_among ws))
-      (sym (ap (λ b. list_all test (map (λ (word : Word). word.id) (cond b (w ∷ filter (λ word. is_name word.forms.kind) ws) (filter (λ word. is_name word.forms.kind) ws)))) named) ∙ all)
+      and_first (test w.id) (list_all test (names_among ws))
+      (sym (ap (λ b. list_all test (map (λ (word : Word). word.id)
+      (cond b (w ∷ filter (λ word. is_name word.forms.kind) ws) (filter (λ word. is_name word.forms.kind) ws)))) named) ∙ all)
 
   tail_passes : (w : Word) (ws : List Word) → list_all test (names_among (w ∷ ws)) ≡ true → list_all test (names_among ws) ≡ true
   tail_passes w ws all = by (is_name w.forms.kind) all
     where
       by : (b : Bool)
-          → list_all test (map (λ (word : Word). word.id) (cond b (w ∷ filter (λ word. is_name word.forms.kind) ws) (filter (λ word. is_name word.forms.kind) ws))) ≡ true
+          → list_all test (map (λ (word : Word). word.id)
+          (cond b (w ∷ filter (λ word. is_name word.forms.kind) ws) (filter (λ word. is_name word.forms.kind) ws))) ≡ true
           → list_all test (names_among ws) ≡ true
-      by true k = and_r (test w.id) (list_all test (names_among ws)) k
+      by true k = and_second (test w.id) (list_all test (names_among ws)) k
       by false k = k
 
   -- a token that reads as $name is a form of a live name
@@ -198,18 +206,20 @@ module _ (test : WordId → Bool) where
       → reads_as asked (readings_of live token) ≡ true → test (word_in (readings_of live token)) ≡ true
   token_passes asked named token [] apart all h = absurd cc
   token_passes asked named token (w ∷ ws) apart all h =
-      by (token_passes asked named token ws (pairs_tail SharesNoForm w ws apart) (tail_passes w ws all)) (has_form token w) refl
+      by (token_passes asked named token ws (AllPairs-tail SharesNoForm w ws apart) (tail_passes w ws all)) (has_form token w) refl
     where
       by : (reads_as asked (readings_of ws token) ≡ true → test (word_in (readings_of ws token)) ≡ true)
           → (b : Bool) → has_form token w ≡ b → test (word_in (readings_of_word token w ++ readings_of ws token)) ≡ true
       by later true e =
-          let none_behind : readings_of ws token ≡ [] = readings_none ws token (λ k d bound. pairs_head SharesNoForm w ws apart k d bound token e) in
-          let alone : readings_of_word token w ++ readings_of ws token ≡ readings_of_word token w = ap (λ rs. readings_of_word token w ++ rs) none_behind ∙ append-nil (readings_of_word token w) in
+          let none_behind : readings_of ws token ≡ [] = readings_none ws token (λ k d bound. AllPairs-head SharesNoForm w ws apart k d bound token e) in
+          let alone : readings_of_word token w ++ readings_of ws token ≡ readings_of_word token w =
+          ap (λ rs. readings_of_word token w ++ rs) none_behind ∙ append-nil (readings_of_word token w) in
           let own : reads_as asked (readings_of_word token w) ≡ true = sym (ap (reads_as asked) alone) ∙ h in
           let is : is_name w.forms.kind ≡ true = from_name w.forms.kind w.id token 0 w.forms.texts asked named own in
           ap test (first_word w.forms.kind w.id token 0 w.forms.texts (readings_of ws token) e) ∙ head_passes w ws is all
       by later false e =
-          let same : readings_of_word token w ++ readings_of ws token ≡ readings_of ws token = ap (λ rs. rs ++ readings_of ws token) (readings_from_none w.forms.kind w.id token 0 w.forms.texts e) in
+          let same : readings_of_word token w ++ readings_of ws token ≡ readings_of ws token =
+          ap (λ rs. rs ++ readings_of ws token) (readings_from_none w.forms.kind w.id token 0 w.forms.texts e) in
           ap (λ rs. test (word_in rs)) same ∙ later (sym (ap (reads_as asked) same) ∙ h)
 
   place_passes : (asked : Test) → asked.name ≡ 0 → (live : List Word) → AllPairs SharesNoForm live → list_all test (names_among live) ≡ true
@@ -220,9 +230,10 @@ module _ (test : WordId → Bool) where
   place_passes asked named live apart all (token ∷ tokens) (suc place) h = place_passes asked named live apart all tokens place h
 
   joined_words : (xs ys : List (ℕ × WordId)) → words_pass test xs ≡ true → words_pass test ys ≡ true → words_pass test (xs ++ ys) ≡ true
-  joined_words xs ys h k = list_all-append (λ n. test n.1) xs ys ∙ both (words_pass test xs) (words_pass test ys) h k
+  joined_words xs ys h k = list_all-append (λ n. test n.1) xs ys ∙ and_from (words_pass test xs) (words_pass test ys) h k
 
-  module _ (g : GrammarParts) (sound : IsSound g) (lexicon : Listed) (apart : AllPairs SharesNoForm lexicon.live) (all : list_all test (live_names lexicon) ≡ true) (tokens : List (List ℕ)) where
+  module _ (g : GrammarParts) (sound : IsSound g) (lexicon : Listed) (apart : AllPairs SharesNoForm lexicon.live)
+      (all : list_all test (live_names lexicon) ≡ true) (tokens : List (List ℕ)) where
     abbrev s : Setting
     s = setting_of g lexicon tokens
 
@@ -236,7 +247,7 @@ module _ (test : WordId → Bool) where
     word_passes values (Preterminal c ∷ es) stand after once h = by (matches_preterminal s (under values c) stand.at.place) refl h
       where
         named : c.name ≡ 0
-        named = eq_true c.name 0 (and_l (c.name == 0) (same_bytes (word_names es) []) once)
+        named = eqb-true c.name 0 (and_first (c.name == 0) (same_bytes (word_names es) []) once)
 
         by : (b : Bool) → matches_preterminal s (under values c) stand.at.place ≡ b → option_and_then (run s values es) (pass_token b stand) ≡ Some after
             → test (word_at s stand.at.place) ≡ true
@@ -245,13 +256,14 @@ module _ (test : WordId → Bool) where
     word_passes values (e ∷ es) stand after once h = by (λ mid k. word_passes values es mid after once k) (pass s values e stand) h
       where
         by : ((mid : Stand) → run s values es mid ≡ Some after → test (slice_index_or (met (word_here s) s values es mid) 0 no_word) ≡ true)
-            → (o : Option Stand) → option_and_then (run s values es) o ≡ Some after → test (slice_index_or (option_map_or (met (word_here s) s values es) o []) 0 no_word) ≡ true
+            → (o : Option Stand) → option_and_then (run s values es) o ≡ Some after
+            → test (slice_index_or (option_map_or (met (word_here s) s values es) o []) 0 no_word) ≡ true
         by later None k = absurd cc
         by later (Some mid) k = later mid k
 
     -- an element that is no category keeps the children to come
     of_some : (stand one mid : Stand) → one.children ≡ stand.children → Some one ≡ Some mid → mid.children ≡ stand.children
-    of_some stand one mid same h = ap (λ (x : Stand). x.children) (sym (some_same one mid h)) ∙ same
+    of_some stand one mid same h = ap (λ (x : Stand). x.children) (sym (same_Some one mid h)) ∙ same
 
     of_test : (b : Bool) (stand one mid : Stand) → one.children ≡ stand.children → cond b (Some one) None ≡ Some mid → mid.children ≡ stand.children
     of_test true stand one mid same h = of_some stand one mid same h
@@ -269,14 +281,17 @@ module _ (test : WordId → Bool) where
 
     children_kept : (values : List (ℕ × Value)) (e : Element) (stand mid : Stand) → is_sub e ≡ false → pass s values e stand ≡ Some mid
         → mid.children ≡ stand.children
-    children_kept values (Terminal t) stand mid plain h = of_test (matches_terminal s t stand.at.place) stand (moved stand (stand.at.place + 1) stand.at.list) mid refl h
-    children_kept values (Preterminal c) stand mid plain h = of_test (matches_preterminal s (under values c) stand.at.place) stand (moved stand (stand.at.place + 1) stand.at.list) mid refl h
+    children_kept values (Terminal t) stand mid plain h =
+        of_test (matches_terminal s t stand.at.place) stand (moved stand (stand.at.place + 1) stand.at.list) mid refl h
+    children_kept values (Preterminal c) stand mid plain h =
+        of_test (matches_preterminal s (under values c) stand.at.place) stand (moved stand (stand.at.place + 1) stand.at.list) mid refl h
     children_kept values (Sub c) stand mid plain h = absurd cc
     children_kept values (Position x) stand mid plain h = of_test (same_value (value_under values x) (Pos stand.at.place)) stand stand mid refl h
     children_kept values Opener stand mid plain h = of_some stand _ mid refl h
     children_kept values (Forward c) stand mid plain h = of_some stand _ mid refl h
     children_kept values (Strong c) stand mid plain h = of_some stand _ mid refl h
-    children_kept values (Back ps ns) stand mid plain h = of_finding values ps (closest_finding (reference_tests values ps ns) stand.at.list) stand.found stand mid h
+    children_kept values (Back ps ns) stand mid plain h =
+        of_finding values ps (closest_finding (reference_tests values ps ns) stand.at.list) stand.found stand mid h
     children_kept values (NoBack ps) stand mid plain h = of_no_test (list_any (is_agreeing (tests_under values ps)) stand.at.list) stand mid h
 
     abbrev LiveNode : Node → Type 0
@@ -303,19 +318,25 @@ module _ (test : WordId → Bool) where
       where
         by : ((mid : Stand) → mid.children ≡ phrases_of s ns → run s values es mid ≡ Some after → kids_pass ns (met child_here s values es mid) ≡ true)
             → (o : Option At) → phrase_of s n (under values c) stand.at ≡ o
-            → option_and_then (run s values es) (option_and_then (λ at. Some (record { at = at; found = stand.found; own = stand.own; children = phrases_of s ns })) o) ≡ Some after
+            → option_and_then (run s values es)
+            (option_and_then (λ at. Some (record { at = at; found = stand.found; own = stand.own; children = phrases_of s ns })) o) ≡ Some after
             → kids_pass (more n ns) (met child_here s values (Sub c ∷ es) stand) ≡ true
         by later None w k = absurd cc
         by later (Some at) w k =
             let mid : Stand = record { at = at; found = stand.found; own = stand.own; children = phrases_of s ns } in
-            let passes : pass s values (Sub c) stand ≡ Some mid = ap (λ ps. pass_child (under values c) ps stand) children ∙ ap (option_and_then (λ a. Some (record { at = a; found = stand.found; own = stand.own; children = phrases_of s ns }))) w in
-            joined_words (names_of g (skeleton_at s n stand.at)) (flat_map (names_of g) (skeletons_at s ns (option_map_or (met child_here s values es) (pass s values (Sub c) stand) []))) (live.0 (under values c) stand.at at w)
+            let passes : pass s values (Sub c) stand ≡ Some mid =
+            ap (λ ps. pass_child (under values c) ps stand) children
+            ∙ ap (option_and_then (λ a. Some (record { at = a; found = stand.found; own = stand.own; children = phrases_of s ns }))) w in
+            joined_words (names_of g (skeleton_at s n stand.at))
+            (flat_map (names_of g) (skeletons_at s ns (option_map_or (met child_here s values es) (pass s values (Sub c) stand) [])))
+            (live.0 (under values c) stand.at at w)
             (ap (λ o. kids_pass ns (option_map_or (met child_here s values es) o [])) passes ∙ later mid refl k)
     walk_children values (e ∷ es) ns stand after live children h =
         by (λ mid same k. walk_children values es ns mid after live same k) (pass s values e stand) refl h
       where
         by : ((mid : Stand) → mid.children ≡ phrases_of s ns → run s values es mid ≡ Some after → kids_pass ns (met child_here s values es mid) ≡ true)
-            → (o : Option Stand) → pass s values e stand ≡ o → option_and_then (run s values es) o ≡ Some after → kids_pass ns (option_map_or (met child_here s values es) o []) ≡ true
+            → (o : Option Stand) → pass s values e stand ≡ o → option_and_then (run s values es) o ≡ Some after
+            → kids_pass ns (option_map_or (met child_here s values es) o []) ≡ true
         by later None w k = absurd cc
         by later (Some mid) w k = later mid (children_kept values e stand mid refl w ∙ children) k
 
@@ -325,11 +346,12 @@ module _ (test : WordId → Bool) where
       where
         by : (b : Bool) → is_naming (label_of g number) ≡ b
             → words_pass test (cond b ((introduced_at (body_of g number) first ends, slice_index_or given 0 no_word) ∷ []) []) ≡ true
-        by true e = both (test (slice_index_or given 0 no_word)) true (passes e) refl
+        by true e = and_from (test (slice_index_or given 0 no_word)) true (passes e) refl
         by false e = refl
 
     layer_live : (number first end : ℕ) (positions : List ℕ) (given : List WordId) (kids : List Skeleton)
-        → (is_naming (label_of g number) ≡ true → test (slice_index_or given 0 no_word) ≡ true) → words_pass test (flat_map (names_of g) kids) ≡ true → IsLive (skeleton number first end positions given kids)
+        → (is_naming (label_of g number) ≡ true → test (slice_index_or given 0 no_word) ≡ true) → words_pass test (flat_map (names_of g) kids) ≡ true
+        → IsLive (skeleton number first end positions given kids)
     layer_live number first end positions given kids passes each =
         let out = out-roll-Skeleton (record { rule = number; start = first; end = end; found = positions; words = given; children = kids }) in
         ap (words_pass test) (names_of_is g (skeleton number first end positions given kids))
@@ -340,11 +362,16 @@ module _ (test : WordId → Bool) where
         → LiveNodes children → rule_with g number ≡ Some rule → phrase s rule values positions (phrases_of s children) asked at ≡ Some after
         → IsLive (skeleton_at s (node number values positions children) at)
     node_live number values positions children asked at after rule live h k =
-        let parts : Parts s rule values positions (phrases_of s children) asked at after = phrase_parts s rule values positions (phrases_of s children) asked at after k in
+        let parts : Parts s rule values positions (phrases_of s children) asked at after =
+        phrase_parts s rule values positions (phrases_of s children) asked at after k in
         let first : Stand = start rule values positions (phrases_of s children) at in
         let given : List WordId = met (word_here s) s values rule.body first in
         let kids : List Skeleton = skeletons_at s children (met child_here s values rule.body first) in
-        let here : skeleton_at s (node number values positions children) at ≡ skeleton number at.place (end_place s rule values first) positions given kids = ap (λ o. option_map_or (λ r. skeleton number at.place (end_place s r values (start r values positions (phrases_of s children) at)) positions (met (word_here s) s values r.body (start r values positions (phrases_of s children) at)) (skeletons_at s children (met child_here s values r.body (start r values positions (phrases_of s children) at)))) o (skeleton number at.place at.place positions [] [])) h in
+        let here : skeleton_at s (node number values positions children) at ≡ skeleton number at.place (end_place s rule values first) positions given kids =
+        ap (λ o. option_map_or (λ r. skeleton number at.place (end_place s r values (start r values positions (phrases_of s children) at)) positions
+        (met (word_here s) s values r.body (start r values positions (phrases_of s children) at))
+        (skeletons_at s children (met child_here s values r.body (start r values positions (phrases_of s children) at)))) o
+        (skeleton number at.place at.place positions [] [])) h in
         subst IsLive (sym here)
         (layer_live number at.place (end_place s rule values first) positions given kids
         (λ naming. word_passes values rule.body first parts.stand (naming_rule g number rule sound h naming) parts.ran)

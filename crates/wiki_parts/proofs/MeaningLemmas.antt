@@ -11,7 +11,8 @@ use Rattle.wiki_parts.specs.Knowledge.{is_asserted, StatesFirst, AreStated, Know
 use Rattle.derivations.proofs.UniqueLemmas.{least_unique}
 
 -- tokens have at most one meaning
-pub means_one : (g : GrammarParts) (words : Listed) (tokens : List (List ℕ)) (one other : Meaning) → Means g words tokens one → Means g words tokens other → one ≡ other
+pub means_one : (g : GrammarParts) (words : Listed) (tokens : List (List ℕ)) (one other : Meaning) → Means g words tokens one → Means g words tokens other
+    → one ≡ other
 means_one g words tokens one other a b =
     a.is ∙ ap (skeleton_meaning g) (least_unique (setting_of g words tokens) b.least a.least b.is_least a.is_least) ∙ sym b.is
 
@@ -19,7 +20,8 @@ stating_same : (cs ds : List Claim) → stating cs ≡ stating ds → cs ≡ ds
 stating_same cs ds e = cc
 
 -- sentences state at most one list of axioms
-pub stated_one : (g : GrammarParts) (words : Listed) (sentences : List Sentence) (one other : List Claim) → AreStated g words sentences one → AreStated g words sentences other → one ≡ other
+pub stated_one : (g : GrammarParts) (words : Listed) (sentences : List Sentence) (one other : List Claim) → AreStated g words sentences one
+    → AreStated g words sentences other → one ≡ other
 stated_one g words [] one other a b = a ∙ sym b
 stated_one g words (sentence ∷ sentences) one other a b = by (is_asserted sentence.status) (λ cs ds x y. stated_one g words sentences cs ds x y) a b
   where

@@ -1,5 +1,5 @@
 -- The live names, word by word.
-use Rattle.std.proofs.Common.{◌≡◌, ℕ, zero, suc, ◌+◌, ◌<◌, Bool, true, false, cond, List, [], ◌∷◌, ◌++◌, length, take, map, filter, get_or, Some, All, AllPairs, refl, sym, ap, subst, ◌∙◌, arith, append-nil}
+use Rattle.std.proofs.Common.{◌≡◌, ℕ, zero, suc, ◌+◌, ◌<◌, Bool, true, false, cond, List, [], ◌∷◌, ◌++◌, take, map, filter, get_or, Some, All, AllPairs, refl, sym, ap, subst, ◌∙◌, arith}
 use Rattle.std.specs.Prelude.{◌&&◌, nat_lt}
 use Rattle.std.specs.List.{slice_get}
 use Rattle.std.proofs.lemmas.Bool.{and_parts, ltb-true}
@@ -22,8 +22,10 @@ pub names_more : (live : List Word) (i : ℕ) (word : Word) → slice_get live i
 names_more live i word at =
     ap names_among (take_more live i word (slice_get_within live i word at))
     ∙ ap (map (λ (w : Word). w.id)) (filter-append (λ (w : Word). is_name w.forms.kind) (take i live) (get_or live i word ∷ []))
-    ∙ map-append (λ (w : Word). w.id) (filter (λ (w : Word). is_name w.forms.kind) (take i live)) (filter (λ (w : Word). is_name w.forms.kind) (get_or live i word ∷ []))
-    ∙ ap (λ ids. names_among (take i live) ++ ids) (ap (λ (w : Word). names_among (w ∷ [])) (get_or_from_slice_get live i word word at) ∙ by_test (is_name word.forms.kind))
+    ∙ map-append (λ (w : Word). w.id) (filter (λ (w : Word). is_name w.forms.kind) (take i live))
+    (filter (λ (w : Word). is_name w.forms.kind) (get_or live i word ∷ []))
+    ∙ ap (λ ids. names_among (take i live) ++ ids)
+    (ap (λ (w : Word). names_among (w ∷ [])) (get_or_from_slice_get live i word word at) ∙ by_test (is_name word.forms.kind))
   where
     by_test : (b : Bool) → map (λ (w : Word). w.id) (cond b (word ∷ []) []) ≡ cond b (word.id ∷ []) []
     by_test true = refl
@@ -42,12 +44,6 @@ names_below live i word in_order at =
         let there : get_or live i d ≡ word = get_or_from_slice_get live i word d at in
         subst (λ (w : Word). (get_or (take i live) k d).id.0 < w.id.0) there
         (subst (λ (w : Word). w.id.0 < (get_or live i d).id.0) (sym (get_or-take i live k d below)) (in_order k i d below (slice_get_within live i word at)))
-
--- one more item is mapped
-pub mapped_more : {X Y : Type 0} (f : X → Y) (xs : List X) (i : ℕ) (x : X) → slice_get xs i ≡ Some x → map f (take (i + 1) xs) ≡ map f (take i xs) ++ f x ∷ []
-mapped_more f xs i x at =
-    ap (map f) (take_more xs i x (slice_get_within xs i x at)) ∙ map-append f (take i xs) (get_or xs i x ∷ [])
-    ∙ ap (λ y. map f (take i xs) ++ f y ∷ []) (get_or_from_slice_get xs i x x at)
 
 -- names behind one that rise above it have higher numbers
 above_all : (n : WordId) (ns : List WordId) → names_above n ns ≡ true → All (λ later. n.0 < later.0) ns

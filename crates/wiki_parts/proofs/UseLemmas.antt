@@ -3,18 +3,19 @@ use Rattle.std.proofs.Common.{◌≡◌, ℕ, ◌+◌, ◌<◌, ◌==◌, ◌||�
 use Rattle.std.specs.List.{list_any}
 use Rattle.std.proofs.lemmas.Bool.{false≢true}
 use Rattle.std.specs.List.{slice_get}
-use Rattle.std.proofs.lemmas.Option.{none-some, slice_get_within, get_or_from_slice_get}
+use Rattle.std.proofs.lemmas.Option.{none-some}
 use Rattle.std.specs.Option.{option_map_or, option_or}
 use Rattle.std.proofs.lemmas.List.{drop_more}
 use Rattle.std.proofs.lemmas.List.Folds.{find-append}
 use Rattle.wiki_base.specs.declared.numbers.WordId.{WordId}
 use Rattle.wiki_base.specs.declared.numbers.Place.{Place}
+use Rattle.wiki_base.proofs.ListLaws.{drop_slice_get}
 use Rattle.lexicon.specs.declared.kinds.Forms.{Forms}
 use Rattle.lexicon.specs.declared.words.Word.{Word}
 use Rattle.lexicon.specs.Words.{is_among, has_number, forms_of}
 use Rattle.articles.specs.declared.sentences.Sentence.{Sentence}
 use Rattle.articles.specs.declared.article.Article.{Article}
-use Rattle.articles.specs.Articles.{is_of, article_of}
+use Rattle.articles.specs.Articles.{article_of}
 use Rattle.wiki_parts.specs.Refusing.{uses_word}
 use Rattle.wiki_parts.specs.Places.{Placed, placed_from, placed_in, all_placed, told_place}
 
@@ -24,13 +25,19 @@ place_in word p = record { article = word; at = p }
 
 -- what is found in an article is told by its word
 pub found-word : (test : Placed → Bool) (word : WordId) (place : ℕ) (sentences : List Sentence)
-    → option_map told_place (find test (placed_from word place sentences)) ≡ option_map (λ (p : ℕ). place_in word p) (option_map (λ (placed : Placed). placed.place) (find test (placed_from word place sentences)))
+    → option_map told_place (find test (placed_from word place sentences))
+    ≡ option_map (λ (p : ℕ). place_in word p) (option_map (λ (placed : Placed). placed.place) (find test (placed_from word place sentences)))
 found-word test word place [] = refl
-found-word test word place (sentence ∷ sentences) = by_test (test (record { word = word; place = place; sentence = sentence })) (found-word test word (place + 1) sentences)
+found-word test word place (sentence ∷ sentences) =
+    by_test (test (record { word = word; place = place; sentence = sentence })) (found-word test word (place + 1) sentences)
   where
-    by_test : (b : Bool) → option_map told_place (find test (placed_from word (place + 1) sentences)) ≡ option_map (λ (p : ℕ). place_in word p) (option_map (λ (placed : Placed). placed.place) (find test (placed_from word (place + 1) sentences)))
-        → option_map told_place (cond b (Some (record { word = word; place = place; sentence = sentence })) (find test (placed_from word (place + 1) sentences)))
-        ≡ option_map (λ (p : ℕ). place_in word p) (option_map (λ (placed : Placed). placed.place) (cond b (Some (record { word = word; place = place; sentence = sentence })) (find test (placed_from word (place + 1) sentences))))
+    by_test : (b : Bool) → option_map told_place (find test (placed_from word (place + 1) sentences))
+        ≡ option_map (λ (p : ℕ). place_in word p) (option_map (λ (placed : Placed). placed.place) (find test (placed_from word (place + 1) sentences)))
+        → option_map told_place (cond b (Some (record { word = word; place = place; sentence = sentence }))
+        (find test (placed_from word (place + 1) sentences)))
+        ≡ option_map (λ (p : ℕ). place_in word p)
+        (option_map (λ (placed : Placed). placed.place)
+        (cond b (Some (record { word = word; place = place; sentence = sentence })) (find test (placed_from word (place + 1) sentences))))
     by_test true rest = refl
     by_test false rest = rest
 
@@ -38,25 +45,26 @@ found-word test word place (sentence ∷ sentences) = by_test (test (record { wo
 pub find-next : (test : Placed → Bool) (articles : List Article) (i : ℕ) (d : Article) → i < length articles
     → find test (all_placed (drop i articles)) ≡ option_or (find test (placed_in (get_or articles i d))) (find test (all_placed (drop (i + 1) articles)))
 find-next test articles i d below =
-    ap (λ (some_articles : List Article). find test (all_placed some_articles)) (drop_more articles i d below) ∙ find-append test (placed_in (get_or articles i d)) (all_placed (drop (i + 1) articles))
-
--- the sentences from a place on are the one there and those behind it
-drop_at : {X : Type 0} (xs : List X) (i : ℕ) (x : X) → slice_get xs i ≡ Some x → drop i xs ≡ x ∷ drop (i + 1) xs
-drop_at xs i x at = drop_more xs i x (slice_get_within xs i x at) ∙ ap (λ y. y ∷ drop (i + 1) xs) (get_or_from_slice_get xs i x x at)
+    ap (λ (some_articles : List Article). find test (all_placed some_articles)) (drop_more articles i d below)
+    ∙ find-append test (placed_in (get_or articles i d)) (all_placed (drop (i + 1) articles))
 
 -- the first of them is the one there, where that passes
 pub find-here : (test : Placed → Bool) (word : WordId) (sentences : List Sentence) (i : ℕ) (sentence : Sentence) → slice_get sentences i ≡ Some sentence
-    → test (record { word = word; place = i; sentence = sentence }) ≡ true → find test (placed_from word i (drop i sentences)) ≡ Some (record { word = word; place = i; sentence = sentence })
+    → test (record { word = word; place = i; sentence = sentence }) ≡ true
+    → find test (placed_from word i (drop i sentences)) ≡ Some (record { word = word; place = i; sentence = sentence })
 find-here test word sentences i sentence at passes =
-    ap (λ (some_sentences : List Sentence). find test (placed_from word i some_sentences)) (drop_at sentences i sentence at)
-    ∙ ap (λ (b : Bool). cond b (Some (record { word = word; place = i; sentence = sentence })) (find test (placed_from word (i + 1) (drop (i + 1) sentences)))) passes
+    ap (λ (some_sentences : List Sentence). find test (placed_from word i some_sentences)) (drop_slice_get sentences i sentence at)
+    ∙ ap (λ (b : Bool). cond b (Some (record { word = word; place = i; sentence = sentence })) (find test (placed_from word (i + 1) (drop (i + 1) sentences))))
+    passes
 
 -- and else it is the first behind it
 pub find-past : (test : Placed → Bool) (word : WordId) (sentences : List Sentence) (i : ℕ) (sentence : Sentence) → slice_get sentences i ≡ Some sentence
-    → test (record { word = word; place = i; sentence = sentence }) ≡ false → find test (placed_from word i (drop i sentences)) ≡ find test (placed_from word (i + 1) (drop (i + 1) sentences))
+    → test (record { word = word; place = i; sentence = sentence }) ≡ false
+    → find test (placed_from word i (drop i sentences)) ≡ find test (placed_from word (i + 1) (drop (i + 1) sentences))
 find-past test word sentences i sentence at fails =
-    ap (λ (some_sentences : List Sentence). find test (placed_from word i some_sentences)) (drop_at sentences i sentence at)
-    ∙ ap (λ (b : Bool). cond b (Some (record { word = word; place = i; sentence = sentence })) (find test (placed_from word (i + 1) (drop (i + 1) sentences)))) fails
+    ap (λ (some_sentences : List Sentence). find test (placed_from word i some_sentences)) (drop_slice_get sentences i sentence at)
+    ∙ ap (λ (b : Bool). cond b (Some (record { word = word; place = i; sentence = sentence })) (find test (placed_from word (i + 1) (drop (i + 1) sentences))))
+    fails
 
 -- the first of two that may be there, where the first is
 pub first-found : (o q : Option Placed) (told : Place) → option_map told_place o ≡ Some told → option_map told_place (option_or o q) ≡ Some told
@@ -77,7 +85,8 @@ find-neither test xs ys none = by_case (find test xs) (find test ys) (sym (find-
     by_case (Some x) q none = absurd (none-some x (sym none))
 
 -- an article of the word that nothing is found in has no sentence
-empty-here : (word : WordId) (forms : Forms) (first : Article) → (first.word.0 == word.0) ≡ true → find (uses_word word forms) (placed_in first) ≡ None → first.sentences ≡ []
+empty-here : (word : WordId) (forms : Forms) (first : Article) → (first.word.0 == word.0) ≡ true → find (uses_word word forms) (placed_in first) ≡ None
+    → first.sentences ≡ []
 empty-here word forms first same none = by_case first.sentences none
   where
     found : (b : Bool) (placed : Placed) (rest : Option Placed) → b ≡ true → cond b (Some placed) rest ≡ None → ⊥
@@ -87,8 +96,10 @@ empty-here word forms first same none = by_case first.sentences none
     by_case : (sentences : List Sentence) → find (uses_word word forms) (placed_from first.word 0 sentences) ≡ None → sentences ≡ []
     by_case [] none = refl
     by_case (sentence ∷ sentences) none =
-        absurd (found ((first.word.0 == word.0) || list_any (is_among forms.texts) sentence.tokens) (record { word = first.word; place = 0; sentence = sentence })
-        (find (uses_word word forms) (placed_from first.word (0 + 1) sentences)) (ap (λ (b : Bool). b || list_any (is_among forms.texts) sentence.tokens) same) none)
+        absurd (found ((first.word.0 == word.0) || list_any (is_among forms.texts) sentence.tokens)
+        (record { word = first.word; place = 0; sentence = sentence })
+        (find (uses_word word forms) (placed_from first.word (0 + 1) sentences)) (ap (λ (b : Bool). b || list_any (is_among forms.texts) sentence.tokens) same)
+        none)
 
 -- where no sentence needs the word, its article has none
 pub empty-unused : (word : WordId) (forms : Forms) (articles : List Article) → find (uses_word word forms) (all_placed articles) ≡ None
@@ -98,12 +109,14 @@ empty-unused word forms (first ∷ articles) none article is =
     let parts = find-neither (uses_word word forms) (placed_in first) (all_placed articles) none in
     by_test (first.word.0 == word.0) (λ same. empty-here word forms first same parts.0) (empty-unused word forms articles parts.1 article) is
   where
-    by_test : (b : Bool) → (b ≡ true → first.sentences ≡ []) → (article_of articles word ≡ Some article → article.sentences ≡ []) → cond b (Some first) (article_of articles word) ≡ Some article → article.sentences ≡ []
+    by_test : (b : Bool) → (b ≡ true → first.sentences ≡ []) → (article_of articles word ≡ Some article → article.sentences ≡ [])
+        → cond b (Some first) (article_of articles word) ≡ Some article → article.sentences ≡ []
     by_test true here rest is = ap (λ (o : Option Article). option_map_or (λ (a : Article). a.sentences) o []) (sym is) ∙ here refl
     by_test false here rest is = rest is
 
 -- a live word has an article, where the articles are those of the live words
-pub lives-article : (articles : List Article) (live : List Word) (id : WordId) → map (λ (article : Article). article.word) articles ≡ map (λ (word : Word). word.id) live
+pub lives-article : (articles : List Article) (live : List Word) (id : WordId)
+    → map (λ (article : Article). article.word) articles ≡ map (λ (word : Word). word.id) live
     → IsSome (forms_of live id) → IsSome (article_of articles id)
 lives-article articles [] id same lives = absurd (false≢true lives)
 lives-article [] (word ∷ live) id same lives = cc
@@ -114,7 +127,8 @@ lives-article (article ∷ articles) (word ∷ live) id same lives =
     heads : article.word ≡ word.id
     heads = ap (λ (ids : List WordId). get_or ids 0 article.word) same
 
-    by_test : (b f : Bool) → f ≡ b → (IsSome (forms_of live id) → IsSome (article_of articles id)) → IsSome (option_map (λ (w : Word). w.forms) (cond b (Some word) (find (has_number id) live))) → IsSome (cond f (Some article) (article_of articles id))
+    by_test : (b f : Bool) → f ≡ b → (IsSome (forms_of live id) → IsSome (article_of articles id))
+        → IsSome (option_map (λ (w : Word). w.forms) (cond b (Some word) (find (has_number id) live))) → IsSome (cond f (Some article) (article_of articles id))
     by_test true true same rest lives = refl
     by_test true false same rest lives = absurd (false≢true same)
     by_test false true same rest lives = refl

@@ -13,5 +13,6 @@ pub cut_from_spent : (claims : List Claim) (names : List WordId) (budget : ℕ) 
 cut_from_spent claims names budget g spends = record { knowledge = spends.knowledge; absorbed = spends.absorbed; longer = spends.cut.longer }
 
 -- and so was one over a denial
-pub cut_from_unknown : (claims : List Claim) (names : List WordId) (budget : ℕ) (c : Concept) (name : WordId) → IsUnknown claims names budget c name → IsCutOff (denied claims c name) names budget
+pub cut_from_unknown : (claims : List Claim) (names : List WordId) (budget : ℕ) (c : Concept) (name : WordId) → IsUnknown claims names budget c name
+    → IsCutOff (denied claims c name) names budget
 cut_from_unknown claims names budget c name unknown = record { knowledge = unknown.knowledge; absorbed = unknown.absorbed; longer = unknown.longer }

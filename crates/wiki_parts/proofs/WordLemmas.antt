@@ -21,11 +21,13 @@ use Rattle.wiki_parts.specs.Meanings.{Meaning, stating, Means}
 use Rattle.wiki_parts.specs.Knowledge.{is_asserted, StatesFirst, AreStated}
 
 -- a token that is none of the texts has no reading by them
-readings-none : (kind : Kind) (id : WordId) (token : List ℕ) (place : ℕ) (texts : List (List ℕ)) → list_any (bytes_eq token) texts ≡ false → readings_from kind id token place texts ≡ []
+readings-none : (kind : Kind) (id : WordId) (token : List ℕ) (place : ℕ) (texts : List (List ℕ)) → list_any (bytes_eq token) texts ≡ false
+    → readings_from kind id token place texts ≡ []
 readings-none kind id token place [] none = refl
 readings-none kind id token place (form ∷ forms) none = by_test (bytes_eq token form) (readings-none kind id token (place + 1) forms) none
   where
-    by_test : (b : Bool) → (list_any (bytes_eq token) forms ≡ false → readings_from kind id token (place + 1) forms ≡ []) → (b || list_any (bytes_eq token) forms) ≡ false
+    by_test : (b : Bool) → (list_any (bytes_eq token) forms ≡ false → readings_from kind id token (place + 1) forms ≡ [])
+        → (b || list_any (bytes_eq token) forms) ≡ false
         → cond b (reading kind id place form ∷ readings_from kind id token (place + 1) forms) (readings_from kind id token (place + 1) forms) ≡ []
     by_test true rest none = absurd (false≢true (sym none))
     by_test false rest none = rest none
@@ -46,11 +48,14 @@ abbrev pub is_no_form_of : WordId → List ℕ → Word → Bool
 is_no_form_of id token word = not (has_number id word) || not (has_form token word)
 
 -- a word that goes leaves the readings of a token that is none of its forms
-readings-without : (live : List Word) (id : WordId) (token : List ℕ) → list_all (is_no_form_of id token) live ≡ true → readings_of (others live id) token ≡ readings_of live token
+readings-without : (live : List Word) (id : WordId) (token : List ℕ) → list_all (is_no_form_of id token) live ≡ true
+    → readings_of (others live id) token ≡ readings_of live token
 readings-without [] id token none = refl
-readings-without (first ∷ live) id token none = by_tests (has_number id first) (has_form token first) (readings_of_word-none token first) (readings-without live id token) none
+readings-without (first ∷ live) id token none =
+    by_tests (has_number id first) (has_form token first) (readings_of_word-none token first) (readings-without live id token) none
   where
-    by_tests : (b f : Bool) → (f ≡ false → readings_of_word token first ≡ []) → (list_all (is_no_form_of id token) live ≡ true → readings_of (others live id) token ≡ readings_of live token)
+    by_tests : (b f : Bool) → (f ≡ false → readings_of_word token first ≡ [])
+        → (list_all (is_no_form_of id token) live ≡ true → readings_of (others live id) token ≡ readings_of live token)
         → ((not b || not f) && list_all (is_no_form_of id token) live) ≡ true
         → readings_of (cond (not b) (first ∷ others live id) (others live id)) token ≡ readings_of_word token first ++ readings_of live token
     by_tests true true no_reading rest none = absurd (false≢true none)
@@ -63,7 +68,8 @@ readings-same : (old new : List Word) (test : List ℕ → Bool) → ((token : L
 readings-same old new test same [] passed = refl
 readings-same old new test same (token ∷ tokens) passed = by_test (test token) (same token) (readings-same old new test same tokens) passed
   where
-    by_test : (b : Bool) → (b ≡ true → readings_of new token ≡ readings_of old token) → (list_all test tokens ≡ true → map (readings_of new) tokens ≡ map (readings_of old) tokens)
+    by_test : (b : Bool) → (b ≡ true → readings_of new token ≡ readings_of old token)
+        → (list_all test tokens ≡ true → map (readings_of new) tokens ≡ map (readings_of old) tokens)
         → (b && list_all test tokens) ≡ true → readings_of new token ∷ map (readings_of new) tokens ≡ readings_of old token ∷ map (readings_of old) tokens
     by_test true head rest passed = both (head refl) (rest passed)
       where
@@ -72,11 +78,13 @@ readings-same old new test same (token ∷ tokens) passed = by_test (test token)
     by_test false head rest passed = absurd (false≢true passed)
 
 -- the meaning of tokens is the same where their readings are
-pub means-same : (g : GrammarParts) (old new : Listed) (tokens : List (List ℕ)) (meaning : Meaning) → map (readings_of new.live) tokens ≡ map (readings_of old.live) tokens
+pub means-same : (g : GrammarParts) (old new : Listed) (tokens : List (List ℕ)) (meaning : Meaning)
+    → map (readings_of new.live) tokens ≡ map (readings_of old.live) tokens
     → Means g old tokens meaning → Means g new tokens meaning
 means-same g old new tokens meaning same means = record {
   least = means.least;
-  is_least = subst (λ (readings : List (List Ground)). IsLeast (record { grammar = g; tokens = tokens; readings = readings }) means.least) (sym same) means.is_least;
+  is_least = subst (λ (readings : List (List Ground)). IsLeast (record { grammar = g; tokens = tokens; readings = readings }) means.least) (sym same)
+      means.is_least;
   is = means.is;
 }
 
@@ -94,7 +102,8 @@ means-with_word g words forms tokens meaning none =
 
 -- a word that goes leaves the meaning of tokens of which none is one of its forms
 pub means-without_word : (g : GrammarParts) (words : Listed) (id : WordId) (tokens : List (List ℕ)) (meaning : Meaning)
-    → list_all (λ token. list_all (is_no_form_of id token) words.live) tokens ≡ true → Means g words tokens meaning → Means g (without_word words id) tokens meaning
+    → list_all (λ token. list_all (is_no_form_of id token) words.live) tokens ≡ true → Means g words tokens meaning
+    → Means g (without_word words id) tokens meaning
 means-without_word g words id tokens meaning none =
     means-same g words (without_word words id) tokens meaning
     (readings-same words.live (without_word words id).live (λ token. list_all (is_no_form_of id token) words.live)
@@ -109,7 +118,8 @@ ReadTheSame old new (sentence ∷ sentences) = (map (readings_of new) sentence.t
 pub stated-same : (g : GrammarParts) (old new : Listed) (sentences : List Sentence) (claims : List Claim) → ReadTheSame old.live new.live sentences
     → AreStated g old sentences claims → AreStated g new sentences claims
 stated-same g old new [] claims same stated = stated
-stated-same g old new (sentence ∷ sentences) claims same stated = by_status (is_asserted sentence.status) (λ rest. stated-same g old new sentences rest same.1) stated
+stated-same g old new (sentence ∷ sentences) claims same stated =
+    by_status (is_asserted sentence.status) (λ rest. stated-same g old new sentences rest same.1) stated
   where
     by_status : (b : Bool) → ((rest : List Claim) → AreStated g old sentences rest → AreStated g new sentences rest)
         → MatchBool b (StatesFirst g old sentence.tokens (AreStated g old sentences) claims) (AreStated g old sentences claims)

@@ -1,6 +1,5 @@
 -- What the program keeps of all sentences. Only private calls speak of it.
 use Rattle.std.specs.Prelude.{◌≡◌, ◌≤◌, ℕ, ◌++◌, List, [], ◌∷◌, ◌+◌, length, map, take, drop, slice_get, unwrap_or, Some, All, if◌then◌else◌}
-use Rattle.std.specs.List.{flat_map}
 use Rattle.std.specs.Option.{option_map_or}
 use Rattle.wiki_base.specs.declared.tokens.TheConstants.{MOST_TOKENS}
 use Rattle.wiki_base.specs.declared.numbers.WordId.{WordId}
@@ -24,9 +23,7 @@ use Rattle.wiki_parts.specs.Found.{meaning_shown}
 -- the axioms that a meaning states
 abbrev pub stated_by : Meaning → List Claim
 stated_by (stating claims) = claims
-stated_by (outside cause) = []
-stated_by (asking concept) = []
-stated_by (asking_outside cause) = []
+stated_by _ = []
 
 -- the axioms of those of the sentences that are asserted, where they have these meanings
 abbrev pub known_of : List Sentence → List Meaning → List Claim

@@ -36,7 +36,8 @@ pub fn answers_of(
     requires over { IsTrue (are_over names.now (kept_claims kept.now) && list_all (is_among names.now) (names_in (concept_of class.now))) }
     requires plain { IsTrue (are_plain (kept_claims kept.now) && is_plain (concept_of class.now)) }
     ensures answer { IfOk result (λ a. Answer (kept_claims kept.now) names.now budget (concept_of class.now) a.yes a.unknown) }
-    ensures kept_has_unknown { IfOk result (λ a. All (λ n. IsIn (kept_interp kept.now) (concept_of class.now) (element_of (kept_interp kept.now) n)) a.unknown) }
+    ensures kept_has_unknown { IfOk result
+        (λ a. All (λ n. IsIn (kept_interp kept.now) (concept_of class.now) (element_of (kept_interp kept.now) n)) a.unknown) }
 {
     let answers = asked(alloc, known, class, kept, names, budget)?;
     let _ = answers.yes.as_slice();
@@ -58,8 +59,10 @@ fn asked(
     requires plain { IsTrue (are_plain (kept_claims kept.now) && is_plain (concept_of class.now)) }
     ensures yes { IfOk result (λ a. All (IsInAll (kept_claims kept.now) (concept_of class.now)) a.yes) }
     ensures unknown { IfOk result (λ a. All (IsUnknown (kept_claims kept.now) names.now budget (concept_of class.now)) a.unknown) }
-    ensures kept_has_unknown { IfOk result (λ a. All (λ n. IsIn (kept_interp kept.now) (concept_of class.now) (element_of (kept_interp kept.now) n)) a.unknown) }
-    ensures others { IfOk result (λ a. (n : WordId) → Contains names.now n → ¬ Contains a.yes n → ¬ Contains a.unknown n → IsOutsideSome (kept_claims kept.now) (concept_of class.now) n) }
+    ensures kept_has_unknown { IfOk result
+        (λ a. All (λ n. IsIn (kept_interp kept.now) (concept_of class.now) (element_of (kept_interp kept.now) n)) a.unknown) }
+    ensures others { IfOk result (λ a. (n : WordId) → Contains names.now n → ¬ Contains a.yes n → ¬ Contains a.unknown n
+        → IsOutsideSome (kept_claims kept.now) (concept_of class.now) n) }
     ensures given { IfOk result (λ a. All (Contains names.now) a.yes × All (Contains names.now) a.unknown) }
     ensures apart { IfOk result (λ a. (n : WordId) → Contains a.yes n → ¬ Contains a.unknown n) }
 {

@@ -1,14 +1,15 @@
 -- What adding a word with its article asks, and what it leaves.
-use Rattle.std.proofs.Common.{◌≡◌, ℕ, zero, suc, ◌+◌, ◌<◌, ◌≤◌, ◌==◌, Bool, true, false, not, cond, List, [], ◌∷◌, ◌++◌, length, map, filter, find, get_or, All, Option, Some, None, Result, Ok, Err, OnErr, IfOk, IfSome, refl, sym, ap, subst, ◌∙◌, arith, option_map, unwrap_or}
+use Rattle.std.proofs.Common.{◌≡◌, ℕ, suc, ◌+◌, ◌<◌, ◌≤◌, ◌==◌, Bool, true, false, not, cond, List, [], ◌∷◌, ◌++◌, find, get_or, All, Option, Some, None, Result, Ok, Err, IfOk, IfSome, refl, sym, ap, subst, ◌∙◌, arith, option_map, unwrap_or}
 use Rattle.std.specs.List.{slice_get}
 use Rattle.std.specs.Option.{IsSomeAnd, SomeIff}
 use Rattle.std.proofs.lemmas.Bool.{false≢true}
 use Rattle.std.proofs.lemmas.Bool.Decides.{nat_tests}
 use Rattle.std.proofs.lemmas.Option.{none-some, slice_get-get_or, get_or_from_slice_get, slice_get_within, slice_get-map}
 use Rattle.wiki_base.specs.declared.numbers.WordId.{WordId}
+use Rattle.wiki_base.proofs.NumberLaws.{lt-eqb}
 use Rattle.lexicon.specs.declared.words.Word.{Word}
 use Rattle.lexicon.specs.declared.kinds.Kind.{Kind}
-use Rattle.lexicon.specs.Words.{Listed, IsLexicon}
+use Rattle.lexicon.specs.Words.{IsLexicon}
 use Rattle.wiki_talk.specs.declared.refusals.Refusal.{Refusal}
 use Rattle.wiki_talk.specs.declared.replies.Reply.{Reply}
 use Rattle.wiki_talk.specs.declared.replies.Reply.TheVariants as replies
@@ -36,29 +37,31 @@ some-under (Some w) id is = record { word = w; is = refl; number = ap (λ (o : O
 pub articles-below : (state : State) → IsSound state → IsLexicon state.words → All (λ article. article.word.0 < state.words.last + 1) state.articles
 articles-below state sound lexicon k d within =
     let here = slice_get-get_or state.articles k d within in
-    let numbered = ap (λ (ids : List WordId). slice_get ids k) (sym sound.articles) ∙ slice_get-map (λ (a : Article). a.word) state.articles k ∙ ap (option_map (λ (a : Article). a.word)) here in
-    let under = some-under (slice_get state.words.live k) (get_or state.articles k d).word (sym (slice_get-map (λ (w : Word). w.id) state.words.live k) ∙ numbered) in
+    let numbered = ap (λ (ids : List WordId). slice_get ids k) (sym sound.articles) ∙ slice_get-map (λ (a : Article). a.word) state.articles k
+    ∙ ap (option_map (λ (a : Article). a.word)) here in
+    let under = some-under (slice_get state.words.live k) (get_or state.articles k d).word
+    (sym (slice_get-map (λ (w : Word). w.id) state.words.live k) ∙ numbered) in
     let given = lexicon.given k under.word (slice_get_within state.words.live k under.word under.is) in
-    let known : under.word.id.0 ≤ state.words.last = subst (λ (w : Word). w.id.0 ≤ state.words.last) (get_or_from_slice_get state.words.live k under.word under.word under.is) given.1 in
+    let known : under.word.id.0 ≤ state.words.last =
+    subst (λ (w : Word). w.id.0 ≤ state.words.last) (get_or_from_slice_get state.words.live k under.word under.word under.is) given.1 in
     let same : under.word.id.0 ≡ (get_or state.articles k d).word.0 = ap (λ (w : WordId). w.0) under.number in
     omega (arith, known, same)
 
--- no article of words below a number is that of the number
-differs : (n m : ℕ) → n < m → (n == m) ≡ false
-differs n m below = grind (arith, nat_tests)
-
-rest-below : (word : WordId) (article : Article) (articles : List Article) → All (λ (a : Article). a.word.0 < word.0) (article ∷ articles) → All (λ (a : Article). a.word.0 < word.0) articles
+rest-below : (word : WordId) (article : Article) (articles : List Article) → All (λ (a : Article). a.word.0 < word.0) (article ∷ articles)
+    → All (λ (a : Article). a.word.0 < word.0) articles
 rest-below word article articles below k d within = below (suc k) d (omega (arith, within))
 
 -- the new article is the word's, and it is empty
-pub new-is-empty : (word : WordId) (articles : List Article) → All (λ (a : Article). a.word.0 < word.0) articles → IsEmptyArticle (articles ++ new_article word ∷ []) word
+pub new-is-empty : (word : WordId) (articles : List Article) → All (λ (a : Article). a.word.0 < word.0) articles
+    → IsEmptyArticle (articles ++ new_article word ∷ []) word
 new-is-empty word [] below = by_test (word.0 == word.0) (grind (arith, nat_tests))
   where
     by_test : (b : Bool) → b ≡ true → IsSomeAnd (cond b (Some (new_article word)) None) (λ article. article.sentences ≡ [])
     by_test true is = refl
     by_test false is = absurd (false≢true is)
 new-is-empty word (article ∷ articles) below =
-    by_test (article.word.0 == word.0) (differs article.word.0 word.0 (below 0 article (omega arith))) (new-is-empty word articles (rest-below word article articles below))
+    by_test (article.word.0 == word.0) (lt-eqb article.word.0 word.0 (below 0 article (omega arith)))
+    (new-is-empty word articles (rest-below word article articles below))
   where
     by_test : (b : Bool) → b ≡ false → IsSomeAnd (find (is_of word) (articles ++ new_article word ∷ [])) (λ found. found.sentences ≡ [])
         → IsSomeAnd (cond b (Some article) (find (is_of word) (articles ++ new_article word ∷ []))) (λ found. found.sentences ≡ [])
@@ -66,34 +69,35 @@ new-is-empty word (article ∷ articles) below =
     by_test false is rest = rest
 
 -- taken out again, it leaves the articles as they were
-pub new-taken-out : (word : WordId) (articles : List Article) → All (λ (a : Article). a.word.0 < word.0) articles → without_article (articles ++ new_article word ∷ []) word ≡ articles
+pub new-taken-out : (word : WordId) (articles : List Article) → All (λ (a : Article). a.word.0 < word.0) articles
+    → without_article (articles ++ new_article word ∷ []) word ≡ articles
 new-taken-out word [] below = by_test (word.0 == word.0) (grind (arith, nat_tests))
   where
     by_test : (b : Bool) → b ≡ true → cond (not b) (new_article word ∷ []) [] ≡ []
     by_test true is = refl
     by_test false is = absurd (false≢true is)
 new-taken-out word (article ∷ articles) below =
-    by_test (article.word.0 == word.0) (differs article.word.0 word.0 (below 0 article (omega arith))) (new-taken-out word articles (rest-below word article articles below))
+    by_test (article.word.0 == word.0) (lt-eqb article.word.0 word.0 (below 0 article (omega arith)))
+    (new-taken-out word articles (rest-below word article articles below))
   where
     by_test : (b : Bool) → b ≡ false → without_article (articles ++ new_article word ∷ []) word ≡ articles
-        → cond (not b) (article ∷ without_article (articles ++ new_article word ∷ []) word) (without_article (articles ++ new_article word ∷ []) word) ≡ article ∷ articles
+        → cond (not b) (article ∷ without_article (articles ++ new_article word ∷ []) word) (without_article (articles ++ new_article word ∷ []) word)
+        ≡ article ∷ articles
     by_test true is rest = absurd (false≢true (sym is))
     by_test false is rest = ap (λ (others : List Article). article ∷ others) rest
 
 -- a refused word is a step that changes nothing
 pub refused-step : {E : Type 0} (result : Result Reply E) (fault : Fault) (old new : State) (kind : Kind) (texts : List (List ℕ))
-    → IfOk result (λ reply. (refusal : Refusal) × (fault ≡ Refused refusal) × (reply ≡ replies.Refused refusal)) → IsCause (word_refusal old.words kind texts) fault → new ≡ old
+    → IfOk result (λ reply. (refusal : Refusal) × (fault ≡ Refused refusal) × (reply ≡ replies.Refused refusal))
+    → IsCause (word_refusal old.words kind texts) fault → new ≡ old
     → IfOk result (λ reply. Step old (requests.Word kind texts) reply new)
 refused-step (Ok reply) fault old new kind texts told cause same =
     subst (λ (r : Reply). Step old (requests.Word kind texts) r new) (sym told.2) (subst (IsCause (word_refusal old.words kind texts)) told.1 cause, same)
 refused-step (Err fault) other old new kind texts told cause same = tt
 
-pub kept-on-error : {T E : Type 0} {P : Type 0} (result : Result T E) → P → OnErr result P
-kept-on-error (Ok value) same = tt
-kept-on-error (Err fault) same = same
-
 -- the number after the last one given, where there is one, is above those of all articles
-pub next-is : (state : State) → IsSound state → IsLexicon state.words → (last : ℕ) → last ≡ state.words.last → (o : Option ℕ) → SomeIff o (last + 1 < 4294967296) (last + 1)
+pub next-is : (state : State) → IsSound state → IsLexicon state.words → (last : ℕ) → last ≡ state.words.last → (o : Option ℕ)
+    → SomeIff o (last + 1 < 4294967296) (last + 1)
     → IfSome o (λ next. (next ≡ state.words.last + 1) × All (λ article. article.word.0 < next) state.articles)
 next-is state sound lexicon last same None none = tt
 next-is state sound lexicon last same (Some next) some =

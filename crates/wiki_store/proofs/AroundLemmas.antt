@@ -25,7 +25,8 @@ use Rattle.wiki_parts.proofs.KnownLemmas.{known_of-step}
 use Rattle.wiki_store.proofs.KeepingLemmas.{all_parts, as_many, as_many_lists}
 
 -- what is known of lists that are cut at the same place
-pub known_of-append : (ss ts : List Sentence) (ms ns : List Sense) → length ms ≡ length ss → known_of (ss ++ ts) (meanings_in (ms ++ ns)) ≡ known_of ss (meanings_in ms) ++ known_of ts (meanings_in ns)
+pub known_of-append : (ss ts : List Sentence) (ms ns : List Sense) → length ms ≡ length ss
+    → known_of (ss ++ ts) (meanings_in (ms ++ ns)) ≡ known_of ss (meanings_in ms) ++ known_of ts (meanings_in ns)
 known_of-append [] ts [] ns same = refl
 known_of-append [] ts (m ∷ ms) ns same = absurd (omega (arith, same))
 known_of-append (s ∷ ss) ts [] ns same = absurd (omega (arith, same))
@@ -49,34 +50,43 @@ same_take n xs ys same = length-take n ys ∙ ap (min n) same ∙ sym (length-ta
 -- a list with another item at a place
 pub set_parts : {X : Type 0} (xs : List X) (i : ℕ) (x : X) → i < length xs → set xs i x ≡ take i xs ++ x ∷ drop (i + 1) xs
 set_parts {X} xs i x in_range =
-    sym (take-append-drop i (set xs i x)) ∙ ap (λ (front : List X). front ++ drop i (set xs i x)) (take-set xs i x) ∙ ap (λ (back : List X). take i xs ++ back) (drop-set xs i x in_range)
+    sym (take-append-drop i (set xs i x)) ∙ ap (λ (front : List X). front ++ drop i (set xs i x)) (take-set xs i x)
+    ∙ ap (λ (back : List X). take i xs ++ back) (drop-set xs i x in_range)
 
 -- what is known with another article, and other meanings, at a place
-pub known_in-set : (articles : List Article) (senses : List (List Sense)) (place : ℕ) (a : Article) (own : List Sense) → place < length articles → length senses ≡ length articles
+pub known_in-set : (articles : List Article) (senses : List (List Sense)) (place : ℕ) (a : Article) (own : List Sense) → place < length articles
+    → length senses ≡ length articles
     → known_in (set articles place a) (set senses place own)
-    ≡ known_in (take place articles) (take place senses) ++ (known_of a.sentences (meanings_in own) ++ known_in (drop (place + 1) articles) (drop (place + 1) senses))
+    ≡ known_in (take place articles) (take place senses)
+    ++ (known_of a.sentences (meanings_in own) ++ known_in (drop (place + 1) articles) (drop (place + 1) senses))
 known_in-set articles senses place a own in_range same =
     ap (λ (xs : List Article). known_in xs (set senses place own)) (set_parts articles place a in_range)
-    ∙ ap (λ (ms : List (List Sense)). known_in (take place articles ++ a ∷ drop (place + 1) articles) ms) (set_parts senses place own (omega (arith, in_range, same)))
-    ∙ known_in-append (take place articles) (a ∷ drop (place + 1) articles) (take place senses) (own ∷ drop (place + 1) senses) (same_take place articles senses same)
+    ∙ ap (λ (ms : List (List Sense)). known_in (take place articles ++ a ∷ drop (place + 1) articles) ms)
+    (set_parts senses place own (omega (arith, in_range, same)))
+    ∙ known_in-append (take place articles) (a ∷ drop (place + 1) articles) (take place senses) (own ∷ drop (place + 1) senses)
+    (same_take place articles senses same)
 
 -- what is known of the sentences of an article without the one at a place
 pub known_of-remove : (ss : List Sentence) (ms : List Sense) (at : ℕ) → length ms ≡ length ss
-    → known_of (remove ss at) (meanings_in (remove ms at)) ≡ known_of (take at ss) (meanings_in (take at ms)) ++ known_of (drop (at + 1) ss) (meanings_in (drop (at + 1) ms))
+    → known_of (remove ss at) (meanings_in (remove ms at))
+    ≡ known_of (take at ss) (meanings_in (take at ms)) ++ known_of (drop (at + 1) ss) (meanings_in (drop (at + 1) ms))
 known_of-remove ss ms at same =
     let next : suc at ≡ at + 1 = omega arith in
     known_of-append (take at ss) (drop (suc at) ss) (take at ms) (drop (suc at) ms) (same_take at ss ms same)
     ∙ ap (λ (n : ℕ). known_of (take at ss) (meanings_in (take at ms)) ++ known_of (drop n ss) (meanings_in (drop n ms))) next
 
 -- what is known of the sentences of an article, by the one at a place
-pub known_of-parts : (ss : List Sentence) (ms : List Sense) (at : ℕ) (s : Sentence) (m : Sense) → length ms ≡ length ss → at < length ss → s ≡ get_or ss at s → m ≡ get_or ms at m
+pub known_of-parts : (ss : List Sentence) (ms : List Sense) (at : ℕ) (s : Sentence) (m : Sense) → length ms ≡ length ss → at < length ss → s ≡ get_or ss at s
+    → m ≡ get_or ms at m
     → known_of ss (meanings_in ms)
-    ≡ known_of (take at ss) (meanings_in (take at ms)) ++ (cond (is_asserted s.status) (stated_by (meaning_shown m)) [] ++ known_of (drop (at + 1) ss) (meanings_in (drop (at + 1) ms)))
+    ≡ known_of (take at ss) (meanings_in (take at ms))
+    ++ (cond (is_asserted s.status) (stated_by (meaning_shown m)) [] ++ known_of (drop (at + 1) ss) (meanings_in (drop (at + 1) ms)))
 known_of-parts ss ms at s m same in_range here meant =
     ap (λ (xs : List Sentence). known_of xs (meanings_in ms)) (sym (take-append-drop at ss))
     ∙ ap (λ (xs : List Sense). known_of (take at ss ++ drop at ss) (meanings_in xs)) (sym (take-append-drop at ms))
     ∙ known_of-append (take at ss) (drop at ss) (take at ms) (drop at ms) (same_take at ss ms same)
-    ∙ ap (λ (cs : List Claim). known_of (take at ss) (meanings_in (take at ms)) ++ cs) (known_of-step ss ms at s m in_range (omega (arith, in_range, same)) here meant)
+    ∙ ap (λ (cs : List Claim). known_of (take at ss) (meanings_in (take at ms)) ++ cs)
+    (known_of-step ss ms at s m in_range (omega (arith, in_range, same)) here meant)
 
 -- a model of five lists of axioms, one after another, is one without the middle one
 pub without_middle : (i : Interpretation) (a b middle c d : List Claim) → IsModel i (a ++ ((b ++ (middle ++ c)) ++ d)) → IsModel i (a ++ (b ++ (c ++ d)))
@@ -109,18 +119,23 @@ known_around-is articles senses place from to own a kept here meant =
         ++ own ++ known_of (drop to ss) (meanings_in (drop to ms)) ++ known_in (drop (place + 1) articles) (drop (place + 1) senses)
 
 -- what is known where the sentence at a place is taken out
-pub known_taken : (articles : List Article) (senses : List (List Sense)) (word : WordId) (place at : ℕ) → AreInOrder articles → length senses ≡ length articles → IsPlaceOf articles word place
+pub known_taken : (articles : List Article) (senses : List (List Sense)) (word : WordId) (place at : ℕ) → AreInOrder articles → length senses ≡ length articles
+    → IsPlaceOf articles word place
     → (around : IsAround articles senses place at (at + 1))
-    → known_in (with_change articles word (λ sentences. remove sentences at)) (set senses place (remove around.own at)) ≡ known_around articles senses place at [] (at + 1)
+    → known_in (with_change articles word (λ sentences. remove sentences at)) (set senses place (remove around.own at))
+    ≡ known_around articles senses place at [] (at + 1)
 known_taken articles senses word place at ordered same here around =
     let a = around.article in
     let at_place : get_or articles place a ≡ a = get_or_from_slice_get articles place a a around.here in
     ap (λ (xs : List Article). known_in xs (set senses place (remove around.own at)))
-    (with_change-set articles ordered word place here (λ sentences. remove sentences at) a ∙ ap (λ (b : Article). set articles place (changed (λ sentences. remove sentences at) b)) at_place)
+    (with_change-set articles ordered word place here (λ sentences. remove sentences at) a
+    ∙ ap (λ (b : Article). set articles place (changed (λ sentences. remove sentences at) b)) at_place)
     ∙ known_in-set articles senses place (changed (λ sentences. remove sentences at) a) (remove around.own at) here.in_range same
-    ∙ ap (λ (cs : List Claim). known_in (take place articles) (take place senses) ++ (cs ++ known_in (drop (place + 1) articles) (drop (place + 1) senses))) (known_of-remove a.sentences around.own at around.many)
+    ∙ ap (λ (cs : List Claim). known_in (take place articles) (take place senses) ++ (cs ++ known_in (drop (place + 1) articles) (drop (place + 1) senses)))
+    (known_of-remove a.sentences around.own at around.many)
     ∙ ap (λ (cs : List Claim). known_in (take place articles) (take place senses) ++ cs)
-    (append_assoc (known_of (take at a.sentences) (meanings_in (take at around.own))) (known_of (drop (at + 1) a.sentences) (meanings_in (drop (at + 1) around.own))) (known_in (drop (place + 1) articles) (drop (place + 1) senses)))
+    (append_assoc (known_of (take at a.sentences) (meanings_in (take at around.own)))
+    (known_of (drop (at + 1) a.sentences) (meanings_in (drop (at + 1) around.own))) (known_in (drop (place + 1) articles) (drop (place + 1) senses)))
     ∙ sym (known_around-is articles senses place at (at + 1) [] a around.own around.here around.meant)
 
 -- the item at a place
@@ -132,11 +147,14 @@ item (x ∷ xs) i in_range = (get_or (x ∷ xs) i x, slice_get-get_or (x ∷ xs)
 pub parts_at : {X : Type 0} (xs : List X) (i : ℕ) (x : X) → slice_get xs i ≡ Some x → xs ≡ take i xs ++ x ∷ drop (i + 1) xs
 parts_at {X} xs i x here =
     sym (take-append-drop i xs)
-    ∙ ap (λ (back : List X). take i xs ++ back) (drop_more xs i x (slice_get_within xs i x here) ∙ ap (λ (y : X). y ∷ drop (i + 1) xs) (get_or_from_slice_get xs i x x here))
+    ∙ ap (λ (back : List X). take i xs ++ back)
+    (drop_more xs i x (slice_get_within xs i x here) ∙ ap (λ (y : X). y ∷ drop (i + 1) xs) (get_or_from_slice_get xs i x x here))
 
 -- what is known, by what is known of the article at a place
-pub known_in-parts : (articles : List Article) (senses : List (List Sense)) (place : ℕ) (a : Article) (own : List Sense) → slice_get articles place ≡ Some a → slice_get senses place ≡ Some own
-    → known_in articles senses ≡ known_in (take place articles) (take place senses) ++ (known_of a.sentences (meanings_in own) ++ known_in (drop (place + 1) articles) (drop (place + 1) senses))
+pub known_in-parts : (articles : List Article) (senses : List (List Sense)) (place : ℕ) (a : Article) (own : List Sense) → slice_get articles place ≡ Some a
+    → slice_get senses place ≡ Some own
+    → known_in articles senses ≡ known_in (take place articles) (take place senses)
+    ++ (known_of a.sentences (meanings_in own) ++ known_in (drop (place + 1) articles) (drop (place + 1) senses))
 known_in-parts articles senses place a own here meant =
     let in_articles = slice_get_within articles place a here in
     let in_senses = slice_get_within senses place own meant in
@@ -158,16 +176,22 @@ model_without i articles senses place at around model =
     let m = item around.own at in_own in
     let front = known_in (take place articles) (take place senses) in
     let back = known_in (drop (place + 1) articles) (drop (place + 1) senses) in
-    let split : known_in articles senses ≡ front ++ ((known_of (take at a.sentences) (meanings_in (take at around.own)) ++ (cond (is_asserted s.0.status) (stated_by (meaning_shown m.0)) [] ++ known_of (drop (at + 1) a.sentences) (meanings_in (drop (at + 1) around.own)))) ++ back) =
+    let split : known_in articles senses
+    ≡ front ++ ((known_of (take at a.sentences) (meanings_in (take at around.own))
+    ++ (cond (is_asserted s.0.status) (stated_by (meaning_shown m.0)) [] ++ known_of (drop (at + 1) a.sentences) (meanings_in (drop (at + 1) around.own))))
+    ++ back) =
     known_in-parts articles senses place a around.own around.here around.meant
     ∙ ap (λ (cs : List Claim). front ++ (cs ++ back))
-    (known_of-parts a.sentences around.own at s.0 m.0 around.many in_range (sym (get_or_from_slice_get a.sentences at s.0 s.0 s.1)) (sym (get_or_from_slice_get around.own at m.0 m.0 m.1))) in
+    (known_of-parts a.sentences around.own at s.0 m.0 around.many in_range (sym (get_or_from_slice_get a.sentences at s.0 s.0 s.1))
+    (sym (get_or_from_slice_get around.own at m.0 m.0 m.1))) in
     subst (IsModel i) (sym (known_around-is articles senses place at (at + 1) [] a around.own around.here around.meant))
-    (without_middle i front (known_of (take at a.sentences) (meanings_in (take at around.own))) (cond (is_asserted s.0.status) (stated_by (meaning_shown m.0)) [])
+    (without_middle i front (known_of (take at a.sentences) (meanings_in (take at around.own)))
+    (cond (is_asserted s.0.status) (stated_by (meaning_shown m.0)) [])
     (known_of (drop (at + 1) a.sentences) (meanings_in (drop (at + 1) around.own))) back (subst (IsModel i) split model))
 
 -- what is known where the sentence at a place isn't asserted any more
-pub known_retracted : (articles : List Article) (senses : List (List Sense)) (word : WordId) (place at : ℕ) → AreInOrder articles → length senses ≡ length articles → IsPlaceOf articles word place
+pub known_retracted : (articles : List Article) (senses : List (List Sense)) (word : WordId) (place at : ℕ) → AreInOrder articles
+    → length senses ≡ length articles → IsPlaceOf articles word place
     → IsAround articles senses place at (at + 1)
     → known_in (with_change articles word (λ sentences. with_status sentences at Retracted)) senses ≡ known_around articles senses place at [] (at + 1)
 known_retracted articles senses word place at ordered same here around =
@@ -189,11 +213,13 @@ known_retracted articles senses word place at ordered same here around =
     let left : known_of (with_status a.sentences at Retracted) (meanings_in around.own) ≡ before ++ behind =
     ap (λ (xs : List Sentence). known_of xs (meanings_in around.own)) (marked ∙ set_parts a.sentences at new in_range)
     ∙ ap (λ (ms : List Sense). known_of (take at a.sentences ++ new ∷ drop (at + 1) a.sentences) (meanings_in ms)) (parts_at around.own at m.0 m.1)
-    ∙ known_of-append (take at a.sentences) (new ∷ drop (at + 1) a.sentences) (take at around.own) (m.0 ∷ drop (at + 1) around.own) (same_take at a.sentences around.own many) in
+    ∙ known_of-append (take at a.sentences) (new ∷ drop (at + 1) a.sentences) (take at around.own) (m.0 ∷ drop (at + 1) around.own)
+    (same_take at a.sentences around.own many) in
     let at_place : get_or articles place a ≡ a = get_or_from_slice_get articles place a a around.here in
     let changed_to : Article = changed (λ sentences. with_status sentences at Retracted) a in
     ap (λ (xs : List Article). known_in xs senses)
-    (with_change-set articles ordered word place here (λ sentences. with_status sentences at Retracted) a ∙ ap (λ (b : Article). set articles place (changed (λ sentences. with_status sentences at Retracted) b)) at_place)
+    (with_change-set articles ordered word place here (λ sentences. with_status sentences at Retracted) a
+    ∙ ap (λ (b : Article). set articles place (changed (λ sentences. with_status sentences at Retracted) b)) at_place)
     ∙ ap (λ (ms : List (List Sense)). known_in (set articles place changed_to) ms)
     (parts_at senses place around.own around.meant ∙ sym (set_parts senses place around.own (slice_get_within senses place around.own around.meant)))
     ∙ known_in-set articles senses place changed_to around.own here.in_range same
@@ -202,7 +228,8 @@ known_retracted articles senses word place at ordered same here around =
     ∙ sym (known_around-is articles senses place at (at + 1) [] a around.own around.here around.meant)
 
 -- what is kept of the article at a place is the meanings of its sentences
-pub mean_at : (g : GrammarParts) (words : Listed) (articles : List Article) (senses : List (List Sense)) (place : ℕ) (a : Article) (own : List Sense) → MeanInEach g words articles senses
+pub mean_at : (g : GrammarParts) (words : Listed) (articles : List Article) (senses : List (List Sense)) (place : ℕ) (a : Article) (own : List Sense)
+    → MeanInEach g words articles senses
     → slice_get articles place ≡ Some a → slice_get senses place ≡ Some own → MeanEach g words a.sentences (meanings_in own)
 mean_at g words [] senses place a own mean here meant = absurd (none-some a here)
 mean_at g words (b ∷ articles) [] place a own mean here meant = absurd mean
@@ -212,14 +239,25 @@ mean_at g words (b ∷ articles) (others ∷ senses) zero a own mean here meant 
 mean_at g words (b ∷ articles) (others ∷ senses) (suc place) a own mean here meant = mean_at g words articles senses place a own mean.1 here meant
 
 -- the place of an article's sentence, with what is kept of the article
-pub around_there : (g : GrammarParts) (words : Listed) (articles : List Article) (senses : List (List Sense)) → MeanInEach g words articles senses → AreInOrder articles
+pub around_there : (g : GrammarParts) (words : Listed) (articles : List Article) (senses : List (List Sense)) → MeanInEach g words articles senses
+    → AreInOrder articles
     → (word : WordId) (place : ℕ) → IsPlaceOf articles word place → (at : ℕ) → HasSentence articles word at → IsAround articles senses place at (at + 1)
 around_there g words articles senses mean ordered word place is at there =
     let lists = as_many_lists g words articles senses mean in
     let in_range = is.in_range in
     let a = item articles place in_range in
     let own = item senses place (omega (arith, in_range, lists)) in
-    let many : length (meanings_in own.0) ≡ length a.0.sentences = as_many g words a.0.sentences (meanings_in own.0) (mean_at g words articles senses place a.0 own.0 mean a.1 own.1) in
-    let found : article_of articles word ≡ Some a.0 = article_at articles ordered word place a.0 is ∙ ap Some (get_or_from_slice_get articles place a.0 a.0 a.1) in
+    let many : length (meanings_in own.0) ≡ length a.0.sentences =
+    as_many g words a.0.sentences (meanings_in own.0) (mean_at g words articles senses place a.0 own.0 mean a.1 own.1) in
+    let found : article_of articles word ≡ Some a.0 =
+    article_at articles ordered word place a.0 is ∙ ap Some (get_or_from_slice_get articles place a.0 a.0 a.1) in
     let within : at < length a.0.sentences = subst (λ (o : Option Article). IsSomeAnd o (λ b. at < length b.sentences)) found there in
-    record { article = a.0; here = a.1; own = own.0; meant = own.1; many = sym (length-map own.0 meaning_shown) ∙ many; rises = omega arith; within = omega (arith, within) }
+    record {
+      article = a.0;
+      here = a.1;
+      own = own.0;
+      meant = own.1;
+      many = sym (length-map own.0 meaning_shown) ∙ many;
+      rises = omega arith;
+      within = omega (arith, within);
+    }

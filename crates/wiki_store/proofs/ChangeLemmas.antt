@@ -46,16 +46,19 @@ module _ (word : WordId) (change : List Sentence → List Sentence) where
   words-with_change (a ∷ articles) = by_test (is_of word a) (words-with_change articles)
     where
       by_test : (b : Bool) → map (λ (a : Article). a.word) (with_change articles word change) ≡ map (λ (a : Article). a.word) articles
-          → (cond b (changed change a) a).word ∷ map (λ (a : Article). a.word) (with_change articles word change) ≡ a.word ∷ map (λ (a : Article). a.word) articles
+          → (cond b (changed change a) a).word ∷ map (λ (a : Article). a.word) (with_change articles word change)
+          ≡ a.word ∷ map (λ (a : Article). a.word) articles
       by_test true rest = ap (λ (ws : List WordId). a.word ∷ ws) rest
       by_test false rest = ap (λ (ws : List WordId). a.word ∷ ws) rest
 
   -- what is true of the sentences of each article stays so, if the change keeps it
-  pub each-with_change : (P : List Sentence → Type 0) → ((ss : List Sentence) → P ss → P (change ss)) → (articles : List Article) → All (λ (a : Article). P a.sentences) articles
+  pub each-with_change : (P : List Sentence → Type 0) → ((ss : List Sentence) → P ss → P (change ss)) → (articles : List Article)
+      → All (λ (a : Article). P a.sentences) articles
       → All (λ (a : Article). P a.sentences) (with_change articles word change)
   each-with_change P keeps [] all = All-nil (λ (a : Article). P a.sentences)
   each-with_change P keeps (a ∷ articles) all =
-      All-cons (λ (b : Article). P b.sentences) (or_changed a) (with_change articles word change) (by_test (is_of word a) (All-head (λ (b : Article). P b.sentences) a articles all))
+      All-cons (λ (b : Article). P b.sentences) (or_changed a) (with_change articles word change)
+      (by_test (is_of word a) (All-head (λ (b : Article). P b.sentences) a articles all))
       (each-with_change P keeps articles (All-tail (λ (b : Article). P b.sentences) a articles all))
     where
       by_test : (b : Bool) → P a.sentences → P (cond b (changed change a) a).sentences
@@ -63,12 +66,14 @@ module _ (word : WordId) (change : List Sentence → List Sentence) where
       by_test false holds = holds
 
   -- what is true of each sentence stays so, if the change keeps it
-  pub all-with_change : (P : Sentence → Type 0) → ((ss : List Sentence) → All P ss → All P (change ss)) → (articles : List Article) → All P (sentences_in articles)
+  pub all-with_change : (P : Sentence → Type 0) → ((ss : List Sentence) → All P ss → All P (change ss)) → (articles : List Article)
+      → All P (sentences_in articles)
       → All P (sentences_in (with_change articles word change))
   all-with_change P keeps [] all = All-nil P
   all-with_change P keeps (a ∷ articles) all =
       let parts = all_parts P a.sentences (sentences_in articles) all in
-      All-append P (or_changed a).sentences (sentences_in (with_change articles word change)) (by_test (is_of word a) parts.0) (all-with_change P keeps articles parts.1)
+      All-append P (or_changed a).sentences (sentences_in (with_change articles word change)) (by_test (is_of word a) parts.0)
+      (all-with_change P keeps articles parts.1)
     where
       by_test : (b : Bool) → All P a.sentences → All P (cond b (changed change a) a).sentences
       by_test true holds = keeps a.sentences holds
@@ -96,7 +101,8 @@ module _ (word : WordId) (change : List Sentence → List Sentence) where
     labelled = sound.labelled;
     terminals = sound.terminals;
     articles = words-with_change state.articles ∙ sound.articles;
-    few = each-with_change (λ (ss : List Sentence). length ss ≤ MOST_SENTENCES) (λ ss few. let less = no_more ss in omega (arith, few, less)) state.articles sound.few;
+    few = each-with_change (λ (ss : List Sentence). length ss ≤ MOST_SENTENCES) (λ ss few. let less = no_more ss in omega (arith, few, less)) state.articles
+        sound.few;
   }
 
 -- ---- what is kept of sentences
@@ -109,14 +115,16 @@ module _ (g : GrammarParts) (words : Listed) where
   mean_of-append (s ∷ ss) ts [] ns front back = absurd front
   mean_of-append (s ∷ ss) ts (m ∷ ms) ns front back = (front.0, mean_of-append ss ts ms ns front.1 back)
 
-  pub mean_of-take : (n : ℕ) (ss : List Sentence) (ms : List Sense) → MeanEach g words ss (meanings_in ms) → MeanEach g words (take n ss) (meanings_in (take n ms))
+  pub mean_of-take : (n : ℕ) (ss : List Sentence) (ms : List Sense) → MeanEach g words ss (meanings_in ms)
+      → MeanEach g words (take n ss) (meanings_in (take n ms))
   mean_of-take zero ss ms mean = tt
   mean_of-take (suc n) [] [] mean = tt
   mean_of-take (suc n) [] (m ∷ ms) mean = absurd mean
   mean_of-take (suc n) (s ∷ ss) [] mean = absurd mean
   mean_of-take (suc n) (s ∷ ss) (m ∷ ms) mean = (mean.0, mean_of-take n ss ms mean.1)
 
-  pub mean_of-drop : (n : ℕ) (ss : List Sentence) (ms : List Sense) → MeanEach g words ss (meanings_in ms) → MeanEach g words (drop n ss) (meanings_in (drop n ms))
+  pub mean_of-drop : (n : ℕ) (ss : List Sentence) (ms : List Sense) → MeanEach g words ss (meanings_in ms)
+      → MeanEach g words (drop n ss) (meanings_in (drop n ms))
   mean_of-drop zero ss ms mean = mean
   mean_of-drop (suc n) [] [] mean = tt
   mean_of-drop (suc n) [] (m ∷ ms) mean = absurd mean
@@ -124,7 +132,8 @@ module _ (g : GrammarParts) (words : Listed) where
   mean_of-drop (suc n) (s ∷ ss) (m ∷ ms) mean = mean_of-drop n ss ms mean.1
 
   -- the sentences without the one at a place
-  pub mean_of-remove : (at : ℕ) (ss : List Sentence) (ms : List Sense) → MeanEach g words ss (meanings_in ms) → MeanEach g words (remove ss at) (meanings_in (remove ms at))
+  pub mean_of-remove : (at : ℕ) (ss : List Sentence) (ms : List Sense) → MeanEach g words ss (meanings_in ms)
+      → MeanEach g words (remove ss at) (meanings_in (remove ms at))
   mean_of-remove at ss ms mean =
       mean_of-append (take at ss) (drop (suc at) ss) (take at ms) (drop (suc at) ms) (mean_of-take at ss ms mean) (mean_of-drop (suc at) ss ms mean)
 
@@ -149,14 +158,18 @@ module _ (g : GrammarParts) (words : Listed) where
   mean_in-set (b ∷ articles) (others ∷ senses) (suc place) a own mean new = (mean.0, mean_in-set articles senses place a own mean.1 new)
 
   -- another article at a place, where the meanings stay
-  pub mean_in-set_article : (articles : List Article) (senses : List (List Sense)) (place : ℕ) (a : Article) (own : List Sense) → MeanInEach g words articles senses
+  pub mean_in-set_article : (articles : List Article) (senses : List (List Sense)) (place : ℕ) (a : Article) (own : List Sense)
+      → MeanInEach g words articles senses
       → slice_get senses place ≡ Some own → MeanEach g words a.sentences (meanings_in own) → MeanInEach g words (set articles place a) senses
   mean_in-set_article [] [] place a own mean meant new = tt
   mean_in-set_article [] (others ∷ senses) place a own mean meant new = absurd mean
   mean_in-set_article (b ∷ articles) [] place a own mean meant new = absurd mean
-  mean_in-set_article (b ∷ articles) (others ∷ senses) zero a own mean meant new =
-      (subst (λ (ms : List Sense). MeanEach g words a.sentences (meanings_in ms)) (sym (ap (λ (o : Option (List Sense)). unwrap_or o others) meant)) new, mean.1)
-  mean_in-set_article (b ∷ articles) (others ∷ senses) (suc place) a own mean meant new = (mean.0, mean_in-set_article articles senses place a own mean.1 meant new)
+  mean_in-set_article (b ∷ articles) (others ∷ senses) zero a own mean meant new = (
+    subst (λ (ms : List Sense). MeanEach g words a.sentences (meanings_in ms)) (sym (ap (λ (o : Option (List Sense)). unwrap_or o others) meant)) new,
+    mean.1,
+  )
+  mean_in-set_article (b ∷ articles) (others ∷ senses) (suc place) a own mean meant new =
+      (mean.0, mean_in-set_article articles senses place a own mean.1 meant new)
 
 -- ---- the sentence at a place taken out, or retracted
 
@@ -184,7 +197,8 @@ pub short-with_status : (at : ℕ) (status : Status) (ss : List Sentence) → Al
     → All (λ (s : Sentence). length s.tokens ≤ MOST_TOKENS) (with_status ss at status)
 short-with_status at status ss all = by_item (slice_get ss at) refl
   where
-    by_item : (o : Option Sentence) → slice_get ss at ≡ o → All (λ (s : Sentence). length s.tokens ≤ MOST_TOKENS) (option_map_or (λ (s : Sentence). set ss at (record s { status = status })) o ss)
+    by_item : (o : Option Sentence) → slice_get ss at ≡ o
+        → All (λ (s : Sentence). length s.tokens ≤ MOST_TOKENS) (option_map_or (λ (s : Sentence). set ss at (record s { status = status })) o ss)
     by_item None is = all
     by_item (Some s) is =
         let short : length s.tokens ≤ MOST_TOKENS =
@@ -217,7 +231,8 @@ module _ (state : State) (senses : List (List Sense)) (model : CheckedModel) (ke
   own-mean = mean_at state.grammar state.words state.articles senses place around.article around.own keeping.mean around.here around.meant
 
   -- what is kept where the sentence is taken out
-  pub keeps_taken : IsKeeping (record state { articles = with_change state.articles word (λ sentences. remove sentences at) }) (set senses place (remove around.own at)) after
+  pub keeps_taken : IsKeeping (record state { articles = with_change state.articles word (λ sentences. remove sentences at) })
+      (set senses place (remove around.own at)) after
   keeps_taken =
       let change : List Sentence → List Sentence = λ sentences. remove sentences at in
       let article : Article = changed change around.article in
@@ -230,7 +245,8 @@ module _ (state : State) (senses : List (List Sense)) (model : CheckedModel) (ke
             (mean_in-set state.grammar state.words state.articles senses place article (remove around.own at) keeping.mean
             (mean_of-remove state.grammar state.words at around.article.sentences around.own own-mean));
         known = claims ∙ sym (known_taken state.articles senses word place at ordered lists is around);
-        short = all-with_change word change (λ (s : Sentence). length s.tokens ≤ MOST_TOKENS) (all-remove (λ (s : Sentence). length s.tokens ≤ MOST_TOKENS) at) state.articles keeping.short;
+        short = all-with_change word change (λ (s : Sentence). length s.tokens ≤ MOST_TOKENS) (all-remove (λ (s : Sentence). length s.tokens ≤ MOST_TOKENS) at)
+            state.articles keeping.short;
         few = (let less = fewer-with_change word change (no_more-remove at) state.articles in let most = keeping.few in omega (arith, less, most));
       }
 
@@ -248,23 +264,30 @@ module _ (state : State) (senses : List (List Sense)) (model : CheckedModel) (ke
             subst (λ (xs : List Article). MeanInEach state.grammar state.words xs senses) (sym articles)
             (mean_in-set_article state.grammar state.words state.articles senses place article around.own keeping.mean around.meant
             (marked (slice_get around.article.sentences at) refl
-            (subst (λ (o : Option Article). IsSomeAnd (option_and_then (λ (a : Article). slice_get a.sentences at) o) (λ sentence. may_retract sentence.status ≡ true)) found may)));
+            (subst (λ (o : Option Article). IsSomeAnd (option_and_then (λ (a : Article). slice_get a.sentences at) o)
+            (λ sentence. may_retract sentence.status ≡ true)) found may)));
         known = claims ∙ sym (known_retracted state.articles senses word place at ordered lists is around);
-        short = all-with_change word change (λ (s : Sentence). length s.tokens ≤ MOST_TOKENS) (short-with_status at statuses.Retracted) state.articles keeping.short;
-        few = (let less = fewer-with_change word change (no_more-with_status at statuses.Retracted) state.articles in let most = keeping.few in omega (arith, less, most));
+        short = all-with_change word change (λ (s : Sentence). length s.tokens ≤ MOST_TOKENS) (short-with_status at statuses.Retracted) state.articles
+            keeping.short;
+        few = (let less = fewer-with_change word change (no_more-with_status at statuses.Retracted) state.articles in let most = keeping.few in
+            omega (arith, less, most));
       }
     where
       found : article_of state.articles word ≡ Some around.article
       found = article_at state.articles ordered word place around.article is ∙ ap Some at_place
 
       marked : (o : Option Sentence) → slice_get around.article.sentences at ≡ o → IsSomeAnd o (λ sentence. may_retract sentence.status ≡ true)
-          → MeanEach state.grammar state.words (option_map_or (λ (s : Sentence). set around.article.sentences at (record s { status = statuses.Retracted })) o around.article.sentences) (meanings_in around.own)
+          → MeanEach state.grammar state.words
+          (option_map_or (λ (s : Sentence). set around.article.sentences at (record s { status = statuses.Retracted })) o around.article.sentences)
+          (meanings_in around.own)
       marked None here may = absurd may
       marked (Some s) here may =
-          mean_of-marked state.grammar state.words statuses.Retracted around.article.sentences (meanings_in around.own) at s own-mean here (λ m fits. retracted-fits s.status m may fits)
+          mean_of-marked state.grammar state.words statuses.Retracted around.article.sentences (meanings_in around.own) at s own-mean here
+          (λ m fits. retracted-fits s.status m may fits)
 
 -- a sentence that may be retracted, by the word of its article
-pub may-there : (state : State) (form : List ℕ) (at : ℕ) (word : WordId) (s : Sentence) → word_named state form ≡ Some word → sentence_named state form at ≡ Some s → may_retract s.status ≡ true
+pub may-there : (state : State) (form : List ℕ) (at : ℕ) (word : WordId) (s : Sentence) → word_named state form ≡ Some word
+    → sentence_named state form at ≡ Some s → may_retract s.status ≡ true
     → IsSomeAnd (sentence_at state.articles word at) (λ sentence. may_retract sentence.status ≡ true)
 may-there state form at word s named here may =
     let there : sentence_at state.articles word at ≡ Some s = sym (ap (option_and_then (λ (w : WordId). sentence_at state.articles w at)) named) ∙ here in
@@ -272,31 +295,36 @@ may-there state form at word s named here may =
 
 -- ---- a wiki as it is seen, whose parts are kept
 
-module _ (state : State) (interpretation : Interpretation) (wiki : Holding) (seen : record { state = state; interpretation = interpretation } ≡ wiki) (senses : List (List Sense)) (model : CheckedModel)
-    (keeping : IsKeeping state senses model) (ordered : AreInOrder state.articles) (word : WordId) (place : ℕ) (is : IsPlaceOf wiki.state.articles word place) where
-  -- the place of its article
-  pub place-within : IsPlaceOf state.articles word place
-  place-within = subst (λ (h : Holding). IsPlaceOf h.state.articles word place) (sym seen) is
+module _ (state : State) (interpretation : Interpretation) (wiki : Holding) (seen : record { state = state; interpretation = interpretation } ≡ wiki)
+    (senses : List (List Sense)) (model : CheckedModel)
+    (keeping : IsKeeping state senses model) (ordered : AreInOrder state.articles) (word : WordId) (place : ℕ) (is : IsPlaceOf wiki.state.articles word place)
+  where
+    -- the place of its article
+    pub place-within : IsPlaceOf state.articles word place
+    place-within = subst (λ (h : Holding). IsPlaceOf h.state.articles word place) (sym seen) is
 
-  -- as many lists of meanings are kept as there are articles
-  pub below-within : place < length senses
-  below-within =
-      let lists = as_many_lists state.grammar state.words state.articles senses keeping.mean in
-      let within = place-within.in_range in
-      omega (arith, lists, within)
+    -- as many lists of meanings are kept as there are articles
+    pub below-within : place < length senses
+    below-within =
+        let lists = as_many_lists state.grammar state.words state.articles senses keeping.mean in
+        let within = place-within.in_range in
+        omega (arith, lists, within)
 
-  -- a sentence of the article, with what is kept of the article
-  pub around-within : (at : ℕ) → HasSentence wiki.state.articles word at → IsAround state.articles senses place at (at + 1)
-  around-within at there =
-      around_there state.grammar state.words state.articles senses keeping.mean ordered word place place-within at (subst (λ (h : Holding). HasSentence h.state.articles word at) (sym seen) there)
+    -- a sentence of the article, with what is kept of the article
+    pub around-within : (at : ℕ) → HasSentence wiki.state.articles word at → IsAround state.articles senses place at (at + 1)
+    around-within at there =
+        around_there state.grammar state.words state.articles senses keeping.mean ordered word place place-within at
+        (subst (λ (h : Holding). HasSentence h.state.articles word at) (sym seen) there)
 
 -- what is found at the place of an article is what is kept of it
-pub own-found : (articles : List Article) (senses : List (List Sense)) (place at : ℕ) (around : IsAround articles senses place at (at + 1)) (found : List Sense) → found ≡ get_or senses place found
+pub own-found : (articles : List Article) (senses : List (List Sense)) (place at : ℕ) (around : IsAround articles senses place at (at + 1)) (found : List Sense)
+    → found ≡ get_or senses place found
     → found ≡ around.own
 own-found articles senses place at around found is = is ∙ get_or_from_slice_get senses place around.own found around.meant
 
 -- the sentence is one of those of which a meaning is kept
-pub below-own : (articles : List Article) (senses : List (List Sense)) (place at : ℕ) (around : IsAround articles senses place at (at + 1)) → at < length around.own
+pub below-own : (articles : List Article) (senses : List (List Sense)) (place at : ℕ) (around : IsAround articles senses place at (at + 1))
+    → at < length around.own
 below-own articles senses place at around =
     let many = around.many in
     let within = around.within in

@@ -1,24 +1,24 @@
 -- The first sentence that lacks a property, and whether a sentence keeps its meaning.
-use Rattle.std.proofs.Common.{◌≡◌, ℕ, zero, suc, ◌+◌, ◌<◌, ◌≤◌, ◌⊎◌, Bool, true, false, List, [], ◌∷◌, ◌++◌, length, take, drop, get_or, map, All, MatchBool, Option, Some, None, IsSome, is_some, inl, inr, refl, sym, ap, subst, ◌∙◌, arith, option_map}
+use Rattle.std.proofs.Common.{◌≡◌, ℕ, zero, suc, ◌+◌, ◌<◌, ◌≤◌, ◌⊎◌, Bool, true, false, List, [], ◌∷◌, ◌++◌, length, take, drop, map, All, MatchBool, Option, Some, None, IsSome, is_some, inl, inr, refl, sym, ap, subst, ◌∙◌}
 use Rattle.std.specs.List.{slice_get}
 use Rattle.std.proofs.lemmas.Bool.{false≢true}
 use Rattle.std.proofs.lemmas.List.{length-map}
 use Rattle.std.proofs.lemmas.List.Elements.{All-nil, All-cons}
-use Rattle.std.proofs.lemmas.Option.{none-some, slice_get-get_or}
+use Rattle.std.proofs.lemmas.Option.{none-some, same_Some}
 use Rattle.wiki_base.specs.declared.numbers.WordId.{WordId}
 use Rattle.wiki_base.specs.declared.numbers.Place.{Place}
+use Rattle.wiki_base.proofs.ListLaws.{drop_slice_get}
 use Rattle.codeco_terms.specs.GrammarParts.{GrammarParts}
 use Rattle.lexicon.specs.Words.{Listed, forms_of}
 use Rattle.derivation_trees.specs.Sentences.{IsSentence}
-use Rattle.derivations.proofs.Members.{some_same}
-use Rattle.logic_terms.proofs.Walks.{drop_get, left_none}
+use Rattle.logic_terms.proofs.Walks.{left_none}
 use Rattle.wiki_talk.specs.declared.refusals.Refusal.{Refusal}
 use Rattle.wiki_talk.specs.declared.refusals.Refusal.TheVariants.{Breaks}
 use Rattle.articles.specs.declared.sentences.Sentence.{Sentence}
 use Rattle.articles.specs.declared.article.Article.{Article}
 use Rattle.wiki_parts.specs.declared.meanings.Sense.{Sense}
 use Rattle.wiki_parts.specs.Found.{meaning_shown}
-use Rattle.wiki_parts.specs.Kept.{MeanEach, MeanInEach, meanings_in}
+use Rattle.wiki_parts.specs.Kept.{MeanEach, meanings_in}
 use Rattle.wiki_parts.specs.Knowledge.{sentences_in}
 use Rattle.wiki_parts.specs.Meanings.{Meaning, Means}
 use Rattle.wiki_parts.specs.Places.{Placed, placed_from, placed_in, all_placed, IsFirstPlaced}
@@ -50,9 +50,19 @@ module _ (P : Placed → Type 0) where
           → IsFirstPlaced (λ placed. ¬ P placed) (x ∷ xs) found
       by (inl k) rest =
           let r = rest k.1 in
-          record { count = suc r.count; here = r.here; holds = r.holds; earlier = All-cons (λ placed. ¬ (¬ P placed)) x (take r.count xs) (λ n. n k.0) r.earlier }
+          record {
+            count = suc r.count;
+            here = r.here;
+            holds = r.holds;
+            earlier = All-cons (λ placed. ¬ (¬ P placed)) x (take r.count xs) (λ n. n k.0) r.earlier;
+          }
       by (inr n) rest =
-          record { count = 0; here = sym n.1; holds = subst (λ placed. ¬ P placed) (some_same x found (sym n.1)) n.0; earlier = All-nil (λ placed. ¬ (¬ P placed)) }
+          record {
+            count = 0;
+            here = sym n.1;
+            holds = subst (λ placed. ¬ P placed) (same_Some x found (sym n.1)) n.0;
+            earlier = All-nil (λ placed. ¬ (¬ P placed));
+          }
 
   -- a search of joined lists
   finds_behind : (xs ys : List Placed) (found : Option Placed) → Finds P xs None → Finds P ys found → Finds P (xs ++ ys) found
@@ -67,7 +77,8 @@ module _ (P : Placed → Type 0) where
   finds_before [] ys found h = absurd h
   finds_before (x ∷ xs) ys found h = by h (finds_before xs ys found)
     where
-      by : (P x × Finds P xs (Some found)) ⊎ ((¬ P x) × (Some found ≡ Some x)) → (Finds P xs (Some found) → Finds P (xs ++ ys) (Some found)) → Finds P (x ∷ (xs ++ ys)) (Some found)
+      by : (P x × Finds P xs (Some found)) ⊎ ((¬ P x) × (Some found ≡ Some x)) → (Finds P xs (Some found) → Finds P (xs ++ ys) (Some found))
+          → Finds P (x ∷ (xs ++ ys)) (Some found)
       by (inl a) rest = inl (a.0, rest a.1)
       by (inr n) rest = inr n
 
@@ -79,21 +90,26 @@ module _ (P : Placed → Type 0) where
       of holds (inl a) = inl (inl (holds, a))
       of holds (inr b) = inr b
 
-      by : (P x × Finds P (xs ++ ys) (Some found)) ⊎ ((¬ P x) × (Some found ≡ Some x)) → (Finds P (xs ++ ys) (Some found) → Finds P xs (Some found) ⊎ Finds P ys (Some found))
+      by : (P x × Finds P (xs ++ ys) (Some found)) ⊎ ((¬ P x) × (Some found ≡ Some x))
+          → (Finds P (xs ++ ys) (Some found) → Finds P xs (Some found) ⊎ Finds P ys (Some found))
           → Finds P (x ∷ xs) (Some found) ⊎ Finds P ys (Some found)
       by (inl a) rest = of a.0 (rest a.1)
       by (inr n) rest = inl (inr n)
 
   -- ---- the sentences of an article
 
-  pub next_kept : (word : WordId) (sentences : List Sentence) (at : ℕ) (s : Sentence) (found : Option Placed) → slice_get sentences at ≡ Some s → P (record { word = word; place = at; sentence = s })
+  pub next_kept : (word : WordId) (sentences : List Sentence) (at : ℕ) (s : Sentence) (found : Option Placed) → slice_get sentences at ≡ Some s
+      → P (record { word = word; place = at; sentence = s })
       → Finds P (placed_from word (at + 1) (drop (at + 1) sentences)) found → Finds P (placed_from word at (drop at sentences)) found
-  next_kept word sentences at s found here holds rest = subst (λ ss. Finds P (placed_from word at ss) found) (sym (drop_get sentences at s here)) (inl (holds, rest))
+  next_kept word sentences at s found here holds rest =
+      subst (λ ss. Finds P (placed_from word at ss) found) (sym (drop_slice_get sentences at s here)) (inl (holds, rest))
 
-  pub next_broken : (word : WordId) (sentences : List Sentence) (at : ℕ) (s : Sentence) → slice_get sentences at ≡ Some s → ¬ P (record { word = word; place = at; sentence = s })
+  pub next_broken : (word : WordId) (sentences : List Sentence) (at : ℕ) (s : Sentence) → slice_get sentences at ≡ Some s
+      → ¬ P (record { word = word; place = at; sentence = s })
       → Finds P (placed_from word at (drop at sentences)) (Some (record { word = word; place = at; sentence = s }))
   next_broken word sentences at s here lacks =
-      subst (λ ss. Finds P (placed_from word at ss) (Some (record { word = word; place = at; sentence = s }))) (sym (drop_get sentences at s here)) (inr (lacks, refl))
+      subst (λ ss. Finds P (placed_from word at ss) (Some (record { word = word; place = at; sentence = s }))) (sym (drop_slice_get sentences at s here))
+      (inr (lacks, refl))
 
   pub none_left : (word : WordId) (sentences : List Sentence) (at : ℕ) → length sentences ≤ at → Finds P (placed_from word at (drop at sentences)) None
   none_left word sentences at past = by (placed_from word at (drop at sentences)) (left_none (placed_from word at) sentences at past)
@@ -106,12 +122,14 @@ module _ (P : Placed → Type 0) where
   pub next_whole : (articles : List Article) (i : ℕ) (a : Article) (found : Option Placed) → slice_get articles i ≡ Some a → Finds P (placed_in a) None
       → Finds P (all_placed (drop (i + 1) articles)) found → Finds P (all_placed (drop i articles)) found
   next_whole articles i a found here none rest =
-      subst (λ xs. Finds P (all_placed xs) found) (sym (drop_get articles i a here)) (finds_behind (placed_in a) (all_placed (drop (i + 1) articles)) found none rest)
+      subst (λ xs. Finds P (all_placed xs) found) (sym (drop_slice_get articles i a here))
+      (finds_behind (placed_in a) (all_placed (drop (i + 1) articles)) found none rest)
 
   pub next_found : (articles : List Article) (i : ℕ) (a : Article) (found : Placed) → slice_get articles i ≡ Some a → Finds P (placed_in a) (Some found)
       → Finds P (all_placed (drop i articles)) (Some found)
   next_found articles i a found here finds =
-      subst (λ xs. Finds P (all_placed xs) (Some found)) (sym (drop_get articles i a here)) (finds_before (placed_in a) (all_placed (drop (i + 1) articles)) found finds)
+      subst (λ xs. Finds P (all_placed xs) (Some found)) (sym (drop_slice_get articles i a here))
+      (finds_before (placed_in a) (all_placed (drop (i + 1) articles)) found finds)
 
   pub none_left_in : (articles : List Article) (i : ℕ) → length articles ≤ i → Finds P (all_placed (drop i articles)) None
   none_left_in articles i past = by (all_placed (drop i articles)) (left_none all_placed articles i past)
@@ -121,19 +139,22 @@ module _ (P : Placed → Type 0) where
 
   -- ---- the word of the article that it is found in
 
-  placed_word : (word : WordId) (place : ℕ) (sentences : List Sentence) (found : Placed) → Finds P (placed_from word place sentences) (Some found) → found.word ≡ word
+  placed_word : (word : WordId) (place : ℕ) (sentences : List Sentence) (found : Placed) → Finds P (placed_from word place sentences) (Some found)
+      → found.word ≡ word
   placed_word word place [] found h = absurd h
   placed_word word place (s ∷ ss) found h = by h (placed_word word (place + 1) ss found)
     where
       first : Placed
       first = record { word = word; place = place; sentence = s }
 
-      by : (P first × Finds P (placed_from word (place + 1) ss) (Some found)) ⊎ ((¬ P first) × (Some found ≡ Some first)) → (Finds P (placed_from word (place + 1) ss) (Some found) → found.word ≡ word)
+      by : (P first × Finds P (placed_from word (place + 1) ss) (Some found)) ⊎ ((¬ P first) × (Some found ≡ Some first))
+          → (Finds P (placed_from word (place + 1) ss) (Some found) → found.word ≡ word)
           → found.word ≡ word
       by (inl a) rest = rest a.1
-      by (inr n) rest = ap (λ (p : Placed). p.word) (some_same found first n.1)
+      by (inr n) rest = ap (λ (p : Placed). p.word) (same_Some found first n.1)
 
-  article_word : (articles : List Article) (found : Placed) → Finds P (all_placed articles) (Some found) → (k : ℕ) × (slice_get (map (λ (a : Article). a.word) articles) k ≡ Some found.word)
+  article_word : (articles : List Article) (found : Placed) → Finds P (all_placed articles) (Some found)
+      → (k : ℕ) × (slice_get (map (λ (a : Article). a.word) articles) k ≡ Some found.word)
   article_word [] found h = absurd h
   article_word (a ∷ articles) found h = by (finds_either (placed_in a) (all_placed articles) found h) (article_word articles found)
     where
@@ -144,7 +165,8 @@ module _ (P : Placed → Type 0) where
       by (inr behind) rest = let r = rest behind in (suc r.0, r.1)
 
   -- the word of the article that a sentence is found in lives
-  pub found_lives : (state : State) → IsSound state → (found : Placed) → Finds P (all_placed state.articles) (Some found) → IsSome (forms_of state.words.live found.word)
+  pub found_lives : (state : State) → IsSound state → (found : Placed) → Finds P (all_placed state.articles) (Some found)
+      → IsSome (forms_of state.words.live found.word)
   found_lives state sound found h =
       let at = article_word state.articles found h in
       lives-at state.words.live found.word at.0 (ap (λ (ids : List WordId). slice_get ids at.0) (sym sound.articles) ∙ at.1)
@@ -157,24 +179,33 @@ module _ (P : Placed → Type 0) where
   passed_place xs (Some place) none f = absurd (false≢true (sym none))
 
   -- a place in an article, before which none was found
-  pub found_place : (articles : List Article) (i : ℕ) (a : Article) (place : Option Place) → slice_get articles i ≡ Some a → is_some place ≡ true → FindsPlace P (placed_in a) place
-      → ((found : Option Placed) → Finds P (all_placed (drop i articles)) found → Finds P (all_placed articles) found) → FindsPlace P (all_placed articles) place
+  pub found_place : (articles : List Article) (i : ℕ) (a : Article) (place : Option Place) → slice_get articles i ≡ Some a → is_some place ≡ true
+      → FindsPlace P (placed_in a) place
+      → ((found : Option Placed) → Finds P (all_placed (drop i articles)) found → Finds P (all_placed articles) found)
+      → FindsPlace P (all_placed articles) place
   found_place articles i a None here some f rest = absurd (false≢true some)
   found_place articles i a (Some place) here some f rest =
       let t = told-found f.found place f.told in
-      record { found = Some t.found; told = ap Some t.told; finds = rest (Some t.found) (next_found articles i a t.found here (subst (Finds P (placed_in a)) t.is f.finds)) }
+      record {
+        found = Some t.found;
+        told = ap Some t.told;
+        finds = rest (Some t.found) (next_found articles i a t.found here (subst (Finds P (placed_in a)) t.is f.finds));
+      }
 
   pub no_place : (xs : List Placed) → Finds P xs None → FindsPlace P xs None
   no_place xs finds = record { found = None; told = refl; finds = finds }
 
   -- the word of the place that is told lives
-  pub place_lives : (state : State) → IsSound state → (place : Place) → FindsPlace P (all_placed state.articles) (Some place) → IsSome (forms_of state.words.live place.article)
+  pub place_lives : (state : State) → IsSound state → (place : Place) → FindsPlace P (all_placed state.articles) (Some place)
+      → IsSome (forms_of state.words.live place.article)
   place_lives state sound place f =
       let t = told-found f.found place f.told in
-      subst (λ (p : Place). IsSome (forms_of state.words.live p.article)) t.told (found_lives state sound t.found (subst (Finds P (all_placed state.articles)) t.is f.finds))
+      subst (λ (p : Place). IsSome (forms_of state.words.live p.article)) t.told
+      (found_lives state sound t.found (subst (Finds P (all_placed state.articles)) t.is f.finds))
 
 -- the sentence at the place that is told is the first one that is broken
-pub broken_place : (state : State) (new : Listed) (place : Place) → FindsPlace (λ placed. KeepsMeaning state.grammar state.words new placed.sentence.tokens) (all_placed state.articles) (Some place)
+pub broken_place : (state : State) (new : Listed) (place : Place)
+    → FindsPlace (λ placed. KeepsMeaning state.grammar state.words new placed.sentence.tokens) (all_placed state.articles) (Some place)
     → (refusal : Refusal) → TellsPlace state (λ form place. Breaks form place) place.article place.at refusal → IsBroken state new refusal
 broken_place state new place f refusal told =
     let t = told-found f.found place f.told in
@@ -187,7 +218,8 @@ broken_place state new place f refusal told =
 
 -- ---- whether a sentence keeps its meaning
 
-pub told_kept : (g : GrammarParts) (words new : Listed) (tokens : List (List ℕ)) (kept found : Meaning) (b : Bool) → b ≡ same_meaning found kept → Means g words tokens kept → Means g new tokens found
+pub told_kept : (g : GrammarParts) (words new : Listed) (tokens : List (List ℕ)) (kept found : Meaning) (b : Bool) → b ≡ same_meaning found kept
+    → Means g words tokens kept → Means g new tokens found
     → MatchBool b (KeepsMeaning g words new tokens) (KeepsMeaning g words new tokens → ⊥)
 told_kept g words new tokens kept found true is before after =
     record { meaning = kept; before = before; after = subst (Means g new tokens) (meaning_equal found kept (sym is)) after }
@@ -199,22 +231,22 @@ pub not_kept : (g : GrammarParts) (words new : Listed) (tokens : List (List ℕ)
 not_kept g words new tokens none keeps = let least = keeps.after.is_least in none (least.tree, least.derives)
 
 -- the meaning that is kept of the sentence at a place
-pub mean_each-at : (g : GrammarParts) (words : Listed) (sentences : List Sentence) (senses : List Sense) (at : ℕ) (s : Sentence) (m : Sense) → MeanEach g words sentences (meanings_in senses)
+pub mean_each-at : (g : GrammarParts) (words : Listed) (sentences : List Sentence) (senses : List Sense) (at : ℕ) (s : Sentence) (m : Sense)
+    → MeanEach g words sentences (meanings_in senses)
     → slice_get sentences at ≡ Some s → slice_get senses at ≡ Some m → Means g words s.tokens (meaning_shown m)
 mean_each-at g words [] senses at s m mean here meant = absurd (none-some s here)
 mean_each-at g words (t ∷ ts) [] at s m mean here meant = absurd mean
 mean_each-at g words (t ∷ ts) (n ∷ ns) zero s m mean here meant =
-    subst (λ (u : Sentence). Means g words u.tokens (meaning_shown m)) (some_same t s here) (subst (λ (k : Sense). Means g words t.tokens (meaning_shown k)) (some_same n m meant) mean.0.0)
+    subst (λ (u : Sentence). Means g words u.tokens (meaning_shown m)) (same_Some t s here)
+    (subst (λ (k : Sense). Means g words t.tokens (meaning_shown k)) (same_Some n m meant) mean.0.0)
 mean_each-at g words (t ∷ ts) (n ∷ ns) (suc at) s m mean here meant = mean_each-at g words ts ns at s m mean.1 here meant
 
--- the item that stands at a place
-pub item_at : {X : Type 0} (xs : List X) (i : ℕ) (x : X) → i < length xs → x ≡ get_or xs i x → slice_get xs i ≡ Some x
-item_at xs i x within is = slice_get-get_or xs i x within ∙ ap Some (sym is)
-
 -- what is true of all sentences is true of those of the article at a place
-pub all_at : (P : Sentence → Type 0) (articles : List Article) (i : ℕ) (a : Article) → slice_get articles i ≡ Some a → All P (sentences_in articles) → All P a.sentences
+pub all_at : (P : Sentence → Type 0) (articles : List Article) (i : ℕ) (a : Article) → slice_get articles i ≡ Some a → All P (sentences_in articles)
+    → All P a.sentences
 all_at P [] i a here all = absurd (none-some a here)
-all_at P (b ∷ articles) zero a here all = subst (λ (c : Article). All P c.sentences) (some_same b a here) (all_parts P b.sentences (sentences_in articles) all).0
+all_at P (b ∷ articles) zero a here all =
+    subst (λ (c : Article). All P c.sentences) (same_Some b a here) (all_parts P b.sentences (sentences_in articles) all).0
 all_at P (b ∷ articles) (suc i) a here all = all_at P articles i a here (all_parts P b.sentences (sentences_in articles) all).1
 
 module _ (g : GrammarParts) (words new : Listed) (article : Article) (senses : List Sense) (at : ℕ) (s : Sentence) (m : Sense) (kept : Bool)
@@ -222,15 +254,18 @@ module _ (g : GrammarParts) (words new : Listed) (article : Article) (senses : L
     (told : Means g words s.tokens (meaning_shown m) → MatchBool kept (KeepsMeaning g words new s.tokens) (KeepsMeaning g words new s.tokens → ⊥)) where
   -- the sentence at the place is the first one of the article that is broken
   pub told_broken : kept ≡ false
-      → ((found : Option Placed) → Finds (λ placed. KeepsMeaning g words new placed.sentence.tokens) (placed_from article.word at (drop at article.sentences)) found
+      → ((found : Option Placed) → Finds (λ placed. KeepsMeaning g words new placed.sentence.tokens) (placed_from article.word at (drop at article.sentences))
+      found
       → Finds (λ placed. KeepsMeaning g words new placed.sentence.tokens) (placed_in article) found)
       → FindsPlace (λ placed. KeepsMeaning g words new placed.sentence.tokens) (placed_in article) (Some (record { article = article.word; at = at }))
   told_broken is rest =
-      let lacks = subst (λ (b : Bool). MatchBool b (KeepsMeaning g words new s.tokens) (KeepsMeaning g words new s.tokens → ⊥)) is (told (mean_each-at g words article.sentences senses at s m mean here meant)) in
+      let lacks = subst (λ (b : Bool). MatchBool b (KeepsMeaning g words new s.tokens) (KeepsMeaning g words new s.tokens → ⊥)) is
+      (told (mean_each-at g words article.sentences senses at s m mean here meant)) in
       record {
         found = Some (record { word = article.word; place = at; sentence = s });
         told = refl;
-        finds = rest (Some (record { word = article.word; place = at; sentence = s })) (next_broken (λ placed. KeepsMeaning g words new placed.sentence.tokens) article.word article.sentences at s here lacks);
+        finds = rest (Some (record { word = article.word; place = at; sentence = s }))
+            (next_broken (λ placed. KeepsMeaning g words new placed.sentence.tokens) article.word article.sentences at s here lacks);
       }
 
   -- or the first one is behind it
@@ -238,9 +273,11 @@ module _ (g : GrammarParts) (words new : Listed) (article : Article) (senses : L
       → Finds (λ placed. KeepsMeaning g words new placed.sentence.tokens) (placed_from article.word (at + 1) (drop (at + 1) article.sentences)) found
       → Finds (λ placed. KeepsMeaning g words new placed.sentence.tokens) (placed_from article.word at (drop at article.sentences)) found
   still_kept is found rest =
-      let holds = subst (λ (b : Bool). MatchBool b (KeepsMeaning g words new s.tokens) (KeepsMeaning g words new s.tokens → ⊥)) is (told (mean_each-at g words article.sentences senses at s m mean here meant)) in
+      let holds = subst (λ (b : Bool). MatchBool b (KeepsMeaning g words new s.tokens) (KeepsMeaning g words new s.tokens → ⊥)) is
+      (told (mean_each-at g words article.sentences senses at s m mean here meant)) in
       next_kept (λ placed. KeepsMeaning g words new placed.sentence.tokens) article.word article.sentences at s found here holds rest
 
 -- as many meanings are kept as there are sentences
-pub as_many_sense : (g : GrammarParts) (words : Listed) (sentences : List Sentence) (senses : List Sense) → MeanEach g words sentences (meanings_in senses) → length senses ≡ length sentences
+pub as_many_sense : (g : GrammarParts) (words : Listed) (sentences : List Sentence) (senses : List Sense) → MeanEach g words sentences (meanings_in senses)
+    → length senses ≡ length sentences
 as_many_sense g words sentences senses mean = sym (length-map senses meaning_shown) ∙ as_many g words sentences (meanings_in senses) mean

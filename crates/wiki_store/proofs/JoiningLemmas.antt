@@ -37,7 +37,8 @@ replaced {X} xs own first count within =
     ∙ append_assoc (take first xs) own (drop (first + count) xs)
 
 -- items that came in at a place go
-pub gone : {X : Type 0} (xs own : List X) (first : ℕ) → first ≤ length xs → remove_range (take first xs ++ (own ++ drop first xs)) first (first + length own) ≡ xs
+pub gone : {X : Type 0} (xs own : List X) (first : ℕ) → first ≤ length xs
+    → remove_range (take first xs ++ (own ++ drop first xs)) first (first + length own) ≡ xs
 gone {X} xs own first within =
     let front : List X = take first xs in
     let back : List X = drop first xs in
@@ -46,16 +47,19 @@ gone {X} xs own first within =
     ap (λ (n : ℕ). take n (front ++ (own ++ back)) ++ drop (first + length own) (front ++ (own ++ back))) short
     ∙ ap (λ (ys : List X). ys ++ drop (first + length own) (front ++ (own ++ back))) (take-append_seam front (own ++ back))
     ∙ ap (λ (ys : List X). front ++ ys)
-    (ap (λ (ys : List X). drop (first + length own) ys) (sym (append_assoc front own back)) ∙ ap (λ (n : ℕ). drop n ((front ++ own) ++ back)) long ∙ drop-append_seam (front ++ own) back)
+    (ap (λ (ys : List X). drop (first + length own) ys) (sym (append_assoc front own back)) ∙ ap (λ (n : ℕ). drop n ((front ++ own) ++ back)) long
+    ∙ drop-append_seam (front ++ own) back)
     ∙ take-append-drop first xs
 
 -- The same where so many items from the place on are none, by the list that they are put in.
-pub gone-at : {X : Type 0} (xs own all : List X) (first count n : ℕ) → all ≡ take first xs ++ (own ++ drop (first + count) xs) → xs ≡ take first xs ++ ([] ++ drop (first + count) xs)
+pub gone-at : {X : Type 0} (xs own all : List X) (first count n : ℕ) → all ≡ take first xs ++ (own ++ drop (first + count) xs)
+    → xs ≡ take first xs ++ ([] ++ drop (first + count) xs)
     → first + count ≤ length xs → length own ≡ n → (remove_range all first (first + n) ≡ xs) × (first + n ≤ length all)
 gone-at {X} xs own all first count n is none within many =
     let rest = length-drop (first + count) xs in
     let front = length-take-le first xs (omega (arith, within)) in
-    let short : length xs ≡ length (take first xs) + length (drop (first + count) xs) = ap length none ∙ length-append (take first xs) (drop (first + count) xs) in
+    let short : length xs ≡ length (take first xs) + length (drop (first + count) xs) =
+    ap length none ∙ length-append (take first xs) (drop (first + count) xs) in
     let here : first + count ≡ first = omega (arith, rest, front, short, within) in
     let joined : all ≡ take first xs ++ (own ++ drop first xs) = is ∙ ap (λ (k : ℕ). take first xs ++ (own ++ drop k xs)) here in
     let long : length all ≡ length (take first xs) + length (own ++ drop first xs) = ap length joined ∙ length-append (take first xs) (own ++ drop first xs) in
@@ -118,7 +122,8 @@ known_of-three ss ms from to rises same =
     known_of-split ss ms from same
     ∙ ap (λ (cs : List Claim). before ++ cs)
     (known_of-split (drop from ss) (drop from ms) (to - from) same_back
-    ∙ ap (λ (xs : List Sentence). between ++ known_of xs (meanings_in (drop (to - from) (drop from ms)))) (drop-drop (to - from) from ss ∙ ap (λ (n : ℕ). drop n ss) on)
+    ∙ ap (λ (xs : List Sentence). between ++ known_of xs (meanings_in (drop (to - from) (drop from ms))))
+    (drop-drop (to - from) from ss ∙ ap (λ (n : ℕ). drop n ss) on)
     ∙ ap (λ (xs : List Sense). between ++ known_of (drop to ss) (meanings_in xs)) (drop-drop (to - from) from ms ∙ ap (λ (n : ℕ). drop n ms) on))
 
 module _ (articles : List Article) (senses : List (List Sense)) (place from to : ℕ) (around : IsAround articles senses place from to) where
@@ -142,7 +147,8 @@ module _ (articles : List Article) (senses : List (List Sense)) (place from to :
       let later = known_of (drop to around.article.sentences) (meanings_in (drop to around.own)) in
       known_in-parts articles senses place around.article around.own around.here around.meant
       ∙ ap (λ (cs : List Claim). front ++ (cs ++ back)) (known_of-three around.article.sentences around.own from to around.rises around.many)
-      ∙ ap (λ (cs : List Claim). front ++ cs) (append_assoc before (between ++ later) back ∙ ap (λ (cs : List Claim). before ++ cs) (append_assoc between later back))
+      ∙ ap (λ (cs : List Claim). front ++ cs)
+      (append_assoc before (between ++ later) back ∙ ap (λ (cs : List Claim). before ++ cs) (append_assoc between later back))
       ∙ sym (append_assoc front before (between ++ (later ++ back)))
 
   pub known-long : length (known_in articles senses) ≡ length front + length before + length between + length behind
@@ -157,7 +163,8 @@ module _ (articles : List Article) (senses : List (List Sense)) (place from to :
       let later = known_of (drop to around.article.sentences) (meanings_in (drop to around.own)) in
       let upto = known_of (take to around.article.sentences) (meanings_in (take to around.own)) in
       let same : upto ++ later ≡ before ++ (between ++ later) =
-      sym (known_of-split around.article.sentences around.own to around.many) ∙ known_of-three around.article.sentences around.own from to around.rises around.many in
+      sym (known_of-split around.article.sentences around.own to around.many)
+      ∙ known_of-three around.article.sentences around.own from to around.rises around.many in
       let left = length-append upto later in
       let right = length-append before (between ++ later) in
       let inner = length-append between later in
@@ -181,7 +188,8 @@ settled-states i (asking concept) true_there = absurd true_there
 settled-states i (asking_outside cause) true_there = absurd true_there
 
 -- such a statement is asserted where all axioms have a model
-pub settled-stands : (i j : Interpretation) (claims : List Claim) (names : List WordId) (budget : ℕ) (meaning : Meaning) → IsTrueIn i meaning → IsFiniteModel j claims
+pub settled-stands : (i j : Interpretation) (claims : List Claim) (names : List WordId) (budget : ℕ) (meaning : Meaning) → IsTrueIn i meaning
+    → IsFiniteModel j claims
     → Stands claims names budget meaning Asserted
 settled-stands i j claims names budget (stating []) true_there finite = refl
 settled-stands i j claims names budget (stating (claim ∷ own)) true_there finite = (j, finite)
@@ -194,7 +202,8 @@ pub not-red : Asserted ≡ RedBudget → ⊥
 not-red red = cc
 
 -- what is kept beside a state may have another model of the same axioms
-pub keeps-claims : (state : State) (senses : List (List Sense)) (model after : CheckedModel) → IsKeeping state senses model → kept_claims after ≡ kept_claims model → IsKeeping state senses after
+pub keeps-claims : (state : State) (senses : List (List Sense)) (model after : CheckedModel) → IsKeeping state senses model
+    → kept_claims after ≡ kept_claims model → IsKeeping state senses after
 keeps-claims state senses model after keeping same = record {
   sound = keeping.sound;
   mean = keeping.mean;

@@ -56,7 +56,8 @@ length-spliced xs from to x rises within =
     omega (arith, rises, within, front, back, length-append (take from xs) (x ∷ drop to xs))
 
 All-spliced : {X : Type 0} (P : X → Type 0) (xs : List X) (from to : ℕ) (x : X) → All P xs → P x → All P (spliced xs from to x)
-All-spliced P xs from to x all here = All-append P (take from xs) (x ∷ drop to xs) (All-take P from xs all) (All-cons P x (drop to xs) here (All-drop P to xs all))
+All-spliced P xs from to x all here = All-append P (take from xs) (x ∷ drop to xs) (All-take P from xs all)
+    (All-cons P x (drop to xs) here (All-drop P to xs all))
 
 -- the sentences of an article, of which one gets another status
 pub marked-spliced : (sentences : List Sentence) (at : ℕ) (sentence : Sentence) (status : Status) → slice_get sentences at ≡ Some sentence
@@ -69,11 +70,13 @@ marked-spliced sentences at sentence status here =
 
 known_of-spliced : (ss : List Sentence) (ms : List Sense) (from to : ℕ) (s : Sentence) (m : Sense) → length ms ≡ length ss
     → known_of (spliced ss from to s) (meanings_in (spliced ms from to m))
-    ≡ known_of (take from ss) (meanings_in (take from ms)) ++ (cond (is_asserted s.status) (stated_by (meaning_shown m)) [] ++ known_of (drop to ss) (meanings_in (drop to ms)))
+    ≡ known_of (take from ss) (meanings_in (take from ms))
+    ++ (cond (is_asserted s.status) (stated_by (meaning_shown m)) [] ++ known_of (drop to ss) (meanings_in (drop to ms)))
 known_of-spliced ss ms from to s m same = known_of-append (take from ss) (s ∷ drop to ss) (take from ms) (m ∷ drop to ms) (same_take from ss ms same)
 
 -- what is known with the sentence in an article
-pub known-spliced : (articles : List Article) (senses : List (List Sense)) (place from to : ℕ) (around : IsAround articles senses place from to) (b : Article) (s : Sentence) (m : Sense)
+pub known-spliced : (articles : List Article) (senses : List (List Sense)) (place from to : ℕ) (around : IsAround articles senses place from to) (b : Article)
+    (s : Sentence) (m : Sense)
     → length senses ≡ length articles → b.sentences ≡ spliced around.article.sentences from to s
     → known_in (set articles place b) (set senses place (spliced around.own from to m))
     ≡ known_around articles senses place from (cond (is_asserted s.status) (stated_by (meaning_shown m)) []) to
@@ -87,33 +90,42 @@ known-spliced articles senses place from to around b s m same is =
     known_in-set articles senses place b (spliced around.own from to m) (slice_get_within articles place a around.here) same
     ∙ ap (λ (ss : List Sentence). front ++ (known_of ss (meanings_in (spliced around.own from to m)) ++ back)) is
     ∙ ap (λ (cs : List Claim). front ++ (cs ++ back)) (known_of-spliced a.sentences around.own from to s m around.many)
-    ∙ ap (λ (cs : List Claim). front ++ cs) (append_assoc before (middle ++ behind) back ∙ ap (λ (cs : List Claim). before ++ cs) (append_assoc middle behind back))
+    ∙ ap (λ (cs : List Claim). front ++ cs)
+    (append_assoc before (middle ++ behind) back ∙ ap (λ (cs : List Claim). before ++ cs) (append_assoc middle behind back))
     ∙ sym (known_around-is articles senses place from to middle a around.own around.here around.meant)
 
-each-spliced : (g : GrammarParts) (words : Listed) (ss : List Sentence) (ms : List Sense) (from to : ℕ) (s : Sentence) (m : Sense) → MeanEach g words ss (meanings_in ms)
-    → Means g words s.tokens (meaning_shown m) × FitsMeaning s.status (meaning_shown m) → MeanEach g words (spliced ss from to s) (meanings_in (spliced ms from to m))
+each-spliced : (g : GrammarParts) (words : Listed) (ss : List Sentence) (ms : List Sense) (from to : ℕ) (s : Sentence) (m : Sense)
+    → MeanEach g words ss (meanings_in ms)
+    → Means g words s.tokens (meaning_shown m) × FitsMeaning s.status (meaning_shown m)
+    → MeanEach g words (spliced ss from to s) (meanings_in (spliced ms from to m))
 each-spliced g words ss ms from to s m mean here =
-    mean_of-append g words (take from ss) (s ∷ drop to ss) (take from ms) (m ∷ drop to ms) (mean_of-take g words from ss ms mean) (here, mean_of-drop g words to ss ms mean)
+    mean_of-append g words (take from ss) (s ∷ drop to ss) (take from ms) (m ∷ drop to ms) (mean_of-take g words from ss ms mean)
+    (here, mean_of-drop g words to ss ms mean)
 
 -- each sentence has its meaning, the one that comes too
-pub mean-spliced : (g : GrammarParts) (words : Listed) (articles : List Article) (senses : List (List Sense)) (place from to : ℕ) (around : IsAround articles senses place from to) (b : Article) (s : Sentence)
-    (m : Sense) → MeanInEach g words articles senses → b.sentences ≡ spliced around.article.sentences from to s → Means g words s.tokens (meaning_shown m) → FitsMeaning s.status (meaning_shown m)
+pub mean-spliced : (g : GrammarParts) (words : Listed) (articles : List Article) (senses : List (List Sense)) (place from to : ℕ)
+    (around : IsAround articles senses place from to) (b : Article) (s : Sentence)
+    (m : Sense) → MeanInEach g words articles senses → b.sentences ≡ spliced around.article.sentences from to s → Means g words s.tokens (meaning_shown m)
+    → FitsMeaning s.status (meaning_shown m)
     → MeanInEach g words (set articles place b) (set senses place (spliced around.own from to m))
 mean-spliced g words articles senses place from to around b s m mean is means fits =
     mean_in-set g words articles senses place b (spliced around.own from to m) mean
     (subst (λ (ss : List Sentence). MeanEach g words ss (meanings_in (spliced around.own from to m))) (sym is)
-    (each-spliced g words around.article.sentences around.own from to s m (mean_at g words articles senses place around.article around.own mean around.here around.meant) (means, fits)))
+    (each-spliced g words around.article.sentences around.own from to s m
+    (mean_at g words articles senses place around.article around.own mean around.here around.meant) (means, fits)))
 
 -- ---- how many sentences there are
 
-all-in-set : (P : Sentence → Type 0) (articles : List Article) (place : ℕ) (b : Article) → All P (sentences_in articles) → All P b.sentences → All P (sentences_in (set articles place b))
+all-in-set : (P : Sentence → Type 0) (articles : List Article) (place : ℕ) (b : Article) → All P (sentences_in articles) → All P b.sentences
+    → All P (sentences_in (set articles place b))
 all-in-set P [] place b all own = all
 all-in-set P (a ∷ articles) zero b all own = All-append P b.sentences (sentences_in articles) own (all_parts P a.sentences (sentences_in articles) all).1
 all-in-set P (a ∷ articles) (suc place) b all own =
     All-append P a.sentences (sentences_in (set articles place b)) (all_parts P a.sentences (sentences_in articles) all).0
     (all-in-set P articles place b (all_parts P a.sentences (sentences_in articles) all).1 own)
 
-pub all-in-at : (P : Sentence → Type 0) (articles : List Article) (place : ℕ) (a : Article) → slice_get articles place ≡ Some a → All P (sentences_in articles) → All P a.sentences
+pub all-in-at : (P : Sentence → Type 0) (articles : List Article) (place : ℕ) (a : Article) → slice_get articles place ≡ Some a → All P (sentences_in articles)
+    → All P a.sentences
 all-in-at P [] place a here all = absurd (none-some a here)
 all-in-at P (b ∷ articles) zero a here all =
     subst (λ (c : Article). All P c.sentences) (ap (λ (o : Option Article). unwrap_or o b) here) (all_parts P b.sentences (sentences_in articles) all).0
@@ -139,8 +151,10 @@ part-of-all (c ∷ articles) (suc place) a here =
     omega (arith, rest, length-append c.sentences (sentences_in articles))
 
 -- so many at most, if there was room for one more where none leaves
-few-spliced : (articles : List Article) (senses : List (List Sense)) (place from to : ℕ) (around : IsAround articles senses place from to) (b : Article) (s : Sentence)
-    → b.sentences ≡ spliced around.article.sentences from to s → length (sentences_in articles) + from + 1 ≤ MOST_SENTENCES + to → length (sentences_in (set articles place b)) ≤ MOST_SENTENCES
+few-spliced : (articles : List Article) (senses : List (List Sense)) (place from to : ℕ) (around : IsAround articles senses place from to) (b : Article)
+    (s : Sentence)
+    → b.sentences ≡ spliced around.article.sentences from to s → length (sentences_in articles) + from + 1 ≤ MOST_SENTENCES + to
+    → length (sentences_in (set articles place b)) ≤ MOST_SENTENCES
 few-spliced articles senses place from to around b s is room =
     let count = count-set articles place around.article b around.here in
     let part = part-of-all articles place around.article around.here in
@@ -148,7 +162,8 @@ few-spliced articles senses place from to around b s is room =
     ap (λ (ss : List Sentence). length ss + to) is ∙ length-spliced around.article.sentences from to s around.rises around.within in
     omega (arith, count, part, long, room)
 
-few-own : (articles : List Article) (place : ℕ) (a b : Article) → slice_get articles place ≡ Some a → length (sentences_in (set articles place b)) ≤ MOST_SENTENCES → length b.sentences ≤ MOST_SENTENCES
+few-own : (articles : List Article) (place : ℕ) (a b : Article) → slice_get articles place ≡ Some a
+    → length (sentences_in (set articles place b)) ≤ MOST_SENTENCES → length b.sentences ≤ MOST_SENTENCES
 few-own articles place a b here few =
     let count = count-set articles place a b here in
     let part = part-of-all articles place a here in
@@ -157,17 +172,20 @@ few-own articles place a b here few =
 -- ---- the state with the sentence
 
 -- a state with another article of the same word in place of one is sound
-sound-set : (state : State) (place : ℕ) (a b : Article) → IsSound state → slice_get state.articles place ≡ Some a → b.word ≡ a.word → length b.sentences ≤ MOST_SENTENCES
+sound-set : (state : State) (place : ℕ) (a b : Article) → IsSound state → slice_get state.articles place ≡ Some a → b.word ≡ a.word
+    → length b.sentences ≤ MOST_SENTENCES
     → IsSound (record state { articles = set state.articles place b })
 sound-set state place a b sound here word few = record {
   labelled = sound.labelled;
   terminals = sound.terminals;
-  articles = map-set_same (λ (c : Article). c.word) state.articles place b a (word ∙ ap (λ (c : Article). c.word) (sym (get_or_from_slice_get state.articles place a a here))) ∙ sound.articles;
+  articles = map-set_same (λ (c : Article). c.word) state.articles place b a
+      (word ∙ ap (λ (c : Article). c.word) (sym (get_or_from_slice_get state.articles place a a here))) ∙ sound.articles;
   few = All-set (λ (c : Article). length c.sentences ≤ MOST_SENTENCES) state.articles place b few sound.few;
 }
 
 -- what is kept where a sentence comes into an article
-pub keeps-set : (state : State) (senses : List (List Sense)) (model : CheckedModel) (place from to : ℕ) (around : IsAround state.articles senses place from to) (b : Article) (s : Sentence) (m : Sense)
+pub keeps-set : (state : State) (senses : List (List Sense)) (model : CheckedModel) (place from to : ℕ) (around : IsAround state.articles senses place from to)
+    (b : Article) (s : Sentence) (m : Sense)
     (after : CheckedModel) → IsKeeping state senses model → b.word ≡ around.article.word → b.sentences ≡ spliced around.article.sentences from to s
     → Means state.grammar state.words s.tokens (meaning_shown m) → FitsMeaning s.status (meaning_shown m) → length s.tokens ≤ MOST_TOKENS
     → length (sentences_in state.articles) + from + 1 ≤ MOST_SENTENCES + to
@@ -178,7 +196,8 @@ keeps-set state senses model place from to around b s m after keeping word is me
     record {
       sound = sound-set state place around.article b keeping.sound around.here word (few-own state.articles place around.article b around.here few);
       mean = mean-spliced state.grammar state.words state.articles senses place from to around b s m keeping.mean is means fits;
-      known = known ∙ sym (known-spliced state.articles senses place from to around b s m (as_many_lists state.grammar state.words state.articles senses keeping.mean) is);
+      known = known ∙ sym (known-spliced state.articles senses place from to around b s m
+          (as_many_lists state.grammar state.words state.articles senses keeping.mean) is);
       short = all-in-set (λ (t : Sentence). length t.tokens ≤ MOST_TOKENS) state.articles place b keeping.short
           (subst (λ (ss : List Sentence). All (λ (t : Sentence). length t.tokens ≤ MOST_TOKENS) ss) (sym is)
           (All-spliced (λ (t : Sentence). length t.tokens ≤ MOST_TOKENS) around.article.sentences from to s
@@ -195,8 +214,10 @@ change-is articles senses word place from to ordered is around change =
     ∙ ap (λ (b : Article). set articles place (changed change b)) (get_or_from_slice_get articles place around.article around.article around.here)
 
 -- what is kept where a word's article changes so that a sentence comes into it
-pub keeps-changed : (state : State) (senses : List (List Sense)) (model : CheckedModel) (word : WordId) (place from to : ℕ) → AreInOrder state.articles → IsPlaceOf state.articles word place
-    → (around : IsAround state.articles senses place from to) (change : List Sentence → List Sentence) (s : Sentence) (m : Sense) (after : CheckedModel) → IsKeeping state senses model
+pub keeps-changed : (state : State) (senses : List (List Sense)) (model : CheckedModel) (word : WordId) (place from to : ℕ) → AreInOrder state.articles
+    → IsPlaceOf state.articles word place
+    → (around : IsAround state.articles senses place from to) (change : List Sentence → List Sentence) (s : Sentence) (m : Sense) (after : CheckedModel)
+    → IsKeeping state senses model
     → change around.article.sentences ≡ spliced around.article.sentences from to s
     → Means state.grammar state.words s.tokens (meaning_shown m) → FitsMeaning s.status (meaning_shown m) → length s.tokens ≤ MOST_TOKENS
     → length (sentences_in state.articles) + from + 1 ≤ MOST_SENTENCES + to
@@ -217,7 +238,8 @@ known_of-split ss ms at same =
     ∙ known_of-append (take at ss) (drop at ss) (take at ms) (drop at ms) (same_take at ss ms same)
 
 -- what is known is what is known around a place between two sentences
-pub known_in-gap : (articles : List Article) (senses : List (List Sense)) (place at : ℕ) → IsAround articles senses place at at → known_in articles senses ≡ known_around articles senses place at [] at
+pub known_in-gap : (articles : List Article) (senses : List (List Sense)) (place at : ℕ) → IsAround articles senses place at at
+    → known_in articles senses ≡ known_around articles senses place at [] at
 known_in-gap articles senses place at around =
     let a = around.article in
     let front = known_in (take place articles) (take place senses) in
@@ -230,8 +252,10 @@ known_in-gap articles senses place at around =
     ∙ sym (known_around-is articles senses place at at [] a around.own around.here around.meant)
 
 -- what is known is what is known around a sentence that isn't asserted
-pub known_in-unasserted : (articles : List Article) (senses : List (List Sense)) (place at : ℕ) (around : IsAround articles senses place at (at + 1)) (s : Sentence)
-    → slice_get around.article.sentences at ≡ Some s → is_asserted s.status ≡ false → known_in articles senses ≡ known_around articles senses place at [] (at + 1)
+pub known_in-unasserted : (articles : List Article) (senses : List (List Sense)) (place at : ℕ) (around : IsAround articles senses place at (at + 1))
+    (s : Sentence)
+    → slice_get around.article.sentences at ≡ Some s → is_asserted s.status ≡ false
+    → known_in articles senses ≡ known_around articles senses place at [] (at + 1)
 known_in-unasserted articles senses place at around s here isnt =
     let a = around.article in
     let many = around.many in
@@ -243,7 +267,8 @@ known_in-unasserted articles senses place at around s here isnt =
     let behind = known_of (drop (at + 1) a.sentences) (meanings_in (drop (at + 1) around.own)) in
     known_in-parts articles senses place a around.own around.here around.meant
     ∙ ap (λ (cs : List Claim). front ++ (cs ++ back))
-    (known_of-parts a.sentences around.own at s m.0 many in_range (sym (get_or_from_slice_get a.sentences at s s here)) (sym (get_or_from_slice_get around.own at m.0 m.0 m.1))
+    (known_of-parts a.sentences around.own at s m.0 many in_range (sym (get_or_from_slice_get a.sentences at s s here))
+    (sym (get_or_from_slice_get around.own at m.0 m.0 m.1))
     ∙ ap (λ (b : Bool). before ++ (cond b (stated_by (meaning_shown m.0)) [] ++ behind)) isnt)
     ∙ ap (λ (cs : List Claim). front ++ cs) (append_assoc before behind back)
     ∙ sym (known_around-is articles senses place at (at + 1) [] a around.own around.here around.meant)
@@ -259,7 +284,8 @@ unasserted Question may = refl
 unasserted (QuestionOutside cause) may = refl
 
 -- what the sentence at a place means
-pub means-at : (g : GrammarParts) (words : Listed) (ss : List Sentence) (ms : List Sense) (at : ℕ) (s : Sentence) (m : Sense) → MeanEach g words ss (meanings_in ms)
+pub means-at : (g : GrammarParts) (words : Listed) (ss : List Sentence) (ms : List Sense) (at : ℕ) (s : Sentence) (m : Sense)
+    → MeanEach g words ss (meanings_in ms)
     → slice_get ss at ≡ Some s → slice_get ms at ≡ Some m → Means g words s.tokens (meaning_shown m)
 means-at g words [] ms at s m mean here meant = absurd (none-some s here)
 means-at g words (t ∷ ss) [] at s m mean here meant = absurd mean
@@ -269,15 +295,18 @@ means-at g words (t ∷ ss) (n ∷ ms) zero s m mean here meant =
 means-at g words (t ∷ ss) (n ∷ ms) (suc at) s m mean here meant = means-at g words ss ms at s m mean.1 here meant
 
 -- a place of an article between two sentences, with what is kept of the article
-pub around_place : (g : GrammarParts) (words : Listed) (articles : List Article) (senses : List (List Sense)) → MeanInEach g words articles senses → AreInOrder articles
+pub around_place : (g : GrammarParts) (words : Listed) (articles : List Article) (senses : List (List Sense)) → MeanInEach g words articles senses
+    → AreInOrder articles
     → (word : WordId) (place : ℕ) → IsPlaceOf articles word place → (at : ℕ) → HasPlace articles word at → IsAround articles senses place at at
 around_place g words articles senses mean ordered word place is at there =
     let lists = as_many_lists g words articles senses mean in
     let in_range = is.in_range in
     let a = item articles place in_range in
     let own = item senses place (omega (arith, in_range, lists)) in
-    let many : length (meanings_in own.0) ≡ length a.0.sentences = as_many g words a.0.sentences (meanings_in own.0) (mean_at g words articles senses place a.0 own.0 mean a.1 own.1) in
-    let found : article_of articles word ≡ Some a.0 = article_at articles ordered word place a.0 is ∙ ap Some (get_or_from_slice_get articles place a.0 a.0 a.1) in
+    let many : length (meanings_in own.0) ≡ length a.0.sentences =
+    as_many g words a.0.sentences (meanings_in own.0) (mean_at g words articles senses place a.0 own.0 mean a.1 own.1) in
+    let found : article_of articles word ≡ Some a.0 =
+    article_at articles ordered word place a.0 is ∙ ap Some (get_or_from_slice_get articles place a.0 a.0 a.1) in
     let within : at ≤ length a.0.sentences = subst (λ (o : Option Article). IsSomeAnd o (λ b. at ≤ length b.sentences)) found there in
     record { article = a.0; here = a.1; own = own.0; meant = own.1; many = sym (length-map own.0 meaning_shown) ∙ many; rises = omega arith; within = within }
 
@@ -305,7 +334,8 @@ fitting-states (asking concept) = refl
 fitting-states (asking_outside cause) = refl
 
 -- the status that a sentence gets fits its meaning
-pub fits-standing : (claims : List Claim) (names : List WordId) (budget : ℕ) (meaning : Meaning) (status : Status) → Stands claims names budget meaning status → FitsMeaning status meaning
+pub fits-standing : (claims : List Claim) (names : List WordId) (budget : ℕ) (meaning : Meaning) (status : Status) → Stands claims names budget meaning status
+    → FitsMeaning status meaning
 fits-standing claims names budget (stating []) status stands = subst (λ (st : Status). FitsMeaning st (stating [])) (sym stands) tt
 fits-standing claims names budget (stating (claim ∷ own)) Asserted stands = tt
 fits-standing claims names budget (stating (claim ∷ own)) RedContradiction stands = tt
@@ -319,7 +349,8 @@ fits-standing claims names budget (asking concept) status stands = subst (λ (st
 fits-standing claims names budget (asking_outside cause) status stands = subst (λ (st : Status). FitsMeaning st (asking_outside cause)) (sym stands) refl
 
 -- The sentence of these tokens comes into an article with any status.
-module _ (state : State) (senses : List (List Sense)) (place from to : ℕ) (around : IsAround state.articles senses place from to) (tokens : List (List ℕ)) (m : Sense)
+module _ (state : State) (senses : List (List Sense)) (place from to : ℕ) (around : IsAround state.articles senses place from to) (tokens : List (List ℕ))
+    (m : Sense)
     (mean : MeanInEach state.grammar state.words state.articles senses) (means : Means state.grammar state.words tokens (meaning_shown m)) where
   -- all axioms, its own among them
   all_claims : List Claim
@@ -333,17 +364,20 @@ module _ (state : State) (senses : List (List Sense)) (place from to : ℕ) (aro
     sentences = spliced around.article.sentences from to (record { tokens = tokens; status = status });
   }
 
-  taken_mean : MeanInEach state.grammar state.words (set state.articles place (article_with (fitting (meaning_shown m)))) (set senses place (spliced around.own from to m))
+  taken_mean : MeanInEach state.grammar state.words (set state.articles place (article_with (fitting (meaning_shown m))))
+      (set senses place (spliced around.own from to m))
   unfolding article_with
   taken_mean =
-      mean-spliced state.grammar state.words state.articles senses place from to around (article_with (fitting (meaning_shown m))) (record { tokens = tokens; status = fitting (meaning_shown m) }) m mean refl means
+      mean-spliced state.grammar state.words state.articles senses place from to around (article_with (fitting (meaning_shown m)))
+      (record { tokens = tokens; status = fitting (meaning_shown m) }) m mean refl means
       (fitting-fits (meaning_shown m))
 
   taken_known : all_claims ≡ known_in (set state.articles place (article_with (fitting (meaning_shown m)))) (set senses place (spliced around.own from to m))
   unfolding article_with all_claims
   taken_known =
       ap (λ (cs : List Claim). known_around state.articles senses place from cs to) (sym (fitting-states (meaning_shown m)))
-      ∙ sym (known-spliced state.articles senses place from to around (article_with (fitting (meaning_shown m))) (record { tokens = tokens; status = fitting (meaning_shown m) }) m
+      ∙ sym (known-spliced state.articles senses place from to around (article_with (fitting (meaning_shown m)))
+      (record { tokens = tokens; status = fitting (meaning_shown m) }) m
       (as_many_lists state.grammar state.words state.articles senses mean) refl)
 
   -- the conditions of a verdict
@@ -351,24 +385,29 @@ module _ (state : State) (senses : List (List Sense)) (place from to : ℕ) (aro
       → IsTrue (are_over (live_names state.words) (known_around state.articles senses place from (stated_by (meaning_shown m)) to))
   unfolding all_claims
   judged_over sound apart =
-      verdict_over state.grammar state.words (set state.articles place (article_with (fitting (meaning_shown m)))) (set senses place (spliced around.own from to m)) sound apart taken_mean
+      verdict_over state.grammar state.words (set state.articles place (article_with (fitting (meaning_shown m))))
+      (set senses place (spliced around.own from to m)) sound apart taken_mean
       (live_names state.words) all_claims refl taken_known
 
   pub judged_plain : IsSoundGrammar state.grammar → AllPairs SharesNoForm state.words.live
       → IsTrue (are_plain (known_around state.articles senses place from (stated_by (meaning_shown m)) to))
   unfolding all_claims
   judged_plain sound apart =
-      verdict_plain state.grammar state.words (set state.articles place (article_with (fitting (meaning_shown m)))) (set senses place (spliced around.own from to m)) sound apart taken_mean
+      verdict_plain state.grammar state.words (set state.articles place (article_with (fitting (meaning_shown m))))
+      (set senses place (spliced around.own from to m)) sound apart taken_mean
       (live_names state.words) all_claims refl taken_known
 
   -- what the wiki knows that has it as asserted, if it is a statement
   module _ (word : WordId) (ordered : AreInOrder state.articles) (here : IsPlaceOf state.articles word place) (change : List Sentence → List Sentence)
       (is : change around.article.sentences ≡ spliced around.article.sentences from to (record { tokens = tokens; status = Asserted })) where
-    taken_knows : FitsMeaning Asserted (meaning_shown m) → Knows (record state { articles = with_change state.articles word change }) (known_around state.articles senses place from (stated_by (meaning_shown m)) to)
+    taken_knows : FitsMeaning Asserted (meaning_shown m)
+        → Knows (record state { articles = with_change state.articles word change })
+        (known_around state.articles senses place from (stated_by (meaning_shown m)) to)
     taken_knows fits =
         let b = changed change around.article in
         let s : Sentence = record { tokens = tokens; status = Asserted } in
-        subst (λ (articles : List Article). Knows (record state { articles = articles }) (known_around state.articles senses place from (stated_by (meaning_shown m)) to))
+        subst (λ (articles : List Article). Knows (record state { articles = articles })
+        (known_around state.articles senses place from (stated_by (meaning_shown m)) to))
         (sym (change-is state.articles senses word place from to ordered here around change))
         (subst (Knows (record state { articles = set state.articles place b }))
         (known-spliced state.articles senses place from to around b s m (as_many_lists state.grammar state.words state.articles senses mean) is)
@@ -376,29 +415,37 @@ module _ (state : State) (senses : List (List Sense)) (place from to : ℕ) (aro
         (mean-spliced state.grammar state.words state.articles senses place from to around b s m mean is means fits)))
 
     -- the status that it gets is one that it may have in that wiki
-    pub status_taken : (status : Status) → Stands (known_around state.articles senses place from (stated_by (meaning_shown m)) to) (live_names state.words) state.budget (meaning_shown m) status
+    pub status_taken : (status : Status)
+        → Stands (known_around state.articles senses place from (stated_by (meaning_shown m)) to) (live_names state.words) state.budget (meaning_shown m) status
         → IsStatusOf (record state { articles = with_change state.articles word change }) (meaning_shown m) status
     status_taken status stands = by_meaning (meaning_shown m) status stands taken_knows
       where
-        by_meaning : (meaning : Meaning) (st : Status) → Stands (known_around state.articles senses place from (stated_by meaning) to) (live_names state.words) state.budget meaning st
-            → (FitsMeaning Asserted meaning → Knows (record state { articles = with_change state.articles word change }) (known_around state.articles senses place from (stated_by meaning) to))
+        by_meaning : (meaning : Meaning) (st : Status)
+            → Stands (known_around state.articles senses place from (stated_by meaning) to) (live_names state.words) state.budget meaning st
+            → (FitsMeaning Asserted meaning
+            → Knows (record state { articles = with_change state.articles word change })
+            (known_around state.articles senses place from (stated_by meaning) to))
             → IsStatusOf (record state { articles = with_change state.articles word change }) meaning st
         by_meaning (stating []) st stood knows = stood
-        by_meaning (stating (claim ∷ own)) st stood knows = record { claims = known_around state.articles senses place from (claim ∷ own) to; known = knows tt; allowed = stood }
+        by_meaning (stating (claim ∷ own)) st stood knows =
+            record { claims = known_around state.articles senses place from (claim ∷ own) to; known = knows tt; allowed = stood }
         by_meaning (outside cause) st stood knows = stood
         by_meaning (asking concept) st stood knows = stood
         by_meaning (asking_outside cause) st stood knows = stood
 
     -- where it is red for the budget, the interpretation that is no model of all axioms is none of what that wiki knows
-    pub spends_taken : (i : Interpretation) (status : Status) → Stands (known_around state.articles senses place from (stated_by (meaning_shown m)) to) (live_names state.words) state.budget (meaning_shown m) status
+    pub spends_taken : (i : Interpretation) (status : Status)
+        → Stands (known_around state.articles senses place from (stated_by (meaning_shown m)) to) (live_names state.words) state.budget (meaning_shown m) status
         → status ≡ RedBudget → (IsModel i (known_around state.articles senses place from (stated_by (meaning_shown m)) to) → ⊥)
         → (claims : List Claim) → Knows (record state { articles = with_change state.articles word change }) claims → ¬ IsModel i claims
     spends_taken i status stands red beyond claims knows model =
         let red_fits : FitsMeaning RedBudget (meaning_shown m) =
         subst (λ (st : Status). FitsMeaning st (meaning_shown m)) red
-        (fits-standing (known_around state.articles senses place from (stated_by (meaning_shown m)) to) (live_names state.words) state.budget (meaning_shown m) status stands) in
+        (fits-standing (known_around state.articles senses place from (stated_by (meaning_shown m)) to) (live_names state.words) state.budget (meaning_shown m)
+        status stands) in
         let taken : State = record state { articles = with_change state.articles word change } in
-        beyond (subst (IsModel i) (knows_one taken claims (known_around state.articles senses place from (stated_by (meaning_shown m)) to) knows (taken_knows (by_meaning (meaning_shown m) red_fits))) model)
+        beyond (subst (IsModel i) (knows_one taken claims (known_around state.articles senses place from (stated_by (meaning_shown m)) to) knows
+        (taken_knows (by_meaning (meaning_shown m) red_fits))) model)
       where
         by_meaning : (meaning : Meaning) → FitsMeaning RedBudget meaning → FitsMeaning Asserted meaning
         by_meaning (stating own) fits = tt

@@ -32,13 +32,15 @@ use Rattle.wiki_parts.specs.Kept.{meanings_in, MeanEach, MeanInEach, known_of, k
 use Rattle.wiki_parts.proofs.KnownLemmas.{knows_from_known}
 
 -- as many meanings are kept as there are sentences, and lists of them as there are articles
-pub as_many : (g : GrammarParts) (words : Listed) (sentences : List Sentence) (meanings : List Meaning) → MeanEach g words sentences meanings → length meanings ≡ length sentences
+pub as_many : (g : GrammarParts) (words : Listed) (sentences : List Sentence) (meanings : List Meaning) → MeanEach g words sentences meanings
+    → length meanings ≡ length sentences
 as_many g words [] [] mean = refl
 as_many g words [] (m ∷ ms) mean = absurd mean
 as_many g words (s ∷ ss) [] mean = absurd mean
 as_many g words (s ∷ ss) (m ∷ ms) mean = let rest = as_many g words ss ms mean.1 in omega (arith, rest)
 
-pub as_many_lists : (g : GrammarParts) (words : Listed) (articles : List Article) (senses : List (List Sense)) → MeanInEach g words articles senses → length senses ≡ length articles
+pub as_many_lists : (g : GrammarParts) (words : Listed) (articles : List Article) (senses : List (List Sense)) → MeanInEach g words articles senses
+    → length senses ≡ length articles
 as_many_lists g words [] [] mean = refl
 as_many_lists g words [] (own ∷ senses) mean = absurd mean
 as_many_lists g words (a ∷ articles) [] mean = absurd mean
@@ -67,11 +69,13 @@ stored_in state [] (own ∷ senses) mean short = absurd mean
 stored_in state (a ∷ articles) [] mean short = absurd mean
 stored_in state (a ∷ articles) (own ∷ senses) mean short =
     All-append (IsStored state) a.sentences (sentences_in articles)
-    (stored_each state a.sentences (meanings_in own) mean.0 (all_parts (λ (t : Sentence). length t.tokens ≤ MOST_TOKENS) a.sentences (sentences_in articles) short).0)
+    (stored_each state a.sentences (meanings_in own) mean.0
+    (all_parts (λ (t : Sentence). length t.tokens ≤ MOST_TOKENS) a.sentences (sentences_in articles) short).0)
     (stored_in state articles senses mean.1 (all_parts (λ (t : Sentence). length t.tokens ≤ MOST_TOKENS) a.sentences (sentences_in articles) short).1)
 
 -- a wiki with what is kept beside its state keeps what it should
-pub is_kept : (state : State) (senses : List (List Sense)) (model : CheckedModel) → IsKeeping state senses model → IsFiniteModel (kept_interp model) (kept_claims model)
+pub is_kept : (state : State) (senses : List (List Sense)) (model : CheckedModel) → IsKeeping state senses model
+    → IsFiniteModel (kept_interp model) (kept_claims model)
     → IsKept (record { state = state; interpretation = kept_interp model })
 is_kept state senses model keeping finite = record {
   sound = keeping.sound;
@@ -88,10 +92,12 @@ few_there [] word article is few = absurd (none-some article is)
 few_there (a ∷ articles) word article is few =
     by_test (is_of word a) (λ there. few_there articles word article there (All-tail (λ (b : Article). length b.sentences ≤ MOST_SENTENCES) a articles few)) is
   where
-    by_test : (b : Bool) → (article_of articles word ≡ Some article → length article.sentences ≤ MOST_SENTENCES) → cond b (Some a) (article_of articles word) ≡ Some article
+    by_test : (b : Bool) → (article_of articles word ≡ Some article → length article.sentences ≤ MOST_SENTENCES)
+        → cond b (Some a) (article_of articles word) ≡ Some article
         → length article.sentences ≤ MOST_SENTENCES
     by_test true behind here =
-        subst (λ (c : Article). length c.sentences ≤ MOST_SENTENCES) (ap (λ (o : Option Article). unwrap_or o a) here) (All-head (λ (b : Article). length b.sentences ≤ MOST_SENTENCES) a articles few)
+        subst (λ (c : Article). length c.sentences ≤ MOST_SENTENCES) (ap (λ (o : Option Article). unwrap_or o a) here)
+        (All-head (λ (b : Article). length b.sentences ≤ MOST_SENTENCES) a articles few)
     by_test false behind there = behind there
 
 -- what is true of each sentence is true of each one of an article
@@ -101,8 +107,10 @@ each_there P [] word article is all = absurd (none-some article is)
 each_there P (a ∷ articles) word article is all =
     by_test (is_of word a) (λ there. each_there P articles word article there (all_parts P a.sentences (sentences_in articles) all).1) is
   where
-    by_test : (b : Bool) → (article_of articles word ≡ Some article → All P article.sentences) → cond b (Some a) (article_of articles word) ≡ Some article → All P article.sentences
-    by_test true behind here = subst (λ (c : Article). All P c.sentences) (ap (λ (o : Option Article). unwrap_or o a) here) (all_parts P a.sentences (sentences_in articles) all).0
+    by_test : (b : Bool) → (article_of articles word ≡ Some article → All P article.sentences) → cond b (Some a) (article_of articles word) ≡ Some article
+        → All P article.sentences
+    by_test true behind here = subst (λ (c : Article). All P c.sentences) (ap (λ (o : Option Article). unwrap_or o a) here)
+        (all_parts P a.sentences (sentences_in articles) all).0
     by_test false behind there = behind there
 
 -- the sentence at a place of the article that a text names is stored rightly
@@ -115,7 +123,8 @@ stored_there state senses model keeping text article named at sentence here =
     by_word None is = absurd (none-some article is)
     by_word (Some word) is =
         let all = each_there (IsStored state) state.articles word article is (stored_in state state.articles senses keeping.mean keeping.short) in
-        subst (IsStored state) (get_or_from_slice_get article.sentences at sentence sentence here) (all at sentence (slice_get_within article.sentences at sentence here))
+        subst (IsStored state) (get_or_from_slice_get article.sentences at sentence sentence here)
+        (all at sentence (slice_get_within article.sentences at sentence here))
 
 -- a stored sentence has a derivation
 pub has_derivation : (state : State) (sentence : Sentence) → IsStored state sentence → IsSentence state.grammar state.words sentence.tokens

@@ -1,31 +1,28 @@
 -- Sentences by other words: where each token that stands for something reads as before, so does the sentence.
-use Rattle.std.proofs.Common.{◌≡◌, ℕ, zero, suc, ◌+◌, ◌<◌, ◌⊎◌, ◌||◌, ◌==◌, Bool, true, false, not, cond, List, [], ◌∷◌, ◌++◌, length, get_or, map, filter, find, Option, Some, None, AllPairs, inl, inr, refl, sym, ap, subst, ◌∙◌, arith, option_map}
+use Rattle.std.proofs.Common.{◌≡◌, ℕ, zero, suc, ◌+◌, ◌<◌, ◌⊎◌, ◌||◌, ◌==◌, Bool, true, false, not, cond, List, [], ◌∷◌, ◌++◌, length, get_or, map, find, Option, Some, None, AllPairs, inl, inr, refl, sym, ap, subst, ◌∙◌, arith, option_map}
 use Rattle.std.specs.List.{slice_get, list_any}
-use Rattle.std.specs.Option.{option_map_or, option_or}
+use Rattle.std.specs.Option.{option_map_or}
 use Rattle.std.specs.Str.{bytes_eq}
-use Rattle.std.proofs.lemmas.Bool.{false≢true}
-use Rattle.std.proofs.lemmas.Option.{none-some, slice_get_within, slice_get-map}
+use Rattle.std.proofs.lemmas.Bool.{false≢true, or_right, eqb-true}
+use Rattle.std.proofs.lemmas.Option.{none-some, slice_get_within, slice_get-map, same_Some}
 use Rattle.std.proofs.lemmas.Slice.Eq.{bytes_eq-Decides}
 use Rattle.wiki_base.specs.declared.numbers.WordId.{WordId}
+use Rattle.wiki_base.proofs.OptionLaws.{option_or-none}
+use Rattle.wiki_base.proofs.ListLaws.{AllPairs-head, AllPairs-tail}
+use Rattle.lexicon.proofs.Reading.{readings_from_none}
 use Rattle.codeco_terms.specs.declared.categories.Ground.{Ground}
 use Rattle.codeco_terms.specs.GrammarParts.{GrammarParts}
-use Rattle.scopes.specs.declared.tests.Test.{Test}
 use Rattle.scopes.specs.Resolution.{agrees}
-use Rattle.lexicon.specs.declared.kinds.Kind.{Kind}
 use Rattle.lexicon.specs.declared.kinds.Forms.{Forms}
 use Rattle.lexicon.specs.declared.words.Word.{Word}
-use Rattle.lexicon.specs.declared.words.LexFault.{LexFault}
-use Rattle.lexicon.specs.declared.words.LexFault.TheVariants.{Taken, Reserved, NoWord}
+use Rattle.lexicon.specs.declared.words.LexFault.TheVariants.{Taken, Reserved}
 use Rattle.lexicon.specs.Terminals.{is_spelling_of, is_reserved, raised}
-use Rattle.lexicon.specs.Words.{Listed, is_among, has_form, has_number, owner, forms_of, others, next_word, with_word, with_forms, without_word, first_taken, first_reserved, fullness, forms_refusal, add_refusal, reword_refusal}
-use Rattle.lexicon.specs.Readings.{reading, readings_from, readings_of_word, readings_of}
+use Rattle.lexicon.specs.Words.{Listed, is_among, has_form, has_number, owner, forms_of, others, next_word, with_word, with_forms, without_word, first_taken, first_reserved, fullness, forms_refusal, add_refusal}
+use Rattle.lexicon.specs.Readings.{readings_of_word, readings_of}
 use Rattle.derivation_trees.specs.Trees.{Node}
-use Rattle.derivation_trees.specs.Settings.{Setting}
 use Rattle.derivation_trees.specs.Derives.{IsDerivation}
 use Rattle.derivation_trees.specs.Sentences.{setting_of}
 use Rattle.derivation_trees.specs.Skeletons.{IsLeast}
-use Rattle.derivations.proofs.Members.{some_same}
-use Rattle.drs_build.proofs.OrderLemmas.{eq_true}
 use Rattle.wiki_parts.specs.Meanings.{Meaning, Means}
 use Rattle.wiki_store.proofs.PassedLemmas.{IsPassed, derivation_passes}
 
@@ -33,37 +30,40 @@ use Rattle.wiki_store.proofs.PassedLemmas.{IsPassed, derivation_passes}
 abbrev pub StandsFor : List (List ℕ) → List Word → List ℕ → Type 0
 StandsFor terminals live token = (is_reserved terminals token ≡ true) ⊎ (readings_of live token ≡ [] → ⊥)
 
-true_or : (a b : Bool) → b ≡ true → (a || b) ≡ true
-true_or true b is = refl
-true_or false b is = is
-
 -- a token that is the terminal at a place is reserved
-reserved_at : (terminals : List (List ℕ)) (token : List ℕ) (t : ℕ) → option_map_or (bytes_eq token) (slice_get terminals t) false ≡ true → is_reserved terminals token ≡ true
+reserved_at : (terminals : List (List ℕ)) (token : List ℕ) (t : ℕ) → option_map_or (bytes_eq token) (slice_get terminals t) false ≡ true
+    → is_reserved terminals token ≡ true
 reserved_at [] token t is = absurd (false≢true is)
 reserved_at (terminal ∷ terminals) token zero is = ap (λ b. (b || bytes_eq token (raised terminal)) || is_reserved terminals token) is
-reserved_at (terminal ∷ terminals) token (suc t) is = true_or (is_spelling_of token terminal) (is_reserved terminals token) (reserved_at terminals token t is)
+reserved_at (terminal ∷ terminals) token (suc t) is = or_right (is_spelling_of token terminal) (is_reserved terminals token) (reserved_at terminals token t is)
 
 -- each token of a derivation stands for something
 token_stands : (g : GrammarParts) (words : Listed) (tokens : List (List ℕ)) (tree : Node) → IsDerivation (setting_of g words tokens) tree
     → (k : ℕ) (token : List ℕ) → slice_get tokens k ≡ Some token → StandsFor g.terminals words.live token
-token_stands g words tokens tree derives k token here = by_case (derivation_passes (setting_of g words tokens) tree derives k (slice_get_within tokens k token here))
+token_stands g words tokens tree derives k token here =
+    by_case (derivation_passes (setting_of g words tokens) tree derives k (slice_get_within tokens k token here))
   where
     by_case : IsPassed (setting_of g words tokens) k → StandsFor g.terminals words.live token
     by_case (inl terminal) =
-        inl (reserved_at g.terminals token terminal.0 (sym (ap (λ (o : Option (List ℕ)). option_map_or (λ t. option_map_or (bytes_eq t) (slice_get g.terminals terminal.0) false) o false) here) ∙ terminal.1))
+        inl (reserved_at g.terminals token terminal.0
+        (sym (ap (λ (o : Option (List ℕ)). option_map_or (λ t. option_map_or (bytes_eq t) (slice_get g.terminals terminal.0) false) o false) here)
+        ∙ terminal.1))
     by_case (inr preterminal) =
-        let there : slice_get (map (readings_of words.live) tokens) k ≡ Some (readings_of words.live token) = slice_get-map (readings_of words.live) tokens k ∙ ap (option_map (readings_of words.live)) here in
+        let there : slice_get (map (readings_of words.live) tokens) k ≡ Some (readings_of words.live token) =
+        slice_get-map (readings_of words.live) tokens k ∙ ap (option_map (readings_of words.live)) here in
         let reads : list_any (λ r. agrees r preterminal.0) (readings_of words.live token) ≡ true =
         sym (ap (λ (o : Option (List Ground)). option_map_or (λ rs. list_any (λ r. agrees r preterminal.0) rs) o false) there) ∙ preterminal.1 in
         inr (λ none. false≢true (sym (ap (λ rs. list_any (λ r. agrees r preterminal.0) rs) none) ∙ reads))
 
 map_same : {X Y : Type 0} (f h : X → Y) (xs : List X) → ((k : ℕ) (x : X) → slice_get xs k ≡ Some x → f x ≡ h x) → map f xs ≡ map h xs
 map_same f h [] same = refl
-map_same {X} {Y} f h (x ∷ xs) same = ap (λ (y : Y). y ∷ map f xs) (same zero x refl) ∙ ap (λ (ys : List Y). h x ∷ ys) (map_same f h xs (λ k y at. same (suc k) y at))
+map_same {X} {Y} f h (x ∷ xs) same = ap (λ (y : Y). y ∷ map f xs) (same zero x refl)
+    ∙ ap (λ (ys : List Y). h x ∷ ys) (map_same f h xs (λ k y at. same (suc k) y at))
 
 -- a sentence has the same meaning by other words, where each of its tokens that stands for something has the same readings
 pub means_by : (g : GrammarParts) (words new : Listed) (tokens : List (List ℕ)) (meaning : Meaning)
-    → ((k : ℕ) (token : List ℕ) → slice_get tokens k ≡ Some token → StandsFor g.terminals words.live token → readings_of new.live token ≡ readings_of words.live token)
+    → ((k : ℕ) (token : List ℕ) → slice_get tokens k ≡ Some token → StandsFor g.terminals words.live token
+    → readings_of new.live token ≡ readings_of words.live token)
     → Means g words tokens meaning → Means g new tokens meaning
 means_by g words new tokens meaning same means =
     let stands = token_stands g words tokens means.is_least.tree means.is_least.derives in
@@ -77,16 +77,6 @@ means_by g words new tokens meaning same means =
 
 -- ---- readings by other words
 
--- a token that is none of the forms has no readings
-readings_from_none : (kind : Kind) (id : WordId) (token : List ℕ) (place : ℕ) (forms : List (List ℕ)) → is_among forms token ≡ false → readings_from kind id token place forms ≡ []
-readings_from_none kind id token place [] lacks = refl
-readings_from_none kind id token place (form ∷ forms) lacks = by_test (bytes_eq token form) lacks (readings_from_none kind id token (place + 1) forms)
-  where
-    by_test : (b : Bool) → (b || is_among forms token) ≡ false → (is_among forms token ≡ false → readings_from kind id token (place + 1) forms ≡ [])
-        → cond b (reading kind id place form ∷ readings_from kind id token (place + 1) forms) (readings_from kind id token (place + 1) forms) ≡ []
-    by_test true lacks rest = absurd (false≢true (sym lacks))
-    by_test false lacks rest = rest lacks
-
 -- a word without the token has no readings of it
 word_reads_none : (token : List ℕ) (word : Word) → has_form token word ≡ false → readings_of_word token word ≡ []
 word_reads_none token word lacks = readings_from_none word.forms.kind word.id token 0 word.forms.texts lacks
@@ -96,62 +86,67 @@ unowned_reads_none : (live : List Word) (token : List ℕ) → owner live token 
 unowned_reads_none [] token none = refl
 unowned_reads_none (word ∷ live) token none = by_test (has_form token word) refl none (unowned_reads_none live token)
   where
-    by_test : (b : Bool) → has_form token word ≡ b → option_map (λ (w : Word). w.id) (cond b (Some word) (find (has_form token) live)) ≡ None → (owner live token ≡ None → readings_of live token ≡ [])
+    by_test : (b : Bool) → has_form token word ≡ b → option_map (λ (w : Word). w.id) (cond b (Some word) (find (has_form token) live)) ≡ None
+        → (owner live token ≡ None → readings_of live token ≡ [])
         → readings_of_word token word ++ readings_of live token ≡ []
     by_test true is taken rest = absurd (none-some word.id (sym taken))
     by_test false is free rest = ap (λ rs. rs ++ readings_of live token) (word_reads_none token word is) ∙ rest free
-
-none_of_both : {X : Type 0} (a b : Option X) → option_or a b ≡ None → (a ≡ None) × (b ≡ None)
-none_of_both None b none = (refl, none)
-none_of_both (Some x) b none = absurd (none-some x (sym none))
 
 -- where none of the texts is taken, no word has any of them
 free_texts : (live : List Word) (texts : List (List ℕ)) → first_taken live texts ≡ None → (text : List ℕ) → is_among texts text ≡ true → owner live text ≡ None
 free_texts live [] free text among = absurd (false≢true among)
 free_texts live (first ∷ texts) free text among =
-    let both = none_of_both (option_map (Taken first) (owner live first)) (first_taken live texts) free in
+    let both = option_or-none (option_map (Taken first) (owner live first)) (first_taken live texts) free in
     by_test (bytes_eq text first) (bytes_eq-Decides text first).0 among (unmapped (owner live first) both.0) (free_texts live texts both.1 text)
   where
     unmapped : (o : Option WordId) → option_map (Taken first) o ≡ None → o ≡ None
     unmapped None none = refl
     unmapped (Some id) none = absurd (none-some (Taken first id) (sym none))
 
-    by_test : (b : Bool) → (b ≡ true → text ≡ first) → (b || is_among texts text) ≡ true → owner live first ≡ None → (is_among texts text ≡ true → owner live text ≡ None) → owner live text ≡ None
+    by_test : (b : Bool) → (b ≡ true → text ≡ first) → (b || is_among texts text) ≡ true → owner live first ≡ None
+        → (is_among texts text ≡ true → owner live text ≡ None) → owner live text ≡ None
     by_test true same among head tail = subst (λ (t : List ℕ). owner live t ≡ None) (sym (same refl)) head
     by_test false same among head tail = tail among
 
 -- where no text is reserved, none of them is
-unreserved_texts : (terminals texts : List (List ℕ)) → first_reserved terminals texts ≡ None → (text : List ℕ) → is_among texts text ≡ true → is_reserved terminals text ≡ false
+unreserved_texts : (terminals texts : List (List ℕ)) → first_reserved terminals texts ≡ None → (text : List ℕ) → is_among texts text ≡ true
+    → is_reserved terminals text ≡ false
 unreserved_texts terminals [] free text among = absurd (false≢true among)
 unreserved_texts terminals (first ∷ texts) free text among =
-    by_test (bytes_eq text first) (is_reserved terminals first) refl (bytes_eq-Decides text first).0 among free (λ rest. unreserved_texts terminals texts rest text)
+    by_test (bytes_eq text first) (is_reserved terminals first) refl (bytes_eq-Decides text first).0 among free
+    (λ rest. unreserved_texts terminals texts rest text)
   where
-    by_test : (b r : Bool) → is_reserved terminals first ≡ r → (b ≡ true → text ≡ first) → (b || is_among texts text) ≡ true → cond r (Some (Reserved first)) (first_reserved terminals texts) ≡ None
+    by_test : (b r : Bool) → is_reserved terminals first ≡ r → (b ≡ true → text ≡ first) → (b || is_among texts text) ≡ true
+        → cond r (Some (Reserved first)) (first_reserved terminals texts) ≡ None
         → (first_reserved terminals texts ≡ None → is_among texts text ≡ true → is_reserved terminals text ≡ false) → is_reserved terminals text ≡ false
     by_test b true is same among free rest = absurd (none-some (Reserved first) (sym free))
     by_test true false is same among free rest = subst (λ (t : List ℕ). is_reserved terminals t ≡ false) (sym (same refl)) is
     by_test false false is same among free rest = rest free among
 
 -- a form that may be given to a word stands for nothing by the words that have it not
-free_form : (live : List Word) (terminals : List (List ℕ)) (forms : Forms) (token : List ℕ) → forms_refusal live terminals forms ≡ None → is_among forms.texts token ≡ true
+free_form : (live : List Word) (terminals : List (List ℕ)) (forms : Forms) (token : List ℕ) → forms_refusal live terminals forms ≡ None
+    → is_among forms.texts token ≡ true
     → (owner live token ≡ None) × (is_reserved terminals token ≡ false)
 free_form live terminals forms token free among =
-    let both = none_of_both (first_taken live forms.texts) (first_reserved terminals forms.texts) free in
+    let both = option_or-none (first_taken live forms.texts) (first_reserved terminals forms.texts) free in
     (free_texts live forms.texts both.0 token among, unreserved_texts terminals forms.texts both.1 token among)
 
-stands_for_none : (terminals : List (List ℕ)) (live : List Word) (token : List ℕ) → is_reserved terminals token ≡ false → readings_of live token ≡ [] → StandsFor terminals live token → ⊥
+stands_for_none : (terminals : List (List ℕ)) (live : List Word) (token : List ℕ) → is_reserved terminals token ≡ false → readings_of live token ≡ []
+    → StandsFor terminals live token → ⊥
 stands_for_none terminals live token free none (inl reserved) = false≢true (sym free ∙ reserved)
 stands_for_none terminals live token free none (inr reads) = reads none
 
 -- ---- a word more
 
 -- a word at the end reads only its forms
-readings_added : (live : List Word) (word : Word) (token : List ℕ) → has_form token word ≡ false → readings_of (live ++ word ∷ []) token ≡ readings_of live token
+readings_added : (live : List Word) (word : Word) (token : List ℕ) → has_form token word ≡ false
+    → readings_of (live ++ word ∷ []) token ≡ readings_of live token
 readings_added [] word token lacks = ap (λ rs. rs ++ []) (word_reads_none token word lacks)
 readings_added (first ∷ live) word token lacks = ap (λ rs. readings_of_word token first ++ rs) (readings_added live word token lacks)
 
 -- what stands for something reads the same with a word more
-readings-with_word : (words : Listed) (forms : Forms) (token : List ℕ) → forms_refusal words.live words.terminals forms ≡ None → StandsFor words.terminals words.live token
+readings-with_word : (words : Listed) (forms : Forms) (token : List ℕ) → forms_refusal words.live words.terminals forms ≡ None
+    → StandsFor words.terminals words.live token
     → readings_of (with_word words forms).live token ≡ readings_of words.live token
 readings-with_word words forms token free stands = by_test (is_among forms.texts token) refl
   where
@@ -162,10 +157,11 @@ readings-with_word words forms token free stands = by_test (is_among forms.texts
     by_test false lacks = readings_added words.live (next_word words forms) token lacks
 
 -- a sentence keeps its meaning where a word is added
-pub means-with_word : (g : GrammarParts) (words : Listed) (forms : Forms) (tokens : List (List ℕ)) (meaning : Meaning) → words.terminals ≡ g.terminals → add_refusal words forms ≡ None
+pub means-with_word : (g : GrammarParts) (words : Listed) (forms : Forms) (tokens : List (List ℕ)) (meaning : Meaning) → words.terminals ≡ g.terminals
+    → add_refusal words forms ≡ None
     → Means g words tokens meaning → Means g (with_word words forms) tokens meaning
 means-with_word g words forms tokens meaning own free means =
-    let fits = (none_of_both (forms_refusal words.live words.terminals forms) (fullness words) free).0 in
+    let fits = (option_or-none (forms_refusal words.live words.terminals forms) (fullness words) free).0 in
     means_by g words (with_word words forms) tokens meaning
     (λ k token here stands. readings-with_word words forms token fits (subst (λ (ts : List (List ℕ)). StandsFor ts words.live token) (sym own) stands)) means
 
@@ -177,33 +173,31 @@ Lacks id token [] = Unit {0}
 Lacks id token (word ∷ live) = (has_number id word ≡ true → has_form token word ≡ false) × Lacks id token live
 
 -- no word of a greater number than this has the number
-lacks_later : (id : WordId) (token : List ℕ) (n : ℕ) (live : List Word) → n ≡ id.0 → ((k : ℕ) (d : Word) → k < length live → n < (get_or live k d).id.0) → Lacks id token live
+lacks_later : (id : WordId) (token : List ℕ) (n : ℕ) (live : List Word) → n ≡ id.0 → ((k : ℕ) (d : Word) → k < length live → n < (get_or live k d).id.0)
+    → Lacks id token live
 lacks_later id token n [] is later = tt
 lacks_later id token n (word ∷ live) is later =
-    let above = later zero word (omega arith) in
-    ((λ same. let equal = eq_true word.id.0 id.0 same in absurd (omega (arith, above, equal, is))), lacks_later id token n live is (λ k d within. later (suc k) d (omega (arith, within))))
-
-pairs_head : {X : Type 0} (R : X → X → Type 0) (x : X) (xs : List X) → AllPairs R (x ∷ xs) → (k : ℕ) (d : X) → k < length xs → R x (get_or xs k d)
-pairs_head R x xs pairs k d in_range = pairs zero (suc k) d (omega arith) (omega arith)
-
-pairs_tail : {X : Type 0} (R : X → X → Type 0) (x : X) (xs : List X) → AllPairs R (x ∷ xs) → AllPairs R xs
-pairs_tail R x xs pairs i j d before in_range = pairs (suc i) (suc j) d (omega arith) (omega arith)
+    let above = later zero word (omega arith) in (
+      (λ same. let equal = eqb-true word.id.0 id.0 same in absurd (omega (arith, above, equal, is))),
+      lacks_later id token n live is (λ k d within. later (suc k) d (omega (arith, within))),
+    )
 
 abbrev rises : Word → Word → Type 0
 rises word later = word.id.0 < later.id.0
 
 -- a token that is no form of the word is none of the words with its number
-lacks_form : (live : List Word) → AllPairs rises live → (id : WordId) (forms : Forms) (token : List ℕ) → forms_of live id ≡ Some forms → is_among forms.texts token ≡ false → Lacks id token live
+lacks_form : (live : List Word) → AllPairs rises live → (id : WordId) (forms : Forms) (token : List ℕ) → forms_of live id ≡ Some forms
+    → is_among forms.texts token ≡ false → Lacks id token live
 lacks_form [] in_order id forms token of_word lacks = tt
 lacks_form (word ∷ live) in_order id forms token of_word lacks =
-    by_test (has_number id word) refl of_word (λ later. lacks_form live (pairs_tail rises word live in_order) id forms token later lacks)
+    by_test (has_number id word) refl of_word (λ later. lacks_form live (AllPairs-tail rises word live in_order) id forms token later lacks)
   where
     by_test : (b : Bool) → has_number id word ≡ b → option_map (λ (w : Word). w.forms) (cond b (Some word) (find (has_number id) live)) ≡ Some forms
         → (forms_of live id ≡ Some forms → Lacks id token live) → Lacks id token (word ∷ live)
     by_test true is here rest =
         let own : word.forms ≡ forms = ap (λ (o : Option Forms). option_map_or (λ (f : Forms). f) o word.forms) here in (
           (λ same. ap (λ (f : Forms). is_among f.texts token) own ∙ lacks),
-          lacks_later id token word.id.0 live (eq_true word.id.0 id.0 is) (λ k d within. pairs_head rises word live in_order k d within),
+          lacks_later id token word.id.0 live (eqb-true word.id.0 id.0 is) (λ k d within. AllPairs-head rises word live in_order k d within),
         )
     by_test false is there rest = ((λ same. absurd (false≢true (sym is ∙ same))), rest there)
 
@@ -234,14 +228,16 @@ readings_changed (word ∷ live) id forms token fresh lacks = by_test (has_numbe
     by_test false here rest = ap (λ rs. readings_of_word token word ++ rs) rest
 
 -- what stands for something, and is no form of the word, reads the same where the word gets other forms
-readings-with_forms : (words : Listed) (id : WordId) (forms : Forms) (token : List ℕ) → forms_refusal (others words.live id) words.terminals forms ≡ None → Lacks id token words.live
+readings-with_forms : (words : Listed) (id : WordId) (forms : Forms) (token : List ℕ) → forms_refusal (others words.live id) words.terminals forms ≡ None
+    → Lacks id token words.live
     → StandsFor words.terminals words.live token → readings_of (with_forms words id forms).live token ≡ readings_of words.live token
 readings-with_forms words id forms token free lacks stands = by_test (is_among forms.texts token) refl
   where
     by_test : (b : Bool) → is_among forms.texts token ≡ b → readings_of (with_forms words id forms).live token ≡ readings_of words.live token
     by_test true among =
         let form = free_form (others words.live id) words.terminals forms token free among in
-        absurd (stands_for_none words.terminals words.live token form.1 (sym (readings-others words.live id token lacks) ∙ unowned_reads_none (others words.live id) token form.0) stands)
+        absurd (stands_for_none words.terminals words.live token form.1
+        (sym (readings-others words.live id token lacks) ∙ unowned_reads_none (others words.live id) token form.0) stands)
     by_test false fresh = readings_changed words.live id forms token fresh lacks
 
 -- where none passes, the one at a place doesn't
@@ -252,21 +248,25 @@ none_passes {X} p (y ∷ ys) k x fails here = by_test (p y) refl fails k here (n
     by_test : (b : Bool) → p y ≡ b → (b || list_any p ys) ≡ false → (n : ℕ) → slice_get (y ∷ ys) n ≡ Some x
         → ((n : ℕ) (z : X) → list_any p ys ≡ false → slice_get ys n ≡ Some z → p z ≡ false) → p x ≡ false
     by_test true is none n at rest = absurd (false≢true (sym none))
-    by_test false is none zero at rest = ap p (sym (some_same y x at)) ∙ is
+    by_test false is none zero at rest = ap p (sym (same_Some y x at)) ∙ is
     by_test false is none (suc n) at rest = rest n x none at
 
 -- a sentence that has no form of the word keeps its meaning without it
-pub means-without_word : (g : GrammarParts) (words : Listed) (id : WordId) (forms : Forms) (tokens : List (List ℕ)) (meaning : Meaning) → AllPairs rises words.live → forms_of words.live id ≡ Some forms
+pub means-without_word : (g : GrammarParts) (words : Listed) (id : WordId) (forms : Forms) (tokens : List (List ℕ)) (meaning : Meaning)
+    → AllPairs rises words.live → forms_of words.live id ≡ Some forms
     → list_any (is_among forms.texts) tokens ≡ false → Means g words tokens meaning → Means g (without_word words id) tokens meaning
 means-without_word g words id forms tokens meaning in_order of_word unused means =
     means_by g words (without_word words id) tokens meaning
-    (λ k token here stands. readings-others words.live id token (lacks_form words.live in_order id forms token of_word (none_passes (is_among forms.texts) tokens k token unused here))) means
+    (λ k token here stands. readings-others words.live id token
+    (lacks_form words.live in_order id forms token of_word (none_passes (is_among forms.texts) tokens k token unused here))) means
 
 -- a sentence that has no form of the word keeps its meaning where the word gets others
-pub means-with_forms : (g : GrammarParts) (words : Listed) (id : WordId) (old forms : Forms) (tokens : List (List ℕ)) (meaning : Meaning) → words.terminals ≡ g.terminals → AllPairs rises words.live
+pub means-with_forms : (g : GrammarParts) (words : Listed) (id : WordId) (old forms : Forms) (tokens : List (List ℕ)) (meaning : Meaning)
+    → words.terminals ≡ g.terminals → AllPairs rises words.live
     → forms_of words.live id ≡ Some old → forms_refusal (others words.live id) words.terminals forms ≡ None
     → list_any (is_among old.texts) tokens ≡ false → Means g words tokens meaning → Means g (with_forms words id forms) tokens meaning
 means-with_forms g words id old forms tokens meaning own in_order of_word free unused means =
     means_by g words (with_forms words id forms) tokens meaning
-    (λ k token here stands. readings-with_forms words id forms token free (lacks_form words.live in_order id old token of_word (none_passes (is_among old.texts) tokens k token unused here))
+    (λ k token here stands. readings-with_forms words id forms token free
+    (lacks_form words.live in_order id old token of_word (none_passes (is_among old.texts) tokens k token unused here))
     (subst (λ (ts : List (List ℕ)). StandsFor ts words.live token) (sym own) stands)) means

@@ -3,7 +3,7 @@ use Rattle.std.proofs.Common.{◌≡◌, ℕ, ◌+◌, ◌<◌, ◌≤◌, ◌�
 use Rattle.std.specs.Prelude.{option_and_then}
 use Rattle.std.specs.List.{list_any}
 use Rattle.std.proofs.lemmas.Bool.{cases_lt}
-use Rattle.std.proofs.lemmas.Option.{none-some}
+use Rattle.std.proofs.lemmas.Option.{none-some, same_Some}
 use Rattle.codeco_terms.specs.declared.values.Value.{Value}
 use Rattle.codeco_terms.specs.declared.values.Value.TheVariants.{Pos}
 use Rattle.codeco_terms.specs.declared.categories.Pattern.{Pattern}
@@ -11,16 +11,15 @@ use Rattle.codeco_terms.specs.declared.elements.Element.{Element}
 use Rattle.codeco_terms.specs.declared.elements.Element.TheVariants.{Terminal, Preterminal, Sub, Position, Opener, Forward, Strong, Back, NoBack}
 use Rattle.codeco_terms.specs.declared.rules.Rule.{Rule}
 use Rattle.codeco_terms.specs.Values.{same_value}
-use Rattle.scopes.specs.declared.tests.Test.{Test}
+use Rattle.scopes.specs.declared.agreement.Test.{Test}
 use Rattle.scopes.specs.Resolution.{Finding, is_agreeing, closest_finding}
 use Rattle.derivation_trees.specs.Trees.{Node, Nodes, node, none, more}
 use Rattle.derivation_trees.specs.Settings.{Setting, matches_terminal, matches_preterminal}
 use Rattle.derivation_trees.specs.Instances.{value_under, under, tests_under}
-use Rattle.derivation_trees.specs.Derives.{At, Stand, moved, pass, pass_token, pass_child, pass_finding, is_found, reference_tests, run, phrase, phrase_of, phrases_of, rule_with, text_category, list_after, IsDerivation}
+use Rattle.derivation_trees.specs.Derives.{At, Stand, moved, pass, pass_token, pass_child, pass_finding, is_found, reference_tests, run, phrase, phrase_of, phrases_of, rule_with, text_category, IsDerivation}
 use Rattle.derivation_trees.specs.Skeletons.{start}
 use Rattle.derivation_trees.specs.Stands.{is_sub}
-use Rattle.derivations.proofs.Members.{some_same}
-use Rattle.derivations.proofs.ListingLemmas.{Parts, phrase_parts}
+use Rattle.derivations.proofs.ListingLemmas.{phrase_parts}
 
 -- the token at the place is a terminal of the grammar, or has a reading
 abbrev pub IsPassed : Setting → ℕ → Type 0
@@ -54,7 +53,7 @@ record IsNext (s : Setting) (stand next : Stand) : Type 0 where
 
 next_some : (s : Setting) (stand one next : Stand) → one.at.place ≡ stand.at.place → one.children ≡ stand.children → Some one ≡ Some next → IsNext s stand next
 next_some s stand one next place children h =
-    let same = some_same one next h in
+    let same = same_Some one next h in
     record {
       children = ap (λ (x : Stand). x.children) (sym same) ∙ children;
       passed = subst (λ (n : ℕ). ArePassed s stand.at.place n) (sym place ∙ ap (λ (x : Stand). x.at.place) same) (passed_none s stand.at.place);
@@ -62,14 +61,15 @@ next_some s stand one next place children h =
 
 next_token : (s : Setting) (b : Bool) (stand next : Stand) → (b ≡ true → IsPassed s stand.at.place) → pass_token b stand ≡ Some next → IsNext s stand next
 next_token s true stand next passes h =
-    let same = some_same (moved stand (stand.at.place + 1) stand.at.list) next h in
+    let same = same_Some (moved stand (stand.at.place + 1) stand.at.list) next h in
     record {
       children = ap (λ (x : Stand). x.children) (sym same);
       passed = subst (λ (n : ℕ). ArePassed s stand.at.place n) (ap (λ (x : Stand). x.at.place) same) (passed_one s stand.at.place (passes refl));
     }
 next_token s false stand next passes h = absurd (none-some next h)
 
-next_test : (s : Setting) (b : Bool) (stand one next : Stand) → one.at.place ≡ stand.at.place → one.children ≡ stand.children → cond b (Some one) None ≡ Some next → IsNext s stand next
+next_test : (s : Setting) (b : Bool) (stand one next : Stand) → one.at.place ≡ stand.at.place → one.children ≡ stand.children
+    → cond b (Some one) None ≡ Some next → IsNext s stand next
 next_test s true stand one next place children h = next_some s stand one next place children h
 next_test s false stand one next place children h = absurd (none-some next h)
 
@@ -81,18 +81,22 @@ next_finding : (s : Setting) (values : List (ℕ × Value)) (positive : List Pat
     → pass_finding values positive finding positions stand ≡ Some next → IsNext s stand next
 next_finding s values positive finding [] stand next h = absurd (none-some next h)
 next_finding s values positive finding (pos ∷ rest) stand next h =
-    next_test s (is_found values positive pos finding) stand (record { at = stand.at; found = rest; own = stand.own; children = stand.children }) next refl refl h
+    next_test s (is_found values positive pos finding) stand (record { at = stand.at; found = rest; own = stand.own; children = stand.children }) next refl refl
+    h
 
 -- an element that is no category passes its token, if it has one
-next_plain : (s : Setting) (values : List (ℕ × Value)) (e : Element) (stand next : Stand) → is_sub e ≡ false → pass s values e stand ≡ Some next → IsNext s stand next
+next_plain : (s : Setting) (values : List (ℕ × Value)) (e : Element) (stand next : Stand) → is_sub e ≡ false → pass s values e stand ≡ Some next
+    → IsNext s stand next
 next_plain s values (Terminal t) stand next plain h = next_token s (matches_terminal s t stand.at.place) stand next (λ is. inl (t, is)) h
-next_plain s values (Preterminal c) stand next plain h = next_token s (matches_preterminal s (under values c) stand.at.place) stand next (λ is. inr (under values c, is)) h
+next_plain s values (Preterminal c) stand next plain h =
+    next_token s (matches_preterminal s (under values c) stand.at.place) stand next (λ is. inr (under values c, is)) h
 next_plain s values (Sub c) stand next plain h = absurd cc
 next_plain s values (Position x) stand next plain h = next_test s (same_value (value_under values x) (Pos stand.at.place)) stand stand next refl refl h
 next_plain s values Opener stand next plain h = next_some s stand _ next refl refl h
 next_plain s values (Forward c) stand next plain h = next_some s stand _ next refl refl h
 next_plain s values (Strong c) stand next plain h = next_some s stand _ next refl refl h
-next_plain s values (Back ps ns) stand next plain h = next_finding s values ps (closest_finding (reference_tests values ps ns) stand.at.list) stand.found stand next h
+next_plain s values (Back ps ns) stand next plain h =
+    next_finding s values ps (closest_finding (reference_tests values ps ns) stand.at.list) stand.found stand next h
 next_plain s values (NoBack ps) stand next plain h = next_no_test s (list_any (is_agreeing (tests_under values ps)) stand.at.list) stand next h
 
 -- a node that derives passes the tokens between its places
@@ -105,7 +109,8 @@ AreWhole s (more n ns) = IsWhole s n × AreWhole s ns
 
 walk : (s : Setting) (values : List (ℕ × Value)) (es : List Element) (ns : Nodes) (stand after : Stand) → AreWhole s ns → stand.children ≡ phrases_of s ns
     → run s values es stand ≡ Some after → ArePassed s stand.at.place after.at.place
-walk s values [] ns stand after whole children h = subst (λ (x : Stand). ArePassed s stand.at.place x.at.place) (some_same stand after h) (passed_none s stand.at.place)
+walk s values [] ns stand after whole children h =
+    subst (λ (x : Stand). ArePassed s stand.at.place x.at.place) (same_Some stand after h) (passed_none s stand.at.place)
 walk s values (Sub c ∷ es) none stand after whole children h =
     absurd (none-some after (sym (ap (λ ps. option_and_then (run s values es) (pass_child (under values c) ps stand)) children) ∙ h))
 walk s values (Sub c ∷ es) (more n ns) stand after whole children h =
@@ -114,7 +119,8 @@ walk s values (Sub c ∷ es) (more n ns) stand after whole children h =
   where
     by : ((next : Stand) → next.children ≡ phrases_of s ns → run s values es next ≡ Some after → ArePassed s next.at.place after.at.place)
         → (o : Option At) → phrase_of s n (under values c) stand.at ≡ o
-        → option_and_then (run s values es) (option_and_then (λ at. Some (record { at = at; found = stand.found; own = stand.own; children = phrases_of s ns })) o) ≡ Some after
+        → option_and_then (run s values es)
+        (option_and_then (λ at. Some (record { at = at; found = stand.found; own = stand.own; children = phrases_of s ns })) o) ≡ Some after
         → ArePassed s stand.at.place after.at.place
     by later None w k = absurd (none-some after k)
     by later (Some at) w k =
@@ -133,13 +139,15 @@ node_whole : (s : Setting) (rule : Rule) (values : List (ℕ × Value)) (found :
     → phrase s rule values found (phrases_of s children) asked at ≡ Some after → ArePassed s at.place after.place
 node_whole s rule values found children asked at after whole h =
     let parts = phrase_parts s rule values found (phrases_of s children) asked at after h in
-    subst (λ (x : At). ArePassed s at.place x.place) (sym parts.ends) (walk s values rule.body children (start rule values found (phrases_of s children) at) parts.stand whole refl parts.ran)
+    subst (λ (x : At). ArePassed s at.place x.place) (sym parts.ends)
+    (walk s values rule.body children (start rule values found (phrases_of s children) at) parts.stand whole refl parts.ran)
 
 mutual
   each_whole : (s : Setting) (n : Node) → IsWhole s n
   each_whole s (node number values found children) asked at after h = by (all_whole s children) (rule_with s.grammar number) h
     where
-      by : AreWhole s children → (o : Option Rule) → option_and_then (λ r. phrase s r values found (phrases_of s children) asked at) o ≡ Some after → ArePassed s at.place after.place
+      by : AreWhole s children → (o : Option Rule) → option_and_then (λ r. phrase s r values found (phrases_of s children) asked at) o ≡ Some after
+          → ArePassed s at.place after.place
       by whole None k = absurd (none-some after k)
       by whole (Some rule) k = node_whole s rule values found children asked at after whole k
 
@@ -150,4 +158,5 @@ mutual
 -- each token of a derivation is a terminal of the grammar, or has a reading
 pub derivation_passes : (s : Setting) (tree : Node) → IsDerivation s tree → (k : ℕ) → k < length s.tokens → IsPassed s k
 derivation_passes s tree derives k within =
-    (each_whole s tree text_category (record { place = 0; list = [] }) (record { place = length s.tokens; list = derives.0 }) derives.1).each k (omega arith) within
+    (each_whole s tree text_category (record { place = 0; list = [] }) (record { place = length s.tokens; list = derives.0 }) derives.1).each k (omega arith)
+    within

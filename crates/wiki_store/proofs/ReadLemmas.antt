@@ -24,12 +24,15 @@ use Rattle.wiki_parts.specs.Telling.{is_question}
 use Rattle.wiki_store.proofs.AroundLemmas.{mean_at, item}
 
 -- what is kept of the article of a word is the meanings of its sentences
-pub mean_there : (g : GrammarParts) (words : Listed) (articles : List Article) (senses : List (List Sense)) → MeanInEach g words articles senses → AreInOrder articles
-    → (word : WordId) (place : ℕ) → IsPlaceOf articles word place → (own : List Sense) → slice_get senses place ≡ Some own → (article : Article) → article_of articles word ≡ Some article
+pub mean_there : (g : GrammarParts) (words : Listed) (articles : List Article) (senses : List (List Sense)) → MeanInEach g words articles senses
+    → AreInOrder articles
+    → (word : WordId) (place : ℕ) → IsPlaceOf articles word place → (own : List Sense) → slice_get senses place ≡ Some own → (article : Article)
+    → article_of articles word ≡ Some article
     → MeanEach g words article.sentences (meanings_in own)
 mean_there g words articles senses mean ordered word place is own meant article found =
     let a = item articles place is.in_range in
-    let there : article_of articles word ≡ Some a.0 = article_at articles ordered word place a.0 is ∙ ap Some (get_or_from_slice_get articles place a.0 a.0 a.1) in
+    let there : article_of articles word ≡ Some a.0 =
+    article_at articles ordered word place a.0 is ∙ ap Some (get_or_from_slice_get articles place a.0 a.0 a.1) in
     let same : a.0 ≡ article = ap (λ (o : Option Article). unwrap_or o article) (sym there ∙ found) in
     subst (λ (b : Article). MeanEach g words b.sentences (meanings_in own)) same (mean_at g words articles senses place a.0 own mean a.1 meant)
 
@@ -38,7 +41,8 @@ abbrev pub IsMeant : GrammarParts → Listed → Sentence → Sense → Type 0
 IsMeant g words sentence sense = Means g words sentence.tokens (meaning_shown sense) × FitsMeaning sentence.status (meaning_shown sense)
 
 -- each of the sentences has its meaning
-pub meant-at : (g : GrammarParts) (words : Listed) (ss : List Sentence) (ms : List Sense) → MeanEach g words ss (meanings_in ms) → (k : ℕ) (s : Sentence) (m : Sense) → k < length ss
+pub meant-at : (g : GrammarParts) (words : Listed) (ss : List Sentence) (ms : List Sense) → MeanEach g words ss (meanings_in ms)
+    → (k : ℕ) (s : Sentence) (m : Sense) → k < length ss
     → s ≡ get_or ss k s → m ≡ get_or ms k m → IsMeant g words s m
 meant-at g words [] ms mean k s m within here meant = absurd (omega (arith, within))
 meant-at g words (t ∷ ss) [] mean k s m within here meant = absurd mean
@@ -48,10 +52,8 @@ meant-at g words (t ∷ ss) (n ∷ ms) mean (suc k) s m within here meant = mean
 
 -- whether it asks for a class
 abbrev pub is_asking : Sense → Bool
-is_asking (senses.Stating axioms) = false
-is_asking (senses.Outside cause) = false
 is_asking (senses.Asking class) = true
-is_asking (senses.AskingOutside cause) = false
+is_asking _ = false
 
 -- the status of a sentence tells whether it asks for a class
 pub asks-same : (status : Status) (sense : Sense) → FitsMeaning status (meaning_shown sense) → is_question status ≡ is_asking sense
@@ -65,7 +67,8 @@ asks-same (statuses.QuestionOutside cause) (senses.AskingOutside other) fits = r
 asks-same status sense fits = absurd fits
 
 -- one sentence more is told
-pub told-more : {V : Type 0} (R : Sentence → V → Type 0) (ss : List Sentence) (views : List V) (k : ℕ) (s : Sentence) (view : V) → AllZip R (take k ss) views → k < length ss
+pub told-more : {V : Type 0} (R : Sentence → V → Type 0) (ss : List Sentence) (views : List V) (k : ℕ) (s : Sentence) (view : V) → AllZip R (take k ss) views
+    → k < length ss
     → s ≡ get_or ss k s → R s view → AllZip R (take (k + 1) ss) (views ++ view ∷ [])
 told-more R ss views k s view so_far within here holds =
     subst (λ (xs : List Sentence). AllZip R xs (views ++ view ∷ [])) (sym (take_more ss k s within ∙ ap (λ (t : Sentence). take k ss ++ t ∷ []) (sym here)))

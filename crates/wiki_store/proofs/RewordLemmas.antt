@@ -1,23 +1,19 @@
 -- When a word gets other forms, and when not.
-use Rattle.std.proofs.Common.{◌≡◌, ℕ, zero, suc, ◌+◌, ◌<◌, Bool, true, false, not, cond, List, [], ◌∷◌, ◌++◌, length, map, find, get_or, take, All, AllPairs, Option, Some, None, IsSome, is_some, inl, inr, refl, sym, ap, subst, ◌∙◌, arith, option_map}
-use Rattle.std.specs.List.{slice_get, list_any}
+use Rattle.std.proofs.Common.{◌≡◌, ℕ, ◌+◌, ◌<◌, Bool, true, false, not, cond, List, [], ◌∷◌, ◌++◌, map, find, All, Option, Some, None, IsSome, inl, inr, refl, sym, ap, subst, ◌∙◌, option_map}
 use Rattle.std.specs.Option.{option_map_or, option_or, option_and_then, IsSomeAnd}
 use Rattle.std.proofs.lemmas.Bool.{false≢true}
 use Rattle.std.proofs.lemmas.List.Elements.{All-nil, All-cons, All-head, All-tail, All-append}
-use Rattle.std.proofs.lemmas.Option.{none-some, slice_get_within, get_or_from_slice_get}
+use Rattle.std.proofs.lemmas.Option.{none-some, slice_get_within, get_or_from_slice_get, same_Some}
 use Rattle.wiki_base.specs.declared.numbers.WordId.{WordId}
-use Rattle.codeco_terms.specs.GrammarParts.{GrammarParts}
-use Rattle.derivations.proofs.Members.{some_same}
 use Rattle.lexicon.specs.declared.kinds.Forms.{Forms}
 use Rattle.lexicon.specs.declared.words.Word.{Word}
 use Rattle.lexicon.specs.declared.words.LexFault.{LexFault}
 use Rattle.lexicon.specs.declared.words.LexLimit.{LexLimit}
 use Rattle.lexicon.specs.declared.words.LexFault.TheVariants.{Taken, Reserved, NoWord, Full}
 use Rattle.lexicon.specs.Terminals.{is_reserved}
-use Rattle.lexicon.specs.Words.{Listed, IsLexicon, is_among, has_number, owner, forms_of, others, with_forms, first_taken, first_reserved, forms_refusal, reword_refusal}
+use Rattle.lexicon.specs.Words.{Listed, IsLexicon, has_number, owner, forms_of, others, with_forms, first_taken, first_reserved, forms_refusal, reword_refusal}
 use Rattle.lexicon.proofs.Owners.{owner_lives, owner-forms_refusal}
 use Rattle.wiki_talk.specs.declared.refusals.Refusal.{Refusal}
-use Rattle.wiki_talk.specs.declared.refusals.Refusal.TheVariants.{Breaks}
 use Rattle.articles.specs.declared.sentences.Sentence.{Sentence}
 use Rattle.articles.specs.declared.article.Article.{Article}
 use Rattle.articles.specs.Articles.{article_of, HasArticle}
@@ -25,11 +21,11 @@ use Rattle.wiki_parts.specs.declared.faults.Fault.{Fault}
 use Rattle.wiki_parts.specs.declared.faults.Fault.TheVariants.{Refused, Memory}
 use Rattle.wiki_parts.specs.Faults.{IsAbsent, IsCause, IsFault}
 use Rattle.wiki_parts.specs.Knowledge.{sentences_in}
-use Rattle.wiki_parts.specs.Meanings.{Meaning, Means}
+use Rattle.wiki_parts.specs.Meanings.{Means}
 use Rattle.wiki_parts.specs.Places.{word_named, Placed, placed_from, placed_in, all_placed, IsFirstPlaced}
-use Rattle.wiki_parts.specs.Refusing.{FirstOf, NamesNoWord, IsBadReword, BreaksSentence, IsInUse, KeepsMeaning, TellsPlace, reword_cause, uses_word}
+use Rattle.wiki_parts.specs.Refusing.{FirstOf, NamesNoWord, IsBadReword, BreaksSentence, IsInUse, KeepsMeaning, reword_cause, uses_word}
 use Rattle.wiki_parts.specs.State.{State, IsSound}
-use Rattle.wiki_parts.specs.Words.{forms_given, word_with}
+use Rattle.wiki_parts.specs.Words.{forms_given}
 use Rattle.wiki_parts.proofs.FirstLemmas.{none_stands, nothing_stands}
 use Rattle.wiki_parts.proofs.UseLemmas.{lives-article}
 use Rattle.wiki_store.specs.Rewording.{KeepsSentences, KeepsOthers, IsBroken}
@@ -42,29 +38,36 @@ forms-others : (live : List Word) (id other : WordId) → IsSome (forms_of (othe
 forms-others [] id other lives = lives
 forms-others (word ∷ live) id other lives = by_tests (has_number id word) (has_number other word) refl lives (forms-others live id other)
   where
-    by_tests : (b d : Bool) → has_number other word ≡ d → IsSome (forms_of (cond (not b) (word ∷ others live id) (others live id)) other) → (IsSome (forms_of (others live id) other) → IsSome (forms_of live other))
+    by_tests : (b d : Bool) → has_number other word ≡ d → IsSome (forms_of (cond (not b) (word ∷ others live id) (others live id)) other)
+        → (IsSome (forms_of (others live id) other) → IsSome (forms_of live other))
         → IsSome (option_map (λ (w : Word). w.forms) (cond d (Some word) (find (has_number other) live)))
     by_tests b true is there rest = refl
     by_tests true false is there rest = rest there
-    by_tests false false is there rest = rest (subst (λ (d : Bool). IsSome (option_map (λ (w : Word). w.forms) (cond d (Some word) (find (has_number other) (others live id))))) is there)
+    by_tests false false is there rest =
+        rest (subst (λ (d : Bool). IsSome (option_map (λ (w : Word). w.forms) (cond d (Some word) (find (has_number other) (others live id))))) is there)
 
 -- where the word lives, only its forms are refused
-reword_refusal-is : (listed : Listed) (id : WordId) (forms : Forms) → IsSome (forms_of listed.live id) → reword_refusal listed id forms ≡ forms_refusal (others listed.live id) listed.terminals forms
+reword_refusal-is : (listed : Listed) (id : WordId) (forms : Forms) → IsSome (forms_of listed.live id)
+    → reword_refusal listed id forms ≡ forms_refusal (others listed.live id) listed.terminals forms
 reword_refusal-is listed id forms lives = by (forms_of listed.live id) lives
   where
-    by : (o : Option Forms) → IsSome o → option_map_or (λ _. forms_refusal (others listed.live id) listed.terminals forms) o (Some (NoWord id)) ≡ forms_refusal (others listed.live id) listed.terminals forms
+    by : (o : Option Forms) → IsSome o → option_map_or (λ _. forms_refusal (others listed.live id) listed.terminals forms) o (Some (NoWord id))
+        ≡ forms_refusal (others listed.live id) listed.terminals forms
     by None none = absurd (false≢true none)
     by (Some old) there = refl
 
-pub forms_free : (listed : Listed) (id : WordId) (forms : Forms) → IsSome (forms_of listed.live id) → reword_refusal listed id forms ≡ None → forms_refusal (others listed.live id) listed.terminals forms ≡ None
+pub forms_free : (listed : Listed) (id : WordId) (forms : Forms) → IsSome (forms_of listed.live id) → reword_refusal listed id forms ≡ None
+    → forms_refusal (others listed.live id) listed.terminals forms ≡ None
 forms_free listed id forms lives none = sym (reword_refusal-is listed id forms lives) ∙ none
 
 -- the word that has a form that is taken lives
-pub taken_lives : (listed : Listed) (id : WordId) (forms : Forms) (text : List ℕ) (other : WordId) → IsSome (forms_of listed.live id) → reword_refusal listed id forms ≡ Some (Taken text other)
+pub taken_lives : (listed : Listed) (id : WordId) (forms : Forms) (text : List ℕ) (other : WordId) → IsSome (forms_of listed.live id)
+    → reword_refusal listed id forms ≡ Some (Taken text other)
     → IsSome (forms_of listed.live other)
 taken_lives listed id forms text other lives taken =
     forms-others listed.live id other
-    (owner_lives (others listed.live id) text other (owner-forms_refusal (others listed.live id) listed.terminals forms text other (sym (reword_refusal-is listed id forms lives) ∙ taken)))
+    (owner_lives (others listed.live id) text other
+    (owner-forms_refusal (others listed.live id) listed.terminals forms text other (sym (reword_refusal-is listed id forms lives) ∙ taken)))
 
 -- forms are refused for a text alone
 abbrev is_of_text : LexFault → Bool
@@ -97,21 +100,26 @@ either_for_text None q a b = b
 either_for_text (Some fault) q a b = a
 
 -- where the word lives, its forms are refused for a text alone
-reworded_for_text : (listed : Listed) (id : WordId) (forms : Forms) → IsSome (forms_of listed.live id) → (fault : LexFault) → reword_refusal listed id forms ≡ Some fault → is_of_text fault ≡ true
+reworded_for_text : (listed : Listed) (id : WordId) (forms : Forms) → IsSome (forms_of listed.live id) → (fault : LexFault)
+    → reword_refusal listed id forms ≡ Some fault → is_of_text fault ≡ true
 reworded_for_text listed id forms lives fault is =
     ap is_for_text (sym is ∙ reword_refusal-is listed id forms lives)
-    ∙ either_for_text (first_taken (others listed.live id) forms.texts) (first_reserved listed.terminals forms.texts) (taken_for_text (others listed.live id) forms.texts)
+    ∙ either_for_text (first_taken (others listed.live id) forms.texts) (first_reserved listed.terminals forms.texts)
+    (taken_for_text (others listed.live id) forms.texts)
     (reserved_for_text listed.terminals forms.texts)
 
-pub reword_names_none : (listed : Listed) (id : WordId) (forms : Forms) → IsSome (forms_of listed.live id) → (other : WordId) → reword_refusal listed id forms ≡ Some (NoWord other) → ⊥
+pub reword_names_none : (listed : Listed) (id : WordId) (forms : Forms) → IsSome (forms_of listed.live id) → (other : WordId)
+    → reword_refusal listed id forms ≡ Some (NoWord other) → ⊥
 reword_names_none listed id forms lives other is = false≢true (reworded_for_text listed id forms lives (NoWord other) is)
 
-pub reword_has_room : (listed : Listed) (id : WordId) (forms : Forms) → IsSome (forms_of listed.live id) → (limit : LexLimit) → reword_refusal listed id forms ≡ Some (Full limit) → ⊥
+pub reword_has_room : (listed : Listed) (id : WordId) (forms : Forms) → IsSome (forms_of listed.live id) → (limit : LexLimit)
+    → reword_refusal listed id forms ≡ Some (Full limit) → ⊥
 reword_has_room listed id forms lives limit is = false≢true (reworded_for_text listed id forms lives (Full limit) is)
 
 -- ---- the words with other forms
 
-numbers-with_forms : (live : List Word) (id : WordId) (forms : Forms) → map (λ (w : Word). w.id) (map (λ word. cond (has_number id word) (record word { forms = forms }) word) live) ≡ map (λ (w : Word). w.id) live
+numbers-with_forms : (live : List Word) (id : WordId) (forms : Forms)
+    → map (λ (w : Word). w.id) (map (λ word. cond (has_number id word) (record word { forms = forms }) word) live) ≡ map (λ (w : Word). w.id) live
 numbers-with_forms [] id forms = refl
 numbers-with_forms (word ∷ live) id forms = by (has_number id word) (numbers-with_forms live id forms)
   where
@@ -123,7 +131,8 @@ numbers-with_forms (word ∷ live) id forms = by (has_number id word) (numbers-w
     by false rest = ap (λ ids. word.id ∷ ids) rest
 
 -- what is true of the sentence at each place is true of each sentence
-placed_sentences : (Q : Sentence → Type 0) (word : WordId) (place : ℕ) (sentences : List Sentence) → All (λ placed. Q placed.sentence) (placed_from word place sentences) → All Q sentences
+placed_sentences : (Q : Sentence → Type 0) (word : WordId) (place : ℕ) (sentences : List Sentence)
+    → All (λ placed. Q placed.sentence) (placed_from word place sentences) → All Q sentences
 placed_sentences Q word place [] all = All-nil Q
 placed_sentences Q word place (s ∷ ss) all =
     let first : Placed = record { word = word; place = place; sentence = s } in
@@ -161,32 +170,38 @@ keeps_others state sound lexicon word old forms of_word free new is tokens meani
 -- ---- why not
 
 same_word : (o : Option WordId) (one other : WordId) → o ≡ Some one → o ≡ Some other → one ≡ other
-same_word o one other a b = some_same one other (sym a ∙ b)
+same_word o one other a b = same_Some one other (sym a ∙ b)
 
-same_forms : (live : List Word) (one other : WordId) (forms old : Forms) → one ≡ other → forms_of live one ≡ Some forms → forms_of live other ≡ Some old → forms ≡ old
-same_forms live one other forms old same a b = some_same forms old (sym a ∙ ap (forms_of live) same ∙ b)
+same_forms : (live : List Word) (one other : WordId) (forms old : Forms) → one ≡ other → forms_of live one ≡ Some forms → forms_of live other ≡ Some old
+    → forms ≡ old
+same_forms live one other forms old same a b = same_Some forms old (sym a ∙ ap (forms_of live) same ∙ b)
 
-module _ (state : State) (text : List ℕ) (texts : List (List ℕ)) (word : WordId) (old : Forms) (named : word_named state text ≡ Some word) (of_word : forms_of state.words.live word ≡ Some old) where
+module _ (state : State) (text : List ℕ) (texts : List (List ℕ)) (word : WordId) (old : Forms) (named : word_named state text ≡ Some word)
+    (of_word : forms_of state.words.live word ≡ Some old) where
   -- texts against which nothing stands
   pub no_bad_reword : reword_cause state.words word old.kind texts ≡ None → IsAbsent (IsBadReword state text texts)
   no_bad_reword none refusal bad =
       let same : bad.word ≡ word = same_word (word_named state text) bad.word word bad.named named in
       let forms : bad.old ≡ old = same_forms state.words.live bad.word word bad.old old same bad.of_word of_word in
-      none-some refusal (sym none ∙ sym (ap (λ (w : WordId). reword_cause state.words w bad.old.kind texts) same ∙ ap (λ (f : Forms). reword_cause state.words word f.kind texts) forms) ∙ bad.told)
+      none-some refusal (sym none ∙ sym (ap (λ (w : WordId). reword_cause state.words w bad.old.kind texts) same
+      ∙ ap (λ (f : Forms). reword_cause state.words word f.kind texts) forms) ∙ bad.told)
 
   -- and by which no sentence breaks
   pub none_breaks : (new : Listed) → new ≡ with_forms state.words word (forms_given old.kind texts)
-      → All (λ placed. KeepsMeaning state.grammar state.words new placed.sentence.tokens) (all_placed state.articles) → IsAbsent (BreaksSentence state text texts)
+      → All (λ placed. KeepsMeaning state.grammar state.words new placed.sentence.tokens) (all_placed state.articles)
+      → IsAbsent (BreaksSentence state text texts)
   none_breaks new is all refusal bad =
       let same : bad.word ≡ word = same_word (word_named state text) bad.word word bad.named named in
       let forms : bad.old ≡ old = same_forms state.words.live bad.word word bad.old old same bad.of_word of_word in
       let words : with_forms state.words bad.word (forms_given bad.old.kind texts) ≡ new =
-      ap (λ (w : WordId). with_forms state.words w (forms_given bad.old.kind texts)) same ∙ ap (λ (f : Forms). with_forms state.words word (forms_given f.kind texts)) forms ∙ sym is in
+      ap (λ (w : WordId). with_forms state.words w (forms_given bad.old.kind texts)) same
+      ∙ ap (λ (f : Forms). with_forms state.words word (forms_given f.kind texts)) forms ∙ sym is in
       let first = bad.first in
       let at = bad.breaks.count in
       let here = bad.breaks.here in
       let kept : KeepsMeaning state.grammar state.words new first.sentence.tokens =
-      subst (λ (p : Placed). KeepsMeaning state.grammar state.words new p.sentence.tokens) (get_or_from_slice_get (all_placed state.articles) at first first here)
+      subst (λ (p : Placed). KeepsMeaning state.grammar state.words new p.sentence.tokens)
+      (get_or_from_slice_get (all_placed state.articles) at first first here)
       (all at first (slice_get_within (all_placed state.articles) at first here)) in
       bad.breaks.holds (subst (λ (ws : Listed). KeepsMeaning state.grammar state.words ws first.sentence.tokens) (sym words) kept)
 
@@ -204,11 +219,13 @@ module _ (state : State) (text : List ℕ) (texts : List (List ℕ)) (word : Wor
       (none_stands (BreaksSentence state text texts) [] (none_breaks new is all) nothing_stands))
 
   -- a text that can't be a form is told
-  pub bad_reword : (refusal : Refusal) → reword_cause state.words word old.kind texts ≡ Some refusal → FirstOf (NamesNoWord state text ∷ IsBadReword state text texts ∷ BreaksSentence state text texts ∷ []) refusal
+  pub bad_reword : (refusal : Refusal) → reword_cause state.words word old.kind texts ≡ Some refusal
+      → FirstOf (NamesNoWord state text ∷ IsBadReword state text texts ∷ BreaksSentence state text texts ∷ []) refusal
   bad_reword refusal told = inr (is_named, inl (record { word = word; named = named; old = old; of_word = of_word; told = told }))
 
   -- a sentence that breaks is told
-  pub broken_told : (new : Listed) → new ≡ with_forms state.words word (forms_given old.kind texts) → reword_cause state.words word old.kind texts ≡ None → (refusal : Refusal) → IsBroken state new refusal
+  pub broken_told : (new : Listed) → new ≡ with_forms state.words word (forms_given old.kind texts) → reword_cause state.words word old.kind texts ≡ None
+      → (refusal : Refusal) → IsBroken state new refusal
       → FirstOf (NamesNoWord state text ∷ IsBadReword state text texts ∷ BreaksSentence state text texts ∷ []) refusal
   broken_told new is none refusal broken =
       inr (
@@ -221,7 +238,8 @@ module _ (state : State) (text : List ℕ) (texts : List (List ℕ)) (word : Wor
             old = old;
             of_word = of_word;
             first = broken.first;
-            breaks = subst (λ (ws : Listed). IsFirstPlaced (λ placed. ¬ KeepsMeaning state.grammar state.words ws placed.sentence.tokens) (all_placed state.articles) broken.first) is broken.breaks;
+            breaks = subst (λ (ws : Listed). IsFirstPlaced (λ placed. ¬ KeepsMeaning state.grammar state.words ws placed.sentence.tokens)
+                (all_placed state.articles) broken.first) is broken.breaks;
             told = broken.told;
           }),
         ),
@@ -234,7 +252,8 @@ module _ (state : State) (text : List ℕ) (texts : List (List ℕ)) (word : Wor
       let same : bad.word ≡ word = same_word (word_named state text) bad.word word bad.named named in
       let forms : bad.forms ≡ old = same_forms state.words.live bad.word word bad.forms old same bad.of_word of_word in
       none-some bad.first
-      (sym none ∙ sym (ap (λ (w : WordId). find (uses_word w bad.forms) (all_placed state.articles)) same ∙ ap (λ (f : Forms). find (uses_word word f) (all_placed state.articles)) forms) ∙ bad.uses)
+      (sym none ∙ sym (ap (λ (w : WordId). find (uses_word w bad.forms) (all_placed state.articles)) same
+      ∙ ap (λ (f : Forms). find (uses_word word f) (all_placed state.articles)) forms) ∙ bad.uses)
 
   pub unword_free : find (uses_word word old) (all_placed state.articles) ≡ None → IsAbsent (FirstOf (NamesNoWord state text ∷ IsInUse state text ∷ []))
   unword_free none =
@@ -243,7 +262,8 @@ module _ (state : State) (text : List ℕ) (texts : List (List ℕ)) (word : Wor
 -- ---- faults
 
 -- a fault of a cause is one of what the cause is told as
-pub cause_fault : (cause : Option Refusal) (told : Refusal → Type 0) (fault : Fault) → IsCause cause fault → ((refusal : Refusal) → cause ≡ Some refusal → told refusal) → IsFault told fault
+pub cause_fault : (cause : Option Refusal) (told : Refusal → Type 0) (fault : Fault) → IsCause cause fault
+    → ((refusal : Refusal) → cause ≡ Some refusal → told refusal) → IsFault told fault
 cause_fault cause told (Refused refusal) is tells = tells refusal is
 cause_fault cause told Memory is tells = tt
 

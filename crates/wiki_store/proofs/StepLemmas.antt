@@ -27,50 +27,104 @@ use Rattle.wiki_store.proofs.AroundLemmas.{item}
 
 -- ---- places
 
-pub article-named : (state : State) (text : List ℕ) (word : WordId) (article : Article) → word_named state text ≡ Some word → article_of state.articles word ≡ Some article
+pub article-named : (state : State) (text : List ℕ) (word : WordId) (article : Article) → word_named state text ≡ Some word
+    → article_of state.articles word ≡ Some article
     → article_named state text ≡ Some article
 article-named state text word article named found = ap (option_and_then (article_of state.articles)) named ∙ found
 
-pub place-for : (state : State) (text : List ℕ) (given : Option ℕ) (article : Article) (at : ℕ) → article_named state text ≡ Some article → at ≡ unwrap_or given (length article.sentences)
+pub place-for : (state : State) (text : List ℕ) (given : Option ℕ) (article : Article) (at : ℕ) → article_named state text ≡ Some article
+    → at ≡ unwrap_or given (length article.sentences)
     → place_for state text given ≡ Some at
 place-for state text given article at named is = ap (option_map (λ (found : Article). unwrap_or given (length found.sentences))) named ∙ ap Some (sym is)
 
-pub can-change : (articles : List Article) (word : WordId) (article : Article) → article_of articles word ≡ Some article → article.revision.0 < LAST_REVISION → CanChange articles word
+pub can-change : (articles : List Article) (word : WordId) (article : Article) → article_of articles word ≡ Some article → article.revision.0 < LAST_REVISION
+    → CanChange articles word
 can-change articles word article found before = subst (λ (o : Option Article). IsSomeAnd o (λ a. a.revision.0 < LAST_REVISION)) (sym found) before
 
-pub has-place : (articles : List Article) (word : WordId) (article : Article) (at : ℕ) → article_of articles word ≡ Some article → at ≤ length article.sentences → HasPlace articles word at
+pub has-place : (articles : List Article) (word : WordId) (article : Article) (at : ℕ) → article_of articles word ≡ Some article → at ≤ length article.sentences
+    → HasPlace articles word at
 has-place articles word article at found within = subst (λ (o : Option Article). IsSomeAnd o (λ a. at ≤ length a.sentences)) (sym found) within
 
-pub has-sentence : (articles : List Article) (word : WordId) (article : Article) (at : ℕ) → article_of articles word ≡ Some article → at < length article.sentences → HasSentence articles word at
+pub has-sentence : (articles : List Article) (word : WordId) (article : Article) (at : ℕ) → article_of articles word ≡ Some article
+    → at < length article.sentences → HasSentence articles word at
 has-sentence articles word article at found within = subst (λ (o : Option Article). IsSomeAnd o (λ a. at < length a.sentences)) (sym found) within
 
 -- the sentence at a place that an article has
-pub sentence-there : (articles : List Article) (word : WordId) (at : ℕ) → HasSentence articles word at → (s : Sentence) × (sentence_at articles word at ≡ Some s)
+pub sentence-there : (articles : List Article) (word : WordId) (at : ℕ) → HasSentence articles word at
+    → (s : Sentence) × (sentence_at articles word at ≡ Some s)
 sentence-there articles word at there = by_article (article_of articles word) there
   where
-    by_article : (o : Option Article) → IsSomeAnd o (λ a. at < length a.sentences) → (s : Sentence) × (option_and_then (λ (a : Article). slice_get a.sentences at) o ≡ Some s)
+    by_article : (o : Option Article) → IsSomeAnd o (λ a. at < length a.sentences)
+        → (s : Sentence) × (option_and_then (λ (a : Article). slice_get a.sentences at) o ≡ Some s)
     by_article None within = absurd within
     by_article (Some a) within = item a.sentences at within
 
 -- ---- a sentence is added
 
 module _ (old : Holding) (article : List ℕ) (given : Option ℕ) (text : List ℕ) (word : WordId) (place : ℕ) (tokens : List (List ℕ)) (status : Status)
-    (named : word_named old.state article ≡ Some word) (at_place : place_for old.state article given ≡ Some place) (cut : tokens ≡ tokens_of old.state text) where
-  pub adds-step : (new : State) (meaning : Meaning) → IsAbsent (Refuses old.state (requests.Add article given text)) → Means old.state.grammar old.state.words tokens meaning
-      → IsStatusOf (with_inserted old.state word place (record { tokens = tokens; status = Asserted })) meaning status
-      → new ≡ with_inserted old.state word place (record { tokens = tokens; status = status }) → Step old.state (requests.Add article given text) (replies.Add status) new
-  adds-step new meaning free =
+    (named : word_named old.state article ≡ Some word) (at_place : place_for old.state article given ≡ Some place) (cut : tokens ≡ tokens_of old.state text)
+  where
+    pub adds-step : (new : State) (meaning : Meaning) → IsAbsent (Refuses old.state (requests.Add article given text))
+        → Means old.state.grammar old.state.words tokens meaning
+        → IsStatusOf (with_inserted old.state word place (record { tokens = tokens; status = Asserted })) meaning status
+        → new ≡ with_inserted old.state word place (record { tokens = tokens; status = status })
+        → Step old.state (requests.Add article given text) (replies.Add status) new
+    adds-step new meaning free =
+        subst
+        (λ (ts : List (List ℕ)). Means old.state.grammar old.state.words ts meaning
+        → IsStatusOf (with_inserted old.state word place (record { tokens = ts; status = Asserted })) meaning status
+        → new ≡ with_inserted old.state word place (record { tokens = ts; status = status })
+        → Step old.state (requests.Add article given text) (replies.Add status) new)
+        (sym cut)
+        (λ means fits after. (
+          free,
+          record {
+            word = word;
+            named = named;
+            place = place;
+            at_place = at_place;
+            status = status;
+            gets = record { meaning = meaning; means = means; fits = fits };
+            answer = refl;
+            after = after;
+          },
+        ))
+
+    pub adds-spent : (status ≡ RedBudget → (claims : List Claim)
+        → Knows (with_inserted old.state word place (record { tokens = tokens; status = Asserted })) claims → ¬ IsModel old.interpretation claims)
+        → SpendsBeyondKept old (requests.Add article given text) (replies.Add status)
+    adds-spent beyond told =
+        let Q : State → Type 0 = λ taken. (claims : List Claim) → Knows taken claims → ¬ IsModel old.interpretation claims in
+        subst
+        (λ (o : Option WordId). IfSome (option_and_then
+        (λ (w : WordId). option_map (λ (p : ℕ). with_inserted old.state w p (sentence_with old.state text Asserted)) (place_for old.state article given)) o)
+        Q)
+        (sym named)
+        (subst (λ (o : Option ℕ). IfSome (option_map (λ (p : ℕ). with_inserted old.state word p (sentence_with old.state text Asserted)) o) Q) (sym at_place)
+        (subst (λ (ts : List (List ℕ)). Q (with_inserted old.state word place (record { tokens = ts; status = Asserted }))) cut
+        (beyond (ap (λ (o : Option Status). unwrap_or o RedBudget) told))))
+
+-- ---- a sentence is put in place of another
+
+module _ (old : Holding) (article : List ℕ) (place : ℕ) (text : List ℕ) (word : WordId) (tokens : List (List ℕ)) (status : Status)
+    (named : word_named old.state article ≡ Some word) (cut : tokens ≡ tokens_of old.state text) where
+  pub edits-step : (new : State) (meaning : Meaning) → IsAbsent (Refuses old.state (requests.Edit article place text))
+      → Means old.state.grammar old.state.words tokens meaning
+      → IsStatusOf (with_replaced old.state word place (record { tokens = tokens; status = Asserted })) meaning status
+      → new ≡ with_replaced old.state word place (record { tokens = tokens; status = status })
+      → Step old.state (requests.Edit article place text) (replies.Edit status) new
+  edits-step new meaning free =
       subst
-      (λ (ts : List (List ℕ)). Means old.state.grammar old.state.words ts meaning → IsStatusOf (with_inserted old.state word place (record { tokens = ts; status = Asserted })) meaning status
-      → new ≡ with_inserted old.state word place (record { tokens = ts; status = status }) → Step old.state (requests.Add article given text) (replies.Add status) new)
+      (λ (ts : List (List ℕ)). Means old.state.grammar old.state.words ts meaning
+      → IsStatusOf (with_replaced old.state word place (record { tokens = ts; status = Asserted })) meaning status
+      → new ≡ with_replaced old.state word place (record { tokens = ts; status = status })
+      → Step old.state (requests.Edit article place text) (replies.Edit status) new)
       (sym cut)
       (λ means fits after. (
         free,
         record {
           word = word;
           named = named;
-          place = place;
-          at_place = at_place;
           status = status;
           gets = record { meaning = meaning; means = means; fits = fits };
           answer = refl;
@@ -78,37 +132,13 @@ module _ (old : Holding) (article : List ℕ) (given : Option ℕ) (text : List 
         },
       ))
 
-  pub adds-spent : (status ≡ RedBudget → (claims : List Claim) → Knows (with_inserted old.state word place (record { tokens = tokens; status = Asserted })) claims → ¬ IsModel old.interpretation claims)
-      → SpendsBeyondKept old (requests.Add article given text) (replies.Add status)
-  adds-spent beyond told =
-      let Q : State → Type 0 = λ taken. (claims : List Claim) → Knows taken claims → ¬ IsModel old.interpretation claims in
-      subst
-      (λ (o : Option WordId). IfSome (option_and_then (λ (w : WordId). option_map (λ (p : ℕ). with_inserted old.state w p (sentence_with old.state text Asserted)) (place_for old.state article given)) o) Q)
-      (sym named)
-      (subst (λ (o : Option ℕ). IfSome (option_map (λ (p : ℕ). with_inserted old.state word p (sentence_with old.state text Asserted)) o) Q) (sym at_place)
-      (subst (λ (ts : List (List ℕ)). Q (with_inserted old.state word place (record { tokens = ts; status = Asserted }))) cut
-      (beyond (ap (λ (o : Option Status). unwrap_or o RedBudget) told))))
-
--- ---- a sentence is put in place of another
-
-module _ (old : Holding) (article : List ℕ) (place : ℕ) (text : List ℕ) (word : WordId) (tokens : List (List ℕ)) (status : Status)
-    (named : word_named old.state article ≡ Some word) (cut : tokens ≡ tokens_of old.state text) where
-  pub edits-step : (new : State) (meaning : Meaning) → IsAbsent (Refuses old.state (requests.Edit article place text)) → Means old.state.grammar old.state.words tokens meaning
-      → IsStatusOf (with_replaced old.state word place (record { tokens = tokens; status = Asserted })) meaning status
-      → new ≡ with_replaced old.state word place (record { tokens = tokens; status = status }) → Step old.state (requests.Edit article place text) (replies.Edit status) new
-  edits-step new meaning free =
-      subst
-      (λ (ts : List (List ℕ)). Means old.state.grammar old.state.words ts meaning → IsStatusOf (with_replaced old.state word place (record { tokens = ts; status = Asserted })) meaning status
-      → new ≡ with_replaced old.state word place (record { tokens = ts; status = status }) → Step old.state (requests.Edit article place text) (replies.Edit status) new)
-      (sym cut)
-      (λ means fits after.
-      (free, record { word = word; named = named; status = status; gets = record { meaning = meaning; means = means; fits = fits }; answer = refl; after = after }))
-
-  pub edits-spent : (status ≡ RedBudget → (claims : List Claim) → Knows (with_replaced old.state word place (record { tokens = tokens; status = Asserted })) claims → ¬ IsModel old.interpretation claims)
+  pub edits-spent : (status ≡ RedBudget → (claims : List Claim)
+      → Knows (with_replaced old.state word place (record { tokens = tokens; status = Asserted })) claims → ¬ IsModel old.interpretation claims)
       → SpendsBeyondKept old (requests.Edit article place text) (replies.Edit status)
   edits-spent beyond told =
       let Q : State → Type 0 = λ taken. (claims : List Claim) → Knows taken claims → ¬ IsModel old.interpretation claims in
-      subst (λ (o : Option WordId). IfSome (option_map (λ (w : WordId). with_replaced old.state w place (sentence_with old.state text Asserted)) o) Q) (sym named)
+      subst (λ (o : Option WordId). IfSome (option_map (λ (w : WordId). with_replaced old.state w place (sentence_with old.state text Asserted)) o) Q)
+      (sym named)
       (subst (λ (ts : List (List ℕ)). Q (with_replaced old.state word place (record { tokens = ts; status = Asserted }))) cut
       (beyond (ap (λ (o : Option Status). unwrap_or o RedBudget) told)))
 
@@ -116,7 +146,8 @@ module _ (old : Holding) (article : List ℕ) (place : ℕ) (text : List ℕ) (w
 
 module _ (old : Holding) (article : List ℕ) (place : ℕ) (word : WordId) (status : Status) (named : word_named old.state article ≡ Some word) where
   pub reasserts-step : (new : State) → IsAbsent (Refuses old.state (requests.Reassert article place)) → HasSentence old.state.articles word place
-      → ((sentence : Sentence) → sentence_at old.state.articles word place ≡ Some sentence → GetStatus (with_marked old.state word place Asserted) sentence.tokens status)
+      → ((sentence : Sentence) → sentence_at old.state.articles word place ≡ Some sentence
+      → GetStatus (with_marked old.state word place Asserted) sentence.tokens status)
       → new ≡ with_marked old.state word place status → Step old.state (requests.Reassert article place) (replies.Reassert status) new
   reasserts-step new free there gets after =
       let found = sentence-there old.state.articles word place there in (
@@ -133,7 +164,8 @@ module _ (old : Holding) (article : List ℕ) (place : ℕ) (word : WordId) (sta
         },
       )
 
-  pub reasserts-spent : (status ≡ RedBudget → (claims : List Claim) → Knows (with_marked old.state word place Asserted) claims → ¬ IsModel old.interpretation claims)
+  pub reasserts-spent : (status ≡ RedBudget → (claims : List Claim) → Knows (with_marked old.state word place Asserted) claims
+      → ¬ IsModel old.interpretation claims)
       → SpendsBeyondKept old (requests.Reassert article place) (replies.Reassert status)
   reasserts-spent beyond told =
       let Q : State → Type 0 = λ taken. (claims : List Claim) → Knows taken claims → ¬ IsModel old.interpretation claims in

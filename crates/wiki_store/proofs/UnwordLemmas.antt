@@ -32,12 +32,15 @@ some_of None there = absurd (false≢true there)
 some_of (Some x) there = (x, refl)
 
 -- a sentence that is found in an article is one of it
-found-in : (test : Placed → Bool) (word : WordId) (place : ℕ) (sentences : List Sentence) (found : Placed) → find test (placed_from word place sentences) ≡ Some found
+found-in : (test : Placed → Bool) (word : WordId) (place : ℕ) (sentences : List Sentence) (found : Placed)
+    → find test (placed_from word place sentences) ≡ Some found
     → (found.word ≡ word) × (found.place < place + length sentences)
 found-in test word place [] found is = absurd (none-some found is)
-found-in test word place (sentence ∷ sentences) found is = by_test (test (record { word = word; place = place; sentence = sentence })) (found-in test word (place + 1) sentences found) is
+found-in test word place (sentence ∷ sentences) found is =
+    by_test (test (record { word = word; place = place; sentence = sentence })) (found-in test word (place + 1) sentences found) is
   where
-    by_test : (b : Bool) → (find test (placed_from word (place + 1) sentences) ≡ Some found → (found.word ≡ word) × (found.place < place + 1 + length sentences))
+    by_test : (b : Bool) → (find test (placed_from word (place + 1) sentences) ≡ Some found
+        → (found.word ≡ word) × (found.place < place + 1 + length sentences))
         → cond b (Some (record { word = word; place = place; sentence = sentence })) (find test (placed_from word (place + 1) sentences)) ≡ Some found
         → (found.word ≡ word) × (found.place < place + length (sentence ∷ sentences))
     by_test true rest is =
@@ -57,9 +60,11 @@ pub record FoundAt (articles : List Article) (found : Placed) : Type 0 where
 pub found-at : (test : Placed → Bool) (articles : List Article) (found : Placed) → find test (all_placed articles) ≡ Some found → FoundAt articles found
 found-at test [] found is = absurd (none-some found is)
 found-at test (first ∷ articles) found is =
-    by_case (find test (placed_in first)) (found-in test first.word 0 first.sentences found) (found-at test articles found) (sym (find-append test (placed_in first) (all_placed articles)) ∙ is)
+    by_case (find test (placed_in first)) (found-in test first.word 0 first.sentences found) (found-at test articles found)
+    (sym (find-append test (placed_in first) (all_placed articles)) ∙ is)
   where
-    by_case : (o : Option Placed) → (o ≡ Some found → (found.word ≡ first.word) × (found.place < 0 + length first.sentences)) → (find test (all_placed articles) ≡ Some found → FoundAt articles found)
+    by_case : (o : Option Placed) → (o ≡ Some found → (found.word ≡ first.word) × (found.place < 0 + length first.sentences))
+        → (find test (all_placed articles) ≡ Some found → FoundAt articles found)
         → option_or o (find test (all_placed articles)) ≡ Some found → FoundAt (first ∷ articles) found
     by_case None here rest is = let r = rest is in record { at_place = suc r.at_place; article = r.article; here = r.here; word = r.word; place = r.place }
     by_case (Some q) here rest is = let h = here is in record { at_place = 0; article = first; here = refl; word = h.0; place = omega (arith, h.1) }
@@ -91,7 +96,8 @@ module _ (state : State) (sound : IsSound state) (test : Placed → Bool) (found
   -- the word of its article lives
   pub word-lives : IsSome (forms_of state.words.live found.word)
   word-lives =
-      let here = ap (λ (ids : List WordId). slice_get ids at_last.at_place) (sym sound.articles) ∙ slice_get-map (λ (a : Article). a.word) state.articles at_last.at_place ∙ ap (option_map (λ (a : Article). a.word)) at_last.here in
+      let here = ap (λ (ids : List WordId). slice_get ids at_last.at_place) (sym sound.articles)
+      ∙ slice_get-map (λ (a : Article). a.word) state.articles at_last.at_place ∙ ap (option_map (λ (a : Article). a.word)) at_last.here in
       subst (λ (w : WordId). IsSome (forms_of state.words.live w)) (sym at_last.word) (lives-at state.words.live at_last.article.word at_last.at_place here)
 
 -- what is told of a place that is found
@@ -113,14 +119,17 @@ none-found (Some found) none = absurd (none-some (told_place found) (sym none))
 pub empty-article : (state : State) → IsSound state → (word : WordId) (forms : Forms) → IsSome (forms_of state.words.live word)
     → find (uses_word word forms) (all_placed state.articles) ≡ None → IsEmptyArticle state.articles word
 empty-article state sound word forms lives none =
-    by_case (article_of state.articles word) (lives-article state.articles state.words.live word sound.articles lives) (empty-unused word forms state.articles none)
+    by_case (article_of state.articles word) (lives-article state.articles state.words.live word sound.articles lives)
+    (empty-unused word forms state.articles none)
   where
-    by_case : (o : Option Article) → IsSome o → ((article : Article) → o ≡ Some article → article.sentences ≡ []) → IsSomeAnd o (λ article. article.sentences ≡ [])
+    by_case : (o : Option Article) → IsSome o → ((article : Article) → o ≡ Some article → article.sentences ≡ [])
+        → IsSomeAnd o (λ article. article.sentences ≡ [])
     by_case None there empty = absurd (false≢true there)
     by_case (Some article) there empty = empty article refl
 
 -- the numbers that are left when one is taken out
-numbers-without : {X : Type 0} (id_of : X → WordId) (id : WordId) (xs : List X) → map id_of (filter (λ x. not ((id_of x).0 == id.0)) xs) ≡ filter (λ (w : WordId). not (w.0 == id.0)) (map id_of xs)
+numbers-without : {X : Type 0} (id_of : X → WordId) (id : WordId) (xs : List X)
+    → map id_of (filter (λ x. not ((id_of x).0 == id.0)) xs) ≡ filter (λ (w : WordId). not (w.0 == id.0)) (map id_of xs)
 numbers-without id_of id [] = refl
 numbers-without {X} id_of id (x ∷ xs) = by_test ((id_of x).0 == id.0) (numbers-without id_of id xs)
   where
@@ -136,18 +145,22 @@ pub sound-without : (state : State) → IsSound state → (word : WordId)
 sound-without state sound word = record {
   labelled = sound.labelled;
   terminals = sound.terminals;
-  articles = numbers-without (λ (a : Article). a.word) word state.articles ∙ ap (filter (λ (w : WordId). not (w.0 == word.0))) sound.articles ∙ sym (numbers-without (λ (w : Word). w.id) word state.words.live);
+  articles = numbers-without (λ (a : Article). a.word) word state.articles ∙ ap (filter (λ (w : WordId). not (w.0 == word.0))) sound.articles
+      ∙ sym (numbers-without (λ (w : Word). w.id) word state.words.live);
   few = All-filter (λ (a : Article). not (is_of word a)) (λ (a : Article). length a.sentences ≤ MOST_SENTENCES) state.articles sound.few;
 }
 
 -- a word that has the form lives
-names-word : (state : State) (text : List ℕ) (word : WordId) (forms : Forms) → owner state.words.live text ≡ Some word → forms_of state.words.live word ≡ Some forms
+names-word : (state : State) (text : List ℕ) (word : WordId) (forms : Forms) → owner state.words.live text ≡ Some word
+    → forms_of state.words.live word ≡ Some forms
     → word_with state.words text ≡ Some forms
 names-word state text word forms named of_word = ap (option_and_then (forms_of state.words.live)) named ∙ of_word
 
 -- a word that a sentence needs is refused
-pub unword-refuses : (state : State) (text : List ℕ) (word : WordId) (forms : Forms) → owner state.words.live text ≡ Some word → forms_of state.words.live word ≡ Some forms
-    → (found : Placed) → find (uses_word word forms) (all_placed state.articles) ≡ Some found → (refusal : Refusal) → TellsPlace state (λ form place. InUse form place) found.word found.place refusal
+pub unword-refuses : (state : State) (text : List ℕ) (word : WordId) (forms : Forms) → owner state.words.live text ≡ Some word
+    → forms_of state.words.live word ≡ Some forms
+    → (found : Placed) → find (uses_word word forms) (all_placed state.articles) ≡ Some found → (refusal : Refusal)
+    → TellsPlace state (λ form place. InUse form place) found.word found.place refusal
     → FirstOf (NamesNoWord state text ∷ IsInUse state text ∷ []) refusal
 unword-refuses state text word forms named of_word found is refusal told =
     inr (
@@ -156,6 +169,7 @@ unword-refuses state text word forms named of_word found is refusal told =
     )
 
 -- taking out a word that lives is no fault
-pub removed-there : {P : Type 0} (result : Result (Unit {0}) LexFault) (word : WordId) (forms : Option Forms) → OnOk result P → IfErr result (λ fault. (fault ≡ NoWord word) × (forms ≡ None)) → IsSome forms → P
+pub removed-there : {P : Type 0} (result : Result (Unit {0}) LexFault) (word : WordId) (forms : Option Forms) → OnOk result P
+    → IfErr result (λ fault. (fault ≡ NoWord word) × (forms ≡ None)) → IsSome forms → P
 removed-there (Ok u) word forms removed refused lives = removed
 removed-there (Err fault) word forms removed refused lives = absurd (false≢true (sym (ap is_some refused.1) ∙ lives))

@@ -44,7 +44,8 @@ use Rattle.wiki_store.proofs.UnwordLemmas.{sound-without}
 abbrev pub StaysMeant : GrammarParts → Listed → Listed → Sentence → Type 0
 StaysMeant g words new sentence = (meaning : Meaning) → Means g words sentence.tokens meaning → Means g new sentence.tokens meaning
 
-mean_each-by : (g : GrammarParts) (words new : Listed) (sentences : List Sentence) (meanings : List Meaning) → All (StaysMeant g words new) sentences → MeanEach g words sentences meanings
+mean_each-by : (g : GrammarParts) (words new : Listed) (sentences : List Sentence) (meanings : List Meaning) → All (StaysMeant g words new) sentences
+    → MeanEach g words sentences meanings
     → MeanEach g new sentences meanings
 mean_each-by g words new [] [] stay mean = tt
 mean_each-by g words new [] (m ∷ ms) stay mean = absurd mean
@@ -52,7 +53,8 @@ mean_each-by g words new (s ∷ ss) [] stay mean = absurd mean
 mean_each-by g words new (s ∷ ss) (m ∷ ms) stay mean =
     ((All-head (StaysMeant g words new) s ss stay m mean.0.0, mean.0.1), mean_each-by g words new ss ms (All-tail (StaysMeant g words new) s ss stay) mean.1)
 
-mean_in_each-by : (g : GrammarParts) (words new : Listed) (articles : List Article) (senses : List (List Sense)) → All (StaysMeant g words new) (sentences_in articles) → MeanInEach g words articles senses
+mean_in_each-by : (g : GrammarParts) (words new : Listed) (articles : List Article) (senses : List (List Sense))
+    → All (StaysMeant g words new) (sentences_in articles) → MeanInEach g words articles senses
     → MeanInEach g new articles senses
 mean_in_each-by g words new [] [] stay mean = tt
 mean_in_each-by g words new [] (own ∷ senses) stay mean = absurd mean
@@ -84,7 +86,8 @@ sentences-added : (articles : List Article) (word : WordId) → sentences_in (ar
 sentences-added articles word = flat_map-append (λ (a : Article). a.sentences) articles (new_article word ∷ []) ∙ append-nil (sentences_in articles)
 
 -- what is kept with a word more, and its empty article
-pub keeps_added : (state : State) (senses : List (List Sense)) (model : CheckedModel) (forms : Forms) (word : WordId) → IsKeeping state senses model → add_refusal state.words forms ≡ None
+pub keeps_added : (state : State) (senses : List (List Sense)) (model : CheckedModel) (forms : Forms) (word : WordId) → IsKeeping state senses model
+    → add_refusal state.words forms ≡ None
     → word ≡ (next_word state.words forms).id
     → IsKeeping (record state { words = with_word state.words forms; articles = state.articles ++ new_article word ∷ [] }) (senses ++ [] ∷ []) model
 keeps_added state senses model forms word keeping free named =
@@ -99,13 +102,16 @@ keeps_added state senses model forms word keeping free named =
       sound = record {
         labelled = keeping.sound.labelled;
         terminals = keeping.sound.terminals;
-        articles = map-append (λ (a : Article). a.word) state.articles (new_article word ∷ []) ∙ ap (λ (ids : List WordId). ids ++ word ∷ []) keeping.sound.articles
+        articles = map-append (λ (a : Article). a.word) state.articles (new_article word ∷ [])
+            ∙ ap (λ (ids : List WordId). ids ++ word ∷ []) keeping.sound.articles
             ∙ ap (λ (w : WordId). map (λ (v : Word). v.id) state.words.live ++ w ∷ []) named
             ∙ sym (map-append (λ (v : Word). v.id) state.words.live (next_word state.words forms ∷ []));
         few = All-append (λ (a : Article). length a.sentences ≤ MOST_SENTENCES) state.articles (new_article word ∷ []) keeping.sound.few
-            (All-cons (λ (a : Article). length a.sentences ≤ MOST_SENTENCES) (new_article word) [] (omega arith) (All-nil (λ (a : Article). length a.sentences ≤ MOST_SENTENCES)));
+            (All-cons (λ (a : Article). length a.sentences ≤ MOST_SENTENCES) (new_article word) [] (omega arith)
+            (All-nil (λ (a : Article). length a.sentences ≤ MOST_SENTENCES)));
       };
-      mean = mean_in-added state.grammar (with_word state.words forms) state.articles senses word (mean_in_each-by state.grammar state.words (with_word state.words forms) state.articles senses stay keeping.mean);
+      mean = mean_in-added state.grammar (with_word state.words forms) state.articles senses word
+          (mean_in_each-by state.grammar state.words (with_word state.words forms) state.articles senses stay keeping.mean);
       known = keeping.known ∙ sym known;
       short = subst (λ (ss : List Sentence). All (λ sentence. length sentence.tokens ≤ MOST_TOKENS) ss) (sym same) keeping.short;
       few = subst (λ (ss : List Sentence). length ss ≤ MOST_SENTENCES) (sym same) keeping.few;
@@ -114,7 +120,8 @@ keeps_added state senses model forms word keeping free named =
 -- ---- a word less
 
 -- where no sentence needs the word, none has a form of it
-unused-in : (word : WordId) (forms : Forms) (other : WordId) (place : ℕ) (sentences : List Sentence) → find (uses_word word forms) (placed_from other place sentences) ≡ None
+unused-in : (word : WordId) (forms : Forms) (other : WordId) (place : ℕ) (sentences : List Sentence)
+    → find (uses_word word forms) (placed_from other place sentences) ≡ None
     → All (λ s. list_any (is_among forms.texts) s.tokens ≡ false) sentences
 unused-in word forms other place [] none = All-nil (λ s. list_any (is_among forms.texts) s.tokens ≡ false)
 unused-in word forms other place (s ∷ ss) none =
@@ -140,17 +147,21 @@ unused-each : (word : WordId) (forms : Forms) (articles : List Article) → find
 unused-each word forms [] none = All-nil (λ s. list_any (is_among forms.texts) s.tokens ≡ false)
 unused-each word forms (a ∷ articles) none =
     let parts = find_neither (uses_word word forms) (placed_in a) (all_placed articles) none in
-    All-append (λ s. list_any (is_among forms.texts) s.tokens ≡ false) a.sentences (sentences_in articles) (unused-in word forms a.word 0 a.sentences parts.0) (unused-each word forms articles parts.1)
+    All-append (λ s. list_any (is_among forms.texts) s.tokens ≡ false) a.sentences (sentences_in articles) (unused-in word forms a.word 0 a.sentences parts.0)
+    (unused-each word forms articles parts.1)
 
 -- the articles without an empty one
-mean_in-removed : (g : GrammarParts) (words : Listed) (articles : List Article) (senses : List (List Sense)) (place : ℕ) → place < length articles → MeanInEach g words articles senses
+mean_in-removed : (g : GrammarParts) (words : Listed) (articles : List Article) (senses : List (List Sense)) (place : ℕ) → place < length articles
+    → MeanInEach g words articles senses
     → MeanInEach g words (remove articles place) (remove senses place)
 mean_in-removed g words [] senses place within mean = absurd (omega (arith, within))
 mean_in-removed g words (a ∷ articles) [] place within mean = absurd mean
 mean_in-removed g words (a ∷ articles) (own ∷ senses) zero within mean = mean.1
-mean_in-removed g words (a ∷ articles) (own ∷ senses) (suc place) within mean = (mean.0, mean_in-removed g words articles senses place (omega (arith, within)) mean.1)
+mean_in-removed g words (a ∷ articles) (own ∷ senses) (suc place) within mean =
+    (mean.0, mean_in-removed g words articles senses place (omega (arith, within)) mean.1)
 
-known_in-removed : (g : GrammarParts) (words : Listed) (articles : List Article) (senses : List (List Sense)) (place : ℕ) (a : Article) → slice_get articles place ≡ Some a → a.sentences ≡ []
+known_in-removed : (g : GrammarParts) (words : Listed) (articles : List Article) (senses : List (List Sense)) (place : ℕ) (a : Article)
+    → slice_get articles place ≡ Some a → a.sentences ≡ []
     → MeanInEach g words articles senses → known_in articles senses ≡ known_in (remove articles place) (remove senses place)
 known_in-removed g words [] senses place a here empty mean = absurd (none-some a here)
 known_in-removed g words (b ∷ articles) [] place a here empty mean = absurd mean
@@ -160,7 +171,8 @@ known_in-removed g words (b ∷ articles) (own ∷ senses) zero a here empty mea
 known_in-removed g words (b ∷ articles) (own ∷ senses) (suc place) a here empty mean =
     ap (λ (cs : List Claim). known_of b.sentences (meanings_in own) ++ cs) (known_in-removed g words articles senses place a here empty mean.1)
 
-sentences-removed : (articles : List Article) (place : ℕ) (a : Article) → slice_get articles place ≡ Some a → a.sentences ≡ [] → sentences_in articles ≡ sentences_in (remove articles place)
+sentences-removed : (articles : List Article) (place : ℕ) (a : Article) → slice_get articles place ≡ Some a → a.sentences ≡ []
+    → sentences_in articles ≡ sentences_in (remove articles place)
 sentences-removed [] place a here empty = absurd (none-some a here)
 sentences-removed (b ∷ articles) zero a here empty =
     let none : b.sentences ≡ [] = ap (λ (o : Option Article). (unwrap_or o b).sentences) here ∙ empty in
@@ -168,39 +180,48 @@ sentences-removed (b ∷ articles) zero a here empty =
 sentences-removed (b ∷ articles) (suc place) a here empty = ap (λ (ss : List Sentence). b.sentences ++ ss) (sentences-removed articles place a here empty)
 
 -- what is kept without a word that no sentence needs, and without its empty article
-pub keeps_without : (state : State) (senses : List (List Sense)) (model : CheckedModel) (word : WordId) (place : ℕ) (new : Listed) → IsKeeping state senses model → AreInOrder state.articles
+pub keeps_without : (state : State) (senses : List (List Sense)) (model : CheckedModel) (word : WordId) (place : ℕ) (new : Listed)
+    → IsKeeping state senses model → AreInOrder state.articles
     → IsLexicon state.words → IsGone state word new → IsPlaceOf state.articles word place
     → IsKeeping (record state { words = new; articles = without_article state.articles word }) (remove senses place) model
 keeps_without state senses model word place new keeping ordered lexicon gone is =
     let found = item state.articles place is.in_range in
-    let own : article_of state.articles word ≡ Some found.0 = article_at state.articles ordered word place found.0 is ∙ ap Some (get_or_from_slice_get state.articles place found.0 found.0 found.1) in
+    let own : article_of state.articles word ≡ Some found.0 =
+    article_at state.articles ordered word place found.0 is ∙ ap Some (get_or_from_slice_get state.articles place found.0 found.0 found.1) in
     let empty = empty-unused word gone.forms state.articles gone.unused found.0 own in
     let left : remove state.articles place ≡ without_article state.articles word = sym (without_article-remove state.articles ordered word place is) in
-    let same : sentences_in state.articles ≡ sentences_in (without_article state.articles word) = sentences-removed state.articles place found.0 found.1 empty ∙ ap sentences_in left in
+    let same : sentences_in state.articles ≡ sentences_in (without_article state.articles word) =
+    sentences-removed state.articles place found.0 found.1 empty ∙ ap sentences_in left in
     let stay : All (StaysMeant state.grammar state.words (without_word state.words word)) (sentences_in state.articles) =
-    all_map (λ s. list_any (is_among gone.forms.texts) s.tokens ≡ false) (StaysMeant state.grammar state.words (without_word state.words word)) (sentences_in state.articles)
+    all_map (λ s. list_any (is_among gone.forms.texts) s.tokens ≡ false) (StaysMeant state.grammar state.words (without_word state.words word))
+    (sentences_in state.articles)
     (λ s unused meaning means. means-without_word state.grammar state.words word gone.forms s.tokens meaning lexicon.in_order gone.of_word unused means)
     (unused-each word gone.forms state.articles gone.unused) in
     let mean = mean_in_each-by state.grammar state.words (without_word state.words word) state.articles senses stay keeping.mean in
-    let kept : IsKeeping (record state { words = without_word state.words word; articles = without_article state.articles word }) (remove senses place) model = record {
+    let kept : IsKeeping (record state { words = without_word state.words word; articles = without_article state.articles word }) (remove senses place) model =
+    record {
       sound = sound-without state keeping.sound word;
       mean = subst (λ (xs : List Article). MeanInEach state.grammar (without_word state.words word) xs (remove senses place)) left
           (mean_in-removed state.grammar (without_word state.words word) state.articles senses place is.in_range mean);
-      known = keeping.known ∙ known_in-removed state.grammar state.words state.articles senses place found.0 found.1 empty keeping.mean ∙ ap (λ (xs : List Article). known_in xs (remove senses place)) left;
+      known = keeping.known ∙ known_in-removed state.grammar state.words state.articles senses place found.0 found.1 empty keeping.mean
+          ∙ ap (λ (xs : List Article). known_in xs (remove senses place)) left;
       short = subst (λ (ss : List Sentence). All (λ sentence. length sentence.tokens ≤ MOST_TOKENS) ss) same keeping.short;
       few = subst (λ (ss : List Sentence). length ss ≤ MOST_SENTENCES) same keeping.few;
     } in
-    subst (λ (words : Listed). IsKeeping (record state { words = words; articles = without_article state.articles word }) (remove senses place) model) (sym gone.words) kept
+    subst (λ (words : Listed). IsKeeping (record state { words = words; articles = without_article state.articles word }) (remove senses place) model)
+    (sym gone.words) kept
 
 -- ---- other forms
 
 -- what is kept by words by which each sentence keeps its meaning
-pub keeps_reworded : (state : State) (senses : List (List Sense)) (model : CheckedModel) (new : Listed) → IsKeeping state senses model → KeepsSentences state new
+pub keeps_reworded : (state : State) (senses : List (List Sense)) (model : CheckedModel) (new : Listed) → IsKeeping state senses model
+    → KeepsSentences state new
     → IsKeeping (record state { words = new }) senses model
 keeps_reworded state senses model new keeping keeps =
     let stay : All (StaysMeant state.grammar state.words new) (sentences_in state.articles) =
     all_map (λ s. KeepsMeaning state.grammar state.words new s.tokens) (StaysMeant state.grammar state.words new) (sentences_in state.articles)
-    (λ s kept meaning means. subst (Means state.grammar new s.tokens) (means_one state.grammar state.words s.tokens kept.meaning meaning kept.before means) kept.after) keeps.keep in
+    (λ s kept meaning means. subst (Means state.grammar new s.tokens) (means_one state.grammar state.words s.tokens kept.meaning meaning kept.before means)
+    kept.after) keeps.keep in
     record {
       sound = record {
         labelled = keeping.sound.labelled;

@@ -23,4 +23,5 @@ with_appended old word tokens status = with_inserted old word (end_of old.articl
 
 -- tokens at the end of a word's article are red for the budget only where the kept interpretation is no model of what is known with them
 abbrev pub SpendsAtEnd : Holding → WordId → List (List ℕ) → Status → Type 0
-SpendsAtEnd old word tokens status = status ≡ RedBudget → (claims : List Claim) → Knows (with_appended old.state word tokens Asserted) claims → ¬ IsModel old.interpretation claims
+SpendsAtEnd old word tokens status = status ≡ RedBudget → (claims : List Claim) → Knows (with_appended old.state word tokens Asserted) claims
+    → ¬ IsModel old.interpretation claims

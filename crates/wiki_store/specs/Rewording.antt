@@ -30,7 +30,8 @@ pub record IsGone (state : State) (word : WordId) (new : Listed) : Type 0 where
 
 -- each sentence that has none of the texts keeps its meaning by the other words
 abbrev pub KeepsOthers : GrammarParts → Listed → Listed → List (List ℕ) → Type 0
-KeepsOthers g old new texts = (tokens : List (List ℕ)) (meaning : Meaning) → list_any (is_among texts) tokens ≡ false → Means g old tokens meaning → Means g new tokens meaning
+KeepsOthers g old new texts = (tokens : List (List ℕ)) (meaning : Meaning) → list_any (is_among texts) tokens ≡ false → Means g old tokens meaning
+    → Means g new tokens meaning
 
 -- the first of the sentences that lacks the property, if one does
 abbrev pub Finds : (Placed → Type 0) → List Placed → Option Placed → Type 0

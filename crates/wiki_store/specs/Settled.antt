@@ -8,14 +8,12 @@ use Rattle.wiki_parts.specs.State.{State}
 use Rattle.wiki_parts.specs.Knowledge.{Knows}
 use Rattle.logic_terms.specs.Interpretation.{Interpretation}
 use Rattle.logic_terms.specs.Reading.{IsModel}
-use Rattle.wiki_parts.specs.Meanings.{Meaning, stating, outside, asking, asking_outside}
+use Rattle.wiki_parts.specs.Meanings.{Meaning, stating}
 
 -- a statement whose axioms are true in the interpretation
 abbrev pub IsTrueIn : Interpretation → Meaning → Type 0
 IsTrueIn i (stating claims) = IsModel i claims
-IsTrueIn i (outside cause) = ⊥
-IsTrueIn i (asking concept) = ⊥
-IsTrueIn i (asking_outside cause) = ⊥
+IsTrueIn _ _ = ⊥
 
 -- what the wiki knows is absorbed to this knowledge, with these names
 abbrev pub AbsorbsKnown : State → List WordId → Theory → Type 0

@@ -24,7 +24,8 @@ use Rattle.wiki_parts.specs.Holding.{Holding}
 -- the wiki in which the sentence of a request is taken as asserted, for the requests that judge one
 abbrev pub taken_by : State → Request → Option State
 taken_by old (requests.Add article given text) =
-    option_and_then (λ word. option_map (λ place. with_inserted old word place (sentence_with old text Asserted)) (place_for old article given)) (word_named old article)
+    option_and_then (λ word. option_map (λ place. with_inserted old word place (sentence_with old text Asserted)) (place_for old article given))
+    (word_named old article)
 taken_by old (requests.Edit article place text) = option_map (λ word. with_replaced old word place (sentence_with old text Asserted)) (word_named old article)
 taken_by old (requests.Reassert article place) = option_map (λ word. with_marked old word place Asserted) (word_named old article)
 taken_by old request = None
@@ -39,7 +40,8 @@ status_told reply = None
 -- a new sentence is red for the budget only where the kept interpretation is no model of what is known with it
 abbrev pub SpendsBeyondKept : Holding → Request → Reply → Type 0
 SpendsBeyondKept old request reply =
-    status_told reply ≡ Some RedBudget → IfSome (taken_by old.state request) (λ taken. (claims : List Claim) → Knows taken claims → ¬ IsModel old.interpretation claims)
+    status_told reply ≡ Some RedBudget → IfSome (taken_by old.state request)
+    (λ taken. (claims : List Claim) → Knows taken claims → ¬ IsModel old.interpretation claims)
 
 -- the names that are told as unknown of the question that the tokens are, are in its class in the kept interpretation
 pub record KeptHasDoubts (old : Holding) (tokens unknown : List (List ℕ)) : Type 0 where

@@ -43,7 +43,8 @@ Refuses state (requests.Word kind texts) refusal = word_refusal state.words kind
 Refuses state (requests.Find text) refusal = NamesNoWord state text refusal
 Refuses state requests.Words refusal = ⊥
 Refuses state (requests.Parse text) refusal = RefusesText state text refusal
-Refuses state (requests.Reword text texts) refusal = FirstOf (NamesNoWord state text ∷ IsBadReword state text texts ∷ BreaksSentence state text texts ∷ []) refusal
+Refuses state (requests.Reword text texts) refusal =
+    FirstOf (NamesNoWord state text ∷ IsBadReword state text texts ∷ BreaksSentence state text texts ∷ []) refusal
 Refuses state (requests.Unword text) refusal = FirstOf (NamesNoWord state text ∷ IsInUse state text ∷ []) refusal
 Refuses state (requests.Add article given text) refusal =
     FirstOf (NamesNoWord state article ∷ IsPastEnd state article given ∷ IsFullOfSentences state ∷ HasTooManyTokens state text

@@ -88,9 +88,14 @@ impl Store {
         requires few { length fresh.tokens ≤ MOST_TOKENS }
         requires room { length (sentences_in self.old.state.articles) < MOST_SENTENCES }
         requires means { Means self.old.state.grammar self.old.state.words fresh.tokens (meaning_shown fresh.sense) }
-        ensures status { IfOk result (λ status. IsStatusOf (with_inserted self.old.state fresh.word fresh.at (record { tokens = fresh.tokens; status = Status.Asserted })) (meaning_shown fresh.sense) status) }
-        ensures after { IfOk result (λ status. self.new.state ≡ with_inserted self.old.state fresh.word fresh.at (record { tokens = fresh.tokens; status = status })) }
-        ensures spent { IfOk result (λ status. status ≡ Status.RedBudget → (claims : List Claim) → Knows (with_inserted self.old.state fresh.word fresh.at (record { tokens = fresh.tokens; status = Status.Asserted })) claims → ¬ IsModel self.old.interpretation claims) }
+        ensures status { IfOk result (λ status. IsStatusOf
+            (with_inserted self.old.state fresh.word fresh.at (record { tokens = fresh.tokens; status = Status.Asserted })) (meaning_shown fresh.sense)
+            status) }
+        ensures after { IfOk result (λ status. self.new.state
+            ≡ with_inserted self.old.state fresh.word fresh.at (record { tokens = fresh.tokens; status = status })) }
+        ensures spent { IfOk result (λ status. status ≡ Status.RedBudget → (claims : List Claim)
+            → Knows (with_inserted self.old.state fresh.word fresh.at (record { tokens = fresh.tokens; status = Status.Asserted })) claims
+            → ¬ IsModel self.old.interpretation claims) }
         ensures memory { OnErr result (self.new ≡ self.old) }
     {
         if is_settled(&self.kept, &fresh.sense) {
@@ -108,9 +113,14 @@ impl Store {
         requires room { length (sentences_in self.old.state.articles) < MOST_SENTENCES }
         requires means { Means self.old.state.grammar self.old.state.words fresh.tokens (meaning_shown fresh.sense) }
         requires settled { IsTrueIn self.old.interpretation (meaning_shown fresh.sense) }
-        ensures status { IfOk result (λ status. IsStatusOf (with_inserted self.old.state fresh.word fresh.at (record { tokens = fresh.tokens; status = Status.Asserted })) (meaning_shown fresh.sense) status) }
-        ensures after { IfOk result (λ status. self.new.state ≡ with_inserted self.old.state fresh.word fresh.at (record { tokens = fresh.tokens; status = status })) }
-        ensures spent { IfOk result (λ status. status ≡ Status.RedBudget → (claims : List Claim) → Knows (with_inserted self.old.state fresh.word fresh.at (record { tokens = fresh.tokens; status = Status.Asserted })) claims → ¬ IsModel self.old.interpretation claims) }
+        ensures status { IfOk result (λ status. IsStatusOf
+            (with_inserted self.old.state fresh.word fresh.at (record { tokens = fresh.tokens; status = Status.Asserted })) (meaning_shown fresh.sense)
+            status) }
+        ensures after { IfOk result (λ status. self.new.state
+            ≡ with_inserted self.old.state fresh.word fresh.at (record { tokens = fresh.tokens; status = status })) }
+        ensures spent { IfOk result (λ status. status ≡ Status.RedBudget → (claims : List Claim)
+            → Knows (with_inserted self.old.state fresh.word fresh.at (record { tokens = fresh.tokens; status = Status.Asserted })) claims
+            → ¬ IsModel self.old.interpretation claims) }
         ensures memory { OnErr result (self.new ≡ self.old) }
     {
         let place = self.place(fresh.word);
@@ -144,9 +154,14 @@ impl Store {
         requires few { length fresh.tokens ≤ MOST_TOKENS }
         requires room { length (sentences_in self.old.state.articles) < MOST_SENTENCES }
         requires means { Means self.old.state.grammar self.old.state.words fresh.tokens (meaning_shown fresh.sense) }
-        ensures status { IfOk result (λ status. IsStatusOf (with_inserted self.old.state fresh.word fresh.at (record { tokens = fresh.tokens; status = Status.Asserted })) (meaning_shown fresh.sense) status) }
-        ensures after { IfOk result (λ status. self.new.state ≡ with_inserted self.old.state fresh.word fresh.at (record { tokens = fresh.tokens; status = status })) }
-        ensures spent { IfOk result (λ status. status ≡ Status.RedBudget → (claims : List Claim) → Knows (with_inserted self.old.state fresh.word fresh.at (record { tokens = fresh.tokens; status = Status.Asserted })) claims → ¬ IsModel self.old.interpretation claims) }
+        ensures status { IfOk result (λ status. IsStatusOf
+            (with_inserted self.old.state fresh.word fresh.at (record { tokens = fresh.tokens; status = Status.Asserted })) (meaning_shown fresh.sense)
+            status) }
+        ensures after { IfOk result (λ status. self.new.state
+            ≡ with_inserted self.old.state fresh.word fresh.at (record { tokens = fresh.tokens; status = status })) }
+        ensures spent { IfOk result (λ status. status ≡ Status.RedBudget → (claims : List Claim)
+            → Knows (with_inserted self.old.state fresh.word fresh.at (record { tokens = fresh.tokens; status = Status.Asserted })) claims
+            → ¬ IsModel self.old.interpretation claims) }
         ensures memory { OnErr result (self.new ≡ self.old) }
     {
         self.are_apart();

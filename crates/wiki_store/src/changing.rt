@@ -71,9 +71,14 @@ impl Store {
         requires place { HasSentence self.old.state.articles fresh.word fresh.at }
         requires few { length fresh.tokens ≤ MOST_TOKENS }
         requires means { Means self.old.state.grammar self.old.state.words fresh.tokens (meaning_shown fresh.sense) }
-        ensures status { IfOk result (λ status. IsStatusOf (with_replaced self.old.state fresh.word fresh.at (record { tokens = fresh.tokens; status = Status.Asserted })) (meaning_shown fresh.sense) status) }
-        ensures after { IfOk result (λ status. self.new.state ≡ with_replaced self.old.state fresh.word fresh.at (record { tokens = fresh.tokens; status = status })) }
-        ensures spent { IfOk result (λ status. status ≡ Status.RedBudget → (claims : List Claim) → Knows (with_replaced self.old.state fresh.word fresh.at (record { tokens = fresh.tokens; status = Status.Asserted })) claims → ¬ IsModel self.old.interpretation claims) }
+        ensures status { IfOk result (λ status. IsStatusOf
+            (with_replaced self.old.state fresh.word fresh.at (record { tokens = fresh.tokens; status = Status.Asserted })) (meaning_shown fresh.sense)
+            status) }
+        ensures after { IfOk result (λ status. self.new.state
+            ≡ with_replaced self.old.state fresh.word fresh.at (record { tokens = fresh.tokens; status = status })) }
+        ensures spent { IfOk result (λ status. status ≡ Status.RedBudget → (claims : List Claim)
+            → Knows (with_replaced self.old.state fresh.word fresh.at (record { tokens = fresh.tokens; status = Status.Asserted })) claims
+            → ¬ IsModel self.old.interpretation claims) }
         ensures memory { OnErr result (self.new ≡ self.old) }
     {
         if is_settled(&self.kept, &fresh.sense) {
@@ -90,9 +95,14 @@ impl Store {
         requires few { length fresh.tokens ≤ MOST_TOKENS }
         requires means { Means self.old.state.grammar self.old.state.words fresh.tokens (meaning_shown fresh.sense) }
         requires settled { IsTrueIn self.old.interpretation (meaning_shown fresh.sense) }
-        ensures status { IfOk result (λ status. IsStatusOf (with_replaced self.old.state fresh.word fresh.at (record { tokens = fresh.tokens; status = Status.Asserted })) (meaning_shown fresh.sense) status) }
-        ensures after { IfOk result (λ status. self.new.state ≡ with_replaced self.old.state fresh.word fresh.at (record { tokens = fresh.tokens; status = status })) }
-        ensures spent { IfOk result (λ status. status ≡ Status.RedBudget → (claims : List Claim) → Knows (with_replaced self.old.state fresh.word fresh.at (record { tokens = fresh.tokens; status = Status.Asserted })) claims → ¬ IsModel self.old.interpretation claims) }
+        ensures status { IfOk result (λ status. IsStatusOf
+            (with_replaced self.old.state fresh.word fresh.at (record { tokens = fresh.tokens; status = Status.Asserted })) (meaning_shown fresh.sense)
+            status) }
+        ensures after { IfOk result (λ status. self.new.state
+            ≡ with_replaced self.old.state fresh.word fresh.at (record { tokens = fresh.tokens; status = status })) }
+        ensures spent { IfOk result (λ status. status ≡ Status.RedBudget → (claims : List Claim)
+            → Knows (with_replaced self.old.state fresh.word fresh.at (record { tokens = fresh.tokens; status = Status.Asserted })) claims
+            → ¬ IsModel self.old.interpretation claims) }
         ensures memory { OnErr result (self.new ≡ self.old) }
     {
         let place = self.place(fresh.word);
@@ -121,9 +131,14 @@ impl Store {
         requires place { HasSentence self.old.state.articles fresh.word fresh.at }
         requires few { length fresh.tokens ≤ MOST_TOKENS }
         requires means { Means self.old.state.grammar self.old.state.words fresh.tokens (meaning_shown fresh.sense) }
-        ensures status { IfOk result (λ status. IsStatusOf (with_replaced self.old.state fresh.word fresh.at (record { tokens = fresh.tokens; status = Status.Asserted })) (meaning_shown fresh.sense) status) }
-        ensures after { IfOk result (λ status. self.new.state ≡ with_replaced self.old.state fresh.word fresh.at (record { tokens = fresh.tokens; status = status })) }
-        ensures spent { IfOk result (λ status. status ≡ Status.RedBudget → (claims : List Claim) → Knows (with_replaced self.old.state fresh.word fresh.at (record { tokens = fresh.tokens; status = Status.Asserted })) claims → ¬ IsModel self.old.interpretation claims) }
+        ensures status { IfOk result (λ status. IsStatusOf
+            (with_replaced self.old.state fresh.word fresh.at (record { tokens = fresh.tokens; status = Status.Asserted })) (meaning_shown fresh.sense)
+            status) }
+        ensures after { IfOk result (λ status. self.new.state
+            ≡ with_replaced self.old.state fresh.word fresh.at (record { tokens = fresh.tokens; status = status })) }
+        ensures spent { IfOk result (λ status. status ≡ Status.RedBudget → (claims : List Claim)
+            → Knows (with_replaced self.old.state fresh.word fresh.at (record { tokens = fresh.tokens; status = Status.Asserted })) claims
+            → ¬ IsModel self.old.interpretation claims) }
         ensures memory { OnErr result (self.new ≡ self.old) }
     {
         self.are_apart();
@@ -175,7 +190,8 @@ impl Store {
         ensures named { IfOk result (λ word. word_named self.now.state form.now ≡ Some word) }
         ensures open { IfOk result (CanChange self.now.state.articles) }
         ensures place { IfOk result (λ word. HasSentence self.now.state.articles word at) }
-        ensures may { IfOk result (λ word. (sentence : TheSentence) → sentence_at self.now.state.articles word at ≡ Some sentence → may_reassert sentence.status ≡ true) }
+        ensures may { IfOk result (λ word. (sentence : TheSentence) → sentence_at self.now.state.articles word at ≡ Some sentence
+            → may_reassert sentence.status ≡ true) }
         ensures free { OnOk result (IsAbsent (Refuses self.now.state (Request.Reassert form.now at))) }
         ensures refused { IfErr result (IsFault (Refuses self.now.state (Request.Reassert form.now at))) }
     {
@@ -208,9 +224,11 @@ impl Store {
         requires open { CanChange self.old.state.articles word }
         requires place { HasSentence self.old.state.articles word at }
         requires may { (sentence : TheSentence) → sentence_at self.old.state.articles word at ≡ Some sentence → may_reassert sentence.status ≡ true }
-        ensures status { IfOk result (λ status. (sentence : TheSentence) → sentence_at self.old.state.articles word at ≡ Some sentence → GetStatus (with_marked self.old.state word at Status.Asserted) sentence.tokens status) }
+        ensures status { IfOk result (λ status. (sentence : TheSentence) → sentence_at self.old.state.articles word at ≡ Some sentence
+            → GetStatus (with_marked self.old.state word at Status.Asserted) sentence.tokens status) }
         ensures after { IfOk result (λ status. self.new.state ≡ with_marked self.old.state word at status) }
-        ensures spent { IfOk result (λ status. status ≡ Status.RedBudget → (claims : List Claim) → Knows (with_marked self.old.state word at Status.Asserted) claims → ¬ IsModel self.old.interpretation claims) }
+        ensures spent { IfOk result (λ status. status ≡ Status.RedBudget → (claims : List Claim)
+            → Knows (with_marked self.old.state word at Status.Asserted) claims → ¬ IsModel self.old.interpretation claims) }
         ensures memory { OnErr result (self.new ≡ self.old) }
     {
         let place = self.place(word);
@@ -239,9 +257,11 @@ impl Store {
         requires open { CanChange self.old.state.articles word }
         requires place { HasSentence self.old.state.articles word at }
         requires may { (sentence : TheSentence) → sentence_at self.old.state.articles word at ≡ Some sentence → may_reassert sentence.status ≡ true }
-        ensures status { IfOk result (λ status. (sentence : TheSentence) → sentence_at self.old.state.articles word at ≡ Some sentence → GetStatus (with_marked self.old.state word at Status.Asserted) sentence.tokens status) }
+        ensures status { IfOk result (λ status. (sentence : TheSentence) → sentence_at self.old.state.articles word at ≡ Some sentence
+            → GetStatus (with_marked self.old.state word at Status.Asserted) sentence.tokens status) }
         ensures after { IfOk result (λ status. self.new.state ≡ with_marked self.old.state word at status) }
-        ensures spent { IfOk result (λ status. status ≡ Status.RedBudget → (claims : List Claim) → Knows (with_marked self.old.state word at Status.Asserted) claims → ¬ IsModel self.old.interpretation claims) }
+        ensures spent { IfOk result (λ status. status ≡ Status.RedBudget → (claims : List Claim)
+            → Knows (with_marked self.old.state word at Status.Asserted) claims → ¬ IsModel self.old.interpretation claims) }
         ensures memory { OnErr result (self.new ≡ self.old) }
     {
         self.are_apart();

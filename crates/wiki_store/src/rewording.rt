@@ -33,7 +33,8 @@ impl Store {
     /// this order, a form that no word has, texts that can't be the forms of a word of its kind beside the others, and forms
     /// by which a sentence has no derivation, or another meaning.
     pub fn rewording(&self, form: &Text8, texts: &[Text8]) -> Result<Lexicon, Fault>
-        ensures step { IfOk result (λ lexicon. Step self.now.state (Request.Reword form.now texts.now) Reply.Reword (record self.now.state { words = lexicon })) }
+        ensures step { IfOk result (λ lexicon. Step self.now.state (Request.Reword form.now texts.now) Reply.Reword
+            (record self.now.state { words = lexicon })) }
         ensures keeps { IfOk result (KeepsSentences self.now.state) }
         ensures refused { IfErr result (IsFault (Refuses self.now.state (Request.Reword form.now texts.now))) }
     {
@@ -78,7 +79,8 @@ impl Store {
     // Whether each sentence keeps its meaning by other words, where those without the old forms of a word do.
     fn unbroken(&self, forms: &Forms, lexicon: &Lexicon) -> Result<(), Fault>
         requires { KeepsOthers self.now.state.grammar self.now.state.words lexicon.now forms.now.texts }
-        ensures keep { OnOk result (All (λ placed. KeepsMeaning self.now.state.grammar self.now.state.words lexicon.now placed.sentence.tokens) (all_placed self.now.state.articles)) }
+        ensures keep { OnOk result (All (λ placed. KeepsMeaning self.now.state.grammar self.now.state.words lexicon.now placed.sentence.tokens)
+            (all_placed self.now.state.articles)) }
         ensures refused { IfErr result (IsFault (IsBroken self.now.state lexicon.now)) }
     {
         let found = first_broken(
@@ -185,7 +187,8 @@ fn first_broken(
     requires labelled { IsTrue (is_labelled grammar.now) }
     requires short { All (λ sentence. length sentence.tokens ≤ MOST_TOKENS) (sentences_in articles.now) }
     requires few { All (λ article. length article.sentences ≤ most_sentences) articles.now }
-    ensures { IfOk result (λ found. (words : Listed) → MeanInEach grammar.now words articles.now senses.now → KeepsOthers grammar.now words lexicon.now forms.now.texts
+    ensures { IfOk result (λ found. (words : Listed) → MeanInEach grammar.now words articles.now senses.now
+        → KeepsOthers grammar.now words lexicon.now forms.now.texts
         → FindsPlace (λ placed. KeepsMeaning grammar.now words lexicon.now placed.sentence.tokens) (all_placed articles.now) found) }
 {
     let count = articles.len().min(senses.len());
@@ -217,7 +220,8 @@ fn broken_in(
     requires labelled { IsTrue (is_labelled grammar.now) }
     requires short { All (λ sentence. length sentence.tokens ≤ MOST_TOKENS) article.now.sentences }
     requires few { length article.now.sentences ≤ most_sentences }
-    ensures { IfOk result (λ found. (words : Listed) → MeanEach grammar.now words article.now.sentences (meanings_in senses.now) → KeepsOthers grammar.now words lexicon.now forms.now.texts
+    ensures { IfOk result (λ found. (words : Listed) → MeanEach grammar.now words article.now.sentences (meanings_in senses.now)
+        → KeepsOthers grammar.now words lexicon.now forms.now.texts
         → FindsPlace (λ placed. KeepsMeaning grammar.now words lexicon.now placed.sentence.tokens) (placed_in article.now) found) }
 {
     let sentences = article.sentences.as_slice();
@@ -245,7 +249,8 @@ fn keeps(
 ) -> Result<bool, Memory>
     requires labelled { IsTrue (is_labelled grammar.now) }
     requires short { length sentence.now.tokens ≤ MOST_TOKENS }
-    ensures { IfOk result (λ kept. (words : Listed) → Means grammar.now words sentence.now.tokens (meaning_shown sense.now) → KeepsOthers grammar.now words lexicon.now forms.now.texts
+    ensures { IfOk result (λ kept. (words : Listed) → Means grammar.now words sentence.now.tokens (meaning_shown sense.now)
+        → KeepsOthers grammar.now words lexicon.now forms.now.texts
         → MatchBool kept (KeepsMeaning grammar.now words lexicon.now sentence.now.tokens) (KeepsMeaning grammar.now words lexicon.now sentence.now.tokens → ⊥)) }
 {
     if !has_form(sentence, forms) {

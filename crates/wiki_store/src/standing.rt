@@ -35,9 +35,12 @@ pub(crate) fn standing(
     requires known { kept_claims kept.now ≡ known_around articles.now senses.now place from [] to }
     requires over { IsTrue (are_over (live_names lexicon.now) (known_around articles.now senses.now place from (stated_by (meaning_shown sense.now)) to)) }
     requires plain { IsTrue (are_plain (known_around articles.now senses.now place from (stated_by (meaning_shown sense.now)) to)) }
-    ensures status { IfOk result (λ made. Stands (known_around articles.now senses.now place from (stated_by (meaning_shown sense.now)) to) (live_names lexicon.now) budget (meaning_shown sense.now) made.0) }
-    ensures model { IfOk result (λ made. kept_claims (unwrap_or made.1 kept.now) ≡ known_around articles.now senses.now place from (if is_asserted made.0 then stated_by (meaning_shown sense.now) else []) to) }
-    ensures spent { IfOk result (λ made. made.0 ≡ Status.RedBudget → IsModel (kept_interp kept.now) (known_around articles.now senses.now place from (stated_by (meaning_shown sense.now)) to) → ⊥) }
+    ensures status { IfOk result (λ made. Stands (known_around articles.now senses.now place from (stated_by (meaning_shown sense.now)) to)
+        (live_names lexicon.now) budget (meaning_shown sense.now) made.0) }
+    ensures model { IfOk result (λ made. kept_claims (unwrap_or made.1 kept.now)
+        ≡ known_around articles.now senses.now place from (if is_asserted made.0 then stated_by (meaning_shown sense.now) else []) to) }
+    ensures spent { IfOk result (λ made. made.0 ≡ Status.RedBudget
+        → IsModel (kept_interp kept.now) (known_around articles.now senses.now place from (stated_by (meaning_shown sense.now)) to) → ⊥) }
 {
     match sense {
         Sense::Stating(own) => {

@@ -49,9 +49,13 @@ impl Model for Store {
     ghost use Rattle.owl_eval.specs.Checked.{kept_interp};
     ghost use Rattle.wiki_parts.specs.Kept.{IsKeeping};
 
-    ghost view = { λ w. record { state = record { grammar = w.grammar; budget = w.budget; words = w.lexicon; articles = w.articles }; interpretation = kept_interp w.kept } };
+    ghost view = { λ w. record {
+      state = record { grammar = w.grammar; budget = w.budget; words = w.lexicon; articles = w.articles };
+      interpretation = kept_interp w.kept;
+    } };
 
-    ghost invariant = { λ w. IsKeeping (record { grammar = w.grammar; budget = w.budget; words = w.lexicon; articles = w.articles }) w.senses.items w.kept × (w.last ≡ w.lexicon.last) };
+    ghost invariant = { λ w. IsKeeping (record { grammar = w.grammar; budget = w.budget; words = w.lexicon; articles = w.articles }) w.senses.items w.kept
+        × (w.last ≡ w.lexicon.last) };
 }
 
 impl Store {
@@ -332,7 +336,8 @@ fn refuse_word(
     forms: &[Text8],
 ) -> Result<Reply, Memory>
     requires { lexicon.old.last ≡ LAST_NUMBER }
-    ensures refused { IfOk result (λ reply. (refusal : TheRefusal) × (word_refusal lexicon.old kind forms.now ≡ Some refusal) × (reply ≡ Reply.Refused refusal)) }
+    ensures refused { IfOk result (λ reply. (refusal : TheRefusal) × (word_refusal lexicon.old kind forms.now ≡ Some refusal)
+        × (reply ≡ Reply.Refused refusal)) }
     ensures words { lexicon.new ≡ lexicon.old }
 {
     match add_word(alloc, lexicon, kind, forms) {

@@ -18,7 +18,8 @@ impl Store {
     /// no word has, and a word that a sentence needs.
     pub fn unwording(&self, form: &Text8) -> Result<(WordId, Lexicon), Fault>
         ensures named { IfOk result (λ gone. word_named self.now.state form.now ≡ Some gone.0) }
-        ensures step { IfOk result (λ gone. Step self.now.state (Request.Unword form.now) Reply.Unword (record self.now.state { words = gone.1; articles = without_article self.now.state.articles gone.0 })) }
+        ensures step { IfOk result (λ gone. Step self.now.state (Request.Unword form.now) Reply.Unword
+            (record self.now.state { words = gone.1; articles = without_article self.now.state.articles gone.0 })) }
         ensures gone { IfOk result (λ gone. IsGone self.now.state gone.0 gone.1) }
         ensures refused { IfErr result (IsFault (Refuses self.now.state (Request.Unword form.now))) }
     {

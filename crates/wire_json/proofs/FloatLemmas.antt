@@ -34,7 +34,14 @@ has_float-numbers [] = refl
 has_float-numbers (n ∷ numbers) = has_float-numbers numbers
 
 has_float-menu : (menu : MenuView) → has_float (menu_value menu) ≡ false
-has_float-menu menu = rw (has_float-texts menu.adjective, has_float-texts menu.function, has_float-texts menu.name, has_float-texts menu.noun, has_float-texts menu.of, has_float-texts menu.verb) refl
+has_float-menu menu = rw (
+  has_float-texts menu.adjective,
+  has_float-texts menu.function,
+  has_float-texts menu.name,
+  has_float-texts menu.noun,
+  has_float-texts menu.of,
+  has_float-texts menu.verb,
+) refl
 
 has_float-cause : (cause : Option Cause) (members : Members) → members_have_float members ≡ false → members_have_float (with_cause cause members) ≡ false
 has_float-cause None members none = none

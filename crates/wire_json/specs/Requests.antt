@@ -41,7 +41,8 @@ number_if_at key value = option_map_or (λ found. option_map Some (number_of fou
 
 -- a new word: `kind` and `forms`
 unfoldable pub word_in : Data → Option Request
-word_in value = option_and_then (λ kind. option_map (requests.Word kind) (texts_at (codes "forms") value)) (option_and_then kind_named (text_at (codes "kind") value))
+word_in value = option_and_then (λ kind. option_map (requests.Word kind) (texts_at (codes "forms") value))
+    (option_and_then kind_named (text_at (codes "kind") value))
 
 -- the word that has a form: `word`
 unfoldable pub find_in : Data → Option Request
@@ -65,7 +66,8 @@ unword_in value = option_map requests.Unword (text_at (codes "word") value)
 
 -- a new sentence: `article`, `text` and, if it isn't to stand at the end, `at`
 unfoldable pub add_in : Data → Option Request
-add_in value = option_and_then (λ article. option_and_then (λ place. option_map (requests.Add article place) (text_at (codes "text") value)) (number_if_at (codes "at") value)) (text_at (codes "article") value)
+add_in value = option_and_then (λ article. option_and_then (λ place. option_map (requests.Add article place) (text_at (codes "text") value))
+    (number_if_at (codes "at") value)) (text_at (codes "article") value)
 
 -- an article and a place in it: `article` and `at`
 unfoldable pub place_in : Data → Option (List ℕ × ℕ)

@@ -51,7 +51,8 @@ fn which_value(alloc: Global, title: Title, which: u32) -> Result<Value, Memory>
 }
 
 fn taken_value(alloc: Global, title: Title, text: &Text8, word: &Text8) -> Result<Value, Memory>
-    ensures { IfOk result (λ value. view value ≡ object (told title.number title.name.now (member (codes "text") (string text.now) (member (codes "word") (string word.now) no_members)))) }
+    ensures { IfOk result (λ value. view value
+        ≡ object (told title.number title.name.now (member (codes "text") (string text.now) (member (codes "word") (string word.now) no_members)))) }
 {
     let text = text.as_str();
     let word = word.as_str();
@@ -59,7 +60,9 @@ fn taken_value(alloc: Global, title: Title, text: &Text8, word: &Text8) -> Resul
 }
 
 fn full_value(alloc: Global, title: Title, which: Limit, limit: u32) -> Result<Value, Memory>
-    ensures { IfOk result (λ value. view value ≡ object (member (codes "limit") (number (unsigned limit)) (told title.number title.name.now (member (codes "which") (string (name_of which)) no_members)))) }
+    ensures { IfOk result (λ value. view value
+        ≡ object (member (codes "limit") (number (unsigned limit))
+        (told title.number title.name.now (member (codes "which") (string (name_of which)) no_members)))) }
 {
     let which = which.name();
     Ok(
@@ -68,7 +71,8 @@ fn full_value(alloc: Global, title: Title, which: Limit, limit: u32) -> Result<V
 }
 
 fn not_sentence_value(alloc: Global, title: Title, k: u32, menu: &MenuView) -> Result<Value, Memory>
-    ensures { IfOk result (λ value. view value ≡ object (member (codes "k") (number (unsigned k)) (member (codes "menu") (menu_value menu.now) (told title.number title.name.now no_members)))) }
+    ensures { IfOk result (λ value. view value
+        ≡ object (member (codes "k") (number (unsigned k)) (member (codes "menu") (menu_value menu.now) (told title.number title.name.now no_members)))) }
 {
     let menu = menu_value(alloc, menu)?;
     Ok(json!(in alloc; {"k": k, "menu": menu, "name": title.name, "refused": title.number})?)
@@ -104,7 +108,8 @@ fn session_value(alloc: Global, title: Title, session: u32) -> Result<Value, Mem
 }
 
 fn stale_value(alloc: Global, title: Title, revision: u32) -> Result<Value, Memory>
-    ensures { IfOk result (λ value. view value ≡ object (told title.number title.name.now (member (codes "revision") (number (unsigned revision)) no_members))) }
+    ensures { IfOk result (λ value. view value
+        ≡ object (told title.number title.name.now (member (codes "revision") (number (unsigned revision)) no_members))) }
 {
     Ok(json!(in alloc; {"name": title.name, "refused": title.number, "revision": revision})?)
 }

@@ -20,7 +20,8 @@ loop-inclusion-preserved c =
     let end = c.put_below-in-loop-inclusion.new.hierarchy.items in
     record {
       closed = subst (λ qs. (r s : Role) → IsAtOrBelow end r s ↔ Reaches (IsPutBelow qs) r s) (sym (take_more ps k no_pair lt))
-          (closed_more (take k ps) hs mid end p c.inverse.result c.inverse-in-loop-inclusion.result c.inverse.ensures c.inverse-in-loop-inclusion.ensures c.loop-inclusion.invariant.closed c.in_ok-put_below.ensures.closed c.in_ok-put_below-2.ensures.closed);
+          (closed_more (take k ps) hs mid end p c.inverse.result c.inverse-in-loop-inclusion.result c.inverse.ensures c.inverse-in-loop-inclusion.ensures
+          c.loop-inclusion.invariant.closed c.in_ok-put_below.ensures.closed c.in_ok-put_below-2.ensures.closed);
       distinct = c.in_ok-put_below-2.ensures.distinct;
     }
 
@@ -28,4 +29,5 @@ pub returns-clause-closed : goal.returns-clause-closed
 returns-clause-closed c =
     let ps = c.args.inclusions.now in
     let past : length ps ≤ c.loop-inclusion.inclusion-index = omega (arith, c.loop-inclusion-test.false) in
-    subst (λ qs. (r s : Role) → IsAtOrBelow c.loop-inclusion.made.items r s ↔ Reaches (IsPutBelow qs) r s) (take_all c.loop-inclusion.inclusion-index ps past) c.loop-inclusion.invariant.closed
+    subst (λ qs. (r s : Role) → IsAtOrBelow c.loop-inclusion.made.items r s ↔ Reaches (IsPutBelow qs) r s) (take_all c.loop-inclusion.inclusion-index ps past)
+    c.loop-inclusion.invariant.closed

@@ -21,13 +21,15 @@ loop-pair-preserved c =
     subst (λ qs. (r : Role) → Contains c.if-is_same.made.items r ↔ IsAtOrBelow qs r c.args.role) (sym (take_more hs k no_pair lt))
     (elim c.if-is_same.branch [
       | then-is_same+in_ok-push-2 w ↦
-          (let grown : c.if-is_same.made.items ≡ c.loop-pair.made.items ++ (get_or hs k no_pair).0 ∷ [] = ap (λ v. v.items) w.made-is ∙ w.in_ok-push-2.ensures.items in
+          (let grown : c.if-is_same.made.items ≡ c.loop-pair.made.items ++ (get_or hs k no_pair).0 ∷ [] =
+          ap (λ v. v.items) w.made-is ∙ w.in_ok-push-2.ensures.items in
           subst (λ ms. (r : Role) → Contains ms r ↔ IsAtOrBelow (take k hs ++ get_or hs k no_pair ∷ []) r c.args.role) (sym grown)
           (lower_more (take k hs) c.loop-pair.made.items (get_or hs k no_pair) c.args.role (c.is_same.ensures.0 w.if-is_same.true) c.loop-pair.invariant))
       | else-is_same w ↦
           (let kept : c.if-is_same.made.items ≡ c.loop-pair.made.items = ap (λ v. v.items) w.made-is in
           subst (λ ms. (r : Role) → Contains ms r ↔ IsAtOrBelow (take k hs ++ get_or hs k no_pair ∷ []) r c.args.role) (sym kept)
-          (lower_skip (take k hs) c.loop-pair.made.items (get_or hs k no_pair) c.args.role (iff_false c.is_same.ensures w.if-is_same.false) c.loop-pair.invariant))
+          (lower_skip (take k hs) c.loop-pair.made.items (get_or hs k no_pair) c.args.role (iff_false c.is_same.ensures w.if-is_same.false)
+          c.loop-pair.invariant))
     ])
 
 pub returns : goal.returns

@@ -17,9 +17,12 @@ loop-first-preserved c =
     let before = c.args.hierarchy.now.items in
     let lt : k < length ls = c.loop-first-test.true in
     record {
-      closed = subst (λ qs. (r s : Role) → IsAtOrBelow c.put_each.new.hierarchy.items r s ↔ (IsAtOrBelow before r s ⊎ (Contains qs r × Contains us s))) (sym (take_more ls k no_role lt))
+      closed = subst (λ qs. (r s : Role) → IsAtOrBelow c.put_each.new.hierarchy.items r s ↔ (IsAtOrBelow before r s ⊎ (Contains qs r × Contains us s)))
+          (sym (take_more ls k no_role lt))
           (product_more before c.loop-first.hierarchy.items c.put_each.new.hierarchy.items (get_or ls k no_role) (take k ls) us c.loop-first.invariant.closed
-          (subst (λ qs. (r s : Role) → IsAtOrBelow c.put_each.new.hierarchy.items r s ↔ (IsAtOrBelow c.loop-first.hierarchy.items r s ⊎ ((get_or ls k no_role ≡ r) × Contains qs s))) c.as_slice-in-loop-first.ensures.value c.in_ok-put_each.ensures.closed));
+          (subst (λ qs. (r s : Role) → IsAtOrBelow c.put_each.new.hierarchy.items r s ↔
+          (IsAtOrBelow c.loop-first.hierarchy.items r s ⊎ ((get_or ls k no_role ≡ r) × Contains qs s))) c.as_slice-in-loop-first.ensures.value
+          c.in_ok-put_each.ensures.closed));
       distinct = c.in_ok-put_each.ensures.distinct;
     }
 

@@ -6,6 +6,7 @@ use Rattle.absorb.proofs.hierarchy.put_below.Given as goal
 
 abbrev pub invariant-loop-first : goal.invariant-loop-first
 invariant-loop-first l = record {
-  closed : (r s : Role) → IsAtOrBelow l.hierarchy.items r s ↔ (IsAtOrBelow l.fn.hierarchy.items r s ⊎ (Contains (take l.first-index l.first-items) r × Contains l.upper.items s));
+  closed : (r s : Role) → IsAtOrBelow l.hierarchy.items r s ↔
+      (IsAtOrBelow l.fn.hierarchy.items r s ⊎ (Contains (take l.first-index l.first-items) r × Contains l.upper.items s));
   distinct : AreDistinct l.hierarchy.items;
 }

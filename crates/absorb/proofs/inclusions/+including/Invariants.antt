@@ -7,4 +7,5 @@ use Rattle.absorb.specs.Found.{found}
 use Rattle.absorb.proofs.inclusions.+including.Given as goal
 
 abbrev pub invariant-include_each-loop-place : goal.invariant-include_each-loop-place
-invariant-include_each-loop-place l = found l.pieces ≡ with_pieces (found l.fn.pieces) (inclusions (concepts_from (take l.place (concepts_of l.members))) (concept_of l.above))
+invariant-include_each-loop-place l = found l.pieces
+    ≡ with_pieces (found l.fn.pieces) (inclusions (concepts_from (take l.place (concepts_of l.members))) (concept_of l.above))

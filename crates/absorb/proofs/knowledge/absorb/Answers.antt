@@ -10,15 +10,18 @@ use Rattle.absorb.proofs.knowledge.absorb.Goals as goal
 
 pub representatives-requires : goal.representatives-requires
 representatives-requires c =
-    ap (list_all (λ (e : WordId × WordId). is_among c.args.names.now e.0 && is_among c.args.names.now e.1)) (c.as_slice.ensures.value ∙ ap (λ s. s.equalities) c.in_ok-pieces.ensures)
+    ap (list_all (λ (e : WordId × WordId). is_among c.args.names.now e.0 && is_among c.args.names.now e.1))
+    (c.as_slice.ensures.value ∙ ap (λ s. s.equalities) c.in_ok-pieces.ensures)
     ∙ equalities_over c.args.names.now (claims_of c.args.axioms.now) c.requires
 
 pub returns-clause-exact : goal.returns-clause-exact
 returns-clause-exact c =
-    absorbed_from (claims_of c.args.axioms.now) c.args.names.now (theory_of c.new.result) c.in_ok-given.given.items c.as_slice.result.now c.in_ok-roles.roles.items c.as_slice-2.result.now
+    absorbed_from (claims_of c.args.axioms.now) c.args.names.now (theory_of c.new.result) c.in_ok-given.given.items c.as_slice.result.now
+    c.in_ok-roles.roles.items c.as_slice-2.result.now
     (c.as_slice.ensures.value ∙ ap (λ s. s.equalities) c.in_ok-pieces.ensures)
     (c.as_slice-2.ensures.value ∙ ap (λ s. s.role_inclusions) c.in_ok-pieces.ensures)
-    c.new.ensures.names c.new.ensures.hierarchy c.in_ok-given.ensures.given c.in_ok-given.ensures.least c.in_ok-roles.ensures.closed c.in_ok-roles.ensures.distinct
+    c.new.ensures.names c.new.ensures.hierarchy c.in_ok-given.ensures.given c.in_ok-given.ensures.least c.in_ok-roles.ensures.closed
+    c.in_ok-roles.ensures.distinct
     (c.new.ensures.assertions ∙ ap (λ s. s.assertions) c.in_ok-pieces.ensures)
     (c.new.ensures.edges ∙ ap (λ s. s.edges) c.in_ok-pieces.ensures)
     (c.new.ensures.differences ∙ ap (λ s. s.differences) c.in_ok-pieces.ensures)

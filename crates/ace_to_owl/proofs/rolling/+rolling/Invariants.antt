@@ -37,4 +37,5 @@ decreases-roll_without l = max (size-Drs l.left.now) (size-Drs l.right.now) * 6 
 -- what is left decides
 abbrev pub invariant-parts_of-loop-place : goal.invariant-parts_of-loop-place
 invariant-parts_of-loop-place l =
-    next (parts l.root l.referents (conditions_from (drop l.place (conditions_of l.conditions)))) (λ ps. Ok (map part_shown l.given ++ ps)) ≡ parts l.root l.referents (conditions_from (conditions_of l.conditions))
+    next (parts l.root l.referents (conditions_from (drop l.place (conditions_of l.conditions)))) (λ ps. Ok (map part_shown l.given ++ ps))
+    ≡ parts l.root l.referents (conditions_from (conditions_of l.conditions))

@@ -13,7 +13,9 @@ returns-in-Some c =
     let here : Condition = condition_of c.get.result.now in
     let wanted : Bool = together w.groups.now own c.as_slice-group.result.now in
     name_stop wanted (λ d. together w.groups.now own (own_terms w.referents.now d)) cs c.loop-place.place here c.in-Some.name _ c.get.ensures.item
-    (ap (together w.groups.now own) (c.as_slice-group.ensures ∙ sym c.index-whole-place.is ∙ group_at (own_terms w.referents.now) w.groups.now cs c.loop-place.place here c.index-whole-place.result c.requires.groups c.get.ensures.item c.index-whole-place.is))
+    (ap (together w.groups.now own) (c.as_slice-group.ensures ∙ sym c.index-whole-place.is
+    ∙ group_at (own_terms w.referents.now) w.groups.now cs c.loop-place.place here c.index-whole-place.result c.requires.groups c.get.ensures.item
+    c.index-whole-place.is))
     (sym c.in-Some.is ∙ c.in_ok-name.ensures)
     c.loop-place.invariant
 
@@ -25,6 +27,8 @@ loop-place-preserved c =
     let here : Condition = condition_of c.get.result.now in
     let wanted : Bool = together w.groups.now own c.as_slice-group.result.now in
     name_go_by wanted (λ d. together w.groups.now own (own_terms w.referents.now d)) cs c.loop-place.place here c.get.ensures.item
-    (ap (together w.groups.now own) (c.as_slice-group.ensures ∙ sym c.index-whole-place.is ∙ group_at (own_terms w.referents.now) w.groups.now cs c.loop-place.place here c.index-whole-place.result c.requires.groups c.get.ensures.item c.index-whole-place.is))
+    (ap (together w.groups.now own) (c.as_slice-group.ensures ∙ sym c.index-whole-place.is
+    ∙ group_at (own_terms w.referents.now) w.groups.now cs c.loop-place.place here c.index-whole-place.result c.requires.groups c.get.ensures.item
+    c.index-whole-place.is))
     (sym c.in_default.is ∙ c.in_ok-name.ensures)
     ∙ c.loop-place.invariant

@@ -14,8 +14,12 @@ returns-in-Err c =
     let own = c.args.own.now in
     let here : Condition = condition_of c.get.result.now in
     let wanted : Bool = together w.groups.now own c.as_slice-group.result.now in
-    with_stop c.args.root c.args.inside.now (parts c.args.root c.args.inside.now (conditions_from (conditions_with w.referents.now w.groups.now own cs))) (λ d. together w.groups.now own (own_terms w.referents.now d)) cs c.loop-place.place here (map part_shown c.loop-place.given) c.get.ensures.item c.loop-place.invariant wanted
-    (ap (together w.groups.now own) (c.as_slice-group.ensures ∙ sym c.index-whole-place.is ∙ group_at (own_terms w.referents.now) w.groups.now cs c.loop-place.place here c.index-whole-place.result c.requires.groups c.get.ensures.item c.index-whole-place.is))
+    with_stop c.args.root c.args.inside.now (parts c.args.root c.args.inside.now (conditions_from (conditions_with w.referents.now w.groups.now own cs)))
+    (λ d. together w.groups.now own (own_terms w.referents.now d)) cs c.loop-place.place here (map part_shown c.loop-place.given) c.get.ensures.item
+    c.loop-place.invariant wanted
+    (ap (together w.groups.now own) (c.as_slice-group.ensures ∙ sym c.index-whole-place.is
+    ∙ group_at (own_terms w.referents.now) w.groups.now cs c.loop-place.place here c.index-whole-place.result c.requires.groups c.get.ensures.item
+    c.index-whole-place.is))
     (option_shown part_shown) part_shown c.in-Err.fault c.in-Err.ensures
 
 pub loop-place-preserved : goal.loop-place-preserved
@@ -25,6 +29,10 @@ loop-place-preserved c =
     let own = c.args.own.now in
     let here : Condition = condition_of c.get.result.now in
     let wanted : Bool = together w.groups.now own c.as_slice-group.result.now in
-    with_go c.args.root c.args.inside.now (parts c.args.root c.args.inside.now (conditions_from (conditions_with w.referents.now w.groups.now own cs))) (λ d. together w.groups.now own (own_terms w.referents.now d)) cs c.loop-place.place here (map part_shown c.loop-place.given) c.get.ensures.item c.loop-place.invariant wanted
-    (ap (together w.groups.now own) (c.as_slice-group.ensures ∙ sym c.index-whole-place.is ∙ group_at (own_terms w.referents.now) w.groups.now cs c.loop-place.place here c.index-whole-place.result c.requires.groups c.get.ensures.item c.index-whole-place.is))
+    with_go c.args.root c.args.inside.now (parts c.args.root c.args.inside.now (conditions_from (conditions_with w.referents.now w.groups.now own cs)))
+    (λ d. together w.groups.now own (own_terms w.referents.now d)) cs c.loop-place.place here (map part_shown c.loop-place.given) c.get.ensures.item
+    c.loop-place.invariant wanted
+    (ap (together w.groups.now own) (c.as_slice-group.ensures ∙ sym c.index-whole-place.is
+    ∙ group_at (own_terms w.referents.now) w.groups.now cs c.loop-place.place here c.index-whole-place.result c.requires.groups c.get.ensures.item
+    c.index-whole-place.is))
     (option_shown part_shown c.in-Ok.part) (map part_shown c.push_part.new.given) c.in-Ok.ensures c.in_ok-push_part-in-Ok.ensures

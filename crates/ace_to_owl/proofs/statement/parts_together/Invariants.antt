@@ -9,5 +9,7 @@ use Rattle.ace_to_owl.proofs.statement.parts_together.Given as goal
 
 abbrev pub invariant-loop-place : goal.invariant-loop-place
 invariant-loop-place l =
-    next (parts l.root l.inside (conditions_from (conditions_with l.whole.referents.now l.whole.groups.now l.own (drop l.place (conditions_of l.whole.conditions.now))))) (λ ps. Ok (map part_shown l.given ++ ps))
+    next (parts l.root l.inside (conditions_from
+    (conditions_with l.whole.referents.now l.whole.groups.now l.own (drop l.place (conditions_of l.whole.conditions.now)))))
+    (λ ps. Ok (map part_shown l.given ++ ps))
     ≡ parts l.root l.inside (conditions_from (conditions_with l.whole.referents.now l.whole.groups.now l.own (conditions_of l.whole.conditions.now)))

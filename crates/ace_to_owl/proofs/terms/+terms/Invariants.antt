@@ -22,6 +22,7 @@ decreases-add_either l = max (size-Drs l.left.now) (size-Drs l.right.now) * 2 + 
 
 abbrev pub invariant-add_conditions-loop-place : goal.invariant-add_conditions-loop-place
 invariant-add_conditions-loop-place l = record {
-  left : l.found ++ terms_in_all l.initial.bound (conditions_from (drop l.place (conditions_of l.conditions))) ≡ l.initial.found ++ terms_in_all l.initial.bound (conditions_from (conditions_of l.conditions));
+  left : l.found ++ terms_in_all l.initial.bound (conditions_from (drop l.place (conditions_of l.conditions)))
+      ≡ l.initial.found ++ terms_in_all l.initial.bound (conditions_from (conditions_of l.conditions));
   kept : l.bound ≡ l.initial.bound;
 }

@@ -10,10 +10,12 @@ class_at-loop-part-preserved t c =
     let ps : List Part = map part_shown c.args.parts.now in
     let way = c.push.new.self in
     record {
-      left = gift_on part_shown (part_at (class_at (c.args.depth - 1) ps way) way c.args.node) c.args.parts.now c.loop-part.part-index c.part-item.result (concepts_of c.loop-part.classes) (concepts_of c.push_some.new.classes) c.loop-part-test.true c.part-item.is
+      left = gift_on part_shown (part_at (class_at (c.args.depth - 1) ps way) way c.args.node) c.args.parts.now c.loop-part.part-index c.part-item.result
+          (concepts_of c.loop-part.classes) (concepts_of c.push_some.new.classes) c.loop-part-test.true c.part-item.is
           (c.in_ok-push_some.ensures
           ∙ ap (λ o. concepts_of c.loop-part.classes ++ listed o)
-          (c.in_ok-class.ensures.class ∙ ap (λ w. part_at (class_at (c.args.depth - 1) ps w) w c.args.node (part_shown c.part-item.result)) c.loop-part.invariant.kept))
+          (c.in_ok-class.ensures.class ∙ ap (λ w. part_at (class_at (c.args.depth - 1) ps w) w c.args.node (part_shown c.part-item.result))
+          c.loop-part.invariant.kept))
           c.loop-part.invariant.left;
       kept = c.in_ok-class.ensures.kept ∙ c.loop-part.invariant.kept;
     }
@@ -25,4 +27,5 @@ class_at-returns-clause-class t c =
     let positive : 0 < c.args.depth = omega (arith, c.if-depth-eq0.false) in
     c.intersection.ensures
     ∙ class_at-depth c.args.depth ps c.args.way.now way c.args.node (concepts_of c.loop-part.classes) positive c.in_ok-push.ensures.ok
-    (gifts_all part_shown (part_at (class_at (c.args.depth - 1) ps way) way c.args.node) c.args.parts.now c.loop-part.part-index (concepts_of c.loop-part.classes) c.loop-part-test.false c.loop-part.invariant.left)
+    (gifts_all part_shown (part_at (class_at (c.args.depth - 1) ps way) way c.args.node) c.args.parts.now c.loop-part.part-index
+    (concepts_of c.loop-part.classes) c.loop-part-test.false c.loop-part.invariant.left)

@@ -13,6 +13,8 @@ decreases-part_at l = l.depth * 2 + 1
 
 abbrev pub invariant-class_at-loop-part : goal.invariant-class_at-loop-part
 invariant-class_at-loop-part l = record {
-  left : concepts_of l.classes ++ filter_map (part_at (class_at (l.depth - 1) (map part_shown l.parts) l.initial.way) l.initial.way l.node) (drop l.part-index (map part_shown l.parts)) ≡ filter_map (part_at (class_at (l.depth - 1) (map part_shown l.parts) l.initial.way) l.initial.way l.node) (map part_shown l.parts);
+  left : concepts_of l.classes ++ filter_map (part_at (class_at (l.depth - 1) (map part_shown l.parts) l.initial.way) l.initial.way l.node)
+      (drop l.part-index (map part_shown l.parts))
+      ≡ filter_map (part_at (class_at (l.depth - 1) (map part_shown l.parts) l.initial.way) l.initial.way l.node) (map part_shown l.parts);
   kept : l.way ≡ l.initial.way;
 }

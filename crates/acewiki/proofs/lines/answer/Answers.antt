@@ -20,4 +20,6 @@ returns-in-Some-request-clause-memory c =
       | in-Some+in_ok-request-in-Some w ↦ rw (w.in-Some.is, w.request-is) w.in_ok-request-in-Some.ensures
       | in-None w ↦ rw (w.in-None.is, w.request-is) refl
     ] in
-    on_err_weaker c.reply_to-line.result (λ stepped. WasStepped-step c.args.wiki.now (line_handed c.args.line) c.reply_to-line.new.wiki c.in-Some-request.request (sym c.in-Some-request.is ∙ is_asked) stepped) c.reply_to-line.ensures.memory
+    on_err_weaker c.reply_to-line.result
+    (λ stepped. WasStepped-step c.args.wiki.now (line_handed c.args.line) c.reply_to-line.new.wiki c.in-Some-request.request
+    (sym c.in-Some-request.is ∙ is_asked) stepped) c.reply_to-line.ensures.memory

@@ -187,11 +187,14 @@ returns-in-None-clause-make_alone g c = λ count seed budget given. no_command _
 
 pub returns-in-Some-Make-clause-usage : goal.returns-in-Some-Make-clause-usage
 returns-in-Some-Make-clause-usage g c =
-    let command = is_serve _ _ _ _ c.from_words.ensures c.in-Some-Make.is c.in-Some-Make.field-0-is in
-    ((λ is. absurd (made_not c.make.result outcomes.Usage c.make.ensures.ends is (λ same. cc same) (λ same. cc same) (λ same. cc same))), λ none. no_command _ _ none command)
+    let command = is_serve _ _ _ _ c.from_words.ensures c.in-Some-Make.is c.in-Some-Make.field-0-is in (
+      (λ is. absurd (made_not c.make.result outcomes.Usage c.make.ensures.ends is (λ same. cc same) (λ same. cc same) (λ same. cc same))),
+      λ none. no_command _ _ none command,
+    )
 
 pub returns-in-Some-Make-clause-idle : goal.returns-in-Some-Make-clause-idle
-returns-in-Some-Make-clause-idle g c = λ is. absurd (made_not c.make.result outcomes.Usage c.make.ensures.ends is (λ same. cc same) (λ same. cc same) (λ same. cc same))
+returns-in-Some-Make-clause-idle g c = λ is.
+    absurd (made_not c.make.result outcomes.Usage c.make.ensures.ends is (λ same. cc same) (λ same. cc same) (λ same. cc same))
 
 pub returns-in-Some-Make-clause-replays : goal.returns-in-Some-Make-clause-replays
 returns-in-Some-Make-clause-replays g c =
@@ -227,10 +230,12 @@ returns-in-Some-Make-clause-help_alone g c =
     other_command _ _ _ command given (λ same. cc same)
 
 pub returns-in-Some-Make-clause-read_fault : goal.returns-in-Some-Make-clause-read_fault
-returns-in-Some-Make-clause-read_fault g c = λ is. absurd (made_not c.make.result outcomes.ReadFault c.make.ensures.ends is (λ same. cc same) (λ same. cc same) (λ same. cc same))
+returns-in-Some-Make-clause-read_fault g c =
+    λ is. absurd (made_not c.make.result outcomes.ReadFault c.make.ensures.ends is (λ same. cc same) (λ same. cc same) (λ same. cc same))
 
 pub returns-in-Some-Make-clause-link_fault : goal.returns-in-Some-Make-clause-link_fault
-returns-in-Some-Make-clause-link_fault g c = λ is. absurd (made_not c.make.result outcomes.LinkFault c.make.ensures.ends is (λ same. cc same) (λ same. cc same) (λ same. cc same))
+returns-in-Some-Make-clause-link_fault g c =
+    λ is. absurd (made_not c.make.result outcomes.LinkFault c.make.ensures.ends is (λ same. cc same) (λ same. cc same) (λ same. cc same))
 
 pub returns-in-Some-Make-clause-no_link : goal.returns-in-Some-Make-clause-no_link
 returns-in-Some-Make-clause-no_link g c =
@@ -239,4 +244,5 @@ returns-in-Some-Make-clause-no_link g c =
     other_command _ _ _ command given (λ same. cc same)
 
 pub returns-in-Some-Make-clause-large : goal.returns-in-Some-Make-clause-large
-returns-in-Some-Make-clause-large g c = λ _ is. absurd (made_not c.make.result outcomes.TooMuch c.make.ensures.ends is (λ same. cc same) (λ same. cc same) (λ same. cc same))
+returns-in-Some-Make-clause-large g c = λ _ is.
+    absurd (made_not c.make.result outcomes.TooMuch c.make.ensures.ends is (λ same. cc same) (λ same. cc same) (λ same. cc same))

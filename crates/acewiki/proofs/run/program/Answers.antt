@@ -17,19 +17,23 @@ returns-in-Ok-clause-done g c =
 
 pub returns-in-Ok-clause-replays : goal.returns-in-Ok-clause-replays
 returns-in-Ok-clause-replays g c =
-    λ words budget outcome told given. c.run.ensures.replays budget outcome (ap command_of (c.deref.ensures.value ∙ told_words _ _ words c.in-Ok.ensures told) ∙ given)
+    λ words budget outcome told given. c.run.ensures.replays budget outcome
+    (ap command_of (c.deref.ensures.value ∙ told_words _ _ words c.in-Ok.ensures told) ∙ given)
 
 pub returns-in-Ok-clause-headline : goal.returns-in-Ok-clause-headline
 returns-in-Ok-clause-headline g c =
-    λ words address budget most told given. c.run.ensures.headline address budget most (ap command_of (c.deref.ensures.value ∙ told_words _ _ words c.in-Ok.ensures told) ∙ given)
+    λ words address budget most told given. c.run.ensures.headline address budget most
+    (ap command_of (c.deref.ensures.value ∙ told_words _ _ words c.in-Ok.ensures told) ∙ given)
 
 pub returns-in-Ok-clause-up_to_a_fault : goal.returns-in-Ok-clause-up_to_a_fault
 returns-in-Ok-clause-up_to_a_fault g c =
-    λ words address budget most told given. c.run.ensures.up_to_a_fault address budget most (ap command_of (c.deref.ensures.value ∙ told_words _ _ words c.in-Ok.ensures told) ∙ given)
+    λ words address budget most told given. c.run.ensures.up_to_a_fault address budget most
+    (ap command_of (c.deref.ensures.value ∙ told_words _ _ words c.in-Ok.ensures told) ∙ given)
 
 pub returns-in-Ok-clause-makes : goal.returns-in-Ok-clause-makes
 returns-in-Ok-clause-makes g c =
-    λ words count seed budget outcome told given. c.run.ensures.makes count seed budget outcome (ap command_of (c.deref.ensures.value ∙ told_words _ _ words c.in-Ok.ensures told) ∙ given)
+    λ words count seed budget outcome told given. c.run.ensures.makes count seed budget outcome
+    (ap command_of (c.deref.ensures.value ∙ told_words _ _ words c.in-Ok.ensures told) ∙ given)
 
 pub returns-in-Ok-clause-helps : goal.returns-in-Ok-clause-helps
 returns-in-Ok-clause-helps g c =
@@ -41,37 +45,55 @@ returns-in-Err-clause-up_to_a_fault g c = λ words address budget most told give
 pub returns-in-Err-clause-makes : goal.returns-in-Err-clause-makes
 returns-in-Err-clause-makes g c =
     λ words count seed budget outcome told given is.
-    with_make (ace_wiki budget) count seed _ outcomes.Memory outcome _ (outcome_is _ outcome outcomes.Memory is c.end.ensures.status) (MakesSummary-none (ace_wiki budget) count seed _ (Appends-nil _))
+    with_make (ace_wiki budget) count seed _ outcomes.Memory outcome _ (outcome_is _ outcome outcomes.Memory is c.end.ensures.status)
+    (MakesSummary-none (ace_wiki budget) count seed _ (Appends-nil _))
 
 pub returns-in-Err-clause-helps : goal.returns-in-Err-clause-helps
 returns-in-Err-clause-helps g c =
     λ words outcome told given is.
-    with_help outcomes.Memory outcome _ _ (outcome_is _ outcome outcomes.Memory is c.end.ensures.status) (WritesHelp-none outcomes.Memory _ (Appends-nil _) (λ done. cc done))
+    with_help outcomes.Memory outcome _ _ (outcome_is _ outcome outcomes.Memory is c.end.ensures.status)
+    (WritesHelp-none outcomes.Memory _ (Appends-nil _) (λ done. cc done))
 
 pub returns-in-Err-clause-replays : goal.returns-in-Err-clause-replays
 returns-in-Err-clause-replays g c =
     λ words budget outcome told given is.
-    with_outcome (ace_wiki budget) _ _ outcomes.Memory outcome _ _ (outcome_is _ outcome outcomes.Memory is c.end.ensures.status) (Replays-none (ace_wiki budget) _ _)
+    with_outcome (ace_wiki budget) _ _ outcomes.Memory outcome _ _ (outcome_is _ outcome outcomes.Memory is c.end.ensures.status)
+    (Replays-none (ace_wiki budget) _ _)
 
 pub returns-in-Ok-clause-link_headline : goal.returns-in-Ok-clause-link_headline
 returns-in-Ok-clause-link_headline g c =
-    λ words address budget most told given. c.run.ensures.link_headline address budget most (ap command_of (c.deref.ensures.value ∙ told_words _ _ words c.in-Ok.ensures told) ∙ given)
+    λ words address budget most told given. c.run.ensures.link_headline address budget most
+    (ap command_of (c.deref.ensures.value ∙ told_words _ _ words c.in-Ok.ensures told) ∙ given)
 
 pub returns-in-Ok-clause-serves : goal.returns-in-Ok-clause-serves
 returns-in-Ok-clause-serves g c =
-    λ words address budget most outcome told given. c.run.ensures.serves address budget most outcome (ap command_of (c.deref.ensures.value ∙ told_words _ _ words c.in-Ok.ensures told) ∙ given)
+    λ words address budget most outcome told given. c.run.ensures.serves address budget most outcome
+    (ap command_of (c.deref.ensures.value ∙ told_words _ _ words c.in-Ok.ensures told) ∙ given)
 
 pub returns-in-Err-clause-serves : goal.returns-in-Err-clause-serves
 returns-in-Err-clause-serves g c =
     λ words address budget most outcome told given is.
-    let outside : Outside = record { journal = g.K.Sink.taken c.args.output.now; sent = g.L.Link.sent c.args.link.now; send_faults = g.L.Link.send_faults c.args.link.now } in
-    serves_outcome (ace_wiki budget) most (g.S.Source.left c.args.input.now) outside (g.L.Link.handed c.args.link.now) outcomes.Memory outcome (g.S.Source.left c.args.input.now) outside
+    let outside : Outside = record {
+      journal = g.K.Sink.taken c.args.output.now;
+      sent = g.L.Link.sent c.args.link.now;
+      send_faults =
+          g.L.Link.send_faults c.args.link.now;
+    } in
+    serves_outcome (ace_wiki budget) most (g.S.Source.left c.args.input.now) outside (g.L.Link.handed c.args.link.now) outcomes.Memory outcome
+    (g.S.Source.left c.args.input.now) outside
     (g.L.Link.handed c.args.link.now) (g.L.Link.left c.args.link.now) (outcome_is _ outcome outcomes.Memory is c.end.ensures.status)
-    (inl (record { stepped = outcomes.Memory; input = StepsInput-none (ace_wiki budget) (g.S.Source.left c.args.input.now); why = inl (refl, tt); same = refl; same_handed = refl }))
+    (inl (record {
+      stepped = outcomes.Memory;
+      input = StepsInput-none (ace_wiki budget) (g.S.Source.left c.args.input.now);
+      why = inl (refl, tt);
+      same = refl;
+      same_handed = refl;
+    }))
 
 pub returns-in-Ok-clause-make_alone : goal.returns-in-Ok-clause-make_alone
 returns-in-Ok-clause-make_alone g c =
-    λ words count seed budget told given. c.run.ensures.make_alone count seed budget (ap command_of (c.deref.ensures.value ∙ told_words _ _ words c.in-Ok.ensures told) ∙ given)
+    λ words count seed budget told given. c.run.ensures.make_alone count seed budget
+    (ap command_of (c.deref.ensures.value ∙ told_words _ _ words c.in-Ok.ensures told) ∙ given)
 
 pub returns-in-Err-clause-make_alone : goal.returns-in-Err-clause-make_alone
 returns-in-Err-clause-make_alone g c = λ words count seed budget told given. (refl, refl, inr (inr c.end.ensures.status))
@@ -92,7 +114,8 @@ pub returns-in-Err-clause-help_alone : goal.returns-in-Err-clause-help_alone
 returns-in-Err-clause-help_alone g c = λ words told given. (refl, refl, inr (inr c.end.ensures.status))
 
 pub returns-in-Ok-clause-no_link : goal.returns-in-Ok-clause-no_link
-returns-in-Ok-clause-no_link g c = λ words budget told given. c.run.ensures.no_link budget (ap command_of (c.deref.ensures.value ∙ told_words _ _ words c.in-Ok.ensures told) ∙ given)
+returns-in-Ok-clause-no_link g c = λ words budget told given. c.run.ensures.no_link budget
+    (ap command_of (c.deref.ensures.value ∙ told_words _ _ words c.in-Ok.ensures told) ∙ given)
 
 pub returns-in-Err-clause-no_link : goal.returns-in-Err-clause-no_link
 returns-in-Err-clause-no_link g c = λ words budget told given. (refl, λ five. omega (arith, c.end.ensures.status, five))

@@ -33,23 +33,29 @@ pub returns-clause-headline : goal.returns-clause-headline
 returns-clause-headline g c =
     λ address budget most given zero bytes told.
     let done = sym (outcome_is _ _ outcomes.Done c.end.ensures.status zero) in
-    headline_of (ace_wiki budget) most _ _ _ _ _ _ (g.L.Link.left c.perform-outcome.new.link) (serves_outcome _ _ _ _ _ _ _ _ _ _ (g.L.Link.left c.perform-outcome.new.link) done (c.perform-outcome.ensures.serves address budget most given)) bytes told
+    headline_of (ace_wiki budget) most _ _ _ _ _ _ (g.L.Link.left c.perform-outcome.new.link)
+    (serves_outcome _ _ _ _ _ _ _ _ _ _ (g.L.Link.left c.perform-outcome.new.link) done (c.perform-outcome.ensures.serves address budget most given)) bytes
+    told
 
 pub returns-clause-link_headline : goal.returns-clause-link_headline
 returns-clause-link_headline g c =
     λ address budget most given five bytes told.
     let failed = sym (outcome_is _ _ outcomes.LinkFault c.end.ensures.status five) in
-    headline_at_fault (ace_wiki budget) most _ _ _ _ _ _ (g.L.Link.left c.perform-outcome.new.link) (serves_outcome _ _ _ _ _ _ _ _ _ _ (g.L.Link.left c.perform-outcome.new.link) failed (c.perform-outcome.ensures.serves address budget most given)) bytes told
+    headline_at_fault (ace_wiki budget) most _ _ _ _ _ _ (g.L.Link.left c.perform-outcome.new.link)
+    (serves_outcome _ _ _ _ _ _ _ _ _ _ (g.L.Link.left c.perform-outcome.new.link) failed (c.perform-outcome.ensures.serves address budget most given))
+    bytes told
 
 pub returns-clause-up_to_a_fault : goal.returns-clause-up_to_a_fault
 returns-clause-up_to_a_fault g c =
     λ address budget most given bytes told.
-    headline_up_to (ace_wiki budget) most _ _ _ c.perform-outcome.result _ _ _ (g.L.Link.left c.perform-outcome.new.link) (c.perform-outcome.ensures.serves address budget most given) bytes told
+    headline_up_to (ace_wiki budget) most _ _ _ c.perform-outcome.result _ _ _ (g.L.Link.left c.perform-outcome.new.link)
+    (c.perform-outcome.ensures.serves address budget most given) bytes told
 
 pub returns-clause-serves : goal.returns-clause-serves
 returns-clause-serves g c =
     λ address budget most outcome given status.
-    serves_outcome _ _ _ _ _ _ outcome _ _ _ (g.L.Link.left c.perform-outcome.new.link) (sym (outcome_is _ _ outcome c.end.ensures.status status)) (c.perform-outcome.ensures.serves address budget most given)
+    serves_outcome _ _ _ _ _ _ outcome _ _ _ (g.L.Link.left c.perform-outcome.new.link) (sym (outcome_is _ _ outcome c.end.ensures.status status))
+    (c.perform-outcome.ensures.serves address budget most given)
 
 pub returns-clause-read_fault : goal.returns-clause-read_fault
 returns-clause-read_fault g c = λ is. c.perform-outcome.ensures.read_fault (sym (outcome_is _ _ outcomes.ReadFault c.end.ensures.status is))
@@ -94,7 +100,8 @@ pub returns-clause-complete : goal.returns-clause-complete
 returns-clause-complete g c =
     λ command read write link within.
     let ran = c.perform-outcome.ensures in
-    completes _ _ c.end.ensures.status (λ is. command (ran.usage.0 is)) (λ is. read (ran.read_fault is)) (λ is. write (ran.write_fault is)) (λ is. link (ran.link_fault is)) (ran.large within)
+    completes _ _ c.end.ensures.status (λ is. command (ran.usage.0 is)) (λ is. read (ran.read_fault is)) (λ is. write (ran.write_fault is))
+    (λ is. link (ran.link_fault is)) (ran.large within)
 
 pub returns-clause-words : goal.returns-clause-words
 returns-clause-words g c = (c.perform-outcome.result, c.end.ensures.status, c.end.ensures.words)

@@ -9,9 +9,15 @@ returns-in-Ready-clause-serves g c =
     inr (
       c.serve-served.result,
       c.ended.ensures,
-      served_same c.args.wiki.now c.args.events (sink.taken c.args.output.now) (link.sent c.args.link.now) (link.sent c.listen.new.self) (link.send_faults c.args.link.now) (link.send_faults c.listen.new.self)
-          (link.handed c.args.link.now) (link.handed c.listen.new.self) (link.handed c.serve-served.new.link) c.serve-served.result (link.left c.serve-served.new.link)
-          (record { journal = sink.taken c.serve-served.new.journal; sent = link.sent c.serve-served.new.link; send_faults = link.send_faults c.serve-served.new.link })
+      served_same c.args.wiki.now c.args.events (sink.taken c.args.output.now) (link.sent c.args.link.now) (link.sent c.listen.new.self)
+          (link.send_faults c.args.link.now) (link.send_faults c.listen.new.self)
+          (link.handed c.args.link.now) (link.handed c.listen.new.self) (link.handed c.serve-served.new.link) c.serve-served.result
+          (link.left c.serve-served.new.link)
+          (record {
+            journal = sink.taken c.serve-served.new.journal;
+            sent = link.sent c.serve-served.new.link;
+            send_faults = link.send_faults c.serve-served.new.link;
+          })
           c.listen.ensures.sent c.listen.ensures.send_faults c.listen.ensures.handed c.serve-served.ensures.serves,
     )
 

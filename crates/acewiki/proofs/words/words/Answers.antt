@@ -12,7 +12,8 @@ words_more None words new place word got so_far next is pushed = tt
 words_more (Some told) words new place word got so_far next is pushed =
     let at = sym next ∙ is in
     pushed ∙ ap (λ (xs : List (List ℕ)). xs ++ word ∷ []) so_far
-    ∙ sym (take_more told place word (slice_get_within told place word at) ∙ ap (λ (y : List ℕ). take place told ++ y ∷ []) (get_or_from_slice_get told place word word at))
+    ∙ sym (take_more told place word (slice_get_within told place word at)
+    ∙ ap (λ (y : List ℕ). take place told ++ y ∷ []) (get_or_from_slice_get told place word word at))
 
 pub loop-place-preserved : goal.loop-place-preserved
 loop-place-preserved g c =

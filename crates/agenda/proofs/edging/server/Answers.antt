@@ -17,12 +17,20 @@ returns-then-is_witness c =
     let g = graph_of c.args.b.now in
     let P : ℕ → Type 0 = λ y. (y < length g.nodes) × (serves k g c.args.role (concept_of c.args.class.now) c.args.node y ≡ true) in
     subst P (sym c.far_end.ensures)
-    (server_at k c.args.role (length g.nodes) c.args.node (λ y. not (is_indirectly_blocked k g y) && has_concept (label_at g y) (concept_of c.args.class.now)) g.edges c.edges_at-edge-items.result.now c.edges_at-edge-items.ensures c.loop-edge.edge-index _ c.loop-edge-test.true (sym c.is_witness.ensures ∙ c.if-is_witness.true))
+    (server_at k c.args.role (length g.nodes) c.args.node (λ y. not (is_indirectly_blocked k g y) && has_concept (label_at g y) (concept_of c.args.class.now))
+    g.edges c.edges_at-edge-items.result.now c.edges_at-edge-items.ensures c.loop-edge.edge-index _ c.loop-edge-test.true
+    (sym c.is_witness.ensures ∙ c.if-is_witness.true))
 
 pub loop-edge-preserved : goal.loop-edge-preserved
 loop-edge-preserved c =
-    served_passed (theory_of c.args.k.now) c.args.role (length (graph_of c.args.b.now).nodes) c.args.node (λ y. not (is_indirectly_blocked (theory_of c.args.k.now) (graph_of c.args.b.now) y) && has_concept (label_at (graph_of c.args.b.now) y) (concept_of c.args.class.now)) c.edges_at-edge-items.result.now c.loop-edge.edge-index _ c.loop-edge-test.true c.loop-edge.invariant (sym c.is_witness.ensures ∙ c.if-is_witness.false)
+    served_passed (theory_of c.args.k.now) c.args.role (length (graph_of c.args.b.now).nodes) c.args.node
+    (λ y. not (is_indirectly_blocked (theory_of c.args.k.now) (graph_of c.args.b.now) y)
+    && has_concept (label_at (graph_of c.args.b.now) y) (concept_of c.args.class.now)) c.edges_at-edge-items.result.now c.loop-edge.edge-index _
+    c.loop-edge-test.true c.loop-edge.invariant (sym c.is_witness.ensures ∙ c.if-is_witness.false)
 
 pub returns : goal.returns
 returns c =
-    sym (served_none (theory_of c.args.k.now) c.args.role (length (graph_of c.args.b.now).nodes) c.args.node (λ y. not (is_indirectly_blocked (theory_of c.args.k.now) (graph_of c.args.b.now) y) && has_concept (label_at (graph_of c.args.b.now) y) (concept_of c.args.class.now)) (graph_of c.args.b.now).edges c.edges_at-edge-items.result.now c.edges_at-edge-items.ensures c.loop-edge.edge-index c.loop-edge-test.false c.loop-edge.invariant)
+    sym (served_none (theory_of c.args.k.now) c.args.role (length (graph_of c.args.b.now).nodes) c.args.node
+    (λ y. not (is_indirectly_blocked (theory_of c.args.k.now) (graph_of c.args.b.now) y)
+    && has_concept (label_at (graph_of c.args.b.now) y) (concept_of c.args.class.now)) (graph_of c.args.b.now).edges c.edges_at-edge-items.result.now
+    c.edges_at-edge-items.ensures c.loop-edge.edge-index c.loop-edge-test.false c.loop-edge.invariant)

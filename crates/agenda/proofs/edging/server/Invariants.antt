@@ -11,4 +11,6 @@ use Rattle.tableau_rules.specs.Touching.{reaches}
 use Rattle.agenda.proofs.edging.server.Given as goal
 
 abbrev pub invariant-loop-edge : goal.invariant-loop-edge
-invariant-loop-edge l = list_any (reaches (theory_of l.k) l.role (length (graph_of l.b).nodes) l.node (λ y. not (is_indirectly_blocked (theory_of l.k) (graph_of l.b) y) && has_concept (label_at (graph_of l.b) y) (concept_of l.class))) (take l.edge-index l.edge-items) ≡ false
+invariant-loop-edge l = list_any (reaches (theory_of l.k) l.role (length (graph_of l.b).nodes) l.node
+    (λ y. not (is_indirectly_blocked (theory_of l.k) (graph_of l.b) y) && has_concept (label_at (graph_of l.b) y) (concept_of l.class)))
+    (take l.edge-index l.edge-items) ≡ false

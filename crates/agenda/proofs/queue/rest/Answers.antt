@@ -13,8 +13,10 @@ returns-then-is_all-clause-there c =
     let k = theory_of c.args.k.now in
     let g = graph_of c.args.b.now in
     on_both c.wait_for_blocked.result
-    (λ awaited more. rests_all k g (shaped_neighbours k g (branch_shaped k g c.requires.branch)) (is_listed c.wait_for_blocked.new.waiting.items) c.args.node c.args.rule (sym c.is_all.ensures ∙ c.if-is_all.true) c.requires.none
-    (waits_more (is_listed c.wait.new.waiting.items) (is_listed c.wait_for_blocked.new.waiting.items) c.args.node more (way_up g c.args.node) c.in_ok-wait.ensures.there) awaited)
+    (λ awaited more. rests_all k g (shaped_neighbours k g (branch_shaped k g c.requires.branch)) (is_listed c.wait_for_blocked.new.waiting.items) c.args.node
+    c.args.rule (sym c.is_all.ensures ∙ c.if-is_all.true) c.requires.none
+    (waits_more (is_listed c.wait.new.waiting.items) (is_listed c.wait_for_blocked.new.waiting.items) c.args.node more (way_up g c.args.node)
+    c.in_ok-wait.ensures.there) awaited)
     c.wait_for_blocked.ensures.there c.wait_for_blocked.ensures.more
 
 pub returns-then-sprouts-clause-there : goal.returns-then-sprouts-clause-there
@@ -22,12 +24,15 @@ returns-then-sprouts-clause-there c =
     let k = theory_of c.args.k.now in
     let g = graph_of c.args.b.now in
     on_both c.wait_for_servers.result
-    (λ awaited more. rests_some k g (shaped_neighbours k g (branch_shaped k g c.requires.branch)) (is_listed c.wait_for_servers.new.waiting.items) c.args.node c.args.rule (sym c.sprouts.ensures ∙ c.if-sprouts.true) c.requires.none
-    (waits_more (is_listed c.wait.new.waiting.items) (is_listed c.wait_for_servers.new.waiting.items) c.args.node more (way_up g c.args.node) c.in_ok-wait.ensures.there) awaited)
+    (λ awaited more. rests_some k g (shaped_neighbours k g (branch_shaped k g c.requires.branch)) (is_listed c.wait_for_servers.new.waiting.items) c.args.node
+    c.args.rule (sym c.sprouts.ensures ∙ c.if-sprouts.true) c.requires.none
+    (waits_more (is_listed c.wait.new.waiting.items) (is_listed c.wait_for_servers.new.waiting.items) c.args.node more (way_up g c.args.node)
+    c.in_ok-wait.ensures.there) awaited)
     c.wait_for_servers.ensures.there c.wait_for_servers.ensures.more
 
 pub returns-else-sprouts-clause-there : goal.returns-else-sprouts-clause-there
 returns-else-sprouts-clause-there c =
     let k = theory_of c.args.k.now in
     let g = graph_of c.args.b.now in
-    rests_other k g (shaped_neighbours k g (branch_shaped k g c.requires.branch)) (is_listed c.wait.new.waiting.items) c.args.node c.args.rule (sym c.is_all.ensures ∙ c.if-is_all.false) (sym c.sprouts.ensures ∙ c.if-sprouts.false) c.requires.none c.in_ok-wait.ensures.there
+    rests_other k g (shaped_neighbours k g (branch_shaped k g c.requires.branch)) (is_listed c.wait.new.waiting.items) c.args.node c.args.rule
+    (sym c.is_all.ensures ∙ c.if-is_all.false) (sym c.sprouts.ensures ∙ c.if-sprouts.false) c.requires.none c.in_ok-wait.ensures.there

@@ -20,11 +20,13 @@ returns-then-is_out c = c.in_ok-is_out.ensures.outside c.if-is_out.true
 
 pub returns-then-include : goal.returns-then-include
 returns-then-include c =
-    included (kept_claims c.args.kept.now) c.args.names.now (theory_in c.args.known.now) (concept_of c.args.class.now) c.args.name c.requires.absorbed c.requires.over (c.include.ensures c.if-include.true)
+    included (kept_claims c.args.kept.now) c.args.names.now (theory_in c.args.known.now) (concept_of c.args.class.now) c.args.name c.requires.absorbed
+    c.requires.over (c.include.ensures c.if-include.true)
 
 pub decide-requires-clause-lawful : goal.decide-requires-clause-lawful
 decide-requires-clause-lawful c =
-    denying_lawful (kept_claims c.args.kept.now) c.args.names.now (theory_in c.args.known.now) (concept_of c.args.class.now) (concept_of c.args.denial.now) c.args.name (theory_of c.in_ok-with_denial.with_denial)
+    denying_lawful (kept_claims c.args.kept.now) c.args.names.now (theory_in c.args.known.now) (concept_of c.args.class.now) (concept_of c.args.denial.now)
+    c.args.name (theory_of c.in_ok-with_denial.with_denial)
     (record {
       absorbed = c.requires.absorbed;
       complemented = c.requires.denial;
@@ -37,7 +39,8 @@ decide-requires-clause-lawful c =
 
 pub decide-requires-clause-plain : goal.decide-requires-clause-plain
 decide-requires-clause-plain c =
-    denying_plain (kept_claims c.args.kept.now) c.args.names.now (theory_in c.args.known.now) (concept_of c.args.class.now) (concept_of c.args.denial.now) c.args.name (theory_of c.in_ok-with_denial.with_denial)
+    denying_plain (kept_claims c.args.kept.now) c.args.names.now (theory_in c.args.known.now) (concept_of c.args.class.now) (concept_of c.args.denial.now)
+    c.args.name (theory_of c.in_ok-with_denial.with_denial)
     (record {
       absorbed = c.requires.absorbed;
       complemented = c.requires.denial;
@@ -51,7 +54,8 @@ decide-requires-clause-plain c =
 pub returns-in-Model : goal.returns-in-Model
 returns-in-Model c =
     let made = theory_of c.in_ok-with_denial.with_denial in
-    denying_model (kept_claims c.args.kept.now) c.args.names.now (theory_in c.args.known.now) (concept_of c.args.class.now) (concept_of c.args.denial.now) c.args.name (theory_of c.in_ok-with_denial.with_denial)
+    denying_model (kept_claims c.args.kept.now) c.args.names.now (theory_in c.args.known.now) (concept_of c.args.class.now) (concept_of c.args.denial.now)
+    c.args.name (theory_of c.in_ok-with_denial.with_denial)
     (record {
       absorbed = c.requires.absorbed;
       complemented = c.requires.denial;
@@ -68,7 +72,8 @@ returns-in-Model c =
 pub returns-in-Tree : goal.returns-in-Tree
 returns-in-Tree c =
     let made = theory_of c.in_ok-with_denial.with_denial in
-    denying_none (kept_claims c.args.kept.now) c.args.names.now (theory_in c.args.known.now) (concept_of c.args.class.now) (concept_of c.args.denial.now) c.args.name (theory_of c.in_ok-with_denial.with_denial)
+    denying_none (kept_claims c.args.kept.now) c.args.names.now (theory_in c.args.known.now) (concept_of c.args.class.now) (concept_of c.args.denial.now)
+    c.args.name (theory_of c.in_ok-with_denial.with_denial)
     (record {
       absorbed = c.requires.absorbed;
       complemented = c.requires.denial;
@@ -84,7 +89,8 @@ pub returns : goal.returns
 returns c =
     let made = theory_of c.in_ok-with_denial.with_denial in
     let cut = subst (λ d. IfUndecided d (λ b. IsCutAt made c.args.budget (graph_of b))) c.in-Undecided.is c.in_ok-decide.ensures.undecided in (
-      denying_longer (kept_claims c.args.kept.now) c.args.names.now (theory_in c.args.known.now) (concept_of c.args.class.now) (concept_of c.args.denial.now) c.args.name (theory_of c.in_ok-with_denial.with_denial)
+      denying_longer (kept_claims c.args.kept.now) c.args.names.now (theory_in c.args.known.now) (concept_of c.args.class.now) (concept_of c.args.denial.now)
+          c.args.name (theory_of c.in_ok-with_denial.with_denial)
           (record {
             absorbed = c.requires.absorbed;
             complemented = c.requires.denial;

@@ -26,4 +26,5 @@ returns-clause-inside c out =
     let same : holds kept (ClassAssertion (concept_of c.args.denial.now) c.args.name) ≡ c.axiom_true.result =
     ap (λ d. holds kept (ClassAssertion d c.args.name)) (sym c.in_ok-copied.ensures)
     ∙ (ap (λ i. holds i (ClassAssertion (concept_of c.in_ok-copied.copied) c.args.name)) (sym c.interp.ensures.part) ∙ sym c.axiom_true.ensures.exact) in
-    not_denied kept (concept_of c.args.class.now) (concept_of c.args.denial.now) c.args.name c.requires (same ∙ elim (cases_Bool c.axiom_true.result) [ inl yes_is ↦ absurd (out yes_is) | inr no_is ↦ no_is ])
+    not_denied kept (concept_of c.args.class.now) (concept_of c.args.denial.now) c.args.name c.requires
+    (same ∙ elim (cases_Bool c.axiom_true.result) [ inl yes_is ↦ absurd (out yes_is) | inr no_is ↦ no_is ])

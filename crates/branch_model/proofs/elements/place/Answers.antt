@@ -17,7 +17,8 @@ returns-then-is_directly_blocked c =
     let stands = c.args.stands.now.items in
     let lt : c.twin_of.result < length stands = omega (arith, c.twin_of.ensures.before, c.requires.placed.all) in
     subst (ArePlaced (theory_of c.args.k.now) (graph_of c.args.b.now) (c.args.node + 1) c.args.owners.now.items) (sym c.in_ok-push-2.ensures.items)
-    (placed_twin (theory_of c.args.k.now) (graph_of c.args.b.now) c.args.node c.args.owners.now.items stands c.requires.placed c.twin_of.result c.index-stand.result.now
+    (placed_twin (theory_of c.args.k.now) (graph_of c.args.b.now) c.args.node c.args.owners.now.items stands c.requires.placed c.twin_of.result
+    c.index-stand.result.now
     (sym c.is_directly_blocked.ensures ∙ c.if-is_directly_blocked.true) c.twin_of.ensures
     (slice_get-get_or stands c.twin_of.result c.index-stand.result.now lt ∙ ap Some (sym c.index-stand.ensures)))
 

@@ -14,15 +14,18 @@ loop-place-preserved g c =
     let lt : c.loop-place.place < length es = omega (arith, c.len.ensures, c.loop-place-test.true) in
     record {
       within = omega (arith, lt);
-      before = before_more c.args.word c.args.item es c.loop-place.place c.index.result.now c.loop-place.invariant.before lt c.index.ensures (omega (arith, c.if-index-word.true));
+      before = before_more c.args.word c.args.item es c.loop-place.place c.index.result.now c.loop-place.invariant.before lt c.index.ensures
+          (omega (arith, c.if-index-word.true));
     }
 
 pub returns-then-index-word-2 : goal.returns-then-index-word-2
 returns-then-index-word-2 g c =
     let es = c.args.entries.now.items in
     let lt : c.loop-place.place < length es = omega (arith, c.len-2.ensures, c.if-place-len.true) in
-    let here = sym (read_any c.args.word c.args.item es c.loop-place.place c.index-then-place-len.result.now c.index_mut-entry.result.now lt c.index-then-place-len.ensures) in
-    put_same c.args.word c.args.item es c.loop-place.place c.index_mut-entry.result.now c.push.new.self c.loop-place.invariant.before lt c.index_mut-entry.ensures.value
+    let here = sym (read_any c.args.word c.args.item es c.loop-place.place c.index-then-place-len.result.now c.index_mut-entry.result.now lt
+    c.index-then-place-len.ensures) in
+    put_same c.args.word c.args.item es c.loop-place.place c.index_mut-entry.result.now c.push.new.self c.loop-place.invariant.before lt
+    c.index_mut-entry.ensures.value
     (subst (λ e. e.0.0 ≡ c.args.word.0) (here ∙ sym c.index_mut-entry.ensures.value) (omega (arith, c.if-index-word-2.true))) c.in_ok-push.ensures.items
 
 pub returns : goal.returns
@@ -35,8 +38,10 @@ returns g c =
         | then-loop-place-test+else-index-word v ↦
             (let one = read_any c.args.word c.args.item es c.loop-place.place v.index.result.now d lt v.index.ensures in
             let two = read_any c.args.word c.args.item es c.loop-place.place w.index-then-place-len.result.now d lt w.index-then-place-len.ensures in
-            let high : c.args.word.0 ≤ (get_or es c.loop-place.place d).0.0 = subst (λ e. c.args.word.0 ≤ e.0.0) (sym one) (omega (arith, v.if-index-word.false)) in
-            let other : (get_or es c.loop-place.place d).0.0 ≡ c.args.word.0 → ⊥ = subst (λ e. e.0.0 ≡ c.args.word.0 → ⊥) (sym two) (λ same. omega (arith, w.if-index-word-2.false, same)) in
+            let high : c.args.word.0 ≤ (get_or es c.loop-place.place d).0.0 =
+            subst (λ e. c.args.word.0 ≤ e.0.0) (sym one) (omega (arith, v.if-index-word.false)) in
+            let other : (get_or es c.loop-place.place d).0.0 ≡ c.args.word.0 → ⊥ =
+            subst (λ e. e.0.0 ≡ c.args.word.0 → ⊥) (sym two) (λ same. omega (arith, w.if-index-word-2.false, same)) in
             elim (cases_lt c.args.word.0 (get_or es c.loop-place.place d).0.0) [ inl less ↦ less | inr low ↦ absurd (other (omega (arith, high, low))) ])
         | else-loop-place-test v ↦ absurd (omega (arith, lt, c.len.ensures, v.loop-place-test.false))
       ]

@@ -5,4 +5,5 @@ use Rattle.branch_model.specs.Extents.{labelled}
 use Rattle.branch_model.proofs.extents.add_label.Given as goal
 
 abbrev pub invariant-loop-class : goal.invariant-loop-class
-invariant-loop-class l = labelled l.element (map concept_of (drop l.class-index l.label)) (lists_in l.made.items) ≡ labelled l.element (map concept_of l.label) (lists_in l.fn.made.items)
+invariant-loop-class l = labelled l.element (map concept_of (drop l.class-index l.label)) (lists_in l.made.items)
+    ≡ labelled l.element (map concept_of l.label) (lists_in l.fn.made.items)

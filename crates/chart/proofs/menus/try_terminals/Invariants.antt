@@ -5,5 +5,6 @@ use Rattle.chart.proofs.menus.try_terminals.Given as goal
 abbrev pub invariant-loop-text : goal.invariant-loop-text
 invariant-loop-text l = record {
   ordered : IsInOrder (map shown l.entries.items);
-  gathered : all_tried (goes_on l.grammar l.lexicon l.tokens) (functions_in (texts_of (drop l.text-index l.texts))) (map shown l.entries.items) ≡ all_tried (goes_on l.grammar l.lexicon l.tokens) (functions_in (texts_of l.texts)) (map shown l.initial.entries.items);
+  gathered : all_tried (goes_on l.grammar l.lexicon l.tokens) (functions_in (texts_of (drop l.text-index l.texts))) (map shown l.entries.items)
+      ≡ all_tried (goes_on l.grammar l.lexicon l.tokens) (functions_in (texts_of l.texts)) (map shown l.initial.entries.items);
 }

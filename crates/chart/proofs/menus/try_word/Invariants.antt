@@ -6,5 +6,6 @@ use Rattle.chart.proofs.menus.try_word.Given as goal
 abbrev pub invariant-loop-text : goal.invariant-loop-text
 invariant-loop-text l = record {
   ordered : IsInOrder (map shown l.entries.items);
-  gathered : all_tried (goes_on l.grammar l.lexicon l.tokens) (map (λ text. (group_of l.word.forms.kind, text)) (drop l.text-index l.word.forms.texts)) (map shown l.entries.items) ≡ all_tried (goes_on l.grammar l.lexicon l.tokens) (forms_in l.word) (map shown l.initial.entries.items);
+  gathered : all_tried (goes_on l.grammar l.lexicon l.tokens) (map (λ text. (group_of l.word.forms.kind, text)) (drop l.text-index l.word.forms.texts))
+      (map shown l.entries.items) ≡ all_tried (goes_on l.grammar l.lexicon l.tokens) (forms_in l.word) (map shown l.initial.entries.items);
 }

@@ -8,4 +8,10 @@ pub loop-place-preserved : goal.loop-place-preserved
 loop-place-preserved c =
     let test = goes_on c.args.grammar.now c.args.lexicon.now c.args.tokens.now in
     let old = map shown c.loop-place.entries.items in
-    record { ordered = subst IsInOrder (sym c.in_ok-try_word.ensures.entries) (all_tried_in_order test (forms_in c.get.result.now) old c.loop-place.invariant.ordered); gathered = ap (all_tried test (forms_among (drop (c.loop-place.place + 1) c.args.lexicon.now.live))) c.in_ok-try_word.ensures.entries ∙ one_word_tried test c.args.lexicon.now.live c.loop-place.place c.get.result.now old (search rules) c.get.ensures ∙ c.loop-place.invariant.gathered }
+    record {
+      ordered = subst IsInOrder (sym c.in_ok-try_word.ensures.entries)
+          (all_tried_in_order test (forms_in c.get.result.now) old c.loop-place.invariant.ordered);
+      gathered =
+          ap (all_tried test (forms_among (drop (c.loop-place.place + 1) c.args.lexicon.now.live))) c.in_ok-try_word.ensures.entries
+          ∙ one_word_tried test c.args.lexicon.now.live c.loop-place.place c.get.result.now old (search rules) c.get.ensures ∙ c.loop-place.invariant.gathered;
+    }

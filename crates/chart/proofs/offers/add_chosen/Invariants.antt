@@ -5,4 +5,5 @@ use Rattle.chart.proofs.offers.add_chosen.Given as goal
 
 abbrev pub invariant-loop-number : goal.invariant-loop-number
 invariant-loop-number l =
-    map shown l.found.items ++ chosen (drop l.number (map shown l.forms)) (drop l.number l.told) ≡ map shown l.initial.found.items ++ chosen (map shown l.forms) l.told
+    map shown l.found.items ++ chosen (drop l.number (map shown l.forms)) (drop l.number l.told)
+    ≡ map shown l.initial.found.items ++ chosen (map shown l.forms) l.told

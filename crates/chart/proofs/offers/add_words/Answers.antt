@@ -14,7 +14,10 @@ loop-place-preserved c =
     let piece = told_forms c.args.told.now w.forms.kind 0 w.forms.texts in
     elim c.if-not-is_used.branch [
       | then-not-is_used+in_ok-add_forms x ↦
-          new_step c.args.readings.now c.args.told.now c.args.lexicon.now.live c.loop-place.place w old new _ c.get-word.ensures (added_unless b old new piece (sym c.is_used.ensures ∙ x.if-not-is_used.true) (ap (λ v. map shown v.items) x.found-is ∙ x.in_ok-add_forms.ensures)) c.loop-place.invariant
+          new_step c.args.readings.now c.args.told.now c.args.lexicon.now.live c.loop-place.place w old new _ c.get-word.ensures
+          (added_unless b old new piece (sym c.is_used.ensures ∙ x.if-not-is_used.true)
+          (ap (λ v. map shown v.items) x.found-is ∙ x.in_ok-add_forms.ensures)) c.loop-place.invariant
       | else-not-is_used x ↦
-          new_step c.args.readings.now c.args.told.now c.args.lexicon.now.live c.loop-place.place w old new _ c.get-word.ensures (kept_unless b old new piece (sym c.is_used.ensures ∙ x.if-not-is_used.false) (ap (λ v. map shown v.items) x.found-is)) c.loop-place.invariant
+          new_step c.args.readings.now c.args.told.now c.args.lexicon.now.live c.loop-place.place w old new _ c.get-word.ensures
+          (kept_unless b old new piece (sym c.is_used.ensures ∙ x.if-not-is_used.false) (ap (λ v. map shown v.items) x.found-is)) c.loop-place.invariant
     ]

@@ -19,13 +19,17 @@ loop-place-preserved c =
       | then-is_used+in_ok-ask_forms x ↦
           let has = sym c.is_used.ensures ∙ x.if-is_used.true in
           record {
-            forms = used_step rs ws i w old new _ c.get-word.ensures (added_if b old new (forms_in w) has (ap (λ v. map shown v.items) x.forms-is ∙ x.in_ok-ask_forms.ensures.forms)) c.loop-place.invariant.forms;
-            asks = asks_step rs ws i w c.loop-place.asks c.if-is_used.asks _ c.get-word.ensures (added_if b c.loop-place.asks c.if-is_used.asks asks has (x.asks-is ∙ x.in_ok-ask_forms.ensures.asks)) c.loop-place.invariant.asks;
+            forms = used_step rs ws i w old new _ c.get-word.ensures
+                (added_if b old new (forms_in w) has (ap (λ v. map shown v.items) x.forms-is ∙ x.in_ok-ask_forms.ensures.forms)) c.loop-place.invariant.forms;
+            asks = asks_step rs ws i w c.loop-place.asks c.if-is_used.asks _ c.get-word.ensures
+                (added_if b c.loop-place.asks c.if-is_used.asks asks has (x.asks-is ∙ x.in_ok-ask_forms.ensures.asks)) c.loop-place.invariant.asks;
           }
       | else-is_used x ↦
           let lacks = sym c.is_used.ensures ∙ x.if-is_used.false in
           record {
-            forms = used_step rs ws i w old new _ c.get-word.ensures (kept_if b old new (forms_in w) lacks (ap (λ v. map shown v.items) x.forms-is)) c.loop-place.invariant.forms;
-            asks = asks_step rs ws i w c.loop-place.asks c.if-is_used.asks _ c.get-word.ensures (kept_if b c.loop-place.asks c.if-is_used.asks asks lacks x.asks-is) c.loop-place.invariant.asks;
+            forms = used_step rs ws i w old new _ c.get-word.ensures (kept_if b old new (forms_in w) lacks (ap (λ v. map shown v.items) x.forms-is))
+                c.loop-place.invariant.forms;
+            asks = asks_step rs ws i w c.loop-place.asks c.if-is_used.asks _ c.get-word.ensures
+                (kept_if b c.loop-place.asks c.if-is_used.asks asks lacks x.asks-is) c.loop-place.invariant.asks;
           }
     ]

@@ -13,4 +13,6 @@ loop-number-preserved c =
     let i = c.loop-number.number in
     let t = c.index-terminals-number.result in
     let rest = offers.some_follows text (drop (i + 1) ts) (drop (i + 1) told) in
-    sym (follows_turn text ts told i t c.loop-number-test.true ∙ ap (λ x. (bytes_eq text x && slice_index_or told i false) || rest) (sym c.index-terminals-number.is) ∙ ap (λ b. b || rest) (sym c.follows_as.ensures ∙ c.if-follows_as.false)) ∙ c.loop-number.invariant
+    sym (follows_turn text ts told i t c.loop-number-test.true
+    ∙ ap (λ x. (bytes_eq text x && slice_index_or told i false) || rest) (sym c.index-terminals-number.is)
+    ∙ ap (λ b. b || rest) (sym c.follows_as.ensures ∙ c.if-follows_as.false)) ∙ c.loop-number.invariant

@@ -8,4 +8,5 @@ plan_for-plan-requires c =
 
 pub add_rows-requires-clause-plan : goal.add_rows-requires-clause-plan
 add_rows-requires-clause-plan c =
-    plan_is c.args.setting.now c.as_slice-rules.result.now c.loop-number.number c.index-rules-number.result c.plan_for-plan.result.now c.args.plans.now (search rules) c.loop-number-test.true c.index-rules-number.is c.plan_for-plan.ensures c.requires.plans
+    plan_is c.args.setting.now c.as_slice-rules.result.now c.loop-number.number c.index-rules-number.result c.plan_for-plan.result.now c.args.plans.now
+    (search rules) c.loop-number-test.true c.index-rules-number.is c.plan_for-plan.ensures c.requires.plans

@@ -11,9 +11,11 @@ loop-rule-init c = record {
 pub loop-rule-preserved : goal.loop-rule-preserved
 loop-rule-preserved c = record {
   known = c.in_ok-plan_of.ensures.known;
-  plans = plans_turn c.args.grammar.now c.as_slice-rule-items.result.now c.loop-rule.rule-index c.rule-item.result c.in_ok-plan_of.field-0 c.loop-rule.plans c.push.new.self c.loop-rule-test.true c.rule-item.is c.loop-rule.invariant.plans c.in_ok-plan_of.ensures.plan c.in_ok-push.ensures.ok;
+  plans = plans_turn c.args.grammar.now c.as_slice-rule-items.result.now c.loop-rule.rule-index c.rule-item.result c.in_ok-plan_of.field-0 c.loop-rule.plans
+      c.push.new.self c.loop-rule-test.true c.rule-item.is c.loop-rule.invariant.plans c.in_ok-plan_of.ensures.plan c.in_ok-push.ensures.ok;
 }
 
 pub returns : goal.returns
 returns c =
-    plans_done c.args.grammar.now c.as_slice-rule-items.result.now c.args.grammar.now.rules c.loop-rule.rule-index c.loop-rule.plans (search rules) c.loop-rule-test.false c.loop-rule.invariant.plans
+    plans_done c.args.grammar.now c.as_slice-rule-items.result.now c.args.grammar.now.rules c.loop-rule.rule-index c.loop-rule.plans (search rules)
+    c.loop-rule-test.false c.loop-rule.invariant.plans

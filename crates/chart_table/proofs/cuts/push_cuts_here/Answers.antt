@@ -8,8 +8,11 @@ loop-state-init c = among_none c.args.setting.now c.args.rule.now (Halts c.args.
 
 pub loop-state-preserved : goal.loop-state-preserved
 loop-state-preserved c =
-    heads_turn c.args.setting.now c.args.rule.now (Halts c.args.aim.now (option_map (λ e. e.now) c.args.next)) c.args.states.now c.loop-state.state-index c.state-item.result c.args.cuts.now c.loop-state.cuts c.push_cut_here.new.cuts c.loop-state-test.true c.state-item.is c.loop-state.invariant c.in_ok-push_cut_here.ensures
+    heads_turn c.args.setting.now c.args.rule.now (Halts c.args.aim.now (option_map (λ e. e.now) c.args.next)) c.args.states.now c.loop-state.state-index
+    c.state-item.result c.args.cuts.now c.loop-state.cuts c.push_cut_here.new.cuts c.loop-state-test.true c.state-item.is c.loop-state.invariant
+    c.in_ok-push_cut_here.ensures
 
 pub returns : goal.returns
 returns c =
-    heads_done c.args.setting.now c.args.rule.now (Halts c.args.aim.now (option_map (λ e. e.now) c.args.next)) c.args.states.now c.loop-state.state-index c.args.cuts.now c.loop-state.cuts c.loop-state-test.false c.loop-state.invariant
+    heads_done c.args.setting.now c.args.rule.now (Halts c.args.aim.now (option_map (λ e. e.now) c.args.next)) c.args.states.now c.loop-state.state-index
+    c.args.cuts.now c.loop-state.cuts c.loop-state-test.false c.loop-state.invariant

@@ -7,8 +7,12 @@ use Rattle.chart_table.proofs.cuts.push_heads.Goals as goal
 pub push_settled-requires-clause-settled : goal.push_settled-requires-clause-settled
 push_settled-requires-clause-settled c =
     let plan = c.args.plan.now in
-    subst (AllSettle c.args.rule.now) (sym c.as_slice-2.ensures) (all_settle c.args.rule.now (choices c.args.setting.now plan.terms plan.places plan.own) c.as_slice.result.now c.args.bounds c.in_ok-settled.settled c.as_slice.ensures c.in_ok-settled.ensures)
+    subst (AllSettle c.args.rule.now) (sym c.as_slice-2.ensures)
+    (all_settle c.args.rule.now (choices c.args.setting.now plan.terms plan.places plan.own) c.as_slice.result.now c.args.bounds c.in_ok-settled.settled
+    c.as_slice.ensures c.in_ok-settled.ensures)
 
 pub returns : goal.returns
 returns c =
-    closed_heads c.args.setting.now c.args.rule.now c.args.plan.now c.args.number c.as_slice.result.now c.args.bounds c.in_ok-settled.settled c.as_slice-2.result.now c.args.cuts.now c.push_settled.new.cuts c.requires c.as_slice.ensures c.in_ok-settled.ensures c.as_slice-2.ensures c.in_ok-push_settled.ensures
+    closed_heads c.args.setting.now c.args.rule.now c.args.plan.now c.args.number c.as_slice.result.now c.args.bounds c.in_ok-settled.settled
+    c.as_slice-2.result.now c.args.cuts.now c.push_settled.new.cuts c.requires c.as_slice.ensures c.in_ok-settled.ensures c.as_slice-2.ensures
+    c.in_ok-push_settled.ensures

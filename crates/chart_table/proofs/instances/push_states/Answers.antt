@@ -6,8 +6,10 @@ loop-state-init c = none_states c.args.setting.now c.args.rule.now c.args.out.no
 
 pub loop-state-preserved : goal.loop-state-preserved
 loop-state-preserved c =
-    states_turn c.args.setting.now c.args.rule.now c.args.states.now c.loop-state.state-index c.state-item.result c.args.out.now c.loop-state.out c.push_state.new.out c.loop-state-test.true c.state-item.is c.loop-state.invariant c.in_ok-push_state.ensures
+    states_turn c.args.setting.now c.args.rule.now c.args.states.now c.loop-state.state-index c.state-item.result c.args.out.now c.loop-state.out
+    c.push_state.new.out c.loop-state-test.true c.state-item.is c.loop-state.invariant c.in_ok-push_state.ensures
 
 pub returns : goal.returns
 returns c =
-    states_done c.args.setting.now c.args.rule.now c.args.states.now c.loop-state.state-index c.args.out.now c.loop-state.out c.loop-state-test.false c.loop-state.invariant
+    states_done c.args.setting.now c.args.rule.now c.args.states.now c.loop-state.state-index c.args.out.now c.loop-state.out c.loop-state-test.false
+    c.loop-state.invariant

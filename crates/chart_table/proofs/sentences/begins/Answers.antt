@@ -11,5 +11,8 @@ returns c =
     let l = c.args.lexicon.now in
     let t = c.args.tokens.now in
     let read = c.as_slice-3.ensures.value ∙ c.in_ok-readings.ensures ∙ ap (map (readings_of l.live)) c.as_slice.ensures in
-    let e : record { grammar = c.grammar.result.now; tokens = c.as_slice-2.result.now; readings = c.as_slice-3.result.now } ≡ setting_of g l t = ap (λ x. record { grammar = x; tokens = c.as_slice-2.result.now; readings = c.as_slice-3.result.now }) c.grammar.ensures.grammar ∙ ap (λ x. record { grammar = g; tokens = x; readings = c.as_slice-3.result.now }) c.as_slice-2.ensures ∙ ap (λ x. record { grammar = g; tokens = t; readings = x }) read in
+    let e : record { grammar = c.grammar.result.now; tokens = c.as_slice-2.result.now; readings = c.as_slice-3.result.now } ≡ setting_of g l t =
+    ap (λ x. record { grammar = x; tokens = c.as_slice-2.result.now; readings = c.as_slice-3.result.now }) c.grammar.ensures.grammar
+    ∙ ap (λ x. record { grammar = g; tokens = x; readings = c.as_slice-3.result.now }) c.as_slice-2.ensures
+    ∙ ap (λ x. record { grammar = g; tokens = t; readings = x }) read in
     subst (λ s. IfOk c.is_beginning.result (λ yes. IsTrue yes ↔ ((cut : CutNode) × IsPartialDerivation s cut))) e c.is_beginning.ensures

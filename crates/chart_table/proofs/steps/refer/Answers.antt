@@ -5,4 +5,7 @@ use Rattle.chart_table.proofs.steps.refer.Goals as goal
 
 pub loop-bound-preserved : goal.loop-bound-preserved
 loop-bound-preserved c =
-    flat_more (refer_one c.args.positive.now c.args.negative.now c.args.list.now) c.args.bounds.now c.loop-bound.bound-index c.bound-item.result c.loop-bound.out c.append.new.self c.loop-bound-test.true c.bound-item.is c.loop-bound.invariant (c.in_ok-append.ensures.ok ∙ ap (λ m. c.loop-bound.out ++ m) (c.in_ok-more.ensures ∙ ap (refer_one c.args.positive.now c.args.negative.now c.args.list.now) c.as_slice.ensures))
+    flat_more (refer_one c.args.positive.now c.args.negative.now c.args.list.now) c.args.bounds.now c.loop-bound.bound-index c.bound-item.result
+    c.loop-bound.out c.append.new.self c.loop-bound-test.true c.bound-item.is c.loop-bound.invariant
+    (c.in_ok-append.ensures.ok ∙ ap (λ m. c.loop-bound.out ++ m)
+    (c.in_ok-more.ensures ∙ ap (refer_one c.args.positive.now c.args.negative.now c.args.list.now) c.as_slice.ensures))

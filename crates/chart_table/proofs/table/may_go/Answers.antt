@@ -4,4 +4,5 @@ use Rattle.chart_table.proofs.table.may_go.Goals as goal
 
 pub returns : goal.returns
 returns c =
-    λ off. idle_is c.args.setting.now c.args.aim.now c.args.rule.now c.args.place c.aim.inside.halt c.as_slice.result.now c.may_start.result (ap (λ a. a.halt) c.aim.view_is) c.as_slice.ensures c.if-place-aim.false c.may_start.ensures off
+    λ off. idle_is c.args.setting.now c.args.aim.now c.args.rule.now c.args.place c.aim.inside.halt c.as_slice.result.now c.may_start.result
+    (ap (λ a. a.halt) c.aim.view_is) c.as_slice.ensures c.if-place-aim.false c.may_start.ensures off

@@ -9,8 +9,11 @@ loop-state-init c = finished_none c.args.setting.now c.args.rule.now c.args.befo
 
 pub loop-state-preserved : goal.loop-state-preserved
 loop-state-preserved c =
-    finished_turn c.args.setting.now c.args.rule.now c.args.before.now c.args.states.now c.loop-state.state-index c.state-item.result c.args.out.now c.loop-state.out c.push_all_new.new.out c.loop-state-test.true c.state-item.is c.loop-state.invariant (subst (HasMore c.loop-state.out c.push_all_new.new.out) (c.as_slice.ensures ∙ c.in_ok-ends.ensures) c.in_ok-push_all_new.ensures)
+    finished_turn c.args.setting.now c.args.rule.now c.args.before.now c.args.states.now c.loop-state.state-index c.state-item.result c.args.out.now
+    c.loop-state.out c.push_all_new.new.out c.loop-state-test.true c.state-item.is c.loop-state.invariant
+    (subst (HasMore c.loop-state.out c.push_all_new.new.out) (c.as_slice.ensures ∙ c.in_ok-ends.ensures) c.in_ok-push_all_new.ensures)
 
 pub returns : goal.returns
 returns c =
-    finished_done c.args.setting.now c.args.rule.now c.args.before.now c.args.states.now c.loop-state.state-index c.args.out.now c.loop-state.out c.loop-state-test.false c.loop-state.invariant
+    finished_done c.args.setting.now c.args.rule.now c.args.before.now c.args.states.now c.loop-state.state-index c.args.out.now c.loop-state.out
+    c.loop-state-test.false c.loop-state.invariant

@@ -4,11 +4,14 @@ use Rattle.chart_trees.proofs.skeletons.least_among.Goals as goal
 
 pub loop-outcome-preserved : goal.loop-outcome-preserved
 loop-outcome-preserved c =
-    listed_next c.args.setting.now c.args.outcomes.now c.loop-outcome.outcome-index c.outcome-item.result c.in_ok-least.least c.loop-outcome-test.true c.outcome-item.is (c.in_ok-least.ensures (trees_in (take c.loop-outcome.outcome-index c.args.outcomes.now)) c.loop-outcome.invariant)
+    listed_next c.args.setting.now c.args.outcomes.now c.loop-outcome.outcome-index c.outcome-item.result c.in_ok-least.least c.loop-outcome-test.true
+    c.outcome-item.is (c.in_ok-least.ensures (trees_in (take c.loop-outcome.outcome-index c.args.outcomes.now)) c.loop-outcome.invariant)
 
 pub consider-requires : goal.consider-requires
 consider-requires c =
-    c.requires.sound c.outcome-item.result (among_next c.args.outcomes.now c.loop-outcome.outcome-index c.outcome-item.result c.loop-outcome-test.true c.outcome-item.is)
+    c.requires.sound c.outcome-item.result
+    (among_next c.args.outcomes.now c.loop-outcome.outcome-index c.outcome-item.result c.loop-outcome-test.true c.outcome-item.is)
 
 pub returns : goal.returns
-returns c = listed_done c.args.setting.now c.args.outcomes.now c.loop-outcome.outcome-index c.loop-outcome.least c.loop-outcome-test.false c.loop-outcome.invariant
+returns c = listed_done c.args.setting.now c.args.outcomes.now c.loop-outcome.outcome-index c.loop-outcome.least c.loop-outcome-test.false
+    c.loop-outcome.invariant

@@ -20,4 +20,5 @@ returns-clause-rows c =
 
 pub returns-clause-instances : goal.returns-clause-instances
 returns-clause-instances c =
-    subst (λ s. IfOk c.leading_instances.result (HasInstances s c.args.rule.now c.args.known.now (record { place = c.args.place; list = c.args.list.now }))) c.setting.view_is c.leading_instances.ensures.instances
+    subst (λ s. IfOk c.leading_instances.result (HasInstances s c.args.rule.now c.args.known.now (record { place = c.args.place; list = c.args.list.now })))
+    c.setting.view_is c.leading_instances.ensures.instances

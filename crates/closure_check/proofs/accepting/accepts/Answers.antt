@@ -16,4 +16,5 @@ pub returns-clause-sound : goal.returns-clause-sound
 returns-clause-sound c =
     let first = c.in_ok-first.ensures {u = tt} in
     IfOk-weaker c.closes.result (λ yes. yes ≡ closes (theory_of c.args.k.now) (graph_of c.in_ok-first.first) (tree_of c.args.closed.now)) _
-    (λ yes e is. closed_excludes (theory_of c.args.k.now) (tree_of c.args.closed.now) (sym (e ∙ ap (λ g. closes (theory_of c.args.k.now) g (tree_of c.args.closed.now)) first.exact) ∙ is)) c.closes.ensures
+    (λ yes e is. closed_excludes (theory_of c.args.k.now) (tree_of c.args.closed.now)
+    (sym (e ∙ ap (λ g. closes (theory_of c.args.k.now) g (tree_of c.args.closed.now)) first.exact) ∙ is)) c.closes.ensures

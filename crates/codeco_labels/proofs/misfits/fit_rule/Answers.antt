@@ -11,4 +11,5 @@ fit-requires-clause-below c =
     let size = length c.args.table.now.groups in
     let r = c.args.rule.now in
     let parts = and_parts (ltb r.head.name size) (list_all (element_below size) r.body) c.requires.below in
-    subst (λ s. IsTrue (found_below size s.children)) (sym (c.of-shape.ensures ∙ ap (shape_of c.args.marks.now) c.as_slice.ensures)) (children_below c.args.marks.now size r.body parts.1)
+    subst (λ s. IsTrue (found_below size s.children)) (sym (c.of-shape.ensures ∙ ap (shape_of c.args.marks.now) c.as_slice.ensures))
+    (children_below c.args.marks.now size r.body parts.1)

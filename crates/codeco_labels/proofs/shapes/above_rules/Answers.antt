@@ -6,5 +6,6 @@ pub loop-rule-preserved : goal.loop-rule-preserved
 loop-rule-preserved c = record {
   most = c.above_rule-above.ensures.most;
   least = omega arith;
-  below = rule_more c.loop-rule.above c.above_rule-above.result c.args.rules.now c.loop-rule.rule-index c.rule-item.result c.above_rule-above.ensures.least c.loop-rule-test.true c.rule-item.is c.loop-rule.invariant.below c.above_rule-above.ensures.below;
+  below = rule_more c.loop-rule.above c.above_rule-above.result c.args.rules.now c.loop-rule.rule-index c.rule-item.result c.above_rule-above.ensures.least
+      c.loop-rule-test.true c.rule-item.is c.loop-rule.invariant.below c.above_rule-above.ensures.below;
 }

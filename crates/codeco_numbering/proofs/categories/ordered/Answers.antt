@@ -13,4 +13,5 @@ returns c =
     sorted_is (λ f. (f.0, f.1.now)) c.loop-feat.list.items c.sort_by_key.new.self.items
     (IsNonDecreasingBy-from_sort_by_key (λ p. p.0) _ c.in_ok-sort_by_key.ensures.sorted (λ a r q k. search rules))
     (c.in_ok-sort_by_key.ensures.stable (λ p. p.0) (answers_always _ (λ a r. r ≡ a.0.now.0) _ (λ f a r q k. search rules)))
-    ∙ ap in_order (c.loop-feat.invariant ∙ ap (map {B = ℕ × WrittenTerm} (λ f. (number_of c.args.features.now f.name, f.term))) (all ∙ c.as_slice-feat-items.ensures))
+    ∙ ap in_order (c.loop-feat.invariant
+    ∙ ap (map {B = ℕ × WrittenTerm} (λ f. (number_of c.args.features.now f.name, f.term))) (all ∙ c.as_slice-feat-items.ensures))

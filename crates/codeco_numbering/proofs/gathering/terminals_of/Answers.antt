@@ -9,4 +9,8 @@ use Rattle.codeco_numbering.proofs.gathering.terminals_of.Goals as goal
 pub loop-item-preserved : goal.loop-item-preserved
 loop-item-preserved c =
     let items = c.as_slice-item-items.result.now in
-    gather_turn (λ (xs : List WrittenItem). flat_map (λ r. flat_map written_terminals r.body) (rules_of xs)) (λ (x : WrittenItem). flat_map (λ r. flat_map written_terminals r.body) (item_rules x)) (λ x xs. flat_map-append (λ r. flat_map written_terminals r.body) (item_rules x) (rules_of xs)) c.loop-item.names c.add_item_terminals.new.names (gathered c.new-names.result ((λ (xs : List WrittenItem). flat_map (λ r. flat_map written_terminals r.body) (rules_of xs)) items)) items c.loop-item.item-index c.item-item.result c.loop-item-test.true c.item-item.is c.loop-item.invariant c.in_ok-add_item_terminals.ensures
+    gather_turn (λ (xs : List WrittenItem). flat_map (λ r. flat_map written_terminals r.body) (rules_of xs))
+    (λ (x : WrittenItem). flat_map (λ r. flat_map written_terminals r.body) (item_rules x))
+    (λ x xs. flat_map-append (λ r. flat_map written_terminals r.body) (item_rules x) (rules_of xs)) c.loop-item.names c.add_item_terminals.new.names
+    (gathered c.new-names.result ((λ (xs : List WrittenItem). flat_map (λ r. flat_map written_terminals r.body) (rules_of xs)) items)) items
+    c.loop-item.item-index c.item-item.result c.loop-item-test.true c.item-item.is c.loop-item.invariant c.in_ok-add_item_terminals.ensures

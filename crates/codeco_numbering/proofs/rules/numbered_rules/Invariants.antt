@@ -6,5 +6,6 @@ use Rattle.codeco_numbering.proofs.rules.numbered_rules.Given as goal
 abbrev pub invariant-loop-item : goal.invariant-loop-item
 invariant-loop-item l = record {
   room : All (λ r. HasRoom (rule_tables l.grammar r)) (rules_of (drop l.item-index l.item-items));
-  left : l.rules ++ map (λ r. numbered_rule (rule_tables l.grammar r) r) (rules_of (drop l.item-index l.item-items)) ≡ map (λ r. numbered_rule (rule_tables l.grammar r) r) (rules_of l.item-items);
+  left : l.rules ++ map (λ r. numbered_rule (rule_tables l.grammar r) r) (rules_of (drop l.item-index l.item-items))
+      ≡ map (λ r. numbered_rule (rule_tables l.grammar r) r) (rules_of l.item-items);
 }

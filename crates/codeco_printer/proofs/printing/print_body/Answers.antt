@@ -9,4 +9,6 @@ pub loop-element-preserved : goal.loop-element-preserved
 loop-element-preserved c =
     let g = c.args.grammar.now in
     let es = c.as_slice-element-items.result.now in
-    list_turn (λ (xs : List Element). body_lexemes (map (written_element g) xs)) (λ e. element_lexemes (written_element g e)) (λ _ _. refl) c.args.out.now c.loop-element.out c.print_element.new.out (body_lexemes (map (written_element g) es)) es c.loop-element.element-index c.element-item.result c.loop-element-test.true c.element-item.is c.loop-element.invariant c.in_ok-print_element.ensures
+    list_turn (λ (xs : List Element). body_lexemes (map (written_element g) xs)) (λ e. element_lexemes (written_element g e)) (λ _ _. refl) c.args.out.now
+    c.loop-element.out c.print_element.new.out (body_lexemes (map (written_element g) es)) es c.loop-element.element-index c.element-item.result
+    c.loop-element-test.true c.element-item.is c.loop-element.invariant c.in_ok-print_element.ensures

@@ -11,4 +11,7 @@ pub loop-feature-preserved : goal.loop-feature-preserved
 loop-feature-preserved c =
     let g = c.args.grammar.now in
     let fs = c.as_slice-feature-items.result.now in
-    list_turn (λ (xs : List Feature). lexemes (flat_map (written_feature g) xs)) (λ f. lexemes (written_feature g f)) (λ x xs. flat_map-append item_lexemes (written_feature g x) (flat_map (written_feature g) xs)) c.args.out.now c.loop-feature.out c.print_declaration.new.out (lexemes (flat_map (written_feature g) fs)) fs c.loop-feature.feature-index c.feature-item.result c.loop-feature-test.true c.feature-item.is c.loop-feature.invariant c.in_ok-print_declaration.ensures
+    list_turn (λ (xs : List Feature). lexemes (flat_map (written_feature g) xs)) (λ f. lexemes (written_feature g f))
+    (λ x xs. flat_map-append item_lexemes (written_feature g x) (flat_map (written_feature g) xs)) c.args.out.now c.loop-feature.out
+    c.print_declaration.new.out (lexemes (flat_map (written_feature g) fs)) fs c.loop-feature.feature-index c.feature-item.result c.loop-feature-test.true
+    c.feature-item.is c.loop-feature.invariant c.in_ok-print_declaration.ensures

@@ -6,4 +6,5 @@ use Rattle.codeco_printer.specs.Writing.{write}
 use Rattle.codeco_printer.proofs.printing.print_declarations.Given as goal
 
 abbrev pub invariant-loop-feature : goal.invariant-loop-feature
-invariant-loop-feature l = write l.out (lexemes (flat_map (written_feature l.grammar) (drop l.feature-index l.feature-items))) ≡ write l.initial.out (lexemes (flat_map (written_feature l.grammar) l.feature-items))
+invariant-loop-feature l = write l.out (lexemes (flat_map (written_feature l.grammar) (drop l.feature-index l.feature-items)))
+    ≡ write l.initial.out (lexemes (flat_map (written_feature l.grammar) l.feature-items))

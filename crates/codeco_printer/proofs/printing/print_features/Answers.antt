@@ -13,5 +13,7 @@ loop-feature-preserved c =
     let bound = simp left at done.bound in
     record {
       bound = omega (arith, bound, length-drop c.loop-feature.done c.args.taken.now);
-      left = feature_turn g c.args.out.now _ _ (closed_feats false (with_names g (merged (plain_terms g c.args.feats.now) (taken_terms c.args.taken.now)))) _ c.args.feats.now c.loop-feature.feature-index _ c.args.taken.now _ c.loop-feature.done c.in_ok-done.field-0 c.loop-feature-test.true left c.loop-feature.invariant.left done.written done.from;
+      left = feature_turn g c.args.out.now _ _ (closed_feats false (with_names g (merged (plain_terms g c.args.feats.now) (taken_terms c.args.taken.now)))) _
+          c.args.feats.now c.loop-feature.feature-index _ c.args.taken.now _ c.loop-feature.done c.in_ok-done.field-0 c.loop-feature-test.true left
+          c.loop-feature.invariant.left done.written done.from;
     }

@@ -13,5 +13,7 @@ loop-pattern-preserved c =
     let g = c.args.grammar.now in
     let s = c.args.sign in
     let ps = c.as_slice-pattern-items.result.now in
-    list_turn (λ (xs : List Pattern). signed s (map (written_pattern g) xs)) (λ p. lexeme.Sign s ∷ named (written_pattern g p)) (λ _ _. refl) c.args.out.now c.loop-pattern.out c.print_pattern.new.out (signed s (map (written_pattern g) ps)) ps c.loop-pattern.pattern-index c.pattern-item.result c.loop-pattern-test.true c.pattern-item.is c.loop-pattern.invariant
+    list_turn (λ (xs : List Pattern). signed s (map (written_pattern g) xs)) (λ p. lexeme.Sign s ∷ named (written_pattern g p)) (λ _ _. refl) c.args.out.now
+    c.loop-pattern.out c.print_pattern.new.out (signed s (map (written_pattern g) ps)) ps c.loop-pattern.pattern-index c.pattern-item.result
+    c.loop-pattern-test.true c.pattern-item.is c.loop-pattern.invariant
     (c.in_ok-print_pattern.ensures ∙ ap (λ o. write o (named (written_pattern g c.pattern-item.result))) c.in_ok-sign.ensures)

@@ -6,4 +6,5 @@ use Rattle.codeco_printer.specs.Writing.{write}
 use Rattle.codeco_printer.proofs.printing.print_rules.Given as goal
 
 abbrev pub invariant-loop-rule : goal.invariant-loop-rule
-invariant-loop-rule l = write l.out (lexemes (map (λ r. item.Rule (written_rule l.grammar r)) (drop l.rule-index l.rule-items))) ≡ write l.initial.out (lexemes (map (λ r. item.Rule (written_rule l.grammar r)) l.rule-items))
+invariant-loop-rule l = write l.out (lexemes (map (λ r. item.Rule (written_rule l.grammar r)) (drop l.rule-index l.rule-items)))
+    ≡ write l.initial.out (lexemes (map (λ r. item.Rule (written_rule l.grammar r)) l.rule-items))

@@ -8,12 +8,15 @@ use Rattle.codeco_terms.proofs.unification.meet_feats.Goals as goal
 
 pub returns-then-not-meet_vals-clause-no : goal.returns-then-not-meet_vals-clause-no
 returns-then-not-meet_vals-clause-no c = λ m h a.
-    none_take_more (λ p n. All (Meets n p.0 p.1) c.args.vals.now) c.args.feats.now c.loop-feature.feature-index (0, Val (Atom 0)) c.args.env.now c.loop-feature.env (omega arith) c.loop-feature.invariant c.if-not-meet_vals.ensures.no m h a
+    none_take_more (λ p n. All (Meets n p.0 p.1) c.args.vals.now) c.args.feats.now c.loop-feature.feature-index (0, Val (Atom 0)) c.args.env.now
+    c.loop-feature.env (omega arith) c.loop-feature.invariant c.if-not-meet_vals.ensures.no m h a
 
 pub loop-feature-preserved : goal.loop-feature-preserved
 loop-feature-preserved c =
-    least_take_more (λ p n. All (Meets n p.0 p.1) c.args.vals.now) c.args.feats.now c.loop-feature.feature-index (0, Val (Atom 0)) c.args.env.now c.loop-feature.env c.meet_vals.new.env (Shares-kept c.args.vals.now) (omega arith) c.loop-feature.invariant c.if-not-meet_vals.ensures.yes
+    least_take_more (λ p n. All (Meets n p.0 p.1) c.args.vals.now) c.args.feats.now c.loop-feature.feature-index (0, Val (Atom 0)) c.args.env.now
+    c.loop-feature.env c.meet_vals.new.env (Shares-kept c.args.vals.now) (omega arith) c.loop-feature.invariant c.if-not-meet_vals.ensures.yes
 
 pub returns-clause-yes : goal.returns-clause-yes
 returns-clause-yes c =
-    subst (λ feats. IsLeastExtension (λ m. AgreeOnShared m feats c.args.vals.now) c.args.env.now c.loop-feature.env) (take_all c.loop-feature.feature-index c.args.feats.now (omega arith)) c.loop-feature.invariant
+    subst (λ feats. IsLeastExtension (λ m. AgreeOnShared m feats c.args.vals.now) c.args.env.now c.loop-feature.env)
+    (take_all c.loop-feature.feature-index c.args.feats.now (omega arith)) c.loop-feature.invariant

@@ -10,6 +10,7 @@ pub returns : goal.returns
 returns c =
     let text = c.args.text.now in
     let byte = slice_index text c.args.at in
-    terminal_steps c.args.builder.now text (slice_range text c.args.start c.args.at) byte c.args.start (c.args.at + 1) c.is_terminal_byte-goes_on.result c.if_it.result
+    terminal_steps c.args.builder.now text (slice_range text c.args.start c.args.at) byte c.args.start (c.args.at + 1) c.is_terminal_byte-goes_on.result
+    c.if_it.result
     (ne_eqb byte 93 c.if-text-at-eq93.false) c.is_terminal_byte-goes_on.ensures c.if_it.ensures
     (ap scanning.terminal (sym (slice_more text c.args.start c.args.at c.requires.started c.requires.within))) (omega arith)

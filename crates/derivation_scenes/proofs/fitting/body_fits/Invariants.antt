@@ -8,4 +8,5 @@ use Rattle.derivation_scenes.proofs.fitting.body_fits.Given as goal
 
 abbrev pub invariant-loop-element : goal.invariant-loop-element
 invariant-loop-element l =
-    list_all (term_fits l.setting l.values) (flat_map (λ c. c.feats) (flat_map mentions (drop l.element-index l.body))) ≡ list_all (term_fits l.setting l.values) (flat_map (λ c. c.feats) (flat_map mentions l.body))
+    list_all (term_fits l.setting l.values) (flat_map (λ c. c.feats) (flat_map mentions (drop l.element-index l.body)))
+    ≡ list_all (term_fits l.setting l.values) (flat_map (λ c. c.feats) (flat_map mentions l.body))

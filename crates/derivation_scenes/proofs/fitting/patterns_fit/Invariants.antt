@@ -8,4 +8,5 @@ use Rattle.derivation_scenes.proofs.fitting.patterns_fit.Given as goal
 
 abbrev pub invariant-loop-pattern : goal.invariant-loop-pattern
 invariant-loop-pattern l =
-    list_all (term_fits l.setting l.values) (flat_map (λ c. c.feats) (map whole (drop l.pattern-index l.patterns))) ≡ list_all (term_fits l.setting l.values) (flat_map (λ c. c.feats) (map whole l.patterns))
+    list_all (term_fits l.setting l.values) (flat_map (λ c. c.feats) (map whole (drop l.pattern-index l.patterns)))
+    ≡ list_all (term_fits l.setting l.values) (flat_map (λ c. c.feats) (map whole l.patterns))

@@ -6,4 +6,5 @@ use Rattle.derivation_trees.proofs.derive.plain_step.Goals as goal
 
 pub returns-in-Some-clause-grows : goal.returns-in-Some-clause-grows
 returns-in-Some-clause-grows c =
-    pass_begins c.args.setting.now c.as_slice.result.now c.args.element.now (stand_of [] c.args.stand) (stand_of [] c.in-Some.next) c.requires.plain (sym (ap (option_map (stand_of [])) c.in-Some.is) ∙ c.in_ok-pass.ensures [])
+    pass_begins c.args.setting.now c.as_slice.result.now c.args.element.now (stand_of [] c.args.stand) (stand_of [] c.in-Some.next) c.requires.plain
+    (sym (ap (option_map (stand_of [])) c.in-Some.is) ∙ c.in_ok-pass.ensures [])

@@ -1,5 +1,5 @@
 use Rattle.std.proofs.Common.{◌≡◌, ◌++◌, take, drop}
-use Rattle.derivation_trees.specs.Instances.{put}
+use Rattle.derivation_trees.specs.Putting.{put}
 use Rattle.derivation_trees.proofs.features.place_for.Given as goal
 
 abbrev pub invariant-loop-place : goal.invariant-loop-place

@@ -3,7 +3,7 @@ use Rattle.std.specs.Prelude.{if◌then◌else◌}
 use Rattle.std.proofs.lemmas.Bool.{eq-eqb}
 use Rattle.codeco_terms.specs.declared.values.Term.{Term}
 use Rattle.codeco_checked.specs.Occurrences.{with_taken}
-use Rattle.derivation_trees.specs.Instances.{put_all}
+use Rattle.derivation_trees.specs.Putting.{put_all}
 use Rattle.derivation_trees.proofs.PutLemmas.{put_all_taken}
 use Rattle.derivation_trees.proofs.features.put_pattern.Goals as goal
 
@@ -17,4 +17,5 @@ returns-in_ok-put_taken c =
     ∙ ap (λ (sorted : List ℕ). put_all sorted (map (λ (t : ℕ × ℕ). t.0) taken))
     (c.in_ok-put_feats.ensures ∙ ap (λ (fs : List (ℕ × Term)). put_all before (map (λ f. f.0) fs)) c.as_slice.ensures)
     ∙ sym (put_all_taken before feats taken)
-    ∙ ap (λ (b : Bool). put_all before (if b then map (λ (f : ℕ × Term). f.0) (with_taken feats taken) else [])) (sym (eq-eqb c.args.pattern.now.cat.name c.args.name c.if-pattern-name.true))
+    ∙ ap (λ (b : Bool). put_all before (if b then map (λ (f : ℕ × Term). f.0) (with_taken feats taken) else []))
+    (sym (eq-eqb c.args.pattern.now.cat.name c.args.name c.if-pattern-name.true))

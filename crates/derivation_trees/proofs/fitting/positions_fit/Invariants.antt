@@ -8,4 +8,5 @@ use Rattle.derivation_trees.proofs.fitting.positions_fit.Given as goal
 
 abbrev pub invariant-loop-element : goal.invariant-loop-element
 invariant-loop-element l =
-    list_all (λ x. is_value l.setting declared.Positions (value_under l.values x)) (flat_map positions (drop l.element-index l.body)) ≡ list_all (λ x. is_value l.setting declared.Positions (value_under l.values x)) (flat_map positions l.body)
+    list_all (λ x. is_value l.setting declared.Positions (value_under l.values x)) (flat_map positions (drop l.element-index l.body))
+    ≡ list_all (λ x. is_value l.setting declared.Positions (value_under l.values x)) (flat_map positions l.body)

@@ -4,8 +4,12 @@ use Rattle.derivation_trees.proofs.PieceLemmas.{pieces_step, pieces_end}
 use Rattle.derivation_trees.proofs.pieces.pieces.Goals as goal
 
 pub loop-piece-preserved : goal.loop-piece-preserved
-loop-piece-preserved c =
-    (search rules, ap (λ x. x ++ pieces c.in-Some.after.now) c.in_ok-push_piece.ensures ∙ pieces_step c.loop-piece.tokens c.loop-piece.rest.now c.in-Some.piece.now c.in-Some.after.now c.in-Some.ensures.0 c.in-Some.ensures.1 ∙ c.loop-piece.invariant.1)
+loop-piece-preserved c = (
+  search rules,
+  ap (λ x. x ++ pieces c.in-Some.after.now) c.in_ok-push_piece.ensures
+      ∙ pieces_step c.loop-piece.tokens c.loop-piece.rest.now c.in-Some.piece.now c.in-Some.after.now c.in-Some.ensures.0 c.in-Some.ensures.1
+      ∙ c.loop-piece.invariant.1,
+)
 
 pub returns : goal.returns
 returns c =

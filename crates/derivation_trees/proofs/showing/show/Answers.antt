@@ -12,7 +12,8 @@ bytes c = c.from_string.ensures
 
 exact : (c : goal.After-from_string) → c.from_string.result ≡ shown c.args.grammar.now.terminals c.args.tokens.now
 exact c =
-    bytes c ∙ c.in_ok-push_tokens.ensures ∙ ap (λ x. x ++ shown c.terminals.result.now c.as_slice.result.now) c.new-text.ensures.bytes ∙ ap (λ x. shown x c.as_slice.result.now) c.terminals.ensures ∙ ap (shown c.args.grammar.now.terminals) c.as_slice.ensures
+    bytes c ∙ c.in_ok-push_tokens.ensures ∙ ap (λ x. x ++ shown c.terminals.result.now c.as_slice.result.now) c.new-text.ensures.bytes
+    ∙ ap (λ x. shown x c.as_slice.result.now) c.terminals.ensures ∙ ap (shown c.args.grammar.now.terminals) c.as_slice.ensures
 
 utf8 : (c : goal.After-from_string) → IsUtf8 c.from_string.result
 utf8 c = subst IsUtf8 (sym (bytes c)) (IsUtf8-string_bytes c.push_tokens.new.text)

@@ -5,4 +5,5 @@ use Rattle.derivation_trees.proofs.sketch.+sketch.Given as goal
 
 abbrev pub invariant-sketch_over-loop-element : goal.invariant-sketch_over-loop-element
 invariant-sketch_over-loop-element l =
-    sketches.sketch_over l.setting (drop l.element-index l.body) (sketch_held (children_held l.setting l.tree) l.sketch) ≡ sketches.sketch_over l.setting l.body (sketch_held (children_held l.setting l.tree) l.fn.start)
+    sketches.sketch_over l.setting (drop l.element-index l.body) (sketch_held (children_held l.setting l.tree) l.sketch)
+    ≡ sketches.sketch_over l.setting l.body (sketch_held (children_held l.setting l.tree) l.fn.start)

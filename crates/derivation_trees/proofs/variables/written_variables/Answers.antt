@@ -10,7 +10,8 @@ pub loop-variable-preserved : goal.loop-variable-preserved
 loop-variable-preserved c =
     let p = has (rule_variables c.args.rule.now) in (
       omega arith,
-      c.in_ok-push_if_written.ensures ∙ ap (λ xs. xs ++ filter p (c.loop-variable.variable ∷ [])) c.loop-variable.invariant.1 ∙ sym (range_push p c.loop-variable.variable),
+      c.in_ok-push_if_written.ensures ∙ ap (λ xs. xs ++ filter p (c.loop-variable.variable ∷ [])) c.loop-variable.invariant.1
+          ∙ sym (range_push p c.loop-variable.variable),
     )
 
 pub returns : goal.returns

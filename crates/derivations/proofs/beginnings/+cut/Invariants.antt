@@ -8,19 +8,28 @@ use Rattle.derivations.proofs.beginnings.+cut.Given as goal
 
 abbrev pub invariant-any_enters-loop-path : goal.invariant-any_enters-loop-path
 invariant-any_enters-loop-path l =
-    list_any (beginnings.enters (beginnings.cut_of l.setting l.depth) l.values l.element) (map path_of (drop l.path-index l.paths)) ≡ list_any (beginnings.enters (beginnings.cut_of l.setting l.depth) l.values l.element) (map path_of l.paths)
+    list_any (beginnings.enters (beginnings.cut_of l.setting l.depth) l.values l.element) (map path_of (drop l.path-index l.paths))
+    ≡ list_any (beginnings.enters (beginnings.cut_of l.setting l.depth) l.values l.element) (map path_of l.paths)
 
 abbrev pub invariant-goes_from-loop-element : goal.invariant-goes_from-loop-element
 invariant-goes_from-loop-element l =
-    beginnings.goes_from l.setting (enumeration.trees_of l.setting l.depth) (beginnings.cut_of l.setting l.depth) l.values (drop l.element-index l.body) (map path_of l.paths) ≡ beginnings.goes_from l.setting (enumeration.trees_of l.setting l.depth) (beginnings.cut_of l.setting l.depth) l.values l.body (path_of l.fn.start ∷ [])
+    beginnings.goes_from l.setting (enumeration.trees_of l.setting l.depth) (beginnings.cut_of l.setting l.depth) l.values (drop l.element-index l.body)
+    (map path_of l.paths) ≡ beginnings.goes_from l.setting (enumeration.trees_of l.setting l.depth) (beginnings.cut_of l.setting l.depth) l.values l.body
+    (path_of l.fn.start ∷ [])
 
 abbrev pub invariant-any_instance-loop-values : goal.invariant-any_instance-loop-values
 invariant-any_instance-loop-values l =
-    list_any (beginnings.instance_cut l.setting (enumeration.trees_of l.setting l.depth) (beginnings.cut_of l.setting l.depth) l.wanted (at_of (l.place, l.list)) l.rule) (drop l.values-index l.made) ≡ list_any (beginnings.instance_cut l.setting (enumeration.trees_of l.setting l.depth) (beginnings.cut_of l.setting l.depth) l.wanted (at_of (l.place, l.list)) l.rule) l.made
+    list_any (beginnings.instance_cut l.setting (enumeration.trees_of l.setting l.depth) (beginnings.cut_of l.setting l.depth) l.wanted
+    (at_of (l.place, l.list)) l.rule) (drop l.values-index l.made)
+    ≡ list_any (beginnings.instance_cut l.setting (enumeration.trees_of l.setting l.depth) (beginnings.cut_of l.setting l.depth) l.wanted
+    (at_of (l.place, l.list)) l.rule) l.made
 
 abbrev pub invariant-any_rule-loop-rule : goal.invariant-any_rule-loop-rule
 invariant-any_rule-loop-rule l =
-    list_any (beginnings.rule_cut l.setting (enumeration.trees_of l.setting l.depth) (beginnings.cut_of l.setting l.depth) l.wanted (at_of (l.place, l.list))) (drop l.rule-index l.rules) ≡ list_any (beginnings.rule_cut l.setting (enumeration.trees_of l.setting l.depth) (beginnings.cut_of l.setting l.depth) l.wanted (at_of (l.place, l.list))) l.rules
+    list_any (beginnings.rule_cut l.setting (enumeration.trees_of l.setting l.depth) (beginnings.cut_of l.setting l.depth) l.wanted (at_of (l.place, l.list)))
+    (drop l.rule-index l.rules) ≡ list_any
+    (beginnings.rule_cut l.setting (enumeration.trees_of l.setting l.depth) (beginnings.cut_of l.setting l.depth) l.wanted (at_of (l.place, l.list)))
+    l.rules
 
 abbrev pub decreases-cut_of : goal.decreases-cut_of
 decreases-cut_of l = 8 * l.depth + 0

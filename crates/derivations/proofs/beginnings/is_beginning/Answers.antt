@@ -19,5 +19,11 @@ returns-clause-partial c =
     let l = c.args.lexicon.now in
     let t = c.args.tokens.now in
     let read = c.as_slice.ensures.value ∙ c.in_ok-readings.ensures in
-    let e : record { grammar = c.grammar.result.now; tokens = t; readings = c.as_slice.result.now } ≡ setting_of g l t = ap (λ x. record { grammar = x; tokens = t; readings = c.as_slice.result.now }) c.grammar.ensures.grammar ∙ ap (λ x. record { grammar = g; tokens = t; readings = x }) read in
-    IfOk-weaker c.has_partial.result _ _ (λ yes h. (λ w. beginning_from_test g l t c.grammar.ensures.sound (sym (h ∙ ap has_partial e) ∙ w), λ b. h ∙ ap has_partial e ∙ test_from_beginning g l t c.grammar.ensures.sound b)) c.has_partial.ensures
+    let e : record { grammar = c.grammar.result.now; tokens = t; readings = c.as_slice.result.now } ≡ setting_of g l t =
+    ap (λ x. record { grammar = x; tokens = t; readings = c.as_slice.result.now }) c.grammar.ensures.grammar
+    ∙ ap (λ x. record { grammar = g; tokens = t; readings = x }) read in
+    IfOk-weaker c.has_partial.result _ _
+    (λ yes h. (
+      λ w. beginning_from_test g l t c.grammar.ensures.sound (sym (h ∙ ap has_partial e) ∙ w),
+      λ b. h ∙ ap has_partial e ∙ test_from_beginning g l t c.grammar.ensures.sound b,
+    )) c.has_partial.ensures

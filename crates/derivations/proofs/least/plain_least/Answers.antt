@@ -20,7 +20,10 @@ returns-clause-none c =
     let t = c.args.tokens.now in
     let read = c.as_slice-3.ensures.value ∙ c.in_ok-readings.ensures ∙ ap (map (readings_of l.live)) c.as_slice.ensures in
     let s : Setting = record { grammar = c.grammar.result.now; tokens = c.as_slice-2.result.now; readings = c.as_slice-3.result.now } in
-    let e : record { grammar = c.grammar.result.now; tokens = c.as_slice-2.result.now; readings = c.as_slice-3.result.now } ≡ setting_of g l t = ap (λ x. record { grammar = x; tokens = c.as_slice-2.result.now; readings = c.as_slice-3.result.now }) c.grammar.ensures.grammar ∙ ap (λ x. record { grammar = g; tokens = x; readings = c.as_slice-3.result.now }) c.as_slice-2.ensures ∙ ap (λ x. record { grammar = g; tokens = t; readings = x }) read in
+    let e : record { grammar = c.grammar.result.now; tokens = c.as_slice-2.result.now; readings = c.as_slice-3.result.now } ≡ setting_of g l t =
+    ap (λ x. record { grammar = x; tokens = c.as_slice-2.result.now; readings = c.as_slice-3.result.now }) c.grammar.ensures.grammar
+    ∙ ap (λ x. record { grammar = g; tokens = x; readings = c.as_slice-3.result.now }) c.as_slice-2.ensures
+    ∙ ap (λ x. record { grammar = g; tokens = t; readings = x }) read in
     IfOk-weaker c.least_in.result _ _ (λ least h. none_told least s (setting_of g l t) e h) c.least_in.ensures.none
 
 pub returns-clause-unique : goal.returns-clause-unique
@@ -30,7 +33,10 @@ returns-clause-unique c =
     let t = c.args.tokens.now in
     let read = c.as_slice-3.ensures.value ∙ c.in_ok-readings.ensures ∙ ap (map (readings_of l.live)) c.as_slice.ensures in
     let s : Setting = record { grammar = c.grammar.result.now; tokens = c.as_slice-2.result.now; readings = c.as_slice-3.result.now } in
-    let e : record { grammar = c.grammar.result.now; tokens = c.as_slice-2.result.now; readings = c.as_slice-3.result.now } ≡ setting_of g l t = ap (λ x. record { grammar = x; tokens = c.as_slice-2.result.now; readings = c.as_slice-3.result.now }) c.grammar.ensures.grammar ∙ ap (λ x. record { grammar = g; tokens = x; readings = c.as_slice-3.result.now }) c.as_slice-2.ensures ∙ ap (λ x. record { grammar = g; tokens = t; readings = x }) read in
+    let e : record { grammar = c.grammar.result.now; tokens = c.as_slice-2.result.now; readings = c.as_slice-3.result.now } ≡ setting_of g l t =
+    ap (λ x. record { grammar = x; tokens = c.as_slice-2.result.now; readings = c.as_slice-3.result.now }) c.grammar.ensures.grammar
+    ∙ ap (λ x. record { grammar = g; tokens = x; readings = c.as_slice-3.result.now }) c.as_slice-2.ensures
+    ∙ ap (λ x. record { grammar = g; tokens = t; readings = x }) read in
     IfOk-weaker c.least_in.result _ _ (λ least h. unique_told g l t least s e h) c.least_in.ensures.least
 
 pub returns-in_err-readings-clause-codes : goal.returns-in_err-readings-clause-codes

@@ -7,19 +7,25 @@ use Rattle.derivations.proofs.listing.+listing.Given as goal
 
 abbrev pub invariant-step_all-loop-path : goal.invariant-step_all-loop-path
 invariant-step_all-loop-path l =
-    map path_of l.out ≡ flat_map (enumeration.steps l.setting (enumeration.trees_of l.setting l.depth) l.values l.element) (map path_of (take l.path-index l.paths))
+    map path_of l.out ≡ flat_map (enumeration.steps l.setting (enumeration.trees_of l.setting l.depth) l.values l.element)
+    (map path_of (take l.path-index l.paths))
 
 abbrev pub invariant-run_all-loop-element : goal.invariant-run_all-loop-element
 invariant-run_all-loop-element l =
-    enumeration.all_steps l.setting (enumeration.trees_of l.setting l.depth) l.values (drop l.element-index l.body) (map path_of l.paths) ≡ enumeration.all_steps l.setting (enumeration.trees_of l.setting l.depth) l.values l.body (path_of l.fn.start ∷ [])
+    enumeration.all_steps l.setting (enumeration.trees_of l.setting l.depth) l.values (drop l.element-index l.body) (map path_of l.paths)
+    ≡ enumeration.all_steps l.setting (enumeration.trees_of l.setting l.depth) l.values l.body (path_of l.fn.start ∷ [])
 
 abbrev pub invariant-push_all_instances-loop-values : goal.invariant-push_all_instances-loop-values
 invariant-push_all_instances-loop-values l =
-    map outcome_of l.out ≡ map outcome_of l.initial.out ++ flat_map (enumeration.instance_trees l.setting (enumeration.trees_of l.setting l.depth) l.wanted (at_of (l.place, l.list)) l.number l.rule) (take l.values-index l.made)
+    map outcome_of l.out ≡ map outcome_of l.initial.out
+    ++ flat_map (enumeration.instance_trees l.setting (enumeration.trees_of l.setting l.depth) l.wanted (at_of (l.place, l.list)) l.number l.rule)
+    (take l.values-index l.made)
 
 abbrev pub invariant-push_rules-loop-rule : goal.invariant-push_rules-loop-rule
 invariant-push_rules-loop-rule l =
-    map outcome_of l.out ++ enumeration.rules_trees l.setting (enumeration.trees_of l.setting l.depth) l.wanted (at_of (l.place, l.list)) l.number (drop l.rule-index l.rules) ≡ map outcome_of l.initial.out ++ enumeration.rules_trees l.setting (enumeration.trees_of l.setting l.depth) l.wanted (at_of (l.place, l.list)) 1 l.rules
+    map outcome_of l.out ++ enumeration.rules_trees l.setting (enumeration.trees_of l.setting l.depth) l.wanted (at_of (l.place, l.list)) l.number
+    (drop l.rule-index l.rules) ≡ map outcome_of l.initial.out
+    ++ enumeration.rules_trees l.setting (enumeration.trees_of l.setting l.depth) l.wanted (at_of (l.place, l.list)) 1 l.rules
 
 abbrev pub decreases-trees_of : goal.decreases-trees_of
 decreases-trees_of l = 8 * l.depth + 0

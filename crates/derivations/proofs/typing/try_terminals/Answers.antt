@@ -15,5 +15,8 @@ pub loop-text-preserved : goal.loop-text-preserved
 loop-text-preserved c =
     let test = goes_on c.args.grammar.now c.args.lexicon.now c.args.tokens.now in
     let nothing : Bor (List ℕ) = record { ref_ptr = (0, 0); now = [] } in
-    let old = map shown c.loop-text.entries.items in
-    (subst IsInOrder (sym c.in_ok-consider.ensures) (tried_in_order test _ old c.loop-text.invariant.0), ap (all_tried test (functions_in (texts_of (drop (c.loop-text.text-index + 1) c.args.texts.now)))) c.in_ok-consider.ensures ∙ one_text_tried test c.args.texts.now c.loop-text.text-index nothing old (search rules) ∙ c.loop-text.invariant.1)
+    let old = map shown c.loop-text.entries.items in (
+      subst IsInOrder (sym c.in_ok-consider.ensures) (tried_in_order test _ old c.loop-text.invariant.0),
+      ap (all_tried test (functions_in (texts_of (drop (c.loop-text.text-index + 1) c.args.texts.now)))) c.in_ok-consider.ensures
+          ∙ one_text_tried test c.args.texts.now c.loop-text.text-index nothing old (search rules) ∙ c.loop-text.invariant.1,
+    )

@@ -4,4 +4,6 @@ use Rattle.derivations.proofs.typing.try_words.Given as goal
 
 abbrev pub invariant-loop-place : goal.invariant-loop-place
 invariant-loop-place l =
-    IsInOrder (map shown l.entries.items) × (all_tried (goes_on l.grammar l.lexicon l.tokens) (forms_among (drop l.place l.lexicon.live)) (map shown l.entries.items) ≡ all_tried (goes_on l.grammar l.lexicon l.tokens) (forms_among l.lexicon.live) (map shown l.initial.entries.items))
+    IsInOrder (map shown l.entries.items)
+    × (all_tried (goes_on l.grammar l.lexicon l.tokens) (forms_among (drop l.place l.lexicon.live)) (map shown l.entries.items)
+    ≡ all_tried (goes_on l.grammar l.lexicon l.tokens) (forms_among l.lexicon.live) (map shown l.initial.entries.items))

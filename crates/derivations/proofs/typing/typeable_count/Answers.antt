@@ -10,8 +10,11 @@ loop-longer-preserved c =
     let l = c.args.lexicon.now in
     let t = c.args.tokens.now in
     let longer = c.loop-longer.longer in
-    let yes : c.in_ok-is_beginning.field-0 ≡ true = search rules in
-    (one_beginning_more g l t longer c.loop-longer.invariant.0 (subst (λ ts. IsBeginning g l (take longer ts)) c.as_slice-tokens.ensures (c.in_ok-is_beginning.ensures.partial.0 yes)), omega arith)
+    let yes : c.in_ok-is_beginning.field-0 ≡ true = search rules in (
+      one_beginning_more g l t longer c.loop-longer.invariant.0
+          (subst (λ ts. IsBeginning g l (take longer ts)) c.as_slice-tokens.ensures (c.in_ok-is_beginning.ensures.partial.0 yes)),
+      omega arith,
+    )
 
 pub returns-then-not-branch : goal.returns-then-not-branch
 returns-then-not-branch c =
@@ -20,7 +23,9 @@ returns-then-not-branch c =
     let t = c.args.tokens.now in
     let longer = c.loop-longer.longer in
     let long : length c.as_slice-tokens.result.now ≡ length t = ap length c.as_slice-tokens.ensures in
-    count_stops g l t longer c.loop-longer.count (omega (arith, c.loop-longer-test.true, long)) c.loop-longer.invariant.1 c.loop-longer.invariant.0 (λ h. true_is_false (sym (c.in_ok-is_beginning.ensures.partial.1 (subst (λ ts. IsBeginning g l (take longer ts)) (sym c.as_slice-tokens.ensures) h)) ∙ c.if-not-branch.true))
+    count_stops g l t longer c.loop-longer.count (omega (arith, c.loop-longer-test.true, long)) c.loop-longer.invariant.1 c.loop-longer.invariant.0
+    (λ h. true_is_false (sym (c.in_ok-is_beginning.ensures.partial.1 (subst (λ ts. IsBeginning g l (take longer ts)) (sym c.as_slice-tokens.ensures) h))
+    ∙ c.if-not-branch.true))
 
 pub returns : goal.returns
 returns c =

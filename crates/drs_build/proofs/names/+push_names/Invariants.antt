@@ -10,4 +10,5 @@ decreases-push_names l = size-Skeleton l.skeleton.now
 
 abbrev pub invariant-loop-place : goal.invariant-loop-place
 invariant-loop-place l =
-    l.names ≡ (l.fn.names ++ own_name l.grammar (out-Skeleton l.skeleton).rule (out-Skeleton l.skeleton).start (out-Skeleton l.skeleton).words (ends_of (out-Skeleton l.skeleton).children)) ++ flat_map (names_of l.grammar) (take l.place (out-Skeleton l.skeleton).children)
+    l.names ≡ (l.fn.names ++ own_name l.grammar (out-Skeleton l.skeleton).rule (out-Skeleton l.skeleton).start (out-Skeleton l.skeleton).words
+    (ends_of (out-Skeleton l.skeleton).children)) ++ flat_map (names_of l.grammar) (take l.place (out-Skeleton l.skeleton).children)

@@ -12,7 +12,8 @@ child_at-requires c =
 
 pub returns-in-Some : goal.returns-in-Some
 returns-in-Some c =
-    let P : List Skeleton → Type 0 = λ ks. slice_get (filter (λ k. is_meant c.args.grammar.now (out-Skeleton k).rule) ks) c.args.number ≡ slice_get ks c.in-Some.place in
+    let P : List Skeleton → Type 0 = λ ks. slice_get (filter (λ k. is_meant c.args.grammar.now (out-Skeleton k).rule) ks) c.args.number
+    ≡ slice_get ks c.in-Some.place in
     record {
       is = subst P c.as_slice.ensures c.in-Some.ensures.1 ∙ c.child_at.ensures.item;
       smaller = c.child_at.ensures.smaller;

@@ -19,19 +19,25 @@ returns-then-not-goes_on-clause-kept c =
     let l = c.args.lexicon.now in
     let first = take c.loop-place.place c.args.tokens.now in
     let old = c.loop-place.chart in
-    let same : c.back.new.self ≡ old = undone g l old c.advance.new.self c.back.new.self c.index-tokens-place.result c.back.result (kept_on g l old first c.loop-place.invariant.0) c.in_ok-goes_on.ensures.added c.back.ensures.none c.back.ensures.last in
+    let same : c.back.new.self ≡ old = undone g l old c.advance.new.self c.back.new.self c.index-tokens-place.result c.back.result
+    (kept_on g l old first c.loop-place.invariant.0) c.in_ok-goes_on.ensures.added c.back.ensures.none c.back.ensures.last in
     kept_on g l c.back.new.self first (same ∙ c.loop-place.invariant.0)
 
 pub loop-place-preserved : goal.loop-place-preserved
 loop-place-preserved c =
-    longest_more c.args.grammar.now c.args.lexicon.now c.args.tokens.now c.loop-place.place c.loop-place.chart c.advance.new.self c.index-tokens-place.result c.in_ok-goes_on.goes_on
-    c.loop-place-test.true c.index-tokens-place.is c.loop-place.invariant.0 c.loop-place.invariant.1 c.in_ok-goes_on.ensures.added c.in_ok-goes_on.ensures.begins c.if-not-goes_on.false
+    longest_more c.args.grammar.now c.args.lexicon.now c.args.tokens.now c.loop-place.place c.loop-place.chart c.advance.new.self c.index-tokens-place.result
+    c.in_ok-goes_on.goes_on
+    c.loop-place-test.true c.index-tokens-place.is c.loop-place.invariant.0 c.loop-place.invariant.1 c.in_ok-goes_on.ensures.added
+    c.in_ok-goes_on.ensures.begins c.if-not-goes_on.false
 
 pub returns-then-not-goes_on-clause-tokens : goal.returns-then-not-goes_on-clause-tokens
 returns-then-not-goes_on-clause-tokens c =
-    longest_stops c.args.grammar.now c.args.lexicon.now c.args.tokens.now c.loop-place.place c.loop-place.chart c.advance.new.self c.back.new.self c.index-tokens-place.result c.in_ok-goes_on.goes_on c.back.result
-    c.loop-place-test.true c.index-tokens-place.is c.loop-place.invariant.0 c.loop-place.invariant.1 c.in_ok-goes_on.ensures.added c.in_ok-goes_on.ensures.begins c.if-not-goes_on.true c.back.ensures.none c.back.ensures.last
+    longest_stops c.args.grammar.now c.args.lexicon.now c.args.tokens.now c.loop-place.place c.loop-place.chart c.advance.new.self c.back.new.self
+    c.index-tokens-place.result c.in_ok-goes_on.goes_on c.back.result
+    c.loop-place-test.true c.index-tokens-place.is c.loop-place.invariant.0 c.loop-place.invariant.1 c.in_ok-goes_on.ensures.added
+    c.in_ok-goes_on.ensures.begins c.if-not-goes_on.true c.back.ensures.none c.back.ensures.last
 
 pub returns-clause-tokens : goal.returns-clause-tokens
 returns-clause-tokens c =
-    rebased_all c.args.grammar.now c.args.lexicon.now c.args.tokens.now c.loop-place.chart.tokens c.loop-place.place c.loop-place-test.false (ap (λ (s : Setting). s.tokens) c.loop-place.invariant.0) c.loop-place.invariant.1
+    rebased_all c.args.grammar.now c.args.lexicon.now c.args.tokens.now c.loop-place.chart.tokens c.loop-place.place c.loop-place-test.false
+    (ap (λ (s : Setting). s.tokens) c.loop-place.invariant.0) c.loop-place.invariant.1

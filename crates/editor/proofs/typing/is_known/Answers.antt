@@ -14,4 +14,5 @@ returns-clause-known c =
     known_by_owner c.args.grammar.now c.args.lexicon.now c.args.text.now c.find.result c.is_some.result other c.find.ensures.owner c.is_some.ensures
 
 pub returns-clause-token : goal.returns-clause-token
-returns-clause-token c = token_by_owner c.args.lexicon.now c.args.text.now c.find.result c.is_some.result c.find.ensures.lexicon c.utf8.text c.find.ensures.owner c.is_some.ensures
+returns-clause-token c = token_by_owner c.args.lexicon.now c.args.text.now c.find.result c.is_some.result c.find.ensures.lexicon c.utf8.text
+    c.find.ensures.owner c.is_some.ensures

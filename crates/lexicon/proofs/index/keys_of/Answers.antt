@@ -8,5 +8,6 @@ use Rattle.lexicon.proofs.index.keys_of.Goals as goal
 pub loop-text-preserved : goal.loop-text-preserved
 loop-text-preserved c = (
   grind (arith, common_steps),
-  All-more IsText c.as_slice-text-items.result.now c.loop-text.text-index c.text-item.result c.loop-text-test.true c.loop-text.invariant.1 (subst (λ t. IsText t) c.text-item.is c.as_str.ensures.text),
+  All-more IsText c.as_slice-text-items.result.now c.loop-text.text-index c.text-item.result c.loop-text-test.true c.loop-text.invariant.1
+      (subst (λ t. IsText t) c.text-item.is c.as_str.ensures.text),
 )

@@ -10,7 +10,8 @@ use Rattle.logic_terms.proofs.complement.+negating.Goals as goal
 pub complements_of-loop-place-preserved : goal.complements_of-loop-place-preserved
 complements_of-loop-place-preserved t c =
     c.in_ok-push.ensures.ok
-    ∙ made_more complement (concepts_of c.args.members.now) c.loop-place.place (concept_of c.get.result.now) (concepts_of c.loop-place.negative) (concept_of c.in_ok-complement_of.field-0) c.get.ensures.item c.loop-place.invariant c.in_ok-complement_of.ensures
+    ∙ made_more complement (concepts_of c.args.members.now) c.loop-place.place (concept_of c.get.result.now) (concepts_of c.loop-place.negative)
+    (concept_of c.in_ok-complement_of.field-0) c.get.ensures.item c.loop-place.invariant c.in_ok-complement_of.ensures
 
 pub complements_of-returns : goal.complements_of-returns
 complements_of-returns t c =
@@ -22,7 +23,8 @@ complements_of-returns t c =
 pub normal_forms_of-loop-place-preserved : goal.normal_forms_of-loop-place-preserved
 normal_forms_of-loop-place-preserved t c =
     c.in_ok-push.ensures.ok
-    ∙ made_more normal_form (concepts_of c.args.members.now) c.loop-place.place (concept_of c.get.result.now) (concepts_of c.loop-place.normal) (concept_of c.in_ok-normal_form_of.field-0) c.get.ensures.item c.loop-place.invariant c.in_ok-normal_form_of.ensures
+    ∙ made_more normal_form (concepts_of c.args.members.now) c.loop-place.place (concept_of c.get.result.now) (concepts_of c.loop-place.normal)
+    (concept_of c.in_ok-normal_form_of.field-0) c.get.ensures.item c.loop-place.invariant c.in_ok-normal_form_of.ensures
 
 pub normal_forms_of-returns : goal.normal_forms_of-returns
 normal_forms_of-returns t c =

@@ -18,19 +18,24 @@ Classes::are_complements_of-loop-place-init t c = record {
 
 pub Classes::are_complements_of-returns-then-not-is_complement_of : goal.Classes::are_complements_of-returns-then-not-is_complement_of
 Classes::are_complements_of-returns-then-not-is_complement_of t c =
-    sym (made_same-differ complement complements complements_from (concepts_of c.args.self.now) (concepts_of c.args.classes.now) c.loop-place.place (concept_of c.get.result.now) (concept_of c.get-in-loop-place.result.now) _ c.get.ensures.item c.get-in-loop-place.ensures.item c.loop-place.invariant.left_decides (sym c.is_complement_of.ensures ∙ c.if-not-is_complement_of.true))
+    sym (made_same-differ complement complements complements_from (concepts_of c.args.self.now) (concepts_of c.args.classes.now) c.loop-place.place
+    (concept_of c.get.result.now) (concept_of c.get-in-loop-place.result.now) _ c.get.ensures.item c.get-in-loop-place.ensures.item
+    c.loop-place.invariant.left_decides (sym c.is_complement_of.ensures ∙ c.if-not-is_complement_of.true))
 
 pub Classes::are_complements_of-loop-place-preserved : goal.Classes::are_complements_of-loop-place-preserved
 Classes::are_complements_of-loop-place-preserved t c = record {
   long = c.loop-place.invariant.long;
-  left_decides = made_same-step complement complements complements_from (concepts_of c.args.self.now) (concepts_of c.args.classes.now) c.loop-place.place (concept_of c.get.result.now) (concept_of c.get-in-loop-place.result.now) _ c.get.ensures.item c.get-in-loop-place.ensures.item c.loop-place.invariant.left_decides (sym c.is_complement_of.ensures ∙ c.if-not-is_complement_of.false);
+  left_decides = made_same-step complement complements complements_from (concepts_of c.args.self.now) (concepts_of c.args.classes.now) c.loop-place.place
+      (concept_of c.get.result.now) (concept_of c.get-in-loop-place.result.now) _ c.get.ensures.item c.get-in-loop-place.ensures.item
+      c.loop-place.invariant.left_decides (sym c.is_complement_of.ensures ∙ c.if-not-is_complement_of.false);
 }
 
 pub Classes::are_complements_of-returns : goal.Classes::are_complements_of-returns
 Classes::are_complements_of-returns t c =
     let past : length (concepts_of c.args.classes.now) ≤ c.loop-place.place = omega (arith, c.len-place-end.ensures, c.loop-place-test.false) in
     let own : length (concepts_of c.args.self.now) ≤ c.loop-place.place = omega (arith, c.loop-place.invariant.long) in
-    sym (c.loop-place.invariant.left_decides ∙ made_same-none complement complements complements_from (concepts_of c.args.self.now) (concepts_of c.args.classes.now) c.loop-place.place own past)
+    sym (c.loop-place.invariant.left_decides
+    ∙ made_same-none complement complements complements_from (concepts_of c.args.self.now) (concepts_of c.args.classes.now) c.loop-place.place own past)
 
 pub Classes::are_normal_forms_of-returns-then-len : goal.Classes::are_normal_forms_of-returns-then-len
 Classes::are_normal_forms_of-returns-then-len t c =
@@ -45,16 +50,21 @@ Classes::are_normal_forms_of-loop-place-init t c = record {
 
 pub Classes::are_normal_forms_of-returns-then-not-is_normal_form_of : goal.Classes::are_normal_forms_of-returns-then-not-is_normal_form_of
 Classes::are_normal_forms_of-returns-then-not-is_normal_form_of t c =
-    sym (made_same-differ normal_form normal_forms normal_forms_from (concepts_of c.args.self.now) (concepts_of c.args.classes.now) c.loop-place.place (concept_of c.get.result.now) (concept_of c.get-in-loop-place.result.now) _ c.get.ensures.item c.get-in-loop-place.ensures.item c.loop-place.invariant.left_decides (sym c.is_normal_form_of.ensures ∙ c.if-not-is_normal_form_of.true))
+    sym (made_same-differ normal_form normal_forms normal_forms_from (concepts_of c.args.self.now) (concepts_of c.args.classes.now) c.loop-place.place
+    (concept_of c.get.result.now) (concept_of c.get-in-loop-place.result.now) _ c.get.ensures.item c.get-in-loop-place.ensures.item
+    c.loop-place.invariant.left_decides (sym c.is_normal_form_of.ensures ∙ c.if-not-is_normal_form_of.true))
 
 pub Classes::are_normal_forms_of-loop-place-preserved : goal.Classes::are_normal_forms_of-loop-place-preserved
 Classes::are_normal_forms_of-loop-place-preserved t c = record {
   long = c.loop-place.invariant.long;
-  left_decides = made_same-step normal_form normal_forms normal_forms_from (concepts_of c.args.self.now) (concepts_of c.args.classes.now) c.loop-place.place (concept_of c.get.result.now) (concept_of c.get-in-loop-place.result.now) _ c.get.ensures.item c.get-in-loop-place.ensures.item c.loop-place.invariant.left_decides (sym c.is_normal_form_of.ensures ∙ c.if-not-is_normal_form_of.false);
+  left_decides = made_same-step normal_form normal_forms normal_forms_from (concepts_of c.args.self.now) (concepts_of c.args.classes.now) c.loop-place.place
+      (concept_of c.get.result.now) (concept_of c.get-in-loop-place.result.now) _ c.get.ensures.item c.get-in-loop-place.ensures.item
+      c.loop-place.invariant.left_decides (sym c.is_normal_form_of.ensures ∙ c.if-not-is_normal_form_of.false);
 }
 
 pub Classes::are_normal_forms_of-returns : goal.Classes::are_normal_forms_of-returns
 Classes::are_normal_forms_of-returns t c =
     let past : length (concepts_of c.args.classes.now) ≤ c.loop-place.place = omega (arith, c.len-place-end.ensures, c.loop-place-test.false) in
     let own : length (concepts_of c.args.self.now) ≤ c.loop-place.place = omega (arith, c.loop-place.invariant.long) in
-    sym (c.loop-place.invariant.left_decides ∙ made_same-none normal_form normal_forms normal_forms_from (concepts_of c.args.self.now) (concepts_of c.args.classes.now) c.loop-place.place own past)
+    sym (c.loop-place.invariant.left_decides
+    ∙ made_same-none normal_form normal_forms normal_forms_from (concepts_of c.args.self.now) (concepts_of c.args.classes.now) c.loop-place.place own past)

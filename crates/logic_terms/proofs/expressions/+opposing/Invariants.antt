@@ -10,13 +10,15 @@ use Rattle.logic_terms.proofs.expressions.+opposing.Given as goal
 abbrev pub invariant-Classes::are_complements_of-loop-place : goal.invariant-Classes::are_complements_of-loop-place
 invariant-Classes::are_complements_of-loop-place l = record {
   long : length (concepts_of l.self) ≡ length (concepts_of l.classes);
-  left_decides : same_concepts (concepts_from (concepts_of l.self)) (complements (concepts_from (concepts_of l.classes))) ≡ rest_same (concepts_of l.self) (map complement (concepts_of l.classes)) l.place;
+  left_decides : same_concepts (concepts_from (concepts_of l.self)) (complements (concepts_from (concepts_of l.classes)))
+      ≡ rest_same (concepts_of l.self) (map complement (concepts_of l.classes)) l.place;
 }
 
 abbrev pub invariant-Classes::are_normal_forms_of-loop-place : goal.invariant-Classes::are_normal_forms_of-loop-place
 invariant-Classes::are_normal_forms_of-loop-place l = record {
   long : length (concepts_of l.self) ≡ length (concepts_of l.classes);
-  left_decides : same_concepts (concepts_from (concepts_of l.self)) (normal_forms (concepts_from (concepts_of l.classes))) ≡ rest_same (concepts_of l.self) (map normal_form (concepts_of l.classes)) l.place;
+  left_decides : same_concepts (concepts_from (concepts_of l.self)) (normal_forms (concepts_from (concepts_of l.classes)))
+      ≡ rest_same (concepts_of l.self) (map normal_form (concepts_of l.classes)) l.place;
 }
 
 abbrev pub decreases-Class::is_complement_of : goal.decreases-Class::is_complement_of

@@ -6,4 +6,5 @@ use Rattle.making.proofs.making.read_articles.Given as goal
 
 -- what is left to ask decides
 abbrev pub invariant-loop-number : goal.invariant-loop-number
-invariant-loop-number g l = Leads g.W.Machine.Steps l.fn.machine read_requests l.fn.before l.machine (map read_request (range_with_len l.number (50 - l.number))) l.summary
+invariant-loop-number g l = Leads g.W.Machine.Steps l.fn.machine read_requests l.fn.before l.machine
+    (map read_request (range_with_len l.number (50 - l.number))) l.summary

@@ -6,8 +6,10 @@ use Rattle.owl_eval.proofs.axioms.all_true.Goals as goal
 
 pub returns-then-not-is_true : goal.returns-then-not-is_true
 returns-then-not-is_true c =
-    sym (each_fails (holds c.args.interp.now) (claims_of c.args.axioms.now) c.loop-place.place (claim_of c.get.result.now) c.get.ensures (sym c.is_true.ensures ∙ c.if-not-is_true.true))
+    sym (each_fails (holds c.args.interp.now) (claims_of c.args.axioms.now) c.loop-place.place (claim_of c.get.result.now) c.get.ensures
+    (sym c.is_true.ensures ∙ c.if-not-is_true.true))
 
 pub loop-place-preserved : goal.loop-place-preserved
 loop-place-preserved c =
-    each_more (holds c.args.interp.now) (claims_of c.args.axioms.now) c.loop-place.place (claim_of c.get.result.now) c.get.ensures c.loop-place.invariant (sym c.is_true.ensures ∙ c.if-not-is_true.false)
+    each_more (holds c.args.interp.now) (claims_of c.args.axioms.now) c.loop-place.place (claim_of c.get.result.now) c.get.ensures c.loop-place.invariant
+    (sym c.is_true.ensures ∙ c.if-not-is_true.false)

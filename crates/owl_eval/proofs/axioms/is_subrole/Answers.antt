@@ -6,7 +6,9 @@ use Rattle.owl_eval.proofs.axioms.is_subrole.Goals as goal
 use Rattle.owl_eval.proofs.axioms.is_subrole.Goals.{After-each_end_relates}
 
 -- what the call tells of the element's successors
-at_element : (c : After-each_end_relates) → c.each_end_relates.result ≡ each_below c.args.interp.now.size (λ y. implies (relates c.args.interp.now c.args.below c.loop-element.element y) (relates c.args.interp.now c.args.above c.loop-element.element y))
+at_element : (c : After-each_end_relates)
+    → c.each_end_relates.result ≡ each_below c.args.interp.now.size
+    (λ y. implies (relates c.args.interp.now c.args.below c.loop-element.element y) (relates c.args.interp.now c.args.above c.loop-element.element y))
 at_element c = c.each_end_relates.ensures ∙ c.successors.ensures.each (λ y. relates c.args.interp.now c.args.above c.loop-element.element y)
 
 pub returns-then-not-each_end_relates : goal.returns-then-not-each_end_relates

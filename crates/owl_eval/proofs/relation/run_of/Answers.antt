@@ -18,7 +18,8 @@ end_at c =
 
 first_before : (c : After-partition_point-end) → c.partition_point-start.result ≤ c.partition_point-end.result
 first_before c =
-    starts_first c.args.first c.args.pairs.now c.partition_point-start.result c.partition_point-end.result c.partition_point-start.ensures.bound (start_at c) (end_at c)
+    starts_first c.args.first c.args.pairs.now c.partition_point-start.result c.partition_point-end.result c.partition_point-start.ensures.bound (start_at c)
+    (end_at c)
 
 pub slice_bounds-result-count : goal.slice_bounds-result-count
 slice_bounds-result-count c = first_before (goal.at.slice_bounds-result-count c).After-partition_point-end
@@ -29,4 +30,5 @@ slice_bounds-result-start c = search (rules, first_before (goal.at.slice_bounds-
 pub returns : goal.returns
 returns c =
     let d = (goal.at.returns c).After-partition_point-end in
-    run_is_filter c.args.first c.args.pairs.now c.partition_point-start.result c.partition_point-end.result c.partition_point-start.ensures.bound c.partition_point-end.ensures.bound (start_at d) (end_at d)
+    run_is_filter c.args.first c.args.pairs.now c.partition_point-start.result c.partition_point-end.result c.partition_point-start.ensures.bound
+    c.partition_point-end.ensures.bound (start_at d) (end_at d)

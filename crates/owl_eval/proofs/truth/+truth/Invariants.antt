@@ -30,12 +30,23 @@ decreases-holds l = size-Cond l.condition.now * 2 ^ 66
 
 abbrev pub invariant-conditions_true-loop-place : goal.invariant-conditions_true-loop-place
 invariant-conditions_true-loop-place l =
-    record { kept : l.given.items ≡ l.initial.given.items; so_far : each_condition l.interp (take l.place (conditions_of l.conditions)) (assigned l.initial.given.items) ≡ true }
+    record {
+      kept : l.given.items ≡ l.initial.given.items;
+      so_far : each_condition l.interp (take l.place (conditions_of l.conditions)) (assigned l.initial.given.items) ≡ true;
+    }
 
 abbrev pub invariant-each_extension_true-loop-element : goal.invariant-each_extension_true-loop-element
 invariant-each_extension_true-loop-element l =
-    record { kept : l.given.items ≡ l.initial.given.items; so_far : each_below l.element (λ x. each_extension l.interp.size l.rest (carries_over l.interp (conditions_of l.conditions) (structure_of l.right)) (giving (assigned l.initial.given.items) l.first x)) ≡ true }
+    record {
+      kept : l.given.items ≡ l.initial.given.items;
+      so_far : each_below l.element (λ x. each_extension l.interp.size l.rest (carries_over l.interp (conditions_of l.conditions) (structure_of l.right))
+          (giving (assigned l.initial.given.items) l.first x)) ≡ true;
+    }
 
 abbrev pub invariant-some_extension_true-loop-element : goal.invariant-some_extension_true-loop-element
 invariant-some_extension_true-loop-element l =
-    record { kept : l.given.items ≡ l.initial.given.items; so_far : some_below l.element (λ x. some_extension l.interp.size l.rest (each_condition l.interp (conditions_of l.conditions)) (giving (assigned l.initial.given.items) l.first x)) ≡ false }
+    record {
+      kept : l.given.items ≡ l.initial.given.items;
+      so_far : some_below l.element (λ x. some_extension l.interp.size l.rest (each_condition l.interp (conditions_of l.conditions))
+          (giving (assigned l.initial.given.items) l.first x)) ≡ false;
+    }

@@ -14,7 +14,8 @@ use Rattle.reasoner.proofs.judging.searched_verdict.Goals as goal
 
 pub checked-requires : goal.checked-requires
 checked-requires c =
-    (c.in_ok-k.ensures.models c.in-Model.interp).0 (subst (λ d. IfModel d (λ i. IsModelOf i (theory_of c.in_ok-k.k))) c.in-Model.is c.in_ok-interp.ensures.model)
+    (c.in_ok-k.ensures.models c.in-Model.interp).0
+    (subst (λ d. IfModel d (λ i. IsModelOf i (theory_of c.in_ok-k.k))) c.in-Model.is c.in_ok-interp.ensures.model)
 
 pub returns-in-Model-clause-model : goal.returns-in-Model-clause-model
 returns-in-Model-clause-model c =

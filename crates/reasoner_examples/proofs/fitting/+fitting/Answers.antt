@@ -17,14 +17,17 @@ members_fit-returns-then-len-lt2 t c = sym (too_few c.args.names.now (concepts_o
 pub members_fit-returns-then-not-is_fit : goal.members_fit-returns-then-not-is_fit
 members_fit-returns-then-not-is_fit t c =
     sym (enough c.args.names.now (concepts_of c.args.members.now) c.loop-place.invariant.many
-    ∙ each_fails (is_fit c.args.names.now) (concepts_of c.args.members.now) c.loop-place.place (concept_of c.get.result.now) c.get.ensures.item (sym c.is_fit.ensures ∙ c.if-not-is_fit.true))
+    ∙ each_fails (is_fit c.args.names.now) (concepts_of c.args.members.now) c.loop-place.place (concept_of c.get.result.now) c.get.ensures.item
+    (sym c.is_fit.ensures ∙ c.if-not-is_fit.true))
 
 pub members_fit-loop-place-preserved : goal.members_fit-loop-place-preserved
 members_fit-loop-place-preserved t c = record {
   many = c.loop-place.invariant.many;
-  so_far = each_more (is_fit c.args.names.now) (concepts_of c.args.members.now) c.loop-place.place (concept_of c.get.result.now) c.get.ensures.item c.loop-place.invariant.so_far (sym c.is_fit.ensures ∙ c.if-not-is_fit.false);
+  so_far = each_more (is_fit c.args.names.now) (concepts_of c.args.members.now) c.loop-place.place (concept_of c.get.result.now) c.get.ensures.item
+      c.loop-place.invariant.so_far (sym c.is_fit.ensures ∙ c.if-not-is_fit.false);
 }
 
 pub members_fit-returns : goal.members_fit-returns
 members_fit-returns t c =
-    sym (all_members c.args.names.now (concepts_of c.args.members.now) c.loop-place.place (omega arith) c.loop-place.invariant.many c.loop-place.invariant.so_far)
+    sym (all_members c.args.names.now (concepts_of c.args.members.now) c.loop-place.place (omega arith) c.loop-place.invariant.many
+    c.loop-place.invariant.so_far)

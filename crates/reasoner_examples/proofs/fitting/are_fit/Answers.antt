@@ -7,7 +7,8 @@ use Rattle.reasoner_examples.proofs.fitting.are_fit.Goals as goal
 
 pub loop-place-preserved : goal.loop-place-preserved
 loop-place-preserved c =
-    each_more (fits c.args.names.now) (claims_of c.args.axioms.now) c.loop-place.place (claim_of c.get.result.now) c.get.ensures c.loop-place.invariant (sym c.fits.ensures ∙ c.if-not-fits.false)
+    each_more (fits c.args.names.now) (claims_of c.args.axioms.now) c.loop-place.place (claim_of c.get.result.now) c.get.ensures c.loop-place.invariant
+    (sym c.fits.ensures ∙ c.if-not-fits.false)
 
 pub returns-clause-over : goal.returns-clause-over
 returns-clause-over c fit = all_over c.args.names.now (claims_of c.args.axioms.now) c.loop-place.place (omega arith) c.loop-place.invariant

@@ -7,4 +7,5 @@ pub loop-number-preserved : goal.loop-number-preserved
 loop-number-preserved c =
     let i = c.loop-number.number in
     subst (All (λ (n : WordId). n.0 < i + 1)) (sym c.in_ok-push.ensures.ok)
-    (All-push (λ (n : WordId). n.0 < i + 1) c.loop-number.names (record { 0 = i }) (All-weaker (λ (n : WordId). n.0 < i) (λ (n : WordId). n.0 < i + 1) (λ n h. omega arith) c.loop-number.names c.loop-number.invariant) (omega arith))
+    (All-push (λ (n : WordId). n.0 < i + 1) c.loop-number.names (record { 0 = i })
+    (All-weaker (λ (n : WordId). n.0 < i) (λ (n : WordId). n.0 < i + 1) (λ n h. omega arith) c.loop-number.names c.loop-number.invariant) (omega arith))

@@ -20,4 +20,5 @@ returns-in-Failed-clause-delivers g c =
 
 pub returns-clause-delivers : goal.returns-clause-delivers
 returns-clause-delivers g c =
-    Delivers-sending _ _ _ _ _ _ _ _ _ c.pieces.invariant.sending refl (inl (nil_from_length c.pieces.rest.now (search (rules, c.is_empty.ensures, c.pieces-test.false)), omega arith))
+    Delivers-sending _ _ _ _ _ _ _ _ _ c.pieces.invariant.sending refl
+    (inl (nil_from_length c.pieces.rest.now (search (rules, c.is_empty.ensures, c.pieces-test.false)), omega arith))

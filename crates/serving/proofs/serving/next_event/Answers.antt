@@ -27,18 +27,26 @@ pub returns-in-Failed-clause-handed : goal.returns-in-Failed-clause-handed
 returns-in-Failed-clause-handed g c = (_, c.in-Failed.ensures.handed, refl)
 
 pub returns-in-Bytes-clause-handed : goal.returns-in-Bytes-clause-handed
-returns-in-Bytes-clause-handed g c = (_, c.in-Bytes.ensures.handed, piece_came c.in-Bytes.connection c.in-Bytes.size c.next.new.buf c.piece_come.result c.piece_come.ensures)
+returns-in-Bytes-clause-handed g c = (
+  _,
+  c.in-Bytes.ensures.handed,
+  piece_came c.in-Bytes.connection c.in-Bytes.size c.next.new.buf c.piece_come.result c.piece_come.ensures,
+)
 
 pub returns-in-Bytes-clause-comes : goal.returns-in-Bytes-clause-comes
 returns-in-Bytes-clause-comes g c =
-    λ event is. comes_so _ _ event c.in-Bytes.ensures.comes (piece_is c.in-Bytes.connection c.in-Bytes.size c.next.new.buf c.piece_come.result c.piece_come.ensures event is)
+    λ event is. comes_so _ _ event c.in-Bytes.ensures.comes
+    (piece_is c.in-Bytes.connection c.in-Bytes.size c.next.new.buf c.piece_come.result c.piece_come.ensures event is)
 
 pub returns-in-Bytes-clause-connections : goal.returns-in-Bytes-clause-connections
 returns-in-Bytes-clause-connections g c =
-    λ event is. connections_so _ _ _ event c.in-Bytes.ensures.connections (piece_is c.in-Bytes.connection c.in-Bytes.size c.next.new.buf c.piece_come.result c.piece_come.ensures event is)
+    λ event is. connections_so _ _ _ event c.in-Bytes.ensures.connections
+    (piece_is c.in-Bytes.connection c.in-Bytes.size c.next.new.buf c.piece_come.result c.piece_come.ensures event is)
 
 pub returns-in-Bytes-clause-over : goal.returns-in-Bytes-clause-over
-returns-in-Bytes-clause-over g c = λ is. absurd (piece_not_over c.in-Bytes.connection c.in-Bytes.size c.next.new.buf c.piece_come.result c.piece_come.ensures is)
+returns-in-Bytes-clause-over g c = λ is.
+    absurd (piece_not_over c.in-Bytes.connection c.in-Bytes.size c.next.new.buf c.piece_come.result c.piece_come.ensures is)
 
 pub returns-in-Bytes-clause-failed : goal.returns-in-Bytes-clause-failed
-returns-in-Bytes-clause-failed g c = λ is. absurd (piece_not_failed c.in-Bytes.connection c.in-Bytes.size c.next.new.buf c.piece_come.result c.piece_come.ensures is)
+returns-in-Bytes-clause-failed g c = λ is.
+    absurd (piece_not_failed c.in-Bytes.connection c.in-Bytes.size c.next.new.buf c.piece_come.result c.piece_come.ensures is)

@@ -17,7 +17,8 @@ pub returns-in-Failed-clause-serves : goal.returns-in-Failed-clause-serves
 returns-in-Failed-clause-serves g c =
     let next = c.next_event.ensures in
     let few : c.events._handled ≤ c.args.most = omega arith in
-    ended_failed g.W.Machine.Steps _ _ _ _ _ _ _ _ _ _ _ _ _ c.events.invariant _ (told_same _ _ _ _ _ next.sent next.send_faults) _ _ (g.L.Link.left c.next_event.new.link)
+    ended_failed g.W.Machine.Steps _ _ _ _ _ _ _ _ _ _ _ _ _ c.events.invariant _ (told_same _ _ _ _ _ next.sent next.send_faults) _ _
+    (g.L.Link.left c.next_event.new.link)
     (come_failed _ _ _ next.handed c.in-Failed.is) few
 
 pub returns-in-Failed-clause-link_fault : goal.returns-in-Failed-clause-link_fault
@@ -28,7 +29,8 @@ returns-in-Unread-clause-serves g c =
     let next = c.next_event.ensures in
     let room : c.events._handled < c.args.most = omega arith in
     let unread = come_unread _ _ _ next.handed c.in-Unread.is in
-    ended_memory g.W.Machine.Steps _ _ _ _ _ _ _ _ _ _ _ _ _ c.events.invariant _ (told_same _ _ _ _ _ next.sent next.send_faults) _ unread.0 _ (g.L.Link.left c.next_event.new.link) _ unread.1 (inl refl) room
+    ended_memory g.W.Machine.Steps _ _ _ _ _ _ _ _ _ _ _ _ _ c.events.invariant _ (told_same _ _ _ _ _ next.sent next.send_faults) _ unread.0 _
+    (g.L.Link.left c.next_event.new.link) _ unread.1 (inl refl) room
 
 pub event-requires : goal.event-requires
 event-requires g c =
@@ -43,7 +45,8 @@ returns-in-JournalFault-clause-serves g c =
     let next = c.next_event.ensures in
     let done = c.event.ensures in
     let room : c.events._handled < c.args.most = omega arith in
-    ended_journal g.W.Machine.Steps _ _ _ _ _ _ _ _ _ _ _ _ _ c.events.invariant _ (told_same _ _ _ _ _ next.sent next.send_faults) _ c.in-Event.come _ (g.L.Link.left c.event.new.link) _ _ _
+    ended_journal g.W.Machine.Steps _ _ _ _ _ _ _ _ _ _ _ _ _ c.events.invariant _ (told_same _ _ _ _ _ next.sent next.send_faults) _ c.in-Event.come _
+    (g.L.Link.left c.event.new.link) _ _ _
     (done.handed ∙ come_event _ _ _ c.in-Event.come next.handed c.in-Event.is) (done.journal c.in-JournalFault.is)
     (ap g.L.Link.sent (done.unsent (λ is. cc (c.in-JournalFault.is, is))), ap g.L.Link.send_faults (done.unsent (λ is. cc (c.in-JournalFault.is, is)))) room
 
@@ -57,7 +60,8 @@ returns-in-Memory-clause-serves g c =
     let room : c.events._handled < c.args.most = omega arith in
     let unsent = done.unsent (λ is. cc (c.in-Memory.is, is)) in
     ended_memory g.W.Machine.Steps _ _ _ _ _ _ _ _ _ _ _ _ _ c.events.invariant _
-    (told_all _ _ _ _ _ _ (ap g.K.Sink.taken (done.unwritten c.in-Memory.is)) (ap g.L.Link.sent unsent ∙ next.sent) (ap g.L.Link.send_faults unsent ∙ next.send_faults)) _ c.in-Event.come _ (g.L.Link.left c.event.new.link) _
+    (told_all _ _ _ _ _ _ (ap g.K.Sink.taken (done.unwritten c.in-Memory.is)) (ap g.L.Link.sent unsent ∙ next.sent)
+    (ap g.L.Link.send_faults unsent ∙ next.send_faults)) _ c.in-Event.come _ (g.L.Link.left c.event.new.link) _
     (done.handed ∙ come_event _ _ _ c.in-Event.come next.handed c.in-Event.is) (done.memory c.in-Memory.is) room
 
 pub events-preserved : goal.events-preserved

@@ -6,7 +6,8 @@ use Rattle.tableau.proofs.WayLemmas.{IsShut}
 use Rattle.tableau.proofs.turn.back.Given as goal
 
 abbrev pub invariant-loop-last : goal.invariant-loop-last
-invariant-loop-last l = (k : Theory) → Leads k l.fn.way → closes k (reached k l.fn.way).graph (tree_of l.fn.tree) ≡ true → IsShut k (reached k l.fn.way).waiting l.way l.closed
+invariant-loop-last l = (k : Theory) → Leads k l.fn.way → closes k (reached k l.fn.way).graph (tree_of l.fn.tree) ≡ true
+    → IsShut k (reached k l.fn.way).waiting l.way l.closed
 
 abbrev pub decreases-loop-last : goal.decreases-loop-last
 decreases-loop-last l = length l.way

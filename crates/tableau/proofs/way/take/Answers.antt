@@ -9,7 +9,8 @@ use Rattle.tableau.proofs.way.take.Goals as goal
 pub returns-clause-leads : goal.returns-clause-leads
 returns-clause-leads c =
     let k = theory_of c.args.k.now in
-    let kept = kept_at (graph_of c.args.before) (reached k c.args.way.now).graph c.args.step c.len-choice.result (length c.args.trees) c.in_ok-kept.kept c.requires.before c.len-choice.ensures (c.in_ok-kept.ensures {u = tt}) in
+    let kept = kept_at (graph_of c.args.before) (reached k c.args.way.now).graph c.args.step c.len-choice.result (length c.args.trees) c.in_ok-kept.kept
+    c.requires.before c.len-choice.ensures (c.in_ok-kept.ensures {u = tt}) in
     leads_push k c.args.way.now c.push.new.self _ c.in_ok-push.ensures.ok c.requires.leads c.requires.choice kept
 
 pub returns-clause-reached : goal.returns-clause-reached

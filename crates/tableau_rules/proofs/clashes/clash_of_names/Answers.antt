@@ -8,4 +8,5 @@ use Rattle.tableau_rules.proofs.clashes.clash_of_names.Goals as goal
 pub returns-then-are_joined-clause-exact : goal.returns-then-are_joined-clause-exact
 returns-then-are_joined-clause-exact c =
     sym (ap (list_any (λ d. are_joined (theory_of c.args.k.now) d.0 d.1)) (sym c.differences-pair-items.ensures)
-    ∙ list_any_at (λ d. are_joined (theory_of c.args.k.now) d.0 d.1) c.differences-pair-items.result.now c.loop-pair.pair-index _ c.loop-pair-test.true (sym c.are_joined.ensures ∙ c.if-are_joined.true))
+    ∙ list_any_at (λ d. are_joined (theory_of c.args.k.now) d.0 d.1) c.differences-pair-items.result.now c.loop-pair.pair-index _ c.loop-pair-test.true
+    (sym c.are_joined.ensures ∙ c.if-are_joined.true))

@@ -10,4 +10,5 @@ use Rattle.tableau_rules.proofs.clashes.clash_of_nodes.Goals as goal
 pub returns-in-Some-clause-exact : goal.returns-in-Some-clause-exact
 returns-in-Some-clause-exact c =
     let lt : c.loop-node.node < length (graph_of c.args.b.now).nodes = omega (arith, c.len-node-end.ensures, c.loop-node-test.true) in
-    sym (some_below_passes (λ x. list_any (clashes_at (theory_of c.args.k.now) (graph_of c.args.b.now) x) (label_at (graph_of c.args.b.now) x)) c.loop-node.node (length (graph_of c.args.b.now).nodes) lt (sym c.in-Some.ensures.exact))
+    sym (some_below_passes (λ x. list_any (clashes_at (theory_of c.args.k.now) (graph_of c.args.b.now) x) (label_at (graph_of c.args.b.now) x)) c.loop-node.node
+    (length (graph_of c.args.b.now).nodes) lt (sym c.in-Some.ensures.exact))

@@ -8,4 +8,6 @@ use Rattle.tableau_rules.specs.declared.step.Step.{Step}
 use Rattle.tableau_rules.proofs.finder.first_at.Given as goal
 
 abbrev pub invariant-loop-class : goal.invariant-loop-class
-invariant-loop-class l = first_below l.class (λ place. option_map (λ y. let s : Step = record { rule = l.rule; node = l.node; class = place; other = y } in s) (site_at (theory_of l.k) (graph_of l.b) l.rule l.node place)) ≡ None
+invariant-loop-class l = first_below l.class
+    (λ place. option_map (λ y. let s : Step = record { rule = l.rule; node = l.node; class = place; other = y } in s)
+    (site_at (theory_of l.k) (graph_of l.b) l.rule l.node place)) ≡ None

@@ -8,4 +8,5 @@ use Rattle.tableau_rules.proofs.finder.first_by.Goals as goal
 pub returns-in-Some : goal.returns-in-Some
 returns-in-Some c =
     let lt : c.loop-node.node < length (graph_of c.args.b.now).nodes = omega (arith, c.len-node-end.ensures, c.loop-node-test.true) in
-    sym (first_found (first_at (theory_of c.args.k.now) (graph_of c.args.b.now) c.args.rule) c.loop-node.node c.loop-node.invariant (length (graph_of c.args.b.now).nodes) c.in-Some.step lt (sym c.in-Some.ensures))
+    sym (first_found (first_at (theory_of c.args.k.now) (graph_of c.args.b.now) c.args.rule) c.loop-node.node c.loop-node.invariant
+    (length (graph_of c.args.b.now).nodes) c.in-Some.step lt (sym c.in-Some.ensures))

@@ -4,4 +4,5 @@ use Rattle.tableau_rules.specs.Rules.{with_classes}
 use Rattle.tableau_rules.proofs.grown.missing.Given as goal
 
 abbrev pub invariant-loop-class : goal.invariant-loop-class
-invariant-loop-class l = with_classes (map concept_of l.label) (map concept_of l.classes) ≡ with_classes (map concept_of l.label ++ concepts_of l.more) (map concept_of (drop l.class-index l.classes))
+invariant-loop-class l = with_classes (map concept_of l.label) (map concept_of l.classes)
+    ≡ with_classes (map concept_of l.label ++ concepts_of l.more) (map concept_of (drop l.class-index l.classes))

@@ -13,7 +13,8 @@ use Rattle.tableau_rules.proofs.grown.unit_member.Goals as goal
 pub returns-then-not-has_complement : goal.returns-then-not-has_complement
 returns-then-not-has_complement c =
     sym (ap (λ o. option_or o (slice_get (map concept_of c.args.members.now) 0))
-    (first_kept (λ d. not (has_concept (map concept_of c.args.label.now) (complement d))) (map concept_of c.args.members.now) c.loop-member.member-index (concept_of c.member-item.result)
+    (first_kept (λ d. not (has_concept (map concept_of c.args.label.now) (complement d))) (map concept_of c.args.members.now) c.loop-member.member-index
+    (concept_of c.member-item.result)
     (ap (open_members (map concept_of c.args.label.now)) (take-map concept_of c.loop-member.member-index c.args.members.now) ∙ c.loop-member.invariant)
     (stands_at concept_of c.args.members.now c.loop-member.member-index c.member-item.result c.loop-member-test.true c.member-item.is)
     (ap not (sym c.has_complement.ensures ∙ c.if-not-has_complement.true))))

@@ -7,12 +7,15 @@ use Rattle.tableau_rules.proofs.label.is_within.Goals as goal
 
 pub returns-then-not-has : goal.returns-then-not-has
 returns-then-not-has c =
-    sym (map_fails concept_of (λ d. has_concept (map concept_of c.args.other.now) d) c.args.label.now c.loop-class.class-index c.class-item.result c.loop-class-test.true c.class-item.is (sym c.has.ensures ∙ c.if-not-has.true))
+    sym (map_fails concept_of (λ d. has_concept (map concept_of c.args.other.now) d) c.args.label.now c.loop-class.class-index c.class-item.result
+    c.loop-class-test.true c.class-item.is (sym c.has.ensures ∙ c.if-not-has.true))
 
 pub loop-class-preserved : goal.loop-class-preserved
 loop-class-preserved c =
-    map_each_more concept_of (λ d. has_concept (map concept_of c.args.other.now) d) c.args.label.now c.loop-class.class-index c.class-item.result c.loop-class-test.true c.class-item.is c.loop-class.invariant (sym c.has.ensures ∙ c.if-not-has.false)
+    map_each_more concept_of (λ d. has_concept (map concept_of c.args.other.now) d) c.args.label.now c.loop-class.class-index c.class-item.result
+    c.loop-class-test.true c.class-item.is c.loop-class.invariant (sym c.has.ensures ∙ c.if-not-has.false)
 
 pub returns : goal.returns
 returns c =
-    sym c.loop-class.invariant ∙ ap (λ cs. list_all (λ d. has_concept (map concept_of c.args.other.now) d) cs) (map_all concept_of c.args.label.now c.loop-class.class-index c.loop-class-test.false)
+    sym c.loop-class.invariant ∙ ap (λ cs. list_all (λ d. has_concept (map concept_of c.args.other.now) d) cs)
+    (map_all concept_of c.args.label.now c.loop-class.class-index c.loop-class-test.false)

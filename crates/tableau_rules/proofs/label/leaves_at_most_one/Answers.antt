@@ -13,12 +13,14 @@ loop-class-preserved c = elim c.if-not-has_complement.branch [
   | then-not-has_complement w ↦ record {
     low = omega arith;
     counted = w.open-is ∙ (ap (λ n. n + 1) c.loop-class.invariant.counted
-        ∙ sym (map_count_more concept_of (λ d. not (has_concept (map concept_of c.args.label.now) (complement d))) c.args.members.now c.loop-class.class-index c.class-item.result c.loop-class-test.true c.class-item.is true (ap not (sym c.has_complement.ensures ∙ w.if-not-has_complement.true))));
+        ∙ sym (map_count_more concept_of (λ d. not (has_concept (map concept_of c.args.label.now) (complement d))) c.args.members.now c.loop-class.class-index
+        c.class-item.result c.loop-class-test.true c.class-item.is true (ap not (sym c.has_complement.ensures ∙ w.if-not-has_complement.true))));
   }
   | else-not-has_complement w ↦ record {
     low = omega arith;
     counted = w.open-is ∙ (c.loop-class.invariant.counted ∙ (sym (plus_none _)
-        ∙ sym (map_count_more concept_of (λ d. not (has_concept (map concept_of c.args.label.now) (complement d))) c.args.members.now c.loop-class.class-index c.class-item.result c.loop-class-test.true c.class-item.is false (ap not (sym c.has_complement.ensures ∙ w.if-not-has_complement.false)))));
+        ∙ sym (map_count_more concept_of (λ d. not (has_concept (map concept_of c.args.label.now) (complement d))) c.args.members.now c.loop-class.class-index
+        c.class-item.result c.loop-class-test.true c.class-item.is false (ap not (sym c.has_complement.ensures ∙ w.if-not-has_complement.false)))));
   }
 ]
   where
@@ -28,4 +30,5 @@ loop-class-preserved c = elim c.if-not-has_complement.branch [
 pub returns : goal.returns
 returns c =
     ap (λ n. ltb n 2)
-    (c.loop-class.invariant.counted ∙ ap (λ ms. length (open_members (map concept_of c.args.label.now) ms)) (map_all concept_of c.args.members.now c.loop-class.class-index c.loop-class-test.false))
+    (c.loop-class.invariant.counted ∙ ap (λ ms. length (open_members (map concept_of c.args.label.now) ms))
+    (map_all concept_of c.args.members.now c.loop-class.class-index c.loop-class-test.false))

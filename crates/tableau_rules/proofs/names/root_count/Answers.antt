@@ -9,12 +9,16 @@ pub loop-entry-preserved : goal.loop-entry-preserved
 loop-entry-preserved c = elim c.if-entry.branch [
   | then-entry w ↦ record {
     low = omega arith;
-    left_decides = subst (λ m. length (roots (theory_of c.args.k.now)) ≡ m + length (roots_in (drop (c.loop-entry.entry-index + 1) c.names-entry-items.result.now))) (sym w.count-is)
-        (count_on c.names-entry-items.result.now c.loop-entry.entry-index _ c.loop-entry-test.true c.loop-entry.count _ c.loop-entry.invariant.left_decides w.if-entry.true);
+    left_decides = subst (λ m. length (roots (theory_of c.args.k.now))
+        ≡ m + length (roots_in (drop (c.loop-entry.entry-index + 1) c.names-entry-items.result.now))) (sym w.count-is)
+        (count_on c.names-entry-items.result.now c.loop-entry.entry-index _ c.loop-entry-test.true c.loop-entry.count _ c.loop-entry.invariant.left_decides
+        w.if-entry.true);
   }
   | else-entry w ↦ record {
     low = omega arith;
-    left_decides = subst (λ m. length (roots (theory_of c.args.k.now)) ≡ m + length (roots_in (drop (c.loop-entry.entry-index + 1) c.names-entry-items.result.now))) (sym w.count-is)
-        (count_passed c.names-entry-items.result.now c.loop-entry.entry-index _ c.loop-entry-test.true c.loop-entry.count _ c.loop-entry.invariant.left_decides w.if-entry.false);
+    left_decides = subst (λ m. length (roots (theory_of c.args.k.now))
+        ≡ m + length (roots_in (drop (c.loop-entry.entry-index + 1) c.names-entry-items.result.now))) (sym w.count-is)
+        (count_passed c.names-entry-items.result.now c.loop-entry.entry-index _ c.loop-entry-test.true c.loop-entry.count _ c.loop-entry.invariant.left_decides
+        w.if-entry.false);
   }
 ]

@@ -12,18 +12,26 @@ use Rattle.tableau_rules.proofs.rows.first_in_need.Goals.{then-is_in_need, else-
 
 pub loop-edge-preserved : goal.loop-edge-preserved
 loop-edge-preserved c =
-    let wanted : ℕ → Bool = λ y. not (is_indirectly_blocked (theory_of c.args.k.now) (graph_of c.args.b.now) y) && not (has_concept (label_at (graph_of c.args.b.now) y) (concept_of c.args.class.now)) in
+    let wanted : ℕ → Bool = λ y. not (is_indirectly_blocked (theory_of c.args.k.now) (graph_of c.args.b.now) y)
+    && not (has_concept (label_at (graph_of c.args.b.now) y) (concept_of c.args.class.now)) in
     elim c.if-is_in_need.branch [
       | then-is_in_need w ↦
-          subst (IsLeast (theory_of c.args.k.now) c.args.role (length (graph_of c.args.b.now).nodes) c.args.node wanted (take (c.loop-edge.edge-index + 1) c.edges_at-edge-items.result.now))
+          subst (IsLeast (theory_of c.args.k.now) c.args.role (length (graph_of c.args.b.now).nodes) c.args.node wanted
+          (take (c.loop-edge.edge-index + 1) c.edges_at-edge-items.result.now))
           (sym (w.least-is ∙ ap Some (w.lesser.ensures ∙ ap (lower c.loop-edge.least) w.far_end.ensures)))
-          (least_here (theory_of c.args.k.now) c.args.role (length (graph_of c.args.b.now).nodes) c.args.node wanted c.edges_at-edge-items.result.now c.loop-edge.edge-index _ c.loop-edge-test.true c.loop-edge.least c.loop-edge.invariant (sym c.is_in_need.ensures ∙ w.if-is_in_need.true))
+          (least_here (theory_of c.args.k.now) c.args.role (length (graph_of c.args.b.now).nodes) c.args.node wanted c.edges_at-edge-items.result.now
+          c.loop-edge.edge-index _ c.loop-edge-test.true c.loop-edge.least c.loop-edge.invariant (sym c.is_in_need.ensures ∙ w.if-is_in_need.true))
       | else-is_in_need w ↦
-          subst (IsLeast (theory_of c.args.k.now) c.args.role (length (graph_of c.args.b.now).nodes) c.args.node wanted (take (c.loop-edge.edge-index + 1) c.edges_at-edge-items.result.now))
+          subst (IsLeast (theory_of c.args.k.now) c.args.role (length (graph_of c.args.b.now).nodes) c.args.node wanted
+          (take (c.loop-edge.edge-index + 1) c.edges_at-edge-items.result.now))
           (sym w.least-is)
-          (least_on (theory_of c.args.k.now) c.args.role (length (graph_of c.args.b.now).nodes) c.args.node wanted c.edges_at-edge-items.result.now c.loop-edge.edge-index _ c.loop-edge-test.true c.loop-edge.least c.loop-edge.invariant (sym c.is_in_need.ensures ∙ w.if-is_in_need.false))
+          (least_on (theory_of c.args.k.now) c.args.role (length (graph_of c.args.b.now).nodes) c.args.node wanted c.edges_at-edge-items.result.now
+          c.loop-edge.edge-index _ c.loop-edge-test.true c.loop-edge.least c.loop-edge.invariant (sym c.is_in_need.ensures ∙ w.if-is_in_need.false))
     ]
 
 pub returns : goal.returns
 returns c =
-    least_all (theory_of c.args.k.now) c.args.role (length (graph_of c.args.b.now).nodes) c.args.node (λ y. not (is_indirectly_blocked (theory_of c.args.k.now) (graph_of c.args.b.now) y) && not (has_concept (label_at (graph_of c.args.b.now) y) (concept_of c.args.class.now))) (graph_of c.args.b.now).edges c.edges_at-edge-items.result.now c.edges_at-edge-items.ensures c.loop-edge.edge-index c.loop-edge.least c.loop-edge-test.false c.loop-edge.invariant
+    least_all (theory_of c.args.k.now) c.args.role (length (graph_of c.args.b.now).nodes) c.args.node
+    (λ y. not (is_indirectly_blocked (theory_of c.args.k.now) (graph_of c.args.b.now) y)
+    && not (has_concept (label_at (graph_of c.args.b.now) y) (concept_of c.args.class.now))) (graph_of c.args.b.now).edges c.edges_at-edge-items.result.now
+    c.edges_at-edge-items.ensures c.loop-edge.edge-index c.loop-edge.least c.loop-edge-test.false c.loop-edge.invariant

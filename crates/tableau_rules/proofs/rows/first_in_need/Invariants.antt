@@ -10,4 +10,6 @@ use Rattle.tableau_rules.proofs.Reaching.{IsLeast}
 use Rattle.tableau_rules.proofs.rows.first_in_need.Given as goal
 
 abbrev pub invariant-loop-edge : goal.invariant-loop-edge
-invariant-loop-edge l = IsLeast (theory_of l.k) l.role (length (graph_of l.b).nodes) l.node (λ y. not (is_indirectly_blocked (theory_of l.k) (graph_of l.b) y) && not (has_concept (label_at (graph_of l.b) y) (concept_of l.class))) (take l.edge-index l.edge-items) l.least
+invariant-loop-edge l = IsLeast (theory_of l.k) l.role (length (graph_of l.b).nodes) l.node
+    (λ y. not (is_indirectly_blocked (theory_of l.k) (graph_of l.b) y) && not (has_concept (label_at (graph_of l.b) y) (concept_of l.class)))
+    (take l.edge-index l.edge-items) l.least

@@ -22,7 +22,8 @@ returns-else-has c =
     c.if-has.false ∙ elim c.if-leads_on.branch [
       | then-leads_on w ↦
           let lacks : has_it ≡ false =
-          sym (w.has.ensures ∙ ap (λ cs. has_concept cs (concept_of c.args.class.now)) (w.label.ensures ∙ ap (label_at (graph_of c.args.b.now)) c.far_end-other.ensures))
+          sym (w.has.ensures ∙ ap (λ cs. has_concept cs (concept_of c.args.class.now))
+          (w.label.ensures ∙ ap (label_at (graph_of c.args.b.now)) c.far_end-other.ensures))
           ∙ (sym w.value-is ∙ c.if-has.false) in
           last_fails leads within free has_it lacks
       | else-leads_on w ↦ first_fails leads within (free && has_it) (sym c.leads_on.ensures ∙ w.if-leads_on.false)

@@ -8,4 +8,5 @@ use Rattle.logic_terms.specs.Shown.{concept_of}
 use Rattle.tableau_rules.proofs.rows.lacks_unfolding.Given as goal
 
 abbrev pub invariant-loop-entry : goal.invariant-loop-entry
-invariant-loop-entry l = list_any (λ e. is_word l.word e.0 && not (has_concept (map concept_of l.label) e.1)) (take l.entry-index (stated l.entry-items)) ≡ false
+invariant-loop-entry l = list_any (λ e. is_word l.word e.0 && not (has_concept (map concept_of l.label) e.1)) (take l.entry-index (stated l.entry-items))
+    ≡ false

@@ -8,4 +8,5 @@ use Rattle.tableau_rules.specs.Clashes.{passes}
 use Rattle.tableau_rules.proofs.starting.asserted.Given as goal
 
 abbrev pub invariant-loop-place : goal.invariant-loop-place
-invariant-loop-place l = asserted (theory_of l.k) l.root ≡ concepts_of l.classes ++ map (λ e. e.1) (filter (λ e. passes (representative (theory_of l.k) e.0) (is_word l.root)) (stated (drop l.place l.entries)))
+invariant-loop-place l = asserted (theory_of l.k) l.root
+    ≡ concepts_of l.classes ++ map (λ e. e.1) (filter (λ e. passes (representative (theory_of l.k) e.0) (is_word l.root)) (stated (drop l.place l.entries)))

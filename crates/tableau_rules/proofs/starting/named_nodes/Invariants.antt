@@ -6,4 +6,5 @@ use Rattle.tableau_rules.specs.Shown.{vertex_of}
 use Rattle.tableau_rules.proofs.starting.named_nodes.Given as goal
 
 abbrev pub invariant-loop-entry : goal.invariant-loop-entry
-invariant-loop-entry l = map (λ r. first_node (theory_of l.k) (asserted (theory_of l.k) r)) (roots (theory_of l.k)) ≡ map vertex_of l.nodes.items ++ map (λ r. first_node (theory_of l.k) (asserted (theory_of l.k) r)) (roots_in (drop l.entry-index l.entry-items))
+invariant-loop-entry l = map (λ r. first_node (theory_of l.k) (asserted (theory_of l.k) r)) (roots (theory_of l.k))
+    ≡ map vertex_of l.nodes.items ++ map (λ r. first_node (theory_of l.k) (asserted (theory_of l.k) r)) (roots_in (drop l.entry-index l.entry-items))

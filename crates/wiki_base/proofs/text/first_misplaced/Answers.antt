@@ -13,9 +13,11 @@ returns-then-not-is_in_place c =
 
 pub loop-c-preserved : goal.loop-c-preserved
 loop-c-preserved c =
-    let in_place = ap (λ bytes. is_in_place c.loop-c.after_letter c.in-Some.c (chars bytes)) (sym c.as_str.ensures) ∙ sym c.is_in_place.ensures ∙ c.if-not-is_in_place.false in
+    let in_place = ap (λ bytes. is_in_place c.loop-c.after_letter c.in-Some.c (chars bytes)) (sym c.as_str.ensures) ∙ sym c.is_in_place.ensures
+    ∙ c.if-not-is_in_place.false in
     let decides = c.loop-c.invariant.left_decides
-    ∙ misplaced-past c.loop-c.after_letter _ _ c.in-Some.c c.loop-c.place c.len_utf8.result c.loop-c.invariant.utf8 c.in-Some.ensures.steps.0 in_place c.len_utf8.ensures.len in
+    ∙ misplaced-past c.loop-c.after_letter _ _ c.in-Some.c c.loop-c.place c.len_utf8.result c.loop-c.invariant.utf8 c.in-Some.ensures.steps.0 in_place
+    c.len_utf8.ensures.len in
     record {
       utf8 = IsUtf8-past_char _ _ c.in-Some.c c.loop-c.invariant.utf8 c.in-Some.ensures.steps.0;
       left_decides = rw c.is_alphabetic-after_letter.ensures decides;

@@ -8,7 +8,8 @@ use Rattle.wiki_parts.proofs.NameLemmas.{rise_pairs}
 use Rattle.wiki_parts.proofs.answering.answers_of.Goals as goal
 
 -- a name of which it isn't known is one whose search was cut off
-cut_off : (claims : List Claim) (names : List WordId) (budget : ℕ) (concept : Concept) (unknown : List WordId) → All (IsUnknown claims names budget concept) unknown → All (λ name. IsCutOff (denied claims concept name) names budget) unknown
+cut_off : (claims : List Claim) (names : List WordId) (budget : ℕ) (concept : Concept) (unknown : List WordId)
+    → All (IsUnknown claims names budget concept) unknown → All (λ name. IsCutOff (denied claims concept name) names budget) unknown
 cut_off claims names budget concept unknown all k d within =
     let one : IsUnknown claims names budget concept (get_or unknown k d) = all k d within in
     record { knowledge = one.knowledge; absorbed = one.absorbed; longer = one.longer }

@@ -19,7 +19,8 @@ loop-place-preserved c =
     λ b e. sym (names_more live i word c.get-word.ensures ∙ ap (λ x. names_among (take i live) ++ cond x (word.id ∷ []) []) e) in
     elim c.if-is_name.branch [
       | then-is_name+in_ok-push w ↦
-          w.names-is ∙ w.in_ok-push.ensures.ok ∙ ap (λ (ns : List WordId). ns ++ word.id ∷ []) c.loop-place.invariant ∙ more true (sym c.is_name.ensures ∙ w.if-is_name.true)
+          w.names-is ∙ w.in_ok-push.ensures.ok ∙ ap (λ (ns : List WordId). ns ++ word.id ∷ []) c.loop-place.invariant
+          ∙ more true (sym c.is_name.ensures ∙ w.if-is_name.true)
       | else-is_name w ↦
           w.names-is ∙ c.loop-place.invariant ∙ sym (append-nil (names_among (take i live))) ∙ more false (sym c.is_name.ensures ∙ w.if-is_name.false)
     ]

@@ -10,6 +10,7 @@ loop-place-preserved c = elim c.if-number.branch [
       w.texts-is ∙ w.in_ok-push.ensures.ok ∙ rw (c.loop-place.invariant, w.in_ok-from_str.ensures)
       (sym (of_group-kept c.args.group c.args.menu.now c.loop-place.place c.get-entry.result.0 c.get-entry.result.1.now c.get-entry.ensures same))
   | else-number w ↦
-      w.texts-is ∙ c.loop-place.invariant ∙ sym (of_group-left c.args.group c.args.menu.now c.loop-place.place c.get-entry.result.0 c.get-entry.result.1.now c.get-entry.ensures
+      w.texts-is ∙ c.loop-place.invariant
+      ∙ sym (of_group-left c.args.group c.args.menu.now c.loop-place.place c.get-entry.result.0 c.get-entry.result.1.now c.get-entry.ensures
       (λ same. w.if-number.false (c.number.ensures ∙ same ∙ sym c.number-in-loop-place.ensures)))
 ]

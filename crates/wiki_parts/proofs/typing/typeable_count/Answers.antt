@@ -21,7 +21,8 @@ returns-then-not-branch c =
     let t = c.args.tokens.now in
     let longer = c.loop-longer.longer in
     let no : IsBeginning g l (take longer t) → c.in_ok-begins.field-0 ≡ true = λ h. search (rules, c.in_ok-begins.ensures.1, h) in
-    count_stops g l t longer c.loop-longer.count (omega (arith, c.loop-longer-test.true)) c.loop-longer.invariant.1 c.loop-longer.invariant.0 (λ h. true_is_false (sym (no h) ∙ c.if-not-branch.true))
+    count_stops g l t longer c.loop-longer.count (omega (arith, c.loop-longer-test.true)) c.loop-longer.invariant.1 c.loop-longer.invariant.0
+    (λ h. true_is_false (sym (no h) ∙ c.if-not-branch.true))
 
 pub returns : goal.returns
 returns c =

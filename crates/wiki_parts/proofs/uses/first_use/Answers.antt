@@ -14,7 +14,8 @@ returns-in-Some c =
     let i = c.loop-article.article-index in
     let here = c.article-item.result in
     let told = found-word test here.word 0 here.sentences ∙ ap (option_map (λ p. place_in here.word p)) (sym c.use_in.ensures ∙ c.in-Some.is) in
-    let next = find-next test articles i here c.loop-article-test.true ∙ ap (λ (a : Article). option_or (find test (placed_in a)) (find test (all_placed (drop (i + 1) articles)))) (sym c.article-item.is) in
+    let next = find-next test articles i here c.loop-article-test.true
+    ∙ ap (λ (a : Article). option_or (find test (placed_in a)) (find test (all_placed (drop (i + 1) articles)))) (sym c.article-item.is) in
     sym (ap (option_map told_place) (c.loop-article.invariant ∙ next) ∙ first-found (find test (placed_in here)) _ _ told)
 
 pub loop-article-preserved : goal.loop-article-preserved
@@ -23,9 +24,11 @@ loop-article-preserved c =
     let articles = c.args.articles.now in
     let i = c.loop-article.article-index in
     let here = c.article-item.result in
-    let next = find-next test articles i here c.loop-article-test.true ∙ ap (λ (a : Article). option_or (find test (placed_in a)) (find test (all_placed (drop (i + 1) articles)))) (sym c.article-item.is) in
+    let next = find-next test articles i here c.loop-article-test.true
+    ∙ ap (λ (a : Article). option_or (find test (placed_in a)) (find test (all_placed (drop (i + 1) articles)))) (sym c.article-item.is) in
     c.loop-article.invariant ∙ next ∙ second-found (find test (placed_in here)) _ (sym c.use_in.ensures ∙ c.in-None.is)
 
 pub use_in-requires : goal.use_in-requires
 use_in-requires c =
-    subst (λ (a : Article). length a.sentences ≤ MOST_SENTENCES) (sym c.article-item.is) (c.requires c.loop-article.article-index c.article-item.result c.loop-article-test.true)
+    subst (λ (a : Article). length a.sentences ≤ MOST_SENTENCES) (sym c.article-item.is)
+    (c.requires c.loop-article.article-index c.article-item.result c.loop-article-test.true)

@@ -7,9 +7,11 @@ use Rattle.wiki_parts.proofs.uses.use_in.Goals as goal
 pub returns-then-needs : goal.returns-then-needs
 returns-then-needs c =
     sym (ap (option_map (λ (placed : Placed). placed.place)) (c.loop-place.invariant
-    ∙ find-here (uses_word c.args.word c.args.forms.now) c.args.article.now.word c.args.article.now.sentences c.loop-place.place c.get.result.now c.get.ensures (sym c.needs.ensures ∙ c.if-needs.true)))
+    ∙ find-here (uses_word c.args.word c.args.forms.now) c.args.article.now.word c.args.article.now.sentences c.loop-place.place c.get.result.now c.get.ensures
+    (sym c.needs.ensures ∙ c.if-needs.true)))
 
 pub loop-place-preserved : goal.loop-place-preserved
 loop-place-preserved c =
     c.loop-place.invariant
-    ∙ find-past (uses_word c.args.word c.args.forms.now) c.args.article.now.word c.args.article.now.sentences c.loop-place.place c.get.result.now c.get.ensures (sym c.needs.ensures ∙ c.if-needs.false)
+    ∙ find-past (uses_word c.args.word c.args.forms.now) c.args.article.now.word c.args.article.now.sentences c.loop-place.place c.get.result.now c.get.ensures
+    (sym c.needs.ensures ∙ c.if-needs.false)

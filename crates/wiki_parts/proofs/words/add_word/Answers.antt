@@ -33,4 +33,5 @@ returns-clause-refused c =
     let given = c.deref.ensures.value ∙ c.in_ok-texts.ensures.texts in
     let count_fits = rw given at c.in_ok-forms.ensures.accepted in
     let texts = ap (λ (forms : Forms). forms.texts) c.in_ok-forms.ensures.forms ∙ ap (form_texts c.args.kind) given in
-    IfErr-weaker c.enter.result _ _ (λ fault is. IsCause-next _ _ fault c.in_ok-texts.ensures.accepted (IsCause-next _ _ fault count_fits (rw texts at is))) c.enter.ensures.refused
+    IfErr-weaker c.enter.result _ _ (λ fault is. IsCause-next _ _ fault c.in_ok-texts.ensures.accepted (IsCause-next _ _ fault count_fits (rw texts at is)))
+    c.enter.ensures.refused

@@ -19,7 +19,8 @@ pub slice_bounds-count_of-end : goal.slice_bounds-count_of-end
 slice_bounds-count_of-end c =
     let same : c.as_slice-sentences.result.now ≡ c.requires.around.article.sentences =
     c.as_slice-sentences.ensures
-    ∙ ap (λ (a : Article). a.sentences) (get_or_from_slice_get c.args.articles.now c.args.place c.requires.around.article c.index-articles-place.result c.requires.around.here) in
+    ∙ ap (λ (a : Article). a.sentences) (get_or_from_slice_get c.args.articles.now c.args.place c.requires.around.article c.index-articles-place.result
+    c.requires.around.here) in
     let rising = c.requires.around.rises in
     let within = c.requires.around.within in
     let many = c.requires.around.many in
@@ -29,7 +30,8 @@ slice_bounds-count_of-end c =
 pub slice_bounds-count_of-end-2 : goal.slice_bounds-count_of-end-2
 slice_bounds-count_of-end-2 c =
     let meant : c.as_slice-meant.result.now ≡ c.requires.around.own =
-    c.as_slice-meant.ensures ∙ item-is c.args.senses.now c.args.place c.index-senses-place.result c.requires.around.own c.requires.around.meant c.index-senses-place.is in
+    c.as_slice-meant.ensures ∙ item-is c.args.senses.now c.args.place c.index-senses-place.result c.requires.around.own c.requires.around.meant
+    c.index-senses-place.is in
     let rising = c.requires.around.rises in
     let within = c.requires.around.within in
     let many = c.requires.around.many in
@@ -40,7 +42,8 @@ pub slice_bounds-count_of-end-3 : goal.slice_bounds-count_of-end-3
 slice_bounds-count_of-end-3 c =
     let same : c.as_slice-sentences.result.now ≡ c.requires.around.article.sentences =
     c.as_slice-sentences.ensures
-    ∙ ap (λ (a : Article). a.sentences) (get_or_from_slice_get c.args.articles.now c.args.place c.requires.around.article c.index-articles-place.result c.requires.around.here) in
+    ∙ ap (λ (a : Article). a.sentences) (get_or_from_slice_get c.args.articles.now c.args.place c.requires.around.article c.index-articles-place.result
+    c.requires.around.here) in
     let rising = c.requires.around.rises in
     let within = c.requires.around.within in
     let many = c.requires.around.many in
@@ -50,7 +53,8 @@ slice_bounds-count_of-end-3 c =
 pub slice_bounds-count_of-end-4 : goal.slice_bounds-count_of-end-4
 slice_bounds-count_of-end-4 c =
     let meant : c.as_slice-meant.result.now ≡ c.requires.around.own =
-    c.as_slice-meant.ensures ∙ item-is c.args.senses.now c.args.place c.index-senses-place.result c.requires.around.own c.requires.around.meant c.index-senses-place.is in
+    c.as_slice-meant.ensures ∙ item-is c.args.senses.now c.args.place c.index-senses-place.result c.requires.around.own c.requires.around.meant
+    c.index-senses-place.is in
     let rising = c.requires.around.rises in
     let within = c.requires.around.within in
     let many = c.requires.around.many in
@@ -62,10 +66,13 @@ unfolding before
 count_of-own-requires c =
     let same : c.as_slice-sentences.result.now ≡ c.requires.around.article.sentences =
     c.as_slice-sentences.ensures
-    ∙ ap (λ (a : Article). a.sentences) (get_or_from_slice_get c.args.articles.now c.args.place c.requires.around.article c.index-articles-place.result c.requires.around.here) in
+    ∙ ap (λ (a : Article). a.sentences) (get_or_from_slice_get c.args.articles.now c.args.place c.requires.around.article c.index-articles-place.result
+    c.requires.around.here) in
     let meant : c.as_slice-meant.result.now ≡ c.requires.around.own =
-    c.as_slice-meant.ensures ∙ item-is c.args.senses.now c.args.place c.index-senses-place.result c.requires.around.own c.requires.around.meant c.index-senses-place.is in
-    let counted : known_of (take c.args.from c.as_slice-sentences.result.now) (meanings_in (take c.args.from c.as_slice-meant.result.now)) ≡ known_of (take c.args.from c.requires.around.article.sentences) (meanings_in (take c.args.from c.requires.around.own)) =
+    c.as_slice-meant.ensures ∙ item-is c.args.senses.now c.args.place c.index-senses-place.result c.requires.around.own c.requires.around.meant
+    c.index-senses-place.is in
+    let counted : known_of (take c.args.from c.as_slice-sentences.result.now) (meanings_in (take c.args.from c.as_slice-meant.result.now))
+    ≡ known_of (take c.args.from c.requires.around.article.sentences) (meanings_in (take c.args.from c.requires.around.own)) =
     ap (λ (ss : List Sentence). known_of (take c.args.from ss) (meanings_in (take c.args.from c.as_slice-meant.result.now))) same
     ∙ ap (λ (ms : List Sense). known_of (take c.args.from c.requires.around.article.sentences) (meanings_in (take c.args.from ms))) meant in
     let many_counted = ap length counted in
@@ -77,10 +84,13 @@ unfolding before between
 count_of-upto-requires c =
     let same : c.as_slice-sentences.result.now ≡ c.requires.around.article.sentences =
     c.as_slice-sentences.ensures
-    ∙ ap (λ (a : Article). a.sentences) (get_or_from_slice_get c.args.articles.now c.args.place c.requires.around.article c.index-articles-place.result c.requires.around.here) in
+    ∙ ap (λ (a : Article). a.sentences) (get_or_from_slice_get c.args.articles.now c.args.place c.requires.around.article c.index-articles-place.result
+    c.requires.around.here) in
     let meant : c.as_slice-meant.result.now ≡ c.requires.around.own =
-    c.as_slice-meant.ensures ∙ item-is c.args.senses.now c.args.place c.index-senses-place.result c.requires.around.own c.requires.around.meant c.index-senses-place.is in
-    let counted : known_of (take c.args.to c.as_slice-sentences.result.now) (meanings_in (take c.args.to c.as_slice-meant.result.now)) ≡ known_of (take c.args.to c.requires.around.article.sentences) (meanings_in (take c.args.to c.requires.around.own)) =
+    c.as_slice-meant.ensures ∙ item-is c.args.senses.now c.args.place c.index-senses-place.result c.requires.around.own c.requires.around.meant
+    c.index-senses-place.is in
+    let counted : known_of (take c.args.to c.as_slice-sentences.result.now) (meanings_in (take c.args.to c.as_slice-meant.result.now))
+    ≡ known_of (take c.args.to c.requires.around.article.sentences) (meanings_in (take c.args.to c.requires.around.own)) =
     ap (λ (ss : List Sentence). known_of (take c.args.to ss) (meanings_in (take c.args.to c.as_slice-meant.result.now))) same
     ∙ ap (λ (ms : List Sense). known_of (take c.args.to c.requires.around.article.sentences) (meanings_in (take c.args.to ms))) meant in
     let many_counted = ap length counted in
@@ -93,10 +103,13 @@ unfolding front before
 overflow_add-result c =
     let same : c.as_slice-sentences.result.now ≡ c.requires.around.article.sentences =
     c.as_slice-sentences.ensures
-    ∙ ap (λ (a : Article). a.sentences) (get_or_from_slice_get c.args.articles.now c.args.place c.requires.around.article c.index-articles-place.result c.requires.around.here) in
+    ∙ ap (λ (a : Article). a.sentences) (get_or_from_slice_get c.args.articles.now c.args.place c.requires.around.article c.index-articles-place.result
+    c.requires.around.here) in
     let meant : c.as_slice-meant.result.now ≡ c.requires.around.own =
-    c.as_slice-meant.ensures ∙ item-is c.args.senses.now c.args.place c.index-senses-place.result c.requires.around.own c.requires.around.meant c.index-senses-place.is in
-    let counted : known_of (take c.args.from c.as_slice-sentences.result.now) (meanings_in (take c.args.from c.as_slice-meant.result.now)) ≡ known_of (take c.args.from c.requires.around.article.sentences) (meanings_in (take c.args.from c.requires.around.own)) =
+    c.as_slice-meant.ensures ∙ item-is c.args.senses.now c.args.place c.index-senses-place.result c.requires.around.own c.requires.around.meant
+    c.index-senses-place.is in
+    let counted : known_of (take c.args.from c.as_slice-sentences.result.now) (meanings_in (take c.args.from c.as_slice-meant.result.now))
+    ≡ known_of (take c.args.from c.requires.around.article.sentences) (meanings_in (take c.args.from c.requires.around.own)) =
     ap (λ (ss : List Sentence). known_of (take c.args.from ss) (meanings_in (take c.args.from c.as_slice-meant.result.now))) same
     ∙ ap (λ (ms : List Sense). known_of (take c.args.from c.requires.around.article.sentences) (meanings_in (take c.args.from ms))) meant in
     let many_counted = ap length counted in
@@ -108,15 +121,19 @@ unfolding front before between
 overflow_sub-result c =
     let same : c.as_slice-sentences.result.now ≡ c.requires.around.article.sentences =
     c.as_slice-sentences.ensures
-    ∙ ap (λ (a : Article). a.sentences) (get_or_from_slice_get c.args.articles.now c.args.place c.requires.around.article c.index-articles-place.result c.requires.around.here) in
+    ∙ ap (λ (a : Article). a.sentences) (get_or_from_slice_get c.args.articles.now c.args.place c.requires.around.article c.index-articles-place.result
+    c.requires.around.here) in
     let meant : c.as_slice-meant.result.now ≡ c.requires.around.own =
-    c.as_slice-meant.ensures ∙ item-is c.args.senses.now c.args.place c.index-senses-place.result c.requires.around.own c.requires.around.meant c.index-senses-place.is in
-    let counted : known_of (take c.args.from c.as_slice-sentences.result.now) (meanings_in (take c.args.from c.as_slice-meant.result.now)) ≡ known_of (take c.args.from c.requires.around.article.sentences) (meanings_in (take c.args.from c.requires.around.own)) =
+    c.as_slice-meant.ensures ∙ item-is c.args.senses.now c.args.place c.index-senses-place.result c.requires.around.own c.requires.around.meant
+    c.index-senses-place.is in
+    let counted : known_of (take c.args.from c.as_slice-sentences.result.now) (meanings_in (take c.args.from c.as_slice-meant.result.now))
+    ≡ known_of (take c.args.from c.requires.around.article.sentences) (meanings_in (take c.args.from c.requires.around.own)) =
     ap (λ (ss : List Sentence). known_of (take c.args.from ss) (meanings_in (take c.args.from c.as_slice-meant.result.now))) same
     ∙ ap (λ (ms : List Sense). known_of (take c.args.from c.requires.around.article.sentences) (meanings_in (take c.args.from ms))) meant in
     let many_counted = ap length counted in
     let own = many_counted in
-    let counted : known_of (take c.args.to c.as_slice-sentences.result.now) (meanings_in (take c.args.to c.as_slice-meant.result.now)) ≡ known_of (take c.args.to c.requires.around.article.sentences) (meanings_in (take c.args.to c.requires.around.own)) =
+    let counted : known_of (take c.args.to c.as_slice-sentences.result.now) (meanings_in (take c.args.to c.as_slice-meant.result.now))
+    ≡ known_of (take c.args.to c.requires.around.article.sentences) (meanings_in (take c.args.to c.requires.around.own)) =
     ap (λ (ss : List Sentence). known_of (take c.args.to ss) (meanings_in (take c.args.to c.as_slice-meant.result.now))) same
     ∙ ap (λ (ms : List Sense). known_of (take c.args.to c.requires.around.article.sentences) (meanings_in (take c.args.to ms))) meant in
     let many_counted = ap length counted in
@@ -129,15 +146,19 @@ unfolding front before between
 returns-clause-within c =
     let same : c.as_slice-sentences.result.now ≡ c.requires.around.article.sentences =
     c.as_slice-sentences.ensures
-    ∙ ap (λ (a : Article). a.sentences) (get_or_from_slice_get c.args.articles.now c.args.place c.requires.around.article c.index-articles-place.result c.requires.around.here) in
+    ∙ ap (λ (a : Article). a.sentences) (get_or_from_slice_get c.args.articles.now c.args.place c.requires.around.article c.index-articles-place.result
+    c.requires.around.here) in
     let meant : c.as_slice-meant.result.now ≡ c.requires.around.own =
-    c.as_slice-meant.ensures ∙ item-is c.args.senses.now c.args.place c.index-senses-place.result c.requires.around.own c.requires.around.meant c.index-senses-place.is in
-    let counted : known_of (take c.args.from c.as_slice-sentences.result.now) (meanings_in (take c.args.from c.as_slice-meant.result.now)) ≡ known_of (take c.args.from c.requires.around.article.sentences) (meanings_in (take c.args.from c.requires.around.own)) =
+    c.as_slice-meant.ensures ∙ item-is c.args.senses.now c.args.place c.index-senses-place.result c.requires.around.own c.requires.around.meant
+    c.index-senses-place.is in
+    let counted : known_of (take c.args.from c.as_slice-sentences.result.now) (meanings_in (take c.args.from c.as_slice-meant.result.now))
+    ≡ known_of (take c.args.from c.requires.around.article.sentences) (meanings_in (take c.args.from c.requires.around.own)) =
     ap (λ (ss : List Sentence). known_of (take c.args.from ss) (meanings_in (take c.args.from c.as_slice-meant.result.now))) same
     ∙ ap (λ (ms : List Sense). known_of (take c.args.from c.requires.around.article.sentences) (meanings_in (take c.args.from ms))) meant in
     let many_counted = ap length counted in
     let own = many_counted in
-    let counted : known_of (take c.args.to c.as_slice-sentences.result.now) (meanings_in (take c.args.to c.as_slice-meant.result.now)) ≡ known_of (take c.args.to c.requires.around.article.sentences) (meanings_in (take c.args.to c.requires.around.own)) =
+    let counted : known_of (take c.args.to c.as_slice-sentences.result.now) (meanings_in (take c.args.to c.as_slice-meant.result.now))
+    ≡ known_of (take c.args.to c.requires.around.article.sentences) (meanings_in (take c.args.to c.requires.around.own)) =
     ap (λ (ss : List Sentence). known_of (take c.args.to ss) (meanings_in (take c.args.to c.as_slice-meant.result.now))) same
     ∙ ap (λ (ms : List Sense). known_of (take c.args.to c.requires.around.article.sentences) (meanings_in (take c.args.to ms))) meant in
     let many_counted = ap length counted in
@@ -150,19 +171,24 @@ unfolding front before between
 returns-clause-around c =
     let same : c.as_slice-sentences.result.now ≡ c.requires.around.article.sentences =
     c.as_slice-sentences.ensures
-    ∙ ap (λ (a : Article). a.sentences) (get_or_from_slice_get c.args.articles.now c.args.place c.requires.around.article c.index-articles-place.result c.requires.around.here) in
+    ∙ ap (λ (a : Article). a.sentences) (get_or_from_slice_get c.args.articles.now c.args.place c.requires.around.article c.index-articles-place.result
+    c.requires.around.here) in
     let meant : c.as_slice-meant.result.now ≡ c.requires.around.own =
-    c.as_slice-meant.ensures ∙ item-is c.args.senses.now c.args.place c.index-senses-place.result c.requires.around.own c.requires.around.meant c.index-senses-place.is in
-    let counted : known_of (take c.args.from c.as_slice-sentences.result.now) (meanings_in (take c.args.from c.as_slice-meant.result.now)) ≡ known_of (take c.args.from c.requires.around.article.sentences) (meanings_in (take c.args.from c.requires.around.own)) =
+    c.as_slice-meant.ensures ∙ item-is c.args.senses.now c.args.place c.index-senses-place.result c.requires.around.own c.requires.around.meant
+    c.index-senses-place.is in
+    let counted : known_of (take c.args.from c.as_slice-sentences.result.now) (meanings_in (take c.args.from c.as_slice-meant.result.now))
+    ≡ known_of (take c.args.from c.requires.around.article.sentences) (meanings_in (take c.args.from c.requires.around.own)) =
     ap (λ (ss : List Sentence). known_of (take c.args.from ss) (meanings_in (take c.args.from c.as_slice-meant.result.now))) same
     ∙ ap (λ (ms : List Sense). known_of (take c.args.from c.requires.around.article.sentences) (meanings_in (take c.args.from ms))) meant in
     let many_counted = ap length counted in
     let own = many_counted in
-    let counted : known_of (take c.args.to c.as_slice-sentences.result.now) (meanings_in (take c.args.to c.as_slice-meant.result.now)) ≡ known_of (take c.args.to c.requires.around.article.sentences) (meanings_in (take c.args.to c.requires.around.own)) =
+    let counted : known_of (take c.args.to c.as_slice-sentences.result.now) (meanings_in (take c.args.to c.as_slice-meant.result.now))
+    ≡ known_of (take c.args.to c.requires.around.article.sentences) (meanings_in (take c.args.to c.requires.around.own)) =
     ap (λ (ss : List Sentence). known_of (take c.args.to ss) (meanings_in (take c.args.to c.as_slice-meant.result.now))) same
     ∙ ap (λ (ms : List Sense). known_of (take c.args.to c.requires.around.article.sentences) (meanings_in (take c.args.to ms))) meant in
     let many_counted = ap length counted in
     let long = known-long c.args.articles.now c.args.senses.now c.args.place c.args.from c.args.to c.requires.around in
     let upto = upto-long c.args.articles.now c.args.senses.now c.args.place c.args.from c.args.to c.requires.around in
-    stand c.args.articles.now c.args.senses.now c.args.place c.args.from c.args.to c.requires.around (c.count_in-before.result + c.count_of-own.result) (c.count_of-upto.result - c.count_of-own.result) (omega (arith, own, c.count_in-before.ensures, c.count_of-own.ensures))
+    stand c.args.articles.now c.args.senses.now c.args.place c.args.from c.args.to c.requires.around (c.count_in-before.result + c.count_of-own.result)
+    (c.count_of-upto.result - c.count_of-own.result) (omega (arith, own, c.count_in-before.ensures, c.count_of-own.ensures))
     (omega (arith, own, many_counted, upto, c.count_of-own.ensures, c.count_of-upto.ensures))

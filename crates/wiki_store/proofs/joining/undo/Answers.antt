@@ -18,7 +18,8 @@ overflow_add-old c =
     let first = c.span_of-old.result.first in
     let count = c.span_of-old.result.count in
     let left = gone-at known own (kept_claims c.args.kept.now) first count c.args.count (c.requires.joined.2 ∙ c.span_of-old.ensures.around own)
-    (known_in-gap c.args.articles.now c.args.senses.now c.args.place c.args.at c.requires.around ∙ c.span_of-old.ensures.around []) c.span_of-old.ensures.within c.requires.joined.1 in
+    (known_in-gap c.args.articles.now c.args.senses.now c.args.place c.args.at c.requires.around ∙ c.span_of-old.ensures.around []) c.span_of-old.ensures.within
+    c.requires.joined.1 in
     let all = c.len-total.ensures ∙ ap length c.axioms.ensures.part in
     omega (arith, left.1, all, c.len-total.type_inv)
 
@@ -29,7 +30,8 @@ remove-requires-clause-within c =
     let first = c.span_of-old.result.first in
     let count = c.span_of-old.result.count in
     let left = gone-at known own (kept_claims c.args.kept.now) first count c.args.count (c.requires.joined.2 ∙ c.span_of-old.ensures.around own)
-    (known_in-gap c.args.articles.now c.args.senses.now c.args.place c.args.at c.requires.around ∙ c.span_of-old.ensures.around []) c.span_of-old.ensures.within c.requires.joined.1 in
+    (known_in-gap c.args.articles.now c.args.senses.now c.args.place c.args.at c.requires.around ∙ c.span_of-old.ensures.around []) c.span_of-old.ensures.within
+    c.requires.joined.1 in
     left.1
 
 pub returns-clause-left : goal.returns-clause-left
@@ -39,5 +41,6 @@ returns-clause-left c =
     let first = c.span_of-old.result.first in
     let count = c.span_of-old.result.count in
     let left = gone-at known own (kept_claims c.args.kept.now) first count c.args.count (c.requires.joined.2 ∙ c.span_of-old.ensures.around own)
-    (known_in-gap c.args.articles.now c.args.senses.now c.args.place c.args.at c.requires.around ∙ c.span_of-old.ensures.around []) c.span_of-old.ensures.within c.requires.joined.1 in
+    (known_in-gap c.args.articles.now c.args.senses.now c.args.place c.args.at c.requires.around ∙ c.span_of-old.ensures.around []) c.span_of-old.ensures.within
+    c.requires.joined.1 in
     c.remove.ensures.axioms ∙ left.0

@@ -1,11 +1,11 @@
-use Rattle.std.proofs.Common.{◌≡◌, ◌<◌, ◌≤◌, List, Some, None, length, min, sym, ap, subst, arith}
+use Rattle.std.proofs.Common.{◌≡◌, ◌<◌, ◌≤◌, List, Some, None, length, ap, subst, arith}
 use Rattle.std.specs.List.{slice_get}
+use Rattle.wiki_base.proofs.ListLaws.{slice_get_at}
 use Rattle.articles.specs.declared.sentences.Sentence.{Sentence}
-use Rattle.wiki_parts.specs.Kept.{meanings_in}
 use Rattle.wiki_parts.specs.Places.{placed_in}
 use Rattle.wiki_parts.specs.Refusing.{KeepsMeaning}
 use Rattle.wiki_store.proofs.FindLemmas.{as_many_sense}
-use Rattle.wiki_store.proofs.FindLemmas.{item_at, told_broken, still_kept, no_place, none_left}
+use Rattle.wiki_store.proofs.FindLemmas.{told_broken, still_kept, no_place, none_left}
 use Rattle.wiki_store.proofs.rewording.broken_in.Goals as goal
 
 pub returns-then-not-kept : goal.returns-then-not-kept
@@ -14,9 +14,12 @@ returns-then-not-kept c = λ words mean others.
     let s = c.index-sentences-at.result in
     let m = c.index-senses-at.result in
     let here : slice_get c.args.article.now.sentences at ≡ Some s =
-    subst (λ (ss : List Sentence). slice_get ss at ≡ Some s) c.as_slice-sentences.ensures (item_at c.as_slice-sentences.result.now at s (omega (arith, c.loop-at-test.true, c.min-count.ensures)) c.index-sentences-at.is) in
-    let meant : slice_get c.args.senses.now at ≡ Some m = item_at c.args.senses.now at m (omega (arith, c.loop-at-test.true, c.min-count.ensures)) c.index-senses-at.is in
-    told_broken c.args.grammar.now words c.args.lexicon.now c.args.article.now c.args.senses.now at s m c.in_ok-kept.kept here meant mean (λ means. c.in_ok-kept.ensures words means others) c.if-not-kept.true
+    subst (λ (ss : List Sentence). slice_get ss at ≡ Some s) c.as_slice-sentences.ensures
+    (slice_get_at c.as_slice-sentences.result.now at s (omega (arith, c.loop-at-test.true, c.min-count.ensures)) c.index-sentences-at.is) in
+    let meant : slice_get c.args.senses.now at ≡ Some m =
+    slice_get_at c.args.senses.now at m (omega (arith, c.loop-at-test.true, c.min-count.ensures)) c.index-senses-at.is in
+    told_broken c.args.grammar.now words c.args.lexicon.now c.args.article.now c.args.senses.now at s m c.in_ok-kept.kept here meant mean
+    (λ means. c.in_ok-kept.ensures words means others) c.if-not-kept.true
     (c.loop-at.invariant words mean others)
 
 pub loop-at-preserved : goal.loop-at-preserved
@@ -25,15 +28,21 @@ loop-at-preserved c = λ words mean others found rest.
     let s = c.index-sentences-at.result in
     let m = c.index-senses-at.result in
     let here : slice_get c.args.article.now.sentences at ≡ Some s =
-    subst (λ (ss : List Sentence). slice_get ss at ≡ Some s) c.as_slice-sentences.ensures (item_at c.as_slice-sentences.result.now at s (omega (arith, c.loop-at-test.true, c.min-count.ensures)) c.index-sentences-at.is) in
-    let meant : slice_get c.args.senses.now at ≡ Some m = item_at c.args.senses.now at m (omega (arith, c.loop-at-test.true, c.min-count.ensures)) c.index-senses-at.is in
+    subst (λ (ss : List Sentence). slice_get ss at ≡ Some s) c.as_slice-sentences.ensures
+    (slice_get_at c.as_slice-sentences.result.now at s (omega (arith, c.loop-at-test.true, c.min-count.ensures)) c.index-sentences-at.is) in
+    let meant : slice_get c.args.senses.now at ≡ Some m =
+    slice_get_at c.args.senses.now at m (omega (arith, c.loop-at-test.true, c.min-count.ensures)) c.index-senses-at.is in
     c.loop-at.invariant words mean others found
-    (still_kept c.args.grammar.now words c.args.lexicon.now c.args.article.now c.args.senses.now at s m c.in_ok-kept.kept here meant mean (λ means. c.in_ok-kept.ensures words means others) c.if-not-kept.false found rest)
+    (still_kept c.args.grammar.now words c.args.lexicon.now c.args.article.now c.args.senses.now at s m c.in_ok-kept.kept here meant mean
+    (λ means. c.in_ok-kept.ensures words means others) c.if-not-kept.false found rest)
 
 pub returns : goal.returns
 returns c = λ words mean others.
     let many = as_many_sense c.args.grammar.now words c.args.article.now.sentences c.args.senses.now mean in
-    let slice : length c.as_slice-sentences.result.now ≡ length c.args.article.now.sentences = ap (λ (ss : List Sentence). length ss) c.as_slice-sentences.ensures in
+    let slice : length c.as_slice-sentences.result.now ≡ length c.args.article.now.sentences =
+    ap (λ (ss : List Sentence). length ss) c.as_slice-sentences.ensures in
     let past : length c.args.article.now.sentences ≤ c.loop-at.at = omega (arith, many, slice, c.loop-at-test.false, c.min-count.ensures) in
     no_place (λ placed. KeepsMeaning c.args.grammar.now words c.args.lexicon.now placed.sentence.tokens) (placed_in c.args.article.now)
-    (c.loop-at.invariant words mean others None (none_left (λ placed. KeepsMeaning c.args.grammar.now words c.args.lexicon.now placed.sentence.tokens) c.args.article.now.word c.args.article.now.sentences c.loop-at.at past))
+    (c.loop-at.invariant words mean others None
+    (none_left (λ placed. KeepsMeaning c.args.grammar.now words c.args.lexicon.now placed.sentence.tokens) c.args.article.now.word
+    c.args.article.now.sentences c.loop-at.at past))

@@ -8,6 +8,7 @@ use Rattle.wiki_store.proofs.rewording.broken_in.Given as goal
 
 -- the first one that is broken is the first of those that are left
 abbrev pub invariant-loop-at : goal.invariant-loop-at
-invariant-loop-at l = (words : Listed) → MeanEach l.grammar words l.article.sentences (meanings_in l.senses) → KeepsOthers l.grammar words l.lexicon l.forms.texts → (found : Option Placed)
+invariant-loop-at l = (words : Listed) → MeanEach l.grammar words l.article.sentences (meanings_in l.senses)
+    → KeepsOthers l.grammar words l.lexicon l.forms.texts → (found : Option Placed)
     → Finds (λ placed. KeepsMeaning l.grammar words l.lexicon placed.sentence.tokens) (placed_from l.article.word l.at (drop l.at l.article.sentences)) found
     → Finds (λ placed. KeepsMeaning l.grammar words l.lexicon placed.sentence.tokens) (placed_in l.article) found

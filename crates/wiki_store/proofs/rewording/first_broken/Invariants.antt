@@ -8,6 +8,7 @@ use Rattle.wiki_store.proofs.rewording.first_broken.Given as goal
 
 -- the first one that is broken is the first of those that are left
 abbrev pub invariant-loop-place : goal.invariant-loop-place
-invariant-loop-place l = (words : Listed) → MeanInEach l.grammar words l.articles l.senses → KeepsOthers l.grammar words l.lexicon l.forms.texts → (found : Option Placed)
+invariant-loop-place l = (words : Listed) → MeanInEach l.grammar words l.articles l.senses → KeepsOthers l.grammar words l.lexicon l.forms.texts
+    → (found : Option Placed)
     → Finds (λ placed. KeepsMeaning l.grammar words l.lexicon placed.sentence.tokens) (all_placed (drop l.place l.articles)) found
     → Finds (λ placed. KeepsMeaning l.grammar words l.lexicon placed.sentence.tokens) (all_placed l.articles) found

@@ -13,5 +13,6 @@ returns-in-Some c = λ words means others.
     let lexicon = c.args.lexicon.now in
     let tokens = c.args.sentence.now.tokens in
     let after : Means g lexicon tokens (meaning_shown c.in-Some.found) =
-    subst (λ (o : Option Sense). MatchOption o (IsSentence g lexicon tokens → ⊥) (λ found. Means g lexicon tokens (meaning_shown found))) c.in-Some.is c.in_ok-found.ensures in
+    subst (λ (o : Option Sense). MatchOption o (IsSentence g lexicon tokens → ⊥) (λ found. Means g lexicon tokens (meaning_shown found))) c.in-Some.is
+    c.in_ok-found.ensures in
     told_kept g words lexicon tokens (meaning_shown c.args.sense.now) (meaning_shown c.in-Some.found) c.same_sense.result c.same_sense.ensures means after

@@ -9,6 +9,8 @@ words-preserved c =
     let name = c.in-Some.name.now in
     let value = c.in_ok-value.value.now in
     let is : with_option given name value ≡ Some c.in_ok-given.given =
-    ap (λ (n : List ℕ). with_option given n value) (sym c.as_slice.ensures) ∙ ap (λ (v : List ℕ). with_option given c.as_slice.result.now v) (sym c.as_slice-in-Some.ensures)
+    ap (λ (n : List ℕ). with_option given n value) (sym c.as_slice.ensures)
+    ∙ ap (λ (v : List ℕ). with_option given c.as_slice.result.now v) (sym c.as_slice-in-Some.ensures)
     ∙ sym c.in_ok-given.ensures in
-    options_step given c.in_ok-given.given c.words.rest.now c.in-Some.behind.now c.in_ok-value.others.now name value _ c.in-Some.ensures.cases.0 c.in_ok-value.ensures.cases.0 is c.words.invariant
+    options_step given c.in_ok-given.given c.words.rest.now c.in-Some.behind.now c.in_ok-value.others.now name value _ c.in-Some.ensures.cases.0
+    c.in_ok-value.ensures.cases.0 is c.words.invariant

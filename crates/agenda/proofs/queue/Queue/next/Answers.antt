@@ -10,8 +10,10 @@ use Rattle.agenda.proofs.queue.Queue.next.Goals as goal
 
 pub returns-in-Some-first_at-clause-first : goal.returns-in-Some-first_at-clause-first
 returns-in-Some-first_at-clause-first c =
-    first_is (theory_of c.args.k.now) (graph_of c.args.b.now) c.args.rule (is_due c.loop-node.self) (is_waiting c.loop-node.self) c.loop-node.invariant c.in-Some.node c.in-Some-first_at.step
-    (least_key c.loop-node.self.due c.in-Some.node (from_copied c.first.result (IsLowerBound nat_cmp c.loop-node.self.due) c.in-Some.node c.in-Some.ensures c.first.ensures.least))
+    first_is (theory_of c.args.k.now) (graph_of c.args.b.now) c.args.rule (is_due c.loop-node.self) (is_waiting c.loop-node.self) c.loop-node.invariant
+    c.in-Some.node c.in-Some-first_at.step
+    (least_key c.loop-node.self.due c.in-Some.node
+    (from_copied c.first.result (IsLowerBound nat_cmp c.loop-node.self.due) c.in-Some.node c.in-Some.ensures c.first.ensures.least))
     (sym c.in-Some-first_at.ensures)
 
 pub returns-clause-first : goal.returns-clause-first

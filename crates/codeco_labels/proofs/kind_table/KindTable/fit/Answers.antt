@@ -9,5 +9,6 @@ returns-then-not-restrict c =
 
 pub returns : goal.returns
 returns c =
-    fit_then c.args.self.now c.restrict.new.self c.fit_children.new.self c.args.row.now c.args.head c.args.shape.now c.of_heads.result c.restrict.result c.fit_children.result
+    fit_then c.args.self.now c.restrict.new.self c.fit_children.new.self c.args.row.now c.args.head c.args.shape.now c.of_heads.result c.restrict.result
+    c.fit_children.result
     (sym c.fits.ensures ∙ c.if-not-fits.false) c.of_heads.ensures c.if-not-restrict.false c.restrict.ensures c.fit_children.ensures

@@ -16,15 +16,22 @@ pub returns : goal.returns
 returns c =
     let groups = c.self.inside.groups.items in
     let t : KindRows = record { groups = groups; allowed = c.self.inside.allowed.items } in
-    let rows : List ℕ → KindRows = λ gs. record { groups = gs; allowed = slice_set c.self.inside.allowed.items c.index-kept.result.now c.meet-allowed.result } in
+    let rows : List ℕ → KindRows = λ gs.
+    record { groups = gs; allowed = slice_set c.self.inside.allowed.items c.index-kept.result.now c.meet-allowed.result } in
     let is = c.self.view_is in
     let lent = c.deref_mut.ensures.value in
     let size : length c.move_group.new.groups ≡ length groups = c.move_group.auto.groups ∙ ap length lent in
-    let moves : (x : ℕ) → x < length groups → slice_index c.move_group.new.groups x ≡ moved c.index-gone.result.now c.index-kept.result.now (slice_index groups x) =
-    λ x lt. c.move_group.ensures x (subst (λ gs. x < length gs) (sym lent) lt) ∙ ap (λ gs. moved c.index-gone.result.now c.index-kept.result.now (slice_index gs x)) lent in
-    let written = joined_written t (rows c.move_group.new.groups) c.args.one c.args.other c.index-kept.result.now c.index-gone.result.now c.index.result.now c.index-2.result.now c.meet-allowed.result c.is_nothing.result
-    (subst IsWhole (sym is) c.requires.whole) (subst (λ (r : KindRows). c.args.one < length r.groups) (sym is) c.requires.one_inside) (subst (λ (r : KindRows). c.args.other < length r.groups) (sym is) c.requires.other_inside)
+    let moves : (x : ℕ) → x < length groups
+    → slice_index c.move_group.new.groups x ≡ moved c.index-gone.result.now c.index-kept.result.now (slice_index groups x) =
+    λ x lt. c.move_group.ensures x (subst (λ gs. x < length gs) (sym lent) lt)
+    ∙ ap (λ gs. moved c.index-gone.result.now c.index-kept.result.now (slice_index gs x)) lent in
+    let written = joined_written t (rows c.move_group.new.groups) c.args.one c.args.other c.index-kept.result.now c.index-gone.result.now c.index.result.now
+    c.index-2.result.now c.meet-allowed.result c.is_nothing.result
+    (subst IsWhole (sym is) c.requires.whole) (subst (λ (r : KindRows). c.args.one < length r.groups) (sym is) c.requires.one_inside)
+    (subst (λ (r : KindRows). c.args.other < length r.groups) (sym is) c.requires.other_inside)
     c.index-kept.ensures c.index-gone.ensures c.index.ensures c.index-2.ensures c.meet-allowed.ensures c.is_nothing.ensures size moves refl in
-    let kept = refilled c.self.inside.groups.len c.move_group.new.groups (drop (length c.move_group.new.groups) groups) (size ∙ sym c.self.inside.groups.ok.0) in
-    subst (λ r. Narrows r (rows (take c.self.inside.groups.len (c.move_group.new.groups ++ drop (length c.move_group.new.groups) groups))) (not c.is_nothing.result) (λ kinds. same_kind (kinds c.args.other) (kinds c.args.one))) is
+    let kept = refilled c.self.inside.groups.len c.move_group.new.groups (drop (length c.move_group.new.groups) groups)
+    (size ∙ sym c.self.inside.groups.ok.0) in
+    subst (λ r. Narrows r (rows (take c.self.inside.groups.len (c.move_group.new.groups ++ drop (length c.move_group.new.groups) groups)))
+    (not c.is_nothing.result) (λ kinds. same_kind (kinds c.args.other) (kinds c.args.one))) is
     (subst (λ gs. Narrows t (rows gs) (not c.is_nothing.result) (λ kinds. same_kind (kinds c.args.other) (kinds c.args.one))) kept written)

@@ -16,10 +16,13 @@ returns-then-place-len c =
     let d = c.args.domain.now in
     let list : List NamedFeature = c.self.inside.list.items in
     let names : List (List ℕ) = map (λ f. f.name) list in
-    let once : differ (map (λ f. f.name) (with_declaration list name d)) ≡ true = subst (λ (fs : List NamedFeature). differ (map (λ f. f.name) (with_declaration fs name d)) ≡ true) (sym c.self.view_is) c.requires in
-    let place : c.number_of-place.result ≡ number_of names name = number c.self.inside.names names name c.number_of-place.result c.self.invariant c.number_of-place.ensures.number in
+    let once : differ (map (λ f. f.name) (with_declaration list name d)) ≡ true =
+    subst (λ (fs : List NamedFeature). differ (map (λ f. f.name) (with_declaration fs name d)) ≡ true) (sym c.self.view_is) c.requires in
+    let place : c.number_of-place.result ≡ number_of names name =
+    number c.self.inside.names names name c.number_of-place.result c.self.invariant c.number_of-place.ensures.number in
     let lt : number_of names name < length list = omega (arith, place, c.if-place-len.true, c.len.ensures) in
-    ap (λ k. set list k (record { name = name; domain = Some d })) place ∙ declared_set name d list once lt ∙ ap (λ (fs : List NamedFeature). with_declaration fs name d) c.self.view_is
+    ap (λ k. set list k (record { name = name; domain = Some d })) place ∙ declared_set name d list once lt
+    ∙ ap (λ (fs : List NamedFeature). with_declaration fs name d) c.self.view_is
 
 pub invariant_of-result : goal.invariant_of-result
 invariant_of-result c =
@@ -27,8 +30,10 @@ invariant_of-result c =
     let d = c.args.domain.now in
     let list : List NamedFeature = c.self.inside.list.items in
     let names : List (List ℕ) = map (λ f. f.name) list in
-    let once : differ (map (λ f. f.name) (with_declaration list name d)) ≡ true = subst (λ (fs : List NamedFeature). differ (map (λ f. f.name) (with_declaration fs name d)) ≡ true) (sym c.self.view_is) c.requires in
-    let place : c.number_of-place.result ≡ number_of names name = number c.self.inside.names names name c.number_of-place.result c.self.invariant c.number_of-place.ensures.number in
+    let once : differ (map (λ f. f.name) (with_declaration list name d)) ≡ true =
+    subst (λ (fs : List NamedFeature). differ (map (λ f. f.name) (with_declaration fs name d)) ≡ true) (sym c.self.view_is) c.requires in
+    let place : c.number_of-place.result ≡ number_of names name =
+    number c.self.inside.names names name c.number_of-place.result c.self.invariant c.number_of-place.ensures.number in
     let lt : number_of names name < length list = omega (arith, place, c.if-place-len.true, c.len.ensures) in
     let done = ap (λ k. set list k (record { name = name; domain = Some d })) place ∙ declared_set name d list once lt in
     c.self.invariant ∙ sym (declared_names name d list once lt) ∙ ap (λ (fs : List NamedFeature). map (λ f. f.name) fs) (sym done)
@@ -38,7 +43,8 @@ with-requires c =
     let name = c.args.name.now in
     let list : List NamedFeature = c.self.inside.list.items in
     let names : List (List ℕ) = map (λ f. f.name) list in
-    let place : c.number_of-place.result ≡ number_of names name = number c.self.inside.names names name c.number_of-place.result c.self.invariant c.number_of-place.ensures.number in
+    let place : c.number_of-place.result ≡ number_of names name =
+    number c.self.inside.names names name c.number_of-place.result c.self.invariant c.number_of-place.ensures.number in
     let ge : length names ≤ number_of names name = omega (arith, place, c.if-place-len.false, c.len.ensures, length-map list (λ (f : NamedFeature). f.name)) in
     sym (among_number names name) ∙ le-ltb (number_of names name) (length names) ge
 
@@ -48,6 +54,8 @@ returns-else-place-len c =
     let d = c.args.domain.now in
     let list : List NamedFeature = c.self.inside.list.items in
     let names : List (List ℕ) = map (λ f. f.name) list in
-    let place : c.number_of-place.result ≡ number_of names name = number c.self.inside.names names name c.number_of-place.result c.self.invariant c.number_of-place.ensures.number in
+    let place : c.number_of-place.result ≡ number_of names name =
+    number c.self.inside.names names name c.number_of-place.result c.self.invariant c.number_of-place.ensures.number in
     let ge : length list ≤ number_of names name = omega (arith, place, c.if-place-len.false, c.len.ensures) in
-    IfOk-weaker c.with.result _ _ (λ table is. is ∙ declared_last name d list ge ∙ ap (λ (fs : List NamedFeature). with_declaration fs name d) c.self.view_is) c.with.ensures
+    IfOk-weaker c.with.result _ _ (λ table is. is ∙ declared_last name d list ge ∙ ap (λ (fs : List NamedFeature). with_declaration fs name d) c.self.view_is)
+    c.with.ensures

@@ -9,4 +9,7 @@ use Rattle.codeco_numbering.proofs.features.FeatureTable.note_categories.Goals a
 pub loop-category-preserved : goal.loop-category-preserved
 loop-category-preserved c =
     let items = c.as_slice-category-items.result.now in
-    fold_turn with_undeclared noted_append (λ (xs : List WrittenCategory). flat_map category_features xs) (λ (x : WrittenCategory). category_features x) (λ x xs. refl) c.loop-category.table c.in_ok-table.table (with_undeclared c.args.self ((λ (xs : List WrittenCategory). flat_map category_features xs) items)) items c.loop-category.category-index c.category-item.result c.loop-category-test.true c.category-item.is c.loop-category.invariant c.in_ok-table.ensures
+    fold_turn with_undeclared noted_append (λ (xs : List WrittenCategory). flat_map category_features xs) (λ (x : WrittenCategory). category_features x)
+    (λ x xs. refl) c.loop-category.table c.in_ok-table.table
+    (with_undeclared c.args.self ((λ (xs : List WrittenCategory). flat_map category_features xs) items)) items c.loop-category.category-index
+    c.category-item.result c.loop-category-test.true c.category-item.is c.loop-category.invariant c.in_ok-table.ensures

@@ -4,4 +4,5 @@ use Rattle.codeco_numbering.specs.Numbered.{taken_feats}
 use Rattle.codeco_numbering.proofs.tables.Tables.taken_feats.Given as goal
 
 abbrev pub invariant-loop-feature : goal.invariant-loop-feature
-invariant-loop-feature l = l.takes ++ taken_feats l.self (map {B = ℕ × WrittenTerm} (λ f. (f.0, f.1.now)) (drop l.feature-index l.list)) ≡ taken_feats l.self (map {B = ℕ × WrittenTerm} (λ f. (f.0, f.1.now)) l.list)
+invariant-loop-feature l = l.takes ++ taken_feats l.self (map {B = ℕ × WrittenTerm} (λ f. (f.0, f.1.now)) (drop l.feature-index l.list))
+    ≡ taken_feats l.self (map {B = ℕ × WrittenTerm} (λ f. (f.0, f.1.now)) l.list)

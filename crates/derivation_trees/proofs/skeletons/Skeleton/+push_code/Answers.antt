@@ -10,5 +10,8 @@ pub returns : goal.returns
 returns t c =
     let sk = c.args.self.now in
     let end : length c.as_slice-child-items.result.now ≤ c.loop-child.child-index = search rules in
-    let all : take c.loop-child.child-index c.as_slice-child-items.result.now ≡ c.as_slice-child-items.result.now = take_all c.loop-child.child-index c.as_slice-child-items.result.now end in
-    code_whole sk c.args.code.now c.loop-child.code (c.loop-child.invariant ∙ ap (λ xs. (c.args.code.now ++ (out-Skeleton sk).rule ∷ (out-Skeleton sk).found) ++ flat_map skeleton_code xs) (all ∙ c.as_slice-child-items.ensures))
+    let all : take c.loop-child.child-index c.as_slice-child-items.result.now ≡ c.as_slice-child-items.result.now =
+    take_all c.loop-child.child-index c.as_slice-child-items.result.now end in
+    code_whole sk c.args.code.now c.loop-child.code
+    (c.loop-child.invariant ∙ ap (λ xs. (c.args.code.now ++ (out-Skeleton sk).rule ∷ (out-Skeleton sk).found) ++ flat_map skeleton_code xs)
+    (all ∙ c.as_slice-child-items.ensures))

@@ -18,9 +18,12 @@ returns-clause-edited c =
 pub extended-requires-clause-front : goal.extended-requires-clause-front
 extended-requires-clause-front c =
     let tokens : c.self.inside.chart.tokens ≡ c.as_slice.result.now = search rules in
-    front_by c.args.grammar.now c.args.lexicon.now c.self.inside.chart c.args.self.now c.in_ok-front.front c.self.view_is c.requires c.in_ok-front.ensures.front c.in_ok-front.ensures.kept ∙ ap (λ t. setting_of c.args.grammar.now c.args.lexicon.now (take (length c.in_ok-front.front.tokens) t)) tokens
+    front_by c.args.grammar.now c.args.lexicon.now c.self.inside.chart c.args.self.now c.in_ok-front.front c.self.view_is c.requires c.in_ok-front.ensures.front
+    c.in_ok-front.ensures.kept ∙ ap (λ t. setting_of c.args.grammar.now c.args.lexicon.now (take (length c.in_ok-front.front.tokens) t)) tokens
 
 pub extended-requires-clause-typeable : goal.extended-requires-clause-typeable
 extended-requires-clause-typeable c =
     let tokens : c.self.inside.chart.tokens ≡ c.as_slice.result.now = search rules in
-    subst (λ t. IsTypeable c.args.grammar.now c.args.lexicon.now (take (length c.in_ok-front.front.tokens) t)) tokens (front_typeable c.args.grammar.now c.args.lexicon.now c.self.inside.chart c.args.self.now c.in_ok-front.front c.self.view_is c.self.invariant c.requires c.in_ok-front.ensures.front c.in_ok-front.ensures.kept)
+    subst (λ t. IsTypeable c.args.grammar.now c.args.lexicon.now (take (length c.in_ok-front.front.tokens) t)) tokens
+    (front_typeable c.args.grammar.now c.args.lexicon.now c.self.inside.chart c.args.self.now c.in_ok-front.front c.self.view_is c.self.invariant c.requires
+    c.in_ok-front.ensures.front c.in_ok-front.ensures.kept)

@@ -9,7 +9,8 @@ returns-in_ok-begun-in-Ok-Complete c =
     let part = c.head_part-part.result.now in
     let headers = c.parse_request.new.headers in
     let whole = c.in-Ok-Complete in
-    begins_whole c.args.bytes.now part c.of-method.result.now c.of-target.result.now headers (take whole.head.headers headers) whole.head c.in_ok-begun-in-Ok-Complete.begun
+    begins_whole c.args.bytes.now part c.of-method.result.now c.of-target.result.now headers (take whole.head.headers headers) whole.head
+    c.in_ok-begun-in-Ok-Complete.begun
     c.head_part-part.ensures (search rules) refl c.of-method.ensures c.of-target.ensures
     (of_complete Error (IsRequestWithin part headers) whole.field-0 whole.head whole.field-0-is whole.ensures.within)
     (of_complete Error (IsRequestOf part headers) whole.field-0 whole.head whole.field-0-is whole.ensures.complete)
@@ -18,4 +19,5 @@ returns-in_ok-begun-in-Ok-Complete c =
 pub returns-in-Err-TooManyHeaders : goal.returns-in-Err-TooManyHeaders
 returns-in-Err-TooManyHeaders c =
     begins_exceeds c.args.bytes.now c.head_part-part.result.now c.refused.result
-    c.head_part-part.ensures c.in-Err-TooManyHeaders.ensures.no_room (c.in-Err-TooManyHeaders.ensures.too_many (ap Err c.in-Err-TooManyHeaders.field-0-is)) c.refused.ensures
+    c.head_part-part.ensures c.in-Err-TooManyHeaders.ensures.no_room (c.in-Err-TooManyHeaders.ensures.too_many (ap Err c.in-Err-TooManyHeaders.field-0-is))
+    c.refused.ensures

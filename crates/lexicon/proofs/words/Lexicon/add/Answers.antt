@@ -12,5 +12,7 @@ invariant_of-self-2 c =
     let room = subst (λ (l : Listed). fullness l ≡ None) (sym c.self.view_is) c.in_ok-refuse_full.ensures.room in
     rw (c.push_reserved.ensures.items, c.reserve.ensures.items, c.in_ok-forms.ensures) (
       lexicon_with_word listed forms c.self.invariant.0 c.requires c.in_ok-keys.ensures.texts free room,
-      λ text. c.enter.ensures text ∙ rw (c.in_ok-keys.ensures.keys, c.in_ok-make_room.ensures.same text, c.self.invariant.1 text) (sym (owner-push listed.live (next_word listed forms) (new_forms listed forms c.self.invariant.0 c.requires c.in_ok-keys.ensures.texts free room) text)),
+      λ text. c.enter.ensures text ∙ rw (c.in_ok-keys.ensures.keys, c.in_ok-make_room.ensures.same text, c.self.invariant.1 text)
+          (sym (owner-push listed.live (next_word listed forms) (new_forms listed forms c.self.invariant.0 c.requires c.in_ok-keys.ensures.texts free room)
+          text)),
     )

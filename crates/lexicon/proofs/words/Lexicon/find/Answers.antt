@@ -7,7 +7,10 @@ use Rattle.lexicon.proofs.words.Lexicon.find.Goals as goal
 
 -- the word that has the form lives
 pub returns-clause-lives : goal.returns-clause-lives
-returns-clause-lives c = found c.copied.result (c.copied.ensures ∙ c.get.ensures.value ∙ subst (λ (listed : Listed). get_by_text c.self.inside.index c.args.form.now ≡ owner listed.live c.args.form.now) c.self.view_is (c.self.invariant.1 c.args.form.now))
+returns-clause-lives c = found c.copied.result
+    (c.copied.ensures ∙ c.get.ensures.value
+    ∙ subst (λ (listed : Listed). get_by_text c.self.inside.index c.args.form.now ≡ owner listed.live c.args.form.now) c.self.view_is
+    (c.self.invariant.1 c.args.form.now))
   where
     found : (o : Option WordId) → o ≡ owner c.args.self.now.live c.args.form.now → IfSome o (λ id. IsSome (forms_of c.args.self.now.live id))
     found None is = tt

@@ -7,7 +7,8 @@ use Rattle.lexicon.proofs.words.Lexicon.readings.Goals as goal
 
 -- no word has the token
 pub returns-in_default : goal.returns-in_default
-returns-in_default c = c.none.ensures ∙ sym (readings_none c.args.self.now.live c.args.form.now (no_word_has c.args.self.now.live c.args.form.now (sym c.find.ensures.owner ∙ c.in_default.is)))
+returns-in_default c = c.none.ensures ∙ sym
+    (readings_none c.args.self.now.live c.args.form.now (no_word_has c.args.self.now.live c.args.form.now (sym c.find.ensures.owner ∙ c.in_default.is)))
 
 -- the word that has the token stands at the place
 pub returns-in-Some-place_of : goal.returns-in-Some-place_of

@@ -17,8 +17,12 @@ is_place c = subst (λ (l : Listed). IsPlaceOf l.live c.args.id c.in-Some.place)
 pub invariant_of-self : goal.invariant_of-self
 invariant_of-self c = rw c.remove-word.ensures.items (
   lexicon_without (listed c) c.self.invariant.0 c.args.id c.in-Some.place (is_place c),
-  λ text. c.forget.ensures.found text ∙ rw (c.self.invariant.1 text) (subst (λ (word : Word). cond (has_form text word) None (owner c.self.inside.words.items text) ≡ owner (remove c.self.inside.words.items c.in-Some.place) text) (sym c.remove-word.ensures.value) (owner-removed c.self.inside.words.items c.self.invariant.0.apart c.in-Some.place c.remove-word.result (is_place c).in_range text)),
+  λ text. c.forget.ensures.found text ∙ rw (c.self.invariant.1 text)
+      (subst (λ (word : Word). cond (has_form text word) None (owner c.self.inside.words.items text)
+      ≡ owner (remove c.self.inside.words.items c.in-Some.place) text) (sym c.remove-word.ensures.value)
+      (owner-removed c.self.inside.words.items c.self.invariant.0.apart c.in-Some.place c.remove-word.result (is_place c).in_range text)),
 )
 
 pub returns-clause-removed : goal.returns-clause-removed
-returns-clause-removed c = rw c.remove-word.ensures.items (without_place (listed c) c.self.invariant.0 c.args.id c.in-Some.place (is_place c) ∙ ap (λ (l : Listed). without_word l c.args.id) c.self.view_is)
+returns-clause-removed c = rw c.remove-word.ensures.items
+    (without_place (listed c) c.self.invariant.0 c.args.id c.in-Some.place (is_place c) ∙ ap (λ (l : Listed). without_word l c.args.id) c.self.view_is)

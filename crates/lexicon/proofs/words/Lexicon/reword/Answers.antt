@@ -25,7 +25,8 @@ written c = c.replace-old.ensures.after ∙ c.in_ok-forms.ensures
 -- the word at the place has the number given
 same_number : (c : After-drop-old) → c.index_mut-word.result.now.id ≡ c.args.id
 same_number c =
-    let at : c.index_mut-word.result.now.id.0 ≡ c.args.id.0 = ap (λ (w : Word). w.id.0) c.index_mut-word.ensures.value ∙ (is_place c).numbered c.index_mut-word.result.now in
+    let at : c.index_mut-word.result.now.id.0 ≡ c.args.id.0 =
+    ap (λ (w : Word). w.id.0) c.index_mut-word.ensures.value ∙ (is_place c).numbered c.index_mut-word.result.now in
     ap (λ n. let id : WordId = record { 0 = n } in id) at
 
 -- the table finds the word at its new forms, and not at the old ones
@@ -34,18 +35,33 @@ invariant_of-self-2 c =
     let word = c.index_mut-word.result.now in
     let forms = c.args.forms.now in
     let live = c.self.inside.words.items in
-    let lexicon = lexicon_with_forms (listed c) c.self.invariant.0 c.args.id c.in-Some.place (is_place c) forms word c.index_mut-word.ensures.value c.requires.complete c.in_ok-keys.ensures.texts (free c) in
-    let finds = owner-with_forms (listed c) c.self.invariant.0 c.args.id c.in-Some.place (is_place c) forms word c.index_mut-word.ensures.value c.requires.complete c.in_ok-keys.ensures.texts (free c) in
-    subst (λ (new : Forms). IsLexicon (record (listed c) { live = set live c.in-Some.place (record { id = word.id; forms = new }) }) × Indexes (set live c.in-Some.place (record { id = word.id; forms = new })) c.enter.new.index) (sym (written c)) (
+    let lexicon = lexicon_with_forms (listed c) c.self.invariant.0 c.args.id c.in-Some.place (is_place c) forms word c.index_mut-word.ensures.value
+    c.requires.complete c.in_ok-keys.ensures.texts (free c) in
+    let finds = owner-with_forms (listed c) c.self.invariant.0 c.args.id c.in-Some.place (is_place c) forms word c.index_mut-word.ensures.value
+    c.requires.complete c.in_ok-keys.ensures.texts (free c) in
+    subst (λ (new : Forms). IsLexicon (record (listed c) { live = set live c.in-Some.place (record { id = word.id; forms = new }) })
+    × Indexes (set live c.in-Some.place (record { id = word.id; forms = new })) c.enter.new.index) (sym (written c)) (
       lexicon,
-      λ text. c.enter.ensures text ∙ rw (c.in_ok-keys.ensures.keys, c.forget.ensures.found text, c.in_ok-make_room.ensures.same text, c.self.invariant.1 text, c.replace-old.ensures.value) (subst (λ (id : WordId). cond (is_among forms.texts text) (Some id) (cond (is_among word.forms.texts text) None (owner live text)) ≡ owner (set live c.in-Some.place (record { id = word.id; forms = forms })) text) (same_number c) (subst (λ (w : Word). cond (is_among forms.texts text) (Some word.id) (cond (has_form text w) None (owner live text)) ≡ owner (set live c.in-Some.place (record { id = word.id; forms = forms })) text) (sym c.index_mut-word.ensures.value) (finds text))),
+      λ text. c.enter.ensures text ∙ rw (
+        c.in_ok-keys.ensures.keys,
+        c.forget.ensures.found text,
+        c.in_ok-make_room.ensures.same text,
+        c.self.invariant.1 text,
+        c.replace-old.ensures.value,
+      ) (subst
+          (λ (id : WordId). cond (is_among forms.texts text) (Some id) (cond (is_among word.forms.texts text) None (owner live text))
+          ≡ owner (set live c.in-Some.place (record { id = word.id; forms = forms })) text) (same_number c)
+          (subst (λ (w : Word). cond (is_among forms.texts text) (Some word.id) (cond (has_form text w) None (owner live text))
+          ≡ owner (set live c.in-Some.place (record { id = word.id; forms = forms })) text) (sym c.index_mut-word.ensures.value) (finds text))),
     )
 
 pub returns-clause-reworded : goal.returns-clause-reworded
 returns-clause-reworded c =
     let word = c.index_mut-word.result.now in
-    subst (λ (new : Forms). record (listed c) { live = set c.self.inside.words.items c.in-Some.place (record { id = word.id; forms = new }) } ≡ with_forms c.args.self.now c.args.id c.args.forms.now) (sym (written c)) (
-    with_forms_at_place (listed c) c.self.invariant.0 c.args.id c.in-Some.place (is_place c) c.args.forms.now word c.index_mut-word.ensures.value c.requires.complete c.in_ok-keys.ensures.texts (free c)
+    subst (λ (new : Forms). record (listed c) { live = set c.self.inside.words.items c.in-Some.place (record { id = word.id; forms = new }) }
+    ≡ with_forms c.args.self.now c.args.id c.args.forms.now) (sym (written c)) (
+    with_forms_at_place (listed c) c.self.invariant.0 c.args.id c.in-Some.place (is_place c) c.args.forms.now word c.index_mut-word.ensures.value
+    c.requires.complete c.in_ok-keys.ensures.texts (free c)
     ∙ ap (λ (l : Listed). with_forms l c.args.id c.args.forms.now) c.self.view_is
     )
 

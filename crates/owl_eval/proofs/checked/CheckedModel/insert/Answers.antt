@@ -14,9 +14,11 @@ invariant_of-self c =
     record {
       model =
           subst (λ (cs : List Claim). all_hold checked.interp cs ≡ true) (sym c.from_vec.ensures)
-          (grown-all claim_of (holds checked.interp) c.put_in-grown.result c.into_vec-items.result.items c.into_vec.result.items c.put_in-grown.new.items.items c.args.at c.put_in-grown.ensures.ok c.put_in-grown.ensures.err
+          (grown-all claim_of (holds checked.interp) c.put_in-grown.result c.into_vec-items.result.items c.into_vec.result.items c.put_in-grown.new.items.items
+          c.args.at c.put_in-grown.ensures.ok c.put_in-grown.ensures.err
           (subst (λ (cs : List Claim). list_all (holds checked.interp) cs ≡ true) (sym old) checked.model)
-          (subst (λ (cs : List Claim). list_all (holds checked.interp) cs ≡ true) (sym c.into_vec.ensures) (sym c.is_model.ensures.exact ∙ c.if-not-is_model.false)));
+          (subst (λ (cs : List Claim). list_all (holds checked.interp) cs ≡ true) (sym c.into_vec.ensures)
+          (sym c.is_model.ensures.exact ∙ c.if-not-is_model.false)));
     }
 
 pub returns-clause-axioms : goal.returns-clause-axioms
@@ -24,5 +26,6 @@ returns-clause-axioms c =
     c.from_vec.ensures
     ∙ ap (λ (xs : List Axiom). map claim_of xs) c.in_ok-grown.ensures.ok
     ∙ map-insert_slice claim_of c.into_vec-items.result.items c.args.at c.into_vec.result.items
-    ∙ ap (λ (cs : List Claim). insert_slice cs c.args.at (map claim_of c.into_vec.result.items)) (c.into_vec-items.ensures ∙ ap claims_of c.replace.ensures.value)
+    ∙ ap (λ (cs : List Claim). insert_slice cs c.args.at (map claim_of c.into_vec.result.items))
+    (c.into_vec-items.ensures ∙ ap claims_of c.replace.ensures.value)
     ∙ ap (λ (cs : List Claim). insert_slice (claims_of c.args.self.now.axioms) c.args.at cs) c.into_vec.ensures

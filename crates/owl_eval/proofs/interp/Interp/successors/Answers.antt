@@ -8,7 +8,12 @@ use Rattle.owl_eval.proofs.interp.Interp.successors.Goals as goal
 
 pub returns-clause-some : goal.returns-clause-some
 returns-clause-some c test =
-    let i : Interpretation = record { size = c.self.inside.size; names = c.self.inside.names.items; classes = c.self.inside.classes.items; relations = c.self.inside.relations.items } in
+    let i : Interpretation = record {
+      size = c.self.inside.size;
+      names = c.self.inside.names.items;
+      classes = c.self.inside.classes.items;
+      relations = c.self.inside.relations.items;
+    } in
     c.successors_in.ensures.some test
     ∙ (ap (λ rs. list_any (λ p. (p.0 == c.args.element) && test p.1) (pairs_along c.args.role rs)) c.as_slice.ensures.value
     ∙ (some_along i c.self.invariant c.args.role c.args.element test
@@ -16,7 +21,12 @@ returns-clause-some c test =
 
 pub returns-clause-each : goal.returns-clause-each
 returns-clause-each c test =
-    let i : Interpretation = record { size = c.self.inside.size; names = c.self.inside.names.items; classes = c.self.inside.classes.items; relations = c.self.inside.relations.items } in
+    let i : Interpretation = record {
+      size = c.self.inside.size;
+      names = c.self.inside.names.items;
+      classes = c.self.inside.classes.items;
+      relations = c.self.inside.relations.items;
+    } in
     c.successors_in.ensures.each test
     ∙ (ap (λ rs. list_all (λ p. implies (p.0 == c.args.element) (test p.1)) (pairs_along c.args.role rs)) c.as_slice.ensures.value
     ∙ (each_along i c.self.invariant c.args.role c.args.element test

@@ -1,9 +1,10 @@
 use Rattle.std.proofs.Common.{◌≡◌, ◌==◌, ◌&&◌, map, filter, sym, ap, ◌∙◌}
 use Rattle.std.proofs.lemmas.List.Sorted.{list_any-IsPermutation}
 use Rattle.std.specs.List.{list_any, list_all}
+use Rattle.wiki_base.proofs.ListLaws.{list_any-filter}
 use Rattle.logic_terms.specs.Meaning.{implies}
 use Rattle.owl_eval.specs.Pairs.{swapped}
-use Rattle.owl_eval.proofs.Filters.{list_any-filter, list_all-filter, list_all-IsPermutation}
+use Rattle.owl_eval.proofs.Filters.{list_all-filter, list_all-IsPermutation}
 use Rattle.owl_eval.proofs.relation.Relation.ending_at.Goals as goal
 
 pub returns-clause-some : goal.returns-clause-some

@@ -17,4 +17,6 @@ returns-else-has_opener c =
     let has_long : c.self.inside.len ≡ length links = c.self.invariant in
     let has_short : c.before-2.inside.len ≡ length (entries c.before-2.inside.newest) = c.before-2.invariant in
     let at : n ≡ length begun = omega (arith, length-take (length begun) all, ap length c.requires) in
-    IfOk-weaker c.share.result _ _ (λ access same. same ∙ closed_same begun all n c.requires at (ap (λ xs. any_opener (drop n xs)) (sym c.self.view_is) ∙ sym c.has_opener.ensures ∙ c.if-has_opener.false)) c.share.ensures
+    IfOk-weaker c.share.result _ _ (λ access same. same
+    ∙ closed_same begun all n c.requires at (ap (λ xs. any_opener (drop n xs)) (sym c.self.view_is) ∙ sym c.has_opener.ensures ∙ c.if-has_opener.false))
+    c.share.ensures

@@ -10,7 +10,8 @@ returns-in_ok-status_response-in-Refuse-clause-turn c =
 
 pub returns-in_ok-turn_of-in-Head-clause-turn : goal.returns-in_ok-turn_of-in-Head-clause-turn
 returns-in_ok-turn_of-in-Head-clause-turn c =
-    seen_head _ _ _ _ _ _ c.as_slice-bytes.ensures (begins_head _ _ _ _ c.as_slice-bytes.ensures c.in_ok-head_of.ensures c.in-Head.is) c.in_ok-seen-in-Head.ensures.value c.in_ok-turn_of-in-Head.ensures
+    seen_head _ _ _ _ _ _ c.as_slice-bytes.ensures (begins_head _ _ _ _ c.as_slice-bytes.ensures c.in_ok-head_of.ensures c.in-Head.is)
+    c.in_ok-seen-in-Head.ensures.value c.in_ok-turn_of-in-Head.ensures
 
 pub returns-in_ok-turn_of-in-Head-clause-head : goal.returns-in_ok-turn_of-in-Head-clause-head
 returns-in_ok-turn_of-in-Head-clause-head c = begins_head _ _ _ _ c.as_slice-bytes.ensures c.in_ok-head_of.ensures c.in-Head.is

@@ -6,7 +6,8 @@ use Rattle.server.proofs.ReadLemmas.{begins_more}
 use Rattle.server.proofs.connections.Connection.take_piece.Goals as goal
 
 pub returns-in_err-extend-clause-read : goal.returns-in_err-extend-clause-read
-returns-in_err-extend-clause-read c = subst (λ (bs : List ℕ). IfSome c.args.self.now.head (λ h. Begins bs (begun.Head h))) (sym c.in_err-extend.ensures.err) c.requires
+returns-in_err-extend-clause-read c = subst (λ (bs : List ℕ). IfSome c.args.self.now.head (λ h. Begins bs (begun.Head h))) (sym c.in_err-extend.ensures.err)
+    c.requires
 
 pub reading-requires : goal.reading-requires
 reading-requires c =

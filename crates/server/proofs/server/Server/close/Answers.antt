@@ -8,7 +8,8 @@ use Rattle.server.proofs.server.Server.close.Goals as goal
 
 pub invariant_of-self : goal.invariant_of-self
 invariant_of-self c =
-    subst (λ (items : List Connection). All IsRead items) (sym c.close.ensures) (All-filter (λ (x : Connection). not (x.number == c.args.number)) IsRead c.self.inside.kept.items c.self.invariant)
+    subst (λ (items : List Connection). All IsRead items) (sym c.close.ensures)
+    (All-filter (λ (x : Connection). not (x.number == c.args.number)) IsRead c.self.inside.kept.items c.self.invariant)
 
 pub returns : goal.returns
 returns c = ap (map shown) c.close.ensures ∙ closed_shown c.args.number c.self.inside.kept.items ∙ ap (closed c.args.number) c.self.view_is

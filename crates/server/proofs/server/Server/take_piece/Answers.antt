@@ -22,7 +22,8 @@ returns-in-Wait-clause-turn c =
     let is_there = c.index_mut-connection.ensures.value in
     let number = c.take_piece.ensures.number in
     let bytes = c.in_ok-turn.ensures.bytes in
-    takes_piece c.args.self.now items c.args.number c.in-Some.place c.args.piece.now one c.take_piece.new.self c.self.view_is at_place is_there number bytes turns.Wait _ is_seen
+    takes_piece c.args.self.now items c.args.number c.in-Some.place c.args.piece.now one c.take_piece.new.self c.self.view_is at_place is_there number bytes
+    turns.Wait _ is_seen
     (after_wait c.args.self.now items c.args.number c.in-Some.place c.args.piece.now one c.take_piece.new.self c.self.view_is at_place is_there number bytes)
 
 pub returns-in_default-turn : goal.returns-in_default-turn
@@ -35,7 +36,9 @@ returns-in_default-turn c =
     let number = c.take_piece.ensures.number in
     let bytes = c.in_ok-turn.ensures.bytes in
     record {
-      turn = takes_piece c.args.self.now items c.args.number c.in-Some.place c.args.piece.now one c.take_piece.new.self c.self.view_is at_place is_there number bytes c.in_ok-turn.turn _ c.in_ok-turn.ensures.turn
-          (c.close.ensures ∙ after_response c.args.self.now items c.args.number c.in-Some.place c.args.piece.now one c.take_piece.new.self c.self.view_is at_place is_there number bytes c.in_ok-turn.turn c.in_default-turn.not-Wait);
+      turn = takes_piece c.args.self.now items c.args.number c.in-Some.place c.args.piece.now one c.take_piece.new.self c.self.view_is at_place is_there number
+          bytes c.in_ok-turn.turn _ c.in_ok-turn.ensures.turn
+          (c.close.ensures ∙ after_response c.args.self.now items c.args.number c.in-Some.place c.args.piece.now one c.take_piece.new.self c.self.view_is
+          at_place is_there number bytes c.in_ok-turn.turn c.in_default-turn.not-Wait);
       memory = tt;
     }

@@ -8,4 +8,5 @@ pub returns : goal.returns
 returns c =
     let facts = c.binary_search_by_key.ensures in
     let by_number = facts.position (λ session. session.number.0) (answers_always _ _ _ (λ f a r g called. search rules)) in
-    rw (c.ok.ensures.value, ← c.self.view_is, ← c.deref.ensures.value) (searched _ (rw c.deref.ensures.value c.self.invariant.in_order) c.args.number _ facts.bound by_number)
+    rw (c.ok.ensures.value, ← c.self.view_is, ← c.deref.ensures.value)
+    (searched _ (rw c.deref.ensures.value c.self.invariant.in_order) c.args.number _ facts.bound by_number)

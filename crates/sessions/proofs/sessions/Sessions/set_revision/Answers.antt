@@ -9,7 +9,8 @@ invariant_of-self c =
     (edited_at _ _ c.self.view_is c.self.invariant _ _ c.place_there-place.ensures _ c.index_mut.ensures.value)
 
 pub returns-clause-set : goal.returns-clause-set
-returns-clause-set c = change_is _ _ c.self.view_is c.self.invariant _ _ c.place_there-place.ensures _ c.index_mut.ensures.value (with_revision c.args.revision) _ refl
+returns-clause-set c = change_is _ _ c.self.view_is c.self.invariant _ _ c.place_there-place.ensures _ c.index_mut.ensures.value (with_revision c.args.revision)
+    _ refl
 
 pub returns-clause-kept : goal.returns-clause-kept
 returns-clause-kept c = λ g l h.

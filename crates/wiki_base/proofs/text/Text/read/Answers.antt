@@ -12,5 +12,8 @@ not-empty : (bytes : List ℕ) → length bytes ≢ 0 → bytes ≢ []
 not-empty bytes long is_nil = long (ap length is_nil)
 
 pub returns-in_ok-from_str-in-None-clause-accepted : goal.returns-in_ok-from_str-in-None-clause-accepted
-returns-in_ok-from_str-in-None-clause-accepted c =
-    (not-empty _ (λ zero. let long : (length c.args.s.now ≡ 0) → ⊥ = search rules in long zero), omega arith, all-in_place (chars c.args.s.now) (sym c.in-None.ensures))
+returns-in_ok-from_str-in-None-clause-accepted c = (
+  not-empty _ (λ zero. let long : (length c.args.s.now ≡ 0) → ⊥ = search rules in long zero),
+  omega arith,
+  all-in_place (chars c.args.s.now) (sym c.in-None.ensures),
+)

@@ -8,38 +8,48 @@ pub returns-in-Begin-clause-memory : goal.returns-in-Begin-clause-memory
 returns-in-Begin-clause-memory c = told_keeps (c.open.new.self ≡ c.args.self.now) c.open.result c.told.result c.told.ensures.memory c.open.ensures.kept
 
 pub returns-in-Put-clause-memory : goal.returns-in-Put-clause-memory
-returns-in-Put-clause-memory c = told_keeps (c.type_token.new.self ≡ c.args.self.now) c.type_token.result c.told-in-Put.result c.told-in-Put.ensures.memory c.type_token.ensures.kept
+returns-in-Put-clause-memory c = told_keeps (c.type_token.new.self ≡ c.args.self.now) c.type_token.result c.told-in-Put.result c.told-in-Put.ensures.memory
+    c.type_token.ensures.kept
 
 pub returns-in-Back-clause-memory : goal.returns-in-Back-clause-memory
-returns-in-Back-clause-memory c = told_keeps (c.back.new.self ≡ c.args.self.now) c.back.result c.told-in-Back.result c.told-in-Back.ensures.memory c.back.ensures.kept
+returns-in-Back-clause-memory c = told_keeps (c.back.new.self ≡ c.args.self.now) c.back.result c.told-in-Back.result c.told-in-Back.ensures.memory
+    c.back.ensures.kept
 
 pub returns-in-Commit-clause-memory : goal.returns-in-Commit-clause-memory
-returns-in-Commit-clause-memory c = told_keeps (c.commit.new.self ≡ c.args.self.now) c.commit.result c.told-in-Commit.result c.told-in-Commit.ensures.memory c.commit.ensures.kept
+returns-in-Commit-clause-memory c = told_keeps (c.commit.new.self ≡ c.args.self.now) c.commit.result c.told-in-Commit.result c.told-in-Commit.ensures.memory
+    c.commit.ensures.kept
 
 pub returns-in-Refresh-clause-memory : goal.returns-in-Refresh-clause-memory
-returns-in-Refresh-clause-memory c = told_keeps (c.refresh.new.self ≡ c.args.self.now) c.refresh.result c.told-in-Refresh.result c.told-in-Refresh.ensures.memory c.refresh.ensures.kept
+returns-in-Refresh-clause-memory c = told_keeps (c.refresh.new.self ≡ c.args.self.now) c.refresh.result c.told-in-Refresh.result
+    c.told-in-Refresh.ensures.memory c.refresh.ensures.kept
 
 pub returns-in-Drop-clause-memory : goal.returns-in-Drop-clause-memory
-returns-in-Drop-clause-memory c = told_keeps (c.end.new.self ≡ c.args.self.now) c.end.result c.told-in-Drop.result c.told-in-Drop.ensures.memory c.end.ensures.kept
+returns-in-Drop-clause-memory c = told_keeps (c.end.new.self ≡ c.args.self.now) c.end.result c.told-in-Drop.result c.told-in-Drop.ensures.memory
+    c.end.ensures.kept
 
 pub returns-in-Reword-clause-memory : goal.returns-in-Reword-clause-memory
-returns-in-Reword-clause-memory c = told_keeps (c.reword.new.self ≡ c.args.self.now) c.reword.result c.told-in-Reword.result c.told-in-Reword.ensures.memory c.reword.ensures.kept
+returns-in-Reword-clause-memory c = told_keeps (c.reword.new.self ≡ c.args.self.now) c.reword.result c.told-in-Reword.result c.told-in-Reword.ensures.memory
+    c.reword.ensures.kept
 
 pub returns-in-Unword-clause-memory : goal.returns-in-Unword-clause-memory
-returns-in-Unword-clause-memory c = told_keeps (c.unword.new.self ≡ c.args.self.now) c.unword.result c.told-in-Unword.result c.told-in-Unword.ensures.memory c.unword.ensures.kept
+returns-in-Unword-clause-memory c = told_keeps (c.unword.new.self ≡ c.args.self.now) c.unword.result c.told-in-Unword.result c.told-in-Unword.ensures.memory
+    c.unword.ensures.kept
 
 pub returns-in-Commit-clause-step : goal.returns-in-Commit-clause-step
 returns-in-Commit-clause-step c =
-    session_step c.args.self.now c.commit.new.self c.args.request.now (requests.Commit c.in-Commit.session) c.in-Commit.is refl c.commit.result c.told-in-Commit.result c.told-in-Commit.ensures.told c.commit.ensures.step
+    session_step c.args.self.now c.commit.new.self c.args.request.now (requests.Commit c.in-Commit.session) c.in-Commit.is refl c.commit.result
+    c.told-in-Commit.result c.told-in-Commit.ensures.told c.commit.ensures.step
     c.commit.ensures.refused c.commit.ensures.kept
 
 pub returns-in-Reword-clause-step : goal.returns-in-Reword-clause-step
 returns-in-Reword-clause-step c =
     pages_step c.args.self.now c.reword.new.self c.args.request.now (requests.Reword c.in-Reword.word c.as_slice.result.now)
-    (c.in-Reword.is ∙ ap (λ (texts : List (List ℕ)). requests.Reword c.in-Reword.word texts) (sym c.as_slice.ensures)) refl c.reword.result c.told-in-Reword.result c.told-in-Reword.ensures.told c.reword.ensures.step
+    (c.in-Reword.is ∙ ap (λ (texts : List (List ℕ)). requests.Reword c.in-Reword.word texts) (sym c.as_slice.ensures)) refl c.reword.result
+    c.told-in-Reword.result c.told-in-Reword.ensures.told c.reword.ensures.step
     c.reword.ensures.refused c.reword.ensures.kept (λ refusal same. ap (λ (h : Holding). h.state.sessions) same)
 
 pub returns-in-Unword-clause-step : goal.returns-in-Unword-clause-step
 returns-in-Unword-clause-step c =
-    pages_step c.args.self.now c.unword.new.self c.args.request.now (requests.Unword c.in-Unword.word) c.in-Unword.is refl c.unword.result c.told-in-Unword.result c.told-in-Unword.ensures.told c.unword.ensures.step
+    pages_step c.args.self.now c.unword.new.self c.args.request.now (requests.Unword c.in-Unword.word) c.in-Unword.is refl c.unword.result
+    c.told-in-Unword.result c.told-in-Unword.ensures.told c.unword.ensures.step
     c.unword.ensures.refused c.unword.ensures.kept (λ refusal same. ap (λ (h : Holding). h.state.sessions) same)

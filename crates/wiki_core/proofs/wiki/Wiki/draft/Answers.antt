@@ -8,4 +8,5 @@ returns-clause-free c =
     let state = c.args.self.now.state in
     let n = c.args.number in
     none_of_five (NamesNoSession state n) (IsFullOfSentences state.pages) (IsAtLastChange state n) (IsStale state n) (IsUnfinished state n)
-    c.in_ok-session.ensures.absent c.in_ok-has_room_for_sentence.ensures.absent c.in_ok-can_change.ensures.absent c.in_ok-is_current.ensures.absent c.in_ok-is_finished.ensures.absent
+    c.in_ok-session.ensures.absent c.in_ok-has_room_for_sentence.ensures.absent c.in_ok-can_change.ensures.absent c.in_ok-is_current.ensures.absent
+    c.in_ok-is_finished.ensures.absent

@@ -14,7 +14,12 @@ invariant_of-self c =
     let article = c.article_edited.result.now in
     let found : session_of (all_plain old) (record { 0 = c.args.number }) ≡ Some session =
     subst (λ (h : Holding). session_numbered h.state c.args.number ≡ Some session) (sym c.self.view_is) c.in_ok-session.ensures.found in
-    let there : article_of pages.articles session.article ≡ Some article = subst (λ (h : Holding). article_of h.state.pages.articles session.article ≡ Some article) (sym c.self.view_is) c.article_edited.ensures.on in
-    held_changed pages pages old c.set_revision.new.self c.self.inside.last (record { 0 = c.args.number }) (with_revision article.revision) session c.self.invariant (plain_in_order old c.len.ensures.sessions.in_order) found
+    let there : article_of pages.articles session.article ≡ Some article =
+    subst (λ (h : Holding). article_of h.state.pages.articles session.article ≡ Some article) (sym c.self.view_is) c.article_edited.ensures.on in
+    held_changed pages pages old c.set_revision.new.self c.self.inside.last (record { 0 = c.args.number }) (with_revision article.revision) session
+    c.self.invariant (plain_in_order old c.len.ensures.sessions.in_order) found
     (λ s on. on) (c.set_revision.ensures.kept pages.grammar pages.words c.self.invariant.kept) c.set_revision.ensures.set
-    (record { on = record { article = article; there = there; seen = omega arith }; numbered = (on_there pages old c.self.inside.last (record { 0 = c.args.number }) session c.self.invariant found).numbered })
+    (record {
+      on = record { article = article; there = there; seen = omega arith };
+      numbered = (on_there pages old c.self.inside.last (record { 0 = c.args.number }) session c.self.invariant found).numbered;
+    })

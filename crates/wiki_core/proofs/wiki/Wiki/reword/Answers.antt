@@ -25,22 +25,27 @@ invariant_of-self c =
     subst (λ (h : holding.Holding). AreHeld h.state sessions c.self.inside.last) (sym c.reworded.ensures)
     (held_rebased pages lexicon c.self.inside.sessions sessions c.self.inside.last c.self.invariant
     (subst (λ (g : GrammarParts). AreKept g lexicon sessions) c.grammar.ensures c.in_ok-sessions.ensures.kept)
-    (subst (λ (g : GrammarParts). AreRebased g lexicon (all_plain c.self.inside.sessions) (all_plain sessions)) c.grammar.ensures c.in_ok-sessions.ensures.rebased))
+    (subst (λ (g : GrammarParts). AreRebased g lexicon (all_plain c.self.inside.sessions) (all_plain sessions)) c.grammar.ensures
+    c.in_ok-sessions.ensures.rebased))
 
 pub returns-clause-step : goal.returns-clause-step
 returns-clause-step c =
     let pages = c.self.inside.store.state in
     let lexicon = c.in_ok-lexicon.lexicon in
     let sessions = c.in_ok-sessions.sessions in
-    rw (sym c.self.view_is) (subst (λ (h : holding.Holding). StepsPages (record { pages = pages; sessions = all_plain c.self.inside.sessions; last = c.self.inside.last }) (requests.Reword c.args.form.now c.args.forms.now) replies.Reword
+    rw (sym c.self.view_is) (subst (λ (h : holding.Holding). StepsPages
+    (record { pages = pages; sessions = all_plain c.self.inside.sessions; last = c.self.inside.last }) (requests.Reword c.args.form.now c.args.forms.now)
+    replies.Reword
     (record { pages = h.state; sessions = all_plain sessions; last = c.self.inside.last })) (sym c.reworded.ensures)
     (record {
       pages = c.in_ok-lexicon.ensures.step;
-      sessions = subst (λ (g : GrammarParts). AreRebased g lexicon (all_plain c.self.inside.sessions) (all_plain sessions)) c.grammar.ensures c.in_ok-sessions.ensures.rebased;
+      sessions = subst (λ (g : GrammarParts). AreRebased g lexicon (all_plain c.self.inside.sessions) (all_plain sessions)) c.grammar.ensures
+          c.in_ok-sessions.ensures.rebased;
       last = refl;
     }))
 
 pub rebased-requires : goal.rebased-requires
 rebased-requires c =
     let pages = c.self.inside.store.state in
-    subst (λ (g : GrammarParts). AreOfGrammar g c.self.inside.sessions) (sym c.grammar.ensures) (kept_grammar pages.grammar pages.words c.self.inside.sessions c.self.invariant.kept)
+    subst (λ (g : GrammarParts). AreOfGrammar g c.self.inside.sessions) (sym c.grammar.ensures)
+    (kept_grammar pages.grammar pages.words c.self.inside.sessions c.self.invariant.kept)

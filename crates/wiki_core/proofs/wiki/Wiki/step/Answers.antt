@@ -8,7 +8,8 @@ use Rattle.wiki_core.specs.Apart.{MenuIsOwn}
 use Rattle.wiki_core.proofs.MenuLemmas.{menu_own}
 use Rattle.wiki_core.proofs.wiki.Wiki.step.Goals as goal
 
-own : (old new : State) (request : Request) (result : Result Reply Memory) → IfOk result (λ reply. Step old request reply new) → IfOk result (MenuIsOwn old request)
+own : (old new : State) (request : Request) (result : Result Reply Memory) → IfOk result (λ reply. Step old request reply new)
+    → IfOk result (MenuIsOwn old request)
 own old new request (Ok reply) step = menu_own old new request reply step
 own old new request (Err memory) step = step
 

@@ -10,7 +10,8 @@ pub returns-clause-step : goal.returns-clause-step
 returns-clause-step c =
     let state = c.args.self.now.state in
     let n = c.args.number in (
-      none_of_three (NamesNoSession state n) (IsFullOfTokens state n) (IsNotOffered state n c.args.text.now) c.in_ok-session.ensures.absent c.in_ok-count.ensures.absent c.in_ok-put.ensures.absent,
+      none_of_three (NamesNoSession state n) (IsFullOfTokens state n) (IsNotOffered state n c.args.text.now) c.in_ok-session.ensures.absent
+          c.in_ok-count.ensures.absent c.in_ok-put.ensures.absent,
       record {
         session = plain c.in_ok-session.session.now;
         named = c.in_ok-session.ensures.found;

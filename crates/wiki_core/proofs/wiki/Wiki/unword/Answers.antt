@@ -16,10 +16,12 @@ invariant_of-self c =
     subst (λ (h : holding.Holding). AreHeld h.state c.end_on.new.self c.self.inside.last) (sym c.unworded.ensures)
     (held_ended pages lexicon word c.self.inside.sessions c.end_on.new.self (all_plain sessions) c.self.inside.last c.self.invariant
     (c.end_on.ensures.kept pages.grammar lexicon (subst (λ (g : GrammarParts). AreKept g lexicon sessions) c.grammar.ensures c.in_ok-sessions.ensures.kept))
-    (subst (λ (g : GrammarParts). AreRebased g lexicon (all_plain c.self.inside.sessions) (all_plain sessions)) c.grammar.ensures c.in_ok-sessions.ensures.rebased)
+    (subst (λ (g : GrammarParts). AreRebased g lexicon (all_plain c.self.inside.sessions) (all_plain sessions)) c.grammar.ensures
+    c.in_ok-sessions.ensures.rebased)
     c.end_on.ensures.ended)
 
 pub rebased-requires : goal.rebased-requires
 rebased-requires c =
     let pages = c.self.inside.store.state in
-    subst (λ (g : GrammarParts). AreOfGrammar g c.self.inside.sessions) (sym c.grammar.ensures) (kept_grammar pages.grammar pages.words c.self.inside.sessions c.self.invariant.kept)
+    subst (λ (g : GrammarParts). AreOfGrammar g c.self.inside.sessions) (sym c.grammar.ensures)
+    (kept_grammar pages.grammar pages.words c.self.inside.sessions c.self.invariant.kept)

@@ -19,7 +19,8 @@ found_in c =
     let none = subst (λ (b : List ℕ). HasNoNewline (take at (slice_range b mid w))) c.deref.ensures.value c.in-Some.ensures.some.0 in
     let newline = subst (λ (b : List ℕ). slice_get (slice_range b mid w) at ≡ Some NEWLINE) c.deref.ensures.value c.in-Some.ensures.some.1 in
     subst (λ (k : ℕ). Found f.buffer.items f.start w f.end k) place
-    (found f.buffer.items f.start mid w f.end (omega arith) (omega arith) (omega arith) (omega (arith, f.buffer.ok.0)) c.self.invariant.no_newline at none newline)
+    (found f.buffer.items f.start mid w f.end (omega arith) (omega arith) (omega arith) (omega (arith, f.buffer.ok.0)) c.self.invariant.no_newline at none
+    newline)
 
 pub text-requires-clause-no_newline : goal.text-requires-clause-no_newline
 text-requires-clause-no_newline c =
@@ -37,7 +38,8 @@ too_long-requires-clause-no_newline c =
     let w = c.min-window.result in
     let pending = ap (λ (r : Reading). r.pending) c.self.view_is in
     let none = subst (λ (b : List ℕ). HasNoNewline (slice_range b (f.start + f.searched) w)) c.deref.ensures.value c.in-None.ensures.none in
-    let all = not_found f.buffer.items f.start (f.start + f.searched) w f.end (omega arith) (omega arith) (omega arith) (omega (arith, f.buffer.ok.0)) c.self.invariant.no_newline none in
+    let all = not_found f.buffer.items f.start (f.start + f.searched) w f.end (omega arith) (omega arith) (omega arith) (omega (arith, f.buffer.ok.0))
+    c.self.invariant.no_newline none in
     let size : f.start + 65536 ≡ w = omega arith in
     subst (λ (l : List ℕ). HasNoNewline (take 65536 l)) pending
     (subst HasNoNewline (sym (take-part-is f.buffer.items f.start f.end 65536 (omega arith) ∙ ap (λ (k : ℕ). slice_range f.buffer.items f.start k) size)) all)
@@ -47,7 +49,8 @@ invariant_of-self c =
     let f = c.self.inside in
     let w = c.min-window.result in
     let none = subst (λ (b : List ℕ). HasNoNewline (slice_range b (f.start + f.searched) w)) c.deref.ensures.value c.in-None.ensures.none in
-    let all = not_found f.buffer.items f.start (f.start + f.searched) w f.end (omega arith) (omega arith) (omega arith) (omega (arith, f.buffer.ok.0)) c.self.invariant.no_newline none in
+    let all = not_found f.buffer.items f.start (f.start + f.searched) w f.end (omega arith) (omega arith) (omega arith) (omega (arith, f.buffer.ok.0))
+    c.self.invariant.no_newline none in
     let size : w ≡ f.start + (w - f.start) = omega arith in
     record {
       room = c.self.invariant.room;
@@ -65,7 +68,8 @@ returns-in-None-2-clause-none c =
     let f = c.self.inside in
     let w = c.min-window.result in
     let none = subst (λ (b : List ℕ). HasNoNewline (slice_range b (f.start + f.searched) w)) c.deref.ensures.value c.in-None.ensures.none in
-    let all = not_found f.buffer.items f.start (f.start + f.searched) w f.end (omega arith) (omega arith) (omega arith) (omega (arith, f.buffer.ok.0)) c.self.invariant.no_newline none in
+    let all = not_found f.buffer.items f.start (f.start + f.searched) w f.end (omega arith) (omega arith) (omega arith) (omega (arith, f.buffer.ok.0))
+    c.self.invariant.no_newline none in
     let size : w ≡ f.end = omega arith in
     let skips : f.skips ≡ false = ap (λ (r : Reading). r.skips) c.self.view_is ∙ c.if-not-skip.ensures.done in (
       record {

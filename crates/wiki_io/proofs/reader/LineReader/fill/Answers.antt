@@ -21,7 +21,8 @@ returns-in-Bytes-clause-bytes g c =
       got = got;
       source = c.in-Bytes.ensures.bytes;
       count = ap (λ (k : ℕ). f.count + k) (sym size) ∙ ap (λ (r : Reading). r.count + length got) c.self.view_is;
-      pending = between_from_start filled.items (e + n) ∙ take-add e n filled.items ∙ ap (λ (l : List ℕ). l ++ got) (c.in-Bytes.ensures.front ∙ front ∙ ap (λ (r : Reading). r.pending) c.self.view_is);
+      pending = between_from_start filled.items (e + n) ∙ take-add e n filled.items
+          ∙ ap (λ (l : List ℕ). l ++ got) (c.in-Bytes.ensures.front ∙ front ∙ ap (λ (r : Reading). r.pending) c.self.view_is);
       skips = ap (λ (r : Reading). r.skips) c.self.view_is;
       ended = ap (λ (r : Reading). r.ended) c.self.view_is;
       line = refl;

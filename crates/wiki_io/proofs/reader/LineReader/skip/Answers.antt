@@ -15,12 +15,19 @@ returns-in-Some-clause-kept c =
     let f = c.self.inside in
     let at = c.in-Some.at in
     let pending : slice_range f.buffer.items f.start f.end ≡ r.pending = ap (λ (r : Reading). r.pending) c.self.view_is in
-    let searched : slice_range c.deref.result.now f.start f.end ≡ r.pending = ap (λ (b : List ℕ). slice_range b f.start f.end) c.deref.ensures.value ∙ pending in
+    let searched : slice_range c.deref.result.now f.start f.end ≡ r.pending =
+    ap (λ (b : List ℕ). slice_range b f.start f.end) c.deref.ensures.value ∙ pending in
     let newline = subst (λ (l : List ℕ). slice_get l at ≡ Some NEWLINE) searched c.in-Some.ensures.some.1 in
     let within = slice_get_within r.pending at NEWLINE newline in
     let size = length-part f.buffer.items f.start f.end (omega (arith, f.buffer.ok.0)) in
     let fits : f.start + (at + 1) ≤ f.end = omega (arith, ap length pending) in
-    let new : Reading = record { pending = slice_range f.buffer.items (f.start + (at + 1)) f.end; skips = false; ended = f.ended; count = f.count; line = [] } in
+    let new : Reading = record {
+      pending = slice_range f.buffer.items (f.start + (at + 1)) f.end;
+      skips = false;
+      ended = f.ended;
+      count = f.count;
+      line = [];
+    } in
     KeepsBytes-newline r new at (sym (ap (λ (r : Reading). r.skips) c.self.view_is) ∙ c.if-not-self.false)
     (subst (λ (l : List ℕ). HasNoNewline (take at l)) searched c.in-Some.ensures.some.0) newline refl
     (sym (drop-part f.buffer.items f.start f.end (at + 1) fits) ∙ ap (λ (l : List ℕ). drop (at + 1) l) pending)

@@ -14,10 +14,12 @@ use Rattle.wiki_store.proofs.store.Store.append.Goals as goal
 pub returns-clause-status : goal.returns-clause-status
 returns-clause-status c =
     each-ok c.insert.result
-    (λ status. IsStatusOf (with_inserted c.args.self.now.state c.args.word c.end.result (record { tokens = c.in_ok-copy.field-0; status = Asserted })) (meaning_shown c.in_ok-meant.field-0) status)
+    (λ status. IsStatusOf (with_inserted c.args.self.now.state c.args.word c.end.result (record { tokens = c.in_ok-copy.field-0; status = Asserted }))
+    (meaning_shown c.in_ok-meant.field-0) status)
     (GetStatus (with_appended c.args.self.now.state c.args.word c.args.tokens.now Asserted) c.args.tokens.now)
     (λ status fits.
-    appended-status c.args.self.now.state c.args.word c.end.result c.in_ok-copy.field-0 c.args.tokens.now (meaning_shown c.in_ok-meant.field-0) status c.end.ensures.end c.in_ok-copy.ensures
+    appended-status c.args.self.now.state c.args.word c.end.result c.in_ok-copy.field-0 c.args.tokens.now (meaning_shown c.in_ok-meant.field-0) status
+    c.end.ensures.end c.in_ok-copy.ensures
     c.in_ok-meant.ensures fits)
     c.insert.ensures.status
 
@@ -25,8 +27,10 @@ pub returns-clause-spent : goal.returns-clause-spent
 returns-clause-spent c =
     each-ok c.insert.result
     (λ status. status ≡ RedBudget
-    → (claims : List Claim) → Knows (with_inserted c.args.self.now.state c.args.word c.end.result (record { tokens = c.in_ok-copy.field-0; status = Asserted })) claims
+    → (claims : List Claim) → Knows (with_inserted c.args.self.now.state c.args.word c.end.result (record { tokens = c.in_ok-copy.field-0; status = Asserted }))
+    claims
     → ¬ IsModel c.args.self.now.interpretation claims)
     (SpendsAtEnd c.args.self.now c.args.word c.args.tokens.now)
-    (λ status beyond. appended-spent c.args.self.now c.args.word c.end.result c.in_ok-copy.field-0 c.args.tokens.now status c.end.ensures.end c.in_ok-copy.ensures beyond)
+    (λ status beyond. appended-spent c.args.self.now c.args.word c.end.result c.in_ok-copy.field-0 c.args.tokens.now status c.end.ensures.end
+    c.in_ok-copy.ensures beyond)
     c.insert.ensures.spent

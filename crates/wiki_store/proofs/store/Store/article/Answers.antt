@@ -10,7 +10,8 @@ use Rattle.wiki_store.proofs.store.Store.article.Goals as goal
 
 pub unreachable-requires : goal.unreachable-requires
 unreachable-requires c =
-    let lives : IsSome (forms_of c.self.inside.lexicon.live c.args.word) = subst (λ (h : Holding). IsSome (forms_of h.state.words.live c.args.word)) (sym c.self.view_is) c.requires in
+    let lives : IsSome (forms_of c.self.inside.lexicon.live c.args.word) =
+    subst (λ (h : Holding). IsSome (forms_of h.state.words.live c.args.word)) (sym c.self.view_is) c.requires in
     let there = lives-article c.self.inside.articles c.self.inside.lexicon.live c.args.word c.self.invariant.0.sound.articles lives in
     absurd (false≢true (ap is_some c.in-None.ensures ∙ there))
 

@@ -9,6 +9,12 @@ use Rattle.wiki_store.proofs.store.Store.is_kept.Goals as goal
 
 pub returns : goal.returns
 returns c =
-    let inside : State = record { grammar = c.self.inside.grammar; budget = c.self.inside.budget; words = c.self.inside.lexicon; articles = c.self.inside.articles } in
-    let finite = subst (λ (i : Interpretation). IsFiniteModel i (kept_claims c.self.inside.kept)) c.interp.ensures.part (c.interp.ensures.sound, c.interp.ensures.model) in
+    let inside : State = record {
+      grammar = c.self.inside.grammar;
+      budget = c.self.inside.budget;
+      words = c.self.inside.lexicon;
+      articles = c.self.inside.articles;
+    } in
+    let finite = subst (λ (i : Interpretation). IsFiniteModel i (kept_claims c.self.inside.kept)) c.interp.ensures.part
+    (c.interp.ensures.sound, c.interp.ensures.model) in
     subst IsKept c.self.view_is (is_kept inside c.self.inside.senses.items c.self.inside.kept c.self.invariant.0 finite)

@@ -17,12 +17,20 @@ prove-unreachable-requires c =
 
 pub returns : goal.returns
 returns c = λ article found.
-    let inside : State = record { grammar = c.self.inside.grammar; budget = c.self.inside.budget; words = c.self.inside.lexicon; articles = c.self.inside.articles } in
+    let inside : State = record {
+      grammar = c.self.inside.grammar;
+      budget = c.self.inside.budget;
+      words = c.self.inside.lexicon;
+      articles = c.self.inside.articles;
+    } in
     let place = c.place-place.result in
     let own = c.index.result.now in
-    let is = place-within inside (kept_interp c.self.inside.kept) c.args.self.now c.self.view_is c.self.inside.senses.items c.self.inside.kept c.self.invariant.0 c.len.ensures.in_order c.args.word place c.place-place.ensures in
-    let below = below-within inside (kept_interp c.self.inside.kept) c.args.self.now c.self.view_is c.self.inside.senses.items c.self.inside.kept c.self.invariant.0 c.len.ensures.in_order c.args.word place c.place-place.ensures in
+    let is = place-within inside (kept_interp c.self.inside.kept) c.args.self.now c.self.view_is c.self.inside.senses.items c.self.inside.kept
+    c.self.invariant.0 c.len.ensures.in_order c.args.word place c.place-place.ensures in
+    let below = below-within inside (kept_interp c.self.inside.kept) c.args.self.now c.self.view_is c.self.inside.senses.items c.self.inside.kept
+    c.self.invariant.0 c.len.ensures.in_order c.args.word place c.place-place.ensures in
     subst (λ (h : Holding). MeanEach h.state.grammar h.state.words article.sentences (meanings_in own)) c.self.view_is
-    (mean_there c.self.inside.grammar c.self.inside.lexicon c.self.inside.articles c.self.inside.senses.items c.self.invariant.0.mean c.len.ensures.in_order c.args.word place is own
+    (mean_there c.self.inside.grammar c.self.inside.lexicon c.self.inside.articles c.self.inside.senses.items c.self.invariant.0.mean c.len.ensures.in_order
+    c.args.word place is own
     (slice_get-get_or c.self.inside.senses.items place own below ∙ ap Some (sym c.index.ensures)) article
     (subst (λ (h : Holding). article_of h.state.articles c.args.word ≡ Some article) (sym c.self.view_is) found))

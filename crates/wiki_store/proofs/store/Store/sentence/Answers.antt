@@ -7,7 +7,13 @@ use Rattle.wiki_store.proofs.store.Store.sentence.Goals as goal
 
 pub returns-clause-stored : goal.returns-clause-stored
 returns-clause-stored c =
-    let inside : State = record { grammar = c.self.inside.grammar; budget = c.self.inside.budget; words = c.self.inside.lexicon; articles = c.self.inside.articles } in
+    let inside : State = record {
+      grammar = c.self.inside.grammar;
+      budget = c.self.inside.budget;
+      words = c.self.inside.lexicon;
+      articles = c.self.inside.articles;
+    } in
     let named = subst (λ (h : Holding). article_named h.state c.args.form.now ≡ Some c.args.article.now) (sym c.self.view_is) c.requires.named in
     subst (λ (h : Holding). IsStored h.state c.get.result.now) c.self.view_is
-    (stored_there inside c.self.inside.senses.items c.self.inside.kept c.self.invariant.0 c.args.form.now c.args.article.now named c.args.at c.get.result.now c.get.ensures)
+    (stored_there inside c.self.inside.senses.items c.self.inside.kept c.self.invariant.0 c.args.form.now c.args.article.now named c.args.at c.get.result.now
+    c.get.ensures)

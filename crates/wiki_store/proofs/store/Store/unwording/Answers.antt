@@ -24,7 +24,8 @@ returns-in_ok-in_use-in-Some-clause-refused c =
     let forms = some_of (forms_of state.words.live word) c.in_ok-word.ensures.lives in
     let told = told-found _ c.in-Some.place (sym (c.use_of.ensures forms.0 forms.1) ∙ c.in-Some.is) in
     let refusal = c.in_ok-in_use-in-Some.field-0 in
-    let place = subst (λ (p : Place). TellsPlace state (λ form place. InUse form place) p.article p.at refusal) (sym told.told) c.in_ok-in_use-in-Some.ensures in
+    let place = subst (λ (p : Place). TellsPlace state (λ form place. InUse form place) p.article p.at refusal) (sym told.told)
+    c.in_ok-in_use-in-Some.ensures in
     unword-refuses state c.args.form.now word forms.0 c.in_ok-word.ensures.ok forms.1 told.found told.is refusal place
 
 pub returns-in_ok-lexicon-in-None-clause-gone : goal.returns-in_ok-lexicon-in-None-clause-gone
@@ -33,10 +34,12 @@ returns-in_ok-lexicon-in-None-clause-gone c =
     let word = c.in_ok-word.word in
     let forms = some_of (forms_of state.words.live word) c.in_ok-word.ensures.lives in
     let same : c.in_ok-lexicon-in-None.lexicon ≡ state.words = c.in_ok-lexicon-in-None.ensures ∙ ap (λ (h : Holding). h.state.words) c.self.view_is in
-    let lives : IsSome (forms_of c.in_ok-lexicon-in-None.lexicon.live word) = subst (λ (ws : Listed). IsSome (forms_of ws.live word)) (sym same) c.in_ok-word.ensures.lives in
+    let lives : IsSome (forms_of c.in_ok-lexicon-in-None.lexicon.live word) =
+    subst (λ (ws : Listed). IsSome (forms_of ws.live word)) (sym same) c.in_ok-word.ensures.lives in
     record {
       forms = forms.0;
       of_word = forms.1;
       unused = none-found _ (sym (c.use_of.ensures forms.0 forms.1) ∙ c.in-None.is);
-      words = removed-there c.remove.result word (forms_of c.in_ok-lexicon-in-None.lexicon.live word) c.remove.ensures.removed c.remove.ensures.refused lives ∙ ap (λ (ws : Listed). without_word ws word) same;
+      words = removed-there c.remove.result word (forms_of c.in_ok-lexicon-in-None.lexicon.live word) c.remove.ensures.removed c.remove.ensures.refused lives
+          ∙ ap (λ (ws : Listed). without_word ws word) same;
     }

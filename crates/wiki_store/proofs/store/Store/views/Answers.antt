@@ -19,24 +19,30 @@ bounds-senses-place c =
 
 pub view-requires-clause-means : goal.view-requires-clause-means
 view-requires-clause-means c =
-    (meant-at c.args.self.now.state.grammar c.args.self.now.state.words c.args.sentences.now c.args.senses.now c.requires c.loop-place.place c.index-sentences-place.result
+    (meant-at c.args.self.now.state.grammar c.args.self.now.state.words c.args.sentences.now c.args.senses.now c.requires c.loop-place.place
+    c.index-sentences-place.result
     c.index-senses-place.result c.loop-place-test.true c.index-sentences-place.is c.index-senses-place.is).0
 
 pub view-requires-clause-fits : goal.view-requires-clause-fits
 view-requires-clause-fits c =
-    (meant-at c.args.self.now.state.grammar c.args.self.now.state.words c.args.sentences.now c.args.senses.now c.requires c.loop-place.place c.index-sentences-place.result
+    (meant-at c.args.self.now.state.grammar c.args.self.now.state.words c.args.sentences.now c.args.senses.now c.requires c.loop-place.place
+    c.index-sentences-place.result
     c.index-senses-place.result c.loop-place-test.true c.index-sentences-place.is c.index-senses-place.is).1
 
 pub loop-place-preserved : goal.loop-place-preserved
 loop-place-preserved c =
     record {
       tells =
-          subst (λ (views : List SentenceView). AllZip (TellsSentence c.args.self.now.state) (take (c.loop-place.place + 1) c.args.sentences.now) views) (sym c.in_ok-push.ensures.ok)
-          (told-more (TellsSentence c.args.self.now.state) c.args.sentences.now c.loop-place.views c.loop-place.place c.index-sentences-place.result c.in_ok-view.field-0
+          subst (λ (views : List SentenceView). AllZip (TellsSentence c.args.self.now.state) (take (c.loop-place.place + 1) c.args.sentences.now) views)
+          (sym c.in_ok-push.ensures.ok)
+          (told-more (TellsSentence c.args.self.now.state) c.args.sentences.now c.loop-place.views c.loop-place.place c.index-sentences-place.result
+          c.in_ok-view.field-0
           c.loop-place.invariant.tells c.loop-place-test.true c.index-sentences-place.is c.in_ok-view.ensures.tells);
       unknown =
-          subst (λ (views : List SentenceView). AllZip (KeptHasUnknown c.args.self.now) (take (c.loop-place.place + 1) c.args.sentences.now) views) (sym c.in_ok-push.ensures.ok)
-          (told-more (KeptHasUnknown c.args.self.now) c.args.sentences.now c.loop-place.views c.loop-place.place c.index-sentences-place.result c.in_ok-view.field-0
+          subst (λ (views : List SentenceView). AllZip (KeptHasUnknown c.args.self.now) (take (c.loop-place.place + 1) c.args.sentences.now) views)
+          (sym c.in_ok-push.ensures.ok)
+          (told-more (KeptHasUnknown c.args.self.now) c.args.sentences.now c.loop-place.views c.loop-place.place c.index-sentences-place.result
+          c.in_ok-view.field-0
           c.loop-place.invariant.unknown c.loop-place-test.true c.index-sentences-place.is c.in_ok-view.ensures.unknown);
       absorbed = c.loop-place.invariant.absorbed;
     }

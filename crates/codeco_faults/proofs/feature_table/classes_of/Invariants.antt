@@ -1,6 +1,0 @@
-use Rattle.std.proofs.Common.{◌≡◌, take, map}
-use Rattle.codeco_faults.specs.Tables.{class_in}
-use Rattle.codeco_faults.proofs.feature_table.classes_of.Given as goal
-
-abbrev pub invariant-loop-place : goal.invariant-loop-place
-invariant-loop-place l = l.classes.items ≡ map (λ x. class_in l.features x.declared) (take l.place l.features)

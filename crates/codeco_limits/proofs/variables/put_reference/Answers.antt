@@ -1,7 +1,0 @@
-use Rattle.codeco_limits.specs.Early.{category_variables}
-use Rattle.codeco_limits.proofs.Gathering.{names_both}
-use Rattle.codeco_limits.proofs.variables.put_reference.Goals as goal
-
-pub returns : goal.returns
-returns c =
-    names_both category_variables c.args.names.now c.put_categories.new.names c.put_categories-2.new.names c.args.positive.now c.args.negative.now c.in_ok-put_categories.ensures c.in_ok-put_categories-2.ensures

@@ -1,26 +1,26 @@
 -- What absorption makes of axioms is lawful, plain where they are, and has the same models.
-use Rattle.std.proofs.Common.{◌≡◌, ℕ, ◌<◌, ◌≤◌, ◌&&◌, ◌||◌, Bool, true, false, List, [], ◌∷◌, ◌++◌, map, length, get_or, All, Contains, Option, Some, None, refl, sym, ap, ◌∙◌, subst, inl, inr, arith, Decides}
+use Rattle.std.proofs.Common.{◌≡◌, ℕ, ◌<◌, ◌≤◌, ◌&&◌, ◌||◌, Bool, true, false, List, [], ◌∷◌, ◌++◌, map, length, get_or, All, Contains, Some, refl, sym, ap, ◌∙◌, subst, inl, inr, arith}
 use Rattle.std.specs.Prelude.{◌⊎◌, ◌↔◌, IsTrue, AllPairs, nat_lt}
-use Rattle.std.specs.List.{list_any, list_all}
+use Rattle.std.specs.List.{list_all}
 use Rattle.std.specs.Map.{lookup}
 use Rattle.std.proofs.lemmas.Bool.{and_parts, and_from}
 use Rattle.std.proofs.lemmas.Bool.Decides.{Decides-by_and}
-use Rattle.std.proofs.lemmas.List.Elements.{All-contains, All-head, All-tail, All-cons, Contains-get_or}
+use Rattle.std.proofs.lemmas.List.Elements.{All-contains, Contains-get_or}
 use Rattle.wiki_base.specs.declared.numbers.WordId.{WordId}
 use Rattle.logic_terms.specs.declared.expressions.Role.{Role}
 use Rattle.logic_terms.specs.Concept.{Concept, Claim, Everything, Atomic, SubClassOf, SubPropertyOf, ClassAssertion, PropertyAssertion, SameIndividual, DifferentIndividuals}
 use Rattle.logic_terms.specs.Interpretation.{Interpretation, is_word, words_above, words_rise, element_of, Relates}
-use Rattle.logic_terms.specs.Meaning.{holds, all_hold}
+use Rattle.logic_terms.specs.Meaning.{holds}
 use Rattle.logic_terms.specs.Reading.{Holds, IsModel}
 use Rattle.logic_terms.specs.Names.{names_above, names_rise}
 use Rattle.logic_terms.specs.Plain.{is_plain, are_plain, is_plain_theory}
 use Rattle.logic_terms.specs.Same.{same_role, inverse}
-use Rattle.logic_terms.specs.Theory.{Theory, representative, is_below, is_given, names_given, IsLawful, IsModelOf}
+use Rattle.logic_terms.specs.Theory.{Theory, representative, is_given, names_given, IsLawful, IsModelOf}
 use Rattle.logic_terms.proofs.MeaningLemmas.{holds-Decides, all_hold-Decides}
 use Rattle.absorb.specs.Closure.{Reaches}
 use Rattle.absorb.specs.Hierarchy.{IsAtOrBelow, AreDistinct}
-use Rattle.absorb.specs.Mentioned.{names_in, names_in_claim, is_among, are_over}
-use Rattle.absorb.specs.Pieces.{Piece, Equality, RoleInclusion, Assertion, Related, Difference, Unfolding, General, claim_in, all_pieces}
+use Rattle.absorb.specs.Mentioned.{names_in, is_among, are_over}
+use Rattle.absorb.specs.Pieces.{Piece, Equality, RoleInclusion, Assertion, Related, Difference, Unfolding, General}
 use Rattle.absorb.specs.Sorted.{Sorted, sorted}
 use Rattle.absorb.specs.Absorbed.{AreEquated, Represents, IsPutBelow, IsAbsorbed}
 use Rattle.absorb.proofs.ClosureLemmas as closure

@@ -1,20 +1,19 @@
 -- The names in pieces are those in the axioms, and their classes are plain where those in the axioms are.
-use Rattle.std.proofs.Common.{◌≡◌, ◌&&◌, ◌||◌, Bool, true, false, List, [], ◌∷◌, ◌++◌, map, Option, Some, None, refl, sym, ap, ◌∙◌}
-use Rattle.std.specs.List.{list_any, list_all, flat_map}
+use Rattle.std.proofs.Common.{◌≡◌, ◌&&◌, ◌||◌, Bool, true, List, [], ◌∷◌, ◌++◌, map, Option, Some, None, refl, sym, ap, ◌∙◌}
+use Rattle.std.specs.List.{list_any, list_all}
 use Rattle.std.specs.Option.{option_map_or}
 use Rattle.std.proofs.lemmas.Bool.{and_parts, and_from}
 use Rattle.std.proofs.lemmas.List.Folds.{list_all-append}
 use Rattle.wiki_base.specs.declared.numbers.WordId.{WordId}
-use Rattle.logic_terms.specs.declared.expressions.Role.{Role}
 use Rattle.logic_terms.specs.Interpretation.{is_word}
 use Rattle.logic_terms.specs.Concept.{Concept, Concepts, Everything, Atomic, ComplementOf, IntersectionOf, UnionOf, SomeValuesFrom, AllValuesFrom, HasValue, no_concept, also_concept, Claim, SubClassOf, SubPropertyOf, ClassAssertion, PropertyAssertion, NegativePropertyAssertion, SameIndividual, DifferentIndividuals}
-use Rattle.logic_terms.specs.Complement.{complement, normal_form, complements, normal_forms, is_normal, is_wide, each_normal, each_wide, has_two, is_simple}
+use Rattle.logic_terms.specs.Complement.{complement, normal_form, complements, normal_forms, is_normal, is_wide, each_wide, has_two}
 use Rattle.logic_terms.specs.Plain.{is_plain, is_plain_claim, are_plain}
 use Rattle.logic_terms.specs.Same.{inverse}
 use Rattle.logic_terms.specs.Theory.{Theory, is_given, names_given, each_names_given}
 use Rattle.logic_terms.proofs.ComplementLemmas.{is_normal-complement, is_wide-complement}
 use Rattle.absorb.specs.Mentioned.{names_in, names_in_each, names_in_claim, is_among, are_over}
-use Rattle.absorb.specs.Pieces.{Piece, Equality, RoleInclusion, Assertion, Related, Difference, Unfolding, General, claim_in, either, word_of, first_word, without_first_word, together, general, guarded, inclusion, inclusions, pieces_of, all_pieces}
+use Rattle.absorb.specs.Pieces.{Piece, Equality, Assertion, Related, Difference, Unfolding, General, claim_in, either, word_of, first_word, without_first_word, together, general, guarded, inclusion, inclusions, pieces_of, all_pieces}
 
 -- the complement has the same names
 mutual

@@ -1,11 +1,10 @@
 -- The representatives of names, as equalities join them one by one.
-use Rattle.std.proofs.Common.{◌≡◌, ℕ, ◌<◌, ◌≤◌, ◌==◌, ◌&&◌, ◌||◌, Bool, true, false, List, [], ◌∷◌, ◌++◌, map, length, get_or, take, All, Contains, Option, Some, None, refl, sym, ap, ◌∙◌, subst, inl, inr, arith, Decides, leb}
-use Rattle.std.specs.Prelude.{not, ◌⊎◌, nat_le, if◌then◌else◌}
-use Rattle.std.specs.List.{list_any, list_all}
+use Rattle.std.proofs.Common.{◌≡◌, ◌<◌, ◌≤◌, ◌==◌, ◌&&◌, ◌||◌, Bool, true, false, List, [], ◌∷◌, ◌++◌, map, get_or, All, Contains, Some, refl, sym, ap, ◌∙◌, subst, inl, inr, arith}
+use Rattle.std.specs.Prelude.{◌⊎◌, nat_le, if◌then◌else◌}
 use Rattle.std.specs.Option.{option_map_or}
 use Rattle.std.specs.Map.{lookup}
-use Rattle.std.proofs.lemmas.Bool.{cases_Bool, or_cases, leb-true, leb-false, and_parts, cond-true, cond-false}
-use Rattle.std.proofs.lemmas.List.Elements.{Contains-append_left, Contains-push, Contains-push_cases, All-map, All-weaker, All-head, All-tail, All-contains}
+use Rattle.std.proofs.lemmas.Bool.{cases_Bool, leb-true, leb-false, and_parts, cond-true, cond-false}
+use Rattle.std.proofs.lemmas.List.Elements.{Contains-append_left, Contains-push, Contains-push_cases, All-map, All-weaker, All-contains}
 use Rattle.wiki_base.specs.declared.numbers.WordId.{WordId}
 use Rattle.logic_terms.specs.Interpretation.{is_word}
 use Rattle.absorb.specs.Closure.{Reaches}

@@ -1,5 +1,5 @@
 -- Representatives, as equalities join names one by one. Only private calls speak of it.
-use Rattle.std.specs.Prelude.{ℕ, Bool, List, map, if◌then◌else◌, nat_le}
+use Rattle.std.specs.Prelude.{List, map, if◌then◌else◌, nat_le}
 use Rattle.std.specs.Option.{option_map_or}
 use Rattle.std.specs.Map.{lookup}
 use Rattle.wiki_base.specs.declared.numbers.WordId.{WordId}

@@ -1,8 +1,8 @@
 -- What each branch keeps: parents stand before their children, and edges lead between nodes.
-use Rattle.std.proofs.Common.{◌≡◌, ℕ, zero, suc, ◌+◌, ◌<◌, ◌≤◌, ◌==◌, ◌&&◌, ◌⊎◌, Bool, true, false, List, [], ◌∷◌, ◌++◌, length, cond, Option, Some, None, slice_get, subst, refl, sym, ap, ◌∙◌, inl, inr, arith, length-append}
-use Rattle.std.specs.Prelude.{nat_lt, filter_map, if◌then◌else◌, IsTrue}
+use Rattle.std.proofs.Common.{◌≡◌, ℕ, suc, ◌+◌, ◌<◌, ◌≤◌, ◌==◌, ◌&&◌, ◌⊎◌, Bool, true, false, List, [], ◌∷◌, ◌++◌, length, Option, Some, None, subst, refl, sym, ap, ◌∙◌, inl, inr, arith}
+use Rattle.std.specs.Prelude.{nat_lt, filter_map, if◌then◌else◌}
 use Rattle.std.specs.List.{list_any, list_all, cons_option}
-use Rattle.std.specs.Option.{option_and_then, option_map, option_map_or}
+use Rattle.std.specs.Option.{option_and_then, option_map}
 use Rattle.std.proofs.lemmas.Bool.{cases_eq, cases_lt, and_parts, and_from, or_cases, eqb-true, ltb-true, lt-ltb}
 use Rattle.std.proofs.lemmas.Option.{slice_get_past}
 use Rattle.tableau_bounds.proofs.Labels.{get_push_new}
@@ -13,17 +13,15 @@ use Rattle.logic_terms.specs.Interpretation.{is_word}
 use Rattle.logic_terms.specs.Same.{inverse}
 use Rattle.logic_terms.specs.Theory.{Theory, representative, is_below}
 use Rattle.tableau_rules.specs.declared.branch.Edge.{Edge}
-use Rattle.tableau_rules.specs.declared.step.Rule.{Rule}
-use Rattle.tableau_rules.specs.declared.step.Rule.TheVariants as rule
 use Rattle.tableau_rules.specs.declared.step.Step.{Step}
 use Rattle.tableau_rules.specs.Branches.{first_edge, start, IsBranch, begun, stepped}
-use Rattle.tableau_rules.specs.Graph.{Graph, Vertex, label_at, class_at, parent_of}
-use Rattle.tableau_rules.specs.Neighbours.{roots, place_in, node_of, makes_neighbour, is_neighbour}
-use Rattle.tableau_rules.specs.Rules.{applies, choices}
+use Rattle.tableau_rules.specs.Graph.{Graph, parent_of}
+use Rattle.tableau_rules.specs.Neighbours.{roots, place_in, node_of, makes_neighbour}
+use Rattle.tableau_rules.specs.Rules.{applies}
 use Rattle.tableau_bounds.proofs.Beginning.{start_parent, start_roots}
 use Rattle.tableau_bounds.proofs.Stepping.{ParentsBelow}
 use Rattle.agenda.proofs.Staying.{NeighboursThere}
-use Rattle.tableau_rules.specs.Rules.{adding, with_edge, with_node, after}
+use Rattle.tableau_rules.specs.Rules.{adding, with_node, after}
 use Rattle.agenda.specs.Steps.{grown_by, sprouts}
 use Rattle.agenda.proofs.Effects.{IsGrown, IsLinked, IsSprouted, growth, linking, sprouting}
 use Rattle.agenda.proofs.Changing.{adding_count, adding_edges, adding_parent, node_count, old_parent}

@@ -2,7 +2,7 @@
 use Rattle.std.proofs.Common.{◌≡◌, ℕ, zero, suc, ◌+◌, ◌<◌, ◌≤◌, ◌&&◌, ◌||◌, ◌⊎◌, Bool, true, false, List, [], ◌∷◌, length, cond, Option, Some, None, slice_get, refl, sym, ap, ◌∙◌, inl, inr, arith}
 use Rattle.std.specs.Prelude.{not, nat_lt}
 use Rattle.std.specs.Option.{option_and_then, option_or}
-use Rattle.std.proofs.lemmas.Bool.{cases_Bool, cases_lt, and_parts, and_from, false_from_ne_true}
+use Rattle.std.proofs.lemmas.Bool.{cases_Bool, cases_lt, and_parts, and_from, false_from_ne_true, not-true}
 use Rattle.wiki_base.specs.declared.numbers.WordId.{WordId}
 use Rattle.wiki_base.proofs.BoolLaws.{not_both}
 use Rattle.logic_terms.specs.declared.expressions.Role.{Role}
@@ -22,7 +22,6 @@ use Rattle.tableau_rules.specs.Rules.{lacks_some, lacks_all, unfoldings_of, open
 use Rattle.tableau_rules.proofs.Firsts.{first_none, where_not}
 use Rattle.tableau_bounds.proofs.Stepping.{ParentsBelow}
 use Rattle.tableau_bounds.proofs.Ways.{ancestors_same}
-use Rattle.tableau_bounds.proofs.Labels.{not_true}
 use Rattle.agenda.specs.Changes.{Changes}
 use Rattle.agenda.specs.Resting.{way_up, waits_for, RestsBy, IsResting}
 use Rattle.agenda.proofs.Idle.{row_site}
@@ -127,8 +126,8 @@ module _ (k : Theory) (g h : Graph) (grows joins : ℕ → Bool) (change : Chang
         let two = and_parts (not (is_indirectly_blocked k h y)) (not (has_concept (label_at h y) p.1)) one.1 in
         let before = change.only p.0 x y apart one.0 in
         elim (each y before) [
-          | inl has ↦ not_both (change.more y p.1 has) (not_true (has_concept (label_at h y) p.1) two.1)
-          | inr stops ↦ not_both (indirectly_same y (there p.0 x y before) stops.1 ∙ stops.0) (not_true (is_indirectly_blocked k h y) two.0)
+          | inl has ↦ not_both (change.more y p.1 has) (not-true (has_concept (label_at h y) p.1) two.1)
+          | inr stops ↦ not_both (indirectly_same y (there p.0 x y before) stops.1 ∙ stops.0) (not-true (is_indirectly_blocked k h y) two.0)
         ])
 
     some_stays : (p : Role × Concept) (y : ℕ) → y < length g.nodes → serves k g p.0 p.1 x y ≡ true → waits_for waits x (way_up g y) ≡ true

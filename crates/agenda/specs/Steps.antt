@@ -1,4 +1,4 @@
--- Which node a step adds classes to.
+-- Which node a step adds classes to. Only private calls speak of it.
 use Rattle.std.specs.Prelude.{ℕ, Bool, true, false, Option, Some, None}
 use Rattle.tableau_rules.specs.declared.step.Rule.{Rule}
 use Rattle.tableau_rules.specs.declared.step.Rule.TheVariants as rule

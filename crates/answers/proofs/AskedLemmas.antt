@@ -1,6 +1,6 @@
 -- The answers to names one by one.
-use Rattle.std.proofs.Common.{◌≡◌, ℕ, zero, suc, ◌+◌, ◌<◌, ◌≤◌, ◌&&◌, Bool, true, false, List, [], ◌∷◌, ◌++◌, length, get_or, take, All, Contains, refl, sym, ap, ◌∙◌, subst, inl, inr, arith, Decides}
-use Rattle.std.specs.Prelude.{not, ◌⊎◌, ◌↔◌, IsTrue}
+use Rattle.std.proofs.Common.{◌≡◌, ℕ, zero, suc, ◌+◌, ◌<◌, ◌≤◌, ◌&&◌, true, List, [], ◌∷◌, ◌++◌, length, get_or, take, All, Contains, refl, sym, ap, ◌∙◌, subst, inl, inr, arith}
+use Rattle.std.specs.Prelude.{◌⊎◌, ◌↔◌}
 use Rattle.std.specs.List.{list_all}
 use Rattle.std.proofs.lemmas.Bool.{cases_Bool, and_parts, and_from, or_left, or_right, eq-eqb, ltb-true, not_from_false, not-true}
 use Rattle.std.proofs.lemmas.Bool.Decides.{not_from_Decides}
@@ -11,11 +11,11 @@ use Rattle.std.proofs.lemmas.List.Elements.{All-push, All-nil, All-weaker, Conta
 use Rattle.wiki_base.specs.declared.numbers.WordId.{WordId}
 use Rattle.logic_terms.specs.Concept.{Concept, Claim, ClassAssertion}
 use Rattle.logic_terms.specs.Complement.{complement, is_normal, is_wide}
-use Rattle.logic_terms.specs.Interpretation.{Interpretation, is_interpretation, element_of, is_word}
+use Rattle.logic_terms.specs.Interpretation.{Interpretation, element_of, is_word}
 use Rattle.logic_terms.specs.Meaning.{is_in, holds, all_hold}
 use Rattle.logic_terms.specs.Names.{names_above, names_rise}
 use Rattle.logic_terms.specs.Plain.{is_plain, is_plain_claim, are_plain}
-use Rattle.logic_terms.specs.Reading.{IsIn, Holds, IsModel}
+use Rattle.logic_terms.specs.Reading.{IsIn, IsModel}
 use Rattle.logic_terms.proofs.ComplementLemmas.{is_in-complement, is_normal-complement, is_wide-complement}
 use Rattle.logic_terms.proofs.MeaningLemmas.{is_in-Decides, all_hold-Decides}
 use Rattle.absorb.specs.Mentioned.{names_in, names_in_claim, is_among, are_over}

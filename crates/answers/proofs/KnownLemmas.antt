@@ -1,6 +1,5 @@
 -- Knowledge with the denial of a name: what absorption makes of the axioms with it.
-use Rattle.std.proofs.Common.{◌≡◌, ℕ, ◌&&◌, Bool, true, false, List, [], ◌∷◌, ◌++◌, All, refl, sym, ap, ◌∙◌, subst, inl, inr}
-use Rattle.std.specs.Prelude.{IsTrue}
+use Rattle.std.proofs.Common.{◌≡◌, ℕ, ◌&&◌, true, false, List, [], ◌∷◌, ◌++◌, All, sym, ap, ◌∙◌, subst, inl, inr}
 use Rattle.std.specs.List.{list_all}
 use Rattle.std.proofs.lemmas.Bool.{cases_Bool, not_from_false, and_parts}
 use Rattle.std.proofs.lemmas.List.Concat.{flat_map-append}
@@ -20,7 +19,7 @@ use Rattle.absorb.specs.Absorbed.{IsAbsorbed, Represents, IsPutBelow}
 use Rattle.absorb.specs.Closure.{Reaches}
 use Rattle.absorb.specs.Mentioned.{names_in, is_among, are_over}
 use Rattle.absorb.specs.Pieces.{Assertion, all_pieces, pieces_of}
-use Rattle.absorb.specs.Sorted.{Sorted, with_piece, no_pieces, sorted}
+use Rattle.absorb.specs.Sorted.{with_piece, no_pieces, sorted}
 use Rattle.absorb.proofs.AbsorbedLemmas.{lawful, plain_theory, model_of, model_from}
 use Rattle.closure_check.specs.NoModel.{HasNoModel}
 use Rattle.consequences.specs.Forced.{HasInEachModel}

@@ -1,12 +1,12 @@
 -- What the extents of class words and the pairs of relation words have.
-use Rattle.std.proofs.Common.{◌≡◌, ℕ, zero, suc, ◌+◌, ◌<◌, ◌≤◌, ◌==◌, ◌&&◌, ◌||◌, Bool, true, false, List, [], ◌∷◌, ◌++◌, map, length, Contains, Option, Some, None, slice_get, refl, sym, ap, ◌∙◌, subst, inl, inr, arith}
-use Rattle.std.specs.Prelude.{◌⊎◌, nat_lt, if◌then◌else◌, not}
-use Rattle.std.specs.List.{list_any, list_all}
-use Rattle.std.specs.Option.{option_map_or, option_and_then}
-use Rattle.std.proofs.lemmas.Bool.{cases_Bool, or_cases, or_left, or_right, and_from, and_parts, cond-true, cond-false}
+use Rattle.std.proofs.Common.{◌≡◌, ℕ, zero, suc, ◌+◌, ◌<◌, ◌≤◌, ◌==◌, ◌&&◌, ◌||◌, Bool, true, false, List, [], ◌∷◌, ◌++◌, length, Option, Some, None, slice_get, refl, sym, ap, ◌∙◌, subst, inl, inr, arith}
+use Rattle.std.specs.Prelude.{◌⊎◌, nat_lt, if◌then◌else◌}
+use Rattle.std.specs.List.{list_all}
+use Rattle.std.specs.Option.{option_map_or}
+use Rattle.std.proofs.lemmas.Bool.{or_cases, or_left, or_right, and_from}
 use Rattle.wiki_base.specs.declared.numbers.WordId.{WordId}
 use Rattle.logic_terms.specs.declared.expressions.Role.{Role}
-use Rattle.logic_terms.specs.Concept.{Concept, Concepts, Everything, Atomic, ComplementOf, IntersectionOf, UnionOf, SomeValuesFrom, AllValuesFrom, HasValue}
+use Rattle.logic_terms.specs.Concept.{Concept, Atomic}
 use Rattle.logic_terms.specs.Interpretation.{words_rise}
 use Rattle.logic_terms.specs.Parts.{word_part}
 use Rattle.logic_terms.specs.Same.{same_role, same_concept, has_concept}
@@ -16,7 +16,7 @@ use Rattle.tableau_rules.specs.Graph.{Graph, label_at}
 use Rattle.branch_model.specs.Entries.{placed}
 use Rattle.branch_model.specs.Extents.{labelled, extents, paired, paired_above, stand_of, linked, links}
 use Rattle.branch_model.proofs.Same.{concept_true, concept_refl}
-use Rattle.branch_model.proofs.EntriesLemmas.{items_of, Adds, adds_none, adds_placed, adds_then, adds_as, all_placed}
+use Rattle.branch_model.proofs.EntriesLemmas.{Adds, adds_none, adds_placed, adds_then, adds_as, all_placed}
 
 word_is : (c : Concept) (word : WordId) → word_part c ≡ Some word → c ≡ Atomic word
 word_is (Atomic w) word h = let e : w ≡ word = cc in ap Atomic e

@@ -1,18 +1,18 @@
 -- The interpretation that is made of a finished branch is a model of its knowledge.
-use Rattle.std.proofs.Common.{◌≡◌, ℕ, zero, suc, ◌+◌, ◌<◌, ◌≤◌, ◌&&◌, Bool, true, false, List, [], ◌∷◌, map, length, Contains, Option, Some, None, unwrap_or, slice_get, refl, sym, ap, ◌∙◌, subst, inl, inr, arith}
+use Rattle.std.proofs.Common.{◌≡◌, ℕ, ◌+◌, ◌<◌, ◌≤◌, ◌&&◌, true, false, List, [], ◌∷◌, length, Contains, Option, Some, None, unwrap_or, refl, sym, ap, ◌∙◌, subst, inl, inr, arith}
 use Rattle.std.specs.Prelude.{◌↔◌, nat_lt, IsPermutation, Result, Ok, Err, IfOk}
 use Rattle.std.specs.List.{list_all}
 use Rattle.std.specs.Map.{lookup}
 use Rattle.std.specs.Option.{option_map_or, option_and_then}
 use Rattle.std.specs.Ordering.{nat_cmp}
 use Rattle.std.specs.declared.cmp.Ordering.{Ordering}
-use Rattle.std.proofs.lemmas.Bool.{cases_Bool, and_from, and_parts, cond-true, cond-false, lt-ltb}
+use Rattle.std.proofs.lemmas.Bool.{cases_Bool, and_from, cond-true, cond-false, lt-ltb}
 use Rattle.std.proofs.lemmas.List.Sorted.{Contains-permutation, IsPermutation-refl, IsPermutation-sym}
 use Rattle.wiki_base.specs.declared.numbers.WordId.{WordId}
-use Rattle.logic_terms.specs.Interpretation.{Interpretation, is_interpretation, is_word, words_above, words_rise, element_of, elements_of, pairs_of}
+use Rattle.logic_terms.specs.Interpretation.{Interpretation, is_interpretation, is_word, words_above, words_rise, elements_of, pairs_of}
 use Rattle.logic_terms.specs.Plain.{is_plain_theory}
 use Rattle.logic_terms.specs.Theory.{Theory, representative, IsLawful, IsModelOf}
-use Rattle.owl_eval.specs.Given.{IsArranged, AreArranged}
+use Rattle.owl_eval.specs.Given.{AreArranged}
 use Rattle.owl_eval.specs.Pairs.{pair_cmp}
 use Rattle.owl_eval.proofs.Arranged.{is_interpretation-arranged}
 use Rattle.tableau_rules.specs.Graph.{Graph}
@@ -21,8 +21,8 @@ use Rattle.tableau_rules.specs.Branches.{IsBranch, is_finished}
 use Rattle.branch_model.specs.Elements.{ArePlaced}
 use Rattle.branch_model.specs.Extents.{extents, links, stand_of}
 use Rattle.branch_model.specs.Named.{element_named, named_elements}
-use Rattle.branch_model.proofs.EntriesLemmas.{items_of, Adds}
-use Rattle.branch_model.proofs.ExtentsLemmas.{Labels, AreLinks, adds_extents, adds_links, all_extents, fit, fit_links}
+use Rattle.branch_model.proofs.EntriesLemmas.{items_of}
+use Rattle.branch_model.proofs.ExtentsLemmas.{adds_extents, adds_links, all_extents, fit_links}
 use Rattle.branch_model.proofs.Pictured.{place_of, pictures, stands_within}
 use Rattle.branch_model.proofs.Sound.{IsSound}
 use Rattle.branch_model.proofs.ModelOf.{branch_sound, is_model}

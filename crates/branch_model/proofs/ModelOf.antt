@@ -1,31 +1,30 @@
 -- What pictures a finished branch of lawful knowledge is a model of the knowledge.
-use Rattle.std.proofs.Common.{◌≡◌, ℕ, zero, suc, ◌+◌, ◌<◌, ◌≤◌, ◌==◌, ◌&&◌, ◌||◌, Bool, true, false, List, [], ◌∷◌, ◌++◌, map, length, get_or, All, Contains, Option, Some, None, slice_get, refl, sym, ap, ◌∙◌, subst, inl, inr, arith}
-use Rattle.std.specs.Prelude.{◌⊎◌, filter, not, nat_lt, IsTrue, is_some}
+use Rattle.std.proofs.Common.{◌≡◌, ℕ, zero, suc, ◌+◌, ◌<◌, ◌≤◌, ◌==◌, ◌&&◌, ◌||◌, Bool, true, false, List, [], ◌∷◌, ◌++◌, length, get_or, Contains, Some, None, slice_get, refl, sym, ap, ◌∙◌, subst, inl, inr, arith}
+use Rattle.std.specs.Prelude.{◌⊎◌, not, is_some}
 use Rattle.std.specs.List.{list_any, list_all}
-use Rattle.std.specs.Option.{option_and_then}
-use Rattle.std.proofs.lemmas.Bool.{cases_Bool, and_parts, and_from, or_cases, or_parts, or_left, or_right, not-true, lt-ltb, eqb-true}
+use Rattle.std.proofs.lemmas.Bool.{and_parts, and_from, or_cases, or_parts, or_left, or_right, not-true, lt-ltb}
 use Rattle.std.proofs.lemmas.List.Elements.{Contains-get_or}
 use Rattle.wiki_base.specs.declared.numbers.WordId.{WordId}
 use Rattle.logic_terms.specs.declared.expressions.Role.{Role}
-use Rattle.logic_terms.specs.Concept.{Concept, Atomic, Everything, SubClassOf, SubPropertyOf, ClassAssertion, PropertyAssertion, SameIndividual, DifferentIndividuals}
+use Rattle.logic_terms.specs.Concept.{Concept, Atomic}
 use Rattle.logic_terms.specs.Complement.{is_normal, is_wide}
 use Rattle.logic_terms.specs.Plain.{is_plain, is_plain_theory}
 use Rattle.logic_terms.specs.Interpretation.{Interpretation, is_word, element_of, elements_of, Relates}
-use Rattle.logic_terms.specs.Reading.{IsIn, Holds}
+use Rattle.logic_terms.specs.Reading.{IsIn}
 use Rattle.logic_terms.specs.Same.{same_role, has_concept, inverse}
 use Rattle.logic_terms.specs.Theory.{Theory, representative, is_below, is_given, names_given, IsLawful, IsModelOf}
 use Rattle.tableau_rules.specs.declared.branch.Edge.{Edge}
 use Rattle.tableau_rules.specs.declared.step.Step.{Step}
 use Rattle.tableau_rules.specs.Graph.{Graph, label_at}
-use Rattle.tableau_rules.specs.Neighbours.{roots, place_in, node_of, makes_neighbour, is_neighbour}
+use Rattle.tableau_rules.specs.Neighbours.{roots, node_of, makes_neighbour, is_neighbour}
 use Rattle.tableau_rules.specs.Blocking.{is_anonymous, is_blocked, is_directly_blocked, is_indirectly_blocked, has_twin, ancestors, blocks}
 use Rattle.tableau_rules.specs.Clashes.{passes, are_joined, has_clash}
-use Rattle.tableau_rules.specs.Rules.{unfoldings_of, first_step, choices, applies, after}
-use Rattle.tableau_rules.specs.Branches.{start, IsBranch, begun, stepped, is_finished}
+use Rattle.tableau_rules.specs.Rules.{unfoldings_of, first_step}
+use Rattle.tableau_rules.specs.Branches.{IsBranch, begun, stepped, is_finished}
 use Rattle.branch_model.proofs.Same.{each_has}
 use Rattle.branch_model.proofs.Climb.{indirectly-none}
 use Rattle.branch_model.proofs.Rest.{unfold_done, differ}
-use Rattle.branch_model.proofs.Sound.{IsSound, fits, after_sound, has_node}
+use Rattle.branch_model.proofs.Sound.{IsSound, fits, after_sound}
 use Rattle.branch_model.proofs.Start.{noded, root_of, given_node, same_node, entry_has, start_sound}
 use Rattle.branch_model.proofs.Truth.{Pictures, truth}
 

@@ -1,5 +1,5 @@
 -- The elements of a branch's model: the nodes that are not blocked, in order. Only private calls speak of it.
-use Rattle.std.specs.Prelude.{ℕ, ◌≡◌, ◌<◌, ◌⊎◌, Bool, true, false, List, length, Option, Some, None, slice_get}
+use Rattle.std.specs.Prelude.{ℕ, ◌≡◌, ◌<◌, ◌⊎◌, true, false, List, length, Option, Some, None, slice_get}
 use Rattle.logic_terms.specs.Theory.{Theory}
 use Rattle.tableau_rules.specs.Graph.{Graph, label_at, parent_of}
 use Rattle.tableau_rules.specs.Blocking.{is_anonymous, same_classes, is_blocked, is_directly_blocked, is_indirectly_blocked}

@@ -1,5 +1,5 @@
 -- Words with lists, in order of the words. Only private calls speak of it.
-use Rattle.std.specs.Prelude.{ℕ, ◌==◌, List, [], ◌∷◌, ◌++◌, nat_lt, if◌then◌else◌}
+use Rattle.std.specs.Prelude.{◌==◌, List, [], ◌∷◌, ◌++◌, nat_lt, if◌then◌else◌}
 use Rattle.wiki_base.specs.declared.numbers.WordId.{WordId}
 
 -- one more item at the end of a word's list

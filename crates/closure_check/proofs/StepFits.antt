@@ -236,7 +236,8 @@ step_fits i k obeys g f fits s h =
     let row_at = applied_row k g s h in
     let c : Concept = row_at.0 in
     let at : class_at g s.node s.class ≡ Some c = row_at.1 in
-    let w = rule_fits i k obeys g f fits s.node c (class_fits i k g f fits s.node s.class c at) (class_within g s.node s.class c at) s.rule s.other row_at.2 in (
+    let w = rule_fits i k obeys g f fits s.node c (class_fits i k g f fits s.node s.class c at) (class_within g s.node s.class c at)
+    s.rule s.other row_at.2 in (
       w.0,
       subst (λ o. w.0 < option_map_or (choices_for s.rule) o 1) (sym at) w.1,
       (w.2.0, subst (λ o. Fits i k (option_map_or (λ d. effect k g s.rule s.node d s.other w.0) o g) w.2.0) (sym at) w.2.1),

@@ -1,4 +1,4 @@
--- The first place of a list at which something is so.
+-- The first place of a list at which something is so. Only private calls speak of it.
 use Rattle.std.specs.Prelude.{◌≡◌, ℕ, ◌<◌, List, Option, Some, slice_get, MatchOption}
 
 -- it is so nowhere in the list

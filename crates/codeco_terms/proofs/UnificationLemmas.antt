@@ -1,5 +1,5 @@
 -- Least extensions of a map, one fact after another.
-use Rattle.std.proofs.Common.{◌≡◌, ℕ, ◌<◌, ◌≤◌, ◌+◌, List, Option, Some, All, length, get_or, take, sym, ap, subst, arith}
+use Rattle.std.proofs.Common.{◌≡◌, ℕ, ◌<◌, ◌≤◌, ◌+◌, List, Some, All, length, get_or, take, sym, subst, arith}
 use Rattle.std.proofs.lemmas.List.{get_or-take, length-take-le}
 use Rattle.std.proofs.lemmas.List.Elements.{All-more, All-take, All-get_or}
 use Rattle.codeco_terms.specs.declared.values.Value.{Value}
@@ -7,7 +7,7 @@ use Rattle.codeco_terms.specs.declared.values.Term.{Term}
 use Rattle.codeco_terms.specs.declared.values.Term.TheVariants.{Val, Var}
 use Rattle.codeco_terms.specs.declared.categories.Category.{Category}
 use Rattle.codeco_terms.specs.declared.categories.Ground.{Ground}
-use Rattle.codeco_terms.specs.Unification.{Bindings, Extends, Meets, AgreeOnShared, Equates, CanEquate, IsLeastExtension, meaning_of}
+use Rattle.codeco_terms.specs.Unification.{Bindings, Extends, Meets, AgreeOnShared, CanEquate, IsLeastExtension, meaning_of}
 
 -- a fact that stays true in each extension
 pub record IsKept (P : Bindings → Type 0) : Type 0 where

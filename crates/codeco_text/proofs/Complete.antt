@@ -1,9 +1,9 @@
 -- What the text spells is taken by a reading.
-use Rattle.std.proofs.Common.{◌≡◌, ℕ, Bool, true, false, cond, not, eqb, ◌&&◌, ◌||◌, ◌⊎◌, List, [], ◌∷◌, ◌++◌, Option, Some, None, refl, sym, ap, subst, ◌∙◌, append_assoc, arith, inl, inr}
+use Rattle.std.proofs.Common.{◌≡◌, ℕ, Bool, true, false, cond, not, eqb, ◌&&◌, ◌||◌, ◌⊎◌, List, [], ◌∷◌, ◌++◌, Option, Some, None, refl, sym, ap, subst, ◌∙◌, append_assoc, inl, inr}
 use Rattle.std.specs.Prelude.{is_some, codes}
 use Rattle.std.specs.List.{list_all}
 use Rattle.std.proofs.lemmas.List.{append-nil}
-use Rattle.std.proofs.lemmas.Bool.{eqb-true, cases_Bool, both_ways, and_parts, or_parts, not-true, cond-true, cond-false, not_from_false}
+use Rattle.std.proofs.lemmas.Bool.{eqb-true, cases_Bool, both_ways, and_parts, or_parts, not-true, cond-true, cond-false}
 use Rattle.codeco_text.specs.declared.symbols.Sign.{Sign}
 use Rattle.codeco_text.specs.declared.symbols.Sign.TheVariants as sign
 use Rattle.codeco_text.specs.declared.symbols.Lexeme.{Lexeme}
@@ -13,7 +13,7 @@ use Rattle.codeco_text.specs.declared.spot.Spot.TheVariants as spot
 use Rattle.codeco_text.specs.declared.spot.Wanted.{Wanted}
 use Rattle.codeco_text.specs.declared.spot.Wanted.TheVariants as wanted
 use Rattle.codeco_text.specs.declared.builder.Builder.{Builder}
-use Rattle.codeco_text.specs.Names.{is_space, is_lower, is_upper, is_word_byte, is_terminal, is_terminal_byte, is_among, keywords, same_bytes, ends_well}
+use Rattle.codeco_text.specs.Names.{is_space, is_lower, is_upper, is_word_byte, is_terminal, is_terminal_byte, is_among, same_bytes, ends_well}
 use Rattle.codeco_text.specs.declared.spot.Role.TheVariants as role
 use Rattle.codeco_text.specs.declared.spot.Part.TheVariants as part
 use Rattle.codeco_text.specs.Notation.{labels, kinds, lexeme_bytes, is_symbol, goes_on, has_front, is_gap, sign_bytes, SpellsFrom, begins_by}
@@ -21,9 +21,9 @@ use Rattle.codeco_text.specs.Reading.{◌>>=◌, wants, as_word, may_begin, may_
 use Rattle.codeco_text.specs.Building.{push, grow}
 use Rattle.codeco_text.proofs.SoFar.{so_far}
 use Rattle.codeco_text.proofs.Growth.{grow_adds}
-use Rattle.codeco_text.specs.Scanning.{Mode, between, comment, word, terminal, dash, dashes, tilde, tildes, slash, greater, takes_sign, takes_terminal, guard, behind, begin, begin_sign, begin_dash, begin_single, finish, step, if_terminal}
+use Rattle.codeco_text.specs.Scanning.{Mode, between, comment, word, terminal, dash, dashes, tilde, tildes, slash, greater, takes_sign, takes_terminal, behind, begin, begin_sign, finish, step, if_terminal}
 use Rattle.codeco_text.proofs.Trees.{runs}
-use Rattle.codeco_text.proofs.Soundness.{bind_some, spot_grow, grow_spot, is_word}
+use Rattle.codeco_text.proofs.Soundness.{bind_some, spot_grow, grow_spot}
 use Rattle.codeco_text.proofs.Spelled.{final}
 use Rattle.codeco_text.proofs.Standing.{wants_names, name_wanted, variable_wanted, label_wanted, kind_wanted, strong_weak, absent_scope, normal_not_minus}
 use Rattle.codeco_text.proofs.Spelling.{IsReadable, goes_along, as_name, as_variable, identifier_lower, keyword_lower, name_readable, variable_readable, label_readable, kind_readable, letter_no_space, letter_no_comment}

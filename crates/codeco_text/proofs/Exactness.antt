@@ -1,9 +1,8 @@
 -- A reading answers with what the text spells, or with the place of its fault.
-use Rattle.std.proofs.Common.{◌≡◌, ℕ, zero, suc, ◌+◌, ◌<◌, ◌≤◌, Bool, true, false, cond, ◌⊎◌, List, [], ◌∷◌, ◌++◌, length, take, Option, Some, None, Result, Ok, Err, refl, sym, ap, subst, ◌∙◌, append_assoc, arith, inl, inr, length-append}
+use Rattle.std.proofs.Common.{◌≡◌, ℕ, ◌+◌, ◌<◌, ◌≤◌, Bool, true, false, ◌⊎◌, List, [], ◌∷◌, ◌++◌, length, take, Option, Some, None, Result, Ok, Err, refl, sym, ap, subst, ◌∙◌, append_assoc, arith, inl, inr, length-append}
 use Rattle.std.specs.List.{list_all}
 use Rattle.std.specs.Prelude.{IfOk, IfErr}
 use Rattle.std.proofs.lemmas.List.{append-nil, take_at}
-use Rattle.std.proofs.lemmas.Bool.{cases_Bool}
 use Rattle.codeco_text.specs.declared.symbols.Lexeme.{Lexeme}
 use Rattle.codeco_text.specs.declared.spot.Spot.{Spot}
 use Rattle.codeco_text.specs.declared.spot.Spot.TheVariants as spot
@@ -11,17 +10,17 @@ use Rattle.codeco_text.specs.declared.written.WrittenItem.{WrittenItem}
 use Rattle.codeco_text.specs.declared.builder.Builder.{Builder}
 use Rattle.codeco_text.specs.declared.syntax_fault.SyntaxFault.{SyntaxFault}
 use Rattle.codeco_text.specs.declared.syntax_fault.SyntaxFault.TheVariants as fault
-use Rattle.codeco_text.specs.Notation.{lexemes, item_fits, Spells, SpellsFrom, IsSpelling, IsSentence, HasContinuation, IsSyntaxFault, TellsFault, Finds}
+use Rattle.codeco_text.specs.Notation.{lexemes, item_fits, SpellsFrom, IsSpelling, IsSentence, HasContinuation, IsSyntaxFault, TellsFault, Finds}
 use Rattle.codeco_text.specs.Reading.{◌>>=◌}
 use Rattle.codeco_text.proofs.SoFar.{so_far, so_far_at}
 use Rattle.codeco_text.specs.Scanning.{Mode, between, fresh, guard, finish, step, is_between_items, ended, ok_or_place, carry, reading}
 use Rattle.codeco_text.specs.Scanner.{Reads}
 use Rattle.codeco_text.proofs.Trees.{runs, only_if, items_run}
 use Rattle.codeco_text.proofs.Soundness.{bind_some, guard_some}
-use Rattle.codeco_text.proofs.Spelled.{Spelled, final, final_spelled, none_some}
+use Rattle.codeco_text.proofs.Spelled.{final, final_spelled, none_some}
 use Rattle.codeco_text.proofs.Complete.{spelled_final}
 use Rattle.codeco_text.proofs.OneSpelling.{lexemes_same}
-use Rattle.codeco_text.proofs.Continuing.{Fits, reach, reach_final, reach_fits, continuation}
+use Rattle.codeco_text.proofs.Continuing.{reach, reach_final, reach_fits, continuation}
 
 items_spot : (s : Spot) → is_between_items s ≡ true → s ≡ spot.Items
 items_spot spot.Items h = refl

@@ -1,7 +1,7 @@
 -- No two lists of declarations and rules have the same symbols.
-use Rattle.std.proofs.Common.{◌≡◌, ℕ, Bool, true, false, not, ◌&&◌, ◌||◌, List, [], ◌∷◌, ◌++◌, map, Option, Some, None, refl, sym, ap, subst, ◌∙◌, append_assoc, arith}
-use Rattle.std.specs.Prelude.{codes, flat_map}
-use Rattle.std.proofs.lemmas.Bool.{both_ways, or_parts, or_from, not-true, not_from_false}
+use Rattle.std.proofs.Common.{◌≡◌, ℕ, Bool, true, false, not, ◌&&◌, ◌||◌, List, [], ◌∷◌, ◌++◌, map, Option, Some, None, refl, sym, ap, ◌∙◌, append_assoc}
+use Rattle.std.specs.Prelude.{codes}
+use Rattle.std.proofs.lemmas.Bool.{both_ways, or_parts, not-true}
 use Rattle.codeco_text.specs.declared.symbols.Sign.{Sign}
 use Rattle.codeco_text.specs.declared.symbols.Sign.TheVariants as sign
 use Rattle.codeco_text.specs.declared.symbols.Lexeme.{Lexeme}

@@ -1,7 +1,6 @@
 -- The bytes of a symbol that a reading is in.
-use Rattle.std.proofs.Common.{◌≡◌, ℕ, suc, zero, ◌+◌, ◌-◌, ◌<◌, ◌≤◌, List, [], ◌∷◌, ◌++◌, length, take, drop, get_or, refl, sym, ap, ◌∙◌, arith, add-one, length-drop, take-suc, drop-cons, get_or-drop}
+use Rattle.std.proofs.Common.{◌≡◌, ℕ, suc, ◌+◌, ◌-◌, ◌<◌, ◌≤◌, List, [], ◌∷◌, ◌++◌, length, take, drop, get_or, refl, ap, ◌∙◌, arith, length-drop, take-suc, get_or-drop}
 use Rattle.std.specs.Prelude.{slice_range, slice_index}
-use Rattle.codeco_text.specs.Building.{push}
 
 pub slice_none : (text : List ℕ) (at : ℕ) → slice_range text at at ≡ []
 slice_none text at =

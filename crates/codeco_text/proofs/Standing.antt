@@ -1,9 +1,7 @@
 -- Where a symbol may stand, by the words and signs that may come there.
-use Rattle.std.proofs.Common.{◌≡◌, ℕ, Bool, true, false, List, [], ◌∷◌, Option, Some, None, refl}
+use Rattle.std.proofs.Common.{◌≡◌, ℕ, Bool, true, false, List, [], ◌∷◌, Some}
 use Rattle.std.specs.Prelude.{is_some}
-use Rattle.codeco_text.specs.declared.symbols.Sign.{Sign}
 use Rattle.codeco_text.specs.declared.symbols.Sign.TheVariants as sign
-use Rattle.codeco_text.specs.declared.symbols.Lexeme.{Lexeme}
 use Rattle.codeco_text.specs.declared.symbols.Lexeme.TheVariants as lexeme
 use Rattle.codeco_text.specs.declared.spot.Role.TheVariants as role
 use Rattle.codeco_text.specs.declared.spot.Part.TheVariants as part

@@ -1,13 +1,12 @@
 -- A step that goes on where a test holds.
-use Rattle.std.proofs.Common.{◌≡◌, ℕ, ◌+◌, ◌≤◌, Bool, true, false, eqb, List, Option, Some, None, Result, Ok, refl, sym, ap, subst, ◌∙◌}
+use Rattle.std.proofs.Common.{◌≡◌, ℕ, ◌+◌, ◌≤◌, Bool, true, false, eqb, List, Option, Some, Result, Ok, refl, sym, ap, subst, ◌∙◌}
 use Rattle.std.proofs.lemmas.Bool.{cond-false}
 use Rattle.lists.specs.declared.memory.Memory.{Memory}
 use Rattle.codeco_text.specs.declared.mode.Mode.{Mode}
 use Rattle.codeco_text.specs.declared.mode.Mode.TheVariants as mode
-use Rattle.codeco_text.specs.declared.symbols.Lexeme.TheVariants as lexeme
 use Rattle.codeco_text.specs.declared.builder.Builder.{Builder}
-use Rattle.codeco_text.specs.Names.{is_terminal, is_terminal_byte}
-use Rattle.codeco_text.specs.Building.{push, grow}
+use Rattle.codeco_text.specs.Names.{is_terminal_byte}
+use Rattle.codeco_text.specs.Building.{push}
 use Rattle.codeco_text.specs.Scanning as scanning
 use Rattle.codeco_text.specs.Scanner.{seen, StartsWithin, Steps}
 

@@ -1,16 +1,13 @@
 -- The symbols of declarations and rules lead from between items to between items, exactly where these are as they must be.
-use Rattle.std.proofs.Common.{◌≡◌, ℕ, Bool, true, false, cond, not, ◌&&◌, ◌||◌, List, [], ◌∷◌, ◌++◌, map, Option, Some, None, refl, sym, ap, subst, ◌∙◌, append_assoc, arith}
-use Rattle.std.specs.Prelude.{codes, flat_map}
+use Rattle.std.proofs.Common.{◌≡◌, ℕ, Bool, true, false, cond, not, ◌&&◌, ◌||◌, List, [], ◌∷◌, ◌++◌, map, Option, Some, None, refl, sym, ap, ◌∙◌, append_assoc}
 use Rattle.std.specs.List.{list_all}
-use Rattle.std.proofs.lemmas.List.{append-nil}
-use Rattle.std.proofs.lemmas.Bool.{and_parts, or_parts, not-true}
+use Rattle.std.proofs.lemmas.Bool.{or_parts, not-true}
 use Rattle.codeco_text.specs.declared.symbols.Sign.{Sign}
 use Rattle.codeco_text.specs.declared.symbols.Sign.TheVariants as sign
 use Rattle.codeco_text.specs.declared.symbols.Lexeme.{Lexeme}
 use Rattle.codeco_text.specs.declared.symbols.Lexeme.TheVariants as lexeme
 use Rattle.codeco_text.specs.declared.spot.Role.{Role}
 use Rattle.codeco_text.specs.declared.spot.Role.TheVariants as role
-use Rattle.codeco_text.specs.declared.spot.Part.{Part}
 use Rattle.codeco_text.specs.declared.spot.Part.TheVariants as part
 use Rattle.codeco_text.specs.declared.spot.Spot.{Spot}
 use Rattle.codeco_text.specs.declared.spot.Spot.TheVariants as spot
@@ -20,13 +17,12 @@ use Rattle.codeco_text.specs.declared.written.WrittenFeat.{WrittenFeat}
 use Rattle.codeco_text.specs.declared.written.WrittenCategory.{WrittenCategory}
 use Rattle.codeco_text.specs.declared.written.WrittenElement.{WrittenElement}
 use Rattle.codeco_text.specs.declared.written.WrittenElement.TheVariants as element
-use Rattle.codeco_text.specs.declared.written.WrittenRule.{WrittenRule}
 use Rattle.codeco_text.specs.declared.written.Domain.{Domain}
 use Rattle.codeco_text.specs.declared.written.Domain.TheVariants as domain
 use Rattle.codeco_text.specs.declared.written.WrittenItem.{WrittenItem}
 use Rattle.codeco_text.specs.declared.written.WrittenItem.TheVariants as item
 use Rattle.codeco_text.specs.Notation.{term_lexemes, feat_lexemes, listed, category_lexemes, named, signed, element_lexemes, label_lexemes, arrow, body_lexemes, domain_lexemes, item_lexemes, lexemes, is_marked, is_plain, is_empty, element_fits, domain_fits, item_fits}
-use Rattle.codeco_text.specs.Reading.{◌>>=◌, after_category, after_sign, advance, is_sign, begins_pattern, settled, closed, ready_spot, next_spot, question_after}
+use Rattle.codeco_text.specs.Reading.{◌>>=◌, after_category, is_sign, begins_pattern, next_spot}
 use Rattle.codeco_text.proofs.SoFar.{name_lexeme}
 
 -- where a reading stands behind these symbols

@@ -1,9 +1,7 @@
 -- Reading a text byte by byte. Only calls inside the crate speak of it.
-use Rattle.std.specs.Prelude.{◌≡◌, ℕ, Bool, true, false, not, ◌&&◌, ◌||◌, ◌==◌, List, [], ◌∷◌, ◌++◌, codes, Option, Some, None, option_map, is_some, if◌then◌else◌, Result, Ok, Err, ◌+◌}
-use Rattle.std.specs.List.{list_all}
+use Rattle.std.specs.Prelude.{◌≡◌, ℕ, Bool, true, false, ◌&&◌, ◌||◌, ◌==◌, List, [], ◌∷◌, ◌++◌, Option, Some, None, option_map, is_some, if◌then◌else◌, Result, Ok, Err, ◌+◌}
 use Rattle.codeco_text.specs.declared.symbols.Sign.{Sign}
 use Rattle.codeco_text.specs.declared.symbols.Sign.TheVariants as sign
-use Rattle.codeco_text.specs.declared.symbols.Lexeme.{Lexeme}
 use Rattle.codeco_text.specs.declared.symbols.Lexeme.TheVariants as lexeme
 use Rattle.codeco_text.specs.declared.spot.Spot.{Spot}
 use Rattle.codeco_text.specs.declared.spot.Spot.TheVariants as spot

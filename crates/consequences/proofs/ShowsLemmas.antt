@@ -4,7 +4,7 @@ use Rattle.std.specs.List.{list_any, list_all}
 use Rattle.std.specs.Option.{option_map_or}
 use Rattle.std.specs.declared.alloc.Global.{Global}
 use Rattle.std.specs.declared.boxed.Box.{Box}
-use Rattle.std.proofs.lemmas.Bool.{and_from, and_parts, or_right}
+use Rattle.std.proofs.lemmas.Bool.{and_from, and_parts, or_right, or_cases}
 use Rattle.wiki_base.specs.declared.numbers.WordId.{WordId}
 use Rattle.logic_terms.specs.declared.expressions.Role.{Role}
 use Rattle.logic_terms.specs.declared.expressions.Class.{Class}
@@ -22,7 +22,8 @@ use Rattle.tableau_rules.specs.declared.branch.Edge.{Edge}
 use Rattle.tableau_rules.specs.Graph.{Graph, label_at}
 use Rattle.tableau_rules.specs.Neighbours.{makes_neighbour, is_neighbour, node_of}
 use Rattle.tableau_rules.specs.Touching.{touches, edges_at, far_end}
-use Rattle.closure_check.proofs.Basics.{both_left, both_right, both, either, any_with_all}
+use Rattle.wiki_base.proofs.BoolLaws.{and_first, and_second}
+use Rattle.closure_check.proofs.Basics.{any_with_all}
 use Rattle.closure_check.proofs.Fitting.{Fits, pairs_up, has_fits, makes_pair, neighbours_pair}
 use Rattle.consequences.specs.Shows.{shows, shows_each, shows_some}
 
@@ -80,10 +81,10 @@ module _ (k : Theory) (g : Graph) (x : ℕ) (whole : Class) where
 all_kept : {X : Type 0} (test keep : X → Bool) (xs : List X) → list_all test xs ≡ true → list_all test (filter keep xs) ≡ true
 all_kept test keep [] h = refl
 all_kept test keep (x ∷ xs) h =
-    go (all_kept test keep xs (both_right (test x) (list_all test xs) h)) (keep x)
+    go (all_kept test keep xs (and_second (test x) (list_all test xs) h)) (keep x)
   where
     go : list_all test (filter keep xs) ≡ true → (b : Bool) → list_all test (cond b (x ∷ filter keep xs) (filter keep xs)) ≡ true
-    go rest true = both (test x) (list_all test (filter keep xs)) (both_left (test x) (list_all test xs) h) rest
+    go rest true = and_from (test x) (list_all test (filter keep xs)) (and_first (test x) (list_all test xs) h) rest
     go rest false = rest
 
 -- what a branch shows is so in each interpretation that fits it
@@ -104,24 +105,24 @@ module _ (i : Interpretation) (k : Theory) (g : Graph) (f : ℕ → ℕ) (fits :
     shown_fits (UnionOf cs) x h = some_fits cs x h
     shown_fits (SomeValuesFrom role c) x h =
         let w = any_with_all (λ e. makes_neighbour k role x (far_end x e) e && shows k g c (far_end x e)) (pairs_up i f) (edges_at g.edges x) h
-            (all_kept (pairs_up i f) (touches x) g.edges fits.edges) in
+        (all_kept (pairs_up i f) (touches x) g.edges fits.edges) in
         let y : ℕ = far_end x w.0 in
         let both_are = and_parts (makes_neighbour k role x y w.0) (shows k g c y) w.1 in
         some_below_passes (λ z. relates i role (f x) z && is_in i c z) (f y) i.size (fits.elements y)
         (and_from (relates i role (f x) (f y)) (is_in i c (f y)) (makes_pair i k f fits.elements hierarchy role x y w.0 both_are.0 w.2)
-            (shown_fits c y both_are.1))
+        (shown_fits c y both_are.1))
     shown_fits (AllValuesFrom role c) x h = has_fits i k g f fits x (AllValuesFrom role c) h
     shown_fits (HasValue role name) x h = value_fits role name x (node_of k name) refl h
 
     each_fits : (cs : Concepts) (x : ℕ) → shows_each k g cs x ≡ true → is_in_each i cs (f x) ≡ true
     each_fits no_concept x h = refl
     each_fits (also_concept c cs) x h =
-        both (is_in i c (f x)) (is_in_each i cs (f x)) (shown_fits c x (both_left (shows k g c x) (shows_each k g cs x) h))
-            (each_fits cs x (both_right (shows k g c x) (shows_each k g cs x) h))
+        and_from (is_in i c (f x)) (is_in_each i cs (f x)) (shown_fits c x (and_first (shows k g c x) (shows_each k g cs x) h))
+        (each_fits cs x (and_second (shows k g c x) (shows_each k g cs x) h))
 
     some_fits : (cs : Concepts) (x : ℕ) → shows_some k g cs x ≡ true → is_in_some i cs (f x) ≡ true
     some_fits no_concept x h = cc
-    some_fits (also_concept c cs) x h = elim (either (shows k g c x) (shows_some k g cs x) h) [
+    some_fits (also_concept c cs) x h = elim (or_cases (shows k g c x) (shows_some k g cs x) h) [
       | inl here ↦ ap (λ b. b || is_in_some i cs (f x)) (shown_fits c x here)
       | inr there ↦ or_right (is_in i c (f x)) (is_in_some i cs (f x)) (some_fits cs x there)
     ]

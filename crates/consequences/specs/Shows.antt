@@ -1,4 +1,4 @@
--- What a branch shows of its nodes.
+-- What a branch shows of its nodes. Only private calls speak of it.
 use Rattle.std.specs.Prelude.{ℕ, ◌&&◌, ◌||◌, Bool, true, false}
 use Rattle.std.specs.List.{list_any}
 use Rattle.std.specs.Option.{option_map_or}

@@ -1,5 +1,5 @@
 -- Elements that look at no token do the same with any tokens.
-use Rattle.std.proofs.Common.{◌≡◌, ℕ, List, [], Bool, true, false, Option, refl, ap}
+use Rattle.std.proofs.Common.{◌≡◌, ℕ, List, [], true, false, refl, ap}
 use Rattle.codeco_terms.specs.declared.values.Value.{Value}
 use Rattle.codeco_terms.specs.declared.elements.Element.{Element}
 use Rattle.codeco_terms.specs.declared.elements.Element.TheVariants.{Terminal, Preterminal, Sub, Position, Opener, Forward, Strong, Back, NoBack}

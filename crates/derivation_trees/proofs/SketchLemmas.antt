@@ -1,15 +1,14 @@
 -- Sketches of trees, and that they are the skeletons of derivations.
-use Rattle.std.proofs.Common.{◌≡◌, ℕ, zero, suc, ◌+◌, List, [], ◌∷◌, ◌++◌, map, drop, Option, Some, None, refl, sym, ap, ◌∙◌, add-one}
+use Rattle.std.proofs.Common.{◌≡◌, ℕ, zero, suc, ◌+◌, List, [], ◌∷◌, ◌++◌, map, drop, Some, refl, sym, ap, ◌∙◌, add-one}
 use Rattle.std.specs.Prelude.{slice_get, unwrap_or}
-use Rattle.wiki_base.specs.declared.numbers.WordId.{WordId}
 use Rattle.codeco_terms.specs.declared.categories.Category.{Category}
 use Rattle.codeco_terms.specs.declared.elements.Element.{Element}
 use Rattle.codeco_terms.specs.declared.elements.Element.TheVariants.{Sub}
 use Rattle.derivation_trees.specs.declared.skeletons.Skeleton.{Skeleton, out-Skeleton}
 use Rattle.derivation_trees.specs.declared.trees.Tree.{Tree, out-Tree}
-use Rattle.derivation_trees.specs.Trees.{Node, Nodes, node, nodes_from, node_of, nodes_of}
+use Rattle.derivation_trees.specs.Trees.{Node, nodes_from, node_of, nodes_of}
 use Rattle.derivation_trees.specs.Settings.{Setting}
-use Rattle.derivation_trees.specs.Stands.{found_in, values_in}
+use Rattle.derivation_trees.specs.Stands.{found_in}
 use Rattle.derivation_trees.specs.Sketches as sketches
 use Rattle.derivation_trees.specs.SketchesHeld.{sketch_held, children_held, rule_in}
 use Rattle.derivation_trees.specs.declared.sketch.Sketch.{Sketch}

@@ -1,7 +1,7 @@
 -- Where elements and trees lead.
 use Rattle.std.proofs.Common.{◌≡◌, ℕ, ◌+◌, ◌<◌, ◌≤◌, List, [], ◌∷◌, ◌++◌, Bool, true, false, ◌&&◌, map, length, take, drop, get_or, Option, Some, None, refl, sym, ap, ◌∙◌, subst, arith, append_assoc, nat_le, suc, zero, add-one}
 use Rattle.std.proofs.lemmas.Bool.Decides.{nat_tests}
-use Rattle.std.specs.Prelude.{if◌then◌else◌, option_and_then, option_map, slice_get, unwrap_or}
+use Rattle.std.specs.Prelude.{if◌then◌else◌, option_and_then, slice_get, unwrap_or}
 use Rattle.std.proofs.lemmas.List.{append-nil, take_at, drop_more, drop_all}
 use Rattle.std.specs.List.{list_any}
 use Rattle.codeco_terms.specs.declared.values.Value.{Value}
@@ -16,9 +16,9 @@ use Rattle.scopes.specs.declared.entries.Entry.{Entry}
 use Rattle.scopes.specs.declared.agreement.Test.{Test}
 use Rattle.scopes.specs.Resolution.{Finding, is_agreeing, closest_finding}
 use Rattle.derivation_trees.specs.declared.trees.Tree.{Tree, out-Tree}
-use Rattle.derivation_trees.specs.declared.trees.Trees.{Trees, out-Trees}
+use Rattle.derivation_trees.specs.declared.trees.Trees.{Trees}
 use Rattle.derivation_trees.specs.declared.trees.Tree.TheFolds.{fold_out-Tree, fold_out-Trees, fold-Trees}
-use Rattle.derivation_trees.specs.Trees.{Node, Nodes, node, none, more, nodes_from, node_of, nodes_of, tree_layer, trees_layer}
+use Rattle.derivation_trees.specs.Trees.{Node, Nodes, node, nodes_from, node_of, nodes_of, tree_layer, trees_layer}
 use Rattle.derivation_trees.specs.Settings.{Setting, matches_terminal, matches_preterminal}
 use Rattle.derivation_trees.specs.Instances.{value_under, under, tests_under}
 use Rattle.derivation_trees.specs.Derives.{At, Stand, Phrase, pass, run, pass_child, begun, ended, phrase, phrase_of, phrases_of, rule_with, is_none_left, is_found, reference_tests}

@@ -1,5 +1,5 @@
 -- Derivations: what the elements of a rule do, and where a tree leads.
-use Rattle.std.specs.Prelude.{◌≡◌, ℕ, ◌+◌, ◌-◌, ◌==◌, nat_lt, ◌&&◌, ◌||◌, not, if◌then◌else◌, Bool, true, false, List, [], ◌∷◌, ◌++◌, length, map, filter, drop, slice_get, Option, Some, None, option_and_then, unwrap_or}
+use Rattle.std.specs.Prelude.{◌≡◌, ℕ, ◌+◌, ◌-◌, ◌==◌, ◌&&◌, ◌||◌, not, if◌then◌else◌, Bool, true, false, List, [], ◌∷◌, ◌++◌, length, drop, slice_get, Option, Some, None, option_and_then}
 use Rattle.std.specs.List.{list_all, list_any}
 use Rattle.codeco_terms.specs.declared.values.Value.{Value}
 use Rattle.codeco_terms.specs.declared.values.Value.TheVariants.{Atom, Pos}
@@ -20,7 +20,7 @@ use Rattle.scopes.specs.AccessList.{closed, introduced}
 use Rattle.scopes.specs.Resolution.{has_value, is_agreeing, Finding, closest_finding}
 use Rattle.derivation_trees.specs.Trees.{Node, Nodes, node, none, more}
 use Rattle.derivation_trees.specs.Settings.{Setting, matches_terminal, matches_preterminal}
-use Rattle.derivation_trees.specs.Instances.{looked_up, unwritten, value_under, term_value, under, tests_under, features_of, left_out, written_variables, own_values, is_instance}
+use Rattle.derivation_trees.specs.Instances.{looked_up, unwritten, value_under, term_value, under, tests_under, features_of, own_values, is_instance}
 
 -- a place in the tokens, the number of tokens before it, and the access list there
 pub record At : Type 0 where

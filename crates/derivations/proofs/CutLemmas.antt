@@ -8,7 +8,7 @@ use Rattle.wiki_base.proofs.BoolLaws.{and_first, and_second}
 use Rattle.codeco_terms.specs.declared.values.Value.{Value}
 use Rattle.codeco_terms.specs.declared.categories.Category.{Category}
 use Rattle.codeco_terms.specs.declared.elements.Element.{Element}
-use Rattle.codeco_terms.specs.declared.elements.Element.TheVariants.{Terminal, Preterminal, Sub, Position, Opener, Forward, Strong, Back, NoBack}
+use Rattle.codeco_terms.specs.declared.elements.Element.TheVariants.{Sub}
 use Rattle.codeco_terms.specs.declared.rules.Rule.{Rule}
 use Rattle.codeco_terms.specs.GrammarParts.{GrammarParts}
 use Rattle.scopes.specs.declared.agreement.Test.{Test}

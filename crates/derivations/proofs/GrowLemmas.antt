@@ -1,5 +1,5 @@
 -- Lists only grow along paths.
-use Rattle.std.proofs.Common.{◌≡◌, ℕ, zero, suc, ◌+◌, List, [], ◌∷◌, ◌++◌, map, take, drop, length, Bool, true, false, ◌&&◌, ◌⊎◌, inl, inr, Option, Some, None, refl, sym, ap, subst, ◌∙◌, append-nil}
+use Rattle.std.proofs.Common.{◌≡◌, ℕ, zero, suc, ◌+◌, List, [], ◌∷◌, ◌++◌, map, drop, length, Bool, true, false, ◌&&◌, ◌⊎◌, Option, Some, None, refl, sym, ◌∙◌}
 use Rattle.std.specs.Prelude.{if◌then◌else◌, ◌==◌}
 use Rattle.std.specs.Option.{option_map_or}
 use Rattle.std.specs.List.{flat_map}
@@ -12,12 +12,11 @@ use Rattle.scopes.specs.AccessList.{closed}
 use Rattle.scopes.specs.declared.agreement.Test.{Test}
 use Rattle.derivation_trees.specs.Settings.{Setting}
 use Rattle.derivation_trees.specs.Instances.{under}
-use Rattle.derivation_trees.specs.Derives.{At, Stand, pass, fits, list_after}
+use Rattle.derivation_trees.specs.Derives.{At, Stand, pass, list_after}
 use Rattle.derivation_trees.specs.Stands.{Begins, is_sub}
 use Rattle.derivation_trees.proofs.StandLemmas.{Begins-refl, Begins-trans, pass_begins}
 use Rattle.derivation_scenes.specs.Starts.{may_start}
 use Rattle.derivations.specs.Enumeration.{Path, Outcome, found_at, passed, joined, steps, all_steps, opened, ended_path, instances, may_begin, instance_trees, rule_trees, rules_trees, trees_of}
-use Rattle.derivations.proofs.Members.{Among}
 
 -- what the members of a list have
 abbrev pub Each : {X : Type 0} → (X → Type 0) → List X → Type 0

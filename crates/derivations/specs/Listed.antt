@@ -1,5 +1,5 @@
 -- The least skeleton of the derivations among listed trees. Only private calls speak of it.
-use Rattle.std.specs.Prelude.{◌≡◌, ℕ, List, map, ◌⊎◌, Option, Some}
+use Rattle.std.specs.Prelude.{◌≡◌, List, map, ◌⊎◌, Option, Some}
 use Rattle.derivation_trees.specs.declared.skeletons.Skeleton.{Skeleton}
 use Rattle.derivation_trees.specs.Trees.{Node, node_of}
 use Rattle.derivation_trees.specs.Settings.{Setting}

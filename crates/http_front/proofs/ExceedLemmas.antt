@@ -5,7 +5,7 @@ use Rattle.std.specs.List.{flat_map}
 use Rattle.std.proofs.lemmas.Bool.Decides.{nat_tests}
 use Rattle.std.proofs.lemmas.List.Elements.{All-head}
 use Rattle.httparse.specs.Ascii.{space, colon}
-use Rattle.httparse.specs.Grammar.{LineEnd, crlf, lf, print_end, print_blank, print_version, Field, print_field, print_section, RequestHead, print_request, IsRequestHead, is_token_byte, AllPass}
+use Rattle.httparse.specs.Grammar.{LineEnd, crlf, lf, print_end, print_blank, print_version, Field, print_field, print_section, RequestHead, print_request, is_token_byte}
 use Rattle.httparse.specs.Spans.{RequestExceeds}
 use Rattle.http_front.specs.Front.{newlines, is_line_end, after_blank}
 

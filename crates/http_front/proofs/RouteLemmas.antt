@@ -1,5 +1,5 @@
 -- Steps of the table of paths, and of paths.
-use Rattle.std.proofs.Common.{◌≡◌, ◌⊎◌, inl, inr, ℕ, ◌+◌, ◌<◌, List, [], ◌∷◌, map, fold, length, take, drop, sym, ap, ◌∙◌, arith, take_all, Bor, Option, None, Some, MatchOption, Result, Ok, Err}
+use Rattle.std.proofs.Common.{◌≡◌, ◌⊎◌, inl, inr, ℕ, ◌+◌, ◌<◌, List, [], ◌∷◌, length, take, ap, ◌∙◌, arith, take_all, Bor, Option, None, Some, MatchOption, Result, Ok, Err}
 use Rattle.std.specs.Prelude.{◌==◌}
 use Rattle.std.specs.List.{position_or_len, before_first, after_first}
 use Rattle.std.proofs.lemmas.List.{drop_all}
@@ -8,7 +8,7 @@ use Rattle.matchit.specs.Route.{Scan, parse_route}
 use Rattle.matchit.specs.Router.{RouteOf, InsertsRead}
 use Rattle.matchit.specs.declared.error.InsertError.{InsertError}
 use Rattle.http_front.specs.declared.goals.Goal.{Goal}
-use Rattle.http_front.specs.Routes.{route_shown, with_scan, with_route, table, segment_of}
+use Rattle.http_front.specs.Routes.{with_scan, with_route, segment_of}
 
 inserted_by : (parsed : Result Scan InsertError) (goal : Goal) (old new : RowsOf (RouteOf Goal)) (u : Unit {0}) → InsertsRead parsed goal old new (Ok u)
     → new ≡ with_scan goal old parsed

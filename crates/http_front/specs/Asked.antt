@@ -12,8 +12,6 @@ use Rattle.http_front.specs.declared.goals.InSession.{InSession}
 use Rattle.http_front.specs.declared.goals.InSession.TheVariants as in_session
 use Rattle.http_front.specs.declared.seen.Then.{Then}
 use Rattle.http_front.specs.declared.seen.Then.TheVariants as answers
-use Rattle.http_front.specs.declared.seen.Seen.{Seen}
-use Rattle.http_front.specs.declared.seen.Seen.TheVariants.{Refuse, Ask}
 use Rattle.http_front.specs.Forms.{field, number_field, pieces, article_path, session_path}
 
 -- a new word: `kind` and `forms`

@@ -7,7 +7,7 @@ use Rattle.wiki_base.specs.declared.numbers.WordId.{WordId}
 use Rattle.wiki_base.proofs.ListLaws.{AllPairs-tail, AllPairs-head, find_none}
 use Rattle.codeco_terms.specs.declared.categories.Ground.{Ground}
 use Rattle.lexicon.specs.declared.kinds.Kind.{Kind}
-use Rattle.lexicon.specs.declared.kinds.Kind.TheVariants.{Name, Noun, Of, Verb, Adjective}
+use Rattle.lexicon.specs.declared.kinds.Kind.TheVariants.{Name}
 use Rattle.lexicon.specs.declared.words.Word.{Word}
 use Rattle.lexicon.specs.Kinds.{form_count}
 use Rattle.lexicon.specs.Words.{is_among, has_form, has_number, owner, forms_of, SharesNoForm, IsPlaceOf}

@@ -1,5 +1,5 @@
 -- Lists of names that rise.
-use Rattle.std.proofs.Common.{◌≡◌, ℕ, ◌<◌, ◌&&◌, ltb, Bool, true, List, [], ◌∷◌, ◌++◌, All, refl, sym, ap, ◌∙◌}
+use Rattle.std.proofs.Common.{◌≡◌, ◌<◌, ◌&&◌, ltb, true, List, [], ◌∷◌, ◌++◌, All, refl, ◌∙◌}
 use Rattle.std.proofs.lemmas.Bool.{and_from, and_parts, lt-ltb}
 use Rattle.std.proofs.lemmas.List.Elements.{All-head, All-tail}
 use Rattle.wiki_base.specs.declared.numbers.WordId.{WordId}

@@ -12,7 +12,7 @@ use Rattle.logic_terms.specs.declared.expressions.Class.{Class}
 use Rattle.logic_terms.specs.declared.expressions.Classes.{Classes}
 use Rattle.logic_terms.specs.declared.expressions.Class.TheOpen as open_class
 use Rattle.logic_terms.specs.declared.expressions.Class.TheVariants as class
-use Rattle.logic_terms.specs.declared.expressions.Class.TheFolds.{fold_out-Class, fold-roll-Class, fold_out-Classes}
+use Rattle.logic_terms.specs.declared.expressions.Class.TheFolds.{fold-roll-Class, fold_out-Classes}
 use Rattle.logic_terms.specs.declared.structures.Drs.{Drs}
 use Rattle.logic_terms.specs.declared.structures.Thing.{Thing}
 use Rattle.logic_terms.specs.declared.structures.Cond.TheOpen as open_cond

@@ -1,11 +1,9 @@
 -- Closing a list with one more entry.
-use Rattle.std.proofs.Common.{◌≡◌, ℕ, ◌+◌, ◌-◌, ◌<◌, ◌≤◌, List, [], ◌∷◌, ◌++◌, Bool, true, false, ◌||◌, refl, sym, ap, ◌∙◌, length, take, drop, arith, append_assoc, length-append}
-use Rattle.std.specs.List.{list_any}
-use Rattle.std.proofs.lemmas.List.{take-append-le, drop-append-le, take-append-drop}
-use Rattle.std.proofs.lemmas.List.Folds.{list_any-append}
+use Rattle.std.proofs.Common.{◌≡◌, ℕ, ◌+◌, ◌-◌, ◌<◌, ◌≤◌, List, [], ◌∷◌, ◌++◌, Bool, false, ◌||◌, refl, sym, ap, ◌∙◌, length, take, drop, arith, append_assoc, length-append}
+use Rattle.std.proofs.lemmas.List.{drop-append-le, take-append-drop}
 use Rattle.scopes.specs.declared.entries.Entry.{Entry}
 use Rattle.scopes.specs.declared.entries.Entry.TheVariants.{Opener, Weak, Strong}
-use Rattle.scopes.specs.AccessList.{closed, strong_referents, any_opener, is_opener, left_of}
+use Rattle.scopes.specs.AccessList.{closed, strong_referents, any_opener, left_of}
 
 pub strong_push : (xs : List Entry) (e : Entry) → strong_referents (xs ++ e ∷ []) ≡ strong_referents xs ++ strong_referents (e ∷ [])
 strong_push [] e = refl

@@ -1,5 +1,5 @@
 -- Which referents agree with a test, and which one a reference finds.
-use Rattle.std.specs.Prelude.{ℕ, List, [], ◌∷◌, Bool, true, false, not, ◌==◌, ◌&&◌, if◌then◌else◌, Option, Some, None, option_map, position, unwrap_or}
+use Rattle.std.specs.Prelude.{ℕ, List, [], ◌∷◌, Bool, false, ◌==◌, ◌&&◌, if◌then◌else◌, Option, Some, None, option_map, position, unwrap_or}
 use Rattle.std.specs.List.{list_any, list_all, filter_map}
 use Rattle.codeco_terms.specs.declared.values.Value.{Value}
 use Rattle.codeco_terms.specs.declared.categories.Ground.{Ground}

@@ -1,5 +1,5 @@
 -- What a server keeps of a connection is what came over it alone.
-use Rattle.std.proofs.Common.{◌≡◌, ℕ, ◌==◌, ◌≤◌, ◌<◌, Bool, true, false, not, if◌then◌else◌, List, [], ◌∷◌, ◌++◌, length, refl, sym, ap, subst, ◌∙◌, IsTrue, arith, inl, inr}
+use Rattle.std.proofs.Common.{◌≡◌, ℕ, ◌==◌, ◌≤◌, ◌<◌, Bool, true, false, not, if◌then◌else◌, List, [], ◌∷◌, ◌++◌, length, refl, sym, ap, subst, ◌∙◌, IsTrue, inl, inr}
 use Rattle.std.proofs.lemmas.Bool.{false≢true, cases_lt, eqb-true, eq-eqb}
 use Rattle.wiki_io.specs.declared.links.Event.{Event}
 use Rattle.wiki_io.specs.declared.links.Event.TheVariants.{Opened, Piece, Ended}
@@ -10,9 +10,8 @@ use Rattle.server.specs.declared.limits.TheConstants.{MOST_OPEN}
 use Rattle.server.specs.declared.turns.Turn.{Turn}
 use Rattle.server.specs.declared.turns.Turn.TheVariants as turns
 use Rattle.server.specs.Kept.{Kept, numbers, fresh, bytes_of, with_piece, closed}
-use Rattle.server.specs.Taking.{Takes, TakesOpening, TakesPiece, TakesEnd, kept_after}
-use Rattle.server.specs.Reading.{IsSeen}
-use Rattle.server.specs.Runs.{TakesAll, own_after, own_after_all, own_bytes, IsOwn, AreOwn, IsApart}
+use Rattle.server.specs.Taking.{Takes, TakesOpening, kept_after}
+use Rattle.server.specs.Runs.{TakesAll, own_after, own_after_all, own_bytes, AreOwn, IsApart}
 use Rattle.server.proofs.OwnLemmas.{by_number, bytes_of-push, numbers-push, bytes_of-none, numbers-piece, bytes_of-piece, bytes_of-other_piece, numbers-closed, numbers-others, bytes_of-others}
 
 -- of each connection that is kept, the bytes are these

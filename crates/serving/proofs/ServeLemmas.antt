@@ -7,12 +7,11 @@ use Rattle.wiki_io.specs.Link.{with_more, can_come, can_all_come, connections_af
 use Rattle.wiki_talk.specs.declared.requests.Request.{Request}
 use Rattle.wiki_talk.specs.declared.replies.Reply.{Reply}
 use Rattle.server.specs.Kept.{Kept, numbers}
-use Rattle.serving.specs.declared.serving.Served.{Served}
 use Rattle.serving.specs.declared.serving.Served.TheVariants as served
 use Rattle.serving.specs.declared.serving.Come.{Come}
 use Rattle.serving.specs.declared.serving.Come.TheVariants as come
 use Rattle.serving.specs.Coming.{AreCome, IsPieceCome}
-use Rattle.serving.specs.Events.{Outside, RunsEvents, RunsAll, RunsUntilJournal, RunsUntilMemory, CutsJournal, WasHandled, EndsServing, Ended}
+use Rattle.serving.specs.Events.{Outside, RunsEvents, RunsAll, CutsJournal, WasHandled, Ended}
 use Rattle.serving.proofs.DeliverLemmas.{with_more-nil, with_more-append}
 use Rattle.serving.proofs.EventLemmas.{RunsEvents-none, RunsEvents-append}
 

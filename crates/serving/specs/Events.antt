@@ -1,7 +1,7 @@
 -- Runs of events on connections, at a server and a machine that answers requests, whatever the machine's states are.
 use Rattle.std.specs.Prelude.{◌≡◌, ◌⊎◌, ℕ, ◌≤◌, List, [], ◌∷◌, ◌++◌, length, take, map, Option}
 use Rattle.std.specs.List.{flat_map}
-use Rattle.std.specs.Io.KnownBytes.{Appends, Keeps}
+use Rattle.std.specs.Io.KnownBytes.{Appends}
 use Rattle.wiki_io.specs.declared.links.Event.{Event}
 use Rattle.wiki_io.specs.Link.{with_more, IsOver}
 use Rattle.wiki_talk.specs.declared.requests.Request.{Request}

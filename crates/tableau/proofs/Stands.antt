@@ -27,7 +27,7 @@ pub next_agenda : (k : Theory) (s : Searching) (way : List Taken) (step : Step) 
     → IsAgendaOf k h new
 next_agenda k s way step g h later old new next at is here follows fits =
     follows (reached k way).graph 0 (leads_to_branch k way next.leads) (first_applies k (reached k way).graph step next.choice.first)
-        (here ∙ ap (λ t. t.graph) is)
+    (here ∙ ap (λ t. t.graph) is)
     (subst (λ f. IsAgendaOf k f old) (at ∙ next.before) fits)
 
 -- equal branches and agendas

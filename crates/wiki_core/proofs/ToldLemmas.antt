@@ -1,5 +1,5 @@
 -- A request that is done or refused takes its step.
-use Rattle.std.proofs.Common.{◌≡◌, Bool, true, false, MatchBool, Option, Some, None, Result, Ok, Err, IfOk, IfErr, OnErr, refl, sym, ap, subst, ◌∙◌}
+use Rattle.std.proofs.Common.{◌≡◌, Bool, true, false, MatchBool, Result, Ok, Err, IfOk, IfErr, OnErr, sym, ap, subst, ◌∙◌}
 use Rattle.std.proofs.lemmas.Bool.{false≢true}
 use Rattle.lists.specs.declared.memory.Memory.{Memory}
 use Rattle.wiki_talk.specs.declared.refusals.Refusal.{Refusal}
@@ -11,7 +11,6 @@ use Rattle.wiki_parts.specs.declared.faults.Fault.TheVariants.{Refused}
 use Rattle.wiki_parts.specs.declared.faults.Fault.TheVariants as faults
 use Rattle.wiki_parts.specs.Faults.{IsFault, Tells}
 use Rattle.wiki_store.specs.Step as store
-use Rattle.wiki_core.specs.State.{State}
 use Rattle.wiki_core.specs.Holding.{Holding}
 use Rattle.wiki_core.specs.Step.{Refuses, StepsSession, StepsPages, CarriesSessions, Step}
 

@@ -7,7 +7,7 @@ use Rattle.wiki_talk.specs.declared.replies.Reply.{Reply}
 use Rattle.wiki_talk.specs.declared.replies.Reply.TheVariants as replies
 use Rattle.wiki_talk.specs.declared.requests.Request.{Request}
 use Rattle.wiki_talk.specs.declared.requests.Request.TheVariants as requests
-use Rattle.wiki_talk.specs.Turns.{Exchange, answered, no_request, Turns}
+use Rattle.wiki_talk.specs.Turns.{Exchange, answered, Turns}
 use Rattle.wiki_core.specs.State.{State, first_state}
 use Rattle.wiki_core.specs.Causes.{session_numbered}
 use Rattle.wiki_core.specs.Step.{Step}

@@ -1,8 +1,7 @@
 -- Verdicts and answers, in the wiki's words.
-use Rattle.std.proofs.Common.{◌≡◌, ℕ, true, List, All, Contains}
+use Rattle.std.proofs.Common.{◌≡◌, ℕ, List}
 use Rattle.wiki_base.specs.declared.numbers.WordId.{WordId}
 use Rattle.logic_terms.specs.Concept.{Concept, Claim}
-use Rattle.logic_terms.specs.Names.{names_rise}
 use Rattle.tableau_rules.specs.Graph.{Graph}
 use Rattle.reasoner.specs.Verdicts.{SpendsAll}
 use Rattle.answers.specs.Answered.{denied, IsUnknown}

@@ -1,6 +1,6 @@
 -- Words that come and go leave the meaning of tokens that have none of their forms.
 use Rattle.std.proofs.Common.{◌≡◌, ℕ, ◌+◌, Bool, true, false, not, ◌&&◌, ◌||◌, cond, List, [], ◌∷◌, ◌++◌, map, MatchBool, refl, sym, ap, subst, ◌∙◌, append-nil}
-use Rattle.std.specs.List.{flat_map, list_any, list_all}
+use Rattle.std.specs.List.{list_any, list_all}
 use Rattle.std.specs.Str.{bytes_eq}
 use Rattle.std.proofs.lemmas.Bool.{false≢true}
 use Rattle.std.proofs.lemmas.Grind.{flat_map-append}
@@ -12,8 +12,6 @@ use Rattle.lexicon.specs.declared.kinds.Forms.{Forms}
 use Rattle.lexicon.specs.declared.words.Word.{Word}
 use Rattle.lexicon.specs.Words.{Listed, is_among, has_form, has_number, others, with_word, without_word, next_word}
 use Rattle.lexicon.specs.Readings.{reading, readings_from, readings_of_word, readings_of}
-use Rattle.derivation_trees.specs.Settings.{Setting}
-use Rattle.derivation_trees.specs.Sentences.{setting_of}
 use Rattle.derivation_trees.specs.Skeletons.{IsLeast}
 use Rattle.logic_terms.specs.Concept.{Claim}
 use Rattle.articles.specs.declared.sentences.Sentence.{Sentence}

@@ -1,15 +1,14 @@
 -- What a change of the sentences of one article leaves, and what is kept beside the changed state.
-use Rattle.std.proofs.Common.{◌≡◌, ℕ, zero, suc, min, ◌+◌, ◌<◌, ◌≤◌, Bool, true, false, cond, List, [], ◌∷◌, ◌++◌, length, take, drop, get_or, set, map, All, Option, Some, None, unwrap_or, refl, sym, ap, subst, ◌∙◌, arith}
+use Rattle.std.proofs.Common.{◌≡◌, ℕ, zero, suc, ◌+◌, ◌<◌, ◌≤◌, Bool, true, false, cond, List, [], ◌∷◌, ◌++◌, length, take, drop, get_or, set, map, All, Option, Some, None, unwrap_or, refl, sym, ap, subst, ◌∙◌, arith}
 use Rattle.std.specs.List.{slice_get, remove}
 use Rattle.std.specs.Option.{option_map_or, option_and_then, IsSomeAnd}
 use Rattle.std.proofs.lemmas.Bool.{false≢true}
-use Rattle.std.proofs.lemmas.List.{length-append, length-set, length-take-le, length-take, length-drop}
+use Rattle.std.proofs.lemmas.List.{length-append, length-set, length-take, length-drop}
 use Rattle.std.proofs.lemmas.List.Elements.{All-nil, All-cons, All-head, All-tail, All-append, All-take, All-drop, All-set}
-use Rattle.std.proofs.lemmas.Option.{none-some, slice_get_within, get_or_from_slice_get, slice_get-get_or}
+use Rattle.std.proofs.lemmas.Option.{none-some, slice_get_within, get_or_from_slice_get}
 use Rattle.wiki_base.specs.declared.numbers.WordId.{WordId}
 use Rattle.wiki_base.specs.declared.tokens.TheConstants.{MOST_TOKENS}
 use Rattle.codeco_terms.specs.GrammarParts.{GrammarParts}
-use Rattle.lexicon.specs.declared.words.Word.{Word}
 use Rattle.lexicon.specs.Words.{Listed}
 use Rattle.logic_terms.specs.Interpretation.{Interpretation}
 use Rattle.owl_eval.specs.declared.checked.CheckedModel.{CheckedModel}
@@ -23,9 +22,8 @@ use Rattle.articles.specs.Articles.{AreInOrder, HasSentence, is_of, article_of, 
 use Rattle.articles.specs.Places.{IsPlaceOf}
 use Rattle.articles.proofs.PlaceLemmas.{article_at, with_change-set}
 use Rattle.wiki_parts.specs.declared.meanings.Sense.{Sense}
-use Rattle.wiki_parts.specs.Found.{meaning_shown}
 use Rattle.wiki_parts.specs.Holding.{FitsMeaning, Holding}
-use Rattle.wiki_parts.specs.Kept.{meanings_in, known_in, known_around, IsAround, MeanEach, MeanInEach, IsKeeping}
+use Rattle.wiki_parts.specs.Kept.{meanings_in, known_around, IsAround, MeanEach, MeanInEach, IsKeeping}
 use Rattle.wiki_parts.specs.Knowledge.{sentences_in}
 use Rattle.wiki_parts.specs.Meanings.{Meaning, stating, outside, asking, asking_outside, Means}
 use Rattle.wiki_parts.specs.Places.{word_named, sentence_named}

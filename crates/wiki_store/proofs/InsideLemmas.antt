@@ -1,5 +1,5 @@
 -- What is kept and told where a sentence is judged, by the state that the program holds and the wiki that it is seen as.
-use Rattle.std.proofs.Common.{◌≡◌, ℕ, zero, suc, ◌+◌, ◌<◌, ◌≤◌, Bool, true, cond, List, [], ◌∷◌, ◌++◌, length, get_or, set, take, drop, All, AllPairs, Option, Some, refl, sym, ap, subst, ◌∙◌, arith}
+use Rattle.std.proofs.Common.{◌≡◌, ℕ, zero, suc, ◌+◌, ◌<◌, ◌≤◌, true, cond, List, [], ◌∷◌, ◌++◌, length, get_or, set, AllPairs, Option, Some, refl, sym, ap, subst, ◌∙◌, arith}
 use Rattle.std.specs.Prelude.{IsTrue, IfOk, Result, Ok, Err}
 use Rattle.std.specs.List.{slice_get, insert, remove}
 use Rattle.std.specs.Option.{option_and_then, IsSomeAnd}
@@ -7,9 +7,8 @@ use Rattle.std.proofs.lemmas.List.{set-get_or, get_or-set_same}
 use Rattle.std.proofs.lemmas.Option.{get_or_from_slice_get, slice_get_within}
 use Rattle.wiki_base.specs.declared.numbers.WordId.{WordId}
 use Rattle.wiki_base.specs.declared.tokens.TheConstants.{MOST_TOKENS}
-use Rattle.codeco_terms.specs.GrammarParts.{GrammarParts}
 use Rattle.codeco_checked.specs.Sound.{IsSound as IsSoundGrammar}
-use Rattle.lexicon.specs.Words.{Listed, SharesNoForm}
+use Rattle.lexicon.specs.Words.{SharesNoForm}
 use Rattle.absorb.specs.Mentioned.{are_over}
 use Rattle.logic_terms.specs.Concept.{Claim}
 use Rattle.logic_terms.specs.Plain.{are_plain}
@@ -21,7 +20,7 @@ use Rattle.wiki_talk.specs.declared.statuses.Status.{Status}
 use Rattle.wiki_talk.specs.declared.statuses.Status.TheVariants.{Asserted, RedBudget}
 use Rattle.articles.specs.declared.sentences.Sentence.{Sentence}
 use Rattle.articles.specs.declared.article.Article.{Article}
-use Rattle.articles.specs.Articles.{AreInOrder, HasPlace, HasSentence, article_of, sentence_at, with_change, with_status}
+use Rattle.articles.specs.Articles.{AreInOrder, HasPlace, HasSentence, sentence_at, with_change}
 use Rattle.articles.specs.Places.{IsPlaceOf}
 use Rattle.articles.proofs.PlaceLemmas.{article_at}
 use Rattle.wiki_parts.specs.declared.meanings.Sense.{Sense}
@@ -30,12 +29,12 @@ use Rattle.wiki_parts.specs.Meanings.{Meaning, Means}
 use Rattle.wiki_parts.specs.Knowledge.{is_asserted, sentences_in, Knows, live_names, IsStatusOf, GetStatus}
 use Rattle.wiki_parts.specs.Holding.{Holding}
 use Rattle.wiki_parts.specs.Found.{meaning_shown}
-use Rattle.wiki_parts.specs.Kept.{stated_by, known_around, known_in, IsAround, MeanInEach, Stands, IsKeeping}
+use Rattle.wiki_parts.specs.Kept.{stated_by, known_around, IsAround, Stands, IsKeeping}
 use Rattle.wiki_parts.specs.Refusing.{may_reassert}
 use Rattle.wiki_store.specs.Step.{with_inserted}
 use Rattle.wiki_store.specs.Appending.{end_of, with_appended, SpendsAtEnd}
-use Rattle.wiki_store.proofs.AroundLemmas.{around_there, item, mean_at}
-use Rattle.wiki_store.proofs.JudgeLemmas.{spliced, fits-standing, keeps-changed, judged_over, judged_plain, status_taken, spends_taken, all-in-at, known_in-gap, known_in-unasserted, unasserted, means-at, around_place, marked-spliced}
+use Rattle.wiki_store.proofs.AroundLemmas.{around_there, mean_at}
+use Rattle.wiki_store.proofs.JudgeLemmas.{spliced, fits-standing, keeps-changed, judged_over, judged_plain, status_taken, spends_taken, all-in-at, known_in-gap, known_in-unasserted, unasserted, means-at, around_place}
 
 -- ---- an insertion is undone
 

@@ -1,5 +1,5 @@
 -- What is kept where a sentence comes into an article, in place of those from a place to before another.
-use Rattle.std.proofs.Common.{◌≡◌, ℕ, zero, suc, ◌+◌, ◌<◌, ◌≤◌, Bool, true, false, cond, List, [], ◌∷◌, ◌++◌, length, take, drop, set, map, All, AllPairs, Option, Some, unwrap_or, refl, sym, ap, subst, ◌∙◌, append_assoc, length-append, length-drop, arith}
+use Rattle.std.proofs.Common.{◌≡◌, ℕ, zero, suc, ◌+◌, ◌<◌, ◌≤◌, Bool, true, false, cond, List, [], ◌∷◌, ◌++◌, length, take, drop, set, All, AllPairs, Option, Some, unwrap_or, refl, sym, ap, subst, ◌∙◌, append_assoc, length-append, length-drop, arith}
 use Rattle.std.specs.Prelude.{IsTrue}
 use Rattle.std.specs.List.{slice_get}
 use Rattle.std.specs.Option.{option_map_or, IsSomeAnd}
@@ -31,7 +31,7 @@ use Rattle.articles.proofs.PlaceLemmas.{article_at, with_change-set}
 use Rattle.wiki_parts.specs.declared.meanings.Sense.{Sense}
 use Rattle.wiki_parts.specs.State.{State, IsSound}
 use Rattle.wiki_parts.specs.Meanings.{Meaning, stating, outside, asking, asking_outside, Means}
-use Rattle.wiki_parts.specs.Knowledge.{is_asserted, sentences_in, Knows, live_names, IsAllowed, IsStatusOf}
+use Rattle.wiki_parts.specs.Knowledge.{is_asserted, sentences_in, Knows, live_names, IsStatusOf}
 use Rattle.wiki_parts.specs.Holding.{FitsMeaning}
 use Rattle.wiki_parts.specs.Found.{meaning_shown}
 use Rattle.wiki_parts.specs.Refusing.{may_reassert}

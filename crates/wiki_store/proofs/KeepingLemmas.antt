@@ -1,34 +1,28 @@
 -- What is kept beside the state: as many meanings as sentences, and a model of what is known.
-use Rattle.std.proofs.Common.{◌≡◌, ℕ, ◌+◌, ◌<◌, ◌≤◌, Bool, true, false, cond, List, [], ◌∷◌, ◌++◌, length, map, All, Option, Some, None, unwrap_or, remove, slice_set, refl, sym, ap, subst, ◌∙◌, append_assoc, arith}
-use Rattle.std.specs.List.{slice_get, list_any}
+use Rattle.std.proofs.Common.{◌≡◌, ℕ, ◌+◌, ◌<◌, ◌≤◌, Bool, true, false, cond, List, [], ◌∷◌, ◌++◌, length, All, Option, Some, None, unwrap_or, refl, sym, ap, subst, ◌∙◌, arith}
+use Rattle.std.specs.List.{slice_get}
 use Rattle.std.specs.Option.{option_and_then}
 use Rattle.std.proofs.lemmas.List.Elements.{All-nil, All-cons, All-head, All-tail, All-append}
 use Rattle.std.proofs.lemmas.Option.{none-some, slice_get_within, get_or_from_slice_get}
 use Rattle.wiki_base.specs.declared.numbers.WordId.{WordId}
 use Rattle.wiki_base.specs.declared.tokens.TheConstants.{MOST_TOKENS}
 use Rattle.codeco_terms.specs.GrammarParts.{GrammarParts}
-use Rattle.lexicon.specs.declared.kinds.Forms.{Forms}
-use Rattle.lexicon.specs.Words.{Listed, with_word, without_word, add_refusal, forms_of, is_among}
+use Rattle.lexicon.specs.Words.{Listed}
 use Rattle.derivation_trees.specs.Sentences.{IsSentence}
-use Rattle.logic_terms.specs.Concept.{Claim}
-use Rattle.logic_terms.specs.Interpretation.{Interpretation}
-use Rattle.logic_terms.specs.Reading.{Holds, IsModel}
 use Rattle.owl_eval.specs.declared.checked.CheckedModel.{CheckedModel}
 use Rattle.owl_eval.specs.Checked.{kept_interp, kept_claims}
 use Rattle.reasoner.specs.Verdicts.{IsFiniteModel}
 use Rattle.wiki_talk.specs.declared.limits.TheConstants.{MOST_SENTENCES}
-use Rattle.wiki_talk.specs.declared.statuses.Status.TheVariants.{Retracted}
 use Rattle.articles.specs.declared.sentences.Sentence.{Sentence}
 use Rattle.articles.specs.declared.article.Article.{Article}
-use Rattle.articles.specs.Articles.{AreInOrder, is_of, article_of, with_change, with_status}
-use Rattle.articles.specs.Places.{IsPlaceOf}
+use Rattle.articles.specs.Articles.{is_of, article_of}
 use Rattle.wiki_parts.specs.declared.meanings.Sense.{Sense}
 use Rattle.wiki_parts.specs.State.{State}
-use Rattle.wiki_parts.specs.Meanings.{Meaning, Means}
+use Rattle.wiki_parts.specs.Meanings.{Meaning}
 use Rattle.wiki_parts.specs.Places.{word_named, article_named}
 use Rattle.wiki_parts.specs.Knowledge.{sentences_in, Knows}
 use Rattle.wiki_parts.specs.Holding.{IsStored, IsKept}
-use Rattle.wiki_parts.specs.Kept.{meanings_in, MeanEach, MeanInEach, known_of, known_in, known_around, senses_of, IsAround, IsKeeping}
+use Rattle.wiki_parts.specs.Kept.{meanings_in, MeanEach, MeanInEach, IsKeeping}
 use Rattle.wiki_parts.proofs.KnownLemmas.{knows_from_known}
 
 -- as many meanings are kept as there are sentences, and lists of them as there are articles

@@ -17,7 +17,7 @@ use Rattle.articles.specs.Articles.{article_of, sentence_at, CanChange, HasPlace
 use Rattle.wiki_parts.specs.State.{State}
 use Rattle.wiki_parts.specs.Holding.{Holding}
 use Rattle.wiki_parts.specs.Faults.{IsAbsent}
-use Rattle.wiki_parts.specs.Places.{word_named, article_named, sentence_named}
+use Rattle.wiki_parts.specs.Places.{word_named, article_named}
 use Rattle.wiki_parts.specs.Parsing.{tokens_of}
 use Rattle.wiki_parts.specs.Meanings.{Meaning, Means}
 use Rattle.wiki_parts.specs.Knowledge.{Knows, IsStatusOf, GetStatus}

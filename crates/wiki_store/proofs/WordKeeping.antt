@@ -1,22 +1,20 @@
 -- What is kept beside the state by other words: with a word more, with one less, and with other forms of one.
-use Rattle.std.proofs.Common.{◌≡◌, ℕ, zero, suc, ◌+◌, ◌<◌, ◌≤◌, ◌||◌, ◌==◌, Bool, true, false, cond, List, [], ◌∷◌, ◌++◌, length, take, drop, get_or, map, find, All, AllPairs, Option, Some, None, unwrap_or, IsSome, refl, sym, ap, subst, ◌∙◌, arith, append-nil}
+use Rattle.std.proofs.Common.{◌≡◌, ℕ, zero, suc, ◌+◌, ◌<◌, ◌≤◌, ◌||◌, ◌==◌, Bool, true, false, cond, List, [], ◌∷◌, ◌++◌, length, map, find, All, Option, Some, None, unwrap_or, refl, sym, ap, subst, ◌∙◌, arith, append-nil}
 use Rattle.std.specs.List.{slice_get, remove, list_any}
 use Rattle.std.specs.Option.{option_or}
-use Rattle.std.proofs.lemmas.Bool.{false≢true}
 use Rattle.std.proofs.lemmas.Grind.{flat_map-append}
 use Rattle.std.proofs.lemmas.List.{map-append}
 use Rattle.std.proofs.lemmas.List.Elements.{All-nil, All-cons, All-head, All-tail, All-append}
 use Rattle.std.proofs.lemmas.List.Folds.{find-append}
-use Rattle.std.proofs.lemmas.Option.{none-some, get_or_from_slice_get, slice_get-get_or}
+use Rattle.std.proofs.lemmas.Option.{none-some, get_or_from_slice_get}
 use Rattle.wiki_base.specs.declared.numbers.WordId.{WordId}
 use Rattle.wiki_base.specs.declared.tokens.TheConstants.{MOST_TOKENS}
 use Rattle.codeco_terms.specs.GrammarParts.{GrammarParts}
 use Rattle.lexicon.specs.declared.kinds.Forms.{Forms}
 use Rattle.lexicon.specs.declared.words.Word.{Word}
-use Rattle.lexicon.specs.Words.{Listed, IsLexicon, is_among, forms_of, next_word, with_word, without_word, add_refusal}
+use Rattle.lexicon.specs.Words.{Listed, IsLexicon, is_among, next_word, with_word, without_word, add_refusal}
 use Rattle.logic_terms.specs.Concept.{Claim}
 use Rattle.owl_eval.specs.declared.checked.CheckedModel.{CheckedModel}
-use Rattle.owl_eval.specs.Checked.{kept_claims}
 use Rattle.wiki_talk.specs.declared.limits.TheConstants.{MOST_SENTENCES}
 use Rattle.articles.specs.declared.sentences.Sentence.{Sentence}
 use Rattle.articles.specs.declared.article.Article.{Article}
@@ -29,7 +27,7 @@ use Rattle.wiki_parts.specs.Knowledge.{sentences_in}
 use Rattle.wiki_parts.specs.Meanings.{Meaning, Means}
 use Rattle.wiki_parts.specs.Places.{Placed, placed_from, placed_in, all_placed}
 use Rattle.wiki_parts.specs.Refusing.{KeepsMeaning, uses_word}
-use Rattle.wiki_parts.specs.State.{State, IsSound}
+use Rattle.wiki_parts.specs.State.{State}
 use Rattle.wiki_parts.proofs.MeaningLemmas.{means_one}
 use Rattle.wiki_parts.proofs.UseLemmas.{empty-unused}
 use Rattle.wiki_store.specs.Rewording.{KeepsSentences, IsGone}

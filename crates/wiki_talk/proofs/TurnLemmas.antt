@@ -1,5 +1,5 @@
 -- Runs that go on.
-use Rattle.std.proofs.Common.{◌≡◌, List, [], ◌∷◌, ◌++◌, refl, sym, subst}
+use Rattle.std.proofs.Common.{◌≡◌, List, [], ◌∷◌, ◌++◌, refl, subst}
 use Rattle.wiki_talk.specs.Turns.{Exchange, Turn, Turns}
 
 module _ {S Q R : Type 0} (step : S → Q → R → S → Type 0) where

@@ -1,7 +1,6 @@
 -- No line has a number with a fraction.
-use Rattle.std.proofs.Common.{◌≡◌, ℕ, List, [], ◌∷◌, Bool, true, false, if◌then◌else◌, map, refl, Option, Some, None}
-use Rattle.serde_json.specs.Data.{Members, string, object}
-use Rattle.serde_json.specs.View.{items_of}
+use Rattle.std.proofs.Common.{◌≡◌, ℕ, List, [], ◌∷◌, Bool, true, false, if◌then◌else◌, refl, Option, Some, None}
+use Rattle.serde_json.specs.Data.{Members}
 use Rattle.serde_json.specs.Written.{has_float, items_have_float, members_have_float}
 use Rattle.wiki_talk.specs.declared.replies.WordView.{WordView}
 use Rattle.wiki_talk.specs.declared.replies.MenuView.{MenuView}
@@ -17,7 +16,7 @@ use Rattle.wiki_talk.specs.declared.replies.Meant.TheVariants as meanings
 use Rattle.wiki_talk.specs.declared.statuses.Status.{Status}
 use Rattle.logic_terms.specs.declared.cause.Cause.{Cause}
 use Rattle.wiki_talk.specs.Statuses.{cause_in, is_question}
-use Rattle.wire_json.specs.Values.{texts_items, numbers_items, menu_value, word_value, words_items, with_cause, statement_value, question_value, sentence_value, sentences_items}
+use Rattle.wire_json.specs.Values.{texts_items, numbers_items, menu_value, words_items, with_cause, statement_value, question_value, sentences_items}
 use Rattle.wire_json.specs.Replies.{reply_value, refusal_value, status_value, meant_value, commit_value}
 use Rattle.wire_json.specs.Requests.{request_value, with_place}
 

@@ -1,12 +1,11 @@
-use Rattle.std.proofs.Common.{◌≡◌, ℕ, ◌<◌, ◌≤◌, ◌+◌, List, [], ◌∷◌, ◌++◌, length, get_or, take, sym, ap, ◌∙◌, subst, arith}
+use Rattle.std.proofs.Common.{◌≡◌, ◌<◌, ◌≤◌, ◌+◌, [], ◌∷◌, ◌++◌, length, get_or, take, sym, ◌∙◌, subst, arith}
 use Rattle.std.specs.Prelude.{◌↔◌, ◌⊎◌}
 use Rattle.std.proofs.lemmas.List.{take_more, take_all}
 use Rattle.logic_terms.specs.declared.expressions.Role.{Role}
-use Rattle.logic_terms.specs.Same.{inverse}
 use Rattle.absorb.specs.Hierarchy.{IsAtOrBelow}
 use Rattle.absorb.specs.Absorbed.{IsPutBelow}
 use Rattle.absorb.specs.Closure.{Reaches}
-use Rattle.absorb.proofs.HierarchyLemmas.{no_pair, closed_more, closed_none}
+use Rattle.absorb.proofs.HierarchyLemmas.{no_pair, closed_more}
 use Rattle.absorb.proofs.hierarchy.hierarchy.Goals as goal
 
 pub loop-inclusion-preserved : goal.loop-inclusion-preserved

@@ -1,8 +1,8 @@
-use Rattle.std.proofs.Common.{◌≡◌, ℕ, ◌<◌, ◌≤◌, ◌+◌, List, [], ◌∷◌, ◌++◌, length, get_or, take, Contains, sym, ap, ◌∙◌, subst, arith}
+use Rattle.std.proofs.Common.{◌≡◌, ◌<◌, ◌≤◌, ◌+◌, [], ◌∷◌, ◌++◌, length, get_or, take, Contains, sym, ◌∙◌, subst, arith}
 use Rattle.std.specs.Prelude.{◌↔◌, ◌⊎◌}
 use Rattle.std.proofs.lemmas.List.{take_more, take_all}
 use Rattle.logic_terms.specs.declared.expressions.Role.{Role}
-use Rattle.absorb.specs.Hierarchy.{IsAtOrBelow, AreDistinct}
+use Rattle.absorb.specs.Hierarchy.{IsAtOrBelow}
 use Rattle.absorb.proofs.HierarchyLemmas.{no_role, product_none, product_more, product_all}
 use Rattle.absorb.proofs.hierarchy.put_below.Goals as goal
 

@@ -1,9 +1,8 @@
-use Rattle.std.proofs.Common.{◌≡◌, ◌&&◌, true, List, sym, ap, ◌∙◌}
+use Rattle.std.proofs.Common.{◌≡◌, ◌&&◌, ap, ◌∙◌}
 use Rattle.std.specs.List.{list_all}
 use Rattle.wiki_base.specs.declared.numbers.WordId.{WordId}
 use Rattle.logic_terms.specs.Shown.{claims_of}
 use Rattle.logic_terms.specs.Known.{theory_of}
-use Rattle.absorb.specs.Absorbed.{IsAbsorbed}
 use Rattle.absorb.specs.Mentioned.{is_among}
 use Rattle.absorb.proofs.AbsorbedLemmas.{equalities_over, absorbed_from, lawful, plain_theory, model_of, model_from}
 use Rattle.absorb.proofs.knowledge.absorb.Goals as goal

@@ -76,8 +76,7 @@ returns-in-Err-clause-serves g c =
     let outside : Outside = record {
       journal = g.K.Sink.taken c.args.output.now;
       sent = g.L.Link.sent c.args.link.now;
-      send_faults =
-          g.L.Link.send_faults c.args.link.now;
+      send_faults = g.L.Link.send_faults c.args.link.now;
     } in
     serves_outcome (ace_wiki budget) most (g.S.Source.left c.args.input.now) outside (g.L.Link.handed c.args.link.now) outcomes.Memory outcome
     (g.S.Source.left c.args.input.now) outside

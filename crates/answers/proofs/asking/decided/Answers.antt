@@ -6,13 +6,13 @@ use Rattle.logic_terms.specs.Known.{theory_of}
 use Rattle.logic_terms.specs.Shown.{concept_of}
 use Rattle.logic_terms.specs.Theory.{IsModelOf}
 use Rattle.closure_check.specs.NoModel.{HasNoModel}
-use Rattle.owl_eval.specs.Checked.{kept_interp, kept_claims}
+use Rattle.owl_eval.specs.Checked.{kept_claims}
 use Rattle.tableau.specs.Ends.{IsCutAt}
 use Rattle.tableau_rules.specs.Shown.{graph_of}
 use Rattle.reasoner.specs.Decisions.{IfModel, IfTree, IfUndecided}
 use Rattle.consequences.specs.Known.{theory_in}
 use Rattle.answers.specs.Asserted.{with_assertion}
-use Rattle.answers.proofs.KnownLemmas.{included, IsDenying, denying_lawful, denying_plain, denying_model, denying_none, denying_longer}
+use Rattle.answers.proofs.KnownLemmas.{included, denying_lawful, denying_plain, denying_model, denying_none, denying_longer}
 use Rattle.answers.proofs.asking.decided.Goals as goal
 
 pub returns-then-is_out : goal.returns-then-is_out

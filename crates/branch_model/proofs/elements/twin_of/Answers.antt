@@ -1,10 +1,8 @@
-use Rattle.std.proofs.Common.{◌≡◌, ◌≤◌, ◌&&◌, true, false, sym, ap, ◌∙◌, arith}
-use Rattle.std.specs.Prelude.{not}
-use Rattle.std.proofs.lemmas.Bool.{and_from, and_left, and_right, le-ltb, lt-ltb}
+use Rattle.std.proofs.Common.{◌≡◌, ◌≤◌, ◌&&◌, true, false, sym, ◌∙◌, arith}
+use Rattle.std.proofs.lemmas.Bool.{and_from, and_left, and_right}
 use Rattle.logic_terms.specs.Known.{theory_of}
-use Rattle.tableau_rules.specs.Blocking.{is_anonymous, same_classes, ancestors, has_twin, is_directly_blocked, is_indirectly_blocked}
+use Rattle.tableau_rules.specs.Blocking.{is_anonymous, same_classes}
 use Rattle.tableau_rules.specs.Graph.{label_at, parent_of}
-use Rattle.tableau_rules.specs.Neighbours.{roots}
 use Rattle.tableau_rules.specs.Shown.{graph_of}
 use Rattle.branch_model.proofs.Climb.{anonymous_from, named_from, twin_here, twin_step}
 use Rattle.branch_model.proofs.elements.twin_of.Goals as goal

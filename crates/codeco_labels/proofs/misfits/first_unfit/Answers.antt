@@ -1,5 +1,5 @@
 use Rattle.std.proofs.Common.{sym, ◌∙◌}
-use Rattle.codeco_labels.proofs.MisfitLemmas.{seen_start, seen_more, differs_here, unfit_here, all_seen}
+use Rattle.codeco_labels.proofs.MisfitLemmas.{seen_more, differs_here, unfit_here, all_seen}
 use Rattle.codeco_labels.proofs.misfits.first_unfit.Goals as goal
 
 pub returns-then-differs : goal.returns-then-differs

@@ -1,7 +1,7 @@
-use Rattle.std.proofs.Common.{◌≡◌, All, Some, subst, sym, arith}
+use Rattle.std.proofs.Common.{◌≡◌, All, subst, arith}
 use Rattle.std.proofs.lemmas.List.{take_all}
 use Rattle.codeco_terms.specs.declared.values.Value.TheVariants.{Atom}
-use Rattle.codeco_terms.specs.Unification.{Bindings, Meets, IsLeastExtension, meaning_of}
+use Rattle.codeco_terms.specs.Unification.{Meets, IsLeastExtension}
 use Rattle.codeco_terms.proofs.UnificationLemmas.{least_take_more, none_take_more, least_none, least_same, Meets-kept}
 use Rattle.codeco_terms.proofs.unification.meet_vals.Goals as goal
 use Rattle.codeco_terms.proofs.unification.meet_vals.Goals.{else-feature-other-via-then-feature-other+else-not-meet, else-feature-other-via-else-feature-other}

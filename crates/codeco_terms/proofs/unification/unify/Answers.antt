@@ -1,4 +1,4 @@
-use Rattle.std.proofs.Common.{rules, arith, refl}
+use Rattle.std.proofs.Common.{rules}
 use Rattle.codeco_terms.proofs.UnificationLemmas.{CanEquate-from_least}
 use Rattle.codeco_terms.proofs.unification.unify.Goals as goal
 

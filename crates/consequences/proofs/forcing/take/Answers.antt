@@ -9,5 +9,5 @@ pub returns : goal.returns
 returns c =
     on_ok_weaker c.apply.result
     (λ made. forced_after (theory_of c.args.k.now) (graph_of c.args.b.now) c.args.step.now (graph_of c.apply.new.b) c.requires
-        (sym c.applies.ensures ∙ c.if-not-applies.false) (sym c.choices.ensures ∙ c.if-choices-ne1.false) made)
+    (sym c.applies.ensures ∙ c.if-not-applies.false) (sym c.choices.ensures ∙ c.if-choices-ne1.false) made)
     c.apply.ensures.ok

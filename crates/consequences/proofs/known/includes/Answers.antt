@@ -8,4 +8,4 @@ use Rattle.consequences.proofs.known.includes.Goals as goal
 pub returns-in-Some : goal.returns-in-Some
 returns-in-Some c t =
     shown_in_each (theory_of c.args.k.now) (graph_of c.args.b.now) c.requires (concept_of c.args.class.now) c.args.name c.in-Some.node
-        (sym c.node_of.ensures ∙ c.in-Some.is) (sym c.shows.ensures ∙ t)
+    (sym c.node_of.ensures ∙ c.in-Some.is) (sym c.shows.ensures ∙ t)

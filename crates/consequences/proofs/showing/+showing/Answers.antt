@@ -27,29 +27,29 @@ is_shown-returns-in-Or t c =
 pub is_shown-returns-in-Some : goal.is_shown-returns-in-Some
 is_shown-returns-in-Some t c =
     shown_some (theory_of c.args.k.now) (graph_of c.args.b.now) c.args.node c.args.class.now c.in-Some.role c.in-Some.inner c.deref.result.now
-        c.edges_at.result.now _ c.some_end_is_shown.ensures c.edges_at.ensures c.deref.ensures c.in-Some.is
+    c.edges_at.result.now _ c.some_end_is_shown.ensures c.edges_at.ensures c.deref.ensures c.in-Some.is
 
 pub is_shown-returns-in-Value : goal.is_shown-returns-in-Value
 is_shown-returns-in-Value t c =
     shown_value (theory_of c.args.k.now) (graph_of c.args.b.now) c.args.node c.args.class.now c.in-Value.role c.in-Value.name _ c.has_value.ensures
-        c.in-Value.is
+    c.in-Value.is
 
 pub each_is_shown-returns-then-not-is_shown : goal.each_is_shown-returns-then-not-is_shown
 each_is_shown-returns-then-not-is_shown t c =
     sym (each_fails (λ d. shows (theory_of c.args.k.now) (graph_of c.args.b.now) d c.args.node) (concepts_of c.args.classes.now) c.loop-place.place
-        (concept_of c.get.result.now) c.get.ensures.item (sym c.is_shown.ensures ∙ c.if-not-is_shown.true))
+    (concept_of c.get.result.now) c.get.ensures.item (sym c.is_shown.ensures ∙ c.if-not-is_shown.true))
 
 pub each_is_shown-loop-place-preserved : goal.each_is_shown-loop-place-preserved
 each_is_shown-loop-place-preserved t c =
     each_more (λ d. shows (theory_of c.args.k.now) (graph_of c.args.b.now) d c.args.node) (concepts_of c.args.classes.now) c.loop-place.place
-        (concept_of c.get.result.now) c.get.ensures.item c.loop-place.invariant (sym c.is_shown.ensures ∙ c.if-not-is_shown.false)
+    (concept_of c.get.result.now) c.get.ensures.item c.loop-place.invariant (sym c.is_shown.ensures ∙ c.if-not-is_shown.false)
 
 pub some_is_shown-returns-then-is_shown : goal.some_is_shown-returns-then-is_shown
 some_is_shown-returns-then-is_shown t c =
     sym (some_passes (λ d. shows (theory_of c.args.k.now) (graph_of c.args.b.now) d c.args.node) (concepts_of c.args.classes.now) c.loop-place.place
-        (concept_of c.get.result.now) c.get.ensures.item (sym c.is_shown.ensures ∙ c.if-is_shown.true))
+    (concept_of c.get.result.now) c.get.ensures.item (sym c.is_shown.ensures ∙ c.if-is_shown.true))
 
 pub some_is_shown-loop-place-preserved : goal.some_is_shown-loop-place-preserved
 some_is_shown-loop-place-preserved t c =
     some_more (λ d. shows (theory_of c.args.k.now) (graph_of c.args.b.now) d c.args.node) (concepts_of c.args.classes.now) c.loop-place.place
-        (concept_of c.get.result.now) c.get.ensures.item c.loop-place.invariant (sym c.is_shown.ensures ∙ c.if-is_shown.false)
+    (concept_of c.get.result.now) c.get.ensures.item c.loop-place.invariant (sym c.is_shown.ensures ∙ c.if-is_shown.false)

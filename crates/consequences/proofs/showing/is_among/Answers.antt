@@ -8,14 +8,14 @@ use Rattle.consequences.proofs.showing.is_among.Goals as goal
 pub returns-then-is_same : goal.returns-then-is_same
 returns-then-is_same c =
     sym (map_passes concept_of (λ d. same_concept d (concept_of c.args.class.now)) c.args.label.now c.loop-own.own-index c.own-item.result c.loop-own-test.true
-        c.own-item.is (sym c.is_same.ensures ∙ c.if-is_same.true))
+    c.own-item.is (sym c.is_same.ensures ∙ c.if-is_same.true))
 
 pub loop-own-preserved : goal.loop-own-preserved
 loop-own-preserved c =
     map_some_more concept_of (λ d. same_concept d (concept_of c.args.class.now)) c.args.label.now c.loop-own.own-index c.own-item.result c.loop-own-test.true
-        c.own-item.is c.loop-own.invariant (sym c.is_same.ensures ∙ c.if-is_same.false)
+    c.own-item.is c.loop-own.invariant (sym c.is_same.ensures ∙ c.if-is_same.false)
 
 pub returns : goal.returns
 returns c =
     sym c.loop-own.invariant ∙ ap (λ cs. list_any (λ d. same_concept d (concept_of c.args.class.now)) cs)
-        (map_all concept_of c.args.label.now c.loop-own.own-index c.loop-own-test.false)
+    (map_all concept_of c.args.label.now c.loop-own.own-index c.loop-own-test.false)

@@ -1,4 +1,4 @@
-use Rattle.std.proofs.Common.{◌≡◌, ap, ◌∙◌, sym}
+use Rattle.std.proofs.Common.{◌≡◌, ◌∙◌}
 use Rattle.std.proofs.lemmas.Result.{IfOk-weaker}
 use Rattle.derivation_trees.specs.Stands.{stand_of}
 use Rattle.derivation_scenes.proofs.ElementLemmas.{pass_without_tokens}

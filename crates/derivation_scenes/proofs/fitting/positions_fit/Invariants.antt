@@ -1,9 +1,9 @@
-use Rattle.std.proofs.Common.{◌≡◌, drop, map, []}
+use Rattle.std.proofs.Common.{◌≡◌, drop, []}
 use Rattle.std.specs.List.{flat_map, list_all}
 use Rattle.codeco_terms.specs.declared.declarations.Declared.TheVariants as declared
-use Rattle.codeco_checked.specs.Occurrences.{mentions, whole, positions}
+use Rattle.codeco_checked.specs.Occurrences.{positions}
 use Rattle.derivation_trees.specs.Settings.{is_value}
-use Rattle.derivation_trees.specs.Instances.{term_fits, value_under, own_fit}
+use Rattle.derivation_trees.specs.Instances.{value_under}
 use Rattle.derivation_scenes.proofs.fitting.positions_fit.Given as goal
 
 abbrev pub invariant-loop-element : goal.invariant-loop-element

@@ -1,6 +1,5 @@
-use Rattle.std.proofs.Common.{◌≡◌, ◌++◌, map, length, refl, ap, ◌∙◌, sym, rules}
-use Rattle.std.specs.List.{flat_map, list_all, range_with_len}
-use Rattle.codeco_checked.specs.Occurrences.{rule_features, positions}
+use Rattle.std.proofs.Common.{◌≡◌, ◌++◌, length, refl, ap, ◌∙◌, sym, rules}
+use Rattle.std.specs.List.{flat_map, range_with_len}
 use Rattle.derivation_trees.specs.Instances.{own_features, rule_own_features, written_variables, own_values}
 use Rattle.derivation_trees.proofs.InstanceLemmas.{is_instance_at}
 use Rattle.derivation_scenes.proofs.instances.is_instance.Goals as goal

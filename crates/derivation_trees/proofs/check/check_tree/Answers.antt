@@ -2,7 +2,6 @@ use Rattle.std.proofs.Common.{◌≡◌, map, ap, ◌∙◌, subst, IsTrue, ◌�
 use Rattle.std.specs.Prelude.{IfOk}
 use Rattle.lexicon.specs.Readings.{readings_of}
 use Rattle.derivation_trees.specs.Trees.{node_of}
-use Rattle.derivation_trees.specs.Settings.{Setting}
 use Rattle.derivation_trees.specs.Derives.{IsDerivation}
 use Rattle.derivation_trees.specs.Sentences.{setting_of}
 use Rattle.codeco_checked.specs.Sound.{IsSound}

@@ -1,12 +1,12 @@
-use Rattle.std.proofs.Common.{◌≡◌, Some, None, length, map, drop, nat_le, ap, ◌∙◌, sym, rules, arith}
+use Rattle.std.proofs.Common.{◌≡◌, Some, drop, nat_le, ap, ◌∙◌, sym, rules}
 use Rattle.std.proofs.lemmas.List.{length-map}
 use Rattle.std.specs.Prelude.{option_map}
 use Rattle.std.proofs.lemmas.Result.{IfOk-weaker}
 use Rattle.derivation_trees.specs.declared.trees.Tree.{out-Tree}
 use Rattle.derivation_trees.specs.Trees.{node_of, nodes_of}
 use Rattle.derivation_trees.specs.Derives as derives
-use Rattle.derivation_trees.specs.Stands.{at_of, children_of, stand_of, standing, values_in, found_in}
-use Rattle.derivation_trees.proofs.StandLemmas.{led_none, led_some, none_left_at, step_none, step_some, run_more, run_none, run_end}
+use Rattle.derivation_trees.specs.Stands.{at_of, children_of, stand_of, standing, values_in}
+use Rattle.derivation_trees.proofs.StandLemmas.{led_none, led_some, none_left_at, step_none, step_some}
 use Rattle.derivation_trees.proofs.derive.+leads.Goals as goal
 
 pub leads-returns-in-None-clause-is : goal.leads-returns-in-None-clause-is

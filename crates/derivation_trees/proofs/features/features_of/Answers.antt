@@ -1,10 +1,9 @@
-use Rattle.std.proofs.Common.{◌≡◌, ◌≤◌, [], ◌∷◌, ◌++◌, List, map, filter, length, drop, refl, ap, ◌∙◌, sym, arith, rules}
+use Rattle.std.proofs.Common.{◌≡◌, ◌≤◌, [], ◌∷◌, ◌++◌, List, filter, length, refl, ap, ◌∙◌, sym, arith, rules}
 use Rattle.std.specs.List.{flat_map, range_with_len}
 use Rattle.std.proofs.lemmas.List.{drop_all}
-use Rattle.std.proofs.lemmas.Grind.{flat_map-append}
 use Rattle.codeco_terms.specs.declared.rules.Rule.{Rule}
 use Rattle.codeco_checked.specs.Numbering.{has}
-use Rattle.codeco_checked.specs.Occurrences.{mentions, rule_mentions, whole}
+use Rattle.codeco_checked.specs.Occurrences.{rule_mentions}
 use Rattle.derivation_trees.specs.Instances.{past_all}
 use Rattle.derivation_trees.specs.Putting.{put_all, features_in}
 use Rattle.derivation_trees.proofs.PutLemmas.{put_step, put_all_append}

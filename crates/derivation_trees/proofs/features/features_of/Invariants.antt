@@ -1,6 +1,6 @@
-use Rattle.std.proofs.Common.{◌≡◌, drop, map, []}
+use Rattle.std.proofs.Common.{◌≡◌, drop, []}
 use Rattle.std.specs.List.{flat_map}
-use Rattle.codeco_checked.specs.Occurrences.{mentions, rule_mentions, whole}
+use Rattle.codeco_checked.specs.Occurrences.{rule_mentions}
 use Rattle.derivation_trees.specs.Putting.{put_all, features_in}
 use Rattle.derivation_trees.proofs.features.features_of.Given as goal
 

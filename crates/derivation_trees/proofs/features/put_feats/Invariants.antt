@@ -1,7 +1,5 @@
 use Rattle.std.proofs.Common.{◌≡◌, drop, map, []}
-use Rattle.std.specs.List.{flat_map}
-use Rattle.codeco_checked.specs.Occurrences.{mentions, rule_mentions, whole}
-use Rattle.derivation_trees.specs.Putting.{put_all, features_in}
+use Rattle.derivation_trees.specs.Putting.{put_all}
 use Rattle.derivation_trees.proofs.features.put_feats.Given as goal
 
 abbrev pub invariant-loop-feature : goal.invariant-loop-feature

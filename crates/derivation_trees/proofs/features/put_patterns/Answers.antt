@@ -1,9 +1,8 @@
-use Rattle.std.proofs.Common.{◌≡◌, [], ◌∷◌, ◌++◌, List, map, refl, ap, ◌∙◌, sym, arith, rules}
+use Rattle.std.proofs.Common.{◌≡◌, [], ◌∷◌, ◌++◌, map, refl, ◌∙◌, arith, rules}
 use Rattle.std.specs.List.{flat_map}
-use Rattle.std.proofs.lemmas.Grind.{flat_map-append}
-use Rattle.codeco_checked.specs.Occurrences.{mentions, rule_mentions, whole}
-use Rattle.derivation_trees.specs.Putting.{put_all, features_in}
-use Rattle.derivation_trees.proofs.PutLemmas.{put_step, put_all_append}
+use Rattle.codeco_checked.specs.Occurrences.{whole}
+use Rattle.derivation_trees.specs.Putting.{features_in}
+use Rattle.derivation_trees.proofs.PutLemmas.{put_step}
 use Rattle.derivation_trees.proofs.features.put_patterns.Goals as goal
 
 pub loop-pattern-preserved : goal.loop-pattern-preserved

@@ -1,7 +1,7 @@
 use Rattle.std.proofs.Common.{◌≡◌, drop, map, []}
 use Rattle.std.specs.List.{flat_map}
 use Rattle.codeco_checked.specs.Numbering.{has}
-use Rattle.codeco_checked.specs.Occurrences.{element_variables, category_variables, term_variables, whole}
+use Rattle.codeco_checked.specs.Occurrences.{category_variables, whole}
 use Rattle.derivation_trees.proofs.variables.patterns_have.Given as goal
 
 abbrev pub invariant-loop-pattern : goal.invariant-loop-pattern

@@ -1,4 +1,4 @@
-use Rattle.std.proofs.Common.{◌≡◌, ℕ, ◌+◌, ◌*◌, [], ◌∷◌, drop, map}
+use Rattle.std.proofs.Common.{◌≡◌, ◌+◌, ◌*◌, [], ◌∷◌, drop, map}
 use Rattle.std.specs.List.{list_any}
 use Rattle.derivation_trees.specs.Stands.{at_of}
 use Rattle.derivations.specs.Beginnings as beginnings

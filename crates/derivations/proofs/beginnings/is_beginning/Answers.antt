@@ -1,8 +1,6 @@
-use Rattle.std.proofs.Common.{◌≡◌, map, ap, ◌∙◌, sym, subst}
+use Rattle.std.proofs.Common.{◌≡◌, ap, ◌∙◌, sym, subst}
 use Rattle.std.proofs.lemmas.Result.{IfOk-weaker}
-use Rattle.lexicon.specs.Readings.{readings_of}
 use Rattle.codeco_checked.specs.Sound.{IsSound}
-use Rattle.derivation_trees.specs.Settings.{Setting}
 use Rattle.derivation_trees.specs.Sentences.{setting_of}
 use Rattle.derivation_trees.proofs.LimitLemmas.{IsLimited-from_sound}
 use Rattle.derivations.specs.Beginnings.{has_partial}

@@ -1,4 +1,4 @@
-use Rattle.std.proofs.Common.{◌≡◌, ℕ, ◌+◌, ◌*◌, [], ◌∷◌, ◌++◌, take, drop, map}
+use Rattle.std.proofs.Common.{◌≡◌, ◌+◌, ◌*◌, [], ◌∷◌, ◌++◌, drop, map}
 use Rattle.derivations.specs.Enumeration as enumeration
 use Rattle.derivations.specs.Choices.{choice_of}
 use Rattle.derivations.proofs.choices.push_own.Given as goal

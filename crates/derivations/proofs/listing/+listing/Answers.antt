@@ -1,4 +1,4 @@
-use Rattle.std.proofs.Common.{◌≡◌, ◌∷◌, [], ◌++◌, ◌<◌, map, length, get_or, rules, ap, ◌∙◌}
+use Rattle.std.proofs.Common.{◌≡◌, ◌∷◌, [], ◌++◌, ◌<◌, map, rules, ap, ◌∙◌}
 use Rattle.std.specs.List.{flat_map}
 use Rattle.derivation_trees.specs.Stands.{at_of}
 use Rattle.derivations.specs.Enumeration as enumeration

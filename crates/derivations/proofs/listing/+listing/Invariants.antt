@@ -1,8 +1,8 @@
-use Rattle.std.proofs.Common.{◌≡◌, ℕ, ◌+◌, ◌*◌, [], ◌∷◌, ◌++◌, take, drop, map}
+use Rattle.std.proofs.Common.{◌≡◌, ◌+◌, ◌*◌, [], ◌∷◌, ◌++◌, take, drop, map}
 use Rattle.derivations.specs.Enumeration as enumeration
 use Rattle.derivations.specs.Paths.{path_of, outcome_of}
 use Rattle.derivation_trees.specs.Stands.{at_of}
-use Rattle.std.specs.List.{flat_map, range_with_len}
+use Rattle.std.specs.List.{flat_map}
 use Rattle.derivations.proofs.listing.+listing.Given as goal
 
 abbrev pub invariant-step_all-loop-path : goal.invariant-step_all-loop-path

@@ -1,4 +1,4 @@
-use Rattle.std.proofs.Common.{◌≡◌, ℕ, ◌+◌, ◌*◌, [], ◌∷◌, ◌++◌, take, drop, map}
+use Rattle.std.proofs.Common.{◌≡◌, ◌+◌, ◌*◌, [], ◌∷◌, ◌++◌, take, map}
 use Rattle.derivations.specs.Enumeration as enumeration
 use Rattle.derivations.specs.Paths.{path_of, outcome_of}
 use Rattle.derivations.proofs.listing.push_ends.Given as goal

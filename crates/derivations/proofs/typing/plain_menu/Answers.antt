@@ -1,8 +1,8 @@
-use Rattle.std.proofs.Common.{◌≡◌, map, rules, sym, ◌∙◌, ap, subst, [], refl}
+use Rattle.std.proofs.Common.{◌≡◌, map, sym, ◌∙◌, ap, subst, []}
 use Rattle.std.proofs.lemmas.Result.{IfOk-weaker}
-use Rattle.derivations.specs.Entries.{shown, texts_of, goes_on, all_tried, forms_among, functions_in, IsInOrder, AreTexts}
+use Rattle.derivations.specs.Entries.{shown, texts_of, goes_on, all_tried, forms_among, functions_in, IsInOrder}
 use Rattle.derivations.proofs.EntryLemmas.{all_tried_in_order}
-use Rattle.derivations.proofs.TypingLemmas.{text_menu, whole_menu, gathered}
+use Rattle.derivations.proofs.TypingLemmas.{text_menu, whole_menu}
 use Rattle.derivations.proofs.typing.plain_menu.Goals as goal
 
 pub try_words-requires-clause-ordered : goal.try_words-requires-clause-ordered

@@ -1,7 +1,6 @@
 use Rattle.std.proofs.Common.{◌≡◌, ℕ, ◌+◌, List, [], map, drop, length, rules, sym, ◌∙◌, ap, subst, Bor}
 use Rattle.wiki_base.specs.Token.{IsToken}
-use Rattle.derivation_trees.specs.declared.menus.Group.TheVariants.{Function}
-use Rattle.derivations.specs.Entries.{shown, texts_of, goes_on, tried, all_tried, functions_in, IsInOrder}
+use Rattle.derivations.specs.Entries.{shown, texts_of, goes_on, all_tried, functions_in, IsInOrder}
 use Rattle.derivations.proofs.EntryLemmas.{tried_in_order}
 use Rattle.derivations.proofs.TypingLemmas.{texts_get, texts_length, one_text_tried}
 use Rattle.derivations.proofs.typing.try_terminals.Goals as goal

@@ -1,4 +1,4 @@
-use Rattle.std.proofs.Common.{◌≡◌, ◌+◌, ◌<◌, map, drop, length, get_or, rules, sym, ◌∙◌, ap, subst}
+use Rattle.std.proofs.Common.{◌≡◌, ◌+◌, ◌<◌, map, drop, length, get_or, sym, ◌∙◌, ap, subst}
 use Rattle.wiki_base.specs.Text.{IsText}
 use Rattle.derivation_trees.specs.Menus.{group_of}
 use Rattle.derivations.specs.Entries.{shown, goes_on, all_tried, tried, IsInOrder}

@@ -1,4 +1,4 @@
-use Rattle.std.proofs.Common.{◌≡◌, ◌+◌, ◌-◌, ◌<◌, ◌≤◌, length, take, true, false, rules, sym, ◌∙◌, ap, subst, arith}
+use Rattle.std.proofs.Common.{◌≡◌, ◌+◌, ◌-◌, ◌<◌, ◌≤◌, length, take, true, rules, sym, ◌∙◌, ap, subst, arith}
 use Rattle.derivation_trees.specs.Partial.{IsBeginning}
 use Rattle.derivations.proofs.Members.{true_is_false}
 use Rattle.derivations.proofs.TypingLemmas.{AreBeginnings, count_stops, count_all, one_beginning_more}

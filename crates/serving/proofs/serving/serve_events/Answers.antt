@@ -1,4 +1,4 @@
-use Rattle.std.proofs.Common.{◌≡◌, ◌<◌, ◌≤◌, ℕ, List, refl, sym, ap, subst, ◌∙◌, inl, arith, IsTrue}
+use Rattle.std.proofs.Common.{◌≡◌, ◌<◌, ◌≤◌, ℕ, List, refl, ap, subst, ◌∙◌, inl, arith, IsTrue}
 use Rattle.wiki_io.specs.Link.{can_come, connections_after}
 use Rattle.serving.proofs.ServeLemmas.{Serving-first, Serving-more, told_same, told_all, ended_over, ended_full, ended_failed, ended_memory, ended_journal, come_event, come_over, come_failed, come_unread}
 use Rattle.serving.proofs.serving.serve_events.Goals as goal

@@ -13,7 +13,7 @@ use Rattle.tableau.proofs.searching.systematic.Goals.{in-Forward+in_ok-b-in-Forw
 pub returns-in-Finished-clause-finished : goal.returns-in-Finished-clause-finished
 returns-in-Finished-clause-finished c =
     ends_at (theory_of c.args.k.now) c.loop-spent.way c.next_turn.new.way (graph_of c.loop-spent.b) c.in_ok-next_turn.field-0 c.loop-spent.invariant.leads
-        c.loop-spent.invariant.here c.in_ok-next_turn.ensures.turn c.in-Finished.is
+    c.loop-spent.invariant.here c.in_ok-next_turn.ensures.turn c.in-Finished.is
 
 pub loop-spent-init : goal.loop-spent-init
 loop-spent-init c =
@@ -74,16 +74,16 @@ loop-spent-preserved c =
 pub returns-in-Finished-2-clause-finished : goal.returns-in-Finished-2-clause-finished
 returns-in-Finished-2-clause-finished c =
     ends_at (theory_of c.args.k.now) c.loop-spent.way c.next_turn-2.new.way (graph_of c.loop-spent.b) c.in_ok-next_turn-2.field-0 c.loop-spent.invariant.leads
-        c.loop-spent.invariant.here c.in_ok-next_turn-2.ensures.turn c.in-Finished-2.is
+    c.loop-spent.invariant.here c.in_ok-next_turn-2.ensures.turn c.in-Finished-2.is
 
 pub returns-in-Forward-2-clause-spent : goal.returns-in-Forward-2-clause-spent
 returns-in-Forward-2-clause-spent c =
     cut_forward (theory_of c.args.k.now) c.loop-spent._spent c.args.budget c.loop-spent.way c.next_turn-2.new.way (graph_of c.loop-spent.b)
-        c.in_ok-next_turn-2.field-0 c.in-Forward-2.field-0 (omega arith) c.loop-spent.invariant.so_far c.loop-spent.invariant.here
-        c.in_ok-next_turn-2.ensures.turn c.in-Forward-2.is
+    c.in_ok-next_turn-2.field-0 c.in-Forward-2.field-0 (omega arith) c.loop-spent.invariant.so_far c.loop-spent.invariant.here
+    c.in_ok-next_turn-2.ensures.turn c.in-Forward-2.is
 
 pub returns-clause-spent : goal.returns-clause-spent
 returns-clause-spent c =
     cut_back (theory_of c.args.k.now) c.loop-spent._spent c.args.budget c.loop-spent.way c.next_turn-2.new.way (graph_of c.loop-spent.b)
-        c.in_ok-next_turn-2.field-0 c.in-Back-2.field-0 c.in-Back-2.field-1 c.in-Back-2.field-2 (omega arith) c.loop-spent.invariant.so_far
-        c.loop-spent.invariant.here c.in_ok-next_turn-2.ensures.turn c.in-Back-2.is
+    c.in_ok-next_turn-2.field-0 c.in-Back-2.field-0 c.in-Back-2.field-1 c.in-Back-2.field-2 (omega arith) c.loop-spent.invariant.so_far
+    c.loop-spent.invariant.here c.in_ok-next_turn-2.ensures.turn c.in-Back-2.is

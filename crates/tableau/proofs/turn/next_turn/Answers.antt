@@ -36,7 +36,7 @@ returns-in-Some-clause-turn c =
     let s = reached k c.args.way.now in
     let clash : has_clash k s.graph ≡ true = ap (has_clash k) (sym c.requires.here) ∙ (sym c.requires.exact ∙ ap is_some c.in-Some.is) in
     let here : IsTrue (is_clash k (graph_of c.args.b.now) c.in-Some.found) =
-        subst (λ o. IfSome o (λ d. IsTrue (is_clash k (graph_of c.args.b.now) d))) c.in-Some.is c.requires.there in
+    subst (λ o. IfSome o (λ d. IsTrue (is_clash k (graph_of c.args.b.now) d))) c.in-Some.is c.requires.there in
     let there : IsTrue (is_clash k s.graph c.in-Some.found) = subst (λ g. IsTrue (is_clash k g c.in-Some.found)) c.requires.here here in
     let shut = closes_clash k s.graph c.in-Some.found there in
     IfOk-weaker c.back.result _ _ (λ t back. turns_back k s _ t (waits_at_clash k s clash) (back k c.requires.leads shut)) c.back.ensures

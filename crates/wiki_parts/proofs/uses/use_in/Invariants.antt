@@ -1,4 +1,4 @@
-use Rattle.std.proofs.Common.{◌≡◌, ◌≤◌, length, drop, find}
+use Rattle.std.proofs.Common.{◌≡◌, ◌≤◌, drop, find}
 use Rattle.wiki_parts.specs.Places.{placed_in, placed_from}
 use Rattle.wiki_parts.specs.Refusing.{uses_word}
 use Rattle.wiki_parts.proofs.uses.use_in.Given as goal

@@ -1,4 +1,4 @@
-use Rattle.std.proofs.Common.{ap, sym, ◌∙◌, Some}
+use Rattle.std.proofs.Common.{◌∙◌}
 use Rattle.lexicon.proofs.Owners.{owner-add_refusal, add_refusal_names_none}
 use Rattle.wiki_parts.proofs.words.enter.Goals as goal
 

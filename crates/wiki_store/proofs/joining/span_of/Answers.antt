@@ -4,9 +4,9 @@ use Rattle.std.proofs.lemmas.Option.{get_or_from_slice_get}
 use Rattle.articles.specs.declared.sentences.Sentence.{Sentence}
 use Rattle.articles.specs.declared.article.Article.{Article}
 use Rattle.wiki_parts.specs.declared.meanings.Sense.{Sense}
-use Rattle.wiki_parts.specs.Kept.{meanings_in, known_of, known_in}
+use Rattle.wiki_parts.specs.Kept.{meanings_in, known_of}
 use Rattle.wiki_store.proofs.InsideLemmas.{item-is}
-use Rattle.wiki_store.proofs.JoiningLemmas.{front, before, between, behind, known-long, upto-long, stand}
+use Rattle.wiki_store.proofs.JoiningLemmas.{front, before, between, known-long, upto-long, stand}
 use Rattle.wiki_store.proofs.joining.span_of.Goals as goal
 
 pub count_in-before-requires : goal.count_in-before-requires

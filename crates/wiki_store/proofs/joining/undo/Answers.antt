@@ -1,4 +1,4 @@
-use Rattle.std.proofs.Common.{◌≡◌, ◌+◌, ◌≤◌, List, [], length, ap, ◌∙◌, arith}
+use Rattle.std.proofs.Common.{◌≡◌, ◌+◌, ◌≤◌, [], length, ap, ◌∙◌, arith}
 use Rattle.owl_eval.specs.Checked.{kept_claims}
 use Rattle.wiki_parts.specs.Kept.{known_in}
 use Rattle.wiki_store.proofs.JudgeLemmas.{known_in-gap}

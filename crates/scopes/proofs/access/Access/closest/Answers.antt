@@ -1,4 +1,4 @@
-use Rattle.std.proofs.Common.{◌≡◌, ap, ◌∙◌, sym, Some, None}
+use Rattle.std.proofs.Common.{◌≡◌, ap, ◌∙◌, sym}
 use Rattle.scopes.specs.Links.{entries}
 use Rattle.scopes.specs.Findings.{shown}
 use Rattle.scopes.specs.Resolution.{closest_finding, finding}

@@ -1,4 +1,4 @@
-use Rattle.std.proofs.Common.{◌≡◌, Some, sym, subst, ap, arith}
+use Rattle.std.proofs.Common.{◌≡◌, Some, sym, subst, arith}
 use Rattle.articles.specs.Articles.{article_of}
 use Rattle.sessions.specs.Sessions.{plain, all_plain, session_of, with_revision}
 use Rattle.wiki_core.specs.Causes.{session_numbered}

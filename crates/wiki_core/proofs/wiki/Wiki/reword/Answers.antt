@@ -1,11 +1,10 @@
-use Rattle.std.proofs.Common.{◌≡◌, refl, sym, ap, subst}
+use Rattle.std.proofs.Common.{◌≡◌, refl, sym, subst}
 use Rattle.std.proofs.lemmas.Result.{err_from_is_err_and}
 use Rattle.codeco_terms.specs.GrammarParts.{GrammarParts}
 use Rattle.sessions.specs.Sessions.{all_plain, AreKept, AreRebased, AreOfGrammar}
 use Rattle.wiki_talk.specs.declared.requests.Request.TheVariants as requests
 use Rattle.wiki_talk.specs.declared.replies.Reply.TheVariants as replies
 use Rattle.wiki_parts.specs.Holding as holding
-use Rattle.wiki_core.specs.Holding.{Holding}
 use Rattle.wiki_core.specs.Step.{StepsPages}
 use Rattle.wiki_core.specs.Keeping.{AreHeld}
 use Rattle.sessions.proofs.KeepingLaws.{kept_grammar}

@@ -1,4 +1,4 @@
-use Rattle.std.proofs.Common.{◌≡◌, refl, sym, ap, subst}
+use Rattle.std.proofs.Common.{◌≡◌, sym, subst}
 use Rattle.codeco_terms.specs.GrammarParts.{GrammarParts}
 use Rattle.sessions.specs.Sessions.{all_plain, AreKept, AreRebased, AreOfGrammar}
 use Rattle.wiki_parts.specs.Holding as holding

@@ -1,4 +1,4 @@
-use Rattle.std.proofs.Common.{Some, sym, ◌∙◌, ap, arith, ◌+◌, ◌-◌, ◌≤◌, ◌≡◌, length, take, drop}
+use Rattle.std.proofs.Common.{sym, ◌∙◌, ap, arith, ◌+◌, ◌-◌, ◌≤◌, ◌≡◌, length, take, drop}
 use Rattle.wiki_io.specs.Memory.{Held}
 use Rattle.wiki_io.proofs.KnownLemmas.{read_part}
 use Rattle.wiki_io.proofs.memory.MemorySourceSource.read.Goals as goal

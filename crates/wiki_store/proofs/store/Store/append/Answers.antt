@@ -1,5 +1,4 @@
 use Rattle.std.proofs.Common.{◌≡◌}
-use Rattle.wiki_talk.specs.declared.statuses.Status.{Status}
 use Rattle.wiki_talk.specs.declared.statuses.Status.TheVariants.{Asserted, RedBudget}
 use Rattle.logic_terms.specs.Concept.{Claim}
 use Rattle.logic_terms.specs.Reading.{IsModel}

@@ -1,7 +1,5 @@
-use Rattle.std.proofs.Common.{◌≡◌, ◌≤◌, IsSome, Option, List, length, is_some, sym, ap, subst, ◌∙◌}
+use Rattle.std.proofs.Common.{◌≡◌, ◌≤◌, IsSome, is_some, sym, ap, subst, ◌∙◌}
 use Rattle.std.proofs.lemmas.Bool.{false≢true}
-use Rattle.articles.specs.declared.article.Article.{Article}
-use Rattle.articles.specs.Articles.{article_of}
 use Rattle.lexicon.specs.Words.{forms_of}
 use Rattle.wiki_parts.specs.Holding.{Holding}
 use Rattle.wiki_parts.proofs.UseLemmas.{lives-article}

@@ -1,4 +1,4 @@
-use Rattle.std.proofs.Common.{◌≡◌, ℕ, Bool, List, MatchBool, refl, sym, ap, subst, ◌∙◌}
+use Rattle.std.proofs.Common.{◌≡◌, Bool, List, MatchBool, refl, sym, ap, subst, ◌∙◌}
 use Rattle.std.proofs.lemmas.Option.{IfSome_then}
 use Rattle.wiki_base.specs.declared.numbers.WordId.{WordId}
 use Rattle.codeco_terms.specs.GrammarParts.{GrammarParts}
@@ -37,12 +37,16 @@ answers_of-requires-clause-plain c =
 
 pub answers_of-requires-clause-absorbed : goal.answers_of-requires-clause-absorbed
 answers_of-requires-clause-absorbed c =
-    let inside : State = record { grammar = c.self.inside.grammar; budget = c.self.inside.budget; words = c.self.inside.lexicon; articles =
-        c.self.inside.articles } in
+    let inside : State = record {
+      grammar = c.self.inside.grammar;
+      budget = c.self.inside.budget;
+      words = c.self.inside.lexicon;
+      articles = c.self.inside.articles;
+    } in
     let claims : List Claim = kept_claims c.self.inside.kept in
     let known : Knows inside claims =
     subst (Knows inside) (sym c.self.invariant.0.known)
-        (knows_from_known c.self.inside.grammar c.self.inside.lexicon c.self.inside.articles c.self.inside.senses.items c.self.invariant.0.mean) in
+    (knows_from_known c.self.inside.grammar c.self.inside.lexicon c.self.inside.articles c.self.inside.senses.items c.self.invariant.0.mean) in
     IfSome_then c.args.known.now c.requires.absorbed (λ k absorbs. absorbs claims (subst (λ (h : Holding). Knows h.state claims) c.self.view_is known))
 
 pub returns-clause-tells : goal.returns-clause-tells

@@ -1,6 +1,5 @@
-use Rattle.std.proofs.Common.{◌≡◌, ◌+◌, ◌<◌, ◌≤◌, List, [], cond, length, set, Option, Some, unwrap_or, refl, sym, ap, subst, ◌∙◌, arith}
+use Rattle.std.proofs.Common.{◌≡◌, ◌+◌, ◌<◌, ◌≤◌, List, [], cond, length, set, sym, ap, subst, ◌∙◌, arith}
 use Rattle.std.proofs.lemmas.Option.{slice_get_within}
-use Rattle.std.specs.List.{slice_get}
 use Rattle.logic_terms.specs.Interpretation.{Interpretation}
 use Rattle.logic_terms.specs.Reading.{IsModel}
 use Rattle.owl_eval.specs.declared.checked.CheckedModel.{CheckedModel}
@@ -8,17 +7,16 @@ use Rattle.owl_eval.specs.Checked.{kept_interp, kept_claims}
 use Rattle.wiki_talk.specs.declared.statuses.Status.{Status}
 use Rattle.articles.specs.declared.sentences.Sentence.{Sentence}
 use Rattle.articles.specs.declared.article.Article.{Article}
-use Rattle.articles.specs.Articles.{AreInOrder, with_status}
+use Rattle.articles.specs.Articles.{AreInOrder}
 use Rattle.wiki_parts.specs.declared.meanings.Sense.{Sense}
 use Rattle.wiki_parts.specs.State.{State}
 use Rattle.wiki_parts.specs.Holding.{Holding}
 use Rattle.wiki_parts.specs.Found.{meaning_shown}
-use Rattle.wiki_parts.specs.Knowledge.{is_asserted, live_names, GetStatus}
-use Rattle.wiki_parts.specs.Kept.{stated_by, known_around, Stands, IsKeeping}
-use Rattle.wiki_store.specs.Step.{with_replaced, with_marked}
-use Rattle.wiki_store.proofs.AroundLemmas.{item, parts_at, set_parts}
-use Rattle.wiki_store.proofs.JudgeLemmas.{marked-spliced}
-use Rattle.wiki_store.proofs.InsideLemmas.{item-is, set-same, moved, spot, spot_known, sentence_here, means_here, short_here, over_inside, plain_inside, status_outside, spends_outside, keeps_inside}
+use Rattle.wiki_parts.specs.Knowledge.{is_asserted, live_names}
+use Rattle.wiki_parts.specs.Kept.{stated_by, known_around, Stands}
+use Rattle.wiki_store.specs.Step.{with_replaced}
+use Rattle.wiki_store.proofs.AroundLemmas.{set_parts}
+use Rattle.wiki_store.proofs.InsideLemmas.{item-is, moved, spot, over_inside, plain_inside, status_outside, spends_outside, keeps_inside}
 use Rattle.wiki_store.proofs.store.Store.replace_judged.Goals as goal
 
 pub model_without-requires-clause-around : goal.model_without-requires-clause-around

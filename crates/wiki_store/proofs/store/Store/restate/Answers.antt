@@ -1,5 +1,5 @@
-use Rattle.std.proofs.Common.{◌≡◌, ◌+◌, ◌<◌, ◌≤◌, List, [], cond, length, set, Option, Some, unwrap_or, refl, sym, ap, subst, ◌∙◌, arith}
-use Rattle.std.specs.List.{slice_get, insert}
+use Rattle.std.proofs.Common.{◌≡◌, ◌+◌, ◌<◌, ◌≤◌, List, [], length, Option, Some, unwrap_or, sym, ap, subst, ◌∙◌, arith}
+use Rattle.std.specs.List.{slice_get}
 use Rattle.std.proofs.lemmas.Option.{slice_get_within}
 use Rattle.logic_terms.specs.Concept.{Claim}
 use Rattle.logic_terms.specs.Interpretation.{Interpretation}
@@ -7,7 +7,6 @@ use Rattle.logic_terms.specs.Reading.{IsModel}
 use Rattle.logic_terms.specs.Shown.{claims_of}
 use Rattle.reasoner.specs.Verdicts.{IsFiniteModel}
 use Rattle.owl_eval.specs.Checked.{kept_interp, kept_claims}
-use Rattle.wiki_talk.specs.declared.limits.TheConstants.{MOST_SENTENCES}
 use Rattle.wiki_talk.specs.declared.statuses.Status.{Status}
 use Rattle.wiki_talk.specs.declared.statuses.Status.TheVariants.{Asserted}
 use Rattle.articles.specs.declared.sentences.Sentence.{Sentence}
@@ -17,14 +16,13 @@ use Rattle.wiki_parts.specs.declared.meanings.Sense.{Sense}
 use Rattle.wiki_parts.specs.State.{State}
 use Rattle.wiki_parts.specs.Holding.{Holding}
 use Rattle.wiki_parts.specs.Found.{meaning_shown}
-use Rattle.wiki_parts.specs.Knowledge.{live_names, sentences_in, GetStatus}
-use Rattle.wiki_parts.specs.Kept.{stated_by, known_around, known_in, Stands, IsKeeping}
-use Rattle.wiki_store.specs.Settled.{IsTrueIn}
-use Rattle.wiki_store.specs.Step.{with_inserted, with_replaced, with_marked}
-use Rattle.wiki_store.proofs.AroundLemmas.{item, parts_at, set_parts}
+use Rattle.wiki_parts.specs.Knowledge.{live_names, GetStatus}
+use Rattle.wiki_parts.specs.Kept.{stated_by, known_around, Stands, IsKeeping}
+use Rattle.wiki_store.specs.Step.{with_marked}
+use Rattle.wiki_store.proofs.AroundLemmas.{item, parts_at}
 use Rattle.wiki_store.proofs.JudgeLemmas.{marked-spliced}
 use Rattle.wiki_store.proofs.JoiningLemmas.{settled-states, settled-stands, not-red, keeps-claims, either-way}
-use Rattle.wiki_store.proofs.InsideLemmas.{item-is, set-same, moved, gap, gap_own, spot, spot_known, sentence_here, means_here, short_here, status_outside, keeps_inside}
+use Rattle.wiki_store.proofs.InsideLemmas.{item-is, set-same, spot, sentence_here, means_here, short_here, status_outside, keeps_inside}
 use Rattle.wiki_store.proofs.store.Store.restate.Goals as goal
 
 pub join-requires-clause-around : goal.join-requires-clause-around

@@ -1,4 +1,4 @@
-use Rattle.std.proofs.Common.{◌≡◌, ◌+◌, ◌<◌, ◌≤◌, List, [], cond, length, set, Option, Some, unwrap_or, refl, sym, ap, subst, ◌∙◌, arith}
+use Rattle.std.proofs.Common.{◌≡◌, ◌+◌, ◌<◌, ◌≤◌, List, [], cond, length, Option, Some, unwrap_or, sym, ap, subst, ◌∙◌, arith}
 use Rattle.std.proofs.lemmas.Option.{slice_get_within}
 use Rattle.std.specs.List.{slice_get}
 use Rattle.logic_terms.specs.Reading.{IsModel}
@@ -11,12 +11,11 @@ use Rattle.articles.specs.declared.article.Article.{Article}
 use Rattle.articles.specs.Articles.{AreInOrder, with_status}
 use Rattle.wiki_parts.specs.declared.meanings.Sense.{Sense}
 use Rattle.wiki_parts.specs.State.{State}
-use Rattle.wiki_parts.specs.Holding.{Holding}
 use Rattle.wiki_parts.specs.Found.{meaning_shown}
 use Rattle.wiki_parts.specs.Knowledge.{is_asserted, live_names, GetStatus}
 use Rattle.wiki_parts.specs.Kept.{stated_by, known_around, Stands, IsKeeping}
-use Rattle.wiki_store.specs.Step.{with_replaced, with_marked}
-use Rattle.wiki_store.proofs.AroundLemmas.{item, parts_at, set_parts}
+use Rattle.wiki_store.specs.Step.{with_marked}
+use Rattle.wiki_store.proofs.AroundLemmas.{item, parts_at}
 use Rattle.wiki_store.proofs.JudgeLemmas.{marked-spliced}
 use Rattle.wiki_store.proofs.InsideLemmas.{item-is, set-same, moved, spot, spot_known, sentence_here, means_here, short_here, over_inside, plain_inside, status_outside, spends_outside, keeps_inside}
 use Rattle.wiki_store.proofs.store.Store.restate_judged.Goals as goal

@@ -1,12 +1,12 @@
-use Rattle.std.proofs.Common.{◌≡◌, Some, None, refl, sym, ap, subst, ◌∙◌}
+use Rattle.std.proofs.Common.{◌≡◌, Some, None, refl, ap, subst, ◌∙◌}
 use Rattle.std.proofs.lemmas.Result.{err_from_is_err_and}
 use Rattle.lexicon.specs.Words.{Listed, forms_of, with_forms, others, forms_refusal}
 use Rattle.wiki_talk.specs.declared.requests.Request.TheVariants as requests
-use Rattle.wiki_parts.specs.Faults.{IsCause, IsFault}
+use Rattle.wiki_parts.specs.Faults.{IsCause}
 use Rattle.wiki_parts.specs.Holding.{Holding}
 use Rattle.wiki_parts.specs.Places.{word_named}
 use Rattle.wiki_parts.specs.Refusing.{reword_cause}
-use Rattle.wiki_parts.specs.State.{State, IsSound}
+use Rattle.wiki_parts.specs.State.{IsSound}
 use Rattle.wiki_parts.specs.Words.{forms_given}
 use Rattle.wiki_store.specs.Rewording.{IsBroken}
 use Rattle.wiki_store.specs.Step.{Refuses}

@@ -1,4 +1,4 @@
-use Rattle.std.proofs.Common.{◌≡◌, List, Option, Some, None, refl, sym, subst}
+use Rattle.std.proofs.Common.{◌≡◌, List, Option, None, refl, sym, subst}
 use Rattle.wiki_base.specs.declared.numbers.Place.{Place}
 use Rattle.articles.specs.declared.article.Article.{Article}
 use Rattle.wiki_parts.specs.declared.meanings.Sense.{Sense}

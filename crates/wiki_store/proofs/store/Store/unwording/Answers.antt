@@ -1,10 +1,10 @@
-use Rattle.std.proofs.Common.{◌≡◌, IsSome, Some, sym, ap, subst, ◌∙◌}
+use Rattle.std.proofs.Common.{◌≡◌, IsSome, sym, ap, subst, ◌∙◌}
 use Rattle.wiki_base.specs.declared.numbers.Place.{Place}
 use Rattle.lexicon.specs.Words.{Listed, forms_of, without_word}
 use Rattle.wiki_talk.specs.declared.refusals.Refusal.TheVariants.{InUse}
 use Rattle.wiki_parts.specs.Holding.{Holding}
 use Rattle.wiki_parts.specs.Refusing.{uses_word, TellsPlace}
-use Rattle.wiki_parts.specs.State.{State, IsSound}
+use Rattle.wiki_parts.specs.State.{IsSound}
 use Rattle.wiki_store.proofs.UnwordLemmas.{some_of, word-lives, told-found, none-found, unword-refuses, removed-there}
 use Rattle.wiki_store.proofs.store.Store.unwording.Goals as goal
 

@@ -1,86 +1,24 @@
 // How large the table is.
-ghost use Rattle.std.specs.Prelude.{◌≡◌, ◌≤◌, length, OnOk};
-ghost use Rattle.chart_table.specs.Choices as choosing;
-ghost use Rattle.chart_table.specs.Table as tables;
+ghost use Rattle.std.specs.Prelude.{◌≤◌, length};
 
 use crate::cases::{tokens_of, words};
 use ace_grammar::built_in;
-use chart_table::{Plan, Row, leading_instances, plan_for, plans_of};
+use chart_table::{Ask, Size, table_size};
 use codeco_checked::CheckedGrammar;
-use codeco_terms::Rule;
 use derivation_scenes::Scene;
 use derivation_trees::readings_of;
 use lexicon::{Kind, Lexicon};
-use lists::List;
-use scopes::Access;
 use std::alloc::Global;
 use std::process::Abort;
 use std::test::Fail;
 use wiki_base::Tokens;
 
-// The number of the category `text`.
-const TEXT: u16 = 5;
-
-// Adds the rows that sentences by the rule ask for.
-fn add_rows(
-    alloc: Global,
-    setting: &Scene<'_>,
-    plans: &[Plan],
-    rows: &mut List<Row>,
-    rule: &Rule,
-    plan: &Plan,
-) -> Result<(), Fail>
-    requires plans { choosing.ArePlans setting.now plans.now }
-    requires rows { tables.AreRows setting.now tables.no_asks rows.old }
-    requires plan { choosing.IsPlan setting.now rule.now plan.now }
-    ensures { OnOk result (tables.AreRows setting.now tables.no_asks rows.new) }
-{
-    if rule.head.name != TEXT {
-        return Ok(());
-    }
-    let start = Access::empty(alloc);
-    leading_instances(alloc, setting, plans, rows, rule, plan, &[], 0, &start)?;
-    Ok(())
-}
-
-// Adds the rows that sentences ask for.
-fn add_all(
-    alloc: Global,
-    setting: &Scene<'_>,
-    plans: &[Plan],
-    rows: &mut List<Row>,
-) -> Result<(), Fail>
-    requires plans { choosing.ArePlans setting.now plans.now }
-    requires rows { tables.AreRows setting.now tables.no_asks rows.old }
-{
-    let rules = setting.grammar.rules().as_slice();
-    for (number, rule) in rules.iter().enumerate() {
-        let plan = plan_for(plans, number);
-        add_rows(alloc, setting, plans, rows, rule, plan)?;
-    }
-    Ok(())
-}
-
-fn planned_count(alloc: Global, setting: &Scene<'_>, plans: &[Plan]) -> Result<usize, Fail>
-    requires { choosing.ArePlans setting.now plans.now }
-{
-    let mut rows = List::new(alloc);
-    add_all(alloc, setting, plans, &mut rows)?;
-    Ok(rows.len())
-}
-
-// How many rows the table has, beside that for the sentence itself.
-fn row_count(alloc: Global, setting: &Scene<'_>) -> Result<usize, Fail> {
-    let plans = plans_of(alloc, setting.grammar)?;
-    planned_count(alloc, setting, plans.as_slice())
-}
-
-fn rows_of_read(
+fn size_of_read(
     alloc: Global,
     grammar: &CheckedGrammar,
     lexicon: &Lexicon,
     tokens: &Tokens,
-) -> Result<usize, Fail>
+) -> Result<Size, Fail>
     requires { length tokens.now ≤ 40 }
 {
     let readings = readings_of(alloc, lexicon, tokens.as_slice())?;
@@ -89,59 +27,79 @@ fn rows_of_read(
         tokens: tokens.as_slice(),
         readings: readings.as_slice(),
     };
-    row_count(alloc, &setting)
+    Ok(table_size(alloc, &setting, tokens.len(), &[Ask::Any])?)
 }
 
-fn rows_of(
+// The size of the table of the text's tokens.
+fn size_of(
     alloc: Global,
     grammar: &CheckedGrammar,
     lexicon: &Lexicon,
     text: &str,
-) -> Result<usize, Fail> {
+) -> Result<Size, Fail> {
     let tokens = tokens_of(alloc, grammar, text)?;
-    rows_of_read(alloc, grammar, lexicon, &tokens)
+    size_of_read(alloc, grammar, lexicon, &tokens)
 }
 
-const SEEING: [(Kind, &[&str]); 2] = [
+const WORDS: [(Kind, &[&str]); 3] = [
     (Kind::Name, &["Mary"]),
     (Kind::Verb, &["sees", "see", "seen"]),
+    (Kind::Of, &["part"]),
 ];
 
-// Ten tokens, and forty.
-const NESTED: [&str; 2] = [
+// Ten tokens, and forty, of long sentences.
+const RELATIVES: [&str; 2] = [
     "Mary sees something that sees something that sees something .",
     "Mary sees something that sees something that sees something that sees something that sees something that sees \
      something that sees something that sees something that sees something that sees something that sees something \
      that sees something that sees something .",
 ];
+const COORDINATION: [&str; 2] = [
+    "Mary sees something and sees something and sees something .",
+    "Mary sees something and sees something and sees something and sees something and sees something and sees \
+     something and sees something and sees something and sees something and sees something and sees something \
+     and sees something and sees something .",
+];
+const PARTS: [&str; 2] = [
+    "Mary sees a part of a part of Mary .",
+    "Mary sees a part of a part of a part of a part of a part of a part of a part of a part of a part of a part of \
+     a part of a part of Mary .",
+];
 
-// Forty tokens have at most five times the rows of ten.
-fn grows_slowly(
+// The table of forty tokens has few states, and at most five times the rows of that of ten.
+fn stays_small(
     rt: &impl Abort,
     alloc: Global,
     grammar: &CheckedGrammar,
     lexicon: &Lexicon,
+    texts: &[&str; 2],
 ) -> Result<(), Fail> {
-    let few = rows_of(alloc, grammar, lexicon, NESTED[0])?;
-    let many = rows_of(alloc, grammar, lexicon, NESTED[1])?;
+    let few = size_of(alloc, grammar, lexicon, texts[0])?;
+    let many = size_of(alloc, grammar, lexicon, texts[1])?;
     assert!(rt;
-        10 <= few && few <= many / 3 && many / 5 <= few,
-        "{few} rows for 10 tokens, {many} for 40"
+        10 <= few.rows && few.rows < many.rows && many.rows / 5 <= few.rows,
+        "{} rows for 10 tokens, {} for 40",
+        few.rows,
+        many.rows
+    );
+    assert!(rt;
+        few.states < many.states && many.states < 3_000,
+        "{} states for 10 tokens, {} for 40",
+        few.states,
+        many.states
     );
     Ok(())
 }
 
-fn grows_slowly_with_words(
-    rt: &impl Abort,
-    alloc: Global,
-    grammar: &CheckedGrammar,
-) -> Result<(), Fail> {
-    let lexicon = words(alloc, grammar, &SEEING)?;
-    grows_slowly(rt, alloc, grammar, &lexicon)
+fn each_stays_small(rt: &impl Abort, alloc: Global, grammar: &CheckedGrammar) -> Result<(), Fail> {
+    let lexicon = words(alloc, grammar, &WORDS)?;
+    stays_small(rt, alloc, grammar, &lexicon, &RELATIVES)?;
+    stays_small(rt, alloc, grammar, &lexicon, &COORDINATION)?;
+    stays_small(rt, alloc, grammar, &lexicon, &PARTS)
 }
 
 #[test]
-fn the_table_grows_with_the_tokens_alone(rt: HostRuntime) -> Result<(), Fail> {
+fn a_table_of_forty_tokens_has_under_three_thousand_states(rt: HostRuntime) -> Result<(), Fail> {
     let grammar = built_in(rt.alloc())?;
-    grows_slowly_with_words(&rt, rt.alloc(), &grammar)
+    each_stays_small(&rt, rt.alloc(), &grammar)
 }

@@ -19,6 +19,7 @@ use derivation_scenes::{Scene, may_start};
 use lists::List;
 use scopes::Access;
 use std::alloc::Global;
+use std::cell::Cell;
 use wiki_base::Memory;
 
 fn same_value(one: (u8, Value), other: (u8, Value)) -> bool
@@ -139,7 +140,8 @@ pub fn leading_instances(
     if !may_start(setting, place, rule.body.as_slice()) {
         return Ok(List::new(alloc));
     }
-    let aim = nothing();
+    let made = Cell::new(0usize);
+    let aim = nothing(&made);
     let starts = start_states(alloc, known, rule.head.feats.as_slice(), place, list)?;
     let mut cuts = List::new(alloc);
     let states = last_states(
@@ -158,11 +160,12 @@ pub fn leading_instances(
 }
 
 // Nothing is asked for.
-fn nothing() -> Aim<'static>
+fn nothing<'a>(made: &'a Cell<usize>) -> Aim<'a>
     ensures { result ≡ tables.no_asks }
 {
     Aim {
         halt: 65536,
         asks: &[],
+        made,
     }
 }

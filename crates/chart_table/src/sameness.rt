@@ -1,5 +1,5 @@
 // Whether keys and ends of the table are the same.
-ghost use Rattle.std.specs.Prelude.{◌≡◌, IsTrue};
+ghost use Rattle.std.specs.Prelude.{◌≡◌, ◌↔◌, IsTrue};
 ghost use Rattle.scopes.specs.declared.entries.Entry.TheVariants.{Opener, Weak, Strong};
 
 use crate::states::End;
@@ -7,14 +7,14 @@ use codeco_terms::{Ground, Value};
 use scopes::Entry;
 
 fn same_pair(one: (u16, Value), other: (u16, Value)) -> bool
-    ensures { IsTrue result → one ≡ other }
+    ensures { IsTrue result ↔ one ≡ other }
 {
     one.0 == other.0 && one.1 == other.1
 }
 
 /// Whether the values are the same, in the same order.
 pub fn same_values(values: &[(u16, Value)], others: &[(u16, Value)]) -> bool
-    ensures { IsTrue result → values.now ≡ others.now }
+    ensures { IsTrue result ↔ values.now ≡ others.now }
 {
     if values.len() != others.len() {
         return false;
@@ -28,13 +28,13 @@ pub fn same_values(values: &[(u16, Value)], others: &[(u16, Value)]) -> bool
 }
 
 fn same_ground(one: &Ground, other: &Ground) -> bool
-    ensures { IsTrue result → one.now ≡ other.now }
+    ensures { IsTrue result ↔ one.now ≡ other.now }
 {
     one.name == other.name && same_values(one.vals.as_slice(), other.vals.as_slice())
 }
 
 fn is_weak(entry: &Entry, referent: &Ground, pos: u16) -> bool
-    ensures { IsTrue result → entry.now ≡ Weak referent.now pos }
+    ensures { IsTrue result ↔ entry.now ≡ Weak referent.now pos }
 {
     match entry {
         Entry::Weak(other, place) => *place == pos && same_ground(other, referent),
@@ -43,7 +43,7 @@ fn is_weak(entry: &Entry, referent: &Ground, pos: u16) -> bool
 }
 
 fn is_strong(entry: &Entry, referent: &Ground, pos: u16) -> bool
-    ensures { IsTrue result → entry.now ≡ Strong referent.now pos }
+    ensures { IsTrue result ↔ entry.now ≡ Strong referent.now pos }
 {
     match entry {
         Entry::Strong(other, place) => *place == pos && same_ground(other, referent),
@@ -52,7 +52,7 @@ fn is_strong(entry: &Entry, referent: &Ground, pos: u16) -> bool
 }
 
 fn is_opener(entry: &Entry) -> bool
-    ensures { IsTrue result → entry.now ≡ Opener }
+    ensures { IsTrue result ↔ entry.now ≡ Opener }
 {
     match entry {
         Entry::Opener => true,
@@ -61,7 +61,7 @@ fn is_opener(entry: &Entry) -> bool
 }
 
 fn same_entry(one: &Entry, other: &Entry) -> bool
-    ensures { IsTrue result → one.now ≡ other.now }
+    ensures { IsTrue result ↔ one.now ≡ other.now }
 {
     match other {
         Entry::Opener => is_opener(one),
@@ -72,7 +72,7 @@ fn same_entry(one: &Entry, other: &Entry) -> bool
 
 /// Whether the entries are the same, in the same order.
 pub fn same_entries(entries: &[Entry], others: &[Entry]) -> bool
-    ensures { IsTrue result → entries.now ≡ others.now }
+    ensures { IsTrue result ↔ entries.now ≡ others.now }
 {
     if entries.len() != others.len() {
         return false;

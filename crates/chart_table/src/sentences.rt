@@ -20,10 +20,11 @@ use derivation_trees::readings_of;
 use lexicon::Lexicon;
 use lists::List;
 use std::alloc::Global;
+use std::cell::Cell;
 use wiki_base::{Memory, Tokens};
 
 /// The number of the category `text`.
-const TEXT: u16 = 5;
+pub(crate) const TEXT: u16 = 5;
 
 /// How deep categories may be nested before memory is wanting: more than any grammar does.
 pub(crate) const DEEPEST: u32 = u32::MAX;
@@ -98,9 +99,11 @@ pub fn standing_of(alloc: Global, setting: &Scene<'_>) -> Result<Standing, Memor
 {
     let count = token_count(setting);
     let any = [Ask::Any];
+    let made = Cell::new(0usize);
     let aim = Aim {
         halt: count,
         asks: &any,
+        made: &made,
     };
     let row = text_row(alloc, setting, &aim)?;
     let derives = some_ends_at(row.ends.as_slice(), count);
@@ -150,7 +153,12 @@ pub fn may_follow(
     ensures each { IfOk result (λ follows. (j : ℕ) (a : OneAsk) (yes : Bool) → slice_get asks.now j ≡ Some a → slice_get follows j ≡ Some yes
         → IsTrue yes ↔ AskLeads setting.now halt a text_category (record { place = 0; list = [] })) }
 {
-    let aim = Aim { halt, asks };
+    let made = Cell::new(0usize);
+    let aim = Aim {
+        halt,
+        asks,
+        made: &made,
+    };
     let row = text_row(alloc, setting, &aim)?;
     follows(alloc, row.cuts.as_slice(), asks.len())
 }

@@ -4,6 +4,7 @@ use crate::asks::Ask;
 use codeco_terms::{Term, Value};
 use lists::List;
 use scopes::{Access, Entry, TestValues};
+use std::cell::Cell;
 use std::marker::Model;
 
 /// Variables of a rule with their values: a partial instance.
@@ -36,11 +37,13 @@ pub(crate) struct Cut {
     pub(crate) values: TestValues,
 }
 
-// The place at which phrases are cut off, and what may be asked of them there.
+// The place at which phrases are cut off, and what may be asked of them there. States are counted, for those who measure a
+// table; no answer depends on the count.
 #[derive(Drop)]
 pub(crate) struct Aim<'a> {
     pub(crate) halt: usize,
     pub(crate) asks: &'a [Ask],
+    pub(crate) made: &'a Cell<usize>,
 }
 
 impl<'a> Model for Aim<'a> {

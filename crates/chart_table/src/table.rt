@@ -409,6 +409,11 @@ fn push_rule(
     Ok(())
 }
 
+// Counts states that are made.
+fn count(aim: &Aim<'_>, states: usize) {
+    aim.made.set(aim.made.get().saturating_add(states));
+}
+
 // The states after the last element. What is cut off before is added.
 #[cycle(ends)]
 pub(crate) fn last_states(
@@ -431,6 +436,7 @@ pub(crate) fn last_states(
     ensures cuts { OnOk result (cutting.HasHeads setting.now rule.now (cutting.CutBefore setting.now aim.now rule.now starts (length rule.now.body)) cuts.old
         cuts.new) }
 {
+    count(aim, starts.len());
     let body = rule.body.as_slice();
     let mut states = starts;
     let mut number: u16 = 16;
@@ -461,6 +467,7 @@ pub(crate) fn last_states(
             states.as_slice(),
             cuts,
         )?;
+        count(aim, states.len());
         number = add_count(number, count_at(plan, place))?;
     }
     Ok(states)

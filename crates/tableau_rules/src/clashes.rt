@@ -21,8 +21,7 @@ use crate::step::Clash;
 use logic_terms::{Class, Knowledge, Role};
 use wiki_base::WordId;
 
-/// A clash of the branch, if there is one: one of names before those of nodes, which go by node and place. It takes no
-/// memory.
+/// A clash of the branch, if there is one. It takes no memory.
 pub fn clash(k: &Knowledge, b: &Branch) -> Option<Clash>
     ensures exact { is_some result ≡ has_clash (theory_of k.now) (graph_of b.now) }
     ensures there { IfSome result (λ c. IsTrue (is_clash (theory_of k.now) (graph_of b.now) c)) }
@@ -103,7 +102,7 @@ fn clash_of_nodes(k: &Knowledge, b: &Branch) -> Option<Clash>
     None
 }
 
-/// A clash at a node, if there is one: that of the first place. It takes no memory.
+/// A clash at a node, if there is one. It takes no memory.
 pub fn clash_at_node(k: &Knowledge, b: &Branch, node: u64) -> Option<Clash>
     ensures exact { is_some result ≡ list_any (clashes_at (theory_of k.now) (graph_of b.now) node) (label_at (graph_of b.now) node) }
     ensures there { IfSome result (λ c. IsTrue (is_clash (theory_of k.now) (graph_of b.now) c)) }

@@ -195,7 +195,8 @@ pub fn program<C: CommandLine, S: Source, K: Sink, E: Sink, L: Link>(
         (record { journal = K.taken output.old; sent = L.sent link.old; send_faults = L.send_faults link.old }) events
         (record { journal = K.taken output.new; sent = L.sent link.new; send_faults = L.send_faults link.new }) }
     ensures up_to_a_fault { (words : List (List ℕ)) (address : List ℕ) (budget most : ℕ) → C.words line.now ≡ Some words
-        → command_of words ≡ Some (serve address budget most) → (bytes : List ℕ) → S.left input.old ≡ Some bytes → ServesUpToFault (ace_wiki budget) (input_lines bytes)
+        → command_of words ≡ Some (serve address budget most) → (bytes : List ℕ) → S.left input.old ≡ Some bytes
+        → ServesUpToFault (ace_wiki budget) (input_lines bytes)
         (record { journal = K.taken output.old; sent = L.sent link.old; send_faults = L.send_faults link.old }) (L.handed link.old)
         (record { journal = K.taken output.new; sent = L.sent link.new; send_faults = L.send_faults link.new }) (L.handed link.new) }
     ensures serves { (words : List (List ℕ)) (address : List ℕ) (budget most : ℕ) (outcome : Outcome) → C.words line.now ≡ Some words
@@ -218,7 +219,8 @@ pub fn program<C: CommandLine, S: Source, K: Sink, E: Sink, L: Link>(
     ensures no_link { (words : List (List ℕ)) (budget : ℕ) → C.words line.now ≡ Some words → command_of words ≡ Some (replay budget)
         → (link.new ≡ link.old) × (result ≢ 5) }
     ensures complete { (words : List (List ℕ)) → C.words line.now ≡ Some words → (command_of words ≢ None) → ¬ Rose (S.faults input.old) (S.faults input.new)
-        → ¬ Rose (K.faults output.old) (K.faults output.new) → ¬ Rose (L.faults link.old) (L.faults link.new) → IsWithin (S.left input.old) → (result ≡ 0) ⊎ (result ≡ 9) }
+        → ¬ Rose (K.faults output.old) (K.faults output.new) → ¬ Rose (L.faults link.old) (L.faults link.new) → IsWithin (S.left input.old)
+        → (result ≡ 0) ⊎ (result ≡ 9) }
     ensures done_where_free { DoesWhatIsFree }
     ensures words { EndsWith result (E.taken errors.old) (E.faults errors.old) (E.taken errors.new) (E.faults errors.new) }
 {

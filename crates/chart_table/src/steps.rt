@@ -443,7 +443,8 @@ fn push_terminal(
     out: &mut List<State>,
 ) -> Result<(), Memory>
     ensures { OnOk result (out.new ≡ out.old
-        ++ (if settings.matches_terminal setting.now terminal state.now.place then steps.placed (state.now.place + 1) state.now.list (state.now.binds ∷ []) else [])) }
+        ++ (if settings.matches_terminal setting.now terminal state.now.place
+        then steps.placed (state.now.place + 1) state.now.list (state.now.binds ∷ []) else [])) }
 {
     match after_terminal(setting, terminal, state.place) {
         None => Ok(()),
@@ -515,7 +516,8 @@ fn push_back(
 ) -> Result<(), Memory>
     ensures { OnOk result (let choices = choosing.choices setting.now plan.now.terms plan.now.places plan.now.own in
         out.new ≡ out.old ++ steps.placed state.now.place state.now.list
-        (steps.refer positive.now negative.now state.now.list (branches.closing_patterns choices negative.now (branches.closing_patterns choices positive.now (state.now.binds ∷ []))))) }
+        (steps.refer positive.now negative.now state.now.list
+        (branches.closing_patterns choices negative.now (branches.closing_patterns choices positive.now (state.now.binds ∷ []))))) }
 {
     let one = alone(alloc, state.binds.as_slice())?;
     let some = close_patterns(alloc, setting, plan, positive, one)?;

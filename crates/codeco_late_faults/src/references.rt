@@ -33,7 +33,8 @@ fn is_taken(element: &Element) -> bool
 // Whether a variable is marked and also plain in these patterns and the others.
 fn takes_plain(patterns: &[Pattern], others: &[Pattern]) -> bool
     ensures { result
-        ≡ list_any (has (flat_map (λ p. occurrences.category_variables p.cat) (patterns.now ++ others.now))) (flat_map faults.taken_variables (patterns.now ++ others.now)) }
+        ≡ list_any (has (flat_map (λ p. occurrences.category_variables p.cat) (patterns.now ++ others.now)))
+        (flat_map faults.taken_variables (patterns.now ++ others.now)) }
 {
     let mut plain = [false; VARIABLES];
     mark_patterns(&mut plain, patterns);

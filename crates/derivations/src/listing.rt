@@ -332,7 +332,8 @@ fn push_all_instances(
     requires within { All (IsWithin setting.now.grammar) rule.now.body }
 
     ensures { OnOk result (map outcome_of out.new ≡ map outcome_of out.old
-        ++ flat_map (enumeration.instance_trees setting.now (enumeration.trees_of setting.now depth) wanted.now (at_of (place, list.now)) number rule.now) made.now) }
+        ++ flat_map (enumeration.instance_trees setting.now (enumeration.trees_of setting.now depth) wanted.now (at_of (place, list.now)) number rule.now)
+        made.now) }
 {
     for values in made {
         push_instance_trees(

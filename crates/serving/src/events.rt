@@ -106,7 +106,8 @@ fn ask<W: Machine, K: Sink, L: Link>(
     ensures closed { result ≡ Handled.Done → L.connections link.new ≡ without connection (L.connections link.old) }
     ensures journal_fault { result ≡ Handled.JournalFault → Rose (K.faults journal.old) (K.faults journal.new) }
     ensures journal { result ≡ Handled.JournalFault → (reply : Reply) × W.Steps machine.old request.now reply machine.new
-        × ((count : ℕ) × (count ≤ length (journal_line request.now reply)) × Appends (K.taken journal.old) (K.taken journal.new) (take count (journal_line request.now reply))) }
+        × ((count : ℕ) × (count ≤ length (journal_line request.now reply))
+        × Appends (K.taken journal.old) (K.taken journal.new) (take count (journal_line request.now reply))) }
     ensures memory { result ≡ Handled.Memory → (machine.new ≡ machine.old) ⊎ ((reply : Reply) × W.Steps machine.old request.now reply machine.new) }
     ensures unwritten { result ≡ Handled.Memory → journal.new ≡ journal.old }
     ensures unsent { (result ≡ Handled.Done → ⊥) → link.new ≡ link.old }

@@ -40,7 +40,8 @@ pub fn serve<W: Machine, K: Sink, L: Link>(
     requires { L.connections link.old ≡ [] }
     ensures serves { Ended W.Steps machine.old (record { journal = K.taken journal.old; sent = L.sent link.old; send_faults = L.send_faults link.old })
         (L.handed link.old)
-        most (L.handed link.new) result (L.left link.new) (record { journal = K.taken journal.new; sent = L.sent link.new; send_faults = L.send_faults link.new }) }
+        most (L.handed link.new) result (L.left link.new)
+        (record { journal = K.taken journal.new; sent = L.sent link.new; send_faults = L.send_faults link.new }) }
     ensures link_fault { result ≡ Served.LinkFault → Rose (L.faults link.old) (L.faults link.new) }
     ensures journal_fault { result ≡ Served.JournalFault → Rose (K.faults journal.old) (K.faults journal.new) }
 {
@@ -62,7 +63,8 @@ fn serve_with<W: Machine, K: Sink, L: Link>(
     requires connections { L.connections link.old ≡ [] }
     ensures serves { Ended W.Steps machine.old (record { journal = K.taken journal.old; sent = L.sent link.old; send_faults = L.send_faults link.old })
         (L.handed link.old)
-        most (L.handed link.new) result (L.left link.new) (record { journal = K.taken journal.new; sent = L.sent link.new; send_faults = L.send_faults link.new }) }
+        most (L.handed link.new) result (L.left link.new)
+        (record { journal = K.taken journal.new; sent = L.sent link.new; send_faults = L.send_faults link.new }) }
     ensures link_fault { result ≡ Served.LinkFault → Rose (L.faults link.old) (L.faults link.new) }
     ensures journal_fault { result ≡ Served.JournalFault → Rose (K.faults journal.old) (K.faults journal.new) }
 {
@@ -95,7 +97,8 @@ fn serve_events<W: Machine, K: Sink, L: Link>(
     requires room { 0 < length buffer.old }
     ensures serves { Ended W.Steps machine.old (record { journal = K.taken journal.old; sent = L.sent link.old; send_faults = L.send_faults link.old })
         (L.handed link.old)
-        most (L.handed link.new) result (L.left link.new) (record { journal = K.taken journal.new; sent = L.sent link.new; send_faults = L.send_faults link.new }) }
+        most (L.handed link.new) result (L.left link.new)
+        (record { journal = K.taken journal.new; sent = L.sent link.new; send_faults = L.send_faults link.new }) }
     ensures link_fault { result ≡ Served.LinkFault → Rose (L.faults link.old) (L.faults link.new) }
     ensures journal_fault { result ≡ Served.JournalFault → Rose (K.faults journal.old) (K.faults journal.new) }
 {

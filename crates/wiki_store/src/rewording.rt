@@ -251,7 +251,8 @@ fn keeps(
     requires short { length sentence.now.tokens ≤ MOST_TOKENS }
     ensures { IfOk result (λ kept. (words : Listed) → Means grammar.now words sentence.now.tokens (meaning_shown sense.now)
         → KeepsOthers grammar.now words lexicon.now forms.now.texts
-        → MatchBool kept (KeepsMeaning grammar.now words lexicon.now sentence.now.tokens) (KeepsMeaning grammar.now words lexicon.now sentence.now.tokens → ⊥)) }
+        → MatchBool kept (KeepsMeaning grammar.now words lexicon.now sentence.now.tokens)
+        (KeepsMeaning grammar.now words lexicon.now sentence.now.tokens → ⊥)) }
 {
     if !has_form(sentence, forms) {
         return Ok(true);

@@ -6,9 +6,7 @@
 # whose many values differ in the last one alone.
 set -eu
 root="$(cd "$(dirname "${BASH_SOURCE[0]}")/.." && pwd)"
-crate="$root/crates/bench_grammar"
-program="$crate/out/bench_grammar"
-[ -x "$program" ] || (cd "$crate" && rt run >/dev/null)
+program="$("$root/bench/program" bench_grammar)"
 work="$(mktemp -d)"
 trap 'rm -rf "$work"' EXIT
 

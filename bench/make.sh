@@ -3,8 +3,7 @@
 # five runs in seconds of processor time, the peak of memory, and the summary, which must be the same each time.
 set -eu
 root="$(cd "$(dirname "${BASH_SOURCE[0]}")/.." && pwd)"
-program="${PROGRAM:-$root/crates/acewiki/out/acewiki}"
-[ -x "$program" ] || "$root/acewiki" replay </dev/null
+program="${PROGRAM:-$("$root/bench/program" acewiki)}"
 work="$(mktemp -d)"
 trap 'rm -rf "$work"' EXIT
 

@@ -1,9 +1,9 @@
 #!/bin/sh
-# Builds the program bench_model and runs it with the word `time`: it checks an interpretation of 100 elements and 1,000
+# Runs the proved program bench_model with the word `time`: it checks an interpretation of 100 elements and 1,000
 # pairs against 2,000 axioms, and says how many microseconds of processor time that took. The interpretation is a model, so no axiom is
 # skipped.
 set -e
-cd "$(dirname "$0")/../crates/bench_model"
+program="$("$(dirname "$0")/program" bench_model)"
 for _ in 1 2 3; do
-    rt run -- time
+    "$program" time
 done

@@ -3,8 +3,7 @@
 # 100,000 `find` lines over 50 and over 5,000 names, and a million over 5,000: lines a second and the peak of memory.
 set -eu
 root="$(cd "$(dirname "${BASH_SOURCE[0]}")/.." && pwd)"
-program="$root/crates/acewiki/out/acewiki"
-[ -x "$program" ] || "$root/acewiki" replay </dev/null
+program="$("$root/bench/program" acewiki)"
 work="$(mktemp -d)"
 trap 'rm -rf "$work"' EXIT
 

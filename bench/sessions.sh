@@ -4,8 +4,7 @@
 # word of the second token does. Then one more session is typed token by token, with the menu after each.
 set -eu
 root="$(cd "$(dirname "${BASH_SOURCE[0]}")/.." && pwd)"
-program="${PROGRAM:-$root/crates/acewiki/out/acewiki}"
-[ -x "$program" ] || "$root/acewiki" replay </dev/null
+program="${PROGRAM:-$("$root/bench/program" acewiki)}"
 python3 - "$program" <<'PY'
 import json, statistics, subprocess, sys, time
 

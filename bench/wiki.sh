@@ -4,8 +4,7 @@
 # through a pipe, then each article is read, and a word that stands in some 100 sentences gets its forms anew.
 set -eu
 root="$(cd "$(dirname "${BASH_SOURCE[0]}")/.." && pwd)"
-program="$root/crates/acewiki/out/acewiki"
-[ -x "$program" ] || "$root/acewiki" replay </dev/null
+program="$("$root/bench/program" acewiki)"
 python3 - "$program" "${1:-2000}" "${2:-7}" <<'PY'
 import json, statistics, subprocess, sys, time
 

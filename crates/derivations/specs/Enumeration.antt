@@ -1,6 +1,6 @@
 -- How derivations are listed: rules are gone through top down, each with its ground instances, and a variable that the
 -- category asked for has fixed isn't tried again. Only private calls speak of it.
-use Rattle.std.specs.Prelude.{◌≡◌, ℕ, zero, suc, ◌+◌, ◌==◌, ◌&&◌, if◌then◌else◌, Bool, false, List, [], ◌∷◌, ◌++◌, length, map, Option, Some, None}
+use Rattle.std.specs.Prelude.{ℕ, zero, suc, ◌+◌, ◌==◌, ◌&&◌, if◌then◌else◌, Bool, false, List, [], ◌∷◌, ◌++◌, length, map, Option, Some, None}
 use Rattle.std.specs.List.{flat_map, list_any, range_with_len}
 use Rattle.std.specs.Option.{option_map_or}
 use Rattle.codeco_terms.specs.declared.values.Value.{Value}
@@ -138,9 +138,6 @@ tried_among s rule terms wanted x = option_map_or (given wanted.values) (fixed_a
 -- a variable with the values to be tried
 abbrev pub choice_among : Setting → Rule → List (ℕ × Term) → Test → ℕ → ℕ × List Value
 choice_among s rule terms wanted x = (x, tried_among s rule terms wanted x)
-
-abbrev pub tried : Setting → Rule → Test → ℕ → List Value
-tried s rule wanted x = tried_among s rule (rule_terms rule) wanted x
 
 -- the own variables with the values to be tried, from a number on
 abbrev pub own_choices : Setting → ℕ → List ℕ → List (ℕ × List Value)

@@ -13,7 +13,8 @@ use Rattle.logic_terms.specs.Same.{inverse}
 use Rattle.logic_terms.specs.Theory.{Theory, is_given, names_given, each_names_given}
 use Rattle.logic_terms.proofs.ComplementLemmas.{is_normal-complement, is_wide-complement}
 use Rattle.absorb.specs.Mentioned.{names_in, names_in_each, names_in_claim, is_among, are_over}
-use Rattle.absorb.specs.Pieces.{Piece, Equality, Assertion, Related, Difference, Unfolding, General, claim_in, either, word_of, first_word, without_first_word, together, general, guarded, inclusion, inclusions, pieces_of, all_pieces}
+use Rattle.absorb.specs.Pieces.{Piece, Equality, Assertion, Related, Difference, Unfolding, General, either, word_of, first_word, without_first_word, together, general, guarded, inclusion, inclusions, pieces_of, all_pieces}
+use Rattle.absorb.proofs.PieceClaims.{claim_in}
 
 -- the complement has the same names
 mutual

@@ -17,7 +17,8 @@ use Rattle.logic_terms.specs.Complement.{complement}
 use Rattle.logic_terms.proofs.ComplementLemmas.{is_in-complement}
 use Rattle.logic_terms.proofs.MeaningLemmas.{holds-Decides}
 use Rattle.logic_terms.specs.Same.{inverse}
-use Rattle.absorb.specs.Pieces.{Piece, claim_in, either, word_of, first_word, without_first_word, together, general, guarded, inclusion, inclusions, pieces_of, all_pieces}
+use Rattle.absorb.specs.Pieces.{Piece, either, word_of, first_word, without_first_word, together, general, guarded, inclusion, inclusions, pieces_of, all_pieces}
+use Rattle.absorb.proofs.PieceClaims.{claim_in}
 
 -- whether a piece is true
 abbrev pub piece_holds : Interpretation → Piece → Bool

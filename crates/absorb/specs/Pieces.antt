@@ -25,16 +25,6 @@ pub data Piece : Type 0 where
   -- each element is in a class
   General : Concept → Piece
 
--- the axiom that says the same
-abbrev pub claim_in : Piece → Claim
-claim_in (Equality one other) = SameIndividual one other
-claim_in (RoleInclusion r s) = SubPropertyOf r s
-claim_in (Assertion name c) = ClassAssertion c name
-claim_in (Related r from to) = PropertyAssertion r from to
-claim_in (Difference one other) = DifferentIndividuals one other
-claim_in (Unfolding word c) = SubClassOf (Atomic word) c
-claim_in (General c) = SubClassOf Everything c
-
 -- the union of two classes
 abbrev pub either : Concept → Concept → Concept
 either c d = UnionOf (also_concept c (also_concept d no_concept))

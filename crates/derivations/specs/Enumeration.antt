@@ -181,16 +181,9 @@ found_position finding = option_map_or (λ f. f.pos ∷ []) finding []
 
 -- what a backward reference finds
 abbrev pub found_at : List (ℕ × Value) → Element → List Entry → List ℕ
-found_at values (Terminal t) list = []
-found_at values (Preterminal c) list = []
-found_at values (Sub c) list = []
-found_at values (Position x) list = []
-found_at values Opener list = []
-found_at values (Forward c) list = []
-found_at values (Strong c) list = []
 found_at values (Back positive negative) list =
     found_position (closest_finding (reference_tests values positive negative) list)
-found_at values (NoBack patterns) list = []
+found_at values _ list = []
 
 -- the path after an element that is no category
 abbrev pub passed : Setting → List (ℕ × Value) → Element → Path → List Path

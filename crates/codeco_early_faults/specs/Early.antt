@@ -1,5 +1,4 @@
--- The faults that are told before numbers are given, as tests of declarations and rules as they are written.
--- Only private calls speak of it.
+-- The faults that are told before numbers are given, as tests of what is written. Only private calls speak of it.
 use Rattle.std.specs.Prelude.{◌≡◌, ℕ, ◌-◌, ◌<◌, ◌==◌, nat_lt, Bool, true, false, not, ◌&&◌, ◌||◌, List, [], ◌∷◌, ◌++◌, length, map, flat_map, slice_get, Option, Some, None, codes, if◌then◌else◌}
 use Rattle.std.specs.List.{list_any}
 use Rattle.std.specs.Option.{option_map_or}

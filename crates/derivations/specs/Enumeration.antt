@@ -1,5 +1,5 @@
--- How derivations are listed: rules are gone through top down, each with its ground instances, and a variable that the
--- category asked for has fixed isn't tried again. Only private calls speak of it.
+-- How derivations are listed. Only private calls speak of it. Rules are gone through top down, each with its ground instances,
+-- and a variable that the category asked for has fixed isn't tried again.
 use Rattle.std.specs.Prelude.{ℕ, zero, suc, ◌+◌, ◌==◌, ◌&&◌, if◌then◌else◌, Bool, false, List, [], ◌∷◌, ◌++◌, length, map, Option, Some, None}
 use Rattle.std.specs.List.{flat_map, list_any, range_with_len}
 use Rattle.std.specs.Option.{option_map_or}

@@ -12,8 +12,10 @@ use Rattle.logic_terms.specs.Plain.{is_plain, is_plain_claim, are_plain}
 use Rattle.logic_terms.specs.Same.{inverse}
 use Rattle.logic_terms.specs.Theory.{Theory, is_given, names_given, each_names_given}
 use Rattle.logic_terms.proofs.ComplementLemmas.{is_normal-complement, is_wide-complement}
+use Rattle.logic_terms.specs.Parts.{word_part}
 use Rattle.absorb.specs.Mentioned.{names_in, names_in_each, names_in_claim, is_among, are_over}
-use Rattle.absorb.specs.Pieces.{Piece, Equality, Assertion, Related, Difference, Unfolding, General, claim_in, either, word_of, first_word, without_first_word, together, general, guarded, inclusion, inclusions, pieces_of, all_pieces}
+use Rattle.absorb.specs.Pieces.{Piece, Equality, Assertion, Related, Difference, Unfolding, General, either, first_word, without_first_word, together, general, guarded, inclusion, inclusions, pieces_of, all_pieces}
+use Rattle.absorb.proofs.PieceClaims.{claim_in}
 
 -- the complement has the same names
 mutual
@@ -64,7 +66,7 @@ module _ (names : List WordId) where
 
   over-without : (cs : Concepts) → over (names_in_each cs) ≡ true → over (names_in_each (without_first_word cs)) ≡ true
   over-without no_concept p = refl
-  over-without (also_concept c cs) p = by_word (over-without cs (parts (names_in c) (names_in_each cs) p).1) (word_of c)
+  over-without (also_concept c cs) p = by_word (over-without cs (parts (names_in c) (names_in_each cs) p).1) (word_part c)
     where
       by_word : over (names_in_each (without_first_word cs)) ≡ true → (o : Option WordId)
           → over (names_in_each (option_map_or (λ w. cs) o (also_concept c (without_first_word cs)))) ≡ true
@@ -181,7 +183,7 @@ plain-general c d w q =
 
 wide-without : (cs : Concepts) → each_wide cs ≡ true → each_wide (without_first_word cs) ≡ true
 wide-without no_concept h = refl
-wide-without (also_concept c cs) h = by_word (wide-without cs (and_parts (is_wide c) (each_wide cs) h).1) (word_of c)
+wide-without (also_concept c cs) h = by_word (wide-without cs (and_parts (is_wide c) (each_wide cs) h).1) (word_part c)
   where
     by_word : each_wide (without_first_word cs) ≡ true → (o : Option WordId)
         → each_wide (option_map_or (λ w. cs) o (also_concept c (without_first_word cs))) ≡ true

@@ -17,7 +17,9 @@ use Rattle.logic_terms.specs.Complement.{complement}
 use Rattle.logic_terms.proofs.ComplementLemmas.{is_in-complement}
 use Rattle.logic_terms.proofs.MeaningLemmas.{holds-Decides}
 use Rattle.logic_terms.specs.Same.{inverse}
-use Rattle.absorb.specs.Pieces.{Piece, claim_in, either, word_of, first_word, without_first_word, together, general, guarded, inclusion, inclusions, pieces_of, all_pieces}
+use Rattle.logic_terms.specs.Parts.{word_part}
+use Rattle.absorb.specs.Pieces.{Piece, either, first_word, without_first_word, together, general, guarded, inclusion, inclusions, pieces_of, all_pieces}
+use Rattle.absorb.proofs.PieceClaims.{claim_in}
 
 -- whether a piece is true
 abbrev pub piece_holds : Interpretation → Piece → Bool
@@ -91,7 +93,7 @@ is_in-together i (also_concept c no_concept) x = sym (and_true (is_in i c x))
     and_true false = refl
 is_in-together i (also_concept c (also_concept d cs)) x = refl
 
-word_of_is : (c : Concept) (word : WordId) → word_of c ≡ Some word → c ≡ Atomic word
+word_of_is : (c : Concept) (word : WordId) → word_part c ≡ Some word → c ≡ Atomic word
 word_of_is Everything word h = cc
 word_of_is (Atomic other) word h = let e : other ≡ word = cc in ap Atomic e
 word_of_is (ComplementOf c) word h = cc
@@ -101,7 +103,7 @@ word_of_is (SomeValuesFrom role c) word h = cc
 word_of_is (AllValuesFrom role c) word h = cc
 word_of_is (HasValue role name) word h = cc
 
-first_step : (i : Interpretation) (c : Concept) (cs : Concepts) (word : WordId) (x : ℕ) (o : Option WordId) → word_of c ≡ o
+first_step : (i : Interpretation) (c : Concept) (cs : Concepts) (word : WordId) (x : ℕ) (o : Option WordId) → word_part c ≡ o
     → (first_word cs ≡ Some word → is_in_each i cs x ≡ (is_in i (Atomic word) x && is_in_each i (without_first_word cs) x))
     → option_map_or (λ w. Some w) o (first_word cs) ≡ Some word
     → (is_in i c x && is_in_each i cs x) ≡ (is_in i (Atomic word) x && is_in_each i (option_map_or (λ w. cs) o (also_concept c (without_first_word cs))) x)
@@ -115,7 +117,7 @@ pub is_in_each-first : (i : Interpretation) (cs : Concepts) (word : WordId) (x :
     → is_in_each i cs x ≡ (is_in i (Atomic word) x && is_in_each i (without_first_word cs) x)
 is_in_each-first i no_concept word x h = cc
 is_in_each-first i (also_concept c cs) word x h =
-    first_step i c cs word x (word_of c) refl (is_in_each-first i cs word x) h
+    first_step i c cs word x (word_part c) refl (is_in_each-first i cs word x) h
 
 implies_twice : (a b c : Bool) → implies a (implies b c) ≡ implies (a && b) c
 implies_twice true b c = refl

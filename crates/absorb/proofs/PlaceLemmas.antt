@@ -9,8 +9,9 @@ use Rattle.std.proofs.lemmas.Option.{slice_get_within}
 use Rattle.wiki_base.specs.declared.numbers.WordId.{WordId}
 use Rattle.wiki_base.proofs.ListLaws.{take_slice_get}
 use Rattle.logic_terms.specs.Concept.{Concept, Concepts, also_concept, concepts_from, Claim}
+use Rattle.logic_terms.specs.Parts.{word_part}
 use Rattle.absorb.specs.FirstWord.{IsFirstWord}
-use Rattle.absorb.specs.Pieces.{word_of, first_word, without_first_word, together, inclusion, inclusions, pieces_of, all_pieces}
+use Rattle.absorb.specs.Pieces.{first_word, without_first_word, together, inclusion, inclusions, pieces_of, all_pieces}
 use Rattle.absorb.specs.Sorted.{Sorted, no_pieces, with_pieces, sorted}
 
 inclusions-append : (cs ds : List Concept) (d : Concept)
@@ -46,7 +47,7 @@ none_before : (c : Concept) (cs : Concepts) (o : Option WordId) → option_map_o
 none_before c cs None h = (refl, h)
 none_before c cs (Some w) h = cc
 
-pub first_none : (cs : List Concept) (k : ℕ) (c : Concept) → slice_get cs k ≡ Some c → word_of c ≡ None → first_word (concepts_from (take k cs)) ≡ None
+pub first_none : (cs : List Concept) (k : ℕ) (c : Concept) → slice_get cs k ≡ Some c → word_part c ≡ None → first_word (concepts_from (take k cs)) ≡ None
     → first_word (concepts_from (take (k + 1) cs)) ≡ None
 first_none cs k c at none before =
     ap (λ xs. first_word (concepts_from xs)) (take_slice_get cs k c at) ∙ go (take k cs) before
@@ -54,10 +55,10 @@ first_none cs k c at none before =
     go : (xs : List Concept) → first_word (concepts_from xs) ≡ None → first_word (concepts_from (xs ++ c ∷ [])) ≡ None
     go [] h = ap (λ o. option_map_or (λ w. Some w) o None) none
     go (x ∷ xs) h =
-        let parts = none_before x (concepts_from xs) (word_of x) h in
+        let parts = none_before x (concepts_from xs) (word_part x) h in
         ap (λ o. option_map_or (λ w. Some w) o (first_word (concepts_from (xs ++ c ∷ [])))) parts.0 ∙ go xs parts.1
 
-pub first_found : (cs : List Concept) (k : ℕ) (c : Concept) (word : WordId) → slice_get cs k ≡ Some c → word_of c ≡ Some word
+pub first_found : (cs : List Concept) (k : ℕ) (c : Concept) (word : WordId) → slice_get cs k ≡ Some c → word_part c ≡ Some word
     → first_word (concepts_from (take k cs)) ≡ None → IsFirstWord cs k word
 first_found cs k c word at is before = record {
   within = slice_get_within cs k c at;
@@ -73,12 +74,12 @@ first_found cs k c word at is before = record {
         nothing j e = cc
     go (x ∷ xs) zero at' none =
         let same : x ≡ c = cc in
-        let here : word_of x ≡ Some word = ap word_of same ∙ is in (
+        let here : word_part x ≡ Some word = ap word_part same ∙ is in (
           ap (λ o. option_map_or (λ w. Some w) o (first_word (concepts_from xs))) here,
           ap (λ o. option_map_or (λ w. concepts_from xs) o (also_concept x (without_first_word (concepts_from xs)))) here,
         )
     go (x ∷ xs) (suc j) at' none =
-        let parts = none_before x (concepts_from (take j xs)) (word_of x) none in
+        let parts = none_before x (concepts_from (take j xs)) (word_part x) none in
         let rest = go xs j at' parts.1 in (
           ap (λ o. option_map_or (λ w. Some w) o (first_word (concepts_from xs))) parts.0 ∙ rest.0,
           ap (λ o. option_map_or (λ w. concepts_from xs) o (also_concept x (without_first_word (concepts_from xs)))) parts.0 ∙ ap (also_concept x) rest.1,

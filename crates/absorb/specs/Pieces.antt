@@ -6,6 +6,7 @@ use Rattle.wiki_base.specs.declared.numbers.WordId.{WordId}
 use Rattle.logic_terms.specs.declared.expressions.Role.{Role}
 use Rattle.logic_terms.specs.Concept.{Concept, Concepts, Everything, Atomic, ComplementOf, IntersectionOf, UnionOf, SomeValuesFrom, AllValuesFrom, HasValue, no_concept, also_concept, Claim, SubClassOf, SubPropertyOf, ClassAssertion, PropertyAssertion, NegativePropertyAssertion, SameIndividual, DifferentIndividuals}
 use Rattle.logic_terms.specs.Complement.{complement}
+use Rattle.logic_terms.specs.Parts.{word_part}
 use Rattle.logic_terms.specs.Same.{inverse}
 
 -- a piece of knowledge
@@ -25,34 +26,19 @@ pub data Piece : Type 0 where
   -- each element is in a class
   General : Concept → Piece
 
--- the axiom that says the same
-abbrev pub claim_in : Piece → Claim
-claim_in (Equality one other) = SameIndividual one other
-claim_in (RoleInclusion r s) = SubPropertyOf r s
-claim_in (Assertion name c) = ClassAssertion c name
-claim_in (Related r from to) = PropertyAssertion r from to
-claim_in (Difference one other) = DifferentIndividuals one other
-claim_in (Unfolding word c) = SubClassOf (Atomic word) c
-claim_in (General c) = SubClassOf Everything c
-
 -- the union of two classes
 abbrev pub either : Concept → Concept → Concept
 either c d = UnionOf (also_concept c (also_concept d no_concept))
 
--- the class word that a class is
-abbrev pub word_of : Concept → Option WordId
-word_of (Atomic word) = Some word
-word_of _ = None
-
 -- the first class word among the members of an intersection
 abbrev pub first_word : Concepts → Option WordId
 first_word no_concept = None
-first_word (also_concept c cs) = option_map_or (λ word. Some word) (word_of c) (first_word cs)
+first_word (also_concept c cs) = option_map_or (λ word. Some word) (word_part c) (first_word cs)
 
 -- the members without the first class word
 abbrev pub without_first_word : Concepts → Concepts
 without_first_word no_concept = no_concept
-without_first_word (also_concept c cs) = option_map_or (λ word. cs) (word_of c) (also_concept c (without_first_word cs))
+without_first_word (also_concept c cs) = option_map_or (λ word. cs) (word_part c) (also_concept c (without_first_word cs))
 
 -- the intersection of these classes, and of a single class itself
 abbrev pub together : Concepts → Concept

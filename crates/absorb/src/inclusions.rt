@@ -3,8 +3,9 @@ ghost use Rattle.std.specs.Prelude.{◌≡◌, ◌<◌, length, remove, IfOk, On
 ghost use Rattle.logic_terms.specs.Shown.{concept_of, concepts_of};
 ghost use Rattle.logic_terms.specs.Concept.{concepts_from, IntersectionOf, AllValuesFrom};
 ghost use Rattle.logic_terms.specs.Complement.{complement};
+ghost use Rattle.logic_terms.specs.Parts.{word_part as word_of};
 ghost use Rattle.logic_terms.specs.Same.{inverse};
-ghost use Rattle.absorb.specs.Pieces.{inclusion, inclusions, either, general, word_of, first_word, together};
+ghost use Rattle.absorb.specs.Pieces.{inclusion, inclusions, either, general, first_word, together};
 ghost use Rattle.absorb.specs.Sorted.{with_piece, with_pieces};
 ghost use Rattle.absorb.specs.FirstWord.{IsFirstWord};
 ghost use Rattle.absorb.specs.Found.{found};

@@ -1,4 +1,5 @@
 // The numbers of features, atoms, terminals and categories, as the notation gives them.
+use codeco_checked::FIRST_PLAIN;
 use codeco_terms::{Term, Value};
 
 pub const NUM: u16 = 0;
@@ -51,7 +52,7 @@ pub const VERB: u16 = 3;
 
 pub const ADJ: u16 = 4;
 
-pub const TEXT: u16 = 5;
+pub const TEXT: u16 = FIRST_PLAIN;
 
 pub const S: u16 = 6;
 

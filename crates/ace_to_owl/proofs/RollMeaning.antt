@@ -2,7 +2,7 @@
 use Rattle.std.proofs.Common.{◌≡◌, ℕ, ◌+◌, ◌==◌, ◌&&◌, ◌||◌, Bool, true, false, List, [], ◌∷◌, ◌++◌, Option, Some, None, Result, Ok, Err, refl, sym, ap, ◌∙◌, subst, inl, inr}
 use Rattle.std.specs.Prelude.{◌⊎◌, not, if◌then◌else◌}
 use Rattle.std.specs.List.{list_any, list_all}
-use Rattle.std.proofs.lemmas.Bool.{cases_Bool, eq-eqb, ne_eqb, or_right as or_more, and_from, eqb-true, both_ways}
+use Rattle.std.proofs.lemmas.Bool.{cases_Bool, eq-eqb, ne_eqb, or_right as or_more, and_from, eqb-true, both_ways, or_cases}
 use Rattle.std.proofs.lemmas.List.Folds.{list_any-append}
 use Rattle.wiki_base.specs.declared.numbers.WordId.{WordId}
 use Rattle.wiki_base.proofs.BoolLaws.{and_first, and_second}
@@ -132,7 +132,7 @@ pub record Membership (i : Interpretation) (root : Option Thing) (bound rs : Lis
 
 bound_member : (rs : List ℕ) (q : ℕ) → is_bound rs q ≡ true → list_any (λ r. (r + 1) == (q + 1)) rs ≡ true
 bound_member [] q h = h
-bound_member (r ∷ rs) q h = elim (Rattle.ace_to_owl.proofs.Forest.or_cases (r == q) (is_bound rs q) h) [
+bound_member (r ∷ rs) q h = elim (or_cases (r == q) (is_bound rs q) h) [
   | inl here ↦ ap (λ b. b || list_any (λ p. (p + 1) == (q + 1)) rs) (eq-eqb (r + 1) (q + 1) (ap (λ n. n + 1) (eqb-true r q here)))
   | inr later ↦ or_more ((r + 1) == (q + 1)) (list_any (λ p. (p + 1) == (q + 1)) rs) (bound_member rs q later)
 ]

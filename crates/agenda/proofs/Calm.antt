@@ -14,7 +14,7 @@ use Rattle.logic_terms.proofs.Places.{some_below_passes}
 use Rattle.tableau_rules.specs.Clashes.{passes, are_joined, clashes_at, value_clashes, has_clash}
 use Rattle.tableau_rules.specs.Graph.{Graph, label_at}
 use Rattle.tableau_rules.specs.Neighbours.{node_of, is_neighbour}
-use Rattle.agenda.specs.Changes.{Changes}
+use Rattle.agenda.proofs.Changes.{Changes}
 
 passes_more : {X : Type 0} (o : Option X) (p q : X → Bool) → ((x : X) → p x ≡ true → q x ≡ true) → passes o p ≡ true → passes o q ≡ true
 passes_more None p q up h = h

@@ -15,7 +15,7 @@ use Rattle.tableau_rules.specs.Graph.{Graph, Vertex, label_at, parent_of}
 use Rattle.tableau_rules.specs.Neighbours.{makes_neighbour}
 use Rattle.tableau_rules.specs.Rules.{with_classes, adding, with_edge, with_node}
 use Rattle.tableau_bounds.proofs.Labels.{get_set_same, get_set_other, get_push_old, kept_classes}
-use Rattle.agenda.specs.Changes.{Changes}
+use Rattle.agenda.proofs.Changes.{Changes}
 
 -- the ends of an edge
 abbrev pub ends : Edge → ℕ → Bool

@@ -8,7 +8,7 @@ use Rattle.tableau_rules.specs.declared.step.Step.{Step}
 use Rattle.tableau_rules.specs.Clashes.{has_clash}
 use Rattle.tableau_rules.specs.Graph.{Graph}
 use Rattle.agenda.specs.Agendas.{IsAfterCalm}
-use Rattle.agenda.specs.Changes.{Changes}
+use Rattle.agenda.proofs.Changes.{Changes}
 use Rattle.agenda.specs.Steps.{grown_by, sprouts}
 use Rattle.agenda.specs.Views.{last_edge}
 use Rattle.agenda.proofs.Calm.{is_hit, hit_clash, calm_after}

@@ -7,7 +7,7 @@ use Rattle.tableau_rules.specs.declared.step.Rule.{Rule}
 use Rattle.tableau_rules.specs.declared.step.Rule.TheVariants as rule
 use Rattle.tableau_rules.specs.Graph.{Graph, label_at}
 use Rattle.tableau_bounds.proofs.Stepping.{ParentsBelow}
-use Rattle.agenda.specs.Changes.{Changes}
+use Rattle.agenda.proofs.Changes.{Changes}
 use Rattle.agenda.specs.Resting.{concerns, IsResting, Fits}
 use Rattle.agenda.proofs.Changing.{same_changes}
 use Rattle.agenda.proofs.Staying.{NeighboursThere, rest_stays}

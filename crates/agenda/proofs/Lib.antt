@@ -1,4 +1,5 @@
 pub mod Calm
+pub mod Changes
 pub mod Changing
 pub mod Clashed
 pub mod Effects

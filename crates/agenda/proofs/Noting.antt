@@ -14,7 +14,7 @@ use Rattle.tableau_rules.specs.Graph.{Graph, Vertex}
 use Rattle.tableau_rules.specs.Rules.{applies, with_edge, with_node, after}
 use Rattle.tableau_bounds.proofs.Labels.{get_push_new}
 use Rattle.agenda.specs.declared.queue.Queue.{Queue}
-use Rattle.agenda.specs.Changes.{Changes}
+use Rattle.agenda.proofs.Changes.{Changes}
 use Rattle.agenda.specs.Steps.{grown_by, sprouts}
 use Rattle.agenda.specs.Views.{is_due, is_waiting, FitsQueue, FollowsQueue, IsPut, NotesLabel, NotesEdge, last_edge}
 use Rattle.agenda.proofs.Changing.{ends, same_changes, adding_changes, edge_changes, node_changes}

@@ -22,7 +22,7 @@ use Rattle.tableau_rules.specs.Rules.{lacks_some, lacks_all, unfoldings_of, open
 use Rattle.tableau_rules.proofs.Firsts.{first_none, where_not}
 use Rattle.tableau_bounds.proofs.Stepping.{ParentsBelow}
 use Rattle.tableau_bounds.proofs.Ways.{ancestors_same}
-use Rattle.agenda.specs.Changes.{Changes}
+use Rattle.agenda.proofs.Changes.{Changes}
 use Rattle.agenda.specs.Resting.{way_up, waits_for, RestsBy, IsResting}
 use Rattle.agenda.proofs.Idle.{row_site}
 

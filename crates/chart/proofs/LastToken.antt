@@ -28,7 +28,8 @@ use Rattle.chart_table.specs.declared.asks.Ask.{Ask}
 use Rattle.chart_table.specs.declared.asks.Ask.TheVariants as ask
 use Rattle.chart_table.specs.Leading.{ElementLeads, Path, own_past, moved_on}
 use Rattle.chart_table.specs.Branches.{OneOf}
-use Rattle.chart_table.specs.Asks.{takes_terminal, takes_reading, meets, CutMeets, AskLeads, TokenMeets, Follows}
+use Rattle.chart_table.specs.Asks.{takes_terminal, takes_reading, meets, CutMeets, AskLeads}
+use Rattle.chart.proofs.Following.{TokenMeets, Follows}
 use Rattle.chart_table.proofs.PassLemmas.{if_some, unless_some, both_true, passed, stand_at}
 use Rattle.chart_table.proofs.AskLemmas.{place_some, all_used, front_is, met_in, ask_of_rule, leads_any}
 

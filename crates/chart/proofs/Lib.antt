@@ -1,3 +1,4 @@
+pub mod Following
 pub mod ChartLemmas
 pub mod TurnedLemmas
 pub mod TurnedTrees

@@ -27,7 +27,8 @@ use Rattle.derivation_trees.specs.Sentences.{setting_of}
 use Rattle.chart_table.specs.declared.asks.Ask.{Ask}
 use Rattle.chart_table.specs.declared.asks.Ask.TheVariants as ask
 use Rattle.chart_table.specs.Branches.{OneOf}
-use Rattle.chart_table.specs.Asks.{AskLeads, TokenMeets}
+use Rattle.chart_table.specs.Asks.{AskLeads}
+use Rattle.chart.proofs.Following.{TokenMeets}
 use Rattle.chart_table.proofs.PassLemmas.{same_value_is}
 use Rattle.chart.specs.Offers.{with_last, Told, terminal_asks, some_follows, is_used, class_of, class_readings}
 use Rattle.chart.proofs.SwapLemmas.{Asked, HasWord, BringsNone, swapped, swapped_first, asked_new, asked_old}

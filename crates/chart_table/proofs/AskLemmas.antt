@@ -16,7 +16,8 @@ use Rattle.derivation_trees.specs.Partial.{CutNode, stopped, entered, used_up, f
 use Rattle.chart_table.specs.declared.asks.Ask.{Ask}
 use Rattle.chart_table.specs.declared.asks.Ask.TheVariants as ask
 use Rattle.chart_table.specs.Leading.{Path, referents}
-use Rattle.chart_table.specs.Asks.{is_met, CutMeets, AskLeads, RuleAsks}
+use Rattle.chart_table.specs.Asks.{is_met, CutMeets, AskLeads}
+use Rattle.chart_table.proofs.RuleAsking.{RuleAsks}
 use Rattle.chart_table.proofs.PassLemmas.{if_some, if_true, both_true, stand_at, run_path, path_runs}
 use Rattle.chart_table.proofs.OpenerLemmas.{referents-append, relisted, run_adds, nodes_parallel}
 

@@ -16,9 +16,10 @@ use Rattle.chart_table.specs.declared.asks.Ask.{Ask}
 use Rattle.chart_table.specs.Leading.{Path, ElementLeads, own_past, referents}
 use Rattle.chart_table.specs.Steps.{at_of, Covers}
 use Rattle.chart_table.specs.Ends.{CoversPath, LeadsFrom, AreSteps}
-use Rattle.chart_table.specs.Asks.{AskStops}
+use Rattle.chart_table.proofs.RuleAsking.{AskStops}
 use Rattle.chart_table.specs.Aims.{Aims}
-use Rattle.chart_table.specs.Cuts.{CutLeads, Stops, RuleCut, AreCuts, own_after, AreAfter, HasCutsUpTo}
+use Rattle.chart_table.specs.Cuts.{CutLeads, Stops, AreCuts, own_after, AreAfter}
+use Rattle.chart_table.proofs.CutsUpTo.{RuleCut, HasCutsUpTo}
 use Rattle.chart_table.proofs.BranchLemmas.{Binds}
 use Rattle.chart_table.proofs.EndLemmas.{drop_further, own_at, fits_name, agrees_known, rule_number}
 use Rattle.chart_table.proofs.AskLemmas.{rule_of_ask, ask_of_rule, ask_alike}

@@ -24,10 +24,12 @@ use Rattle.chart_table.specs.Leading.{referents}
 use Rattle.chart_table.specs.Branches.{known_features}
 use Rattle.chart_table.specs.Choices.{choices, choices_in, terms_of}
 use Rattle.chart_table.specs.Steps.{plain_steps, sub_steps, starting}
-use Rattle.chart_table.specs.Ends.{IsEnds, HasFinished, HasEndsOfRule, HasEndsIfNamed, HasEndsUpTo, AreLast, AreSteps, IsStep}
+use Rattle.chart_table.specs.Ends.{IsEnds, HasFinished, HasEndsOfRule, HasEndsIfNamed, AreSteps, IsStep}
+use Rattle.chart_table.proofs.EndsUpTo.{HasEndsUpTo, AreLast}
 use Rattle.chart_table.specs.declared.states.Cut.{Cut}
 use Rattle.chart_table.specs.Aims.{Aims}
-use Rattle.chart_table.specs.Cuts.{AreCuts, AreAfter, AreAllAfter, HasHeads, CutBefore, Among, Halts, Enters, OneBefore, MeetsCut, HasCutsUpTo}
+use Rattle.chart_table.specs.Cuts.{AreCuts, AreAfter, AreAllAfter, HasHeads, CutBefore, Among, Halts, Enters, OneBefore, MeetsCut}
+use Rattle.chart_table.proofs.CutsUpTo.{HasCutsUpTo}
 use Rattle.chart_table.specs.Table.{row_at, IsRow, AreRows, HasRow, IsFound}
 use Rattle.chart_table.proofs.EndLemmas.{stripped, rule_ends, steps_none, up_to_none, up_to_skip, up_to_more, ends_up_to, plain_step, category_step}
 use Rattle.chart_table.proofs.TableLemmas.{new_row, rows_more, found_row, RowAt}

@@ -22,11 +22,13 @@ use Rattle.derivation_trees.specs.Instances.{value_under, term_value, under, fea
 use Rattle.derivation_trees.specs.Derives.{At, fits, same_where_both, rule_with, list_after, referent}
 use Rattle.chart_table.specs.declared.states.State.{State}
 use Rattle.chart_table.specs.declared.states.End.{End}
-use Rattle.chart_table.specs.Leading.{Leads, ElementLeads, Path, own_past, closed_at, referents}
+use Rattle.chart_table.specs.Leading.{Leads, ElementLeads, Path, own_past, referents}
+use Rattle.chart_table.proofs.RuleLeading.{closed_at}
 use Rattle.chart_table.specs.Branches.{OneOf, Extends, AnyExtends, meeting, closing, known_value, known_features}
 use Rattle.chart_table.specs.Steps.{at_of, Covers, placed, sub_steps, starting, plain_steps}
 use Rattle.chart_table.specs.Choices.{choices_in}
-use Rattle.chart_table.specs.Ends.{end_at, end_head, IsEnds, left_of, EndsAt, Agrees, HasRuleEnds, IsEndOf, HasEndsTo, CoversPath, LeadsFrom, values_of_all, as_terms, has_values, end_with, finished_one, finished, HasMore, OwnFrom, IsStep, AreSteps, AreReached, AreLast, HasFinished, HasEndsOfRule, HasEndsUpTo}
+use Rattle.chart_table.specs.Ends.{end_at, end_head, IsEnds, left_of, EndsAt, Agrees, HasRuleEnds, CoversPath, LeadsFrom, values_of_all, as_terms, has_values, end_with, finished_one, finished, HasMore, OwnFrom, IsStep, AreSteps, HasFinished, HasEndsOfRule}
+use Rattle.chart_table.proofs.EndsUpTo.{IsEndOf, HasEndsTo, AreReached, AreLast, HasEndsUpTo}
 use Rattle.chart_table.proofs.PassLemmas.{both_true, same_value_is, same_value-refl, rule_of_leads, leads_of_rule}
 use Rattle.chart_table.proofs.OpenerLemmas.{leads_alike, referents-twice}
 use Rattle.chart_table.proofs.BranchLemmas.{Binds, either, Each, KnownAll, closing_known, closing_to, closing_from, meeting_to, meeting_from, single, known_same}

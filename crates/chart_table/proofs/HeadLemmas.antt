@@ -29,10 +29,12 @@ use Rattle.chart_table.specs.declared.choices.Plan.{Plan}
 use Rattle.chart_table.specs.Choices.{choices, choices_in, IsPlan}
 use Rattle.chart_table.specs.Steps.{at_of, Covers, starting}
 use Rattle.chart_table.specs.declared.states.End.{End}
-use Rattle.chart_table.specs.Ends.{CoversPath, Agrees, AreLast, finished, end_with, has_values}
+use Rattle.chart_table.specs.Ends.{CoversPath, Agrees, finished, end_with, has_values}
+use Rattle.chart_table.proofs.EndsUpTo.{AreLast}
 use Rattle.chart_table.specs.Asks.{meets, takes_terminal, takes_reading}
 use Rattle.chart_table.specs.Aims.{Aims}
-use Rattle.chart_table.specs.Cuts.{CutLeads, Met, Stops, AreCuts, AreAfter, AreAllAfter, Among, Halts, Enters, CutBefore, HasCut, HasHeads, IsOf, Settles, AllSettle, HasOneMore, IsPossible, OneBefore, MeetsOne, MeetsCut, met_binds, reading_binds, HasRuleCuts, HasCutsOfRule, HasCutsIfNamed, HasCutsUpTo}
+use Rattle.chart_table.specs.Cuts.{CutLeads, Met, Stops, AreCuts, AreAfter, AreAllAfter, Among, Halts, Enters, CutBefore, HasCut, HasHeads, IsOf, Settles, AllSettle, HasOneMore, IsPossible, OneBefore, MeetsOne, MeetsCut, met_binds, reading_binds, HasRuleCuts, HasCutsOfRule, HasCutsIfNamed}
+use Rattle.chart_table.proofs.CutsUpTo.{HasCutsUpTo}
 use Rattle.chart_table.proofs.PassLemmas.{both_true}
 use Rattle.chart_table.proofs.BranchLemmas.{Binds, either, meeting_to, meeting_from, read_to, read_from, single, any_left, any_right, any_append, KnownAll, Each, feats_same, closing_known, closing_to, closing_from}
 use Rattle.chart_table.proofs.ChoiceLemmas.{chosen}

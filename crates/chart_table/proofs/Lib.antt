@@ -1,3 +1,7 @@
+pub mod CutsUpTo
+pub mod EndsUpTo
+pub mod RuleAsking
+pub mod RuleLeading
 pub mod Loops
 pub mod PassLemmas
 pub mod OpenerLemmas

@@ -22,7 +22,8 @@ use Rattle.derivation_trees.specs.Trees.{Nodes, node, none, more}
 use Rattle.derivation_trees.specs.Settings.{Setting, matches_terminal, matches_preterminal}
 use Rattle.derivation_trees.specs.Instances.{value_under, under, tests_under, is_instance, own_values, features_of}
 use Rattle.derivation_trees.specs.Derives.{At, Stand, pass, run, pass_child, pass_finding, is_found, takes, own_rest, reference_tests, phrase_of, phrases_of, phrase, begun, ended, is_none_left, rule_with, fits}
-use Rattle.chart_table.specs.Leading.{Leads, ElementLeads, Path, RuleLeads, own_past, closed_at}
+use Rattle.chart_table.specs.Leading.{Leads, ElementLeads, Path, own_past}
+use Rattle.chart_table.proofs.RuleLeading.{RuleLeads, closed_at}
 
 -- what holds where a choice gives something
 pub if_some : {X P : Type 0} (b : Bool) (x y : X) → (if b then Some x else None) ≡ Some y → (b ≡ true → x ≡ y → P) → P

@@ -1,21 +1,18 @@
 -- What cut-off phrases are asked for next.
-use Rattle.std.specs.Prelude.{◌≡◌, ℕ, ◌==◌, Bool, true, false, List, take, slice_get, Option, Some, None, ◌⊎◌}
+use Rattle.std.specs.Prelude.{◌≡◌, ℕ, ◌==◌, Bool, true, false, List, slice_get, Option, Some, None}
 use Rattle.codeco_terms.specs.declared.values.Value.{Value}
-use Rattle.codeco_terms.specs.declared.categories.Category.{Category}
 use Rattle.codeco_terms.specs.declared.categories.Ground.{Ground}
 use Rattle.codeco_terms.specs.declared.elements.Element.{Element}
 use Rattle.codeco_terms.specs.declared.elements.Element.TheVariants.{Terminal, Preterminal}
 use Rattle.codeco_terms.specs.declared.rules.Rule.{Rule}
 use Rattle.scopes.specs.declared.agreement.Test.{Test}
 use Rattle.scopes.specs.Resolution.{agrees}
-use Rattle.derivation_trees.specs.Settings.{Setting, matches_terminal}
-use Rattle.derivation_trees.specs.Instances.{under, own_values, is_instance}
-use Rattle.derivation_trees.specs.Derives.{At, fits, rule_with}
-use Rattle.derivation_trees.specs.Partial.{CutNode, stopped, entered, cut_end, next_category}
+use Rattle.derivation_trees.specs.Settings.{Setting}
+use Rattle.derivation_trees.specs.Instances.{under}
+use Rattle.derivation_trees.specs.Derives.{At, rule_with}
+use Rattle.derivation_trees.specs.Partial.{CutNode, stopped, entered, cut_end}
 use Rattle.chart_table.specs.declared.asks.Ask.{Ask}
 use Rattle.chart_table.specs.declared.asks.Ask.TheVariants as ask
-use Rattle.chart_table.specs.Leading.{Path}
-use Rattle.chart_table.specs.Branches.{OneOf}
 
 -- the element takes a token that reads so
 abbrev pub takes_reading : List (ℕ × Value) → Ground → Element → Bool
@@ -50,30 +47,3 @@ CutMeets s (entered number values found children count child) asks = CutMeets s 
 -- meets the ask
 abbrev pub AskLeads : Setting → ℕ → Ask → Test → At → Type 0
 AskLeads s halt asks asked at = (cut : CutNode) × (cut_end s cut asked at ≡ Some halt) × CutMeets s cut asks
-
--- A node that has gone so many elements of its rule is cut off there: it stands at the place and its next element meets the
--- ask, or a category comes next that is cut off itself.
-abbrev pub AskStops : Setting → ℕ → Ask → Rule → List (ℕ × Value) → ℕ → At → Type 0
-AskStops s halt asks rule values count last =
-    ((last.place ≡ halt) × (is_met rule values count asks ≡ true))
-    ⊎ ((c : Category) × (next_category rule count ≡ Some c) × AskLeads s halt asks (under values c) last)
-
--- the rule is cut off in the instance, as a phrase for the category: after some of its elements it stands at the place and
--- its next element meets the ask, or a category comes next that is cut off itself
-pub record RuleAsks (s : Setting) (halt : ℕ) (asks : Ask) (rule : Rule) (values : List (ℕ × Value)) (asked : Test) (at : At) : Type 0 where
-  pub instance : is_instance s rule values ≡ true
-  pub head : fits (under values rule.head) asked ≡ true
-  pub count : ℕ
-  pub last : At
-  pub path : Path s values (own_values rule values) (take count rule.body) at last
-  pub stop : AskStops s halt asks rule values count last
-
--- the token at the place meets the ask: it is the terminal, or it reads so
-abbrev pub TokenMeets : Setting → ℕ → Ask → Type 0
-TokenMeets s place ask.Any = ⊥
-TokenMeets s place (ask.Terminal number) = matches_terminal s number place ≡ true
-TokenMeets s place (ask.Reading reading) = (readings : List Ground) × (slice_get s.readings place ≡ Some readings) × OneOf readings reading
-
--- the token at the place may come there: a cut-off node of the category of sentences asks for it
-abbrev pub Follows : Setting → ℕ → Test → At → Type 0
-Follows s place asked at = (asks : Ask) × TokenMeets s place asks × AskLeads s place asks asked at

@@ -9,7 +9,7 @@ use Rattle.codeco_terms.specs.declared.rules.Rule.{Rule}
 use Rattle.scopes.specs.declared.agreement.Test.{Test}
 use Rattle.derivation_trees.specs.Settings.{Setting}
 use Rattle.derivation_trees.specs.Instances.{under, feats_under, own_values, is_instance}
-use Rattle.derivation_trees.specs.Derives.{At, fits, rule_with}
+use Rattle.derivation_trees.specs.Derives.{At, fits}
 use Rattle.derivation_trees.specs.Partial.{next_category, sub_of}
 use Rattle.derivation_scenes.specs.Starts.{may_start}
 use Rattle.chart_table.specs.declared.asks.Ask.{Ask}
@@ -38,16 +38,6 @@ abbrev pub Stops : Setting → Aims → ℕ → Rule → List (ℕ × Value) →
 Stops s aim j rule values count last =
     ((last.place ≡ aim.halt) × Met aim j values (slice_get rule.body count))
     ⊎ ((c : Category) × (next_category rule count ≡ Some c) × CutLeads s aim j (under values c) last)
-
--- the rule is cut off in the instance, as a phrase for the category: after some of its elements it stands at the place and
--- its next element meets the ask, or a category comes next that is cut off itself
-pub record RuleCut (s : Setting) (aim : Aims) (j : ℕ) (rule : Rule) (values : List (ℕ × Value)) (asked : Test) (at : At) : Type 0 where
-  pub instance : is_instance s rule values ≡ true
-  pub head : fits (under values rule.head) asked ≡ true
-  pub count : ℕ
-  pub last : At
-  pub path : Path s values (own_values rule values) (take count rule.body) at last
-  pub stop : Stops s aim j rule values count last
 
 -- the cut-off phrase, by the number of an ask that it meets and the values of its head, is among them
 abbrev pub HasCut : List Cut → ℕ → List (ℕ × Value) → Type 0
@@ -187,20 +177,6 @@ pub record HasCutsOfRule (s : Setting) (aim : Aims) (rule : Rule) (known : List 
 pub record HasCutsIfNamed (s : Setting) (aim : Aims) (rule : Rule) (name : ℕ) (known : List (ℕ × Value)) (at : At) (before after : List Cut) : Type 0 where
   pub named : rule.head.name ≡ name → HasCutsOfRule s aim rule known at before after
   pub other : (rule.head.name ≡ name → ⊥) → after ≡ before
-
--- the values are those of the head of a cut-off phrase of a rule with the name
-pub record IsCutOf (s : Setting) (aim : Aims) (name : ℕ) (at : At) (j : ℕ) (head : List (ℕ × Value)) : Type 0 where
-  pub number : ℕ
-  pub rule : Rule
-  pub has : rule_with s.grammar number ≡ Some rule
-  pub named : rule.head.name ≡ name
-  pub cut : IsRuleCut s aim rule at j head
-
--- what the rules up to this number give
-pub record HasCutsUpTo (s : Setting) (aim : Aims) (name : ℕ) (known : List (ℕ × Value)) (at : At) (count : ℕ) (cuts : List Cut) : Type 0 where
-  pub sound : (j : ℕ) (head : List (ℕ × Value)) → HasCut cuts j head → IsCutOf s aim name at j head
-  pub complete : (number : ℕ) (rule : Rule) → rule_with s.grammar number ≡ Some rule → number ≤ count → rule.head.name ≡ name
-      → HasRuleCuts s aim rule known at cuts
 
 -- nothing is cut off at the place, and the rule's first element that takes tokens can't stand there
 pub record IsIdle (s : Setting) (aim : Aims) (rule : Rule) (place : ℕ) : Type 0 where

@@ -1,5 +1,5 @@
 -- Where the phrases of a category end, as a list of ends.
-use Rattle.std.specs.Prelude.{◌≡◌, ℕ, ◌+◌, ◌-◌, ◌≤◌, ◌&&◌, flat_map, if◌then◌else◌, Bool, true, List, [], ◌∷◌, ◌++◌, length, map, drop, Some, ◌⊎◌}
+use Rattle.std.specs.Prelude.{◌≡◌, ℕ, ◌+◌, ◌&&◌, flat_map, if◌then◌else◌, Bool, true, List, [], ◌∷◌, ◌++◌, length, map, drop, ◌⊎◌}
 use Rattle.std.specs.List.{list_all}
 use Rattle.codeco_terms.specs.declared.values.Value.{Value}
 use Rattle.codeco_terms.specs.declared.values.Term.{Term}
@@ -12,7 +12,7 @@ use Rattle.scopes.specs.AccessList.{closed}
 use Rattle.derivation_trees.specs.Settings.{Setting}
 use Rattle.codeco_terms.specs.Values.{same_value}
 use Rattle.derivation_trees.specs.Instances.{value_under, feats_under, own_values, is_instance, variables_of}
-use Rattle.derivation_trees.specs.Derives.{At, fits, same_where_both, rule_with, first_value}
+use Rattle.derivation_trees.specs.Derives.{At, fits, same_where_both, first_value}
 use Rattle.chart_table.specs.declared.states.State.{State}
 use Rattle.chart_table.specs.declared.states.End.{End}
 use Rattle.chart_table.specs.Leading.{Leads, ElementLeads, Path}
@@ -62,19 +62,6 @@ abbrev pub HasRuleEnds : Setting → Rule → List (ℕ × Value) → At → Lis
 HasRuleEnds s rule known at ends =
     (values : List (ℕ × Value)) (last : At) → is_instance s rule values ≡ true → Agrees known rule values
     → Path s values (own_values rule values) rule.body at last → (e : End) × OneOf ends e × EndsAt rule values at.list last e
-
--- the end is that of an instance of a rule with the name
-pub record IsEndOf (s : Setting) (name : ℕ) (at : At) (e : End) : Type 0 where
-  pub number : ℕ
-  pub rule : Rule
-  pub has : rule_with s.grammar number ≡ Some rule
-  pub named : rule.head.name ≡ name
-  pub ends : IsRuleEnd s rule at e
-
--- each rule with the name, up to this number, has its ends among these
-abbrev pub HasEndsTo : Setting → ℕ → List (ℕ × Value) → At → ℕ → List End → Type 0
-HasEndsTo s name known at count ends =
-    (number : ℕ) (rule : Rule) → rule_with s.grammar number ≡ Some rule → number ≤ count → rule.head.name ≡ name → HasRuleEnds s rule known at ends
 
 -- some state covers where the elements lead on to the last place and list
 abbrev pub CoversPath : Setting → List (ℕ × Value) → List (ℕ × Value) → List Element → At → List State → Type 0
@@ -142,18 +129,6 @@ pub record AreSteps (s : Setting) (rule : Rule) (n : ℕ) (e : Element) (states 
   pub forth : (v own : List (ℕ × Value)) (after : At) → is_instance s rule v ≡ true → OwnFrom v own n → LeadsFrom s v own e after states → Covers v after news
   pub back : (v own : List (ℕ × Value)) (after : At) → is_instance s rule v ≡ true → OwnFrom v own n → Covers v after news → LeadsFrom s v own e after states
 
--- Where the elements that are left lead from the states is where all elements lead from the states at the start.
-pub record AreReached (s : Setting) (rule : Rule) (starts : List State) (n : ℕ) (es : List Element) (states : List State) : Type 0 where
-  pub numbered : 16 ≤ n
-  pub forth : (v : List (ℕ × Value)) (last : At) → is_instance s rule v ≡ true → CoversPath s v (own_values rule v) rule.body last starts
-      → CoversPath s v (drop (n - 16) (own_values rule v)) es last states
-  pub back : (v : List (ℕ × Value)) (last : At) → is_instance s rule v ≡ true → CoversPath s v (drop (n - 16) (own_values rule v)) es last states
-      → CoversPath s v (own_values rule v) rule.body last starts
-
--- the states after all elements of a rule
-abbrev pub AreLast : Setting → Rule → List State → List State → Type 0
-AreLast s rule starts states = (n : ℕ) × AreReached s rule starts n [] states
-
 -- the later list has the ends of the first, and of the phrases that stand in these states after the last element
 pub record HasFinished (s : Setting) (rule : Rule) (start : List Entry) (states : List State) (before after : List End) : Type 0 where
   pub kept : (e : End) → OneOf before e → OneOf after e
@@ -170,8 +145,3 @@ pub record HasEndsOfRule (s : Setting) (rule : Rule) (known : List (ℕ × Value
 pub record HasEndsIfNamed (s : Setting) (rule : Rule) (name : ℕ) (known : List (ℕ × Value)) (at : At) (before after : List End) : Type 0 where
   pub named : rule.head.name ≡ name → HasEndsOfRule s rule known at before after
   pub other : (rule.head.name ≡ name → ⊥) → after ≡ before
-
--- what the rules up to this number give
-pub record HasEndsUpTo (s : Setting) (name : ℕ) (known : List (ℕ × Value)) (at : At) (count : ℕ) (ends : List End) : Type 0 where
-  pub sound : (e : End) → OneOf ends e → IsEndOf s name at e
-  pub complete : HasEndsTo s name known at count ends

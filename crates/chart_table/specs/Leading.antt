@@ -5,7 +5,6 @@ use Rattle.codeco_terms.specs.declared.values.Value.{Value}
 use Rattle.codeco_terms.specs.declared.values.Value.TheVariants.{Pos}
 use Rattle.codeco_terms.specs.declared.elements.Element.{Element}
 use Rattle.codeco_terms.specs.declared.elements.Element.TheVariants.{Terminal, Preterminal, Sub, Position, Opener, Forward, Strong, Back, NoBack}
-use Rattle.codeco_terms.specs.declared.rules.Rule.{Rule}
 use Rattle.scopes.specs.declared.entries.Entry.{Entry}
 use Rattle.scopes.specs.declared.entries.Entry.TheVariants as entry
 use Rattle.scopes.specs.declared.agreement.Test.{Test}
@@ -13,8 +12,8 @@ use Rattle.scopes.specs.AccessList.{introduced}
 use Rattle.scopes.specs.Resolution.{Finding, is_agreeing, closest_finding}
 use Rattle.derivation_trees.specs.Trees.{Node}
 use Rattle.derivation_trees.specs.Settings.{Setting, matches_terminal, matches_preterminal}
-use Rattle.derivation_trees.specs.Instances.{value_under, under, tests_under, is_instance, own_values, own_features}
-use Rattle.derivation_trees.specs.Derives.{At, phrase_of, fits, referent, takes, reference_tests, list_after}
+use Rattle.derivation_trees.specs.Instances.{value_under, under, tests_under, own_features}
+use Rattle.derivation_trees.specs.Derives.{At, phrase_of, referent, takes, reference_tests}
 
 -- some tree leads, as a phrase for the category, from a place and a list to a place and a list
 abbrev pub Leads : Setting → Test → At → At → Type 0
@@ -61,18 +60,6 @@ abbrev pub Path : Setting → List (ℕ × Value) → List (ℕ × Value) → Li
 Path s values own [] at after = (at ≡ after)
 Path s values own (e ∷ es) at after =
     (between : At) × ElementLeads s values own e at between × Path s values (own_past s e own) es between after
-
--- the place and the list after a phrase of the rule that began with a list
-abbrev pub closed_at : Rule → List Entry → At → At
-closed_at rule begun at = record { place = at.place; list = list_after rule.closing begun at.list }
-
--- the rule leads in the instance, as a phrase for the category
-pub record RuleLeads (s : Setting) (rule : Rule) (values : List (ℕ × Value)) (asked : Test) (at after : At) : Type 0 where
-  pub instance : is_instance s rule values ≡ true
-  pub head : fits (under values rule.head) asked ≡ true
-  pub last : At
-  pub path : Path s values (own_values rule values) rule.body at last
-  pub end : after ≡ closed_at rule at.list last
 
 -- the entries of a list without the openers
 abbrev pub referents : List Entry → List Entry

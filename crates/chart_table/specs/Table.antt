@@ -1,6 +1,8 @@
 -- The table of ends.
 use Rattle.std.specs.Prelude.{◌≡◌, ℕ, List, [], slice_get, Some, All}
 use Rattle.codeco_terms.specs.declared.values.Value.{Value}
+use Rattle.codeco_checked.specs.declared.numbers.TheConstants.{FIRST_PLAIN}
+use Rattle.codeco_checked.specs.declared.numbers.TheConstants.{NUMBERS}
 use Rattle.scopes.specs.declared.entries.Entry.{Entry}
 use Rattle.derivation_trees.specs.Settings.{Setting}
 use Rattle.derivation_trees.specs.Derives.{At}
@@ -20,7 +22,7 @@ pub record IsRow (s : Setting) (aim : Aims) (row : Row) : Type 0 where
 
 -- nothing is asked for
 abbrev pub no_asks : Aims
-no_asks = record { halt = 65536; asks = [] }
+no_asks = record { halt = NUMBERS; asks = [] }
 
 -- each row of the table has the ends of its category, and what is cut off
 pub record AreRows (s : Setting) (aim : Aims) (rows : List Row) : Type 0 where
@@ -44,5 +46,5 @@ pub record IsFound (rows : List Row) (number name : ℕ) (known : List (ℕ × V
 
 -- the row is that of the category of sentences, from place 0 and the empty list
 pub record IsTextRow (s : Setting) (aim : Aims) (row : Row) : Type 0 where
-  pub ends : IsEnds s 5 [] (record { place = 0; list = [] }) row.ends
-  pub cuts : AreCuts s aim 5 [] (record { place = 0; list = [] }) row.cuts
+  pub ends : IsEnds s FIRST_PLAIN [] (record { place = 0; list = [] }) row.ends
+  pub cuts : AreCuts s aim FIRST_PLAIN [] (record { place = 0; list = [] }) row.cuts

@@ -14,6 +14,7 @@ use crate::sentences::DEEPEST;
 use crate::states::{Aim, Bound, State};
 use crate::steps::close;
 use crate::table::{Row, last_states, start_states};
+use codeco_checked::NUMBERS;
 use codeco_terms::{Rule, Value};
 use derivation_scenes::{Scene, may_start};
 use lists::List;
@@ -164,7 +165,7 @@ fn nothing<'a>(made: &'a Cell<usize>) -> Aim<'a>
     ensures { result ≡ tables.no_asks }
 {
     Aim {
-        halt: 65536,
+        halt: NUMBERS,
         asks: &[],
         made,
     }

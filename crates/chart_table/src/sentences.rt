@@ -14,7 +14,7 @@ use crate::asks::Ask;
 use crate::choices::plans_of;
 use crate::states::{Aim, Cut, End};
 use crate::table::{Row, row_of, token_count};
-use codeco_checked::CheckedGrammar;
+use codeco_checked::{CheckedGrammar, FIRST_PLAIN};
 use derivation_scenes::Scene;
 use derivation_trees::readings_of;
 use lexicon::Lexicon;
@@ -22,9 +22,6 @@ use lists::List;
 use std::alloc::Global;
 use std::cell::Cell;
 use wiki_base::{Memory, Tokens};
-
-/// The number of the category `text`.
-pub(crate) const TEXT: u16 = 5;
 
 /// How deep categories may be nested before memory is wanting: more than any grammar does.
 pub(crate) const DEEPEST: u32 = u32::MAX;
@@ -126,7 +123,7 @@ fn text_row(alloc: Global, setting: &Scene<'_>, aim: &Aim<'_>) -> Result<Row, Me
         plans.as_slice(),
         &mut rows,
         DEEPEST,
-        TEXT,
+        FIRST_PLAIN,
         known,
         0,
         list,

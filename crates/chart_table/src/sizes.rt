@@ -1,9 +1,10 @@
 // How large a table grows.
 use crate::asks::Ask;
 use crate::choices::plans_of;
-use crate::sentences::{DEEPEST, TEXT};
+use crate::sentences::DEEPEST;
 use crate::states::Aim;
 use crate::table::{Row, row_of};
+use codeco_checked::FIRST_PLAIN;
 use derivation_scenes::Scene;
 use lists::List;
 use std::alloc::Global;
@@ -44,7 +45,7 @@ pub fn table_size(
         plans.as_slice(),
         &mut rows,
         DEEPEST,
-        TEXT,
+        FIRST_PLAIN,
         known,
         0,
         list,

@@ -1,3 +1,4 @@
+pub mod TreesUpTo
 pub mod OrderLemmas
 pub mod PathLemmas
 pub mod WayLemmas

@@ -19,7 +19,8 @@ use Rattle.derivations.specs.Enumeration as enumeration
 use Rattle.derivations.proofs.Members.{Among, among_left, among_right, among_map}
 use Rattle.derivations.proofs.SoundLemmas.{Mapped, from_map, either_among}
 use Rattle.derivations.proofs.ListingLemmas.{both_true}
-use Rattle.chart_table.specs.Leading.{RuleLeads, referents}
+use Rattle.chart_table.specs.Leading.{referents}
+use Rattle.chart_table.proofs.RuleLeading.{RuleLeads}
 use Rattle.chart_table.specs.Branches.{OneOf}
 use Rattle.chart_table.specs.Ends.{left_of}
 use Rattle.chart_table.specs.Instances.{HasInstances}
@@ -31,7 +32,8 @@ use Rattle.chart_trees.specs.declared.paths.Path.{Path}
 use Rattle.chart_trees.specs.Order.{Lower, AtMost, node_code, nodes_code, codes}
 use Rattle.chart_trees.specs.Paths.{path_of, end_from}
 use Rattle.chart_trees.specs.Ways.{IsNoLater, AreReached}
-use Rattle.chart_trees.specs.Outcomes.{IsOutcome, Holds, Covers, IsBest, IsPut, IsEnded, HasEnded, IsOfInstance, IsOfInstances, IsOfRule, HasTrees, HasTreesUpTo}
+use Rattle.chart_trees.specs.Outcomes.{IsOutcome, Holds, Covers, IsBest, IsPut, IsEnded, HasEnded, IsOfInstance, IsOfInstances, IsOfRule, HasTrees}
+use Rattle.chart_trees.proofs.TreesUpTo.{HasTreesUpTo}
 use Rattle.chart_trees.proofs.OrderLemmas.{lower_append, at_most_append, at_most_trans, nodes_code_from}
 use Rattle.chart_trees.proofs.WayLemmas.{Way, way_of, way_leads}
 

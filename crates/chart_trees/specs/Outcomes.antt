@@ -1,5 +1,5 @@
 -- The least trees for each end. Only private calls speak of it.
-use Rattle.std.specs.Prelude.{◌≡◌, ℕ, ◌≤◌, List, length, drop, slice_get, Some, ◌⊎◌}
+use Rattle.std.specs.Prelude.{◌≡◌, ℕ, List, length, drop, slice_get, Some, ◌⊎◌}
 use Rattle.codeco_terms.specs.declared.values.Value.{Value}
 use Rattle.codeco_terms.specs.declared.rules.Rule.{Rule}
 use Rattle.scopes.specs.declared.entries.Entry.{Entry}
@@ -82,9 +82,3 @@ pub record HasTrees (s : Setting) (asked : Test) (at : At) (P : Node → Type 0)
   pub sound : (o : Outcome) → Among after o → Among before o ⊎ IsOutcome s asked at o
   pub kept : (o : Outcome) → Among before o → Holds after o.place o.tail o.code
   pub new : (n : Node) (end : At) → P n → phrase_of s n asked at ≡ Some end → Covers after at.list end (node_code n)
-
--- the least trees for a category with the rules up to this number
-pub record HasTreesUpTo (s : Setting) (asked : Test) (at : At) (count : ℕ) (outcomes : List Outcome) : Type 0 where
-  pub sound : (o : Outcome) → Among outcomes o → IsOutcome s asked at o
-  pub least : (number : ℕ) (n : Node) (end : At) → number ≤ count → IsOfRule number n → phrase_of s n asked at ≡ Some end
-      → Covers outcomes at.list end (node_code n)

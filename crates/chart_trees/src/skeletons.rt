@@ -13,7 +13,7 @@ ghost use Rattle.chart_trees.specs.Outcomes as ends;
 use crate::outcomes::Outcome;
 use crate::table::{Tables, best_of};
 use chart_table::plans_of;
-use codeco_checked::CheckedGrammar;
+use codeco_checked::{CheckedGrammar, FIRST_PLAIN};
 use derivation_trees::{Setting, Skeleton, readings_of, sketch_of};
 use lexicon::Lexicon;
 use lists::List;
@@ -21,9 +21,6 @@ use scopes::{Test, TestValues};
 use std::alloc::Global;
 use std::cmp::Ordering;
 use wiki_base::{Memory, Tokens};
-
-/// The number of the category `text`.
-const TEXT: u16 = 5;
 
 /// How deep categories may be nested before memory is wanting: more than any grammar does.
 const DEEPEST: u32 = u32::MAX;
@@ -102,7 +99,7 @@ fn text(alloc: Global) -> Test
     ensures { result ≡ text_category }
 {
     Test {
-        name: TEXT,
+        name: FIRST_PLAIN,
         values: TestValues::new(alloc),
     }
 }

@@ -15,6 +15,8 @@ use Rattle.codeco_terms.specs.declared.declarations.Declared.TheVariants as decl
 use Rattle.codeco_terms.specs.declared.rules.Rule.{Rule}
 use Rattle.codeco_terms.specs.GrammarParts.{GrammarParts}
 use Rattle.codeco_text.specs.Names.{is_among}
+use Rattle.wiki_base.specs.declared.text.TheConstants.{LONGEST_TEXT}
+use Rattle.codeco_checked.specs.declared.numbers.TheConstants.{FIRST_PLAIN}
 use Rattle.codeco_checked.specs.Occurrences.{rule_mentions, rule_features, rule_variables, rule_terminals, term_variables, category_variables, positions, patterns}
 use Rattle.codeco_checked.specs.Numbering.{has, count_different, differ, declared_atoms, grammar_atoms, is_declared}
 
@@ -44,7 +46,7 @@ abbrev pub is_large_rule : GrammarParts → Rule → Bool
 is_large_rule g r = nat_lt 16 (length r.body)
     || nat_lt 16 (length (flat_map patterns r.body))
     || nat_lt 16 (count_different (rule_variables r))
-    || list_any (λ t. nat_lt 64 (length (slice_index_or g.terminals t []))) (rule_terminals r)
+    || list_any (λ t. nat_lt LONGEST_TEXT (length (slice_index_or g.terminals t []))) (rule_terminals r)
 
 abbrev pub has_large_declarations : GrammarParts → Bool
 has_large_declarations g = nat_lt 1000 (count_texts (map (λ f. f.name) (filter (λ f. is_declared f.declared) g.features)))
@@ -187,4 +189,4 @@ is_taking_rule r = list_any is_taken r.body
 -- NoStart
 
 abbrev pub has_start : GrammarParts → Bool
-has_start g = list_any (λ r. r.head.name == 5) g.rules
+has_start g = list_any (λ r. r.head.name == FIRST_PLAIN) g.rules

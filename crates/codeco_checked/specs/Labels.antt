@@ -18,6 +18,7 @@ use Rattle.codeco_checked.specs.declared.labels.Words.{Words}
 use Rattle.codeco_checked.specs.declared.labels.Words.TheVariants.{Name, Noun, Of, Verb, Relation, VerbThenNoun, VerbBehind, Any}
 use Rattle.codeco_checked.specs.declared.labels.Words.TheVariants as word
 use Rattle.codeco_checked.specs.declared.labels.LabelRow.{LabelRow}
+use Rattle.codeco_checked.specs.declared.numbers.TheConstants.{FIRST_PLAIN}
 use Rattle.codeco_text.specs.Names.{same_bytes}
 use Rattle.codeco_checked.specs.Faults.{preterminals, sub_name}
 
@@ -195,7 +196,7 @@ fits_label kinds r = option_map_or (λ l. fits_row kinds (label_row l) r) r.labe
 -- One kind for each category: marks are the heads of rules with the label mark, text is a text, and the first rules fit.
 pub record FitKinds (rules : List Rule) (n : ℕ) (kinds : ℕ → Kind) : Type 0 where
   pub marks : (name : ℕ) → is_mark (kinds name) ≡ is_mark_in rules name
-  pub text : kinds 5 ≡ Text
+  pub text : kinds FIRST_PLAIN ≡ Text
   pub fit : IsTrue (list_all (fits_label kinds) (take n rules))
 
 -- The fault

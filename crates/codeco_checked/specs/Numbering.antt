@@ -6,6 +6,7 @@ use Rattle.codeco_terms.specs.declared.declarations.Declared.TheVariants.{Undecl
 use Rattle.codeco_terms.specs.declared.rules.Rule.{Rule}
 use Rattle.codeco_terms.specs.GrammarParts.{GrammarParts}
 use Rattle.codeco_text.specs.Names.{same_bytes, is_among}
+use Rattle.codeco_checked.specs.declared.numbers.TheConstants.{FIRST_PLAIN}
 use Rattle.codeco_checked.specs.Occurrences.{rule_mentions, rule_variables, rule_terminals}
 
 -- a number in a list
@@ -74,9 +75,9 @@ pub record IsNumbered (g : GrammarParts) : Type 0 where
   pub first_categories : IsTrue (begins_with first_categories g.categories)
   pub features : IsTrue (list_all (λ f. is_declared f.declared) (drop 4 g.features))
   pub atoms : IsTrue (counts_up 7 (length g.atoms) (grammar_atoms g))
-  pub categories : IsTrue (counts_up 6 (length g.categories) (grammar_names g))
+  pub categories : IsTrue (counts_up (FIRST_PLAIN + 1) (length g.categories) (grammar_names g))
   pub terminals : IsTrue (counts_up 0 (length g.terminals) (grammar_terminals g))
   pub variables : IsTrue (list_all variables_count_up g.rules)
   pub different_atoms : IsTrue (differ g.atoms)
-  pub different_categories : IsTrue (differ (drop 5 g.categories))
+  pub different_categories : IsTrue (differ (drop FIRST_PLAIN g.categories))
   pub different_terminals : IsTrue (differ g.terminals)

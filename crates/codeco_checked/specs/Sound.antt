@@ -15,6 +15,7 @@ use Rattle.codeco_terms.specs.declared.rules.Rule.{Rule}
 use Rattle.codeco_terms.specs.GrammarParts.{GrammarParts}
 use Rattle.codeco_text.specs.Names.{is_identifier, is_terminal}
 use Rattle.codeco_checked.specs.declared.fault.GrammarFault.{GrammarFault}
+use Rattle.codeco_checked.specs.declared.numbers.TheConstants.{FIRST_PLAIN}
 use Rattle.codeco_checked.specs.declared.fault.GrammarFault.TheVariants.{Syntax, TooLarge, Undeclared, BadValue, EmptyRule, LeftRecursion, TakenVariable, LabelKind, NoStart, Memory}
 use Rattle.codeco_checked.specs.Numbering.{IsNumbered}
 use Rattle.codeco_checked.specs.Labels.{IsMisfit}
@@ -54,7 +55,7 @@ is_written c = ascends (map (λ f. f.0) c.feats) && list_all (λ f. is_written_t
 
 -- a category that is no preterminal
 abbrev pub is_written_name : Category → Bool
-is_written_name c = nat_le 5 c.name && is_written c
+is_written_name c = nat_le FIRST_PLAIN c.name && is_written c
 
 abbrev pub is_empty : {X : Type 0} → List X → Bool
 is_empty [] = true
@@ -68,7 +69,7 @@ abbrev pub is_plain_pattern : Pattern → Bool
 is_plain_pattern p = is_written_name p.cat && is_empty p.taken
 
 abbrev pub is_written_element : Element → Bool
-is_written_element (Preterminal c) = nat_lt c.name 5 && is_written c
+is_written_element (Preterminal c) = nat_lt c.name FIRST_PLAIN && is_written c
 is_written_element (Sub c) = is_written_name c
 is_written_element (Forward c) = is_written_name c
 is_written_element (Strong c) = is_written_name c

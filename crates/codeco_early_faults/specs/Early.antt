@@ -1,8 +1,8 @@
--- The faults that are told before numbers are given, as tests of declarations and rules as they are written.
--- Only private calls speak of it.
+-- The faults that are told before numbers are given, as tests of what is written. Only private calls speak of it.
 use Rattle.std.specs.Prelude.{◌≡◌, ℕ, ◌-◌, ◌<◌, ◌==◌, nat_lt, Bool, true, false, not, ◌&&◌, ◌||◌, List, [], ◌∷◌, ◌++◌, length, map, flat_map, slice_get, Option, Some, None, codes, if◌then◌else◌}
 use Rattle.std.specs.List.{list_any}
 use Rattle.std.specs.Option.{option_map_or}
+use Rattle.wiki_base.specs.declared.text.TheConstants.{LONGEST_TEXT}
 use Rattle.codeco_text.specs.declared.written.WrittenCategory.{WrittenCategory}
 use Rattle.codeco_text.specs.declared.written.WrittenElement.{WrittenElement}
 use Rattle.codeco_text.specs.declared.written.WrittenElement.TheVariants as element
@@ -118,7 +118,7 @@ abbrev pub is_large_written_rule : WrittenRule → Bool
 is_large_written_rule r = nat_lt 16 (length r.body)
     || nat_lt 16 (length (flat_map written_patterns r.body))
     || nat_lt 16 (count_texts (written_variables r))
-    || list_any (λ w. nat_lt 64 (length w)) (flat_map written_terminals r.body)
+    || list_any (λ w. nat_lt LONGEST_TEXT (length w)) (flat_map written_terminals r.body)
 
 -- a feature that isn't among these names
 abbrev pub is_undeclared_written_rule : List (List ℕ) → WrittenRule → Bool

@@ -4,6 +4,7 @@ ghost use Rattle.std.specs.List.{list_any, list_all};
 ghost use Rattle.codeco_text.specs.Names.{is_among};
 ghost use Rattle.codeco_numbering.specs.Numbered.{gathered, rules_of, written_features, written_terminals, element_categories, category_features};
 ghost use Rattle.codeco_early_faults.specs.Early.{written_patterns, is_large_written_rule, is_undeclared_written_rule, is_large_place, is_undeclared_place, declared_names, FindsFirst};
+ghost use Rattle.wiki_base.specs.declared.text.TheConstants.{LONGEST_TEXT};
 
 use crate::declarations::declared_names;
 use crate::names::NameSet;
@@ -12,30 +13,27 @@ use codeco_text::{
     WrittenCategories, WrittenCategory, WrittenElement, WrittenItem, WrittenItems, WrittenRule,
 };
 use std::alloc::Global;
-use wiki_base::Memory;
+use wiki_base::{LONGEST_TEXT, Memory};
 
 /// The most elements, patterns and different variables of a rule.
 const MOST_OF_A_RULE: usize = 16;
-
-/// The most bytes of a terminal.
-const LONGEST_TERMINAL: usize = 64;
 
 /// The number of the first rule that is one too many.
 const ONE_TOO_MANY: u32 = 501;
 
 /// Whether the element is a terminal over 64 bytes.
 fn is_long(element: &WrittenElement) -> bool
-    ensures { result ≡ list_any (λ w. nat_lt 64 (length w)) (written_terminals element.now) }
+    ensures { result ≡ list_any (λ w. nat_lt LONGEST_TEXT (length w)) (written_terminals element.now) }
 {
     match element {
-        WrittenElement::Terminal(name) => name.as_bytes().len() > LONGEST_TERMINAL,
+        WrittenElement::Terminal(name) => name.as_bytes().len() > LONGEST_TEXT,
         _ => false,
     }
 }
 
 /// Whether the rule has a terminal over 64 bytes.
 fn has_long_terminal(body: &[WrittenElement]) -> bool
-    ensures { result ≡ list_any (λ w. nat_lt 64 (length w)) (flat_map written_terminals body.now) }
+    ensures { result ≡ list_any (λ w. nat_lt LONGEST_TEXT (length w)) (flat_map written_terminals body.now) }
 {
     for element in body {
         if is_long(element) {

@@ -3,6 +3,7 @@ use Rattle.std.specs.Prelude.{◌≡◌, ℕ, ◌+◌, ◌<◌, ◌≤◌, Bool,
 use Rattle.std.specs.Option.{option_map_or}
 use Rattle.codeco_terms.specs.declared.rules.Rule.{Rule}
 use Rattle.codeco_checked.specs.declared.labels.Kind.{Kind}
+use Rattle.codeco_checked.specs.declared.numbers.TheConstants.{FIRST_PLAIN}
 use Rattle.codeco_checked.specs.declared.labels.Kind.TheVariants.{Text}
 use Rattle.codeco_checked.specs.Labels.{is_mark, is_mark_in, label_row, IsMisfit}
 use Rattle.codeco_labels.specs.Shapes.{shape_of, row_holds}
@@ -28,10 +29,10 @@ rule_holds marks r kinds = option_map_or (λ l. row_holds (label_row l) r.head.n
 -- A table of what is known without the rules: which categories are marks, and that text is a text.
 pub record Knows (rules : List Rule) (marks : List Bool) (t : KindRows) : Type 0 where
   pub size : length marks ≡ length t.groups
-  pub text : 5 < length t.groups
+  pub text : FIRST_PLAIN < length t.groups
   pub right : AreMarks rules marks
-  pub only : (kinds : ℕ → Kind) → FitMarks marks kinds → kinds 5 ≡ Text → Meets t kinds
-  pub all : (kinds : ℕ → Kind) → Meets t kinds → ((c : ℕ) → c < length marks → is_mark (kinds c) ≡ slice_index_or marks c false) × (kinds 5 ≡ Text)
+  pub only : (kinds : ℕ → Kind) → FitMarks marks kinds → kinds FIRST_PLAIN ≡ Text → Meets t kinds
+  pub all : (kinds : ℕ → Kind) → Meets t kinds → ((c : ℕ) → c < length marks → is_mark (kinds c) ≡ slice_index_or marks c false) × (kinds FIRST_PLAIN ≡ Text)
 
 abbrev pub first_place : List Rule → Option ℕ
 first_place [] = None

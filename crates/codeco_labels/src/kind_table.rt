@@ -6,6 +6,7 @@ ghost use Rattle.codeco_checked.specs.Labels as labels;
 ghost use Rattle.codeco_labels.specs.Kinds.{allows};
 ghost use Rattle.codeco_labels.specs.Shapes as shapes;
 ghost use Rattle.codeco_labels.specs.Tables as tables;
+ghost use Rattle.codeco_checked.specs.declared.numbers.TheConstants.{NUMBERS};
 
 use crate::allowed::Allowed;
 use crate::found::Found;
@@ -46,7 +47,7 @@ impl KindTable {
 
     /// Each category in a group of its own, of which it is known whether it is a mark.
     pub(crate) fn new(alloc: Global, marks: &[bool]) -> Result<KindTable, Memory>
-        requires { length marks.now ≤ 65536 }
+        requires { length marks.now ≤ NUMBERS }
         ensures size { IfOk result (λ table. length table.groups ≡ length marks.now) }
         ensures whole { IfOk result (λ table. IsWhole table) }
         ensures alive { IfOk result (λ table. IsAlive table) }

@@ -11,13 +11,10 @@ ghost use Rattle.codeco_labels.specs.Tables as tables;
 use crate::allowed::Allowed;
 use crate::kind_table::KindTable;
 use crate::shapes::{Shape, above_rules};
-use codeco_checked::{Heads, Kind, label_row};
+use codeco_checked::{FIRST_PLAIN, Heads, Kind, label_row};
 use codeco_terms::{Label, Rule};
 use std::alloc::Global;
 use wiki_base::Memory;
-
-// The number of the category `text`.
-const TEXT: u16 = 5;
 
 // Whether the label is `mark`.
 fn makes_mark(label: Label) -> bool
@@ -111,7 +108,7 @@ pub fn first_misfit(alloc: Global, rules: &[Rule]) -> Result<Option<usize>, Memo
     let size = above_rules(rules);
     let marks = marks_of(alloc, rules, size)?;
     let mut table = KindTable::new(alloc, &marks)?;
-    if !table.restrict(TEXT, Allowed::Only(Kind::Text)) {
+    if !table.restrict(FIRST_PLAIN, Allowed::Only(Kind::Text)) {
         return Ok(first_place(rules));
     }
     Ok(first_unfit(&mut table, &marks, rules))

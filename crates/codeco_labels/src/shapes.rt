@@ -1,10 +1,11 @@
 // What of a rule's body matters to its label.
-ghost use Rattle.std.specs.Prelude.{◌≡◌, ◌≤◌, false, slice_index_or, IsTrue};
+ghost use Rattle.std.specs.Prelude.{◌≡◌, ◌<◌, ◌≤◌, false, slice_index_or, IsTrue};
 ghost use Rattle.std.specs.List.{list_all};
 ghost use Rattle.codeco_labels.specs.Shapes as shapes;
+ghost use Rattle.codeco_checked.specs.declared.numbers.TheConstants.{FIRST_PLAIN, NUMBERS};
 
 use crate::found::{Found, Times};
-use codeco_checked::{LabelRow, Words};
+use codeco_checked::{FIRST_PLAIN, LabelRow, Words};
 use codeco_terms::{Element, Rule};
 
 /// What a body has.
@@ -142,8 +143,8 @@ fn is_mark(marks: &[bool], name: u16) -> bool
 
 // A number above the element's name, where it is a child, and at least this one.
 fn above_element(element: &Element, least: usize) -> usize
-    requires { least ≤ 65536 }
-    ensures most { result ≤ 65536 }
+    requires { least ≤ NUMBERS }
+    ensures most { result ≤ NUMBERS }
     ensures least { least ≤ result }
     ensures below { IsTrue (shapes.element_below result element.now) }
 {
@@ -155,8 +156,8 @@ fn above_element(element: &Element, least: usize) -> usize
 
 // A number above the names of the rule's head and children, and at least this one.
 fn above_rule(rule: &Rule, least: usize) -> usize
-    requires { least ≤ 65536 }
-    ensures most { result ≤ 65536 }
+    requires { least ≤ NUMBERS }
+    ensures most { result ≤ NUMBERS }
     ensures least { least ≤ result }
     ensures below { IsTrue (shapes.names_below result rule.now) }
 {
@@ -169,11 +170,11 @@ fn above_rule(rule: &Rule, least: usize) -> usize
 
 /// A number above the names of all heads and children, and above that of `text`.
 pub(crate) fn above_rules(rules: &[Rule]) -> usize
-    ensures most { result ≤ 65536 }
-    ensures least { 6 ≤ result }
+    ensures most { result ≤ NUMBERS }
+    ensures least { FIRST_PLAIN < result }
     ensures below { IsTrue (list_all (shapes.names_below result) rules.now) }
 {
-    let mut above = 6;
+    let mut above = FIRST_PLAIN as usize + 1;
     for rule in rules {
         above = above_rule(rule, above);
     }

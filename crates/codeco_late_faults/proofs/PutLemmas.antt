@@ -53,38 +53,15 @@ shares_none [] = refl
 shares_none (x ∷ xs) = shares_none xs
 
 or_all : (a b c d s : Bool) → (((a || b) || c) || (d || s)) ≡ ((b || (d || c)) || (a || s))
-or_all true true true true true = refl
-or_all true true true true false = refl
-or_all true true true false true = refl
-or_all true true true false false = refl
-or_all true true false true true = refl
-or_all true true false true false = refl
-or_all true true false false true = refl
-or_all true true false false false = refl
-or_all true false true true true = refl
-or_all true false true true false = refl
-or_all true false true false true = refl
-or_all true false true false false = refl
-or_all true false false true true = refl
-or_all true false false true false = refl
-or_all true false false false true = refl
-or_all true false false false false = refl
-or_all false true true true true = refl
-or_all false true true true false = refl
-or_all false true true false true = refl
-or_all false true true false false = refl
-or_all false true false true true = refl
-or_all false true false true false = refl
-or_all false true false false true = refl
-or_all false true false false false = refl
-or_all false false true true true = refl
-or_all false false true true false = refl
-or_all false false true false true = refl
-or_all false false true false false = refl
-or_all false false false true true = refl
-or_all false false false true false = refl
-or_all false false false false true = refl
-or_all false false false false false = refl
+or_all true true c d s = refl
+or_all true false c true s = refl
+or_all true false true false s = refl
+or_all true false false false s = refl
+or_all false true c d s = refl
+or_all false false true true s = refl
+or_all false false true false s = refl
+or_all false false false true s = refl
+or_all false false false false s = refl
 
 or_nothing : (a : Bool) → a ≡ ((a || false) || false)
 or_nothing true = refl
@@ -104,14 +81,9 @@ taken_double feats (t ∷ ts) =
     ∙ ap (λ b. (is_double (numbers feats) || is_double (numbers (t ∷ ts))) || b) (sym (shares_cons (numbers feats) t.0 (numbers ts)))
 
 or_shift : (a b c : Bool) → ((a || b) || c) ≡ (b || (a || c))
-or_shift true true true = refl
-or_shift true true false = refl
-or_shift true false true = refl
-or_shift true false false = refl
-or_shift false true true = refl
-or_shift false true false = refl
-or_shift false false true = refl
-or_shift false false false = refl
+or_shift true true c = refl
+or_shift true false c = refl
+or_shift false b c = refl
 
 or_false : (a : Bool) → a ≡ (a || false)
 or_false true = refl

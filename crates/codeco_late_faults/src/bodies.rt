@@ -2,7 +2,9 @@
 ghost use Rattle.std.specs.Prelude.{◌≡◌, ◌==◌};
 ghost use Rattle.std.specs.List.{list_any};
 ghost use Rattle.codeco_checked.specs.Faults as faults;
+ghost use Rattle.codeco_checked.specs.declared.numbers.TheConstants.{FIRST_PLAIN};
 
+use codeco_checked::FIRST_PLAIN;
 use codeco_terms::{Element, Rule};
 
 // Whether the element is a terminal, a preterminal or a category.
@@ -52,7 +54,7 @@ pub(crate) fn first_category(body: &[Element]) -> Option<u16>
 
 // Whether a rule has the head `text`.
 pub(crate) fn has_start(rules: &[Rule]) -> bool
-    ensures { result ≡ list_any (λ r. r.head.name == 5) rules.now }
+    ensures { result ≡ list_any (λ r. r.head.name == FIRST_PLAIN) rules.now }
 {
-    rules.iter().any(|rule| rule.head.name == 5)
+    rules.iter().any(|rule| rule.head.name == FIRST_PLAIN)
 }

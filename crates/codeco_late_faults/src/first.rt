@@ -9,6 +9,7 @@ ghost use Rattle.codeco_checked.specs.Faults as faults;
 ghost use Rattle.codeco_late_faults.specs.First.{FindsFirst};
 ghost use Rattle.codeco_late_faults.specs.Tables.{CountsAtoms};
 ghost use Rattle.codeco_late_faults.specs.Steps.{Reaches, leads};
+ghost use Rattle.codeco_checked.specs.declared.numbers.TheConstants.{NUMBERS};
 
 use crate::bad_rules::first_bad_rule;
 use crate::bodies::{has_start, is_empty_rule};
@@ -48,7 +49,7 @@ fn first_recursive_rule(
     rules: &[Rule],
     table: &[Followers],
 ) -> Result<Option<usize>, Memory>
-    requires { length table.now ≡ 65536 }
+    requires { length table.now ≡ NUMBERS }
     ensures { IfOk result (λ found. FindsFirst (λ r. Reaches (leads table.now) r.head.name r.head.name) rules.now found) }
 {
     for (place, rule) in rules.iter().enumerate() {

@@ -25,6 +25,7 @@ use Rattle.codeco_text.specs.declared.written.WrittenItem.{WrittenItem}
 use Rattle.codeco_text.specs.declared.written.WrittenItem.TheVariants as item
 use Rattle.codeco_text.specs.Names.{same_bytes, is_among}
 use Rattle.codeco_text.specs.Notation.{kinds}
+use Rattle.codeco_checked.specs.declared.numbers.TheConstants.{FIRST_PLAIN}
 use Rattle.codeco_checked.specs.Numbering.{first_features, first_atoms}
 use Rattle.codeco_numbering.specs.Labels.{label_name, all_labels}
 
@@ -145,7 +146,7 @@ term_names (term.Taken w) = w ∷ []
 abbrev pub category_names : List (List ℕ) → WrittenCategory → List (List ℕ)
 category_names features c = flat_map (λ f. term_names f.1) (ordered features c)
 
--- The tables by which a rule is numbered. The categories are those that are no preterminals, from number 5 on.
+-- The tables by which a rule is numbered. The categories are those that are no preterminals, from the first plain number on.
 pub record Tables : Type 0 where
   pub features : List (List ℕ)
   pub atoms : List (List ℕ)
@@ -172,7 +173,7 @@ taken_feats t ((n, term.Variable w) ∷ fs) = taken_feats t fs
 taken_feats t ((n, term.Taken w) ∷ fs) = (n, number_of t.variables w) ∷ taken_feats t fs
 
 abbrev pub numbered_category : Tables → WrittenCategory → Category
-numbered_category t c = record { name = 5 + number_of t.categories c.name; feats = plain_feats t (ordered t.features c) }
+numbered_category t c = record { name = FIRST_PLAIN + number_of t.categories c.name; feats = plain_feats t (ordered t.features c) }
 
 -- a preterminal, whose number is the place of its name among the five
 abbrev pub numbered_preterminal : Tables → WrittenCategory → Category

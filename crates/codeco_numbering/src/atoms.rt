@@ -2,6 +2,7 @@
 ghost use Rattle.std.specs.Prelude.{◌≡◌, ◌<◌, ◌∷◌, length, map, IfOk, OnOk};
 ghost use Rattle.codeco_checked.specs.Numbering.{first_atoms};
 ghost use Rattle.codeco_numbering.specs.Numbered.{gathered, number_of, feature_atoms, atoms_of, numbered_domain, numbered_feature};
+ghost use Rattle.codeco_checked.specs.declared.numbers.TheConstants.{NUMBERS};
 
 use crate::features::{FeatureTable, NamedFeature};
 use crate::names::Names;
@@ -55,7 +56,7 @@ pub fn atoms_of(alloc: Global, features: &FeatureTable) -> Result<Names, Memory>
 }
 
 fn atom_numbers(alloc: Global, atoms: &Names, symbols: &Symbols) -> Result<AtomNumbers, Memory>
-    requires { length atoms.now < 65536 }
+    requires { length atoms.now < NUMBERS }
     ensures { IfOk result (λ numbers. numbers ≡ map (number_of atoms.now) symbols.now) }
 {
     let mut numbers = AtomNumbers::new(alloc);
@@ -66,7 +67,7 @@ fn atom_numbers(alloc: Global, atoms: &Names, symbols: &Symbols) -> Result<AtomN
 }
 
 fn numbered_domain(alloc: Global, atoms: &Names, feature: &NamedFeature) -> Result<Declared, Memory>
-    requires { length atoms.now < 65536 }
+    requires { length atoms.now < NUMBERS }
     ensures { IfOk result (λ declared. declared ≡ numbered_domain atoms.now feature.now.domain) }
 {
     match feature.domain {
@@ -80,7 +81,7 @@ fn numbered_domain(alloc: Global, atoms: &Names, feature: &NamedFeature) -> Resu
 }
 
 fn numbered_feature(alloc: Global, atoms: &Names, feature: &NamedFeature) -> Result<Feature, Memory>
-    requires { length atoms.now < 65536 }
+    requires { length atoms.now < NUMBERS }
     ensures { IfOk result (λ numbered. numbered ≡ numbered_feature atoms.now feature.now) }
 {
     Ok(Feature {
@@ -95,7 +96,7 @@ pub fn numbered_features(
     atoms: &Names,
     features: &FeatureTable,
 ) -> Result<Features, Memory>
-    requires { length atoms.now < 65536 }
+    requires { length atoms.now < NUMBERS }
     ensures { IfOk result (λ list. list ≡ map (numbered_feature atoms.now) features.now) }
 {
     let mut list = Features::new(alloc);

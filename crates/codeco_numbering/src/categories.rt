@@ -1,6 +1,7 @@
 // Categories and patterns in numbers.
 ghost use Rattle.std.specs.Prelude.{◌≡◌, ◌<◌, ◌++◌, ◌∷◌, [], length, map, IfOk, OnOk};
 ghost use Rattle.codeco_numbering.specs.Numbered.{ordered, plain_feats, taken_feats, numbered_category, numbered_preterminal, numbered_pattern};
+ghost use Rattle.codeco_checked.specs.declared.numbers.TheConstants.{NUMBERS};
 
 use crate::names::{Names, kind_number};
 use crate::tables::Tables;
@@ -15,7 +16,7 @@ pub fn ordered<'a>(
     features: &Names,
     category: &'a WrittenCategory,
 ) -> Result<Vec<(u16, &'a WrittenTerm)>, Memory>
-    requires { length features.now < 65536 }
+    requires { length features.now < NUMBERS }
     ensures { IfOk result (λ list. map (λ f. (f.0, f.1.now)) list.items ≡ ordered features.now category.now) }
 {
     let mut list = Vec::with_capacity(alloc, category.feats.len())?;

@@ -1,8 +1,10 @@
 // The tables by which a rule is numbered.
 ghost use Rattle.std.specs.Prelude.{◌≡◌, ◌+◌};
 ghost use Rattle.codeco_numbering.specs.Numbered.{number_of, numbered_term};
+ghost use Rattle.codeco_checked.specs.declared.numbers.TheConstants.{FIRST_PLAIN};
 
 use crate::names::Names;
+use codeco_checked::FIRST_PLAIN;
 use codeco_terms::{Symbol, Term, Value};
 use codeco_text::WrittenTerm;
 use std::marker::Model;
@@ -56,9 +58,9 @@ impl<'a> Tables<'a> {
 
     /// The number of a category's name.
     pub fn category_name(&self, name: &Symbol) -> u16
-        ensures { result ≡ 5 + number_of self.now.categories name.now }
+        ensures { result ≡ FIRST_PLAIN + number_of self.now.categories name.now }
     {
-        5 + self.grammar.categories.number_of(name.as_bytes()) as u16
+        FIRST_PLAIN + self.grammar.categories.number_of(name.as_bytes()) as u16
     }
 
     /// The number of a variable.

@@ -1,6 +1,7 @@
 // The variables of a rule, by first occurrence.
 ghost use Rattle.std.specs.Prelude.{◌≡◌, ◌<◌, length, flat_map, IfOk, OnOk};
 ghost use Rattle.codeco_numbering.specs.Numbered.{gathered, term_names, category_names, element_names, variable_names};
+ghost use Rattle.codeco_checked.specs.declared.numbers.TheConstants.{NUMBERS};
 
 use crate::categories::ordered;
 use crate::names::Names;
@@ -33,7 +34,7 @@ fn add_category(
     category: &WrittenCategory,
     names: &mut Names,
 ) -> Result<(), Memory>
-    requires { length features.now < 65536 }
+    requires { length features.now < NUMBERS }
     ensures { OnOk result (names.new ≡ gathered names.old (category_names features.now category.now)) }
 {
     let list = ordered(alloc, features, category)?;
@@ -46,7 +47,7 @@ fn add_categories(
     categories: &WrittenCategories,
     names: &mut Names,
 ) -> Result<(), Memory>
-    requires { length features.now < 65536 }
+    requires { length features.now < NUMBERS }
     ensures { OnOk result (names.new ≡ gathered names.old (flat_map (category_names features.now) categories.now)) }
 {
     for category in categories.as_slice() {
@@ -61,7 +62,7 @@ fn add_element(
     element: &WrittenElement,
     names: &mut Names,
 ) -> Result<(), Memory>
-    requires { length features.now < 65536 }
+    requires { length features.now < NUMBERS }
     ensures { OnOk result (names.new ≡ gathered names.old (element_names features.now element.now)) }
 {
     match element {
@@ -82,7 +83,7 @@ fn add_element(
 
 /// The variables of a rule, the head's first.
 pub fn variable_names(alloc: Global, features: &Names, rule: &WrittenRule) -> Result<Names, Memory>
-    requires { length features.now < 65536 }
+    requires { length features.now < NUMBERS }
     ensures { IfOk result (λ names. names ≡ variable_names features.now rule.now) }
 {
     let mut names = Names::new(alloc);

@@ -3,7 +3,7 @@ use Rattle.std.specs.Prelude.{ℕ, ◌==◌, Bool, true, false, List, [], ◌∷
 use Rattle.std.specs.List.{list_any}
 use Rattle.std.specs.Option.{option_map_or}
 use Rattle.codeco_terms.specs.declared.elements.Element.{Element}
-use Rattle.codeco_terms.specs.declared.elements.Element.TheVariants.{Terminal, Preterminal, Sub, Position, Opener, Forward, Strong, Back, NoBack}
+use Rattle.codeco_terms.specs.declared.elements.Element.TheVariants.{Terminal, Preterminal, Sub}
 use Rattle.derivation_trees.specs.Settings.{Setting, matches_terminal}
 
 -- the token at the place has a reading with the preterminal's name
@@ -16,9 +16,4 @@ may_start s place [] = true
 may_start s place (Terminal t ∷ es) = matches_terminal s t place
 may_start s place (Preterminal c ∷ es) = has_kind s c.name place
 may_start s place (Sub c ∷ es) = true
-may_start s place (Position x ∷ es) = may_start s place es
-may_start s place (Opener ∷ es) = may_start s place es
-may_start s place (Forward c ∷ es) = may_start s place es
-may_start s place (Strong c ∷ es) = may_start s place es
-may_start s place (Back positive negative ∷ es) = may_start s place es
-may_start s place (NoBack patterns ∷ es) = may_start s place es
+may_start s place (_ ∷ es) = may_start s place es

@@ -12,6 +12,7 @@ use Rattle.codeco_terms.specs.declared.elements.Element.TheVariants.{Terminal, P
 use Rattle.codeco_terms.specs.declared.rules.Rule.{Rule}
 use Rattle.codeco_terms.specs.GrammarParts.{GrammarParts}
 use Rattle.codeco_terms.specs.Values.{same_value}
+use Rattle.codeco_checked.specs.declared.numbers.TheConstants.{FIRST_PLAIN}
 use Rattle.scopes.specs.declared.entries.Entry.{Entry}
 use Rattle.scopes.specs.declared.entries.Entry.TheVariants as entry
 use Rattle.scopes.specs.declared.agreement.Test.{Test}
@@ -180,7 +181,7 @@ abbrev mutual
 
 -- the category of sentences, without features
 abbrev pub text_category : Test
-text_category = record { name = 5; values = [] }
+text_category = record { name = FIRST_PLAIN; values = [] }
 
 -- the node derives: as a phrase for the category it leads from a place and a list to a place and a list
 abbrev pub Derives : Setting → Test → Node → ℕ → List Entry → ℕ → List Entry → Type 0

@@ -9,14 +9,11 @@ ghost use Rattle.derivation_trees.specs.Stands.{IsLimited};
 use crate::derive::leads;
 use crate::setting::Setting;
 use crate::trees::Tree;
-use codeco_checked::CheckedGrammar;
+use codeco_checked::{CheckedGrammar, FIRST_PLAIN};
 use lexicon::{Lexicon, Readings};
 use scopes::{Access, Test, TestValues};
 use std::alloc::Global;
 use wiki_base::{MOST_TOKENS, Memory, Token, Tokens};
-
-/// The number of the category `text`.
-const TEXT: u16 = 5;
 
 /// Whether the tree is a derivation of the tokens, of which there are at most 40, by the grammar with the words of the
 /// lexicon: a tree with a rule for `text` that leads from place 0 and the empty list to the end of the tokens. Any tree
@@ -47,7 +44,7 @@ fn is_derivation(alloc: Global, setting: &Setting<'_>, tree: &Tree) -> Result<bo
     ensures { IfOk result (λ yes. IsTrue yes ↔ IsDerivation setting.now (node_of tree.now)) }
 {
     let asked = Test {
-        name: TEXT,
+        name: FIRST_PLAIN,
         values: TestValues::new(alloc),
     };
     let list = Access::empty(alloc);

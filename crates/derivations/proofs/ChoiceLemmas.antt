@@ -19,7 +19,8 @@ use Rattle.codeco_checked.specs.Occurrences.{rule_features, rule_variables, posi
 use Rattle.derivation_trees.specs.Settings.{Setting, is_value, fits_feature}
 use Rattle.derivation_trees.specs.Instances.{looked_up, value_under, term_value, feats_under, under, written_variables, variables_of, same_numbers, term_fits, own_fit, own_values, rule_own_features, is_instance}
 use Rattle.derivation_trees.specs.Derives.{same_where_both, fits}
-use Rattle.derivations.specs.Enumeration.{given, feature_values, position_values, rule_terms, feature_at, fixed_at, free_among, tried, own_choices, choices, lengthened, chosen, instances}
+use Rattle.derivations.specs.Enumeration.{given, feature_values, position_values, rule_terms, feature_at, fixed_at, free_among, own_choices, choices, lengthened, chosen, instances}
+use Rattle.derivations.proofs.Tried.{tried}
 use Rattle.derivations.proofs.Members.{Among, among_map, among_flat_map, all_among}
 use Rattle.derivations.proofs.ValueLemmas.{given_fixed, value_has, feature_has, number_has}
 use Rattle.derivations.proofs.TermLemmas.{Fixed, all_terms, in_rule, feature_some, feature_none, fixed_some}

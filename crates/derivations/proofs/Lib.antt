@@ -1,3 +1,4 @@
+pub mod Tried
 pub mod Members
 pub mod ValueLemmas
 pub mod TermLemmas

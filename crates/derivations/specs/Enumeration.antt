@@ -1,6 +1,6 @@
--- How derivations are listed: rules are gone through top down, each with its ground instances, and a variable that the
--- category asked for has fixed isn't tried again. Only private calls speak of it.
-use Rattle.std.specs.Prelude.{◌≡◌, ℕ, zero, suc, ◌+◌, ◌==◌, ◌&&◌, if◌then◌else◌, Bool, false, List, [], ◌∷◌, ◌++◌, length, map, Option, Some, None}
+-- How derivations are listed. Only private calls speak of it. Rules are gone through top down, each with its ground instances,
+-- and a variable that the category asked for has fixed isn't tried again.
+use Rattle.std.specs.Prelude.{ℕ, zero, suc, ◌+◌, ◌==◌, ◌&&◌, if◌then◌else◌, Bool, false, List, [], ◌∷◌, ◌++◌, length, map, Option, Some, None}
 use Rattle.std.specs.List.{flat_map, list_any, range_with_len}
 use Rattle.std.specs.Option.{option_map_or}
 use Rattle.codeco_terms.specs.declared.values.Value.{Value}
@@ -139,9 +139,6 @@ tried_among s rule terms wanted x = option_map_or (given wanted.values) (fixed_a
 abbrev pub choice_among : Setting → Rule → List (ℕ × Term) → Test → ℕ → ℕ × List Value
 choice_among s rule terms wanted x = (x, tried_among s rule terms wanted x)
 
-abbrev pub tried : Setting → Rule → Test → ℕ → List Value
-tried s rule wanted x = tried_among s rule (rule_terms rule) wanted x
-
 -- the own variables with the values to be tried, from a number on
 abbrev pub own_choices : Setting → ℕ → List ℕ → List (ℕ × List Value)
 own_choices s number [] = []
@@ -184,16 +181,9 @@ found_position finding = option_map_or (λ f. f.pos ∷ []) finding []
 
 -- what a backward reference finds
 abbrev pub found_at : List (ℕ × Value) → Element → List Entry → List ℕ
-found_at values (Terminal t) list = []
-found_at values (Preterminal c) list = []
-found_at values (Sub c) list = []
-found_at values (Position x) list = []
-found_at values Opener list = []
-found_at values (Forward c) list = []
-found_at values (Strong c) list = []
 found_at values (Back positive negative) list =
     found_position (closest_finding (reference_tests values positive negative) list)
-found_at values (NoBack patterns) list = []
+found_at values _ list = []
 
 -- the path after an element that is no category
 abbrev pub passed : Setting → List (ℕ × Value) → Element → Path → List Path

@@ -1,5 +1,5 @@
 // Whether tokens have a partial derivation.
-ghost use Rattle.std.specs.Prelude.{◌≡◌, ◌≤◌, ◌↔◌, ◌∷◌, [], All, IsTrue, IfOk, length, map};
+ghost use Rattle.std.specs.Prelude.{◌≡◌, ◌≤◌, ◌+◌, ◌↔◌, ◌∷◌, [], All, IsTrue, IfOk, length, map};
 ghost use Rattle.std.specs.List.{list_any};
 ghost use Rattle.derivation_trees.specs.Partial.{IsBeginning};
 ghost use Rattle.derivation_trees.specs.Sentences.{setting_of};
@@ -7,6 +7,7 @@ ghost use Rattle.derivation_trees.specs.Stands.{IsLimited, IsWithin, at_of};
 ghost use Rattle.derivations.specs.Beginnings as beginnings;
 ghost use Rattle.derivations.specs.Enumeration as enumeration;
 ghost use Rattle.derivations.specs.Paths.{path_of};
+ghost use Rattle.wiki_base.specs.declared.tokens.TheConstants.{MOST_TOKENS};
 
 use crate::choices::{Bound, instances};
 use crate::least::{depth_for, rule_count, text, token_count};
@@ -272,7 +273,7 @@ pub(crate) fn is_beginning(
     lexicon: &Lexicon,
     tokens: &[Token],
 ) -> Result<bool, Memory>
-    requires { length tokens.now ≤ 41 }
+    requires { length tokens.now ≤ MOST_TOKENS + 1 }
 
     ensures test { IfOk result (λ yes. yes ≡ beginnings.has_partial (setting_of grammar.now lexicon.now tokens.now)) }
     ensures partial { IfOk result (λ yes. IsTrue yes ↔ IsBeginning grammar.now lexicon.now tokens.now) }

@@ -10,10 +10,11 @@ ghost use Rattle.derivations.specs.Enumeration as enumeration;
 ghost use Rattle.derivations.specs.Paths.{outcome_of};
 ghost use Rattle.derivations.specs.Laws.{CodesTell, IsOnlyLeast};
 ghost use Rattle.derivations.specs.Listed.{listed, LeastOf, IsLesser};
+ghost use Rattle.wiki_base.specs.declared.tokens.TheConstants.{MOST_TOKENS};
 
 use crate::listing::trees_of;
 use crate::paths::Outcome;
-use codeco_checked::CheckedGrammar;
+use codeco_checked::{CheckedGrammar, FIRST_PLAIN};
 use derivation_scenes::Scene;
 use derivation_trees::{Setting, Skeleton, Tree, check_tree, readings_of, sketch_of};
 use lexicon::Lexicon;
@@ -22,9 +23,6 @@ use scopes::{Access, Test, TestValues};
 use std::alloc::Global;
 use std::cmp::Ordering;
 use wiki_base::{Memory, Tokens};
-
-/// The number of the category `text`.
-const TEXT: u16 = 5;
 
 // Whether the code of the one is below that of the other.
 fn is_below(alloc: Global, one: &Skeleton, other: &Skeleton) -> Result<bool, Memory>
@@ -64,7 +62,7 @@ fn consider(
     tree: &Tree,
     least: Option<Skeleton>,
 ) -> Result<Option<Skeleton>, Memory>
-    requires few { length tokens.now ≤ 40 }
+    requires few { length tokens.now ≤ MOST_TOKENS }
     requires same { setting.now ≡ setting_of grammar.now lexicon.now tokens.now }
 
     ensures { IfOk result (λ next. (trees : List Node) → LeastOf setting.now trees least
@@ -87,7 +85,7 @@ fn least_of(
     setting: &Setting<'_>,
     outcomes: &[Outcome],
 ) -> Result<Option<Skeleton>, Memory>
-    requires few { length tokens.now ≤ 40 }
+    requires few { length tokens.now ≤ MOST_TOKENS }
     requires same { setting.now ≡ setting_of grammar.now lexicon.now tokens.now }
 
     ensures { IfOk result (LeastOf setting.now (listed outcomes.now)) }
@@ -133,7 +131,7 @@ pub(crate) fn text(alloc: Global) -> Test
     ensures { result ≡ text_category }
 {
     Test {
-        name: TEXT,
+        name: FIRST_PLAIN,
         values: TestValues::new(alloc),
     }
 }
@@ -157,7 +155,7 @@ fn least_in(
     setting: &Setting<'_>,
     scene: &Scene<'_>,
 ) -> Result<Option<Skeleton>, Memory>
-    requires few { length tokens.now ≤ 40 }
+    requires few { length tokens.now ≤ MOST_TOKENS }
     requires same { setting.now ≡ setting_of grammar.now lexicon.now tokens.now }
     requires alike { scene.now ≡ setting.now }
     requires sound { IsSound setting.now.grammar }
@@ -187,7 +185,7 @@ pub fn plain_least(
     lexicon: &Lexicon,
     tokens: &Tokens,
 ) -> Result<Option<Skeleton>, Memory>
-    requires { length tokens.now ≤ 40 }
+    requires { length tokens.now ≤ MOST_TOKENS }
 
     ensures least { IfOk result (λ least. IfSome least (IsLeastSkeleton grammar.now lexicon.now tokens.now)) }
     ensures none { IfOk result (λ least. IfNone least (IsSentence grammar.now lexicon.now tokens.now → ⊥)) }

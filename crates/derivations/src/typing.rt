@@ -5,6 +5,7 @@ ghost use Rattle.codeco_checked.specs.Sound.{IsSound};
 ghost use Rattle.derivation_trees.specs.Menus.{IsMenu};
 ghost use Rattle.derivations.specs.Entries.{shown, texts_of, goes_on, tried, all_tried, forms_in, forms_among, functions_in, IsInOrder, AreTexts};
 ghost use Rattle.derivations.specs.Typing.{IsTextMenu, IsTypeableCount};
+ghost use Rattle.wiki_base.specs.declared.tokens.TheConstants.{MOST_TOKENS};
 
 use crate::beginnings::is_beginning;
 use crate::entries::{Entry, menu_of, put};
@@ -25,7 +26,7 @@ fn consider<'a>(
     text: &'a str,
     entries: &mut Vec<Entry<'a>>,
 ) -> Result<(), Memory>
-    requires few { length tokens.now ≤ 40 }
+    requires few { length tokens.now ≤ MOST_TOKENS }
     requires token { IsToken text.now }
     requires ordered { IsInOrder (map shown entries.old.items) }
 
@@ -64,7 +65,7 @@ fn try_terminals<'a>(
     texts: &[&'a str],
     entries: &mut Vec<Entry<'a>>,
 ) -> Result<(), Memory>
-    requires few { length tokens.now ≤ 40 }
+    requires few { length tokens.now ≤ MOST_TOKENS }
     requires tokens { All IsToken (texts_of texts.now) }
     requires ordered { IsInOrder (map shown entries.old.items) }
 
@@ -94,7 +95,7 @@ fn try_word<'a>(
     word: &'a Word,
     entries: &mut Vec<Entry<'a>>,
 ) -> Result<(), Memory>
-    requires few { length tokens.now ≤ 40 }
+    requires few { length tokens.now ≤ MOST_TOKENS }
     requires ordered { IsInOrder (map shown entries.old.items) }
 
     ensures { OnOk result (map shown entries.new.items
@@ -123,7 +124,7 @@ fn try_words<'a>(
     tokens: &Tokens,
     entries: &mut Vec<Entry<'a>>,
 ) -> Result<(), Memory>
-    requires few { length tokens.now ≤ 40 }
+    requires few { length tokens.now ≤ MOST_TOKENS }
     requires ordered { IsInOrder (map shown entries.old.items) }
 
     ensures { OnOk result (map shown entries.new.items
@@ -146,7 +147,7 @@ pub fn plain_menu<'a>(
     lexicon: &'a Lexicon,
     tokens: &Tokens,
 ) -> Result<Menu<'a>, Memory>
-    requires { length tokens.now ≤ 40 }
+    requires { length tokens.now ≤ MOST_TOKENS }
 
     ensures menu { All IsUtf8 grammar.now.terminals → IfOk result (IsMenu grammar.now lexicon.now tokens.now) }
     ensures texts { IfOk result (IsTextMenu grammar.now lexicon.now tokens.now) }
@@ -173,7 +174,7 @@ pub fn typeable_count(
     lexicon: &Lexicon,
     tokens: &Tokens,
 ) -> Result<usize, Memory>
-    requires { length tokens.now ≤ 40 }
+    requires { length tokens.now ≤ MOST_TOKENS }
 
     ensures { IfOk result (IsTypeableCount grammar.now lexicon.now tokens.now) }
 {

@@ -3,7 +3,7 @@ use Rattle.std.specs.Prelude.{ℕ, ◌+◌, ◌==◌, Bool, true, false, not, Li
 use Rattle.std.specs.Option.{option_map_or}
 use Rattle.wiki_base.specs.declared.numbers.WordId.{WordId}
 use Rattle.codeco_terms.specs.declared.elements.Element.{Element}
-use Rattle.codeco_terms.specs.declared.elements.Element.TheVariants.{Terminal, Preterminal, Sub, Position, Opener, Forward, Strong, Back, NoBack}
+use Rattle.codeco_terms.specs.declared.elements.Element.TheVariants.{Terminal, Preterminal, Sub, Forward, Strong}
 use Rattle.codeco_terms.specs.declared.rules.Label.{Label}
 use Rattle.codeco_checked.specs.declared.labels.Words.{Words}
 use Rattle.codeco_checked.specs.declared.labels.Words.TheVariants as words
@@ -30,12 +30,9 @@ introduced_at (Terminal t ∷ es) place ends = introduced_at es (place + 1) ends
 introduced_at (Preterminal c ∷ es) place ends = introduced_at es (place + 1) ends
 introduced_at (Sub c ∷ es) place [] = introduced_at es place []
 introduced_at (Sub c ∷ es) place (end ∷ ends) = introduced_at es end ends
-introduced_at (Position x ∷ es) place ends = introduced_at es place ends
-introduced_at (Opener ∷ es) place ends = introduced_at es place ends
 introduced_at (Forward c ∷ es) place ends = place
 introduced_at (Strong c ∷ es) place ends = place
-introduced_at (Back ps ns ∷ es) place ends = introduced_at es place ends
-introduced_at (NoBack ps ∷ es) place ends = introduced_at es place ends
+introduced_at (_ ∷ es) place ends = introduced_at es place ends
 
 -- Names with their positions
 

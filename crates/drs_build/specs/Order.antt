@@ -2,7 +2,7 @@
 use Rattle.std.specs.Prelude.{◌≡◌, ℕ, ◌+◌, ◌<◌, ◌==◌, slice_get, Some, nat_le, Bool, true, false, ◌&&◌, List, [], ◌∷◌, map}
 use Rattle.std.specs.List.{list_all}
 use Rattle.codeco_terms.specs.declared.elements.Element.{Element}
-use Rattle.codeco_terms.specs.declared.elements.Element.TheVariants.{Terminal, Preterminal, Sub, Position, Opener, Forward, Strong, Back, NoBack}
+use Rattle.codeco_terms.specs.declared.elements.Element.TheVariants.{Terminal, Preterminal, Sub}
 use Rattle.codeco_terms.specs.GrammarParts.{GrammarParts}
 use Rattle.derivation_trees.specs.declared.skeletons.Skeleton.{Skeleton, out-Skeleton}
 use Rattle.derivation_trees.specs.declared.skeletons.Skeleton.TheOpen.{Skeleton-F}
@@ -25,12 +25,7 @@ leads (Terminal t ∷ es) place spans end = leads es (place + 1) spans end
 leads (Preterminal c ∷ es) place spans end = leads es (place + 1) spans end
 leads (Sub c ∷ es) place [] end = leads es place [] end
 leads (Sub c ∷ es) place (span ∷ spans) end = (span.start == place) && (nat_le span.start span.end && leads es span.end spans end)
-leads (Position x ∷ es) place spans end = leads es place spans end
-leads (Opener ∷ es) place spans end = leads es place spans end
-leads (Forward c ∷ es) place spans end = leads es place spans end
-leads (Strong c ∷ es) place spans end = leads es place spans end
-leads (Back ps ns ∷ es) place spans end = leads es place spans end
-leads (NoBack ps ∷ es) place spans end = leads es place spans end
+leads (_ ∷ es) place spans end = leads es place spans end
 
 -- the span of a phrase, and whether it and all in it are in order
 pub record Ordered : Type 0 where

@@ -2,6 +2,7 @@
 ghost use Rattle.std.specs.Prelude.{◌≡◌, ◌<◌, ◌≤◌, ◌++◌, length, IfOk, IfErr, OnOk, Some, None, if◌then◌else◌, option_copied, string_bytes};
 ghost use Rattle.wiki_base.specs.Text.{IsText};
 ghost use Rattle.lexicon.specs.Suggest.{ends_in, ends_in_sibilant, is_consonant, ends_in_consonant, stem, changes_y, with_s, with_d, too_long, IsFormRefusal};
+ghost use Rattle.wiki_base.specs.declared.text.TheConstants.{LONGEST_TEXT};
 
 use crate::suggest::FormFault;
 use std::alloc::{AllocError, Global};
@@ -42,7 +43,7 @@ pub(crate) fn with_d(alloc: Global, word: &Text) -> Result<Text, FormFault>
 // The text of these two parts.
 fn extended(alloc: Global, front: &str, ending: &str) -> Result<Text, FormFault>
     requires some { 0 < length (front.now ++ ending.now) }
-    requires letters { length (front.now ++ ending.now) ≤ 64 → IsText (front.now ++ ending.now) }
+    requires letters { length (front.now ++ ending.now) ≤ LONGEST_TEXT → IsText (front.now ++ ending.now) }
     ensures text { IfOk result (λ text. text ≡ front.now ++ ending.now) }
     ensures fits { OnOk result (too_long (front.now ++ ending.now) ≡ None) }
     ensures refused { IfErr result (IsFormRefusal (too_long (front.now ++ ending.now))) }

@@ -1,4 +1,4 @@
--- Private contracts speak of these: what a reading and a round of readings come to.
+-- What a reading and a round of readings come to. Only private calls speak of it.
 use Rattle.std.specs.Prelude.{ℕ, ◌<◌, ◌≤◌, ⊤}
 use Rattle.socket_link.specs.declared.place.Heard.{Heard}
 use Rattle.socket_link.specs.declared.place.Heard.TheVariants as heard

@@ -1,4 +1,4 @@
--- Private contracts speak of these: what is handed in, and which connections are open then.
+-- What is handed in, and which connections are open then. Only private calls speak of it.
 use Rattle.std.specs.Prelude.{◌≡◌, ℕ, List, length, IsTrue}
 use Rattle.wiki_io.specs.declared.links.Next.{Next}
 use Rattle.wiki_io.specs.Link.{can_all_come, connections_after_all, event_in, NextFits}

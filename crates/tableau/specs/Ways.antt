@@ -1,5 +1,4 @@
--- The way of a search from its first branch to the present one: the choices that it took, the first one first.
--- Only private calls speak of it.
+-- The way of a search from its first branch to the present one: its choices, the first one first. Only private calls speak of it.
 use Rattle.std.specs.Prelude.{ℕ, ◌≡◌, ◌+◌, ◌<◌, ◌≤◌, true, false, List, [], ◌∷◌, ◌++◌, map, length, Option, Some, None}
 use Rattle.logic_terms.specs.Theory.{Theory}
 use Rattle.tableau_rules.specs.declared.branch.Branch.{Branch}

@@ -1,4 +1,4 @@
--- What the program keeps of sessions. Only private calls speak of it.
+-- What the program keeps of sessions.
 use Rattle.std.specs.Prelude.{◌≤◌, ℕ, Bool, true, false, List, All}
 use Rattle.wiki_talk.specs.declared.requests.Request.{Request}
 use Rattle.wiki_talk.specs.declared.requests.Request.TheVariants as requests

@@ -5,6 +5,7 @@ pub mod KnownLemmas
 pub mod LiveNames
 pub mod MeaningLemmas
 pub mod MentionLemmas
+pub mod Mentions
 pub mod MenuLemmas
 pub mod NameLemmas
 pub mod OverLemmas

@@ -24,7 +24,7 @@ use Rattle.ace_to_owl.specs.Parts.{Part, At, Edge, straight, inverse, intersecti
 use Rattle.ace_to_owl.specs.Rolling.{member, is_foreign, value_part, edge_part, holder, held, negated_class, either_class, negation_part, roll, roll_with, parts, part_of}
 use Rattle.ace_to_owl.specs.Mapping.{without, class_asked, subclass_claim, member_claim, only_condition, only_fact, denied_claim, is_pair, role_claim, plain_claim, alone, other_claim, leading_claim, nameless_claim, named_claim, used_claim, compound_claim, claim_alone, own_terms, together, referents_with, conditions_with, claim_together, claim_at, claims_after, axioms_stated}
 use Rattle.ace_to_owl.proofs.RollMeaning.{Went, went, no_err, ok_same, never_same}
-use Rattle.wiki_parts.specs.Mentions.{thing_passes, names_pass, names_pass_all, names_pass_in}
+use Rattle.wiki_parts.proofs.Mentions.{thing_passes, names_pass, names_pass_all, names_pass_in}
 
 module _ (test : WordId → Bool) where
   -- each name in a class, in what a part gives, and in an axiom

@@ -30,7 +30,7 @@ use Rattle.wiki_parts.specs.State.{State}
 use Rattle.wiki_parts.specs.Knowledge.{is_asserted, StatesFirst, AreStated, Knows, sentences_in, live_names}
 use Rattle.wiki_parts.specs.Kept.{stated_by, known_of, known_in, meanings_in, MeanEach, MeanInEach}
 use Rattle.wiki_parts.specs.Meanings.{Meaning, stating, asking, statement_by, question_by, statement_meaning, question_meaning, Means}
-use Rattle.wiki_parts.specs.Mentions.{names_pass}
+use Rattle.wiki_parts.proofs.Mentions.{names_pass}
 use Rattle.wiki_parts.proofs.LiveNames.{names_pass_live}
 use Rattle.wiki_parts.proofs.MentionLemmas.{statement_passes, question_passes}
 use Rattle.wiki_parts.proofs.PassingLemmas.{words_pass, meaning_passes}

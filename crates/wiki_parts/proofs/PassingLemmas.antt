@@ -29,7 +29,7 @@ use Rattle.drs_build.specs.Joining as joining
 use Rattle.drs_build.specs.Meanings.{Meaning, nothing, saying, bar, verb_phrase, noun_phrase, Made, meaning}
 use Rattle.drs_build.specs.Nodes.{label_of, is_meant, is_naming, names_of, own_name_in, no_word, term_at, meaning_in, meaning_of, made_in, position_in}
 use Rattle.drs_build.proofs.NodeLemmas.{meaning_by, meaning_none, names_of_is}
-use Rattle.wiki_parts.specs.Mentions.{thing_passes, names_pass, names_pass_all, names_pass_in}
+use Rattle.wiki_parts.proofs.Mentions.{thing_passes, names_pass, names_pass_all, names_pass_in}
 
 module _ (test : WordId → Bool) where
   -- what a phrase means says nothing of a name that doesn't pass, where what it is said of passes

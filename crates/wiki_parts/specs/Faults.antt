@@ -1,4 +1,4 @@
--- Why a request changes nothing. Only private calls speak of it.
+-- Why a request changes nothing.
 use Rattle.std.specs.Prelude.{◌≡◌, Option, Some, Result, Ok, Err, ⊤}
 use Rattle.wiki_talk.specs.declared.refusals.Refusal.{Refusal}
 use Rattle.wiki_talk.specs.declared.replies.Reply.{Reply}

@@ -1,4 +1,4 @@
--- A meaning as the program holds it. Only private calls speak of it.
+-- A meaning as the program holds it.
 use Rattle.logic_terms.specs.Shown.{claims_of, concept_of}
 use Rattle.wiki_parts.specs.declared.meanings.Sense.{Sense}
 use Rattle.wiki_parts.specs.declared.meanings.Sense.TheVariants as senses

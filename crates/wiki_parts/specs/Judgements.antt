@@ -1,4 +1,4 @@
--- What becomes of a statement. Only private calls speak of it.
+-- What becomes of a statement.
 use Rattle.std.specs.Prelude.{Option, Some, None}
 use Rattle.owl_eval.specs.declared.checked.CheckedModel.{CheckedModel}
 use Rattle.wiki_talk.specs.declared.statuses.Status.{Status}

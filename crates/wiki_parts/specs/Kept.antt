@@ -1,4 +1,4 @@
--- What the program keeps of all sentences. Only private calls speak of it.
+-- What the program keeps of all sentences.
 use Rattle.std.specs.Prelude.{◌≡◌, ◌≤◌, ℕ, ◌++◌, List, [], ◌∷◌, ◌+◌, length, map, take, drop, slice_get, unwrap_or, Some, All, if◌then◌else◌}
 use Rattle.std.specs.Option.{option_map_or}
 use Rattle.wiki_base.specs.declared.tokens.TheConstants.{MOST_TOKENS}

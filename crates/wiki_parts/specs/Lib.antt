@@ -5,7 +5,6 @@ pub mod Judgements
 pub mod Kept
 pub mod Knowledge
 pub mod Meanings
-pub mod Mentions
 pub mod Parsing
 pub mod Places
 pub mod Refusing

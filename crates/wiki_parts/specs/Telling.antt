@@ -1,5 +1,5 @@
 -- What is told of sentences.
-use Rattle.std.specs.Prelude.{◌≡◌, ℕ, List, [], map, MatchBool, Bool, true, false}
+use Rattle.std.specs.Prelude.{◌≡◌, ℕ, List, [], map, MatchBool}
 use Rattle.std.specs.List.{AllZip}
 use Rattle.std.specs.Option.{option_map_or}
 use Rattle.wiki_base.specs.declared.numbers.WordId.{WordId}
@@ -7,11 +7,10 @@ use Rattle.lexicon.specs.Words.{Listed, canonical_form_of}
 use Rattle.derivation_trees.specs.Cutting.{shown}
 use Rattle.logic_terms.specs.Concept.{Concept, Claim}
 use Rattle.owl_text.specs.Texts.{class_text, claim_text}
-use Rattle.wiki_talk.specs.declared.statuses.Status.{Status}
-use Rattle.wiki_talk.specs.declared.statuses.Status.TheVariants.{Question}
 use Rattle.wiki_talk.specs.declared.replies.Meant.{Meant}
 use Rattle.wiki_talk.specs.declared.replies.Meant.TheVariants.{Axioms, Class, Outside}
 use Rattle.wiki_talk.specs.declared.replies.SentenceView.{SentenceView}
+use Rattle.wiki_talk.specs.Statuses.{is_question}
 use Rattle.articles.specs.declared.sentences.Sentence.{Sentence}
 use Rattle.wiki_parts.specs.State.{State}
 use Rattle.wiki_parts.specs.Meanings.{Meaning, stating, outside, asking, asking_outside, Means}
@@ -39,11 +38,6 @@ pub record AreAnswersTo (state : State) (tokens answers unknown : List (List ℕ
   pub answer : Answer claims (live_names state.words) state.budget concept yes doubtful
   pub answers_told : answers ≡ spelled state.words yes
   pub unknown_told : unknown ≡ spelled state.words doubtful
-
--- a question that asks for a class
-abbrev pub is_question : Status → Bool
-is_question Question = true
-is_question other = false
 
 -- no names are told
 abbrev pub TellsNoName : SentenceView → Type 0

@@ -9,6 +9,7 @@ use Rattle.codeco_terms.specs.GrammarParts.{GrammarParts}
 use Rattle.lexicon.specs.Words.{Listed}
 use Rattle.wiki_talk.specs.declared.statuses.Status.{Status}
 use Rattle.wiki_talk.specs.declared.statuses.Status.TheVariants as statuses
+use Rattle.wiki_talk.specs.Statuses.{is_question}
 use Rattle.articles.specs.declared.sentences.Sentence.{Sentence}
 use Rattle.articles.specs.declared.article.Article.{Article}
 use Rattle.articles.specs.Articles.{AreInOrder, article_of}
@@ -20,7 +21,6 @@ use Rattle.wiki_parts.specs.Found.{meaning_shown}
 use Rattle.wiki_parts.specs.Holding.{FitsMeaning}
 use Rattle.wiki_parts.specs.Kept.{meanings_in, MeanEach, MeanInEach}
 use Rattle.wiki_parts.specs.Meanings.{Means}
-use Rattle.wiki_parts.specs.Telling.{is_question}
 use Rattle.wiki_store.proofs.AroundLemmas.{mean_at, item}
 
 -- what is kept of the article of a word is the meanings of its sentences

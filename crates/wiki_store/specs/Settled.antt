@@ -1,5 +1,4 @@
--- What is not made anew: the status of statements that need no search, and what all that is known is absorbed to.
--- Only private calls speak of it.
+-- What is not made anew: statuses that need no search, and what all that is known is absorbed to. Only private calls speak of it.
 use Rattle.std.specs.Prelude.{List}
 use Rattle.wiki_base.specs.declared.numbers.WordId.{WordId}
 use Rattle.absorb.specs.Absorbed.{IsAbsorbed}

@@ -12,12 +12,13 @@ use Rattle.wiki_talk.specs.declared.replies.Reply.{Reply}
 use Rattle.wiki_talk.specs.declared.replies.Reply.TheVariants as replies
 use Rattle.wiki_talk.specs.declared.requests.Request.{Request}
 use Rattle.wiki_talk.specs.declared.requests.Request.TheVariants as requests
+use Rattle.wiki_talk.specs.Statuses.{is_question}
 use Rattle.articles.specs.declared.sentences.Sentence.{Sentence}
 use Rattle.wiki_parts.specs.State.{State}
 use Rattle.wiki_parts.specs.Places.{word_named, article_named}
 use Rattle.wiki_parts.specs.Meanings.{asking, Means}
 use Rattle.wiki_parts.specs.Knowledge.{Knows}
-use Rattle.wiki_parts.specs.Telling.{spelled, is_question}
+use Rattle.wiki_parts.specs.Telling.{spelled}
 use Rattle.wiki_store.specs.Step.{with_inserted, with_replaced, with_marked, sentence_with, place_for}
 use Rattle.wiki_parts.specs.Holding.{Holding}
 

@@ -5,6 +5,7 @@ ghost use Rattle.articles.specs.declared.article.Article.{Article as TheArticle}
 ghost use Rattle.articles.specs.Articles.{article_of, HasArticle};
 ghost use Rattle.lexicon.specs.Words.{canonical_form_of, forms_of};
 ghost use Rattle.logic_terms.specs.Shown.{concept_of};
+ghost use Rattle.wiki_talk.specs.Statuses.{is_question};
 ghost use Rattle.consequences.specs.Known.{theory_in};
 ghost use Rattle.wiki_parts.specs.Faults.{IsFault};
 ghost use Rattle.wiki_parts.specs.Found.{meaning_shown};
@@ -12,7 +13,7 @@ ghost use Rattle.wiki_parts.specs.Holding.{FitsMeaning};
 ghost use Rattle.wiki_parts.specs.Kept.{MeanEach, meanings_in};
 ghost use Rattle.wiki_parts.specs.Knowledge.{live_names};
 ghost use Rattle.wiki_parts.specs.Meanings.{asking, Means};
-ghost use Rattle.wiki_parts.specs.Telling.{is_question, TellsSentence, TellsSentences};
+ghost use Rattle.wiki_parts.specs.Telling.{TellsSentence, TellsSentences};
 ghost use Rattle.wiki_store.specs.Settled.{AbsorbsKnown};
 ghost use Rattle.wiki_store.specs.Spending.{KeptHasUnknown, KeptHasEachUnknown};
 ghost use Rattle.wiki_store.specs.Step.{Step, Refuses};

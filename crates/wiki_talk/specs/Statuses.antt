@@ -17,13 +17,9 @@ status_name (QuestionOutside cause) = codes "question-outside"
 
 -- why a sentence has no axioms and asks for no class, where its status says so
 abbrev pub cause_in : Status → Option Cause
-cause_in Asserted = None
-cause_in Retracted = None
-cause_in RedContradiction = None
-cause_in RedBudget = None
 cause_in (Outside cause) = Some cause
-cause_in Question = None
 cause_in (QuestionOutside cause) = Some cause
+cause_in _ = None
 
 -- the name that lines and pages tell of a cause
 abbrev pub cause_name : Cause → List ℕ

@@ -1,6 +1,8 @@
 use Rattle.std.proofs.Common.{take, ◌+◌, ◌*◌}
-use Rattle.chart_table.specs.Ends.{HasEndsUpTo, AreSteps}
-use Rattle.chart_table.specs.Cuts.{AreAfter, HasHeads, CutBefore, Among, Enters, HasCutsUpTo}
+use Rattle.chart_table.specs.Ends.{AreSteps}
+use Rattle.chart_table.proofs.EndsUpTo.{HasEndsUpTo}
+use Rattle.chart_table.specs.Cuts.{AreAfter, HasHeads, CutBefore, Among, Enters}
+use Rattle.chart_table.proofs.CutsUpTo.{HasCutsUpTo}
 use Rattle.chart_table.specs.Table.{AreRows}
 use Rattle.chart_table.proofs.table.+ends.Given as goal
 

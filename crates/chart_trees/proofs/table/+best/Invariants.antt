@@ -1,7 +1,8 @@
 use Rattle.std.proofs.Common.{◌≡◌, take, map, ◌+◌, ◌*◌}
 use Rattle.chart_trees.specs.Paths.{path_of}
 use Rattle.chart_trees.specs.Ways.{AreReached, AreStepsOf}
-use Rattle.chart_trees.specs.Outcomes.{HasTrees, HasTreesUpTo, IsOfInstances}
+use Rattle.chart_trees.specs.Outcomes.{HasTrees, IsOfInstances}
+use Rattle.chart_trees.proofs.TreesUpTo.{HasTreesUpTo}
 use Rattle.chart_trees.specs.Tables.{AreTables}
 use Rattle.chart_trees.proofs.table.+best.Given as goal
 

@@ -1,4 +1,4 @@
--- The names in structures. Only private calls speak of it.
+-- The names in structures.
 use Rattle.std.specs.Prelude.{◌&&◌, Bool, true}
 use Rattle.wiki_base.specs.declared.numbers.WordId.{WordId}
 use Rattle.logic_terms.specs.declared.structures.Thing.{Thing}

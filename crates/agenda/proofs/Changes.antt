@@ -1,4 +1,4 @@
--- What a step leaves as it was. Only private calls speak of it.
+-- What a step leaves as it was.
 use Rattle.std.specs.Prelude.{ℕ, ◌≡◌, ◌<◌, ◌≤◌, Bool, true, false, length}
 use Rattle.logic_terms.specs.declared.expressions.Role.{Role}
 use Rattle.logic_terms.specs.Concept.{Concept}

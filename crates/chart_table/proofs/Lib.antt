@@ -1,5 +1,6 @@
 pub mod Loops
 pub mod PassLemmas
+pub mod OneOfLemmas
 pub mod OpenerLemmas
 pub mod BranchLemmas
 pub mod StepLemmas

@@ -25,7 +25,7 @@ use Rattle.absorb.specs.Sorted.{Sorted, sorted}
 use Rattle.absorb.specs.Absorbed.{AreEquated, Represents, IsPutBelow, IsAbsorbed}
 use Rattle.absorb.proofs.ClosureLemmas as closure
 use Rattle.absorb.proofs.HierarchyLemmas.{is_word-Decides, is_below-Decides, inverse-inverse}
-use Rattle.absorb.proofs.RepresentativeLemmas.{joined_back, lookup_given}
+use Rattle.absorb.proofs.RepresentativeLemmas.{joined_back, lookup_given, same_word}
 use Rattle.absorb.proofs.PieceLemmas.{piece_holds, holds-all_pieces, Relates-inverse, Relates-turned}
 use Rattle.absorb.proofs.SortedLemmas.{all_sorted, all_sorted-sorted}
 use Rattle.absorb.proofs.NamedLemmas.{piece_over, over-all_pieces, is_given-among, names_given-over, piece_plain, plain-all_pieces}
@@ -110,9 +110,6 @@ words_rise-names (e ∷ es) = go e.0 es
     go : (w : WordId) (es : List (WordId × WordId)) → words_above w es ≡ names_above w (map (λ (e : WordId × WordId). e.0) es)
     go w [] = refl
     go w (e ∷ es) = ap (λ b. nat_lt w.0 e.0.0 && b) (go e.0 es)
-
-same_word : (a b : WordId) → a.0 ≡ b.0 → a ≡ b
-same_word a b e = λ j. record { 0 = e j }
 
 -- representatives of joined names are one
 same_representative : (ps : List (WordId × WordId)) (x y r s : WordId) → Reaches (AreEquated ps) x y → Represents ps x r → Represents ps y s → r ≡ s

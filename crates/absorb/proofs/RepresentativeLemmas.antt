@@ -18,7 +18,7 @@ use Rattle.absorb.proofs.HierarchyLemmas.{is_word-Decides}
 abbrev pub no_pair : WordId × WordId
 no_pair = (record { 0 = 0 }, record { 0 = 0 })
 
-same_word : (a b : WordId) → a.0 ≡ b.0 → a ≡ b
+pub same_word : (a b : WordId) → a.0 ≡ b.0 → a ≡ b
 same_word a b e = λ j. record { 0 = e j }
 
 turn : (ps : List (WordId × WordId)) (x y : WordId) → AreEquated ps x y → AreEquated ps y x

@@ -55,7 +55,7 @@ all_lines first bytes left_after input =
     let end = input.done refl in
     end.2 ∙ ap input_lines (read_all bytes input.read left_after input.source end.0)
 
-fault_alone : (served_so : Served) → outcomes.LinkFault ≡ outcome_of served_so → served_so ≡ served.LinkFault
+pub fault_alone : (served_so : Served) → outcomes.LinkFault ≡ outcome_of served_so → served_so ≡ served.LinkFault
 fault_alone served.Done is = cc
 fault_alone served.LinkFault is = refl
 fault_alone served.JournalFault is = cc
@@ -275,12 +275,6 @@ fault_of_journal served.Done is = absurd (cc is)
 fault_of_journal served.LinkFault is = absurd (cc is)
 fault_of_journal served.JournalFault is = refl
 fault_of_journal served.Memory is = absurd (cc is)
-
-pub fault_of_served : (s : Served) → outcomes.LinkFault ≡ outcome_of s → s ≡ served.LinkFault
-fault_of_served served.Done is = absurd (cc is)
-fault_of_served served.LinkFault is = refl
-fault_of_served served.JournalFault is = absurd (cc is)
-fault_of_served served.Memory is = absurd (cc is)
 
 pub no_other : (s : Served) (outcome : Outcome) → outcome ≡ outcome_of s → (outcome ≡ outcomes.Usage → ⊥) × (outcome ≡ outcomes.ReadFault → ⊥)
 no_other served.Done outcome is = ((λ as_usage. cc (is, as_usage)), λ as_fault. cc (is, as_fault))

@@ -5,6 +5,7 @@ use Rattle.std.specs.Option.{option_map_or}
 use Rattle.std.proofs.lemmas.Bool.{cases_Bool, cases_lt, or_cases, or_left, or_right, or_parts, or_from, false_from_ne_true}
 use Rattle.std.proofs.lemmas.Option.{slice_get_past}
 use Rattle.wiki_base.proofs.BoolLaws.{not_both}
+use Rattle.tableau_rules.proofs.Reaching.{some_below_fails}
 use Rattle.logic_terms.specs.Concept.{Concept, Everything, Atomic, ComplementOf}
 use Rattle.logic_terms.specs.Meaning.{some_below}
 use Rattle.logic_terms.specs.Parts.{word_part, complement_part, value_part}
@@ -30,9 +31,6 @@ any_more p q up (x ∷ xs) h = elim (or_cases (p x) (list_any p xs) h) [
 all_fail : (n : ℕ) (test : ℕ → Bool) → ((x : ℕ) → x < n → test x ≡ false) → some_below n test ≡ false
 all_fail zero test each = refl
 all_fail (suc n) test each = or_from (test n) (some_below n test) (each n (omega arith)) (all_fail n test (λ x lt. each x (omega arith)))
-
-fails_below : (n : ℕ) (test : ℕ → Bool) → some_below n test ≡ false → (x : ℕ) → x < n → test x ≡ false
-fails_below n test none x lt = false_from_ne_true (test x) (λ t. not_both (some_below_passes test x n lt t) none)
 
 -- whether a node has a clash
 abbrev pub is_hit : Theory → Graph → ℕ → Bool
@@ -75,7 +73,7 @@ module _ (k : Theory) (g h : Graph) (grows joins : ℕ → Bool) (change : Chang
     | inl old ↦ false_from_ne_true (is_hit k h x) (λ hit. not_both
         (any_more (clashes_at k h x) (clashes_at k g x) (clash_before x still apart) (label_at g x)
         (subst (λ l. list_any (clashes_at k h x) l ≡ true) (change.labels x still) hit))
-        (fails_below (length g.nodes) (is_hit k g) parts.1 x old))
+        (some_below_fails (length g.nodes) (is_hit k g) parts.1 x old))
     | inr new ↦ absurd (not_both (change.fresh x new lt) still)
   ]
 

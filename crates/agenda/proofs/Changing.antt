@@ -6,6 +6,7 @@ use Rattle.std.proofs.lemmas.Bool.{cases_eq, cases_lt, and_parts, or_cases, or_l
 use Rattle.std.proofs.lemmas.Option.{slice_get_past}
 use Rattle.std.proofs.lemmas.List.Folds.{list_any-append}
 use Rattle.wiki_base.proofs.BoolLaws.{not_both}
+use Rattle.tableau_rules.proofs.Labels.{get_set_same, get_set_other, get_push_old}
 use Rattle.logic_terms.specs.declared.expressions.Role.{Role}
 use Rattle.logic_terms.specs.Concept.{Concept}
 use Rattle.logic_terms.specs.Same.{has_concept, inverse}
@@ -14,7 +15,7 @@ use Rattle.tableau_rules.specs.declared.branch.Edge.{Edge}
 use Rattle.tableau_rules.specs.Graph.{Graph, Vertex, label_at, parent_of}
 use Rattle.tableau_rules.specs.Neighbours.{makes_neighbour}
 use Rattle.tableau_rules.specs.Rules.{with_classes, adding, with_edge, with_node}
-use Rattle.tableau_bounds.proofs.Labels.{get_set_same, get_set_other, get_push_old, kept_classes}
+use Rattle.tableau_bounds.proofs.Labels.{kept_classes}
 use Rattle.agenda.proofs.Changes.{Changes}
 
 -- the ends of an edge

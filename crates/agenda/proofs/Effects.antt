@@ -4,6 +4,7 @@ use Rattle.std.specs.Prelude.{not, option_to_list, slice_get}
 use Rattle.std.specs.Option.{option_and_then, option_map_or}
 use Rattle.std.proofs.lemmas.Option.{same_Some}
 use Rattle.wiki_base.specs.declared.numbers.WordId.{WordId}
+use Rattle.tableau_rules.proofs.Labels.{has_here, has_node}
 use Rattle.logic_terms.specs.declared.expressions.Role.{Role}
 use Rattle.logic_terms.specs.Concept.{Concept}
 use Rattle.logic_terms.specs.Meaning.{some_below}
@@ -18,8 +19,6 @@ use Rattle.tableau_rules.specs.Graph.{Graph, Vertex, label_at, class_at}
 use Rattle.tableau_rules.specs.Neighbours.{node_of, is_neighbour}
 use Rattle.tableau_rules.specs.Blocking.{is_blocked, is_indirectly_blocked}
 use Rattle.tableau_rules.specs.Rules.{unfoldings_of, unit_member, serves, row, site, applies, with_classes, adding, with_edge, with_node, effect, after}
-use Rattle.tableau_bounds.proofs.Labels.{has_here}
-use Rattle.tableau_bounds.proofs.Stepping.{has_node}
 use Rattle.agenda.specs.Steps.{grown_node, grown_by, sprouts}
 
 module _ (k : Theory) (g : Graph) where

@@ -1,14 +1,11 @@
 -- A rule applies for no class that does not concern it.
-use Rattle.std.proofs.Common.{◌≡◌, ℕ, ◌<◌, Bool, true, false, List, length, cond, Option, Some, None, slice_get, refl, ap, ◌∙◌, inl, inr}
+use Rattle.std.proofs.Common.{◌≡◌, ℕ, ◌<◌, Bool, true, false, length, cond, Option, Some, None, refl, ap, ◌∙◌}
 use Rattle.std.specs.Prelude.{is_some}
-use Rattle.std.specs.List.{list_any}
 use Rattle.std.specs.Option.{option_and_then, option_map}
-use Rattle.std.proofs.lemmas.Bool.{cases_Bool}
-use Rattle.wiki_base.proofs.BoolLaws.{not_both}
+use Rattle.tableau_rules.proofs.Lists.{none_passes}
 use Rattle.logic_terms.specs.Concept.{Concept}
 use Rattle.logic_terms.specs.Parts.{word_part, intersection_part, union_part, some_part, all_part, value_part}
 use Rattle.logic_terms.specs.Theory.{Theory}
-use Rattle.logic_terms.proofs.Places.{some_passes}
 use Rattle.tableau_rules.specs.declared.step.Rule.{Rule}
 use Rattle.tableau_rules.specs.declared.step.Rule.TheVariants as rule
 use Rattle.tableau_rules.specs.declared.step.Step.{Step}
@@ -21,13 +18,6 @@ use Rattle.agenda.specs.Resting.{reads, concerns}
 none_then : {X Y : Type 0} (f : X → Option Y) (o : Option X) → is_some o ≡ false → option_and_then f o ≡ None
 none_then f None h = refl
 none_then f (Some x) h = cc
-
--- a test that nothing passes
-pub none_passes : {X : Type 0} (test : X → Bool) (xs : List X) (i : ℕ) (x : X) → list_any test xs ≡ false → slice_get xs i ≡ Some x → test x ≡ false
-none_passes test xs i x none at = elim (cases_Bool (test x)) [
-  | inl t ↦ absurd (not_both (some_passes test xs i x at t) none)
-  | inr f ↦ f
-]
 
 module _ (k : Theory) (g : Graph) (x : ℕ) where
   row_none : (r : Rule) (c : Concept) → reads r c ≡ false → row k g r x c ≡ None

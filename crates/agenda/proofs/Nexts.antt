@@ -18,12 +18,12 @@ use Rattle.tableau_rules.specs.Graph.{Graph, label_at, class_at}
 use Rattle.tableau_rules.specs.Neighbours.{node_of, is_neighbour}
 use Rattle.tableau_rules.specs.Blocking.{is_directly_blocked, is_indirectly_blocked, is_blocked}
 use Rattle.tableau_rules.specs.Rules.{lacks_some, lacks_all, unfoldings_of, open_members, serves, needs, row, site, site_at, applies, first_at, first_by}
-use Rattle.tableau_rules.proofs.Firsts.{first_none, first_found}
+use Rattle.tableau_rules.proofs.Firsts.{first_none, first_found, where_none}
 use Rattle.agenda.specs.Resting.{RestsBy, IsResting, Fits, waits_for, way_up}
 use Rattle.agenda.specs.Steps.{is_all, sprouts}
 use Rattle.agenda.specs.Views.{AreWaitedFor, IsWaitedFor}
 use Rattle.agenda.proofs.Idle.{idle, no_first}
-use Rattle.agenda.proofs.Staying.{NeighboursThere, none_below, where_fails}
+use Rattle.agenda.proofs.Staying.{NeighboursThere, none_below}
 
 -- a rule without a node y adds at 0
 where_zero : (t : Bool) → (where_true {X = ℕ} t 0 ≡ None) ⊎ (where_true {X = ℕ} t 0 ≡ Some 0)
@@ -162,7 +162,7 @@ module _ (k : Theory) (g : Graph) where
             sym (ap (option_and_then {U = ℕ} (λ q. first_below (length g.nodes) (λ z. where_true (needs k g q.0 q.1 x z) z))) part)
             ∙ site_row rule.All c free (at_class rule.All place c at (none place)) in
             let fails : needs k g p.0 p.1 x y ≡ false =
-            where_fails (needs k g p.0 p.1 x y) y
+            where_none (needs k g p.0 p.1 x y) y
             (none_below (length g.nodes) (λ z. where_true (needs k g p.0 p.1 x z) z) row_none y (there p.0 x y near)) in
             inl (has_it (is_neighbour k g p.0 x y) (is_indirectly_blocked k g y) (has_concept (label_at g y) p.1) fails near open_there)
       ])
@@ -183,7 +183,7 @@ module _ (k : Theory) (g : Graph) where
             sym (ap (option_and_then {U = ℕ} (λ q. where_true (not (is_blocked k g x) && not (some_below (length g.nodes) (serves k g q.0 q.1 x))) 0)) part)
             ∙ site_row rule.Some c free (at_class rule.Some place c at (none place)) in
             must_block (is_blocked k g x) (some_below (length g.nodes) (serves k g p.0 p.1 x))
-            (where_fails (not (is_blocked k g x) && not (some_below (length g.nodes) (serves k g p.0 p.1 x))) 0 row_none) alone
+            (where_none (not (is_blocked k g x) && not (some_below (length g.nodes) (serves k g p.0 p.1 x))) 0 row_none) alone
       ])
     ]
 

@@ -4,6 +4,7 @@ use Rattle.std.specs.Prelude.{IsTrue, if◌then◌else◌}
 use Rattle.std.proofs.lemmas.Bool.{cases_Bool, cases_eq, or_cases, eqb-true, eq-eqb, ne_eqb, cond-false}
 use Rattle.std.proofs.lemmas.Option.{same_Some}
 use Rattle.wiki_base.proofs.BoolLaws.{not_both}
+use Rattle.tableau_rules.proofs.Labels.{get_push_new}
 use Rattle.logic_terms.specs.Theory.{Theory}
 use Rattle.tableau_rules.specs.declared.branch.Edge.{Edge}
 use Rattle.tableau_rules.specs.declared.step.Rule.{Rule}
@@ -12,7 +13,6 @@ use Rattle.tableau_rules.specs.declared.step.Step.{Step}
 use Rattle.tableau_rules.specs.Branches.{IsBranch}
 use Rattle.tableau_rules.specs.Graph.{Graph, Vertex}
 use Rattle.tableau_rules.specs.Rules.{applies, with_edge, with_node, after}
-use Rattle.tableau_bounds.proofs.Labels.{get_push_new}
 use Rattle.agenda.specs.declared.queue.Queue.{Queue}
 use Rattle.agenda.proofs.Changes.{Changes}
 use Rattle.agenda.specs.Steps.{grown_by, sprouts}

@@ -9,6 +9,7 @@ use Rattle.std.specs.BTreeSet.{BTreeSet, contains, IsLowerBound}
 use Rattle.std.specs.Ordering.{nat_cmp, is_eq}
 use Rattle.std.proofs.lemmas.Bool.{cases_eq, ne_eqb}
 use Rattle.std.proofs.lemmas.Map.Keys.{le_from_not_gt}
+use Rattle.std.proofs.lemmas.Option.{same_Some}
 use Rattle.logic_terms.specs.Theory.{Theory}
 use Rattle.tableau_rules.specs.declared.branch.Edge.{Edge}
 use Rattle.tableau_rules.specs.declared.step.Rule.{Rule}
@@ -130,13 +131,9 @@ other_key node x other = go (nat_lt node x) (node == x) refl
 pub least_key : (due : BTreeSet ℕ) (node : ℕ) → IsLowerBound nat_cmp due node → (q : ℕ) → contains nat_cmp due q ≡ true → node ≤ q
 least_key due node least q on = le_from_not_gt node q (least q on)
 
--- the least key, and none
-one : (a b : ℕ) → Some a ≡ Some b → a ≡ b
-one a b e = cc
-
 pub from_copied : (o : Option (Bor ℕ)) (P : ℕ → Type 0) (n : ℕ) → Some n ≡ option_copied o → IfSome o (λ k. P k.now) → P n
 from_copied None P n e h = cc
-from_copied (Some b) P n e h = subst P (one b.now n (sym e)) h
+from_copied (Some b) P n e h = subst P (same_Some b.now n (sym e)) h
 
 pub not_some : (o : Option (Bor ℕ)) → None ≡ option_copied o → IsSome o → ⊥
 not_some None e h = cc

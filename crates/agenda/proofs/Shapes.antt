@@ -1,22 +1,22 @@
 -- What each branch keeps: parents stand before their children, and edges lead between nodes.
-use Rattle.std.proofs.Common.{◌≡◌, ℕ, suc, ◌+◌, ◌<◌, ◌≤◌, ◌==◌, ◌&&◌, ◌⊎◌, Bool, true, false, List, [], ◌∷◌, ◌++◌, length, Option, Some, None, subst, refl, sym, ap, ◌∙◌, inl, inr, arith}
+use Rattle.std.proofs.Common.{◌≡◌, ℕ, ◌+◌, ◌<◌, ◌≤◌, ◌==◌, ◌&&◌, ◌⊎◌, Bool, true, false, List, [], ◌∷◌, ◌++◌, length, Option, Some, None, subst, refl, sym, ap, ◌∙◌, inl, inr, arith}
 use Rattle.std.specs.Prelude.{nat_lt, filter_map, if◌then◌else◌}
 use Rattle.std.specs.List.{list_any, list_all, cons_option}
 use Rattle.std.specs.Option.{option_and_then, option_map}
 use Rattle.std.proofs.lemmas.Bool.{cases_eq, cases_lt, and_parts, and_from, or_cases, eqb-true, ltb-true, lt-ltb}
 use Rattle.std.proofs.lemmas.Option.{slice_get_past}
-use Rattle.tableau_bounds.proofs.Labels.{get_push_new}
 use Rattle.wiki_base.specs.declared.numbers.WordId.{WordId}
+use Rattle.tableau_rules.proofs.Roots.{node_within}
+use Rattle.tableau_rules.proofs.Labels.{get_push_new}
 use Rattle.logic_terms.specs.declared.expressions.Role.{Role}
 use Rattle.logic_terms.specs.Concept.{Concept}
-use Rattle.logic_terms.specs.Interpretation.{is_word}
 use Rattle.logic_terms.specs.Same.{inverse}
-use Rattle.logic_terms.specs.Theory.{Theory, representative, is_below}
+use Rattle.logic_terms.specs.Theory.{Theory, is_below}
 use Rattle.tableau_rules.specs.declared.branch.Edge.{Edge}
 use Rattle.tableau_rules.specs.declared.step.Step.{Step}
 use Rattle.tableau_rules.specs.Branches.{first_edge, start, IsBranch, begun, stepped}
 use Rattle.tableau_rules.specs.Graph.{Graph, parent_of}
-use Rattle.tableau_rules.specs.Neighbours.{roots, place_in, node_of, makes_neighbour}
+use Rattle.tableau_rules.specs.Neighbours.{roots, node_of, makes_neighbour}
 use Rattle.tableau_rules.specs.Rules.{applies}
 use Rattle.tableau_bounds.proofs.Beginning.{start_parent, start_roots}
 use Rattle.tableau_bounds.proofs.Stepping.{ParentsBelow}
@@ -63,28 +63,6 @@ pub shaped_neighbours : (k : Theory) (g : Graph) → IsShaped k g → Neighbours
 shaped_neighbours k g shaped role y z near = neighbours_in k role y z (length g.nodes) g.edges shaped.inside near
 
 -- the first branch
-next_place : (m n c : ℕ) → m < c → suc m ≡ n → n < suc c
-next_place m n c lt is = omega arith
-
-first_place : (n c : ℕ) → 0 ≡ n → n < suc c
-first_place n c is = omega arith
-
-placed_by : (b : Bool) (o : Option ℕ) (n c : ℕ) → ((m : ℕ) → o ≡ Some m → m < c) → (if b then Some 0 else option_map suc o) ≡ Some n → n < suc c
-placed_by true o n c each e = first_place n c cc
-placed_by false None n c each e = cc
-placed_by false (Some m) n c each e = next_place m n c (each m refl) cc
-
-placed : (ws : List WordId) (word : WordId) (n : ℕ) → place_in ws word ≡ Some n → n < length ws
-placed [] word n at = cc
-placed (w ∷ ws) word n at = placed_by (is_word word w) (place_in ws word) n (length ws) (λ m is. placed ws word m is) at
-
-named_node : (k : Theory) (name : WordId) (n : ℕ) → node_of k name ≡ Some n → n < length (roots k)
-named_node k name n at = go (representative k name) at
-  where
-    go : (o : Option WordId) → option_and_then (place_in (roots k)) o ≡ Some n → n < length (roots k)
-    go None e = cc
-    go (Some root) e = placed (roots k) root n e
-
 first_inside : (k : Theory) (n : ℕ) → length (roots k) ≤ n → (d : Role × WordId × WordId) (e : Edge) → first_edge k d ≡ Some e → is_inside n e ≡ true
 first_inside k n le d e at = go (node_of k d.1) (node_of k d.2) refl refl at
   where
@@ -99,7 +77,7 @@ first_inside k n le d e at = go (node_of k d.1) (node_of k d.2) refl refl at
         let f : Edge = record { from = x; role = d.0; to = y } in
         let same : f ≡ e = cc in
         subst (λ z. is_inside n z ≡ true) same
-        (and_from (nat_lt x n) (nat_lt y n) (lt-ltb x n (far x (named_node k d.1 x one))) (lt-ltb y n (far y (named_node k d.2 y two))))
+        (and_from (nat_lt x n) (nat_lt y n) (lt-ltb x n (far x (node_within k d.1 x one))) (lt-ltb y n (far y (node_within k d.2 y two))))
 
 one_inside : (n : ℕ) (o : Option Edge) (es : List Edge) → ((e : Edge) → o ≡ Some e → is_inside n e ≡ true) → list_all (is_inside n) es ≡ true
     → list_all (is_inside n) (cons_option o es) ≡ true
@@ -154,7 +132,7 @@ module _ (k : Theory) (g : Graph) (shaped : IsShaped k g) where
   linked_shaped : (h : Graph) → IsLinked k g h → IsShaped k h
   linked_shaped h link =
       let e = link.edge in
-      let to : e.to < length g.nodes = far e.to (named_node k link.name.1 e.to link.to) in
+      let to : e.to < length g.nodes = far e.to (node_within k link.name.1 e.to link.to) in
       subst (IsShaped k) (sym link.is) (record {
         down = shaped.down;
         inside = one_more (length g.nodes) g.edges e shaped.inside

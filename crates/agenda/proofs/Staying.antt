@@ -19,7 +19,7 @@ use Rattle.tableau_rules.specs.Graph.{Graph, label_at, class_at}
 use Rattle.tableau_rules.specs.Neighbours.{node_of, is_neighbour}
 use Rattle.tableau_rules.specs.Blocking.{ancestors, is_anonymous, same_classes, has_twin, blocks, is_indirectly_blocked, is_blocked}
 use Rattle.tableau_rules.specs.Rules.{lacks_some, lacks_all, unfoldings_of, open_members, serves, needs, row, site, site_at}
-use Rattle.tableau_rules.proofs.Firsts.{first_none, where_not}
+use Rattle.tableau_rules.proofs.Firsts.{first_none, where_not, where_none}
 use Rattle.tableau_bounds.proofs.Stepping.{ParentsBelow}
 use Rattle.tableau_bounds.proofs.Ways.{ancestors_same}
 use Rattle.agenda.proofs.Changes.{Changes}
@@ -43,10 +43,6 @@ module _ {X : Type 0} where
         | inl less ↦ none_below n f parts.0 y less
         | inr past ↦ (let same : n ≡ y = omega arith in ap f (sym same) ∙ parts.1)
       ]
-
-pub where_fails : {X : Type 0} (test : Bool) (x : X) → where_true test x ≡ None → test ≡ false
-where_fails true x h = cc
-where_fails false x h = refl
 
 still_fails : (a m n : Bool) → (not a && not m) ≡ false → (m ≡ true → n ≡ true) → (not a && not n) ≡ false
 still_fails true m n h up = refl
@@ -115,7 +111,7 @@ module _ (k : Theory) (g h : Graph) (grows joins : ℕ → Bool) (change : Chang
             where_not (not (is_blocked k h x) && not (is_neighbour k h p.0 x y)) 0
             (ap (λ b. not b && not (is_neighbour k h p.0 x y)) (blocked_same x lt own)
             ∙ still_fails (is_blocked k g x) (is_neighbour k g p.0 x y) (is_neighbour k h p.0 x y)
-            (where_fails (not (is_blocked k g x) && not (is_neighbour k g p.0 x y)) 0 i) (change.edges p.0 x y))
+            (where_none (not (is_blocked k g x) && not (is_neighbour k g p.0 x y)) 0 i) (change.edges p.0 x y))
 
     all_stays : joins x ≡ false → (p : Role × Concept)
         → ((y : ℕ) → is_neighbour k g p.0 x y ≡ true

@@ -113,7 +113,7 @@ above_all n (m ∷ ns) up (suc j) d lt =
     let b = above_all m ns two.1 j d (omega arith) in
     omega arith
 
-rises_on : (n : WordId) (ns : List WordId) → names_rise (n ∷ ns) ≡ true → names_rise ns ≡ true
+pub rises_on : (n : WordId) (ns : List WordId) → names_rise (n ∷ ns) ≡ true → names_rise ns ≡ true
 rises_on n [] up = refl
 rises_on n (m ∷ ns) up = (and_parts (Rattle.std.specs.Prelude.nat_lt n.0 m.0) (names_above m ns) up).1
 

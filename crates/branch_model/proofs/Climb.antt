@@ -1,58 +1,13 @@
 -- Blocking, by way of parents: a node is indirectly blocked where its parent is blocked.
-use Rattle.std.proofs.Common.{◌≡◌, ℕ, zero, suc, ◌+◌, ◌<◌, ◌≤◌, ◌&&◌, ◌||◌, true, false, [], ◌∷◌, length, Option, Some, None, refl, sym, ap, ◌∙◌, subst, inl, inr, arith}
+use Rattle.std.proofs.Common.{◌≡◌, ℕ, ◌+◌, ◌<◌, ◌≤◌, ◌&&◌, ◌||◌, true, false, [], ◌∷◌, length, Some, None, sym, ap, ◌∙◌, subst, arith}
 use Rattle.std.specs.Prelude.{not, ◌⊎◌}
-use Rattle.std.specs.Option.{option_map_or}
 use Rattle.std.proofs.lemmas.Bool.{and_parts, or_parts, not-true, le-ltb, lt-ltb}
-use Rattle.tableau_rules.proofs.Climbing.{climb-top}
+use Rattle.tableau_rules.proofs.Ancestors.{ancestors-some, ancestors-none, indirectly-some}
 use Rattle.logic_terms.specs.Theory.{Theory}
 use Rattle.tableau_rules.specs.Graph.{Graph, label_at, parent_of}
 use Rattle.tableau_rules.specs.Neighbours.{roots}
 use Rattle.branch_model.specs.Elements.{ParentsBelow, IsTwin}
-use Rattle.tableau_rules.specs.Blocking.{climb, ancestors, is_anonymous, same_classes, has_twin, blocks, is_directly_blocked, is_indirectly_blocked, is_blocked}
-
-climb-some : (n : ℕ) (g : Graph) (x p : ℕ) → parent_of g x ≡ Some p → climb (suc n) g x ≡ p ∷ climb n g p
-climb-some n g x p up = ap (λ o. option_map_or (λ p. p ∷ climb n g p) o []) up
-
-cases_parent : (o : Option ℕ) → (o ≡ None) ⊎ ((p : ℕ) × (o ≡ Some p))
-cases_parent None = inl refl
-cases_parent (Some p) = inr (p, refl)
-
-pub parent_cases : (g : Graph) (x : ℕ) → (parent_of g x ≡ None) ⊎ ((p : ℕ) × (parent_of g x ≡ Some p))
-parent_cases g x = cases_parent (parent_of g x)
-
--- x steps suffice to climb from x
-climb_enough : (n m : ℕ) (g : Graph) → ParentsBelow g → (x : ℕ) → x ≤ n → x ≤ m → climb n g x ≡ climb m g x
-climb_enough zero m g down x low high = elim (parent_cases g x) [
-  | inl up ↦ climb-top zero g x up ∙ sym (climb-top m g x up)
-  | inr (p, up) ↦ (let lt = down x p up in absurd (omega arith))
-]
-climb_enough (suc n) zero g down x low high = elim (parent_cases g x) [
-  | inl up ↦ climb-top (suc n) g x up ∙ sym (climb-top zero g x up)
-  | inr (p, up) ↦ (let lt = down x p up in absurd (omega arith))
-]
-climb_enough (suc n) (suc m) g down x low high = elim (parent_cases g x) [
-  | inl up ↦ climb-top (suc n) g x up ∙ sym (climb-top (suc m) g x up)
-  | inr (p, up) ↦ (let lt = down x p up in
-      climb-some n g x p up ∙ ap (λ l. p ∷ l) (climb_enough n m g down p (omega arith) (omega arith)) ∙ sym (climb-some m g x p up))
-]
-
--- a node's ancestors are its parent and the parent's ancestors
-pub ancestors-some : (g : Graph) → ParentsBelow g → (x p : ℕ) → parent_of g x ≡ Some p → ancestors g x ≡ p ∷ ancestors g p
-ancestors-some g down x p up = go x (down x p up) up
-  where
-    go : (y : ℕ) → p < y → parent_of g y ≡ Some p → climb y g y ≡ p ∷ climb p g p
-    go zero lt at = absurd (omega arith)
-    go (suc y) lt at = climb-some y g (suc y) p at ∙ ap (λ l. p ∷ l) (climb_enough y p g down p (omega arith) (omega arith))
-
-pub ancestors-none : (g : Graph) (x : ℕ) → parent_of g x ≡ None → ancestors g x ≡ []
-ancestors-none g x up = climb-top x g x up
-
--- a node without parent is not indirectly blocked, and another is where its parent is blocked
-pub indirectly-none : (k : Theory) (g : Graph) (x : ℕ) → parent_of g x ≡ None → is_indirectly_blocked k g x ≡ false
-indirectly-none k g x up = ap (blocks k g) (ancestors-none g x up)
-
-pub indirectly-some : (k : Theory) (g : Graph) → ParentsBelow g → (x p : ℕ) → parent_of g x ≡ Some p → is_indirectly_blocked k g x ≡ is_blocked k g p
-indirectly-some k g down x p up = ap (blocks k g) (ancestors-some g down x p up)
+use Rattle.tableau_rules.specs.Blocking.{ancestors, is_anonymous, same_classes, has_twin, blocks, is_directly_blocked, is_indirectly_blocked, is_blocked}
 
 -- one step up in search of a twin: the parent is one, or one is above it
 pub twin_step : (k : Theory) (g : Graph) → ParentsBelow g → (x y p : ℕ) → parent_of g y ≡ Some p → has_twin k g x (ancestors g y) ≡ true

@@ -5,6 +5,7 @@ use Rattle.std.specs.List.{list_all}
 use Rattle.std.specs.Option.{option_map_or}
 use Rattle.std.proofs.lemmas.Bool.{or_cases, or_left, or_right, and_from}
 use Rattle.wiki_base.specs.declared.numbers.WordId.{WordId}
+use Rattle.logic_terms.proofs.SameLemmas.{same_concept-equal, same_concept-self}
 use Rattle.logic_terms.specs.declared.expressions.Role.{Role}
 use Rattle.logic_terms.specs.Concept.{Concept, Atomic}
 use Rattle.logic_terms.specs.Interpretation.{words_rise}
@@ -15,7 +16,6 @@ use Rattle.tableau_rules.specs.declared.branch.Edge.{Edge}
 use Rattle.tableau_rules.specs.Graph.{Graph, label_at}
 use Rattle.branch_model.specs.Entries.{placed}
 use Rattle.branch_model.specs.Extents.{labelled, extents, paired, paired_above, stand_of, linked, links}
-use Rattle.branch_model.proofs.Same.{concept_true, concept_refl}
 use Rattle.branch_model.proofs.EntriesLemmas.{Adds, adds_none, adds_placed, adds_then, adds_as, all_placed}
 
 word_is : (c : Concept) (word : WordId) → word_part c ≡ Some word → c ≡ Atomic word
@@ -43,7 +43,7 @@ adds_labelled e (c ∷ cs) es up = by_word (word_part c) refl (λ fs rise. adds_
         (λ v y h. (h.0, or_right (same_concept c (Atomic v)) (has_concept cs (Atomic v)) h.1))
         (λ v y h. elim (or_cases (same_concept c (Atomic v)) (has_concept cs (Atomic v)) h.1) [
           | inl here ↦
-              absurd (not_word c v at (concept_true c (Atomic v) here))
+              absurd (not_word c v at (same_concept-equal c (Atomic v) here))
           | inr rest ↦ (h.0, rest)
         ])
         (later es up)
@@ -55,12 +55,12 @@ adds_labelled e (c ∷ cs) es up = by_word (word_part c) refl (λ fs rise. adds_
           | inl here ↦ (
             here.1,
             or_left (same_concept c (Atomic v)) (has_concept cs (Atomic v))
-                (ap (λ d. same_concept d (Atomic v)) (word_is c word at ∙ ap Atomic (sym here.0)) ∙ concept_refl (Atomic v)),
+                (ap (λ d. same_concept d (Atomic v)) (word_is c word at ∙ ap Atomic (sym here.0)) ∙ same_concept-self (Atomic v)),
           )
           | inr rest ↦ (rest.0, or_right (same_concept c (Atomic v)) (has_concept cs (Atomic v)) rest.1)
         ])
         (λ v y h. elim (or_cases (same_concept c (Atomic v)) (has_concept cs (Atomic v)) h.1) [
-          | inl here ↦ (let same : Some word ≡ Some v = sym at ∙ ap word_part (concept_true c (Atomic v) here) in let is : v ≡ word = cc in inl (is, h.0))
+          | inl here ↦ (let same : Some word ≡ Some v = sym at ∙ ap word_part (same_concept-equal c (Atomic v) here) in let is : v ≡ word = cc in inl (is, h.0))
           | inr rest ↦ inr (h.0, rest)
         ])
         (adds_then es (placed word e es) (labelled e cs (placed word e es)) (λ v y. (v ≡ word) × (e ≡ y)) (λ v y. (e ≡ y) × (has_concept cs (Atomic v) ≡ true))

@@ -9,6 +9,7 @@ use Rattle.std.specs.declared.cmp.Ordering.{Ordering}
 use Rattle.std.proofs.lemmas.Bool.{cases_Bool, and_from, cond-true, cond-false, lt-ltb}
 use Rattle.std.proofs.lemmas.List.Sorted.{Contains-permutation, IsPermutation-refl, IsPermutation-sym}
 use Rattle.wiki_base.specs.declared.numbers.WordId.{WordId}
+use Rattle.tableau_rules.proofs.Ancestors.{indirectly-none}
 use Rattle.logic_terms.specs.Interpretation.{Interpretation, is_interpretation, is_word, words_above, words_rise, elements_of, pairs_of}
 use Rattle.logic_terms.specs.Plain.{is_plain_theory}
 use Rattle.logic_terms.specs.Theory.{Theory, representative, IsLawful, IsModelOf}
@@ -88,7 +89,7 @@ module _ (k : Theory) (lawful : IsLawful k) (plain : is_plain_theory k ≡ true)
 
   some_owner : 0 < length owners
   some_owner =
-      let s = placed.shown 0 sound.some (Rattle.branch_model.proofs.Climb.indirectly-none k g 0 sound.first) in
+      let s = placed.shown 0 sound.some (indirectly-none k g 0 sound.first) in
       let lt = Rattle.std.proofs.lemmas.Option.slice_get_within owners s.0 s.1 s.3 in omega arith
 
   named_below : (names : List (WordId × WordId)) → list_all (λ e. nat_lt e.1 (length owners)) (named_elements k stands names) ≡ true

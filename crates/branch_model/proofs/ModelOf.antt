@@ -5,6 +5,10 @@ use Rattle.std.specs.List.{list_any, list_all}
 use Rattle.std.proofs.lemmas.Bool.{and_parts, and_from, or_cases, or_parts, or_left, or_right, not-true, lt-ltb}
 use Rattle.std.proofs.lemmas.List.Elements.{Contains-get_or}
 use Rattle.wiki_base.specs.declared.numbers.WordId.{WordId}
+use Rattle.tableau_rules.proofs.Roots.{node_within}
+use Rattle.logic_terms.proofs.SameLemmas.{same_role-self, same_concept-self}
+use Rattle.tableau_rules.proofs.Labels.{each_has}
+use Rattle.tableau_rules.proofs.Ancestors.{indirectly-none}
 use Rattle.logic_terms.specs.declared.expressions.Role.{Role}
 use Rattle.logic_terms.specs.Concept.{Concept, Atomic}
 use Rattle.logic_terms.specs.Complement.{is_normal, is_wide}
@@ -21,11 +25,9 @@ use Rattle.tableau_rules.specs.Blocking.{is_anonymous, is_blocked, is_directly_b
 use Rattle.tableau_rules.specs.Clashes.{passes, are_joined, has_clash}
 use Rattle.tableau_rules.specs.Rules.{unfoldings_of, first_step}
 use Rattle.tableau_rules.specs.Branches.{IsBranch, begun, stepped, is_finished}
-use Rattle.branch_model.proofs.Same.{each_has}
-use Rattle.branch_model.proofs.Climb.{indirectly-none}
 use Rattle.branch_model.proofs.Rest.{unfold_done, differ}
 use Rattle.branch_model.proofs.Sound.{IsSound, fits, after_sound}
-use Rattle.branch_model.proofs.Start.{noded, root_of, given_node, same_node, entry_has, start_sound}
+use Rattle.branch_model.proofs.Start.{root_of, given_node, same_node, entry_has, start_sound}
 use Rattle.branch_model.proofs.Truth.{Pictures, truth}
 
 -- the classes of lawful plain knowledge fit
@@ -63,7 +65,7 @@ module _ (k : Theory) (lawful : IsLawful k) (plain : is_plain_theory k ≡ true)
   -- every branch is sound
   pub branch_sound : {g : Graph} → IsBranch k g → IsSound k g
   branch_sound begun = start_sound k fit_assertions fit_general
-  branch_sound (stepped g s choice b applied below) = after_sound k g (branch_sound b) fit_unfoldings fit_general (noded k) s choice
+  branch_sound (stepped g s choice b applied below) = after_sound k g (branch_sound b) fit_unfoldings fit_general (node_within k) s choice
 
   module _ (g : Graph) (sound : IsSound k g) (finished : is_finished k g ≡ true) (i : Interpretation) (place : ℕ → ℕ) (pictures : Pictures k g i place) where
     none_of : (o : Rattle.std.proofs.Common.Option Step) → not (is_some o) ≡ true → o ≡ None
@@ -79,7 +81,7 @@ module _ (k : Theory) (lawful : IsLawful k) (plain : is_plain_theory k ≡ true)
     named : (name : WordId) → is_given k name ≡ true → (y : ℕ) × (node_of k name ≡ Some y) × (y < length g.nodes) × (is_blocked k g y ≡ false)
     named name given =
         let node = given_node k lawful name given in
-        let low = noded k name node.0 node.1 in
+        let low = node_within k name node.0 node.1 in
         (node.0, node.1, sound.named node.0 low, open_root node.0 low)
       where
         open_root : (y : ℕ) → y < length (roots k) → is_blocked k g y ≡ false
@@ -130,7 +132,7 @@ module _ (k : Theory) (lawful : IsLawful k) (plain : is_plain_theory k ≡ true)
         (Rattle.std.proofs.lemmas.List.Folds.list_any_at (λ p. same_role p.0 (get_or k.hierarchy j d).0 && same_role p.1 (get_or k.hierarchy j d).1) k.hierarchy
         j d lt
         (and_from (same_role (get_or k.hierarchy j d).0 (get_or k.hierarchy j d).0) (same_role (get_or k.hierarchy j d).1 (get_or k.hierarchy j d).1)
-        (Rattle.branch_model.proofs.Same.role_refl (get_or k.hierarchy j d).0) (Rattle.branch_model.proofs.Same.role_refl (get_or k.hierarchy j d).1)))
+        (same_role-self (get_or k.hierarchy j d).0) (same_role-self (get_or k.hierarchy j d).1)))
 
     pub is_model : IsModelOf i k
     is_model = record {
@@ -177,7 +179,7 @@ module _ (k : Theory) (lawful : IsLawful k) (plain : is_plain_theory k ≡ true)
       where
         here : (cs : List Concept) (j : ℕ) (d : Concept) → j < length cs → has_concept cs (get_or cs j d) ≡ true
         here cs j d lt = Rattle.std.proofs.lemmas.List.Folds.list_any_at (λ c. Rattle.logic_terms.specs.Same.same_concept c (get_or cs j d)) cs j d lt
-            (Rattle.branch_model.proofs.Same.concept_refl (get_or cs j d))
+            (same_concept-self (get_or cs j d))
 
         both : {b : Bool} → b ≡ true → b ≡ false → ⊥
         both t f = cc

@@ -4,10 +4,12 @@ use Rattle.std.specs.Prelude.{◌⊎◌, ◌↔◌, nat_lt, if◌then◌else◌,
 use Rattle.std.specs.List.{list_any, list_all}
 use Rattle.std.specs.Option.{option_and_then}
 use Rattle.std.proofs.lemmas.Bool.{or_cases, or_left, or_right, and_from, and_parts, eqb-true, eq-eqb, ltb-true, lt-ltb}
-use Rattle.std.proofs.lemmas.Option.{slice_get_within, slice_get-get_or}
+use Rattle.std.proofs.lemmas.Option.{slice_get_within, slice_get-get_or, same_Some}
 use Rattle.std.proofs.Math.Bool.{not-not}
 use Rattle.wiki_base.specs.declared.numbers.WordId.{WordId}
 use Rattle.wiki_base.proofs.BoolLaws.{same_tests, not_both}
+use Rattle.tableau_rules.proofs.Roots.{node_within}
+use Rattle.tableau_rules.proofs.Ancestors.{indirectly-none}
 use Rattle.logic_terms.proofs.SameLemmas.{role_equal, same_role-self}
 use Rattle.logic_terms.specs.declared.expressions.Role.{Role}
 use Rattle.logic_terms.specs.Concept.{Concept, Atomic}
@@ -22,7 +24,6 @@ use Rattle.branch_model.specs.Elements.{StandsFor, ArePlaced}
 use Rattle.branch_model.specs.Extents.{stand_of, links}
 use Rattle.branch_model.proofs.Same.{same_has, same_has_back}
 use Rattle.branch_model.proofs.Sound.{IsSound}
-use Rattle.branch_model.proofs.Start.{noded}
 use Rattle.branch_model.proofs.EntriesLemmas.{items_of, Adds}
 use Rattle.branch_model.proofs.ExtentsLemmas.{Labels, IsPair, IsPairAbove, AreLinks}
 use Rattle.branch_model.proofs.Truth.{Pictures}
@@ -30,9 +31,6 @@ use Rattle.branch_model.proofs.Truth.{Pictures}
 -- the element that a node stands for
 abbrev pub place_of : List (Option ℕ) → ℕ → ℕ
 place_of stands x = unwrap_or (stand_of stands x) 0
-
-one_some : {X : Type 0} {a b : X} → Some a ≡ Some b → a ≡ b
-one_some h = cc
 
 inverse_twice : (r : Role) → inverse (inverse r) ≡ r
 inverse_twice r = λ j. record { id = r.id; inverted = not-not r.inverted j }
@@ -98,7 +96,7 @@ edge_any k role x y [] j e at h = absurd (nothing j at)
     nothing : (j : ℕ) → slice_get {X = Edge} [] j ≡ Some e → ⊥
     nothing j q = cc
 edge_any k role x y (f ∷ es) zero e at h =
-    or_left (makes_neighbour k role x y f) (list_any (makes_neighbour k role x y) es) (ap (makes_neighbour k role x y) (one_some at) ∙ h)
+    or_left (makes_neighbour k role x y f) (list_any (makes_neighbour k role x y) es) (ap (makes_neighbour k role x y) (same_Some _ _ at) ∙ h)
 edge_any k role x y (f ∷ es) (suc j) e at h =
     or_right (makes_neighbour k role x y f) (list_any (makes_neighbour k role x y) es) (edge_any k role x y es j e at h)
 
@@ -111,7 +109,7 @@ edge_ends n [] j e h at = absurd (nothing j at)
 edge_ends n (f ∷ es) zero e h at =
     let one = and_parts (nat_lt f.from n && nat_lt f.to n) (list_all (λ e. nat_lt e.from n && nat_lt e.to n) es) h in
     let two = and_parts (nat_lt f.from n) (nat_lt f.to n) one.0 in
-    subst (λ g. (g.from < n) × (g.to < n)) (one_some at) (ltb-true f.from n two.0, ltb-true f.to n two.1)
+    subst (λ g. (g.from < n) × (g.to < n)) (same_Some _ _ at) (ltb-true f.from n two.0, ltb-true f.to n two.1)
 edge_ends n (f ∷ es) (suc j) e h at = edge_ends n es j e
     (and_parts (nat_lt f.from n && nat_lt f.to n) (list_all (λ e. nat_lt e.from n && nat_lt e.to n) es) h).1 at
 
@@ -131,7 +129,7 @@ pair_any [] r j p at h = absurd (nothing j at)
     nothing j q = cc
 pair_any (q ∷ ps) r zero p at h =
     or_left (same_role q.0 r && same_role q.1 p.1) (list_any (λ q. same_role q.0 r && same_role q.1 p.1) ps)
-    (ap (λ (s : Role × Role). same_role s.0 r && same_role s.1 p.1) (one_some at) ∙ and_from (same_role p.0 r) (same_role p.1 p.1) h (same_role-self p.1))
+    (ap (λ (s : Role × Role). same_role s.0 r && same_role s.1 p.1) (same_Some _ _ at) ∙ and_from (same_role p.0 r) (same_role p.1 p.1) h (same_role-self p.1))
 pair_any (q ∷ ps) r (suc j) p at h = or_right (same_role q.0 r && same_role q.1 p.1) (list_any (λ q. same_role q.0 r && same_role q.1 p.1) ps)
     (pair_any ps r j p at h)
 
@@ -168,7 +166,7 @@ module _ (k : Theory) (lawful : IsLawful k) (g : Graph) (sound : IsSound k g) (o
   stands_within x e at =
       let lt = in_nodes x e at in
       let s = standing x lt (shown_free x e lt at) in
-      subst (λ d. d < length owners) (one_some (sym s.2 ∙ at)) (slice_get_within owners s.0 s.1 s.3)
+      subst (λ d. d < length owners) (same_Some _ _ (sym s.2 ∙ at)) (slice_get_within owners s.0 s.1 s.3)
     where
       in_nodes : (x e : ℕ) → stand_of stands x ≡ Some e → x < length g.nodes
       in_nodes x e at = elim (Rattle.std.proofs.lemmas.Bool.cases_lt x (length g.nodes)) [
@@ -339,17 +337,17 @@ module _ (k : Theory) (lawful : IsLawful k) (g : Graph) (sound : IsSound k g) (o
           let s = standing x lt free in
           let t = standing y lt' free' in
           let elements : s.0 ≡ t.0 = sym (placed_at x s.0 s.2) ∙ places ∙ placed_at y t.0 t.2 in
-          let own : s.1 ≡ t.1 = one_some (sym s.3 ∙ ap (slice_get owners) elements ∙ t.3) in
+          let own : s.1 ≡ t.1 = same_Some _ _ (sym s.3 ∙ ap (slice_get owners) elements ∙ t.3) in
           labels_of x s.1 s.4 c ∙ ap (λ z. has_concept (label_at g z) c) own ∙ sym (labels_of y t.1 t.4 c);
       alone = λ x y name lt free node places.
-          let low = noded k name y node in
+          let low = node_within k name y node in
           let lt_y = sound.named y low in
           let not_anonymous : is_anonymous k y ≡ false = ap not (lt-ltb y (length (roots k)) low) in
-          let free_y : is_indirectly_blocked k g y ≡ false = Rattle.branch_model.proofs.Climb.indirectly-none k g y (sound.rooted y low) in
+          let free_y : is_indirectly_blocked k g y ≡ false = indirectly-none k g y (sound.rooted y low) in
           let s = standing x lt free in
           let t = standing y lt_y free_y in
           let elements : s.0 ≡ t.0 = sym (placed_at x s.0 s.2) ∙ places ∙ placed_at y t.0 t.2 in
-          let own : s.1 ≡ t.1 = one_some (sym s.3 ∙ ap (slice_get owners) elements ∙ t.3) in
+          let own : s.1 ≡ t.1 = same_Some _ _ (sym s.3 ∙ ap (slice_get owners) elements ∙ t.3) in
           let is_y : t.1 ≡ y = own_root y t.1 not_anonymous t.4 in
           by_kind x y s.1 (own ∙ is_y) not_anonymous s.4;
       classes = λ word x lt free inside.
@@ -357,7 +355,7 @@ module _ (k : Theory) (lawful : IsLawful k) (g : Graph) (sound : IsSound k g) (o
           elim (adds_es.only word (place_of stands x) ((classes word (place_of stands x)).0 inside)) [
             | inl none ↦ absurd (no_items word (place_of stands x) none)
             | inr (j, z, at, sum, has) ↦ (let is : j ≡ s.0 = plus_zero j (place_of stands x) sum ∙ placed_at x s.0 s.2 in
-                let own : z ≡ s.1 = one_some (sym at ∙ ap (slice_get owners) is ∙ s.3) in
+                let own : z ≡ s.1 = same_Some _ _ (sym at ∙ ap (slice_get owners) is ∙ s.3) in
                 labels_of x s.1 s.4 (Atomic word) ∙ ap (λ w. has_concept (label_at g w) (Atomic word)) (sym own) ∙ has)
           ];
       related = linked_to;

@@ -3,11 +3,11 @@ use Rattle.std.proofs.Common.{◌≡◌, ℕ, ◌+◌, ◌<◌, ◌≤◌, ◌&&
 use Rattle.std.specs.Prelude.{◌⊎◌}
 use Rattle.std.proofs.lemmas.Bool.{cases_eq, cases_lt, or_from}
 use Rattle.std.proofs.lemmas.Option.{slice_get_within}
+use Rattle.tableau_rules.proofs.Labels.{get_push_old, get_push_new}
 use Rattle.logic_terms.specs.Theory.{Theory}
 use Rattle.tableau_rules.specs.Graph.{Graph}
 use Rattle.tableau_rules.specs.Blocking.{is_blocked, is_directly_blocked, is_indirectly_blocked}
 use Rattle.branch_model.specs.Elements.{IsTwin, StandsFor, ArePlaced}
-use Rattle.branch_model.proofs.Labels.{get_push_old, get_push_new}
 use Rattle.branch_model.proofs.Climb.{directly_parts}
 
 no_item : {X : Type 0} (j : ℕ) (x : X) → slice_get {X = X} [] j ≡ Some x → ⊥

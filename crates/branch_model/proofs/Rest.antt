@@ -3,9 +3,12 @@ use Rattle.std.proofs.Common.{◌≡◌, ℕ, zero, suc, ◌+◌, ◌<◌, ◌�
 use Rattle.std.specs.Prelude.{not, ◌⊎◌, if◌then◌else◌}
 use Rattle.std.specs.List.{list_any, list_all}
 use Rattle.std.specs.Option.{option_map, option_and_then, option_or}
-use Rattle.std.proofs.lemmas.Bool.{cases_eq, and_parts, and_from, and_cases, or_cases, or_parts, or_left, or_right, not-false, not-true, cond-false}
+use Rattle.std.proofs.lemmas.Bool.{cases_eq, and_parts, and_from, and_cases, or_parts, or_left, or_right, not-false, not-true, cond-false}
 use Rattle.wiki_base.specs.declared.numbers.WordId.{WordId}
 use Rattle.wiki_base.proofs.OptionLaws.{option_or-first_none, option_or-second_none, option_map-none}
+use Rattle.tableau_rules.proofs.Reaching.{some_below_found, some_below_fails}
+use Rattle.tableau_rules.proofs.Firsts.{where_none}
+use Rattle.tableau_rules.proofs.Labels.{each_has}
 use Rattle.logic_terms.specs.declared.expressions.Role.{Role}
 use Rattle.logic_terms.specs.Concept.{Concept, Concepts, Everything, Atomic, ComplementOf, IntersectionOf, UnionOf, SomeValuesFrom, AllValuesFrom, HasValue}
 use Rattle.logic_terms.specs.Meaning.{some_below}
@@ -21,33 +24,13 @@ use Rattle.tableau_rules.specs.Neighbours.{node_of, is_neighbour}
 use Rattle.tableau_rules.specs.Blocking.{is_blocked, is_indirectly_blocked}
 use Rattle.tableau_rules.specs.Rules.{lacks_some, lacks_all, unfoldings_of, serves, needs, row, site, site_at, first_at, first_by, first_step}
 use Rattle.tableau_rules.specs.Clashes.{passes, are_joined, clashes_at, has_clash}
-use Rattle.branch_model.proofs.Same.{place_of, each_has}
-
-where_none : {X : Type 0} (test : Bool) (x : X) → where_true test x ≡ None → test ≡ false
-where_none true x h = cc
-where_none false x h = refl
+use Rattle.branch_model.proofs.Same.{place_of}
 
 first_none : {X : Type 0} (n : ℕ) (f : ℕ → Option X) → first_below n f ≡ None → (m : ℕ) → m < n → f m ≡ None
 first_none zero f h m lt = absurd (omega arith)
 first_none (suc n) f h m lt = elim (cases_eq m n) [
   | inl same ↦ ap f same ∙ option_or-second_none (first_below n f) (f n) h
   | inr other ↦ first_none n f (option_or-first_none (first_below n f) (f n) h) m (omega arith)
-]
-
-none_below : (n : ℕ) (test : ℕ → Bool) → some_below n test ≡ false → (m : ℕ) → m < n → test m ≡ false
-none_below zero test h m lt = absurd (omega arith)
-none_below (suc n) test h m lt =
-    let two = or_parts (test n) (some_below n test) h in
-    elim (cases_eq m n) [
-      | inl same ↦ ap test same ∙ two.0
-      | inr other ↦ none_below n test two.1 m (omega arith)
-    ]
-
-some_found : (n : ℕ) (test : ℕ → Bool) → some_below n test ≡ true → (m : ℕ) × (m < n) × (test m ≡ true)
-some_found zero test h = cc
-some_found (suc n) test h = elim (or_cases (test n) (some_below n test) h) [
-  | inl here ↦ (n, omega arith, here)
-  | inr later ↦ (let found = some_found n test later in (found.0, omega (arith, found.1), found.2))
 ]
 
 -- each class is there where none is lacking, and one is there where not all are lacking
@@ -156,7 +139,8 @@ module _ (k : Theory) (g : Graph) (done : first_step k g ≡ None) where
         (no_row rule.Some x (SomeValuesFrom role c) lt free has) in
         elim (and_cases (not (is_blocked k g x)) (not (some_below (length g.nodes) (serves k g role c x))) none) [
           | inl blocked ↦ (let t : is_blocked k g x ≡ true = not-false (is_blocked k g x) blocked in absurd (both t clear))
-          | inr there ↦ (let found = some_found (length g.nodes) (serves k g role c x) (not-false (some_below (length g.nodes) (serves k g role c x)) there) in
+          | inr there ↦ (let found = some_below_found (serves k g role c x) (length g.nodes)
+              (not-false (some_below (length g.nodes) (serves k g role c x)) there) in
               let one = and_parts (is_neighbour k g role x found.0) (not (is_indirectly_blocked k g found.0) && has_concept (label_at g found.0) c) found.2 in
               let two = and_parts (not (is_indirectly_blocked k g found.0)) (has_concept (label_at g found.0) c) one.1 in
               (found.0, found.1, one.0, not-true (is_indirectly_blocked k g found.0) two.0, two.1))
@@ -182,7 +166,7 @@ module _ (k : Theory) (g : Graph) (calm : has_clash k g ≡ false) where
 
   no_clash_at : (x : ℕ) (c : Concept) → x < length g.nodes → has_concept (label_at g x) c ≡ true → clashes_at k g x c ≡ false
   no_clash_at x c lt has =
-      let none = none_below (length g.nodes) (λ x. list_any (clashes_at k g x) (label_at g x))
+      let none = some_below_fails (length g.nodes) (λ x. list_any (clashes_at k g x) (label_at g x))
       (or_parts (list_any (λ d. are_joined k d.0 d.1) k.differences) (some_below (length g.nodes) (λ x. list_any (clashes_at k g x) (label_at g x))) calm).1
       x lt in
       not-true (clashes_at k g x c) (each_has (λ d. not (clashes_at k g x d)) (label_at g x) c (none_all (label_at g x) none) has)

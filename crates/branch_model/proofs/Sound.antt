@@ -1,12 +1,13 @@
 -- What every branch of lawful knowledge keeps.
 use Rattle.std.proofs.Common.{◌≡◌, ℕ, zero, suc, ◌+◌, ◌<◌, ◌≤◌, ◌==◌, ◌&&◌, ◌||◌, Bool, true, false, List, [], ◌∷◌, ◌++◌, map, length, set, All, Option, Some, None, slice_get, refl, sym, ap, ◌∙◌, subst, inl, inr, arith, length-append, length-set}
 use Rattle.std.specs.Prelude.{◌⊎◌, filter, not, nat_lt, if◌then◌else◌}
-use Rattle.std.specs.List.{list_any, list_all}
+use Rattle.std.specs.List.{list_all}
 use Rattle.std.specs.Option.{option_map_or, option_and_then, option_to_list, option_or}
-use Rattle.std.proofs.lemmas.Bool.{cases_eq, cases_lt, and_parts, and_from, or_left, or_right, ltb-true, lt-ltb}
+use Rattle.std.proofs.lemmas.Bool.{cases_eq, cases_lt, and_parts, and_from, or_right, ltb-true, lt-ltb}
 use Rattle.std.proofs.lemmas.Option.{slice_get_past}
 use Rattle.std.proofs.lemmas.List.Folds.{list_any-append, list_all-append}
 use Rattle.wiki_base.specs.declared.numbers.WordId.{WordId}
+use Rattle.tableau_rules.proofs.Labels.{get_set_same, get_set_other, get_push_old, get_push_new, each_has, has_here, has_node, neighbour_more}
 use Rattle.logic_terms.specs.declared.expressions.Role.{Role}
 use Rattle.logic_terms.specs.Concept.{Concept, Concepts, IntersectionOf, UnionOf, SomeValuesFrom, AllValuesFrom, no_concept, also_concept}
 use Rattle.logic_terms.specs.Complement.{complement, is_normal, each_normal}
@@ -19,10 +20,9 @@ use Rattle.tableau_rules.specs.declared.step.Rule.{Rule}
 use Rattle.tableau_rules.specs.declared.step.Rule.TheVariants as rule
 use Rattle.tableau_rules.specs.declared.step.Step.{Step}
 use Rattle.tableau_rules.specs.Graph.{Graph, Vertex, label_at, class_at, parent_of}
-use Rattle.tableau_rules.specs.Neighbours.{roots, node_of, makes_neighbour, is_neighbour}
+use Rattle.tableau_rules.specs.Neighbours.{roots, node_of, is_neighbour}
 use Rattle.tableau_rules.specs.Rules.{unfoldings_of, open_members, unit_member, with_classes, adding, with_edge, with_node, effect, after}
-use Rattle.branch_model.proofs.Same.{each_has, has_here}
-use Rattle.branch_model.proofs.Labels.{get_set_same, get_set_other, get_push_old, get_push_new, kept_classes, new_classes, only_classes}
+use Rattle.branch_model.proofs.Labels.{kept_classes, new_classes, only_classes}
 use Rattle.branch_model.specs.Elements.{ParentsBelow}
 
 -- whether a class is in normal form, over given names
@@ -62,17 +62,6 @@ ends_longer n m (e ∷ es) le h =
     and_from (nat_lt e.from m && nat_lt e.to m) (list_all (λ e. nat_lt e.from m && nat_lt e.to m) es)
     (and_from (nat_lt e.from m) (nat_lt e.to m) (lt-ltb e.from m (omega arith)) (lt-ltb e.to m (omega arith))) (ends_longer n m es le two.1)
 
--- a node with a class in its label is there
-pub has_node : (g : Graph) (x : ℕ) (c : Concept) → has_concept (label_at g x) c ≡ true → x < length g.nodes
-has_node g x c h = elim (cases_lt x (length g.nodes)) [
-  | inl lt ↦ lt
-  | inr past ↦ (let none : has_concept (label_at g x) c ≡ false = ap (λ o. has_concept (option_map_or (λ v. v.label) o []) c) (slice_get_past g.nodes x past) in
-      absurd (both h none))
-]
-  where
-    both : {b : Bool} → b ≡ true → b ≡ false → ⊥
-    both t f = cc
-
 -- what growing keeps
 asserted_grows : (k : Theory) (g h : Graph) → Grows k g h → IsSound k g
     → All (λ e. (y : ℕ) → node_of k e.0 ≡ Some y → has_concept (label_at h y) e.1 ≡ true) k.assertions
@@ -92,7 +81,7 @@ adding-some : (g : Graph) (x : ℕ) (cs : List Concept) (v : Vertex) → slice_g
 adding-some g x cs v at =
     ap (λ o. option_map_or (λ v. record { nodes = set g.nodes x (record { parent = v.parent; label = with_classes v.label cs }); edges = g.edges }) o g) at
 
-cases_vertex : (o : Option Vertex) → (o ≡ None) ⊎ ((v : Vertex) × (o ≡ Some v))
+pub cases_vertex : (o : Option Vertex) → (o ≡ None) ⊎ ((v : Vertex) × (o ≡ Some v))
 cases_vertex None = inl refl
 cases_vertex (Some v) = inr (v, refl)
 
@@ -165,11 +154,6 @@ adding_sound k g x cs fit sound = elim (cases_vertex (slice_get g.nodes x)) [
   | inl none ↦ subst (IsSound k) (sym (adding-none g x cs none)) sound
   | inr (v, at) ↦ subst (IsSound k) (sym (adding-some g x cs v at)) (relabelled_sound k g x cs v at fit sound)
 ]
-
-neighbour_more : (k : Theory) (es : List Edge) (e : Edge) (role : Role) (x y : ℕ) → list_any (makes_neighbour k role x y) es ≡ true
-    → list_any (makes_neighbour k role x y) (es ++ e ∷ []) ≡ true
-neighbour_more k es e role x y h = list_any-append (makes_neighbour k role x y) es (e ∷ [])
-    ∙ or_left (list_any (makes_neighbour k role x y) es) (list_any (makes_neighbour k role x y) (e ∷ [])) h
 
 ends_more : (n : ℕ) (es : List Edge) (e : Edge) → list_all (λ e. nat_lt e.from n && nat_lt e.to n) es ≡ true → e.from < n → e.to < n
     → list_all (λ e. nat_lt e.from n && nat_lt e.to n) (es ++ e ∷ []) ≡ true

@@ -1,15 +1,16 @@
 -- The first branch of lawful knowledge, and the nodes of names.
-use Rattle.std.proofs.Common.{◌≡◌, ℕ, zero, suc, ◌+◌, ◌<◌, ◌≤◌, ◌==◌, ◌&&◌, ◌||◌, Bool, true, false, List, [], ◌∷◌, ◌++◌, map, length, get_or, Contains, Option, Some, None, slice_get, refl, sym, ap, ◌∙◌, subst, inl, inr, arith}
+use Rattle.std.proofs.Common.{◌≡◌, ℕ, zero, suc, ◌+◌, ◌<◌, ◌≤◌, ◌==◌, ◌&&◌, ◌||◌, Bool, true, false, List, [], ◌∷◌, ◌++◌, map, length, get_or, Contains, Option, Some, None, slice_get, refl, sym, ap, ◌∙◌, inl, inr, arith}
 use Rattle.std.specs.Prelude.{◌⊎◌, filter, filter_map, nat_lt, if◌then◌else◌}
 use Rattle.std.specs.List.{list_any, list_all}
 use Rattle.std.specs.Map.{lookup}
 use Rattle.std.specs.Option.{option_map, option_map_or, option_and_then}
 use Rattle.std.proofs.lemmas.Bool.{cases_Bool, and_parts, and_from, or_left, or_right, cond-true, cond-false, eqb-true, eq-eqb, ltb-true, lt-ltb}
-use Rattle.std.proofs.lemmas.Option.{slice_get_within}
 use Rattle.std.proofs.lemmas.List.Folds.{list_any-append, list_all-append}
 use Rattle.std.proofs.lemmas.List.Elements.{All-contains}
 use Rattle.wiki_base.specs.declared.numbers.WordId.{WordId}
-use Rattle.logic_terms.proofs.SameLemmas.{word_equal, same_word, same_role-self}
+use Rattle.tableau_rules.proofs.Roots.{place_get, node_within}
+use Rattle.tableau_rules.proofs.Labels.{each_has, has_node}
+use Rattle.logic_terms.proofs.SameLemmas.{word_equal, same_word, same_role-self, same_concept-self}
 use Rattle.logic_terms.specs.declared.expressions.Role.{Role}
 use Rattle.logic_terms.specs.Concept.{Concept}
 use Rattle.logic_terms.specs.Interpretation.{is_word, words_above, words_rise}
@@ -21,24 +22,8 @@ use Rattle.tableau_rules.specs.Neighbours.{roots, roots_in, place_in, node_of, m
 use Rattle.tableau_rules.specs.Clashes.{passes}
 use Rattle.tableau_rules.specs.Rules.{with_classes}
 use Rattle.tableau_rules.specs.Branches.{asserted, first_node, first_nodes, first_edge, start}
-use Rattle.branch_model.proofs.Same.{concept_refl, each_has}
 use Rattle.branch_model.proofs.Labels.{new_classes, only_classes}
-use Rattle.branch_model.proofs.Sound.{IsSound, fits, entries_fit}
-
--- the place of a word in a list
-pub place_there : (ws : List WordId) (word : WordId) (y : ℕ) → place_in ws word ≡ Some y → slice_get ws y ≡ Some word
-place_there [] word y h = cc
-place_there (w ∷ ws) word y h = elim (cases_Bool (is_word word w)) [
-  | inl here ↦ (let e : Some 0 ≡ Some y = sym (cond-true (is_word word w) (Some 0) (option_map suc (place_in ws word)) here) ∙ h in
-      let zero_is : 0 ≡ y = cc in
-      subst (λ z. slice_get (w ∷ ws) z ≡ Some word) zero_is (ap Some (sym (word_equal word w here))))
-  | inr past ↦ on (place_in ws word) refl (sym (cond-false (is_word word w) (Some 0) (option_map suc (place_in ws word)) past) ∙ h) (place_there ws word)
-]
-  where
-    on : (o : Option ℕ) → place_in ws word ≡ o → option_map suc o ≡ Some y → ((z : ℕ) → place_in ws word ≡ Some z → slice_get ws z ≡ Some word)
-        → slice_get (w ∷ ws) y ≡ Some word
-    on None e up later = cc
-    on (Some z) e up later = let next : suc z ≡ y = cc in subst (λ n. slice_get (w ∷ ws) n ≡ Some word) next (later z e)
+use Rattle.branch_model.proofs.Sound.{IsSound, fits, entries_fit, cases_vertex}
 
 pub place_found : (ws : List WordId) (word : WordId) → list_any (is_word word) ws ≡ true → (y : ℕ) × (place_in ws word ≡ Some y)
 place_found [] word h = cc
@@ -48,14 +33,6 @@ place_found (w ∷ ws) word h = elim (cases_Bool (is_word word w)) [
       (suc later.0, cond-false (is_word word w) (Some 0) (option_map suc (place_in ws word)) past ∙ ap (option_map suc) later.1))
 ]
 
--- a node of a name is one of the roots
-pub noded : (k : Theory) (name : WordId) (y : ℕ) → node_of k name ≡ Some y → y < length (roots k)
-noded k name y h = go (representative k name) h
-  where
-    go : (o : Option WordId) → option_and_then (place_in (roots k)) o ≡ Some y → y < length (roots k)
-    go None e = cc
-    go (Some r) e = slice_get_within (roots k) y r (place_there (roots k) r y e)
-
 -- the root at a name's node is its representative
 pub root_of : (k : Theory) (name : WordId) (y : ℕ) → node_of k name ≡ Some y
     → (r : WordId) × (representative k name ≡ Some r) × (slice_get (roots k) y ≡ Some r)
@@ -64,7 +41,7 @@ root_of k name y h = go (representative k name) refl h
     go : (o : Option WordId) → representative k name ≡ o → option_and_then (place_in (roots k)) o ≡ Some y
         → (r : WordId) × (representative k name ≡ Some r) × (slice_get (roots k) y ≡ Some r)
     go None rep e = cc
-    go (Some r) rep e = (r, rep, place_there (roots k) r y e)
+    go (Some r) rep e = (r, rep, place_get (roots k) r y e)
 
 -- the look-up of a word among entries
 found_entry : {X : Type 0} (es : List (WordId × X)) (name : WordId) (r : X) → lookup (is_word name) es ≡ Some r → Contains es (name, r)
@@ -193,10 +170,6 @@ root_node k (s ∷ rs) y r h = go (s ∷ rs) y h
     go (s ∷ rs) zero h = let same : s ≡ r = cc in ap (λ q. Some (first_node k (asserted k q))) same
     go (s ∷ rs) (suc y) h = go rs y h
 
-cases_vertex : (o : Option Vertex) → (o ≡ None) ⊎ ((v : Vertex) × (o ≡ Some v))
-cases_vertex None = inl refl
-cases_vertex (Some v) = inr (v, refl)
-
 start_parent : (k : Theory) (x : ℕ) → parent_of (start k) x ≡ None
 start_parent k x = elim (cases_vertex (slice_get (start k).nodes x)) [
   | inl none ↦ ap (option_and_then (λ v. v.parent)) none
@@ -234,7 +207,7 @@ pub entry_has : (test : WordId × Concept → Bool) (es : List (WordId × Concep
 entry_has test [] j d lt h = absurd (omega arith)
 entry_has test (e ∷ es) zero d lt h =
     ap (λ b. has_concept (map (λ (e : WordId × Concept). e.1) (if b then e ∷ filter test es else filter test es)) e.1) h
-    ∙ or_left (same_concept e.1 e.1) (has_concept (map (λ (e : WordId × Concept). e.1) (filter test es)) e.1) (concept_refl e.1)
+    ∙ or_left (same_concept e.1 e.1) (has_concept (map (λ (e : WordId × Concept). e.1) (filter test es)) e.1) (same_concept-self e.1)
 entry_has test (e ∷ es) (suc j) d lt h = kept (test e) (entry_has test es j d (omega arith) h)
   where
     kept : (b : Bool) → has_concept (map (λ (e : WordId × Concept). e.1) (filter test es)) (get_or es j d).1 ≡ true
@@ -290,7 +263,7 @@ start_sound k fit_assertions fit_general = record {
       let at = start_label k x lt in
       ap (λ l. has_concept l c) at.1 ∙ new_classes [] (at.0 ++ k.general) c (has_append_right at.0 k.general c h);
   fit = λ x c h.
-      let lt = Rattle.branch_model.proofs.Sound.has_node (start k) x c h in
+      let lt = has_node (start k) x c h in
       let at = start_label k x lt in
       elim (only_classes [] (at.0 ++ k.general) c (sym (ap (λ l. has_concept l c) at.1) ∙ h)) [
         | inl nothing ↦ absurd (empty c nothing)
@@ -307,7 +280,7 @@ start_sound k fit_assertions fit_general = record {
       (has_append_left (asserted k found.0) k.general (get_or k.assertions j d).1
       (entry_has (λ e. passes (representative k e.0) (is_word found.0)) k.assertions j d lt test));
   stated = λ j d lt x y from to. made_edge k k.edges j d x y lt from to;
-  ends = ends_of k (length (start k).nodes) (λ name y at. roots_first k (roots k) y (noded k name y at)) k.edges;
+  ends = ends_of k (length (start k).nodes) (λ name y at. roots_first k (roots k) y (node_within k name y at)) k.edges;
 }
   where
     none : (x p : ℕ) → parent_of (start k) x ≡ Some p → ⊥

@@ -11,11 +11,8 @@ use Rattle.derivation_trees.specs.Settings.{Setting}
 use Rattle.derivation_trees.specs.Derives.{IsDerivation}
 use Rattle.wiki_base.specs.declared.tokens.TheConstants.{MOST_TOKENS}
 use Rattle.wiki_base.proofs.ListLaws.{slice_get-append, slice_get-take, length_mapped}
+use Rattle.chart_table.proofs.TableLemmas.{slice_end}
 use Rattle.chart.specs.Charts.{first_of, IsChart}
-
-slice_end : {X : Type 0} (xs : List X) (x : X) → slice_get (xs ++ x ∷ []) (length xs) ≡ Some x
-slice_end [] x = refl
-slice_end (y ∷ xs) x = slice_end xs x
 
 -- the tokens have a derivation
 abbrev pub Derived : Setting → Type 0

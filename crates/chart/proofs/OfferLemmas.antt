@@ -13,6 +13,7 @@ use Rattle.codeco_terms.specs.GrammarParts.{GrammarParts}
 use Rattle.codeco_checked.specs.Sound.{IsSound}
 use Rattle.wiki_base.specs.declared.numbers.WordId.{WordId}
 use Rattle.wiki_base.proofs.ListLaws.{slice_get_mapped, length_mapped}
+use Rattle.derivation_trees.proofs.ValueLemmas.{same_value_is}
 use Rattle.scopes.specs.Resolution.{has_value}
 use Rattle.lexicon.specs.declared.kinds.Kind.{Kind}
 use Rattle.lexicon.specs.declared.kinds.Kind.TheVariants as kind
@@ -29,7 +30,6 @@ use Rattle.chart_table.specs.declared.asks.Ask.TheVariants as ask
 use Rattle.chart_table.specs.Branches.{OneOf}
 use Rattle.chart_table.specs.Asks.{AskLeads}
 use Rattle.chart.proofs.Following.{TokenMeets}
-use Rattle.chart_table.proofs.PassLemmas.{same_value_is}
 use Rattle.chart.specs.Offers.{with_last, Told, terminal_asks, some_follows, is_used, class_of, class_readings}
 use Rattle.chart.proofs.SwapLemmas.{Asked, HasWord, BringsNone, swapped, swapped_first, asked_new, asked_old}
 use Rattle.chart.proofs.TurnedLemmas.{turned_ground}
@@ -183,7 +183,7 @@ terminal_law g l tokens text token bs sound lexicon spelled told = (
 
 -- the forms of a word
 
-one_terminal : (ts : List (List ℕ)) (k : ℕ) (text : List ℕ) → option_map_or (bytes_eq text) (slice_get ts k) false ≡ true → is_terminal ts text ≡ true
+pub one_terminal : (ts : List (List ℕ)) (k : ℕ) (text : List ℕ) → option_map_or (bytes_eq text) (slice_get ts k) false ≡ true → is_terminal ts text ≡ true
 one_terminal [] k text h = absurd (cc)
 one_terminal (t ∷ ts) zero text h = ap (λ b. b || is_terminal ts text) h
 one_terminal (t ∷ ts) (suc k) text h = at (bytes_eq text t) (one_terminal ts k text h)

@@ -8,6 +8,7 @@ use Rattle.std.proofs.lemmas.List.{append-nil}
 use Rattle.std.proofs.lemmas.Bool.{eqb-true, and_from}
 use Rattle.std.proofs.Math.Bool.{or-true}
 use Rattle.wiki_base.proofs.NumberLaws.{eqb_refl}
+use Rattle.derivation_trees.proofs.ValueLemmas.{same_value_is}
 use Rattle.codeco_terms.specs.declared.values.Value.{Value}
 use Rattle.codeco_terms.specs.declared.values.Value.TheVariants.{Atom}
 use Rattle.codeco_terms.specs.declared.values.Term.{Term}
@@ -20,7 +21,7 @@ use Rattle.scopes.specs.Resolution.{has_value, agrees}
 use Rattle.derivation_trees.specs.Instances.{looked_up, value_under, term_value, under, feats_under, tests_under}
 use Rattle.derivation_trees.specs.Derives.{same_where_both}
 use Rattle.chart_table.specs.Branches.{OneOf, Extends, AnyExtends, bound_at, bound_term, restricted, values_at, having, read_as, meeting_one, meeting, chosen_at, chosen_for, closing, closing_patterns, known_value}
-use Rattle.chart_table.proofs.PassLemmas.{if_some, both_true, same_value_is, same_value-refl}
+use Rattle.chart_table.proofs.PassLemmas.{if_some, both_true, same_value-refl}
 
 abbrev pub Binds : Type 0
 Binds = List (ℕ × Value)

@@ -9,6 +9,7 @@ use Rattle.std.proofs.lemmas.Bool.{leb-true, ltb-true, ltb-false, eqb-true}
 use Rattle.std.proofs.lemmas.List.Concat.{flat_map-append}
 use Rattle.std.proofs.lemmas.List.FromFn.{length-range_with_len}
 use Rattle.wiki_base.proofs.NumberLaws.{eqb_comm, lt-eqb as differs, eqb_refl}
+use Rattle.chart_table.proofs.OneOfLemmas.{one_left, one_right}
 use Rattle.codeco_terms.specs.declared.values.Value.{Value}
 use Rattle.codeco_terms.specs.declared.values.Value.TheVariants.{Atom, Word, Pos}
 use Rattle.codeco_terms.specs.declared.values.Term.{Term}
@@ -36,15 +37,6 @@ use Rattle.chart_table.proofs.BranchLemmas.{Binds, Chosen, values_at_to}
 use Rattle.chart_table.specs.Ends.{OwnFrom, values_of_all}
 
 -- values of features
-
-one_left : {X : Type 0} (x : X) (xs ys : List X) → OneOf xs x → OneOf (xs ++ ys) x
-one_left x [] ys h = absurd h
-one_left x (y ∷ xs) ys (inl e) = inl e
-one_left x (y ∷ xs) ys (inr h) = inr (one_left x xs ys h)
-
-one_right : {X : Type 0} (x : X) (xs ys : List X) → OneOf ys x → OneOf (xs ++ ys) x
-one_right x [] ys h = h
-one_right x (y ∷ xs) ys h = inr (one_right x xs ys h)
 
 words_one : (readings : List Ground) (word : Value) → list_any (λ r. has_value r.vals (3, word)) readings ≡ true → OneOf (words_of readings) word
 words_one [] word h = absurd (cc)

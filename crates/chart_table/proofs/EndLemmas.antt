@@ -29,22 +29,18 @@ use Rattle.chart_table.specs.Steps.{at_of, Covers, placed, sub_steps, starting, 
 use Rattle.chart_table.specs.Choices.{choices_in}
 use Rattle.chart_table.specs.Ends.{end_at, end_head, IsEnds, left_of, EndsAt, Agrees, HasRuleEnds, CoversPath, LeadsFrom, values_of_all, as_terms, has_values, end_with, finished_one, finished, HasMore, OwnFrom, IsStep, AreSteps, HasFinished, HasEndsOfRule}
 use Rattle.chart_table.proofs.EndsUpTo.{IsEndOf, HasEndsTo, AreReached, AreLast, HasEndsUpTo}
-use Rattle.chart_table.proofs.PassLemmas.{both_true, same_value_is, same_value-refl, rule_of_leads, leads_of_rule}
+use Rattle.chart_table.proofs.PassLemmas.{both_true, same_value-refl, rule_of_leads, leads_of_rule}
 use Rattle.chart_table.proofs.OpenerLemmas.{leads_alike, referents-twice}
 use Rattle.chart_table.proofs.BranchLemmas.{Binds, either, Each, KnownAll, closing_known, closing_to, closing_from, meeting_to, meeting_from, single, known_same}
 use Rattle.derivation_trees.specs.Stands.{is_sub}
-use Rattle.std.proofs.Math.Seq.{drop-nil}
+use Rattle.std.proofs.Math.Seq.{drop-nil, drop-append_seam}
 use Rattle.std.proofs.lemmas.Bool.{eqb-true, and_from}
+use Rattle.std.proofs.lemmas.List.{append_cancel_left}
 use Rattle.wiki_base.proofs.NumberLaws.{eqb_refl}
+use Rattle.derivation_trees.proofs.ValueLemmas.{same_value_is}
+use Rattle.chart_table.proofs.OneOfLemmas.{one_front, one_last, one_right}
 use Rattle.chart_table.proofs.StepLemmas.{covers_left, covers_right, covers_append, placed_to, placed_from, plain_to, plain_from}
 use Rattle.chart_table.proofs.ChoiceLemmas.{chosen, instance_back, parts_of, own_from_drop}
-
-drop_length : (xs ys : List Entry) → drop (length xs) (xs ++ ys) ≡ ys
-drop_length [] ys = refl
-drop_length (x ∷ xs) ys = drop_length xs ys
-
-append_cancel : (xs ys zs : List Entry) → xs ++ ys ≡ xs ++ zs → ys ≡ zs
-append_cancel xs ys zs e = sym (drop_length xs ys) ∙ ap (drop (length xs)) e ∙ drop_length xs zs
 
 -- the list only grows on a path
 
@@ -97,13 +93,14 @@ path_grows s v own (e ∷ es) at after h =
 closed_end : (rule : Rule) (v : Binds) (at last : At) (e : End) (added : List Entry) → last.list ≡ at.list ++ added → EndsAt rule v at.list last e
     → closed_at rule at.list last ≡ end_at at e
 closed_end rule v at last e added grown h =
-    let tail : e.tail ≡ left_of rule added = h.tail ∙ ap (λ l. left_of rule (drop (length at.list) l)) grown ∙ ap (left_of rule) (drop_length at.list added) in
+    let tail : e.tail ≡ left_of rule added =
+    h.tail ∙ ap (λ l. left_of rule (drop (length at.list) l)) grown ∙ ap (left_of rule) (drop-append_seam at.list added) in
     ap (λ p. record { place = p; list = list_after rule.closing at.list last.list }) (sym h.place)
     ∙ ap (λ l. record { place = e.place; list = l })
     (ap (list_after rule.closing at.list) grown ∙ by_closing rule.closing ∙ ap (λ t. at.list ++ t) (sym tail))
   where
     by_closing : (b : Bool) → list_after b at.list (at.list ++ added) ≡ at.list ++ (if b then closed added else added)
-    by_closing true = ap (λ l. at.list ++ closed l) (drop_length at.list added)
+    by_closing true = ap (λ l. at.list ++ closed l) (drop-append_seam at.list added)
     by_closing false = refl
 
 -- heads
@@ -257,7 +254,7 @@ sub_to s v c state ends after is h leads =
     let alike = leads_alike s (under v c) state.place state.list (referents state.list) after (sym (referents-twice state.list)) leads in
     let found = is.complete (under v c) _ refl (λ p o. known_in_feats v state.binds c.feats p h o) alike.2 in
     let place_is : after.place ≡ found.0.place = ap (λ a. a.place) found.3 in
-    let tail_is : alike.0 ≡ found.0.tail = append_cancel (referents state.list) alike.0 found.0.tail (ap (λ a. a.list) found.3) in
+    let tail_is : alike.0 ≡ found.0.tail = append_cancel_left (referents state.list) alike.0 found.0.tail (ap (λ a. a.list) found.3) in
     sub_covers v c state found.0 ends after found.1 h (fits_all c.name c v found.0 found.2)
     (ap (λ p. record { place = p; list = after.list }) place_is
     ∙ ap (λ l. record { place = found.0.place; list = l }) (alike.1 ∙ ap (λ t. state.list ++ t) tail_is))
@@ -271,7 +268,7 @@ sub_back s v c state ends after is h =
     let leads = is.sound e r.1.1 (under v c) refl
     (and_from (c.name == c.name) (list_all (λ p. list_all (same_where_both p) (feats_under v c.feats)) e.values) (eqb_refl c.name) r.1.2) in
     let alike = leads_alike s (under v c) state.place (referents state.list) state.list _ (referents-twice state.list) leads in
-    let tail_is : e.tail ≡ alike.0 = append_cancel (referents state.list) e.tail alike.0 alike.1 in
+    let tail_is : e.tail ≡ alike.0 = append_cancel_left (referents state.list) e.tail alike.0 alike.1 in
     (r.0, subst (Leads s (under v c) (at_of state)) (ap (λ t. record { place = e.place; list = state.list ++ t }) (sym tail_is) ∙ sym r.1.3) alike.2)
 
 -- paths
@@ -350,10 +347,6 @@ pub record IsFinished (s : Setting) (rule : Rule) (before : List Entry) (state :
 abbrev flat_map_ends : Setting → Rule → List Entry → State → List ℕ → List Binds → List End
 flat_map_ends s rule before state numbers bs = flat_map (finished_one s rule before state numbers) bs
 
-end_right : (xs ys : List End) (e : End) → OneOf ys e → OneOf (xs ++ ys) e
-end_right [] ys e h = h
-end_right (x ∷ xs) ys e h = inr (end_right xs ys e h)
-
 finished_from : (s : Setting) (rule : Rule) (before : List Entry) (state : State) (numbers : List ℕ) (bs : List Binds) (e : End)
     → ((v : Binds) → AnyExtends v bs → Extends v state.binds) → OneOf (flat_map_ends s rule before state numbers bs) e → IsFinished s rule before state e
 finished_from s rule before state numbers [] e ext o = absurd o
@@ -386,8 +379,8 @@ finished_to s rule before state (b ∷ bs) v i known (inl h) =
     (subst (λ t. OneOf ((if t then end_with rule before state v ∷ [] else []) ++ flat_map_ends s rule before state (variables_of s.grammar rule) bs)
     (end_with rule before state v)) (sym (and_from (is_instance s rule v) (has_values v b) i (has_to v b h))) (inl refl))
 finished_to s rule before state (b ∷ bs) v i known (inr h) =
-    end_right (finished_one s rule before state (variables_of s.grammar rule) b) (flat_map_ends s rule before state (variables_of s.grammar rule) bs)
-    (end_with rule before state v) (finished_to s rule before state bs v i known.1 h)
+    one_right (end_with rule before state v) (finished_one s rule before state (variables_of s.grammar rule) b)
+    (flat_map_ends s rule before state (variables_of s.grammar rule) bs) (finished_to s rule before state bs v i known.1 h)
 
 pub finished_shows : (s : Setting) (rule : Rule) (before : List Entry) (state : State) (e : End) → OneOf (finished s rule before state) e
     → IsFinished s rule before state e
@@ -634,20 +627,10 @@ finished_none s rule start ends = record {
   only = λ e o. inl o;
 }
 
-one_front : {X : Type 0} (xs : List X) (x y : X) → OneOf (xs ++ x ∷ []) y → OneOf xs y ⊎ (x ≡ y)
-one_front [] x y (inl e) = inr e
-one_front [] x y (inr h) = absurd h
-one_front (z ∷ zs) x y (inl e) = inl (inl e)
-one_front (z ∷ zs) x y (inr h) = either (λ a. inl (inr a)) (λ b. inr b) (one_front zs x y h)
-
 one_before : {X : Type 0} (xs : List X) (x y : X) → OneOf xs y → OneOf (xs ++ x ∷ []) y
 one_before [] x y h = absurd h
 one_before (z ∷ zs) x y (inl e) = inl e
 one_before (z ∷ zs) x y (inr h) = inr (one_before zs x y h)
-
-one_last : {X : Type 0} (xs : List X) (x : X) → OneOf (xs ++ x ∷ []) x
-one_last [] x = inl refl
-one_last (z ∷ zs) x = inr (one_last zs x)
 
 pub finished_more : (s : Setting) (rule : Rule) (start : List Entry) (states : List State) (state : State) (first before after : List End)
     → HasFinished s rule start states first before → HasMore before after (finished s rule start state)
@@ -688,8 +671,3 @@ more_then before middle after xs x a b = record {
   only = λ e o. either (λ h. either (λ k. inl k) (λ k. inr (one_before xs x e k)) (a.only e h))
       (λ h. either (λ k. inr (subst (OneOf (xs ++ x ∷ [])) k (one_last xs x))) (λ k. absurd k) h) (b.only e o);
 }
-
-pub one_of_slice : (ends : List End) (i : ℕ) (e : End) → slice_get ends i ≡ Some e → OneOf ends e
-one_of_slice [] i e h = absurd (cc)
-one_of_slice (x ∷ xs) zero e h = inl (same_Some x e h)
-one_of_slice (x ∷ xs) (suc i) e h = inr (one_of_slice xs i e h)

@@ -7,6 +7,7 @@ use Rattle.std.proofs.lemmas.Option.{same_Some, slice_get-get_or, slice_get_with
 use Rattle.std.proofs.lemmas.List.{take_more, take_all}
 use Rattle.std.proofs.lemmas.Bool.{and_from}
 use Rattle.wiki_base.proofs.NumberLaws.{eqb_refl}
+use Rattle.chart_table.proofs.OneOfLemmas.{one_front, one_last, one_of_slice, one_left}
 use Rattle.codeco_terms.specs.declared.categories.Category.{Category}
 use Rattle.codeco_terms.specs.declared.elements.Element.{Element}
 use Rattle.codeco_terms.specs.declared.elements.Element.TheVariants.{Terminal, Preterminal, Sub, Position, Opener, Forward, Strong, Back, NoBack}
@@ -71,40 +72,20 @@ heads_alike s rule P Q before after to back h = record {
 -- one more cut-off phrase
 
 cut_left : (xs ys : List Cut) (j : ℕ) (values : Binds) → HasCut xs j values → HasCut (xs ++ ys) j values
-cut_left xs ys j values h = (h.0, one_left xs h.1, h.2, h.3)
-  where
-    one_left : (zs : List Cut) → OneOf zs h.0 → OneOf (zs ++ ys) h.0
-    one_left [] o = absurd o
-    one_left (z ∷ zs) (inl e) = inl e
-    one_left (z ∷ zs) (inr o) = inr (one_left zs o)
-
-one_last : (xs : List Cut) (x : Cut) → OneOf (xs ++ x ∷ []) x
-one_last [] x = inl refl
-one_last (y ∷ xs) x = inr (one_last xs x)
-
-one_of_last : (xs : List Cut) (x e : Cut) → OneOf (xs ++ x ∷ []) e → OneOf xs e ⊎ (x ≡ e)
-one_of_last [] x e (inl is) = inr is
-one_of_last [] x e (inr h) = absurd h
-one_of_last (y ∷ xs) x e (inl is) = inl (inl is)
-one_of_last (y ∷ xs) x e (inr h) = either (λ a. inl (inr a)) (λ b. inr b) (one_of_last xs x e h)
+cut_left xs ys j values h = (h.0, one_left h.0 xs ys h.1, h.2, h.3)
 
 pub cut_pushed : (before after : List Cut) (x : Cut) → after ≡ before ++ x ∷ [] → HasOneMore x.ask x.values before after
 cut_pushed before after x e = subst (HasOneMore x.ask x.values before) (sym e) (record {
   kept = λ j values h. cut_left before (x ∷ []) j values h;
   new = (x, one_last before x, refl, refl);
   only = λ j values h. either (λ o. inl (h.0, o, h.2, h.3))
-      (λ is. inr (sym h.2 ∙ ap (λ (c : Cut). c.ask) (sym is), sym h.3 ∙ ap (λ (c : Cut). c.values) (sym is))) (one_of_last before x h.0 h.1);
+      (λ is. inr (sym h.2 ∙ ap (λ (c : Cut). c.ask) (sym is), sym h.3 ∙ ap (λ (c : Cut). c.values) (sym is))) (one_front before x h.0 h.1);
 })
-
-cut_of_slice : (cuts : List Cut) (i : ℕ) (e : Cut) → slice_get cuts i ≡ Some e → OneOf cuts e
-cut_of_slice [] i e h = absurd (cc)
-cut_of_slice (x ∷ xs) zero e h = inl (same_Some x e h)
-cut_of_slice (x ∷ xs) (suc i) e h = inr (cut_of_slice xs i e h)
 
 pub cut_there : (cuts : List Cut) (i : ℕ) (e : Cut) (number : ℕ) (values : Binds) → i < length cuts → e ≡ get_or cuts i e → e.ask ≡ number → e.values ≡ values
     → HasCut cuts number values
 cut_there cuts i e number values lt is ask_is values_are =
-    (e, cut_of_slice cuts i e (slice_get-get_or cuts i e lt ∙ ap Some (sym is)), ask_is, values_are)
+    (e, one_of_slice cuts i e (slice_get-get_or cuts i e lt ∙ ap Some (sym is)), ask_is, values_are)
 
 -- a head that is there already, one that is added, and one that no instance has
 
@@ -406,7 +387,7 @@ enters_from s aim j v c state cuts is h =
     let r = h.2 in
     let e = r.0 in
     let m = meeting_from v e.values c.feats (state.binds ∷ []) r.2.1 in
-    let leads = is.sound j e.values (e, cut_of_slice cuts h.0 e r.1, sym r.2.0, refl) (under v c) refl
+    let leads = is.sound j e.values (e, one_of_slice cuts h.0 e r.1, sym r.2.0, refl) (under v c) refl
     (and_from (c.name == c.name) (list_all (λ p. list_all (same_where_both p) (feats_under v c.feats)) e.values) (eqb_refl c.name) m.1) in
     (single v state.binds m.0, (c, refl, cut_alike s aim j (under v c) state.place (referents state.list) state.list (referents-twice state.list) leads))
 

@@ -1,22 +1,18 @@
 -- A rule whose first element that takes tokens can't stand at a place before the end has no phrase there, nor one that is cut off.
-use Rattle.std.proofs.Common.{◌≡◌, ℕ, zero, suc, List, [], ◌∷◌, Bool, true, false, ◌||◌, take, Option, Some, None, refl, sym, ap, ◌∙◌, ◌⊎◌, inl, inr}
+use Rattle.std.proofs.Common.{◌≡◌, ℕ, zero, suc, List, [], ◌∷◌, Bool, true, false, ◌||◌, take, Some, None, refl, sym, ap, ◌∙◌, ◌⊎◌, inl, inr}
 use Rattle.std.specs.Prelude.{◌==◌, option_and_then, slice_get}
-use Rattle.std.specs.Option.{option_map_or}
-use Rattle.std.specs.List.{list_all, list_any}
-use Rattle.std.proofs.lemmas.Bool.{or_right}
+use Rattle.derivation_scenes.proofs.KindLemmas.{kind_there}
 use Rattle.codeco_terms.specs.declared.values.Value.{Value}
 use Rattle.codeco_terms.specs.declared.categories.Category.{Category}
-use Rattle.codeco_terms.specs.declared.categories.Ground.{Ground}
 use Rattle.codeco_terms.specs.declared.elements.Element.{Element}
 use Rattle.codeco_terms.specs.declared.elements.Element.TheVariants.{Terminal, Preterminal, Sub, Position, Opener, Forward, Strong, Back, NoBack}
 use Rattle.codeco_terms.specs.declared.rules.Rule.{Rule}
-use Rattle.scopes.specs.declared.agreement.Test.{Test}
-use Rattle.scopes.specs.Resolution.{agrees, has_value}
-use Rattle.derivation_trees.specs.Settings.{Setting, matches_preterminal}
+use Rattle.scopes.specs.Resolution.{agrees}
+use Rattle.derivation_trees.specs.Settings.{Setting}
 use Rattle.derivation_trees.specs.Instances.{under, own_values}
 use Rattle.derivation_trees.specs.Derives.{At}
 use Rattle.derivation_trees.specs.Partial.{sub_of}
-use Rattle.derivation_scenes.specs.Starts.{has_kind, may_start}
+use Rattle.derivation_scenes.specs.Starts.{may_start}
 use Rattle.chart_table.specs.declared.states.End.{End}
 use Rattle.chart_table.specs.declared.states.Cut.{Cut}
 use Rattle.chart_table.specs.Leading.{Path, own_past}
@@ -24,29 +20,9 @@ use Rattle.chart_table.specs.Ends.{HasEndsOfRule}
 use Rattle.chart_table.specs.Instances.{HasInstances}
 use Rattle.chart_table.specs.Aims.{Aims}
 use Rattle.chart_table.specs.Cuts.{Stops, HasCutsOfRule, IsIdle}
-use Rattle.chart_table.proofs.PassLemmas.{both_true}
 
 true_is_false : true ≡ false → ⊥
 true_is_false w = cc
-
-some_named : (readings : List Ground) (asked : Test) → list_any (λ reading. agrees reading asked) readings ≡ true
-    → list_any (λ reading. reading.name == asked.name) readings ≡ true
-some_named [] asked h = h
-some_named (r ∷ rs) asked h = by (λ k. some_named rs asked k) (agrees r asked) refl h
-  where
-    by : (list_any (λ reading. agrees reading asked) rs ≡ true → list_any (λ reading. reading.name == asked.name) rs ≡ true) → (b : Bool) → agrees r asked ≡ b
-        → (b || list_any (λ reading. agrees reading asked) rs) ≡ true → list_any (λ reading. reading.name == asked.name) (r ∷ rs) ≡ true
-    by later true e k = both_true (r.name == asked.name) (list_all (has_value r.vals) asked.values) e
-        (λ n _. ap (λ b. b || list_any (λ reading. reading.name == asked.name) rs) n)
-    by later false e k = or_right (r.name == asked.name) _ (later k)
-
-kind_there : (s : Setting) (asked : Test) (place : ℕ) → matches_preterminal s asked place ≡ true → has_kind s asked.name place ≡ true
-kind_there s asked place h = by (slice_get s.readings place) h
-  where
-    by : (o : Option (List Ground)) → option_map_or (λ readings. list_any (λ reading. agrees reading asked) readings) o false ≡ true
-        → option_map_or (λ readings. list_any (λ reading. reading.name == asked.name) readings) o false ≡ true
-    by None k = k
-    by (Some readings) k = some_named readings asked k
 
 -- elements that stay at the place
 stays : (s : Setting) (es : List Element) (at between : At) → between.place ≡ at.place → may_start s between.place es ≡ true → may_start s at.place es ≡ true
@@ -75,7 +51,7 @@ StopsIn aim es k last = (last.place ≡ aim.halt) ⊎ ((c : Category) × (option
 abbrev Starts : Setting → Aims → List Element → At → Type 0
 Starts s aim es at = (may_start s at.place es ≡ true) ⊎ (at.place ≡ aim.halt)
 
-none_some : {X : Type 0} {Y : Type 0} {x : X} → None ≡ Some x → Y
+pub none_some : {X : Type 0} {Y : Type 0} {x : X} → None ≡ Some x → Y
 none_some w = cc
 
 category_next : (s : Setting) (aim : Aims) (e : Element) (es : List Element) (at : At) (c : Category) → sub_of e ≡ Some c → Starts s aim (e ∷ es) at

@@ -1,7 +1,8 @@
 -- The instances of a rule that lead somewhere are found.
-use Rattle.std.proofs.Common.{◌≡◌, ℕ, zero, suc, ◌+◌, ◌-◌, ◌<◌, ◌≤◌, List, [], ◌∷◌, ◌++◌, true, map, length, take, drop, get_or, refl, sym, ap, ◌∙◌, subst, arith, inl, inr}
-use Rattle.std.proofs.lemmas.List.{take_all}
+use Rattle.std.proofs.Common.{◌≡◌, ℕ, zero, suc, ◌+◌, ◌-◌, ◌<◌, ◌≤◌, List, [], ◌∷◌, ◌++◌, true, map, length, take, drop, get_or, sym, ap, ◌∙◌, subst, arith, inl, inr}
+use Rattle.std.proofs.lemmas.List.{take_all, map_push}
 use Rattle.wiki_base.proofs.ListLaws.{take_get_or}
+use Rattle.chart_table.proofs.OneOfLemmas.{one_left, one_right}
 use Rattle.codeco_terms.specs.declared.values.Term.{Term}
 use Rattle.codeco_terms.specs.declared.rules.Rule.{Rule}
 use Rattle.scopes.specs.declared.entries.Entry.{Entry}
@@ -23,15 +24,6 @@ use Rattle.chart_table.proofs.HeadLemmas.{all_after_last}
 
 -- lists of values
 
-one_left : (xs ys : List Binds) (v : Binds) → OneOf xs v → OneOf (xs ++ ys) v
-one_left [] ys v h = absurd h
-one_left (x ∷ xs) ys v (inl e) = inl e
-one_left (x ∷ xs) ys v (inr h) = inr (one_left xs ys v h)
-
-one_right : (xs ys : List Binds) (v : Binds) → OneOf ys v → OneOf (xs ++ ys) v
-one_right [] ys v h = h
-one_right (x ∷ xs) ys v h = inr (one_right xs ys v h)
-
 one_at : (xs : List Binds) (i : ℕ) (x d : Binds) → i < length xs → x ≡ get_or xs i d → OneOf xs x
 one_at [] i x d lt is = absurd (omega arith)
 one_at (y ∷ ys) zero x d lt is = inl (sym is)
@@ -45,8 +37,8 @@ seen_more bounds i x y lt is same = record {
 
 pub push_more : (before after : List Binds) (x : Binds) → after ≡ before ++ x ∷ [] → HasMore before after (x ∷ [])
 push_more before after x e = record {
-  kept = λ v o. subst (λ l. OneOf l v) (sym e) (one_left before (x ∷ []) v o);
-  new = λ v o. subst (λ l. OneOf l v) (sym e) (one_right before (x ∷ []) v o);
+  kept = λ v o. subst (λ l. OneOf l v) (sym e) (one_left v before (x ∷ []) o);
+  new = λ v o. subst (λ l. OneOf l v) (sym e) (one_right v before (x ∷ []) o);
 }
 
 pub seen_same : (bounds seen : List Binds) (x y : Binds) → seen ≡ bounds → y ≡ x → HasMore seen seen (y ∷ []) → HasMore bounds bounds (x ∷ [])
@@ -62,16 +54,12 @@ split_one [] x v after (inr h) f g = absurd h
 split_one (y ∷ ys) x v after (inl e) f g = f (inl e)
 split_one (y ∷ ys) x v after (inr h) f g = split_one ys x v after h (λ o. f (inr o)) g
 
-map_last : {X : Type 0} (f : X → Binds) (xs : List X) (x : X) → map f (xs ++ x ∷ []) ≡ map f xs ++ f x ∷ []
-map_last f [] x = refl
-map_last f (y ∷ ys) x = ap (λ l. f y ∷ l) (map_last f ys x)
-
 pub bounds_turn : (f : Binds → Binds) (xs : List Binds) (i : ℕ) (x y : Binds) (first before after : List Binds) → i < length xs → x ≡ get_or xs i x → y ≡ f x
     → HasMore first before (map f (take i xs)) → HasMore before after (y ∷ []) → HasMore first after (map f (take (i + 1) xs))
 bounds_turn f xs i x y first before after lt is made a b = record {
   kept = λ v o. b.kept v (a.kept v o);
   new = λ v o.
-      split_one (map f (take i xs)) (f x) v after (subst (λ l. OneOf l v) (ap (map f) (take_get_or xs i x lt is) ∙ map_last f (take i xs) x) o)
+      split_one (map f (take i xs)) (f x) v after (subst (λ l. OneOf l v) (ap (map f) (take_get_or xs i x lt is) ∙ map_push f (take i xs) x) o)
       (λ m. b.kept v (a.new v m)) (λ e. b.new v (inl (made ∙ e)));
 }
 

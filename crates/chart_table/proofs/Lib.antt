@@ -4,6 +4,7 @@ pub mod RuleAsking
 pub mod RuleLeading
 pub mod Loops
 pub mod PassLemmas
+pub mod OneOfLemmas
 pub mod OpenerLemmas
 pub mod BranchLemmas
 pub mod StepLemmas

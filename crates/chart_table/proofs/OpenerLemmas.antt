@@ -1,10 +1,11 @@
 -- A phrase never looks at the openers of the list that it starts with: it takes a place and a list to that list followed by
 -- others exactly where it takes the place and the list without openers to this followed by the same others.
-use Rattle.std.proofs.Common.{◌≡◌, ℕ, List, [], ◌∷◌, ◌++◌, Bool, true, false, ◌&&◌, ◌||◌, length, drop, Some, refl, sym, ap, ◌∙◌, subst, append_assoc}
+use Rattle.std.proofs.Common.{◌≡◌, ℕ, List, [], ◌∷◌, ◌++◌, Bool, true, false, ◌&&◌, ◌||◌, Some, refl, sym, ap, ◌∙◌, subst, append_assoc}
 use Rattle.std.specs.Prelude.{if◌then◌else◌, option_and_then}
 use Rattle.std.specs.List.{list_any, filter_map, cons_option}
 use Rattle.std.proofs.lemmas.List.{append-nil}
 use Rattle.std.proofs.lemmas.Option.{option_and_then_some, same_Some}
+use Rattle.std.proofs.Math.Seq.{drop-append_seam}
 use Rattle.codeco_terms.specs.declared.values.Value.{Value}
 use Rattle.codeco_terms.specs.declared.values.Value.TheVariants.{Pos}
 use Rattle.codeco_terms.specs.declared.categories.Category.{Category}
@@ -194,16 +195,12 @@ run_adds s values (e ∷ es) stand after other same par h =
       parallel = b.parallel;
     })
 
-drop_length : (xs ys : List Entry) → drop (length xs) (xs ++ ys) ≡ ys
-drop_length [] ys = refl
-drop_length (x ∷ xs) ys = drop_length xs ys
-
 -- what is left of what a phrase has added
 abbrev pub left_open : Bool → List Entry → List Entry
 left_open closing added = if closing then closed added else added
 
 pub list_after_is : (closing : Bool) (begun added : List Entry) → list_after closing begun (begun ++ added) ≡ begun ++ left_open closing added
-list_after_is true begun added = ap (λ l. begun ++ closed l) (drop_length begun added)
+list_after_is true begun added = ap (λ l. begun ++ closed l) (drop-append_seam begun added)
 list_after_is false begun added = refl
 
 phrase_parallel : (s : Setting) (rule : Rule) (values : List (ℕ × Value)) (found : List ℕ) (ps : List Phrase) → AllParallel ps

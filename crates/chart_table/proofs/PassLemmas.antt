@@ -1,11 +1,11 @@
 -- Elements of a tree, and where they lead.
-use Rattle.std.proofs.Common.{◌≡◌, ℕ, List, [], ◌∷◌, Bool, true, false, ◌&&◌, ◌||◌, Option, Some, None, refl, sym, ap, ◌∙◌, arith}
+use Rattle.std.proofs.Common.{◌≡◌, ℕ, List, [], ◌∷◌, Bool, true, false, ◌&&◌, ◌||◌, Option, Some, None, refl, sym, ap, ◌∙◌}
 use Rattle.std.specs.Prelude.{if◌then◌else◌, ◌==◌, option_and_then, slice_get}
 use Rattle.std.specs.List.{list_any}
-use Rattle.std.proofs.lemmas.Bool.Decides.{nat_tests}
 use Rattle.std.proofs.lemmas.Option.{option_and_then_some, same_Some}
 use Rattle.std.proofs.lemmas.Bool.{and_from}
 use Rattle.wiki_base.proofs.NumberLaws.{eqb_refl}
+use Rattle.derivation_trees.proofs.ValueLemmas.{same_value_is}
 use Rattle.codeco_terms.specs.declared.values.Value.{Value}
 use Rattle.codeco_terms.specs.declared.values.Value.TheVariants.{Atom, Word, Pos}
 use Rattle.codeco_terms.specs.declared.categories.Category.{Category}
@@ -37,17 +37,6 @@ unless_some false x y h k = k refl (same_Some x y h)
 pub both_true : {P : Type 0} (a b : Bool) → (a && b) ≡ true → (a ≡ true → b ≡ true → P) → P
 both_true true b h k = k refl h
 both_true false b h k = absurd (cc)
-
-pub same_value_is : (v w : Value) → same_value v w ≡ true → v ≡ w
-same_value_is (Atom a) (Atom b) h = let e : a ≡ b = grind (arith, nat_tests) in ap Atom e
-same_value_is (Atom a) (Word w) h = absurd (cc)
-same_value_is (Atom a) (Pos p) h = absurd (cc)
-same_value_is (Word v) (Atom b) h = absurd (cc)
-same_value_is (Word v) (Word w) h = let e : v.0 ≡ w.0 = grind (arith, nat_tests) in ap (λ n. Word (record { 0 = n })) e
-same_value_is (Word v) (Pos p) h = absurd (cc)
-same_value_is (Pos p) (Atom b) h = absurd (cc)
-same_value_is (Pos p) (Word w) h = absurd (cc)
-same_value_is (Pos p) (Pos q) h = let e : p ≡ q = grind (arith, nat_tests) in ap Pos e
 
 pub same_value-refl : (v : Value) → same_value v v ≡ true
 same_value-refl (Atom a) = eqb_refl a

@@ -5,6 +5,7 @@ use Rattle.std.specs.List.{list_all, flat_map}
 use Rattle.std.proofs.lemmas.Option.{same_Some, slice_get-get_or}
 use Rattle.std.proofs.lemmas.List.{take_more, take_all, map_push}
 use Rattle.wiki_base.proofs.ListLaws.{length_mapped}
+use Rattle.chart_table.proofs.OneOfLemmas.{one_of_slice, one_front}
 use Rattle.codeco_terms.specs.declared.declarations.Declared.TheVariants as declared
 use Rattle.codeco_terms.specs.declared.elements.Element.{Element}
 use Rattle.codeco_terms.specs.declared.elements.Element.TheVariants.{Terminal, Preterminal, Sub, Position, Opener, Forward, Strong, Back, NoBack}
@@ -164,32 +165,21 @@ mapped_more f xs i x y out new lt is made old more =
 
 -- features that are listed
 
-one_split : (xs : List CategoryFeatures) (x one : CategoryFeatures) → OneOf (xs ++ x ∷ []) one → OneOf xs one ⊎ (x ≡ one)
-one_split [] x one (inl e) = inr e
-one_split [] x one (inr h) = absurd h
-one_split (y ∷ ys) x one (inl e) = inl (inl e)
-one_split (y ∷ ys) x one (inr h) = elim (one_split ys x one h) [ inl a ↦ inl (inr a) | inr b ↦ inr b ]
-
 pub listed_none : (g : GrammarParts) (known : List CategoryFeatures) → known ≡ [] → AreListed g known
 listed_none g known e one o = absurd (subst (λ l. OneOf l one) e o)
 
 pub listed_more : (g : GrammarParts) (known after : List CategoryFeatures) (x : CategoryFeatures) → after ≡ known ++ x ∷ [] → x.features ≡ features_of g x.name
     → AreListed g known → AreListed g after
-listed_more g known after x e is all one o = by (one_split known x one (subst (λ l. OneOf l one) e o))
+listed_more g known after x e is all one o = by (one_front known x one (subst (λ l. OneOf l one) e o))
   where
     by : OneOf known one ⊎ (x ≡ one) → one.features ≡ features_of g one.name
     by (inl a) = all one a
     by (inr same) = subst (λ (y : CategoryFeatures). y.features ≡ features_of g y.name) same is
 
-listed_at : (known : List CategoryFeatures) (i : ℕ) (x : CategoryFeatures) → slice_get known i ≡ Some x → OneOf known x
-listed_at [] i x h = absurd (cc)
-listed_at (y ∷ ys) zero x h = inl (same_Some y x h)
-listed_at (y ∷ ys) (suc i) x h = inr (listed_at ys i x h)
-
 pub listed_here : (known : List CategoryFeatures) (i : ℕ) (x : CategoryFeatures) (name : ℕ) (found : List ℕ) → i < length known → x ≡ get_or known i x
     → x.name ≡ name → found ≡ x.features → HasListed known name found
 listed_here known i x name found lt is named same =
-    (x, listed_at known i x (slice_get-get_or known i x lt ∙ ap Some (sym is)), named, sym same)
+    (x, one_of_slice known i x (slice_get-get_or known i x lt ∙ ap Some (sym is)), named, sym same)
 
 pub listed_is : (g : GrammarParts) (known seen : List CategoryFeatures) (name : ℕ) (found : List ℕ) → seen ≡ known → AreListed g known
     → HasListed seen name found → found ≡ features_of g name

@@ -8,7 +8,9 @@ use Rattle.std.specs.List.{list_any, list_all, range_with_len}
 use Rattle.std.proofs.Math.Bool.{or-true}
 use Rattle.std.proofs.lemmas.List.FromFn.{length-range_with_len}
 use Rattle.std.proofs.lemmas.Bool.{eqb-true}
+use Rattle.std.proofs.lemmas.List.{map_push}
 use Rattle.wiki_base.proofs.NumberLaws.{eqb_refl}
+use Rattle.wiki_base.proofs.ListLaws.{length_mapped}
 use Rattle.codeco_terms.specs.declared.values.Value.{Value}
 use Rattle.scopes.specs.declared.entries.Entry.{Entry}
 use Rattle.derivation_trees.specs.Trees.{Node}
@@ -125,28 +127,20 @@ begun s count asks row cuts b a n is seen h =
 
 -- one answer for each ask
 
-map_last : (f : ℕ → Bool) (xs : List ℕ) (x : ℕ) → map f (xs ++ x ∷ []) ≡ map f xs ++ f x ∷ []
-map_last f [] x = refl
-map_last f (y ∷ ys) x = ap (λ l. f y ∷ l) (map_last f ys x)
-
 pub follows_more : (f : ℕ → Bool) (n : ℕ) (b : Bool) (out new : List Bool) → out ≡ map f (range_with_len 0 n) → b ≡ f n → new ≡ out ++ b ∷ []
     → new ≡ map f (range_with_len 0 (n + 1))
 follows_more f n b out new old is more =
     let last : 0 + n ≡ n = omega arith in
     more ∙ ap (λ o. o ++ b ∷ []) old ∙ ap (λ x. map f (range_with_len 0 n) ++ x ∷ []) (is ∙ ap f (sym last))
-    ∙ sym (ap (map f) (range_more 0 n) ∙ map_last f (range_with_len 0 n) (0 + n))
+    ∙ sym (ap (map f) (range_more 0 n) ∙ map_push f (range_with_len 0 n) (0 + n))
 
 range_at : (f : ℕ → Bool) (first count j : ℕ) (yes : Bool) → slice_get (map f (range_with_len first count)) j ≡ Some yes → yes ≡ f (first + j)
 range_at f first zero j b h = absurd (cc)
 range_at f first (suc n) zero b h = let z : first ≡ first + 0 = omega arith in sym (same_Some (f first) b h) ∙ ap f z
 range_at f first (suc n) (suc j) b h = let z : (first + 1) + j ≡ first + suc j = omega arith in range_at f (first + 1) n j b h ∙ ap f z
 
-map_length : (f : ℕ → Bool) (xs : List ℕ) → length (map f xs) ≡ length xs
-map_length f [] = refl
-map_length f (x ∷ xs) = ap suc (map_length f xs)
-
 pub answer_count : (f : ℕ → Bool) (count : ℕ) (follows : List Bool) → follows ≡ map f (range_with_len 0 count) → length follows ≡ count
-answer_count f count follows e = ap length e ∙ map_length f (range_with_len 0 count) ∙ length-range_with_len 0 count
+answer_count f count follows e = ap length e ∙ length_mapped f (range_with_len 0 count) ∙ length-range_with_len 0 count
 
 pub answer_is : (s : Setting) (halt : ℕ) (asks : List Ask) (row : Row) (cuts : List Cut) (count : ℕ) (follows : List Bool)
     → IsTextRow s (record { halt = halt; asks = asks }) row → cuts ≡ row.cuts → follows ≡ map (λ j. list_any (λ e. e.ask == j) cuts) (range_with_len 0 count)

@@ -6,6 +6,7 @@ use Rattle.std.proofs.Common.{◌≡◌, ℕ, suc, zero, ◌+◌, ◌-◌, ◌<�
 use Rattle.std.specs.Prelude.{slice_get, All}
 use Rattle.std.proofs.lemmas.List.Elements.{All-nil, All-push, All-head, All-tail}
 use Rattle.std.proofs.lemmas.Option.{same_Some}
+use Rattle.std.proofs.lemmas.List.{append-nil}
 use Rattle.codeco_terms.specs.declared.values.Value.{Value}
 use Rattle.scopes.specs.declared.entries.Entry.{Entry}
 use Rattle.derivation_trees.specs.Settings.{Setting}
@@ -15,10 +16,10 @@ use Rattle.chart_table.specs.Aims.{Aims}
 use Rattle.chart_table.specs.Cuts.{AreCuts}
 use Rattle.chart_table.specs.Table.{row_at, IsRow, AreRows, HasRow, IsFound}
 
-all_slice : (P : Row → Type 0) (rows : List Row) (i : ℕ) (row : Row) → All P rows → slice_get rows i ≡ Some row → P row
-all_slice P [] i row h e = absurd (cc)
-all_slice P (x ∷ xs) zero row h e = subst P (same_Some x row e) (All-head P x xs h)
-all_slice P (x ∷ xs) (suc i) row h e = all_slice P xs i row (All-tail P x xs h) e
+pub all_slice : {X : Type 0} (P : X → Type 0) (xs : List X) (i : ℕ) (x : X) → All P xs → slice_get xs i ≡ Some x → P x
+all_slice P [] i x h e = absurd (cc)
+all_slice P (y ∷ ys) zero x h e = subst P (same_Some y x e) (All-head P y ys h)
+all_slice P (y ∷ ys) (suc i) x h e = all_slice P ys i x (All-tail P y ys h) e
 
 -- what a row has, as the row of a category from a place and a list
 abbrev pub RowAt : Setting → Aims → Row → ℕ → List (ℕ × Value) → ℕ → List Entry → Type 0
@@ -38,25 +39,20 @@ found_row s aim rows number name known place list rs found =
     let listed : RowAt s aim found.row name known place list = subst (λ l. RowAt s aim found.row name known place l) found.list_is placed in
     record { row = found.row; is = found.is; ends = listed.0; cuts = listed.1 }
 
-slice_last : (rows : List Row) (row : Row) → slice_get (rows ++ row ∷ []) (length rows) ≡ Some row
-slice_last [] row = refl
-slice_last (x ∷ xs) row = slice_last xs row
+pub slice_end : {X : Type 0} (xs : List X) (x : X) → slice_get (xs ++ x ∷ []) (length xs) ≡ Some x
+slice_end [] x = refl
+slice_end (y ∷ xs) x = slice_end xs x
 
 -- a new row at the end
 pub new_row : (s : Setting) (aim : Aims) (rows : List Row) (row : Row) → IsRow s aim row
     → HasRow s aim (rows ++ row ∷ []) (length rows) row.name row.known (row_at row)
-new_row s aim rows row is = record { row = row; is = slice_last rows row; ends = is.ends; cuts = is.cuts }
+new_row s aim rows row is = record { row = row; is = slice_end rows row; ends = is.ends; cuts = is.cuts }
 
 pub rows_more : (s : Setting) (aim : Aims) (rows : List Row) (row : Row) → AreRows s aim rows → IsRow s aim row → AreRows s aim (rows ++ row ∷ [])
 rows_more s aim rows row rs is = record { all = All-push (IsRow s aim) rows row rs.all is }
 
 pub rows_none : (s : Setting) (aim : Aims) → AreRows s aim []
 rows_none s aim = record { all = All-nil (IsRow s aim) }
-
-pub row_below : (rows : List Row) (i : ℕ) (row : Row) → slice_get rows i ≡ Some row → i < length rows
-row_below [] i row h = absurd (cc)
-row_below (y ∷ ys) zero row h = omega arith
-row_below (y ∷ ys) (suc i) row h = let lt = row_below ys i row h in omega arith
 
 -- a row that was looked at is found
 pub found_here : (rows : List Row) (i : ℕ) (row : Row) (name : ℕ) (known : List (ℕ × Value)) (place : ℕ) (list : List Entry) → i < length rows
@@ -75,13 +71,9 @@ take_one [] i e h = absurd (cc)
 take_one (x ∷ xs) zero e h = ap (λ y. y ∷ []) (same_Some x e h)
 take_one (x ∷ xs) (suc i) e h = take_one xs i e h
 
-append_nothing : (xs : List ℕ) → xs ++ [] ≡ xs
-append_nothing [] = refl
-append_nothing (x ∷ xs) = ap (λ ys. x ∷ ys) (append_nothing xs)
-
 -- how many there are for the one item at a place
 pub count_at : {X : Type 0} (f : X → List ℕ) (xs : List X) (i : ℕ) (e : X) (all : List ℕ) → all ≡ flat_map f (slice_range xs i (i + 1))
     → slice_get xs i ≡ Some e → length all ≡ length (f e)
 count_at f xs i e all is h =
     let one : (i + 1) - i ≡ 1 = omega arith in
-    ap length (is ∙ ap (flat_map f) (ap (λ n. take n (drop i xs)) one ∙ take_one xs i e h) ∙ append_nothing (f e))
+    ap length (is ∙ ap (flat_map f) (ap (λ n. take n (drop i xs)) one ∙ take_one xs i e h) ∙ append-nil (f e))

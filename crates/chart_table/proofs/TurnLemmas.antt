@@ -5,6 +5,7 @@ use Rattle.std.specs.List.{flat_map}
 use Rattle.std.proofs.lemmas.Option.{slice_get-get_or, get_or_from_slice_get}
 use Rattle.std.proofs.lemmas.List.{get_or-drop, take_all}
 use Rattle.wiki_base.proofs.ListLaws.{take_get_or}
+use Rattle.chart_table.proofs.OneOfLemmas.{one_of_slice}
 use Rattle.codeco_terms.specs.declared.values.Value.{Value}
 use Rattle.codeco_terms.specs.declared.values.Term.{Term}
 use Rattle.derivation_trees.specs.Instances.{variables_of}
@@ -21,7 +22,7 @@ use Rattle.chart_table.specs.declared.states.End.{End}
 use Rattle.chart_table.specs.Leading.{referents}
 use Rattle.chart_table.specs.Ends.{HasMore, HasFinished, finished, finished_one, as_terms, AreSteps, IsStep}
 use Rattle.chart_table.proofs.OpenerLemmas.{referents-append}
-use Rattle.chart_table.proofs.EndLemmas.{more_same, more_then, one_of_slice, finished_more, steps_more}
+use Rattle.chart_table.proofs.EndLemmas.{more_same, more_then, finished_more, steps_more}
 
 -- one more entry from a place on
 pub entries_turn : (list : List Entry) (first place : ℕ) (e : Entry) (entries new : List Entry) → first ≤ place → place < length list

@@ -2,7 +2,6 @@
 use Rattle.std.proofs.Common.{◌≡◌, ℕ, zero, suc, ◌+◌, ◌<◌, ◌≤◌, List, [], ◌∷◌, ◌++◌, map, take, length, get_or, inl, inr, Option, Some, None, refl, sym, ap, subst, ◌∙◌, arith}
 use Rattle.std.specs.Prelude.{IfSome, IfNone, slice_get}
 use Rattle.std.proofs.lemmas.List.{take_more, take_all, map-append}
-use Rattle.std.specs.declared.cmp.Ordering.{Ordering}
 use Rattle.std.specs.declared.cmp.Ordering.TheVariants.{Less}
 use Rattle.std.specs.Ordering.{nat_cmp}
 use Rattle.std.specs.Cmp.Lexicographic.{slice_cmp, nat_list_cmp_total}
@@ -85,9 +84,6 @@ before_of s outcomes best tree d =
       derives = is_derivation s o is (sym (ap (λ (a : At). a.place) cover.2));
       code = subst (λ l. AtMost l (node_code tree)) is.coded cover.3;
     }
-
-order : List ℕ → List ℕ → Ordering
-order xs ys = slice_cmp nat_cmp xs ys
 
 -- both facts, as a call tells them
 pub record Told (s : Setting) (least : Option Skeleton) : Type 0 where

@@ -1,10 +1,14 @@
 -- Least trees for each end.
 use Rattle.std.proofs.Common.{◌≡◌, ℕ, zero, suc, ◌+◌, ◌<◌, ◌≤◌, List, [], ◌∷◌, ◌++◌, map, take, drop, length, get_or, Bool, true, false, ◌⊎◌, inl, inr, Option, Some, None, refl, sym, ap, subst, ◌∙◌, arith, nat_lt}
 use Rattle.std.specs.Prelude.{if◌then◌else◌, option_and_then, slice_get, slice_set}
-use Rattle.std.proofs.lemmas.List.{take_all}
+use Rattle.std.proofs.lemmas.List.{take_all, append_cancel_left}
 use Rattle.std.proofs.lemmas.Option.{same_Some, slice_get-get_or}
 use Rattle.std.proofs.lemmas.Bool.Decides.{nat_tests}
+use Rattle.std.proofs.lemmas.Bool.{and_from}
+use Rattle.std.proofs.Math.Seq.{drop-append_seam}
 use Rattle.wiki_base.proofs.ListLaws.{take_get_or}
+use Rattle.chart_table.proofs.OneOfLemmas.{one_front}
+use Rattle.chart_table.proofs.IdleLemmas.{none_some}
 use Rattle.codeco_terms.specs.declared.values.Value.{Value}
 use Rattle.codeco_terms.specs.declared.rules.Rule.{Rule}
 use Rattle.scopes.specs.declared.entries.Entry.{Entry}
@@ -18,7 +22,6 @@ use Rattle.derivations.specs.Enumeration.{opened, may_begin}
 use Rattle.derivations.specs.Enumeration as enumeration
 use Rattle.derivations.proofs.Members.{Among, among_left, among_right, among_map}
 use Rattle.derivations.proofs.SoundLemmas.{Mapped, from_map, either_among}
-use Rattle.derivations.proofs.ListingLemmas.{both_true}
 use Rattle.chart_table.specs.Leading.{referents}
 use Rattle.chart_table.proofs.RuleLeading.{RuleLeads}
 use Rattle.chart_table.specs.Branches.{OneOf}
@@ -39,13 +42,6 @@ use Rattle.chart_trees.proofs.WayLemmas.{Way, way_of, way_leads}
 
 -- lists without openers
 
-drop_length : (xs ys : List Entry) → drop (length xs) (xs ++ ys) ≡ ys
-drop_length [] ys = refl
-drop_length (x ∷ xs) ys = drop_length xs ys
-
-append_cancel : (xs ys zs : List Entry) → xs ++ ys ≡ xs ++ zs → ys ≡ zs
-append_cancel xs ys zs e = sym (drop_length xs ys) ∙ ap (drop (length xs)) e ∙ drop_length xs zs
-
 -- the least trees from a list are those from another that differs in openers alone
 pub best_alike : (s : Setting) (asked : Test) (place : ℕ) (one other : List Entry) (outcomes : List Outcome) → referents one ≡ referents other
     → IsBest s asked (record { place = place; list = one }) outcomes → IsBest s asked (record { place = place; list = other }) outcomes
@@ -55,7 +51,7 @@ best_alike s asked place one other outcomes same best = record { sound = sound; 
     sound o m =
         let is = best.sound o m in
         let p = node_parallel s (node_of o.tree) asked place one other (end_from one o) same is.led in
-        record { led = p.2 ∙ ap (λ t. Some (record { place = o.place; list = other ++ t })) (sym (append_cancel one o.tail p.0 p.1)); coded = is.coded }
+        record { led = p.2 ∙ ap (λ t. Some (record { place = o.place; list = other ++ t })) (sym (append_cancel_left one o.tail p.0 p.1)); coded = is.coded }
 
     least : (n : Node) (after : At) → phrase_of s n asked (record { place = place; list = other }) ≡ Some after → Covers outcomes other after (node_code n)
     least n after h =
@@ -63,7 +59,7 @@ best_alike s asked place one other outcomes same best = record { sound = sound; 
         let cover = best.least n (record { place = after.place; list = one ++ p.0 }) p.2 in
         let o = cover.0 in
         let place_is : after.place ≡ o.place = ap (λ (a : At). a.place) cover.2 in
-        let tail_is : p.0 ≡ o.tail = append_cancel one p.0 o.tail (ap (λ (a : At). a.list) cover.2) in
+        let tail_is : p.0 ≡ o.tail = append_cancel_left one p.0 o.tail (ap (λ (a : At). a.list) cover.2) in
         let ends : after ≡ end_from other o =
         ap (λ l. record { place = after.place; list = l }) (p.1 ∙ ap (λ t. other ++ t) tail_is)
         ∙ ap (λ n. record { place = n; list = other ++ o.tail }) place_is in
@@ -214,7 +210,7 @@ after_is rule begun list added h = by rule.closing h
     by : (b : Bool) → list_after b begun list ≡ begun ++ added
         → list_after b begun list ≡ begun ++ (if b then closed (drop (length begun) list) else drop (length begun) list)
     by true k = refl
-    by false k = k ∙ ap (λ t. begun ++ t) (sym (ap (drop (length begun)) k ∙ drop_length begun added))
+    by false k = k ∙ ap (λ t. begun ++ t) (sym (ap (drop (length begun)) k ∙ drop-append_seam begun added))
 
 order_code : (number : ℕ) (values : List (ℕ × Value)) (p q : enumeration.Path) → IsNoLater p q
     → AtMost (node_code (node number values p.found (nodes_from p.children))) (node_code (node number values q.found (nodes_from q.children)))
@@ -311,7 +307,7 @@ no_trees s asked at number rule values outcomes has may = record {
         let way : Way s asked at end rule values found children =
         way_of s asked at end rule values found children
         (rule_phrase s number rule values found children asked at end has (subst (λ m. phrase_of s m asked at ≡ Some end) is led)) in
-        true_false (sym (both_true way.fit way.instance) ∙ may)
+        true_false (sym (and_from _ _ way.fit way.instance) ∙ may)
 
 -- one instance after another
 
@@ -330,12 +326,6 @@ trees_then s asked at P Q first before after a b = record {
     by n end (inl p) led = covers_kept before after at.list end (node_code n) b.kept (a.new n end p led)
     by n end (inr q) led = b.new n end q led
 
-one_split : (xs : List (List (ℕ × Value))) (x v : List (ℕ × Value)) → OneOf (xs ++ x ∷ []) v → OneOf xs v ⊎ (x ≡ v)
-one_split [] x v (inl e) = inr e
-one_split [] x v (inr h) = absurd h
-one_split (y ∷ ys) x v (inl e) = inl (inl e)
-one_split (y ∷ ys) x v (inr h) = elim (one_split ys x v h) [ inl k ↦ inl (inr k) | inr k ↦ inr k ]
-
 pub trees_turn : (s : Setting) (asked : Test) (at : At) (number : ℕ) (instances : List (List (ℕ × Value))) (i : ℕ) (values seen : List (ℕ × Value))
     (first before after : List Outcome) → i < length instances → values ≡ get_or instances i values → seen ≡ values
     → HasTrees s asked at (IsOfInstances number (take i instances)) first before → HasTrees s asked at (IsOfInstance number seen) before after
@@ -346,7 +336,7 @@ trees_turn s asked at number instances i values seen first before after lt is sa
       sound = both.sound;
       kept = both.kept;
       new = λ n end of led. both.new n end
-          (by n of.0 (one_split (take i instances) values of.0 (subst (λ l. OneOf l of.0) (take_get_or instances i values lt is) of.1)) of.2) led;
+          (by n of.0 (one_front (take i instances) values of.0 (subst (λ l. OneOf l of.0) (take_get_or instances i values lt is) of.1)) of.2) led;
     }
   where
     by : (n : Node) (v : List (ℕ × Value)) → OneOf (take i instances) v ⊎ (values ≡ v) → IsOfInstance number v n
@@ -402,9 +392,6 @@ other_trees s asked at number rule outcomes has other = record {
         other (fits_name (under values rule.head) asked way.fit)
 
 -- one rule after another
-
-none_some : {X : Type 0} {Y : Type 0} {x : X} → None ≡ Some x → Y
-none_some w = cc
 
 pub up_to_none : (s : Setting) (asked : Test) (at : At) (outcomes : List Outcome) → outcomes ≡ [] → HasTreesUpTo s asked at 0 outcomes
 up_to_none s asked at outcomes e = record {

@@ -1,8 +1,9 @@
 -- Rows of the table of least trees.
-use Rattle.std.proofs.Common.{◌≡◌, ℕ, zero, suc, ◌+◌, ◌<◌, List, [], ◌∷◌, ◌++◌, map, length, get_or, false, Some, refl, sym, ap, ◌∙◌, subst, arith}
+use Rattle.std.proofs.Common.{◌≡◌, ℕ, ◌+◌, ◌<◌, List, [], ◌∷◌, ◌++◌, map, length, get_or, false, Some, sym, ap, ◌∙◌, subst}
 use Rattle.std.specs.Prelude.{slice_get, All}
-use Rattle.std.proofs.lemmas.Option.{same_Some, slice_get-get_or}
-use Rattle.std.proofs.lemmas.List.Elements.{All-nil, All-push, All-head, All-tail}
+use Rattle.std.proofs.lemmas.Option.{slice_get-get_or}
+use Rattle.std.proofs.lemmas.List.Elements.{All-nil, All-push}
+use Rattle.chart_table.proofs.TableLemmas.{all_slice, slice_end}
 use Rattle.codeco_terms.specs.declared.values.Value.{Value}
 use Rattle.codeco_terms.specs.declared.categories.Category.{Category}
 use Rattle.codeco_terms.specs.declared.elements.Element.{Element}
@@ -28,11 +29,6 @@ use Rattle.chart_trees.specs.Outcomes.{IsBest}
 use Rattle.chart_trees.specs.Tables.{row_at, IsRow, AreTables, HasBest, IsFound}
 use Rattle.chart_trees.proofs.WayLemmas.{plain_steps, child_steps}
 use Rattle.chart_trees.proofs.OutcomeLemmas.{best_alike}
-
-all_slice : (P : Best → Type 0) (rows : List Best) (i : ℕ) (row : Best) → All P rows → slice_get rows i ≡ Some row → P row
-all_slice P [] i row h e = absurd (cc)
-all_slice P (x ∷ xs) zero row h e = subst P (same_Some x row e) (All-head P x xs h)
-all_slice P (x ∷ xs) (suc i) row h e = all_slice P xs i row (All-tail P x xs h) e
 
 -- a row that was looked at is found
 pub found_here : (rows : List Best) (i : ℕ) (row : Best) (asked : Test) (place : ℕ) (list : List Entry) → i < length rows → row ≡ get_or rows i row
@@ -61,10 +57,6 @@ row_found s tables seen number asked place list seen_list same l are found =
       best = subst (λ x. IsBest s asked (record { place = place; list = x }) found.row.outcomes) (found.list_is ∙ l) two;
     }
 
-slice_last : (rows : List Best) (row : Best) → slice_get (rows ++ row ∷ []) (length rows) ≡ Some row
-slice_last [] row = refl
-slice_last (x ∷ xs) row = slice_last xs row
-
 -- a new row
 pub tables_more : (s : Setting) (before : Tables) (after : List Best) (row : Best) (start : List Entry) → after ≡ before.rows ++ row ∷ [] → start ≡ row.list
     → AreTables s before → IsBest s row.asked (record { place = row.place; list = start }) row.outcomes
@@ -79,14 +71,9 @@ pub row_new : (s : Setting) (before after : List Best) (row : Best) (number : �
     → start ≡ row.list → IsBest s row.asked (record { place = row.place; list = start }) row.outcomes → HasBest s after number row.asked (row_at row)
 row_new s before after row number start e n l best = record {
   row = row;
-  is = ap (λ rs. slice_get rs number) e ∙ ap (slice_get (before ++ row ∷ [])) n ∙ slice_last before row;
+  is = ap (λ rs. slice_get rs number) e ∙ ap (slice_get (before ++ row ∷ [])) n ∙ slice_end before row;
   best = subst (λ x. IsBest s row.asked (record { place = row.place; list = x }) row.outcomes) l best;
 }
-
-pub row_below : (rows : List Best) (i : ℕ) (row : Best) → slice_get rows i ≡ Some row → i < length rows
-row_below [] i row h = absurd (cc)
-row_below (y ∷ ys) zero row h = omega arith
-row_below (y ∷ ys) (suc i) row h = let lt = row_below ys i row h in omega arith
 
 pub tables_none : (s : Setting) (tables : Tables) → tables.ends ≡ [] → tables.rows ≡ [] → AreTables s tables
 tables_none s tables e f = record {

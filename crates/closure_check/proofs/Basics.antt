@@ -6,7 +6,8 @@ use Rattle.std.specs.Option.{option_or}
 use Rattle.std.specs.Map.{lookup}
 use Rattle.std.proofs.lemmas.Bool.{cases_eq, ltb-true, or_cases}
 use Rattle.wiki_base.proofs.BoolLaws.{and_first, and_second}
-use Rattle.logic_terms.specs.Meaning.{some_below, each_below, implies}
+use Rattle.tableau_rules.proofs.Firsts.{where_parts}
+use Rattle.logic_terms.specs.Meaning.{each_below, implies}
 use Rattle.tableau_rules.specs.First.{first_below, where_true}
 use Rattle.tableau_rules.specs.Clashes.{passes}
 
@@ -83,17 +84,6 @@ each_at (suc n) test x h lt = elim (cases_eq x n) [
   | inr ne ↦ each_at n test x (and_second (test n) (each_below n test) h) (omega arith)
 ]
 
-pub some_at : (n : ℕ) (test : ℕ → Bool) → some_below n test ≡ true → (x : ℕ) × (x < n) × (test x ≡ true)
-some_at zero test h = cc
-some_at (suc n) test h = elim (or_cases (test n) (some_below n test) h) [
-  | inl here ↦ (n, omega arith, here)
-  | inr there ↦ (let w = some_at n test there in (w.0, omega (arith, w.1), w.2))
-]
-
-where_some : (b : Bool) (x z : ℕ) → where_true b x ≡ Some z → (b ≡ true) × (x ≡ z)
-where_some true x z h = (refl, cc)
-where_some false x z h = cc
-
 -- the first number that passes a test passes it
 pub first_passes : (n : ℕ) (test : ℕ → Bool) (z : ℕ) → first_below n (λ y. where_true (test y) y) ≡ Some z → test z ≡ true
 first_passes zero test z h = cc
@@ -101,7 +91,7 @@ first_passes (suc n) test z h = go (first_passes n test z) (first_below n (λ y.
   where
     go : (first_below n (λ y. where_true (test y) y) ≡ Some z → test z ≡ true) → (o : Option ℕ) → first_below n (λ y. where_true (test y) y) ≡ o
         → option_or o (where_true (test n) n) ≡ Some z → test z ≡ true
-    go before None e k = (let w = where_some (test n) n z k in ap test (sym w.1) ∙ w.0)
+    go before None e k = (let w = where_parts (test n) n z k in ap test (sym w.1) ∙ w.0)
     go before (Some y) e k = before (e ∙ k)
 
 pub where_holds : {X : Type 0} (b : Bool) (x z : X) → where_true b x ≡ Some z → b ≡ true

@@ -22,7 +22,7 @@ use Rattle.tableau_rules.specs.Clashes.{passes, are_joined, value_clashes, is_cl
 use Rattle.closure_check.proofs.Basics.{not_both, passes_some, any_with_all, lookup_entry}
 use Rattle.closure_check.proofs.Fitting.{Fits, class_fits, makes_pair, pairs_up}
 
-word_in : (i : Interpretation) (c : Concept) (word : WordId) (a : ℕ) → word_part c ≡ Some word → is_in i c a ≡ true → has_element i word a ≡ true
+pub word_in : (i : Interpretation) (c : Concept) (word : WordId) (a : ℕ) → word_part c ≡ Some word → is_in i c a ≡ true → has_element i word a ≡ true
 word_in i (Atomic w) word a e h = let same : w ≡ word = cc in ap (λ v. has_element i v a) (sym same) ∙ h
 word_in i _ word a e h = cc
 

@@ -1,25 +1,26 @@
 -- When an interpretation fits a branch, and how it fits what a branch grows into.
-use Rattle.std.proofs.Common.{◌≡◌, ◌≢◌, ℕ, suc, ◌+◌, ◌<◌, ◌≤◌, ◌==◌, ◌&&◌, Bool, true, false, List, [], ◌∷◌, ◌++◌, length, Option, Some, None, slice_get, subst, refl, sym, ap, ◌∙◌, inl, inr, arith}
+use Rattle.std.proofs.Common.{◌≡◌, ◌≢◌, ℕ, ◌+◌, ◌<◌, ◌≤◌, ◌==◌, ◌&&◌, Bool, true, false, List, [], ◌∷◌, ◌++◌, length, Option, Some, None, slice_get, subst, refl, sym, ap, ◌∙◌, inl, inr, arith}
 use Rattle.std.specs.Prelude.{not, nat_lt, slice_set, if◌then◌else◌}
 use Rattle.std.specs.List.{list_any, list_all}
-use Rattle.std.specs.Option.{option_map_or, option_and_then, option_map}
+use Rattle.std.specs.Option.{option_map_or}
 use Rattle.std.proofs.lemmas.Bool.{cases_eq, eqb-true, ltb-true, lt-ltb, eq-eqb, ne_eqb, and_from, or_cases}
 use Rattle.std.proofs.lemmas.List.{length-set, length_push}
 use Rattle.std.proofs.lemmas.Option.{slice_get_within}
 use Rattle.wiki_base.specs.declared.numbers.WordId.{WordId}
 use Rattle.wiki_base.proofs.BoolLaws.{and_first, and_second}
 use Rattle.wiki_base.proofs.ListLaws.{all_slice_get, all_append, all_weaken}
+use Rattle.tableau_rules.proofs.Roots.{node_within}
 use Rattle.logic_terms.specs.declared.expressions.Role.{Role}
 use Rattle.logic_terms.specs.Concept.{Concept}
-use Rattle.logic_terms.specs.Interpretation.{Interpretation, element_of, relates, has_pair, is_word}
+use Rattle.logic_terms.specs.Interpretation.{Interpretation, element_of, relates, has_pair}
 use Rattle.logic_terms.specs.Meaning.{is_in, each_below, implies, holds}
 use Rattle.logic_terms.specs.Concept.{SubPropertyOf}
 use Rattle.logic_terms.specs.Same.{same_role, same_concept, has_concept, inverse}
-use Rattle.logic_terms.specs.Theory.{Theory, is_below, representative}
+use Rattle.logic_terms.specs.Theory.{Theory, is_below}
 use Rattle.logic_terms.proofs.SameLemmas.{role_equal, same_concept-equal}
 use Rattle.tableau_rules.specs.declared.branch.Edge.{Edge}
 use Rattle.tableau_rules.specs.Graph.{Graph, Vertex, label_at, class_at}
-use Rattle.tableau_rules.specs.Neighbours.{roots, place_in, node_of, makes_neighbour, is_neighbour}
+use Rattle.tableau_rules.specs.Neighbours.{roots, node_of, makes_neighbour, is_neighbour}
 use Rattle.tableau_rules.specs.Rules.{with_class, with_classes, adding, with_edge, with_node}
 use Rattle.closure_check.proofs.Basics.{implied, any_with_all, each_at, set_cases, push_cases}
 
@@ -175,24 +176,6 @@ module _ (i : Interpretation) (k : Theory) (f : ℕ → ℕ) (elements : (x : �
   neighbours_pair g edges role x y near =
       let w = any_with_all (makes_neighbour k role x y) (pairs_up i f) g.edges near edges in
       makes_pair role x y w.0 w.1 w.2
-
--- a place is within the list, and has the word
-pub place_within : (ws : List WordId) (w : WordId) (x : ℕ) → place_in ws w ≡ Some x → x < length ws
-place_within [] w x h = cc
-place_within (v ∷ vs) w x h = go (λ m. place_within vs w m) (is_word w v) (place_in vs w) refl h
-  where
-    go : ((m : ℕ) → place_in vs w ≡ Some m → m < length vs) → (b : Bool) (o : Option ℕ) → place_in vs w ≡ o → (if b then Some 0 else option_map suc o) ≡ Some x
-        → x < suc (length vs)
-    go further true o e k = (let z : 0 ≡ x = cc in omega arith)
-    go further false None e k = cc
-    go further false (Some m) e k = (let z : suc m ≡ x = cc in let lt : m < length vs = further m e in omega arith)
-
-pub node_within : (k : Theory) (name : WordId) (x : ℕ) → node_of k name ≡ Some x → x < length (roots k)
-node_within k name x h = go (representative k name) h
-  where
-    go : (o : Option WordId) → option_and_then (place_in (roots k)) o ≡ Some x → x < length (roots k)
-    go None e = cc
-    go (Some r) e = place_within (roots k) r x e
 
 -- one more edge
 pub with_edge_fits : (i : Interpretation) (k : Theory) (g : Graph) (f : ℕ → ℕ) → Fits i k g f → (e : Edge) → pairs_up i f e ≡ true → e.from < length g.nodes

@@ -12,6 +12,7 @@ use Rattle.logic_terms.specs.Interpretation.{Interpretation, is_interpretation, 
 use Rattle.std.specs.Map.{lookup}
 use Rattle.wiki_base.proofs.BoolLaws.{and_first, and_second}
 use Rattle.wiki_base.proofs.ListLaws.{all_append}
+use Rattle.tableau_rules.proofs.Roots.{node_within, place_get}
 use Rattle.logic_terms.specs.Meaning.{is_in, holds}
 use Rattle.logic_terms.specs.Theory.{Theory, representative}
 use Rattle.logic_terms.proofs.SameLemmas.{word_equal}
@@ -21,23 +22,13 @@ use Rattle.tableau_rules.specs.Clashes.{passes}
 use Rattle.tableau_rules.specs.Rules.{with_classes}
 use Rattle.tableau_rules.specs.Branches.{asserted, first_node, first_nodes, first_edge, start}
 use Rattle.closure_check.proofs.Basics.{passes_some}
-use Rattle.closure_check.proofs.Fitting.{Fits, pairs_up, within, with_classes_all, node_within}
+use Rattle.closure_check.proofs.Fitting.{Fits, pairs_up, within, with_classes_all}
 use Rattle.closure_check.proofs.StepFits.{general_in}
 use Rattle.closure_check.proofs.ClashFits.{named_alike}
 
 -- the elements of the first nodes: those of the names
 abbrev pub first_elements : Interpretation → Theory → ℕ → ℕ
 first_elements i k x = option_map_or (element_of i) (slice_get (roots k) x) 0
-
-place_get : (ws : List WordId) (w : WordId) (x : ℕ) → place_in ws w ≡ Some x → slice_get ws x ≡ Some w
-place_get [] w x h = cc
-place_get (v ∷ vs) w x h = go (λ m. place_get vs w m) (is_word w v) refl (place_in vs w) refl h
-  where
-    go : ((m : ℕ) → place_in vs w ≡ Some m → slice_get vs m ≡ Some w) → (b : Bool) → is_word w v ≡ b → (o : Option ℕ) → place_in vs w ≡ o
-        → (if b then Some 0 else option_map suc o) ≡ Some x → slice_get (v ∷ vs) x ≡ Some w
-    go further true is o e k = (let z : 0 ≡ x = cc in subst (λ n. slice_get (v ∷ vs) n ≡ Some w) z (ap Some (sym (word_equal w v is))))
-    go further false is None e k = cc
-    go further false is (Some m) e k = (let z : suc m ≡ x = cc in subst (λ n. slice_get (v ∷ vs) n ≡ Some w) z (further m e))
 
 small : (n : ℕ) (es : List (WordId × ℕ)) (test : WordId → Bool) → 0 < n → list_all (λ e. nat_lt e.1 n) es ≡ true → unwrap_or (lookup test es) 0 < n
 small n [] test lt h = lt

@@ -6,6 +6,9 @@ use Rattle.std.specs.Option.{option_map_or, option_and_then, option_or, option_t
 use Rattle.std.proofs.lemmas.Bool.{eqb-true, and_from, cases_Bool}
 use Rattle.wiki_base.specs.declared.numbers.WordId.{WordId}
 use Rattle.wiki_base.proofs.BoolLaws.{and_first, and_second}
+use Rattle.closure_check.proofs.ClashFits.{word_in}
+use Rattle.tableau_rules.proofs.Reaching.{some_below_found}
+use Rattle.tableau_rules.proofs.Roots.{node_within}
 use Rattle.logic_terms.specs.declared.expressions.Role.{Role}
 use Rattle.logic_terms.specs.Concept.{Concept, Concepts, Everything, Atomic, IntersectionOf, UnionOf, SomeValuesFrom, AllValuesFrom, HasValue, no_concept, also_concept, SubClassOf, SubPropertyOf}
 use Rattle.logic_terms.specs.Interpretation.{Interpretation, element_of, has_element, relates, is_word}
@@ -24,8 +27,8 @@ use Rattle.tableau_rules.specs.Graph.{Graph, label_at, class_at}
 use Rattle.tableau_rules.specs.Neighbours.{node_of, is_neighbour}
 use Rattle.tableau_rules.specs.Blocking.{is_indirectly_blocked}
 use Rattle.tableau_rules.specs.Rules.{lacks_all, unfoldings_of, open_members, unit_member, needs, row, site, applies, with_classes, adding, with_edge, with_node, choices_for, choices, effect, after}
-use Rattle.closure_check.proofs.Basics.{implied, not_both, any_at, any_kept, only_one, each_at, some_at, first_passes, where_holds}
-use Rattle.closure_check.proofs.Fitting.{Fits, class_fits, class_within, has_fits, with_classes_all, adding_fits, neighbours_pair, node_within, with_edge_fits, and_at, with_node_fits}
+use Rattle.closure_check.proofs.Basics.{implied, not_both, any_at, any_kept, only_one, each_at, first_passes, where_holds}
+use Rattle.closure_check.proofs.Fitting.{Fits, class_fits, class_within, has_fits, with_classes_all, adding_fits, neighbours_pair, with_edge_fits, and_at, with_node_fits}
 
 each_in : (i : Interpretation) (cs : Concepts) (a : ℕ) → is_in_each i cs a ≡ list_all (λ c. is_in i c a) (members_in cs)
 each_in i no_concept a = refl
@@ -49,10 +52,6 @@ union_in i (UnionOf ds) cs a e h =
     ap (list_any (λ d. is_in i d a)) (sym same) ∙ (sym (some_in i ds a) ∙ h)
 union_in i _ cs a e h = cc
 
-word_in : (i : Interpretation) (c : Concept) (word : WordId) (a : ℕ) → word_part c ≡ Some word → is_in i c a ≡ true → has_element i word a ≡ true
-word_in i (Atomic w) word a e h = let same : w ≡ word = cc in ap (λ v. has_element i v a) (sym same) ∙ h
-word_in i _ word a e h = cc
-
 all_in : (i : Interpretation) (c : Concept) (p : Role × Concept) (a b : ℕ) → all_part c ≡ Some p → is_in i c a ≡ true → b < i.size → relates i p.0 a b ≡ true
     → is_in i p.1 b ≡ true
 all_in i (AllValuesFrom r d) p a b e h lt pair =
@@ -72,7 +71,7 @@ some_values_in : (i : Interpretation) (c : Concept) (p : Role × Concept) (a : �
     → (b : ℕ) × (b < i.size) × (relates i p.0 a b ≡ true) × (is_in i p.1 b ≡ true)
 some_values_in i (SomeValuesFrom r d) p a e h =
     let same : (r, d) ≡ p = cc in
-    let w = some_at i.size (λ y. relates i r a y && is_in i d y) h in (
+    let w = some_below_found (λ y. relates i r a y && is_in i d y) i.size h in (
       w.0,
       w.1,
       subst (λ q. relates i q.0 a w.0 ≡ true) same (and_first (relates i r a w.0) (is_in i d w.0) w.2),

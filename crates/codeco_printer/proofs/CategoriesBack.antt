@@ -37,7 +37,7 @@ names_from g ns = map (name_at (drop 5 g.categories)) (lowered ns)
 names_append : (g : GrammarParts) (xs ys : List ℕ) → names_from g (xs ++ ys) ≡ names_from g xs ++ names_from g ys
 names_append g xs ys = ap (map (name_at (drop 5 g.categories))) (lowered_append xs ys) ∙ map-append (name_at (drop 5 g.categories)) (lowered xs) (lowered ys)
 
-plain_number : (c : Category) → is_written_name c ≡ true → 5 ≤ c.name
+pub plain_number : (c : Category) → is_written_name c ≡ true → 5 ≤ c.name
 plain_number c h = leb-true 5 c.name (and_parts (leb 5 c.name) (is_written c) h).0
 
 one_plain : (g : GrammarParts) (c : Category) (ns : List ℕ) → is_written_name c ≡ true

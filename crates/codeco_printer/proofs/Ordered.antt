@@ -3,6 +3,7 @@ use Rattle.std.proofs.Common.{◌≡◌, ℕ, ◌<◌, ◌≤◌, true, ltb, leb
 use Rattle.std.specs.List.{flat_map}
 use Rattle.std.proofs.lemmas.List.{map-append}
 use Rattle.std.proofs.lemmas.Bool.{and_parts, and_from, cases_Bool, ltb-true, ltb-false, leb-true, lt-ltb, le-ltb, le-leb, cond-true, cond-false}
+use Rattle.codeco_printer.proofs.WriteLaws.{merged_none}
 use Rattle.codeco_terms.specs.declared.values.Term.{Term}
 use Rattle.codeco_terms.specs.declared.values.Term.TheVariants.{Val, Var}
 use Rattle.codeco_terms.specs.GrammarParts.{GrammarParts}
@@ -154,14 +155,10 @@ ascends_tail : (t : ℕ × ℕ) (ts : List (ℕ × ℕ)) → ascends (map (λ x.
 ascends_tail t [] h = refl
 ascends_tail t (u ∷ us) h = (and_parts (leb t.0 u.0) (ascends (u.0 ∷ map (λ x. x.0) us)) h).1
 
-none_merged : (fs : List (ℕ × WrittenTerm)) → merged fs [] ≡ fs
-none_merged [] = refl
-none_merged (f ∷ fs) = ap (λ (x : List (ℕ × WrittenTerm)). f ∷ x) (none_merged fs)
-
 -- the variables of a pattern, in order
 pub pattern_letters : (g : GrammarParts) (fs : List (ℕ × Term)) (ts : List (ℕ × ℕ)) → ascends (map (λ t. t.0) ts) ≡ true
     → names_of (merged (plain_terms g fs) (taken_terms ts)) ≡ map letter (variables_in (with_taken fs ts))
-pattern_letters g fs [] h = ap names_of (none_merged (plain_terms g fs)) ∙ plain_letters g fs
+pattern_letters g fs [] h = ap names_of (merged_none (plain_terms g fs)) ∙ plain_letters g fs
 pattern_letters g fs (t ∷ ts) h = put_letters g t fs ts (rises_tail t ts h) ∙ pattern_letters g (put_feature (t.0, Var t.1) fs) ts (ascends_tail t ts h)
 
 pub below_from : (n : ℕ) (ts : List (ℕ × WrittenTerm)) → below n ts ++ from n ts ≡ ts

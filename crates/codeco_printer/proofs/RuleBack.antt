@@ -27,8 +27,9 @@ use Rattle.codeco_printer.specs.Unnumbered.{name_at, feature_name, letter, writt
 use Rattle.codeco_numbering.specs.Labels.{label_name}
 use Rattle.codeco_numbering.specs.Numbered.{number_of, in_order, ordered, category_names, Tables, numbered_term, plain_feats, taken_feats, numbered_category, numbered_preterminal, numbered_pattern, numbered_element, element_names, gathered, variable_names, numbered_label, numbered_rule}
 use Rattle.wiki_base.proofs.ListLaws.{all_split, all_flat, all_weaken}
+use Rattle.codeco_printer.proofs.CategoriesBack.{plain_number}
 use Rattle.codeco_numbering.proofs.Sound.Mentions.{with_taken_all}
-use Rattle.codeco_printer.proofs.WrittenSound.{below_all, from_all, merged_all}
+use Rattle.codeco_printer.proofs.WrittenSound.{below_all, from_all, merged_all, term_unmarked}
 use Rattle.codeco_printer.proofs.SoundNumbers.{term_fine, feat_fine, category_fine, names_below, feats_below, terminals_below, few_variables, is_fine, positions_fine, mentions_fine}
 use Rattle.codeco_printer.proofs.Tables.{number_at, sixteen, variable_number, gathered_letters}
 use Rattle.codeco_printer.proofs.Ordered.{in_order_rises, rises_merged, plain_rises, taken_rises, names_of, plain_letters, pattern_letters, below_from}
@@ -159,10 +160,6 @@ taken_marked : (ts : List (ℕ × ℕ)) → list_all marked (taken_terms ts) ≡
 taken_marked [] = refl
 taken_marked (t ∷ ts) = taken_marked ts
 
-term_unmarked : (g : GrammarParts) (t : Term) → not (is_marked (written_term g t)) ≡ true
-term_unmarked g (Val v) = refl
-term_unmarked g (Var x) = refl
-
 plain_unmarked : (g : GrammarParts) (fs : List (ℕ × Term)) → list_all unmarked (plain_terms g fs) ≡ true
 plain_unmarked g [] = refl
 plain_unmarked g (f ∷ fs) = and_from (not (is_marked (written_term g f.1))) (list_all unmarked (plain_terms g fs)) (term_unmarked g f.1) (plain_unmarked g fs)
@@ -198,9 +195,6 @@ kind_back g n d low =
 name_ascends : (c : Category) → is_written_name c ≡ true → ascends (map (λ f. f.0) c.feats) ≡ true
 name_ascends c h = (and_parts (ascends (map (λ f. f.0) c.feats)) (list_all (λ f. is_written_term f.1) c.feats) (and_parts (leb 5 c.name) (is_written c) h).1).0
 
-name_plain : (c : Category) → is_written_name c ≡ true → 5 ≤ c.name
-name_plain c h = leb-true 5 c.name (and_parts (leb 5 c.name) (is_written c) h).0
-
 feats_back : (g : GrammarParts) (k : ℕ) (c : Category) → Differs g → k ≤ 16 → list_all (feat_fine g k) c.feats ≡ true → ascends (map (λ f. f.0) c.feats) ≡ true
     → plain_feats (tables g k) (ordered (feature_names g) (written_category g c)) ≡ c.feats
 feats_back g k c d most h a = ap (plain_feats (tables g k)) (category_ordered g k c d h a) ∙ plain_back g k c.feats d most h
@@ -209,7 +203,7 @@ category_back : (g : GrammarParts) (k : ℕ) (c : Category) → Differs g → k 
     → numbered_category (tables g k) (written_category g c) ≡ c
 category_back g k c d most h w =
     let parts = and_parts (ltb c.name (length g.categories)) (list_all (feat_fine g k) c.feats) h in
-    let name = name_back g c.name d (name_plain c w) (ltb-true c.name (length g.categories) parts.0) in
+    let name = name_back g c.name d (plain_number c w) (ltb-true c.name (length g.categories) parts.0) in
     let made : ℕ → List (ℕ × Term) → Category = λ n fs. record { name = n; feats = fs } in
     ap (λ (n : ℕ). made n (plain_feats (tables g k) (ordered (feature_names g) (written_category g c)))) name
     ∙ ap (made c.name) (feats_back g k c d most parts.1 (name_ascends c w))
@@ -237,7 +231,7 @@ pattern_back g k p d most h w =
     let ws = and_parts (is_written_name p.cat) (ascends (map (λ t. t.0) p.taken)) w in
     let order = pattern_ordered g k p d fine.0 fine.1 (name_ascends p.cat ws.0) ws.1 in
     let all = merged (plain_terms g p.cat.feats) (taken_terms p.taken) in
-    let name = name_back g p.cat.name d (name_plain p.cat ws.0) (ltb-true p.cat.name (length g.categories) parts.0) in
+    let name = name_back g p.cat.name d (plain_number p.cat ws.0) (ltb-true p.cat.name (length g.categories) parts.0) in
     let feats : plain_feats (tables g k) (ordered (feature_names g) (written_pattern g p)) ≡ p.cat.feats =
     ap (plain_feats (tables g k)) order ∙ plain_merged (tables g k) (plain_terms g p.cat.feats) (taken_terms p.taken) (taken_marked p.taken)
     ∙ plain_back g k p.cat.feats d most fine.0 in

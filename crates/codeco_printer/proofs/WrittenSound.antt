@@ -198,14 +198,14 @@ written_spelled g s =
 
 -- Marks, and patterns that references must have
 
-term_plain : (g : GrammarParts) (t : Term) → not (is_marked (written_term g t)) ≡ true
-term_plain g (Val v) = refl
-term_plain g (Var x) = refl
+pub term_unmarked : (g : GrammarParts) (t : Term) → not (is_marked (written_term g t)) ≡ true
+term_unmarked g (Val v) = refl
+term_unmarked g (Var x) = refl
 
 plain_fits : (g : GrammarParts) (feats : List (ℕ × Term)) → list_all (λ f. not (is_marked f.term)) (with_names g (plain_terms g feats)) ≡ true
 plain_fits g [] = refl
 plain_fits g (f ∷ fs) = and_from (not (is_marked (written_term g f.1))) (list_all (λ h. not (is_marked h.term)) (with_names g (plain_terms g fs)))
-    (term_plain g f.1) (plain_fits g fs)
+    (term_unmarked g f.1) (plain_fits g fs)
 
 none_taken : (g : GrammarParts) (feats : List (ℕ × Term)) (taken : List (ℕ × ℕ)) → is_empty taken ≡ true
     → list_all (λ f. not (is_marked f.term)) (with_names g (merged (plain_terms g feats) (taken_terms taken))) ≡ true

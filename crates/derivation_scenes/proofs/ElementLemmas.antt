@@ -7,7 +7,7 @@ use Rattle.derivation_trees.specs.Settings.{Setting}
 use Rattle.derivation_trees.specs.Derives.{Stand, pass}
 use Rattle.derivation_scenes.specs.TokenElements.{is_token}
 
-true_is_false : {X : Type 0} → true ≡ false → X
+pub true_is_false : {X : Type 0} → true ≡ false → X
 true_is_false w = cc
 
 pub pass_without_tokens : (s bare : Setting) (values : List (ℕ × Value)) (e : Element) (stand : Stand)

@@ -9,3 +9,4 @@ pub mod PieceLemmas
 pub mod WordLemmas
 pub mod CodeLemmas
 pub mod SketchLemmas
+pub mod ValueLemmas

@@ -35,10 +35,6 @@ or_turn true false c = refl
 or_turn false true c = refl
 or_turn false false c = refl
 
-and_assoc : (a b c : Bool) → (a && (b && c)) ≡ ((a && b) && c)
-and_assoc true b c = refl
-and_assoc false b c = refl
-
 and_turn : (a b c : Bool) → ((a && b) && c) ≡ (b && (a && c))
 and_turn true true c = refl
 and_turn true false c = refl

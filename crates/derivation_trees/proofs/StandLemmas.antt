@@ -2,8 +2,9 @@
 use Rattle.std.proofs.Common.{◌≡◌, ℕ, ◌+◌, ◌<◌, ◌≤◌, List, [], ◌∷◌, ◌++◌, Bool, true, false, ◌&&◌, map, length, take, drop, get_or, Option, Some, None, refl, sym, ap, ◌∙◌, subst, arith, append_assoc, nat_le, suc, zero, add-one}
 use Rattle.std.proofs.lemmas.Bool.Decides.{nat_tests}
 use Rattle.std.specs.Prelude.{if◌then◌else◌, option_and_then, slice_get, unwrap_or}
-use Rattle.std.proofs.lemmas.List.{append-nil, take_at, drop_more, drop_all}
+use Rattle.std.proofs.lemmas.List.{append-nil, take_at, drop_all}
 use Rattle.std.specs.List.{list_any}
+use Rattle.wiki_base.proofs.ListLaws.{drop_get_or}
 use Rattle.codeco_terms.specs.declared.values.Value.{Value}
 use Rattle.codeco_terms.specs.declared.values.Value.TheVariants.{Pos}
 use Rattle.codeco_terms.specs.declared.categories.Category.{Category}
@@ -164,19 +165,16 @@ step_some s values e c ns n used at after found own asked is name child leads =
     (sym (next_child s ns n used child))
     ∙ ap (λ x. pass s values x (record { at = at; found = found; own = own; children = drop used (map (phrase_of s) ns) })) (sym is)
 
-body_at : (body : List Element) (i : ℕ) (e : Element) → i < length body → e ≡ get_or body i e → drop i body ≡ e ∷ drop (i + 1) body
-body_at body i e lt is = drop_more body i e lt ∙ ap (λ x. x ∷ drop (i + 1) body) (sym is)
-
 -- one element of a run
 pub run_more : (s : Setting) (values : List (ℕ × Value)) (body : List Element) (i : ℕ) (e : Element) (stand after : Stand) (r : Option Stand) → i < length body
     → e ≡ get_or body i e → Some after ≡ pass s values e stand → run s values (drop i body) stand ≡ r → run s values (drop (i + 1) body) after ≡ r
 run_more s values body i e stand after r lt is step rest =
-    ap (option_and_then (run s values (drop (i + 1) body))) step ∙ ap (λ es. run s values es stand) (sym (body_at body i e lt is)) ∙ rest
+    ap (option_and_then (run s values (drop (i + 1) body))) step ∙ ap (λ es. run s values es stand) (sym (drop_get_or body i e lt is)) ∙ rest
 
 pub run_none : (s : Setting) (values : List (ℕ × Value)) (body : List Element) (i : ℕ) (e : Element) (stand : Stand) (r : Option Stand) → i < length body
     → e ≡ get_or body i e → None ≡ pass s values e stand → run s values (drop i body) stand ≡ r → None ≡ r
 run_none s values body i e stand r lt is step rest =
-    ap (option_and_then (run s values (drop (i + 1) body))) step ∙ ap (λ es. run s values es stand) (sym (body_at body i e lt is)) ∙ rest
+    ap (option_and_then (run s values (drop (i + 1) body))) step ∙ ap (λ es. run s values es stand) (sym (drop_get_or body i e lt is)) ∙ rest
 
 pub run_end : (s : Setting) (values : List (ℕ × Value)) (body : List Element) (i : ℕ) (stand : Stand) (r : Option Stand) → length body ≤ i
     → run s values (drop i body) stand ≡ r → Some stand ≡ r

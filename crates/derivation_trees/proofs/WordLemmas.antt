@@ -25,11 +25,11 @@ use Rattle.derivation_trees.proofs.PieceLemmas.{above_zero, Whole, whole_from_pa
 
 -- Terminals
 
-first_fails : (a b c d e f : Bool) → not (((((a || b) || c) || d) || e) || f) ≡ true → not a ≡ true
+pub first_fails : (a b c d e f : Bool) → not (((((a || b) || c) || d) || e) || f) ≡ true → not a ≡ true
 first_fails true b c d e f h = h
 first_fails false b c d e f h = refl
 
-spaceless : (bs : List ℕ) → list_all is_terminal_byte bs ≡ true → has_no_space bs ≡ true
+pub spaceless : (bs : List ℕ) → list_all is_terminal_byte bs ≡ true → has_no_space bs ≡ true
 spaceless [] h = refl
 spaceless (b ∷ bs) h =
     let both = and_parts (is_terminal_byte b) (list_all is_terminal_byte bs) h in
@@ -79,7 +79,7 @@ spelled (x ∷ xs) t all among =
 
 -- Texts of letters
 
-letter-space : is_letter 32 ≡ false
+pub letter-space : is_letter 32 ≡ false
 unfolding is_alphabetic in_ranges alphabetic_ranges
 letter-space = refl
 
@@ -95,11 +95,12 @@ letter-question = refl
 abbrev is_other : ℕ → Bool
 is_other c = c == 32 || is_mark c
 
-out_of_place : (after : Bool) (d : ℕ) (rest : List ℕ) → is_letter d ≡ false → (d == 45) ≡ false → is_in_place after d rest ≡ false
+pub out_of_place : (after : Bool) (d : ℕ) (rest : List ℕ) → is_letter d ≡ false → (d == 45) ≡ false → is_in_place after d rest ≡ false
 out_of_place after d rest unlettered other =
     ap (λ x. x || (d == 45 && (after && begins_with_letter rest))) unlettered ∙ ap (λ x. x && (after && begins_with_letter rest)) other
 
-excluded : (d : ℕ) (after : Bool) (c : ℕ) (rest : List ℕ) (b : Bool) → (c == d) ≡ b → is_letter d ≡ false → (d == 45) ≡ false → is_in_place after c rest ≡ true
+pub excluded : (d : ℕ) (after : Bool) (c : ℕ) (rest : List ℕ) (b : Bool) → (c == d) ≡ b → is_letter d ≡ false → (d == 45) ≡ false
+    → is_in_place after c rest ≡ true
     → (c == d) ≡ false
 excluded d after c rest false is unlettered other h = is
 excluded d after c rest true is unlettered other h =
@@ -112,7 +113,7 @@ letter_fails after c rest h =
     (or_from (c == 46) (c == 63) (excluded 46 after c rest (c == 46) refl letter-stop refl h)
     (excluded 63 after c rest (c == 63) refl letter-question refl h))
 
-placed_step : (after : Bool) (d : ℕ) (ds : List ℕ) (b : Bool) → is_in_place after d ds ≡ b → misplaced after (d ∷ ds) ≡ None
+pub placed_step : (after : Bool) (d : ℕ) (ds : List ℕ) (b : Bool) → is_in_place after d ds ≡ b → misplaced after (d ∷ ds) ≡ None
     → (is_in_place after d ds ≡ true) × (misplaced (is_letter d) ds ≡ None)
 placed_step after d ds true is h = (
   is,
@@ -130,7 +131,7 @@ none_other after (d ∷ ds) h =
     let step = placed_step after d ds (is_in_place after d ds) refl h in
     (letter_fails after d ds step.0, none_other (is_letter d) ds step.1)
 
-no_fault : (b : Bool) (o : Option ℕ) → (if b then Some TooLong else option_map Letter o) ≡ None → o ≡ None
+pub no_fault : (b : Bool) (o : Option ℕ) → (if b then Some TooLong else option_map Letter o) ≡ None → o ≡ None
 no_fault true o h = cc
 no_fault false None h = refl
 no_fault false (Some n) h = cc

@@ -7,6 +7,7 @@ use Rattle.std.proofs.Math.Nat.{mul-le-mul_right}
 use Rattle.std.proofs.lemmas.Option.{same_Some}
 use Rattle.std.proofs.lemmas.Bool.{eqb-true}
 use Rattle.wiki_base.proofs.BoolLaws.{and_first}
+use Rattle.derivation_scenes.proofs.ElementLemmas.{true_is_false}
 use Rattle.codeco_terms.specs.declared.values.Value.{Value}
 use Rattle.codeco_terms.specs.declared.categories.Category.{Category}
 use Rattle.codeco_terms.specs.declared.elements.Element.{Element}
@@ -20,7 +21,6 @@ use Rattle.derivation_trees.specs.Instances.{under, own_values}
 use Rattle.derivation_trees.specs.Derives.{At, Stand, fits, phrase_of, phrases_of, rule_with, text_category}
 use Rattle.derivation_trees.specs.Partial.{CutNode, stopped, entered, front, sub_of, next_category, cut_end, IsPartialDerivation}
 use Rattle.derivations.specs.Beginnings.{depth_of, has_partial}
-use Rattle.derivations.proofs.Members.{true_is_false}
 use Rattle.derivations.proofs.ListingLemmas.{Within, AllWithin, node_list, phrases_of-list}
 use Rattle.derivations.proofs.DepthLemmas.{Ordered, Ran, run_moves, rule_contained, nodes_consume, node_consumes, weight, weight_is, weight_more, without, IsHead, Free, asked_free, free_on, shorter_with, heads, all_free, walk, each_within, deep}
 use Rattle.derivations.proofs.CutLemmas.{FrontParts, front_parts, CutWithin, cut_sound, cut_complete}

@@ -2,7 +2,7 @@
 use Rattle.std.proofs.Common.{◌≡◌, ℕ, zero, suc, ◌+◌, ◌-◌, ◌*◌, ◌<◌, ◌≤◌, List, [], ◌∷◌, ◌++◌, length, take, Bool, true, false, ◌&&◌, ◌||◌, ◌⊎◌, inl, inr, Option, Some, None, refl, sym, ap, subst, ◌∙◌}
 use Rattle.std.specs.Prelude.{if◌then◌else◌, ◌==◌, option_and_then, option_map, slice_get}
 use Rattle.std.specs.List.{flat_map, list_any}
-use Rattle.std.proofs.lemmas.Bool.{or_left, or_right, eq-eqb, or_cases, eqb-true}
+use Rattle.std.proofs.lemmas.Bool.{or_left, or_right, eq-eqb, or_cases, eqb-true, and_from}
 use Rattle.std.proofs.lemmas.Option.{same_Some}
 use Rattle.wiki_base.proofs.BoolLaws.{and_first, and_second}
 use Rattle.codeco_terms.specs.declared.values.Value.{Value}
@@ -22,7 +22,7 @@ use Rattle.derivations.specs.Beginnings.{is_at_end, enters, goes_from, instance_
 use Rattle.derivations.proofs.Members.{Among}
 use Rattle.derivations.proofs.ChoiceLemmas.{instance_has}
 use Rattle.derivations.proofs.StepLemmas.{stand_of, Goes, Knows, all_goes}
-use Rattle.derivations.proofs.ListingLemmas.{node_list, phrases_of-list, AllWithin, within_among, tree_has, both_true}
+use Rattle.derivations.proofs.ListingLemmas.{node_list, phrases_of-list, AllWithin, within_among, tree_has}
 use Rattle.derivations.proofs.SoundLemmas.{Led, Sound, leads_nowhere, led_on, whole_run, rule_numbered, trees_sound}
 
 -- tests of lists
@@ -169,7 +169,7 @@ instance_cut_sound s trees cuts wanted at number rule values sound cut_sound the
                   ∙ ap (option_and_then (λ c. cut_end s child.0 (under values c) on.next.at)) category ∙ child.1,
             )
 
-among_place : (rules : List Rule) (r : Rule) → Among rules r → (k : ℕ) × (slice_get rules k ≡ Some r)
+pub among_place : (rules : List Rule) (r : Rule) → Among rules r → (k : ℕ) × (slice_get rules k ≡ Some r)
 among_place [] r h = absurd h
 among_place (x ∷ xs) r (inl e) = (0, ap Some (sym e))
 among_place (x ∷ xs) r (inr h) = let one = among_place xs r h in (suc one.0, one.1)
@@ -308,9 +308,9 @@ cut_has s depth wanted at number rule values there begins goes =
     let place : (k : ℕ) × (slice_get s.grammar.rules k ≡ Some rule) = number_rule s.grammar number rule there in
     let any : list_any (instance_cut s (trees_of s depth) (cut_of s depth) wanted at rule) (instances s rule wanted) ≡ true =
     passes_any (instance_cut s (trees_of s depth) (cut_of s depth) wanted at rule) (instances s rule wanted) values
-    (instance_has s rule wanted values instance fit) (both_true begins goes) in
+    (instance_has s rule wanted values instance fit) (and_from _ _ begins goes) in
     passes_any (rule_cut s (trees_of s depth) (cut_of s depth) wanted at) s.grammar.rules rule (got_among s.grammar.rules place.0 rule place.1)
-    (both_true named any)
+    (and_from _ _ named any)
 
 knows_all : (s : Setting) (depth : ℕ) (children : Nodes) → AllWithin depth children → Knows s (trees_of s depth) (node_list children)
 knows_all s depth children within n asked start after m e = tree_has s depth n asked start after (within_among depth children n within m) e

@@ -8,6 +8,7 @@ use Rattle.std.proofs.Math.Nat.{suc-mul, mul-le-mul_right}
 use Rattle.std.proofs.lemmas.Bool.{eq-eqb, or_cases, eqb-true}
 use Rattle.std.proofs.lemmas.Option.{same_Some}
 use Rattle.wiki_base.proofs.BoolLaws.{and_first}
+use Rattle.derivation_scenes.proofs.ElementLemmas.{true_is_false}
 use Rattle.codeco_terms.specs.declared.values.Value.{Value}
 use Rattle.codeco_terms.specs.declared.values.Value.TheVariants.{Pos}
 use Rattle.codeco_terms.specs.declared.categories.Category.{Category}
@@ -27,7 +28,7 @@ use Rattle.derivation_trees.specs.Settings.{Setting, matches_terminal, matches_p
 use Rattle.derivation_trees.specs.Instances.{value_under, under, tests_under, own_values}
 use Rattle.derivation_trees.specs.Stands.{is_sub}
 use Rattle.derivation_trees.specs.Derives.{At, Stand, Phrase, pass, pass_token, pass_child, pass_finding, run, phrase, phrase_of, phrases_of, rule_with, is_none_left, is_found, reference_tests}
-use Rattle.derivations.proofs.Members.{Among, true_is_false}
+use Rattle.derivations.proofs.Members.{Among}
 use Rattle.derivations.proofs.ListingLemmas.{Within, AllWithin, node_list, phrases_of-list, Parts, phrase_parts}
 use Rattle.derivations.proofs.GrowLemmas.{Each}
 

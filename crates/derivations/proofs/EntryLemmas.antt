@@ -21,7 +21,7 @@ use Rattle.derivations.proofs.Members.{Among}
 less_equal : {X : Type 0} → Less ≡ Equal → X
 less_equal w = cc
 
-less_greater : {X : Type 0} → Less ≡ Greater → X
+pub less_greater : {X : Type 0} → Less ≡ Greater → X
 less_greater w = cc
 
 equal_greater : {X : Type 0} → Equal ≡ Greater → X

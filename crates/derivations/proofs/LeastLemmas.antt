@@ -7,6 +7,7 @@ use Rattle.std.specs.declared.cmp.Ordering.TheVariants.{Less, Equal, Greater}
 use Rattle.std.specs.Ordering.{nat_cmp, ordering_reverse}
 use Rattle.std.specs.Cmp.Lexicographic.{slice_cmp, nat_list_cmp_total}
 use Rattle.std.proofs.lemmas.Option.{same_Some}
+use Rattle.derivations.proofs.EntryLemmas.{less_greater}
 use Rattle.derivation_trees.specs.declared.skeletons.Skeleton.{Skeleton}
 use Rattle.derivation_trees.specs.Trees.{Node, node_of}
 use Rattle.derivation_trees.specs.Settings.{Setting}
@@ -24,12 +25,6 @@ use Rattle.derivations.proofs.DepthLemmas.{Ordered, heads, derivation_within}
 use Rattle.derivations.proofs.SkeletonLemmas.{skeleton_of_is}
 
 -- the order of codes
-
-order : List ℕ → List ℕ → Ordering
-order xs ys = slice_cmp nat_cmp xs ys
-
-less_greater : {X : Type 0} → Less ≡ Greater → X
-less_greater w = cc
 
 pub below_not_itself : (x : Skeleton) → IsBelow x x → ⊥
 below_not_itself x h =

@@ -3,6 +3,7 @@ use Rattle.std.proofs.Common.{◌≡◌, ℕ, zero, suc, ◌+◌, ◌-◌, ◌<�
 use Rattle.std.specs.Prelude.{if◌then◌else◌, ◌==◌, option_and_then, slice_get, unwrap_or}
 use Rattle.std.specs.List.{flat_map}
 use Rattle.std.proofs.lemmas.Option.{same_Some}
+use Rattle.std.proofs.lemmas.Bool.{and_from}
 use Rattle.wiki_base.proofs.BoolLaws.{and_first, and_second}
 use Rattle.codeco_terms.specs.declared.values.Value.{Value}
 use Rattle.codeco_terms.specs.declared.rules.Rule.{Rule}
@@ -98,9 +99,6 @@ pub none_mapped : {X Y : Type 0} (f : X → Y) (xs : List X) → is_none_left (m
 none_mapped f [] h = refl
 none_mapped f (x ∷ xs) h = cc
 
-pub both_true : {a b : Bool} → a ≡ true → b ≡ true → (a && b) ≡ true
-both_true {a} {b} h k = ap (λ x. x && b) h ∙ k
-
 -- a tree with an instance is listed
 instance_tree_has : (s : Setting) (trees : Test → At → List Outcome) (wanted : Test) (at after : At) (number : ℕ) (rule : Rule) (values : List (ℕ × Value))
     (found : List ℕ) (children : Nodes) → Knows s trees (node_list children) → phrase s rule values found (phrases_of s children) wanted at ≡ Some after
@@ -136,14 +134,14 @@ instance_tree_has s trees wanted at after number rule values found children know
     (among_map (ended_path number rule values at.list) (all_steps s trees values rule.body (start ∷ [])) goes.next goes.among) in
     let of_instance : Among (instance_trees s trees wanted at number rule values) (record { tree = node number values found children; at = after }) =
     subst (λ b. Among (if b then map (ended_path number rule values at.list) (all_steps s trees values rule.body (start ∷ [])) else [])
-    (record { tree = node number values found children; at = after })) (sym (both_true parts.fit parts.instance)) listed in
+    (record { tree = node number values found children; at = after })) (sym (and_from _ _ parts.fit parts.instance)) listed in
     let all : Among (flat_map (instance_trees s trees wanted at number rule) (instances s rule wanted))
     (record { tree = node number values found children; at = after }) =
     among_flat_map (instance_trees s trees wanted at number rule) (instances s rule wanted) values
     (record { tree = node number values found children; at = after }) (instance_has s rule wanted values parts.instance parts.fit) of_instance in
     subst (λ b. Among (if b then flat_map (instance_trees s trees wanted at number rule) (instances s rule wanted) else [])
     (record { tree = node number values found children; at = after }))
-    (sym (both_true (and_first (rule.head.name == wanted.name) _ parts.fit)
+    (sym (and_from _ _ (and_first (rule.head.name == wanted.name) _ parts.fit)
     (run_starts s values rule.body (record { at = at; found = found; own = own_values rule values; children = phrases_of s children }) parts.stand
     parts.ran))) all
 

@@ -12,6 +12,7 @@ use Rattle.derivation_trees.proofs.StandLemmas.{Begins-same}
 use Rattle.derivations.proofs.GrowLemmas.{Each, PathBegins, all_grow, trees_grow}
 use Rattle.std.specs.List.{flat_map, list_any, range_with_len}
 use Rattle.std.proofs.lemmas.Bool.{or_right}
+use Rattle.std.proofs.lemmas.Option.{slice_get-get_or}
 use Rattle.wiki_base.proofs.ListLaws.{drop_get_or}
 use Rattle.codeco_terms.specs.declared.elements.Element.{Element}
 use Rattle.scopes.specs.declared.entries.Entry.{Entry}
@@ -50,18 +51,13 @@ own_next s done number f fs = append_assoc done ((number, enumeration.feature_va
 
 -- the rules of a limited grammar
 
-got_or : (rules : List Rule) (k : ℕ) (d : Rule) → k < length rules → slice_get rules k ≡ Some (get_or rules k d)
-got_or [] k d lt = absurd (omega (arith, lt))
-got_or (r ∷ rs) zero d lt = refl
-got_or (r ∷ rs) (suc k) d lt = got_or rs k d (omega (arith, lt))
-
 not_zero : (k : ℕ) → (k + 1 == 0) ≡ false
 not_zero k = grind (arith, nat_tests)
 
 rule_got : (g : GrammarParts) (k : ℕ) (d : Rule) → k < length g.rules → rule_with g (k + 1) ≡ Some (get_or g.rules k d)
 rule_got g k d lt =
     let less : (k + 1) - 1 ≡ k = omega arith in
-    ap (λ b. if b then None else slice_get g.rules ((k + 1) - 1)) (not_zero k) ∙ ap (slice_get g.rules) less ∙ got_or g.rules k d lt
+    ap (λ b. if b then None else slice_get g.rules ((k + 1) - 1)) (not_zero k) ∙ ap (slice_get g.rules) less ∙ slice_get-get_or g.rules k d lt
 
 pub all_limited : (g : GrammarParts) → IsLimited g → All (λ rule. All (IsWithin g) rule.body) g.rules
 all_limited g limited k d lt = limited (k + 1) (get_or g.rules k d) (rule_got g k d lt)

@@ -1,6 +1,6 @@
 -- Members of lists.
 pub use Rattle.derivations.specs.Among.{Among}
-use Rattle.std.proofs.Common.{◌≡◌, List, [], ◌∷◌, ◌++◌, map, Bool, true, false, ◌&&◌, ◌||◌, ◌⊎◌, inl, inr, ap, subst, ◌∙◌}
+use Rattle.std.proofs.Common.{◌≡◌, List, [], ◌∷◌, ◌++◌, map, Bool, true, ◌&&◌, ◌||◌, ◌⊎◌, inl, inr, ap, subst, ◌∙◌}
 use Rattle.std.specs.List.{flat_map, list_all}
 use Rattle.wiki_base.proofs.BoolLaws.{and_first, and_second}
 
@@ -28,6 +28,3 @@ pub all_among : {X : Type 0} (p : X → Bool) (xs : List X) (x : X) → list_all
 all_among p [] x h k = absurd k
 all_among p (z ∷ zs) x h (inl e) = ap p e ∙ and_first (p z) (list_all p zs) h
 all_among p (z ∷ zs) x h (inr k) = all_among p zs x (and_second (p z) (list_all p zs) h) k
-
-pub true_is_false : {X : Type 0} → true ≡ false → X
-true_is_false w = cc

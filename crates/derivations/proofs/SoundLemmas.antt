@@ -4,6 +4,7 @@ use Rattle.std.specs.Prelude.{if◌then◌else◌, ◌==◌, option_and_then, op
 use Rattle.std.specs.Option.{option_map_or}
 use Rattle.std.specs.List.{flat_map, list_any}
 use Rattle.std.proofs.lemmas.Bool.Decides.{nat_tests}
+use Rattle.derivation_trees.proofs.StandLemmas.{phrases_of-from}
 use Rattle.codeco_terms.specs.declared.values.Value.{Value}
 use Rattle.codeco_terms.specs.declared.values.Value.TheVariants.{Pos}
 use Rattle.codeco_terms.specs.declared.categories.Category.{Category}
@@ -203,10 +204,6 @@ all_led s trees values (e ∷ es) paths next sound h =
 
 -- trees
 
-pub phrases_from : (s : Setting) (ns : List Node) → phrases_of s (nodes_from ns) ≡ map (phrase_of s) ns
-phrases_from s [] = refl
-phrases_from s (n ∷ ns) = ap (λ ps. phrase_of s n ∷ ps) (phrases_from s ns)
-
 -- a path from the start of a node, as a run with just its own found positions and children
 pub whole_run : (s : Setting) (es : List Element) (rule : Rule) (values : List (ℕ × Value)) (at : At) (next : Path)
     → Led s (run s values es) (opened rule values at ∷ []) next
@@ -220,7 +217,7 @@ whole_run s es rule values at next led = by led.among led.leads
     by (inr h) leads = absurd h
     by (inl h) leads =
         let first : Leads s (run s values es) (opened rule values at) next = subst (λ p. Leads s (run s values es) p next) h leads in
-        ap (λ ps. run s values es (record { at = at; found = next.found; own = own_values rule values; children = ps })) (phrases_from s next.children)
+        ap (λ ps. run s values es (record { at = at; found = next.found; own = own_values rule values; children = ps })) (phrases_of-from s next.children)
         ∙ ap (λ fs. run s values es (record { at = at; found = fs; own = own_values rule values; children = map (phrase_of s) next.children }))
         (first.found_is ∙ sym (append-nil first.found))
         ∙ ap (λ ns. run s values es (record { at = at; found = first.found ++ []; own = own_values rule values; children = map (phrase_of s) ns }))

@@ -1,44 +1,24 @@
 -- Elements that are passed could begin at their place.
-use Rattle.std.proofs.Common.{◌≡◌, ℕ, ◌+◌, List, [], ◌∷◌, Bool, true, false, ◌&&◌, ◌||◌, Option, Some, None, ◌⊎◌, inl, inr, refl, sym, ap, ◌∙◌}
-use Rattle.std.specs.Prelude.{if◌then◌else◌, ◌==◌, option_and_then, slice_get}
-use Rattle.std.specs.Option.{option_map_or}
-use Rattle.std.specs.List.{list_any, list_all}
-use Rattle.std.proofs.lemmas.Bool.{or_right, or_cases}
+use Rattle.std.proofs.Common.{◌≡◌, ℕ, ◌+◌, List, [], ◌∷◌, Bool, true, false, ◌&&◌, ◌||◌, Option, Some, None, ◌⊎◌, refl, sym, ap, ◌∙◌}
+use Rattle.std.specs.Prelude.{if◌then◌else◌, ◌==◌, option_and_then}
+use Rattle.std.specs.List.{list_any}
 use Rattle.std.proofs.lemmas.Option.{same_Some}
-use Rattle.wiki_base.proofs.BoolLaws.{and_first}
+use Rattle.derivation_scenes.proofs.KindLemmas.{kind_there}
 use Rattle.codeco_terms.specs.declared.values.Value.{Value}
 use Rattle.codeco_terms.specs.declared.values.Value.TheVariants.{Pos}
-use Rattle.codeco_terms.specs.declared.categories.Ground.{Ground}
 use Rattle.codeco_terms.specs.declared.categories.Pattern.{Pattern}
 use Rattle.codeco_terms.specs.declared.elements.Element.{Element}
 use Rattle.codeco_terms.specs.declared.elements.Element.TheVariants.{Terminal, Preterminal, Sub, Position, Opener, Forward, Strong, Back, NoBack}
 use Rattle.codeco_terms.specs.Values.{same_value}
-use Rattle.scopes.specs.declared.agreement.Test.{Test}
-use Rattle.scopes.specs.Resolution.{Finding, closest_finding, is_agreeing, agrees, has_value}
+use Rattle.scopes.specs.Resolution.{Finding, closest_finding, is_agreeing}
 use Rattle.derivation_trees.specs.Settings.{Setting, matches_terminal, matches_preterminal}
 use Rattle.derivation_trees.specs.Instances.{value_under, under, tests_under}
 use Rattle.derivation_trees.specs.Derives.{Stand, pass, pass_token, pass_finding, run, is_found, reference_tests}
-use Rattle.derivation_scenes.specs.Starts.{has_kind, may_start}
+use Rattle.derivation_scenes.specs.Starts.{may_start}
 
 token_matched : (b : Bool) (stand mid : Stand) → pass_token b stand ≡ Some mid → b ≡ true
 token_matched true stand mid h = refl
 token_matched false stand mid h = cc
-
-some_named : (readings : List Ground) (asked : Test) → list_any (λ reading. agrees reading asked) readings ≡ true
-    → list_any (λ reading. reading.name == asked.name) readings ≡ true
-some_named [] asked h = h
-some_named (r ∷ rs) asked h = elim (or_cases (agrees r asked) (list_any (λ reading. agrees reading asked) rs) h) [
-  | inl k ↦ ap (λ b. b || list_any (λ reading. reading.name == asked.name) rs) (and_first (r.name == asked.name) (list_all (has_value r.vals) asked.values) k)
-  | inr k ↦ or_right (r.name == asked.name) _ (some_named rs asked k)
-]
-
-kind_there : (s : Setting) (asked : Test) (place : ℕ) → matches_preterminal s asked place ≡ true → has_kind s asked.name place ≡ true
-kind_there s asked place h = by (slice_get s.readings place) h
-  where
-    by : (o : Option (List Ground)) → option_map_or (λ readings. list_any (λ reading. agrees reading asked) readings) o false ≡ true
-        → option_map_or (λ readings. list_any (λ reading. reading.name == asked.name) readings) o false ≡ true
-    by None k = cc
-    by (Some readings) k = some_named readings asked k
 
 -- what a special element does to the place
 at_some : (stand one mid : Stand) → one.at.place ≡ stand.at.place → Some one ≡ Some mid → mid.at.place ≡ stand.at.place

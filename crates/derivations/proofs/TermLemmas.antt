@@ -8,6 +8,7 @@ use Rattle.std.proofs.lemmas.Option.{same_Some}
 use Rattle.wiki_base.proofs.ListLaws.{all_append as all_both}
 use Rattle.wiki_base.proofs.BoolLaws.{and_first, and_second}
 use Rattle.wiki_base.proofs.NumberLaws.{eqb_refl}
+use Rattle.derivation_scenes.proofs.ElementLemmas.{true_is_false}
 use Rattle.codeco_terms.specs.declared.values.Value.{Value}
 use Rattle.codeco_terms.specs.declared.values.Term.{Term}
 use Rattle.codeco_terms.specs.declared.values.Term.TheVariants.{Val, Var}
@@ -20,7 +21,7 @@ use Rattle.codeco_checked.specs.Numbering.{has}
 use Rattle.codeco_checked.specs.Occurrences.{whole, mentions, rule_features, rule_variables, element_variables, category_variables, term_variables, positions}
 use Rattle.derivation_trees.proofs.OccurrenceLemmas.{has_append, all_append, with_taken_has, with_taken_all}
 use Rattle.derivations.specs.Enumeration.{taken_terms, pattern_terms, element_terms, rule_terms, is_variable, feature_at, has_feature, fixed_at}
-use Rattle.derivations.proofs.Members.{Among, among_left, among_right, true_is_false}
+use Rattle.derivations.proofs.Members.{Among, among_left, among_right}
 
 -- tests of all features
 

@@ -54,7 +54,7 @@ terminal_among terminals token h =
 among_terminal : (terminals : List (List ℕ)) (token : List ℕ) → Among terminals token → is_terminal terminals token ≡ true
 among_terminal terminals token h = passes_any (bytes_eq token) terminals token h ((bytes_eq-Decides token token).1 refl)
 
-form_of_group : (g : GrammarParts) (lexicon : Listed) (k : Kind) (token : List ℕ) → IsFormIn lexicon.live (group_of k) token
+pub form_of_group : (g : GrammarParts) (lexicon : Listed) (k : Kind) (token : List ℕ) → IsFormIn lexicon.live (group_of k) token
     → IsOfGroup g lexicon (group_of k) token
 form_of_group g lexicon kind.Name token h = h
 form_of_group g lexicon k token h = h

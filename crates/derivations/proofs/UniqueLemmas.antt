@@ -9,6 +9,7 @@ use Rattle.std.specs.declared.cmp.Ordering.TheVariants.{Less, Equal, Greater}
 use Rattle.std.specs.Ordering.{nat_cmp, ordering_reverse, is_eq}
 use Rattle.std.specs.Cmp.Lexicographic.{slice_cmp, nat_list_cmp_total, texts_ties, same_text}
 use Rattle.std.proofs.lemmas.Option.{same_Some}
+use Rattle.derivation_scenes.proofs.ElementLemmas.{true_is_false}
 use Rattle.codeco_terms.specs.declared.values.Value.{Value}
 use Rattle.codeco_terms.specs.declared.values.Value.TheVariants.{Pos}
 use Rattle.codeco_terms.specs.declared.categories.Pattern.{Pattern}
@@ -34,7 +35,6 @@ use Rattle.derivation_trees.specs.Skeletons.{skeleton_of, IsBelow, IsLeast}
 use Rattle.derivation_trees.specs.Sketches.{Sketch, sketch_child, sketch_on, sketch_over, sketched, sketch_from, sketch_of, sketches_of, body_of}
 use Rattle.derivation_trees.proofs.CodeLemmas.{skeleton_code_is}
 use Rattle.derivations.specs.Laws.{CodesTell, IsOnlyLeast}
-use Rattle.derivations.proofs.Members.{true_is_false}
 use Rattle.derivations.proofs.ListingLemmas.{Parts, phrase_parts}
 use Rattle.derivations.proofs.SkeletonLemmas.{skeleton_of_is}
 
@@ -342,7 +342,7 @@ mutual
 formed_derivation : (s : Setting) (tree : Node) → IsDerivation s tree → Formed s.grammar tree
 formed_derivation s tree d = node_formed s tree text_category (record { place = 0; list = [] }) (record { place = length s.tokens; list = d.0 }) d.1
 
-code_is : (s : Setting) (tree : Node) → IsDerivation s tree → skeleton_code (skeleton_of s tree) ≡ node_code tree
+pub code_is : (s : Setting) (tree : Node) → IsDerivation s tree → skeleton_code (skeleton_of s tree) ≡ node_code tree
 code_is s tree d = ap skeleton_code (skeleton_of_is s tree d) ∙ coded_node s tree (formed_derivation s tree d) 0
 
 pub code_tells : (s : Setting) (one other : Node) → IsDerivation s one → IsDerivation s other

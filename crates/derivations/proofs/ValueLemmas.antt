@@ -5,6 +5,7 @@ use Rattle.std.specs.List.{list_all, list_any, range_with_len}
 use Rattle.std.proofs.lemmas.Bool.Decides.{nat_tests}
 use Rattle.std.proofs.lemmas.Bool.{eqb-true, or_cases}
 use Rattle.wiki_base.proofs.BoolLaws.{and_first, and_second}
+use Rattle.derivation_trees.proofs.ValueLemmas.{same_value_is}
 use Rattle.codeco_terms.specs.declared.values.Value.{Value}
 use Rattle.codeco_terms.specs.declared.values.Value.TheVariants.{Atom, Word, Pos}
 use Rattle.codeco_terms.specs.declared.categories.Ground.{Ground}
@@ -21,12 +22,6 @@ use Rattle.derivations.proofs.Members.{Among, among_left, among_right, among_map
 
 number_turned : (x y : ℕ) → (x == y) ≡ true → (y == x) ≡ true
 number_turned x y h = grind (arith, nat_tests)
-
-pub same_value_is : (v w : Value) → same_value v w ≡ true → v ≡ w
-same_value_is (Atom a) (Atom b) h = ap (λ n. Atom n) (eqb-true a b h)
-same_value_is (Word v) (Word w) h = ap (λ n. Word (record { 0 = n })) (eqb-true v.0 w.0 h)
-same_value_is (Pos p) (Pos q) h = ap (λ n. Pos n) (eqb-true p q h)
-same_value_is v w h = cc
 
 add_keeps : (vs : List Value) (w v : Value) → Among vs v → Among (with_value vs w) v
 add_keeps vs w v h = by (list_any (same_value w) vs)

@@ -4,6 +4,7 @@ use Rattle.std.specs.Prelude.{◌==◌, ◌||◌, not, filter, slice_get, Contai
 use Rattle.std.specs.Option.{option_map_or}
 use Rattle.std.specs.List.{list_any}
 use Rattle.std.proofs.lemmas.Bool.{and_parts, eqb-true}
+use Rattle.std.proofs.lemmas.Option.{same_Some}
 use Rattle.wiki_base.specs.declared.numbers.WordId.{WordId}
 use Rattle.wiki_base.proofs.NumberLaws.{eqb_refl}
 use Rattle.codeco_terms.specs.declared.rules.Label.{Label}
@@ -207,9 +208,6 @@ asks_by label.Whichobj m head ks h c a f =
     (f NounBar (NounPhrase ∷ []) c bar_asks)
 asks_by label.Mark m head ks h c a f = wrong (Asks (meaning label.Mark m)) Mark head refl h a
 
-label_same : (l k : Label) → Some l ≡ Some k → l ≡ k
-label_same l k h = cc
-
 -- a node whose rule fits its label, and whose children are good
 pub node_good : (g : GrammarParts) (sk : Skeleton) (r : Rule) (l : Label) (head : Kind) (kinds : List Kind) → rule_with g (out-Skeleton sk).rule ≡ Some r
     → r.label ≡ Some l → head_fits (label_row l).heads head ≡ true → children_fit (label_row l).children head (filter (λ k. not (is_mark k)) kinds) ≡ true
@@ -225,7 +223,7 @@ node_good g sk r l head kinds at is heads children all =
           (asks_by l (made_in g names sk) head (filter (λ k. not (is_mark k)) kinds) heads children a
           (λ k ks same f. child_asks g (meant_children g sk) (filter (λ x. not (is_mark x)) kinds) k ks kept same f names));
       question = λ q names.
-          let same : l ≡ label.Ask = label_same l label.Ask (sym named ∙ q) in
+          let same : l ≡ label.Ask = same_Some l label.Ask (sym named ∙ q) in
           let fit : children_fit (label_row label.Ask).children head (filter (λ k. not (is_mark k)) kinds) ≡ true =
           ap (λ x. children_fit (label_row x).children head (filter (λ k. not (is_mark k)) kinds)) (sym same) ∙ children in
           let P : Meaning → Type 0 = λ m. Asks m in

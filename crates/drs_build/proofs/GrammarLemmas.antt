@@ -27,7 +27,7 @@ pub record Introduces (es : List Element) : Type 0 where
 abbrev pub Introducing : GrammarParts → Type 0
 Introducing g = (number : ℕ) (l : Label) → label_of g number ≡ Some l → (label_row l).introduces ≡ true → Introduces (body_of g number)
 
-taken : {X : Type 0} (p : X → Bool) (xs : List X) (i : ℕ) (x : X) → slice_get xs i ≡ Some x → list_all p (take (suc i) xs) ≡ true → p x ≡ true
+pub taken : {X : Type 0} (p : X → Bool) (xs : List X) (i : ℕ) (x : X) → slice_get xs i ≡ Some x → list_all p (take (suc i) xs) ≡ true → p x ≡ true
 taken p [] i x at all = absurd cc
 taken p (y ∷ ys) zero x at all = let same : y ≡ x = cc in ap p (sym same) ∙ (and_parts (p y) (list_all p (take 0 ys)) all).0
 taken p (y ∷ ys) (suc i) x at all = taken p ys i x at (and_parts (p y) (list_all p (take (suc i) ys)) all).1

@@ -2,8 +2,8 @@
 use Rattle.std.proofs.Common.{◌≡◌, ℕ, zero, suc, ◌<◌, Bool, true, false, cond, List, [], ◌∷◌, ◌++◌, length, get_or, drop, take, map, refl, sym, ap, ◌∙◌, append_assoc, append-nil, add-one, ◌+◌, Some, None}
 use Rattle.std.specs.Prelude.{filter, flat_map, slice_get, slice_index, slice_index_or}
 use Rattle.std.specs.Option.{option_map_or}
-use Rattle.std.proofs.lemmas.Option.{slice_get_read}
 use Rattle.wiki_base.specs.declared.numbers.WordId.{WordId}
+use Rattle.wiki_base.proofs.ListLaws.{slice_get_at}
 use Rattle.codeco_terms.specs.declared.rules.Label.{Label}
 use Rattle.codeco_terms.specs.GrammarParts.{GrammarParts}
 use Rattle.derivation_trees.specs.declared.skeletons.Skeleton.{Skeleton, out-Skeleton}
@@ -145,9 +145,6 @@ module _ (g : GrammarParts) (names : List (ℕ × WordId)) where
 
 -- A child that is found among the children.
 
-at_place : (kids : List Skeleton) (place : ℕ) (child : Skeleton) → place < length kids → child ≡ get_or kids place child → slice_get kids place ≡ Some child
-at_place kids place child below read = slice_get_read kids (length kids) place child refl below read
-
 pub child_meant : (g : GrammarParts) (names : List (ℕ × WordId)) (sk : Skeleton) (n : ℕ) (child : Skeleton) → slice_get (meant_children g sk) n ≡ Some child
     → meaning_in g names child ≡ child_meaning g names sk n
 child_meant g names sk n child is = sym (ap (λ o. option_map_or (meaning_in g names) o nothing) is)
@@ -155,6 +152,6 @@ child_meant g names sk n child is = sym (ap (λ o. option_map_or (meaning_in g n
 pub here_meant : (p : Skeleton → Bool) (kids : List Skeleton) (place : ℕ) (child : Skeleton) → place < length kids → child ≡ get_or kids place child
     → p child ≡ true → slice_get (filter p (drop place kids)) 0 ≡ slice_get kids place
 here_meant p kids place child below read is =
-    let at : slice_get kids place ≡ Some child = at_place kids place child below read in
+    let at : slice_get kids place ≡ Some child = slice_get_at kids place child below read in
     ap (λ ks. slice_get (filter p ks) 0) (drop_next kids place child at)
     ∙ ap (λ b. slice_get (cond b (child ∷ filter p (drop (suc place) kids)) (filter p (drop (suc place) kids))) 0) is ∙ sym at

@@ -3,6 +3,7 @@ use Rattle.std.proofs.Common.{◌≡◌, ℕ, zero, suc, ◌+◌, ◌-◌, ◌<�
 use Rattle.std.proofs.lemmas.List.{take-map, take_more, length-take-le, length-map, take-append-le, take-take, take_all}
 use Rattle.std.proofs.lemmas.Bool.{cases_lt}
 use Rattle.wiki_base.specs.declared.tokens.TheConstants.{MOST_TOKENS}
+use Rattle.derivation_scenes.proofs.ElementLemmas.{true_is_false}
 use Rattle.codeco_terms.specs.declared.categories.Ground.{Ground}
 use Rattle.codeco_terms.specs.GrammarParts.{GrammarParts}
 use Rattle.codeco_checked.specs.Sound.{IsSound}
@@ -14,7 +15,6 @@ use Rattle.derivation_trees.specs.Sentences.{setting_of}
 use Rattle.chart.specs.Charts.{first_of}
 use Rattle.editor.specs.Editing.{IsTypeableAsKept, IsEdited, IsInMenu}
 use Rattle.editor.specs.Rebasing.{IsRebased}
-use Rattle.derivations.proofs.Members.{true_is_false}
 use Rattle.editor.proofs.NothingLemmas.{begins_with_nothing}
 
 abbrev HasBeginning : Setting → Type 0

@@ -7,18 +7,18 @@ use Rattle.std.proofs.lemmas.Slice.Eq.{bytes_eq-Decides}
 use Rattle.wiki_base.specs.declared.numbers.WordId.{WordId}
 use Rattle.wiki_base.specs.Text.{IsText}
 use Rattle.wiki_base.specs.Token.{IsToken}
+use Rattle.derivations.proofs.TypingLemmas.{form_of_group}
+use Rattle.derivation_scenes.proofs.ElementLemmas.{true_is_false}
 use Rattle.codeco_text.specs.Names.{is_terminal as is_terminal_text}
 use Rattle.codeco_terms.specs.GrammarParts.{GrammarParts}
 use Rattle.codeco_checked.specs.Sound.{IsSound}
-use Rattle.lexicon.specs.declared.kinds.Kind.{Kind}
-use Rattle.lexicon.specs.declared.kinds.Kind.TheVariants as kind
 use Rattle.lexicon.specs.declared.words.Word.{Word}
 use Rattle.lexicon.specs.Words.{Listed, has_form, owner, IsLexicon}
 use Rattle.derivation_trees.specs.declared.menus.Group.{Group}
 use Rattle.derivation_trees.specs.declared.menus.Group.TheVariants.{Function, Name, Noun, Of, Verb, Adjective}
 use Rattle.derivation_trees.specs.Cutting.{is_terminal}
 use Rattle.derivation_trees.specs.Menus.{group_of, IsFormIn, IsOfGroup}
-use Rattle.derivations.proofs.Members.{Among, all_among, true_is_false}
+use Rattle.derivations.proofs.Members.{Among, all_among}
 use Rattle.derivations.proofs.CutLemmas.{Passing, any_passes}
 use Rattle.derivations.proofs.EntryLemmas.{contains_among, among_contains}
 use Rattle.derivations.proofs.TokenLemmas.{terminal_token, text_token}
@@ -26,13 +26,6 @@ use Rattle.derivations.proofs.TokenLemmas.{terminal_token, text_token}
 -- the text is a terminal or a form of a live word, of some group
 abbrev pub IsKnown : GrammarParts → Listed → List ℕ → Type 0
 IsKnown g l text = (group : Group) × IsOfGroup g l group text
-
-form_of_kind : (g : GrammarParts) (l : Listed) (k : Kind) (text : List ℕ) → IsFormIn l.live (group_of k) text → IsOfGroup g l (group_of k) text
-form_of_kind g l kind.Name text h = h
-form_of_kind g l kind.Noun text h = h
-form_of_kind g l kind.Of text h = h
-form_of_kind g l kind.Verb text h = h
-form_of_kind g l kind.Adjective text h = h
 
 -- a word that is found is one of the list, and passes
 found_word : (p : Word → Bool) (live : List Word) (word : Word) → find p live ≡ Some word → Among live word × (p word ≡ true)
@@ -59,7 +52,7 @@ owner_known_at : (g : GrammarParts) (l : Listed) (text : List ℕ) (id : WordId)
 owner_known_at g l text id None found h = cc
 owner_known_at g l text id (Some word) found h =
     let one = found_word (has_form text) l.live word found in
-    (group_of word.forms.kind, form_of_kind g l word.forms.kind text (word, among_contains l.live word one.0, refl, one.1))
+    (group_of word.forms.kind, form_of_group g l word.forms.kind text (word, among_contains l.live word one.0, refl, one.1))
 
 pub owner_known : (g : GrammarParts) (l : Listed) (text : List ℕ) (id : WordId) → owner l.live text ≡ Some id → IsKnown g l text
 owner_known g l text id h = owner_known_at g l text id (find (has_form text) l.live) refl h

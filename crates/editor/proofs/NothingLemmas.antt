@@ -8,6 +8,7 @@ use Rattle.std.proofs.lemmas.Bool.{and_from, or_left, or_right, not-false, false
 use Rattle.std.proofs.lemmas.List.{map-append}
 use Rattle.wiki_base.proofs.BoolLaws.{and_first, and_second}
 use Rattle.wiki_base.proofs.NumberLaws.{eqb_refl}
+use Rattle.derivation_scenes.proofs.ElementLemmas.{true_is_false}
 use Rattle.codeco_terms.specs.declared.values.Value.{Value}
 use Rattle.codeco_terms.specs.declared.values.Value.TheVariants.{Atom, Word, Pos}
 use Rattle.codeco_terms.specs.declared.values.Term.{Term}
@@ -35,9 +36,9 @@ use Rattle.derivation_trees.specs.Derives.{Stand, fits, run, same_where_both, ru
 use Rattle.derivation_trees.specs.Partial.{stopped, used_up, front, cut_end, IsBeginning}
 use Rattle.derivation_trees.specs.Sentences.{setting_of}
 use Rattle.derivations.specs.Enumeration.{is_variable, feature_at}
-use Rattle.derivations.proofs.Members.{Among, among_left, among_right, among_flat_map, all_among, true_is_false}
+use Rattle.derivations.proofs.Members.{Among, among_left, among_right, among_flat_map, all_among}
 use Rattle.derivations.proofs.ValueLemmas.{range_has}
-use Rattle.derivations.proofs.CutLemmas.{Passing, any_passes, passes_any}
+use Rattle.derivations.proofs.CutLemmas.{Passing, any_passes, passes_any, among_place}
 use Rattle.derivations.proofs.SoundLemmas.{Mapped, from_map, Flattened, from_flat_map, rule_numbered}
 
 -- Tests
@@ -87,11 +88,6 @@ among_has xs x h = passes_any (λ y. x == y) xs x h (eqb_refl x)
 
 -- Faults
 
-place_of : (rules : List Rule) (r : Rule) → Among rules r → (k : ℕ) × (slice_get rules k ≡ Some r)
-place_of [] r h = absurd h
-place_of (x ∷ xs) r (inl e) = (0, ap Some (sym e))
-place_of (x ∷ xs) r (inr h) = let one = place_of xs r h in (suc one.0, one.1)
-
 is_positive : (k : ℕ) → nat_lt 0 (1 + k) ≡ true
 is_positive k = grind (arith, nat_tests)
 
@@ -101,7 +97,7 @@ one_less k = omega arith
 -- a fault of rules that holds nowhere isn't in a rule
 no_fault_in : (test : Rule → Bool) (rules : List Rule) (r : Rule) → Among rules r → ((n : ℕ) → at_rule test rules n ≡ true → ⊥) → test r ≡ false
 no_fault_in test rules r h nowhere =
-    let at = place_of rules r h in
+    let at = among_place rules r h in
     let here : at_rule test rules (1 + at.0) ≡ test r =
     ap (λ b. b && option_map_or test (slice_get rules (1 + at.0 - 1)) false) (is_positive at.0)
     ∙ ap (λ k. option_map_or test (slice_get rules k) false) (one_less at.0)
@@ -472,7 +468,7 @@ pub begins_with_nothing : (g : GrammarParts) (lexicon : Listed) → IsSound g �
 begins_with_nothing g lexicon sound =
     let starts : has_start g ≡ true = true_from (has_start g) (λ t. sound.faultless NoStart t) in
     let rule : Passing (λ (r : Rule). r.head.name == 5) g.rules = any_passes (λ (r : Rule). r.head.name == 5) g.rules starts in
-    let place = place_of g.rules rule.one rule.among in
+    let place = among_place g.rules rule.one rule.among in
     let values = chosen_values g rule.one in
     let fit : fits (under values rule.one.head) text_category ≡ true =
     and_from _ _ rule.passes (all_from (λ p. list_all (same_where_both p) []) (under values rule.one.head).values (λ p k. refl)) in (

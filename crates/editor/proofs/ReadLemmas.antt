@@ -1,5 +1,5 @@
 -- Each token that a partial derivation passes is a terminal or has a reading.
-use Rattle.std.proofs.Common.{◌≡◌, ℕ, zero, suc, ◌+◌, ◌<◌, ◌≤◌, List, [], ◌∷◌, length, take, Bool, true, false, ◌&&◌, ◌||◌, ◌⊎◌, inl, inr, Option, Some, refl, sym, ap, subst, ◌∙◌, arith}
+use Rattle.std.proofs.Common.{◌≡◌, ℕ, suc, ◌+◌, ◌<◌, ◌≤◌, List, [], ◌∷◌, length, take, true, false, ◌&&◌, ◌||◌, ◌⊎◌, inl, inr, Option, Some, refl, sym, ap, subst, ◌∙◌, arith}
 use Rattle.std.specs.Prelude.{option_and_then, slice_get}
 use Rattle.std.specs.List.{list_any}
 use Rattle.std.specs.Option.{option_map_or}
@@ -7,6 +7,8 @@ use Rattle.std.specs.Str.{bytes_eq}
 use Rattle.std.proofs.lemmas.Bool.{cases_lt}
 use Rattle.std.proofs.lemmas.Option.{option_and_then_some, same_Some}
 use Rattle.wiki_base.proofs.ListLaws.{slice_get_mapped}
+use Rattle.chart.proofs.OfferLemmas.{one_terminal}
+use Rattle.derivation_scenes.proofs.ElementLemmas.{true_is_false}
 use Rattle.codeco_terms.specs.declared.values.Value.{Value}
 use Rattle.codeco_terms.specs.declared.values.Value.TheVariants.{Pos}
 use Rattle.codeco_terms.specs.declared.categories.Pattern.{Pattern}
@@ -27,7 +29,7 @@ use Rattle.derivation_trees.specs.Derives.{At, Phrase, Stand, pass, run, pass_ch
 use Rattle.derivation_trees.specs.Partial.{CutNode, stopped, entered, used_up, front, next_category, front_of, cut_end, IsBeginning}
 use Rattle.derivation_trees.specs.Cutting.{is_terminal}
 use Rattle.derivation_trees.specs.Sentences.{setting_of}
-use Rattle.derivations.proofs.Members.{Among, true_is_false}
+use Rattle.derivations.proofs.Members.{Among}
 use Rattle.chart_table.proofs.PassLemmas.{if_some, unless_some}
 use Rattle.chart_table.proofs.AskLemmas.{place_some, all_used}
 
@@ -182,16 +184,6 @@ among_place [] x h = absurd h
 among_place (y ∷ ys) x (inl e) = (0, omega arith, ap Some (sym e))
 among_place (y ∷ ys) x (inr h) = let one = among_place ys x h in (suc one.0, omega (arith, one.1), one.2)
 
-terminal_at : (terminals : List (List ℕ)) (t : ℕ) (token : List ℕ) → option_map_or (bytes_eq token) (slice_get terminals t) false ≡ true
-    → is_terminal terminals token ≡ true
-terminal_at [] t token h = h
-terminal_at (x ∷ xs) zero token h = ap (λ b. b || is_terminal xs token) h
-terminal_at (x ∷ xs) (suc t) token h = by (bytes_eq token x) (terminal_at xs t token h)
-  where
-    by : (b : Bool) → is_terminal xs token ≡ true → (b || is_terminal xs token) ≡ true
-    by true later = refl
-    by false later = later
-
 -- the token is a terminal of the grammar, or a live word gives it a reading
 abbrev pub IsReadable : GrammarParts → Listed → List ℕ → Type 0
 IsReadable g l token = (is_terminal g.terminals token ≡ true) ⊎ (readings_of l.live token ≡ [] → ⊥)
@@ -206,7 +198,7 @@ beginning_readable g l tokens h token k =
   where
     by : (n : ℕ) → slice_get tokens n ≡ Some token → IsReadAt (setting_of g l tokens) n → IsReadable g l token
     by n at (inl terminal) =
-        inl (terminal_at g.terminals terminal.0 token
+        inl (one_terminal g.terminals terminal.0 token
         (sym (ap (λ o. option_map_or (λ (t : List ℕ). option_map_or (bytes_eq t) (slice_get g.terminals terminal.0) false) o false) at) ∙ terminal.1))
     by n at (inr asked) =
         let reads : list_any (λ reading. agrees reading asked.0) (readings_of l.live token) ≡ true =

@@ -6,6 +6,7 @@ use Rattle.std.specs.Str.{bytes_eq}
 use Rattle.std.proofs.lemmas.Slice.Eq.{bytes_eq-Decides}
 use Rattle.wiki_base.specs.declared.numbers.WordId.{WordId}
 use Rattle.wiki_base.proofs.OptionLaws.{option_or-first_none, option_or-second_none}
+use Rattle.derivation_scenes.proofs.ElementLemmas.{true_is_false}
 use Rattle.lexicon.proofs.Reading.{readings_from_none}
 use Rattle.codeco_terms.specs.declared.categories.Ground.{Ground}
 use Rattle.codeco_terms.specs.GrammarParts.{GrammarParts}
@@ -19,7 +20,7 @@ use Rattle.lexicon.specs.Readings.{readings_of_word, readings_of}
 use Rattle.derivation_trees.specs.Settings.{Setting}
 use Rattle.derivation_trees.specs.Cutting.{is_terminal}
 use Rattle.derivation_trees.specs.Sentences.{setting_of}
-use Rattle.derivations.proofs.Members.{Among, true_is_false}
+use Rattle.derivations.proofs.Members.{Among}
 use Rattle.editor.specs.Editing.{IsTypeableAsKept}
 use Rattle.editor.proofs.ReadLemmas.{IsReadable, beginning_readable}
 use Rattle.editor.proofs.EditingLemmas.{typeable_by, whole_begins}

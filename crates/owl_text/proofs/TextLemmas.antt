@@ -1,24 +1,17 @@
 -- The texts of members, one after another.
 use Rattle.std.proofs.Common.{◌≡◌, ℕ, ◌+◌, Bool, true, false, List, [], ◌∷◌, ◌++◌, Option, Some, slice_get, drop, refl, sym, ap, ◌∙◌, append_assoc, nat_lt, rules}
 use Rattle.std.specs.Prelude.{codes, if◌then◌else◌}
-use Rattle.std.proofs.Math.Seq.{drop-cons}
 use Rattle.std.proofs.Math.ListN.{drop_of_length-le}
-use Rattle.std.proofs.Common.{suc, add-one, length, ◌≤◌}
-use Rattle.std.proofs.lemmas.Option.{slice_get_within, get_or_from_slice_get}
+use Rattle.std.proofs.Common.{length, ◌≤◌}
 use Rattle.std.proofs.lemmas.List.{append-nil}
 use Rattle.wiki_base.specs.declared.numbers.WordId.{WordId}
+use Rattle.wiki_base.proofs.ListLaws.{drop_slice_get}
 use Rattle.logic_terms.specs.Concept.{Concept, concepts_from}
 use Rattle.owl_text.specs.Texts.{class_text, classes_text, more_text}
 
 -- the text of the members from a place on, where those before it are written
 abbrev pub rest_text : (WordId → Option (List ℕ)) → Bool → List Concept → List ℕ
 rest_text form later cs = if later then more_text form (concepts_from cs) else classes_text form (concepts_from cs)
-
-drop_at : (xs : List Concept) (k : ℕ) (x : Concept) → slice_get xs k ≡ Some x → drop k xs ≡ x ∷ drop (k + 1) xs
-drop_at xs k x at =
-    drop-cons xs k x (slice_get_within xs k x at)
-    ∙ ap (λ y. y ∷ drop (suc k) xs) (get_or_from_slice_get xs k x x at)
-    ∙ ap (λ n. x ∷ drop n xs) (sym (add-one k))
 
 first_of : (form : WordId → Option (List ℕ)) (later : Bool) (c : Concept) (cs : List Concept)
     → rest_text form later (c ∷ cs) ≡ (if later then codes " " else []) ++ (class_text form c ++ more_text form (concepts_from cs))
@@ -37,7 +30,7 @@ written_on form cs k c start out spaced more at space now left =
     ∙ ap (λ s. s ++ (class_text form c ++ rest)) space
     ∙ append_assoc out gap (class_text form c ++ rest)
     ∙ ap (λ t. out ++ t) (sym (first_of form (nat_lt 0 k) c (drop (k + 1) cs)))
-    ∙ ap (λ ds. out ++ rest_text form (nat_lt 0 k) ds) (sym (drop_at cs k c at))
+    ∙ ap (λ ds. out ++ rest_text form (nat_lt 0 k) ds) (sym (drop_slice_get cs k c at))
     ∙ left
   where
     later : nat_lt 0 (k + 1) ≡ true

@@ -5,6 +5,7 @@ use Rattle.std.specs.Option.{option_and_then, option_map, option_map_or, option_
 use Rattle.std.proofs.lemmas.Bool.{and_from, cond-true, cond-false, lt-ltb, le-ltb, eq-eqb, not_from_false}
 use Rattle.std.proofs.lemmas.List.{map_push}
 use Rattle.wiki_base.proofs.ListLaws.{length_mapped}
+use Rattle.closure_check.proofs.TreeLaws.{tree_of-Clash, tree_of-Step}
 use Rattle.logic_terms.specs.Theory.{Theory}
 use Rattle.tableau_rules.specs.declared.branch.Branch.{Branch}
 use Rattle.tableau_rules.specs.declared.step.Step.{Step}
@@ -13,8 +14,6 @@ use Rattle.tableau_rules.specs.declared.step.Rule.TheVariants as rule
 use Rattle.tableau_rules.specs.declared.step.Clash.{Clash}
 use Rattle.tableau_rules.specs.declared.step.Closed.{Closed}
 use Rattle.tableau_rules.specs.declared.step.Closed.TheVariants as closed
-use Rattle.tableau_rules.specs.declared.step.Closed.TheOpen as layers
-use Rattle.tableau_rules.specs.declared.step.Closed.TheFolds.{fold-roll-Closed}
 use Rattle.tableau_rules.specs.Graph.{Graph}
 use Rattle.tableau_rules.specs.First.{first_below}
 use Rattle.tableau_rules.specs.Clashes.{is_clash, has_clash}
@@ -22,7 +21,7 @@ use Rattle.tableau_rules.specs.Rules.{site_at, first_at, first_by, first_step, a
 use Rattle.tableau_rules.specs.Branches.{IsBranch, begun, stepped, is_finished}
 use Rattle.tableau_rules.specs.Searching.{OpenChoice, Searching, begun_search, remaining, resumed, open_choices, next_search, searched}
 use Rattle.tableau_rules.specs.Shown.{graph_of}
-use Rattle.tableau_rules.specs.Trees.{Tree, ends, splits, trees_from, tree_layer, tree_of, closes, close_from, is_closed}
+use Rattle.tableau_rules.specs.Trees.{Tree, trees_from, tree_of, closes, close_from, is_closed}
 use Rattle.tableau.specs.declared.way.Taken.{Taken}
 use Rattle.tableau.specs.declared.turn.Turn.{Turn}
 use Rattle.tableau.specs.declared.turn.Turn.TheVariants as turn
@@ -82,13 +81,6 @@ module _ (k : Theory) (g : Graph) where
     ]
   ]
 
--- trees, one layer at a time
-pub tree_of-Clash : (clash : Clash) → tree_of (closed.Clash clash) ≡ ends clash
-tree_of-Clash clash = ap tree_of (sym (closed.rolls-Clash clash)) ∙ fold-roll-Closed Tree tree_layer (layers.Clash clash)
-
-pub tree_of-Step : (step : Step) (ts : List Closed) → tree_of (closed.Step step ts) ≡ splits step (trees_from (map tree_of ts))
-tree_of-Step step ts = ap tree_of (sym (closed.rolls-Step step ts)) ∙ fold-roll-Closed Tree tree_layer (layers.Step step ts)
-
 -- one tree more closes one choice more
 each_push : (k : Theory) (g : Graph) (step : Step) (n m : ℕ) (ts : List Tree) (t : Tree) → n + length ts ≡ m → CloseEach k g step n ts
     → closes k (after k g step m) t ≡ true → CloseEach k g step n (ts ++ t ∷ [])
@@ -125,7 +117,7 @@ remaining_there o lt = cond-true (nat_lt o.next (choices o.graph o.step)) (o ∷
 remaining_none : (o : OpenChoice) → choices o.graph o.step ≤ o.next → remaining o ≡ []
 remaining_none o le = cond-false (nat_lt o.next (choices o.graph o.step)) (o ∷ []) [] (le-ltb o.next (choices o.graph o.step) le)
 
-open_clash : (k : Theory) (s : Searching) → has_clash k s.graph ≡ true → open_choices k s ≡ Some s.waiting
+pub open_clash : (k : Theory) (s : Searching) → has_clash k s.graph ≡ true → open_choices k s ≡ Some s.waiting
 open_clash k s clash = cond-true (has_clash k s.graph) (Some s.waiting) _ clash
 
 open_first : (k : Theory) (s : Searching) (step : Step) → has_clash k s.graph ≡ false → first_step k s.graph ≡ Some step
@@ -134,10 +126,6 @@ open_first k s step calm first =
     cond-false (has_clash k s.graph) (Some s.waiting)
     (option_map_or (λ step. Some (remaining (choice_of s.graph step 0) ++ s.waiting)) (first_step k s.graph) None) calm
     ∙ ap (λ o. option_map_or (λ step. Some (remaining (choice_of s.graph step 0) ++ s.waiting)) o None) first
-
--- where no choice is left at the branch, those that wait are the open ones
-pub waits_at_clash : (k : Theory) (s : Searching) → has_clash k s.graph ≡ true → open_choices k s ≡ Some s.waiting
-waits_at_clash k s clash = open_clash k s clash
 
 pub waits_at_none : (k : Theory) (s : Searching) (step : Step) → has_clash k s.graph ≡ false → first_step k s.graph ≡ Some step → choices s.graph step ≡ 0
     → open_choices k s ≡ Some s.waiting

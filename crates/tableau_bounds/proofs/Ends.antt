@@ -3,6 +3,8 @@ use Rattle.std.proofs.Common.{◌≡◌, ℕ, suc, ◌+◌, ◌-◌, ◌*◌, �
 use Rattle.std.specs.Prelude.{nat_lt}
 use Rattle.std.specs.Option.{option_map_or, option_and_then}
 use Rattle.std.proofs.lemmas.Bool.{cases_lt, le-ltb, not_from_false}
+use Rattle.tableau_rules.proofs.Labels.{has_here}
+use Rattle.tableau_rules.proofs.Ancestors.{ancestors-none}
 use Rattle.logic_terms.specs.Concept.{Concept}
 use Rattle.logic_terms.specs.Parts.{union_part}
 use Rattle.logic_terms.specs.Same.{has_concept}
@@ -18,11 +20,11 @@ use Rattle.tableau_rules.specs.Branches.{start, IsBranch, begun, stepped}
 use Rattle.tableau_rules.specs.Searching.{IsLonger}
 use Rattle.tableau_bounds.specs.Enough.{class_occurrences, class_count, most_nodes, enough}
 use Rattle.tableau_bounds.proofs.Parts.{Within, union_few}
-use Rattle.tableau_bounds.proofs.Labels.{Unique, has_here}
+use Rattle.tableau_bounds.proofs.Labels.{Unique}
 use Rattle.tableau_bounds.proofs.Stepping.{UnionsHaveMembers, ParentsBelow, IsStep, after_step}
 use Rattle.tableau_bounds.proofs.Sums.{total, total_most}
 use Rattle.tableau_bounds.proofs.Rank.{rank, rank_up, rank_most}
-use Rattle.tableau_bounds.proofs.Ways.{ancestors-none, depth, unblocked_low}
+use Rattle.tableau_bounds.proofs.Ways.{depth, unblocked_low}
 use Rattle.tableau_bounds.proofs.Nodes.{tree_size, tree_size_most, used, room, all_room, room_kept}
 use Rattle.tableau_bounds.proofs.Beginning.{start_within, start_unique, start_parent, start_roots}
 use Rattle.tableau_bounds.proofs.SearchBound.{IsRanked, longer_less}

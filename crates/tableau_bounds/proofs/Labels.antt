@@ -1,56 +1,14 @@
 -- Labels: they grow at their end and have each class once, and lists of nodes that change.
-use Rattle.std.proofs.Common.{◌≡◌, ℕ, zero, suc, ◌+◌, ◌<◌, ◌≤◌, ◌||◌, ◌⊎◌, Bool, true, false, List, [], ◌∷◌, ◌++◌, filter, length, set, cond, Some, slice_get, refl, sym, ap, ◌∙◌, subst, inl, inr, arith, length-append, append_assoc, append-nil}
+use Rattle.std.proofs.Common.{◌≡◌, ℕ, suc, ◌+◌, ◌<◌, ◌≤◌, ◌||◌, ◌⊎◌, Bool, true, false, List, [], ◌∷◌, ◌++◌, filter, length, cond, refl, sym, ap, ◌∙◌, subst, inl, inr, arith, length-append, append_assoc, append-nil}
 use Rattle.std.specs.Prelude.{not}
-use Rattle.std.specs.List.{list_all}
-use Rattle.std.proofs.lemmas.Bool.{cases_Bool, or_cases, or_left, or_right, or_parts, or_from, and_parts, cond-true, cond-false, false_from_ne_true, not_from_false, not-true}
+use Rattle.std.proofs.lemmas.Bool.{cases_Bool, or_cases, or_left, or_right, or_parts, or_from, cond-true, cond-false, false_from_ne_true, not_from_false, not-true}
 use Rattle.wiki_base.proofs.BoolLaws.{not_both}
+use Rattle.tableau_rules.proofs.Labels.{has-append, new_one, each_has}
 use Rattle.logic_terms.specs.Concept.{Concept}
 use Rattle.logic_terms.specs.Same.{same_concept, has_concept}
 use Rattle.logic_terms.proofs.SameLemmas.{same_concept-equal, same_concept-self}
 use Rattle.tableau_rules.specs.Rules.{lacks_some, lacks_all, with_class, with_classes}
-use Rattle.tableau_bounds.proofs.Parts.{Within, has-append, in_first, in_second, in_one}
-
-module _ {X : Type 0} where
-  pub get_set_same : (xs : List X) (i : ℕ) (v w : X) → slice_get xs i ≡ Some v → slice_get (set xs i w) i ≡ Some w
-  get_set_same [] i v w at = absurd (nothing i at)
-    where
-      nothing : (i : ℕ) → slice_get {X = X} [] i ≡ Some v → ⊥
-      nothing i e = cc
-  get_set_same (x ∷ xs) zero v w at = refl
-  get_set_same (x ∷ xs) (suc i) v w at = get_set_same xs i v w at
-
-  pub get_set_other : (xs : List X) (i j : ℕ) (w : X) → (i ≡ j → ⊥) → slice_get (set xs i w) j ≡ slice_get xs j
-  get_set_other [] i j w ne = refl
-  get_set_other (x ∷ xs) zero zero w ne = absurd (ne refl)
-  get_set_other (x ∷ xs) zero (suc j) w ne = refl
-  get_set_other (x ∷ xs) (suc i) zero w ne = refl
-  get_set_other (x ∷ xs) (suc i) (suc j) w ne = get_set_other xs i j w (λ e. ne (ap suc e))
-
-  pub get_push_old : (xs : List X) (v : X) (i : ℕ) → i < length xs → slice_get (xs ++ v ∷ []) i ≡ slice_get xs i
-  get_push_old [] v i lt = absurd (omega arith)
-  get_push_old (x ∷ xs) v zero lt = refl
-  get_push_old (x ∷ xs) v (suc i) lt = get_push_old xs v i (omega arith)
-
-  pub get_push_new : (xs : List X) (v : X) → slice_get (xs ++ v ∷ []) (length xs) ≡ Some v
-  get_push_new [] v = refl
-  get_push_new (x ∷ xs) v = get_push_new xs v
-
-  pub there_is : (xs : List X) (i : ℕ) → i < length xs → (x : X) × (slice_get xs i ≡ Some x)
-  there_is [] i lt = absurd (omega arith)
-  there_is (x ∷ xs) zero lt = (x, refl)
-  there_is (x ∷ xs) (suc i) lt = there_is xs i (omega arith)
-
-pub has_here : (cs : List Concept) (i : ℕ) (c : Concept) → slice_get cs i ≡ Some c → has_concept cs c ≡ true
-has_here [] i c h = absurd (nothing i h)
-  where
-    nothing : (i : ℕ) → slice_get {X = Concept} [] i ≡ Some c → ⊥
-    nothing i e = cc
-has_here (d ∷ ds) zero c h =
-    let same : d ≡ c = one d c h in or_left (same_concept d c) (has_concept ds c) (subst (λ z. same_concept z c ≡ true) (sym same) (same_concept-self c))
-  where
-    one : (a b : Concept) → Some a ≡ Some b → a ≡ b
-    one a b e = cc
-has_here (d ∷ ds) (suc i) c h = or_right (same_concept d c) (has_concept ds c) (has_here ds i c h)
+use Rattle.tableau_bounds.proofs.Parts.{Within, in_first, in_one}
 
 pub filter_within : (p : Concept → Bool) (cs : List Concept) → Within (filter p cs) cs
 filter_within p [] e h = h
@@ -64,15 +22,6 @@ filter_within p (c ∷ cs) e h = go (p c) h (filter_within p cs e)
     ]
     go false there rest = or_right (same_concept c e) (has_concept cs e) (rest there)
 
-pub each_has : (test : Concept → Bool) (cs : List Concept) (c : Concept) → list_all test cs ≡ true → has_concept cs c ≡ true → test c ≡ true
-each_has test [] c all h = cc
-each_has test (d ∷ ds) c all h =
-    let parts = and_parts (test d) (list_all test ds) all in
-    elim (or_cases (same_concept d c) (has_concept ds c) h) [
-      | inl same ↦ subst (λ z. test z ≡ true) (same_concept-equal d c same) parts.0
-      | inr later ↦ each_has test ds c parts.1 later
-    ]
-
 pub one_within : (d : Concept) (ds : List Concept) → has_concept ds d ≡ true → Within (d ∷ []) ds
 one_within d ds h e there = elim (or_cases (same_concept d e) false there) [
   | inl same ↦ subst (λ z. has_concept ds z ≡ true) (same_concept-equal d e same) h
@@ -84,13 +33,6 @@ pub kept_one : (label : List Concept) (c : Concept) → Within label (with_class
 kept_one label c d h = elim (cases_Bool (has_concept label c)) [
   | inl t ↦ ap (λ l. has_concept l d) (cond-true (has_concept label c) label (label ++ c ∷ []) t) ∙ h
   | inr f ↦ ap (λ l. has_concept l d) (cond-false (has_concept label c) label (label ++ c ∷ []) f) ∙ in_first label (c ∷ []) d h
-]
-
-new_one : (label : List Concept) (c : Concept) → has_concept (with_class label c) c ≡ true
-new_one label c = elim (cases_Bool (has_concept label c)) [
-  | inl t ↦ ap (λ l. has_concept l c) (cond-true (has_concept label c) label (label ++ c ∷ []) t) ∙ t
-  | inr f ↦ ap (λ l. has_concept l c) (cond-false (has_concept label c) label (label ++ c ∷ []) f)
-      ∙ in_second label (c ∷ []) c (or_left (same_concept c c) false (same_concept-self c))
 ]
 
 only_one : (label : List Concept) (c d : Concept) → has_concept (with_class label c) d ≡ true → (has_concept label d ≡ true) ⊎ (has_concept (c ∷ []) d ≡ true)

@@ -5,6 +5,7 @@ use Rattle.std.specs.Prelude.{not}
 use Rattle.std.proofs.Math.Nat.{pow-zero}
 use Rattle.std.proofs.lemmas.Bool.{and_from, and_parts, eq-eqb, eqb-true, false_from_ne_true, not_from_false}
 use Rattle.wiki_base.proofs.BoolLaws.{not_both}
+use Rattle.tableau_rules.proofs.Ancestors.{ancestors-some, indirectly-some}
 use Rattle.logic_terms.specs.declared.expressions.Role.{Role}
 use Rattle.logic_terms.specs.Concept.{Concept}
 use Rattle.logic_terms.specs.Meaning.{some_below}
@@ -24,7 +25,7 @@ use Rattle.tableau_bounds.proofs.Labels.{Unique, unique_fits}
 use Rattle.tableau_bounds.proofs.Powers.{power_pos}
 use Rattle.tableau_bounds.proofs.Stepping.{Move, label_grows, edge_comes, node_comes, IsStep, ParentsBelow}
 use Rattle.tableau_bounds.proofs.Sums.{total, total_le, total_more, tally, tally_most, tally_up, tally_more}
-use Rattle.tableau_bounds.proofs.Ways.{ancestors-some, ancestors_same, indirectly-some, depth}
+use Rattle.tableau_bounds.proofs.Ways.{ancestors_same, depth}
 
 -- how many nodes a tree of so many levels has at most, where each node has at most m children
 abbrev pub tree_size : ℕ → ℕ → ℕ

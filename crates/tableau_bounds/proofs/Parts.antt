@@ -1,8 +1,8 @@
 -- The class occurrences of knowledge: they have the parts of each class that is one of them.
 use Rattle.std.proofs.Common.{◌≡◌, ℕ, suc, ◌+◌, ◌≤◌, ◌||◌, ◌⊎◌, Bool, true, false, List, [], ◌∷◌, ◌++◌, map, filter, length, cond, Some, refl, sym, ◌∙◌, subst, inl, inr, arith, length-append}
 use Rattle.std.proofs.lemmas.Bool.{or_cases, or_left, or_right}
-use Rattle.std.proofs.lemmas.List.Folds.{list_any-append}
 use Rattle.wiki_base.specs.declared.numbers.WordId.{WordId}
+use Rattle.tableau_rules.proofs.Labels.{has-append}
 use Rattle.logic_terms.specs.declared.expressions.Role.{Role}
 use Rattle.logic_terms.specs.Concept.{Concept, Concepts, Everything, Atomic, ComplementOf, IntersectionOf, UnionOf, SomeValuesFrom, AllValuesFrom, HasValue, no_concept, also_concept}
 use Rattle.logic_terms.specs.Interpretation.{is_word}
@@ -18,9 +18,6 @@ use Rattle.tableau_bounds.specs.Enough.{occurrences, member_occurrences, all_occ
 -- each class of one list is in another
 abbrev pub Within : List Concept → List Concept → Type 0
 Within cs ds = (e : Concept) → has_concept cs e ≡ true → has_concept ds e ≡ true
-
-pub has-append : (cs ds : List Concept) (c : Concept) → has_concept (cs ++ ds) c ≡ (has_concept cs c || has_concept ds c)
-has-append cs ds c = list_any-append (λ d. same_concept d c) cs ds
 
 pub in_first : (cs ds : List Concept) → Within cs (cs ++ ds)
 in_first cs ds e h = has-append cs ds e ∙ or_left (has_concept cs e) (has_concept ds e) h

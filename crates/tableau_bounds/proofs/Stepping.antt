@@ -7,6 +7,8 @@ use Rattle.std.proofs.lemmas.Bool.{cases_eq, cases_lt, and_parts, and_from, or_c
 use Rattle.std.proofs.lemmas.Option.{slice_get_within, slice_get_past}
 use Rattle.std.proofs.lemmas.List.Folds.{list_any-append}
 use Rattle.wiki_base.specs.declared.numbers.WordId.{WordId}
+use Rattle.tableau_rules.proofs.Firsts.{where_parts}
+use Rattle.tableau_rules.proofs.Labels.{get_set_same, get_set_other, get_push_old, get_push_new, there_is, has_here, has_node, neighbour_more}
 use Rattle.logic_terms.specs.declared.expressions.Role.{Role}
 use Rattle.logic_terms.specs.Concept.{Concept}
 use Rattle.logic_terms.specs.Complement.{complement}
@@ -27,7 +29,7 @@ use Rattle.tableau_rules.specs.Blocking.{is_blocked, is_indirectly_blocked}
 use Rattle.tableau_rules.specs.Rules.{lacks_some, lacks_all, unfoldings_of, open_members, unit_member, serves, needs, row, site, applies, with_classes, adding, with_edge, with_node, choices_for, choices, effect, after}
 use Rattle.tableau_bounds.specs.Enough.{class_occurrences}
 use Rattle.tableau_bounds.proofs.Parts.{Within, general_within, unfoldings_within, intersection_within, union_within, some_within, all_class_within}
-use Rattle.tableau_bounds.proofs.Labels.{get_set_same, get_set_other, get_push_old, get_push_new, there_is, has_here, filter_within, one_within, new_classes, only_classes, BeginsWith, with_classes_begins, lacking_grows, lacks_one, lacks_member, Unique, unique_classes}
+use Rattle.tableau_bounds.proofs.Labels.{filter_within, one_within, new_classes, only_classes, BeginsWith, with_classes_begins, lacking_grows, lacks_one, lacks_member, Unique, unique_classes}
 
 -- whether the node of a value class is a neighbour by its role
 abbrev pub is_linked : Theory → Graph → ℕ → Concept → Bool
@@ -55,17 +57,6 @@ pub record IsStep (k : Theory) (g h : Graph) : Type 0 where
   pub within : ((y : ℕ) → Within (label_at g y) (class_occurrences k)) → (y : ℕ) → Within (label_at h y) (class_occurrences k)
   pub unique : ((y : ℕ) → Unique (label_at g y)) → (y : ℕ) → Unique (label_at h y)
   pub move : Move k g h
-
--- a node with a class in its label is there
-pub has_node : (g : Graph) (x : ℕ) (c : Concept) → has_concept (label_at g x) c ≡ true → x < length g.nodes
-has_node g x c h = elim (cases_lt x (length g.nodes)) [
-  | inl lt ↦ lt
-  | inr past ↦ (let none : has_concept (label_at g x) c ≡ false = ap (λ o. has_concept (option_map_or (λ v. v.label) o []) c) (slice_get_past g.nodes x past) in
-      absurd (both h none))
-]
-  where
-    both : {b : Bool} → b ≡ true → b ≡ false → ⊥
-    both t f = cc
 
 begins_same : (label new : List Concept) → new ≡ label → BeginsWith label new
 begins_same label new is = ([], is ∙ sym (append-nil label))
@@ -130,11 +121,6 @@ pub adding_step : (k : Theory) (g : Graph) (x : ℕ) (cs : List Concept) → x <
 adding_step k g x cs lt lacks inside =
     let v = there_is g.nodes x lt in
     subst (IsStep k g) (sym (adding_is k g x cs v.0 v.1)) (relabelled_step k g x cs v.0 v.1 lacks inside)
-
-neighbour_more : (k : Theory) (es : List Edge) (e : Edge) (role : Role) (x y : ℕ) → list_any (makes_neighbour k role x y) es ≡ true
-    → list_any (makes_neighbour k role x y) (es ++ e ∷ []) ≡ true
-neighbour_more k es e role x y h = list_any-append (makes_neighbour k role x y) es (e ∷ [])
-    ∙ or_left (list_any (makes_neighbour k role x y) es) (list_any (makes_neighbour k role x y) (e ∷ [])) h
 
 -- an edge makes its ends neighbours by its role
 neighbour_new : (k : Theory) (es : List Edge) (role : Role) (x y : ℕ)
@@ -263,13 +249,6 @@ module _ (k : Theory) (g : Graph) (x : ℕ) (c : Concept) (p : Role × Concept) 
 
       some_same : (a b : ℕ) → Some a ≡ Some b → a ≡ b
       some_same a b e = cc
-
-where_parts : (t : Bool) (v y : ℕ) → where_true t v ≡ Some y → (t ≡ true) × (v ≡ y)
-where_parts true v y h = (refl, one v y h)
-  where
-    one : (a b : ℕ) → Some a ≡ Some b → a ≡ b
-    one a b e = cc
-where_parts false v y h = cc
 
 found_below : (n : ℕ) (f : ℕ → Option ℕ) (x : ℕ) → first_below n f ≡ Some x → (m : ℕ) × (m < n) × (f m ≡ Some x)
 found_below zero f x h = cc

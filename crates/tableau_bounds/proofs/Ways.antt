@@ -1,62 +1,22 @@
 -- The way up from a node that is not blocked: its anonymous nodes have different labels, so they are few.
-use Rattle.std.proofs.Common.{◌≡◌, ℕ, zero, suc, ◌^◌, ◌<◌, ◌≤◌, ◌&&◌, ◌⊎◌, Bool, true, false, List, [], ◌∷◌, map, filter, length, cond, Option, Some, None, refl, sym, ap, ◌∙◌, subst, inl, inr, arith}
+use Rattle.std.proofs.Common.{◌≡◌, ℕ, zero, suc, ◌^◌, ◌<◌, ◌≤◌, ◌&&◌, ◌⊎◌, Bool, true, false, List, [], ◌∷◌, map, filter, length, cond, Some, refl, sym, ap, ◌∙◌, subst, inl, inr, arith}
 use Rattle.std.specs.Prelude.{not}
 use Rattle.std.specs.List.{list_any, list_all}
-use Rattle.std.specs.Option.{option_map_or}
 use Rattle.std.proofs.lemmas.Bool.{and_from, and_parts, or_cases, or_left, or_right, or_parts, or_from, false_from_ne_true, not_from_false}
 use Rattle.std.proofs.lemmas.List.{length-map}
 use Rattle.wiki_base.proofs.BoolLaws.{not_both}
+use Rattle.tableau_rules.proofs.Ancestors.{climb-some, parent_cases, ancestors-some, ancestors-none}
 use Rattle.tableau_rules.proofs.Climbing.{climb-top}
 use Rattle.logic_terms.specs.Concept.{Concept}
 use Rattle.logic_terms.specs.Same.{same_concept, has_concept}
 use Rattle.logic_terms.specs.Theory.{Theory}
 use Rattle.logic_terms.proofs.SameLemmas.{same_concept-equal, same_concept-self}
 use Rattle.tableau_rules.specs.Graph.{Graph, label_at, parent_of}
-use Rattle.tableau_rules.specs.Blocking.{climb, ancestors, is_anonymous, same_classes, has_twin, blocks, is_indirectly_blocked, is_blocked}
+use Rattle.tableau_rules.specs.Blocking.{climb, ancestors, is_anonymous, same_classes, has_twin, blocks, is_blocked}
 use Rattle.tableau_bounds.specs.Enough.{class_occurrences, class_count}
 use Rattle.tableau_bounds.proofs.Parts.{Within}
 use Rattle.tableau_bounds.proofs.Stepping.{ParentsBelow}
 use Rattle.tableau_bounds.proofs.Subsets.{alike, agree, Apart, most_apart}
-
-climb-some : (n : ℕ) (g : Graph) (x p : ℕ) → parent_of g x ≡ Some p → climb (suc n) g x ≡ p ∷ climb n g p
-climb-some n g x p up = ap (λ o. option_map_or (λ p. p ∷ climb n g p) o []) up
-
-cases_parent : (o : Option ℕ) → (o ≡ None) ⊎ ((p : ℕ) × (o ≡ Some p))
-cases_parent None = inl refl
-cases_parent (Some p) = inr (p, refl)
-
-pub parent_cases : (g : Graph) (x : ℕ) → (parent_of g x ≡ None) ⊎ ((p : ℕ) × (parent_of g x ≡ Some p))
-parent_cases g x = cases_parent (parent_of g x)
-
--- x steps suffice to climb from x
-climb_enough : (n m : ℕ) (g : Graph) → ParentsBelow g → (x : ℕ) → x ≤ n → x ≤ m → climb n g x ≡ climb m g x
-climb_enough zero m g down x low high = elim (parent_cases g x) [
-  | inl up ↦ climb-top zero g x up ∙ sym (climb-top m g x up)
-  | inr (p, up) ↦ (let lt = down x p up in absurd (omega arith))
-]
-climb_enough (suc n) zero g down x low high = elim (parent_cases g x) [
-  | inl up ↦ climb-top (suc n) g x up ∙ sym (climb-top zero g x up)
-  | inr (p, up) ↦ (let lt = down x p up in absurd (omega arith))
-]
-climb_enough (suc n) (suc m) g down x low high = elim (parent_cases g x) [
-  | inl up ↦ climb-top (suc n) g x up ∙ sym (climb-top (suc m) g x up)
-  | inr (p, up) ↦ (let lt = down x p up in
-      climb-some n g x p up ∙ ap (λ l. p ∷ l) (climb_enough n m g down p (omega arith) (omega arith)) ∙ sym (climb-some m g x p up))
-]
-
--- a node's ancestors are its parent and the parent's ancestors
-pub ancestors-some : (g : Graph) → ParentsBelow g → (x p : ℕ) → parent_of g x ≡ Some p → ancestors g x ≡ p ∷ ancestors g p
-ancestors-some g down x p up = go x (down x p up) up
-  where
-    go : (y : ℕ) → p < y → parent_of g y ≡ Some p → climb y g y ≡ p ∷ climb p g p
-    go zero lt at = absurd (omega arith)
-    go (suc y) lt at = climb-some y g (suc y) p at ∙ ap (λ l. p ∷ l) (climb_enough y p g down p (omega arith) (omega arith))
-
-pub ancestors-none : (g : Graph) (x : ℕ) → parent_of g x ≡ None → ancestors g x ≡ []
-ancestors-none g x up = climb-top x g x up
-
-pub indirectly-some : (k : Theory) (g : Graph) → ParentsBelow g → (x p : ℕ) → parent_of g x ≡ Some p → is_indirectly_blocked k g x ≡ is_blocked k g p
-indirectly-some k g down x p up = ap (blocks k g) (ancestors-some g down x p up)
 
 -- where parents stay, so do ancestors
 climb_same : (n : ℕ) (g h : Graph) → ParentsBelow g → ((y : ℕ) → y < length g.nodes → parent_of h y ≡ parent_of g y) → (x : ℕ) → x < length g.nodes

@@ -59,9 +59,6 @@ module _ (k : Theory) (g : Graph) (at left : ℕ) (r : Bool) (now : r ≡ blocks
       → r ≡ blocks k g (climb (left - 1) g parent)
   block_passed parent lt up is = block_on parent false lt up is
 
-and_same : (a t b : Bool) → ((a && t) && not b) ≡ (a && (t && not b))
-and_same true t b = refl
-and_same false t b = refl
-
 pub directly : (a t b : Bool) → ((a && t) && not b) ≡ (a && (t && not b))
-directly a t b = and_same a t b
+directly true t b = refl
+directly false t b = refl

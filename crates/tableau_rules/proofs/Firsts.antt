@@ -29,3 +29,14 @@ where_is test x is = ap (λ b. where_true b x) is
 
 pub where_not : {X : Type 0} (test : Bool) (x : X) → test ≡ false → where_true test x ≡ None
 where_not test x is = ap (λ b. where_true b x) is
+
+pub where_parts : (t : Bool) (v y : ℕ) → where_true t v ≡ Some y → (t ≡ true) × (v ≡ y)
+where_parts true v y h = (refl, one v y h)
+  where
+    one : (a b : ℕ) → Some a ≡ Some b → a ≡ b
+    one a b e = cc
+where_parts false v y h = cc
+
+pub where_none : {X : Type 0} (test : Bool) (x : X) → where_true test x ≡ None → test ≡ false
+where_none true x h = cc
+where_none false x h = refl

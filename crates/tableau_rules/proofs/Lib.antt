@@ -1,8 +1,11 @@
+pub mod Ancestors
 pub mod Climbing
 pub mod Firsts
 pub mod Growing
+pub mod Labels
 pub mod Lists
 pub mod MapWalks
 pub mod NameLaws
 pub mod Passing
 pub mod Reaching
+pub mod Roots

@@ -1,7 +1,9 @@
 -- Tests on lists that were made of others.
-use Rattle.std.proofs.Common.{◌≡◌, ◌&&◌, ◌||◌, Bool, true, false, List, [], ◌∷◌, map, filter, cond, refl, sym, ap, ◌∙◌}
+use Rattle.std.proofs.Common.{◌≡◌, ◌&&◌, ◌||◌, Bool, true, false, List, [], ◌∷◌, map, filter, cond, refl, sym, ap, ◌∙◌, ℕ, zero, suc, Some, slice_get}
 use Rattle.std.specs.Prelude.{not}
 use Rattle.std.specs.List.{list_any, list_all}
+use Rattle.std.proofs.lemmas.Option.{same_Some}
+use Rattle.std.proofs.lemmas.Bool.{or_parts}
 use Rattle.wiki_base.specs.declared.numbers.WordId.{WordId}
 use Rattle.wiki_base.proofs.ListLaws.{list_any-filter}
 use Rattle.logic_terms.specs.Concept.{Concept}
@@ -16,6 +18,11 @@ list_any-map test f (x ∷ xs) = ap (λ b. test (f x) || b) (list_any-map test f
 pub list_all-map : {X Y : Type 0} (test : Y → Bool) (f : X → Y) (xs : List X) → list_all test (map f xs) ≡ list_all (λ x. test (f x)) xs
 list_all-map test f [] = refl
 list_all-map test f (x ∷ xs) = ap (λ b. test (f x) && b) (list_all-map test f xs)
+
+pub none_passes : {X : Type 0} (p : X → Bool) (xs : List X) (k : ℕ) (x : X) → list_any p xs ≡ false → slice_get xs k ≡ Some x → p x ≡ false
+none_passes p [] k x none at = absurd (cc)
+none_passes p (y ∷ ys) zero x none at = ap p (sym (same_Some y x at)) ∙ (or_parts (p y) (list_any p ys) none).0
+none_passes p (y ∷ ys) (suc k) x none at = none_passes p ys k x (or_parts (p y) (list_any p ys) none).1 at
 
 filter_step : {X Y : Type 0} (f : X → Y) (b : Bool) (x : X) (xs : List X) (ys : List Y) → map f xs ≡ ys → cond b (f x ∷ ys) ys ≡ map f (cond b (x ∷ xs) xs)
 filter_step f true x xs ys e = ap (λ zs. f x ∷ zs) (sym e)

@@ -4,7 +4,7 @@ use Rattle.std.specs.Prelude.{nat_lt, min}
 use Rattle.std.specs.List.{list_any}
 use Rattle.std.specs.Option.{option_map_or}
 use Rattle.std.proofs.Math.Bool.{and_assoc}
-use Rattle.std.proofs.lemmas.Bool.{eqb-true, ltb-true, lt-ltb, or_cases, or_left, or_right, and_parts, and_from, and_right, or_from, cases_Bool, cond-true, cond-false, false_from_ne_true}
+use Rattle.std.proofs.lemmas.Bool.{eqb-true, ltb-true, lt-ltb, or_cases, or_left, or_right, and_parts, and_from, and_right, or_from, cases_Bool, cond-true, cond-false, false_from_ne_true, or_parts, cases_eq}
 use Rattle.std.proofs.lemmas.List.{take_all, take_more}
 use Rattle.std.proofs.lemmas.List.Folds.{list_any-append, list_any_more, list_any_at}
 use Rattle.wiki_base.proofs.BoolLaws.{same_tests}
@@ -32,6 +32,15 @@ some_below_found test (suc n) h = elim (or_cases (test n) (some_below n test) h)
   | inl here ↦ (n, omega arith, here)
   | inr below ↦ let found = some_below_found test n below in (found.0, (let lt : found.0 < n = found.1 in omega arith), found.2)
 ]
+
+pub some_below_fails : (n : ℕ) (test : ℕ → Bool) → some_below n test ≡ false → (m : ℕ) → m < n → test m ≡ false
+some_below_fails zero test h m lt = absurd (omega arith)
+some_below_fails (suc n) test h m lt =
+    let two = or_parts (test n) (some_below n test) h in
+    elim (cases_eq m n) [
+      | inl same ↦ ap test same ∙ two.0
+      | inr other ↦ some_below_fails n test two.1 m (omega arith)
+    ]
 
 module _ (k : Theory) (role : Role) (x : ℕ) where
   pub far_is : (y : ℕ) (e : Edge) → makes_neighbour k role x y e ≡ true → y ≡ far_end x e

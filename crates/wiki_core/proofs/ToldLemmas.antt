@@ -1,6 +1,5 @@
 -- A request that is done or refused takes its step.
 use Rattle.std.proofs.Common.{◌≡◌, Bool, true, false, MatchBool, Result, Ok, Err, IfOk, IfErr, OnErr, sym, ap, subst, ◌∙◌}
-use Rattle.std.proofs.lemmas.Bool.{false≢true}
 use Rattle.lists.specs.declared.memory.Memory.{Memory}
 use Rattle.wiki_talk.specs.declared.refusals.Refusal.{Refusal}
 use Rattle.wiki_talk.specs.declared.replies.Reply.{Reply}
@@ -8,7 +7,6 @@ use Rattle.wiki_talk.specs.declared.replies.Reply.TheVariants as replies
 use Rattle.wiki_talk.specs.declared.requests.Request.{Request}
 use Rattle.wiki_parts.specs.declared.faults.Fault.{Fault}
 use Rattle.wiki_parts.specs.declared.faults.Fault.TheVariants.{Refused}
-use Rattle.wiki_parts.specs.declared.faults.Fault.TheVariants as faults
 use Rattle.wiki_parts.specs.Faults.{IsFault, Tells}
 use Rattle.wiki_store.specs.Step as store
 use Rattle.wiki_core.specs.Holding.{Holding}
@@ -45,14 +43,6 @@ told_pages old new request (Err fault) reply step refused kept tells carried =
 abbrev is_done : Result Reply Fault → Bool
 is_done (Ok made) = true
 is_done (Err fault) = false
-
--- want of memory is told of want of memory alone, which keeps all
-pub told_keeps : (P : Type 0) (done : Result Reply Fault) (result : Result Reply Memory) → OnErr result (done ≡ Err faults.Memory) → OnErr done P
-    → OnErr result P
-told_keeps P (Ok made) (Ok reply) only kept = only
-told_keeps P (Err fault) (Ok reply) only kept = only
-told_keeps P (Ok made) (Err memory) only kept = absurd (false≢true (sym (ap is_done only)))
-told_keeps P (Err fault) (Err memory) only kept = kept
 
 -- what is told of a request on a session is its step
 pub session_step : (old new : Holding) (request asked : Request) → request ≡ asked → store.asks_store asked ≡ false

@@ -1,5 +1,5 @@
 -- The names in a derivation are live: each word that its skeleton introduces as a name passes a test that each live name passes.
-use Rattle.std.proofs.Common.{◌≡◌, ℕ, zero, suc, ◌+◌, ◌-◌, ◌<◌, ◌&&◌, ◌||◌, Bool, true, false, cond, List, [], ◌∷◌, ◌++◌, length, get_or, map, filter, take, Option, Some, None, AllPairs, inl, inr, refl, sym, ap, subst, ◌∙◌, arith, append-nil}
+use Rattle.std.proofs.Common.{◌≡◌, ℕ, zero, suc, ◌+◌, ◌-◌, ◌<◌, ◌&&◌, ◌||◌, Bool, true, false, cond, List, [], ◌∷◌, ◌++◌, length, map, filter, take, Option, Some, None, AllPairs, inl, inr, refl, sym, ap, subst, ◌∙◌, arith, append-nil}
 use Rattle.std.specs.Prelude.{◌==◌, count_by, flat_map, slice_get, slice_index_or, option_and_then}
 use Rattle.std.specs.Option.{option_map_or}
 use Rattle.std.specs.Str.{bytes_eq}
@@ -10,6 +10,7 @@ use Rattle.std.proofs.lemmas.Option.{same_Some}
 use Rattle.wiki_base.specs.declared.numbers.WordId.{WordId}
 use Rattle.wiki_base.proofs.ListLaws.{AllPairs-head, AllPairs-tail}
 use Rattle.wiki_base.proofs.BoolLaws.{and_first, and_second}
+use Rattle.lexicon.proofs.Reading.{readings_from_none, readings_none}
 use Rattle.codeco_text.specs.Names.{same_bytes}
 use Rattle.codeco_terms.specs.declared.values.Value.{Value}
 use Rattle.codeco_terms.specs.declared.values.Value.TheVariants.{Pos}
@@ -50,31 +51,12 @@ use Rattle.drs_build.specs.Nodes.{label_of, is_naming, no_word, own_name, introd
 use Rattle.drs_build.specs.Nodes.{is_name as is_name_word}
 use Rattle.derivation_trees.specs.Sketches.{body_of}
 use Rattle.drs_build.proofs.NodeLemmas.{names_of_is}
-use Rattle.drs_build.proofs.GrammarLemmas.{Found, found}
+use Rattle.drs_build.proofs.GrammarLemmas.{Found, found, taken}
 use Rattle.wiki_parts.specs.Knowledge.{is_name, live_names}
 use Rattle.wiki_parts.proofs.NameLemmas.{names_among}
 use Rattle.wiki_parts.proofs.PassingLemmas.{words_pass}
 
 -- Readings
-
--- a token that is none of the forms has no readings
-readings_from_none : (kind : Kind) (id : WordId) (token : List ℕ) (place : ℕ) (forms : List (List ℕ)) → is_form forms token ≡ false
-    → readings_from kind id token place forms ≡ []
-readings_from_none kind id token place [] lacks = refl
-readings_from_none kind id token place (form ∷ forms) lacks = by (bytes_eq token form) lacks (readings_from_none kind id token (place + 1) forms)
-  where
-    by : (b : Bool) → (b || is_form forms token) ≡ false → (is_form forms token ≡ false → readings_from kind id token (place + 1) forms ≡ [])
-        → cond b (reading kind id place form ∷ readings_from kind id token (place + 1) forms) (readings_from kind id token (place + 1) forms) ≡ []
-    by true lacks rest = absurd cc
-    by false lacks rest = rest lacks
-
--- a token that no word has has no readings
-readings_none : (live : List Word) (token : List ℕ) → ((k : ℕ) (d : Word) → k < length live → has_form token (get_or live k d) ≡ false)
-    → readings_of live token ≡ []
-readings_none [] token lacks = refl
-readings_none (word ∷ live) token lacks =
-    rw (readings_from_none word.forms.kind word.id token 0 word.forms.texts (lacks zero word (omega arith)))
-    (readings_none live token (λ k d in_range. lacks (suc k) d (omega arith)))
 
 not_name : (n : ℕ) (b : Bool) (asked : Test) → asked.name ≡ 0 → 0 < n → ((n == asked.name) && b) ≡ true → ⊥
 not_name n b asked named positive h = let e : n ≡ asked.name = eqb-true n asked.name (and_first (n == asked.name) b h) in omega arith
@@ -131,11 +113,6 @@ first_word kind id token place (form ∷ forms) others h = by (first_word kind i
     by later false k = later k
 
 -- Bodies of rules that name
-
-taken : {X : Type 0} (p : X → Bool) (xs : List X) (i : ℕ) (x : X) → slice_get xs i ≡ Some x → list_all p (take (suc i) xs) ≡ true → p x ≡ true
-taken p [] i x at all = absurd cc
-taken p (y ∷ ys) zero x at all = let same : y ≡ x = cc in ap p (sym same) ∙ (and_parts (p y) (list_all p (take 0 ys)) all).0
-taken p (y ∷ ys) (suc i) x at all = taken p ys i x at (and_parts (p y) (list_all p (take (suc i) ys)) all).1
 
 -- one preterminal, $name
 abbrev names_once : List Element → Bool

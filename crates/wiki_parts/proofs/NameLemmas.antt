@@ -9,6 +9,7 @@ use Rattle.std.proofs.lemmas.List.{take_more, map-append, get_or-take, length-ta
 use Rattle.std.proofs.lemmas.List.Elements.{All-map, All-filter, filter-append}
 use Rattle.std.proofs.lemmas.Option.{slice_get_within, get_or_from_slice_get}
 use Rattle.wiki_base.specs.declared.numbers.WordId.{WordId}
+use Rattle.answers.proofs.AskedLemmas.{rises_on}
 use Rattle.lexicon.specs.declared.words.Word.{Word}
 use Rattle.wiki_parts.specs.Knowledge.{is_name}
 
@@ -54,10 +55,6 @@ above_all n (m ∷ ns) up (suc j) d within =
     let a = ltb-true n.0 m.0 two.0 in
     let b = above_all m ns two.1 j d (omega arith) in
     omega arith
-
-rises_on : (n : WordId) (ns : List WordId) → names_rise (n ∷ ns) ≡ true → names_rise ns ≡ true
-rises_on n [] up = refl
-rises_on n (m ∷ ns) up = (and_parts (nat_lt n.0 m.0) (names_above m ns) up).1
 
 -- names that rise are in order of number
 pub rise_pairs : (ns : List WordId) → names_rise ns ≡ true → AllPairs (λ n later. n.0 < later.0) ns

@@ -77,7 +77,7 @@ second-found None q none = refl
 second-found (Some x) q none = absurd (none-some x.place (sym none))
 
 -- what is found in neither of two lists
-find-neither : (test : Placed → Bool) (xs ys : List Placed) → find test (xs ++ ys) ≡ None → (find test xs ≡ None) × (find test ys ≡ None)
+pub find-neither : (test : Placed → Bool) (xs ys : List Placed) → find test (xs ++ ys) ≡ None → (find test xs ≡ None) × (find test ys ≡ None)
 find-neither test xs ys none = by_case (find test xs) (find test ys) (sym (find-append test xs ys) ∙ none)
   where
     by_case : (o q : Option Placed) → option_or o q ≡ None → (o ≡ None) × (q ≡ None)

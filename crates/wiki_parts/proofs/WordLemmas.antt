@@ -31,11 +31,12 @@ readings-none kind id token place (form ∷ forms) none = by_test (bytes_eq toke
     by_test false rest none = rest none
 
 -- nor by a word of which it is no form
-readings_of_word-none : (token : List ℕ) (word : Word) → has_form token word ≡ false → readings_of_word token word ≡ []
+pub readings_of_word-none : (token : List ℕ) (word : Word) → has_form token word ≡ false → readings_of_word token word ≡ []
 readings_of_word-none token word none = readings-none word.forms.kind word.id token 0 word.forms.texts none
 
 -- a word that comes leaves the readings of a token that is none of its forms
-readings-with : (live : List Word) (word : Word) (token : List ℕ) → has_form token word ≡ false → readings_of (live ++ word ∷ []) token ≡ readings_of live token
+pub readings-with : (live : List Word) (word : Word) (token : List ℕ) → has_form token word ≡ false
+    → readings_of (live ++ word ∷ []) token ≡ readings_of live token
 readings-with live word token none =
     flat_map-append (readings_of_word token) live (word ∷ [])
     ∙ ap (λ (rs : List Ground). readings_of live token ++ (rs ++ [])) (readings_of_word-none token word none)

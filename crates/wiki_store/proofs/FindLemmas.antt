@@ -8,6 +8,7 @@ use Rattle.std.proofs.lemmas.Option.{none-some, same_Some}
 use Rattle.wiki_base.specs.declared.numbers.WordId.{WordId}
 use Rattle.wiki_base.specs.declared.numbers.Place.{Place}
 use Rattle.wiki_base.proofs.ListLaws.{drop_slice_get}
+use Rattle.wiki_store.proofs.JudgeLemmas.{means-at}
 use Rattle.codeco_terms.specs.GrammarParts.{GrammarParts}
 use Rattle.lexicon.specs.Words.{Listed, forms_of}
 use Rattle.derivation_trees.specs.Sentences.{IsSentence}
@@ -19,7 +20,6 @@ use Rattle.articles.specs.declared.article.Article.{Article}
 use Rattle.wiki_parts.specs.declared.meanings.Sense.{Sense}
 use Rattle.wiki_parts.specs.Found.{meaning_shown}
 use Rattle.wiki_parts.specs.Kept.{MeanEach, meanings_in}
-use Rattle.wiki_parts.specs.Knowledge.{sentences_in}
 use Rattle.wiki_parts.specs.Meanings.{Meaning, Means}
 use Rattle.wiki_parts.specs.Places.{Placed, placed_from, placed_in, all_placed, IsFirstPlaced}
 use Rattle.wiki_parts.specs.Refusing.{KeepsMeaning, TellsPlace}
@@ -27,7 +27,7 @@ use Rattle.wiki_parts.specs.State.{State, IsSound}
 use Rattle.wiki_parts.proofs.MeaningLemmas.{means_one}
 use Rattle.wiki_store.specs.Rewording.{Finds, FindsPlace, IsBroken}
 use Rattle.wiki_store.specs.Sameness.{same_meaning}
-use Rattle.wiki_store.proofs.KeepingLemmas.{all_parts, as_many}
+use Rattle.wiki_store.proofs.KeepingLemmas.{as_many}
 use Rattle.wiki_store.proofs.SameMeanings.{meaning_equal, meaning_self}
 use Rattle.wiki_store.proofs.UnwordLemmas.{lives-at, told-found, none-found}
 
@@ -230,25 +230,6 @@ told_kept g words new tokens kept found false is before after = λ keeps.
 pub not_kept : (g : GrammarParts) (words new : Listed) (tokens : List (List ℕ)) → (IsSentence g new tokens → ⊥) → KeepsMeaning g words new tokens → ⊥
 not_kept g words new tokens none keeps = let least = keeps.after.is_least in none (least.tree, least.derives)
 
--- the meaning that is kept of the sentence at a place
-pub mean_each-at : (g : GrammarParts) (words : Listed) (sentences : List Sentence) (senses : List Sense) (at : ℕ) (s : Sentence) (m : Sense)
-    → MeanEach g words sentences (meanings_in senses)
-    → slice_get sentences at ≡ Some s → slice_get senses at ≡ Some m → Means g words s.tokens (meaning_shown m)
-mean_each-at g words [] senses at s m mean here meant = absurd (none-some s here)
-mean_each-at g words (t ∷ ts) [] at s m mean here meant = absurd mean
-mean_each-at g words (t ∷ ts) (n ∷ ns) zero s m mean here meant =
-    subst (λ (u : Sentence). Means g words u.tokens (meaning_shown m)) (same_Some t s here)
-    (subst (λ (k : Sense). Means g words t.tokens (meaning_shown k)) (same_Some n m meant) mean.0.0)
-mean_each-at g words (t ∷ ts) (n ∷ ns) (suc at) s m mean here meant = mean_each-at g words ts ns at s m mean.1 here meant
-
--- what is true of all sentences is true of those of the article at a place
-pub all_at : (P : Sentence → Type 0) (articles : List Article) (i : ℕ) (a : Article) → slice_get articles i ≡ Some a → All P (sentences_in articles)
-    → All P a.sentences
-all_at P [] i a here all = absurd (none-some a here)
-all_at P (b ∷ articles) zero a here all =
-    subst (λ (c : Article). All P c.sentences) (same_Some b a here) (all_parts P b.sentences (sentences_in articles) all).0
-all_at P (b ∷ articles) (suc i) a here all = all_at P articles i a here (all_parts P b.sentences (sentences_in articles) all).1
-
 module _ (g : GrammarParts) (words new : Listed) (article : Article) (senses : List Sense) (at : ℕ) (s : Sentence) (m : Sense) (kept : Bool)
     (here : slice_get article.sentences at ≡ Some s) (meant : slice_get senses at ≡ Some m) (mean : MeanEach g words article.sentences (meanings_in senses))
     (told : Means g words s.tokens (meaning_shown m) → MatchBool kept (KeepsMeaning g words new s.tokens) (KeepsMeaning g words new s.tokens → ⊥)) where
@@ -260,7 +241,7 @@ module _ (g : GrammarParts) (words new : Listed) (article : Article) (senses : L
       → FindsPlace (λ placed. KeepsMeaning g words new placed.sentence.tokens) (placed_in article) (Some (record { article = article.word; at = at }))
   told_broken is rest =
       let lacks = subst (λ (b : Bool). MatchBool b (KeepsMeaning g words new s.tokens) (KeepsMeaning g words new s.tokens → ⊥)) is
-      (told (mean_each-at g words article.sentences senses at s m mean here meant)) in
+      (told (means-at g words article.sentences senses at s m mean here meant)) in
       record {
         found = Some (record { word = article.word; place = at; sentence = s });
         told = refl;
@@ -274,7 +255,7 @@ module _ (g : GrammarParts) (words new : Listed) (article : Article) (senses : L
       → Finds (λ placed. KeepsMeaning g words new placed.sentence.tokens) (placed_from article.word at (drop at article.sentences)) found
   still_kept is found rest =
       let holds = subst (λ (b : Bool). MatchBool b (KeepsMeaning g words new s.tokens) (KeepsMeaning g words new s.tokens → ⊥)) is
-      (told (mean_each-at g words article.sentences senses at s m mean here meant)) in
+      (told (means-at g words article.sentences senses at s m mean here meant)) in
       next_kept (λ placed. KeepsMeaning g words new placed.sentence.tokens) article.word article.sentences at s found here holds rest
 
 -- as many meanings are kept as there are sentences

@@ -5,17 +5,16 @@ use Rattle.std.specs.Option.{option_map_or}
 use Rattle.std.specs.Str.{bytes_eq}
 use Rattle.std.proofs.lemmas.Bool.{false≢true, or_right, eqb-true}
 use Rattle.std.proofs.lemmas.Option.{none-some, slice_get_within, slice_get-map, same_Some}
-use Rattle.std.proofs.lemmas.Slice.Eq.{bytes_eq-Decides}
 use Rattle.wiki_base.specs.declared.numbers.WordId.{WordId}
 use Rattle.wiki_base.proofs.OptionLaws.{option_or-none}
 use Rattle.wiki_base.proofs.ListLaws.{AllPairs-head, AllPairs-tail}
-use Rattle.lexicon.proofs.Reading.{readings_from_none}
+use Rattle.lexicon.proofs.Adding.{free_texts, unreserved_texts}
+use Rattle.wiki_parts.proofs.WordLemmas.{readings-with, readings_of_word-none}
 use Rattle.codeco_terms.specs.declared.categories.Ground.{Ground}
 use Rattle.codeco_terms.specs.GrammarParts.{GrammarParts}
 use Rattle.scopes.specs.Resolution.{agrees}
 use Rattle.lexicon.specs.declared.kinds.Forms.{Forms}
 use Rattle.lexicon.specs.declared.words.Word.{Word}
-use Rattle.lexicon.specs.declared.words.LexFault.TheVariants.{Taken, Reserved}
 use Rattle.lexicon.specs.Terminals.{is_spelling_of, is_reserved, raised}
 use Rattle.lexicon.specs.Words.{Listed, is_among, has_form, has_number, owner, forms_of, others, next_word, with_word, with_forms, without_word, first_taken, first_reserved, fullness, forms_refusal, add_refusal}
 use Rattle.lexicon.specs.Readings.{readings_of_word, readings_of}
@@ -77,10 +76,6 @@ means_by g words new tokens meaning same means =
 
 -- ---- readings by other words
 
--- a word without the token has no readings of it
-word_reads_none : (token : List ℕ) (word : Word) → has_form token word ≡ false → readings_of_word token word ≡ []
-word_reads_none token word lacks = readings_from_none word.forms.kind word.id token 0 word.forms.texts lacks
-
 -- a token that no word has has no readings
 unowned_reads_none : (live : List Word) (token : List ℕ) → owner live token ≡ None → readings_of live token ≡ []
 unowned_reads_none [] token none = refl
@@ -90,38 +85,7 @@ unowned_reads_none (word ∷ live) token none = by_test (has_form token word) re
         → (owner live token ≡ None → readings_of live token ≡ [])
         → readings_of_word token word ++ readings_of live token ≡ []
     by_test true is taken rest = absurd (none-some word.id (sym taken))
-    by_test false is free rest = ap (λ rs. rs ++ readings_of live token) (word_reads_none token word is) ∙ rest free
-
--- where none of the texts is taken, no word has any of them
-free_texts : (live : List Word) (texts : List (List ℕ)) → first_taken live texts ≡ None → (text : List ℕ) → is_among texts text ≡ true → owner live text ≡ None
-free_texts live [] free text among = absurd (false≢true among)
-free_texts live (first ∷ texts) free text among =
-    let both = option_or-none (option_map (Taken first) (owner live first)) (first_taken live texts) free in
-    by_test (bytes_eq text first) (bytes_eq-Decides text first).0 among (unmapped (owner live first) both.0) (free_texts live texts both.1 text)
-  where
-    unmapped : (o : Option WordId) → option_map (Taken first) o ≡ None → o ≡ None
-    unmapped None none = refl
-    unmapped (Some id) none = absurd (none-some (Taken first id) (sym none))
-
-    by_test : (b : Bool) → (b ≡ true → text ≡ first) → (b || is_among texts text) ≡ true → owner live first ≡ None
-        → (is_among texts text ≡ true → owner live text ≡ None) → owner live text ≡ None
-    by_test true same among head tail = subst (λ (t : List ℕ). owner live t ≡ None) (sym (same refl)) head
-    by_test false same among head tail = tail among
-
--- where no text is reserved, none of them is
-unreserved_texts : (terminals texts : List (List ℕ)) → first_reserved terminals texts ≡ None → (text : List ℕ) → is_among texts text ≡ true
-    → is_reserved terminals text ≡ false
-unreserved_texts terminals [] free text among = absurd (false≢true among)
-unreserved_texts terminals (first ∷ texts) free text among =
-    by_test (bytes_eq text first) (is_reserved terminals first) refl (bytes_eq-Decides text first).0 among free
-    (λ rest. unreserved_texts terminals texts rest text)
-  where
-    by_test : (b r : Bool) → is_reserved terminals first ≡ r → (b ≡ true → text ≡ first) → (b || is_among texts text) ≡ true
-        → cond r (Some (Reserved first)) (first_reserved terminals texts) ≡ None
-        → (first_reserved terminals texts ≡ None → is_among texts text ≡ true → is_reserved terminals text ≡ false) → is_reserved terminals text ≡ false
-    by_test b true is same among free rest = absurd (none-some (Reserved first) (sym free))
-    by_test true false is same among free rest = subst (λ (t : List ℕ). is_reserved terminals t ≡ false) (sym (same refl)) is
-    by_test false false is same among free rest = rest free among
+    by_test false is free rest = ap (λ rs. rs ++ readings_of live token) (readings_of_word-none token word is) ∙ rest free
 
 -- a form that may be given to a word stands for nothing by the words that have it not
 free_form : (live : List Word) (terminals : List (List ℕ)) (forms : Forms) (token : List ℕ) → forms_refusal live terminals forms ≡ None
@@ -138,12 +102,6 @@ stands_for_none terminals live token free none (inr reads) = reads none
 
 -- ---- a word more
 
--- a word at the end reads only its forms
-readings_added : (live : List Word) (word : Word) (token : List ℕ) → has_form token word ≡ false
-    → readings_of (live ++ word ∷ []) token ≡ readings_of live token
-readings_added [] word token lacks = ap (λ rs. rs ++ []) (word_reads_none token word lacks)
-readings_added (first ∷ live) word token lacks = ap (λ rs. readings_of_word token first ++ rs) (readings_added live word token lacks)
-
 -- what stands for something reads the same with a word more
 readings-with_word : (words : Listed) (forms : Forms) (token : List ℕ) → forms_refusal words.live words.terminals forms ≡ None
     → StandsFor words.terminals words.live token
@@ -154,7 +112,7 @@ readings-with_word words forms token free stands = by_test (is_among forms.texts
     by_test true among =
         let form = free_form words.live words.terminals forms token free among in
         absurd (stands_for_none words.terminals words.live token form.1 (unowned_reads_none words.live token form.0) stands)
-    by_test false lacks = readings_added words.live (next_word words forms) token lacks
+    by_test false lacks = readings-with words.live (next_word words forms) token lacks
 
 -- a sentence keeps its meaning where a word is added
 pub means-with_word : (g : GrammarParts) (words : Listed) (forms : Forms) (tokens : List (List ℕ)) (meaning : Meaning) → words.terminals ≡ g.terminals
@@ -208,7 +166,7 @@ readings-others (word ∷ live) id token lacks = by_test (has_number id word) la
   where
     by_test : (b : Bool) → (b ≡ true → has_form token word ≡ false) → readings_of (others live id) token ≡ readings_of live token
         → readings_of (cond (not b) (word ∷ others live id) (others live id)) token ≡ readings_of_word token word ++ readings_of live token
-    by_test true here rest = rest ∙ sym (ap (λ rs. rs ++ readings_of live token) (word_reads_none token word (here refl)))
+    by_test true here rest = rest ∙ sym (ap (λ rs. rs ++ readings_of live token) (readings_of_word-none token word (here refl)))
     by_test false here rest = ap (λ rs. readings_of_word token word ++ rs) rest
 
 -- a token that the word lacks, and that is none of its other forms, reads the same with them
@@ -223,8 +181,8 @@ readings_changed (word ∷ live) id forms token fresh lacks = by_test (has_numbe
     by_test : (b : Bool) → (b ≡ true → has_form token word ≡ false) → readings_of left token ≡ readings_of live token
         → readings_of_word token (cond b (record word { forms = forms }) word) ++ readings_of left token ≡ readings_of_word token word ++ readings_of live token
     by_test true here rest =
-        ap (λ rs. rs ++ readings_of left token) (word_reads_none token (record word { forms = forms }) fresh) ∙ rest
-        ∙ sym (ap (λ rs. rs ++ readings_of live token) (word_reads_none token word (here refl)))
+        ap (λ rs. rs ++ readings_of left token) (readings_of_word-none token (record word { forms = forms }) fresh) ∙ rest
+        ∙ sym (ap (λ rs. rs ++ readings_of live token) (readings_of_word-none token word (here refl)))
     by_test false here rest = ap (λ rs. readings_of_word token word ++ rs) rest
 
 -- what stands for something, and is no form of the word, reads the same where the word gets other forms

@@ -5,6 +5,7 @@ use Rattle.std.proofs.lemmas.Bool.{false≢true}
 use Rattle.std.proofs.lemmas.List.Elements.{All-nil, All-cons, All-head, All-tail, All-append}
 use Rattle.std.proofs.lemmas.Option.{none-some, slice_get_within, get_or_from_slice_get, same_Some}
 use Rattle.wiki_base.specs.declared.numbers.WordId.{WordId}
+use Rattle.wiki_store.proofs.KeepingLemmas.{all_parts}
 use Rattle.lexicon.specs.declared.kinds.Forms.{Forms}
 use Rattle.lexicon.specs.declared.words.Word.{Word}
 use Rattle.lexicon.specs.declared.words.LexFault.{LexFault}
@@ -138,10 +139,6 @@ placed_sentences Q word place (s ∷ ss) all =
     let first : Placed = record { word = word; place = place; sentence = s } in
     All-cons Q s ss (All-head (λ (p : Placed). Q p.sentence) first (placed_from word (place + 1) ss) all)
     (placed_sentences Q word (place + 1) ss (All-tail (λ (p : Placed). Q p.sentence) first (placed_from word (place + 1) ss) all))
-
-all_parts : (P : Placed → Type 0) (xs ys : List Placed) → All P (xs ++ ys) → All P xs × All P ys
-all_parts P [] ys all = (All-nil P, all)
-all_parts P (x ∷ xs) ys all = let rest = all_parts P xs ys (All-tail P x (xs ++ ys) all) in (All-cons P x xs (All-head P x (xs ++ ys) all) rest.0, rest.1)
 
 each_sentence : (Q : Sentence → Type 0) (articles : List Article) → All (λ placed. Q placed.sentence) (all_placed articles) → All Q (sentences_in articles)
 each_sentence Q [] all = All-nil Q

@@ -1,7 +1,7 @@
 -- Meanings that the test calls the same are one, and each is the same as itself.
 use Rattle.std.proofs.Common.{◌≡◌, ◌≢◌, ℕ, suc, ◌+◌, ◌≤◌, ◌&&◌, Bool, true, false, List, [], ◌∷◌, length, drop, Some, refl, ap, ◌∙◌}
 use Rattle.std.specs.List.{slice_get}
-use Rattle.std.proofs.lemmas.Bool.{false≢true, and_parts}
+use Rattle.std.proofs.lemmas.Bool.{false≢true, and_parts, and_from}
 use Rattle.std.proofs.Math.Bool.{and-false}
 use Rattle.wiki_base.proofs.ListLaws.{drop_slice_get}
 use Rattle.logic_terms.specs.declared.cause.Cause.{Cause}
@@ -57,17 +57,14 @@ claim_equal (DifferentIndividuals a b) (DifferentIndividuals c d) h =
     ap (λ x. DifferentIndividuals x b) (word_equal a c p.0) ∙ ap (λ x. DifferentIndividuals c x) (word_equal b d p.1)
 claim_equal _ _ h = absurd (false≢true h)
 
-both_true : {a b : Bool} → a ≡ true → b ≡ true → (a && b) ≡ true
-both_true {a} {b} h k = ap (λ x. x && b) h ∙ k
-
 claim_self : (c : Claim) → same_claim c c ≡ true
-claim_self (SubClassOf c d) = both_true (same_concept-self c) (same_concept-self d)
-claim_self (SubPropertyOf r s) = both_true (same_role-self r) (same_role-self s)
-claim_self (ClassAssertion c a) = both_true (same_concept-self c) (same_word a)
-claim_self (PropertyAssertion r a b) = both_true (both_true (same_role-self r) (same_word a)) (same_word b)
-claim_self (NegativePropertyAssertion r a b) = both_true (both_true (same_role-self r) (same_word a)) (same_word b)
-claim_self (SameIndividual a b) = both_true (same_word a) (same_word b)
-claim_self (DifferentIndividuals a b) = both_true (same_word a) (same_word b)
+claim_self (SubClassOf c d) = and_from _ _ (same_concept-self c) (same_concept-self d)
+claim_self (SubPropertyOf r s) = and_from _ _ (same_role-self r) (same_role-self s)
+claim_self (ClassAssertion c a) = and_from _ _ (same_concept-self c) (same_word a)
+claim_self (PropertyAssertion r a b) = and_from _ _ (and_from _ _ (same_role-self r) (same_word a)) (same_word b)
+claim_self (NegativePropertyAssertion r a b) = and_from _ _ (and_from _ _ (same_role-self r) (same_word a)) (same_word b)
+claim_self (SameIndividual a b) = and_from _ _ (same_word a) (same_word b)
+claim_self (DifferentIndividuals a b) = and_from _ _ (same_word a) (same_word b)
 
 claims_equal : (cs ds : List Claim) → same_claims cs ds ≡ true → cs ≡ ds
 claims_equal [] [] h = refl
@@ -79,7 +76,7 @@ claims_equal (c ∷ cs) (d ∷ ds) h =
 
 claims_self : (cs : List Claim) → same_claims cs cs ≡ true
 claims_self [] = refl
-claims_self (c ∷ cs) = both_true (claim_self c) (claims_self cs)
+claims_self (c ∷ cs) = and_from _ _ (claim_self c) (claims_self cs)
 
 pub meaning_equal : (m n : Meaning) → same_meaning m n ≡ true → m ≡ n
 meaning_equal (stating cs) (stating ds) h = ap stating (claims_equal cs ds h)

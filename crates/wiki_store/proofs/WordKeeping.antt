@@ -1,11 +1,9 @@
 -- What is kept beside the state by other words: with a word more, with one less, and with other forms of one.
 use Rattle.std.proofs.Common.{◌≡◌, ℕ, zero, suc, ◌+◌, ◌<◌, ◌≤◌, ◌||◌, ◌==◌, Bool, true, false, cond, List, [], ◌∷◌, ◌++◌, length, map, find, All, Option, Some, None, unwrap_or, refl, sym, ap, subst, ◌∙◌, arith, append-nil}
 use Rattle.std.specs.List.{slice_get, remove, list_any}
-use Rattle.std.specs.Option.{option_or}
 use Rattle.std.proofs.lemmas.Grind.{flat_map-append}
 use Rattle.std.proofs.lemmas.List.{map-append}
 use Rattle.std.proofs.lemmas.List.Elements.{All-nil, All-cons, All-head, All-tail, All-append}
-use Rattle.std.proofs.lemmas.List.Folds.{find-append}
 use Rattle.std.proofs.lemmas.Option.{none-some, get_or_from_slice_get}
 use Rattle.wiki_base.specs.declared.numbers.WordId.{WordId}
 use Rattle.wiki_base.specs.declared.tokens.TheConstants.{MOST_TOKENS}
@@ -25,11 +23,11 @@ use Rattle.wiki_parts.specs.declared.meanings.Sense.{Sense}
 use Rattle.wiki_parts.specs.Kept.{meanings_in, known_of, known_in, MeanEach, MeanInEach, IsKeeping}
 use Rattle.wiki_parts.specs.Knowledge.{sentences_in}
 use Rattle.wiki_parts.specs.Meanings.{Meaning, Means}
-use Rattle.wiki_parts.specs.Places.{Placed, placed_from, placed_in, all_placed}
+use Rattle.wiki_parts.specs.Places.{placed_from, placed_in, all_placed}
 use Rattle.wiki_parts.specs.Refusing.{KeepsMeaning, uses_word}
 use Rattle.wiki_parts.specs.State.{State}
 use Rattle.wiki_parts.proofs.MeaningLemmas.{means_one}
-use Rattle.wiki_parts.proofs.UseLemmas.{empty-unused}
+use Rattle.wiki_parts.proofs.UseLemmas.{empty-unused, find-neither}
 use Rattle.wiki_store.specs.Rewording.{KeepsSentences, IsGone}
 use Rattle.wiki_store.proofs.AroundLemmas.{known_in-append, item}
 use Rattle.wiki_store.proofs.KeepingLemmas.{all_parts, as_many_lists}
@@ -133,18 +131,11 @@ unused-in word forms other place (s ∷ ss) none =
     by_tests false true is found rest = absurd (none-some _ (sym found))
     by_tests false false is none rest = All-cons (λ t. list_any (is_among forms.texts) t.tokens ≡ false) s ss is (rest none)
 
-find_neither : (test : Placed → Bool) (xs ys : List Placed) → find test (xs ++ ys) ≡ None → (find test xs ≡ None) × (find test ys ≡ None)
-find_neither test xs ys none = by_case (find test xs) (find test ys) (sym (find-append test xs ys) ∙ none)
-  where
-    by_case : (o q : Option Placed) → option_or o q ≡ None → (o ≡ None) × (q ≡ None)
-    by_case None q is = (refl, is)
-    by_case (Some x) q is = absurd (none-some x (sym is))
-
 unused-each : (word : WordId) (forms : Forms) (articles : List Article) → find (uses_word word forms) (all_placed articles) ≡ None
     → All (λ s. list_any (is_among forms.texts) s.tokens ≡ false) (sentences_in articles)
 unused-each word forms [] none = All-nil (λ s. list_any (is_among forms.texts) s.tokens ≡ false)
 unused-each word forms (a ∷ articles) none =
-    let parts = find_neither (uses_word word forms) (placed_in a) (all_placed articles) none in
+    let parts = find-neither (uses_word word forms) (placed_in a) (all_placed articles) none in
     All-append (λ s. list_any (is_among forms.texts) s.tokens ≡ false) a.sentences (sentences_in articles) (unused-in word forms a.word 0 a.sentences parts.0)
     (unused-each word forms articles parts.1)
 

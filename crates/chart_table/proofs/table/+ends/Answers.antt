@@ -1,7 +1,7 @@
 use Rattle.std.proofs.Common.{◌<◌, None, length, ap, ◌∙◌, sym, subst, arith, rules}
+use Rattle.std.proofs.lemmas.Option.{slice_get_within}
 use Rattle.derivation_trees.proofs.StandLemmas.{not_sub}
 use Rattle.chart_table.proofs.TurnLemmas.{steps_turn, steps_done}
-use Rattle.chart_table.proofs.TableLemmas.{row_below}
 use Rattle.chart_table.proofs.CutLemmas.{after_none}
 use Rattle.chart_table.proofs.HeadLemmas.{cut_before_none, heads_turn, heads_done, among_none, enters_not, all_after_last, rule_cut, cut_rule_turn, start_cuts}
 use Rattle.chart_table.proofs.CycleLemmas.{row_found, row_returned, rows_returned, finished_same, start_steps, start_rules, rule_turn, rules_done, cuts_done, rule_pushed, after_turn, after_done, cut_turn, cut_done, plain_state, category_returned, category_cut, heads_same, not_category}
@@ -180,12 +180,12 @@ push_category-returns-clause-cuts t c =
 pub push_category-push_row-requires : goal.push_category-push_row-requires
 push_category-push_row-requires t c =
     let has = c.in_ok-row.ensures.row in
-    subst (λ l. c.in_ok-row.row < length l) (sym c.as_slice-3.ensures) (row_below c.row_of.new.rows c.in_ok-row.row has.row has.is)
+    subst (λ l. c.in_ok-row.row < length l) (sym c.as_slice-3.ensures) (slice_get_within c.row_of.new.rows c.in_ok-row.row has.row has.is)
 
 pub push_category-push_row_cuts-requires-clause-number : goal.push_category-push_row_cuts-requires-clause-number
 push_category-push_row_cuts-requires-clause-number t c =
     let has = c.in_ok-row.ensures.row in
-    subst (λ l. c.in_ok-row.row < length l) (sym c.as_slice-4.ensures) (row_below c.row_of.new.rows c.in_ok-row.row has.row has.is)
+    subst (λ l. c.in_ok-row.row < length l) (sym c.as_slice-4.ensures) (slice_get_within c.row_of.new.rows c.in_ok-row.row has.row has.is)
 
 pub push_rule-returns-then-not-may_go-clause-ends : goal.push_rule-returns-then-not-may_go-clause-ends
 push_rule-returns-then-not-may_go-clause-ends t c =

@@ -1,8 +1,9 @@
 use Rattle.std.proofs.Common.{ap, sym, subst}
 use Rattle.std.proofs.lemmas.Result.{IfOk-weaker}
+use Rattle.std.proofs.lemmas.Option.{slice_get_within}
 use Rattle.chart_table.specs.Choices.{EachPlan}
 use Rattle.chart_trees.proofs.LeastLemmas.{told, best_in}
-use Rattle.chart_trees.proofs.TableLemmas.{tables_none, row_below}
+use Rattle.chart_trees.proofs.TableLemmas.{tables_none}
 use Rattle.chart_trees.proofs.skeletons.least_in.Goals as goal
 
 pub best_of-requires-clause-tables : goal.best_of-requires-clause-tables
@@ -17,7 +18,7 @@ best_of-requires-clause-plans c =
 pub get-row-requires : goal.get-row-requires
 get-row-requires c =
     let has = c.in_ok-number.ensures.row in
-    row_below c.best_of.new.tables.rows c.in_ok-number.number has.row has.is
+    slice_get_within c.best_of.new.tables.rows c.in_ok-number.number has.row has.is
 
 pub least_among-requires : goal.least_among-requires
 least_among-requires c =

@@ -1,4 +1,5 @@
 use Rattle.std.proofs.Common.{◌<◌, ◌++◌, ◌∷◌, [], length, map, ap, ◌∙◌, sym, subst, arith, rules}
+use Rattle.std.proofs.lemmas.Option.{slice_get_within}
 use Rattle.derivation_trees.proofs.StandLemmas.{not_sub}
 use Rattle.chart_trees.specs.Paths.{path_of}
 use Rattle.chart_trees.specs.Ways.{AreReached, AreStepsOf}
@@ -7,7 +8,7 @@ use Rattle.codeco_terms.specs.declared.elements.Element.TheVariants.{Sub}
 use Rattle.derivation_trees.specs.Derives.{At}
 use Rattle.chart_trees.proofs.WayLemmas.{steps_none, steps_turn, steps_done, reached_first, reached_turn, reached_done}
 use Rattle.chart_trees.proofs.OutcomeLemmas.{instance_trees, no_trees, trees_none, trees_turn, trees_done, rule_trees, other_trees, up_to_none, up_to_turn, up_to_done}
-use Rattle.chart_trees.proofs.TableLemmas.{rule_numbered, row_found, tables_more, row_new, row_below, plain_pushed, steps_same, child_pushed}
+use Rattle.chart_trees.proofs.TableLemmas.{rule_numbered, row_found, tables_more, row_new, plain_pushed, steps_same, child_pushed}
 use Rattle.chart_table.proofs.PlanLemmas.{plan_there, plan_is}
 use Rattle.chart_trees.proofs.table.+best.Goals as goal
 
@@ -185,4 +186,4 @@ push_child-returns-clause-steps t c =
 pub push_child-push_best-requires : goal.push_child-push_best-requires
 push_child-push_best-requires t c =
     let has = c.in_ok-number.ensures.row in
-    subst (λ l. c.in_ok-number.number < length l) (sym c.as_slice.ensures) (row_below c.best_of.new.tables.rows c.in_ok-number.number has.row has.is)
+    subst (λ l. c.in_ok-number.number < length l) (sym c.as_slice.ensures) (slice_get_within c.best_of.new.tables.rows c.in_ok-number.number has.row has.is)

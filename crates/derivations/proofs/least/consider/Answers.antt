@@ -1,9 +1,9 @@
 use Rattle.std.proofs.Common.{◌≡◌, true, false, rules, sym, subst, ◌∙◌}
 use Rattle.std.proofs.lemmas.Bool.{not-true, not-false}
+use Rattle.derivation_scenes.proofs.ElementLemmas.{true_is_false}
 use Rattle.derivation_trees.specs.Trees.{node_of}
 use Rattle.derivation_trees.specs.Derives.{IsDerivation}
 use Rattle.derivations.specs.Listed.{IsLesser}
-use Rattle.derivations.proofs.Members.{true_is_false}
 use Rattle.derivations.proofs.LeastLemmas.{least_of_same, least_of_more}
 use Rattle.derivations.proofs.least.consider.Goals as goal
 

@@ -8,7 +8,7 @@ use Rattle.tableau_rules.specs.Rules.{first_step, choices}
 use Rattle.tableau_rules.specs.Shown.{graph_of}
 use Rattle.tableau_rules.specs.Trees.{tree_of}
 use Rattle.tableau.specs.Ways.{reached, CloseEach}
-use Rattle.tableau.proofs.WayLemmas.{closes_step, closes_clash, waits_at_none, waits_at_clash, turns_back, leads_to_branch}
+use Rattle.tableau.proofs.WayLemmas.{closes_step, closes_clash, waits_at_none, turns_back, leads_to_branch, open_clash}
 use Rattle.tableau.proofs.turn.next_turn.Goals as goal
 
 pub next-requires-clause-branch : goal.next-requires-clause-branch
@@ -39,4 +39,4 @@ returns-in-Some-clause-turn c =
     subst (λ o. IfSome o (λ d. IsTrue (is_clash k (graph_of c.args.b.now) d))) c.in-Some.is c.requires.there in
     let there : IsTrue (is_clash k s.graph c.in-Some.found) = subst (λ g. IsTrue (is_clash k g c.in-Some.found)) c.requires.here here in
     let shut = closes_clash k s.graph c.in-Some.found there in
-    IfOk-weaker c.back.result _ _ (λ t back. turns_back k s _ t (waits_at_clash k s clash) (back k c.requires.leads shut)) c.back.ensures
+    IfOk-weaker c.back.result _ _ (λ t back. turns_back k s _ t (open_clash k s clash) (back k c.requires.leads shut)) c.back.ensures

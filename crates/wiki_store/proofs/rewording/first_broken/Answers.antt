@@ -2,6 +2,7 @@ use Rattle.std.proofs.Common.{◌≡◌, ◌<◌, ◌≤◌, List, Some, None, l
 use Rattle.std.specs.List.{slice_get}
 use Rattle.wiki_base.specs.declared.tokens.TheConstants.{MOST_TOKENS}
 use Rattle.wiki_base.proofs.ListLaws.{slice_get_at}
+use Rattle.wiki_store.proofs.JudgeLemmas.{all-in-at}
 use Rattle.articles.specs.declared.sentences.Sentence.{Sentence}
 use Rattle.wiki_parts.specs.declared.meanings.Sense.{Sense}
 use Rattle.wiki_parts.specs.Kept.{MeanEach, meanings_in}
@@ -9,7 +10,7 @@ use Rattle.wiki_parts.specs.Places.{placed_in, all_placed}
 use Rattle.wiki_parts.specs.Refusing.{KeepsMeaning}
 use Rattle.wiki_store.proofs.AroundLemmas.{mean_at}
 use Rattle.wiki_store.proofs.KeepingLemmas.{as_many_lists}
-use Rattle.wiki_store.proofs.FindLemmas.{all_at, found_place, passed_place, next_whole, no_place, none_left_in}
+use Rattle.wiki_store.proofs.FindLemmas.{found_place, passed_place, next_whole, no_place, none_left_in}
 use Rattle.wiki_store.proofs.rewording.first_broken.Goals as goal
 
 pub broken_in-requires-clause-short : goal.broken_in-requires-clause-short
@@ -17,7 +18,7 @@ broken_in-requires-clause-short c =
     let here : slice_get c.args.articles.now c.loop-place.place ≡ Some c.index-articles-place.result =
     slice_get_at c.args.articles.now c.loop-place.place c.index-articles-place.result (omega (arith, c.loop-place-test.true, c.min-count.ensures))
     c.index-articles-place.is in
-    all_at (λ (s : Sentence). length s.tokens ≤ MOST_TOKENS) c.args.articles.now c.loop-place.place c.index-articles-place.result here c.requires.short
+    all-in-at (λ (s : Sentence). length s.tokens ≤ MOST_TOKENS) c.args.articles.now c.loop-place.place c.index-articles-place.result here c.requires.short
 
 pub returns-then-is_some : goal.returns-then-is_some
 returns-then-is_some c = λ words mean others.

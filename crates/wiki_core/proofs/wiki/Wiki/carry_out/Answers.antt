@@ -1,38 +1,39 @@
 use Rattle.std.proofs.Common.{◌≡◌, ℕ, List, refl, sym, ap, ◌∙◌}
+use Rattle.wiki_store.proofs.ToldLemmas.{told-keeps}
 use Rattle.wiki_talk.specs.declared.requests.Request.TheVariants as requests
 use Rattle.wiki_core.specs.Holding.{Holding}
-use Rattle.wiki_core.proofs.ToldLemmas.{told_keeps, session_step, pages_step}
+use Rattle.wiki_core.proofs.ToldLemmas.{session_step, pages_step}
 use Rattle.wiki_core.proofs.wiki.Wiki.carry_out.Goals as goal
 
 pub returns-in-Begin-clause-memory : goal.returns-in-Begin-clause-memory
-returns-in-Begin-clause-memory c = told_keeps (c.open.new.self ≡ c.args.self.now) c.open.result c.told.result c.told.ensures.memory c.open.ensures.kept
+returns-in-Begin-clause-memory c = told-keeps (c.open.new.self ≡ c.args.self.now) c.open.result c.told.result c.told.ensures.memory c.open.ensures.kept
 
 pub returns-in-Put-clause-memory : goal.returns-in-Put-clause-memory
-returns-in-Put-clause-memory c = told_keeps (c.type_token.new.self ≡ c.args.self.now) c.type_token.result c.told-in-Put.result c.told-in-Put.ensures.memory
+returns-in-Put-clause-memory c = told-keeps (c.type_token.new.self ≡ c.args.self.now) c.type_token.result c.told-in-Put.result c.told-in-Put.ensures.memory
     c.type_token.ensures.kept
 
 pub returns-in-Back-clause-memory : goal.returns-in-Back-clause-memory
-returns-in-Back-clause-memory c = told_keeps (c.back.new.self ≡ c.args.self.now) c.back.result c.told-in-Back.result c.told-in-Back.ensures.memory
+returns-in-Back-clause-memory c = told-keeps (c.back.new.self ≡ c.args.self.now) c.back.result c.told-in-Back.result c.told-in-Back.ensures.memory
     c.back.ensures.kept
 
 pub returns-in-Commit-clause-memory : goal.returns-in-Commit-clause-memory
-returns-in-Commit-clause-memory c = told_keeps (c.commit.new.self ≡ c.args.self.now) c.commit.result c.told-in-Commit.result c.told-in-Commit.ensures.memory
+returns-in-Commit-clause-memory c = told-keeps (c.commit.new.self ≡ c.args.self.now) c.commit.result c.told-in-Commit.result c.told-in-Commit.ensures.memory
     c.commit.ensures.kept
 
 pub returns-in-Refresh-clause-memory : goal.returns-in-Refresh-clause-memory
-returns-in-Refresh-clause-memory c = told_keeps (c.refresh.new.self ≡ c.args.self.now) c.refresh.result c.told-in-Refresh.result
+returns-in-Refresh-clause-memory c = told-keeps (c.refresh.new.self ≡ c.args.self.now) c.refresh.result c.told-in-Refresh.result
     c.told-in-Refresh.ensures.memory c.refresh.ensures.kept
 
 pub returns-in-Drop-clause-memory : goal.returns-in-Drop-clause-memory
-returns-in-Drop-clause-memory c = told_keeps (c.end.new.self ≡ c.args.self.now) c.end.result c.told-in-Drop.result c.told-in-Drop.ensures.memory
+returns-in-Drop-clause-memory c = told-keeps (c.end.new.self ≡ c.args.self.now) c.end.result c.told-in-Drop.result c.told-in-Drop.ensures.memory
     c.end.ensures.kept
 
 pub returns-in-Reword-clause-memory : goal.returns-in-Reword-clause-memory
-returns-in-Reword-clause-memory c = told_keeps (c.reword.new.self ≡ c.args.self.now) c.reword.result c.told-in-Reword.result c.told-in-Reword.ensures.memory
+returns-in-Reword-clause-memory c = told-keeps (c.reword.new.self ≡ c.args.self.now) c.reword.result c.told-in-Reword.result c.told-in-Reword.ensures.memory
     c.reword.ensures.kept
 
 pub returns-in-Unword-clause-memory : goal.returns-in-Unword-clause-memory
-returns-in-Unword-clause-memory c = told_keeps (c.unword.new.self ≡ c.args.self.now) c.unword.result c.told-in-Unword.result c.told-in-Unword.ensures.memory
+returns-in-Unword-clause-memory c = told-keeps (c.unword.new.self ≡ c.args.self.now) c.unword.result c.told-in-Unword.result c.told-in-Unword.ensures.memory
     c.unword.ensures.kept
 
 pub returns-in-Commit-clause-step : goal.returns-in-Commit-clause-step

@@ -54,12 +54,14 @@ const RELATIVES: [&str; 2] = [
      something that sees something that sees something that sees something that sees something that sees something \
      that sees something that sees something .",
 ];
+
 const COORDINATION: [&str; 2] = [
     "Mary sees something and sees something and sees something .",
     "Mary sees something and sees something and sees something and sees something and sees something and sees \
      something and sees something and sees something and sees something and sees something and sees something \
      and sees something and sees something .",
 ];
+
 const PARTS: [&str; 2] = [
     "Mary sees a part of a part of Mary .",
     "Mary sees a part of a part of a part of a part of a part of a part of a part of a part of a part of a part of \

@@ -1,35 +1,21 @@
 -- Words that come and go leave the meaning of tokens that have none of their forms.
 use Rattle.std.proofs.Common.{◌≡◌, ℕ, ◌+◌, Bool, true, false, not, ◌&&◌, ◌||◌, cond, List, [], ◌∷◌, ◌++◌, map, MatchBool, refl, sym, ap, subst, ◌∙◌, append-nil}
-use Rattle.std.specs.List.{list_any, list_all}
-use Rattle.std.specs.Str.{bytes_eq}
+use Rattle.std.specs.List.{list_all}
 use Rattle.std.proofs.lemmas.Bool.{false≢true}
 use Rattle.std.proofs.lemmas.Grind.{flat_map-append}
 use Rattle.wiki_base.specs.declared.numbers.WordId.{WordId}
 use Rattle.derivation_trees.proofs.ReadingLemmas.{no_readings}
 use Rattle.codeco_terms.specs.declared.categories.Ground.{Ground}
 use Rattle.codeco_terms.specs.GrammarParts.{GrammarParts}
-use Rattle.lexicon.specs.declared.kinds.Kind.{Kind}
 use Rattle.lexicon.specs.declared.kinds.Forms.{Forms}
 use Rattle.lexicon.specs.declared.words.Word.{Word}
 use Rattle.lexicon.specs.Words.{Listed, is_among, has_form, has_number, others, with_word, without_word, next_word}
-use Rattle.lexicon.specs.Readings.{reading, readings_from, readings_of_word, readings_of}
+use Rattle.lexicon.specs.Readings.{readings_of_word, readings_of}
 use Rattle.derivation_trees.specs.Skeletons.{IsLeast}
 use Rattle.logic_terms.specs.Concept.{Claim}
 use Rattle.articles.specs.declared.sentences.Sentence.{Sentence}
 use Rattle.wiki_parts.specs.Meanings.{Meaning, stating, Means}
 use Rattle.wiki_parts.specs.Knowledge.{is_asserted, StatesFirst, AreStated}
-
--- a token that is none of the texts has no reading by them
-readings-none : (kind : Kind) (id : WordId) (token : List ℕ) (place : ℕ) (texts : List (List ℕ)) → list_any (bytes_eq token) texts ≡ false
-    → readings_from kind id token place texts ≡ []
-readings-none kind id token place [] none = refl
-readings-none kind id token place (form ∷ forms) none = by_test (bytes_eq token form) (readings-none kind id token (place + 1) forms) none
-  where
-    by_test : (b : Bool) → (list_any (bytes_eq token) forms ≡ false → readings_from kind id token (place + 1) forms ≡ [])
-        → (b || list_any (bytes_eq token) forms) ≡ false
-        → cond b (reading kind id place form ∷ readings_from kind id token (place + 1) forms) (readings_from kind id token (place + 1) forms) ≡ []
-    by_test true rest none = absurd (false≢true (sym none))
-    by_test false rest none = rest none
 
 -- a word that comes leaves the readings of a token that is none of its forms
 pub readings-with : (live : List Word) (word : Word) (token : List ℕ) → has_form token word ≡ false

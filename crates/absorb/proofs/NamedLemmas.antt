@@ -29,7 +29,7 @@ mutual
   names_in-normal_form (AllValuesFrom role c) = names_in-normal_form c
   names_in-normal_form (HasValue role name) = refl
 
-  names_in-complement : (c : Concept) → names_in (complement c) ≡ names_in c
+  pub names_in-complement : (c : Concept) → names_in (complement c) ≡ names_in c
   names_in-complement Everything = refl
   names_in-complement (Atomic word) = refl
   names_in-complement (ComplementOf c) = names_in-normal_form c

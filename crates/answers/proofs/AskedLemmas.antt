@@ -9,6 +9,7 @@ use Rattle.std.proofs.lemmas.List.{take_all}
 use Rattle.std.proofs.lemmas.List.Folds.{list_all-append}
 use Rattle.std.proofs.lemmas.List.Elements.{All-push, All-nil, All-weaker, Contains-append_left, Contains-push, Contains-push_cases, All-contains}
 use Rattle.wiki_base.specs.declared.numbers.WordId.{WordId}
+use Rattle.absorb.proofs.NamedLemmas.{names_in-complement}
 use Rattle.logic_terms.specs.Concept.{Concept, Claim, ClassAssertion}
 use Rattle.logic_terms.specs.Complement.{complement, is_normal, is_wide}
 use Rattle.logic_terms.specs.Interpretation.{Interpretation, element_of, is_word}
@@ -22,7 +23,6 @@ use Rattle.absorb.specs.Mentioned.{names_in, names_in_claim, is_among, are_over}
 use Rattle.reasoner.specs.Verdicts.{IsFiniteModel, HaveNoModel, SpendsAll}
 use Rattle.tableau_rules.specs.Graph.{Graph}
 use Rattle.answers.specs.Answered.{denied, IsInAll, IsOutsideSome, IsUnknown}
-use Rattle.answers.proofs.NamedIn.{names_in-complement}
 
 -- outside a class is in its complement
 outside_complement : (i : Interpretation) (c : Concept) (x : ℕ) → ¬ IsIn i c x → is_in i (complement c) x ≡ true

@@ -1,10 +1,11 @@
 -- What pictures a finished branch of lawful knowledge is a model of the knowledge.
-use Rattle.std.proofs.Common.{◌≡◌, ℕ, zero, suc, ◌+◌, ◌<◌, ◌≤◌, ◌==◌, ◌&&◌, ◌||◌, Bool, true, false, List, [], ◌∷◌, ◌++◌, length, get_or, Contains, Some, None, slice_get, refl, sym, ap, ◌∙◌, subst, inl, inr, arith}
+use Rattle.std.proofs.Common.{◌≡◌, ℕ, suc, ◌+◌, ◌<◌, ◌≤◌, ◌==◌, ◌&&◌, ◌||◌, Bool, true, false, List, [], ◌∷◌, ◌++◌, length, get_or, Contains, Some, None, slice_get, refl, sym, ap, ◌∙◌, subst, inl, inr, arith}
 use Rattle.std.specs.Prelude.{◌⊎◌, not, is_some}
 use Rattle.std.specs.List.{list_any, list_all}
 use Rattle.std.proofs.lemmas.Bool.{and_parts, and_from, or_cases, or_parts, or_left, or_right, not-true, lt-ltb}
 use Rattle.std.proofs.lemmas.List.Elements.{Contains-get_or}
 use Rattle.wiki_base.specs.declared.numbers.WordId.{WordId}
+use Rattle.wiki_base.proofs.ListLaws.{all_at}
 use Rattle.tableau_rules.proofs.Roots.{node_within}
 use Rattle.logic_terms.proofs.SameLemmas.{same_role-self, same_concept-self}
 use Rattle.tableau_rules.proofs.Labels.{each_has}
@@ -34,11 +35,6 @@ use Rattle.branch_model.proofs.Truth.{Pictures, truth}
 fits_from : (k : Theory) (c : Concept) → is_plain c ≡ true → names_given k c ≡ true → fits k c ≡ true
 fits_from k c p g = and_from (is_normal c) (names_given k c) (and_parts (is_normal c) (is_wide c) p).0 g
 
-each_item : {X : Type 0} (test : X → Bool) (xs : List X) → list_all test xs ≡ true → (j : ℕ) (d : X) → j < length xs → test (get_or xs j d) ≡ true
-each_item test [] h j d lt = absurd (omega arith)
-each_item test (x ∷ xs) h zero d lt = (and_parts (test x) (list_all test xs) h).0
-each_item test (x ∷ xs) h (suc j) d lt = each_item test xs (and_parts (test x) (list_all test xs) h).1 j d (omega arith)
-
 all_items : {X : Type 0} (test : X → Bool) (xs : List X) → ((j : ℕ) (d : X) → j < length xs → test (get_or xs j d) ≡ true) → list_all test xs ≡ true
 all_items test [] h = refl
 all_items test (x ∷ xs) h = and_from (test x) (list_all test xs) (h 0 x (omega arith)) (all_items test xs (λ j d lt. h (suc j) d (omega arith)))
@@ -51,16 +47,16 @@ module _ (k : Theory) (lawful : IsLawful k) (plain : is_plain_theory k ≡ true)
 
   fit_assertions : list_all (λ e. fits k e.1) k.assertions ≡ true
   fit_assertions = all_items (λ e. fits k e.1) k.assertions
-      (λ j d lt. fits_from k (get_or k.assertions j d).1 (each_item (λ e. is_plain e.1) k.assertions plain_parts.0 j d lt)
+      (λ j d lt. fits_from k (get_or k.assertions j d).1 (all_at (λ e. is_plain e.1) k.assertions j d plain_parts.0 lt)
       (and_parts (is_given k (get_or k.assertions j d).0) (names_given k (get_or k.assertions j d).1) (lawful.assertions j d lt)).1)
 
   fit_unfoldings : list_all (λ e. fits k e.1) k.unfoldings ≡ true
   fit_unfoldings = all_items (λ e. fits k e.1) k.unfoldings
-      (λ j d lt. fits_from k (get_or k.unfoldings j d).1 (each_item (λ e. is_plain e.1) k.unfoldings plain_parts.1.0 j d lt) (lawful.unfoldings j d lt))
+      (λ j d lt. fits_from k (get_or k.unfoldings j d).1 (all_at (λ e. is_plain e.1) k.unfoldings j d plain_parts.1.0 lt) (lawful.unfoldings j d lt))
 
   fit_general : list_all (fits k) k.general ≡ true
   fit_general = all_items (fits k) k.general
-      (λ j d lt. fits_from k (get_or k.general j d) (each_item is_plain k.general plain_parts.1.1 j d lt) (lawful.general j d lt))
+      (λ j d lt. fits_from k (get_or k.general j d) (all_at is_plain k.general j d plain_parts.1.1 lt) (lawful.general j d lt))
 
   -- every branch is sound
   pub branch_sound : {g : Graph} → IsBranch k g → IsSound k g
@@ -148,7 +144,7 @@ module _ (k : Theory) (lawful : IsLawful k) (plain : is_plain_theory k ≡ true)
           let given = and_parts (is_given k (get_or k.assertions j d).0) (names_given k (get_or k.assertions j d).1) (lawful.assertions j d lt) in
           let node = named (get_or k.assertions j d).0 given.0 in
           subst (IsIn i (get_or k.assertions j d).1) (sym (pictures.names (get_or k.assertions j d).0 node.0 node.1))
-          (true_at (get_or k.assertions j d).1 (each_item (λ e. fits k e.1) k.assertions fit_assertions j d lt) node.0 node.2 node.3
+          (true_at (get_or k.assertions j d).1 (all_at (λ e. fits k e.1) k.assertions j d fit_assertions lt) node.0 node.2 node.3
           (sound.asserted j d lt node.0 node.1));
       edges = λ j d lt.
           let given = and_parts (is_given k (get_or k.edges j d).1) (is_given k (get_or k.edges j d).2) (lawful.edges j d lt) in
@@ -168,12 +164,12 @@ module _ (k : Theory) (lawful : IsLawful k) (plain : is_plain_theory k ≡ true)
           let there = entry_has (λ u. is_word (get_or k.unfoldings j d).0 u.0) k.unfoldings j d lt
           (Rattle.std.proofs.lemmas.Bool.eq-eqb (get_or k.unfoldings j d).0.0 (get_or k.unfoldings j d).0.0 refl) in
           subst (IsIn i (get_or k.unfoldings j d).1) z.3
-          (true_at (get_or k.unfoldings j d).1 (each_item (λ e. fits k e.1) k.unfoldings fit_unfoldings j d lt) z.0 z.1 z.2
+          (true_at (get_or k.unfoldings j d).1 (all_at (λ e. fits k e.1) k.unfoldings j d fit_unfoldings lt) z.0 z.1 z.2
           (each_has (has_concept (label_at g z.0)) (unfoldings_of k (get_or k.unfoldings j d).0) (get_or k.unfoldings j d).1 all there));
       general = λ j d lt e below inside.
           let z = pictures.reached e below in
           subst (IsIn i (get_or k.general j d)) z.3
-          (true_at (get_or k.general j d) (each_item (fits k) k.general fit_general j d lt) z.0 z.1 z.2
+          (true_at (get_or k.general j d) (all_at (fits k) k.general j d fit_general lt) z.0 z.1 z.2
           (sound.general z.0 (get_or k.general j d) z.1 (here k.general j d lt)));
     }
       where

@@ -9,3 +9,4 @@ pub mod ReadingLemmas
 pub mod OfferLemmas
 pub mod MenuLemmas
 pub mod OfferLoops
+pub mod DropLemmas

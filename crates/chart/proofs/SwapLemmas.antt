@@ -1,14 +1,14 @@
 -- Two words without a form among the tokens may change places, and a last token that brings no new word may be any other.
-use Rattle.std.proofs.Common.{◌≡◌, ℕ, suc, zero, ◌-◌, ◌<◌, List, [], ◌∷◌, ◌++◌, Bool, true, false, ◌&&◌, ◌||◌, map, length, length-append, Some, None, refl, sym, ap, ◌∙◌, subst, nat_lt}
+use Rattle.std.proofs.Common.{◌≡◌, ℕ, ◌-◌, ◌<◌, List, [], ◌∷◌, ◌++◌, Bool, true, false, ◌&&◌, ◌||◌, map, length, length-append, Some, None, refl, sym, ap, ◌∙◌, subst, nat_lt}
 use Rattle.std.specs.Prelude.{if◌then◌else◌, ◌==◌, not, option_map, slice_get}
 use Rattle.std.specs.Option.{option_map_or}
 use Rattle.std.specs.List.{list_any, list_all}
 use Rattle.std.specs.Str.{bytes_eq}
-use Rattle.std.proofs.lemmas.Option.{same_Some, slice_get-map}
+use Rattle.std.proofs.lemmas.Option.{slice_get-map}
 use Rattle.std.proofs.lemmas.Bool.{eqb-true, eqb-false, eq-eqb, ne_eqb}
 use Rattle.std.proofs.lemmas.List.Folds.{list_any-append}
 use Rattle.std.proofs.Math.Bool.{or-false}
-use Rattle.wiki_base.proofs.ListLaws.{slice_get-append}
+use Rattle.wiki_base.proofs.ListLaws.{slice_get-append, all_slice_get}
 use Rattle.codeco_terms.specs.declared.values.Value.{Value}
 use Rattle.codeco_terms.specs.declared.values.Value.TheVariants.{Atom, Word, Pos}
 use Rattle.codeco_terms.specs.declared.values.Term.{Term}
@@ -179,21 +179,16 @@ body_written : (es : List Element) → list_all is_written_element es ≡ true �
 body_written [] h = tt
 body_written (e ∷ es) h = both_true (is_written_element e) (list_all is_written_element es) h (λ a b. (element_written e a, body_written es b))
 
-rule_written : (r : Rule) → is_written_rule r ≡ true → RuleWritten r
-rule_written r h = both_true (is_written_name r.head) (list_all is_written_element r.body) h
+RuleWritten-from_test : (r : Rule) → is_written_rule r ≡ true → RuleWritten r
+RuleWritten-from_test r h = both_true (is_written_name r.head) (list_all is_written_element r.body) h
     (λ a b. (both_true _ (is_written r.head) a (λ _ c. category_written r.head c), body_written r.body b))
-
-all_at : (xs : List Rule) (i : ℕ) (r : Rule) → list_all is_written_rule xs ≡ true → slice_get xs i ≡ Some r → is_written_rule r ≡ true
-all_at [] i r h e = absurd (cc)
-all_at (x ∷ xs) zero r h e = both_true (is_written_rule x) (list_all is_written_rule xs) h (λ a _. ap is_written_rule (sym (same_Some x r e)) ∙ a)
-all_at (x ∷ xs) (suc i) r h e = both_true (is_written_rule x) (list_all is_written_rule xs) h (λ _ b. all_at xs i r b e)
 
 pub rules_written : (g : GrammarParts) → IsSound g → RulesWritten g
 rules_written g sound number rule has = at (number == 0) has
   where
     at : (t : Bool) → (if t then None else slice_get g.rules (number - 1)) ≡ Some rule → RuleWritten rule
     at true e = absurd (cc)
-    at false e = rule_written rule (all_at g.rules (number - 1) rule sound.written.rules e)
+    at false e = RuleWritten-from_test rule (all_slice_get is_written_rule g.rules (number - 1) rule sound.written.rules e)
 
 -- settings that differ in the last token
 

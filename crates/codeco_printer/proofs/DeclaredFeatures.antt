@@ -101,8 +101,8 @@ body_written g (e ∷ es) h =
     all_append (has_features g) (element_categories (written_element g e)) (flat_map element_categories (map (written_element g) es))
     (element_written g e parts.0) (body_written g es parts.1)
 
-rule_written : (g : GrammarParts) (r : Rule) → feats_below g r ≡ true → list_all (is_feature g) (written_features (written_rule g r)) ≡ true
-rule_written g r h =
+written_features-written_rule : (g : GrammarParts) (r : Rule) → feats_below g r ≡ true → list_all (is_feature g) (written_features (written_rule g r)) ≡ true
+written_features-written_rule g r h =
     let below = all_weaken (feat_below g) (feature_below g) (λ f q. (and_parts (ltb f.0 (length g.features)) (atom_below g f.1) q).0) (rule_features r) h in
     let each = all_flat (feature_below g) (λ c. c.feats) (rule_mentions r) below in
     let parts = and_parts (has_numbers_below g r.head) (list_all (has_numbers_below g) (flat_map mentions r.body)) each in
@@ -115,7 +115,8 @@ rules_written_below : (g : GrammarParts) (rs : List Rule) → list_all (feats_be
 rules_written_below g [] h = refl
 rules_written_below g (r ∷ rs) h =
     let parts = and_parts (feats_below g r) (list_all (feats_below g) rs) h in
-    all_append (is_feature g) (written_features (written_rule g r)) (flat_map written_features (map (written_rule g) rs)) (rule_written g r parts.0)
+    all_append (is_feature g) (written_features (written_rule g r)) (flat_map written_features (map (written_rule g) rs))
+    (written_features-written_rule g r parts.0)
     (rules_written_below g rs parts.1)
 
 -- the features that a sound grammar's rules write are among its features

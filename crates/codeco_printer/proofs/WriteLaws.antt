@@ -209,11 +209,11 @@ list_turn F f step o now next whole xs i x lt is before after =
     ∙ before
 
 -- a rule from its parts
-pub rule_written : (g : GrammarParts) (r : Rule) (o labelled headed next : Output) (a : Lexeme) (bodied : Output)
+pub write-rule : (g : GrammarParts) (r : Rule) (o labelled headed next : Output) (a : Lexeme) (bodied : Output)
     → labelled ≡ write o (label_lexemes (option_map label_name r.label)) → headed ≡ write labelled (named (written_category g r.head)) → a ≡ arrow r.closing
     → bodied ≡ write (put headed a) (body_lexemes (map (written_element g) r.body)) → next ≡ put bodied (lexeme.Sign sign.Stop)
     → next ≡ write o (item_lexemes (item.Rule (written_rule g r)))
-rule_written g r o labelled headed next a bodied is_labelled is_headed is_arrow is_bodied is_next =
+write-rule g r o labelled headed next a bodied is_labelled is_headed is_arrow is_bodied is_next =
     let label = label_lexemes (option_map label_name r.label) in
     let head = named (written_category g r.head) in
     let body = body_lexemes (map (written_element g) r.body) in

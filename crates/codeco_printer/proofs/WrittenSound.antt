@@ -151,9 +151,9 @@ label_written : (l : Option Label) → label_spelled (option_map label_name l) �
 label_written None = refl
 label_written (Some l) = label_named l
 
-rule_written : (g : GrammarParts) (r : Rule) → IsSound g → is_written_rule r ≡ true → list_all (category_named g) (rule_mentions r) ≡ true
+item_spelled-written_rule : (g : GrammarParts) (r : Rule) → IsSound g → is_written_rule r ≡ true → list_all (category_named g) (rule_mentions r) ≡ true
     → list_all (terminal_named g) (rule_terminals r) ≡ true → item_spelled (item.Rule (written_rule g r)) ≡ true
-rule_written g r s w m t =
+item_spelled-written_rule g r s w m t =
     let ws = and_parts (is_written_name r.head) (list_all is_written_element r.body) w in
     let ms = and_parts (category_named g r.head) (list_all (category_named g) (flat_map mentions r.body)) m in
     and_from (label_spelled (option_map label_name r.label))
@@ -184,7 +184,7 @@ written_spelled g s =
     let C : Rule → Bool = λ r. list_all (terminal_named g) (rule_terminals r) in
     let rules : list_all (λ r. item_spelled (item.Rule (written_rule g r))) g.rules ≡ true =
     all_weaken (λ r. (A r && B r) && C r) (λ r. item_spelled (item.Rule (written_rule g r)))
-    (λ r h. let parts = and_parts (A r && B r) (C r) h in let front = and_parts (A r) (B r) parts.0 in rule_written g r s front.0 front.1 parts.1)
+    (λ r h. let parts = and_parts (A r && B r) (C r) h in let front = and_parts (A r) (B r) parts.0 in item_spelled-written_rule g r s front.0 front.1 parts.1)
     g.rules (all_both (λ r. A r && B r) C g.rules (all_both A B g.rules s.written.rules (mentions_named g s)) (terminals_named g s)) in
     let P : Feature → Bool = λ f. is_identifier f.name in
     let Q : Feature → Bool = λ f. list_all (λ a. is_identifier (name_at g.atoms a)) (declared_atoms f.declared) in

@@ -10,3 +10,4 @@ pub mod WordLemmas
 pub mod CodeLemmas
 pub mod SketchLemmas
 pub mod ValueLemmas
+pub mod ReadingLemmas

@@ -67,7 +67,7 @@ of_finding values positive finding [] stand mid h = cc
 of_finding values positive finding (pos ∷ rest) stand mid h =
     of_test (is_found values positive pos finding) stand (record { at = stand.at; found = rest; own = stand.own; children = stand.children }) mid refl h
 
-children_kept : (s : Setting) (values : List (ℕ × Value)) (e : Element) (stand mid : Stand) → is_sub e ≡ false → pass s values e stand ≡ Some mid
+pub children_kept : (s : Setting) (values : List (ℕ × Value)) (e : Element) (stand mid : Stand) → is_sub e ≡ false → pass s values e stand ≡ Some mid
     → mid.children ≡ stand.children
 children_kept s values (Terminal t) stand mid plain h = of_token (matches_terminal s t stand.at.place) stand mid h
 children_kept s values (Preterminal c) stand mid plain h = of_token (matches_preterminal s (under values c) stand.at.place) stand mid h

@@ -1,8 +1,9 @@
 -- Tokens that are typeable as they are kept, as they come and go.
 use Rattle.std.proofs.Common.{◌≡◌, ℕ, zero, suc, ◌+◌, ◌-◌, ◌<◌, ◌≤◌, List, [], ◌∷◌, ◌++◌, Bool, true, false, length, take, get_or, length-append, ◌⊎◌, inl, inr, refl, sym, ap, subst, ◌∙◌, arith, IsTrue, ◌↔◌, Result, Ok, Err, OnOk, OnErr}
-use Rattle.std.proofs.lemmas.List.{take-map, take_more, length-take-le, length-map, take-append-le, take-take, take_all}
+use Rattle.std.proofs.lemmas.List.{take_more, length-take-le, length-map, take-append-le, take-take, take_all}
 use Rattle.std.proofs.lemmas.Bool.{cases_lt}
 use Rattle.wiki_base.specs.declared.tokens.TheConstants.{MOST_TOKENS}
+use Rattle.chart.proofs.DropLemmas.{first_set}
 use Rattle.derivation_scenes.proofs.ElementLemmas.{true_is_false}
 use Rattle.codeco_terms.specs.declared.categories.Ground.{Ground}
 use Rattle.codeco_terms.specs.GrammarParts.{GrammarParts}
@@ -31,10 +32,6 @@ take_short (suc n) [] = omega arith
 take_short (suc n) (x ∷ xs) = let rest = take_short n xs in omega (arith, rest)
 
 -- Settings
-
--- the first of the tokens, by the grammar and the lexicon
-pub first_set : (g : GrammarParts) (l : Listed) (tokens : List (List ℕ)) (n : ℕ) → first_of (setting_of g l tokens) n ≡ setting_of g l (take n tokens)
-first_set g l tokens n = ap (λ r. setting g (take n tokens) r) (take-map (readings_of l.live) n tokens)
 
 -- what is kept by a grammar and a lexicon is so by its own tokens
 pub kept_on : (g : GrammarParts) (l : Listed) (s : Setting) (tokens : List (List ℕ)) → s ≡ setting_of g l tokens → s ≡ setting_of g l s.tokens
@@ -294,12 +291,6 @@ pub typed_kept : {X Y : Type 0} (r : Result X Y) (g : GrammarParts) (l : Listed)
     → OnOk r (new ≡ setting_of g l tokens) → OnErr r (new ≡ old) → new ≡ setting_of g l new.tokens
 typed_kept (Ok x) g l old new tokens kept added unchanged = kept_on g l new tokens added
 typed_kept (Err y) g l old new tokens kept added unchanged = subst (λ s. s ≡ setting_of g l s.tokens) (sym unchanged) kept
-
-pub back_kept : (g : GrammarParts) (l : Listed) (old new : Setting) (dropped : Bool) → old ≡ setting_of g l old.tokens
-    → (dropped ≡ false → (old.tokens ≡ []) × (new ≡ old)) → (dropped ≡ true → (0 < length old.tokens) × (new ≡ first_of old (length old.tokens - 1)))
-    → new ≡ setting_of g l new.tokens
-back_kept g l old new true kept none last = front_kept g l old new (length old.tokens - 1) kept (last refl).1
-back_kept g l old new false kept none last = subst (λ s. s ≡ setting_of g l s.tokens) (sym (none refl).1) kept
 
 -- The chart that further tokens are added to
 

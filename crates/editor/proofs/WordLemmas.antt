@@ -1,20 +1,19 @@
 -- A word that is added gives no token that is typed another reading.
-use Rattle.std.proofs.Common.{◌≡◌, ℕ, ◌+◌, List, [], ◌∷◌, ◌++◌, map, Bool, true, false, ◌||◌, inl, inr, Option, Some, None, find, option_map, refl, sym, ap, ◌∙◌}
+use Rattle.std.proofs.Common.{◌≡◌, ℕ, ◌+◌, List, [], ◌∷◌, ◌++◌, map, Bool, true, false, ◌||◌, inl, inr, Option, Some, None, refl, sym, ap, ◌∙◌}
 use Rattle.std.specs.Prelude.{if◌then◌else◌}
 use Rattle.std.specs.List.{flat_map}
 use Rattle.std.specs.Str.{bytes_eq}
 use Rattle.std.proofs.lemmas.Slice.Eq.{bytes_eq-Decides}
-use Rattle.wiki_base.specs.declared.numbers.WordId.{WordId}
 use Rattle.wiki_base.proofs.OptionLaws.{option_or-first_none, option_or-second_none}
+use Rattle.lexicon.proofs.Adding.{free_texts}
+use Rattle.derivation_trees.proofs.ReadingLemmas.{no_readings, unread}
 use Rattle.derivation_scenes.proofs.ElementLemmas.{true_is_false}
-use Rattle.lexicon.proofs.Reading.{readings_from_none}
 use Rattle.codeco_terms.specs.declared.categories.Ground.{Ground}
 use Rattle.codeco_terms.specs.GrammarParts.{GrammarParts}
 use Rattle.lexicon.specs.declared.kinds.Forms.{Forms}
-use Rattle.lexicon.specs.declared.words.Word.{Word}
 use Rattle.lexicon.specs.declared.words.LexFault.{LexFault}
-use Rattle.lexicon.specs.declared.words.LexFault.TheVariants.{Taken, Reserved}
-use Rattle.lexicon.specs.Words.{Listed, is_among, has_form, owner, next_word, with_word, first_taken, first_reserved, fullness, forms_refusal, add_refusal}
+use Rattle.lexicon.specs.declared.words.LexFault.TheVariants.{Reserved}
+use Rattle.lexicon.specs.Words.{Listed, is_among, owner, next_word, with_word, first_taken, first_reserved, fullness, forms_refusal, add_refusal}
 use Rattle.lexicon.specs.Terminals.{is_reserved, raised}
 use Rattle.lexicon.specs.Readings.{readings_of_word, readings_of}
 use Rattle.derivation_trees.specs.Settings.{Setting}
@@ -27,44 +26,14 @@ use Rattle.editor.proofs.EditingLemmas.{typeable_by, whole_begins}
 
 -- Readings
 
--- a word without the form gives no reading
-no_readings : (token : List ℕ) (word : Word) → has_form token word ≡ false → readings_of_word token word ≡ []
-no_readings token word h = readings_from_none word.forms.kind word.id token 0 word.forms.texts h
-
--- a form that no word has reads as nothing
-unread : (live : List Word) (token : List ℕ) → owner live token ≡ None → readings_of live token ≡ []
-unread [] token h = refl
-unread (word ∷ live) token h = by (has_form token word) refl h (unread live token)
-  where
-    by : (b : Bool) → has_form token word ≡ b → option_map (λ (w : Word). w.id) (if b then Some word else find (has_form token) live) ≡ None
-        → (owner live token ≡ None → readings_of live token ≡ []) → readings_of (word ∷ live) token ≡ []
-    by true e k later = cc
-    by false e k later = ap (λ (rs : List Ground). rs ++ readings_of live token) (no_readings token word e) ∙ later k
-
 flat_map_last : {X Y : Type 0} (f : X → List Y) (xs : List X) (x : X) → f x ≡ [] → flat_map f (xs ++ x ∷ []) ≡ flat_map f xs
 flat_map_last f [] x h = ap (λ ys. ys ++ []) h
 flat_map_last f (y ∷ ys) x h = ap (λ zs. f y ++ zs) (flat_map_last f ys x h)
 
 -- Causes that don't stand
 
-no_owner_taken : (text : List ℕ) (o : Option WordId) → option_map (Taken text) o ≡ None → o ≡ None
-no_owner_taken text None h = refl
-no_owner_taken text (Some id) h = cc
-
 same_bytes : (xs ys : List ℕ) → bytes_eq xs ys ≡ true → xs ≡ ys
 same_bytes xs ys h = (bytes_eq-Decides xs ys).0 h
-
--- a form that is not taken has no owner
-not_taken : (live : List Word) (texts : List (List ℕ)) (token : List ℕ) → first_taken live texts ≡ None → is_among texts token ≡ true → owner live token ≡ None
-not_taken live [] token h k = true_is_false (sym k)
-not_taken live (text ∷ texts) token h k =
-    by (bytes_eq token text) refl k (not_taken live texts token (option_or-second_none (option_map (Taken text) (owner live text)) (first_taken live texts) h))
-  where
-    by : (b : Bool) → bytes_eq token text ≡ b → (b || is_among texts token) ≡ true → (is_among texts token ≡ true → owner live token ≡ None)
-        → owner live token ≡ None
-    by true e k later = ap (owner live) (same_bytes token text e)
-        ∙ no_owner_taken text (owner live text) (option_or-first_none (option_map (Taken text) (owner live text)) (first_taken live texts) h)
-    by false e k later = later k
 
 reserved_none : (b : Bool) (text : List ℕ) (o : Option LexFault) → (if b then Some (Reserved text) else o) ≡ None → (b ≡ false) × (o ≡ None)
 reserved_none true text o h = cc
@@ -102,7 +71,7 @@ not_a_new_form g l forms token same free readable false e = refl
 not_a_new_form g l forms token same free readable true e =
     let given = option_or-first_none (forms_refusal l.live l.terminals forms) (fullness l) free in
     let owned : owner l.live token ≡ None =
-    not_taken l.live forms.texts token (option_or-first_none (first_taken l.live forms.texts) (first_reserved l.terminals forms.texts) given) e in
+    free_texts l.live forms.texts (option_or-first_none (first_taken l.live forms.texts) (first_reserved l.terminals forms.texts) given) token e in
     let spelled : is_terminal l.terminals token ≡ false =
     not_reserved l.terminals forms.texts token (option_or-second_none (first_taken l.live forms.texts) (first_reserved l.terminals forms.texts) given) e in
     by owned (ap (λ ts. is_terminal ts token) (sym same) ∙ spelled) readable

@@ -5,6 +5,7 @@ use Rattle.std.specs.List.{list_any, list_all}
 use Rattle.std.specs.Map.{lookup}
 use Rattle.std.proofs.lemmas.Bool.{ltb-true, and_parts, eq-eqb, ne_eqb, cases_eq}
 use Rattle.std.proofs.Math.Bool.{or-false as or_none, and_comm}
+use Rattle.std.proofs.lemmas.List.Folds.{list_all-map}
 use Rattle.wiki_base.proofs.BoolLaws.{or-turn as swap_or, and-not}
 use Rattle.wiki_base.specs.declared.numbers.WordId.{WordId}
 use Rattle.logic_terms.specs.declared.expressions.Role.{Role}
@@ -101,17 +102,13 @@ list_any-map : {X Y : Type 0} (f : X → Y) (test : Y → Bool) (xs : List X) �
 list_any-map f test [] = refl
 list_any-map f test (x ∷ xs) = ap (λ b. test (f x) || b) (list_any-map f test xs)
 
-list_all-map : {X Y : Type 0} (f : X → Y) (test : Y → Bool) (xs : List X) → list_all test (map f xs) ≡ list_all (λ x. test (f x)) xs
-list_all-map f test [] = refl
-list_all-map f test (x ∷ xs) = ap (λ b. test (f x) && b) (list_all-map f test xs)
-
 paired_swapped : (ps : List (ℕ × ℕ)) (x y : ℕ) → paired (map swapped ps) x y ≡ paired ps y x
 paired_swapped ps x y =
     list_any-map swapped (λ p. (p.0 == x) && (p.1 == y)) ps ∙ ap (λ t. list_any t ps) (λ j p. and_comm (p.1 == x) (p.0 == y) j)
 
 fit_swapped : (n : ℕ) (ps : List (ℕ × ℕ)) → ends_fit n ps ≡ true → ends_fit n (map swapped ps) ≡ true
 fit_swapped n ps fit =
-    list_all-map swapped (λ p. nat_lt p.0 n && nat_lt p.1 n) ps
+    list_all-map (λ (p : ℕ × ℕ). nat_lt p.0 n && nat_lt p.1 n) swapped ps
     ∙ (ap (λ t. list_all t ps) (λ j p. and_comm (nat_lt p.1 n) (nat_lt p.0 n) j) ∙ fit)
 
 along_by : (b : Bool) (ps : List (ℕ × ℕ)) (x y : ℕ) → paired (if b then map swapped ps else ps) x y ≡ (if b then paired ps y x else paired ps x y)

@@ -2,7 +2,7 @@
 use Rattle.std.proofs.Common.{◌≡◌, ◌<◌, ◌&&◌, true, List, [], ◌∷◌, map, length, Some, ◌∙◌, subst, inl, inr, arith}
 use Rattle.std.specs.List.{list_all}
 use Rattle.std.proofs.lemmas.Bool.{and_parts, and_from, or_cases}
-use Rattle.std.proofs.lemmas.List.Folds.{list_all-append}
+use Rattle.std.proofs.lemmas.List.Folds.{list_all-append, list_all-map}
 use Rattle.logic_terms.specs.Complement.{is_normal, is_wide, each_wide, has_two}
 use Rattle.logic_terms.specs.Concept.{Concept, Concepts, Everything, Atomic, ComplementOf, IntersectionOf, UnionOf, SomeValuesFrom, AllValuesFrom, HasValue, no_concept, also_concept}
 use Rattle.logic_terms.specs.Parts.{members_in, union_part}
@@ -10,7 +10,6 @@ use Rattle.logic_terms.specs.Plain.{is_plain, is_plain_theory}
 use Rattle.logic_terms.specs.Same.{same_concept, has_concept}
 use Rattle.logic_terms.specs.Theory.{Theory}
 use Rattle.logic_terms.proofs.SameLemmas.{same_concept-equal}
-use Rattle.tableau_rules.proofs.Lists.{list_all-map}
 use Rattle.tableau_bounds.specs.Enough.{occurrences, member_occurrences, all_occurrences, given_classes}
 use Rattle.tableau_bounds.proofs.Parts.{in_one}
 use Rattle.tableau_bounds.proofs.Stepping.{UnionsHaveMembers}

@@ -1,16 +1,13 @@
 -- The first number that gives something, one number further.
-use Rattle.std.proofs.Common.{◌≡◌, ℕ, zero, suc, ◌+◌, ◌<◌, Bool, true, false, Option, Some, None, refl, sym, ap, ◌∙◌, inl, inr, arith}
+use Rattle.std.proofs.Common.{◌≡◌, ℕ, zero, suc, ◌+◌, ◌<◌, Bool, true, false, Option, Some, None, refl, sym, ap, ◌∙◌, inl, inr, arith, add-one}
 use Rattle.std.specs.Option.{option_or}
 use Rattle.std.proofs.lemmas.Bool.{cases_eq}
 use Rattle.tableau_rules.specs.First.{first_below, where_true}
 
-one_more : (n : ℕ) → suc n ≡ n + 1
-one_more n = omega arith
-
 module _ {X : Type 0} (f : ℕ → Option X) (k : ℕ) (passed : first_below k f ≡ None) where
   pub first_more : f k ≡ None → first_below (k + 1) f ≡ None
   first_more here =
-      ap (λ n. first_below n f) (sym (one_more k)) ∙ (ap (λ o. option_or o (f k)) passed ∙ here)
+      ap (λ n. first_below n f) (add-one k) ∙ (ap (λ o. option_or o (f k)) passed ∙ here)
 
   pub first_found : (n : ℕ) (x : X) → k < n → f k ≡ Some x → first_below n f ≡ Some x
   first_found zero x lt here = absurd (omega arith)

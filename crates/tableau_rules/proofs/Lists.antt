@@ -1,7 +1,7 @@
 -- Tests on lists that were made of others.
 use Rattle.std.proofs.Common.{◌≡◌, ◌&&◌, ◌||◌, Bool, true, false, List, [], ◌∷◌, map, filter, cond, refl, sym, ap, ◌∙◌, ℕ, zero, suc, Some, slice_get}
 use Rattle.std.specs.Prelude.{not}
-use Rattle.std.specs.List.{list_any, list_all}
+use Rattle.std.specs.List.{list_any}
 use Rattle.std.proofs.lemmas.Option.{same_Some}
 use Rattle.std.proofs.lemmas.Bool.{or_parts}
 use Rattle.wiki_base.specs.declared.numbers.WordId.{WordId}
@@ -14,10 +14,6 @@ use Rattle.tableau_rules.specs.Rules.{lacks_some}
 pub list_any-map : {X Y : Type 0} (test : Y → Bool) (f : X → Y) (xs : List X) → list_any test (map f xs) ≡ list_any (λ x. test (f x)) xs
 list_any-map test f [] = refl
 list_any-map test f (x ∷ xs) = ap (λ b. test (f x) || b) (list_any-map test f xs)
-
-pub list_all-map : {X Y : Type 0} (test : Y → Bool) (f : X → Y) (xs : List X) → list_all test (map f xs) ≡ list_all (λ x. test (f x)) xs
-list_all-map test f [] = refl
-list_all-map test f (x ∷ xs) = ap (λ b. test (f x) && b) (list_all-map test f xs)
 
 pub none_passes : {X : Type 0} (p : X → Bool) (xs : List X) (k : ℕ) (x : X) → list_any p xs ≡ false → slice_get xs k ≡ Some x → p x ≡ false
 none_passes p [] k x none at = absurd (cc)

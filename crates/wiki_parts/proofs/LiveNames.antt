@@ -6,22 +6,19 @@ use Rattle.std.specs.Str.{bytes_eq}
 use Rattle.std.specs.List.{list_all, list_any}
 use Rattle.std.proofs.lemmas.List.Folds.{list_all-append}
 use Rattle.std.proofs.lemmas.Bool.{and_from, or_cases, and_parts, eqb-true}
-use Rattle.std.proofs.lemmas.Option.{same_Some}
 use Rattle.wiki_base.specs.declared.numbers.WordId.{WordId}
 use Rattle.wiki_base.proofs.ListLaws.{AllPairs-head, AllPairs-tail}
 use Rattle.wiki_base.proofs.BoolLaws.{and_first, and_second}
+use Rattle.drs_build.proofs.QuestionLemmas.{children_kept}
 use Rattle.lexicon.proofs.Reading.{readings_from_none, readings_none}
 use Rattle.codeco_text.specs.Names.{same_bytes}
 use Rattle.codeco_terms.specs.declared.values.Value.{Value}
-use Rattle.codeco_terms.specs.declared.values.Value.TheVariants.{Pos}
 use Rattle.codeco_terms.specs.declared.categories.Ground.{Ground}
-use Rattle.codeco_terms.specs.declared.categories.Pattern.{Pattern}
 use Rattle.codeco_terms.specs.declared.elements.Element.{Element}
-use Rattle.codeco_terms.specs.declared.elements.Element.TheVariants.{Terminal, Preterminal, Sub, Position, Opener, Forward, Strong, Back, NoBack}
+use Rattle.codeco_terms.specs.declared.elements.Element.TheVariants.{Preterminal, Sub}
 use Rattle.codeco_terms.specs.declared.rules.Label.{Label}
 use Rattle.codeco_terms.specs.declared.rules.Rule.{Rule}
 use Rattle.codeco_terms.specs.GrammarParts.{GrammarParts}
-use Rattle.codeco_terms.specs.Values.{same_value}
 use Rattle.codeco_checked.specs.declared.labels.Kind.{Kind as PhraseKind}
 use Rattle.codeco_checked.specs.declared.labels.LabelRow.{LabelRow}
 use Rattle.codeco_checked.specs.declared.labels.Words.{Words}
@@ -30,7 +27,7 @@ use Rattle.codeco_checked.specs.declared.fault.GrammarFault.TheVariants.{LabelKi
 use Rattle.codeco_checked.specs.Labels.{label_row, child_kinds, word_names, head_fits, children_fit, words_fit, fits_row, fits_label, FitKinds, is_introduction, is_reference, introduces_behind_tokens, one_if}
 use Rattle.codeco_checked.specs.Sound.{IsSound}
 use Rattle.scopes.specs.declared.agreement.Test.{Test}
-use Rattle.scopes.specs.Resolution.{Finding, has_value, agrees, is_agreeing, closest_finding}
+use Rattle.scopes.specs.Resolution.{has_value, agrees}
 use Rattle.lexicon.specs.declared.kinds.Kind.{Kind}
 use Rattle.lexicon.specs.declared.kinds.Kind.TheVariants.{Name, Noun, Of, Verb, Adjective}
 use Rattle.lexicon.specs.declared.words.Word.{Word}
@@ -40,12 +37,11 @@ use Rattle.lexicon.specs.Readings.{reading, readings_from, readings_of_word, rea
 use Rattle.derivation_trees.specs.declared.skeletons.Skeleton.{Skeleton}
 use Rattle.derivation_trees.specs.declared.skeletons.Skeleton.TheViews.{out-roll-Skeleton}
 use Rattle.derivation_trees.specs.Trees.{Node, Nodes, node, none, more}
-use Rattle.derivation_trees.specs.Settings.{Setting, matches_terminal, matches_preterminal}
+use Rattle.derivation_trees.specs.Settings.{Setting, matches_preterminal}
 use Rattle.derivation_trees.specs.Sentences.{setting_of}
-use Rattle.derivation_trees.specs.Instances.{value_under, under, tests_under}
-use Rattle.derivation_trees.specs.Derives.{At, Stand, moved, pass, pass_token, pass_child, pass_finding, is_found, reference_tests, run, phrase, phrase_of, phrases_of, rule_with, text_category, IsDerivation}
+use Rattle.derivation_trees.specs.Instances.{under}
+use Rattle.derivation_trees.specs.Derives.{At, Stand, pass, pass_token, pass_child, run, phrase, phrase_of, phrases_of, rule_with, text_category, IsDerivation}
 use Rattle.derivation_trees.specs.Skeletons.{word_among, word_in, word_at, word_here, child_here, met, start, end_place, skeleton, skeleton_at, skeletons_at, skeleton_of}
-use Rattle.derivation_trees.specs.Stands.{is_sub}
 use Rattle.derivations.proofs.ListingLemmas.{Parts, phrase_parts}
 use Rattle.drs_build.specs.Nodes.{label_of, is_naming, no_word, own_name, introduced_at, ends_of, names_of}
 use Rattle.drs_build.specs.Nodes.{is_name as is_name_word}
@@ -238,39 +234,6 @@ module _ (test : WordId → Bool) where
         by later None k = absurd cc
         by later (Some mid) k = later mid k
 
-    -- an element that is no category keeps the children to come
-    of_some : (stand one mid : Stand) → one.children ≡ stand.children → Some one ≡ Some mid → mid.children ≡ stand.children
-    of_some stand one mid same h = ap (λ (x : Stand). x.children) (sym (same_Some one mid h)) ∙ same
-
-    of_test : (b : Bool) (stand one mid : Stand) → one.children ≡ stand.children → cond b (Some one) None ≡ Some mid → mid.children ≡ stand.children
-    of_test true stand one mid same h = of_some stand one mid same h
-    of_test false stand one mid same h = absurd cc
-
-    of_no_test : (b : Bool) (stand mid : Stand) → cond b None (Some stand) ≡ Some mid → mid.children ≡ stand.children
-    of_no_test true stand mid h = absurd cc
-    of_no_test false stand mid h = of_some stand stand mid refl h
-
-    of_finding : (values : List (ℕ × Value)) (positive : List Pattern) (finding : Option Finding) (positions : List ℕ) (stand mid : Stand)
-        → pass_finding values positive finding positions stand ≡ Some mid → mid.children ≡ stand.children
-    of_finding values positive finding [] stand mid h = absurd cc
-    of_finding values positive finding (pos ∷ rest) stand mid h =
-        of_test (is_found values positive pos finding) stand (record { at = stand.at; found = rest; own = stand.own; children = stand.children }) mid refl h
-
-    children_kept : (values : List (ℕ × Value)) (e : Element) (stand mid : Stand) → is_sub e ≡ false → pass s values e stand ≡ Some mid
-        → mid.children ≡ stand.children
-    children_kept values (Terminal t) stand mid plain h =
-        of_test (matches_terminal s t stand.at.place) stand (moved stand (stand.at.place + 1) stand.at.list) mid refl h
-    children_kept values (Preterminal c) stand mid plain h =
-        of_test (matches_preterminal s (under values c) stand.at.place) stand (moved stand (stand.at.place + 1) stand.at.list) mid refl h
-    children_kept values (Sub c) stand mid plain h = absurd cc
-    children_kept values (Position x) stand mid plain h = of_test (same_value (value_under values x) (Pos stand.at.place)) stand stand mid refl h
-    children_kept values Opener stand mid plain h = of_some stand _ mid refl h
-    children_kept values (Forward c) stand mid plain h = of_some stand _ mid refl h
-    children_kept values (Strong c) stand mid plain h = of_some stand _ mid refl h
-    children_kept values (Back ps ns) stand mid plain h =
-        of_finding values ps (closest_finding (reference_tests values ps ns) stand.at.list) stand.found stand mid h
-    children_kept values (NoBack ps) stand mid plain h = of_no_test (list_any (is_agreeing (tests_under values ps)) stand.at.list) stand mid h
-
     abbrev LiveNode : Node → Type 0
     LiveNode n = (asked : Test) (at after : At) → phrase_of s n asked at ≡ Some after → IsLive (skeleton_at s n at)
 
@@ -315,7 +278,7 @@ module _ (test : WordId → Bool) where
             → (o : Option Stand) → pass s values e stand ≡ o → option_and_then (run s values es) o ≡ Some after
             → kids_pass ns (option_map_or (met child_here s values es) o []) ≡ true
         by later None w k = absurd cc
-        by later (Some mid) w k = later mid (children_kept values e stand mid refl w ∙ children) k
+        by later (Some mid) w k = later mid (children_kept s values e stand mid refl w ∙ children) k
 
     own_passes : (number first : ℕ) (given : List WordId) (ends : List ℕ)
         → (is_naming (label_of g number) ≡ true → test (slice_index_or given 0 no_word) ≡ true) → words_pass test (own_name g number first given ends) ≡ true

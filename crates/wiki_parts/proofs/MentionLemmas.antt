@@ -7,6 +7,7 @@ use Rattle.std.proofs.lemmas.Bool.{and_from}
 use Rattle.std.proofs.Math.Bool.{and-true}
 use Rattle.wiki_base.specs.declared.numbers.WordId.{WordId}
 use Rattle.wiki_base.proofs.BoolLaws.{and_first, and_second}
+use Rattle.absorb.proofs.NamedLemmas.{names_in-complement}
 use Rattle.logic_terms.specs.declared.structures.Thing.{Thing}
 use Rattle.logic_terms.specs.declared.structures.Thing.TheVariants.{Ref, Name}
 use Rattle.logic_terms.specs.declared.expressions.Role.{Role}
@@ -17,7 +18,6 @@ use Rattle.logic_terms.specs.Complement.{complement}
 use Rattle.logic_terms.specs.Free.{is_bound}
 use Rattle.logic_terms.specs.Structure.{Condition, Conditions, Structure, IsA, AreRelated, AreSame, Negation, Implication, Disjunction, no_condition, also_condition, structure, conditions_from, condition_list, referents_in}
 use Rattle.absorb.specs.Mentioned.{names_in, names_in_each, names_in_claim}
-use Rattle.answers.proofs.NamedIn.{names_in-complement}
 use Rattle.ace_to_owl.specs.Outcomes.{next}
 use Rattle.ace_to_owl.specs.Terms.{open_terms, terms_of, terms_in, terms_in_all, terms_in_condition, first_name, referents_among}
 use Rattle.ace_to_owl.specs.Parts.{Part, At, Edge, straight, inverse, intersection, leads, part_at, class_at, tree_fault, class_of_tree}

@@ -1,45 +1,28 @@
 -- Words that come and go leave the meaning of tokens that have none of their forms.
 use Rattle.std.proofs.Common.{◌≡◌, ℕ, ◌+◌, Bool, true, false, not, ◌&&◌, ◌||◌, cond, List, [], ◌∷◌, ◌++◌, map, MatchBool, refl, sym, ap, subst, ◌∙◌, append-nil}
-use Rattle.std.specs.List.{list_any, list_all}
-use Rattle.std.specs.Str.{bytes_eq}
+use Rattle.std.specs.List.{list_all}
 use Rattle.std.proofs.lemmas.Bool.{false≢true}
 use Rattle.std.proofs.lemmas.Grind.{flat_map-append}
 use Rattle.wiki_base.specs.declared.numbers.WordId.{WordId}
+use Rattle.derivation_trees.proofs.ReadingLemmas.{no_readings}
 use Rattle.codeco_terms.specs.declared.categories.Ground.{Ground}
 use Rattle.codeco_terms.specs.GrammarParts.{GrammarParts}
-use Rattle.lexicon.specs.declared.kinds.Kind.{Kind}
 use Rattle.lexicon.specs.declared.kinds.Forms.{Forms}
 use Rattle.lexicon.specs.declared.words.Word.{Word}
 use Rattle.lexicon.specs.Words.{Listed, is_among, has_form, has_number, others, with_word, without_word, next_word}
-use Rattle.lexicon.specs.Readings.{reading, readings_from, readings_of_word, readings_of}
+use Rattle.lexicon.specs.Readings.{readings_of_word, readings_of}
 use Rattle.derivation_trees.specs.Skeletons.{IsLeast}
 use Rattle.logic_terms.specs.Concept.{Claim}
 use Rattle.articles.specs.declared.sentences.Sentence.{Sentence}
 use Rattle.wiki_parts.specs.Meanings.{Meaning, stating, Means}
 use Rattle.wiki_parts.specs.Knowledge.{is_asserted, StatesFirst, AreStated}
 
--- a token that is none of the texts has no reading by them
-readings-none : (kind : Kind) (id : WordId) (token : List ℕ) (place : ℕ) (texts : List (List ℕ)) → list_any (bytes_eq token) texts ≡ false
-    → readings_from kind id token place texts ≡ []
-readings-none kind id token place [] none = refl
-readings-none kind id token place (form ∷ forms) none = by_test (bytes_eq token form) (readings-none kind id token (place + 1) forms) none
-  where
-    by_test : (b : Bool) → (list_any (bytes_eq token) forms ≡ false → readings_from kind id token (place + 1) forms ≡ [])
-        → (b || list_any (bytes_eq token) forms) ≡ false
-        → cond b (reading kind id place form ∷ readings_from kind id token (place + 1) forms) (readings_from kind id token (place + 1) forms) ≡ []
-    by_test true rest none = absurd (false≢true (sym none))
-    by_test false rest none = rest none
-
--- nor by a word of which it is no form
-pub readings_of_word-none : (token : List ℕ) (word : Word) → has_form token word ≡ false → readings_of_word token word ≡ []
-readings_of_word-none token word none = readings-none word.forms.kind word.id token 0 word.forms.texts none
-
 -- a word that comes leaves the readings of a token that is none of its forms
 pub readings-with : (live : List Word) (word : Word) (token : List ℕ) → has_form token word ≡ false
     → readings_of (live ++ word ∷ []) token ≡ readings_of live token
 readings-with live word token none =
     flat_map-append (readings_of_word token) live (word ∷ [])
-    ∙ ap (λ (rs : List Ground). readings_of live token ++ (rs ++ [])) (readings_of_word-none token word none)
+    ∙ ap (λ (rs : List Ground). readings_of live token ++ (rs ++ [])) (no_readings token word none)
     ∙ append-nil (readings_of live token)
 
 -- the word isn't the one with the number, or the token is none of its forms
@@ -51,7 +34,7 @@ readings-without : (live : List Word) (id : WordId) (token : List ℕ) → list_
     → readings_of (others live id) token ≡ readings_of live token
 readings-without [] id token none = refl
 readings-without (first ∷ live) id token none =
-    by_tests (has_number id first) (has_form token first) (readings_of_word-none token first) (readings-without live id token) none
+    by_tests (has_number id first) (has_form token first) (no_readings token first) (readings-without live id token) none
   where
     by_tests : (b f : Bool) → (f ≡ false → readings_of_word token first ≡ [])
         → (list_all (is_no_form_of id token) live ≡ true → readings_of (others live id) token ≡ readings_of live token)

@@ -1,5 +1,5 @@
 -- Where the axioms of some sentences of an article stand among all that are known.
-use Rattle.std.proofs.Common.{◌≡◌, ℕ, ◌+◌, ◌-◌, ◌<◌, ◌≤◌, List, [], ◌∷◌, ◌++◌, length, take, drop, Option, Some, None, Result, Ok, Err, OnErr, refl, sym, ap, ◌∙◌, append_assoc, arith}
+use Rattle.std.proofs.Common.{◌≡◌, ℕ, ◌+◌, ◌-◌, ◌<◌, ◌≤◌, List, [], ◌∷◌, ◌++◌, length, take, drop, Option, Some, None, refl, sym, ap, ◌∙◌, append_assoc, arith}
 use Rattle.std.specs.List.{insert_slice, remove_range}
 use Rattle.std.specs.Option.{IsSomeAnd}
 use Rattle.std.proofs.lemmas.List.{length-append, length-take-le, length-drop, take-append-drop, drop-drop}
@@ -92,10 +92,6 @@ some-there P None here = absurd here
 some-there P (Some x) here = (x, refl, here)
 
 -- what is so is so where a call gave an error
-pub either-way : {T E : Type 0} (result : Result T E) (P : Type 0) → P → OnErr result P
-either-way (Ok value) P here = tt
-either-way (Err fault) P here = here
-
 -- the parts of five lists, by how long they are
 parts_of : {X : Type 0} (xs a b m c own : List X) (first count : ℕ) → xs ≡ (a ++ b) ++ (m ++ c) → first ≡ length a + length b → count ≡ length m
     → take first xs ++ (own ++ drop (first + count) xs) ≡ a ++ (b ++ (own ++ c))

@@ -4,12 +4,14 @@ use Rattle.std.specs.List.{slice_get, list_any}
 use Rattle.std.specs.Option.{option_map_or}
 use Rattle.std.specs.Str.{bytes_eq}
 use Rattle.std.proofs.lemmas.Bool.{false≢true, or_right, eqb-true}
-use Rattle.std.proofs.lemmas.Option.{none-some, slice_get_within, slice_get-map, same_Some}
+use Rattle.std.proofs.lemmas.Option.{slice_get_within, slice_get-map}
 use Rattle.wiki_base.specs.declared.numbers.WordId.{WordId}
 use Rattle.wiki_base.proofs.OptionLaws.{option_or-none}
 use Rattle.wiki_base.proofs.ListLaws.{AllPairs-head, AllPairs-tail}
+use Rattle.derivation_trees.proofs.ReadingLemmas.{no_readings, unread}
+use Rattle.tableau_rules.proofs.Lists.{none_passes}
 use Rattle.lexicon.proofs.Adding.{free_texts, unreserved_texts}
-use Rattle.wiki_parts.proofs.WordLemmas.{readings-with, readings_of_word-none}
+use Rattle.wiki_parts.proofs.WordLemmas.{readings-with}
 use Rattle.codeco_terms.specs.declared.categories.Ground.{Ground}
 use Rattle.codeco_terms.specs.GrammarParts.{GrammarParts}
 use Rattle.scopes.specs.Resolution.{agrees}
@@ -76,17 +78,6 @@ means_by g words new tokens meaning same means =
 
 -- ---- readings by other words
 
--- a token that no word has has no readings
-unowned_reads_none : (live : List Word) (token : List ℕ) → owner live token ≡ None → readings_of live token ≡ []
-unowned_reads_none [] token none = refl
-unowned_reads_none (word ∷ live) token none = by_test (has_form token word) refl none (unowned_reads_none live token)
-  where
-    by_test : (b : Bool) → has_form token word ≡ b → option_map (λ (w : Word). w.id) (cond b (Some word) (find (has_form token) live)) ≡ None
-        → (owner live token ≡ None → readings_of live token ≡ [])
-        → readings_of_word token word ++ readings_of live token ≡ []
-    by_test true is taken rest = absurd (none-some word.id (sym taken))
-    by_test false is free rest = ap (λ rs. rs ++ readings_of live token) (readings_of_word-none token word is) ∙ rest free
-
 -- a form that may be given to a word stands for nothing by the words that have it not
 free_form : (live : List Word) (terminals : List (List ℕ)) (forms : Forms) (token : List ℕ) → forms_refusal live terminals forms ≡ None
     → is_among forms.texts token ≡ true
@@ -111,7 +102,7 @@ readings-with_word words forms token free stands = by_test (is_among forms.texts
     by_test : (b : Bool) → is_among forms.texts token ≡ b → readings_of (with_word words forms).live token ≡ readings_of words.live token
     by_test true among =
         let form = free_form words.live words.terminals forms token free among in
-        absurd (stands_for_none words.terminals words.live token form.1 (unowned_reads_none words.live token form.0) stands)
+        absurd (stands_for_none words.terminals words.live token form.1 (unread words.live token form.0) stands)
     by_test false lacks = readings-with words.live (next_word words forms) token lacks
 
 -- a sentence keeps its meaning where a word is added
@@ -166,7 +157,7 @@ readings-others (word ∷ live) id token lacks = by_test (has_number id word) la
   where
     by_test : (b : Bool) → (b ≡ true → has_form token word ≡ false) → readings_of (others live id) token ≡ readings_of live token
         → readings_of (cond (not b) (word ∷ others live id) (others live id)) token ≡ readings_of_word token word ++ readings_of live token
-    by_test true here rest = rest ∙ sym (ap (λ rs. rs ++ readings_of live token) (readings_of_word-none token word (here refl)))
+    by_test true here rest = rest ∙ sym (ap (λ rs. rs ++ readings_of live token) (no_readings token word (here refl)))
     by_test false here rest = ap (λ rs. readings_of_word token word ++ rs) rest
 
 -- a token that the word lacks, and that is none of its other forms, reads the same with them
@@ -181,8 +172,8 @@ readings_changed (word ∷ live) id forms token fresh lacks = by_test (has_numbe
     by_test : (b : Bool) → (b ≡ true → has_form token word ≡ false) → readings_of left token ≡ readings_of live token
         → readings_of_word token (cond b (record word { forms = forms }) word) ++ readings_of left token ≡ readings_of_word token word ++ readings_of live token
     by_test true here rest =
-        ap (λ rs. rs ++ readings_of left token) (readings_of_word-none token (record word { forms = forms }) fresh) ∙ rest
-        ∙ sym (ap (λ rs. rs ++ readings_of live token) (readings_of_word-none token word (here refl)))
+        ap (λ rs. rs ++ readings_of left token) (no_readings token (record word { forms = forms }) fresh) ∙ rest
+        ∙ sym (ap (λ rs. rs ++ readings_of live token) (no_readings token word (here refl)))
     by_test false here rest = ap (λ rs. readings_of_word token word ++ rs) rest
 
 -- what stands for something, and is no form of the word, reads the same where the word gets other forms
@@ -195,19 +186,8 @@ readings-with_forms words id forms token free lacks stands = by_test (is_among f
     by_test true among =
         let form = free_form (others words.live id) words.terminals forms token free among in
         absurd (stands_for_none words.terminals words.live token form.1
-        (sym (readings-others words.live id token lacks) ∙ unowned_reads_none (others words.live id) token form.0) stands)
+        (sym (readings-others words.live id token lacks) ∙ unread (others words.live id) token form.0) stands)
     by_test false fresh = readings_changed words.live id forms token fresh lacks
-
--- where none passes, the one at a place doesn't
-none_passes : {X : Type 0} (p : X → Bool) (xs : List X) (k : ℕ) (x : X) → list_any p xs ≡ false → slice_get xs k ≡ Some x → p x ≡ false
-none_passes p [] k x fails here = absurd (none-some x here)
-none_passes {X} p (y ∷ ys) k x fails here = by_test (p y) refl fails k here (none_passes p ys)
-  where
-    by_test : (b : Bool) → p y ≡ b → (b || list_any p ys) ≡ false → (n : ℕ) → slice_get (y ∷ ys) n ≡ Some x
-        → ((n : ℕ) (z : X) → list_any p ys ≡ false → slice_get ys n ≡ Some z → p z ≡ false) → p x ≡ false
-    by_test true is none n at rest = absurd (false≢true (sym none))
-    by_test false is none zero at rest = ap p (sym (same_Some y x at)) ∙ is
-    by_test false is none (suc n) at rest = rest n x none at
 
 -- a sentence that has no form of the word keeps its meaning without it
 pub means-without_word : (g : GrammarParts) (words : Listed) (id : WordId) (forms : Forms) (tokens : List (List ℕ)) (meaning : Meaning)

@@ -1,4 +1,4 @@
-use Rattle.chart_examples.proofs.DropLemmas.{dropped_kept}
+use Rattle.chart.proofs.DropLemmas.{dropped_kept}
 use Rattle.chart_examples.proofs.cases.dropped.Goals as goal
 
 pub returns : goal.returns

@@ -1,6 +1,7 @@
 use Rattle.std.proofs.Common.{◌≡◌, ℕ, ◌-◌, ◌<◌, List, [], length, take, refl, ap}
+use Rattle.chart.proofs.DropLemmas.{dropped_kept}
 use Rattle.derivation_trees.specs.Settings.{Setting}
-use Rattle.editor.proofs.EditingLemmas.{edited_back, back_kept}
+use Rattle.editor.proofs.EditingLemmas.{edited_back}
 use Rattle.sessions.specs.Sessions.{PlainSession, with_tokens}
 use Rattle.sessions.proofs.ChangeLemmas.{holds_at, kept_at, edited_at, change_is, kept_after, same_after, still_sessions, plain_edited}
 use Rattle.sessions.proofs.sessions.Sessions.back.Goals as goal
@@ -33,5 +34,5 @@ returns-clause-last c = λ yes.
 pub returns-clause-kept : goal.returns-clause-kept
 returns-clause-kept c = λ g l h.
     kept_after _ _ c.self.view_is c.self.invariant _ _ c.place_there-place.ensures _ c.index_mut.ensures.value g l _ h
-    (back_kept g l _ _ c.back.result (kept_at _ _ c.self.view_is c.self.invariant _ _ c.place_there-place.ensures _ c.index_mut.ensures.value g l h)
+    (dropped_kept g l _ _ c.back.result (kept_at _ _ c.self.view_is c.self.invariant _ _ c.place_there-place.ensures _ c.index_mut.ensures.value g l h)
     c.back.ensures.none c.back.ensures.last)

@@ -1,5 +1,6 @@
 use Rattle.std.proofs.Common.{◌≡◌, ◌+◌, ◌<◌, ◌≤◌, List, [], length, refl, sym, ap, subst, ◌∙◌, arith}
 use Rattle.std.specs.List.{insert}
+use Rattle.wiki_base.proofs.OptionLaws.{OnErr_any}
 use Rattle.logic_terms.specs.Concept.{Claim}
 use Rattle.logic_terms.specs.Interpretation.{Interpretation}
 use Rattle.logic_terms.specs.Reading.{IsModel}
@@ -20,7 +21,7 @@ use Rattle.wiki_parts.specs.Knowledge.{live_names, sentences_in}
 use Rattle.wiki_parts.specs.Kept.{stated_by, known_around, known_in, IsAround, Stands, IsKeeping}
 use Rattle.wiki_store.specs.Settled.{IsTrueIn}
 use Rattle.wiki_store.specs.Step.{with_inserted}
-use Rattle.wiki_store.proofs.JoiningLemmas.{settled-states, settled-stands, not-red, keeps-claims, either-way}
+use Rattle.wiki_store.proofs.JoiningLemmas.{settled-states, settled-stands, not-red, keeps-claims}
 use Rattle.wiki_store.proofs.InsideLemmas.{moved, gap, gap_own, status_outside, keeps_inside}
 use Rattle.wiki_store.proofs.store.Store.insert_true.Goals as goal
 
@@ -68,7 +69,7 @@ returns-in_err-join-clause-memory c =
       articles = c.self.inside.articles;
     } in
     let after : Holding = record { state = inside; interpretation = kept_interp c.join.new.kept } in
-    either-way c.from_residual-in_err-join.result (after ≡ c.args.self.now)
+    OnErr_any {P = after ≡ c.args.self.now} c.from_residual-in_err-join.result
     (ap (λ (i : Interpretation). record { state = inside; interpretation = i }) c.join.ensures.interp ∙ c.self.view_is)
 
 pub put-requires-clause-own : goal.put-requires-clause-own

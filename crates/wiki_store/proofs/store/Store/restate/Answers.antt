@@ -1,6 +1,7 @@
 use Rattle.std.proofs.Common.{◌≡◌, ◌+◌, ◌<◌, ◌≤◌, List, [], length, Option, Some, unwrap_or, sym, ap, subst, ◌∙◌, arith}
 use Rattle.std.specs.List.{slice_get}
 use Rattle.std.proofs.lemmas.Option.{slice_get_within}
+use Rattle.wiki_base.proofs.OptionLaws.{OnErr_any}
 use Rattle.logic_terms.specs.Concept.{Claim}
 use Rattle.logic_terms.specs.Interpretation.{Interpretation}
 use Rattle.logic_terms.specs.Reading.{IsModel}
@@ -21,7 +22,7 @@ use Rattle.wiki_parts.specs.Kept.{stated_by, known_around, Stands, IsKeeping}
 use Rattle.wiki_store.specs.Step.{with_marked}
 use Rattle.wiki_store.proofs.AroundLemmas.{item, parts_at}
 use Rattle.wiki_store.proofs.JudgeLemmas.{marked-spliced}
-use Rattle.wiki_store.proofs.JoiningLemmas.{settled-states, settled-stands, not-red, keeps-claims, either-way}
+use Rattle.wiki_store.proofs.JoiningLemmas.{settled-states, settled-stands, not-red, keeps-claims}
 use Rattle.wiki_store.proofs.InsideLemmas.{item-is, set-same, spot, sentence_here, means_here, short_here, status_outside, keeps_inside}
 use Rattle.wiki_store.proofs.store.Store.restate.Goals as goal
 
@@ -68,7 +69,7 @@ returns-in_err-join-clause-memory c =
       articles = c.self.inside.articles;
     } in
     let after : Holding = record { state = inside; interpretation = kept_interp c.join.new.kept } in
-    either-way c.from_residual-in_err-join.result (after ≡ c.args.self.now)
+    OnErr_any {P = after ≡ c.args.self.now} c.from_residual-in_err-join.result
     (ap (λ (i : Interpretation). record { state = inside; interpretation = i }) c.join.ensures.interp ∙ c.self.view_is)
 
 pub index-requires : goal.index-requires

@@ -10,7 +10,7 @@ use Rattle.chart.specs.Charts.{first_of}
 use Rattle.chart.proofs.ChartLemmas.{kept_on}
 
 -- the first of the tokens, by the grammar and the lexicon
-first_set : (g : GrammarParts) (l : Listed) (tokens : List (List ℕ)) (n : ℕ) → first_of (setting_of g l tokens) n ≡ setting_of g l (take n tokens)
+pub first_set : (g : GrammarParts) (l : Listed) (tokens : List (List ℕ)) (n : ℕ) → first_of (setting_of g l tokens) n ≡ setting_of g l (take n tokens)
 first_set g l tokens n = ap (λ r. record { grammar = g; tokens = take n tokens; readings = r }) (take-map (readings_of l.live) n tokens)
 
 -- the tokens that are left are read by the same lexicon

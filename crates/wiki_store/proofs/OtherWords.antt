@@ -3,13 +3,12 @@ use Rattle.std.proofs.Common.{◌≡◌, ℕ, zero, suc, ◌+◌, ◌<◌, ◌�
 use Rattle.std.specs.List.{slice_get, list_any}
 use Rattle.std.specs.Option.{option_map_or}
 use Rattle.std.specs.Str.{bytes_eq}
-use Rattle.std.proofs.lemmas.Bool.{false≢true, or_right, eqb-true}
-use Rattle.std.proofs.lemmas.Option.{slice_get_within, slice_get-map}
+use Rattle.std.proofs.lemmas.Bool.{false≢true, or_right, or_parts, eqb-true}
+use Rattle.std.proofs.lemmas.Option.{slice_get_within, slice_get-map, same_Some}
 use Rattle.wiki_base.specs.declared.numbers.WordId.{WordId}
 use Rattle.wiki_base.proofs.OptionLaws.{option_or-none}
 use Rattle.wiki_base.proofs.ListLaws.{AllPairs-head, AllPairs-tail}
 use Rattle.derivation_trees.proofs.ReadingLemmas.{no_readings, unread}
-use Rattle.tableau_rules.proofs.Lists.{none_passes}
 use Rattle.lexicon.proofs.Adding.{free_texts, unreserved_texts}
 use Rattle.wiki_parts.proofs.WordLemmas.{readings-with}
 use Rattle.codeco_terms.specs.declared.categories.Ground.{Ground}
@@ -188,6 +187,12 @@ readings-with_forms words id forms token free lacks stands = by_test (is_among f
         absurd (stands_for_none words.terminals words.live token form.1
         (sym (readings-others words.live id token lacks) ∙ unread (others words.live id) token form.0) stands)
     by_test false fresh = readings_changed words.live id forms token fresh lacks
+
+-- where none passes, the one at a place doesn't
+none_passes : {X : Type 0} (p : X → Bool) (xs : List X) (k : ℕ) (x : X) → list_any p xs ≡ false → slice_get xs k ≡ Some x → p x ≡ false
+none_passes p [] k x none at = cc
+none_passes p (y ∷ ys) zero x none at = ap p (sym (same_Some y x at)) ∙ (or_parts (p y) (list_any p ys) none).0
+none_passes p (y ∷ ys) (suc k) x none at = none_passes p ys k x (or_parts (p y) (list_any p ys) none).1 at
 
 -- a sentence that has no form of the word keeps its meaning without it
 pub means-without_word : (g : GrammarParts) (words : Listed) (id : WordId) (forms : Forms) (tokens : List (List ℕ)) (meaning : Meaning)

@@ -190,7 +190,7 @@ readings-with_forms words id forms token free lacks stands = by_test (is_among f
 
 -- where none passes, the one at a place doesn't
 none_passes : {X : Type 0} (p : X → Bool) (xs : List X) (k : ℕ) (x : X) → list_any p xs ≡ false → slice_get xs k ≡ Some x → p x ≡ false
-none_passes p [] k x none at = cc
+none_passes p [] k x none at = absurd (cc)
 none_passes p (y ∷ ys) zero x none at = ap p (sym (same_Some y x at)) ∙ (or_parts (p y) (list_any p ys) none).0
 none_passes p (y ∷ ys) (suc k) x none at = none_passes p ys k x (or_parts (p y) (list_any p ys) none).1 at
 

@@ -4,7 +4,7 @@ use Rattle.std.specs.Prelude.{if◌then◌else◌, ◌==◌, option_and_then, op
 use Rattle.std.specs.List.{flat_map, list_all, list_any, range_with_len}
 use Rattle.std.specs.Option.{option_map_or}
 use Rattle.std.proofs.lemmas.Bool.Decides.{nat_tests}
-use Rattle.std.proofs.lemmas.Bool.{and_from, or_left, or_right, not-false, false_from_ne_true, ltb-true, ltb-false, eqb-true}
+use Rattle.std.proofs.lemmas.Bool.{and_from, or_left, or_right, not-false, false_from_ne_true, ltb-true, ltb-false, eqb-true, or_parts}
 use Rattle.std.proofs.lemmas.List.{map-append}
 use Rattle.wiki_base.proofs.BoolLaws.{and_first, and_second}
 use Rattle.wiki_base.proofs.NumberLaws.{eqb_refl}
@@ -43,14 +43,6 @@ use Rattle.derivations.proofs.SoundLemmas.{Mapped, from_map, Flattened, from_fla
 
 -- Tests
 
-or_first : (a b : Bool) → (a || b) ≡ false → a ≡ false
-or_first true b h = h
-or_first false b h = refl
-
-or_second : (a b : Bool) → (a || b) ≡ false → b ≡ false
-or_second true b h = true_is_false h
-or_second false b h = h
-
 true_from : (b : Bool) → (not b ≡ true → ⊥) → b ≡ true
 true_from true h = refl
 true_from false h = absurd (h refl)
@@ -58,8 +50,8 @@ true_from false h = absurd (h refl)
 -- a test that none passes fails at each
 none_passes : {X : Type 0} (p : X → Bool) (xs : List X) (x : X) → list_any p xs ≡ false → Among xs x → p x ≡ false
 none_passes p [] x h k = absurd k
-none_passes p (z ∷ zs) x h (inl e) = ap p e ∙ or_first (p z) (list_any p zs) h
-none_passes p (z ∷ zs) x h (inr k) = none_passes p zs x (or_second (p z) (list_any p zs) h) k
+none_passes p (z ∷ zs) x h (inl e) = ap p e ∙ (or_parts (p z) (list_any p zs) h).0
+none_passes p (z ∷ zs) x h (inr k) = none_passes p zs x (or_parts (p z) (list_any p zs) h).1 k
 
 all_from : {X : Type 0} (p : X → Bool) (xs : List X) → ((x : X) → Among xs x → p x ≡ true) → list_all p xs ≡ true
 all_from p [] h = refl
@@ -124,10 +116,10 @@ is_good : (g : GrammarParts) → IsSound g → (r : Rule) → Among g.rules r �
 is_good g sound r h = no_fault_in (is_bad_rule g) g.rules r h (λ n t. sound.faultless (BadValue n) (or_right _ (at_rule (is_bad_rule g) g.rules n) t))
 
 is_unmixed : (g : GrammarParts) → IsSound g → (r : Rule) → Among g.rules r → has_mixed_variable g r ≡ false
-is_unmixed g sound r h = or_second _ (has_mixed_variable g r) (or_first _ _ (or_first _ _ (or_first _ _ (is_good g sound r h))))
+is_unmixed g sound r h = (or_parts _ (has_mixed_variable g r) (or_parts _ _ (or_parts _ _ (or_parts _ _ (is_good g sound r h)).0).0).0).1
 
 is_well_placed : (g : GrammarParts) → IsSound g → (r : Rule) → Among g.rules r → has_wrong_position g r ≡ false
-is_well_placed g sound r h = or_second _ (has_wrong_position g r) (or_first _ _ (or_first _ _ (is_good g sound r h)))
+is_well_placed g sound r h = (or_parts _ (has_wrong_position g r) (or_parts _ _ (or_parts _ _ (is_good g sound r h)).0).0).1
 
 is_small : (g : GrammarParts) → IsSound g → (r : Rule) → Among g.rules r → is_large_rule g r ≡ false
 is_small g sound r h =
@@ -160,7 +152,7 @@ counted next total (y ∷ ys) h = by (nat_lt y next) refl h (counted next total 
 is_below_sixteen : (g : GrammarParts) → IsSound g → (r : Rule) → Among g.rules r → (x : ℕ) → Among (rule_variables r) x → x < 16
 is_below_sixteen g sound r h x k =
     let few : nat_lt 16 (count_different (rule_variables r)) ≡ false =
-    or_second _ (nat_lt 16 (count_different (rule_variables r))) (or_first _ _ (is_small g sound r h)) in
+    (or_parts _ (nat_lt 16 (count_different (rule_variables r))) (or_parts _ _ (is_small g sound r h)).0).1 in
     let most : count_different (rule_variables r) ≤ 16 = ltb-false 16 (count_different (rule_variables r)) few in
     let below : x < count_different (rule_variables r) =
     (counted 0 (count_different (rule_variables r)) (rule_variables r) (all_among variables_count_up g.rules r sound.numbered.variables h)).1 x k in

@@ -4,6 +4,7 @@ use Rattle.std.proofs.lemmas.List.{length-map}
 use Rattle.std.proofs.lemmas.List.Kept.{AllPairs-cons}
 use Rattle.std.specs.Option.{IsSomeAnd}
 use Rattle.std.proofs.lemmas.List.Elements.{All-nil, All-cons, All-head, All-tail, All-weaker, All-append, All-map}
+use Rattle.std.proofs.lemmas.Bool.{not-true}
 use Rattle.wiki_base.specs.declared.numbers.WordId.{WordId}
 use Rattle.wiki_base.specs.declared.numbers.Rev.{Rev}
 use Rattle.wiki_base.specs.declared.numbers.SessionId.{SessionId}
@@ -142,12 +143,8 @@ held_ended pages words word old new rebased last held kept is_rebased ended =
     (all_filtered (Fits pages.articles last) (Fits (without pages.articles word) last) (λ (s : PlainSession). not (is_on word s)) stays rebased
     (fits_rebased pages.grammar words pages.articles last (all_plain old) rebased is_rebased (fits_each pages old last held))))
   where
-    not_true : (b : Bool) → not b ≡ true → b ≡ false
-    not_true true is = sym is
-    not_true false is = refl
-
     stays : (s : PlainSession) → not (is_on word s) ≡ true → Fits pages.articles last s → Fits (without pages.articles word) last s
-    stays s passes f = record { on = go_on_ended pages.articles word s (not_true (is_on word s) passes) f.on; numbered = f.numbered }
+    stays s passes f = record { on = go_on_ended pages.articles word s (not-true (is_on word s) passes) f.on; numbered = f.numbered }
 
 -- sessions in order are so without their editors
 pub plain_in_order : (sessions : List Session) → AllPairs (λ session later. session.number.0 < later.number.0) sessions → AreInOrder (all_plain sessions)

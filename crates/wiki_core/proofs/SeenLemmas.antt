@@ -1,7 +1,7 @@
 -- What one session sees of a wiki, and how each change of sessions shows there.
 use Rattle.std.proofs.Common.{◌≡◌, ℕ, ◌+◌, ◌-◌, ◌<◌, ◌≤◌, ◌==◌, ◌⊎◌, Bool, true, false, not, cond, List, [], ◌∷◌, ◌++◌, map, filter, find, Option, Some, None, option_map, refl, sym, ap, subst, ◌∙◌, arith}
 use Rattle.std.specs.Option.{option_or}
-use Rattle.std.proofs.lemmas.Bool.{eqb-true, eqb-false}
+use Rattle.std.proofs.lemmas.Bool.{eqb-true, eqb-false, not-true}
 use Rattle.std.proofs.lemmas.List.Folds.{find-append}
 use Rattle.wiki_base.specs.declared.numbers.WordId.{WordId}
 use Rattle.wiki_base.specs.declared.numbers.SessionId.{SessionId}
@@ -119,11 +119,7 @@ changed_other sessions n m change keeps apart =
 -- the end of the session itself
 pub without_own : (sessions : List PlainSession) (n : ℕ) → session_of (without_session sessions (record { 0 = n })) (record { 0 = n }) ≡ None
 without_own sessions n = find_filtered (has_number (record { 0 = n })) (λ (s : PlainSession). not (s.number.0 == n))
-    (λ s passes. not_true (s.number.0 == n) passes) sessions
-  where
-    not_true : (b : Bool) → not b ≡ true → b ≡ false
-    not_true true is = sym is
-    not_true false is = refl
+    (λ s passes. not-true (s.number.0 == n) passes) sessions
 
 -- the end of another session
 pub without_other : (sessions : List PlainSession) (n m : ℕ) → (n == m) ≡ false

@@ -1,7 +1,7 @@
 -- Words that come and go leave the meaning of tokens that have none of their forms.
 use Rattle.std.proofs.Common.{◌≡◌, ℕ, ◌+◌, Bool, true, false, not, ◌&&◌, ◌||◌, cond, List, [], ◌∷◌, ◌++◌, map, MatchBool, refl, sym, ap, subst, ◌∙◌, append-nil}
 use Rattle.std.specs.List.{list_all}
-use Rattle.std.proofs.lemmas.Bool.{false≢true}
+use Rattle.std.proofs.lemmas.Bool.{false≢true, not-true}
 use Rattle.std.proofs.lemmas.Grind.{flat_map-append}
 use Rattle.wiki_base.specs.declared.numbers.WordId.{WordId}
 use Rattle.derivation_trees.proofs.ReadingLemmas.{no_readings}
@@ -77,10 +77,6 @@ means-with_word g words forms tokens meaning none =
     means-same g words (with_word words forms) tokens meaning
     (readings-same words.live (with_word words forms).live (λ token. not (is_among forms.texts token))
     (λ token passed. readings-with words.live (next_word words forms) token (not-true (is_among forms.texts token) passed)) tokens none)
-  where
-    not-true : (b : Bool) → not b ≡ true → b ≡ false
-    not-true true passed = absurd (false≢true passed)
-    not-true false passed = refl
 
 -- a word that goes leaves the meaning of tokens of which none is one of its forms
 pub means-without_word : (g : GrammarParts) (words : Listed) (id : WordId) (tokens : List (List ℕ)) (meaning : Meaning)

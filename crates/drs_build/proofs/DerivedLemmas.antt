@@ -4,6 +4,7 @@ use Rattle.std.specs.Prelude.{◌&&◌, ◌==◌, nat_le}
 use Rattle.std.specs.List.{list_all}
 use Rattle.std.proofs.lemmas.Bool.{le-leb, and_from}
 use Rattle.wiki_base.specs.declared.numbers.WordId.{WordId}
+use Rattle.drs_build.proofs.QuestionLemmas.{at}
 use Rattle.codeco_terms.specs.declared.elements.Element.{Element}
 use Rattle.codeco_terms.specs.declared.elements.Element.TheVariants.{Terminal, Preterminal, Sub, Position, Opener, Forward, Strong, Back, NoBack}
 use Rattle.codeco_terms.specs.GrammarParts.{GrammarParts}
@@ -29,10 +30,6 @@ use Rattle.drs_build.proofs.CountLemmas.{distinct_from_times}
 use Rattle.drs_build.proofs.WeightLemmas.{inside_small}
 use Rattle.drs_build.proofs.GrammarLemmas.{introducing}
 use Rattle.drs_build.proofs.SpanLemmas.{LightIn, AllLight, node_light}
-
--- a sketch of these parts
-abbrev at : ℕ → List WordId → List Skeleton → List (ℕ → Skeleton) → Sketch
-at place words children left = record { place = place; words = words; children = children; left = left }
 
 -- what is sketched over elements from a place: more children, in order
 record Walked (s : Setting) (es : List Element) (place : ℕ) (children : List Skeleton) (after : Sketch) : Type 0 where

@@ -82,7 +82,8 @@ children_kept s values (NoBack ps) stand mid plain h = of_no_test (list_any (is_
 
 -- The children of a body, as they are sketched
 
-abbrev at : ℕ → List WordId → List Skeleton → List (ℕ → Skeleton) → Sketch
+-- a sketch of these parts
+abbrev pub at : ℕ → List WordId → List Skeleton → List (ℕ → Skeleton) → Sketch
 at place words children left = record { place = place; words = words; children = children; left = left }
 
 -- the children that are added have the kinds of their categories

@@ -1,8 +1,8 @@
-mod Adding
+pub mod Adding
 mod Changing
 mod Keys
 mod Letters
 mod Others
 pub mod Owners
 mod Places
-mod Reading
+pub mod Reading

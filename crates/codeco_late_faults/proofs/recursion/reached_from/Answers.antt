@@ -1,5 +1,5 @@
 use Rattle.std.proofs.Common.{◌≡◌, [], subst, refl, arith, rules}
-use Rattle.codeco_late_faults.specs.declared.recursion.TheConstants.{CATEGORIES}
+use Rattle.codeco_checked.specs.declared.numbers.TheConstants.{NUMBERS}
 use Rattle.codeco_late_faults.specs.Steps.{leads}
 use Rattle.codeco_late_faults.proofs.SearchLemmas.{Searches, searches_begun, searches_step, searched, no_length, followed_at}
 use Rattle.codeco_late_faults.proofs.recursion.reached_from.Goals as goal
@@ -7,7 +7,7 @@ use Rattle.codeco_late_faults.proofs.recursion.reached_from.Goals as goal
 pub loop-next-init : goal.loop-next-init
 loop-next-init c =
     let all = c.in_ok-reached.ensures.items_if_clones_equal (λ b h. h) in
-    searches_begun (leads c.args.table.now) c.args.from CATEGORIES c.in_ok-reached.reached.items c.follow.new.reached.items c.new-waiting.result.items
+    searches_begun (leads c.args.table.now) c.args.from NUMBERS c.in_ok-reached.reached.items c.follow.new.reached.items c.new-waiting.result.items
     c.follow.new.waiting.items refl all c.new-waiting.ensures.items
     (followed_at c.args.table.now c.args.from c.index-table-from.result c.in_ok-reached.reached.items c.follow.new.reached.items c.new-waiting.result.items
     c.follow.new.waiting.items (omega arith) c.index-table-from.is c.in_ok-follow.ensures)

@@ -6,7 +6,6 @@ ghost use Rattle.codeco_terms.specs.declared.categories.Ground.{Ground};
 ghost use Rattle.scopes.specs.Resolution as resolution;
 ghost use Rattle.codeco_checked.specs.Numbering.{has};
 ghost use Rattle.derivation_trees.specs.Settings as settings;
-ghost use Rattle.wiki_base.specs.declared.tokens.TheConstants.{MOST_TOKENS};
 
 use codeco_terms::{Declared, Grammar, Ground, Value};
 use derivation_trees::Setting;
@@ -34,7 +33,8 @@ impl<'a> Model for Scene<'a> {
 
     ghost view = { λ a. record { grammar = a.grammar.now; tokens = a.tokens.now; readings = a.readings.now } };
 
-    ghost use Rattle.std.specs.Prelude.{◌≡◌, ◌≤◌, length};
+    ghost use Rattle.std.specs.Prelude.{◌≡◌, ◌≤◌, ◌+◌, length};
+    ghost use Rattle.wiki_base.specs.declared.tokens.TheConstants.{MOST_TOKENS};
 
     ghost invariant = { λ a. (length a.tokens.now ≤ MOST_TOKENS + 1) × (length a.readings.now ≡ length a.tokens.now) };
 }

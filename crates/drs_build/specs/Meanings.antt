@@ -57,7 +57,6 @@ meaning label.Done m = verb_phrase (λ x. m.first.around (only (AreRelated m.wor
 meaning label.Class m = verb_phrase (λ x. only (IsA m.word x) ⊕ m.first.on x)
 meaning label.Top m = verb_phrase (λ x. empty)
 meaning label.Same m = verb_phrase (λ x. m.first.around (only (AreSame x m.first.term)))
-meaning _ m = m.first
 meaning label.Only m =
     verb_phrase (λ x. only (Implication (introduced m.here ⊕ only (AreRelated m.word x (Ref m.here))) (only (IsA m.other_word (Ref m.here)))))
 meaning label.Gap m = verb_phrase (λ x. m.first.around (only (AreRelated m.word m.first.term x)))
@@ -76,3 +75,4 @@ meaning label.What m = bar m.here (introduced m.here ⊕ m.first.on (Ref m.here)
 meaning label.Which m = bar m.first.referent (m.first.says ⊕ m.second.on (Ref m.first.referent))
 meaning label.Whichobj m = bar m.first.referent (m.first.says ⊕ m.second.around (only (AreRelated m.word m.second.term (Ref m.first.referent))))
 meaning label.Mark m = nothing
+meaning _ m = m.first

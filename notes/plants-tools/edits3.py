@@ -1,0 +1,17 @@
+from mk import edit
+L="logic_terms"
+edit(L,"everything_is_the_same_as_each_class","src/comparing.rt",("Class::Thing => matches!(other, Class::Thing),","Class::Thing => true,"))
+edit(L,"shorter_list_is_the_same","src/comparing.rt",("if self.len() != other.len() {","if self.len() > other.len() {"))
+edit(L,"list_has_what_it_lacks","src/comparing.rt",("if self.get(place).is_same(class) {","if !self.get(place).is_same(class) {"))
+edit(L,"inverse_of_an_inverse_is_an_inverse","src/comparing.rt",("inverted: !self.inverted,","inverted: true,"))
+edit(L,"complement_of_a_complement_as_it_stands","src/opposing.rt",("Class::Not(inner) => self.is_normal_form_of(inner),","Class::Not(inner) => self.is_normal_form_of(inner) || self.is_same(inner),"))
+edit(L,"complement_is_looked_for_as_the_class","src/opposing.rt",("if self.get(place).is_complement_of(class) {","if self.get(place).is_same(class) {"))
+edit(L,"last_class_of_a_vec_is_dropped","src/expressions.rt",("        Classes { items }","        { let mut items = items; let _ = items.pop(); Classes { items } }"))
+edit(L,"last_class_is_dropped_on_the_way_out","src/expressions.rt",("let Classes { items } = self;","let Classes { mut items } = self; let _ = items.pop();"))
+edit(L,"classes_are_told_empty_where_some_are","src/expressions.rt",("self.items.is_empty()","self.items.len() < 2"))
+edit(L,"first_condition_is_lent","src/structures.rt",("&self.items[place]","&self.items[0]"))
+edit(L,"conditions_are_told_empty_where_one_is","src/structures.rt",("self.items.is_empty()","self.items.len() < 2"))
+edit(L,"last_condition_of_a_vec_is_dropped","src/structures.rt",("        Conds { items }","        { let mut items = items; let _ = items.pop(); Conds { items } }"))
+edit(L,"first_axiom_is_lent","src/statements.rt",("&self.items[place]","&self.items[0]"))
+edit(L,"first_name_is_given","src/names.rt",("        self.items[place]","        self.items[0]"))
+edit(L,"assertions_and_unfoldings_exchanged","src/knowledge.rt",("            assertions,","            assertions: unfoldings ,"),("            unfoldings,","            unfoldings: assertions,"))

@@ -45,7 +45,8 @@ pub record Made : Type 0 where
   pub here : ℕ
   pub found : Thing
 
--- The equation of each label. Both meanings of `and` and `or` are those of sentences or those of verb phrases.
+-- The equation of each label. Both meanings of `and` and `or` are those of sentences or those of verb phrases; the last row is that of `statement`,
+-- `ask` and `pass`.
 abbrev pub meaning : Label → Made → Meaning
 meaning label.If m = saying (only (Implication m.first.says m.second.says))
 meaning label.Say m = saying (m.first.around (m.second.on m.first.term))

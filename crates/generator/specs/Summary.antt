@@ -34,7 +34,7 @@ with_answers s (sentence ∷ sentences) = with_answers (with_sentence s sentence
 -- a reply more: a word, a sentence, or an article that was read
 abbrev pub with_reply : Summary → Reply → Summary
 with_reply s replies.Word = record s { words = s.words + 1 }
-with_reply s (replies.Add status) = with_status s status
+with_reply s (replies.Add status shown) = with_status s status
 with_reply s (replies.Read form revision sentences) = with_answers s sentences
 with_reply s reply = s
 

@@ -53,7 +53,7 @@ impl Summary {
                 words: sum(self.words, 1)?,
                 ..self
             }),
-            Reply::Add { status } => self.with_status(*status),
+            Reply::Add { status, .. } => self.with_status(*status),
             Reply::Read { sentences, .. } => self.with_answers(sentences.as_slice()),
             _ => Ok(self),
         }

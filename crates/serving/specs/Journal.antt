@@ -26,8 +26,16 @@ line_written request = request_line request
 unfoldable pub change_line : Request → List ℕ
 change_line request = if is_change request then line_written request else []
 
+-- a sentence that is added or put in place of another, by what shows it, and not by the text that was sent
+unfoldable pub shown_line : Request → List ℕ → List ℕ
+shown_line (requests.Add article place text) shown = line_written (requests.Add article place shown)
+shown_line (requests.Edit article place text) shown = line_written (requests.Edit article place shown)
+shown_line request shown = []
+
 -- the line of an accepted change: of a session's sentence, that it is added to its article; of anything else none
 unfoldable pub journal_line : Request → Reply → List ℕ
 journal_line request (replies.Refused refusal) = []
 journal_line request (replies.Commit article status shown) = line_written (requests.Add article None shown)
+journal_line request (replies.Add status shown) = shown_line request shown
+journal_line request (replies.Edit status shown) = shown_line request shown
 journal_line request reply = change_line request

@@ -1,6 +1,6 @@
 // The lines of the journal.
 ghost use Rattle.std.specs.Prelude.{◌≡◌, None, IfOk};
-ghost use Rattle.serving.specs.Journal.{is_change, line_written, change_line, journal_line};
+ghost use Rattle.serving.specs.Journal.{is_change, line_written, change_line, shown_line, journal_line};
 
 use lists::Copied;
 use std::alloc::Global;
@@ -15,21 +15,54 @@ pub(crate) fn journal_line(alloc: Global, request: &Request, reply: &Reply) -> R
 {
     match reply {
         Reply::Refused(_) => Ok(Text8::new(alloc)),
-        Reply::Commit { article, shown, .. } => added_line(alloc, article, shown),
+        Reply::Commit { article, shown, .. } => added_line(alloc, article, None, shown),
+        Reply::Add { shown, .. } => shown_line(alloc, request, shown),
+        Reply::Edit { shown, .. } => shown_line(alloc, request, shown),
         _ => change_line(alloc, request),
     }
 }
 
-fn added_line(alloc: Global, article: &Text8, text: &Text8) -> Result<Text8, Memory>
-    ensures { IfOk result (λ line. line ≡ line_written (Request.Add article.now None text.now)) }
+// A sentence that is added or put in place of another, by what shows it: the text that was sent may be so long that its line
+// is none.
+#[tactic(auto, unfolding(crate::specs::Journal::shown_line))]
+fn shown_line(alloc: Global, request: &Request, shown: &Text8) -> Result<Text8, Memory>
+    ensures { IfOk result (λ line. line ≡ shown_line request.now shown.now) }
+{
+    match request {
+        Request::Add { article, at, .. } => added_line(alloc, article, *at, shown),
+        Request::Edit { article, at, .. } => edited_line(alloc, article, *at, shown),
+        _ => Ok(Text8::new(alloc)),
+    }
+}
+
+fn added_line(
+    alloc: Global,
+    article: &Text8,
+    at: Option<u32>,
+    text: &Text8,
+) -> Result<Text8, Memory>
+    ensures { IfOk result (λ line. line ≡ line_written (Request.Add article.now at text.now)) }
 {
     let added = Request::Add {
         article: article.copy()?,
-        at: None,
+        at,
         text: text.copy()?,
     };
     let line = line_written(alloc, &added);
     drop(added);
+    line
+}
+
+fn edited_line(alloc: Global, article: &Text8, at: u32, text: &Text8) -> Result<Text8, Memory>
+    ensures { IfOk result (λ line. line ≡ line_written (Request.Edit article.now at text.now)) }
+{
+    let edited = Request::Edit {
+        article: article.copy()?,
+        at,
+        text: text.copy()?,
+    };
+    let line = line_written(alloc, &edited);
+    drop(edited);
     line
 }
 

@@ -4,6 +4,7 @@ use Rattle.std.specs.Prelude.{IfSome, option_map}
 use Rattle.std.specs.List.{slice_get}
 use Rattle.std.specs.Option.{option_and_then, IsSomeAnd}
 use Rattle.wiki_base.specs.declared.numbers.WordId.{WordId}
+use Rattle.derivation_trees.specs.Cutting.{shown}
 use Rattle.logic_terms.specs.Concept.{Claim}
 use Rattle.logic_terms.specs.Reading.{IsModel}
 use Rattle.wiki_talk.specs.declared.statuses.Status.{Status}
@@ -64,19 +65,20 @@ sentence-there articles word at there = by_article (article_of articles word) th
 module _ (old : Holding) (article : List ℕ) (given : Option ℕ) (text : List ℕ) (word : WordId) (place : ℕ) (tokens : List (List ℕ)) (status : Status)
     (named : word_named old.state article ≡ Some word) (at_place : place_for old.state article given ≡ Some place) (cut : tokens ≡ tokens_of old.state text)
   where
-    pub adds-step : (new : State) (meaning : Meaning) → IsAbsent (Refuses old.state (requests.Add article given text))
+    pub adds-step : (new : State) (meaning : Meaning) (text_shown : List ℕ) → IsAbsent (Refuses old.state (requests.Add article given text))
+        → text_shown ≡ shown old.state.grammar.terminals tokens
         → Means old.state.grammar old.state.words tokens meaning
         → IsStatusOf (with_inserted old.state word place (record { tokens = tokens; status = Asserted })) meaning status
         → new ≡ with_inserted old.state word place (record { tokens = tokens; status = status })
-        → Step old.state (requests.Add article given text) (replies.Add status) new
-    adds-step new meaning free =
+        → Step old.state (requests.Add article given text) (replies.Add status text_shown) new
+    adds-step new meaning text_shown free =
         subst
-        (λ (ts : List (List ℕ)). Means old.state.grammar old.state.words ts meaning
+        (λ (ts : List (List ℕ)). text_shown ≡ shown old.state.grammar.terminals ts → Means old.state.grammar old.state.words ts meaning
         → IsStatusOf (with_inserted old.state word place (record { tokens = ts; status = Asserted })) meaning status
         → new ≡ with_inserted old.state word place (record { tokens = ts; status = status })
-        → Step old.state (requests.Add article given text) (replies.Add status) new)
+        → Step old.state (requests.Add article given text) (replies.Add status text_shown) new)
         (sym cut)
-        (λ means fits after. (
+        (λ shows means fits after. (
           free,
           record {
             word = word;
@@ -85,15 +87,15 @@ module _ (old : Holding) (article : List ℕ) (given : Option ℕ) (text : List 
             at_place = at_place;
             status = status;
             gets = record { meaning = meaning; means = means; fits = fits };
-            answer = refl;
+            answer = ap (λ (it : List ℕ). replies.Add status it) shows;
             after = after;
           },
         ))
 
-    pub adds-spent : (status ≡ RedBudget → (claims : List Claim)
+    pub adds-spent : (text_shown : List ℕ) → (status ≡ RedBudget → (claims : List Claim)
         → Knows (with_inserted old.state word place (record { tokens = tokens; status = Asserted })) claims → ¬ IsModel old.interpretation claims)
-        → SpendsBeyondKept old (requests.Add article given text) (replies.Add status)
-    adds-spent beyond told =
+        → SpendsBeyondKept old (requests.Add article given text) (replies.Add status text_shown)
+    adds-spent text_shown beyond told =
         let Q : State → Type 0 = λ taken. (claims : List Claim) → Knows taken claims → ¬ IsModel old.interpretation claims in
         subst
         (λ (o : Option WordId). IfSome (option_and_then
@@ -108,34 +110,35 @@ module _ (old : Holding) (article : List ℕ) (given : Option ℕ) (text : List 
 
 module _ (old : Holding) (article : List ℕ) (place : ℕ) (text : List ℕ) (word : WordId) (tokens : List (List ℕ)) (status : Status)
     (named : word_named old.state article ≡ Some word) (cut : tokens ≡ tokens_of old.state text) where
-  pub edits-step : (new : State) (meaning : Meaning) → IsAbsent (Refuses old.state (requests.Edit article place text))
+  pub edits-step : (new : State) (meaning : Meaning) (text_shown : List ℕ) → IsAbsent (Refuses old.state (requests.Edit article place text))
+      → text_shown ≡ shown old.state.grammar.terminals tokens
       → Means old.state.grammar old.state.words tokens meaning
       → IsStatusOf (with_replaced old.state word place (record { tokens = tokens; status = Asserted })) meaning status
       → new ≡ with_replaced old.state word place (record { tokens = tokens; status = status })
-      → Step old.state (requests.Edit article place text) (replies.Edit status) new
-  edits-step new meaning free =
+      → Step old.state (requests.Edit article place text) (replies.Edit status text_shown) new
+  edits-step new meaning text_shown free =
       subst
-      (λ (ts : List (List ℕ)). Means old.state.grammar old.state.words ts meaning
+      (λ (ts : List (List ℕ)). text_shown ≡ shown old.state.grammar.terminals ts → Means old.state.grammar old.state.words ts meaning
       → IsStatusOf (with_replaced old.state word place (record { tokens = ts; status = Asserted })) meaning status
       → new ≡ with_replaced old.state word place (record { tokens = ts; status = status })
-      → Step old.state (requests.Edit article place text) (replies.Edit status) new)
+      → Step old.state (requests.Edit article place text) (replies.Edit status text_shown) new)
       (sym cut)
-      (λ means fits after. (
+      (λ shows means fits after. (
         free,
         record {
           word = word;
           named = named;
           status = status;
           gets = record { meaning = meaning; means = means; fits = fits };
-          answer = refl;
+          answer = ap (λ (it : List ℕ). replies.Edit status it) shows;
           after = after;
         },
       ))
 
-  pub edits-spent : (status ≡ RedBudget → (claims : List Claim)
+  pub edits-spent : (text_shown : List ℕ) → (status ≡ RedBudget → (claims : List Claim)
       → Knows (with_replaced old.state word place (record { tokens = tokens; status = Asserted })) claims → ¬ IsModel old.interpretation claims)
-      → SpendsBeyondKept old (requests.Edit article place text) (replies.Edit status)
-  edits-spent beyond told =
+      → SpendsBeyondKept old (requests.Edit article place text) (replies.Edit status text_shown)
+  edits-spent text_shown beyond told =
       let Q : State → Type 0 = λ taken. (claims : List Claim) → Knows taken claims → ¬ IsModel old.interpretation claims in
       subst (λ (o : Option WordId). IfSome (option_map (λ (w : WordId). with_replaced old.state w place (sentence_with old.state text Asserted)) o) Q)
       (sym named)

@@ -33,8 +33,8 @@ taken_by old request = None
 
 -- the status that a reply tells of a sentence that was judged
 abbrev pub status_told : Reply → Option Status
-status_told (replies.Add status) = Some status
-status_told (replies.Edit status) = Some status
+status_told (replies.Add status shown) = Some status
+status_told (replies.Edit status shown) = Some status
 status_told (replies.Reassert status) = Some status
 status_told reply = None
 

@@ -4,6 +4,7 @@ use Rattle.wiki_base.specs.declared.numbers.WordId.{WordId}
 use Rattle.lexicon.specs.declared.kinds.Kind.{Kind}
 use Rattle.lexicon.specs.declared.kinds.Forms.{Forms}
 use Rattle.lexicon.specs.Words.{with_word, with_forms, without_word, next_word, forms_of, canonical_form_of}
+use Rattle.derivation_trees.specs.Cutting.{shown}
 use Rattle.wiki_talk.specs.declared.statuses.Status.{Status}
 use Rattle.wiki_talk.specs.declared.statuses.Status.TheVariants.{Asserted, Retracted}
 use Rattle.wiki_talk.specs.declared.refusals.Refusal.{Refusal}
@@ -132,7 +133,7 @@ sentence_with state text status = record { tokens = tokens_of state text; status
 abbrev pub place_for : State → List ℕ → Option ℕ → Option ℕ
 place_for state article given = option_map (λ found. unwrap_or given (length found.sentences)) (article_named state article)
 
--- a sentence is inserted at the place that is given, or at the end, with the status that it gets there
+-- a sentence is inserted at the place that is given, or at the end, with the status that it gets there; the reply has what shows it
 pub record AddsSentence (old : State) (article : List ℕ) (given : Option ℕ) (text : List ℕ) (reply : Reply) (new : State) : Type 0 where
   pub word : WordId
   pub named : word_named old article ≡ Some word
@@ -140,16 +141,17 @@ pub record AddsSentence (old : State) (article : List ℕ) (given : Option ℕ) 
   pub at_place : place_for old article given ≡ Some place
   pub status : Status
   pub gets : GetStatus (with_inserted old word place (sentence_with old text Asserted)) (tokens_of old text) status
-  pub answer : reply ≡ replies.Add status
+  pub answer : reply ≡ replies.Add status (shown old.grammar.terminals (tokens_of old text))
   pub after : new ≡ with_inserted old word place (sentence_with old text status)
 
--- a sentence is put in place of another, with the status that it gets there, where the other one has left the knowledge
+-- A sentence is put in place of another, with the status that it gets there, where the other one has left the knowledge. The reply has
+-- what shows it.
 pub record EditsSentence (old : State) (article : List ℕ) (place : ℕ) (text : List ℕ) (reply : Reply) (new : State) : Type 0 where
   pub word : WordId
   pub named : word_named old article ≡ Some word
   pub status : Status
   pub gets : GetStatus (with_replaced old word place (sentence_with old text Asserted)) (tokens_of old text) status
-  pub answer : reply ≡ replies.Edit status
+  pub answer : reply ≡ replies.Edit status (shown old.grammar.terminals (tokens_of old text))
   pub after : new ≡ with_replaced old word place (sentence_with old text status)
 
 -- the sentence at the place is taken out

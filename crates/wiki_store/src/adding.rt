@@ -2,6 +2,7 @@
 ghost use Rattle.std.specs.Prelude.{◌≡◌, ◌≤◌, ◌<◌, List, length, insert, slice_get, slice_set, Some, AllPairs, IsTrue, IsSomeAnd, IfOk, IfErr, OnOk, OnErr};
 ghost use Rattle.wiki_base.specs.declared.tokens.TheConstants.{MOST_TOKENS};
 ghost use Rattle.codeco_checked.specs.Sound.{IsSound};
+ghost use Rattle.derivation_trees.specs.Cutting.{shown};
 ghost use Rattle.lexicon.specs.Words.{SharesNoForm};
 ghost use Rattle.logic_terms.specs.Concept.{Claim};
 ghost use Rattle.logic_terms.specs.Reading.{IsModel};
@@ -22,6 +23,7 @@ use crate::joining::{is_settled, join, stated, undo};
 use crate::standing::standing;
 use crate::store::Store;
 use articles::{Articles, Sentence};
+use derivation_trees::show;
 use wiki_base::{Memory, Text8, Tokens, WordId};
 use wiki_parts::{Fault, Sense, Senses};
 use wiki_talk::{Reply, Request, Status};
@@ -49,8 +51,16 @@ impl Store {
         ensures kept { OnErr result (self.new ≡ self.old) }
     {
         let fresh = self.fresh(form, given, text)?;
+        let shown = self.shown(&fresh.tokens)?;
         let status = self.insert(fresh)?;
-        Ok(Reply::Add { status })
+        Ok(Reply::Add { status, shown })
+    }
+
+    // What shows the tokens of a sentence.
+    pub(crate) fn shown(&self, tokens: &Tokens) -> Result<Text8, Memory>
+        ensures { IfOk result (λ text. text ≡ shown self.now.state.grammar.terminals tokens.now) }
+    {
+        show(self.alloc, self.grammar.grammar(), tokens)
     }
 
     // The new sentence, if nothing stands against it.

@@ -35,8 +35,9 @@ impl Store {
         ensures kept { OnErr result (self.new ≡ self.old) }
     {
         let fresh = self.edited(form, at, text)?;
+        let shown = self.shown(&fresh.tokens)?;
         let status = self.replace(fresh)?;
-        Ok(Reply::Edit { status })
+        Ok(Reply::Edit { status, shown })
     }
 
     // The sentence in place of another, if nothing stands against it.

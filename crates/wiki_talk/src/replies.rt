@@ -72,13 +72,15 @@ pub enum Reply {
     Reword,
     /// The word is gone.
     Unword,
-    /// The sentence was added, with this status.
+    /// The sentence was added, with this status; what shows it.
     Add {
         status: Status,
+        shown: Text8,
     },
-    /// The other sentence is there, with this status.
+    /// The other sentence is there, with this status; what shows it.
     Edit {
         status: Status,
+        shown: Text8,
     },
     /// The sentence is gone.
     Remove,

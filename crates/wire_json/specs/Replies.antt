@@ -93,8 +93,8 @@ reply_value (replies.Parse code) = object
     (member (codes "done") (string (codes "parse")) no_members))
 reply_value replies.Reword = done_value (codes "reword")
 reply_value replies.Unword = done_value (codes "unword")
-reply_value (replies.Add status) = status_value (codes "add") status
-reply_value (replies.Edit status) = status_value (codes "edit") status
+reply_value (replies.Add status shown) = status_value (codes "add") status
+reply_value (replies.Edit status shown) = status_value (codes "edit") status
 reply_value replies.Remove = done_value (codes "remove")
 reply_value (replies.Retract status) = status_value (codes "retract") status
 reply_value (replies.Reassert status) = status_value (codes "reassert") status

@@ -6,12 +6,12 @@ pub returns-clause-step : goal.returns-clause-step
 returns-clause-step c =
     adds-step c.args.self.now c.args.form.now c.args.given c.args.text.now c.in_ok-fresh.fresh.word c.in_ok-fresh.fresh.at c.in_ok-fresh.fresh.tokens
     c.in_ok-status.status c.in_ok-fresh.ensures.named
-    c.in_ok-fresh.ensures.at c.in_ok-fresh.ensures.tokens c.insert.new.self.state (meaning_shown c.in_ok-fresh.fresh.sense) c.in_ok-fresh.ensures.free
-    c.in_ok-fresh.ensures.means
+    c.in_ok-fresh.ensures.at c.in_ok-fresh.ensures.tokens c.insert.new.self.state (meaning_shown c.in_ok-fresh.fresh.sense) c.in_ok-shown.shown
+    c.in_ok-fresh.ensures.free c.in_ok-shown.ensures c.in_ok-fresh.ensures.means
     c.in_ok-status.ensures.status c.in_ok-status.ensures.after
 
 pub returns-clause-spent : goal.returns-clause-spent
 returns-clause-spent c =
     adds-spent c.args.self.now c.args.form.now c.args.given c.args.text.now c.in_ok-fresh.fresh.word c.in_ok-fresh.fresh.at c.in_ok-fresh.fresh.tokens
     c.in_ok-status.status c.in_ok-fresh.ensures.named
-    c.in_ok-fresh.ensures.at c.in_ok-fresh.ensures.tokens c.in_ok-status.ensures.spent
+    c.in_ok-fresh.ensures.at c.in_ok-fresh.ensures.tokens c.in_ok-shown.shown c.in_ok-status.ensures.spent

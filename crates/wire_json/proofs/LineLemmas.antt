@@ -4,7 +4,7 @@ use Rattle.std.specs.Str.{IsUtf8, is_utf8}
 use Rattle.std.proofs.lemmas.Str.{IsUtf8-from_is_utf8, is_utf8-from_IsUtf8}
 use Rattle.serde_json.specs.Data.{Data}
 use Rattle.serde_json.specs.Read.{read}
-use Rattle.wire_json.specs.declared.read.TheConstants.{TOO_LONG}
+use Rattle.wiki_io.specs.declared.limits.TheConstants.{MAX_LINE}
 use Rattle.wire_json.specs.Requests.{data_of, request_in, request_of}
 
 pub data_of_read : (line : List ℕ) (d : Data) → IsUtf8 line → read line ≡ Some d → data_of line ≡ Some d
@@ -18,15 +18,15 @@ pub data_of_unread : (line : List ℕ) → (IsUtf8 line → read line ≡ None) 
 data_of_unread line fails = unless_utf8 line (is_utf8 line) refl fails
 
 -- the request of a short line is that of the value that it writes
-pub request_of_read : (line : List ℕ) (d : Data) → length line < TOO_LONG → IsUtf8 line → read line ≡ Some d → request_of line ≡ request_in d
+pub request_of_read : (line : List ℕ) (d : Data) → length line < MAX_LINE → IsUtf8 line → read line ≡ Some d → request_of line ≡ request_in d
 unfolding request_of
 request_of_read line d short utf8 reads =
-    let fits : nat_lt (length line) TOO_LONG ≡ true = lt-ltb (length line) TOO_LONG short in
+    let fits : nat_lt (length line) MAX_LINE ≡ true = lt-ltb (length line) MAX_LINE short in
     rw (fits, data_of_read line d utf8 reads)
 
 -- a short line that writes no value is no request
-pub request_of_unread : (line : List ℕ) → length line < TOO_LONG → (IsUtf8 line → read line ≡ None) → request_of line ≡ None
+pub request_of_unread : (line : List ℕ) → length line < MAX_LINE → (IsUtf8 line → read line ≡ None) → request_of line ≡ None
 unfolding request_of
 request_of_unread line short fails =
-    let fits : nat_lt (length line) TOO_LONG ≡ true = lt-ltb (length line) TOO_LONG short in
+    let fits : nat_lt (length line) MAX_LINE ≡ true = lt-ltb (length line) MAX_LINE short in
     rw (fits, data_of_unread line fails)

@@ -6,10 +6,10 @@ use Rattle.serde_json.specs.Data.{Data, string, number, unsigned, array, object,
 use Rattle.serde_json.specs.Read.{read}
 use Rattle.serde_json.specs.Find.{get, as_str, as_array, as_number, as_u64}
 use Rattle.lexicon.specs.declared.words.TheConstants.{LAST_NUMBER}
+use Rattle.wiki_io.specs.declared.limits.TheConstants.{MAX_LINE}
 use Rattle.wiki_talk.specs.declared.requests.Request.{Request}
 use Rattle.wiki_talk.specs.declared.requests.Request.TheVariants as requests
 use Rattle.wiki_talk.specs.Kinds.{kind_name, kind_named}
-use Rattle.wire_json.specs.declared.read.TheConstants.{TOO_LONG}
 use Rattle.wire_json.specs.Values.{line_text, texts_items}
 
 -- the text at a key of an object
@@ -162,7 +162,7 @@ data_of line = if is_utf8 line then read line else None
 
 -- the request of a line that is short enough
 unfoldable pub request_of : List ℕ → Option Request
-request_of line = if nat_lt (length line) TOO_LONG then option_and_then request_in (data_of line) else None
+request_of line = if nat_lt (length line) MAX_LINE then option_and_then request_in (data_of line) else None
 
 -- ---- the line of a request
 

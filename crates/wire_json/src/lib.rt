@@ -12,5 +12,5 @@ mod tests;
 mod values;
 mod write;
 
-pub use read::{TOO_LONG, read_request};
+pub use read::read_request;
 pub use write::{bad_request_line, reply_line, request_line};

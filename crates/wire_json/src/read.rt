@@ -12,17 +12,16 @@ use crate::sessions::{
 use serde_json::Value;
 use std::alloc::Global;
 use wiki_base::{Memory, Text8, Text8s};
+use wiki_io::MAX_LINE;
 use wiki_talk::{Request, kind_named};
 
-/// A line of so many bytes and more, its newline not counted, is too long to be a request.
-pub const TOO_LONG: usize = 65_536;
-
-/// The request of a line without its newline. `None` exactly where the line is too long or is no request.
+/// The request of a line without its newline. `None` exactly where the line is too long (`MAX_LINE`) or is no
+/// request.
 #[tactic(auto, unfolding(crate::specs::Requests::request_of))]
 pub fn read_request(alloc: Global, line: &[u8]) -> Result<Option<Request>, Memory>
     ensures { IfOk result (λ request. request ≡ request_of line.now) }
 {
-    if line.len() >= TOO_LONG {
+    if line.len() >= MAX_LINE {
         return Ok(None);
     }
     match Value::from_slice(alloc, line) {

@@ -55,9 +55,13 @@ def after_head(head, body):
         return {400}
     if any(name == b"transfer-encoding" for name, _ in fields):
         return {501}
-    hosts = sum(name == b"host" for name, _ in fields)
-    if hosts > 1 or (hosts == 0 and version == b"1"):
+    hosts = [value for name, value in fields if name == b"host"]
+    if len(hosts) > 1 or (not hosts and version == b"1"):
         return {400}
+    origins = [value.lower() for name, value in fields if name == b"origin"]
+    own = [scheme + host.lower() for host in hosts for scheme in (b"http://", b"https://")]
+    if method == b"POST" and origins and not (len(origins) == 1 and origins[0] in own):
+        return {403}
     lengths = [value for name, value in fields if name == b"content-length"]
     if not all(re.fullmatch(rb"[0-9]{1,19}", it) for it in lengths) or len({int(it) for it in lengths}) > 1:
         return {400}
@@ -255,7 +259,7 @@ def some_http(draw):
     elif odd == 2:
         fields.append("hOST: there")
     elif odd == 3:
-        fields.append(draw.choice(["Content-Length: 7", f"Content-Length: 0{len(body)}", "Content-Length: x", "Content-Length: 65537", "Content-Length: " + "9" * 20, "Content-Length:"]))
+        fields.append(draw.choice(["Origin: http://here", "origin: HTTPS://HERE", "Origin: http://there", "Origin: null", "Content-Length: 7", f"Content-Length: 0{len(body)}", "Content-Length: x", "Content-Length: 65537", "Content-Length: " + "9" * 20, "Content-Length:"]))
     elif odd == 4:
         fields += [f"X-{n}: {n}" for n in range(draw.choice([60, 61, 62, 63, 64, 65, 200]))]
     elif odd == 5:

@@ -54,6 +54,45 @@ fn refusals_come_in_their_order(rt: HostRuntime) -> Result<(), Fail> {
     Ok(())
 }
 
+// `Origin` is looked at where a request posts: it is to be that of a page of the one host that is named (RFC 6454).
+#[test]
+fn a_page_of_another_site_posts_nothing(rt: HostRuntime) -> Result<(), Fail> {
+    let front = Front::new(rt.alloc())?;
+    for (fields, wanted) in [
+        ("Host: wiki:8080\r\n", ASKED),
+        ("Host: wiki:8080\r\nOrigin: http://wiki:8080\r\n", ASKED),
+        (
+            "Host: Wiki:8080\r\nORIGIN: HTTPS://wiki:8080 \r\n",
+            ASKED,
+        ),
+        ("Host: wiki:8080\r\nOrigin: http://wiki:8081\r\n", 403),
+        ("Host: wiki\r\nOrigin: http://wiki.example\r\n", 403),
+        ("Host: wiki\r\nOrigin: ftp://wiki\r\n", 403),
+        ("Host: wiki\r\nOrigin: http://\r\n", 403),
+        ("Host: wiki\r\nOrigin: null\r\n", 403),
+        ("Host: wiki\r\nOrigin:\r\n", 403),
+        (
+            "Host: wiki\r\nOrigin: http://wiki\r\nOrigin: http://wiki\r\n",
+            403,
+        ),
+        ("Origin: http://wiki\r\n", 403),
+        (
+            "Origin: http://x\r\nHost: wiki\r\nContent-Length: x\r\n",
+            403,
+        ),
+        (
+            "Origin: http://x\r\nHost: wiki\r\nHost: wiki\r\n",
+            400,
+        ),
+    ] {
+        let request = format!(in rt.alloc(); "POST /session/1/back HTTP/1.0\r\n{fields}\r\n")?;
+        assert_eq!(rt; status(&front, request.as_bytes())?, wanted);
+        let request = format!(in rt.alloc(); "GET /session/1 HTTP/1.0\r\n{fields}\r\n")?;
+        assert!(rt; status(&front, request.as_bytes())? != 403);
+    }
+    Ok(())
+}
+
 #[test]
 fn fields_of_forms_are_read_as_kinds_and_numbers(rt: HostRuntime) -> Result<(), Fail> {
     let front = Front::new(rt.alloc())?;

@@ -2,6 +2,7 @@ pub mod ExceedLemmas
 pub mod FieldLemmas
 pub mod FormLemmas
 pub mod HeadLemmas
+pub mod OriginLemmas
 pub mod NumberLemmas
 pub mod PieceLemmas
 pub mod RouteLemmas

@@ -1,5 +1,5 @@
 -- What the fields of a head tell: each is a name, and a value without the white space around it.
-use Rattle.std.specs.Prelude.{ℕ, ◌==◌, ◌||◌, ◌&&◌, Bool, true, false, List, [], ◌∷◌, map, filter, codes, Option, Some, None, option_and_then, unwrap_or, if◌then◌else◌, nat_lt, nat_eq}
+use Rattle.std.specs.Prelude.{ℕ, ◌==◌, ◌||◌, ◌&&◌, not, Bool, true, false, List, [], ◌∷◌, ◌++◌, map, filter, codes, Option, Some, None, option_and_then, unwrap_or, if◌then◌else◌, nat_lt, nat_eq}
 use Rattle.std.specs.List.{count_by, list_all}
 use Rattle.std.specs.Char.{to_ascii_lowercase}
 use Rattle.std.specs.Str.{bytes_eq}
@@ -21,6 +21,34 @@ has_transfer_coding fields = nat_lt 0 (fields_named (codes "Transfer-Encoding") 
 abbrev pub is_bad_host : ℕ → List (List ℕ × List ℕ) → Bool
 is_bad_host minor fields =
     nat_lt 1 (fields_named (codes "Host") fields) || (minor == 1 && fields_named (codes "Host") fields == 0)
+
+-- ---- which site's page sends a request
+
+-- the value of the first field of this name; nothing where there is none
+abbrev pub value_named : List ℕ → List (List ℕ × List ℕ) → List ℕ
+value_named name [] = []
+value_named name (field ∷ fields) = if is_named name field then field.1 else value_named name fields
+
+-- the origin is this scheme with this host, without regard to the case of letters
+unfoldable pub is_at : List ℕ → List ℕ → List ℕ → Bool
+is_at scheme host origin = bytes_eq (map to_ascii_lowercase origin) (map to_ascii_lowercase (scheme ++ host))
+
+-- the origin is that of a page of this host (RFC 6454)
+abbrev pub is_page_of : List ℕ → List ℕ → Bool
+is_page_of host origin = is_at (codes "http://") host origin || is_at (codes "https://") host origin
+
+-- no field tells an origin, or one does, and it is that of a page of the one host that is named
+abbrev pub is_own_origin : List (List ℕ × List ℕ) → Bool
+is_own_origin fields =
+    fields_named (codes "Origin") fields == 0
+    || (fields_named (codes "Origin") fields == 1
+    && (fields_named (codes "Host") fields == 1 && is_page_of (value_named (codes "Host") fields) (value_named (codes "Origin") fields)))
+
+-- a request that posts, from another site's page
+abbrev pub is_foreign : List ℕ → List (List ℕ × List ℕ) → Bool
+is_foreign method fields = bytes_eq method (codes "POST") && not (is_own_origin fields)
+
+-- ---- the length of the body
 
 -- both are the same number
 abbrev pub is_same : Option ℕ → Option ℕ → Bool

@@ -16,7 +16,7 @@ use Rattle.http_front.specs.declared.seen.Begun.{Begun}
 use Rattle.http_front.specs.declared.seen.Begun.TheVariants as begun
 use Rattle.http_front.specs.declared.limits.TheConstants.{MOST_HEAD, MOST_BODY, MOST_FIELDS}
 use Rattle.http_front.specs.Numbers.{short_number}
-use Rattle.http_front.specs.Fields.{has_transfer_coding, is_bad_host, body_length}
+use Rattle.http_front.specs.Fields.{has_transfer_coding, is_bad_host, body_length, is_foreign}
 use Rattle.http_front.specs.Routes.{verb_of, verb_name, goal_at, path_of, segment_of}
 use Rattle.http_front.specs.Forms.{decoded}
 use Rattle.http_front.specs.Asked.{asked}
@@ -62,8 +62,9 @@ begun_with method path start told =
 unfoldable pub begun_of : List ℕ → List ℕ → ℕ → List (List ℕ × List ℕ) → ℕ → Begun
 begun_of method target minor fields start =
     if has_transfer_coding fields then refused 501 else (
-    if is_bad_host minor fields then refused 400 else
-    begun_with method (path_of target) start (body_length fields))
+    if is_bad_host minor fields then refused 400 else (
+    if is_foreign method fields then refused 403 else
+    begun_with method (path_of target) start (body_length fields)))
 
 -- the bytes in which the head must end
 abbrev pub head_part : List ℕ → List ℕ

@@ -1,7 +1,7 @@
 // What the fields of a head tell.
 ghost use Rattle.std.specs.Prelude.{◌≡◌, ◌≤◌, None, All, length, map};
 ghost use Rattle.httparse.specs.Spans.{IsHeaderWithin, header_bytes};
-ghost use Rattle.http_front.specs.Fields.{is_named, fields_named, has_transfer_coding, is_bad_host, body_length, with_field, told_after};
+ghost use Rattle.http_front.specs.Fields.{is_named, fields_named, has_transfer_coding, is_bad_host, value_named, is_at, is_page_of, is_own_origin, is_foreign, body_length, with_field, told_after};
 
 use crate::numbers::number_of;
 use httparse::spans::HeaderSpan;
@@ -44,6 +44,58 @@ pub fn is_bad_host(bytes: &[u8], fields: &[HeaderSpan], minor: u8) -> bool
 {
     let hosts = fields_named(bytes, fields, "Host");
     hosts > 1 || (minor == 1 && hosts == 0)
+}
+
+/// Whether this is a request that posts, from another site's page (RFC 6454): a browser sends such a page's origin.
+pub fn is_foreign(bytes: &[u8], fields: &[HeaderSpan], method: &[u8]) -> bool
+    requires { All (IsHeaderWithin (length bytes.now)) fields.now }
+    ensures { result ≡ is_foreign method.now (map (header_bytes bytes.now) fields.now) }
+{
+    method == "POST".as_bytes() && !is_own_origin(bytes, fields)
+}
+
+// Whether no field tells an origin, or one does, and it is that of a page of the one host that is named.
+fn is_own_origin(bytes: &[u8], fields: &[HeaderSpan]) -> bool
+    requires { All (IsHeaderWithin (length bytes.now)) fields.now }
+    ensures { result ≡ is_own_origin (map (header_bytes bytes.now) fields.now) }
+{
+    let origins = fields_named(bytes, fields, "Origin");
+    let hosts = fields_named(bytes, fields, "Host");
+    let origin = value_named(bytes, fields, "Origin");
+    let host = value_named(bytes, fields, "Host");
+    origins == 0 || (origins == 1 && (hosts == 1 && is_page_of(host, origin)))
+}
+
+// Whether the origin is that of a page of this host.
+fn is_page_of(host: &[u8], origin: &[u8]) -> bool
+    ensures { result ≡ is_page_of host.now origin.now }
+{
+    is_at("http://".as_bytes(), host, origin) || is_at("https://".as_bytes(), host, origin)
+}
+
+// Whether the origin is this scheme with this host, without regard to the case of letters.
+#[tactic(auto, unfolding(crate::specs::Fields::is_at))]
+fn is_at(scheme: &[u8], host: &[u8], origin: &[u8]) -> bool
+    ensures { result ≡ is_at scheme.now host.now origin.now }
+{
+    if origin.len() < scheme.len() {
+        return false;
+    }
+    let (front, rest) = origin.split_at(scheme.len());
+    front.eq_ignore_ascii_case(scheme) && rest.eq_ignore_ascii_case(host)
+}
+
+// The value of the first field of this name; nothing where there is none.
+fn value_named<'a>(bytes: &'a [u8], fields: &[HeaderSpan], name: &str) -> &'a [u8]
+    requires { All (IsHeaderWithin (length bytes.now)) fields.now }
+    ensures { result.now ≡ value_named name.now (map (header_bytes bytes.now) fields.now) }
+{
+    for field in fields {
+        if is_named(bytes, field, name) {
+            return field.value.of(bytes);
+        }
+    }
+    &[]
 }
 
 /// The length of the body, if all fields that tell it tell one and the same; 0 where none does.

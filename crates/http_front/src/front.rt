@@ -7,7 +7,7 @@ ghost use Rattle.http_front.specs.Cuts.{IsCutAnywhere};
 ghost use Rattle.http_front.specs.Forms.{decoded};
 
 use crate::asked::{Asked, asked};
-use crate::fields::{body_length, has_transfer_coding, is_bad_host};
+use crate::fields::{body_length, has_transfer_coding, is_bad_host, is_foreign};
 use crate::forms::decoded;
 use crate::goals::Goal;
 use crate::limits::{MOST_BODY, MOST_FIELDS, MOST_HEAD};
@@ -133,6 +133,9 @@ impl Front {
         }
         if is_bad_host(bytes, fields, minor) {
             return Ok(refused(400));
+        }
+        if is_foreign(bytes, fields, method) {
+            return Ok(refused(403));
         }
         let Ok(target) = from_utf8(target) else {
             unreachable!();

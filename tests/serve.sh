@@ -12,6 +12,8 @@ done
 WORK="$(mktemp -d)"
 export WORK
 cd "$WORK" || exit 1
+# The shell tells there of each process that a signal has ended.
+exec 2>notices
 wiki=''
 trap 'kill $wiki $(cat pid 2>/dev/null) 2>/dev/null; rm -rf "$WORK"' EXIT
 word='{"do":"word","kind":"name","forms":["Bern"]}'
@@ -72,14 +74,15 @@ ask() { # REQUEST
 # Waits for the end of tools/serve and of the program, and sets `status`.
 ended() { # WHAT
     local process
+    for process in "$wiki" "$(tail -n 1 pid)"; do
+        for _ in {1..200}; do
+            kill -0 "$process" 2>/dev/null || continue 2
+            sleep 0.05
+        done
+        expect "$1" "an end" "a process that goes on"
+    done
     wait "$wiki" 2>/dev/null
     status=$?
-    process="$(tail -n 1 pid)"
-    for _ in {1..100}; do
-        kill -0 "$process" 2>/dev/null || return
-        sleep 0.02
-    done
-    expect "$1" "the end of the program" "a program that goes on"
 }
 
 stop() {

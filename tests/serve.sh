@@ -127,7 +127,7 @@ files() {
     refused "an address of another machine" 5 "*serve: this machine can't listen at 192.0.2.1:80" second 192.0.2.1:80
     stop
     # shellcheck disable=SC1003,SC2016
-    for name in -n --events 'a b' $'two\nlines' '[a]*$(b)\'; do
+    for name in -n --events ! 'a b' $'two\nlines' '[a]*$(b)\'; do
         start "$name"
         expect "a word in $name" '{"done":"word"}' "$(ask "$word")"
         stop
@@ -141,6 +141,7 @@ signals() { # WHAT
         kill -s "$signal" "$wiki"
         ended "$1 $signal"
         expect "$1 $signal, the status" $((128 + $(kill -l "$signal"))) "$status"
+        expect "$1 $signal, what is told" "AceWiki: *; end it with Ctrl-C" "$(cat errors)"
     done
     start wiki
     kill -KILL "$(cat pid)"

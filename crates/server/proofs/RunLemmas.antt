@@ -6,7 +6,7 @@ use Rattle.wiki_io.specs.declared.links.Event.TheVariants.{Opened, Piece, Ended}
 use Rattle.wiki_io.specs.Link.{is_among, can_come}
 use Rattle.http_front.specs.Front.{Sees}
 use Rattle.http_front.proofs.CutLemmas.{cut_anywhere}
-use Rattle.server.specs.declared.limits.TheConstants.{MOST_OPEN}
+use Rattle.wiki_io.specs.declared.limits.TheConstants.{MOST_OPEN}
 use Rattle.server.specs.declared.turns.Turn.{Turn}
 use Rattle.server.specs.declared.turns.Turn.TheVariants as turns
 use Rattle.server.specs.Kept.{Kept, numbers, fresh, bytes_of, with_piece, closed}

@@ -7,11 +7,11 @@ use Rattle.http_front.specs.declared.seen.Seen.TheVariants as seen
 use Rattle.http_front.specs.Front.{Sees}
 use Rattle.server.specs.declared.turns.Turn.{Turn}
 use Rattle.server.specs.declared.turns.Turn.TheVariants as turns
-use Rattle.server.specs.declared.limits.TheConstants.{MOST_OPEN}
+use Rattle.wiki_io.specs.declared.limits.TheConstants.{MOST_OPEN}
 use Rattle.server.specs.Kept.{Kept, fresh, bytes_of, with_piece, closed}
 use Rattle.server.specs.Responses.{status_response, busy_response}
 
--- an opening: the connection is kept with no bytes, or has a response at once where 64 are open already
+-- an opening: the connection is kept with no bytes, or has a response at once where `MOST_OPEN` are open already
 pub record TakesOpening (old : List Kept) (n : ℕ) (turn : Turn) (new : List Kept) : Type 0 where
   pub full : MOST_OPEN ≤ length old → (turn ≡ turns.Refuse n busy_response) × (new ≡ old)
   pub free : length old < MOST_OPEN → (turn ≡ turns.Wait) × (new ≡ old ++ fresh n ∷ [])

@@ -2,12 +2,10 @@
 #![tactic(auto)]
 
 mod connections;
-mod limits;
 mod responses;
 mod server;
 mod turns;
 
-pub use limits::MOST_OPEN;
 pub use responses::response;
 pub use server::Server;
 pub use turns::Turn;

@@ -5,17 +5,16 @@ ghost use Rattle.wiki_io.specs.Link.{is_among, can_come};
 ghost use Rattle.server.specs.Kept.{numbers, closed};
 
 use crate::connections::Connection;
-use crate::limits::MOST_OPEN;
 use crate::responses::busy_response;
 use crate::turns::Turn;
 use http_front::Front;
 use std::alloc::Global;
 use std::marker::Model;
 use wiki_base::Memory;
-use wiki_io::Event;
+use wiki_io::{Event, MOST_OPEN};
 
-/// The connections that are open, at most 64, seen as a list in the order of their opening: each with its number and the
-/// bytes that have come over it.
+/// The connections that are open, at most `MOST_OPEN`, seen as a list in the order of their opening: each with its number
+/// and the bytes that have come over it.
 #[derive(Drop)]
 pub struct Server {
     alloc: Global,

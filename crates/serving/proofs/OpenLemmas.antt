@@ -10,7 +10,7 @@ use Rattle.wiki_talk.specs.declared.requests.Request.{Request}
 use Rattle.http_front.specs.declared.seen.Then.{Then}
 use Rattle.http_front.specs.declared.seen.Seen.{Seen}
 use Rattle.http_front.specs.declared.seen.Seen.TheVariants as seen
-use Rattle.server.specs.declared.limits.TheConstants.{MOST_OPEN}
+use Rattle.wiki_io.specs.declared.limits.TheConstants.{MOST_OPEN}
 use Rattle.server.specs.declared.turns.Turn.{Turn}
 use Rattle.server.specs.declared.turns.Turn.TheVariants as turns
 use Rattle.server.specs.Kept.{Kept, numbers, fresh, closed}

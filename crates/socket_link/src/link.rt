@@ -12,10 +12,10 @@ use std::alloc::Global;
 use std::net::{Net, SocketAddr};
 use std::time::{Clock, Duration};
 use wiki_base::Memory;
-use wiki_io::{Link, Listen, Next, Took};
+use wiki_io::{Link, Listen, MOST_OPEN, Next, Took};
 
-// How many connections are open at most: one more than the wiki keeps, which it answers and closes.
-const MOST_OPEN: usize = 65;
+// How many connections are let in at most: one more than the wiki keeps, which it answers and closes.
+const MOST_LET_IN: usize = MOST_OPEN + 1;
 
 /// A link over TCP. It hands in each connection that it accepts, and pieces of whichever connection has some, in turn.
 /// A connection on which nothing comes isn't looked at until its time is up.
@@ -39,7 +39,7 @@ impl<'a, R: Net + Clock> SocketLink<'a, R> {
     {
         Ok(SocketLink {
             sockets: Sockets::new(alloc, host, idle)?,
-            connections: Vec::with_capacity(alloc, MOST_OPEN)?,
+            connections: Vec::with_capacity(alloc, MOST_LET_IN)?,
             faults: 0,
             send_faults: 0,
         })
@@ -63,7 +63,7 @@ impl<'a, R: Net + Clock> SocketLink<'a, R> {
         ensures faults { self.new.faults ≡ self.old.faults }
         ensures send_faults { self.new.send_faults ≡ self.old.send_faults }
     {
-        let lets_in = self.connections.len() < MOST_OPEN;
+        let lets_in = self.connections.len() < MOST_LET_IN;
         match self.sockets.next_turn(lets_in) {
             Turn::Connection(number) => self.hear(number, buf),
             Turn::Listener(number) => self.accept(number),

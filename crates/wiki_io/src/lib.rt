@@ -10,7 +10,7 @@ mod sinks;
 mod sources;
 mod streams;
 
-pub use limits::{MAX_INPUT, MAX_LINE, NEWLINE};
+pub use limits::{MAX_INPUT, MAX_LINE, MOST_OPEN, NEWLINE};
 pub use links::{Event, Link, Listen, Next};
 pub use memory::{MemorySink, MemorySource};
 pub use memory_link::{Fails, MemoryLink};

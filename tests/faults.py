@@ -4,7 +4,7 @@ faults.py PROGRAM: each status comes with its line on standard error, what was w
 byte of a response is sent before its change stands in the journal.
 """
 import json, os, socket, subprocess, sys, tempfile
-from running import Wiki, api, free_port, read_all
+from running import Wiki, api, read_all
 
 WORDS = {0: "", 2: "usage: acewiki replay|serve|make|help\n", 3: "read fault\n", 4: "write fault\n", 5: "link fault\n"}
 LINES = b"".join(json.dumps(dict(do="word", kind="name", forms=["Nam" + chr(97 + n)])).encode() + b"\n" for n in range(20))

@@ -199,12 +199,16 @@ def sentence(draw):
                         " ".join(draw.choice(WORDS) for _ in range(draw.randrange(draw.choice([6, 6, 6, 6, 60])))), "Every cat"])
 
 
+def random_bytes(draw, count):
+    return draw.getrandbits(8 * count).to_bytes(count, "little") if count else b""
+
+
 def some_line(draw):
     kind = draw.randrange(10)
     if kind < 5:
         return json.dumps(some_request(draw)).encode()
     if kind == 5:
-        return draw.randbytes(draw.randrange(80)).replace(b"\n", b" ")
+        return random_bytes(draw, draw.randrange(80)).replace(b"\n", b" ")
     line = bytearray(json.dumps(some_request(draw), ensure_ascii=False).encode())
     if kind == 6:
         return bytes(line[:draw.randrange(len(line))])
@@ -269,12 +273,12 @@ def some_bytes(draw):
     """What one connection sends."""
     kind = draw.randrange(8)
     if kind == 0:
-        return draw.randbytes(draw.randrange(1, 300))
+        return random_bytes(draw, draw.randrange(1, 300))
     data = some_http(draw)
     if kind == 1:
         return data[:draw.randrange(1, len(data))]
     if kind == 2:
-        return data + draw.randbytes(draw.randrange(1, 200))
+        return data + random_bytes(draw, draw.randrange(1, 200))
     if kind == 3:
         changed = bytearray(data)
         changed[draw.randrange(min(len(data), 200))] = draw.randrange(256)

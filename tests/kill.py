@@ -7,7 +7,7 @@ article tell; sessions are gone. Then a journal is cut at bytes of its last line
 changes nothing, one that lacks only its newline is a change, and what is posted then is kept at the next start.
 """
 import json, os, random, shutil, subprocess, sys, tempfile, threading, time
-from running import Closed, Wiki, api, compare_pages, ended, free_port, replayed
+from running import Closed, Wiki, api, compare_pages, ended, held_port, replayed, started
 
 CHANGES = ("word", "reword", "unword", "add", "edit", "remove", "retract", "reassert", "commit")
 HERE = os.path.dirname(os.path.abspath(__file__))
@@ -132,10 +132,10 @@ class Kept:
     """A wiki in one file, as tools/serve keeps it."""
 
     def __init__(self, program, path):
-        self.port = free_port()
+        self.port, self.held = held_port()
         tool = os.path.join(os.path.dirname(HERE), "tools", "serve")
-        self.process = subprocess.Popen([tool, path, f"127.0.0.1:{self.port}"], env=dict(os.environ, ACEWIKI=program),
-                                        stdin=subprocess.DEVNULL, stdout=subprocess.DEVNULL, stderr=subprocess.PIPE)
+        self.process = started([tool, path, f"127.0.0.1:{self.port}"], env=dict(os.environ, ACEWIKI=program),
+                               stdin=subprocess.DEVNULL, stdout=subprocess.DEVNULL, stderr=subprocess.PIPE)
         self.wait()
 
     connect, wait, send, ask, page, stop = Wiki.connect, Wiki.wait, Wiki.send, Wiki.ask, Wiki.page, Wiki.stop

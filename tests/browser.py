@@ -5,7 +5,7 @@ from the menus, sees a contradiction marked and a question answered, and lets tw
 index, an article and a session go to FOLDER. The status is 1 at the first page that isn't as it should be.
 """
 import base64, json, re, subprocess, sys, time, urllib.error, urllib.request
-from running import Wiki, started
+from running import Wiki, moments, started
 
 
 def started_driver():
@@ -29,11 +29,11 @@ def call(method, address, body=None):
 
 
 def patiently(what):
-    for _ in range(100):
+    for _ in moments():
         try:
             return what()
         except OSError:
-            time.sleep(0.1)
+            pass
     return what()
 
 
@@ -71,12 +71,11 @@ class Person:
         raise SystemExit(f"browser: no button {button} on {before}")
 
     def settled(self, body):
-        for _ in range(200):
+        for _ in moments():
             now = self.find("body")
             if now and now[0] != body:
                 return
-            time.sleep(0.02)
-        raise SystemExit("browser: no other page came")
+        raise SystemExit(f"browser: no other page came behind {self.path()}")
 
     def path(self):
         return re.sub(r"^http://[^/]*", "", call("GET", self.session + "/url"))

@@ -3,8 +3,8 @@
 journal.py PROGRAM: the program is killed after some requests over HTTP and started anew, and then the index and the page of each
 article are as before, and sessions are gone. A last line that was cut off is no change, and takes none with it that comes later.
 """
-import json, os, random, signal, socket, sys, tempfile, time
-from running import held_port, started
+import json, os, random, signal, socket, sys, tempfile
+from running import held_port, moments, started
 
 PORT, HELD = held_port()
 HEAD = "HTTP/1.1\r\nHost: here\r\n"
@@ -30,13 +30,14 @@ def ask(**request):
 def start():
     command = 'echo >>"$1"; exec "$2" serve "$3" <"$1" >>"$1"'
     wiki = started(["sh", "-c", command, "sh", FILE, sys.argv[1], f"127.0.0.1:{PORT}"])
-    for _ in range(200):
+    for _ in moments():
         try:
             socket.create_connection(("127.0.0.1", PORT)).close()
             return wiki
         except OSError:
-            time.sleep(0.05)
-    sys.exit("journal: the program doesn't listen")
+            if wiki.poll() is not None:
+                sys.exit(f"journal: the program ended with status {wiki.returncode}")
+    sys.exit("journal: the program doesn't listen within 60 s")
 
 
 def pages():

@@ -102,7 +102,7 @@ def check_journal(written, clients):
             at += 1
     known = sum(len(client.told) for client in clients)
     if not known <= len(lines) <= known + len(clients):
-        raise SystemExit(f"kill: {known} changes were acknowledged, and {len(lines)} stand in the journal")
+        raise SystemExit(f"kill: {known} changes were acknowledged to {len(clients)} clients, so as many stand in the journal or one more of each; {len(lines)} do")
     return known
 
 
@@ -122,8 +122,9 @@ def kills(program, count, seed):
         lines = ended(lines) + ended(written)
         wiki = Wiki(program, lines)
         compare_pages(program, wiki, lines, "kill: after a kill")
-        if wiki.ask(do="menu", session=1).get("name") != "NoSession":
-            raise SystemExit("kill: a session was kept")
+        reply = wiki.ask(do="menu", session=1)
+        if reply.get("name") != "NoSession":
+            raise SystemExit(f"kill: after a start session 1 has the menu {reply}, and not a refusal NoSession")
     wiki.stop()
     return known
 
@@ -156,18 +157,19 @@ def cuts(program, step):
         for turn in range(2):
             wiki = Kept(program, path)
             if turn == 0:
-                if wiki.ask(do="add", article="Ada", text="Ada sees Bob.") != {"done": "add", "status": "asserted"}:
-                    raise SystemExit(f"kill: nothing can be added after a cut at {cut}")
+                reply = wiki.ask(do="add", article="Ada", text="Ada sees Bob.")
+                if reply != {"done": "add", "status": "asserted"}:
+                    raise SystemExit(f"kill: cut at {cut}, a sentence that is added then has the reply {reply}, and isn't asserted")
             compare_pages(program, wiki, before + (last if whole else b"") + more, f"kill: cut at {cut}")
             wiki.stop()
         with open(path, "rb") as it:
             kept = it.read()
         if kept != ended(before + last[:cut]) + more:
-            raise SystemExit(f"kill: cut at {cut}, the file is {kept!r}")
+            raise SystemExit(f"kill: cut at {cut}, the file is {kept!r}, and not {ended(before + last[:cut]) + more!r}")
         replies = replayed(program, before + last[:cut])
         wanted = [] if cut == 0 else [{"done": "add", "status": "asserted"} if whole else {"name": "BadRequest", "refused": 0}]
         if replies[len(before.splitlines()):] != wanted:
-            raise SystemExit(f"kill: cut at {cut}, replay tells {replies[-1]}")
+            raise SystemExit(f"kill: cut at {cut}, replay tells {replies[len(before.splitlines()):]} to the line that was cut, and not {wanted}")
     shutil.rmtree(folder)
     return len(cases)
 

@@ -39,7 +39,7 @@ def sent(text):
 
 def expect(what, got, status, part=""):
     if not got.startswith(f"HTTP/1.1 {status} ") or part not in got:
-        fail(f"{what}: {got[:200]!r} for {status} with {part!r}")
+        fail(f"{what}: expected {status} with {part!r}, came {got[:600]!r}")
 
 
 def find(n):
@@ -106,7 +106,7 @@ def cut_anywhere():
         link.sendall(CUT[:cut].encode())
         link.shutdown(socket.SHUT_WR)
         if got := answer(link):
-            fail(f"an end after {cut} bytes is answered: {got!r}")
+            fail(f"an end after {cut} bytes: expected no answer, came {got!r}")
 
 
 def gone():
@@ -141,7 +141,7 @@ def unclosed():
         links.append(opened())
         links[-1].sendall(CUT.encode())
         if not links[-1].recv(100).startswith(b"HTTP/1.1 200 "):
-            fail("one is not answered beside others that don't close")
+            fail(f"connection {len(links)} of those that don't close: expected 200, came something else")
 
 
 def worked():
@@ -236,12 +236,13 @@ def started(lines, *options):
     wiki = running.started([sys.argv[1], "serve", f"127.0.0.1:{PORT}", *options], stdin=subprocess.PIPE, stdout=subprocess.PIPE)
     wiki.stdin.write(lines.encode())
     wiki.stdin.close()
-    for _ in range(200):
+    for _ in running.moments():
         try:
             return wiki, opened()
         except OSError:
-            time.sleep(0.05)
-    fail("the program doesn't listen")
+            if wiki.poll() is not None:
+                fail(f"the program ended with status {wiki.returncode}")
+    fail("the program doesn't listen within 60 s")
 
 
 def few_events():
@@ -251,8 +252,10 @@ def few_events():
         link.sendall(f"GET / {HEAD}\r\n".encode())
         got = answer(link)
         expect("the index of an empty wiki", got, 200, "\r\nContent-Length: 274\r\n")
-        if len(got.split("\r\n\r\n")[1]) != 274 or answer(opened()) or wiki.wait(10) or wiki.stdout.read():
-            fail("another end than after three events")
+        body, after = got.split("\r\n\r\n")[1], answer(opened())
+        status, journal = wiki.wait(60), wiki.stdout.read()
+        if (len(body), after, status, journal) != (274, "", 0, b""):
+            fail(f"three events: expected 274 bytes of the index, nothing for the third, status 0 and no journal; came {body!r}, {after!r}, {status}, {journal!r}")
     finally:
         wiki.kill()
 
@@ -268,7 +271,7 @@ try:
         if len(sys.argv) > 2:
             print(f"{test.__name__:20} {time.time() - begun:6.2f} s")
     if wiki.poll() is not None:
-        fail("the program has ended")
+        fail(f"the program has ended with status {wiki.returncode}, and not gone on")
     if select.select([wiki.stdout], [], [], 0)[0]:
         fail(f"something went to the journal: {wiki.stdout.read1(200)!r}")
 finally:

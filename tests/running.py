@@ -35,6 +35,14 @@ def held_port():
             held.close()
 
 
+def moments(seconds=60):
+    """Moments within so many seconds, in which to look again whether something has come. A busy machine may need all of them."""
+    until = time.time() + seconds
+    while time.time() < until:
+        yield
+        time.sleep(0.01)
+
+
 class Wiki:
     """A program that serves, from these lines on. Its journal goes to a file, or to what is given as `output`."""
 
@@ -51,15 +59,14 @@ class Wiki:
 
     def wait(self, seconds=60):
         """Waits until it listens."""
-        for _ in range(100 * seconds):
+        for _ in moments(seconds):
             try:
                 self.connect().close()
                 return
             except OSError:
                 if self.process.poll() is not None:
                     raise SystemExit(f"the program ended with {self.process.returncode}: {self.process.stderr.read()!r}")
-                time.sleep(0.01)
-        raise SystemExit("the program doesn't listen")
+        raise SystemExit(f"the program doesn't listen within {seconds} s")
 
     def connect(self, source="127.0.0.1", timeout=30):
         return socket.create_connection(("127.0.0.1", self.port), timeout, (source, 0))
@@ -76,6 +83,13 @@ class Wiki:
 
     def page(self, path):
         return self.send(f"GET {path} HTTP/1.1\r\nHost: here\r\n\r\n".encode())
+
+    def ended(self, what, seconds=60):
+        """The status with which it ends; the script ends where it doesn't."""
+        try:
+            return self.process.wait(seconds)
+        except subprocess.TimeoutExpired:
+            raise SystemExit(f"{what}: the program hasn't ended after {seconds} s")
 
     def kill(self):
         """Kills it, and returns what it had written to its journal."""

@@ -2,7 +2,7 @@
 # Runs what a document shows of lines and replies through `acewiki replay`, each in a wiki of its own, and ends with status 1
 # where a reply is another one: each table of lines and replies, and each block that begins with `$ ./acewiki replay`, where a
 # reply stands below its line. A block may begin with `$ cat FILE - | ./acewiki replay` and a line `..`, which stands for the
-# replies to the lines of that file. $1 is the program, $2 the document.
+# replies to the lines of that file. A block of lines without a command is refused. $1 is the program, $2 the document.
 set -u
 here="$(cd "$(dirname "${BASH_SOURCE[0]}")" && pwd)"
 . "$here/common.sh"
@@ -16,15 +16,17 @@ awk -v work="$work" '
         print cell[2] > (name ".lines")
         print cell[3] > (name ".replies")
     }
+    /^```/ { fence = !fence; block = 0 }
+    fence && !block && /^{"do":/ { print "the block at line " NR " of " FILENAME " has lines and no command" > (work "/wrong"); exit }
     /^\$ .*\.\/acewiki replay$/ {
         name = work "/" sprintf("%03d", ++count); block = 1; is_reply = 0
         print "the block at line " NR > (name ".title")
         if ($2 == "cat") { print $3 > (name ".before"); is_reply = 1 }
         next
     }
-    /^```/ { block = 0 }
     block && $0 == ".." { is_reply = 0; next }
     block { print > (name (is_reply ? ".replies" : ".lines")); is_reply = !is_reply }' "$2"
+[ ! -f "$work/wrong" ] || { echo "transcripts: $(cat "$work/wrong")"; exit 1; }
 count=0
 for title in "$work"/*.title; do
     name="${title%.title}" before=0

@@ -1,6 +1,6 @@
 #!/usr/bin/env bash
-# That tools/test tells what its scripts do, in a copy of it, in a folder with a space, with scripts of other kinds: one that
-# passes, one that fails, one that lacks a command, one that can't run here. It needs no program.
+# That tools/test tells what its scripts do, in a copy of it, in a folder with a space: some pass, one fails, one lacks a command,
+# one can't run here. Other commands stand in for the kit and for apt-get. It needs no program.
 set -u
 here="$(cd "$(dirname "${BASH_SOURCE[0]}")" && pwd)"
 work="$(mktemp -d)"
@@ -17,10 +17,11 @@ echo 'echo "limits: expected 5 and came 6"; exit 1' >"$copy/tests/limits.sh"
 echo 'echo "curl: curl is missing"; exit 77' >"$copy/tests/curl.sh"
 echo 'echo "browser: no screen"; exit 78' >"$copy/tests/browser.sh"
 
-ran() { # WORDS..: runs the copy, which finds no kit, and keeps what it tells and its status
-    (cd "$work" && RT="$work/none" ACEWIKI="${ACEWIKI-/bin/true}" "$copy/tools/test" "$@") >"$work/told" 2>&1 </dev/null
+ran() { # WORDS..: runs the copy, and keeps what it tells and its status
+    (cd "$work" && PATH="$work:$PATH" RT="$rt" ACEWIKI="${ACEWIKI-/bin/true}" "$copy/tools/test" "$@") >"$work/told" 2>&1 </dev/null
     status=$?
 }
+rt="$work/none"
 
 expect() { # STATUS PATTERN..: each matches a line, in this order, the last one the last line
     local pattern wanted="$1"
@@ -69,3 +70,47 @@ expect 1 'test: --proofs needs the Rattle kit, .*' '0 passed, 1 failed'
 what="no program"
 ACEWIKI="$work/none" ran kill
 expect 1 "test: there is no program .*" '0 passed, 1 failed'
+
+# With the kit: each call is noted.
+rt="$work/a kit"
+printf 'one: # a crate\nnone: one\n' >"$copy/crates.txt"
+echo '#[test]' >"$copy/crates/one/src/lib.rt"
+cat >"$rt" <<END
+#!/usr/bin/env bash
+echo "rt \$*" >>"$work/calls"
+case "\$1" in
+try) echo "tests: 1"; exit "\$(cat "$work/try")" ;;
+ci) echo proved; echo "7 passed, 1 failed"; exit 1 ;;
+esac
+END
+cat >"$copy/tools/release" <<END
+#!/usr/bin/env bash
+echo "release \$*" >>"$work/calls"
+[ ! -f "$work/stale" ] || { echo "release/ is of other sources"; exit 1; }
+END
+echo "exit 1" >"$work/apt-get"
+chmod +x "$rt" "$copy/tools/release" "$work/apt-get"
+what="the units"
+echo 0 >"$work/try"
+ran --units one kill
+expect 0 'passed +kill .*' 'passed +unit tests of one .*' '2 passed, 0 failed'
+echo 6 >"$work/try"
+ran --units one
+expect 1 'FAILED +unit tests of one .*' '    tests: 1' '    status 6' '0 passed, 1 failed'
+what="the gate with a stale release/"
+touch "$work/stale"
+: >"$work/calls"
+ran --proofs
+expect 1 'FAILED +tools/release --check .*' '    release/ is of other sources' '0 passed, 1 failed'
+[ "$(cat "$work/calls")" = "release --check" ] || fail "no other call than release --check, and not $(cat "$work/calls")"
+what="the gate"
+rm "$work/stale"
+: >"$work/calls"
+mkdir -p "$copy/crates/acewiki/out"
+cp /bin/true "$copy/crates/acewiki/out/acewiki"
+ran --proofs
+# Of the scripts two fail (one of them is skipped otherwise), and one can't run here.
+expect 1 'passed +tools/release --check .*' 'passed +tools/release --check crates/acewiki/out/acewiki .*' 'FAILED +curl .*' 'skipped +browser .*' \
+    'passed +house .*' 'not tested on this machine: browser: no screen' "$((7 + 2 + count + 1 - 3)) passed, 3 failed"
+[ "$(tr "\n" , <"$work/calls")" = "release --check,rt ci,release --check crates/acewiki/out/acewiki," ] ||
+    fail "release --check, a plain rt ci and release --check PROGRAM, in this order, and not $(cat "$work/calls")"

@@ -6,7 +6,7 @@ former input and the journal, each ended by a newline; every page shows what `re
 article tell; sessions are gone. Then a journal is cut at bytes of its last line: a line that is cut before its closing brace
 changes nothing, one that lacks only its newline is a change, and what is posted then is kept at the next start.
 """
-import json, os, random, shutil, subprocess, sys, tempfile, threading, time
+import json, os, random, subprocess, sys, tempfile, threading, time
 from running import Closed, Wiki, api, compare_pages, ended, held_port, replayed, started
 
 CHANGES = ("word", "reword", "unword", "add", "edit", "remove", "retract", "reassert", "commit")
@@ -147,8 +147,8 @@ def cuts(program, step):
     before = FIRST + b'{"article":"Ada","do":"add","text":"Ada is a cat."}\n'
     last = b'{"article":"Bob","do":"add","text":"Bob is a dog that is a fox."}\n'
     more = b'{"article":"Ada","do":"add","text":"Ada sees Bob."}\n'
-    folder = tempfile.mkdtemp()
-    path = os.path.join(folder, "wiki")
+    folder = tempfile.TemporaryDirectory()
+    path = os.path.join(folder.name, "wiki")
     cases = sorted({*range(0, len(last) + 1, step), len(last) - 2, len(last) - 1, len(last)})
     for cut in cases:
         with open(path, "wb") as it:
@@ -170,7 +170,6 @@ def cuts(program, step):
         wanted = [] if cut == 0 else [{"done": "add", "status": "asserted"} if whole else {"name": "BadRequest", "refused": 0}]
         if replies[len(before.splitlines()):] != wanted:
             raise SystemExit(f"kill: cut at {cut}, replay tells {replies[len(before.splitlines()):]} to the line that was cut, and not {wanted}")
-    shutil.rmtree(folder)
     return len(cases)
 
 

@@ -16,17 +16,18 @@ package_of() { # COMMAND
 }
 
 needs() { # COMMAND..
-    local command
+    local command missing=() packages=()
     for command in "$@"; do
-        if ! command -v "$command" >/dev/null; then
-            echo "$(basename "$0" .sh): $command is missing (Debian: apt-get install $(package_of "$command"))"
-            exit 77
-        fi
+        command -v "$command" >/dev/null || missing+=("$command") packages+=("$(package_of "$command")")
     done
+    if [ ${#missing[@]} -gt 0 ]; then
+        echo "$(basename "$0" .sh): this machine has no ${missing[*]} (Debian: apt-get install ${packages[*]})"
+        exit 77
+    fi
     case " $* " in
     *" python3 "*)
         if ! python3 -c 'import sys; sys.exit(sys.version_info < (3, 8))'; then
-            echo "$(basename "$0" .sh): Python 3.8 or later is missing (this one is $(python3 --version 2>&1))"
+            echo "$(basename "$0" .sh): this machine has no Python 3.8 or later, but $(python3 --version 2>&1)"
             exit 77
         fi
         ;;

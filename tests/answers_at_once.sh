@@ -6,11 +6,11 @@ coproc WIKI { "$1" replay; }
 ask() { # LINE REPLY
     printf '%s\n' "$1" >&"${WIKI[1]}"
     if ! IFS= read -r -t 10 reply <&"${WIKI[0]}"; then
-        echo "answers_at_once: no reply to $1" >&2
+        echo "answers_at_once: no reply within ten seconds to $1, and not $2"
         exit 1
     fi
     if [ "$reply" != "$2" ]; then
-        echo "answers_at_once: the reply to $1 is $reply" >&2
+        echo "answers_at_once: the reply to $1 is $reply and not $2"
         exit 1
     fi
 }

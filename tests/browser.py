@@ -4,41 +4,50 @@ browser.py PROGRAM FOLDER: starts PROGRAM serve, opens the index, adds words by 
 from the menus, sees a contradiction marked and a question answered, and lets two people edit one article. Pictures of the
 index, an article and a session go to FOLDER. The status is 1 at the first page that isn't as it should be.
 """
-import base64, html, json, re, subprocess, sys, tempfile, time, urllib.error, urllib.request
+import base64, json, re, subprocess, sys, time, urllib.error, urllib.request
+from running import Wiki, moments, started
 
-WIKI, DRIVER = 18641, 18642
+
+def started_driver():
+    """Chromedriver, and where it listens: on a port that it found free."""
+    driver = started(["chromedriver", "--port=0"], stdin=subprocess.DEVNULL, stdout=subprocess.PIPE, stderr=subprocess.DEVNULL, text=True)
+    for line in driver.stdout:
+        if told := re.search(r"on port ([1-9]\d*)", line):
+            return driver, f"http://127.0.0.1:{told[1]}"
+    raise SystemExit(f"browser: chromedriver ended with status {driver.wait()}")
 
 
-def call(method, path, body=None):
+def call(method, address, body=None):
     data = None if body is None else json.dumps(body).encode()
-    request = urllib.request.Request(f"http://127.0.0.1:{DRIVER}{path}", data, method=method)
+    request = urllib.request.Request(address, data, method=method)
     request.add_header("Content-Type", "application/json")
     try:
         with urllib.request.urlopen(request, timeout=60) as response:
             return json.load(response)["value"]
     except urllib.error.HTTPError as error:
-        raise SystemExit(f"browser: {method} {path}: {error.read().decode()[:300]}")
+        raise SystemExit(f"browser: {method} {address}: {error.read().decode()[:300]}")
 
 
 def patiently(what):
-    for _ in range(100):
+    for _ in moments():
         try:
             return what()
         except OSError:
-            time.sleep(0.1)
+            pass
     return what()
 
 
 class Person:
     """One browser with a profile of its own."""
 
-    def __init__(self):
+    def __init__(self, wiki, driver):
+        self.wiki = wiki
         options = {"args": ["--headless=new", "--no-sandbox", "--disable-gpu", "--disable-dev-shm-usage", "--window-size=900,640"]}
         wanted = {"capabilities": {"alwaysMatch": {"browserName": "chrome", "goog:chromeOptions": options}}}
-        self.session = "/session/" + patiently(lambda: call("POST", "/session", wanted))["sessionId"]
+        self.session = f"{driver}/session/" + patiently(lambda: call("POST", f"{driver}/session", wanted))["sessionId"]
 
     def go(self, path):
-        call("POST", self.session + "/url", {"url": f"http://127.0.0.1:{WIKI}{path}"})
+        call("POST", self.session + "/url", {"url": f"http://127.0.0.1:{self.wiki.port}{path}"})
 
     def find(self, selector):
         found = call("POST", self.session + "/elements", {"using": "css selector", "value": selector})
@@ -62,12 +71,11 @@ class Person:
         raise SystemExit(f"browser: no button {button} on {before}")
 
     def settled(self, body):
-        for _ in range(200):
+        for _ in moments():
             now = self.find("body")
             if now and now[0] != body:
                 return
-            time.sleep(0.02)
-        raise SystemExit("browser: no other page came")
+        raise SystemExit(f"browser: no other page came behind {self.path()}")
 
     def path(self):
         return re.sub(r"^http://[^/]*", "", call("GET", self.session + "/url"))
@@ -151,11 +159,10 @@ def together(one, other):
 
 
 def main():
-    journal = tempfile.TemporaryFile()
-    wiki = subprocess.Popen([sys.argv[1], "serve", f"127.0.0.1:{WIKI}"], stdin=subprocess.DEVNULL, stdout=journal)
-    driver = subprocess.Popen(["chromedriver", f"--port={DRIVER}"], stdout=subprocess.DEVNULL, stderr=subprocess.DEVNULL)
+    wiki = Wiki(sys.argv[1])
+    driver, address = started_driver()
     try:
-        one, other = Person(), Person()
+        one, other = Person(wiki, address), Person(wiki, address)
         begun = time.time()
         alone(one)
         together(one, other)
@@ -164,7 +171,7 @@ def main():
         other.close()
     finally:
         driver.terminate()
-        wiki.terminate()
+        wiki.stop()
 
 
 main()

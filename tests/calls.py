@@ -7,7 +7,7 @@ same where standard error can't be written either.
 """
 import os, sys, tempfile
 from refusing import COUNTRIES, Refusing, lines, word
-from running import Wiki, api, read_all
+from running import Wiki, api, moments, read_all
 
 PIECE = 50
 
@@ -22,12 +22,12 @@ def reads_and_writes(refusing):
         given = COUNTRIES[:PIECE * (number - 1)]
         front = b"".join(whole.splitlines(True)[:given.count(b"\n")])
         if (status, output, told) != (3, front, b"read fault\n"):
-            raise SystemExit(f"calls: read {number} failed: status {status}, {told!r}, {output!r}")
+            raise SystemExit(f"calls: read {number} failed: expected status 3, 'read fault' and {front!r}; came {status}, {told!r} and {output!r}")
         untold(refusing, (3, front), READ=number)
     for number in range(1, writes + 1):
         status, output, told = refusing.replay(COUNTRIES, PIECE=PIECE, WRITE=number)
         if status != 4 or output != whole[:len(output)] or output == whole or told != b"write fault\n":
-            raise SystemExit(f"calls: write {number} failed: status {status}, {told!r}, {output!r}")
+            raise SystemExit(f"calls: write {number} failed: expected status 4, 'write fault' and a front of {whole!r}; came {status}, {told!r} and {output!r}")
         untold(refusing, (4, output), WRITE=number)
     return f"{reads} reads and {writes} writes"
 
@@ -49,7 +49,7 @@ def waits(refusing):
     for number in range(1, 12):
         wiki = Wiki(refusing.program, given, environment=refusing.environment(WAIT=number), waits=False)
         got = b""
-        for _ in range(1000):
+        for _ in moments():
             try:
                 with wiki.connect() as link:
                     link.sendall(asked)
@@ -60,24 +60,27 @@ def waits(refusing):
                 if wiki.process.poll() is not None:
                     break
         # further connections wake it until the wait that fails
-        for _ in range(1000):
+        for _ in moments():
             if wiki.process.poll() is not None:
                 break
             try:
                 wiki.page("/")
             except Exception:
                 pass
-        status, told, journal = wiki.process.wait(20), wiki.process.stderr.read(), wiki.written()
+        status, told, journal = wiki.ended(f"calls: wait {number} failed"), wiki.process.stderr.read(), wiki.written()
         if status != 5 or told != b"link fault\n" or (got and not got.endswith(whole)) or (got and not journal):
-            raise SystemExit(f"calls: wait {number} failed: status {status}, {told!r}, {got!r}, {journal!r}")
+            raise SystemExit(f"calls: wait {number} failed: expected status 5, 'link fault', no response or an end of {whole!r}, and that one with its line "
+                             f"in the journal; came {status}, {told!r}, {got!r} and the journal {journal!r}")
     wiki = Wiki(refusing.program, given, environment=refusing.environment(LISTEN=1), waits=False)
-    if wiki.process.wait(20) != 5 or wiki.process.stderr.read() != b"link fault\n":
-        raise SystemExit("calls: listening failed, and the status isn't 5")
+    status, told = wiki.ended("calls: listening failed"), wiki.process.stderr.read()
+    if status != 5 or told != b"link fault\n":
+        raise SystemExit(f"calls: listening failed: status {status} with {told!r}, and not 5")
     with open("/dev/full", "wb") as device:
         for refused in (dict(LISTEN=1), dict(WAIT=1)):
             wiki = Wiki(refusing.program, given, environment=refusing.environment(**refused), waits=False, errors=device)
-            if wiki.process.wait(20) != 5:
-                raise SystemExit(f"calls: {refused} failed, and standard error too: the status isn't 5")
+            status = wiki.ended(f"calls: {refused} failed, and standard error too")
+            if status != 5:
+                raise SystemExit(f"calls: {refused} failed, and standard error too: status {status}, and not 5")
     return "11 waits, and the listening"
 
 

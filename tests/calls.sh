@@ -2,5 +2,6 @@
 # Lets one call of the operating system after the other fail under the program (calls.py says what must hold). $1 is the program.
 set -u
 here="$(cd "$(dirname "${BASH_SOURCE[0]}")" && pwd)"
-command -v cc >/dev/null || { echo "calls: not run, since this machine has no C compiler"; exit 0; }
+. "$here/common.sh"
+needs python3 cc
 exec python3 "$here/calls.py" "$@"

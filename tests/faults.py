@@ -4,7 +4,7 @@ faults.py PROGRAM: each status comes with its line on standard error, what was w
 byte of a response is sent before its change stands in the journal.
 """
 import json, os, socket, subprocess, sys, tempfile
-from running import Wiki, api, free_port, read_all
+from running import Wiki, api, read_all
 
 WORDS = {0: "", 2: "usage: acewiki replay|serve|make|help\n", 3: "read fault\n", 4: "write fault\n", 5: "link fault\n"}
 LINES = b"".join(json.dumps(dict(do="word", kind="name", forms=["Nam" + chr(97 + n)])).encode() + b"\n" for n in range(20))
@@ -21,8 +21,13 @@ def ran(program, words, status, given=LINES, output=subprocess.PIPE, **more):
         done = subprocess.run([program, *words], stdout=output, stderr=more.pop("errors", subprocess.PIPE), timeout=60, **more)
     told = WORDS[status] if done.stderr is None else done.stderr.decode()
     if done.returncode != status or told != WORDS[status]:
-        raise SystemExit(f"faults: {words} ended with {done.returncode} and {done.stderr!r}, and not with {status}")
+        raise SystemExit(f"faults: {words}: expected status {status} and {WORDS[status]!r}, came {done.returncode} and {done.stderr!r}")
     return done.stdout
+
+
+def expect(what, got, wanted):
+    if got != wanted:
+        raise SystemExit(f"faults: {what}: expected {wanted!r}, came {got!r}")
 
 
 def closed_pipe():
@@ -37,8 +42,7 @@ def no_command(program):
                   ["replay", "--budget"], ["replay", "--budget", "1000000001"], ["serve", "x", "--events", "0"], ["--help"], ["--version"],
                   ["serve", "x", "--budget", "1", "--budget", "1"], ["replay", "--budget", "0" * 20], [b"\xff"], ["serve", b"a\xff"], ["make"], ["make", "1"],
                   ["make", "0", "1"], ["make", "2001", "1"], ["make", "1", "x"], ["make", "1", "1" * 20], ["make", "1", "1", "--events", "1"]]:
-        if ran(program, words, 2):
-            raise SystemExit(f"faults: {words} wrote something")
+        expect(f"output of {words}", ran(program, words, 2), b"")
 
 
 def full(program):
@@ -60,33 +64,30 @@ def full_journal(program):
     """A change that the journal doesn't take is answered by no byte, and the program ends with 4. What isn't a change is answered."""
     for output in (open("/dev/full", "wb"), closed_pipe()):
         wiki = Wiki(program, LINES, output)
-        if wiki.ask(do="find", word="Nama").get("done") != "find":
-            raise SystemExit("faults: a request that changes nothing isn't answered")
+        expect("a request that changes nothing", wiki.ask(do="find", word="Nama").get("done"), "find")
         with wiki.connect() as link:
             link.sendall(api(dict(do="word", kind="name", forms=["Bern"])))
             try:
                 got = read_all(link)
             except ConnectionResetError:
                 got = b""
-        status, told = wiki.process.wait(20), wiki.process.stderr.read().decode()
-        if got or status != 4 or told != WORDS[4]:
-            raise SystemExit(f"faults: a change without a journal: {got!r}, status {status}, {told!r}")
+        status, told = wiki.ended("faults: a change without a journal"), wiki.process.stderr.read().decode()
+        expect("a change without a journal", (got, status, told), (b"", 4, WORDS[4]))
 
 
 def unreadable(program):
     """Input that can't be read: the replies to the whole lines that were read before stand."""
     folder = os.open("/", os.O_RDONLY)
     for words in (["replay"], ["serve", "127.0.0.1:1"]):
-        if ran(program, words, 3, stdin=folder):
-            raise SystemExit("faults: something was written")
+        expect(f"output of {words} on input that can't be read", ran(program, words, 3, stdin=folder), b"")
     os.close(folder)
 
 
 def too_long(program):
     """A line that is too long is answered by `BadRequest`, however much longer it is, and the next one as ever."""
     for length in (65_536, 70_000, 1_000_000):
-        if ran(program, ["replay"], 0, given=b"x" * length + b"\n" + LINES) != b'{"name":"BadRequest","refused":0}\n' + b'{"done":"word"}\n' * 20:
-            raise SystemExit(f"faults: a line of {length} bytes has another reply")
+        got = ran(program, ["replay"], 0, given=b"x" * length + b"\n" + LINES)
+        expect(f"replies to a line of {length} bytes and 20 words", got, b'{"name":"BadRequest","refused":0}\n' + b'{"done":"word"}\n' * 20)
 
 
 def deaf(program):
@@ -95,24 +96,20 @@ def deaf(program):
         taken.bind(("127.0.0.1", 0))
         taken.listen()
         for address in (f"127.0.0.1:{taken.getsockname()[1]}", "nowhere", "127.0.0.1:99999", "", "127.0.0.1"):
-            if ran(program, ["serve", address], 5):
-                raise SystemExit("faults: something was written")
+            expect(f"output at the address {address!r}", ran(program, ["serve", address], 5), b"")
 
 
 def done(program):
-    if ran(program, ["help"], 0) != HELP or ran(program, ["help"], 0, given=b"", stdin=os.open("/", os.O_RDONLY)) != HELP:
-        raise SystemExit("faults: help writes something else")
-    if ran(program, ["make", "5", "7"], 0) != MADE or ran(program, ["make", "05", "7", "--budget", "1000"], 0) != MADE:
-        raise SystemExit("faults: make writes something else")
-    if ran(program, ["replay"], 0) != b'{"done":"word"}\n' * 20:
-        raise SystemExit("faults: other replies")
+    expect("help", ran(program, ["help"], 0), HELP)
+    expect("help without input", ran(program, ["help"], 0, given=b"", stdin=os.open("/", os.O_RDONLY)), HELP)
+    expect("make 5 7", ran(program, ["make", "5", "7"], 0), MADE)
+    expect("make 05 7 --budget 1000", ran(program, ["make", "05", "7", "--budget", "1000"], 0), MADE)
+    expect("replies to 20 words", ran(program, ["replay"], 0), b'{"done":"word"}\n' * 20)
     wiki = Wiki(program, LINES, options=["--events", "5"])
     # the first connection opened and ended; the next one opens, brings its request, and is closed; the last one only opens
-    if wiki.page("/")[0] != 200:
-        raise SystemExit("faults: no page before the last event")
+    expect("the index before the last event", wiki.page("/")[0], 200)
     with wiki.connect():
-        if wiki.process.wait(20) or wiki.process.stderr.read():
-            raise SystemExit("faults: so many events were not the end")
+        expect("the status after five events", (wiki.ended("faults: after five events"), wiki.process.stderr.read()), (0, b""))
 
 
 def main():

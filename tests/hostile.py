@@ -203,12 +203,16 @@ def sentence(draw):
                         " ".join(draw.choice(WORDS) for _ in range(draw.randrange(draw.choice([6, 6, 6, 6, 60])))), "Every cat"])
 
 
+def random_bytes(draw, count):
+    return draw.getrandbits(8 * count).to_bytes(count, "little") if count else b""
+
+
 def some_line(draw):
     kind = draw.randrange(10)
     if kind < 5:
         return json.dumps(some_request(draw)).encode()
     if kind == 5:
-        return draw.randbytes(draw.randrange(80)).replace(b"\n", b" ")
+        return random_bytes(draw, draw.randrange(80)).replace(b"\n", b" ")
     line = bytearray(json.dumps(some_request(draw), ensure_ascii=False).encode())
     if kind == 6:
         return bytes(line[:draw.randrange(len(line))])
@@ -273,12 +277,12 @@ def some_bytes(draw):
     """What one connection sends."""
     kind = draw.randrange(8)
     if kind == 0:
-        return draw.randbytes(draw.randrange(1, 300))
+        return random_bytes(draw, draw.randrange(1, 300))
     data = some_http(draw)
     if kind == 1:
         return data[:draw.randrange(1, len(data))]
     if kind == 2:
-        return data + draw.randbytes(draw.randrange(1, 200))
+        return data + random_bytes(draw, draw.randrange(1, 200))
     if kind == 3:
         changed = bytearray(data)
         changed[draw.randrange(min(len(data), 200))] = draw.randrange(256)
@@ -342,13 +346,14 @@ def connections(wiki, count, seed):
     """So many connections, two at a time. Ends the script at the first wrong answer. Tells how many bytes came and went, and how often
     each status."""
     all_passed = collections.Counter()
-    with multiprocessing.Pool(2) as pool:
+    with multiprocessing.get_context("fork").Pool(2) as pool:
         for wrong, passed in pool.starmap(many, [(wiki.port, seed + k, count // 2) for k in range(2)]):
             all_passed += passed
             if wrong:
                 raise SystemExit(f"hostile: {wrong}; the program's status is {wiki.process.poll()}")
-    if wiki.page("/")[0] != 200:
-        raise SystemExit("hostile: the program doesn't go on serving")
+    status = wiki.page("/")[0]
+    if status != 200:
+        raise SystemExit(f"hostile: after {count} connections the index has status {status}, and not 200")
     return all_passed
 
 
@@ -410,7 +415,8 @@ def hostile_lines(program, count, seed):
         do = None if len(line) > 65535 else request_in(line)
         said = json.loads(reply)
         if (said == BAD_REQUEST) != (do is None) or (do is not None and said.get("done") != do and said.get("refused") not in range(1, 16)):
-            raise SystemExit(f"hostile: {reply[:200]!r} answers {line[:400]!r}")
+            wanted = "BadRequest" if do is None else f"{do} that is done, or a refusal 1 to 15"
+            raise SystemExit(f"hostile: to {line[:400]!r} expected {wanted}, came {reply[:400]!r}")
 
 
 def main():
@@ -421,7 +427,7 @@ def main():
     given, begun = b"".join(json.dumps(it).encode() + b"\n" for it in (full_wiki(5000, 2000) if is_long else full_wiki(100, 60))), time.time()
     began, passed, grown = hostile_connections(program, count, given, is_long)
     if is_long and grown > 2_000_000:
-        raise SystemExit(f"hostile: the program holds {grown} bytes more after {count // 2} connections")
+        raise SystemExit(f"hostile: the program holds {grown} bytes more after {count // 2} connections, and not at most 2,000,000")
     print(f"hostile: {count} connections in {time.time() - begun - began:.1f} s behind a start of {began:.1f} s, each answered as it should be; "
           f"{passed.pop('came'):,} bytes came, {passed.pop('went'):,} went, {grown:,} more are held; "
           + ", ".join(f"{times} times {status or 'nothing'}" for status, times in sorted(passed.items())))

@@ -3,4 +3,6 @@
 # own (hostile.py). $1 is the program; with `long` as $2 there are 100,000 connections and 100,000 lines.
 set -u
 here="$(cd "$(dirname "${BASH_SOURCE[0]}")" && pwd)"
+. "$here/common.sh"
+needs python3
 exec python3 "$here/hostile.py" "$@"

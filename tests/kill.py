@@ -6,8 +6,8 @@ former input and the journal, each ended by a newline; every page shows what `re
 article tell; sessions are gone. Then a journal is cut at bytes of its last line: a line that is cut before its closing brace
 changes nothing, one that lacks only its newline is a change, and what is posted then is kept at the next start.
 """
-import json, os, random, shutil, subprocess, sys, tempfile, threading, time
-from running import Closed, Wiki, api, compare_pages, ended, free_port, replayed
+import json, os, random, subprocess, sys, tempfile, threading, time
+from running import Closed, Wiki, api, compare_pages, ended, held_port, replayed, started
 
 CHANGES = ("word", "reword", "unword", "add", "edit", "remove", "retract", "reassert", "commit")
 HERE = os.path.dirname(os.path.abspath(__file__))
@@ -102,7 +102,7 @@ def check_journal(written, clients):
             at += 1
     known = sum(len(client.told) for client in clients)
     if not known <= len(lines) <= known + len(clients):
-        raise SystemExit(f"kill: {known} changes were acknowledged, and {len(lines)} stand in the journal")
+        raise SystemExit(f"kill: {known} changes were acknowledged to {len(clients)} clients, so as many stand in the journal or one more of each; {len(lines)} do")
     return known
 
 
@@ -122,8 +122,9 @@ def kills(program, count, seed):
         lines = ended(lines) + ended(written)
         wiki = Wiki(program, lines)
         compare_pages(program, wiki, lines, "kill: after a kill")
-        if wiki.ask(do="menu", session=1).get("name") != "NoSession":
-            raise SystemExit("kill: a session was kept")
+        reply = wiki.ask(do="menu", session=1)
+        if reply.get("name") != "NoSession":
+            raise SystemExit(f"kill: after a start session 1 has the menu {reply}, and not a refusal NoSession")
     wiki.stop()
     return known
 
@@ -132,10 +133,10 @@ class Kept:
     """A wiki in one file, as tools/serve keeps it."""
 
     def __init__(self, program, path):
-        self.port = free_port()
+        self.port, self.held = held_port()
         tool = os.path.join(os.path.dirname(HERE), "tools", "serve")
-        self.process = subprocess.Popen([tool, path, f"127.0.0.1:{self.port}"], env=dict(os.environ, ACEWIKI=program),
-                                        stdin=subprocess.DEVNULL, stdout=subprocess.DEVNULL, stderr=subprocess.PIPE)
+        self.process = started([tool, path, f"127.0.0.1:{self.port}"], env=dict(os.environ, ACEWIKI=program),
+                               stdin=subprocess.DEVNULL, stdout=subprocess.DEVNULL, stderr=subprocess.PIPE)
         self.wait()
 
     connect, wait, send, ask, page, stop = Wiki.connect, Wiki.wait, Wiki.send, Wiki.ask, Wiki.page, Wiki.stop
@@ -146,8 +147,8 @@ def cuts(program, step):
     before = FIRST + b'{"article":"Ada","do":"add","text":"Ada is a cat."}\n'
     last = b'{"article":"Bob","do":"add","text":"Bob is a dog that is a fox."}\n'
     more = b'{"article":"Ada","do":"add","text":"Ada sees Bob."}\n'
-    folder = tempfile.mkdtemp()
-    path = os.path.join(folder, "wiki")
+    folder = tempfile.TemporaryDirectory()
+    path = os.path.join(folder.name, "wiki")
     cases = sorted({*range(0, len(last) + 1, step), len(last) - 2, len(last) - 1, len(last)})
     for cut in cases:
         with open(path, "wb") as it:
@@ -156,19 +157,19 @@ def cuts(program, step):
         for turn in range(2):
             wiki = Kept(program, path)
             if turn == 0:
-                if wiki.ask(do="add", article="Ada", text="Ada sees Bob.") != {"done": "add", "status": "asserted"}:
-                    raise SystemExit(f"kill: nothing can be added after a cut at {cut}")
+                reply = wiki.ask(do="add", article="Ada", text="Ada sees Bob.")
+                if reply != {"done": "add", "status": "asserted"}:
+                    raise SystemExit(f"kill: cut at {cut}, a sentence that is added then has the reply {reply}, and isn't asserted")
             compare_pages(program, wiki, before + (last if whole else b"") + more, f"kill: cut at {cut}")
             wiki.stop()
         with open(path, "rb") as it:
             kept = it.read()
         if kept != ended(before + last[:cut]) + more:
-            raise SystemExit(f"kill: cut at {cut}, the file is {kept!r}")
+            raise SystemExit(f"kill: cut at {cut}, the file is {kept!r}, and not {ended(before + last[:cut]) + more!r}")
         replies = replayed(program, before + last[:cut])
         wanted = [] if cut == 0 else [{"done": "add", "status": "asserted"} if whole else {"name": "BadRequest", "refused": 0}]
         if replies[len(before.splitlines()):] != wanted:
-            raise SystemExit(f"kill: cut at {cut}, replay tells {replies[-1]}")
-    shutil.rmtree(folder)
+            raise SystemExit(f"kill: cut at {cut}, replay tells {replies[len(before.splitlines()):]} to the line that was cut, and not {wanted}")
     return len(cases)
 
 

@@ -3,4 +3,6 @@
 # (kill.py says what must hold). $1 is the program; with `long` as $2 there are 200 kills and each byte is tried.
 set -u
 here="$(cd "$(dirname "${BASH_SOURCE[0]}")" && pwd)"
+. "$here/common.sh"
+needs python3
 exec python3 "$here/kill.py" "$@"

@@ -132,7 +132,7 @@ def small_budgets(program):
     told = run(program, exchange(status("asserted"), ..., ...), "0")[-2:]
     allowed = [["asserted", "contradiction"], ["asserted", "budget"], ["budget", "asserted"]]
     if [it["status"] for it in told] not in allowed:
-        raise SystemExit(f"limits: without a step the statuses are {told}")
+        raise SystemExit(f"limits: without a step the statuses are {told}, and not one of {allowed}")
 
 
 for check in (many_words, many_sentences, many_sessions, many_tokens, long_texts, small_budgets):

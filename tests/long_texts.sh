@@ -2,6 +2,7 @@
 # Sends texts of some 65,000 bytes to `parse` through `acewiki replay`, and ends with status 1 where one isn't refused by
 # its name or the wiki isn't as before. $1 is the program.
 set -u
+. "$(dirname "${BASH_SOURCE[0]}")/common.sh"
 work="$(mktemp -d)"
 trap 'rm -rf "$work"' EXIT
 repeat() { head -c "$1" /dev/zero | sed "s/\x00/$2/g"; }
@@ -23,8 +24,7 @@ words='{"done":"words","words":[{"forms":["Mary"],"kind":"name"}]}'
     echo "$start"
     echo "$words"
 } >"$work/replies"
-"$1" replay <"$work/lines" >"$work/got" || { echo "long_texts: the program ended with status $?"; exit 1; }
-cmp -s "$work/got" "$work/replies" || { echo "long_texts: another reply"; diff "$work/got" "$work/replies" | cut -c1-300; exit 1; }
+(compare_replies "$1" "$work/lines" "$work/replies" 0 "long texts") >"$work/told" || { cut -c1-400 "$work/told"; exit 1; }
 
 # Forty tokens that go on but are no sentence yet are told what may follow, as shorter ones of the same shape are, in no time.
 nested() { local text="Mary sees a city"; for _ in $(seq "$1"); do text="$text that sees a city"; done; echo "{\"do\":\"parse\",\"text\":\"$text\"}"; }
@@ -35,6 +35,13 @@ nested() { local text="Mary sees a city"; for _ in $(seq "$1"); do text="$text t
     nested 2
     nested 9
 } >"$work/lines"
-timeout 20 "$1" replay <"$work/lines" | tail -n 2 >"$work/got"
-sed -n 2p "$work/got" | grep -q '^{"k":40,"menu":{.*"function":\[.*"\.".*"name":"NotSentence","refused":12}$' || { echo "long_texts: forty tokens have another reply"; cut -c1-300 "$work/got"; exit 1; }
-[ "$(sed -n 1p "$work/got" | sed 's/"k":12/"k":40/')" = "$(sed -n 2p "$work/got")" ] || { echo "long_texts: forty tokens have another menu than twelve"; cut -c1-300 "$work/got"; exit 1; }
+timeout 20 "$1" replay <"$work/lines" >"$work/got"
+status=$?
+short="$(sed -n 4p "$work/got")" long="$(sed -n 5p "$work/got")"
+fail() { # WHAT
+    echo "long_texts: forty tokens, $(nested 9 | cut -c1-100).., $1 (status $status within 20 s)"
+    printf 'their reply\n%s\nthat of twelve\n%s\n' "$long" "$short" | cut -c1-400
+    exit 1
+}
+grep -q '^{"k":40,"menu":{.*"function":\[.*"\.".*"name":"NotSentence","refused":12}$' <<<"$long" || fail "aren't refused as no sentence, with the end among what may follow"
+[ "${short/\"k\":12/\"k\":40}" = "$long" ] || fail "have another menu than twelve of the same shape"

@@ -6,9 +6,9 @@ response of a change in the journal, which is a `send` that failed, and it goes 
 journal, whose lines are whole. The allocator that refuses stands before that of the C library; what is
 allocated in other places, as by a reader of the operating system's, is refused as well.
 """
-import os, sys, tempfile, time
+import os, sys, tempfile
 from refusing import COUNTRIES, Refusing, lines, word
-from running import Closed, Wiki, api, parse_response, read_all
+from running import Closed, Wiki, api, moments, parse_response, read_all
 
 TYPED = [dict(do="type", session=n, text=token) for n in (1, 2) for token in ("Bern", "is", "a", "city", ".")]
 SESSIONS = lines(
@@ -33,7 +33,8 @@ def replays(refusing, given, name):
         status, output, told = refusing.replay(given, MALLOC=number)
         right = (status, output, told) == (0, whole, b"") or (status == 9 and whole.startswith(output) and told == b"out of memory\n")
         if not right:
-            raise SystemExit(f"memory: {name}, allocation {number} refused: status {status}, {told!r}, {output[-200:]!r}")
+            raise SystemExit(f"memory: {name}, allocation {number} refused: expected status 9, 'out of memory' and a front of {whole[-200:]!r}, or 0 and all of it; "
+                             f"came {status}, {told!r} and {output[-200:]!r}")
         refused += status == 9
     return f"{name}: {refused} of {len(numbers(count))} runs ended with 9"
 
@@ -45,13 +46,13 @@ def goes_on(wiki):
             return None
     except (OSError, Closed):
         pass
-    return wiki.process.wait(20)
+    return wiki.ended("memory: an allocation refused")
 
 
 def asked_once(refusing, options, **refused):
     """A program that serves, and what it answered to one change."""
     wiki = Wiki(refusing.program, lines(word("noun", "city")), options=options, environment=refusing.environment(**refused), waits=False)
-    for _ in range(2000):
+    for _ in moments():
         try:
             with wiki.connect() as link:
                 link.sendall(api(word("name", "Bern")))
@@ -59,14 +60,13 @@ def asked_once(refusing, options, **refused):
         except OSError:
             if wiki.process.poll() is not None:
                 break
-            time.sleep(0.001)
     return wiki, b""
 
 
 def serves(refusing):
     """One change over a connection, with allocations refused over the whole run and each of the last 250."""
     wiki, _ = asked_once(refusing, ["--events", "2"])
-    wiki.process.wait(20)
+    wiki.ended("memory: after two events")
     count = refusing.counts()[0]
     tried = sorted({*range(1, count + 1, max(1, count // 250)), *range(max(1, count - 250), count + 1)})
     ended = answered = cut = 0
@@ -80,9 +80,11 @@ def serves(refusing):
         except Closed:
             whole = False
         if status not in (None, 9) or journal not in (b"", b'{"do":"word","forms":["Bern"],"kind":"name"}\n') or (got and not journal):
-            raise SystemExit(f"memory: allocation {number} refused: status {status}, {got!r}, journal {journal!r}")
+            raise SystemExit(f"memory: allocation {number} refused: expected status 9 or serving on, and a response only with the change in the journal; "
+                             f"came status {status}, {got!r}, journal {journal!r}")
         if status is None and (whole or not journal):
-            raise SystemExit(f"memory: allocation {number} refused, and it goes on serving: {got!r}, journal {journal!r}")
+            raise SystemExit(f"memory: allocation {number} refused, and it goes on serving: expected a response that is cut and the change in the journal; "
+                             f"came {got!r}, journal {journal!r}")
         ended, answered, cut = ended + (status == 9), answered + bool(whole), cut + (status is None)
     return f"serve: {ended} of {len(tried)} runs ended with 9, {answered} of them after a whole response; {cut} cut the response alone"
 

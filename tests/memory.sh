@@ -3,5 +3,6 @@
 # and isn't part of the gate.
 set -u
 here="$(cd "$(dirname "${BASH_SOURCE[0]}")" && pwd)"
-command -v cc >/dev/null || { echo "memory: not run, since this machine has no C compiler"; exit 0; }
+. "$here/common.sh"
+needs python3 cc
 exec python3 "$here/memory.py" "$@"

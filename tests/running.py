@@ -1,50 +1,72 @@
 """What the scripts that run the program share: a wiki that serves on a port of its own, what is sent to it, and its pages."""
-import html.parser, json, os, random, re, signal, socket, struct, subprocess, tempfile, time, urllib.parse
+import atexit, html.parser, json, os, random, re, signal, socket, struct, subprocess, tempfile, time, urllib.parse
 
 BAD_REQUEST = {"name": "BadRequest", "refused": 0}
+STARTED = []
 
 
 class Closed(Exception):
     """The connection ended before the whole response had come."""
 
 
-def free_port():
-    """A port that nobody listens at, below those that the system gives to clients, which could else meet themselves there."""
+def started(words, **more):
+    """A process that doesn't outlive the script."""
+    STARTED.append(subprocess.Popen(words, **more))
+    return STARTED[-1]
+
+
+@atexit.register
+def end_all():
+    for process in STARTED:
+        if process.poll() is None:
+            process.kill()
+
+
+def held_port():
+    """A port that nobody has, and the socket that is bound to it. While that one is open and doesn't listen, the program can listen
+    there and no other script takes the port. It is below those that the system gives to clients, which could else meet themselves."""
     while True:
-        port = random.randrange(20000, 32000)
-        with socket.socket() as it:
-            try:
-                it.bind(("127.0.0.1", port))
-                return port
-            except OSError:
-                pass
+        port, held = random.randrange(20000, 32000), socket.socket()
+        try:
+            held.bind(("127.0.0.1", port))
+            held.setsockopt(socket.SOL_SOCKET, socket.SO_REUSEADDR, 1)
+            return port, held
+        except OSError:
+            held.close()
+
+
+def moments(seconds=60):
+    """Moments within so many seconds, in which to look again whether something has come. A busy machine may need all of them."""
+    until = time.time() + seconds
+    while time.time() < until:
+        yield
+        time.sleep(0.01)
 
 
 class Wiki:
     """A program that serves, from these lines on. Its journal goes to a file, or to what is given as `output`."""
 
     def __init__(self, program, given=b"", output=None, options=(), environment=None, waits=True, errors=subprocess.PIPE):
-        self.port = free_port()
+        self.port, self.held = held_port()
         self.journal = tempfile.TemporaryFile() if output is None else output
         with tempfile.TemporaryFile() as lines:
             lines.write(given)
             lines.seek(0)
             words = [program, "serve", f"127.0.0.1:{self.port}", *options]
-            self.process = subprocess.Popen(words, stdin=lines, stdout=self.journal, stderr=errors, env=environment)
+            self.process = started(words, stdin=lines, stdout=self.journal, stderr=errors, env=environment)
         if waits:
             self.wait()
 
     def wait(self, seconds=60):
         """Waits until it listens."""
-        for _ in range(100 * seconds):
+        for _ in moments(seconds):
             try:
                 self.connect().close()
                 return
             except OSError:
                 if self.process.poll() is not None:
                     raise SystemExit(f"the program ended with {self.process.returncode}: {self.process.stderr.read()!r}")
-                time.sleep(0.01)
-        raise SystemExit("the program doesn't listen")
+        raise SystemExit(f"the program doesn't listen within {seconds} s")
 
     def connect(self, source="127.0.0.1", timeout=30):
         return socket.create_connection(("127.0.0.1", self.port), timeout, (source, 0))
@@ -61,6 +83,13 @@ class Wiki:
 
     def page(self, path):
         return self.send(f"GET {path} HTTP/1.1\r\nHost: here\r\n\r\n".encode())
+
+    def ended(self, what, seconds=60):
+        """The status with which it ends; the script ends where it doesn't."""
+        try:
+            return self.process.wait(seconds)
+        except subprocess.TimeoutExpired:
+            raise SystemExit(f"{what}: the program hasn't ended after {seconds} s")
 
     def kill(self):
         """Kills it, and returns what it had written to its journal."""

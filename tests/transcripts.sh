@@ -1,25 +1,42 @@
 #!/usr/bin/env bash
-# Runs each table of lines and replies in a document through `acewiki replay`, each in a wiki of its own, and ends with
-# status 1 where a reply is another one. $1 is the program, $2 the document.
+# Runs what a document shows of lines and replies through `acewiki replay`, each in a wiki of its own, and ends with status 1
+# where a reply is another one: each table of lines and replies, and each block that begins with `$ ./acewiki replay`, where a
+# reply stands below its line. A block may begin with `$ cat FILE - | ./acewiki replay` and a line `..`, which stands for the
+# replies to the lines of that file. A block of lines without a command is refused. $1 is the program, $2 the document.
 set -u
+here="$(cd "$(dirname "${BASH_SOURCE[0]}")" && pwd)"
+. "$here/common.sh"
 work="$(mktemp -d)"
 trap 'rm -rf "$work"' EXIT
 awk -v work="$work" '
-    /^\| Line \| Reply \|$/ { table++; inside = 1; next }
-    !/^\|/ { inside = 0 }
-    inside && /^\| `/ {
+    /^\| Line \| Reply \|$/ { name = work "/" sprintf("%03d", ++count); table = 1; print "the table at line " NR > (name ".title"); next }
+    !/^\|/ { table = 0 }
+    table && /^\| `/ {
         split($0, cell, /` \| `|^\| `|` \|$/)
-        print cell[2] > (work "/" table ".lines")
-        print cell[3] > (work "/" table ".replies")
-    }' "$2"
+        print cell[2] > (name ".lines")
+        print cell[3] > (name ".replies")
+    }
+    /^```/ { fence = !fence; block = 0 }
+    fence && !block && /^{"do":/ { print "the block at line " NR " of " FILENAME " has lines and no command" > (work "/wrong"); exit }
+    /^\$ .*\.\/acewiki replay$/ {
+        name = work "/" sprintf("%03d", ++count); block = 1; is_reply = 0
+        print "the block at line " NR > (name ".title")
+        if ($2 == "cat") { print $3 > (name ".before"); is_reply = 1 }
+        next
+    }
+    block && $0 == ".." { is_reply = 0; next }
+    block { print > (name (is_reply ? ".replies" : ".lines")); is_reply = !is_reply }' "$2"
+[ ! -f "$work/wrong" ] || { echo "transcripts: $(cat "$work/wrong")"; exit 1; }
 count=0
-for lines in "$work"/*.lines; do
-    "$1" replay <"$lines" >"$work/got" || { echo "transcripts: the program ended with status $?"; exit 1; }
-    if ! diff "$work/got" "${lines%.lines}.replies" >"$work/difference"; then
-        echo "transcripts: another reply in table $(basename "${lines%.lines}") of $2:"
-        cat "$work/difference"
-        exit 1
+for title in "$work"/*.title; do
+    name="${title%.title}" before=0
+    if [ -f "$name.before" ]; then
+        file="$here/../$(cat "$name.before")"
+        before="$(wc -l <"$file")" || exit 1
+        cat "$file" "$name.lines" >"$name.all"
+        mv "$name.all" "$name.lines"
     fi
-    count=$((count + $(wc -l <"$lines")))
+    compare_replies "$1" "$name.lines" "$name.replies" "$before" "$(cat "$title") of $2"
+    count=$((count + 1))
 done
-[ "$count" -gt 0 ] || { echo "transcripts: no table in $2"; exit 1; }
+[ "$count" -gt 0 ] || { echo "transcripts: no table and no block in $2"; exit 1; }

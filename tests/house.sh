@@ -1,0 +1,38 @@
+#!/usr/bin/env bash
+# The rules that the repository keeps for its own text. It needs no program.
+set -u
+cd "$(dirname "${BASH_SOURCE[0]}")/.." || exit 1
+. tests/common.sh
+needs python3
+status=0
+
+fail() {
+    echo "house: $1"
+    status=1
+}
+
+# Each crate has a line in docs/PROVED.md, and edits that the check must refuse where it has more than tests.
+while read -r crate; do
+    grep -q "\`$crate\`" docs/PROVED.md || fail "docs/PROVED.md doesn't speak of $crate"
+    case "$crate" in *_examples | bench_*) continue ;; esac
+    ls "crates/$crate/must-fail/"*.edit >/dev/null 2>&1 || fail "$crate has no must-fail edit"
+done < <(sed 's/#.*//' crates.txt | awk -F: 'NF > 1 { split($1, name, " "); print name[1] }')
+
+# Each claim names the clauses that carry it.
+tools/claims --check || fail "a claim names no clause, or another line"
+
+# Each definition that the claims rest on stands in docs/DEFINITIONS.md, and no other.
+tools/believed --check || fail "docs/DEFINITIONS.md isn't what tools/believed lists"
+
+# The wiki, the server and the program are proved through the contracts of what they stand on alone.
+tools/imports || fail "a definition from inside the chart, the tableau or JSON is named"
+
+# No line of a definition, a proof or a clause is over 160 columns.
+tools/columns --check || fail "a line is too long"
+
+# A reader of the repository has nothing but the repository.
+if command -v git >/dev/null 2>&1; then
+    cites=$(git grep -nIE 'scope\.md|theorems\.md|requests\.md|formats\.md|decisions\.md' -- ':!tests/house.sh' 2>/dev/null | head -5)
+    [ -z "$cites" ] || fail "a paper is cited that the repository doesn't have: $cites"
+fi
+exit $status

@@ -1,4 +1,3 @@
-pub mod CommandLemmas
 pub mod RunLemmas
 pub mod ServeLemmas
 pub mod CompletenessLemmas

@@ -3,7 +3,7 @@ use Rattle.std.proofs.Common.{◌≡◌, ℕ, ◌-◌, ◌<◌, ◌≤◌, List,
 use Rattle.std.proofs.lemmas.Bool.{false≢true, cases_lt}
 use Rattle.std.proofs.lemmas.Grind.{flat_map-append}
 use Rattle.std.proofs.lemmas.List.{map_push, length-append, take_at}
-use Rattle.std.specs.Io.KnownBytes.{Appends, Keeps, IsAtEnd}
+use Rattle.std.specs.Io.KnownBytes.{Appends, Keeps, Consumes, IsAtEnd}
 use Rattle.wiki_io.specs.declared.limits.TheConstants.{MAX_INPUT}
 use Rattle.wiki_io.specs.declared.reader.Line.{Line}
 use Rattle.wiki_io.specs.declared.reader.Line.TheVariants as said_by
@@ -21,7 +21,7 @@ use Rattle.acewiki.specs.Wiki.{Holding, KeptStep}
 use Rattle.acewiki.specs.declared.command.Outcome.{Outcome}
 use Rattle.acewiki.specs.declared.command.Outcome.TheVariants.{Done, ReadFault, WriteFault, TooMuch, Memory}
 use Rattle.acewiki.specs.Lines.{asked, told, reply_lines, StepsLine, StepsLines, RepliesTo, WasStepped, AnswersLine, BeginsAnswer, CutsLine}
-use Rattle.acewiki.specs.Replay.{but_last, Replays}
+use Rattle.acewiki.specs.Theorem.{EndsReading, but_last, Replays}
 
 -- ---- one line
 
@@ -104,6 +104,16 @@ Running-first start first taken reader wiki input output fresh is_start =
       output_faults = omega arith;
     }))
 
+-- ---- the end of an input
+
+read_all : (bytes read : List ℕ) (left : Option (List ℕ)) → Consumes (Some bytes) left read → IsAtEnd left → read ≡ bytes
+read_all bytes read None consumes at_end = absurd consumes
+read_all bytes read (Some rest) consumes at_end = sym (append-nil read) ∙ ap (λ bs. read ++ bs) (sym at_end) ∙ sym consumes
+
+-- what was read up to the end of an input that tells its bytes is all of it
+all_read : (first left : Option (List ℕ)) (read bytes : List ℕ) → Consumes first left read → IsAtEnd left → first ≡ Some bytes → read ≡ bytes
+all_read first left read bytes source at_end told = read_all bytes read left (subst (λ l. Consumes l left read) told source) at_end
+
 -- ---- one call of the reader further
 
 module _ (start : Holding) (first taken_first left : Option (List ℕ)) (old : Reading) (wiki : Holding) (taken : Option (List ℕ))
@@ -121,22 +131,21 @@ module _ (start : Holding) (first taken_first left : Option (List ℕ)) (old : R
   none_given none = ap (λ (more : List InputLine). run.given ++ more) none ∙ append-nil run.given
 
   -- it ends with all lines so far answered
-  Replays-answered : (outcome : Outcome) → (outcome ≡ Done → IsAtEnd left_after × (length called.bytes ≤ MAX_INPUT) × (run.given ≡ input_lines called.bytes))
-      → (outcome ≡ ReadFault → AreReadLines called.bytes run.given) → (outcome ≡ TooMuch → MAX_INPUT < length called.bytes)
+  Replays-answered : (outcome : Outcome) → EndsReading outcome called.bytes left_after run.given
+      → (outcome ≡ Done → (bytes : List ℕ) → first ≡ Some bytes → run.given ≡ input_lines bytes)
       → (taken_after : Option (List ℕ)) → Appends taken taken_after [] → Replays start first taken_first outcome left_after taken_after
-  Replays-answered outcome done fault large taken_after kept = record {
-    input = record {
+  Replays-answered outcome ends all taken_after kept = record {
+    lines = run.given;
+    reads = record {
       read = called.bytes;
       source = called.source;
-      lines = run.given;
       known = AreKnown-front called.bytes left_after run.given (answered said new.line) known;
-      exchanges = run.exchanges;
-      last = wiki;
-      steps = run.steps;
-      done = done;
-      read_fault = fault;
-      too_large = large;
+      ends = ends;
+      all = all;
     };
+    exchanges = run.exchanges;
+    last = wiki;
+    steps = run.steps;
     written = reply_lines run.exchanges;
     sink = Appends-kept taken_first taken taken_after (reply_lines run.exchanges) run.sink kept;
     front = Begins-refl (reply_lines run.exchanges);
@@ -144,30 +153,28 @@ module _ (start : Holding) (first taken_first left : Option (List ℕ)) (old : R
     all = λ _ _. refl;
   }
 
+  given_all : answered said new.line ≡ [] → new.pending ≡ [] → run.given ≡ input_lines called.bytes
+  given_all none pending = sym (none_given none) ∙ HasGiven-end called.bytes (run.given ++ answered said new.line) new called.lines pending
+
   pub Replays-end : answered said new.line ≡ [] → new.pending ≡ [] → new.count ≤ MAX_INPUT → IsAtEnd left_after
       → Replays start first taken_first Done left_after taken
-  Replays-end none pending within at_end = Replays-answered Done
-      (λ _. (
-        at_end,
-        omega (arith, called.count, within),
-        sym (none_given none) ∙ HasGiven-end called.bytes (run.given ++ answered said new.line) new called.lines pending,
-      ))
-      (λ is. absurd (cc is)) (λ is. absurd (cc is)) taken (Appends-nil taken)
+  Replays-end none pending within at_end = Replays-answered Done (at_end, omega (arith, called.count, within), given_all none pending)
+      (λ _ bytes told. given_all none pending ∙ ap input_lines (all_read first left_after called.bytes bytes called.source at_end told))
+      taken (Appends-nil taken)
 
   -- and leaves the wiki as it is
   pub Replays-end_last : (none : answered said new.line ≡ []) (pending : new.pending ≡ []) (within : new.count ≤ MAX_INPUT) (at_end : IsAtEnd left_after)
-      → (Replays-end none pending within at_end).input.last ≡ wiki
+      → (Replays-end none pending within at_end).last ≡ wiki
   unfolding Replays-end Replays-answered
   Replays-end_last none pending within at_end = refl
 
   pub Replays-fault : answered said new.line ≡ [] → HasNoLine new → Replays start first taken_first ReadFault left_after taken
-  Replays-fault none no_line = Replays-answered ReadFault (λ is. absurd (cc is))
-      (λ _. subst (AreReadLines called.bytes) (none_given none) (HasGiven-fault called.bytes (run.given ++ answered said new.line) new called.lines no_line))
+  Replays-fault none no_line = Replays-answered ReadFault
+      (subst (AreReadLines called.bytes) (none_given none) (HasGiven-fault called.bytes (run.given ++ answered said new.line) new called.lines no_line))
       (λ is. absurd (cc is)) taken (Appends-nil taken)
 
   pub Replays-too_large : MAX_INPUT < new.count → Replays start first taken_first TooMuch left_after taken
-  Replays-too_large large = Replays-answered TooMuch (λ is. absurd (cc is)) (λ is. absurd (cc is)) (λ _. omega (arith, called.count, large)) taken
-      (Appends-nil taken)
+  Replays-too_large large = Replays-answered TooMuch (omega (arith, called.count, large)) (λ is. absurd (cc is)) taken (Appends-nil taken)
 
   module _ (line : InputLine) (gives : answered said new.line ≡ line ∷ []) where
     more_given : run.given ++ answered said new.line ≡ run.given ++ line ∷ []
@@ -180,18 +187,17 @@ module _ (start : Holding) (first taken_first left : Option (List ℕ)) (old : R
         let exchange = begun.replies.exchange in
         let part = take begun.count begun.reply in
         record {
-          input = record {
+          lines = run.given ++ line ∷ [];
+          reads = record {
             read = called.bytes;
             source = called.source;
-            lines = run.given ++ line ∷ [];
             known = subst (AreKnown called.bytes left_after) more_given known;
-            exchanges = run.exchanges ++ exchange ∷ [];
-            last = wiki_after;
-            steps = StepsLines-push start run.given line run.exchanges exchange wiki wiki_after run.steps begun.replies.steps;
-            done = λ is. absurd (cc is);
-            read_fault = λ is. absurd (cc is);
-            too_large = λ is. absurd (cc is);
+            ends = tt;
+            all = λ is. absurd (cc is);
           };
+          exchanges = run.exchanges ++ exchange ∷ [];
+          last = wiki_after;
+          steps = StepsLines-push start run.given line run.exchanges exchange wiki wiki_after run.steps begun.replies.steps;
           written = reply_lines run.exchanges ++ part;
           sink = Appends-trans taken_first taken taken_after (reply_lines run.exchanges) part run.sink begun.written;
           front = (
@@ -209,7 +215,7 @@ module _ (start : Holding) (first taken_first left : Option (List ℕ)) (old : R
         → Replays start first taken_first outcome left_after taken_after
     Replays-cut WriteFault wiki_after taken_after cut = Replays-begun wiki_after taken_after cut
     Replays-cut Memory wiki_after taken_after cut =
-        Replays-answered Memory (λ is. absurd (cc is)) (λ is. absurd (cc is)) (λ is. absurd (cc is)) taken_after (Appends-none taken taken_after cut.written)
+        Replays-answered Memory tt (λ is. absurd (cc is)) taken_after (Appends-none taken taken_after cut.written)
       where
         Appends-none : (a b : Option (List ℕ)) → Keeps a b → Appends a b []
         Appends-none None b kept = tt
@@ -250,18 +256,17 @@ at_end-call left left_after old new before nothing same ended = elim (nothing en
 -- nothing was read or written yet
 pub Replays-none : (start : Holding) (left taken : Option (List ℕ)) → Replays start left taken Memory left taken
 Replays-none start left taken = record {
-  input = record {
+  lines = [];
+  reads = record {
     read = [];
     source = Consumes-nil left;
-    lines = [];
     known = inl (λ rest. (input_lines rest, refl));
-    exchanges = [];
-    last = start;
-    steps = StepsLines-none start;
-    done = λ is. absurd (cc is);
-    read_fault = λ is. absurd (cc is);
-    too_large = λ is. absurd (cc is);
+    ends = tt;
+    all = λ is. absurd (cc is);
   };
+  exchanges = [];
+  last = start;
+  steps = StepsLines-none start;
   written = [];
   sink = Appends-nil taken;
   front = ([], refl);

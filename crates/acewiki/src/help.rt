@@ -1,10 +1,10 @@
 // The command `help`: a line for each command.
-ghost use Rattle.std.specs.Prelude.{◌≡◌, ◌≤◌, ◌⊎◌, ℕ, length, take};
+ghost use Rattle.std.specs.Prelude.{◌≡◌, ◌≤◌, ℕ, length, take};
 ghost use Rattle.std.specs.Bool.{OnTrue, OnFalse};
 ghost use Rattle.std.specs.Io.KnownBytes.{Appends};
 ghost use Rattle.wiki_io.specs.Faults.{Rose};
 ghost use Rattle.acewiki.specs.Command.{help_text};
-ghost use Rattle.acewiki.specs.Replay.{WritesHelp};
+ghost use Rattle.acewiki.specs.Theorem.{WritesHelp};
 
 use crate::command::Outcome;
 use wiki_io::{Sink, put};
@@ -13,7 +13,6 @@ use wiki_io::{Sink, put};
 pub fn help<K: Sink>(output: &mut K) -> Outcome
     ensures helps { WritesHelp result (K.taken output.old) (K.taken output.new) }
     ensures write_fault { result ≡ Outcome.WriteFault → Rose (K.faults output.old) (K.faults output.new) }
-    ensures ends { (result ≡ Outcome.Done) ⊎ (result ≡ Outcome.WriteFault) }
 {
     if write_help(output) {
         Outcome::Done

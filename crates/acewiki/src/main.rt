@@ -11,6 +11,8 @@ mod options;
 mod replay;
 mod run;
 mod serve;
+#[cfg(test)]
+mod tests;
 mod wiki;
 mod words;
 

@@ -1,7 +1,8 @@
 // The command `make`: a generated wiki, and its summary.
-ghost use Rattle.std.specs.Prelude.{◌≡◌, ◌⊎◌};
+ghost use Rattle.std.specs.Prelude.{◌≡◌};
 ghost use Rattle.wiki_io.specs.Faults.{Rose};
-ghost use Rattle.acewiki.specs.Make.{MakesSummary, made_outcome};
+ghost use Rattle.acewiki.specs.Steps.{made_outcome};
+ghost use Rattle.acewiki.specs.Theorem.{MakesSummary};
 ghost use Rattle.acewiki.specs.Wiki.{ace_wiki};
 
 use crate::command::Outcome;
@@ -15,7 +16,6 @@ use wiki_io::Sink;
 pub fn make<K: Sink>(alloc: Global, count: u32, seed: u64, budget: u64, output: &mut K) -> Outcome
     ensures makes { MakesSummary (ace_wiki budget) count seed (K.taken output.old) result (K.taken output.new) }
     ensures write_fault { result ≡ Outcome.WriteFault → Rose (K.faults output.old) (K.faults output.new) }
-    ensures ends { (result ≡ Outcome.Done) ⊎ ((result ≡ Outcome.WriteFault) ⊎ (result ≡ Outcome.Memory)) }
 {
     match AceWiki::new(alloc, budget) {
         Ok(mut wiki) => make_at(alloc, &mut wiki, count, seed, output),
@@ -32,7 +32,6 @@ fn make_at<K: Sink>(
 ) -> Outcome
     ensures makes { MakesSummary wiki.old count seed (K.taken output.old) result (K.taken output.new) }
     ensures write_fault { result ≡ Outcome.WriteFault → Rose (K.faults output.old) (K.faults output.new) }
-    ensures ends { (result ≡ Outcome.Done) ⊎ ((result ≡ Outcome.WriteFault) ⊎ (result ≡ Outcome.Memory)) }
 {
     let made = making::make(alloc, wiki, count, seed, output);
     outcome(made)

@@ -2,7 +2,7 @@
 ghost use Rattle.std.specs.Prelude.{◌≡◌};
 ghost use Rattle.wiki_io.specs.Faults.{Rose};
 ghost use Rattle.wiki_io.specs.Reading.{unread};
-ghost use Rattle.acewiki.specs.Replay.{Replays};
+ghost use Rattle.acewiki.specs.Theorem.{Replays};
 ghost use Rattle.acewiki.specs.Wiki.{ace_wiki};
 
 use crate::command::Outcome;
@@ -22,7 +22,6 @@ pub fn replay<S: Source, K: Sink>(
     ensures replays { Replays (ace_wiki budget) (S.left input.old) (K.taken output.old) result (S.left input.new) (K.taken output.new) }
     ensures read_fault { result ≡ Outcome.ReadFault → Rose (S.faults input.old) (S.faults input.new) }
     ensures write_fault { result ≡ Outcome.WriteFault → Rose (K.faults output.old) (K.faults output.new) }
-    ensures usage { (result ≡ Outcome.Usage → ⊥) × (result ≡ Outcome.LinkFault → ⊥) }
 {
     match AceWiki::new(alloc, budget) {
         Ok(mut wiki) => answer_input(alloc, &mut wiki, input, output),
@@ -40,7 +39,6 @@ fn answer_input<S: Source, K: Sink>(
     ensures replays { Replays wiki.old (S.left input.old) (K.taken output.old) result (S.left input.new) (K.taken output.new) }
     ensures read_fault { result ≡ Outcome.ReadFault → Rose (S.faults input.old) (S.faults input.new) }
     ensures write_fault { result ≡ Outcome.WriteFault → Rose (K.faults output.old) (K.faults output.new) }
-    ensures usage { (result ≡ Outcome.Usage → ⊥) × (result ≡ Outcome.LinkFault → ⊥) }
 {
     match LineReader::new(alloc) {
         Ok(mut reader) => answer_lines(alloc, &mut reader, wiki, input, output),
@@ -60,7 +58,6 @@ fn answer_lines<S: Source, K: Sink>(
     ensures replays { Replays wiki.old (S.left input.old) (K.taken output.old) result (S.left input.new) (K.taken output.new) }
     ensures read_fault { result ≡ Outcome.ReadFault → Rose (S.faults input.old) (S.faults input.new) }
     ensures write_fault { result ≡ Outcome.WriteFault → Rose (K.faults output.old) (K.faults output.new) }
-    ensures usage { (result ≡ Outcome.Usage → ⊥) × (result ≡ Outcome.LinkFault → ⊥) }
 {
     'lines: loop {
         let line = match reader.next_line(input) {

@@ -2,9 +2,9 @@
 ghost use Rattle.std.specs.Prelude.{◌≡◌, []};
 ghost use Rattle.wiki_io.specs.Faults.{Rose};
 ghost use Rattle.wiki_io.specs.Reading.{unread};
-ghost use Rattle.acewiki.specs.Replay.{StepsInputTo};
+ghost use Rattle.acewiki.specs.Steps.{StepsInput, ServesLink, outcome_of};
+ghost use Rattle.acewiki.specs.Theorem.{stream, network, Serves};
 ghost use Rattle.acewiki.specs.Wiki.{ace_wiki};
-ghost use Rattle.acewiki.specs.Serve.{Serves, ServesLink, outcome_of};
 
 use crate::command::Outcome;
 use crate::lines::step_line;
@@ -26,14 +26,20 @@ pub fn serve<S: Source, K: Sink, L: Link>(
     link: &mut L,
 ) -> Outcome
     requires { L.connections link.old ≡ [] }
-    ensures serves { Serves (ace_wiki budget) events (S.left input.old)
-        (record { journal = K.taken output.old; sent = L.sent link.old; send_faults = L.send_faults link.old }) (L.handed link.old)
-        result (S.left input.new)
-        (record { journal = K.taken output.new; sent = L.sent link.new; send_faults = L.send_faults link.new }) (L.handed link.new) (L.left link.new) }
+    ensures serves { Serves (ace_wiki budget) events result
+        (record {
+          input = stream S.left S.faults input.old;
+          output = stream K.taken K.faults output.old;
+          link = network L.handed L.left L.sent L.faults L.send_faults link.old;
+        })
+        (record {
+          input = stream S.left S.faults input.new;
+          output = stream K.taken K.faults output.new;
+          link = network L.handed L.left L.sent L.faults L.send_faults link.new;
+        }) }
     ensures read_fault { result ≡ Outcome.ReadFault → Rose (S.faults input.old) (S.faults input.new) }
     ensures write_fault { result ≡ Outcome.WriteFault → Rose (K.faults output.old) (K.faults output.new) }
     ensures link_fault { result ≡ Outcome.LinkFault → Rose (L.faults link.old) (L.faults link.new) }
-    ensures usage { result ≡ Outcome.Usage → ⊥ }
 {
     match AceWiki::new(alloc, budget) {
         Ok(mut wiki) => serve_wiki(alloc, &mut wiki, address, events, input, output, link),
@@ -52,14 +58,20 @@ fn serve_wiki<S: Source, K: Sink, L: Link>(
     link: &mut L,
 ) -> Outcome
     requires { L.connections link.old ≡ [] }
-    ensures serves { Serves wiki.old events (S.left input.old)
-        (record { journal = K.taken output.old; sent = L.sent link.old; send_faults = L.send_faults link.old }) (L.handed link.old)
-        result (S.left input.new)
-        (record { journal = K.taken output.new; sent = L.sent link.new; send_faults = L.send_faults link.new }) (L.handed link.new) (L.left link.new) }
+    ensures serves { Serves wiki.old events result
+        (record {
+          input = stream S.left S.faults input.old;
+          output = stream K.taken K.faults output.old;
+          link = network L.handed L.left L.sent L.faults L.send_faults link.old;
+        })
+        (record {
+          input = stream S.left S.faults input.new;
+          output = stream K.taken K.faults output.new;
+          link = network L.handed L.left L.sent L.faults L.send_faults link.new;
+        }) }
     ensures read_fault { result ≡ Outcome.ReadFault → Rose (S.faults input.old) (S.faults input.new) }
     ensures write_fault { result ≡ Outcome.WriteFault → Rose (K.faults output.old) (K.faults output.new) }
     ensures link_fault { result ≡ Outcome.LinkFault → Rose (L.faults link.old) (L.faults link.new) }
-    ensures usage { result ≡ Outcome.Usage → ⊥ }
 {
     match step_input(alloc, wiki, input) {
         Outcome::Done => serve_link(alloc, wiki, address, events, output, link),
@@ -82,7 +94,7 @@ fn serve_link<K: Sink, L: Link>(
         result (record { journal = K.taken output.new; sent = L.sent link.new; send_faults = L.send_faults link.new }) (L.handed link.new) (L.left link.new) }
     ensures write_fault { result ≡ Outcome.WriteFault → Rose (K.faults output.old) (K.faults output.new) }
     ensures link_fault { result ≡ Outcome.LinkFault → Rose (L.faults link.old) (L.faults link.new) }
-    ensures others { (result ≡ Outcome.Usage → ⊥) × (result ≡ Outcome.ReadFault → ⊥) }
+    ensures read_fault { result ≡ Outcome.ReadFault → ⊥ }
 {
     match link.listen(address) {
         Listen::Ready => {
@@ -107,9 +119,9 @@ fn ended(served: Served) -> Outcome
 
 // Steps the wiki through the lines of the input.
 fn step_input<S: Source>(alloc: Global, wiki: &mut AceWiki, input: &mut S) -> Outcome
-    ensures steps { StepsInputTo wiki.old (S.left input.old) result (S.left input.new) wiki.new }
+    ensures steps { StepsInput wiki.old (S.left input.old) result (S.left input.new) wiki.new }
     ensures read_fault { result ≡ Outcome.ReadFault → Rose (S.faults input.old) (S.faults input.new) }
-    ensures others { (result ≡ Outcome.Usage → ⊥) × (result ≡ Outcome.WriteFault → ⊥) × (result ≡ Outcome.LinkFault → ⊥) }
+    ensures write_fault { result ≡ Outcome.WriteFault → ⊥ }
 {
     match LineReader::new(alloc) {
         Ok(mut reader) => step_lines(alloc, &mut reader, wiki, input),
@@ -125,9 +137,9 @@ fn step_lines<S: Source>(
     input: &mut S,
 ) -> Outcome
     requires { reader.old ≡ unread }
-    ensures steps { StepsInputTo wiki.old (S.left input.old) result (S.left input.new) wiki.new }
+    ensures steps { StepsInput wiki.old (S.left input.old) result (S.left input.new) wiki.new }
     ensures read_fault { result ≡ Outcome.ReadFault → Rose (S.faults input.old) (S.faults input.new) }
-    ensures others { (result ≡ Outcome.Usage → ⊥) × (result ≡ Outcome.WriteFault → ⊥) × (result ≡ Outcome.LinkFault → ⊥) }
+    ensures write_fault { result ≡ Outcome.WriteFault → ⊥ }
 {
     'lines: loop {
         let line = match reader.next_line(input) {

@@ -1,6 +1,5 @@
 use Rattle.wiki_io.proofs.KnownLemmas.{Appends-nil}
-use Rattle.acewiki.proofs.MakeLemmas.{MakesSummary-none}
 use Rattle.acewiki.proofs.make.make.Goals as goal
 
 pub returns-in-Err-clause-makes : goal.returns-in-Err-clause-makes
-returns-in-Err-clause-makes g c = MakesSummary-none _ _ _ _ (Appends-nil _)
+returns-in-Err-clause-makes g c = Appends-nil _

@@ -1,12 +1,12 @@
-use Rattle.std.proofs.Common.{refl, inl, inr, ◌∙◌, sym}
-use Rattle.acewiki.proofs.ServeLemmas.{served_same, fault_of_journal, no_other}
+use Rattle.std.proofs.Common.{refl, ◌∙◌, sym}
+use Rattle.acewiki.proofs.ServeLemmas.{served_same, served_nothing, fault_of_journal, no_read_fault}
+use Rattle.serving.specs.declared.serving.Served.TheVariants as served
 use Rattle.acewiki.proofs.serve.serve_link.Goals as goal
 
 pub returns-in-Ready-clause-serves : goal.returns-in-Ready-clause-serves
 returns-in-Ready-clause-serves g c =
     let link = g.L.Link in
-    let sink = g.K.Sink in
-    inr (
+    let sink = g.K.Sink in (
       c.serve-served.result,
       c.ended.ensures,
       served_same c.args.wiki.now c.args.events (sink.taken c.args.output.now) (link.sent c.args.link.now) (link.sent c.listen.new.self)
@@ -24,8 +24,12 @@ returns-in-Ready-clause-serves g c =
 pub returns-in-Ready-clause-write_fault : goal.returns-in-Ready-clause-write_fault
 returns-in-Ready-clause-write_fault g c = λ is. c.serve-served.ensures.journal_fault (fault_of_journal c.serve-served.result (sym is ∙ c.ended.ensures))
 
-pub returns-in-Ready-clause-others : goal.returns-in-Ready-clause-others
-returns-in-Ready-clause-others g c = no_other c.serve-served.result c.ended.result c.ended.ensures
+pub returns-in-Ready-clause-read_fault : goal.returns-in-Ready-clause-read_fault
+returns-in-Ready-clause-read_fault g c = no_read_fault c.serve-served.result c.ended.result c.ended.ensures
 
 pub returns-in-Failed-clause-serves : goal.returns-in-Failed-clause-serves
-returns-in-Failed-clause-serves g c = inl (refl, rw (c.listen.ensures.sent, c.listen.ensures.send_faults) refl, c.listen.ensures.handed)
+returns-in-Failed-clause-serves g c = (
+  served.LinkFault,
+  refl,
+  served_nothing _ _ _ _ _ _ (g.L.Link.left c.listen.new.self) (rw (c.listen.ensures.sent, c.listen.ensures.send_faults) refl) c.listen.ensures.handed,
+)

@@ -1,0 +1,44 @@
+-- What the calls below the commands come to. Only private calls speak of it.
+use Rattle.std.specs.Prelude.{◌≡◌, ℕ, List, Option}
+use Rattle.wiki_io.specs.declared.links.Event.{Event}
+use Rattle.wiki_io.specs.Lines.{InputLine}
+use Rattle.wiki_talk.specs.declared.requests.Request.{Request}
+use Rattle.wiki_talk.specs.declared.replies.Reply.{Reply}
+use Rattle.wiki_talk.specs.Turns.{Exchange}
+use Rattle.serving.specs.declared.serving.Served.{Served}
+use Rattle.serving.specs.declared.serving.Served.TheVariants as served
+use Rattle.serving.specs.Events.{Outside, Ended}
+use Rattle.making.specs.declared.making.Made.{Made}
+use Rattle.making.specs.declared.making.Made.TheVariants as made
+use Rattle.acewiki.specs.declared.command.Outcome.{Outcome}
+use Rattle.acewiki.specs.declared.command.Outcome.TheVariants as outcomes
+use Rattle.acewiki.specs.Lines.{StepsLines}
+use Rattle.acewiki.specs.Theorem.{ReadsLines}
+use Rattle.acewiki.specs.Wiki.{Holding, KeptStep}
+
+-- the lines that were read were stepped, and nothing was written; where that is done, the wiki is left in the state `last`
+pub record StepsInput (first : Holding) (left : Option (List ℕ)) (outcome : Outcome) (left_after : Option (List ℕ)) (last : Holding) : Type 0 where
+  pub lines : List InputLine
+  pub reads : ReadsLines left outcome left_after lines
+  pub exchanges : List (Exchange Request Reply)
+  pub reached : Holding
+  pub steps : StepsLines first lines exchanges reached
+  pub last_is : outcome ≡ outcomes.Done → reached ≡ last
+
+-- how the program ends where serving ends so
+abbrev pub outcome_of : Served → Outcome
+outcome_of served.Done = outcomes.Done
+outcome_of served.LinkFault = outcomes.LinkFault
+outcome_of served.JournalFault = outcomes.WriteFault
+outcome_of served.Memory = outcomes.Memory
+
+-- serving ended so
+abbrev pub ServesLink : Holding → ℕ → Outside → Option (List Event) → Outcome → Outside → Option (List Event) → Option (List Event) → Type 0
+ServesLink first most outside handed outcome outside_after handed_after coming_after =
+    (served_so : Served) × (outcome ≡ outcome_of served_so) × Ended KeptStep first outside handed most handed_after served_so coming_after outside_after
+
+-- how the program ends where making ends so
+abbrev pub made_outcome : Made → Outcome
+made_outcome made.Done = outcomes.Done
+made_outcome made.WriteFault = outcomes.WriteFault
+made_outcome made.Memory = outcomes.Memory

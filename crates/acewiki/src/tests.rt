@@ -1,0 +1,92 @@
+// The program over streams and a link in memory, which tell all that the theorem speaks of.
+ghost use Rattle.std.specs.Prelude.{◌≡◌, [], IfOk};
+
+use super::*;
+use std::alloc::Global;
+use std::collections::VecDeque;
+use std::test::Fail;
+use wiki_base::{Arg, Bytes, Memory};
+use wiki_io::{Event, Fails, MemoryLink, MemorySink, MemorySource};
+use words::CommandLine;
+
+const INPUT: &[u8] = b"{\"do\":\"word\",\"kind\":\"name\",\"forms\":[\"Bern\"]}\n";
+
+const REQUEST: &[u8] =
+    b"POST /api HTTP/1.1\r\nHost: x\r\nContent-Length: 47\r\n\r\n{\"do\":\"reword\",\"word\":\"Bern\",\"forms\":[\"Berne\"]}";
+
+const JOURNAL: &[u8] = b"{\"do\":\"reword\",\"forms\":[\"Berne\"],\"word\":\"Bern\"}\n";
+
+const RESPONSE: &[u8] =
+    b"HTTP/1.1 200 OK\r\nContent-Type: application/json\r\nContent-Length: 18\r\nConnection: close\r\n\r\n{\"done\":\"reword\"}\n";
+
+// A command line that tells its words.
+#[derive(Drop)]
+struct ToldLine {
+    words: Vec<Arg>,
+}
+
+impl CommandLine for ToldLine {
+    ghost use Rattle.std.specs.Prelude.{Some};
+
+    ghost words = { λ l. Some l.words.items };
+
+    fn word(&self, alloc: Global, place: usize) -> Result<Option<Arg>, Memory> {
+        match self.words.get(place) {
+            Some(word) => Ok(Some(Arg::from_slice(alloc, word.as_slice())?)),
+            None => Ok(None),
+        }
+    }
+}
+
+// A link over which one request comes on one connection.
+fn link_of(alloc: Global) -> Result<MemoryLink, Fail>
+    ensures { IfOk result (λ link. link.connections ≡ []) }
+{
+    let mut script = VecDeque::new(alloc);
+    script.push_back(Event::Opened(1))?;
+    script.push_back(Event::Piece(1, Bytes::from_slice(alloc, REQUEST)?))?;
+    Ok(MemoryLink::new(alloc, script, Fails::none(alloc)))
+}
+
+#[test]
+fn the_lines_come_first_and_then_the_link(rt: HostRuntime) -> Result<(), Fail> {
+    let alloc = rt.alloc();
+    let mut words = Vec::new(alloc);
+    words.push(Arg::from_slice(alloc, b"serve")?)?;
+    words.push(Arg::from_slice(alloc, b"anywhere")?)?;
+    let line = ToldLine { words };
+    for by_line in [true, false] {
+        let mut input = MemorySource::new(INPUT.to_vec(alloc)?, Vec::new(alloc));
+        let mut output = MemorySink::new(alloc, Vec::new(alloc));
+        let mut errors = MemorySink::new(alloc, Vec::new(alloc));
+        let mut link = link_of(alloc)?;
+        let status = if by_line {
+            program(
+                alloc,
+                &line,
+                &mut input,
+                &mut output,
+                &mut errors,
+                &mut link,
+            )
+        } else {
+            run(
+                alloc,
+                &line.words,
+                &mut input,
+                &mut output,
+                &mut errors,
+                &mut link,
+            )
+        };
+        assert_eq!(rt; status, 0, "by the line: {by_line}");
+        assert_eq!(rt; output.bytes(), JOURNAL);
+        assert!(rt; errors.bytes().is_empty());
+        let mut sent = Vec::new(alloc);
+        for (_, bytes) in link.sent() {
+            sent.extend_from_slice(bytes.as_slice())?;
+        }
+        assert_eq!(rt; sent.as_slice(), RESPONSE);
+    }
+    Ok(())
+}

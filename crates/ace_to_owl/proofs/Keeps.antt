@@ -1,5 +1,5 @@
 -- The laws of truth in the words of the contracts.
-use Rattle.std.proofs.Common.{◌≡◌, ℕ, ◌<◌, ◌==◌, ◌&&◌, ◌||◌, Bool, true, false, List, [], ◌∷◌, Option, Some, None, Ok, Decides, refl, sym, ap, ◌∙◌, inl, inr}
+use Rattle.std.proofs.Common.{◌≡◌, ℕ, ◌<◌, ◌==◌, ◌&&◌, ◌||◌, Bool, true, false, List, [], ◌∷◌, Option, Some, None, Ok, Contains, Decides, refl, sym, ap, ◌∙◌, inl, inr}
 use Rattle.std.proofs.lemmas.Bool.{ltb-true, eq-eqb, or_cases, eqb-true, both_ways}
 use Rattle.wiki_base.proofs.BoolLaws.{and_first}
 use Rattle.logic_terms.specs.declared.structures.Thing.{Thing}
@@ -7,7 +7,7 @@ use Rattle.logic_terms.specs.declared.structures.Thing.TheVariants.{Ref, Name}
 use Rattle.logic_terms.specs.Concept.{Concept, Claim}
 use Rattle.logic_terms.specs.Structure.{Structure, referents_in}
 use Rattle.logic_terms.specs.Free.{is_bound}
-use Rattle.logic_terms.specs.Introduced.{introduced_in}
+use Rattle.logic_terms.specs.Introduced.{introduced_in, IntroducesOnce}
 use Rattle.logic_terms.specs.Interpretation.{Interpretation, is_interpretation}
 use Rattle.logic_terms.specs.Meaning.{is_in, all_hold}
 use Rattle.logic_terms.specs.Truth.{giving, is_true}
@@ -44,20 +44,22 @@ first_of_all a b c d e f g h =
 positive : (i : Interpretation) → is_interpretation i ≡ true → 0 < i.size
 positive i lawful = ltb-true 0 i.size (first_of_all _ _ _ _ _ _ _ lawful)
 
-pub statement_keeps : (k : Structure) (claims : List Claim) → axioms_stated k ≡ Ok claims → SameTruth k claims
+pub statement_keeps : (k : Structure) (claims : List Claim) → axioms_stated k ≡ Ok claims → IntroducesOnce k → SameTruth k claims
 statement_keeps k claims made once i lawful f = statement_true k claims made once i (positive i lawful) f
 
-pub statement_reads : (k : Structure) (claims : List Claim) → axioms_stated k ≡ Ok claims → SameReading k claims
+pub statement_reads : (k : Structure) (claims : List Claim) → axioms_stated k ≡ Ok claims → IntroducesOnce k → SameReading k claims
 statement_reads k claims made once i lawful f =
     let same : is_true i k f ≡ all_hold i claims = statement_keeps k claims made once i lawful f in
     let left : Decides (is_true i k f) (IsTrueUnder i k f) = is_true-Decides i k f in
     let right : Decides (all_hold i claims) (IsModel i claims) = all_hold-Decides i claims in
     (λ h. right.0 (sym same ∙ left.1 h), λ h. left.0 (same ∙ right.1 h))
 
-pub question_keeps : (k : Structure) (asked : ℕ) (c : Concept) → class_asked k asked ≡ Ok c → AnswersTruly k asked c
+pub question_keeps : (k : Structure) (asked : ℕ) (c : Concept) → class_asked k asked ≡ Ok c → IntroducesOnce k
+    → Contains (referents_in k) asked → AnswersTruly k asked c
 question_keeps k asked c made once own i f x = question_true k asked c made once ((list_any-Contains (referents_in k) asked).1 own) i f x
 
-pub question_reads : (k : Structure) (asked : ℕ) (c : Concept) → class_asked k asked ≡ Ok c → AnswersByReading k asked c
+pub question_reads : (k : Structure) (asked : ℕ) (c : Concept) → class_asked k asked ≡ Ok c → IntroducesOnce k
+    → Contains (referents_in k) asked → AnswersByReading k asked c
 question_reads k asked c made once own i f x =
     let same : is_in i c x ≡ is_true i (without asked k) (giving f asked x) = question_keeps k asked c made once own i f x in
     let left : Decides (is_in i c x) (IsIn i c x) = is_in-Decides i c x in

@@ -1,9 +1,9 @@
 -- What the mapping keeps: truth in every finite interpretation, under every assignment.
-use Rattle.std.specs.Prelude.{ℕ, ◌≡◌, ◌↔◌, Bool, true, not, List, Option, Some, None, Contains}
+use Rattle.std.specs.Prelude.{ℕ, ◌≡◌, ◌↔◌, Bool, true, not, List, Option, Some, None}
 use Rattle.logic_terms.specs.declared.structures.Thing.{Thing}
 use Rattle.logic_terms.specs.declared.structures.Thing.TheVariants.{Ref, Name}
 use Rattle.logic_terms.specs.Concept.{Concept, Claim}
-use Rattle.logic_terms.specs.Structure.{Structure, referents_in}
+use Rattle.logic_terms.specs.Structure.{Structure}
 use Rattle.logic_terms.specs.Free.{is_bound}
 use Rattle.logic_terms.specs.Introduced.{introduced_in, IntroducesOnce}
 use Rattle.logic_terms.specs.Interpretation.{Interpretation, is_interpretation}
@@ -29,25 +29,19 @@ abbrev pub RollsTruly : Option Thing → Structure → Concept → Type 0
 RollsTruly root k c =
     IntroducesOnce k → is_outside root k ≡ true → (i : Interpretation) (f : ℕ → ℕ) (x : ℕ) → Stands i f root x → is_in i c x ≡ is_true i k f
 
--- where each referent is introduced once: the structure is true exactly where all these axioms are, in every finite
--- interpretation and under every assignment
+-- the structure is true exactly where all these axioms are, in every finite interpretation and under every assignment
 abbrev pub SameTruth : Structure → List Claim → Type 0
-SameTruth k claims =
-    IntroducesOnce k → (i : Interpretation) → is_interpretation i ≡ true → (f : ℕ → ℕ) → is_true i k f ≡ all_hold i claims
+SameTruth k claims = (i : Interpretation) → is_interpretation i ≡ true → (f : ℕ → ℕ) → is_true i k f ≡ all_hold i claims
 
 -- the same as facts, by the standards
 abbrev pub SameReading : Structure → List Claim → Type 0
-SameReading k claims =
-    IntroducesOnce k → (i : Interpretation) → is_interpretation i ≡ true → (f : ℕ → ℕ) → IsTrueUnder i k f ↔ IsModel i claims
+SameReading k claims = (i : Interpretation) → is_interpretation i ≡ true → (f : ℕ → ℕ) → IsTrueUnder i k f ↔ IsModel i claims
 
--- where each referent is introduced once: an element is in the class exactly where the structure without the referent that
--- is asked for, one of its own, is true with the element for that referent
+-- an element is in the class exactly where the structure without the referent that is asked for is true with the element for
+-- that referent, in every finite interpretation and under every assignment
 abbrev pub AnswersTruly : Structure → ℕ → Concept → Type 0
-AnswersTruly k asked c =
-    IntroducesOnce k → Contains (referents_in k) asked → (i : Interpretation) (f : ℕ → ℕ) (x : ℕ) → is_in i c x ≡ is_true i (without asked k) (giving f asked x)
+AnswersTruly k asked c = (i : Interpretation) (f : ℕ → ℕ) (x : ℕ) → is_in i c x ≡ is_true i (without asked k) (giving f asked x)
 
 -- the same as facts, by the standards
 abbrev pub AnswersByReading : Structure → ℕ → Concept → Type 0
-AnswersByReading k asked c =
-    IntroducesOnce k → Contains (referents_in k) asked → (i : Interpretation) (f : ℕ → ℕ) (x : ℕ)
-    → IsIn i c x ↔ IsTrueUnder i (without asked k) (giving f asked x)
+AnswersByReading k asked c = (i : Interpretation) (f : ℕ → ℕ) (x : ℕ) → IsIn i c x ↔ IsTrueUnder i (without asked k) (giving f asked x)

@@ -1,5 +1,7 @@
 // The mapping of statements and questions.
-ghost use Rattle.std.specs.Prelude.{◌≡◌, true, IfOk};
+ghost use Rattle.std.specs.Prelude.{◌≡◌, true, Contains, IfOk};
+ghost use Rattle.logic_terms.specs.Introduced.{IntroducesOnce};
+ghost use Rattle.logic_terms.specs.Structure.{referents_in};
 ghost use Rattle.logic_terms.specs.Shown.{structure_of};
 ghost use Rattle.logic_terms.specs.Plain.{is_plain, are_plain};
 ghost use Rattle.ace_to_owl.specs.Answers.{mapped, asked};
@@ -32,8 +34,9 @@ pub enum Asked {
 /// negation normal form, with at least two members in each `And` and `Or`.
 pub fn map_statement(alloc: Global, drs: &Drs) -> Result<Mapped, Memory>
     ensures exact { IfOk result (λ answer. mapped answer ≡ axioms_stated (structure_of drs.now)) }
-    ensures truth { IfOk result (λ answer. IfOk (mapped answer) (SameTruth (structure_of drs.now))) }
-    ensures reading { IfOk result (λ answer. IfOk (mapped answer) (SameReading (structure_of drs.now))) }
+    ensures truth { IfOk result (λ answer. IfOk (mapped answer) (λ claims. IntroducesOnce (structure_of drs.now) → SameTruth (structure_of drs.now) claims)) }
+    ensures reading { IfOk result (λ answer. IfOk (mapped answer) (λ claims. IntroducesOnce (structure_of drs.now)
+        → SameReading (structure_of drs.now) claims)) }
     ensures plain { IfOk result (λ answer. IfOk (mapped answer) (λ claims. are_plain claims ≡ true)) }
 {
     match axioms_stated(alloc, drs) {
@@ -48,8 +51,10 @@ pub fn map_statement(alloc: Global, drs: &Drs) -> Result<Mapped, Memory>
 /// true with the element for it. The class is in negation normal form, with at least two members in each `And` and `Or`.
 pub fn map_question(alloc: Global, drs: &Drs, referent: u16) -> Result<Asked, Memory>
     ensures exact { IfOk result (λ answer. asked answer ≡ class_asked (structure_of drs.now) referent) }
-    ensures truth { IfOk result (λ answer. IfOk (asked answer) (AnswersTruly (structure_of drs.now) referent)) }
-    ensures reading { IfOk result (λ answer. IfOk (asked answer) (AnswersByReading (structure_of drs.now) referent)) }
+    ensures truth { IfOk result (λ answer. IfOk (asked answer) (λ class. IntroducesOnce (structure_of drs.now)
+        → Contains (referents_in (structure_of drs.now)) referent → AnswersTruly (structure_of drs.now) referent class)) }
+    ensures reading { IfOk result (λ answer. IfOk (asked answer) (λ class. IntroducesOnce (structure_of drs.now)
+        → Contains (referents_in (structure_of drs.now)) referent → AnswersByReading (structure_of drs.now) referent class)) }
     ensures plain { IfOk result (λ answer. IfOk (asked answer) (λ class. is_plain class ≡ true)) }
 {
     match class_asked(alloc, drs, referent) {

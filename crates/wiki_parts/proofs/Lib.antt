@@ -1,4 +1,5 @@
 pub mod CauseLemmas
+pub mod FaithLemmas
 pub mod FirstLemmas
 pub mod FullLemmas
 pub mod KnownLemmas

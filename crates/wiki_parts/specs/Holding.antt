@@ -9,7 +9,7 @@ use Rattle.wiki_talk.specs.declared.statuses.Status.{Status}
 use Rattle.wiki_talk.specs.declared.statuses.Status.TheVariants.{Asserted, Retracted, RedContradiction, RedBudget, Outside, Question, QuestionOutside}
 use Rattle.articles.specs.declared.sentences.Sentence.{Sentence}
 use Rattle.wiki_parts.specs.State.{State, IsSound, first_state}
-use Rattle.wiki_parts.specs.Meanings.{Meaning, stating, outside, asking, asking_outside, Means}
+use Rattle.wiki_parts.specs.Meanings.{Meaning, stating, outside, asking, asking_outside, Means, MeansFaithfully}
 use Rattle.wiki_parts.specs.Knowledge.{sentences_in, Knows}
 
 -- a wiki: its state, and the interpretation that it keeps
@@ -36,10 +36,11 @@ FitsMeaning Question (asking concept) = Unit {0}
 FitsMeaning (QuestionOutside cause) (asking_outside other) = cause ≡ other
 FitsMeaning _ _ = ⊥
 
--- a stored sentence: it has a derivation from the present words, and a status that fits what it means
+-- a stored sentence: it has a derivation from the present words, what it means keeps its truth, and its status fits that
 pub record IsStored (state : State) (sentence : Sentence) : Type 0 where
   pub meaning : Meaning
   pub means : Means state.grammar state.words sentence.tokens meaning
+  pub faithful : MeansFaithfully state.grammar state.words sentence.tokens
   pub fits : FitsMeaning sentence.status meaning
   pub few : length sentence.tokens ≤ MOST_TOKENS
 

@@ -10,6 +10,7 @@ use Rattle.logic_terms.specs.Concept.{Concept, Claim}
 use Rattle.logic_terms.specs.Structure.{Structure}
 use Rattle.logic_terms.specs.Free.{free_in}
 use Rattle.ace_to_owl.specs.Mapping.{axioms_stated, class_asked}
+use Rattle.ace_to_owl.specs.Truths.{SameTruth, SameReading, AnswersTruly, AnswersByReading}
 use Rattle.drs_build.specs.Nodes.{meaning_of}
 use Rattle.drs_build.specs.Built.{is_question}
 
@@ -51,3 +52,21 @@ pub record Means (g : GrammarParts) (words : Listed) (tokens : List (List ℕ)) 
   pub least : Skeleton
   pub is_least : IsLeastSkeleton g words tokens least
   pub is : meaning ≡ skeleton_meaning g least
+
+-- A meaning keeps the truth of a structure, and of the referent that it asks for, as a test and as a fact of the standards: the
+-- structure is true exactly where all the axioms are; or an element is in the class exactly where the structure without that
+-- referent is true with the element for it.
+abbrev pub KeepsTruth : Structure → ℕ → Meaning → Type 0
+KeepsTruth says asked (stating claims) = SameTruth says claims × SameReading says claims
+KeepsTruth says asked (asking concept) = AnswersTruly says asked concept × AnswersByReading says asked concept
+KeepsTruth says asked _ = Unit {0}
+
+-- the meaning keeps the truth of the tokens: that of the structure of their least skeleton
+pub record IsFaithful (g : GrammarParts) (words : Listed) (tokens : List (List ℕ)) (meaning : Meaning) : Type 0 where
+  pub least : Skeleton
+  pub is_least : IsLeastSkeleton g words tokens least
+  pub keeps : KeepsTruth (meaning_of g least).says (meaning_of g least).referent meaning
+
+-- whatever the tokens mean keeps their truth
+abbrev pub MeansFaithfully : GrammarParts → Listed → List (List ℕ) → Type 0
+MeansFaithfully g words tokens = (meaning : Meaning) → Means g words tokens meaning → IsFaithful g words tokens meaning

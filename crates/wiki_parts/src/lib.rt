@@ -20,7 +20,7 @@ pub use faults::Fault;
 pub use judging::{Judgement, judged};
 pub use keeping::first_model;
 pub use knowing::{Senses, is_asserted, known_around, push_all, push_articles, push_sentences};
-pub use meanings::{Sense, sense_of};
+pub use meanings::{Sense, is_faithful, sense_of};
 pub use meant::told_meaning;
 pub use names::live_names;
 pub use parsing::{no_sentence, told_code, told_menu, too_many_tokens};

@@ -1,9 +1,10 @@
 // What sentences mean: the axioms that they state, or the class that they ask for.
-ghost use Rattle.std.specs.Prelude.{◌≡◌, ◌≤◌, length, IsTrue, IfOk, MatchOption};
+ghost use Rattle.std.specs.Prelude.{◌≡◌, ◌≤◌, ℕ, List, length, IsTrue, IfOk, MatchOption};
 ghost use Rattle.wiki_base.specs.declared.tokens.TheConstants.{MOST_TOKENS};
 ghost use Rattle.codeco_checked.specs.Sound.{is_labelled};
 ghost use Rattle.derivation_trees.specs.Sentences.{IsSentence};
-ghost use Rattle.wiki_parts.specs.Meanings.{skeleton_meaning, Means};
+ghost use Rattle.lexicon.specs.Words.{Listed};
+ghost use Rattle.wiki_parts.specs.Meanings.{skeleton_meaning, Means, MeansFaithfully};
 ghost use Rattle.drs_build.specs.Built as built;
 ghost use Rattle.wiki_parts.specs.Found.{meaning_shown};
 
@@ -28,7 +29,7 @@ pub enum Sense {
     AskingOutside(Cause),
 }
 
-/// The meaning of tokens, if they have a derivation.
+/// The meaning of tokens, if they have a derivation. Whatever tokens mean keeps the truth of their structure.
 pub fn sense_of(
     alloc: Global,
     grammar: &CheckedGrammar,
@@ -38,13 +39,23 @@ pub fn sense_of(
     requires few { length tokens.now ≤ MOST_TOKENS }
     requires labelled { IsTrue (is_labelled grammar.now) }
 
-    ensures { IfOk result (λ meaning. MatchOption meaning (IsSentence grammar.now lexicon.now tokens.now → ⊥)
+    ensures means { IfOk result (λ meaning. MatchOption meaning (IsSentence grammar.now lexicon.now tokens.now → ⊥)
         (λ found. Means grammar.now lexicon.now tokens.now (meaning_shown found))) }
+    ensures faithful { MeansFaithfully grammar.now lexicon.now tokens.now }
 {
+    is_faithful(grammar);
     match least(alloc, grammar, lexicon, tokens)? {
         Some(least) => Ok(Some(skeleton_sense(alloc, grammar, &least)?)),
         None => Ok(None),
     }
+}
+
+/// Whatever tokens mean by a grammar keeps their truth.
+pub fn is_faithful(grammar: &CheckedGrammar)
+    requires { IsTrue (is_labelled grammar.now) }
+    ensures { (words : Listed) (tokens : List (List ℕ)) → MeansFaithfully grammar.now words tokens }
+{
+    let _ = grammar.grammar();
 }
 
 // The meaning of the skeleton of a derivation.

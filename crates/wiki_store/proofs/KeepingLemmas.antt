@@ -18,7 +18,7 @@ use Rattle.articles.specs.declared.article.Article.{Article}
 use Rattle.articles.specs.Articles.{is_of, article_of}
 use Rattle.wiki_parts.specs.declared.meanings.Sense.{Sense}
 use Rattle.wiki_parts.specs.State.{State}
-use Rattle.wiki_parts.specs.Meanings.{Meaning}
+use Rattle.wiki_parts.specs.Meanings.{Meaning, MeansFaithfully}
 use Rattle.wiki_parts.specs.Places.{word_named, article_named}
 use Rattle.wiki_parts.specs.Knowledge.{sentences_in, Knows}
 use Rattle.wiki_parts.specs.Holding.{IsStored, IsKept}
@@ -45,35 +45,44 @@ pub all_parts : {X : Type 0} (P : X → Type 0) (xs ys : List X) → All P (xs +
 all_parts P [] ys all = (All-nil P, all)
 all_parts P (x ∷ xs) ys all = let rest = all_parts P xs ys (All-tail P x (xs ++ ys) all) in (All-cons P x xs (All-head P x (xs ++ ys) all) rest.0, rest.1)
 
--- sentences that have their meanings are stored rightly, where they are short
-pub stored_each : (state : State) (sentences : List Sentence) (meanings : List Meaning) → MeanEach state.grammar state.words sentences meanings
+-- sentences that have their meanings are stored rightly, where they are short and whatever is meant keeps its truth
+pub stored_each : (state : State) (sentences : List Sentence) (meanings : List Meaning)
+    → ((tokens : List (List ℕ)) → MeansFaithfully state.grammar state.words tokens) → MeanEach state.grammar state.words sentences meanings
     → All (λ sentence. length sentence.tokens ≤ MOST_TOKENS) sentences → All (IsStored state) sentences
-stored_each state [] [] mean short = All-nil (IsStored state)
-stored_each state [] (m ∷ ms) mean short = absurd mean
-stored_each state (s ∷ ss) [] mean short = absurd mean
-stored_each state (s ∷ ss) (m ∷ ms) mean short =
+stored_each state [] [] faithful mean short = All-nil (IsStored state)
+stored_each state [] (m ∷ ms) faithful mean short = absurd mean
+stored_each state (s ∷ ss) [] faithful mean short = absurd mean
+stored_each state (s ∷ ss) (m ∷ ms) faithful mean short =
     All-cons (IsStored state) s ss
-    (record { meaning = m; means = mean.0.0; fits = mean.0.1; few = All-head (λ (t : Sentence). length t.tokens ≤ MOST_TOKENS) s ss short })
-    (stored_each state ss ms mean.1 (All-tail (λ (t : Sentence). length t.tokens ≤ MOST_TOKENS) s ss short))
+    (record {
+      meaning = m;
+      means = mean.0.0;
+      faithful = faithful s.tokens;
+      fits = mean.0.1;
+      few = All-head (λ (t : Sentence). length t.tokens ≤ MOST_TOKENS) s ss short;
+    })
+    (stored_each state ss ms faithful mean.1 (All-tail (λ (t : Sentence). length t.tokens ≤ MOST_TOKENS) s ss short))
 
-pub stored_in : (state : State) (articles : List Article) (senses : List (List Sense)) → MeanInEach state.grammar state.words articles senses
+pub stored_in : (state : State) (articles : List Article) (senses : List (List Sense))
+    → ((tokens : List (List ℕ)) → MeansFaithfully state.grammar state.words tokens) → MeanInEach state.grammar state.words articles senses
     → All (λ sentence. length sentence.tokens ≤ MOST_TOKENS) (sentences_in articles) → All (IsStored state) (sentences_in articles)
-stored_in state [] [] mean short = All-nil (IsStored state)
-stored_in state [] (own ∷ senses) mean short = absurd mean
-stored_in state (a ∷ articles) [] mean short = absurd mean
-stored_in state (a ∷ articles) (own ∷ senses) mean short =
+stored_in state [] [] faithful mean short = All-nil (IsStored state)
+stored_in state [] (own ∷ senses) faithful mean short = absurd mean
+stored_in state (a ∷ articles) [] faithful mean short = absurd mean
+stored_in state (a ∷ articles) (own ∷ senses) faithful mean short =
     All-append (IsStored state) a.sentences (sentences_in articles)
-    (stored_each state a.sentences (meanings_in own) mean.0
+    (stored_each state a.sentences (meanings_in own) faithful mean.0
     (all_parts (λ (t : Sentence). length t.tokens ≤ MOST_TOKENS) a.sentences (sentences_in articles) short).0)
-    (stored_in state articles senses mean.1 (all_parts (λ (t : Sentence). length t.tokens ≤ MOST_TOKENS) a.sentences (sentences_in articles) short).1)
+    (stored_in state articles senses faithful mean.1 (all_parts (λ (t : Sentence). length t.tokens ≤ MOST_TOKENS) a.sentences (sentences_in articles) short).1)
 
 -- a wiki with what is kept beside its state keeps what it should
-pub is_kept : (state : State) (senses : List (List Sense)) (model : CheckedModel) → IsKeeping state senses model
+pub is_kept : (state : State) (senses : List (List Sense)) (model : CheckedModel)
+    → ((tokens : List (List ℕ)) → MeansFaithfully state.grammar state.words tokens) → IsKeeping state senses model
     → IsFiniteModel (kept_interp model) (kept_claims model)
     → IsKept (record { state = state; interpretation = kept_interp model })
-is_kept state senses model keeping finite = record {
+is_kept state senses model faithful keeping finite = record {
   sound = keeping.sound;
-  stored = stored_in state state.articles senses keeping.mean keeping.short;
+  stored = stored_in state state.articles senses faithful keeping.mean keeping.short;
   claims = kept_claims model;
   known = subst (Knows state) (sym keeping.known) (knows_from_known state.grammar state.words state.articles senses keeping.mean);
   model = finite;
@@ -108,15 +117,16 @@ each_there P (a ∷ articles) word article is all =
     by_test false behind there = behind there
 
 -- the sentence at a place of the article that a text names is stored rightly
-pub stored_there : (state : State) (senses : List (List Sense)) (model : CheckedModel) → IsKeeping state senses model → (text : List ℕ) (article : Article)
+pub stored_there : (state : State) (senses : List (List Sense)) (model : CheckedModel)
+    → ((tokens : List (List ℕ)) → MeansFaithfully state.grammar state.words tokens) → IsKeeping state senses model → (text : List ℕ) (article : Article)
     → article_named state text ≡ Some article → (at : ℕ) (sentence : Sentence) → slice_get article.sentences at ≡ Some sentence → IsStored state sentence
-stored_there state senses model keeping text article named at sentence here =
+stored_there state senses model faithful keeping text article named at sentence here =
     by_word (word_named state text) named
   where
     by_word : (o : Option WordId) → option_and_then (article_of state.articles) o ≡ Some article → IsStored state sentence
     by_word None is = absurd (none-some article is)
     by_word (Some word) is =
-        let all = each_there (IsStored state) state.articles word article is (stored_in state state.articles senses keeping.mean keeping.short) in
+        let all = each_there (IsStored state) state.articles word article is (stored_in state state.articles senses faithful keeping.mean keeping.short) in
         subst (IsStored state) (get_or_from_slice_get article.sentences at sentence sentence here)
         (all at sentence (slice_get_within article.sentences at sentence here))
 

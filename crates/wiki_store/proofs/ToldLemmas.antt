@@ -1,12 +1,14 @@
 -- Requests that were done or refused, as they are told.
-use Rattle.std.proofs.Common.{◌≡◌, Result, Ok, Err, IfOk, IfErr, OnErr, sym, ap, subst}
+use Rattle.std.proofs.Common.{◌≡◌, Result, Ok, Err, IfOk, IfErr, OnErr, refl, sym, ap, subst}
 use Rattle.wiki_talk.specs.declared.replies.Reply.{Reply}
+use Rattle.wiki_talk.specs.declared.replies.Reply.TheVariants as replies
 use Rattle.wiki_talk.specs.declared.requests.Request.{Request}
 use Rattle.wiki_parts.specs.declared.faults.Fault.{Fault}
 use Rattle.wiki_parts.specs.declared.faults.Fault.TheVariants as faults
 use Rattle.wiki_parts.specs.Faults.{IsFault, Tells}
 use Rattle.wiki_parts.specs.Holding.{Holding}
 use Rattle.wiki_store.specs.Step.{Step, Refuses}
+use Rattle.wiki_store.specs.Unchanged.{KeepsInterpretation}
 
 -- what is told is a step
 pub told-step : {E : Type 0} (old new : Holding) (request given : Request) → request ≡ given → (done : Result Reply Fault) (told : Result Reply E)
@@ -26,3 +28,24 @@ pub told-keeps : {E : Type 0} (P : Type 0) (done : Result Reply Fault) (told : R
     → OnErr told P
 told-keeps P done (Ok reply) is kept = tt
 told-keeps P done (Err none) is kept = subst (λ (d : Result Reply Fault). OnErr d P) is kept
+
+-- where the kept interpretation is the same, it stays whatever is replied
+pub same-stays : (old new : Holding) (reply : Reply) → new.interpretation ≡ old.interpretation → KeepsInterpretation old reply new
+same-stays old new (replies.Add status) same = tt
+same-stays old new (replies.Edit status) same = tt
+same-stays old new (replies.Reassert status) same = tt
+same-stays old new (replies.Commit article status text) same = tt
+same-stays old new _ same = same
+
+-- the same of what is replied, if anything is
+pub same-stays_if : {E : Type 0} (old new : Holding) (told : Result Reply E) → new.interpretation ≡ old.interpretation
+    → IfOk told (λ reply. KeepsInterpretation old reply new)
+same-stays_if old new (Ok reply) same = same-stays old new reply same
+same-stays_if old new (Err none) same = tt
+
+-- the kept interpretation stays by what is told as by what was done
+pub told-interpretation : {E : Type 0} (old new : Holding) (done : Result Reply Fault) (told : Result Reply E) → IfOk told (Tells done)
+    → IfOk done (λ reply. KeepsInterpretation old reply new) → OnErr done (new ≡ old) → IfOk told (λ reply. KeepsInterpretation old reply new)
+told-interpretation old new done (Err none) told stays kept = tt
+told-interpretation old new (Ok made) (Ok reply) told stays kept = subst (λ (r : Reply). KeepsInterpretation old r new) (sym told) stays
+told-interpretation old new (Err fault) (Ok reply) told stays kept = same-stays old new reply (ap (λ (h : Holding). h.interpretation) kept)

@@ -4,3 +4,4 @@ pub mod Step
 pub mod Rewording
 pub mod Sameness
 pub mod Settled
+pub mod Unchanged

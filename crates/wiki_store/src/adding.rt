@@ -18,6 +18,7 @@ ghost use Rattle.wiki_parts.specs.Places.{word_named};
 ghost use Rattle.wiki_store.specs.Settled.{IsTrueIn};
 ghost use Rattle.wiki_store.specs.Spending.{SpendsBeyondKept};
 ghost use Rattle.wiki_store.specs.Step.{Step, Refuses, place_for, with_inserted};
+ghost use Rattle.wiki_store.specs.Unchanged.{KeepsInterpretation};
 
 use crate::joining::{is_settled, join, stated, undo};
 use crate::standing::standing;
@@ -46,6 +47,7 @@ impl Store {
         text: &Text8,
     ) -> Result<Reply, Fault>
         ensures step { IfOk result (λ reply. Step self.old.state (Request.Add form.now given text.now) reply self.new.state) }
+        ensures interpretation { IfOk result (λ reply. KeepsInterpretation self.old reply self.new) }
         ensures spent { IfOk result (SpendsBeyondKept self.old (Request.Add form.now given text.now)) }
         ensures refused { IfErr result (IsFault (Refuses self.old.state (Request.Add form.now given text.now))) }
         ensures kept { OnErr result (self.new ≡ self.old) }

@@ -11,7 +11,7 @@ use articles::{Article, LAST_REVISION, Sentence};
 use derivations::{Cut, cut};
 use lists::Copied;
 use wiki_base::{Text8, Tokens, WordId};
-use wiki_parts::{Fault, Sense, no_sentence, sense_of, too_many_tokens};
+use wiki_parts::{Fault, Sense, is_faithful, no_sentence, sense_of, too_many_tokens};
 use wiki_talk::{Limit, MOST_SENTENCES, Refusal, Status};
 
 impl Store {
@@ -67,6 +67,7 @@ impl Store {
         ensures absent { OnOk result (IsAbsent (HasNoSentenceAt self.now.state form.now at)) }
         ensures refused { IfErr result (IsFault (HasNoSentenceAt self.now.state form.now at)) }
     {
+        is_faithful(&self.grammar);
         let _ = &self.kept;
         let count = article.sentences.len();
         if at as usize >= count {

@@ -15,6 +15,7 @@ ghost use Rattle.wiki_parts.specs.Refusing.{HasBadStatus, may_reassert};
 ghost use Rattle.wiki_store.specs.Settled.{IsTrueIn};
 ghost use Rattle.wiki_store.specs.Spending.{SpendsBeyondKept};
 ghost use Rattle.wiki_store.specs.Step.{Step, Refuses, with_replaced, with_marked};
+ghost use Rattle.wiki_store.specs.Unchanged.{KeepsInterpretation};
 
 use crate::adding::Fresh;
 use crate::joining::{is_settled, join, stated};
@@ -30,6 +31,7 @@ impl Store {
     // Puts the sentence of a text in place of the one at a place of an article.
     pub(crate) fn edit(&mut self, form: &Text8, at: u32, text: &Text8) -> Result<Reply, Fault>
         ensures step { IfOk result (λ reply. Step self.old.state (Request.Edit form.now at text.now) reply self.new.state) }
+        ensures interpretation { IfOk result (λ reply. KeepsInterpretation self.old reply self.new) }
         ensures spent { IfOk result (SpendsBeyondKept self.old (Request.Edit form.now at text.now)) }
         ensures refused { IfErr result (IsFault (Refuses self.old.state (Request.Edit form.now at text.now))) }
         ensures kept { OnErr result (self.new ≡ self.old) }
@@ -177,6 +179,7 @@ impl Store {
     // Gives a retracted or red sentence the status that it gets as a new one.
     pub(crate) fn reassert(&mut self, form: &Text8, at: u32) -> Result<Reply, Fault>
         ensures step { IfOk result (λ reply. Step self.old.state (Request.Reassert form.now at) reply self.new.state) }
+        ensures interpretation { IfOk result (λ reply. KeepsInterpretation self.old reply self.new) }
         ensures spent { IfOk result (SpendsBeyondKept self.old (Request.Reassert form.now at)) }
         ensures refused { IfErr result (IsFault (Refuses self.old.state (Request.Reassert form.now at))) }
         ensures kept { OnErr result (self.new ≡ self.old) }

@@ -7,6 +7,7 @@ ghost use Rattle.wiki_parts.specs.Kept.{known_around, known_in, IsAround};
 ghost use Rattle.wiki_parts.specs.Places.{word_named};
 ghost use Rattle.wiki_parts.specs.Refusing.{may_retract};
 ghost use Rattle.wiki_store.specs.Step.{Step, Refuses};
+ghost use Rattle.wiki_store.specs.Unchanged.{KeepsInterpretation};
 
 use crate::joining::leave;
 use crate::store::Store;
@@ -23,6 +24,7 @@ impl Store {
     // Takes the sentence at a place of an article out.
     pub(crate) fn remove(&mut self, form: &Text8, at: u32) -> Result<Reply, Fault>
         ensures step { IfOk result (λ reply. Step self.old.state (Request.Remove form.now at) reply self.new.state) }
+        ensures interpretation { IfOk result (λ reply. KeepsInterpretation self.old reply self.new) }
         ensures refused { IfErr result (IsFault (Refuses self.old.state (Request.Remove form.now at))) }
         ensures kept { OnErr result (self.new ≡ self.old) }
     {
@@ -45,6 +47,7 @@ impl Store {
     // Makes the sentence at a place of an article a retracted one.
     pub(crate) fn retract(&mut self, form: &Text8, at: u32) -> Result<Reply, Fault>
         ensures step { IfOk result (λ reply. Step self.old.state (Request.Retract form.now at) reply self.new.state) }
+        ensures interpretation { IfOk result (λ reply. KeepsInterpretation self.old reply self.new) }
         ensures refused { IfErr result (IsFault (Refuses self.old.state (Request.Retract form.now at))) }
         ensures kept { OnErr result (self.new ≡ self.old) }
     {

@@ -16,6 +16,7 @@ ghost use Rattle.wiki_parts.specs.Refusing.{KeepsMeaning, reword_cause, TellsPla
 ghost use Rattle.wiki_parts.specs.Words.{forms_given, lexicon_refusal, taken_refusal};
 ghost use Rattle.wiki_store.specs.Rewording.{KeepsSentences, KeepsOthers, FindsPlace, IsBroken};
 ghost use Rattle.wiki_store.specs.Step.{Step, Refuses};
+ghost use Rattle.wiki_store.specs.Unchanged.{KeepsInterpretation};
 
 use crate::sameness::same_sense;
 use crate::store::Store;
@@ -57,6 +58,7 @@ impl Store {
     // Gives a word other forms.
     pub(crate) fn reword(&mut self, form: &Text8, texts: &[Text8]) -> Result<Reply, Fault>
         ensures step { IfOk result (λ reply. Step self.old.state (Request.Reword form.now texts.now) reply self.new.state) }
+        ensures interpretation { IfOk result (λ reply. KeepsInterpretation self.old reply self.new) }
         ensures refused { IfErr result (IsFault (Refuses self.old.state (Request.Reword form.now texts.now))) }
         ensures kept { OnErr result (self.new ≡ self.old) }
     {

@@ -18,8 +18,8 @@ use std::alloc::Global;
 use std::marker::Model;
 use wiki_base::{Memory, Place, Text8, Tokens, WordId};
 use wiki_parts::{
-    Fault, Senses, add_word, first_model, first_use, least, no_sentence, told_code, told_text,
-    told_word, told_words, too_many_tokens,
+    Fault, Senses, add_word, first_model, first_use, is_faithful, least, no_sentence, told_code,
+    told_text, told_word, told_words, too_many_tokens,
 };
 use wiki_talk::{Refusal, Reply, Request};
 
@@ -64,6 +64,7 @@ impl Store {
     ghost use Rattle.wiki_store.specs.Spending.{SpendsBeyondKept, KeptHasEachUnknown};
     ghost use Rattle.wiki_parts.specs.Parsing.{tokens_of};
     ghost use Rattle.wiki_store.specs.Step.{Step, Refuses, asks_store};
+    ghost use Rattle.wiki_store.specs.Unchanged.{KeepsInterpretation};
     ghost use Rattle.wiki_parts.specs.Faults.{IsFault};
     ghost use Rattle.articles.specs.Articles.{HasArticle};
     ghost use Rattle.articles.specs.Places.{IsPlaceOf};
@@ -99,6 +100,7 @@ impl Store {
         ensures step { IfOk result (λ reply. Step self.old.state request.now reply self.new.state) }
         ensures spent { IfOk result (SpendsBeyondKept self.old request.now) }
         ensures unknown { IfOk result (KeptHasEachUnknown self.old request.now) }
+        ensures interpretation { IfOk result (λ reply. KeepsInterpretation self.old reply self.new) }
         ensures kept { IsKept self.new }
         ensures memory { OnErr result (self.new ≡ self.old) }
     {
@@ -111,6 +113,7 @@ impl Store {
     pub fn is_kept(&self)
         ensures { IsKept self.now }
     {
+        is_faithful(&self.grammar);
         let _ = self.kept.interp();
     }
 
@@ -120,6 +123,7 @@ impl Store {
         ensures step { IfOk result (λ reply. Step self.old.state request.now reply self.new.state) }
         ensures spent { IfOk result (SpendsBeyondKept self.old request.now) }
         ensures unknown { IfOk result (KeptHasEachUnknown self.old request.now) }
+        ensures interpretation { IfOk result (λ reply. KeepsInterpretation self.old reply self.new) }
         ensures memory { OnErr result (self.new ≡ self.old) }
     {
         match request {
@@ -149,6 +153,7 @@ impl Store {
     // Adds a word, with an empty article.
     fn add(&mut self, kind: Kind, forms: &[Text8]) -> Result<Reply, Memory>
         ensures step { IfOk result (λ reply. Step self.old.state (Request.Word kind forms.now) reply self.new.state) }
+        ensures interpretation { IfOk result (λ reply. KeepsInterpretation self.old reply self.new) }
         ensures memory { OnErr result (self.new ≡ self.old) }
     {
         let Some(number) = self.next_number() else {

@@ -5,6 +5,7 @@ ghost use Rattle.wiki_parts.specs.Faults.{IsFault};
 ghost use Rattle.wiki_parts.specs.Places.{word_named};
 ghost use Rattle.wiki_store.specs.Rewording.{IsGone};
 ghost use Rattle.wiki_store.specs.Step.{Step, Refuses};
+ghost use Rattle.wiki_store.specs.Unchanged.{KeepsInterpretation};
 
 use crate::store::Store;
 use lexicon::Lexicon;
@@ -50,6 +51,7 @@ impl Store {
     // Takes a word out, with its empty article.
     pub(crate) fn unword(&mut self, form: &Text8) -> Result<Reply, Fault>
         ensures step { IfOk result (λ reply. Step self.old.state (Request.Unword form.now) reply self.new.state) }
+        ensures interpretation { IfOk result (λ reply. KeepsInterpretation self.old reply self.new) }
         ensures refused { IfErr result (IsFault (Refuses self.old.state (Request.Unword form.now))) }
         ensures kept { OnErr result (self.new ≡ self.old) }
     {

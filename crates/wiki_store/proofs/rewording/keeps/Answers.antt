@@ -14,5 +14,5 @@ returns-in-Some c = λ words means others.
     let tokens = c.args.sentence.now.tokens in
     let after : Means g lexicon tokens (meaning_shown c.in-Some.found) =
     subst (λ (o : Option Sense). MatchOption o (IsSentence g lexicon tokens → ⊥) (λ found. Means g lexicon tokens (meaning_shown found))) c.in-Some.is
-    c.in_ok-found.ensures in
+    c.in_ok-found.ensures.means in
     told_kept g words lexicon tokens (meaning_shown c.args.sense.now) (meaning_shown c.in-Some.found) c.same_sense.result c.same_sense.ensures means after

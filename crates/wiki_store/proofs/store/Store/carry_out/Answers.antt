@@ -1,6 +1,6 @@
-use Rattle.std.proofs.Common.{◌≡◌, ℕ, List, sym, ap, ◌∙◌}
+use Rattle.std.proofs.Common.{◌≡◌, ℕ, List, refl, sym, ap, ◌∙◌}
 use Rattle.wiki_talk.specs.declared.requests.Request.TheVariants as requests
-use Rattle.wiki_store.proofs.ToldLemmas.{told-step, told-keeps}
+use Rattle.wiki_store.proofs.ToldLemmas.{told-step, told-keeps, told-interpretation, same-stays_if}
 use Rattle.wiki_store.proofs.store.Store.carry_out.Goals as goal
 
 pub returns-in-Reword-clause-step : goal.returns-in-Reword-clause-step
@@ -60,3 +60,46 @@ returns-in-Reassert-clause-step c =
 pub returns-in-Reassert-clause-memory : goal.returns-in-Reassert-clause-memory
 returns-in-Reassert-clause-memory c = told-keeps (c.reassert.new.self ≡ c.args.self.now) c.reassert.result c.told-in-Reassert.result
     c.told-in-Reassert.ensures.memory c.reassert.ensures.kept
+
+pub returns-in-Find-clause-interpretation : goal.returns-in-Find-clause-interpretation
+returns-in-Find-clause-interpretation c = same-stays_if c.args.self.now c.args.self.now c.find.result refl
+
+pub returns-in-Words-clause-interpretation : goal.returns-in-Words-clause-interpretation
+returns-in-Words-clause-interpretation c = same-stays_if c.args.self.now c.args.self.now c.words.result refl
+
+pub returns-in-Parse-clause-interpretation : goal.returns-in-Parse-clause-interpretation
+returns-in-Parse-clause-interpretation c = same-stays_if c.args.self.now c.args.self.now c.parse.result refl
+
+pub returns-in-Read-clause-interpretation : goal.returns-in-Read-clause-interpretation
+returns-in-Read-clause-interpretation c = same-stays_if c.args.self.now c.args.self.now c.told-in-Read.result refl
+
+pub returns-in-Axioms-clause-interpretation : goal.returns-in-Axioms-clause-interpretation
+returns-in-Axioms-clause-interpretation c = same-stays_if c.args.self.now c.args.self.now c.told-in-Axioms.result refl
+
+pub returns-in-Reword-clause-interpretation : goal.returns-in-Reword-clause-interpretation
+returns-in-Reword-clause-interpretation c =
+    told-interpretation c.args.self.now c.reword.new.self c.reword.result c.told.result c.told.ensures.told c.reword.ensures.interpretation c.reword.ensures.kept
+
+pub returns-in-Unword-clause-interpretation : goal.returns-in-Unword-clause-interpretation
+returns-in-Unword-clause-interpretation c =
+    told-interpretation c.args.self.now c.unword.new.self c.unword.result c.told-in-Unword.result c.told-in-Unword.ensures.told c.unword.ensures.interpretation c.unword.ensures.kept
+
+pub returns-in-Add-clause-interpretation : goal.returns-in-Add-clause-interpretation
+returns-in-Add-clause-interpretation c =
+    told-interpretation c.args.self.now c.add_sentence.new.self c.add_sentence.result c.told-in-Add.result c.told-in-Add.ensures.told c.add_sentence.ensures.interpretation c.add_sentence.ensures.kept
+
+pub returns-in-Edit-clause-interpretation : goal.returns-in-Edit-clause-interpretation
+returns-in-Edit-clause-interpretation c =
+    told-interpretation c.args.self.now c.edit.new.self c.edit.result c.told-in-Edit.result c.told-in-Edit.ensures.told c.edit.ensures.interpretation c.edit.ensures.kept
+
+pub returns-in-Remove-clause-interpretation : goal.returns-in-Remove-clause-interpretation
+returns-in-Remove-clause-interpretation c =
+    told-interpretation c.args.self.now c.remove.new.self c.remove.result c.told-in-Remove.result c.told-in-Remove.ensures.told c.remove.ensures.interpretation c.remove.ensures.kept
+
+pub returns-in-Retract-clause-interpretation : goal.returns-in-Retract-clause-interpretation
+returns-in-Retract-clause-interpretation c =
+    told-interpretation c.args.self.now c.retract.new.self c.retract.result c.told-in-Retract.result c.told-in-Retract.ensures.told c.retract.ensures.interpretation c.retract.ensures.kept
+
+pub returns-in-Reassert-clause-interpretation : goal.returns-in-Reassert-clause-interpretation
+returns-in-Reassert-clause-interpretation c =
+    told-interpretation c.args.self.now c.reassert.new.self c.reassert.result c.told-in-Reassert.result c.told-in-Reassert.ensures.told c.reassert.ensures.interpretation c.reassert.ensures.kept

@@ -9,7 +9,9 @@ use Rattle.wiki_parts.specs.declared.faults.Fault.{Fault}
 use Rattle.wiki_parts.specs.declared.faults.Fault.TheVariants.{Refused}
 use Rattle.wiki_parts.specs.Faults.{IsFault, Tells}
 use Rattle.wiki_store.specs.Step as store
-use Rattle.wiki_core.specs.Holding.{Holding}
+use Rattle.wiki_store.specs.Unchanged.{KeepsInterpretation}
+use Rattle.wiki_store.proofs.ToldLemmas.{told-interpretation}
+use Rattle.wiki_core.specs.Holding.{Holding, pages_held}
 use Rattle.wiki_core.specs.Step.{Refuses, StepsSession, StepsPages, CarriesSessions, Step}
 
 -- what a fault tells where it is a refusal
@@ -68,3 +70,11 @@ pages_step old new request asked same on done (Ok reply) tells step refused kept
     subst (λ (q : Request). Step old.state q reply new.state) (sym same)
     (subst (λ (b : Bool). MatchBool b (StepsPages old.state asked reply new.state) (StepsSession old.state asked reply new.state)) (sym on)
     (told_pages old new asked done reply step refused kept tells carried))
+
+-- the kept interpretation stays by what is told as by what was done
+pub interpretation_told : (old new : Holding) (done : Result Reply Fault) (result : Result Reply Memory) → IfOk result (Tells done)
+    → IfOk done (λ made. KeepsInterpretation (pages_held old) made (pages_held new)) → OnErr done (new ≡ old)
+    → IfOk result (λ reply. KeepsInterpretation (pages_held old) reply (pages_held new))
+interpretation_told old new (Ok made) result tells stays kept = told-interpretation (pages_held old) (pages_held new) (Ok made) result tells stays kept
+interpretation_told old new (Err fault) result tells stays kept =
+    told-interpretation (pages_held old) (pages_held new) (Err fault) result tells stays (ap pages_held kept)

@@ -2,16 +2,19 @@
 use Rattle.wiki_talk.specs.declared.replies.Reply.{Reply}
 use Rattle.wiki_talk.specs.declared.requests.Request.{Request}
 use Rattle.wiki_store.specs.Spending.{KeptHasEachUnknown}
+use Rattle.wiki_store.specs.Unchanged.{KeepsInterpretation}
 use Rattle.wiki_core.specs.Holding.{Holding, pages_held, IsKept}
 use Rattle.wiki_core.specs.Step.{Step}
 use Rattle.wiki_core.specs.Spending.{SpendsBeyondKept}
 use Rattle.wiki_core.specs.Apart.{MenuIsOwn}
 
--- The plain wiki takes its step. A budget is told as spent, and a name as unknown, only where the kept interpretation doesn't decide; a
--- session's menu is told by its tokens alone; and what is kept then fits the state.
+-- The plain wiki takes its step. A budget is told as spent, and a name as unknown, only where the kept interpretation doesn't decide. It
+-- stays, unless a sentence was added, edited, taken up again or committed. A session's menu is told by its tokens alone. What is kept
+-- then fits the state.
 pub record KeptStep (old : Holding) (request : Request) (reply : Reply) (new : Holding) : Type 0 where
   pub step : Step old.state request reply new.state
   pub spent : SpendsBeyondKept old request reply
   pub unknown : KeptHasEachUnknown (pages_held old) request reply
+  pub interpretation : KeepsInterpretation (pages_held old) reply (pages_held new)
   pub menu : MenuIsOwn old.state request reply
   pub kept : IsKept new

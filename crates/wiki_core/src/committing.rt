@@ -35,10 +35,13 @@ impl Wiki {
     ghost use Rattle.wiki_core.specs.Drafts.{IsDraftOf};
     ghost use Rattle.wiki_core.specs.Spending.{CommitSpendsBeyondKept};
     ghost use Rattle.wiki_core.specs.Step.{StepsSession, Refuses};
+    ghost use Rattle.wiki_core.specs.Holding.{pages_held};
+    ghost use Rattle.wiki_store.specs.Unchanged.{KeepsInterpretation};
 
     // Makes the tokens of a session the last sentence of its article.
     pub(crate) fn commit(&mut self, number: u32) -> Result<Reply, Fault>
         ensures step { IfOk result (λ reply. StepsSession self.old.state (Request.Commit number) reply self.new.state) }
+        ensures interpretation { IfOk result (λ reply. KeepsInterpretation (pages_held self.old) reply (pages_held self.new)) }
         ensures spent { IfOk result (CommitSpendsBeyondKept self.old number) }
         ensures refused { IfErr result (IsFault (Refuses self.old.state (Request.Commit number))) }
         ensures kept { OnErr result (self.new ≡ self.old) }

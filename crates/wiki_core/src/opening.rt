@@ -9,10 +9,13 @@ use wiki_talk::{Reply, Request};
 impl Wiki {
     ghost use Rattle.wiki_parts.specs.Faults.{IsFault};
     ghost use Rattle.wiki_core.specs.Step.{StepsSession, Refuses};
+    ghost use Rattle.wiki_core.specs.Holding.{pages_held};
+    ghost use Rattle.wiki_store.specs.Unchanged.{KeepsInterpretation};
 
     // Opens a session on the article of a word.
     pub(crate) fn open(&mut self, form: &Text8) -> Result<Reply, Fault>
         ensures step { IfOk result (λ reply. StepsSession self.old.state (Request.Begin form.now) reply self.new.state) }
+        ensures interpretation { IfOk result (λ reply. KeepsInterpretation (pages_held self.old) reply (pages_held self.new)) }
         ensures refused { IfErr result (IsFault (Refuses self.old.state (Request.Begin form.now))) }
         ensures kept { OnErr result (self.new ≡ self.old) }
     {
@@ -29,6 +32,7 @@ impl Wiki {
     // Lets a session take note of the changes of its article.
     pub(crate) fn refresh(&mut self, number: u32) -> Result<Reply, Fault>
         ensures step { IfOk result (λ reply. StepsSession self.old.state (Request.Refresh number) reply self.new.state) }
+        ensures interpretation { IfOk result (λ reply. KeepsInterpretation (pages_held self.old) reply (pages_held self.new)) }
         ensures refused { IfErr result (IsFault (Refuses self.old.state (Request.Refresh number))) }
         ensures kept { OnErr result (self.new ≡ self.old) }
     {
@@ -42,6 +46,7 @@ impl Wiki {
     // Ends a session.
     pub(crate) fn end(&mut self, number: u32) -> Result<Reply, Fault>
         ensures step { IfOk result (λ reply. StepsSession self.old.state (Request.Drop number) reply self.new.state) }
+        ensures interpretation { IfOk result (λ reply. KeepsInterpretation (pages_held self.old) reply (pages_held self.new)) }
         ensures refused { IfErr result (IsFault (Refuses self.old.state (Request.Drop number))) }
         ensures kept { OnErr result (self.new ≡ self.old) }
     {

@@ -10,6 +10,7 @@ use wiki_talk::{Reply, Request};
 impl Wiki {
     ghost use Rattle.wiki_store.specs.Step as store_steps;
     ghost use Rattle.wiki_store.specs.Spending as store_spending;
+    ghost use Rattle.wiki_store.specs.Unchanged.{KeepsInterpretation};
     ghost use Rattle.wiki_parts.specs.Faults.{IsFault};
     ghost use Rattle.wiki_core.specs.Holding.{pages_held};
     ghost use Rattle.wiki_core.specs.Keeping.{is_word, changes_words};
@@ -22,6 +23,7 @@ impl Wiki {
         ensures step { IfOk result (λ reply. StepsPages self.old.state request.now reply self.new.state) }
         ensures spent { IfOk result (store_spending.SpendsBeyondKept (pages_held self.old) request.now) }
         ensures unknown { IfOk result (store_spending.KeptHasEachUnknown (pages_held self.old) request.now) }
+        ensures interpretation { IfOk result (λ reply. KeepsInterpretation (pages_held self.old) reply (pages_held self.new)) }
         ensures memory { OnErr result (self.new ≡ self.old) }
     {
         self.store.step(request)
@@ -33,6 +35,7 @@ impl Wiki {
         ensures step { IfOk result (λ reply. StepsPages self.old.state request.now reply self.new.state) }
         ensures spent { IfOk result (store_spending.SpendsBeyondKept (pages_held self.old) request.now) }
         ensures unknown { IfOk result (store_spending.KeptHasEachUnknown (pages_held self.old) request.now) }
+        ensures interpretation { IfOk result (λ reply. KeepsInterpretation (pages_held self.old) reply (pages_held self.new)) }
         ensures memory { OnErr result (self.new ≡ self.old) }
     {
         let _ = self.sessions.len();
@@ -43,6 +46,7 @@ impl Wiki {
     // Gives a word other forms, and rebases the sessions to them.
     pub(crate) fn reword(&mut self, form: &Text8, forms: &[Text8]) -> Result<Reply, Fault>
         ensures step { IfOk result (λ reply. StepsPages self.old.state (Request.Reword form.now forms.now) reply self.new.state) }
+        ensures interpretation { IfOk result (λ reply. KeepsInterpretation (pages_held self.old) reply (pages_held self.new)) }
         ensures refused { IfErr result (IsFault (store_steps.Refuses self.old.state.pages (Request.Reword form.now forms.now))) }
         ensures kept { OnErr result (self.new ≡ self.old) }
     {
@@ -56,6 +60,7 @@ impl Wiki {
     // Takes a word out with its article, ends the sessions on that, and rebases the others.
     pub(crate) fn unword(&mut self, form: &Text8) -> Result<Reply, Fault>
         ensures step { IfOk result (λ reply. StepsPages self.old.state (Request.Unword form.now) reply self.new.state) }
+        ensures interpretation { IfOk result (λ reply. KeepsInterpretation (pages_held self.old) reply (pages_held self.new)) }
         ensures refused { IfErr result (IsFault (store_steps.Refuses self.old.state.pages (Request.Unword form.now))) }
         ensures kept { OnErr result (self.new ≡ self.old) }
     {

@@ -15,10 +15,13 @@ impl Wiki {
     ghost use Rattle.wiki_core.specs.Causes.{session_numbered, IsNotOffered};
     ghost use Rattle.wiki_core.specs.Drafts.{with_typed};
     ghost use Rattle.wiki_core.specs.Step.{StepsSession, Refuses};
+    ghost use Rattle.wiki_core.specs.Holding.{pages_held};
+    ghost use Rattle.wiki_store.specs.Unchanged.{KeepsInterpretation};
 
     // Types one token more.
     pub(crate) fn type_token(&mut self, number: u32, text: &Text8) -> Result<Reply, Fault>
         ensures step { IfOk result (λ reply. StepsSession self.old.state (Request.Put number text.now) reply self.new.state) }
+        ensures interpretation { IfOk result (λ reply. KeepsInterpretation (pages_held self.old) reply (pages_held self.new)) }
         ensures refused { IfErr result (IsFault (Refuses self.old.state (Request.Put number text.now))) }
         ensures kept { OnErr result (self.new ≡ self.old) }
     {
@@ -54,6 +57,7 @@ impl Wiki {
     // Drops the last token.
     pub(crate) fn back(&mut self, number: u32) -> Result<Reply, Fault>
         ensures step { IfOk result (λ reply. StepsSession self.old.state (Request.Back number) reply self.new.state) }
+        ensures interpretation { IfOk result (λ reply. KeepsInterpretation (pages_held self.old) reply (pages_held self.new)) }
         ensures refused { IfErr result (IsFault (Refuses self.old.state (Request.Back number))) }
         ensures kept { OnErr result (self.new ≡ self.old) }
     {

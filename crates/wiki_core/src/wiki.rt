@@ -45,6 +45,7 @@ impl Wiki {
     ghost use Rattle.wiki_core.specs.Spending.{SpendsBeyondKept};
     ghost use Rattle.wiki_core.specs.Step.{Step, StepsSession};
     ghost use Rattle.wiki_store.specs.Spending.{KeptHasEachUnknown};
+    ghost use Rattle.wiki_store.specs.Unchanged.{KeepsInterpretation};
 
     /// A wiki without words and sessions, over a grammar in which each rule has a label. A search may take `budget` steps.
     pub fn new(alloc: Global, grammar: CheckedGrammar, budget: u64) -> Result<Wiki, Memory>
@@ -66,6 +67,7 @@ impl Wiki {
         ensures step { IfOk result (λ reply. Step self.old.state request.now reply self.new.state) }
         ensures spent { IfOk result (SpendsBeyondKept self.old request.now) }
         ensures unknown { IfOk result (KeptHasEachUnknown (pages_held self.old) request.now) }
+        ensures interpretation { IfOk result (λ reply. KeepsInterpretation (pages_held self.old) reply (pages_held self.new)) }
         ensures kept { IsKept self.new }
         ensures menu { IfOk result (MenuIsOwn self.old.state request.now) }
         ensures memory { OnErr result (self.new ≡ self.old) }
@@ -88,6 +90,7 @@ impl Wiki {
         ensures step { IfOk result (λ reply. Step self.old.state request.now reply self.new.state) }
         ensures spent { IfOk result (SpendsBeyondKept self.old request.now) }
         ensures unknown { IfOk result (KeptHasEachUnknown (pages_held self.old) request.now) }
+        ensures interpretation { IfOk result (λ reply. KeepsInterpretation (pages_held self.old) reply (pages_held self.new)) }
         ensures memory { OnErr result (self.new ≡ self.old) }
     {
         match request {

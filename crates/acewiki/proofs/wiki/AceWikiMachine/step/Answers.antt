@@ -9,6 +9,7 @@ returns-clause-step c =
       step = c.in_ok-reply.ensures.step;
       spent = c.in_ok-reply.ensures.spent;
       unknown = c.in_ok-reply.ensures.unknown;
+      interpretation = c.in_ok-reply.ensures.interpretation;
       menu = c.in_ok-reply.ensures.menu;
       kept = c.step.ensures.kept;
     } in

@@ -2,10 +2,10 @@
 use Rattle.std.specs.Prelude.{◌≡◌, ◌<◌, ◌≤◌, ◌+◌, ◌==◌, ℕ, Bool, not, if◌then◌else◌, List, [], length, map, filter, find, AllPairs, slice_get, slice_set, Option, IsSomeAnd}
 use Rattle.std.specs.Option.{option_map_or, option_and_then}
 use Rattle.wiki_base.specs.declared.numbers.WordId.{WordId}
+use Rattle.lexicon.specs.declared.words.TheConstants.{LAST_NUMBER}
 use Rattle.wiki_talk.specs.declared.statuses.Status.{Status}
 use Rattle.articles.specs.declared.sentences.Sentence.{Sentence}
 use Rattle.articles.specs.declared.article.Article.{Article}
-use Rattle.articles.specs.declared.article.TheConstants.{LAST_REVISION}
 
 -- the article is the word's
 abbrev pub is_of : WordId → Article → Bool
@@ -55,7 +55,7 @@ IsEmptyArticle articles word = IsSomeAnd (article_of articles word) (λ article.
 
 -- the word has an article, and it isn't at its last revision
 abbrev pub CanChange : List Article → WordId → Type 0
-CanChange articles word = IsSomeAnd (article_of articles word) (λ article. article.revision.0 < LAST_REVISION)
+CanChange articles word = IsSomeAnd (article_of articles word) (λ article. article.revision.0 < LAST_NUMBER)
 
 -- the word has an article with a sentence at the place
 abbrev pub HasSentence : List Article → WordId → ℕ → Type 0

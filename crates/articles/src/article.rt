@@ -3,16 +3,14 @@ ghost use Rattle.std.specs.Prelude.{◌≡◌, ◌+◌, ◌<◌, ◌≤◌, leng
 ghost use Rattle.articles.specs.Articles.{changed, new_article, with_status};
 
 use crate::sentences::{Sentence, Sentences};
+use lexicon::LAST_NUMBER;
 use lists::Memory;
 use std::alloc::Global;
 use std::mem;
 use wiki_base::{Rev, WordId};
 use wiki_talk::Status;
 
-/// The last revision that an article can have.
-pub const LAST_REVISION: u32 = 4_294_967_295;
-
-/// The article of a word: how often it was changed, and its sentences.
+/// The article of a word: how often it was changed, at most `LAST_NUMBER` times, and its sentences.
 #[derive(Drop)]
 pub struct Article {
     pub word: WordId,
@@ -34,7 +32,7 @@ impl Article {
 
     // Puts a sentence at a place, or behind the last.
     pub(crate) fn insert(&mut self, at: usize, sentence: Sentence) -> Result<(), Memory>
-        requires open { self.old.revision.0 < LAST_REVISION }
+        requires open { self.old.revision.0 < LAST_NUMBER }
         requires place { at ≤ length self.old.sentences }
         ensures ok { OnOk result (self.new ≡ changed (λ sentences. insert sentences at sentence) self.old) }
         ensures err { OnErr result (self.new ≡ self.old) }
@@ -46,7 +44,7 @@ impl Article {
 
     // Puts another sentence at a place, and gives the old one back.
     pub(crate) fn replace(&mut self, at: usize, sentence: Sentence) -> Sentence
-        requires open { self.old.revision.0 < LAST_REVISION }
+        requires open { self.old.revision.0 < LAST_NUMBER }
         requires place { at < length self.old.sentences }
         ensures article { self.new ≡ changed (λ sentences. slice_set sentences at sentence) self.old }
         ensures old { slice_get self.old.sentences at ≡ Some result }
@@ -57,7 +55,7 @@ impl Article {
 
     // Takes the sentence at a place out.
     pub(crate) fn take(&mut self, at: usize) -> Sentence
-        requires open { self.old.revision.0 < LAST_REVISION }
+        requires open { self.old.revision.0 < LAST_NUMBER }
         requires place { at < length self.old.sentences }
         ensures article { self.new ≡ changed (λ sentences. remove sentences at) self.old }
         ensures old { slice_get self.old.sentences at ≡ Some result }
@@ -68,7 +66,7 @@ impl Article {
 
     // Gives the sentence at a place another status.
     pub(crate) fn mark(&mut self, at: usize, status: Status)
-        requires open { self.old.revision.0 < LAST_REVISION }
+        requires open { self.old.revision.0 < LAST_NUMBER }
         requires place { at < length self.old.sentences }
         ensures { self.new ≡ changed (λ sentences. with_status sentences at status) self.old }
     {
@@ -91,7 +89,7 @@ fn marked(sentences: Sentences, at: usize, status: Status) -> Sentences
 
 // The revision after this one.
 fn next(revision: Rev) -> Rev
-    requires { revision.0 < LAST_REVISION }
+    requires { revision.0 < LAST_NUMBER }
     ensures { result.0 ≡ revision.0 + 1 }
 {
     Rev(revision.0 + 1)

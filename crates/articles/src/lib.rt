@@ -7,6 +7,6 @@ mod sentences;
 #[cfg(test)]
 mod tests;
 
-pub use article::{Article, LAST_REVISION};
+pub use article::Article;
 pub use articles::Articles;
 pub use sentences::{Sentence, Sentences};

@@ -9,8 +9,8 @@ use Rattle.derivation_trees.specs.Partial.{IsTypeable}
 use Rattle.derivation_trees.specs.Sentences.{setting_of}
 use Rattle.editor.specs.Editing.{IsEdited}
 use Rattle.editor.specs.Rebasing.{IsRebased}
+use Rattle.wiki_talk.specs.declared.limits.TheConstants.{MOST_SESSIONS}
 use Rattle.sessions.specs.declared.session.Session.{Session}
-use Rattle.sessions.specs.declared.sessions.TheConstants.{MOST_SESSIONS}
 
 -- a session: its number, the word of its article, the revision of the article that it is at, and its tokens
 pub record PlainSession : Type 0 where

@@ -5,4 +5,4 @@ mod session;
 mod sessions;
 
 pub use session::Session;
-pub use sessions::{LAST_SESSION, MOST_SESSIONS, Sessions};
+pub use sessions::Sessions;

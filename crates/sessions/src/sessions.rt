@@ -13,14 +13,9 @@ use lexicon::Lexicon;
 use std::alloc::Global;
 use std::marker::Model;
 use wiki_base::{Memory, Rev, SessionId, WordId};
+use wiki_talk::MOST_SESSIONS;
 
-/// The greatest number of sessions.
-pub const MOST_SESSIONS: usize = 64;
-
-/// The last number that a session can be given.
-pub const LAST_SESSION: u32 = 4_294_967_295;
-
-/// The sessions of a wiki, at most 64, in order of their numbers. They are seen as the list of them.
+/// The sessions of a wiki, at most `MOST_SESSIONS`, in order of their numbers. They are seen as the list of them.
 #[derive(Drop)]
 pub struct Sessions {
     sessions: Vec<Session>,
@@ -71,7 +66,7 @@ impl Sessions {
         ensures full { IsTrue result ↔ (length (all_plain self.now) ≡ MOST_SESSIONS) }
         ensures room { result ≡ false → length (all_plain self.now) < MOST_SESSIONS }
     {
-        self.sessions.len() == MOST_SESSIONS
+        self.sessions.len() == MOST_SESSIONS as usize
     }
 
     /// The session at a place below the length.

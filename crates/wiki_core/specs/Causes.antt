@@ -1,18 +1,16 @@
 -- Why requests on sessions are refused: each cause as what it refuses with where it stands.
 use Rattle.std.specs.Prelude.{◌≡◌, ℕ, ◌<◌, ◌≤◌, List, [], length, Option, Some, None}
-use Rattle.wiki_base.specs.declared.tokens.TheConstants.{MOST_TOKENS}
 use Rattle.wiki_base.specs.declared.numbers.SessionId.{SessionId}
 use Rattle.derivation_trees.specs.declared.menus.Group.{Group}
 use Rattle.derivation_trees.specs.Sentences.{IsSentence}
 use Rattle.derivations.specs.Typing.{IsTextMenu}
 use Rattle.wiki_talk.specs.declared.limits.Limit.TheVariants as limits
+use Rattle.wiki_talk.specs.Limits.{amount_of}
 use Rattle.wiki_talk.specs.declared.refusals.Refusal.{Refusal}
 use Rattle.wiki_talk.specs.declared.refusals.Refusal.TheVariants.{NoSession, Stale, NotOffered, Nothing, Unfinished}
 use Rattle.articles.specs.declared.article.Article.{Article}
-use Rattle.articles.specs.declared.article.TheConstants.{LAST_REVISION}
 use Rattle.articles.specs.Articles.{article_of}
 use Rattle.editor.specs.Editing.{typed, IsInMenu}
-use Rattle.sessions.specs.declared.sessions.TheConstants.{MOST_SESSIONS, LAST_SESSION}
 use Rattle.sessions.specs.Sessions.{PlainSession, session_of}
 use Rattle.wiki_parts.specs.Words.{full_at}
 use Rattle.wiki_parts.specs.Parsing.{told_menu}
@@ -29,19 +27,19 @@ pub record NamesNoSession (state : State) (number : ℕ) (refusal : Refusal) : T
 
 -- there are as many sessions as may be
 pub record IsFullOfSessions (state : State) (refusal : Refusal) : Type 0 where
-  pub full : MOST_SESSIONS ≤ length state.sessions
+  pub full : amount_of limits.Sessions ≤ length state.sessions
   pub told : refusal ≡ full_at limits.Sessions
 
 -- the last number for a session was given
 pub record IsOutOfNumbers (state : State) (refusal : Refusal) : Type 0 where
-  pub last : LAST_SESSION ≤ state.last
+  pub last : amount_of limits.Numbers ≤ state.last
   pub told : refusal ≡ full_at limits.Numbers
 
 -- the session has as many tokens as may be
 pub record IsFullOfTokens (state : State) (number : ℕ) (refusal : Refusal) : Type 0 where
   pub session : PlainSession
   pub named : session_numbered state number ≡ Some session
-  pub full : MOST_TOKENS ≤ length session.tokens
+  pub full : amount_of limits.Tokens ≤ length session.tokens
   pub told : refusal ≡ full_at limits.Tokens
 
 -- the text isn't in the menu of the session's tokens
@@ -64,7 +62,7 @@ pub record IsAtLastChange (state : State) (number : ℕ) (refusal : Refusal) : T
   pub named : session_numbered state number ≡ Some session
   pub article : Article
   pub on : article_of state.pages.articles session.article ≡ Some article
-  pub last : article.revision.0 ≡ LAST_REVISION
+  pub last : article.revision.0 ≡ amount_of limits.Numbers
   pub told : refusal ≡ full_at limits.Numbers
 
 -- the session's article has changed since the session took note of it

@@ -1,12 +1,12 @@
 -- What a session commits, and what it types. Only private calls speak of it.
 use Rattle.std.specs.Prelude.{◌≡◌, ◌<◌, ◌≤◌, ℕ, List, [], ◌∷◌, ◌++◌, length, Some}
 use Rattle.wiki_base.specs.declared.tokens.TheConstants.{MOST_TOKENS}
+use Rattle.lexicon.specs.declared.words.TheConstants.{LAST_NUMBER}
 use Rattle.lexicon.specs.Words.{canonical_form_of}
 use Rattle.derivation_trees.specs.Cutting.{shown}
 use Rattle.derivation_trees.specs.Sentences.{IsSentence}
 use Rattle.wiki_talk.specs.declared.limits.TheConstants.{MOST_SENTENCES}
 use Rattle.articles.specs.declared.article.Article.{Article}
-use Rattle.articles.specs.declared.article.TheConstants.{LAST_REVISION}
 use Rattle.articles.specs.Articles.{article_of}
 use Rattle.sessions.specs.Sessions.{PlainSession, with_change, with_tokens}
 use Rattle.wiki_parts.specs.Knowledge.{sentences_in}
@@ -25,7 +25,7 @@ pub record IsDraftOf (state : State) (number : ℕ) (draft : Draft) : Type 0 whe
   pub article : Article
   pub on : article_of state.pages.articles session.article ≡ Some article
   pub revision : draft.revision ≡ article.revision
-  pub may_change : article.revision.0 < LAST_REVISION
+  pub may_change : article.revision.0 < LAST_NUMBER
   pub spelled : canonical_form_of state.pages.words.live session.article ≡ Some draft.form
   pub shows : draft.shown ≡ shown state.pages.grammar.terminals session.tokens
   pub room : length (sentences_in state.pages.articles) < MOST_SENTENCES

@@ -4,7 +4,7 @@ use Rattle.wiki_base.specs.declared.tokens.TheConstants.{MOST_TOKENS}
 use Rattle.codeco_terms.specs.GrammarParts.{GrammarParts}
 use Rattle.derivation_trees.specs.Partial.{IsTypeable}
 use Rattle.logic_terms.specs.Interpretation.{Interpretation}
-use Rattle.sessions.specs.declared.sessions.TheConstants.{MOST_SESSIONS}
+use Rattle.wiki_talk.specs.declared.limits.TheConstants.{MOST_SESSIONS}
 use Rattle.sessions.specs.Sessions.{PlainSession}
 use Rattle.wiki_parts.specs.Holding as parts
 use Rattle.wiki_core.specs.State.{State, first_state, IsOnArticle, AreInOrder}

@@ -1,17 +1,17 @@
 // What stands against a request on a session, each cause in a call of its own.
 ghost use Rattle.std.specs.Prelude.{◌≡◌, ◌+◌, ◌≤◌, ◌<◌, length, Some, IfOk, IfErr, OnOk, IsSome};
 ghost use Rattle.wiki_base.specs.declared.tokens.TheConstants.{MOST_TOKENS as most_tokens};
-ghost use Rattle.wiki_talk.specs.declared.limits.TheConstants.{MOST_SENTENCES as most_sentences};
-ghost use Rattle.articles.specs.declared.article.TheConstants.{LAST_REVISION as the_last};
-ghost use Rattle.sessions.specs.declared.sessions.TheConstants.{MOST_SESSIONS as most_sessions, LAST_SESSION as last_session};
+ghost use Rattle.lexicon.specs.declared.words.TheConstants.{LAST_NUMBER as the_last};
+ghost use Rattle.wiki_talk.specs.declared.limits.TheConstants.{MOST_SENTENCES as most_sentences, MOST_SESSIONS as most_sessions};
 ghost use Rattle.derivation_trees.specs.Sentences.{IsSentence};
 ghost use Rattle.sessions.specs.Sessions.{plain};
 ghost use Rattle.wiki_parts.specs.Words.{full_at};
 
 use crate::wiki::Wiki;
-use articles::{Article, LAST_REVISION};
+use articles::Article;
+use lexicon::LAST_NUMBER;
 use lists::Copied;
-use sessions::{LAST_SESSION, Session};
+use sessions::Session;
 use wiki_base::{MOST_TOKENS, SessionId, Text8, WordId};
 use wiki_parts::{Fault, told_menu};
 use wiki_talk::{Limit, MOST_SENTENCES, Refusal};
@@ -71,7 +71,7 @@ impl Wiki {
         ensures absent { OnOk result (IsAbsent (IsOutOfNumbers self.now.state)) }
         ensures refused { IfErr result (IsFault (IsOutOfNumbers self.now.state)) }
     {
-        if self.last == LAST_SESSION {
+        if self.last == LAST_NUMBER {
             Err(Fault::Refused(full(Limit::Numbers)))
         } else {
             Ok(self.last + 1)
@@ -143,7 +143,7 @@ impl Wiki {
         ensures absent { OnOk result (IsAbsent (IsAtLastChange self.now.state number)) }
         ensures refused { IfErr result (IsFault (IsAtLastChange self.now.state number)) }
     {
-        if article.revision.0 == LAST_REVISION {
+        if article.revision.0 == LAST_NUMBER {
             Err(Fault::Refused(full(Limit::Numbers)))
         } else {
             Ok(())

@@ -1,7 +1,7 @@
 // Tokens that become a sentence.
 ghost use Rattle.std.specs.Prelude.{◌≡◌, ◌+◌, ◌<◌, ◌≤◌, [], length, Some, IfOk, IfErr, OnOk, OnErr, IsSome};
+ghost use Rattle.lexicon.specs.declared.words.TheConstants.{LAST_NUMBER};
 ghost use Rattle.wiki_talk.specs.declared.limits.TheConstants.{MOST_SENTENCES};
-ghost use Rattle.articles.specs.declared.article.TheConstants.{LAST_REVISION};
 ghost use Rattle.derivation_trees.specs.Sentences.{IsSentence};
 ghost use Rattle.sessions.specs.Sessions.{all_plain, with_change, with_revision, with_tokens, HasSession, AreKeptOn};
 
@@ -77,7 +77,7 @@ impl Wiki {
     fn drafted(&self, session: &Session, article: &Article, number: u32) -> Result<Draft, Memory>
         requires named { session_numbered self.now.state number ≡ Some (plain session.now) }
         requires on { article_of self.now.state.pages.articles session.now.article ≡ Some article.now }
-        requires open { article.now.revision.0 < LAST_REVISION }
+        requires open { article.now.revision.0 < LAST_NUMBER }
         requires room { length (sentences_in self.now.state.pages.articles) < MOST_SENTENCES }
         requires sentence { IsSentence self.now.state.pages.grammar self.now.state.pages.words session.now.editor.tokens }
         ensures { IfOk result (IsDraftOf self.now.state number) }

@@ -2,7 +2,6 @@
 use Rattle.std.specs.Prelude.{◌≡◌, ℕ, ◌≤◌, ◌<◌, ◌⊎◌, ◌==◌, List, length, take, map, filter}
 use Rattle.codeco_terms.specs.GrammarParts.{GrammarParts}
 use Rattle.lexicon.specs.Words.{Listed}
-use Rattle.wiki_base.specs.declared.tokens.TheConstants.{MOST_TOKENS}
 use Rattle.derivation_trees.specs.declared.menus.Group.{Group}
 use Rattle.derivation_trees.specs.declared.menus.Group.TheVariants.{Function, Name, Noun, Of, Verb, Adjective}
 use Rattle.derivation_trees.specs.declared.skeletons.Skeleton.{Skeleton}
@@ -13,6 +12,7 @@ use Rattle.derivation_trees.specs.Codes.{skeleton_code}
 use Rattle.derivation_trees.specs.Skeletons.{IsLeastSkeleton}
 use Rattle.derivations.specs.Typing.{IsTextMenu, IsTypeableCount}
 use Rattle.wiki_talk.specs.declared.limits.Limit.TheVariants as limits
+use Rattle.wiki_talk.specs.Limits.{amount_of}
 use Rattle.wiki_talk.specs.declared.refusals.Refusal.{Refusal}
 use Rattle.wiki_talk.specs.declared.refusals.Refusal.TheVariants.{NotSentence}
 use Rattle.wiki_talk.specs.declared.replies.MenuView.{MenuView}
@@ -52,8 +52,8 @@ pub record IsNoSentence (g : GrammarParts) (words : Listed) (tokens : List (List
 -- the text has too many tokens, or has no derivation
 abbrev pub RefusesText : State → List ℕ → Refusal → Type 0
 RefusesText state text refusal =
-    ((MOST_TOKENS < length (tokens_of state text)) × (refusal ≡ full_at limits.Tokens))
-    ⊎ ((length (tokens_of state text) ≤ MOST_TOKENS) × IsNoSentence state.grammar state.words (tokens_of state text) refusal)
+    ((amount_of limits.Tokens < length (tokens_of state text)) × (refusal ≡ full_at limits.Tokens))
+    ⊎ ((length (tokens_of state text) ≤ amount_of limits.Tokens) × IsNoSentence state.grammar state.words (tokens_of state text) refusal)
 
 -- the code of the least skeleton is told
 pub record TellsCode (old : State) (text : List ℕ) (reply : Reply) (new : State) : Type 0 where

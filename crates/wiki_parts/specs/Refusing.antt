@@ -2,21 +2,19 @@
 use Rattle.std.specs.Prelude.{◌≡◌, ℕ, ◌≤◌, ◌<◌, ◌⊎◌, ◌==◌, ◌||◌, Bool, true, false, List, [], ◌∷◌, length, find, Option, Some, None}
 use Rattle.std.specs.List.{list_any}
 use Rattle.std.specs.Option.{option_or}
-use Rattle.wiki_base.specs.declared.tokens.TheConstants.{MOST_TOKENS}
 use Rattle.wiki_base.specs.declared.numbers.WordId.{WordId}
 use Rattle.codeco_terms.specs.GrammarParts.{GrammarParts}
 use Rattle.lexicon.specs.declared.kinds.Kind.{Kind}
 use Rattle.lexicon.specs.declared.kinds.Forms.{Forms}
 use Rattle.lexicon.specs.Words.{Listed, is_among, forms_of, canonical_form_of, with_forms, reword_refusal}
-use Rattle.wiki_talk.specs.declared.limits.TheConstants.{MOST_SENTENCES}
 use Rattle.wiki_talk.specs.declared.limits.Limit.TheVariants as limits
+use Rattle.wiki_talk.specs.Limits.{amount_of}
 use Rattle.wiki_talk.specs.declared.refusals.Refusal.{Refusal}
 use Rattle.wiki_talk.specs.declared.refusals.Refusal.TheVariants.{NoWord, NoPlace, InUse, Breaks, BadStatus}
 use Rattle.wiki_talk.specs.declared.statuses.Status.{Status}
 use Rattle.wiki_talk.specs.declared.statuses.Status.TheVariants.{Asserted, Retracted, RedContradiction, RedBudget, Outside, Question, QuestionOutside}
 use Rattle.articles.specs.declared.sentences.Sentence.{Sentence}
 use Rattle.articles.specs.declared.article.Article.{Article}
-use Rattle.articles.specs.declared.article.TheConstants.{LAST_REVISION}
 use Rattle.wiki_parts.specs.State.{State}
 use Rattle.wiki_parts.specs.Words.{word_with, bad_text, bad_count, lexicon_refusal, forms_given, full_at}
 use Rattle.wiki_parts.specs.Places.{word_named, article_named, sentence_named, Placed, all_placed, IsFirstPlaced}
@@ -110,19 +108,19 @@ pub record IsPastEnd (state : State) (text : List ℕ) (given : Option ℕ) (ref
 
 -- there are as many sentences as may be
 pub record IsFullOfSentences (state : State) (refusal : Refusal) : Type 0 where
-  pub full : MOST_SENTENCES ≤ length (sentences_in state.articles)
+  pub full : amount_of limits.Sentences ≤ length (sentences_in state.articles)
   pub told : refusal ≡ full_at limits.Sentences
 
 -- the text has too many tokens
 pub record HasTooManyTokens (state : State) (text : List ℕ) (refusal : Refusal) : Type 0 where
-  pub many : MOST_TOKENS < length (tokens_of state text)
+  pub many : amount_of limits.Tokens < length (tokens_of state text)
   pub told : refusal ≡ full_at limits.Tokens
 
 -- the article was changed as often as may be
 pub record IsAtLastRevision (state : State) (text : List ℕ) (refusal : Refusal) : Type 0 where
   pub article : Article
   pub named : article_named state text ≡ Some article
-  pub last : article.revision.0 ≡ LAST_REVISION
+  pub last : article.revision.0 ≡ amount_of limits.Numbers
   pub told : refusal ≡ full_at limits.Numbers
 
 -- the text has no derivation

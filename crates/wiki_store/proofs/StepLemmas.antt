@@ -5,6 +5,7 @@ use Rattle.std.specs.List.{slice_get}
 use Rattle.std.specs.Option.{option_and_then, IsSomeAnd}
 use Rattle.wiki_base.specs.declared.numbers.WordId.{WordId}
 use Rattle.derivation_trees.specs.Cutting.{shown}
+use Rattle.lexicon.specs.declared.words.TheConstants.{LAST_NUMBER}
 use Rattle.logic_terms.specs.Concept.{Claim}
 use Rattle.logic_terms.specs.Reading.{IsModel}
 use Rattle.wiki_talk.specs.declared.statuses.Status.{Status}
@@ -13,7 +14,6 @@ use Rattle.wiki_talk.specs.declared.replies.Reply.TheVariants as replies
 use Rattle.wiki_talk.specs.declared.requests.Request.TheVariants as requests
 use Rattle.articles.specs.declared.sentences.Sentence.{Sentence}
 use Rattle.articles.specs.declared.article.Article.{Article}
-use Rattle.articles.specs.declared.article.TheConstants.{LAST_REVISION}
 use Rattle.articles.specs.Articles.{article_of, sentence_at, CanChange, HasPlace, HasSentence}
 use Rattle.wiki_parts.specs.State.{State}
 use Rattle.wiki_parts.specs.Holding.{Holding}
@@ -38,9 +38,9 @@ pub place-for : (state : State) (text : List ℕ) (given : Option ℕ) (article 
     → place_for state text given ≡ Some at
 place-for state text given article at named is = ap (option_map (λ (found : Article). unwrap_or given (length found.sentences))) named ∙ ap Some (sym is)
 
-pub can-change : (articles : List Article) (word : WordId) (article : Article) → article_of articles word ≡ Some article → article.revision.0 < LAST_REVISION
+pub can-change : (articles : List Article) (word : WordId) (article : Article) → article_of articles word ≡ Some article → article.revision.0 < LAST_NUMBER
     → CanChange articles word
-can-change articles word article found before = subst (λ (o : Option Article). IsSomeAnd o (λ a. a.revision.0 < LAST_REVISION)) (sym found) before
+can-change articles word article found before = subst (λ (o : Option Article). IsSomeAnd o (λ a. a.revision.0 < LAST_NUMBER)) (sym found) before
 
 pub has-place : (articles : List Article) (word : WordId) (article : Article) (at : ℕ) → article_of articles word ≡ Some article → at ≤ length article.sentences
     → HasPlace articles word at

@@ -2,13 +2,14 @@
 ghost use Rattle.std.specs.Prelude.{◌≡◌, ◌≤◌, ◌<◌, length, unwrap_or, Some, true, IfOk, IfErr, OnOk, IsSome};
 ghost use Rattle.wiki_talk.specs.declared.limits.TheConstants.{MOST_SENTENCES as most_sentences};
 ghost use Rattle.wiki_base.specs.declared.tokens.TheConstants.{MOST_TOKENS};
-ghost use Rattle.articles.specs.declared.article.TheConstants.{LAST_REVISION as the_last};
+ghost use Rattle.lexicon.specs.declared.words.TheConstants.{LAST_NUMBER as the_last};
 ghost use Rattle.wiki_parts.specs.Refusing.{may_retract};
 ghost use Rattle.wiki_parts.specs.Words.{full_at};
 
 use crate::store::Store;
-use articles::{Article, LAST_REVISION, Sentence};
+use articles::{Article, Sentence};
 use derivations::{Cut, cut};
+use lexicon::LAST_NUMBER;
 use lists::Copied;
 use wiki_base::{Text8, Tokens, WordId};
 use wiki_parts::{Fault, Sense, is_faithful, no_sentence, sense_of, too_many_tokens};
@@ -85,7 +86,7 @@ impl Store {
         ensures absent { OnOk result (IsAbsent (IsAtLastRevision self.now.state form.now)) }
         ensures refused { IfErr result (IsFault (IsAtLastRevision self.now.state form.now)) }
     {
-        if article.revision.0 == LAST_REVISION {
+        if article.revision.0 == LAST_NUMBER {
             Err(Fault::Refused(full(Limit::Numbers)))
         } else {
             Ok(())

@@ -1,18 +1,15 @@
 -- What is bounded, and by what.
 use Rattle.std.specs.Prelude.{ℕ, List, codes}
-use Rattle.wiki_base.specs.declared.tokens.TheConstants.{MOST_TOKENS}
-use Rattle.lexicon.specs.declared.words.TheConstants.{MOST_WORDS, LAST_NUMBER}
-use Rattle.wiki_talk.specs.declared.limits.TheConstants.{MOST_SENTENCES, MOST_SESSIONS}
 use Rattle.wiki_talk.specs.declared.limits.Limit.{Limit}
 use Rattle.wiki_talk.specs.declared.limits.Limit.TheVariants.{Words, Sentences, Sessions, Tokens, Numbers}
 
--- the greatest number that is allowed
+-- the greatest number that is allowed, and that a refusal tells
 abbrev pub amount_of : Limit → ℕ
-amount_of Words = MOST_WORDS
-amount_of Sentences = MOST_SENTENCES
-amount_of Sessions = MOST_SESSIONS
-amount_of Tokens = MOST_TOKENS
-amount_of Numbers = LAST_NUMBER
+amount_of Words = 5000
+amount_of Sentences = 2000
+amount_of Sessions = 64
+amount_of Tokens = 40
+amount_of Numbers = 4294967295
 
 -- the name that a line tells
 abbrev pub name_of : Limit → List ℕ

@@ -2,13 +2,13 @@ use Rattle.std.proofs.Common.{◌<◌, ◌≤◌, length}
 use Rattle.std.specs.List.{insert}
 use Rattle.std.proofs.lemmas.Result.{on_ok_weaker}
 use Rattle.articles.specs.declared.article.Article.{Article}
-use Rattle.articles.specs.declared.article.TheConstants.{LAST_REVISION}
+use Rattle.lexicon.specs.declared.words.TheConstants.{LAST_NUMBER}
 use Rattle.articles.proofs.PlaceLemmas.{fact_at, change_is}
 use Rattle.articles.proofs.articles.Articles.insert.Goals as goal
 
 pub insert-requires-clause-open : goal.insert-requires-clause-open
 insert-requires-clause-open c = fact_at _ _ c.self.view_is c.self.invariant _ _ c.place_there-place.ensures _ c.index_mut.ensures.value
-    (λ (article : Article). article.revision.0 < LAST_REVISION) c.requires.open
+    (λ (article : Article). article.revision.0 < LAST_NUMBER) c.requires.open
 
 pub insert-requires-clause-place : goal.insert-requires-clause-place
 insert-requires-clause-place c = fact_at _ _ c.self.view_is c.self.invariant _ _ c.place_there-place.ensures _ c.index_mut.ensures.value

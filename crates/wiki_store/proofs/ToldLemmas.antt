@@ -31,8 +31,8 @@ told-keeps P done (Err none) is kept = subst (λ (d : Result Reply Fault). OnErr
 
 -- where the kept interpretation is the same, it stays whatever is replied
 pub same-stays : (old new : Holding) (reply : Reply) → new.interpretation ≡ old.interpretation → KeepsInterpretation old reply new
-same-stays old new (replies.Add status) same = tt
-same-stays old new (replies.Edit status) same = tt
+same-stays old new (replies.Add status text) same = tt
+same-stays old new (replies.Edit status text) same = tt
 same-stays old new (replies.Reassert status) same = tt
 same-stays old new (replies.Commit article status text) same = tt
 same-stays old new _ same = same

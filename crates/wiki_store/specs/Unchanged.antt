@@ -6,8 +6,8 @@ use Rattle.wiki_parts.specs.Holding.{Holding}
 
 -- the kept interpretation stays, unless the reply is that of a done `add`, `edit`, `reassert` or `commit`
 abbrev pub KeepsInterpretation : Holding → Reply → Holding → Type 0
-KeepsInterpretation old (replies.Add status) new = Unit {0}
-KeepsInterpretation old (replies.Edit status) new = Unit {0}
+KeepsInterpretation old (replies.Add status text) new = Unit {0}
+KeepsInterpretation old (replies.Edit status text) new = Unit {0}
 KeepsInterpretation old (replies.Reassert status) new = Unit {0}
 KeepsInterpretation old (replies.Commit article status text) new = Unit {0}
 KeepsInterpretation old reply new = new.interpretation ≡ old.interpretation

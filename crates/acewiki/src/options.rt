@@ -4,6 +4,7 @@ ghost use Rattle.acewiki.specs.Command.{number_within, with_budget, with_events,
 
 use http_front::number_of;
 use wiki_base::Arg;
+use wiki_talk::MOST_SENTENCES;
 
 /// The most steps that a search may be given.
 pub const MOST_BUDGET: u64 = 1_000_000_000;
@@ -11,8 +12,8 @@ pub const MOST_BUDGET: u64 = 1_000_000_000;
 /// The most events that are handled, and how many are where the command says nothing else.
 pub const MOST_EVENTS: u64 = 1_000_000_000;
 
-/// The most sentences that are made.
-pub const MOST_MADE: u64 = 2_000;
+/// The most sentences that are made: as many as a wiki may have.
+pub const MOST_MADE: u64 = MOST_SENTENCES as u64;
 
 /// How many steps a search may take where the command says nothing else.
 pub const DEFAULT_BUDGET: u64 = 1_000_000;

@@ -54,4 +54,5 @@ module _ (scheme host origin : List ℕ) (front rest : List ℕ) (cut : front �
   unfolding is_at
   begins_otherwise b fails test =
       fails ∙ sym (false_from_ne_true (is_at scheme host origin)
-      (λ yes. true≢false (sym (test.1 (ap lower cut ∙ front_alike scheme host origin ((bytes_eq-Decides (lower origin) (lower (scheme ++ host))).0 yes))) ∙ fails)))
+      (λ yes. true≢false (sym (test.1 (ap lower cut ∙ front_alike scheme host origin ((bytes_eq-Decides (lower origin) (lower (scheme ++ host))).0 yes)))
+      ∙ fails)))

@@ -5,4 +5,5 @@ use Rattle.http_front.proofs.fields.value_named.Given as goal
 
 -- the first of the fields that are left has the value
 abbrev pub invariant-loop-field : goal.invariant-loop-field
-invariant-loop-field l = value_named l.name (map (header_bytes l.bytes) (drop l.field-index l.fields)) ≡ value_named l.name (map (header_bytes l.bytes) l.fields)
+invariant-loop-field l = value_named l.name (map (header_bytes l.bytes) (drop l.field-index l.fields))
+    ≡ value_named l.name (map (header_bytes l.bytes) l.fields)

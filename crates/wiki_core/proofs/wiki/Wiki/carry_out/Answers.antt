@@ -61,31 +61,38 @@ returns-in-Begin-clause-interpretation c =
 
 pub returns-in-Put-clause-interpretation : goal.returns-in-Put-clause-interpretation
 returns-in-Put-clause-interpretation c =
-    interpretation_told c.args.self.now c.type_token.new.self c.type_token.result c.told-in-Put.result c.told-in-Put.ensures.told c.type_token.ensures.interpretation c.type_token.ensures.kept
+    interpretation_told c.args.self.now c.type_token.new.self c.type_token.result c.told-in-Put.result c.told-in-Put.ensures.told
+    c.type_token.ensures.interpretation c.type_token.ensures.kept
 
 pub returns-in-Back-clause-interpretation : goal.returns-in-Back-clause-interpretation
 returns-in-Back-clause-interpretation c =
-    interpretation_told c.args.self.now c.back.new.self c.back.result c.told-in-Back.result c.told-in-Back.ensures.told c.back.ensures.interpretation c.back.ensures.kept
+    interpretation_told c.args.self.now c.back.new.self c.back.result c.told-in-Back.result c.told-in-Back.ensures.told c.back.ensures.interpretation
+    c.back.ensures.kept
 
 pub returns-in-Commit-clause-interpretation : goal.returns-in-Commit-clause-interpretation
 returns-in-Commit-clause-interpretation c =
-    interpretation_told c.args.self.now c.commit.new.self c.commit.result c.told-in-Commit.result c.told-in-Commit.ensures.told c.commit.ensures.interpretation c.commit.ensures.kept
+    interpretation_told c.args.self.now c.commit.new.self c.commit.result c.told-in-Commit.result c.told-in-Commit.ensures.told c.commit.ensures.interpretation
+    c.commit.ensures.kept
 
 pub returns-in-Refresh-clause-interpretation : goal.returns-in-Refresh-clause-interpretation
 returns-in-Refresh-clause-interpretation c =
-    interpretation_told c.args.self.now c.refresh.new.self c.refresh.result c.told-in-Refresh.result c.told-in-Refresh.ensures.told c.refresh.ensures.interpretation c.refresh.ensures.kept
+    interpretation_told c.args.self.now c.refresh.new.self c.refresh.result c.told-in-Refresh.result c.told-in-Refresh.ensures.told
+    c.refresh.ensures.interpretation c.refresh.ensures.kept
 
 pub returns-in-Drop-clause-interpretation : goal.returns-in-Drop-clause-interpretation
 returns-in-Drop-clause-interpretation c =
-    interpretation_told c.args.self.now c.end.new.self c.end.result c.told-in-Drop.result c.told-in-Drop.ensures.told c.end.ensures.interpretation c.end.ensures.kept
+    interpretation_told c.args.self.now c.end.new.self c.end.result c.told-in-Drop.result c.told-in-Drop.ensures.told c.end.ensures.interpretation
+    c.end.ensures.kept
 
 pub returns-in-Reword-clause-interpretation : goal.returns-in-Reword-clause-interpretation
 returns-in-Reword-clause-interpretation c =
-    interpretation_told c.args.self.now c.reword.new.self c.reword.result c.told-in-Reword.result c.told-in-Reword.ensures.told c.reword.ensures.interpretation c.reword.ensures.kept
+    interpretation_told c.args.self.now c.reword.new.self c.reword.result c.told-in-Reword.result c.told-in-Reword.ensures.told c.reword.ensures.interpretation
+    c.reword.ensures.kept
 
 pub returns-in-Unword-clause-interpretation : goal.returns-in-Unword-clause-interpretation
 returns-in-Unword-clause-interpretation c =
-    interpretation_told c.args.self.now c.unword.new.self c.unword.result c.told-in-Unword.result c.told-in-Unword.ensures.told c.unword.ensures.interpretation c.unword.ensures.kept
+    interpretation_told c.args.self.now c.unword.new.self c.unword.result c.told-in-Unword.result c.told-in-Unword.ensures.told c.unword.ensures.interpretation
+    c.unword.ensures.kept
 
 pub returns-in-Menu-clause-interpretation : goal.returns-in-Menu-clause-interpretation
 returns-in-Menu-clause-interpretation c = same-stays_if (pages_held c.args.self.now) (pages_held c.args.self.now) c.told-in-Menu.result refl

@@ -78,28 +78,35 @@ returns-in-Axioms-clause-interpretation c = same-stays_if c.args.self.now c.args
 
 pub returns-in-Reword-clause-interpretation : goal.returns-in-Reword-clause-interpretation
 returns-in-Reword-clause-interpretation c =
-    told-interpretation c.args.self.now c.reword.new.self c.reword.result c.told.result c.told.ensures.told c.reword.ensures.interpretation c.reword.ensures.kept
+    told-interpretation c.args.self.now c.reword.new.self c.reword.result c.told.result c.told.ensures.told c.reword.ensures.interpretation
+    c.reword.ensures.kept
 
 pub returns-in-Unword-clause-interpretation : goal.returns-in-Unword-clause-interpretation
 returns-in-Unword-clause-interpretation c =
-    told-interpretation c.args.self.now c.unword.new.self c.unword.result c.told-in-Unword.result c.told-in-Unword.ensures.told c.unword.ensures.interpretation c.unword.ensures.kept
+    told-interpretation c.args.self.now c.unword.new.self c.unword.result c.told-in-Unword.result c.told-in-Unword.ensures.told c.unword.ensures.interpretation
+    c.unword.ensures.kept
 
 pub returns-in-Add-clause-interpretation : goal.returns-in-Add-clause-interpretation
 returns-in-Add-clause-interpretation c =
-    told-interpretation c.args.self.now c.add_sentence.new.self c.add_sentence.result c.told-in-Add.result c.told-in-Add.ensures.told c.add_sentence.ensures.interpretation c.add_sentence.ensures.kept
+    told-interpretation c.args.self.now c.add_sentence.new.self c.add_sentence.result c.told-in-Add.result c.told-in-Add.ensures.told
+    c.add_sentence.ensures.interpretation c.add_sentence.ensures.kept
 
 pub returns-in-Edit-clause-interpretation : goal.returns-in-Edit-clause-interpretation
 returns-in-Edit-clause-interpretation c =
-    told-interpretation c.args.self.now c.edit.new.self c.edit.result c.told-in-Edit.result c.told-in-Edit.ensures.told c.edit.ensures.interpretation c.edit.ensures.kept
+    told-interpretation c.args.self.now c.edit.new.self c.edit.result c.told-in-Edit.result c.told-in-Edit.ensures.told c.edit.ensures.interpretation
+    c.edit.ensures.kept
 
 pub returns-in-Remove-clause-interpretation : goal.returns-in-Remove-clause-interpretation
 returns-in-Remove-clause-interpretation c =
-    told-interpretation c.args.self.now c.remove.new.self c.remove.result c.told-in-Remove.result c.told-in-Remove.ensures.told c.remove.ensures.interpretation c.remove.ensures.kept
+    told-interpretation c.args.self.now c.remove.new.self c.remove.result c.told-in-Remove.result c.told-in-Remove.ensures.told c.remove.ensures.interpretation
+    c.remove.ensures.kept
 
 pub returns-in-Retract-clause-interpretation : goal.returns-in-Retract-clause-interpretation
 returns-in-Retract-clause-interpretation c =
-    told-interpretation c.args.self.now c.retract.new.self c.retract.result c.told-in-Retract.result c.told-in-Retract.ensures.told c.retract.ensures.interpretation c.retract.ensures.kept
+    told-interpretation c.args.self.now c.retract.new.self c.retract.result c.told-in-Retract.result c.told-in-Retract.ensures.told
+    c.retract.ensures.interpretation c.retract.ensures.kept
 
 pub returns-in-Reassert-clause-interpretation : goal.returns-in-Reassert-clause-interpretation
 returns-in-Reassert-clause-interpretation c =
-    told-interpretation c.args.self.now c.reassert.new.self c.reassert.result c.told-in-Reassert.result c.told-in-Reassert.ensures.told c.reassert.ensures.interpretation c.reassert.ensures.kept
+    told-interpretation c.args.self.now c.reassert.new.self c.reassert.result c.told-in-Reassert.result c.told-in-Reassert.ensures.told
+    c.reassert.ensures.interpretation c.reassert.ensures.kept

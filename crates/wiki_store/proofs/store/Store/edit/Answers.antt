@@ -22,7 +22,8 @@ returns-clause-step c =
 
 pub returns-clause-spent : goal.returns-clause-spent
 returns-clause-spent c =
-    subst (λ (n : ℕ). SpendsBeyondKept c.args.self.now (requests.Edit c.args.form.now n c.args.text.now) (replies.Edit c.in_ok-status.status c.in_ok-shown.shown))
+    subst (λ (n : ℕ). SpendsBeyondKept c.args.self.now (requests.Edit c.args.form.now n c.args.text.now)
+    (replies.Edit c.in_ok-status.status c.in_ok-shown.shown))
     c.in_ok-fresh.ensures.at
     (edits-spent c.args.self.now c.args.form.now c.in_ok-fresh.fresh.at c.args.text.now c.in_ok-fresh.fresh.word c.in_ok-fresh.fresh.tokens
     c.in_ok-status.status c.in_ok-fresh.ensures.named

@@ -15,5 +15,6 @@ returns-clause-stored c =
     } in
     let named = subst (λ (h : Holding). article_named h.state c.args.form.now ≡ Some c.args.article.now) (sym c.self.view_is) c.requires.named in
     subst (λ (h : Holding). IsStored h.state c.get.result.now) c.self.view_is
-    (stored_there inside c.self.inside.senses.items c.self.inside.kept (λ tokens. c.is_faithful.ensures inside.words tokens) c.self.invariant.0 c.args.form.now c.args.article.now named c.args.at c.get.result.now
+    (stored_there inside c.self.inside.senses.items c.self.inside.kept (λ tokens. c.is_faithful.ensures inside.words tokens) c.self.invariant.0 c.args.form.now
+    c.args.article.now named c.args.at c.get.result.now
     c.get.ensures)

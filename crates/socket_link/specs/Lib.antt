@@ -1,2 +1,2 @@
-pub mod Heard
+pub mod Moved
 pub mod Round

@@ -6,53 +6,79 @@ ghost use Rattle.wiki_io.specs.Link.{is_among, without, can_all_come, connection
 ghost use Rattle.wiki_io.specs.Sink.{TookFits};
 ghost use Rattle.socket_link.specs.Round.{HandsIn};
 
-use crate::place::Heard;
-use crate::sockets::{Sockets, Turn};
+use crate::place::Times;
+use crate::places::{Places, Turn};
+use crate::socket::{Accepted, Moved, Sockets};
+use crate::tcp::TcpSockets;
 use std::alloc::Global;
 use std::net::{Net, SocketAddr};
 use std::time::{Clock, Duration};
 use wiki_base::Memory;
 use wiki_io::{Link, Listen, Next, Took};
 
-// How many connections are open at most: one more than the wiki keeps, which it answers and closes.
-const MOST_OPEN: usize = 65;
+// How many connections are open at most.
+const MOST_OPEN: usize = 64;
 
-/// A link over TCP. It hands in each connection that it accepts, and pieces of whichever connection has some, in turn.
+/// A link over sockets. It hands in each connection that it accepts, and pieces of whichever connection has some, in turn.
 /// A connection on which nothing comes isn't looked at until its time is up.
-/// It accepts none while 65 are open or 128 sockets stand. A connection ends where the other side ends it, where its
-/// socket fails, and where nothing has come for the idle time. What was taken to be sent is still written after the
-/// connection is closed, for as long as it goes on at least every two seconds.
+/// Where 64 connections are open and another one waits, one of them ends first. A connection ends where the other side ends
+/// it, where its socket fails, where its time is over, and where it has to make room; what waits on it is handed in before.
+/// What was taken to be sent is still written after the connection is closed, for 60 seconds at most.
 #[derive(Drop)]
-pub struct SocketLink<'a, R> {
-    sockets: Sockets<'a, R>,
+pub struct SocketLink<S> {
+    places: Places<S>,
     connections: Vec<u32>,
     faults: u64,
     send_faults: u64,
 }
 
-impl<'a, R: Net + Clock> SocketLink<'a, R> {
-    /// A link without connections that listens nowhere yet, over the host's network and clock. A connection ends when
-    /// nothing has come for the time `idle`.
-    pub fn new(alloc: Global, host: &'a R, idle: Duration) -> Result<Self, Memory>
+impl<'a, R: Net + Clock> SocketLink<TcpSockets<'a, R>> {
+    /// A link over TCP without connections that listens nowhere yet, on the host's network and clock. A connection has these
+    /// times from its opening on until an empty line has come, and until its whole request has.
+    pub fn new(
+        alloc: Global,
+        host: &'a R,
+        head: Duration,
+        request: Duration,
+    ) -> Result<Self, Memory>
+        ensures connections { IfOk result (λ link. link.connections.items ≡ []) }
+        ensures faults { IfOk result (λ link. (link.faults ≡ 0) × (link.send_faults ≡ 0)) }
+    {
+        SocketLink::over(
+            alloc,
+            TcpSockets::new(alloc, host)?,
+            Times { head, request },
+        )
+    }
+
+    /// The address at which the link listens, once it does.
+    pub fn address(&self) -> Option<SocketAddr> {
+        self.places.sockets().address()
+    }
+}
+
+impl<S: Sockets> SocketLink<S> {
+    /// A link without connections that listens nowhere yet.
+    pub fn over(alloc: Global, sockets: S, times: Times) -> Result<Self, Memory>
         ensures connections { IfOk result (λ link. link.connections.items ≡ []) }
         ensures faults { IfOk result (λ link. (link.faults ≡ 0) × (link.send_faults ≡ 0)) }
     {
         Ok(SocketLink {
-            sockets: Sockets::new(alloc, host, idle)?,
+            places: Places::new(alloc, sockets, times)?,
             connections: Vec::with_capacity(alloc, MOST_OPEN)?,
             faults: 0,
             send_faults: 0,
         })
     }
 
-    /// The address at which the link listens, once it does.
-    pub fn address(&self) -> Option<SocketAddr> {
-        self.sockets.address()
+    #[cfg(test)]
+    pub(crate) fn sockets(&mut self) -> &mut S {
+        self.places.sockets_again()
     }
 
     /// Waits until what was taken to be sent on closed connections is written, at most for about the time.
     pub fn finish(&mut self, time: Duration) {
-        self.sockets.finish(time)
+        self.places.finish(time)
     }
 
     // Hands in what there is at the next turn of the round, or begins another round. Here `Over` says that nothing was there.
@@ -63,14 +89,16 @@ impl<'a, R: Net + Clock> SocketLink<'a, R> {
         ensures faults { self.new.faults ≡ self.old.faults }
         ensures send_faults { self.new.send_faults ≡ self.old.send_faults }
     {
-        let lets_in = self.connections.len() < MOST_OPEN;
-        match self.sockets.next_turn(lets_in) {
+        match self.places.next_turn() {
             Turn::Connection(number) => self.hear(number, buf),
-            Turn::Listener(number) => self.accept(number),
-            Turn::Nobody => match self.sockets.next_round(lets_in) {
-                Ok(()) => Next::Over,
-                Err(_) => Next::Failed,
-            },
+            Turn::Listener => self.let_in(),
+            Turn::Nobody => {
+                if self.places.next_round() {
+                    Next::Over
+                } else {
+                    Next::Failed
+                }
+            }
         }
     }
 
@@ -82,40 +110,52 @@ impl<'a, R: Net + Clock> SocketLink<'a, R> {
         ensures send_faults { self.new.send_faults ≡ self.old.send_faults }
     {
         if !self.connections.contains(&number) {
-            self.sockets.end(number);
+            self.places.release(number);
             return Next::Over;
         }
-        match self.sockets.hear(number, buf) {
-            Heard::Nothing => Next::Over,
-            Heard::Bytes(size) => Next::Bytes(number, size),
-            Heard::End => {
-                self.sockets.end(number);
+        match self.places.hear(number, buf) {
+            Moved::Nothing => Next::Over,
+            Moved::Bytes(size) => Next::Bytes(number, size),
+            Moved::End => {
+                self.places.release(number);
                 shut(&mut self.connections, number);
                 Next::Ended(number)
             }
         }
     }
 
-    // Lets a connection in, if one waits, under a number that no other has.
-    fn accept(&mut self, number: u32) -> Next
+    // Lets in one who waits, if one does. Where too many are open, one of them is to end first.
+    fn let_in(&mut self) -> Next
         ensures handed { (buffer : List ℕ) → HandsIn self.old.connections.items result buffer self.new.connections.items }
         ensures faults { self.new.faults ≡ self.old.faults }
         ensures send_faults { self.new.send_faults ≡ self.old.send_faults }
     {
-        if self.connections.contains(&number) {
+        match self.places.accept() {
+            Accepted::Guest => {}
+            Accepted::Nobody | Accepted::Gone | Accepted::Full => return Next::Over,
+            Accepted::Failed => return Next::Failed,
+        }
+        if self.connections.len() >= MOST_OPEN {
+            self.places.make_room();
             return Next::Over;
         }
-        match self.sockets.accept(number) {
-            Ok(false) => Next::Over,
-            Ok(true) => {
-                if self.connections.push(number).is_err() {
-                    self.sockets.end(number);
-                    return Next::Over;
-                }
-                Next::Opened(number)
-            }
-            Err(_) => Next::Failed,
+        match self.places.settle() {
+            Some(number) => self.open(number),
+            None => Next::Over,
         }
+    }
+
+    // The connection is open, where no other has its number.
+    fn open(&mut self, number: u32) -> Next
+        ensures handed { (buffer : List ℕ) → HandsIn self.old.connections.items result buffer self.new.connections.items }
+        ensures faults { self.new.faults ≡ self.old.faults }
+        ensures send_faults { self.new.send_faults ≡ self.old.send_faults }
+    {
+        if self.connections.contains(&number) || self.connections.push(number).is_err() {
+            self.places.release(number);
+            return Next::Over;
+        }
+        Next::Opened(number)
     }
 }
 
@@ -126,7 +166,7 @@ fn shut(connections: &mut Vec<u32>, connection: u32)
     connections.retain(|other| *other != connection);
 }
 
-impl<R: Net + Clock> Link for SocketLink<'_, R> {
+impl<S: Sockets> Link for SocketLink<S> {
     ghost use Rattle.std.specs.Prelude.{None};
 
     ghost handed = { λ _. None };
@@ -142,7 +182,7 @@ impl<R: Net + Clock> Link for SocketLink<'_, R> {
     ghost send_faults = { λ l. l.send_faults };
 
     fn listen(&mut self, address: &str) -> Listen {
-        if self.sockets.listen(address).is_err() {
+        if !self.places.listen(address) {
             self.faults = self.faults.saturating_add(1);
             return Listen::Failed;
         }
@@ -162,7 +202,7 @@ impl<R: Net + Clock> Link for SocketLink<'_, R> {
     }
 
     fn send(&mut self, connection: u32, bytes: &[u8]) -> Took {
-        if !self.sockets.send(connection, bytes) {
+        if !self.places.send(connection, bytes) {
             self.send_faults = self.send_faults.saturating_add(1);
             return Took::Failed;
         }
@@ -171,6 +211,6 @@ impl<R: Net + Clock> Link for SocketLink<'_, R> {
 
     fn close(&mut self, connection: u32) {
         shut(&mut self.connections, connection);
-        self.sockets.close(connection);
+        self.places.close(connection);
     }
 }

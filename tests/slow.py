@@ -10,7 +10,7 @@ send a byte every 25 seconds, and 64 that ask and don't read; each is opened ane
 too, with slow heads, slow bodies and slow reading, where it is installed. Of the requests of the clients at work at most one in a
 hundred fails or takes over a second.
 """
-import json, os, select, shutil, socket, subprocess, sys, threading, time
+import json, multiprocessing, os, select, shutil, socket, subprocess, sys, threading, time
 from running import Closed, Wiki, api, read_response, reset
 
 SLOW, LIMIT = 50, 0.1
@@ -97,7 +97,7 @@ class Attack:
             return False
 
     def run(self, wiki, until):
-        links, begun, renewed = [], time.time(), 0
+        links = []
         while time.time() < until:
             turn = time.time()
             for place in range(self.count):
@@ -107,14 +107,12 @@ class Attack:
                     elif not self.goes_on(links[place]):
                         links[place].close()
                         links[place] = self.opened(wiki)
-                        renewed += 1
                 except OSError:
                     pass
             while time.time() < min(until, turn + (self.pause or 1)):
                 time.sleep(0.01)
         for link in links:
             link.close()
-        return renewed
 
 
 def tested(wiki, until, *words):
@@ -126,7 +124,7 @@ def tested(wiki, until, *words):
 
 def attacks(is_long):
     """What each attack is called, and what does it to a wiki until a time."""
-    yield "200 connections that trickle", Attack(200, HEAD, 0.2).run
+    yield "200 connections that trickle", Attack(200, HEAD, 1).run
     yield "64 connections that send a byte every 25 seconds", Attack(64, b"G", 25).run
     yield "64 connections that don't read", Attack(64, INDEX, 0, reads=False).run
     if is_long and shutil.which("slowhttptest"):
@@ -138,7 +136,7 @@ def attacks(is_long):
 def attacked(wiki, name, attack, seconds):
     """Three clients at work beside an attack: at most one request in a hundred fails or takes over a second."""
     until = time.time() + seconds
-    attacker = threading.Thread(target=attack, args=(wiki, until))
+    attacker = multiprocessing.Process(target=attack, args=(wiki, until))
     attacker.start()
     time.sleep(1)
     workers = [Worker(wiki, number, until) for number in range(3)]

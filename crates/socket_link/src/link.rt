@@ -60,6 +60,7 @@ impl<'a, R: Net + Clock> SocketLink<TcpSockets<'a, R>> {
 impl<S: Sockets> SocketLink<S> {
     /// A link without connections that listens nowhere yet.
     pub fn over(alloc: Global, sockets: S, times: Times) -> Result<Self, Memory>
+        ensures events { IfOk result (λ link. S.events link.places.sockets ≡ S.events sockets) }
         ensures connections { IfOk result (λ link. link.connections.items ≡ []) }
         ensures faults { IfOk result (λ link. (link.faults ≡ 0) × (link.send_faults ≡ 0)) }
     {
@@ -77,14 +78,18 @@ impl<S: Sockets> SocketLink<S> {
     }
 
     /// Waits until what was taken to be sent on closed connections is written, at most for about the time.
-    pub fn finish(&mut self, time: Duration) {
+    pub fn finish(&mut self, time: Duration)
+        ensures events { S.events self.new.places.sockets ≡ S.events self.old.places.sockets }
+    {
         self.places.finish(time)
     }
 
     // Hands in what there is at the next turn of the round, or begins another round. Here `Over` says that nothing was there.
+    #[tactic(auto, using(crate::proofs::ToldLemmas::with_nothing))]
     fn hand_in(&mut self, buf: &mut [u8]) -> Next
         requires { 0 < length buf.old }
         ensures handed { HandsIn self.old.connections.items result buf.new self.new.connections.items }
+        ensures told { S.events self.new.places.sockets ≡ with_more (S.events self.old.places.sockets) (event_in result buf.new) }
         ensures room { length buf.new ≡ length buf.old }
         ensures faults { self.new.faults ≡ self.old.faults }
         ensures send_faults { self.new.send_faults ≡ self.old.send_faults }
@@ -102,9 +107,11 @@ impl<S: Sockets> SocketLink<S> {
         }
     }
 
+    #[tactic(auto, using(crate::proofs::ToldLemmas::with_nothing))]
     fn hear(&mut self, number: u32, buf: &mut [u8]) -> Next
         requires { 0 < length buf.old }
         ensures handed { HandsIn self.old.connections.items result buf.new self.new.connections.items }
+        ensures told { S.events self.new.places.sockets ≡ with_more (S.events self.old.places.sockets) (event_in result buf.new) }
         ensures room { length buf.new ≡ length buf.old }
         ensures faults { self.new.faults ≡ self.old.faults }
         ensures send_faults { self.new.send_faults ≡ self.old.send_faults }
@@ -117,7 +124,7 @@ impl<S: Sockets> SocketLink<S> {
             Moved::Nothing => Next::Over,
             Moved::Bytes(size) => Next::Bytes(number, size),
             Moved::End => {
-                self.places.release(number);
+                self.places.end(number);
                 shut(&mut self.connections, number);
                 Next::Ended(number)
             }
@@ -125,8 +132,10 @@ impl<S: Sockets> SocketLink<S> {
     }
 
     // Lets in one who waits, if one does. Where too many are open, one of them is to end first.
+    #[tactic(auto, using(crate::proofs::ToldLemmas::with_nothing))]
     fn let_in(&mut self) -> Next
         ensures handed { (buffer : List ℕ) → HandsIn self.old.connections.items result buffer self.new.connections.items }
+        ensures told { (buffer : List ℕ) → S.events self.new.places.sockets ≡ with_more (S.events self.old.places.sockets) (event_in result buffer) }
         ensures faults { self.new.faults ≡ self.old.faults }
         ensures send_faults { self.new.send_faults ≡ self.old.send_faults }
     {
@@ -139,20 +148,25 @@ impl<S: Sockets> SocketLink<S> {
             self.places.make_room();
             return Next::Over;
         }
-        match self.places.settle() {
+        match self.places.free_number() {
             Some(number) => self.open(number),
             None => Next::Over,
         }
     }
 
-    // The connection is open, where no other has its number.
+    // Opens a connection, where no other has its number.
+    #[tactic(auto, using(crate::proofs::ToldLemmas::with_nothing))]
     fn open(&mut self, number: u32) -> Next
         ensures handed { (buffer : List ℕ) → HandsIn self.old.connections.items result buffer self.new.connections.items }
+        ensures told { (buffer : List ℕ) → S.events self.new.places.sockets ≡ with_more (S.events self.old.places.sockets) (event_in result buffer) }
         ensures faults { self.new.faults ≡ self.old.faults }
         ensures send_faults { self.new.send_faults ≡ self.old.send_faults }
     {
         if self.connections.contains(&number) || self.connections.push(number).is_err() {
-            self.places.release(number);
+            return Next::Over;
+        }
+        if !self.places.settle(number) {
+            self.connections.pop();
             return Next::Over;
         }
         Next::Opened(number)
@@ -169,7 +183,7 @@ fn shut(connections: &mut Vec<u32>, connection: u32)
 impl<S: Sockets> Link for SocketLink<S> {
     ghost use Rattle.std.specs.Prelude.{None};
 
-    ghost handed = { λ _. None };
+    ghost handed = { λ l. S.events l.places.sockets };
 
     ghost left = { λ _. None };
 
@@ -189,6 +203,7 @@ impl<S: Sockets> Link for SocketLink<S> {
         Listen::Ready
     }
 
+    #[tactic(auto, using(crate::proofs::ToldLemmas::with_nothing))]
     fn next(&mut self, buf: &mut [u8]) -> Next {
         for _ in 0..u64::MAX {
             match self.hand_in(buf) {

@@ -1,6 +1,9 @@
 // Sockets in memory: what happens on them is told beforehand, each with its time.
-ghost use Rattle.std.specs.Prelude.{◌≡◌, ◌<◌, ◌≤◌, length};
+ghost use Rattle.std.specs.Prelude.{◌≡◌, ◌<◌, ◌≤◌, ◌∷◌, [], length};
+ghost use Rattle.wiki_io.specs.declared.links.Event.{Event};
+ghost use Rattle.wiki_io.specs.Link.{with_more};
 ghost use Rattle.socket_link.specs.Moved.{MovedFits};
+ghost use Rattle.socket_link.specs.Told.{opening_of, piece_of};
 
 use crate::socket::{Accepted, Moved, Ready, Sockets};
 use std::alloc::Global;
@@ -154,6 +157,10 @@ impl MemorySockets {
 }
 
 impl Sockets for MemorySockets {
+    ghost use Rattle.std.specs.Prelude.{None};
+
+    ghost events = { λ _. None };
+
     fn listen(&mut self, _address: &str) -> bool {
         !self.fails_now()
     }
@@ -264,6 +271,10 @@ impl Sockets for MemorySockets {
             }
             None => false,
         }
+    }
+
+    fn end(&mut self, number: u32) {
+        self.release(number)
     }
 
     fn release(&mut self, number: u32) {

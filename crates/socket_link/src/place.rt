@@ -1,11 +1,16 @@
 // One connection: how long it may stand, and what is still to be written to it.
 ghost use Rattle.std.specs.Prelude.{◌≡◌, ◌<◌, ◌≤◌, length};
+ghost use Rattle.wiki_io.specs.Link.{with_more};
 ghost use Rattle.socket_link.specs.Moved.{MovedFits};
+ghost use Rattle.socket_link.specs.Told.{piece_of};
 
 use crate::head::Head;
 use crate::socket::{Moved, Sockets};
 use std::alloc::{AllocError, Global};
 use std::time::Duration;
+
+// For how many seconds after its opening a connection isn't the one to make room, where there is another.
+const NEW_SECONDS: u64 = 1;
 
 // How many seconds after its close a response may take to be written.
 const WRITE_SECONDS: u64 = 60;
@@ -74,17 +79,24 @@ impl Place {
     }
 
     // Which of two goes first, where both are closed or both open. Of closed ones, whose time is over first; of open ones, the
-    // one that is to end anyway, then one without an empty line, then the one that has been silent for longest.
-    pub(crate) fn goes_before(&self, other: &Place) -> bool {
+    // one that is to end anyway, then one that wasn't opened just now, so that its bytes may come, then one without an empty
+    // line, then the one that has been silent for longest.
+    pub(crate) fn goes_before(&self, other: &Place, now: Duration) -> bool {
         if self.is_closed {
             self.due < other.due
         } else if self.is_leaving != other.is_leaving {
             self.is_leaving
+        } else if self.is_new(now) != other.is_new(now) {
+            other.is_new(now)
         } else if self.head.is_whole() != other.head.is_whole() {
             other.head.is_whole()
         } else {
             self.heard < other.heard
         }
+    }
+
+    fn is_new(&self, now: Duration) -> bool {
+        now.saturating_sub(self.opened) < Duration::from_secs(NEW_SECONDS)
     }
 
     // Reads what has come into the buffer. One whose time is over has ended where nothing waits.
@@ -99,6 +111,7 @@ impl Place {
         requires { 0 < length buf.old }
         ensures fits { MovedFits result (length buf.new) }
         ensures room { length buf.new ≡ length buf.old }
+        ensures events { S.events sockets.new ≡ with_more (S.events sockets.old) (piece_of number result buf.new) }
     {
         match sockets.read(number, buf) {
             Moved::Nothing if self.is_leaving || self.due <= now => Moved::End,
@@ -121,7 +134,9 @@ impl Place {
     }
 
     // Writes what the socket takes now. False where it has failed.
-    pub(crate) fn write<S: Sockets>(&mut self, sockets: &mut S, number: u32) -> bool {
+    pub(crate) fn write<S: Sockets>(&mut self, sockets: &mut S, number: u32) -> bool
+        ensures events { S.events sockets.new ≡ S.events sockets.old }
+    {
         for _ in 0..u64::MAX {
             let rest = self.unsent.get(self.written..).unwrap_or(&[]);
             if rest.is_empty() {
@@ -150,7 +165,9 @@ impl Place {
         sockets: &mut S,
         number: u32,
         now: Duration,
-    ) -> bool {
+    ) -> bool
+        ensures events { S.events sockets.new ≡ S.events sockets.old }
+    {
         if self.due <= now || !self.write(sockets, number) {
             return false;
         }
@@ -166,7 +183,9 @@ impl Place {
     }
 
     // Passes over what has come.
-    fn drain<S: Sockets>(&mut self, sockets: &mut S, number: u32) {
+    fn drain<S: Sockets>(&mut self, sockets: &mut S, number: u32)
+        ensures events { S.events sockets.new ≡ S.events sockets.old }
+    {
         for _ in 0..u64::MAX {
             if self.has_ended || self.drained > MOST_DRAINED {
                 return;

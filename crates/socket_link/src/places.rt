@@ -1,8 +1,11 @@
 // The places of the connections: which are taken, on which something may have come, and when the next one's time is over. The
 // work goes round: each round looks at what has become ready, and then each connection with something to be read has one turn,
 // and the listener one. Nothing here goes over all places but where a time is over or one has to go.
-ghost use Rattle.std.specs.Prelude.{◌≡◌, ◌<◌, ◌≤◌, length};
+ghost use Rattle.std.specs.Prelude.{◌≡◌, ◌<◌, ◌≤◌, ◌∷◌, [], IfOk, length};
+ghost use Rattle.wiki_io.specs.declared.links.Event.{Event};
+ghost use Rattle.wiki_io.specs.Link.{with_more};
 ghost use Rattle.socket_link.specs.Moved.{MovedFits};
+ghost use Rattle.socket_link.specs.Told.{opening_of, piece_of};
 
 use crate::numbers::Numbers;
 use crate::place::{Place, Times};
@@ -46,7 +49,9 @@ pub(crate) struct Places<S> {
 }
 
 impl<S: Sockets> Places<S> {
-    pub(crate) fn new(alloc: Global, sockets: S, times: Times) -> Result<Self, Memory> {
+    pub(crate) fn new(alloc: Global, sockets: S, times: Times) -> Result<Self, Memory>
+        ensures events { IfOk result (λ places. S.events places.sockets ≡ S.events sockets) }
+    {
         let mut places = Vec::with_capacity(alloc, PLACES as usize)?;
         for _ in 0..PLACES {
             places.push(None)?;
@@ -76,13 +81,17 @@ impl<S: Sockets> Places<S> {
         &mut self.sockets
     }
 
-    pub(crate) fn listen(&mut self, address: &str) -> bool {
+    pub(crate) fn listen(&mut self, address: &str) -> bool
+        ensures events { S.events self.new.sockets ≡ S.events self.old.sockets }
+    {
         self.waits = self.sockets.listen(address);
         self.waits
     }
 
     // Whose turn comes next in this round.
-    pub(crate) fn next_turn(&mut self) -> Turn {
+    pub(crate) fn next_turn(&mut self) -> Turn
+        ensures events { S.events self.new.sockets ≡ S.events self.old.sockets }
+    {
         if let Some(number) = self.ready.first_from(self.turn) {
             self.turn = number.saturating_add(1);
             return Turn::Connection(number);
@@ -102,7 +111,9 @@ impl<S: Sockets> Places<S> {
 
     // Begins a round: waits until something is ready or the first of the times is up, and not at all where somebody's turn
     // comes anyway. False where that fails.
-    pub(crate) fn next_round(&mut self) -> bool {
+    pub(crate) fn next_round(&mut self) -> bool
+        ensures events { S.events self.new.sockets ≡ S.events self.old.sockets }
+    {
         if self.ready.first_from(0).is_some() || self.may_accept() {
             return self.wait(Some(Duration::from_secs(0)));
         }
@@ -111,7 +122,9 @@ impl<S: Sockets> Places<S> {
     }
 
     // Waits for the time at most, notes what has become ready, and goes on with what is closed.
-    fn wait(&mut self, time: Option<Duration>) -> bool {
+    fn wait(&mut self, time: Option<Duration>) -> bool
+        ensures events { S.events self.new.sockets ≡ S.events self.old.sockets }
+    {
         let Some(ready) = self.sockets.wait(time) else {
             return false;
         };
@@ -124,11 +137,15 @@ impl<S: Sockets> Places<S> {
         true
     }
 
-    fn read_clock(&mut self) {
+    fn read_clock(&mut self)
+        ensures events { S.events self.new.sockets ≡ S.events self.old.sockets }
+    {
         self.now = self.sockets.now().unwrap_or(self.now);
     }
 
-    fn become_ready(&mut self, ready: Ready) {
+    fn become_ready(&mut self, ready: Ready)
+        ensures events { S.events self.new.sockets ≡ S.events self.old.sockets }
+    {
         let mut from = 0;
         for _ in 0..PLACES {
             let Some(number) = ready.sockets.first_from(from) else {
@@ -140,7 +157,9 @@ impl<S: Sockets> Places<S> {
     }
 
     // Something may be read from the connection's socket, or written to it.
-    fn becomes_ready(&mut self, number: u32) {
+    fn becomes_ready(&mut self, number: u32)
+        ensures events { S.events self.new.sockets ≡ S.events self.old.sockets }
+    {
         let Some(Some(place)) = self.places.get_mut(number as usize) else {
             return;
         };
@@ -154,7 +173,9 @@ impl<S: Sockets> Places<S> {
     }
 
     // How long a wait may last: until a connection's time is over, or until one is accepted again.
-    fn time_left(&mut self) -> Option<Duration> {
+    fn time_left(&mut self) -> Option<Duration>
+        ensures events { S.events self.new.sockets ≡ S.events self.old.sockets }
+    {
         self.read_clock();
         let left = match self.due {
             Some(due) => Some(due.saturating_sub(self.now)),
@@ -168,7 +189,9 @@ impl<S: Sockets> Places<S> {
     }
 
     // Where a time is over, has the open connections heard whose time that is, and lets the sockets of closed ones go.
-    fn look_over(&mut self) {
+    fn look_over(&mut self)
+        ensures events { S.events self.new.sockets ≡ S.events self.old.sockets }
+    {
         if self.due.is_none_or(|due| due > self.now) {
             return;
         }
@@ -178,7 +201,9 @@ impl<S: Sockets> Places<S> {
         }
     }
 
-    fn look_at(&mut self, number: u32) {
+    fn look_at(&mut self, number: u32)
+        ensures events { S.events self.new.sockets ≡ S.events self.old.sockets }
+    {
         let Some(Some(place)) = self.places.get(number as usize) else {
             return;
         };
@@ -193,14 +218,18 @@ impl<S: Sockets> Places<S> {
     }
 
     // A connection's time is over then.
-    fn note_due(&mut self, time: Duration) {
+    fn note_due(&mut self, time: Duration)
+        ensures events { S.events self.new.sockets ≡ S.events self.old.sockets }
+    {
         if self.due.is_none_or(|due| due > time) {
             self.due = Some(time);
         }
     }
 
     // Has a socket for one who waits, if one does.
-    pub(crate) fn accept(&mut self) -> Accepted {
+    pub(crate) fn accept(&mut self) -> Accepted
+        ensures events { S.events self.new.sockets ≡ S.events self.old.sockets }
+    {
         if self.has_guest {
             return Accepted::Guest;
         }
@@ -214,34 +243,44 @@ impl<S: Sockets> Places<S> {
         accepted
     }
 
-    // Names the socket that was accepted last. Where all places are taken, the closed connection whose time is over first
-    // loses its socket.
-    pub(crate) fn settle(&mut self) -> Option<u32> {
-        let number = match self.taken.first_missing() {
-            Some(number) => number,
-            None => {
-                let number = self.first_to_go(true)?;
-                self.release(number);
-                number
-            }
-        };
+    // A number for the socket that was accepted last. Where all places are taken, the closed connection whose time is over
+    // first loses its socket.
+    pub(crate) fn free_number(&mut self) -> Option<u32>
+        ensures events { S.events self.new.sockets ≡ S.events self.old.sockets }
+    {
+        if let Some(number) = self.taken.first_missing() {
+            return Some(number);
+        }
+        let number = self.first_to_go(true)?;
+        self.release(number);
+        Some(number)
+    }
+
+    // Names the socket that was accepted last. False where that fails.
+    pub(crate) fn settle(&mut self, number: u32) -> bool
+        ensures events { S.events self.new.sockets ≡ with_more (S.events self.old.sockets) (opening_of number result) }
+    {
         self.has_guest = false;
         if !self.sockets.settle(number) {
             self.sockets.release(number);
-            return None;
+            return false;
         }
         self.read_clock();
         let place = Place::new(self.alloc, self.now, self.times);
         self.note_due(place.due());
-        *self.places.get_mut(number as usize)? = Some(place);
+        if let Some(free) = self.places.get_mut(number as usize) {
+            *free = Some(place);
+        }
         self.taken.insert(number);
         self.ready.insert(number);
-        Some(number)
+        true
     }
 
     // One of the open connections is to end, if none is already: one on which no empty line has come before others, and that
     // on which nothing has come for longest.
-    pub(crate) fn make_room(&mut self) {
+    pub(crate) fn make_room(&mut self)
+        ensures events { S.events self.new.sockets ≡ S.events self.old.sockets }
+    {
         let Some(number) = self.first_to_go(false) else {
             return;
         };
@@ -271,7 +310,7 @@ impl<S: Sockets> Places<S> {
             return false;
         }
         match other.and_then(|found| self.place(found)) {
-            Some(found) => place.goes_before(found),
+            Some(found) => place.goes_before(found, self.now),
             None => true,
         }
     }
@@ -288,6 +327,7 @@ impl<S: Sockets> Places<S> {
         requires { 0 < length buf.old }
         ensures fits { MovedFits result (length buf.new) }
         ensures room { length buf.new ≡ length buf.old }
+        ensures events { S.events self.new.sockets ≡ with_more (S.events self.old.sockets) (piece_of number result buf.new) }
     {
         self.read_clock();
         let Some(Some(place)) = self.places.get_mut(number as usize) else {
@@ -303,7 +343,9 @@ impl<S: Sockets> Places<S> {
     }
 
     // Keeps the bytes and writes what the socket takes at once. False for want of memory, or where the socket has failed.
-    pub(crate) fn send(&mut self, number: u32, bytes: &[u8]) -> bool {
+    pub(crate) fn send(&mut self, number: u32, bytes: &[u8]) -> bool
+        ensures events { S.events self.new.sockets ≡ S.events self.old.sockets }
+    {
         match self.places.get_mut(number as usize) {
             Some(Some(place)) => place.keep(bytes).is_ok()
                 && place.write(&mut self.sockets, number),
@@ -312,7 +354,9 @@ impl<S: Sockets> Places<S> {
     }
 
     // The connection is closed; its socket goes once all is written and what comes was passed over.
-    pub(crate) fn close(&mut self, number: u32) {
+    pub(crate) fn close(&mut self, number: u32)
+        ensures events { S.events self.new.sockets ≡ S.events self.old.sockets }
+    {
         self.ready.remove(number);
         self.read_clock();
         if let Some(Some(place)) = self.places.get_mut(number as usize) {
@@ -321,7 +365,9 @@ impl<S: Sockets> Places<S> {
         }
     }
 
-    fn wind_up(&mut self, number: u32) {
+    fn wind_up(&mut self, number: u32)
+        ensures events { S.events self.new.sockets ≡ S.events self.old.sockets }
+    {
         let Some(Some(place)) = self.places.get_mut(number as usize) else {
             return;
         };
@@ -333,9 +379,25 @@ impl<S: Sockets> Places<S> {
         }
     }
 
-    // The socket of the connection goes.
-    pub(crate) fn release(&mut self, number: u32) {
+    // The socket of an open connection goes.
+    pub(crate) fn end(&mut self, number: u32)
+        ensures events { S.events self.new.sockets ≡ with_more (S.events self.old.sockets) (Event.Ended number ∷ []) }
+    {
+        self.sockets.end(number);
+        self.clear(number);
+    }
+
+    // The socket of a closed connection goes.
+    pub(crate) fn release(&mut self, number: u32)
+        ensures events { S.events self.new.sockets ≡ S.events self.old.sockets }
+    {
         self.sockets.release(number);
+        self.clear(number);
+    }
+
+    fn clear(&mut self, number: u32)
+        ensures events { S.events self.new.sockets ≡ S.events self.old.sockets }
+    {
         if let Some(place) = self.places.get_mut(number as usize) {
             *place = None;
         }
@@ -345,7 +407,9 @@ impl<S: Sockets> Places<S> {
     }
 
     // Waits until no closed connection has its socket any more, at most for about the time.
-    pub(crate) fn finish(&mut self, time: Duration) {
+    pub(crate) fn finish(&mut self, time: Duration)
+        ensures events { S.events self.new.sockets ≡ S.events self.old.sockets }
+    {
         self.read_clock();
         let end = self.now.saturating_add(time);
         for _ in 0..u64::MAX {

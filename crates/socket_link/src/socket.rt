@@ -1,11 +1,15 @@
 // The sockets that a link runs over.
-ghost use Rattle.std.specs.Prelude.{◌≡◌, ◌<◌, ◌≤◌, ℕ, IfOk, OnErr, length};
+ghost use Rattle.std.specs.Prelude.{◌≡◌, ◌<◌, ◌≤◌, ◌∷◌, [], ℕ, List, Option, IfOk, length};
+ghost use Rattle.wiki_io.specs.declared.links.Event.{Event};
+ghost use Rattle.wiki_io.specs.Link.{with_more};
 ghost use Rattle.socket_link.specs.Moved.{MovedFits};
+ghost use Rattle.socket_link.specs.Told.{opening_of, piece_of};
 
 use crate::numbers::Numbers;
 use std::io;
 use std::io::ErrorKind;
 use std::time::Duration;
+use wiki_io::Event;
 
 /// How many sockets of connections there are at most, those of closed connections included.
 pub(crate) const PLACES: u32 = 128;
@@ -95,38 +99,56 @@ impl Ready {
 
 /// A listener and the sockets of its connections, named by numbers below 128. No call waits but `wait`.
 pub trait Sockets: Drop {
+    /// What happened on the sockets, in order, where they tell it: one gets its number, bytes are read from it, and one that
+    /// is open goes. What is passed over is no part of it.
+    ghost events: { Self → Option (List Event) };
+
     /// Begins to listen at the address. False where that fails.
-    fn listen(&mut self, address: &str) -> bool;
+    fn listen(&mut self, address: &str) -> bool
+        ensures events { events self.new ≡ events self.old };
 
     /// The time since some start. None where there is no telling.
-    fn now(&mut self) -> Option<Duration>;
+    fn now(&mut self) -> Option<Duration>
+        ensures events { events self.new ≡ events self.old };
 
     /// Waits until something becomes ready, or for the time at most. None where that fails.
-    fn wait(&mut self, time: Option<Duration>) -> Option<Ready>;
+    fn wait(&mut self, time: Option<Duration>) -> Option<Ready>
+        ensures events { events self.new ≡ events self.old };
 
     /// Gives a socket to one who waits at the listener.
-    fn accept(&mut self) -> Accepted;
+    fn accept(&mut self) -> Accepted
+        ensures events { events self.new ≡ events self.old };
 
     /// Names the socket that was accepted last by a number that no other has. False where that fails, and it goes.
-    fn settle(&mut self, number: u32) -> bool;
+    fn settle(&mut self, number: u32) -> bool
+        ensures events { events self.new ≡ with_more (events self.old) (opening_of number result) };
 
     /// Reads what has come into the front of the buffer.
     fn read(&mut self, number: u32, buf: &mut [u8]) -> Moved
         requires { 0 < length buf.old }
         ensures fits { MovedFits result (length buf.new) }
-        ensures room { length buf.new ≡ length buf.old };
+        ensures room { length buf.new ≡ length buf.old }
+        ensures events { events self.new ≡ with_more (events self.old) (piece_of number result buf.new) };
 
     /// Reads what has come and passes it over.
-    fn pass_over(&mut self, number: u32) -> Moved;
+    fn pass_over(&mut self, number: u32) -> Moved
+        ensures events { events self.new ≡ events self.old };
 
     /// Writes from the front of the bytes what the socket takes now.
     fn write(&mut self, number: u32, bytes: &[u8]) -> Moved
         requires { 0 < length bytes.now }
-        ensures fits { MovedFits result (length bytes.now) };
+        ensures fits { MovedFits result (length bytes.now) }
+        ensures events { events self.new ≡ events self.old };
 
     /// Nothing more is written. False where that fails.
-    fn shut(&mut self, number: u32) -> bool;
+    fn shut(&mut self, number: u32) -> bool
+        ensures events { events self.new ≡ events self.old };
 
-    /// The socket goes.
-    fn release(&mut self, number: u32);
+    /// The socket of an open connection goes.
+    fn end(&mut self, number: u32)
+        ensures events { events self.new ≡ with_more (events self.old) (Event.Ended number ∷ []) };
+
+    /// The socket of a closed connection goes.
+    fn release(&mut self, number: u32)
+        ensures events { events self.new ≡ events self.old };
 }

@@ -1,6 +1,9 @@
 // The sockets of the system. Its calls don't wait, so they aren't interrupted.
-ghost use Rattle.std.specs.Prelude.{◌≡◌, ◌<◌, ◌≤◌, length};
+ghost use Rattle.std.specs.Prelude.{◌≡◌, ◌<◌, ◌≤◌, ◌∷◌, [], length};
+ghost use Rattle.wiki_io.specs.declared.links.Event.{Event};
+ghost use Rattle.wiki_io.specs.Link.{with_more};
 ghost use Rattle.socket_link.specs.Moved.{MovedFits};
+ghost use Rattle.socket_link.specs.Told.{opening_of, piece_of};
 
 use crate::socket::{Accepted, Moved, PLACES, Ready, Sockets};
 use mio::net::{TcpListener, TcpStream};
@@ -65,6 +68,10 @@ impl<'a, R: Net + Clock> TcpSockets<'a, R> {
 }
 
 impl<R: Net + Clock> Sockets for TcpSockets<'_, R> {
+    ghost use Rattle.std.specs.Prelude.{None};
+
+    ghost events = { λ _. None };
+
     fn listen(&mut self, address: &str) -> bool {
         self.bind(address).is_ok()
     }
@@ -135,6 +142,10 @@ impl<R: Net + Clock> Sockets for TcpSockets<'_, R> {
             Some(Some(stream)) => stream.shutdown(Shutdown::Write).is_ok(),
             _ => false,
         }
+    }
+
+    fn end(&mut self, number: u32) {
+        self.release(number)
     }
 
     fn release(&mut self, number: u32) {

@@ -79,19 +79,24 @@ def half_sent():
 
 
 def too_many():
+    """Where 64 are open, each further one is answered, and those that were silent for longest end without a response: first
+    those on which no empty line has come."""
     links = [opened() for _ in range(64)]
-    for _ in range(3):
-        expect("the 65th", answer(opened()), 503, "<p>503 Service Unavailable</p>")
-    links.pop().close()
-    for _ in range(50):
-        got = sent(CUT)
-        if not got.startswith("HTTP/1.1 503 "):
-            break
-        time.sleep(0.1)
-    expect("after one has gone", got, 200, FOUND)
-    for link in links:
+    time.sleep(0.2)
+    links[0].sendall(CUT[:-1].encode())
+    links[1].sendall(CUT[:-40].encode())
+    time.sleep(0.2)
+    more = [opened() for _ in range(3)]
+    time.sleep(0.2)
+    for link in more:
         link.sendall(CUT.encode())
-        expect("the 64", answer(link), 200, FOUND)
+        expect("one of more than 64", answer(link), 200, FOUND)
+    for link in links[2:5]:
+        if got := answer(link):
+            fail(f"one that makes room is answered: {got!r}")
+    for link, cut in [(links[0], -1), (links[1], -40)] + [(link, 0) for link in links[5:]]:
+        link.sendall(CUT[cut:].encode())
+        expect("the others of the 64", answer(link), 200, FOUND)
 
 
 def cut_anywhere():

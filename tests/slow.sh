@@ -1,6 +1,6 @@
 #!/usr/bin/env bash
-# Sixty slow connections beside three working clients, and connections that are never read or are reset (slow.py says what
-# must hold). $1 is the program; with `long` as $2 it goes on for a minute.
+# Slow connections beside three working clients, connections that are never read or are reset, and attacks by those that
+# trickle (slow.py says what must hold). $1 is the program; with `long` as $2 it goes on for ten minutes.
 set -u
 here="$(cd "$(dirname "${BASH_SOURCE[0]}")" && pwd)"
 . "$here/common.sh"

@@ -26,8 +26,9 @@ use std::time::Duration;
 use wiki_io::{ReadSource, WriteSink};
 use words::ProcessLine;
 
-// How long a connection may send nothing.
-const IDLE_SECONDS: u64 = 60;
+// How long a connection may take until an empty line has come, and until its whole request has.
+const HEAD_SECONDS: u64 = 20;
+const REQUEST_SECONDS: u64 = 60;
 
 // How long the link may take to write what was sent, when all else is done.
 const FINISH_SECONDS: u64 = 2;
@@ -37,7 +38,9 @@ fn main(rt: HostRuntime) -> ExitCode {
     let mut output = WriteSink::new(rt.stdout());
     let mut errors = WriteSink::new(rt.stderr());
     let line = ProcessLine::new(&rt);
-    let Ok(mut link) = SocketLink::new(rt.alloc(), &rt, Duration::from_secs(IDLE_SECONDS)) else {
+    let head = Duration::from_secs(HEAD_SECONDS);
+    let request = Duration::from_secs(REQUEST_SECONDS);
+    let Ok(mut link) = SocketLink::new(rt.alloc(), &rt, head, request) else {
         return ExitCode::from(end(Outcome::Memory, &mut errors));
     };
     let status = program(

@@ -1,2 +1,3 @@
-pub mod Heard
+pub mod Moved
 pub mod Round
+pub mod Told

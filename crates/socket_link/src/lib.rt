@@ -1,13 +1,23 @@
-//! Connections over TCP that are served side by side: the edge of the wiki to the network. The sockets themselves are
-//! trusted; which connections are open, and how often a call failed, is proved as of any link.
+//! Connections over TCP that are served side by side: the edge of the wiki to the network. The link itself runs over a trait
+//! of sockets (`Sockets`); only `TcpSockets`, which calls the system, is trusted.
 #![tactic(auto)]
 
+mod head;
 mod link;
+#[cfg(test)]
+mod memory;
 mod numbers;
 mod place;
 mod places;
-mod sockets;
+mod socket;
+mod tcp;
 #[cfg(test)]
 mod tests;
+#[cfg(test)]
+mod tests_over_tcp;
 
 pub use link::SocketLink;
+pub use numbers::Numbers;
+pub use place::Times;
+pub use socket::{Accepted, Moved, Ready, Sockets};
+pub use tcp::TcpSockets;

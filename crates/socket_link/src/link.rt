@@ -6,116 +6,167 @@ ghost use Rattle.wiki_io.specs.Link.{is_among, without, can_all_come, connection
 ghost use Rattle.wiki_io.specs.Sink.{TookFits};
 ghost use Rattle.socket_link.specs.Round.{HandsIn};
 
-use crate::place::Heard;
-use crate::sockets::{Sockets, Turn};
+use crate::place::Times;
+use crate::places::{Places, Turn};
+use crate::socket::{Accepted, Moved, Sockets};
+use crate::tcp::TcpSockets;
 use std::alloc::Global;
 use std::net::{Net, SocketAddr};
 use std::time::{Clock, Duration};
 use wiki_base::Memory;
 use wiki_io::{Link, Listen, MOST_OPEN, Next, Took};
 
-// How many connections are let in at most: one more than the wiki keeps, which it answers and closes.
-const MOST_LET_IN: usize = MOST_OPEN + 1;
-
-/// A link over TCP. It hands in each connection that it accepts, and pieces of whichever connection has some, in turn.
+/// A link over sockets. It hands in each connection that it accepts, and pieces of whichever connection has some, in turn.
 /// A connection on which nothing comes isn't looked at until its time is up.
-/// It accepts none while 65 are open or 128 sockets stand. A connection ends where the other side ends it, where its
-/// socket fails, and where nothing has come for the idle time. What was taken to be sent is still written after the
-/// connection is closed, for as long as it goes on at least every two seconds.
+/// Where 64 connections are open and another one waits, one of them ends first. A connection ends where the other side ends
+/// it, where its socket fails, where its time is over, and where it has to make room; what waits on it is handed in before.
+/// What was taken to be sent is still written after the connection is closed, for 60 seconds at most.
 #[derive(Drop)]
-pub struct SocketLink<'a, R> {
-    sockets: Sockets<'a, R>,
+pub struct SocketLink<S> {
+    places: Places<S>,
     connections: Vec<u32>,
     faults: u64,
     send_faults: u64,
 }
 
-impl<'a, R: Net + Clock> SocketLink<'a, R> {
-    /// A link without connections that listens nowhere yet, over the host's network and clock. A connection ends when
-    /// nothing has come for the time `idle`.
-    pub fn new(alloc: Global, host: &'a R, idle: Duration) -> Result<Self, Memory>
+impl<'a, R: Net + Clock> SocketLink<TcpSockets<'a, R>> {
+    /// A link over TCP without connections that listens nowhere yet, on the host's network and clock. A connection has these
+    /// times from its opening on until an empty line has come, and until its whole request has.
+    pub fn new(
+        alloc: Global,
+        host: &'a R,
+        head: Duration,
+        request: Duration,
+    ) -> Result<Self, Memory>
+        ensures connections { IfOk result (λ link. link.connections.items ≡ []) }
+        ensures faults { IfOk result (λ link. (link.faults ≡ 0) × (link.send_faults ≡ 0)) }
+    {
+        SocketLink::over(
+            alloc,
+            TcpSockets::new(alloc, host)?,
+            Times { head, request },
+        )
+    }
+
+    /// The address at which the link listens, once it does.
+    pub fn address(&self) -> Option<SocketAddr> {
+        self.places.sockets().address()
+    }
+}
+
+impl<S: Sockets> SocketLink<S> {
+    /// A link without connections that listens nowhere yet.
+    pub fn over(alloc: Global, sockets: S, times: Times) -> Result<Self, Memory>
+        ensures events { IfOk result (λ link. S.events link.places.sockets ≡ S.events sockets) }
         ensures connections { IfOk result (λ link. link.connections.items ≡ []) }
         ensures faults { IfOk result (λ link. (link.faults ≡ 0) × (link.send_faults ≡ 0)) }
     {
         Ok(SocketLink {
-            sockets: Sockets::new(alloc, host, idle)?,
-            connections: Vec::with_capacity(alloc, MOST_LET_IN)?,
+            places: Places::new(alloc, sockets, times)?,
+            connections: Vec::with_capacity(alloc, MOST_OPEN)?,
             faults: 0,
             send_faults: 0,
         })
     }
 
-    /// The address at which the link listens, once it does.
-    pub fn address(&self) -> Option<SocketAddr> {
-        self.sockets.address()
+    #[cfg(test)]
+    pub(crate) fn sockets(&mut self) -> &mut S {
+        self.places.sockets_again()
     }
 
     /// Waits until what was taken to be sent on closed connections is written, at most for about the time.
-    pub fn finish(&mut self, time: Duration) {
-        self.sockets.finish(time)
+    pub fn finish(&mut self, time: Duration)
+        ensures events { S.events self.new.places.sockets ≡ S.events self.old.places.sockets }
+    {
+        self.places.finish(time)
     }
 
     // Hands in what there is at the next turn of the round, or begins another round. Here `Over` says that nothing was there.
+    #[tactic(auto, using(crate::proofs::ToldLemmas::with_nothing))]
     fn hand_in(&mut self, buf: &mut [u8]) -> Next
         requires { 0 < length buf.old }
         ensures handed { HandsIn self.old.connections.items result buf.new self.new.connections.items }
+        ensures told { S.events self.new.places.sockets ≡ with_more (S.events self.old.places.sockets) (event_in result buf.new) }
         ensures room { length buf.new ≡ length buf.old }
         ensures faults { self.new.faults ≡ self.old.faults }
         ensures send_faults { self.new.send_faults ≡ self.old.send_faults }
     {
-        let lets_in = self.connections.len() < MOST_LET_IN;
-        match self.sockets.next_turn(lets_in) {
+        match self.places.next_turn() {
             Turn::Connection(number) => self.hear(number, buf),
-            Turn::Listener(number) => self.accept(number),
-            Turn::Nobody => match self.sockets.next_round(lets_in) {
-                Ok(()) => Next::Over,
-                Err(_) => Next::Failed,
-            },
+            Turn::Listener => self.let_in(),
+            Turn::Nobody => {
+                if self.places.next_round() {
+                    Next::Over
+                } else {
+                    Next::Failed
+                }
+            }
         }
     }
 
+    #[tactic(auto, using(crate::proofs::ToldLemmas::with_nothing))]
     fn hear(&mut self, number: u32, buf: &mut [u8]) -> Next
         requires { 0 < length buf.old }
         ensures handed { HandsIn self.old.connections.items result buf.new self.new.connections.items }
+        ensures told { S.events self.new.places.sockets ≡ with_more (S.events self.old.places.sockets) (event_in result buf.new) }
         ensures room { length buf.new ≡ length buf.old }
         ensures faults { self.new.faults ≡ self.old.faults }
         ensures send_faults { self.new.send_faults ≡ self.old.send_faults }
     {
         if !self.connections.contains(&number) {
-            self.sockets.end(number);
+            self.places.release(number);
             return Next::Over;
         }
-        match self.sockets.hear(number, buf) {
-            Heard::Nothing => Next::Over,
-            Heard::Bytes(size) => Next::Bytes(number, size),
-            Heard::End => {
-                self.sockets.end(number);
+        match self.places.hear(number, buf) {
+            Moved::Nothing => Next::Over,
+            Moved::Bytes(size) => Next::Bytes(number, size),
+            Moved::End => {
+                self.places.end(number);
                 shut(&mut self.connections, number);
                 Next::Ended(number)
             }
         }
     }
 
-    // Lets a connection in, if one waits, under a number that no other has.
-    fn accept(&mut self, number: u32) -> Next
+    // Lets in one who waits, if one does. Where too many are open, one of them is to end first.
+    #[tactic(auto, using(crate::proofs::ToldLemmas::with_nothing))]
+    fn let_in(&mut self) -> Next
         ensures handed { (buffer : List ℕ) → HandsIn self.old.connections.items result buffer self.new.connections.items }
+        ensures told { (buffer : List ℕ) → S.events self.new.places.sockets ≡ with_more (S.events self.old.places.sockets) (event_in result buffer) }
         ensures faults { self.new.faults ≡ self.old.faults }
         ensures send_faults { self.new.send_faults ≡ self.old.send_faults }
     {
-        if self.connections.contains(&number) {
+        match self.places.accept() {
+            Accepted::Guest => {}
+            Accepted::Nobody | Accepted::Gone | Accepted::Full => return Next::Over,
+            Accepted::Failed => return Next::Failed,
+        }
+        if self.connections.len() >= MOST_OPEN {
+            self.places.make_room();
             return Next::Over;
         }
-        match self.sockets.accept(number) {
-            Ok(false) => Next::Over,
-            Ok(true) => {
-                if self.connections.push(number).is_err() {
-                    self.sockets.end(number);
-                    return Next::Over;
-                }
-                Next::Opened(number)
-            }
-            Err(_) => Next::Failed,
+        match self.places.free_number() {
+            Some(number) => self.open(number),
+            None => Next::Over,
         }
+    }
+
+    // Opens a connection, where no other has its number.
+    #[tactic(auto, using(crate::proofs::ToldLemmas::with_nothing))]
+    fn open(&mut self, number: u32) -> Next
+        ensures handed { (buffer : List ℕ) → HandsIn self.old.connections.items result buffer self.new.connections.items }
+        ensures told { (buffer : List ℕ) → S.events self.new.places.sockets ≡ with_more (S.events self.old.places.sockets) (event_in result buffer) }
+        ensures faults { self.new.faults ≡ self.old.faults }
+        ensures send_faults { self.new.send_faults ≡ self.old.send_faults }
+    {
+        if self.connections.contains(&number) || self.connections.push(number).is_err() {
+            return Next::Over;
+        }
+        if !self.places.settle(number) {
+            self.connections.pop();
+            return Next::Over;
+        }
+        Next::Opened(number)
     }
 }
 
@@ -126,10 +177,10 @@ fn shut(connections: &mut Vec<u32>, connection: u32)
     connections.retain(|other| *other != connection);
 }
 
-impl<R: Net + Clock> Link for SocketLink<'_, R> {
+impl<S: Sockets> Link for SocketLink<S> {
     ghost use Rattle.std.specs.Prelude.{None};
 
-    ghost handed = { λ _. None };
+    ghost handed = { λ l. S.events l.places.sockets };
 
     ghost left = { λ _. None };
 
@@ -142,13 +193,14 @@ impl<R: Net + Clock> Link for SocketLink<'_, R> {
     ghost send_faults = { λ l. l.send_faults };
 
     fn listen(&mut self, address: &str) -> Listen {
-        if self.sockets.listen(address).is_err() {
+        if !self.places.listen(address) {
             self.faults = self.faults.saturating_add(1);
             return Listen::Failed;
         }
         Listen::Ready
     }
 
+    #[tactic(auto, using(crate::proofs::ToldLemmas::with_nothing))]
     fn next(&mut self, buf: &mut [u8]) -> Next {
         for _ in 0..u64::MAX {
             match self.hand_in(buf) {
@@ -162,7 +214,7 @@ impl<R: Net + Clock> Link for SocketLink<'_, R> {
     }
 
     fn send(&mut self, connection: u32, bytes: &[u8]) -> Took {
-        if !self.sockets.send(connection, bytes) {
+        if !self.places.send(connection, bytes) {
             self.send_faults = self.send_faults.saturating_add(1);
             return Took::Failed;
         }
@@ -171,6 +223,6 @@ impl<R: Net + Clock> Link for SocketLink<'_, R> {
 
     fn close(&mut self, connection: u32) {
         shut(&mut self.connections, connection);
-        self.sockets.close(connection);
+        self.places.close(connection);
     }
 }

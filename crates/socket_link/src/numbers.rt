@@ -1,18 +1,19 @@
 // Sets of small numbers.
 
 /// Numbers below 128.
-#[derive(Drop)]
-pub(crate) struct Numbers {
+#[derive(Clone, Copy, Debug, PartialEq, Eq)]
+pub struct Numbers {
     bits: u128,
 }
 
 impl Numbers {
     /// No numbers.
-    pub(crate) fn none() -> Numbers {
+    pub fn none() -> Numbers {
         Numbers { bits: 0 }
     }
 
-    pub(crate) fn insert(&mut self, number: u32) {
+    /// One number more, where it is below 128.
+    pub fn insert(&mut self, number: u32) {
         self.bits |= bit(number);
     }
 
@@ -21,7 +22,7 @@ impl Numbers {
     }
 
     /// The least of the numbers that isn't below this one.
-    pub(crate) fn first_from(&self, from: u32) -> Option<u32> {
+    pub fn first_from(&self, from: u32) -> Option<u32> {
         let rest = self.bits.checked_shr(from).unwrap_or(0);
         if rest == 0 {
             return None;

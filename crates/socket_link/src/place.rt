@@ -1,33 +1,43 @@
-// One accepted connection: its socket, and what is still to be written to it.
+// One connection: how long it may stand, and what is still to be written to it.
 ghost use Rattle.std.specs.Prelude.{◌≡◌, ◌<◌, ◌≤◌, length};
-ghost use Rattle.socket_link.specs.Heard.{HeardFits};
+ghost use Rattle.wiki_io.specs.Link.{with_more};
+ghost use Rattle.socket_link.specs.Moved.{MovedFits};
+ghost use Rattle.socket_link.specs.Told.{piece_of};
 
-use mio::net::TcpStream;
+use crate::head::Head;
+use crate::socket::{Moved, Sockets};
 use std::alloc::{AllocError, Global};
-use std::io::{ErrorKind, Read, Write};
-use std::net::Shutdown;
 use std::time::Duration;
 
-// How many unread bytes of a closed connection are passed over before its socket is given up.
+// For how many seconds after its opening a connection isn't the one to make room, where there is another.
+const NEW_SECONDS: u64 = 1;
+
+// How many seconds after its close a response may take to be written.
+const WRITE_SECONDS: u64 = 60;
+
+// How many seconds after the last byte was written what comes is passed over, and how many bytes at most.
+const DRAIN_SECONDS: u64 = 2;
+
 const MOST_DRAINED: usize = 1_048_576;
 
-/// What one reading of a connection came to.
-#[derive(Clone, Copy, Debug, PartialEq, Eq)]
-pub(crate) enum Heard {
-    /// Nothing is there now.
-    Nothing,
-    /// So many bytes, at least one, stand at the buffer's front.
-    Bytes(usize),
-    /// The other side has ended, or the socket has failed.
-    End,
+/// How long a connection may take from its opening on.
+#[derive(Clone, Copy, Debug)]
+pub struct Times {
+    /// Until an empty line has come.
+    pub head: Duration,
+    /// Until its whole request has come.
+    pub request: Duration,
 }
 
 #[derive(Drop)]
 pub(crate) struct Place {
-    stream: TcpStream,
-    // whether a read, a write may have more to do than wait
-    readable: bool,
-    writable: bool,
+    opened: Duration,
+    // when bytes last came
+    heard: Duration,
+    head: Head,
+    // when its time is over
+    due: Duration,
+    is_leaving: bool,
     // what was taken to be sent, and how much of it is written
     unsent: Vec<u8>,
     written: usize,
@@ -36,23 +46,22 @@ pub(crate) struct Place {
     is_shut: bool,
     has_ended: bool,
     drained: usize,
-    // when bytes last came or, once it is closed, when something was last written or passed over
-    since: Duration,
 }
 
 impl Place {
-    pub(crate) fn new(alloc: Global, stream: TcpStream, now: Duration) -> Place {
+    pub(crate) fn new(alloc: Global, now: Duration, times: Times) -> Place {
         Place {
-            stream,
-            readable: true,
-            writable: true,
+            opened: now,
+            heard: now,
+            head: Head::Before,
+            due: now.saturating_add(times.head),
+            is_leaving: false,
             unsent: Vec::new(alloc),
             written: 0,
             is_closed: false,
             is_shut: false,
             has_ended: false,
             drained: 0,
-            since: now,
         }
     }
 
@@ -60,41 +69,61 @@ impl Place {
         self.is_closed
     }
 
-    pub(crate) fn is_readable(&self) -> bool {
-        self.readable
+    pub(crate) fn due(&self) -> Duration {
+        self.due
     }
 
-    pub(crate) fn since(&self) -> Duration {
-        self.since
+    // It is to end as soon as nothing waits to be read.
+    pub(crate) fn leaves(&mut self) {
+        self.is_leaving = true;
     }
 
-    pub(crate) fn becomes_ready(&mut self, readable: bool, writable: bool) {
-        self.readable = self.readable || readable;
-        self.writable = self.writable || writable;
-    }
-
-    // Reads what has come into the buffer.
-    pub(crate) fn hear(&mut self, buf: &mut [u8], now: Duration) -> Heard
-        ensures fits { HeardFits result (length buf.new) }
-        ensures room { length buf.new ≡ length buf.old }
-    {
-        if !self.readable {
-            return Heard::Nothing;
+    // Which of two goes first, where both are closed or both open. Of closed ones, whose time is over first; of open ones, the
+    // one that is to end anyway, then one that wasn't opened just now, so that its bytes may come, then one without an empty
+    // line, then the one that has been silent for longest.
+    pub(crate) fn goes_before(&self, other: &Place, now: Duration) -> bool {
+        if self.is_closed {
+            self.due < other.due
+        } else if self.is_leaving != other.is_leaving {
+            self.is_leaving
+        } else if self.is_new(now) != other.is_new(now) {
+            other.is_new(now)
+        } else if self.head.is_whole() != other.head.is_whole() {
+            other.head.is_whole()
+        } else {
+            self.heard < other.heard
         }
-        match self.stream.read(buf) {
-            Ok(0) => Heard::End,
-            Ok(n) => {
-                self.since = now;
-                Heard::Bytes(n)
-            }
-            Err(error) => match error.kind() {
-                ErrorKind::WouldBlock => {
-                    self.readable = false;
-                    Heard::Nothing
+    }
+
+    fn is_new(&self, now: Duration) -> bool {
+        now.saturating_sub(self.opened) < Duration::from_secs(NEW_SECONDS)
+    }
+
+    // Reads what has come into the buffer. One whose time is over has ended where nothing waits.
+    pub(crate) fn hear<S: Sockets>(
+        &mut self,
+        sockets: &mut S,
+        number: u32,
+        buf: &mut [u8],
+        now: Duration,
+        times: Times,
+    ) -> Moved
+        requires { 0 < length buf.old }
+        ensures fits { MovedFits result (length buf.new) }
+        ensures room { length buf.new ≡ length buf.old }
+        ensures events { S.events sockets.new ≡ with_more (S.events sockets.old) (piece_of number result buf.new) }
+    {
+        match sockets.read(number, buf) {
+            Moved::Nothing if self.is_leaving || self.due <= now => Moved::End,
+            Moved::Bytes(size) => {
+                self.heard = now;
+                self.head = self.head.after(&buf[..size]);
+                if self.head.is_whole() {
+                    self.due = self.opened.saturating_add(times.request);
                 }
-                ErrorKind::Interrupted => Heard::Nothing,
-                _ => Heard::End,
-            },
+                Moved::Bytes(size)
+            }
+            heard => heard,
         }
     }
 
@@ -105,7 +134,9 @@ impl Place {
     }
 
     // Writes what the socket takes now. False where it has failed.
-    pub(crate) fn write(&mut self, now: Duration) -> bool {
+    pub(crate) fn write<S: Sockets>(&mut self, sockets: &mut S, number: u32) -> bool
+        ensures events { S.events sockets.new ≡ S.events sockets.old }
+    {
         for _ in 0..u64::MAX {
             let rest = self.unsent.get(self.written..).unwrap_or(&[]);
             if rest.is_empty() {
@@ -113,22 +144,10 @@ impl Place {
                 self.written = 0;
                 return true;
             }
-            if !self.writable {
-                return true;
-            }
-            match self.stream.write(rest) {
-                Ok(0) => return false,
-                Ok(n) => {
-                    self.written = self.written.saturating_add(n);
-                    if self.is_closed {
-                        self.since = now;
-                    }
-                }
-                Err(error) => match error.kind() {
-                    ErrorKind::WouldBlock => self.writable = false,
-                    ErrorKind::Interrupted => {}
-                    _ => return false,
-                },
+            match sockets.write(number, rest) {
+                Moved::Nothing => return true,
+                Moved::Bytes(size) => self.written = self.written.saturating_add(size),
+                Moved::End => return false,
             }
         }
         false
@@ -136,44 +155,46 @@ impl Place {
 
     pub(crate) fn close(&mut self, now: Duration) {
         self.is_closed = true;
-        self.since = now;
+        self.due = now.saturating_add(Duration::from_secs(WRITE_SECONDS));
     }
 
     // Goes on with a connection that is closed: writes what is unsent, ends the writing, and passes over what comes. False
     // where nothing is left to do, so that its socket may go.
-    pub(crate) fn wind_up(&mut self, now: Duration) -> bool {
-        if !self.write(now) {
+    pub(crate) fn wind_up<S: Sockets>(
+        &mut self,
+        sockets: &mut S,
+        number: u32,
+        now: Duration,
+    ) -> bool
+        ensures events { S.events sockets.new ≡ S.events sockets.old }
+    {
+        if self.due <= now || !self.write(sockets, number) {
             return false;
         }
         if !self.is_shut && self.unsent.is_empty() {
-            if self.stream.shutdown(Shutdown::Write).is_err() {
+            if !sockets.shut(number) {
                 return false;
             }
             self.is_shut = true;
+            self.due = now.saturating_add(Duration::from_secs(DRAIN_SECONDS));
         }
-        self.drain(now) && !(self.is_shut && self.has_ended) && self.drained <= MOST_DRAINED
+        self.drain(sockets, number);
+        !(self.is_shut && (self.has_ended || self.drained > MOST_DRAINED))
     }
 
-    // Passes over what has come. False where the socket has failed.
-    fn drain(&mut self, now: Duration) -> bool {
-        let mut passed = [0; 4096];
+    // Passes over what has come.
+    fn drain<S: Sockets>(&mut self, sockets: &mut S, number: u32)
+        ensures events { S.events sockets.new ≡ S.events sockets.old }
+    {
         for _ in 0..u64::MAX {
-            if self.has_ended || !self.readable || self.drained > MOST_DRAINED {
-                return true;
+            if self.has_ended || self.drained > MOST_DRAINED {
+                return;
             }
-            match self.stream.read(&mut passed) {
-                Ok(0) => self.has_ended = true,
-                Ok(n) => {
-                    self.drained = self.drained.saturating_add(n);
-                    self.since = now;
-                }
-                Err(error) => match error.kind() {
-                    ErrorKind::WouldBlock => self.readable = false,
-                    ErrorKind::Interrupted => {}
-                    _ => return false,
-                },
+            match sockets.pass_over(number) {
+                Moved::Nothing => return,
+                Moved::Bytes(size) => self.drained = self.drained.saturating_add(size),
+                Moved::End => self.has_ended = true,
             }
         }
-        false
     }
 }

@@ -1,195 +1,434 @@
-// The places of the connections: which are taken, on which something may have come, and when the next will have stood too
-// long. Nothing here goes over all places but where that time is up.
-ghost use Rattle.std.specs.Prelude.{◌≡◌, ◌<◌, ◌≤◌, length};
-ghost use Rattle.socket_link.specs.Heard.{HeardFits};
+// The places of the connections: which are taken, on which something may have come, and when the next one's time is over. The
+// work goes round: each round looks at what has become ready, and then each connection with something to be read has one turn,
+// and the listener one. Nothing here goes over all places but where a time is over or one has to go.
+ghost use Rattle.std.specs.Prelude.{◌≡◌, ◌<◌, ◌≤◌, ◌∷◌, [], IfOk, length};
+ghost use Rattle.wiki_io.specs.declared.links.Event.{Event};
+ghost use Rattle.wiki_io.specs.Link.{with_more};
+ghost use Rattle.socket_link.specs.Moved.{MovedFits};
+ghost use Rattle.socket_link.specs.Told.{opening_of, piece_of};
 
 use crate::numbers::Numbers;
-use crate::place::{Heard, Place};
+use crate::place::{Place, Times};
+use crate::socket::{Accepted, Moved, PLACES, Ready, Sockets};
 use std::alloc::Global;
 use std::time::Duration;
 use wiki_base::Memory;
 
-/// How many sockets of connections there are at most, those of closed connections included.
-pub(crate) const PLACES: u32 = 128;
+// For how many seconds nothing is accepted after there were no descriptors, unless a connection is closed.
+const RETRY: u64 = 1;
 
-// How many seconds a closed connection may stand without progress.
-const PATIENCE: u64 = 2;
-
-#[derive(Drop)]
-pub(crate) struct Places {
-    places: Vec<Option<Place>>,
-    // for how long nothing may come on a connection that is open
-    idle: Duration,
-    taken: Numbers,
-    // the open connections on which something may have come
-    ready: Numbers,
-    // no connection will have stood too long before this time
-    due: Option<Duration>,
+/// Whose turn it is.
+#[derive(Clone, Copy, Debug, PartialEq, Eq)]
+pub(crate) enum Turn {
+    /// A connection's, on which something may have come.
+    Connection(u32),
+    /// The listener's, at which one may wait.
+    Listener,
+    /// Nobody's: the round is over.
+    Nobody,
 }
 
-impl Places {
-    pub(crate) fn new(alloc: Global, idle: Duration) -> Result<Places, Memory> {
+#[derive(Drop)]
+pub(crate) struct Places<S> {
+    alloc: Global,
+    sockets: S,
+    times: Times,
+    places: Vec<Option<Place>>,
+    taken: Numbers,
+    // the open connections on which something may have come, or whose time is over
+    ready: Numbers,
+    // no connection's time is over before this
+    due: Option<Duration>,
+    // from which number on the connections have had no turn in this round; the listener's turn is that behind theirs
+    turn: u32,
+    // whether one may wait at the listener, one has a socket and no number, and there were no descriptors
+    waits: bool,
+    has_guest: bool,
+    is_full: bool,
+    now: Duration,
+}
+
+impl<S: Sockets> Places<S> {
+    pub(crate) fn new(alloc: Global, sockets: S, times: Times) -> Result<Self, Memory>
+        ensures events { IfOk result (λ places. S.events places.sockets ≡ S.events sockets) }
+    {
         let mut places = Vec::with_capacity(alloc, PLACES as usize)?;
         for _ in 0..PLACES {
             places.push(None)?;
         }
         Ok(Places {
+            alloc,
+            sockets,
+            times,
             places,
-            idle,
             taken: Numbers::none(),
             ready: Numbers::none(),
             due: None,
+            turn: 0,
+            waits: false,
+            has_guest: false,
+            is_full: false,
+            now: Duration::from_secs(0),
         })
     }
 
-    // The number of a place that isn't taken.
-    pub(crate) fn free_number(&self) -> Option<u32> {
-        self.taken.first_missing()
+    pub(crate) fn sockets(&self) -> &S {
+        &self.sockets
     }
 
-    // The first open connection from this number on, on which something may have come.
-    pub(crate) fn ready_from(&self, number: u32) -> Option<u32> {
-        self.ready.first_from(number)
+    #[cfg(test)]
+    pub(crate) fn sockets_again(&mut self) -> &mut S {
+        &mut self.sockets
     }
 
-    // How long it is until a connection may have stood too long.
-    pub(crate) fn time_left(&self, now: Duration) -> Option<Duration> {
-        match self.due {
-            Some(due) => Some(due.saturating_sub(now)),
-            None => None,
+    pub(crate) fn listen(&mut self, address: &str) -> bool
+        ensures events { S.events self.new.sockets ≡ S.events self.old.sockets }
+    {
+        self.waits = self.sockets.listen(address);
+        self.waits
+    }
+
+    // Whose turn comes next in this round.
+    pub(crate) fn next_turn(&mut self) -> Turn
+        ensures events { S.events self.new.sockets ≡ S.events self.old.sockets }
+    {
+        if let Some(number) = self.ready.first_from(self.turn) {
+            self.turn = number.saturating_add(1);
+            return Turn::Connection(number);
+        }
+        if self.turn <= PLACES {
+            self.turn = PLACES + 1;
+            if self.may_accept() {
+                return Turn::Listener;
+            }
+        }
+        Turn::Nobody
+    }
+
+    fn may_accept(&self) -> bool {
+        self.has_guest || (self.waits && !self.is_full)
+    }
+
+    // Begins a round: waits until something is ready or the first of the times is up, and not at all where somebody's turn
+    // comes anyway. False where that fails.
+    pub(crate) fn next_round(&mut self) -> bool
+        ensures events { S.events self.new.sockets ≡ S.events self.old.sockets }
+    {
+        if self.ready.first_from(0).is_some() || self.may_accept() {
+            return self.wait(Some(Duration::from_secs(0)));
+        }
+        let time = self.time_left();
+        self.wait(time)
+    }
+
+    // Waits for the time at most, notes what has become ready, and goes on with what is closed.
+    fn wait(&mut self, time: Option<Duration>) -> bool
+        ensures events { S.events self.new.sockets ≡ S.events self.old.sockets }
+    {
+        let Some(ready) = self.sockets.wait(time) else {
+            return false;
+        };
+        self.read_clock();
+        self.turn = 0;
+        self.is_full = false;
+        self.waits = self.waits || ready.listener;
+        self.become_ready(ready);
+        self.look_over();
+        true
+    }
+
+    fn read_clock(&mut self)
+        ensures events { S.events self.new.sockets ≡ S.events self.old.sockets }
+    {
+        self.now = self.sockets.now().unwrap_or(self.now);
+    }
+
+    fn become_ready(&mut self, ready: Ready)
+        ensures events { S.events self.new.sockets ≡ S.events self.old.sockets }
+    {
+        let mut from = 0;
+        for _ in 0..PLACES {
+            let Some(number) = ready.sockets.first_from(from) else {
+                return;
+            };
+            self.becomes_ready(number);
+            from = number.saturating_add(1);
         }
     }
 
-    pub(crate) fn is_winding_up(&self) -> bool {
-        self.places.iter().any(|place| match place {
-            Some(kept) => kept.is_closed(),
-            None => false,
-        })
-    }
-
-    // A connection was accepted, and has the place of this number.
-    pub(crate) fn settle(&mut self, number: u32, accepted: Place, now: Duration) {
-        if let Some(place) = self.places.get_mut(number as usize) {
-            *place = Some(accepted);
-            self.taken.insert(number);
-            self.ready.insert(number);
-            self.note_due(now.saturating_add(self.idle));
-        }
-    }
-
-    // Reads what has come on a connection. One on which nothing has come for too long has ended.
-    pub(crate) fn hear(&mut self, number: u32, buf: &mut [u8], now: Duration) -> Heard
-        ensures fits { HeardFits result (length buf.new) }
-        ensures room { length buf.new ≡ length buf.old }
+    // Something may be read from the connection's socket, or written to it.
+    fn becomes_ready(&mut self, number: u32)
+        ensures events { S.events self.new.sockets ≡ S.events self.old.sockets }
     {
         let Some(Some(place)) = self.places.get_mut(number as usize) else {
-            return Heard::End;
+            return;
         };
-        match place.hear(buf, now) {
-            Heard::Nothing => {
-                if now.saturating_sub(place.since()) >= self.idle {
-                    return Heard::End;
-                }
-                if !place.is_readable() {
-                    self.ready.remove(number);
-                }
-                Heard::Nothing
-            }
-            heard => heard,
+        if place.is_closed() {
+            self.wind_up(number);
+            return;
         }
+        // Where writing fails, the next reading finds it.
+        place.write(&mut self.sockets, number);
+        self.ready.insert(number);
+    }
+
+    // How long a wait may last: until a connection's time is over, or until one is accepted again.
+    fn time_left(&mut self) -> Option<Duration>
+        ensures events { S.events self.new.sockets ≡ S.events self.old.sockets }
+    {
+        self.read_clock();
+        let left = match self.due {
+            Some(due) => Some(due.saturating_sub(self.now)),
+            None => None,
+        };
+        let retry = Duration::from_secs(RETRY);
+        if self.is_full && left.is_none_or(|time| time > retry) {
+            return Some(retry);
+        }
+        left
+    }
+
+    // Where a time is over, has the open connections heard whose time that is, and lets the sockets of closed ones go.
+    fn look_over(&mut self)
+        ensures events { S.events self.new.sockets ≡ S.events self.old.sockets }
+    {
+        if self.due.is_none_or(|due| due > self.now) {
+            return;
+        }
+        self.due = None;
+        for number in 0..PLACES {
+            self.look_at(number);
+        }
+    }
+
+    fn look_at(&mut self, number: u32)
+        ensures events { S.events self.new.sockets ≡ S.events self.old.sockets }
+    {
+        let Some(Some(place)) = self.places.get(number as usize) else {
+            return;
+        };
+        let due = place.due();
+        if due > self.now {
+            self.note_due(due);
+        } else if place.is_closed() {
+            self.release(number);
+        } else {
+            self.ready.insert(number);
+        }
+    }
+
+    // A connection's time is over then.
+    fn note_due(&mut self, time: Duration)
+        ensures events { S.events self.new.sockets ≡ S.events self.old.sockets }
+    {
+        if self.due.is_none_or(|due| due > time) {
+            self.due = Some(time);
+        }
+    }
+
+    // Has a socket for one who waits, if one does.
+    pub(crate) fn accept(&mut self) -> Accepted
+        ensures events { S.events self.new.sockets ≡ S.events self.old.sockets }
+    {
+        if self.has_guest {
+            return Accepted::Guest;
+        }
+        let accepted = self.sockets.accept();
+        match accepted {
+            Accepted::Guest => self.has_guest = true,
+            Accepted::Nobody => self.waits = false,
+            Accepted::Full => self.is_full = true,
+            Accepted::Gone | Accepted::Failed => {}
+        }
+        accepted
+    }
+
+    // A number for the socket that was accepted last. Where all places are taken, the closed connection whose time is over
+    // first loses its socket.
+    pub(crate) fn free_number(&mut self) -> Option<u32>
+        ensures events { S.events self.new.sockets ≡ S.events self.old.sockets }
+    {
+        if let Some(number) = self.taken.first_missing() {
+            return Some(number);
+        }
+        let number = self.first_to_go(true)?;
+        self.release(number);
+        Some(number)
+    }
+
+    // Names the socket that was accepted last. False where that fails.
+    pub(crate) fn settle(&mut self, number: u32) -> bool
+        ensures events { S.events self.new.sockets ≡ with_more (S.events self.old.sockets) (opening_of number result) }
+    {
+        self.has_guest = false;
+        if !self.sockets.settle(number) {
+            self.sockets.release(number);
+            return false;
+        }
+        self.read_clock();
+        let place = Place::new(self.alloc, self.now, self.times);
+        self.note_due(place.due());
+        if let Some(free) = self.places.get_mut(number as usize) {
+            *free = Some(place);
+        }
+        self.taken.insert(number);
+        self.ready.insert(number);
+        true
+    }
+
+    // One of the open connections is to end, if none is already: one on which no empty line has come before others, and that
+    // on which nothing has come for longest.
+    pub(crate) fn make_room(&mut self)
+        ensures events { S.events self.new.sockets ≡ S.events self.old.sockets }
+    {
+        let Some(number) = self.first_to_go(false) else {
+            return;
+        };
+        if let Some(Some(place)) = self.places.get_mut(number as usize) {
+            place.leaves();
+            self.ready.insert(number);
+        }
+    }
+
+    // Of the closed or of the open connections the first that is to go.
+    fn first_to_go(&self, is_closed: bool) -> Option<u32> {
+        let mut found: Option<u32> = None;
+        for number in 0..PLACES {
+            if self.goes_before(number, found, is_closed) {
+                found = Some(number);
+            }
+        }
+        found
+    }
+
+    // It is closed or open, as is asked for, and goes before the other.
+    fn goes_before(&self, number: u32, other: Option<u32>, is_closed: bool) -> bool {
+        let Some(place) = self.place(number) else {
+            return false;
+        };
+        if place.is_closed() != is_closed {
+            return false;
+        }
+        match other.and_then(|found| self.place(found)) {
+            Some(found) => place.goes_before(found, self.now),
+            None => true,
+        }
+    }
+
+    fn place(&self, number: u32) -> Option<&Place> {
+        match self.places.get(number as usize) {
+            Some(Some(place)) => Some(place),
+            _ => None,
+        }
+    }
+
+    // Reads what has come on a connection. One whose time is over has ended where nothing waits.
+    pub(crate) fn hear(&mut self, number: u32, buf: &mut [u8]) -> Moved
+        requires { 0 < length buf.old }
+        ensures fits { MovedFits result (length buf.new) }
+        ensures room { length buf.new ≡ length buf.old }
+        ensures events { S.events self.new.sockets ≡ with_more (S.events self.old.sockets) (piece_of number result buf.new) }
+    {
+        self.read_clock();
+        let Some(Some(place)) = self.places.get_mut(number as usize) else {
+            return Moved::End;
+        };
+        let heard = place.hear(&mut self.sockets, number, buf, self.now, self.times);
+        let due = place.due();
+        match heard {
+            Moved::Nothing => self.ready.remove(number),
+            _ => self.note_due(due),
+        }
+        heard
     }
 
     // Keeps the bytes and writes what the socket takes at once. False for want of memory, or where the socket has failed.
-    pub(crate) fn send(&mut self, number: u32, bytes: &[u8], now: Duration) -> bool {
+    pub(crate) fn send(&mut self, number: u32, bytes: &[u8]) -> bool
+        ensures events { S.events self.new.sockets ≡ S.events self.old.sockets }
+    {
         match self.places.get_mut(number as usize) {
-            Some(Some(place)) => place.keep(bytes).is_ok() && place.write(now),
+            Some(Some(place)) => place.keep(bytes).is_ok()
+                && place.write(&mut self.sockets, number),
             _ => false,
         }
     }
 
     // The connection is closed; its socket goes once all is written and what comes was passed over.
-    pub(crate) fn close(&mut self, number: u32, now: Duration) {
+    pub(crate) fn close(&mut self, number: u32)
+        ensures events { S.events self.new.sockets ≡ S.events self.old.sockets }
+    {
         self.ready.remove(number);
+        self.read_clock();
         if let Some(Some(place)) = self.places.get_mut(number as usize) {
-            place.close(now);
-            if place.wind_up(now) {
-                self.note_due(now.saturating_add(Duration::from_secs(PATIENCE)));
-            } else {
-                self.end(number);
-            }
+            place.close(self.now);
+            self.wind_up(number);
         }
     }
 
-    // The socket of the connection goes.
-    pub(crate) fn end(&mut self, number: u32) {
+    fn wind_up(&mut self, number: u32)
+        ensures events { S.events self.new.sockets ≡ S.events self.old.sockets }
+    {
+        let Some(Some(place)) = self.places.get_mut(number as usize) else {
+            return;
+        };
+        if place.wind_up(&mut self.sockets, number, self.now) {
+            let due = place.due();
+            self.note_due(due);
+        } else {
+            self.release(number);
+        }
+    }
+
+    // The socket of an open connection goes.
+    pub(crate) fn end(&mut self, number: u32)
+        ensures events { S.events self.new.sockets ≡ with_more (S.events self.old.sockets) (Event.Ended number ∷ []) }
+    {
+        self.sockets.end(number);
+        self.clear(number);
+    }
+
+    // The socket of a closed connection goes.
+    pub(crate) fn release(&mut self, number: u32)
+        ensures events { S.events self.new.sockets ≡ S.events self.old.sockets }
+    {
+        self.sockets.release(number);
+        self.clear(number);
+    }
+
+    fn clear(&mut self, number: u32)
+        ensures events { S.events self.new.sockets ≡ S.events self.old.sockets }
+    {
         if let Some(place) = self.places.get_mut(number as usize) {
             *place = None;
         }
         self.ready.remove(number);
         self.taken.remove(number);
+        self.is_full = false;
     }
 
-    // Something may be read from the connection's socket, or written to it.
-    pub(crate) fn becomes_ready(
-        &mut self,
-        number: u32,
-        readable: bool,
-        writable: bool,
-        now: Duration,
-    ) {
-        let Some(Some(place)) = self.places.get_mut(number as usize) else {
-            return;
-        };
-        place.becomes_ready(readable, writable);
-        if place.is_closed() {
-            if !place.wind_up(now) {
-                self.end(number);
+    // Waits until no closed connection has its socket any more, at most for about the time.
+    pub(crate) fn finish(&mut self, time: Duration)
+        ensures events { S.events self.new.sockets ≡ S.events self.old.sockets }
+    {
+        self.read_clock();
+        let end = self.now.saturating_add(time);
+        for _ in 0..u64::MAX {
+            let first = self.time_left();
+            let left = end.saturating_sub(self.now);
+            let wait = match first {
+                Some(due) if due < left => due,
+                _ => left,
+            };
+            if left.is_zero() || !self.is_winding_up() || !self.wait(Some(wait)) {
+                return;
             }
-            return;
-        }
-        // Where writing fails, the next reading finds it.
-        place.write(now);
-        if place.is_readable() {
-            self.ready.insert(number);
         }
     }
 
-    // Where the time is up, has the open connections heard that have stood too long, and lets the sockets of closed ones go.
-    pub(crate) fn look_over(&mut self, now: Duration) {
-        if self.due.is_none_or(|due| due > now) {
-            return;
-        }
-        self.due = None;
-        for number in 0..PLACES {
-            self.look_at(number, now);
-        }
-    }
-
-    fn look_at(&mut self, number: u32, now: Duration) {
-        let Some(Some(place)) = self.places.get(number as usize) else {
-            return;
-        };
-        let is_closed = place.is_closed();
-        let patience = if is_closed {
-            Duration::from_secs(PATIENCE)
-        } else {
-            self.idle
-        };
-        let due = place.since().saturating_add(patience);
-        if due > now {
-            self.note_due(due);
-        } else if is_closed {
-            self.end(number);
-        } else {
-            self.ready.insert(number);
-            self.note_due(now.saturating_add(self.idle));
-        }
-    }
-
-    // A connection may have stood too long at this time.
-    fn note_due(&mut self, time: Duration) {
-        if self.due.is_none_or(|due| due > time) {
-            self.due = Some(time);
-        }
+    fn is_winding_up(&self) -> bool {
+        self.places.iter().any(|place| match place {
+            Some(kept) => kept.is_closed(),
+            None => false,
+        })
     }
 }

@@ -1,96 +1,225 @@
 use super::*;
-use std::collections::VecDeque;
-use std::io::{Read, Write};
-use std::net::{SocketAddr, TcpStream};
+use crate::memory::{Does, MemorySockets};
+use std::alloc::Global;
 use std::test::Fail;
 use std::time::Duration;
 use wiki_io::{Link, Listen, Next, Took};
 
-const LONG: u64 = 60;
-
-fn client(rt: &HostRuntime, address: Option<SocketAddr>) -> Result<TcpStream, Fail> {
-    match address {
-        Some(address) => Ok(TcpStream::connect(rt, address)?),
-        None => Err(Fail::new("the link listens nowhere")),
-    }
+fn linked(
+    alloc: Global,
+    count: usize,
+    script: &[(u64, usize, Does)],
+    fails: u64,
+) -> Result<SocketLink<MemorySockets>, Fail> {
+    let times = Times {
+        head: Duration::from_secs(20),
+        request: Duration::from_secs(60),
+    };
+    let sockets = MemorySockets::new(alloc, count, script, fails)?;
+    Ok(SocketLink::over(alloc, sockets, times)?)
 }
 
 #[test]
-fn pieces_come_and_what_was_sent_is_written_after_the_close(rt: HostRuntime) -> Result<(), Fail> {
-    let mut link = SocketLink::new(rt.alloc(), &rt, Duration::from_secs(LONG))?;
-    assert_eq!(rt; link.listen("127.0.0.1:0"), Listen::Ready);
-    let mut near = client(&rt, link.address())?;
-    near.write_all(b"abc")?;
+fn a_response_isnt_cut_because_its_request_was_slow(rt: HostRuntime) -> Result<(), Fail> {
+    let script = [
+        (0, 0, Does::Comes),
+        (0, 0, Does::Sends(b"ask")),
+        (101, 0, Does::Takes(4)),
+        (150, 0, Does::Takes(9)),
+        (151, 0, Does::Sends(b"more than is asked for")),
+    ];
+    let mut link = linked(rt.alloc(), 1, &script, 0)?;
+    assert_eq!(rt; link.listen("here"), Listen::Ready);
     let mut buffer = [0; 8];
     assert_eq!(rt; link.next(&mut buffer), Next::Opened(0));
     assert_eq!(rt; link.next(&mut buffer), Next::Bytes(0, 3));
-    assert_eq!(rt; &buffer[..3], b"abc".as_slice());
-    assert_eq!(rt; link.send(0, b"reply"), Took::Bytes(5));
+    link.sockets().passes(100);
+    assert_eq!(rt; link.send(0, b"response"), Took::Bytes(8));
     link.close(0);
-    let mut reply = [0; 8];
-    assert_eq!(rt; near.read(&mut reply)?, 5);
-    assert_eq!(rt; &reply[..5], b"reply".as_slice());
-    assert_eq!(rt; near.read(&mut reply)?, 0);
+    link.finish(Duration::from_secs(100));
+    assert_eq!(rt; link.sockets().got(0), b"response".as_slice());
+    assert!(rt; link.sockets().is_shut(0));
+    // What comes behind a request is passed over for two seconds after the last byte was written, and no longer.
+    assert_eq!(rt; link.sockets().seconds(), 152);
     Ok(())
 }
 
 #[test]
-fn connections_and_the_listener_have_their_turns(rt: HostRuntime) -> Result<(), Fail> {
-    let mut link = SocketLink::new(rt.alloc(), &rt, Duration::from_secs(LONG))?;
-    assert_eq!(rt; link.listen("127.0.0.1:0"), Listen::Ready);
-    let mut first = client(&rt, link.address())?;
-    let mut second = client(&rt, link.address())?;
-    first.write_all(b"aaaa")?;
-    second.write_all(b"bb")?;
-    let mut buffer = [0; 2];
+fn a_response_that_isnt_taken_in_60_seconds_is_cut(rt: HostRuntime) -> Result<(), Fail> {
+    let script = [
+        (0, 0, Does::Comes),
+        (59, 0, Does::Takes(4)),
+        (61, 0, Does::Takes(4)),
+    ];
+    let mut link = linked(rt.alloc(), 1, &script, 0)?;
+    assert_eq!(rt; link.listen("here"), Listen::Ready);
+    let mut buffer = [0; 8];
     assert_eq!(rt; link.next(&mut buffer), Next::Opened(0));
-    assert_eq!(rt; link.next(&mut buffer), Next::Bytes(0, 2));
+    assert_eq!(rt; link.send(0, b"response"), Took::Bytes(8));
+    link.close(0);
+    link.finish(Duration::from_secs(100));
+    assert_eq!(rt; link.sockets().seconds(), 60);
+    assert_eq!(rt; link.sockets().got(0), b"resp".as_slice());
+    Ok(())
+}
+
+#[test]
+fn a_connection_has_20_seconds_for_an_empty_line_and_60_for_its_request(
+    rt: HostRuntime,
+) -> Result<(), Fail> {
+    let script = [
+        (0, 0, Does::Comes),
+        (0, 1, Does::Comes),
+        (1, 1, Does::Sends(b"a\r\n\r")),
+        (2, 0, Does::Sends(b"a\r\n")),
+        (19, 0, Does::Sends(b"b")),
+        (19, 1, Does::Sends(b"\nc")),
+        (59, 1, Does::Sends(b"d")),
+    ];
+    let mut link = linked(rt.alloc(), 2, &script, 0)?;
+    assert_eq!(rt; link.listen("here"), Listen::Ready);
+    let mut buffer = [0; 8];
+    for (next, seconds) in [
+        (Next::Opened(0), 0),
+        (Next::Opened(1), 0),
+        (Next::Bytes(1, 4), 1),
+        (Next::Bytes(0, 3), 2),
+        (Next::Bytes(0, 1), 19),
+        (Next::Bytes(1, 2), 19),
+        (Next::Ended(0), 20),
+        (Next::Bytes(1, 1), 59),
+        (Next::Ended(1), 60),
+        (Next::Failed, 60),
+    ] {
+        assert_eq!(rt; link.next(&mut buffer), next);
+        assert_eq!(rt; link.sockets().seconds(), seconds);
+    }
+    Ok(())
+}
+
+#[test]
+fn what_came_while_another_request_ran_is_handed_in_before_the_end(
+    rt: HostRuntime,
+) -> Result<(), Fail> {
+    let script = [
+        (0, 0, Does::Comes),
+        (0, 1, Does::Comes),
+        (0, 0, Does::Sends(b"slow")),
+        (10, 1, Does::Sends(b"a\n\nrequest")),
+    ];
+    let mut link = linked(rt.alloc(), 2, &script, 0)?;
+    assert_eq!(rt; link.listen("here"), Listen::Ready);
+    let mut buffer = [0; 6];
+    assert_eq!(rt; link.next(&mut buffer), Next::Opened(0));
+    assert_eq!(rt; link.next(&mut buffer), Next::Bytes(0, 4));
     assert_eq!(rt; link.next(&mut buffer), Next::Opened(1));
-    assert_eq!(rt; link.next(&mut buffer), Next::Bytes(0, 2));
-    assert_eq!(rt; link.next(&mut buffer), Next::Bytes(1, 2));
-    drop(second);
+    link.sockets().passes(90);
+    link.close(0);
+    assert_eq!(rt; link.next(&mut buffer), Next::Bytes(1, 6));
+    assert_eq!(rt; link.next(&mut buffer), Next::Bytes(1, 4));
     assert_eq!(rt; link.next(&mut buffer), Next::Ended(1));
     Ok(())
 }
 
 #[test]
-fn a_connection_on_which_nothing_comes_ends(rt: HostRuntime) -> Result<(), Fail> {
-    let mut link = SocketLink::new(rt.alloc(), &rt, Duration::from_millis(20))?;
-    assert_eq!(rt; link.listen("127.0.0.1:0"), Listen::Ready);
-    let _idle = client(&rt, link.address())?;
-    let mut buffer = [0; 2];
-    assert_eq!(rt; link.next(&mut buffer), Next::Opened(0));
-    assert_eq!(rt; link.next(&mut buffer), Next::Ended(0));
-    link.finish(Duration::from_secs(1));
-    Ok(())
-}
-
-#[test]
-fn no_more_than_65_are_open(rt: HostRuntime) -> Result<(), Fail> {
-    let mut link = SocketLink::new(rt.alloc(), &rt, Duration::from_secs(LONG))?;
-    assert_eq!(rt; link.listen("127.0.0.1:0"), Listen::Ready);
-    let mut clients = VecDeque::new(rt.alloc());
-    for _ in 0..67 {
-        clients.push_back(client(&rt, link.address())?)?;
+fn one_with_an_empty_line_goes_after_those_without(rt: HostRuntime) -> Result<(), Fail> {
+    let mut script = Vec::new(rt.alloc());
+    for client in 0..64 {
+        script.push((0, client, Does::Comes))?;
     }
-    let mut buffer = [0; 2];
-    for number in 0..65 {
+    script.push((1, 0, Does::Sends(b"a\n\n")))?;
+    script.push((2, 1, Does::Sends(b"a")))?;
+    script.push((3, 64, Does::Comes))?;
+    script.push((3, 2, Does::Sends(b"waits")))?;
+    let mut link = linked(rt.alloc(), 65, &script, 0)?;
+    assert_eq!(rt; link.listen("here"), Listen::Ready);
+    let mut buffer = [0; 6];
+    for number in 0..64 {
         assert_eq!(rt; link.next(&mut buffer), Next::Opened(number));
     }
-    drop(clients.pop_front());
-    assert_eq!(rt; link.next(&mut buffer), Next::Ended(0));
-    assert_eq!(rt; link.next(&mut buffer), Next::Opened(0));
-    // The socket of a connection that is closed keeps its place, and so its number, for a while.
-    link.close(7);
-    assert_eq!(rt; link.next(&mut buffer), Next::Opened(65));
+    assert_eq!(rt; link.next(&mut buffer), Next::Bytes(0, 3));
+    assert_eq!(rt; link.next(&mut buffer), Next::Bytes(1, 1));
+    assert_eq!(rt; link.next(&mut buffer), Next::Bytes(2, 5));
+    assert_eq!(rt; link.next(&mut buffer), Next::Ended(3));
+    assert_eq!(rt; link.next(&mut buffer), Next::Opened(3));
     Ok(())
 }
 
 #[test]
-fn an_address_that_is_none_fails(rt: HostRuntime) -> Result<(), Fail> {
-    let mut link = SocketLink::new(rt.alloc(), &rt, Duration::from_secs(LONG))?;
-    assert_eq!(rt; link.listen("nowhere"), Listen::Failed);
-    let mut buffer = [0; 2];
-    assert_eq!(rt; link.next(&mut buffer), Next::Failed);
+fn where_all_places_are_taken_the_first_closed_connection_loses_its_socket(
+    rt: HostRuntime,
+) -> Result<(), Fail> {
+    let mut script = Vec::new(rt.alloc());
+    for client in 0..129 {
+        script.push((0, client, Does::Comes))?;
+    }
+    script.push((1, 0, Does::Takes(9)))?;
+    script.push((1, 1, Does::Takes(9)))?;
+    let mut link = linked(rt.alloc(), 129, &script, 0)?;
+    assert_eq!(rt; link.listen("here"), Listen::Ready);
+    let mut buffer = [0; 6];
+    for number in 0..128 {
+        assert_eq!(rt; link.next(&mut buffer), Next::Opened(number));
+        assert_eq!(rt; link.send(number, b"response"), Took::Bytes(8));
+        link.close(number);
+    }
+    assert_eq!(rt; link.next(&mut buffer), Next::Opened(0));
+    link.finish(Duration::from_secs(9));
+    assert_eq!(rt; link.sockets().got(0), b"".as_slice());
+    assert_eq!(rt; link.sockets().got(1), b"response".as_slice());
+    Ok(())
+}
+
+#[test]
+fn whatever_call_fails_each_gets_a_front_of_its_own_response(rt: HostRuntime) -> Result<(), Fail> {
+    let script = [
+        (0, 0, Does::Comes),
+        (0, 1, Does::Comes),
+        (0, 0, Does::Takes(3)),
+        (1, 0, Does::Sends(b"zero")),
+        (1, 1, Does::Takes(9)),
+        (2, 1, Does::Sends(b"one")),
+        (2, 0, Does::Ends),
+        (3, 0, Does::Takes(1)),
+        (4, 0, Does::Takes(9)),
+        (4, 1, Does::Sends(b"more than is asked for")),
+        (5, 1, Does::Ends),
+    ];
+    for fails in 0..40 {
+        let mut link = linked(rt.alloc(), 2, &script, fails)?;
+        let _ = link.listen("here");
+        let mut buffer = [0; 8];
+        for _ in 0..20 {
+            match link.next(&mut buffer) {
+                Next::Bytes(number, size) => {
+                    let piece = &buffer[..size];
+                    let response = if piece.starts_with(b"zero") {
+                        b"to zero".as_slice()
+                    } else if piece.starts_with(b"one") {
+                        b"to one".as_slice()
+                    } else {
+                        b"to none".as_slice()
+                    };
+                    let _ = link.send(number, response);
+                    link.close(number);
+                }
+                Next::Opened(_) | Next::Ended(_) => {}
+                Next::Over | Next::Failed => break,
+            }
+        }
+        link.finish(Duration::from_secs(9));
+        assert!(rt;
+            b"to zero".starts_with(link.sockets().got(0)),
+            "call {fails}"
+        );
+        assert!(rt;
+            b"to one".starts_with(link.sockets().got(1)),
+            "call {fails}"
+        );
+        if fails == 0 {
+            assert_eq!(rt; link.sockets().got(0), b"to zero".as_slice());
+            assert_eq!(rt; link.sockets().got(1), b"to one".as_slice());
+        }
+    }
     Ok(())
 }

@@ -7,3 +7,4 @@ invariant-loop g l =
     × (length l.buf ≡ length l.initial.buf)
     × (l.self.faults ≡ l.initial.self.faults)
     × (l.self.send_faults ≡ l.initial.self.send_faults)
+    × (g.S.Sockets.events l.self.places.sockets ≡ g.S.Sockets.events l.initial.self.places.sockets)

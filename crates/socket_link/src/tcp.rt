@@ -1,0 +1,156 @@
+// The sockets of the system. Its calls don't wait, so they aren't interrupted.
+ghost use Rattle.std.specs.Prelude.{◌≡◌, ◌<◌, ◌≤◌, ◌∷◌, [], length};
+ghost use Rattle.wiki_io.specs.declared.links.Event.{Event};
+ghost use Rattle.wiki_io.specs.Link.{with_more};
+ghost use Rattle.socket_link.specs.Moved.{MovedFits};
+ghost use Rattle.socket_link.specs.Told.{opening_of, piece_of};
+
+use crate::socket::{Accepted, Moved, PLACES, Ready, Sockets};
+use mio::net::{TcpListener, TcpStream};
+use mio::{Events, Interest, Poll, Token};
+use std::alloc::Global;
+use std::io;
+use std::io::{ErrorKind, Read, Write};
+use std::net::{Net, Shutdown, SocketAddr, ToSocketAddrs};
+use std::time::{Clock, Duration};
+use wiki_base::Memory;
+
+/// Sockets over TCP, on the host's network and clock.
+#[derive(Drop)]
+pub struct TcpSockets<'a, R> {
+    host: &'a R,
+    poll: Option<Poll>,
+    listener: Option<TcpListener>,
+    events: Events<Global>,
+    guest: Option<TcpStream>,
+    streams: Vec<Option<TcpStream>>,
+}
+
+impl<'a, R: Net + Clock> TcpSockets<'a, R> {
+    /// No sockets yet.
+    pub fn new(alloc: Global, host: &'a R) -> Result<Self, Memory> {
+        let mut streams = Vec::with_capacity(alloc, PLACES as usize)?;
+        for _ in 0..PLACES {
+            streams.push(None)?;
+        }
+        Ok(TcpSockets {
+            host,
+            poll: None,
+            listener: None,
+            events: Events::with_capacity(alloc, PLACES as usize)?,
+            guest: None,
+            streams,
+        })
+    }
+
+    /// The address at which they listen, once they do.
+    pub fn address(&self) -> Option<SocketAddr> {
+        self.listener.as_ref()?.local_addr().ok()
+    }
+
+    // Listens at the first of the address's addresses that can be bound.
+    fn bind(&mut self, address: &str) -> io::Result<()> {
+        let mut found = Err(io::Error::from(ErrorKind::AddrNotAvailable));
+        for socket_address in address.to_socket_addrs(self.host)? {
+            found = TcpListener::bind(self.host, socket_address);
+            if found.is_ok() {
+                break;
+            }
+        }
+        let (mut listener, poll) = (found?, Poll::new(self.host)?);
+        let token = Token(PLACES as usize);
+        poll.registry()
+            .register(&mut listener, token, Interest::READABLE)?;
+        self.poll = Some(poll);
+        self.listener = Some(listener);
+        Ok(())
+    }
+}
+
+impl<R: Net + Clock> Sockets for TcpSockets<'_, R> {
+    ghost use Rattle.std.specs.Prelude.{None};
+
+    ghost events = { λ _. None };
+
+    fn listen(&mut self, address: &str) -> bool {
+        self.bind(address).is_ok()
+    }
+
+    fn now(&mut self) -> Option<Duration> {
+        self.host.monotonic().ok()
+    }
+
+    fn wait(&mut self, time: Option<Duration>) -> Option<Ready> {
+        match self.poll.as_mut()?.poll(&mut self.events, time) {
+            Err(error) if error.kind() != ErrorKind::Interrupted => return None,
+            _ => {}
+        }
+        let mut ready = Ready::nothing();
+        for event in &self.events {
+            ready.add(u32::try_from(event.token().0).unwrap_or(PLACES));
+        }
+        Some(ready)
+    }
+
+    fn accept(&mut self) -> Accepted {
+        let Some(listener) = &self.listener else {
+            return Accepted::Failed;
+        };
+        match listener.accept() {
+            Ok((stream, _)) => {
+                self.guest = Some(stream);
+                Accepted::Guest
+            }
+            Err(error) => Accepted::from_error(&error),
+        }
+    }
+
+    fn settle(&mut self, number: u32) -> bool {
+        let (Some(mut stream), Some(poll)) = (self.guest.take(), &self.poll) else {
+            return false;
+        };
+        let both = Interest::READABLE | Interest::WRITABLE;
+        let token = Token(number as usize);
+        let is_registered = poll.registry().register(&mut stream, token, both).is_ok();
+        match self.streams.get_mut(number as usize) {
+            Some(place) => *place = Some(stream),
+            None => return false,
+        }
+        is_registered
+    }
+
+    fn read(&mut self, number: u32, buf: &mut [u8]) -> Moved {
+        match self.streams.get_mut(number as usize) {
+            Some(Some(stream)) => Moved::from_io(stream.read(buf)),
+            _ => Moved::End,
+        }
+    }
+
+    fn pass_over(&mut self, number: u32) -> Moved {
+        self.read(number, &mut [0; 4096])
+    }
+
+    fn write(&mut self, number: u32, bytes: &[u8]) -> Moved {
+        match self.streams.get_mut(number as usize) {
+            Some(Some(stream)) => Moved::from_io(stream.write(bytes)),
+            _ => Moved::End,
+        }
+    }
+
+    fn shut(&mut self, number: u32) -> bool {
+        match self.streams.get(number as usize) {
+            Some(Some(stream)) => stream.shutdown(Shutdown::Write).is_ok(),
+            _ => false,
+        }
+    }
+
+    fn end(&mut self, number: u32) {
+        self.release(number)
+    }
+
+    fn release(&mut self, number: u32) {
+        if let Some(place) = self.streams.get_mut(number as usize) {
+            *place = None;
+        }
+    }
+}

@@ -1,0 +1,99 @@
+use super::*;
+use std::collections::VecDeque;
+use std::io::{Read, Write};
+use std::net::{SocketAddr, TcpStream};
+use std::test::Fail;
+use std::time::Duration;
+use wiki_io::{Link, Listen, Next, Took};
+
+fn seconds(count: u64) -> Duration {
+    Duration::from_secs(count)
+}
+
+fn client(rt: &HostRuntime, address: Option<SocketAddr>) -> Result<TcpStream, Fail> {
+    match address {
+        Some(address) => Ok(TcpStream::connect(rt, address)?),
+        None => Err(Fail::new("the link listens nowhere")),
+    }
+}
+
+#[test]
+fn pieces_come_and_what_was_sent_is_written_after_the_close(rt: HostRuntime) -> Result<(), Fail> {
+    let mut link = SocketLink::new(rt.alloc(), &rt, seconds(20), seconds(60))?;
+    assert_eq!(rt; link.listen("127.0.0.1:0"), Listen::Ready);
+    let mut near = client(&rt, link.address())?;
+    near.write_all(b"abc")?;
+    let mut buffer = [0; 8];
+    assert_eq!(rt; link.next(&mut buffer), Next::Opened(0));
+    assert_eq!(rt; link.next(&mut buffer), Next::Bytes(0, 3));
+    assert_eq!(rt; &buffer[..3], b"abc".as_slice());
+    assert_eq!(rt; link.send(0, b"reply"), Took::Bytes(5));
+    link.close(0);
+    let mut reply = [0; 8];
+    assert_eq!(rt; near.read(&mut reply)?, 5);
+    assert_eq!(rt; &reply[..5], b"reply".as_slice());
+    assert_eq!(rt; near.read(&mut reply)?, 0);
+    Ok(())
+}
+
+#[test]
+fn connections_and_the_listener_have_their_turns(rt: HostRuntime) -> Result<(), Fail> {
+    let mut link = SocketLink::new(rt.alloc(), &rt, seconds(20), seconds(60))?;
+    assert_eq!(rt; link.listen("127.0.0.1:0"), Listen::Ready);
+    let mut first = client(&rt, link.address())?;
+    let mut second = client(&rt, link.address())?;
+    first.write_all(b"aaaa")?;
+    second.write_all(b"bb")?;
+    let mut buffer = [0; 2];
+    assert_eq!(rt; link.next(&mut buffer), Next::Opened(0));
+    assert_eq!(rt; link.next(&mut buffer), Next::Bytes(0, 2));
+    assert_eq!(rt; link.next(&mut buffer), Next::Opened(1));
+    assert_eq!(rt; link.next(&mut buffer), Next::Bytes(0, 2));
+    assert_eq!(rt; link.next(&mut buffer), Next::Bytes(1, 2));
+    drop(second);
+    assert_eq!(rt; link.next(&mut buffer), Next::Ended(1));
+    Ok(())
+}
+
+#[test]
+fn a_connection_on_which_nothing_comes_ends(rt: HostRuntime) -> Result<(), Fail> {
+    let mut link = SocketLink::new(rt.alloc(), &rt, Duration::from_millis(20), seconds(60))?;
+    assert_eq!(rt; link.listen("127.0.0.1:0"), Listen::Ready);
+    let _idle = client(&rt, link.address())?;
+    let mut buffer = [0; 2];
+    assert_eq!(rt; link.next(&mut buffer), Next::Opened(0));
+    assert_eq!(rt; link.next(&mut buffer), Next::Ended(0));
+    link.finish(Duration::from_secs(1));
+    Ok(())
+}
+
+#[test]
+fn where_64_are_open_the_longest_silent_ends_before_another_is_let_in(
+    rt: HostRuntime,
+) -> Result<(), Fail> {
+    let mut link = SocketLink::new(rt.alloc(), &rt, seconds(20), seconds(60))?;
+    assert_eq!(rt; link.listen("127.0.0.1:0"), Listen::Ready);
+    let mut clients = VecDeque::new(rt.alloc());
+    for _ in 0..66 {
+        clients.push_back(client(&rt, link.address())?)?;
+    }
+    let mut buffer = [0; 2];
+    for number in 0..64 {
+        assert_eq!(rt; link.next(&mut buffer), Next::Opened(number));
+    }
+    assert_eq!(rt; link.next(&mut buffer), Next::Ended(0));
+    assert_eq!(rt; link.next(&mut buffer), Next::Opened(0));
+    // The socket of a connection that is closed keeps its place, and so its number, for a while.
+    link.close(7);
+    assert_eq!(rt; link.next(&mut buffer), Next::Opened(64));
+    Ok(())
+}
+
+#[test]
+fn an_address_that_is_none_fails(rt: HostRuntime) -> Result<(), Fail> {
+    let mut link = SocketLink::new(rt.alloc(), &rt, seconds(20), seconds(60))?;
+    assert_eq!(rt; link.listen("nowhere"), Listen::Failed);
+    let mut buffer = [0; 2];
+    assert_eq!(rt; link.next(&mut buffer), Next::Failed);
+    Ok(())
+}

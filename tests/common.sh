@@ -11,6 +11,7 @@ package_of() { # COMMAND
     case "$1" in
     cc) echo build-essential ;;
     chromedriver) echo chromium-driver ;;
+    flock | setpriv) echo util-linux ;;
     *) echo "$1" ;;
     esac
 }

@@ -122,7 +122,7 @@ files() {
     expect "a disk that is full, the status" 1 $?
     expect "a disk that is full" "*serve: full can't be written: its last line gets no newline" "$got"
     start wiki
-    refused "a file that is served" 1 "serve: wiki is being served already" wiki 127.0.0.1:0
+    refused "a file that is served" 1 "serve: wiki is being served or compacted already" wiki 127.0.0.1:0
     refused "a port that is taken" 5 "*serve: port $port is taken*" second "127.0.0.1:$port"
     refused "an address of another machine" 5 "*serve: this machine can't listen at 192.0.2.1:80" second 192.0.2.1:80
     stop

@@ -1,7 +1,8 @@
 """The journal keeps a wiki in one file, as docs/HTTP.md says.
 
-journal.py PROGRAM: the program is killed after some requests over HTTP and started anew, and then the index and the page of each
-article are as before, and sessions are gone. A last line that was cut off is no change, and takes none with it that comes later.
+journal.py PROGRAM: the program is killed after some requests over HTTP and started anew, and then the index, the page of each
+article with its statuses, and the menus of new sessions are as before, and sessions are gone. Texts come with any number of
+spaces, up to the longest that a form holds. A last line that was cut off is no change, and takes none with it that comes later.
 """
 import json, os, random, signal, socket, sys, tempfile
 from running import held_port, moments, started
@@ -41,13 +42,34 @@ def start():
 
 
 def pages():
-    return {path: send(f"GET {path} {HEAD}\r\n") for path in ["/"] + ["/article/" + word for word in nouns + names]}
+    """What each page shows, and what a new session on each article may begin with and go on with."""
+    found = {path: send(f"GET {path} {HEAD}\r\n") for path in ["/"] + ["/article/" + word for word in nouns + names]}
+    for word in nouns + names:
+        session = ask(do="open", article=word)["session"]
+        found[f"the menu on {word}"] = json.dumps(ask(do="menu", session=session))
+        ask(do="type", session=session, text=names[0])
+        found[f"the menu behind {names[0]} on {word}"] = json.dumps(ask(do="menu", session=session))
+        ask(do="drop", session=session)
+    return found
+
+
+def post(path, text, more=""):
+    """Sends a form whose text has spaces more in one of its gaps, up to the longest body that is taken."""
+    body = f"{more}text={text.replace(' ', '+')}"
+    room = 65536 - len(body)
+    at = body.index("+", len(more))
+    body = body[:at] + "+" * draw.choice([0, 1, draw.randrange(200), draw.randrange(room), room - draw.randrange(40), room]) + body[at:]
+    status = send(f"POST {path} {HEAD}Content-Length: {len(body)}\r\n\r\n{body}").split(" ")[1]
+    if status not in ("303", "404", "409"):
+        sys.exit(f"journal: a form of {len(body)} bytes has status {status}, and not 303, 404 or 409")
 
 
 def change():
     noun, other, name = draw.choice(nouns), draw.choice(nouns), draw.choice(names)
     text = draw.choice([f"{name} is a {noun}.", f"Every {noun} is a {other}.", f"No {noun} is a {other}.", f"Who is a {noun}?"])
     article, place = draw.choice(nouns + names), draw.randrange(4)
+    if draw.randrange(3) == 0:
+        return post(f"/article/{article}/add", text) if draw.randrange(2) else post(f"/article/{article}/edit", text, f"at={place}&")
     ask(**draw.choice([
         dict(do="add", article=article, text=text), dict(do="add", article=article, text=text),
         dict(do="edit", article=article, at=place, text=text), dict(do="remove", article=article, at=place),

@@ -139,7 +139,13 @@ class Kept:
                                stdin=subprocess.DEVNULL, stdout=subprocess.DEVNULL, stderr=subprocess.PIPE)
         self.wait()
 
-    connect, wait, send, ask, page, stop = Wiki.connect, Wiki.wait, Wiki.send, Wiki.ask, Wiki.page, Wiki.stop
+    connect, wait, send, ask, page = Wiki.connect, Wiki.wait, Wiki.send, Wiki.ask, Wiki.page
+
+    def stop(self):
+        """Ends it by a signal that tools/serve passes on, so that the file is free when it has ended."""
+        if self.process.poll() is None:
+            self.process.terminate()
+            self.process.wait()
 
 
 def cuts(program, step):

@@ -28,6 +28,7 @@ use words::ProcessLine;
 
 // How long a connection may take until an empty line has come, and until its whole request has.
 const HEAD_SECONDS: u64 = 20;
+
 const REQUEST_SECONDS: u64 = 60;
 
 // How long the link may take to write what was sent, when all else is done.

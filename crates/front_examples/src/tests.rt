@@ -61,10 +61,7 @@ fn a_page_of_another_site_posts_nothing(rt: HostRuntime) -> Result<(), Fail> {
     for (fields, wanted) in [
         ("Host: wiki:8080\r\n", ASKED),
         ("Host: wiki:8080\r\nOrigin: http://wiki:8080\r\n", ASKED),
-        (
-            "Host: Wiki:8080\r\nORIGIN: HTTPS://wiki:8080 \r\n",
-            ASKED,
-        ),
+        ("Host: Wiki:8080\r\nORIGIN: HTTPS://wiki:8080 \r\n", ASKED),
         ("Host: wiki:8080\r\nOrigin: http://wiki:8081\r\n", 403),
         ("Host: wiki\r\nOrigin: http://wiki.example\r\n", 403),
         ("Host: wiki\r\nOrigin: ftp://wiki\r\n", 403),
@@ -80,10 +77,7 @@ fn a_page_of_another_site_posts_nothing(rt: HostRuntime) -> Result<(), Fail> {
             "Origin: http://x\r\nHost: wiki\r\nContent-Length: x\r\n",
             403,
         ),
-        (
-            "Origin: http://x\r\nHost: wiki\r\nHost: wiki\r\n",
-            400,
-        ),
+        ("Origin: http://x\r\nHost: wiki\r\nHost: wiki\r\n", 400),
     ] {
         let request = format!(in rt.alloc(); "POST /session/1/back HTTP/1.0\r\n{fields}\r\n")?;
         assert_eq!(rt; status(&front, request.as_bytes())?, wanted);

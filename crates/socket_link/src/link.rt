@@ -6,6 +6,8 @@ ghost use Rattle.wiki_io.specs.Link.{is_among, without, can_all_come, connection
 ghost use Rattle.wiki_io.specs.Sink.{TookFits};
 ghost use Rattle.socket_link.specs.Round.{HandsIn};
 
+#[cfg(test)]
+use crate::memory::MemorySockets;
 use crate::place::Times;
 use crate::places::{Places, Turn};
 use crate::socket::{Accepted, Moved, Sockets};
@@ -51,6 +53,16 @@ impl<'a, R: Net + Clock> SocketLink<TcpSockets<'a, R>> {
     /// The address at which the link listens, once it does.
     pub fn address(&self) -> Option<SocketAddr> {
         self.places.sockets().address()
+    }
+}
+
+#[cfg(test)]
+impl SocketLink<MemorySockets> {
+    // Lets so many seconds pass.
+    pub(crate) fn passes(&mut self, seconds: u64)
+        ensures { self.new.connections ≡ self.old.connections }
+    {
+        self.places.sockets_again().passes(seconds);
     }
 }
 

@@ -33,7 +33,7 @@ fn a_response_isnt_cut_because_its_request_was_slow(rt: HostRuntime) -> Result<(
     let mut buffer = [0; 8];
     assert_eq!(rt; link.next(&mut buffer), Next::Opened(0));
     assert_eq!(rt; link.next(&mut buffer), Next::Bytes(0, 3));
-    link.sockets().passes(100);
+    link.passes(100);
     assert_eq!(rt; link.send(0, b"response"), Took::Bytes(8));
     link.close(0);
     link.finish(Duration::from_secs(100));
@@ -113,7 +113,7 @@ fn what_came_while_another_request_ran_is_handed_in_before_the_end(
     assert_eq!(rt; link.next(&mut buffer), Next::Opened(0));
     assert_eq!(rt; link.next(&mut buffer), Next::Bytes(0, 4));
     assert_eq!(rt; link.next(&mut buffer), Next::Opened(1));
-    link.sockets().passes(90);
+    link.passes(90);
     link.close(0);
     assert_eq!(rt; link.next(&mut buffer), Next::Bytes(1, 6));
     assert_eq!(rt; link.next(&mut buffer), Next::Bytes(1, 4));

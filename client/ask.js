@@ -45,26 +45,29 @@ async function send(editor, article, answers, tokens) {
         moved: () => {},
         done: (now) => {
             editor.clear();
-            showAnswer(answers, name, now);
+            showAnswer(answers, name, now, editor);
         },
     });
 }
 
-function showAnswer(answers, name, now) {
+function showAnswer(answers, name, now, editor) {
     const at = now.sentences.length - 1;
     const sentence = now.sentences[at];
     if (!sentence) { return; }
+    const close = () => {
+        fill(answers);
+        editor.focus();
+    };
     const remove = button('Remove the question again', async () => {
         const result = await change(name, now, at, 'remove', {});
         if (result.done) {
-            fill(answers);
+            close();
             say('The question was removed again.');
         }
     });
-    const keep = button('Keep it', () => fill(answers));
     fill(answers, make('section', { class: 'panel', 'aria-label': 'The answer' },
         make('p', { class: 'question' }, linked(sentence.text)),
         answersOf(sentence) || make('p', {}, make('strong', {}, statusName(sentence.status)), ': ', statusText(sentence.status)),
         make('p', { class: 'quiet' }, 'The question was added as ', placeLink(name, at), '.'),
-        make('div', { class: 'row' }, remove, keep)));
+        make('div', { class: 'row' }, remove, button('Keep it', close))));
 }

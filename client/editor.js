@@ -15,7 +15,7 @@ export class Editor {
     constructor(settings) {
         this.settings = settings;
         this.tokens = settings.tokens.slice();
-        this.state = { turn: 0, isCurrent: false, isWhole: false, isRunning: false };
+        this.state = { turn: 0, isCurrent: false, isWhole: false, isRunning: false, isPressed: false };
         this.menu = new Menu((token) => this.take(token), (element) => this.point(element));
         this.typed = make('bdi', { id: freshId('typed'), class: 'typed-text' });
         this.input = make('input', { ...FIELD, 'aria-controls': this.menu.id, 'aria-describedby': this.typed.id });
@@ -31,7 +31,10 @@ export class Editor {
     build() {
         this.input.addEventListener('keydown', (event) => this.key(event));
         // Keyboards of telephones tell no keys, so the end of a word is seen in the field too.
-        this.input.addEventListener('input', () => (/\S[\s.?]$/.test(this.input.value) ? this.enter(this.input.value) : this.changed()));
+        this.input.addEventListener('input', () => {
+            this.state.isPressed = false;
+            return /\S[\s.?]$/.test(this.input.value) ? this.enter(this.input.value) : this.changed();
+        });
         this.input.addEventListener('paste', (event) => {
             const text = event.clipboardData.getData('text').slice(0, LONGEST_INPUT).trim();
             if (/\s|[.?]$/.test(text)) {
@@ -82,7 +85,7 @@ export class Editor {
     actionOf({ key, shiftKey }, value, isAtEnd) {
         const isEmpty = value === '';
         const goes = new Map([
-            ['Enter', true], ['Tab', !isEmpty && !shiftKey && this.menu.marked() !== null], [' ', isAtEnd], ['.', isAtEnd], ['?', isAtEnd],
+            ['Enter', true], ['Tab', !isEmpty && !shiftKey && !(this.state.isCurrent && this.menu.marked() === null)], [' ', isAtEnd], ['.', isAtEnd], ['?', isAtEnd],
             ['Backspace', isEmpty], ['ArrowDown', true], ['ArrowUp', true], ['ArrowRight', isAtEnd], ['ArrowLeft', isEmpty], ['Escape', true],
         ]);
         const actions = new Map([
@@ -94,9 +97,12 @@ export class Editor {
         return goes.get(key) ? actions.get(key) || (() => this.enter(value + ' ' + key)) : null;
     }
 
+    // Where the menu hasn't come yet, the key counts when it has.
     pressEnter(text) {
-        if (text === '' && this.state.isCurrent && this.state.isWhole) { return attempt(() => this.commit(), this.done); }
-        const marked = this.state.isCurrent && !/\s/.test(text) ? this.menu.marked() : null;
+        this.state.isPressed = !this.state.isCurrent;
+        if (this.state.isPressed) { return null; }
+        if (text === '' && this.state.isWhole) { return attempt(() => this.commit(), this.done); }
+        const marked = /\s/.test(text) ? null : this.menu.marked();
         return marked === null ? this.enter(text) : this.take(marked);
     }
 
@@ -139,8 +145,7 @@ export class Editor {
 
     // One `parse` at a time, and one more where tokens have changed meanwhile.
     async update() {
-        this.state.turn += 1;
-        this.state.isCurrent = false;
+        Object.assign(this.state, { turn: this.state.turn + 1, isCurrent: false, isPressed: false });
         this.show();
         if (this.state.isRunning) { return; }
         this.state.isRunning = true;
@@ -174,6 +179,7 @@ export class Editor {
         this.show();
         this.changed();
         this.input.setAttribute('aria-invalid', String(this.note.textContent !== ''));
+        if (this.state.isPressed) { this.pressEnter(this.input.value.trim()); }
     }
 
     // The tokens from this place on go back into the field.

@@ -177,7 +177,7 @@ def part_words(page, place):
         shown = browser.script("return [...document.querySelectorAll('.word-form .field input')].map((it) => it.value)")
         expect("the suggested forms", sorted(shown), sorted(forms))
         browser.keys("Enter")
-        page.notice("Added \u201c" if False else "Added ")
+        page.notice("Added ")
         browser.until(lambda: text in browser.texts(".kind li"), text)
         expect("the word's forms", place.ask(do="find", word=text)["word"]["forms"], forms)
     browser.click('.word-form input[value="noun"]')
@@ -243,7 +243,7 @@ def part_article(page, place):
     expect("statuses in words", page.statuses(), ["asserted", "asserted", "contradiction"])
     colours = browser.script("return [...document.querySelectorAll('.status')].map((it) => getComputedStyle(it).color)")
     expect("colours differ", len(set(colours)), 2)
-    browser.click(".sentence:nth-child(2) a:nth-of-type(2)")
+    browser.click(".sentence:nth-child(2) a:nth-of-type(3)")
     page.has(["Bern is a city.", "What crosses Bern?"])
     expect("answers are links", browser.texts(".answers a"), ["Aare"])
     page.article("Basel", ["A river crosses a city."])
@@ -480,11 +480,11 @@ def part_map(page, place):
     browser.go("about:blank")
     browser.go(place.address + "#/map")
     browser.until(lambda: browser.find("svg .isa"), "the drawing")
-    expect("classes", browser.texts(".class-name") or browser.script("return [...document.querySelectorAll('.class-name')].map((it) => it.textContent)"),
-           ["city", "river", "place", "in no class"])
-    shown = browser.script("return [...document.querySelectorAll('.chip-name')].map((it) => it.textContent)")
-    expect("names", sorted(shown), ["Aare", "Basel", "Bern"])
-    expect("relations", browser.script("return [...document.querySelectorAll('.relation-name')].map((it) => it.textContent)"), ["cross"])
+    drawn = {kind: browser.script("return [...document.querySelectorAll(arguments[0])].map((it) => it.textContent)", kind)
+             for kind in (".class-name", ".chip-name", ".relation-name")}
+    expect("classes", sorted(drawn[".class-name"]), ["city", "in no class", "place", "river"])
+    expect("names", sorted(drawn[".chip-name"]), ["Aare", "Basel", "Bern"])
+    expect("relations", drawn[".relation-name"], ["cross"])
     reads = len(place.between.seen_of("axioms"))
     browser.button("Read again")
     browser.until(lambda: browser.find("svg .isa") and not browser.find("progress"), "the drawing again")
@@ -539,7 +539,8 @@ def to(page, label, times=1):
     """Presses Tab until what has the focus has this text, so many times."""
     for _ in range(120):
         page.browser.keys("Tab")
-        if label in page.browser.script("return (document.activeElement.innerText || '').trim()").split("\n"):
+        shown = page.browser.script("const it = document.activeElement; return it.matches('button, a') ? it.innerText.trim() : ''")
+        if label in shown.split("\n"):
             times -= 1
             if times == 0:
                 return
@@ -613,7 +614,7 @@ def part_restart(page, place):
     page.type("Basel is a city.")
     port, journal = place.wiki.port, place.wiki.kill()
     browser.keys("Enter")
-    page.notice("server in front can't reach the wiki" if False else "reach")
+    page.notice("can't reach the wiki")
     browser.until(lambda: browser.find(".lost"), "that the wiki doesn't answer", 40)
     fresh = Wiki(sys.argv[1], lines() + journal, errors=subprocess.DEVNULL)
     place.wiki, place.between.wiki = fresh, fresh

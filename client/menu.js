@@ -3,13 +3,13 @@ import { plain } from './lexicon.js';
 import { fill, freshId, make } from './page.js';
 
 const GROUPS = [['function', 'Function words'], ['name', 'Names'], ['noun', 'Nouns'], ['of', 'Of-constructs'], ['verb', 'Verbs'], ['adjective', 'Adjectives']];
-const SHOWN_OF_A_GROUP = 80;
+const SHOWN_OF_A_GROUP = 60;
 
 export class Menu {
     // `take` is called with the token that is clicked, `onMarked` with the element that is marked, or null.
     constructor(take, onMarked) {
         this.id = freshId('menu');
-        Object.assign(this, { onMarked, groups: [], options: [], at: -1 });
+        Object.assign(this, { onMarked, groups: [], plain: new Map(), options: [], at: -1 });
         const click = (event) => {
             const option = this.options.find((it) => it.element.contains(event.target));
             if (option) { take(option.token); }
@@ -19,6 +19,7 @@ export class Menu {
 
     set(menu) {
         this.groups = GROUPS.map(([name]) => (menu ? menu[name] : []));
+        this.plain = new Map(this.groups.flat().map((token) => [token, plain(token)]));
     }
 
     has(token) {
@@ -27,14 +28,14 @@ export class Menu {
 
     // The text as the menu spells it, where just one of its tokens is like it.
     spelled(text) {
-        const alike = this.has(text) ? [text] : this.groups.flat().filter((token) => plain(token) === plain(text));
+        const alike = this.has(text) ? [text] : this.groups.flat().filter((token) => this.plain.get(token) === plain(text));
         return alike.length === 1 ? alike[0] : text;
     }
 
     // Shows what fits the filter; of a text with spaces its first word counts.
     filter(typed) {
         const wanted = plain(typed.trim().split(/\s/)[0]);
-        const fits = this.groups.map((tokens) => tokens.filter((token) => plain(token).includes(wanted)));
+        const fits = this.groups.map((tokens) => tokens.filter((token) => this.plain.get(token).includes(wanted)));
         this.options = fits.flatMap((tokens, group) => tokens.slice(0, SHOWN_OF_A_GROUP).map((token) => (
             { token, group, element: make('div', { id: freshId('option'), role: 'option', 'aria-selected': 'false' }, make('bdi', {}, token)) })));
         fill(this.element, fits.map((tokens, group) => this.column(GROUPS[group][1], this.options.filter((it) => it.group === group), tokens.length)));
@@ -50,8 +51,8 @@ export class Menu {
     }
 
     best(wanted) {
-        const same = this.options.findIndex((option) => plain(option.token) === wanted);
-        return same >= 0 ? same : Math.max(this.options.findIndex((option) => plain(option.token).startsWith(wanted)), 0);
+        const same = this.options.findIndex((option) => this.plain.get(option.token) === wanted);
+        return same >= 0 ? same : Math.max(this.options.findIndex((option) => this.plain.get(option.token).startsWith(wanted)), 0);
     }
 
     mark(at) {

@@ -647,22 +647,71 @@ def part_bad(page, place):
     many(page, place)
 
 
+MEASURE = """const input = document.querySelector(arguments[0]); const times = [];
+    for (const text of arguments[1]) {
+        const begun = performance.now(); input.value = text; input.dispatchEvent(new Event('input')); document.body.offsetHeight;
+        times.push(performance.now() - begun); }
+    return times"""
+
+
 def many(page, place):
+    """The most words and sentences that a wiki can have; what the wiki would tell of them is told in its place."""
     browser = page.browser
-    for number in range(300):
-        place.ask(do="add", article="place", text="Bern is not a river.")
-    page.article("place", ["Bern is not a river."] * 300)
+    names = ["word" + "".join("abcdefghij"[int(digit)] for digit in str(number)) for number in range(4900)]
+    words = [{"kind": "name", "forms": [name]} for name in names] + [{"kind": "noun", "forms": ["city", "cities"]}]
+    sentences = [{"status": "asserted", "text": f"{names[number]} is a city."} for number in range(2000)]
+    menu = {"adjective": [], "function": ["a", "every"], "name": names, "noun": [], "of": [], "verb": []}
+    replies = {"words": {"done": "words", "words": words}, "read": {"done": "read", "revision": 2000, "sentences": sentences},
+               "parse": {"k": 0, "menu": menu, "name": "NotSentence", "refused": 12}}
+    place.between.meddle = lambda request: response(200, json.dumps(replies[request["do"]]), "application/json") if request["do"] in replies else None
+    page.words()
+    typed = ["w", "wo", "wor", "word", "worda", "wordaa", "word", ""]
+    times = browser.script(MEASURE, "#filter", typed)
+    print(f"client: a key in the filter of {len(words)} words takes {max(times):.0f} ms at most, {sorted(times)[4]:.0f} ms in the middle")
+    times = browser.script(MEASURE, "#open-word", typed)
+    print(f"client: a key in the field above takes {max(times):.0f} ms at most, {sorted(times)[4]:.0f} ms in the middle")
+    begun = time.time()
+    browser.go(place.address + "#/article/city")
+    browser.until(lambda: browser.script("return document.querySelectorAll('.sentence').length") == 2000, "2,000 sentences", 60)
+    print(f"client: an article of 2,000 sentences is there after {time.time() - begun:.1f} s")
     page.editor()
-    expect_in("the first and the last are there", "300", str(len(page.sentences())))
-    browser.wait_script("""const { allWords } = await import('/editor/lexicon.js');
-        for (let n = 0; n < 5000; n += 1) { allWords().push({ kind: 'noun', forms: ['word' + String(n).replace(/\\d/g, (d) => 'abcdefghij'[d]), 'plural' + n] }); }""")
-    browser.go(place.address + "#/")
-    browser.until(lambda: browser.find("#filter"), "the words")
-    took = browser.script("""const filter = document.querySelector('#filter'); const times = [];
-        for (const text of ['w', 'wo', 'wor', 'word', 'worda', 'word', '']) {
-            filter.value = text; const begun = performance.now(); filter.dispatchEvent(new Event('input')); document.body.offsetHeight;
-            times.push(performance.now() - begun); } return Math.max(...times);""")
-    print(f"client: a key in the filter of 5,000 words takes {took:.0f} ms at most")
+    times = browser.script(MEASURE, ".next", typed)
+    print(f"client: a key in the editor takes {max(times):.0f} ms at most, {sorted(times)[4]:.0f} ms in the middle")
+
+
+def part_large(page, place):
+    """A map of 300 words and 600 sentences. What the wiki would tell is told in its place, so the time is that of the page alone."""
+    spelled = ["".join("abcdefghij"[int(digit)] for digit in f"{number:03d}") for number in range(190)]
+    nouns, names, verbs = [f"noun{it}" for it in spelled[:90]], [f"Name{it}" for it in spelled], [f"verb{it}" for it in spelled[:20]]
+    axioms = {noun: [f"SubClassOf(:{noun} :{nouns[number // 3]})"] for number, noun in enumerate(nouns) if number}
+    for number, name in enumerate(names):
+        axioms[name] = [f"ClassAssertion(:{nouns[number * 7 % 90]} :{name})", f"ObjectPropertyAssertion(:{verbs[number % 20]} :{name} :{names[number * 13 % 190]})"]
+        axioms[name] += [f"ObjectPropertyAssertion(:{verbs[number % 7]} :{name} :{names[number * 11 % 190]})"] if number < 131 else []
+    words = [{"kind": kind, "forms": [form] * count} for kind, forms, count in (("noun", nouns, 2), ("name", names, 1), ("verb", verbs, 3)) for form in forms]
+
+    def told(request):
+        mine = axioms.get(request.get("article"), [])
+        replies = {"words": {"words": words}, "axioms": {"axioms": mine[request.get("at", 0):][:1]},
+                   "read": {"revision": len(mine), "sentences": [{"status": "asserted", "text": "Bern is a city."} for _ in mine]}}
+        return response(200, json.dumps({"done": request["do"], **replies[request["do"]]}), "application/json")
+
+    place.between.meddle = told
+    page.browser.go("about:blank")
+    begun = time.time()
+    page.browser.go(place.address + "#/map")
+    page.browser.until(lambda: page.browser.find("svg .isa"), "the drawing", 90)
+    asked = len(place.between.seen)
+    print(f"client: a map of {len(words)} words and {sum(map(len, axioms.values()))} sentences is there after {time.time() - begun:.1f} s and {asked} requests")
+    expect_in("what is drawn", "90 classes, 190 names, 321 relations", " ".join(page.browser.texts("[role=status]")))
+    crossing = page.browser.script("""const boxes = [...document.querySelectorAll('.box')].map((it) => it.getBBox());
+        return boxes.filter((a, i) => boxes.some((b, j) => j > i && a.x < b.x + b.width && b.x < a.x + a.width && a.y < b.y + b.height && b.y < a.y + a.height)).length""")
+    expect("boxes that lie on each other", crossing, 0)
+    if len(sys.argv) > 2:
+        page.browser.picture(os.path.join(sys.argv[2], "client-large.png"))
+    page.browser.until(lambda: not page.browser.find("progress"), "the end of reading")
+    page.browser.button("Read again")
+    page.browser.until(lambda: page.browser.find("svg .isa") and not page.browser.find("progress"), "the drawing again", 90)
+    expect("axioms are kept", len(place.between.seen_of("axioms")), sum(map(len, axioms.values())))
 
 
 def part_frame(page, place):

@@ -19,8 +19,7 @@ export class Trouble extends Error {
 
 export const body = (name, members) => JSON.stringify({ do: name, ...members });
 
-let last = Promise.resolve();
-let running = null;
+let [last, running] = [Promise.resolve(), null];
 
 export function ask(name, members) {
     const answer = last.then(() => patiently(name, members));

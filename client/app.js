@@ -8,8 +8,7 @@ import { attempt, clearNotices, explainBy, fill, make } from './page.js';
 import { explain } from './refusals.js';
 import { wordsView } from './words.js';
 
-const TOLD_AFTER = 1000;
-const STOPPABLE_AFTER = 5000;
+const [TOLD_AFTER, STOPPABLE_AFTER] = [1000, 5000];
 
 let view = null;
 let lastArticle = '';

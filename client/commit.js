@@ -4,8 +4,7 @@ import { compare, sameSentences, whatChanged } from './changes.js';
 import { textOf } from './lexicon.js';
 import { complain, explained, wordLink } from './page.js';
 
-const FULL = 'All places for people who write are taken. The sentence can be added without one: the article is read first, and '
-    + 'nothing is sent if it isn\'t what is shown here. What that doesn\'t check: a change by somebody else between the two.';
+const FULL = 'All places for people who write are taken. The sentence can be added without one: the article is read first, and nothing is sent if it isn\'t what is shown. A change between the two isn\'t noticed.';
 
 // A task has the article, what is shown of it, the tokens, and what to call: `done` and `moved` with a new reading, `offer`
 // with a text, a label and an action.
@@ -17,34 +16,38 @@ export async function append(task) {
     window.addEventListener('pagehide', leave);
     try {
         await checked(task, held, () => typed(task, held));
+    } catch (error) {
+        lose(held, error);
+        throw error;
     } finally {
         window.removeEventListener('pagehide', leave);
         if (held.isOurs) { await ask('drop', { session }).catch(() => {}); }
     }
 }
 
-async function begun(task) {
-    try {
-        return (await ask('open', { article: task.article })).session;
-    } catch (error) {
+function begun(task) {
+    const add = () => ask('add', { article: task.article, text: textOf(task.tokens) });
+    return ask('open', { article: task.article }).then(({ session }) => session).catch((error) => {
         if (!error.is || !error.is('Full') || error.reply.which !== 'sessions') { throw error; }
-        const add = () => ask('add', { article: task.article, text: textOf(task.tokens) });
         task.offer([FULL], 'Add it all the same', () => checked(task, {}, add));
         return null;
-    }
+    });
 }
 
-// Does it where the article is the one that is shown. After a failure of the network the session isn't touched again, since
-// numbers begin anew when the program does.
+// After a failure of the network the session isn't touched again, since numbers begin anew when the program does.
+function lose(held, error) {
+    if (!(error instanceof Trouble) || error.cause !== 'refused' || error.is('NoSession')) { held.isOurs = false; }
+}
+
+// Does it where the article is the one that is shown.
 async function checked(task, held, action) {
     const before = await ask('read', { article: task.article });
     if (hasMoved(task, before)) { return; }
     try {
         await action();
     } catch (error) {
-        const isRefused = error instanceof Trouble && error.cause === 'refused';
-        Object.assign(held, { isOurs: isRefused && !error.is('NoSession') });
-        if (isRefused && error.is('Stale') && hasMoved(task, await ask('read', { article: task.article }))) { return; }
+        lose(held, error);
+        if (error.is && error.is('Stale') && hasMoved(task, await ask('read', { article: task.article }))) { return; }
         if (!error.uncertain || error.request === 'type') { throw error; }
         complain(explained(error));
         const now = await ask('read', { article: task.article });

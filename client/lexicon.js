@@ -12,11 +12,13 @@ export const KINDS = [
 
 let words = [];
 let byForm = new Map();
+let plainForms = new Map();
 
 export async function load() {
     const reply = await ask('words', {});
     words = reply.words;
     byForm = new Map(words.flatMap((word) => word.forms.map((form) => [form, word])));
+    plainForms = new Map(words.map((word) => [word, word.forms.map(plain)]));
 }
 
 export const allWords = () => words;
@@ -27,12 +29,18 @@ export const nameOf = (word) => word.forms[kindOf(word.kind).named];
 // A text as it is compared with what a person types: letters that look alike are alike, and so are great and small ones.
 export const plain = (text) => text.normalize('NFC').toLowerCase();
 
-// The first words that fit what is typed: those with this very form, those that begin with it, then those that have it inside.
+// The words with what is typed in a form of theirs.
+export function fitting(typed) {
+    const wanted = plain(typed.trim());
+    return wanted === '' ? words : words.filter((word) => plainForms.get(word).some((form) => form.includes(wanted)));
+}
+
+// The first of these: those with this very form, those that begin with it, then those that have it inside.
 export function lookUp(typed, most) {
-    const wanted = plain(typed);
-    const fits = [(form) => form === wanted, (form) => form.startsWith(wanted), (form) => form.includes(wanted)];
-    const found = fits.map((fit) => words.filter((word) => word.forms.some((form) => fit(plain(form)))).slice(0, most));
-    return [...new Set(wanted === '' ? [] : found.flat())].slice(0, most);
+    const wanted = plain(typed.trim());
+    const fits = [(form) => form === wanted, (form) => form.startsWith(wanted), () => true];
+    const inside = wanted === '' ? [] : fitting(typed);
+    return [...new Set(fits.flatMap((fit) => inside.filter((word) => plainForms.get(word).some(fit))))].slice(0, most);
 }
 
 const SIBILANT = /(?:s|x|z|ch|sh)$/;

@@ -53,7 +53,7 @@ function boxesOf(facts, depth) {
 function placeChips(box) {
     let [x, row] = [8, 0];
     for (const chip of box.chips) {
-        chip.width = Math.min(Math.min(chip.name.length, LONGEST) * 7.6 + 14, WIDTH - 16);
+        chip.width = Math.min(Math.min(chip.name.length, LONGEST) * 8.3 + 14, WIDTH - 16);
         if (x > 8 && x + chip.width > WIDTH - 8) { [x, row] = [8, row + 1]; }
         [chip.x, chip.y] = [x, HEAD + row * ROW];
         x += chip.width + 6;

@@ -6,7 +6,7 @@ const MOST = 12;
 
 export function setUpOpen() {
     const [input, list] = [document.getElementById('open-word'), document.getElementById('open-list')];
-    const suggest = () => fill(list, lookUp(input.value.trim(), MOST).map((word) => make('option', { value: nameOf(word) }, word.kind)));
+    const suggest = () => fill(list, lookUp(input.value, MOST).map((word) => make('option', { value: nameOf(word) }, word.kind)));
     input.addEventListener('focus', () => attempt(load));
     input.addEventListener('input', suggest);
     document.getElementById('open').addEventListener('submit', (event) => {

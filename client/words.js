@@ -1,9 +1,9 @@
 // The page of all words: by kind, with a filter, and a form that adds one.
-import { KINDS, allWords, load, nameOf, plain, wordOf } from './lexicon.js';
+import { KINDS, allWords, fitting, load, nameOf, wordOf } from './lexicon.js';
 import { attempt, count, field, fill, make, say, wordLink } from './page.js';
 import { wordForm } from './wordform.js';
 
-const SHOWN_OF_A_KIND = 120;
+const SHOWN_OF_A_KIND = 100;
 
 export function wordsView() {
     const whole = new Set();
@@ -29,9 +29,8 @@ export function wordsView() {
 }
 
 function showLists(lists, total, typed, whole) {
-    const wanted = plain(typed.trim());
-    const fits = allWords().filter((word) => wanted === '' || word.forms.some((form) => plain(form).includes(wanted)));
-    total.textContent = (wanted === '' ? '' : `${fits.length.toLocaleString('en')} of `) + count(allWords().length, 'word');
+    const fits = fitting(typed);
+    total.textContent = (fits === allWords() ? '' : `${fits.length.toLocaleString('en')} of `) + count(allWords().length, 'word');
     fill(lists, KINDS.map((it) => kindList(it, fits.filter((word) => word.kind === it.kind), whole, () => showLists(lists, total, typed, whole))));
 }
 

@@ -1,7 +1,5 @@
 """Headless Chromium, driven through chromedriver by the protocol of W3C WebDriver, without libraries."""
-import base64, json, subprocess, time, urllib.error, urllib.request
-
-from running import free_port
+import base64, json, re, subprocess, time, urllib.error, urllib.request
 
 KEYS = {"Enter": "\ue007", "Tab": "\ue004", "Escape": "\ue00c", "Backspace": "\ue003", "Left": "\ue012", "Up": "\ue013",
         "Right": "\ue014", "Down": "\ue015", "Shift": "\ue008", "Control": "\ue009"}
@@ -13,12 +11,14 @@ class Failed(Exception):
 
 
 class Driver:
-    """A chromedriver on a port of its own."""
+    """A chromedriver on a port that it found free."""
 
     def __init__(self):
-        self.port = free_port()
-        words = ["nice", "-n", "5", "chromedriver", f"--port={self.port}"]
-        self.process = subprocess.Popen(words, stdout=subprocess.DEVNULL, stderr=subprocess.DEVNULL)
+        self.process = subprocess.Popen(["chromedriver", "--port=0"], stdin=subprocess.DEVNULL, stdout=subprocess.PIPE, stderr=subprocess.DEVNULL, text=True)
+        told = next((found for found in map(re.compile(r"on port ([1-9]\d*)").search, self.process.stdout) if found), None)
+        if told is None:
+            raise Failed(f"chromedriver ended with status {self.process.wait()}")
+        self.port = int(told[1])
         self.sessions = []
 
     def call(self, method, path, body=None):
@@ -31,14 +31,6 @@ class Driver:
         except urllib.error.HTTPError as error:
             raise Failed(f"{method} {path}: {error.read().decode()[:400]}")
 
-    def wait(self):
-        for _ in range(300):
-            try:
-                return self.call("GET", "/status")
-            except OSError:
-                time.sleep(0.1)
-        raise Failed("chromedriver doesn't listen")
-
     def stop(self):
         for session in self.sessions:
             try:
@@ -47,6 +39,7 @@ class Driver:
                 pass
         self.process.terminate()
         self.process.wait()
+        self.process.stdout.close()
 
 
 class Browser:
@@ -98,7 +91,7 @@ class Browser:
 
     def labelled(self, text, within):
         return self.script("""return [...document.querySelectorAll(arguments[1] + ' button')]
-            .find((it) => it.innerText.trim() === arguments[0] && it.offsetParent !== null) || null""", text, within)
+            .find((it) => it.textContent.trim() === arguments[0] && it.offsetParent !== null) || null""", text, within)
 
     def keys(self, *given):
         """Presses keys one after the other: names of KEYS, or the letters of a text."""

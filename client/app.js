@@ -10,8 +10,7 @@ import { wordsView } from './words.js';
 
 const [TOLD_AFTER, STOPPABLE_AFTER] = [1000, 5000];
 
-let view = null;
-let lastArticle = '';
+let [view, lastArticle] = [null, ''];
 
 function viewOf(hash) {
     const [page, name, place] = hash.split('/').slice(1);

@@ -77,14 +77,15 @@ function place(boxes) {
     }
 }
 
-function drawBox(box, chips) {
+function drawBox(box, chips, relations) {
     const isNone = box.name === null;
     const head = [svg('rect', { x: box.x, y: box.y, width: WIDTH, height: box.height, rx: 7, class: 'box' }), text(box.x + 10, box.y + 19, 'class-name', isNone ? 'in no class' : box.name)];
     const inside = box.chips.map((chip) => {
         const [x, y] = [box.x + chip.x, box.y + chip.y];
-        const element = link(chip.name, chip.name + (isNone ? ', in no class' : ', in the class ' + box.name),
+        const told = relations.filter((it) => it.from === chip.name).map((it) => `; ${it.role} ${it.to}`).join('');
+        const element = link(chip.name, chip.name + (isNone ? ', in no class' : ', in the class ' + box.name) + told,
             svg('rect', { x, y, width: chip.width, height: ROW - 5, rx: 9, class: chip.isAlso ? 'chip also' : 'chip' }), text(x + 7, y + 14, 'chip-name', chip.name));
-        if (!chip.isAlso) { chips.set(chip.name, { element, x, end: x + chip.width, y: y + 9, edges: [] }); }
+        if (!chip.isAlso) { chips.set(chip.name, { element, box, x, end: x + chip.width, y: y + 9, edges: [] }); }
         return element;
     });
     return [isNone ? svg('g', {}, ...head) : link(box.name, 'the class ' + box.name + (box.above ? ', below ' + box.above : ''), ...head), ...inside];
@@ -101,7 +102,8 @@ function drawRelation({ role, from, to }, chips) {
     const [x, toX] = [isRight ? one.end : one.x, other.end < one.x ? other.end : other.x];
     const [bend, toBend] = [isRight ? x + 40 : x - 40, other.end < one.x ? toX + 40 : toX - 40];
     const path = svg('path', { class: 'relation', d: `M ${x} ${one.y} C ${bend} ${one.y}, ${toBend} ${other.y}, ${toX} ${other.y}`, 'marker-end': 'url(#relation-end)' });
-    const element = svg('g', { class: 'edge' }, path, text((x + toX + 3 * (bend + toBend)) / 8, (one.y + other.y) / 2 - 3, 'relation-name', role));
+    const label = text((x + toX + 3 * (bend + toBend)) / 8, (one.y + other.y) / 2 - 3, 'relation-name', one.box.x === other.box.x ? '' : role);
+    const element = svg('g', { class: 'edge' }, path, label);
     one.edges.push(element);
     other.edges.push(element);
     return { role, element };
@@ -117,7 +119,7 @@ export function draw(facts) {
     const [boxes, chips] = [boxesOf(facts, depths(facts)), new Map()];
     place(boxes);
     const all = [...boxes.values()];
-    const drawn = all.flatMap((box) => drawBox(box, chips));
+    const drawn = all.flatMap((box) => drawBox(box, chips, facts.relations));
     const above = all.flatMap((box) => [...(facts.below.get(box.name) || [])].filter((high) => boxes.has(high) && high !== box.name).map((high) => drawAbove(box, boxes.get(high))));
     const edges = facts.relations.filter((it) => chips.has(it.from) && chips.has(it.to)).map((it) => drawRelation(it, chips));
     const width = Math.max(...all.map((box) => box.x + WIDTH), 300) + GAP;

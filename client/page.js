@@ -44,11 +44,7 @@ export function button(label, action, attributes) {
 export const closeButton = (action) => make('button', { type: 'button', class: 'close', 'aria-label': 'Close this message', onclick: action }, '\u00d7');
 
 let explain = null;
-
-export function explainBy(how) {
-    explain = how;
-}
-
+export const explainBy = (how) => { explain = how; };
 export const explained = (error) => explain(error);
 
 export async function attempt(action, element) {

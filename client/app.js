@@ -36,7 +36,7 @@ function open() {
     }
     document.title = view.title + ' \u00b7 AceWiki';
     fill(main, view.element);
-    document.querySelectorAll('nav a').forEach((link) => link.toggleAttribute('data-here', link.hash === (location.hash || '#/')));
+    document.querySelectorAll('nav a').forEach((link) => link.setAttribute('aria-current', link.hash === (location.hash || '#/') ? 'page' : 'false'));
 }
 
 // While an answer is waited for long, the page says so, and the waiting can be ended.

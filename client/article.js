@@ -147,9 +147,9 @@ class ArticleView {
         }
     }
 
-    async send(at, name, members) {
+    async send(at, name, members, whenDone = () => {}) {
         const result = await this.whileChanging(() => change(this.name, this.shown, at, name, members));
-        if (result.done && this.edited) { this.closeEditor(); }
+        if (result.done) { whenDone(); }
         this.show(result.now);
         if (result.done && name !== 'remove') {
             this.point(at);
@@ -222,7 +222,7 @@ class ArticleView {
             done: (now) => {
                 this.show(now);
                 editor.clear();
-                this.list.lastElementChild.scrollIntoView({ block: 'nearest' });
+                (this.list.lastElementChild || this.list).scrollIntoView({ block: 'nearest' });
                 this.tell(now.sentences[now.sentences.length - 1]);
             },
         }));
@@ -231,7 +231,7 @@ class ArticleView {
     async replace(tokens) {
         const { element, name } = this.edited;
         if (element.isConnected) {
-            await this.send(this.place(element), name, { text: textOf(tokens) });
+            await this.send(this.place(element), name, { text: textOf(tokens) }, () => this.closeEditor());
         } else {
             this.editor.offer(['Somebody else changed or removed the marked sentence, so nothing was sent. What you typed can be added at the end.'],
                 'Add it at the end', () => this.append(tokens));

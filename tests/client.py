@@ -44,6 +44,19 @@ class Between(socketserver.ThreadingTCPServer):
     def handle_error(self, request, client_address):
         """A browser that goes away is no fault."""
 
+    def seen_of(self, name):
+        return [it for it in self.seen if it["do"] == name]
+
+    def change_before_read(self, change):
+        """Makes a change of somebody else's when the next `read` has come, before it is answered."""
+        done = []
+
+        def meddle(request):
+            if request["do"] == "read" and not done:
+                done.append(change())
+
+        self.meddle = meddle
+
 
 class Passing(socketserver.StreamRequestHandler):
     def handle(self):
@@ -283,7 +296,7 @@ def others(page, place):
     page.has(["Aare is something.", "Aare crosses Basel.", "Aare is a river.", "Aare crosses Bern.", "Aare is a place."])
     page.notice("Somebody else changed this article")
     expect("what was open stays open", browser.script("return document.activeElement.innerText"), "Edit")
-    page.between_reads(lambda: place.ask(do="edit", article="Aare", at=4, text="Aare is a river."))
+    place.between.change_before_read(lambda: place.ask(do="edit", article="Aare", at=4, text="Aare is a river."))
     browser.keys("Enter")
     page.type("Backspace", "Backspace", "city.")
     browser.keys("Enter")
@@ -293,20 +306,6 @@ def others(page, place):
     page.article("Bern", ["Bern is a city.", "What crosses Bern?"])
     place.ask(do="add", article="Basel", text="Basel crosses Bern.")
     browser.until(lambda: browser.texts(".answers a") == ["Aare", "Basel"], "an answer that changed without a revision", 40)
-
-
-def between_reads(self, change):
-    """Makes a change of somebody else's after the next `parse` was answered, so that no reading shows it before it matters."""
-    done = []
-
-    def meddle(request):
-        if request["do"] == "read" and not done:
-            done.append(change())
-
-    self.place.between.meddle = meddle
-
-
-Page.between_reads = between_reads
 
 
 def part_editor(page, place):
@@ -398,7 +397,6 @@ def part_together(page, place):
     other.type("place.")
     browser.keys("Enter")
     page.has(["A river crosses a city.", "Basel is a city."])
-    other.browser.script("window.stopsReading = true")
     other.browser.keys("Enter")
     other.browser.until(lambda: len(place.texts("Basel")) == 3 or other.browser.find(".offer"), "a commit or an offer")
     if other.browser.find(".offer"):
@@ -413,7 +411,7 @@ def moved(page, place):
     """The article moves on between its last reading and the commit: what changed is shown, and the sentence goes on."""
     page.has(["A river crosses a city.", "Basel is a city.", "Basel is a place."])
     page.type("Basel is a river.")
-    page.between_reads(lambda: place.ask(do="remove", article="Basel", at=0))
+    place.between.change_before_read(lambda: place.ask(do="remove", article="Basel", at=0))
     page.browser.keys("Enter")
     page.notice("Somebody else changed the article since it was shown here")
     expect_in("what changed is shown", "gone: A river crosses a city.", " ".join(page.browser.texts(".offer")))
@@ -423,6 +421,8 @@ def moved(page, place):
 
 
 def full(page, place):
+    between = place.between
+    page.browser.until(lambda: len(between.seen_of("drop")) == len(between.seen_of("open")), "as many drops as sessions")
     while "session" in place.ask(do="open", article="Bern"):
         pass
     page.type("Basel crosses Bern.")
@@ -447,13 +447,6 @@ def part_leaving(page, place):
     place.between.meddle = None
     browser.until(lambda: len(place.between.seen_of("drop")) == len(place.between.seen_of("open")) == 10, "as many drops as sessions")
     expect("nothing was committed", place.texts("Basel"), ["A river crosses a city."])
-
-
-def seen_of(self, name):
-    return [it for it in self.seen if it["do"] == name]
-
-
-Between.seen_of = seen_of
 
 
 def part_ask(page, place):
@@ -612,7 +605,7 @@ def part_restart(page, place):
     page.article("Basel", ["A river crosses a city."])
     page.editor()
     page.type("Basel is a city.")
-    port, journal = place.wiki.port, place.wiki.kill()
+    journal = place.wiki.kill()
     browser.keys("Enter")
     page.notice("can't reach the wiki")
     browser.until(lambda: browser.find(".lost"), "that the wiki doesn't answer", 40)
@@ -623,7 +616,6 @@ def part_restart(page, place):
     browser.script("document.querySelector('.next').focus()")
     browser.keys("Enter")
     page.has(["A river crosses a city.", "Basel is a city."])
-    expect("no port is used twice", port == fresh.port, False)
 
 
 def part_bad(page, place):
@@ -654,6 +646,13 @@ MEASURE = """const input = document.querySelector(arguments[0]); const times = [
     return times"""
 
 
+def quick(where, times):
+    """A key takes 50 ms at most in the middle of these times; a busy machine makes single ones longer."""
+    print(f"client: a key in {where} takes {max(times):.0f} ms at most, {sorted(times)[4]:.0f} ms in the middle")
+    if sorted(times)[4] > 50:
+        raise Failed(f"a key in {where} takes too long")
+
+
 def many(page, place):
     """The most words and sentences that a wiki can have; what the wiki would tell of them is told in its place."""
     browser = page.browser
@@ -667,16 +666,16 @@ def many(page, place):
     page.words()
     typed = ["w", "wo", "wor", "word", "worda", "wordaa", "word", ""]
     times = browser.script(MEASURE, "#filter", typed)
-    print(f"client: a key in the filter of {len(words)} words takes {max(times):.0f} ms at most, {sorted(times)[4]:.0f} ms in the middle")
+    quick(f"the filter of {len(words)} words", times)
     times = browser.script(MEASURE, "#open-word", typed)
-    print(f"client: a key in the field above takes {max(times):.0f} ms at most, {sorted(times)[4]:.0f} ms in the middle")
+    quick("the field above", times)
     begun = time.time()
     browser.go(place.address + "#/article/city")
     browser.until(lambda: browser.script("return document.querySelectorAll('.sentence').length") == 2000, "2,000 sentences", 60)
     print(f"client: an article of 2,000 sentences is there after {time.time() - begun:.1f} s")
     page.editor()
     times = browser.script(MEASURE, ".next", typed)
-    print(f"client: a key in the editor takes {max(times):.0f} ms at most, {sorted(times)[4]:.0f} ms in the middle")
+    quick("the editor", times)
 
 
 def part_large(page, place):

@@ -639,18 +639,19 @@ def part_bad(page, place):
     many(page, place)
 
 
-MEASURE = """const input = document.querySelector(arguments[0]); const times = [];
-    for (const text of arguments[1]) {
-        const begun = performance.now(); input.value = text; input.dispatchEvent(new Event('input')); document.body.offsetHeight;
-        times.push(performance.now() - begun); }
+# Of each key the least time of five, since a busy machine makes single ones longer.
+MEASURE = """const input = document.querySelector(arguments[0]); const times = arguments[1].map(() => Infinity);
+    for (let round = 0; round < 5; round += 1) {
+        arguments[1].forEach((text, place) => {
+            const begun = performance.now(); input.value = text; input.dispatchEvent(new Event('input')); document.body.offsetHeight;
+            times[place] = Math.min(times[place], performance.now() - begun); }); }
     return times"""
 
 
 def quick(where, times):
-    """A key takes 50 ms at most in the middle of these times; a busy machine makes single ones longer."""
-    print(f"client: a key in {where} takes {max(times):.0f} ms at most, {sorted(times)[4]:.0f} ms in the middle")
-    if sorted(times)[4] > 50:
-        raise Failed(f"a key in {where} takes too long")
+    print(f"client: a key in {where} takes {max(times):.0f} ms at most")
+    if max(times) > 50:
+        raise Failed(f"a key in {where} takes more than 50 ms")
 
 
 def many(page, place):

@@ -152,13 +152,15 @@ signals() { # WHAT
 
 again() { # WHAT
     FIRST='--events 1' start wiki
-    ask '{"do":"words"}' >/dev/null 2>&1
+    # The program may end before the whole request is sent.
+    (ask '{"do":"words"}') >/dev/null 2>&1
     wait_for_words "$1 a start after status 0" 2
     expect "$1 a start after status 0" "*the program is started again*" "$(cat errors)"
     expect "$1 the wiki after that" '{"done":"words"*' "$(ask '{"do":"words"}')"
     stop
     start wiki --events 2
-    ask '{"do":"words"}' >/dev/null 2>&1
+    # The program may end before the whole request is sent.
+    (ask '{"do":"words"}') >/dev/null 2>&1
     ended "$1 an end after events"
     expect "$1 an end after events, the status and how often it was started" "0 1" "$status $(wc -l <pid)"
     printf '#!/bin/sh\nexit 9\n' >bin/ends

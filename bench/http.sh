@@ -24,14 +24,32 @@ CONF
 chmod 755 "$work"
 nginx -c "$work/nginx.conf"
 
-rate() { # PORT REQUESTS CLIENTS: requests a second
-    ab -q -n "$2" -c "$3" "http://127.0.0.1:$1/" 2>/dev/null | awk '/^Requests per second/ { printf "%d", $4 } /^Failed requests/ && $3 > 0 { print "failed: " $3 > "/dev/stderr" }'
+rate() { # PORT REQUESTS CLIENTS [QUERY]: requests a second
+    ab -q -n "$2" -c "$3" "http://127.0.0.1:$1/${4:-}" 2>/dev/null | awk '/^Requests per second/ { printf "%d", $4 } /^Failed requests/ && $3 > 0 { print "failed: " $3 > "/dev/stderr" }'
 }
+# Through the front for groups, which an ordinary user starts: the way in, which it answers itself, and the bare index.
+behind=18653
+own=()
+[ "$(id -u)" != 0 ] || own=(setpriv --reuid=nobody --regid=nogroup --clear-groups --)
+mkdir "$work/front"
+cp -r "$root/tools" "$root/deploy" "$work/front/"
+cp "$program" "$work/front/acewiki"
+cp "$work/words" "$work/front/wiki.jsonl"
+: >"$work/front/said"
+[ "$(id -u)" != 0 ] || chown -R nobody "$work/front"
+"${own[@]}" "$work/front/tools/front" "$work/front/wiki.jsonl" "127.0.0.1:$behind" --rate 100000 2>"$work/front/said" &
+front=$!
+for _ in $(seq 100); do grep -q '^AceWiki: ' "$work/front/said" && break; sleep 0.1; done
+
 kilobytes() { awk '/^VmRSS/ { print $2 }' "/proc/$server/status"; }
 
 here="$(rate $wiki 20000 16)" there="$(rate $web 20000 16)"
 printf '%-44s %8d\n' 'acewiki, 16 clients, requests/second' "$here" 'nginx, equal page, requests/second' "$there"
 awk -v a="$here" -v b="$there" 'BEGIN { printf "%-44s %8.2f\n", "acewiki as a part of nginx", a / b }'
+in="$(rate $behind 20000 16)" plain="$(rate "$behind" 20000 16 '?plain')"
+kill $front
+printf '%-44s %8d\n' 'front, GET /, requests/second' "$in" 'front, GET /?plain, requests/second' "$plain"
+awk -v a="$in" -v p="$plain" -v b="$there" 'BEGIN { printf "%-44s %8.2f %8.2f\n", "both as a part of nginx", a / b, p / b }'
 # One client at a time, by turns without and with 60 idle connections, so that what else the machine does hits both alike.
 idle() { # FILE: holds 60 connections until it is killed, and makes the file once they stand
     exec python3 - "$wiki" "$1" <<'PY'

@@ -3,7 +3,7 @@ ghost use Rattle.std.specs.Prelude.{ℕ, List, ◌≡◌, ◌<◌, ◌≤◌, []
 ghost use Rattle.std.specs.Prelude.{None};
 ghost use Rattle.wiki_io.specs.Faults.{Rose};
 ghost use Rattle.wiki_io.specs.Link.{is_among, without, can_all_come, connections_after_all, event_in, NextFits, with_more, piece_taken, IsOver};
-ghost use Rattle.wiki_io.specs.Sink.{TookFits};
+ghost use Rattle.wiki_io.specs.Sink.{TookFits, IfTook};
 ghost use Rattle.socket_link.specs.Round.{HandsIn};
 
 #[cfg(test)]
@@ -225,7 +225,20 @@ impl<S: Sockets> Link for SocketLink<S> {
         Next::Failed
     }
 
-    fn send(&mut self, connection: u32, bytes: &[u8]) -> Took {
+    fn send(&mut self, connection: u32, bytes: &[u8]) -> Took
+        requires bytes { 0 < length bytes.now }
+        requires is_open { IsTrue (is_among self.old.connections.items connection) }
+        ensures fits { TookFits result (length bytes.now) }
+        ensures sent { None ≡ with_more None (piece_taken connection result bytes.now) }
+        ensures handed { S.events self.new.places.sockets ≡ S.events self.old.places.sockets }
+        ensures connections { self.new.connections.items ≡ self.old.connections.items }
+        ensures failed { result ≡ Took.Failed → Rose self.old.send_faults self.new.send_faults }
+        ensures send_faults { self.old.send_faults ≤ self.new.send_faults }
+        ensures faults { self.new.faults ≡ self.old.faults }
+
+        // Where it took bytes, it took all of them.
+        ensures whole { IfTook result (λ size. size ≡ length bytes.now) }
+    {
         if !self.places.send(connection, bytes) {
             self.send_faults = self.send_faults.saturating_add(1);
             return Took::Failed;

@@ -1,5 +1,6 @@
 // One connection: how long it may stand, and what is still to be written to it.
-ghost use Rattle.std.specs.Prelude.{◌≡◌, ◌<◌, ◌≤◌, length};
+ghost use Rattle.std.specs.Prelude.{◌≡◌, ◌<◌, ◌≤◌, ◌+◌, ◌++◌, min, IsTrue, OnOk, length};
+ghost use Rattle.std.specs.Duration.{as_nanos, max_nanos};
 ghost use Rattle.wiki_io.specs.Link.{with_more};
 ghost use Rattle.socket_link.specs.Moved.{MovedFits};
 ghost use Rattle.socket_link.specs.Told.{piece_of};
@@ -65,7 +66,9 @@ impl Place {
         }
     }
 
-    pub(crate) fn is_closed(&self) -> bool {
+    pub(crate) fn is_closed(&self) -> bool
+        ensures { result ≡ self.now.is_closed }
+    {
         self.is_closed
     }
 
@@ -127,14 +130,19 @@ impl Place {
         }
     }
 
-    // Keeps the bytes to be sent.
-    pub(crate) fn keep(&mut self, bytes: &[u8]) -> Result<(), AllocError> {
+    // Keeps all of the bytes, to be sent behind those that are kept.
+    pub(crate) fn keep(&mut self, bytes: &[u8]) -> Result<(), AllocError>
+        ensures kept { OnOk result (self.new.unsent.items ≡ self.old.unsent.items ++ bytes.now) }
+        ensures written { self.new.written ≡ self.old.written }
+        ensures closed { self.new.is_closed ≡ self.old.is_closed }
+    {
         self.unsent.extend_from_slice(bytes)?;
         Ok(())
     }
 
-    // Writes what the socket takes now. False where it has failed.
-    pub(crate) fn write<S: Sockets>(&mut self, sockets: &mut S, number: u32) -> bool
+    // Writes what the socket takes now; on a closed connection, before its time is over. False where it has failed.
+    pub(crate) fn write<S: Sockets>(&mut self, sockets: &mut S, number: u32, now: Duration) -> bool
+        requires in_time { IsTrue self.old.is_closed → as_nanos now < as_nanos self.old.due }
         ensures events { S.events sockets.new ≡ S.events sockets.old }
     {
         for _ in 0..u64::MAX {
@@ -153,7 +161,11 @@ impl Place {
         false
     }
 
-    pub(crate) fn close(&mut self, now: Duration) {
+    // What is kept may be written for sixty seconds.
+    pub(crate) fn close(&mut self, now: Duration)
+        ensures closed { IsTrue self.new.is_closed }
+        ensures due { as_nanos self.new.due ≡ min (as_nanos now + 60_000_000_000) max_nanos }
+    {
         self.is_closed = true;
         self.due = now.saturating_add(Duration::from_secs(WRITE_SECONDS));
     }
@@ -168,7 +180,7 @@ impl Place {
     ) -> bool
         ensures events { S.events sockets.new ≡ S.events sockets.old }
     {
-        if self.due <= now || !self.write(sockets, number) {
+        if self.due.as_nanos() <= now.as_nanos() || !self.write(sockets, number, now) {
             return false;
         }
         if !self.is_shut && self.unsent.is_empty() {

@@ -168,7 +168,7 @@ impl<S: Sockets> Places<S> {
             return;
         }
         // Where writing fails, the next reading finds it.
-        place.write(&mut self.sockets, number);
+        place.write(&mut self.sockets, number, self.now);
         self.ready.insert(number);
     }
 
@@ -342,15 +342,17 @@ impl<S: Sockets> Places<S> {
         heard
     }
 
-    // Keeps the bytes and writes what the socket takes at once. False for want of memory, or where the socket has failed.
+    // Keeps the bytes of an open connection and writes what its socket takes at once. False for want of memory, or where the
+    // socket has failed.
     pub(crate) fn send(&mut self, number: u32, bytes: &[u8]) -> bool
         ensures events { S.events self.new.sockets ≡ S.events self.old.sockets }
     {
-        match self.places.get_mut(number as usize) {
-            Some(Some(place)) => place.keep(bytes).is_ok()
-                && place.write(&mut self.sockets, number),
-            _ => false,
-        }
+        let Some(Some(place)) = self.places.get_mut(number as usize) else {
+            return false;
+        };
+        !place.is_closed()
+            && place.keep(bytes).is_ok()
+            && place.write(&mut self.sockets, number, self.now)
     }
 
     // The connection is closed; its socket goes once all is written and what comes was passed over.

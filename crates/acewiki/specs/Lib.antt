@@ -2,5 +2,6 @@ pub mod Wiki
 pub mod Command
 pub mod Lines
 pub mod Completeness
+pub mod Standing
 pub mod Theorem
 pub mod Steps

@@ -22,6 +22,7 @@ use Rattle.acewiki.specs.declared.command.Outcome.{Outcome}
 use Rattle.acewiki.specs.declared.command.Outcome.TheVariants.{Done, Usage, ReadFault, WriteFault, LinkFault, TooMuch, Memory}
 use Rattle.acewiki.specs.Command.{Asked, replay, serve, make, help, command_of, status_of, words_of, help_text}
 use Rattle.acewiki.specs.Completeness.{DoesWhatIsFree}
+use Rattle.acewiki.specs.Standing.{StandsAsRead, WritesShortLines}
 use Rattle.acewiki.specs.Lines.{asked, StepsLines, reply_lines}
 use Rattle.acewiki.specs.Wiki.{Holding, KeptStep, ace_wiki}
 
@@ -114,7 +115,8 @@ pub record Replays (first : Holding) (left taken : Option (List ℕ)) (outcome :
 -- interpretation as a finite model, and a sentence that means axioms is red only where no finite interpretation is a model with
 -- them, or a budget is spent. What a connection asks is told by its own bytes alone, however they were cut, and what a session
 -- holds by what that session heard. The journal is the lines of the accepted changes. On each connection's number the
--- responses to its replies are sent, opening after opening, each whole where no send failed.
+-- responses to its replies are sent, opening after opening, each whole where no send failed. Among them are sent the refusals of
+-- bytes that ask nothing and the files of the editor page: these are no replies, and the plain wiki has no step for them.
 pub record AnswersAsPlainWiki (first : Holding) (lines : List InputLine) (outside : Outside) (events : List Event) (outside_after : Outside) : Type 0 where
   pub of_lines : List (Exchange Request Reply)
   pub asked_then : map request_in of_lines ≡ map asked lines
@@ -231,19 +233,26 @@ Tells message errors errors_after =
     Appends errors.bytes errors_after.bytes message
     ⊎ ((n : ℕ) × (n ≤ length message) × Appends errors.bytes errors_after.bytes (take n message) × Rose errors.faults errors_after.faults)
 
+-- What holds of every run of the wiki, beside what its steps say: a request is done where nothing stands against it, so that none is
+-- refused without a cause; what stands is what is read from the input and the journal; and no line of the journal is long.
+pub record HoldsOfRuns : Type 0 where
+  pub done_where_free : DoesWhatIsFree
+  pub stands : StandsAsRead
+  pub short : WritesShortLines
+
 -- The program ran with these words: their command was carried out up to an outcome, whose status it has, and whose words were written to
--- standard error. No request is refused without a cause: each step of the wiki does what nothing stands against.
+-- standard error.
 pub record Runs {S K E L : Type 0} (words : List (List ℕ)) (status : ℕ) (before : World S K L) (errors : Stream E) (after : World S K L)
     (errors_after : Stream E) : Type 0 where
   pub outcome : Outcome
   pub performs : Performs words outcome before after
   pub status_is : status ≡ status_of outcome
   pub told : Tells (words_of outcome) errors errors_after
-  pub done_where_free : DoesWhatIsFree
+  pub of_runs : HoldsOfRuns
 
 -- The program ran with the words of a command line, where this tells them; or there was no memory for the words, and then nothing but
 -- standard error was touched.
 abbrev pub RunsLine : {S K E L : Type 0} → Option (List (List ℕ)) → ℕ → World S K L → Stream E → World S K L → Stream E → Type 0
 RunsLine told status before errors after errors_after =
     ((words : List (List ℕ)) × IfSome told (λ line. words ≡ line) × Runs words status before errors after errors_after)
-    ⊎ ((status ≡ status_of Memory) × Tells (words_of Memory) errors errors_after × (after ≡ before) × DoesWhatIsFree)
+    ⊎ ((status ≡ status_of Memory) × Tells (words_of Memory) errors errors_after × (after ≡ before) × HoldsOfRuns)

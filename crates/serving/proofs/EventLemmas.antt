@@ -19,7 +19,7 @@ use Rattle.server.specs.Responses.{response_of}
 use Rattle.server.specs.Kept.{Kept, numbers}
 use Rattle.server.specs.Taking.{Takes}
 use Rattle.server.specs.Runs.{TakesAll}
-use Rattle.serving.specs.Handling.{Handling, waited, refused, replied, turn_in, exchange_in, journal_in, response_in}
+use Rattle.serving.specs.Handling.{Handling, waited, own_answer, replied, turn_in, exchange_in, journal_in, response_in}
 use Rattle.serving.specs.Journal.{journal_line}
 use Rattle.serving.specs.Delivering.{Delivers}
 use Rattle.serving.specs.Events.{Outside, RunsEvents, Handles, WasHandled, CutsJournal}
@@ -95,13 +95,14 @@ module _ {S : Type 0} (step : S → Request → Reply → S → Type 0) where
       (Appends-nil outside.journal) (Delivers-none outside.sent outside.sent outside.send_faults outside.send_faults refl (omega arith))
 
   -- a response for which the machine isn't asked
-  pub done_refusal : (old : S) (kept : List Kept) (outside after : Outside) (event : Event) (turn : Turn) (kept_after : List Kept) (n : ℕ) (response : List ℕ)
+  pub done_own_answer : (old : S) (kept : List Kept) (outside after : Outside) (event : Event) (turn : Turn) (kept_after : List Kept) (n : ℕ)
+      (response : List ℕ)
       → IsTrue (can_come (numbers kept) event)
-      → Takes kept event turn kept_after → turn ≡ turns.Refuse n response → after.journal ≡ outside.journal
+      → Takes kept event turn kept_after → turn ≡ turns.Own n response → after.journal ≡ outside.journal
       → Delivers ((n, response) ∷ []) outside.sent outside.send_faults after.sent after.send_faults
       → RunsEvents step old kept outside (event ∷ []) old kept_after after
-  done_refusal old kept outside after event turn kept_after n response comes takes is same delivers =
-      RunsEvents-one old kept outside event (refused n response) old kept_after after comes
+  done_own_answer old kept outside after event turn kept_after n response comes takes is same delivers =
+      RunsEvents-one old kept outside event (own_answer n response) old kept_after after comes
       (record { takes = subst (λ t. Takes kept event t kept_after) is takes; steps = refl })
       (subst (λ j. Appends outside.journal j []) (sym same) (Appends-nil outside.journal)) delivers
 

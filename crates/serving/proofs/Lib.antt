@@ -1,4 +1,5 @@
 pub mod DeliverLemmas
 pub mod EventLemmas
+pub mod JournalLaws
 pub mod OpenLemmas
 pub mod ServeLemmas

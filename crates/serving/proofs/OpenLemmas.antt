@@ -39,7 +39,7 @@ numbers_closed n (c ∷ kept) = by_number c.number n (numbers (closed n (c ∷ k
 
 pub IsOn : ℕ → Turn → Type 0
 IsOn n turns.Wait = ⊥
-IsOn n (turns.Refuse m response) = m ≡ n
+IsOn n (turns.Own m response) = m ≡ n
 IsOn n (turns.Ask m request answer) = m ≡ n
 
 -- what is seen in the bytes of a connection is answered on it
@@ -47,6 +47,7 @@ on_own : (n m : ℕ) (s : Seen) (turn : Turn) → turn ≡ turn_of m s → IsOn 
 unfolding IsOn
 on_own n m seen.Wait turn is on = absurd (subst (IsOn n) is on)
 on_own n m (seen.Refuse status allow bad_line) turn is on = subst (IsOn n) is on
+on_own n m (seen.Own answer) turn is on = subst (IsOn n) is on
 on_own n m (seen.Ask request answer) turn is on = subst (IsOn n) is on
 
 module _ (old new : List Kept) (n : ℕ) where
@@ -69,8 +70,8 @@ module _ (old new : List Kept) (n : ℕ) where
   on_piece : (m : ℕ) (piece : List ℕ) (turn : Turn) → is_among (numbers old) m ≡ true → TakesPiece old m piece turn new → IsOn n turn → IsAnswered (numbers old)
   unfolding IsOn IsAnswered
   on_piece m piece turns.Wait among takes on = absurd on
-  on_piece m piece (turns.Refuse k response) among takes on =
-      let is = on_own n m takes.seen (turns.Refuse k response) takes.turn_is on in (
+  on_piece m piece (turns.Own k response) among takes on =
+      let is = on_own n m takes.seen (turns.Own k response) takes.turn_is on in (
         subst (λ k. is_among (numbers old) k ≡ true) is among,
         subst (λ k. without k (numbers old) ≡ numbers new) is (sym (ap numbers takes.new_is ∙ numbers_closed m old)),
       )
@@ -103,9 +104,9 @@ unfolding IsAnswered
 open_after old event turn new n open_now open_then comes takes on is closes =
     closes ∙ ap (without n) is ∙ (answered_by old event turn new n comes takes on).1
 
-pub on_refusal : (n : ℕ) (response : List ℕ) → IsOn n (turns.Refuse n response)
+pub on_own_answer : (n : ℕ) (response : List ℕ) → IsOn n (turns.Own n response)
 unfolding IsOn
-on_refusal n response = refl
+on_own_answer n response = refl
 
 pub on_request : (n : ℕ) (request : Request) (answer : Then) → IsOn n (turns.Ask n request answer)
 unfolding IsOn
@@ -117,10 +118,10 @@ on_request n request answer = refl
 pub open_waiting : (old : List Kept) (event : Event) (new : List Kept) → Takes old event turns.Wait new → connections_after (numbers old) event ≡ numbers new
 open_waiting old (Opened m) new takes = elim (cases_lt (length old) MOST_OPEN) [
   | inl room ↦ sym (ap numbers (takes.free room).1 ∙ map-append (λ (c : Kept). c.number) old (fresh m ∷ []))
-  | inr full ↦ absurd (refuse_or_wait (takes.full full).0)
+  | inr full ↦ absurd (own_or_wait (takes.full full).0)
 ]
   where
-    refuse_or_wait : {m : ℕ} {response : List ℕ} → turns.Wait ≡ turns.Refuse m response → ⊥
-    refuse_or_wait h = cc
+    own_or_wait : {m : ℕ} {response : List ℕ} → turns.Wait ≡ turns.Own m response → ⊥
+    own_or_wait h = cc
 open_waiting old (Piece m piece) new takes = sym (ap numbers takes.new_is ∙ numbers-piece m piece old)
 open_waiting old (Ended m) new takes = sym (ap numbers takes.new_is ∙ numbers_closed m old)

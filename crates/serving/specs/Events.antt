@@ -22,7 +22,8 @@ pub record Outside : Type 0 where
   pub send_faults : ℕ
 
 -- Events one after another: the server takes each in turn, the machine is asked what they ask, in order and in one run,
--- the accepted changes are written to the journal, and each response is sent on its connection.
+-- the accepted changes are written to the journal, and each response is sent on its connection. A refusal of bytes and a file
+-- of the editor page are no replies: the server answers them by itself, and the machine has no step for them.
 pub record RunsEvents {S : Type 0} (step : S → Request → Reply → S → Type 0) (first : S) (kept : List Kept) (outside : Outside) (events : List Event) (last : S)
     (kept_after : List Kept) (outside_after : Outside) : Type 0 where
   pub handlings : List Handling

@@ -9,33 +9,33 @@ use Rattle.server.specs.declared.turns.Turn.TheVariants as turns
 use Rattle.server.specs.Responses.{response_of}
 use Rattle.serving.specs.Journal.{journal_line}
 
--- nothing; a response on a connection for which the machine isn't asked; or a request that came over a connection, with the
--- machine's reply
+-- nothing; a response of the program's own on a connection, for which the machine isn't asked; or a request that came over a
+-- connection, with the machine's reply
 pub data Handling : Type 0 where
   waited : Handling
-  refused : ℕ → List ℕ → Handling
+  own_answer : ℕ → List ℕ → Handling
   replied : ℕ → Request → Then → Reply → Handling
 
 -- the turn of the server
 abbrev pub turn_in : Handling → Turn
 turn_in waited = turns.Wait
-turn_in (refused n response) = turns.Refuse n response
+turn_in (own_answer n response) = turns.Own n response
 turn_in (replied n request then reply) = turns.Ask n request then
 
 -- what the machine is asked, with its reply
 abbrev pub exchange_in : Handling → List (Exchange Request Reply)
 exchange_in waited = []
-exchange_in (refused n response) = []
+exchange_in (own_answer n response) = []
 exchange_in (replied n request then reply) = answered request reply ∷ []
 
 -- what is written to the journal
 abbrev pub journal_in : Handling → List ℕ
 journal_in waited = []
-journal_in (refused n response) = []
+journal_in (own_answer n response) = []
 journal_in (replied n request then reply) = journal_line request reply
 
 -- the response, with the number of its connection
 abbrev pub response_in : Handling → List (ℕ × List ℕ)
 response_in waited = []
-response_in (refused n response) = (n, response) ∷ []
+response_in (own_answer n response) = (n, response) ∷ []
 response_in (replied n request then reply) = (n, response_of then reply) ∷ []

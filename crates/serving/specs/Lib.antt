@@ -1,5 +1,6 @@
 pub mod Journal
 pub mod Handling
+pub mod Changes
 pub mod Delivering
 pub mod Events
 pub mod Coming

@@ -69,7 +69,7 @@ pub fn event<W: Machine, K: Sink, L: Link>(
     };
     match turn {
         Turn::Wait => Handled::Done,
-        Turn::Refuse(connection, response) => {
+        Turn::Own(connection, response) => {
             answer(link, connection, response.as_bytes());
             Handled::Done
         }

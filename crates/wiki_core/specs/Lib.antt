@@ -2,6 +2,7 @@ pub mod Apart
 pub mod Causes
 pub mod Drafts
 pub mod Holding
+pub mod Journaled
 pub mod Keeping
 pub mod Spending
 pub mod State

@@ -7,10 +7,11 @@ use Rattle.wiki_core.specs.Holding.{Holding, pages_held, IsKept}
 use Rattle.wiki_core.specs.Step.{Step}
 use Rattle.wiki_core.specs.Spending.{SpendsBeyondKept}
 use Rattle.wiki_core.specs.Apart.{MenuIsOwn}
+use Rattle.wiki_core.specs.Journaled.{IsHeld}
 
 -- The plain wiki takes its step. A budget is told as spent, and a name as unknown, only where the kept interpretation doesn't decide. It
 -- stays, unless a sentence was added, edited, taken up again or committed. A session's menu is told by its tokens alone. What is kept
--- then fits the state.
+-- then fits the state. What was asked is a request that a program can hold.
 pub record KeptStep (old : Holding) (request : Request) (reply : Reply) (new : Holding) : Type 0 where
   pub step : Step old.state request reply new.state
   pub spent : SpendsBeyondKept old request reply
@@ -18,3 +19,4 @@ pub record KeptStep (old : Holding) (request : Request) (reply : Reply) (new : H
   pub interpretation : KeepsInterpretation (pages_held old) reply (pages_held new)
   pub menu : MenuIsOwn old.state request reply
   pub kept : IsKept new
+  pub held : IsHeld request

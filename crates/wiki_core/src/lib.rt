@@ -3,6 +3,7 @@
 
 mod causes;
 mod committing;
+mod held;
 mod opening;
 mod rewording;
 mod typing;

@@ -3,6 +3,7 @@ ghost use Rattle.std.specs.Prelude.{◌≡◌, Err, IsTrue, IfOk, OnErr};
 ghost use Rattle.wiki_talk.specs.declared.refusals.Refusal.{Refusal as TheRefusal};
 ghost use Rattle.wiki_parts.specs.Faults.{Tells};
 
+use crate::held::is_held;
 use codeco_checked::CheckedGrammar;
 use sessions::Sessions;
 use std::alloc::Global;
@@ -42,6 +43,7 @@ impl Wiki {
     ghost use Rattle.codeco_checked.specs.Sound.{is_labelled};
     ghost use Rattle.wiki_core.specs.Apart.{MenuIsOwn, TokensAreOwn};
     ghost use Rattle.wiki_core.specs.Holding.{first_holding, pages_held, IsKept};
+    ghost use Rattle.wiki_core.specs.Journaled.{NoneIsRaised, AreShort, AreUtf8, IsHeld, StandsAgain, ChangesFitLines};
     ghost use Rattle.wiki_core.specs.Spending.{SpendsBeyondKept};
     ghost use Rattle.wiki_core.specs.Step.{Step, StepsSession};
     ghost use Rattle.wiki_store.specs.Spending.{KeptHasEachUnknown};
@@ -52,7 +54,11 @@ impl Wiki {
         requires { IsTrue (is_labelled grammar) }
         ensures first { IfOk result (λ wiki. wiki ≡ first_holding grammar budget) }
         ensures apart { TokensAreOwn grammar }
+        ensures stands { NoneIsRaised grammar.terminals → StandsAgain grammar }
+        ensures lines { NoneIsRaised grammar.terminals → AreShort grammar.terminals → AreUtf8 grammar.terminals → ChangesFitLines grammar }
     {
+        // What is read again rests on a grammar without faults.
+        let _ = grammar.grammar();
         let store = Store::new(alloc, grammar, budget)?;
         Ok(Wiki {
             alloc,
@@ -70,8 +76,10 @@ impl Wiki {
         ensures interpretation { IfOk result (λ reply. KeepsInterpretation (pages_held self.old) reply (pages_held self.new)) }
         ensures kept { IsKept self.new }
         ensures menu { IfOk result (MenuIsOwn self.old.state request.now) }
+        ensures held { IsHeld request.now }
         ensures memory { OnErr result (self.new ≡ self.old) }
     {
+        prove!(is_held(request));
         let reply = self.carry_out(request);
         self.is_kept();
         reply

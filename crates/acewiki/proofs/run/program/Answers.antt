@@ -1,5 +1,5 @@
 use Rattle.std.proofs.Common.{refl, inl, inr}
-use Rattle.acewiki.proofs.CompletenessLemmas.{does_what_is_free}
+use Rattle.acewiki.proofs.StandingLemmas.{holds_of_runs}
 use Rattle.acewiki.proofs.StatusLemmas.{told_words}
 use Rattle.acewiki.proofs.run.program.Goals as goal
 
@@ -7,4 +7,4 @@ pub returns-in-Ok : goal.returns-in-Ok
 returns-in-Ok g c = record { theorem = inl (c.deref.result.now, told_words _ _ _ c.in-Ok.ensures c.deref.ensures.value, c.run.ensures.theorem) }
 
 pub returns-in-Err : goal.returns-in-Err
-returns-in-Err g c = record { theorem = inr (c.end.ensures.status, c.end.ensures.words, refl, does_what_is_free) }
+returns-in-Err g c = record { theorem = inr (c.end.ensures.status, c.end.ensures.words, refl, holds_of_runs) }

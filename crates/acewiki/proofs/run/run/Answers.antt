@@ -1,4 +1,4 @@
-use Rattle.acewiki.proofs.CompletenessLemmas.{does_what_is_free}
+use Rattle.acewiki.proofs.StandingLemmas.{holds_of_runs}
 use Rattle.acewiki.proofs.run.run.Goals as goal
 
 pub returns : goal.returns
@@ -8,6 +8,6 @@ returns g c = record {
     performs = c.perform-outcome.ensures.performs;
     status_is = c.end.ensures.status;
     told = c.end.ensures.words;
-    done_where_free = does_what_is_free;
+    of_runs = holds_of_runs;
   };
 }

@@ -1,8 +1,8 @@
 use Rattle.std.proofs.Common.{◌≡◌, refl, sym, subst, ◌∙◌}
 use Rattle.server.specs.declared.turns.Turn.{Turn}
 use Rattle.server.specs.Taking.{Takes}
-use Rattle.serving.proofs.EventLemmas.{done_waiting, done_refusal, done_request, cut_request, was_request, same_response}
-use Rattle.serving.proofs.OpenLemmas.{IsOn, open_on, open_after, open_waiting, on_refusal, on_request}
+use Rattle.serving.proofs.EventLemmas.{done_waiting, done_own_answer, done_request, cut_request, was_request, same_response}
+use Rattle.serving.proofs.OpenLemmas.{IsOn, open_on, open_after, open_waiting, on_own_answer, on_request}
 use Rattle.serving.proofs.events.event.Goals as goal
 
 pub returns-in-Wait-clause-done : goal.returns-in-Wait-clause-done
@@ -17,21 +17,21 @@ returns-in-Wait-clause-connections g c =
 
 pub answer-requires : goal.answer-requires
 answer-requires g c =
-    open_on c.args.server.now c.args.event.now c.in-Ok.turn c.take.new.self c.in-Refuse.connection (g.L.Link.connections c.args.link.now) c.requires.comes
+    open_on c.args.server.now c.args.event.now c.in-Ok.turn c.take.new.self c.in-Own.connection (g.L.Link.connections c.args.link.now) c.requires.comes
     c.in-Ok.ensures.turn
-    (subst (IsOn c.in-Refuse.connection) (sym c.in-Refuse.is) (on_refusal c.in-Refuse.connection c.in-Refuse.response)) c.requires.connections
+    (subst (IsOn c.in-Own.connection) (sym c.in-Own.is) (on_own_answer c.in-Own.connection c.in-Own.response)) c.requires.connections
 
-pub returns-in-Refuse-clause-done : goal.returns-in-Refuse-clause-done
-returns-in-Refuse-clause-done g c =
-    λ _. done_refusal g.W.Machine.Steps c.args.machine.now c.args.server.now _ _ c.args.event.now c.in-Ok.turn c.take.new.self c.in-Refuse.connection
-    c.in-Refuse.response
-    c.requires.comes c.in-Ok.ensures.turn c.in-Refuse.is refl (same_response _ _ _ _ _ _ _ _ c.as_bytes.ensures.value refl c.answer.ensures.delivers)
+pub returns-in-Own-clause-done : goal.returns-in-Own-clause-done
+returns-in-Own-clause-done g c =
+    λ _. done_own_answer g.W.Machine.Steps c.args.machine.now c.args.server.now _ _ c.args.event.now c.in-Ok.turn c.take.new.self c.in-Own.connection
+    c.in-Own.response
+    c.requires.comes c.in-Ok.ensures.turn c.in-Own.is refl (same_response _ _ _ _ _ _ _ _ c.as_bytes.ensures.value refl c.answer.ensures.delivers)
 
-pub returns-in-Refuse-clause-connections : goal.returns-in-Refuse-clause-connections
-returns-in-Refuse-clause-connections g c =
-    λ _. open_after c.args.server.now c.args.event.now c.in-Ok.turn c.take.new.self c.in-Refuse.connection (g.L.Link.connections c.args.link.now) _
+pub returns-in-Own-clause-connections : goal.returns-in-Own-clause-connections
+returns-in-Own-clause-connections g c =
+    λ _. open_after c.args.server.now c.args.event.now c.in-Ok.turn c.take.new.self c.in-Own.connection (g.L.Link.connections c.args.link.now) _
     c.requires.comes c.in-Ok.ensures.turn
-    (subst (IsOn c.in-Refuse.connection) (sym c.in-Refuse.is) (on_refusal c.in-Refuse.connection c.in-Refuse.response)) c.requires.connections
+    (subst (IsOn c.in-Own.connection) (sym c.in-Own.is) (on_own_answer c.in-Own.connection c.in-Own.response)) c.requires.connections
     c.answer.ensures.connections
 
 pub ask-handled-requires : goal.ask-handled-requires

@@ -12,5 +12,6 @@ returns-clause-step c =
       interpretation = c.in_ok-reply.ensures.interpretation;
       menu = c.in_ok-reply.ensures.menu;
       kept = c.step.ensures.kept;
+      held = c.step.ensures.held;
     } in
     subst (λ (old : Holding). KeptStep old c.args.request.now c.in_ok-reply.reply c.step.new.self) c.self.view_is kept

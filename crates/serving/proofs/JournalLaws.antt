@@ -1,0 +1,200 @@
+-- What the journal's lines ask, and how long they are.
+use Rattle.std.proofs.Common.{◌≡◌, ℕ, ◌≤◌, Bool, true, false, List, [], ◌∷◌, ◌++◌, length, take, map, All, flat_map, Option, Some, None, if◌then◌else◌, refl, sym, ap, subst, ◌∙◌, arith, append-nil}
+use Rattle.std.proofs.lemmas.Grind.{flat_map-append}
+use Rattle.std.proofs.lemmas.List.Elements.{All-head}
+use Rattle.wiki_io.specs.Lines.{InputLine, text, input_lines}
+use Rattle.wiki_talk.specs.declared.requests.Request.{Request}
+use Rattle.wiki_talk.specs.declared.requests.Request.TheVariants as requests
+use Rattle.wiki_talk.specs.declared.replies.Reply.{Reply}
+use Rattle.wiki_talk.specs.declared.replies.Reply.TheVariants as replies
+use Rattle.wire_json.specs.Requests.{request_of, request_line}
+use Rattle.wire_json.specs.Told.{request_text, IsToldChange, most_line, EndsLine, ended, asked_by_front}
+use Rattle.wire_json.proofs.RequestLaws.{length-change_line, input_lines-changes, asked-changes, asked-next, EndsLine-requests}
+use Rattle.wire_json.proofs.CutLaws.{asked-cut-changes}
+use Rattle.serving.specs.Journal.{is_change, line_written, change_line, shown_line, journal_line}
+use Rattle.serving.specs.Handling.{Handling, waited, own_answer, replied, journal_in}
+use Rattle.serving.specs.Changes.{itself, with_shown, changes_told, changes_in}
+
+-- ---- one line
+
+written : (r : Request) → line_written r ≡ flat_map request_line (r ∷ [])
+unfolding line_written
+written r = sym (append-nil (request_line r))
+
+either : (r : Request) (b : Bool) → (if b then line_written r else []) ≡ flat_map request_line (if b then r ∷ [] else [])
+either r true = written r
+either r false = refl
+
+change_line-itself : (r : Request) → change_line r ≡ flat_map request_line (itself r)
+unfolding change_line
+change_line-itself r = either r (is_change r)
+
+shown_line-with_shown : (r : Request) (shown : List ℕ) → shown_line r shown ≡ flat_map request_line (with_shown r shown)
+unfolding shown_line
+shown_line-with_shown (requests.Word kind forms) shown = refl
+shown_line-with_shown (requests.Find word) shown = refl
+shown_line-with_shown requests.Words shown = refl
+shown_line-with_shown (requests.Parse sent) shown = refl
+shown_line-with_shown (requests.Reword word forms) shown = refl
+shown_line-with_shown (requests.Unword word) shown = refl
+shown_line-with_shown (requests.Add article place sent) shown = written (requests.Add article place shown)
+shown_line-with_shown (requests.Edit article place sent) shown = written (requests.Edit article place shown)
+shown_line-with_shown (requests.Remove article place) shown = refl
+shown_line-with_shown (requests.Retract article place) shown = refl
+shown_line-with_shown (requests.Reassert article place) shown = refl
+shown_line-with_shown (requests.Read article) shown = refl
+shown_line-with_shown (requests.Axioms article place) shown = refl
+shown_line-with_shown (requests.Begin article) shown = refl
+shown_line-with_shown (requests.Put session sent) shown = refl
+shown_line-with_shown (requests.Back session) shown = refl
+shown_line-with_shown (requests.Menu session) shown = refl
+shown_line-with_shown (requests.Commit session) shown = refl
+shown_line-with_shown (requests.Refresh session) shown = refl
+shown_line-with_shown (requests.Drop session) shown = refl
+
+-- the line of an accepted change is that of the request that makes it again
+pub journal_line-changes : (request : Request) (reply : Reply) → journal_line request reply ≡ flat_map request_line (changes_told request reply)
+unfolding journal_line
+journal_line-changes r replies.Word = change_line-itself r
+journal_line-changes r (replies.Find word) = change_line-itself r
+journal_line-changes r (replies.Words words) = change_line-itself r
+journal_line-changes r (replies.Parse code) = change_line-itself r
+journal_line-changes r replies.Reword = change_line-itself r
+journal_line-changes r replies.Unword = change_line-itself r
+journal_line-changes r (replies.Add status shown) = shown_line-with_shown r shown
+journal_line-changes r (replies.Edit status shown) = shown_line-with_shown r shown
+journal_line-changes r replies.Remove = change_line-itself r
+journal_line-changes r (replies.Retract status) = change_line-itself r
+journal_line-changes r (replies.Reassert status) = change_line-itself r
+journal_line-changes r (replies.Read form revision sentences) = change_line-itself r
+journal_line-changes r (replies.Axioms meant) = change_line-itself r
+journal_line-changes r (replies.Begin session) = change_line-itself r
+journal_line-changes r (replies.Put tokens) = change_line-itself r
+journal_line-changes r (replies.Back tokens) = change_line-itself r
+journal_line-changes r (replies.Menu menu whole shown) = change_line-itself r
+journal_line-changes r (replies.Commit article status shown) = written (requests.Add article None shown)
+journal_line-changes r replies.Refresh = change_line-itself r
+journal_line-changes r replies.Drop = change_line-itself r
+journal_line-changes r (replies.Refused refusal) = refl
+
+length-one : (rs : List Request) → length rs ≤ 1 → All IsToldChange rs → length (flat_map request_line rs) ≤ most_line
+length-one [] few told = omega arith
+length-one (r ∷ []) few told =
+    let one = All-head IsToldChange r [] told in
+    omega (arith, length-change_line r one.0 one.1, ap length (append-nil (request_line r)))
+length-one (r ∷ s ∷ rs) few told = absurd (omega arith)
+
+few-itself : (r : Request) (b : Bool) → length (if b then r ∷ [] else []) ≤ 1
+few-itself r true = omega arith
+few-itself r false = omega arith
+
+few-shown : (r : Request) (shown : List ℕ) → length (with_shown r shown) ≤ 1
+few-shown (requests.Word kind forms) shown = omega arith
+few-shown (requests.Find word) shown = omega arith
+few-shown requests.Words shown = omega arith
+few-shown (requests.Parse sent) shown = omega arith
+few-shown (requests.Reword word forms) shown = omega arith
+few-shown (requests.Unword word) shown = omega arith
+few-shown (requests.Add article place sent) shown = omega arith
+few-shown (requests.Edit article place sent) shown = omega arith
+few-shown (requests.Remove article place) shown = omega arith
+few-shown (requests.Retract article place) shown = omega arith
+few-shown (requests.Reassert article place) shown = omega arith
+few-shown (requests.Read article) shown = omega arith
+few-shown (requests.Axioms article place) shown = omega arith
+few-shown (requests.Begin article) shown = omega arith
+few-shown (requests.Put session sent) shown = omega arith
+few-shown (requests.Back session) shown = omega arith
+few-shown (requests.Menu session) shown = omega arith
+few-shown (requests.Commit session) shown = omega arith
+few-shown (requests.Refresh session) shown = omega arith
+few-shown (requests.Drop session) shown = omega arith
+
+few-changes : (request : Request) (reply : Reply) → length (changes_told request reply) ≤ 1
+few-changes r replies.Word = few-itself r (is_change r)
+few-changes r (replies.Find word) = few-itself r (is_change r)
+few-changes r (replies.Words words) = few-itself r (is_change r)
+few-changes r (replies.Parse code) = few-itself r (is_change r)
+few-changes r replies.Reword = few-itself r (is_change r)
+few-changes r replies.Unword = few-itself r (is_change r)
+few-changes r (replies.Add status shown) = few-shown r shown
+few-changes r (replies.Edit status shown) = few-shown r shown
+few-changes r replies.Remove = few-itself r (is_change r)
+few-changes r (replies.Retract status) = few-itself r (is_change r)
+few-changes r (replies.Reassert status) = few-itself r (is_change r)
+few-changes r (replies.Read form revision sentences) = few-itself r (is_change r)
+few-changes r (replies.Axioms meant) = few-itself r (is_change r)
+few-changes r (replies.Begin session) = few-itself r (is_change r)
+few-changes r (replies.Put tokens) = few-itself r (is_change r)
+few-changes r (replies.Back tokens) = few-itself r (is_change r)
+few-changes r (replies.Menu menu whole shown) = few-itself r (is_change r)
+few-changes r (replies.Commit article status shown) = omega arith
+few-changes r replies.Refresh = few-itself r (is_change r)
+few-changes r replies.Drop = few-itself r (is_change r)
+few-changes r (replies.Refused refusal) = omega arith
+
+-- a line of the journal has at most `most_line` bytes, its newline among them
+pub length-journal_line : (request : Request) (reply : Reply) → All IsToldChange (changes_told request reply) → length (journal_line request reply) ≤ most_line
+length-journal_line request reply told =
+    omega (arith, ap length (journal_line-changes request reply), length-one (changes_told request reply) (few-changes request reply) told)
+
+-- ---- the journal of a run
+
+journal_in-changes : (handling : Handling) → journal_in handling ≡ flat_map request_line (changes_in handling)
+journal_in-changes waited = refl
+journal_in-changes (own_answer n response) = refl
+journal_in-changes (replied n request next reply) = journal_line-changes request reply
+
+-- the journal is the lines of the requests that make the accepted changes again
+pub journal-changes : (handlings : List Handling) → flat_map journal_in handlings ≡ flat_map request_line (flat_map changes_in handlings)
+journal-changes [] = refl
+journal-changes (handling ∷ handlings) =
+    ap (λ (l : List ℕ). l ++ flat_map journal_in handlings) (journal_in-changes handling)
+    ∙ ap (λ (l : List ℕ). flat_map request_line (changes_in handling) ++ l) (journal-changes handlings)
+    ∙ sym (flat_map-append request_line (changes_in handling) (flat_map changes_in handlings))
+
+-- The lines of an input that ends where a line ends, and of the journal behind it: one line more for each accepted change.
+pub input_lines-journal : (former : List ℕ) (handlings : List Handling) → EndsLine former → All IsToldChange (flat_map changes_in handlings)
+    → input_lines (former ++ flat_map journal_in handlings) ≡ input_lines former ++ map (λ r. text (request_text r)) (flat_map changes_in handlings)
+input_lines-journal former handlings whole told =
+    ap (λ (l : List ℕ). input_lines (former ++ l)) (journal-changes handlings) ∙ input_lines-changes former (flat_map changes_in handlings) whole told
+
+-- What such an input and the journal behind it ask: what the input asks, and then the accepted changes. `ask` is what a line asks, which for
+-- bytes is the request that they are.
+pub asked-journal : (ask : InputLine → Option Request) → ((bytes : List ℕ) → ask (text bytes) ≡ request_of bytes) → (former : List ℕ)
+    (handlings : List Handling) → EndsLine former → All IsToldChange (flat_map changes_in handlings)
+    → map ask (input_lines (former ++ flat_map journal_in handlings)) ≡ map ask (input_lines former) ++ map Some (flat_map changes_in handlings)
+asked-journal ask asks former handlings whole told =
+    ap (λ (l : List ℕ). map ask (input_lines (former ++ l))) (journal-changes handlings)
+    ∙ asked-changes ask asks former (flat_map changes_in handlings) whole told
+
+-- the same behind an input whose last line may lack its newline, which is ended first
+pub asked-restart : (ask : InputLine → Option Request) → ((bytes : List ℕ) → ask (text bytes) ≡ request_of bytes) → (former : List ℕ)
+    (handlings : List Handling) → All IsToldChange (flat_map changes_in handlings)
+    → map ask (input_lines (ended former ++ flat_map journal_in handlings)) ≡ map ask (input_lines former) ++ map Some (flat_map changes_in handlings)
+asked-restart ask asks former handlings told =
+    ap (λ (l : List ℕ). map ask (input_lines (ended former ++ l))) (journal-changes handlings)
+    ∙ asked-next ask asks former (flat_map changes_in handlings) told
+
+-- the journal is whole lines, or empty
+pub EndsLine-journal : (handlings : List Handling) → EndsLine (flat_map journal_in handlings)
+EndsLine-journal handlings = subst EndsLine (sym (journal-changes handlings)) (EndsLine-requests (flat_map changes_in handlings))
+
+few-in : (handling : Handling) → length (changes_in handling) ≤ 1
+few-in waited = omega arith
+few-in (own_answer n response) = omega arith
+few-in (replied n request next reply) = few-changes request reply
+
+-- The same where of the line of one event more only a front was written: that asks for nothing where there is no byte of it, is no request
+-- where it was cut, and asks for its change where at most its newline lacks.
+pub asked-cut-journal : (ask : InputLine → Option Request) → ((bytes : List ℕ) → ask (text bytes) ≡ request_of bytes) → (former : List ℕ)
+    (handlings : List Handling) (last : Handling) (n : ℕ) → All IsToldChange (flat_map changes_in handlings) → All IsToldChange (changes_in last)
+    → n ≤ length (journal_in last)
+    → map ask (input_lines (ended former ++ (flat_map journal_in handlings ++ take n (journal_in last))))
+    ≡ (map ask (input_lines former) ++ map Some (flat_map changes_in handlings)) ++ flat_map (asked_by_front n) (changes_in last)
+asked-cut-journal ask asks former handlings last n told last_told within =
+    let same = journal_in-changes last in
+    let fits : n ≤ length (flat_map request_line (changes_in last)) = omega (arith, ap length same) in
+    ap (λ (l : List ℕ). map ask (input_lines (ended former ++ (l ++ take n (journal_in last))))) (journal-changes handlings)
+    ∙ ap (λ (l : List ℕ). map ask (input_lines (ended former ++ (flat_map request_line (flat_map changes_in handlings) ++ take n l)))) same
+    ∙ asked-cut-changes ask asks former (flat_map changes_in handlings) (changes_in last) n (few-in last) told last_told fits

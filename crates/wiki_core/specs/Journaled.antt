@@ -1,0 +1,174 @@
+-- The changes of a run, as requests that make them again, and what stands after these.
+use Rattle.std.specs.Prelude.{◌≡◌, ◌+◌, ◌*◌, ◌++◌, ◌≤◌, ℕ, Bool, true, false, List, [], ◌∷◌, length, All, IsUtf8, Some, None}
+use Rattle.std.specs.List.{flat_map, list_any}
+use Rattle.wiki_base.specs.declared.text.TheConstants.{LONGEST_TEXT}
+use Rattle.wiki_base.specs.declared.tokens.TheConstants.{MOST_TOKENS}
+use Rattle.codeco_terms.specs.GrammarParts.{GrammarParts}
+use Rattle.lexicon.specs.declared.words.TheConstants.{LAST_NUMBER}
+use Rattle.derivation_trees.specs.Cutting.{is_terminal, IsNotRaised}
+use Rattle.wiki_talk.specs.declared.statuses.Status.{Status}
+use Rattle.wiki_talk.specs.declared.statuses.Status.TheVariants.{RedBudget}
+use Rattle.wiki_talk.specs.declared.replies.Reply.{Reply}
+use Rattle.wiki_talk.specs.declared.replies.Reply.TheVariants as replies
+use Rattle.wiki_talk.specs.declared.requests.Request.{Request}
+use Rattle.wiki_talk.specs.declared.requests.Request.TheVariants as requests
+use Rattle.wiki_talk.specs.Turns.{Exchange, answered, no_request, Turns}
+use Rattle.wiki_parts.specs.State as parts
+use Rattle.wiki_core.specs.State.{State, first_state}
+use Rattle.wiki_core.specs.Step.{Step}
+
+-- ---- changes
+
+-- a request that changes words or sentences; what is done in a session is gone with it
+abbrev pub own_change : Request → List Request
+own_change (requests.Word kind forms) = requests.Word kind forms ∷ []
+own_change (requests.Reword word forms) = requests.Reword word forms ∷ []
+own_change (requests.Unword word) = requests.Unword word ∷ []
+own_change (requests.Add article place text) = requests.Add article place text ∷ []
+own_change (requests.Edit article place text) = requests.Edit article place text ∷ []
+own_change (requests.Remove article place) = requests.Remove article place ∷ []
+own_change (requests.Retract article place) = requests.Retract article place ∷ []
+own_change (requests.Reassert article place) = requests.Reassert article place ∷ []
+own_change request = []
+
+-- a sentence that is added or put in place of another, by what shows it, and not by the text that was sent
+abbrev pub shown_change : Request → List ℕ → List Request
+shown_change (requests.Add article place text) shown = requests.Add article place shown ∷ []
+shown_change (requests.Edit article place text) shown = requests.Edit article place shown ∷ []
+shown_change request shown = []
+
+-- the change that a request with this reply has made, as the request that makes it again: of a session's sentence, that it is added at
+-- the end of its article; none of what was refused or changes no words or sentences
+abbrev pub changes_by : Request → Reply → List Request
+changes_by request (replies.Refused refusal) = []
+changes_by request (replies.Commit article status shown) = requests.Add article None shown ∷ []
+changes_by request (replies.Add status shown) = shown_change request shown
+changes_by request (replies.Edit status shown) = shown_change request shown
+changes_by request reply = own_change request
+
+abbrev pub changes_in : Exchange Request Reply → List Request
+changes_in (answered request reply) = changes_by request reply
+changes_in no_request = []
+
+-- the changes of a run, in order
+abbrev pub changes_of : List (Exchange Request Reply) → List Request
+changes_of exchanges = flat_map changes_in exchanges
+
+-- the requests of a run, in order
+abbrev pub asked_in : Exchange Request Reply → List Request
+asked_in (answered request reply) = request ∷ []
+asked_in no_request = []
+
+abbrev pub asked_of : List (Exchange Request Reply) → List Request
+asked_of exchanges = flat_map asked_in exchanges
+
+-- ---- spent budgets
+
+-- the sentence waits for more budget
+abbrev pub is_spent : Status → Bool
+is_spent RedBudget = true
+is_spent status = false
+
+-- the reply tells of a sentence that was judged that the budget was spent
+abbrev pub tells_spent : Reply → Bool
+tells_spent (replies.Add status shown) = is_spent status
+tells_spent (replies.Edit status shown) = is_spent status
+tells_spent (replies.Reassert status) = is_spent status
+tells_spent (replies.Commit article status shown) = is_spent status
+tells_spent reply = false
+
+abbrev pub is_spent_in : Exchange Request Reply → Bool
+is_spent_in (answered request reply) = tells_spent reply
+is_spent_in no_request = false
+
+-- no reply of the run tells that a budget was spent
+abbrev pub SpendsNone : List (Exchange Request Reply) → Type 0
+SpendsNone exchanges = list_any is_spent_in exchanges ≡ false
+
+-- ---- texts
+
+-- the forms that are given for a word are in UTF-8
+abbrev pub GivesUtf8 : Request → Type 0
+GivesUtf8 (requests.Word kind forms) = All IsUtf8 forms
+GivesUtf8 (requests.Reword word forms) = All IsUtf8 forms
+GivesUtf8 request = Unit {0}
+
+-- no terminal is another one with its first letter raised to upper case, so that the first word of a sentence tells which it is
+abbrev pub NoneIsRaised : List (List ℕ) → Type 0
+NoneIsRaised terminals = (token : List ℕ) → is_terminal terminals token ≡ true → IsNotRaised terminals token
+
+-- each terminal has at most as many bytes as a form may have
+abbrev pub AreShort : List (List ℕ) → Type 0
+AreShort terminals = (terminal : List ℕ) → is_terminal terminals terminal ≡ true → length terminal ≤ 64
+
+-- each terminal is in UTF-8
+abbrev pub AreUtf8 : List (List ℕ) → Type 0
+AreUtf8 terminals = (terminal : List ℕ) → is_terminal terminals terminal ≡ true → IsUtf8 terminal
+
+-- ---- changes in lines
+
+-- the place that a request names, if it names one, is a number of 32 bits
+abbrev pub HasShortPlace : Request → Type 0
+HasShortPlace (requests.Add article (Some place) text) = place ≤ LAST_NUMBER
+HasShortPlace (requests.Edit article place text) = place ≤ LAST_NUMBER
+HasShortPlace (requests.Remove article place) = place ≤ LAST_NUMBER
+HasShortPlace (requests.Retract article place) = place ≤ LAST_NUMBER
+HasShortPlace (requests.Reassert article place) = place ≤ LAST_NUMBER
+HasShortPlace request = Unit {0}
+
+-- the request is one that a program can hold: the forms that it gives are in UTF-8, and its place has 32 bits
+pub record IsHeld (request : Request) : Type 0 where
+  pub utf8 : GivesUtf8 request
+  pub place : HasShortPlace request
+
+-- a form of a word: in UTF-8, and of at most 64 bytes
+abbrev pub IsPlainForm : List ℕ → Type 0
+IsPlainForm form = IsUtf8 form × (length form ≤ LONGEST_TEXT)
+
+-- what is given for a word: forms, of which a verb has three
+abbrev pub ArePlainForms : List (List ℕ) → Type 0
+ArePlainForms forms = All IsPlainForm forms × (length forms ≤ 3)
+
+-- what shows a sentence: in UTF-8, and of at most 40 tokens, each of at most 64 bytes with a byte more before it
+abbrev pub IsPlainSentence : List ℕ → Type 0
+IsPlainSentence text = IsUtf8 text × (length text ≤ MOST_TOKENS * (LONGEST_TEXT + 1))
+
+-- the texts of a change are forms, and what shows a sentence
+abbrev pub HasPlainTexts : Request → Type 0
+HasPlainTexts (requests.Word kind forms) = ArePlainForms forms
+HasPlainTexts (requests.Reword word forms) = IsPlainForm word × ArePlainForms forms
+HasPlainTexts (requests.Unword word) = IsPlainForm word
+HasPlainTexts (requests.Add article place text) = IsPlainForm article × IsPlainSentence text
+HasPlainTexts (requests.Edit article place text) = IsPlainForm article × IsPlainSentence text
+HasPlainTexts (requests.Remove article place) = IsPlainForm article
+HasPlainTexts (requests.Retract article place) = IsPlainForm article
+HasPlainTexts (requests.Reassert article place) = IsPlainForm article
+HasPlainTexts request = ⊥
+
+-- the request is a change of words or sentences, and a short line can tell it
+abbrev pub FitsLine : Request → Type 0
+FitsLine request = HasPlainTexts request × HasShortPlace request
+
+-- Each change of a run fits a short line, however long the text was that was sent.
+abbrev pub ChangesFitLines : GrammarParts → Type 0
+ChangesFitLines g =
+    (budget : ℕ) (exchanges : List (Exchange Request Reply)) (last : State) → Turns Step (first_state g budget) exchanges last
+    → All GivesUtf8 (asked_of exchanges) → All HasShortPlace (asked_of exchanges) → All FitsLine (changes_of exchanges)
+
+-- ---- what stands
+
+-- the same grammar, words, articles and sentences stand in both; how long a search may take may differ
+abbrev pub StandAlike : parts.State → parts.State → Type 0
+StandAlike one other = other ≡ record one { budget = other.budget }
+
+-- What stands is what is read. Take any run, and another one that is asked for all of a first part of it again, and then for the changes
+-- of the rest. Where no reply of the two tells that a budget was spent, the second run ends with the words, the last number of a word,
+-- the articles, their revisions, their sentences and statuses with which the first one ends.
+abbrev pub StandsAgain : GrammarParts → Type 0
+StandsAgain g =
+    (budget its_budget : ℕ) (former exchanges again : List (Exchange Request Reply)) (mid last its_last : State)
+    → Turns Step (first_state g budget) former mid → Turns Step mid exchanges last
+    → Turns Step (first_state g its_budget) again its_last → asked_of again ≡ asked_of former ++ changes_of exchanges
+    → All GivesUtf8 (asked_of former) → All GivesUtf8 (asked_of exchanges)
+    → SpendsNone former → SpendsNone exchanges → SpendsNone again
+    → StandAlike last.pages its_last.pages

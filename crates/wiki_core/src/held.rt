@@ -1,0 +1,43 @@
+// What a program can hold of a request.
+ghost use Rattle.std.specs.Prelude.{◌≡◌, ◌≤◌, true, All, IsUtf8};
+ghost use Rattle.lexicon.specs.declared.words.TheConstants.{LAST_NUMBER};
+ghost use Rattle.wiki_core.specs.Journaled.{IsHeld};
+
+use lexicon::LAST_NUMBER;
+use wiki_base::Text8s;
+use wiki_talk::Request;
+
+// Whether the forms that a request gives are in UTF-8, and its place has 32 bits, as always.
+pub fn is_held(request: &Request) -> bool
+    ensures yes { result ≡ true }
+    ensures held { IsHeld request.now }
+{
+    match request {
+        Request::Word { forms, .. } => are_utf8(forms),
+        Request::Reword { forms, .. } => are_utf8(forms),
+        Request::Add { at, .. } => is_short(at.unwrap_or(0)),
+        Request::Edit { at, .. } => is_short(*at),
+        Request::Remove { at, .. } => is_short(*at),
+        Request::Retract { at, .. } => is_short(*at),
+        Request::Reassert { at, .. } => is_short(*at),
+        _ => true,
+    }
+}
+
+fn is_short(place: u32) -> bool
+    ensures yes { result ≡ true }
+    ensures short { place ≤ LAST_NUMBER }
+{
+    place <= LAST_NUMBER
+}
+
+// Whether each of the texts is in UTF-8, as it always is.
+fn are_utf8(texts: &Text8s) -> bool
+    ensures yes { result ≡ true }
+    ensures utf8 { All IsUtf8 texts.now }
+{
+    for place in 0..texts.len() {
+        let _ = texts.get(place).as_bytes();
+    }
+    true
+}

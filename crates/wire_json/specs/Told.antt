@@ -1,0 +1,121 @@
+-- What a request tells in its line: its texts and its numbers.
+use Rattle.std.specs.Prelude.{◌≡◌, ◌⊎◌, ℕ, zero, suc, ◌+◌, ◌*◌, ◌≤◌, List, [], ◌∷◌, ◌++◌, length, All, Some, None, Option, IsUtf8, ◌==◌, nat_lt, if◌then◌else◌}
+use Rattle.serde_json.specs.Written.{compact_text}
+use Rattle.wiki_base.specs.declared.text.TheConstants.{LONGEST_TEXT}
+use Rattle.wiki_base.specs.declared.tokens.TheConstants.{MOST_TOKENS}
+use Rattle.wiki_io.specs.declared.limits.TheConstants.{NEWLINE}
+use Rattle.lexicon.specs.declared.words.TheConstants.{LAST_NUMBER}
+use Rattle.wiki_talk.specs.declared.requests.Request.{Request}
+use Rattle.wiki_talk.specs.declared.requests.Request.TheVariants as requests
+use Rattle.wire_json.specs.Requests.{request_value}
+
+-- the texts of a request
+abbrev pub texts_of : Request → List (List ℕ)
+texts_of (requests.Word kind forms) = forms
+texts_of (requests.Find word) = word ∷ []
+texts_of requests.Words = []
+texts_of (requests.Parse text) = text ∷ []
+texts_of (requests.Reword word forms) = word ∷ forms
+texts_of (requests.Unword word) = word ∷ []
+texts_of (requests.Add article place text) = article ∷ text ∷ []
+texts_of (requests.Edit article place text) = article ∷ text ∷ []
+texts_of (requests.Remove article place) = article ∷ []
+texts_of (requests.Retract article place) = article ∷ []
+texts_of (requests.Reassert article place) = article ∷ []
+texts_of (requests.Read article) = article ∷ []
+texts_of (requests.Axioms article place) = article ∷ []
+texts_of (requests.Begin article) = article ∷ []
+texts_of (requests.Put session text) = text ∷ []
+texts_of (requests.Back session) = []
+texts_of (requests.Menu session) = []
+texts_of (requests.Commit session) = []
+texts_of (requests.Refresh session) = []
+texts_of (requests.Drop session) = []
+
+-- the number of a place or of a session, if the request has one
+abbrev pub numbers_of : Request → List ℕ
+numbers_of (requests.Word kind forms) = []
+numbers_of (requests.Find word) = []
+numbers_of requests.Words = []
+numbers_of (requests.Parse text) = []
+numbers_of (requests.Reword word forms) = []
+numbers_of (requests.Unword word) = []
+numbers_of (requests.Add article None text) = []
+numbers_of (requests.Add article (Some place) text) = place ∷ []
+numbers_of (requests.Edit article place text) = place ∷ []
+numbers_of (requests.Remove article place) = place ∷ []
+numbers_of (requests.Retract article place) = place ∷ []
+numbers_of (requests.Reassert article place) = place ∷ []
+numbers_of (requests.Read article) = []
+numbers_of (requests.Axioms article place) = place ∷ []
+numbers_of (requests.Begin article) = []
+numbers_of (requests.Put session text) = session ∷ []
+numbers_of (requests.Back session) = session ∷ []
+numbers_of (requests.Menu session) = session ∷ []
+numbers_of (requests.Commit session) = session ∷ []
+numbers_of (requests.Refresh session) = session ∷ []
+numbers_of (requests.Drop session) = session ∷ []
+
+-- a line can tell the request: its texts are UTF-8, and its numbers such as a line can have
+pub record CanBeTold (request : Request) : Type 0 where
+  pub texts : All IsUtf8 (texts_of request)
+  pub numbers : All (λ n. n ≤ LAST_NUMBER) (numbers_of request)
+
+-- the bytes of all texts
+abbrev pub total : List (List ℕ) → ℕ
+total [] = 0
+total (text ∷ texts) = length text + total texts
+
+-- the line of a request, without its newline
+abbrev pub request_text : Request → List ℕ
+request_text request = compact_text (request_value request)
+
+-- ---- changes of words and sentences
+
+-- a form of a word
+abbrev pub IsShortForm : List ℕ → Type 0
+IsShortForm form = length form ≤ LONGEST_TEXT
+
+-- the forms of a word, which are at most a verb's
+abbrev pub AreShortForms : List (List ℕ) → Type 0
+AreShortForms forms = All IsShortForm forms × (length forms ≤ 3)
+
+-- what shows a sentence: its tokens, with at most one byte more for each
+abbrev pub IsShortSentence : List ℕ → Type 0
+IsShortSentence sentence = length sentence ≤ MOST_TOKENS * (LONGEST_TEXT + 1)
+
+-- the request is a change of words or sentences, and its texts are no longer than those of a wiki
+abbrev pub IsShortChange : Request → Type 0
+IsShortChange (requests.Word kind forms) = AreShortForms forms
+IsShortChange (requests.Reword word forms) = IsShortForm word × AreShortForms forms
+IsShortChange (requests.Unword word) = IsShortForm word
+IsShortChange (requests.Add article place text) = IsShortForm article × IsShortSentence text
+IsShortChange (requests.Edit article place text) = IsShortForm article × IsShortSentence text
+IsShortChange (requests.Remove article place) = IsShortForm article
+IsShortChange (requests.Retract article place) = IsShortForm article
+IsShortChange (requests.Reassert article place) = IsShortForm article
+IsShortChange request = ⊥
+
+-- such a change that a line can tell
+abbrev pub IsToldChange : Request → Type 0
+IsToldChange request = CanBeTold request × IsShortChange request
+
+-- the most bytes of such a change's line, its newline among them
+abbrev pub most_line : ℕ
+most_line = 16040
+
+-- the bytes are whole lines, or none
+abbrev pub EndsLine : List ℕ → Type 0
+EndsLine bytes = (bytes ≡ []) ⊎ ((front : List ℕ) × (bytes ≡ front ++ NEWLINE ∷ []))
+
+-- the bytes with the newline that their last line may lack
+abbrev pub ended : List ℕ → List ℕ
+ended [] = []
+ended (b ∷ []) = if b == NEWLINE then b ∷ [] else b ∷ NEWLINE ∷ []
+ended (b ∷ c ∷ bytes) = b ∷ ended (c ∷ bytes)
+
+-- What the first n bytes of a request's line ask: nothing where there are none, no request where the line was cut, and the request where at
+-- most its newline lacks.
+abbrev pub asked_by_front : ℕ → Request → List (Option Request)
+asked_by_front zero request = []
+asked_by_front (suc n) request = if nat_lt (suc n) (length (request_text request)) then None ∷ [] else Some request ∷ []

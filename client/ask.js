@@ -4,7 +4,7 @@ import { change } from './changes.js';
 import { append } from './commit.js';
 import { Editor } from './editor.js';
 import { load, nameOf, wordOf } from './lexicon.js';
-import { attempt, button, complain, field, fill, make, placeLink, quoted, say } from './page.js';
+import { attempt, button, complain, field, fill, make, placeLink, quoted, say, visit } from './page.js';
 import { answersOf, linked, statusName, statusText } from './sentence.js';
 
 const FIELD = { id: 'ask-article', type: 'text', dir: 'auto', spellcheck: 'false', autocapitalize: 'off', autocomplete: 'off' };
@@ -21,7 +21,7 @@ export function askView(name) {
         const editor = new Editor({
             title: 'A question', tokens: [], label: 'Ask', only: '?',
             commit: (tokens) => send(editor, article, answers, tokens),
-            cancel: () => history.back(),
+            cancel: () => visit('#/'),
         });
         fill(place, editor.element);
         editor.focus();

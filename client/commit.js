@@ -71,7 +71,7 @@ function hasMoved(task, now) {
 async function typed(task, { session }) {
     for (const [place, text] of task.tokens.entries()) {
         const reply = await ask('type', { session, text });
-        if (reply.tokens !== place + 1) { throw new Error('the wiki took the words for those of somebody else. Nothing was committed; try again.'); }
+        if (reply.tokens !== place + 1) { throw new Trouble('mixed', 'read', {}); }
     }
     const reply = await ask('commit', { session });
     if (reply.article !== task.article) {

@@ -177,8 +177,9 @@ export class Editor {
             fill(this.note, why, quoted(tokens[k]), k === 0 ? ' can\'t begin a sentence.' : [' can\'t stand after ', quoted(textOf(tokens.slice(0, k))), '.']);
         }
         this.show();
-        this.changed();
+        this.menu.filter(this.input.value);
         this.input.setAttribute('aria-invalid', String(this.note.textContent !== ''));
+        this.showNew();
         if (this.state.isPressed) { this.pressEnter(this.input.value.trim()); }
     }
 
@@ -219,7 +220,7 @@ export class Editor {
     // A word that doesn't exist yet can be added without leaving.
     showNew() {
         const text = tokensOf(this.input.value)[0] || '';
-        const isNew = this.state.isCurrent && text !== '' && !isEnd(text) && !wordOf(text) && this.menu.options.length === 0;
+        const isNew = this.state.isCurrent && text !== '' && !isEnd(text) && !wordOf(text) && (this.menu.options.length === 0 || this.input.getAttribute('aria-invalid') === 'true');
         if (!this.extra.querySelector('form, .offer')) { fill(this.extra, isNew ? button(['Add the word ', quoted(text), '\u2026'], () => this.addWord(text)) : null); }
     }
 

@@ -1,5 +1,5 @@
 // The page of the map: reads what is asserted, with progress, and shows the drawing.
-import { attempt, button, count, fill, make } from './page.js';
+import { attempt, button, complain, count, explained, fill, make } from './page.js';
 import { gather } from './mapfacts.js';
 import { draw } from './mapdrawing.js';
 
@@ -22,7 +22,7 @@ async function readAndDraw(content, state) {
     const facts = await gather((read, all) => {
         [bar.max, bar.value] = [all, read];
         return !state.stopped;
-    });
+    }).catch((error) => { complain(explained(error)); return null; });
     if (facts === null) {
         state.stopped = false;
         fill(content, make('p', {}, 'Stopped before all was read.'), button('Read on', () => readAndDraw(content, state)));

@@ -13,7 +13,7 @@ const LIMITS = new Map([
 const REFUSALS = new Map([
     ['BadRequest', () => ['The wiki could not read what this page sent: a text is too long, or has a character that can\'t be sent. Nothing was changed.']],
     ['NoWord', (it) => ['No word has the form ', quoted(it.text), '. It may have been renamed or removed by somebody else: look at the list of words.']],
-    ['BadForm', badForm],
+    ['BadForm', (it) => [`The form number ${it.which + 1} can't be one. A form has letters, and hyphens between two letters, and no spaces, digits or other signs; it has at most 64 bytes.`]],
     ['Taken', (it) => [quoted(it.text), ' is a form of another word already: ', wordLink(it.word), '. Choose another form.']],
     ['Reserved', (it) => [quoted(it.text), ' is a word of the grammar, so no other word can have this form. Choose another one.']],
     ['NoPlace', (it) => [`The article has ${it.length} sentences by now, so there is none at this place. Look at it again.`]],
@@ -28,10 +28,6 @@ const REFUSALS = new Map([
     ['Breaks', (it) => ['The forms can\'t be changed: ', placeLink(it.article, it.at), ' uses one of them. A form that a sentence uses can\'t be changed. Edit or remove that sentence first, or keep the form.']],
     ['BadStatus', (it) => ['The sentence has the status ', quoted(it.status), ' by now, with which this can\'t be done. Look at the article again.']],
 ]);
-
-function badForm(it) {
-    return [`The form number ${it.which + 1} can't be one. A form has letters, and hyphens between two letters, and no spaces, digits or other signs; it has at most 64 bytes.`];
-}
 
 const STATUSES = new Map([
     [400, 'The server could not read what this page sent. Load the page again.'],
@@ -49,13 +45,12 @@ const CAUSES = new Map([
     ['refused', (error) => (REFUSALS.get(error.reply.name) || unknownRefusal)(error.reply)],
     ['status', (error) => [STATUSES.get(error.status) || `The server answered with the status ${error.status}. Try again later, or ask whoever runs it.`]],
     ['network', () => ['The wiki can\'t be reached. Look whether the program runs and the network is there, and try again.']],
+    ['mixed', () => ['The wiki took the words for those of somebody else, since the program was started again meanwhile. Nothing was committed. Try again.']],
     ['stopped', () => ['The answer was not waited for any longer.']],
     ['strange', () => ['What came back is no answer of the wiki; a page to sign in may have come in its place. Load this page again.']],
 ]);
 
-function unknownRefusal(reply) {
-    return ['The wiki refused this: ' + String(reply.name) + '.'];
-}
+const unknownRefusal = (reply) => ['The wiki refused this: ' + String(reply.name) + '.'];
 
 export function explain(error) {
     if (!(error instanceof Trouble)) { return ['This page has a fault: ' + String(error && error.message)]; }

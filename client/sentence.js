@@ -44,11 +44,11 @@ export function answersOf(sentence) {
 // The actions are called with the row, whose place is looked up at that moment.
 export function row(sentence, actions) {
     const panelId = freshId('panel');
-    const toggle = make('button', { type: 'button', class: 'more', 'aria-expanded': 'false', 'aria-controls': panelId, title: 'What can be done with this sentence' },
+    const toggle = make('button', { type: 'button', class: 'more', 'aria-expanded': 'false', 'aria-controls': panelId, 'aria-describedby': panelId + '-text', title: 'What can be done with this sentence' },
         make('span', { 'aria-hidden': 'true' }, '\u22ef'), make('span', { class: 'unseen' }, 'Actions'));
     const panel = make('div', { id: panelId, class: 'actions', hidden: true });
     const element = make('li', { class: 'sentence', tabindex: '-1', 'data-status': sentence.status },
-        make('div', { class: 'line' }, make('p', { class: 'text' }, linked(sentence.text)), make('span', { class: 'status' }, statusName(sentence.status)), toggle),
+        make('div', { class: 'line' }, make('p', { id: panelId + '-text', class: 'text' }, linked(sentence.text)), make('span', { class: 'status' }, statusName(sentence.status)), toggle),
         make('div', { class: 'answer-place' }, answersOf(sentence)), panel);
     toggle.addEventListener('click', () => {
         panel.hidden = !panel.hidden;
@@ -87,8 +87,8 @@ async function showDetails(details, element, sentence, actions) {
     const lines = (texts) => texts.map((text) => make('code', {}, make('bdi', {}, text)));
     fill(details,
         make('p', {}, statusText(sentence.status), ' ', CAUSES.get(reply.cause || sentence.cause) || ''),
-        reply.axioms && reply.axioms.length > 0 ? make('div', {}, make('h3', {}, reply.axioms.length === 1 ? 'Axiom' : 'Axioms'), lines(reply.axioms)) : null,
+        reply.axioms && reply.axioms.length > 0 ? make('div', {}, make('h2', {}, reply.axioms.length === 1 ? 'Axiom' : 'Axioms'), lines(reply.axioms)) : null,
         reply.axioms && reply.axioms.length === 0 && !reply.cause ? make('p', {}, 'It says nothing: it has no axioms.') : null,
-        reply.class ? make('div', {}, make('h3', {}, 'Class that is asked for'), lines([reply.class])) : null,
-        make('div', {}, make('h3', {}, 'Code of its reading'), lines([code.code.join(' ')])));
+        reply.class ? make('div', {}, make('h2', {}, 'Class that is asked for'), lines([reply.class])) : null,
+        make('div', {}, make('h2', {}, 'Code of its reading'), lines([code.code.join(' ')])));
 }

@@ -19,9 +19,7 @@ function panel(below, ...children) {
     fill(below, make('div', { class: 'panel' }, ...children));
 }
 
-function closing(below) {
-    return make('button', { type: 'button', onclick: () => fill(below) }, 'Close');
-}
+const closing = (below) => make('button', { type: 'button', onclick: () => fill(below) }, 'Close');
 
 function showReword(word, below) {
     const form = wordForm({ word }, (forms) => {
@@ -72,14 +70,17 @@ async function readAll(word, below) {
     const end = make('div', { class: 'row' }, stop);
     panel(below, told, progress, list, end);
     stop.focus();
-    for (const name of names) {
-        if (state.isStopped || !below.isConnected) { break; }
-        await readOne(name, word, list, state);
-        progress.value += 1;
+    try {
+        for (const name of names) {
+            if (state.isStopped || !below.isConnected) { break; }
+            await readOne(name, word, list, state);
+            progress.value += 1;
+        }
+    } finally {
+        progress.remove();
+        told.textContent = `${count(state.found, 'sentence')} with this word in ${count(progress.value, 'article')}` + (progress.value < names.length ? '; stopped before the end.' : '.');
+        fill(end, closing(below));
     }
-    progress.remove();
-    told.textContent = `${count(state.found, 'sentence')} with this word in ${count(progress.value, 'article')}` + (state.isStopped ? '; stopped before the end.' : '.');
-    fill(end, closing(below));
 }
 
 // A word that was removed meanwhile has no article any more.

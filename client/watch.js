@@ -5,29 +5,28 @@ const PAUSES = 10;
 
 // Calls `received` with each reading, or `lost` with the error, which tells whether to go on. Returns what ends the watch.
 export function watch(read, received, lost) {
-    const state = { timer: null, isEnded: false, isReading: false, pause: LEAST_PAUSE };
+    const state = { timer: null, isEnded: false, isReading: false, pause: LEAST_PAUSE, due: performance.now() + LEAST_PAUSE };
     const turn = async () => {
-        clearTimeout(state.timer);
-        if (state.isEnded || state.isReading || document.hidden) { return; }
-        Object.assign(state, { isReading: true });
+        state.isReading = true;
         const begun = performance.now();
         const goesOn = await read().then(async (reading) => {
             state.pause = Math.max(LEAST_PAUSE, PAUSES * (performance.now() - begun));
             if (!state.isEnded) { await received(reading); }
             return true;
         }).catch((error) => state.isEnded || lost(error));
-        Object.assign(state, { isReading: false, isEnded: state.isEnded || !goesOn });
+        Object.assign(state, { isReading: false, isEnded: state.isEnded || !goesOn, due: performance.now() + state.pause });
         wait();
     };
     const wait = () => {
-        if (!state.isEnded) { state.timer = setTimeout(turn, state.pause); }
+        clearTimeout(state.timer);
+        if (!state.isEnded && !state.isReading && !document.hidden) { state.timer = setTimeout(turn, state.due - performance.now()); }
     };
     const end = () => {
         state.isEnded = true;
         clearTimeout(state.timer);
-        document.removeEventListener('visibilitychange', turn);
+        document.removeEventListener('visibilitychange', wait);
     };
-    document.addEventListener('visibilitychange', turn);
+    document.addEventListener('visibilitychange', wait);
     wait();
     return end;
 }

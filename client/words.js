@@ -3,14 +3,14 @@ import { KINDS, allWords, fitting, load, nameOf, wordOf } from './lexicon.js';
 import { attempt, count, field, fill, make, say, wordLink } from './page.js';
 import { wordForm } from './wordform.js';
 
-const SHOWN_OF_A_KIND = 100;
+const [SHOWN_OF_A_KIND, MORE_OF_A_KIND] = [100, 500];
 
 export function wordsView() {
-    const whole = new Set();
+    const limits = new Map();
     const total = make('p', { class: 'quiet', role: 'status' });
     const lists = make('div', { class: 'kinds' });
-    const show = () => showLists(lists, total, filter.value, whole);
-    const filter = make('input', { id: 'filter', type: 'search', dir: 'auto', spellcheck: 'false', autocapitalize: 'off', autocomplete: 'off', oninput: show });
+    const show = () => showLists(lists, total, filter.value, limits);
+    const filter = make('input', { id: 'filter', type: 'search', dir: 'auto', spellcheck: 'false', autocapitalize: 'off', autocomplete: 'off', oninput: () => { limits.clear(); show(); } });
     const adding = make('section', { class: 'panel', 'aria-label': 'Add a word' });
     const renew = () => {
         const form = wordForm({}, (forms) => {
@@ -28,15 +28,21 @@ export function wordsView() {
     return { element, title: 'Words', close: () => {} };
 }
 
-function showLists(lists, total, typed, whole) {
+function showLists(lists, total, typed, limits) {
     const fits = fitting(typed);
     total.textContent = (fits === allWords() ? '' : `${fits.length.toLocaleString('en')} of `) + count(allWords().length, 'word');
-    fill(lists, KINDS.map((it) => kindList(it, fits.filter((word) => word.kind === it.kind), whole, () => showLists(lists, total, typed, whole))));
+    fill(lists, KINDS.map((it) => kindList(it, fits.filter((word) => word.kind === it.kind), limits, () => showLists(lists, total, typed, limits))));
 }
 
-function kindList({ kind, title }, words, whole, again) {
-    const shown = whole.has(kind) ? words : words.slice(0, SHOWN_OF_A_KIND);
-    const more = () => make('button', { type: 'button', onclick: () => again(whole.add(kind)) }, `Show all ${words.length}`);
-    return make('section', { class: 'kind' }, make('h2', {}, title, make('small', {}, ' ' + String(words.length))),
-        make('ul', {}, shown.map((word) => make('li', {}, wordLink(nameOf(word))))), shown.length < words.length ? more() : null);
+// The focus goes to the first word that is new.
+function kindList({ kind, title }, words, limits, again) {
+    const limit = limits.get(kind) || SHOWN_OF_A_KIND;
+    const left = words.length - limit;
+    const more = () => {
+        again(limits.set(kind, limit + MORE_OF_A_KIND));
+        document.querySelectorAll(`.kind.${kind} a`)[limit].focus();
+    };
+    return make('section', { class: 'kind ' + kind }, make('h2', {}, title, make('small', {}, ' ' + String(words.length))),
+        make('ul', {}, words.slice(0, limit).map((word) => make('li', {}, wordLink(nameOf(word))))),
+        left > 0 ? make('button', { type: 'button', onclick: more }, `Show ${Math.min(left, MORE_OF_A_KIND)} more of ${left}`) : null);
 }

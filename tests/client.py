@@ -1,171 +1,16 @@
-"""The editor page in headless Chromium, by real keys and clicks, over tools/client --try and a wiki that the program serves.
+"""The editor page in headless Chromium, by real keys and clicks, over a wiki that the program serves.
 
-client.py PROGRAM [FOLDER [PART]..]: goes through the parts below, each with a wiki of its own, and ends with status 1 at the
-first page that isn't as it should be. Pictures of the pages go to FOLDER.
+client.py PROGRAM [acts|bad|looks|long|FOLDER [PART]..]: goes through the parts below (acts), those of client_bad.py (bad) and of
+client_looks.py (looks), or all, each with a wiki of its own, and ends with status 1 at the first page that isn't as it should be.
+Where the program serves the page itself, that one is opened, else the one of tools/client --try. Pictures of the pages go to
+FOLDER; with `long` 60 pages crash at once.
 """
-import json, os, socket, socketserver, subprocess, sys, threading, time, urllib.parse
+import json, os, sys, threading, time, traceback
 
-from running import Wiki
+import client_bad, client_looks
+from client_stage import Page, Place, expect, expect_in, reply
+from running import Closed, replayed
 from webdriver import Browser, Driver, Failed
-
-HERE = os.path.dirname(os.path.realpath(__file__))
-WORDS = [("name", "Bern"), ("name", "Aare"), ("name", "Basel"), ("noun", "city"), ("noun", "river"), ("noun", "place"), ("verb", "cross"),
-         ("of", "part"), ("adjective", "located-in")]
-TEXTS = [("city", "Every city is a place."), ("river", "No river is a city."), ("Bern", "Bern is a city."), ("Aare", "Aare is a river."),
-         ("Aare", "Aare crosses Bern."), ("Aare", "Aare is a city."), ("Bern", "What crosses Bern?"), ("Basel", "A river crosses a city.")]
-
-
-def lines(words=WORDS, texts=TEXTS):
-    told = [{"do": "word", "kind": kind, "forms": [form]} for kind, form in words]
-    told += [{"do": "add", "article": article, "text": text} for article, text in texts]
-    return b"".join(json.dumps(it).encode() + b"\n" for it in told)
-
-
-def expect(what, got, wanted):
-    if got != wanted:
-        raise Failed(f"{what}: {got!r}, and not {wanted!r}")
-
-
-def expect_in(what, part, whole):
-    if part not in whole:
-        raise Failed(f"{what}: {part!r} isn't in {whole!r}")
-
-
-class Between(socketserver.ThreadingTCPServer):
-    """Stands between tools/client and the wiki. `meddle` gets each request of /api, and may wait, or give a response of its own."""
-
-    allow_reuse_address = daemon_threads = True
-
-    def __init__(self, wiki):
-        super().__init__(("127.0.0.1", 0), Passing)
-        self.wiki, self.meddle, self.seen = wiki, None, []
-        threading.Thread(target=self.serve_forever, daemon=True).start()
-
-    def handle_error(self, request, client_address):
-        """A browser that goes away is no fault."""
-
-    def seen_of(self, name):
-        return [it for it in self.seen if it["do"] == name]
-
-    def change_before_read(self, change):
-        """Makes a change of somebody else's when the next `read` has come, before it is answered."""
-        done = []
-
-        def meddle(request):
-            if request["do"] == "read" and not done:
-                done.append(change())
-
-        self.meddle = meddle
-
-
-class Passing(socketserver.StreamRequestHandler):
-    def handle(self):
-        head = b""
-        while not head.endswith(b"\r\n\r\n"):
-            line = self.rfile.readline()
-            if not line:
-                return
-            head += line
-        fields = dict(line.split(b":", 1) for line in head.split(b"\r\n")[1:] if b":" in line)
-        sent = self.rfile.read(int({key.lower(): value for key, value in fields.items()}.get(b"content-length", b"0")))
-        answer = None
-        if head.startswith(b"POST /api"):
-            request = json.loads(sent)
-            self.server.seen.append(request)
-            answer = self.server.meddle(request) if self.server.meddle else None
-        if answer is not None:
-            self.wfile.write(answer)
-            return
-        with self.server.wiki.connect() as link:
-            link.sendall(head + sent)
-            while part := link.recv(65536):
-                self.wfile.write(part)
-
-
-def response(status, body, kind="text/html"):
-    return f"HTTP/1.1 {status} Some phrase\r\nContent-Type: {kind}\r\nContent-Length: {len(body)}\r\nConnection: close\r\n\r\n{body}".encode()
-
-
-class Place:
-    """A wiki with what stands before it, and the address of its editor page."""
-
-    def __init__(self, given=None):
-        self.wiki = Wiki(sys.argv[1], lines() if given is None else given, errors=subprocess.DEVNULL)
-        self.between = Between(self.wiki)
-        words = [os.path.join(HERE, "..", "tools", "client"), "--try", f"127.0.0.1:{self.between.server_address[1]}", "127.0.0.1:0"]
-        self.front = subprocess.Popen(words, stdout=subprocess.PIPE, text=True)
-        self.address = self.front.stdout.readline().strip()
-
-    def ask(self, **request):
-        return self.wiki.ask(**request)
-
-    def texts(self, article):
-        return [it["text"] for it in self.ask(do="read", article=article)["sentences"]]
-
-    def stop(self):
-        self.front.terminate()
-        self.front.wait()
-        self.between.shutdown()
-        self.wiki.stop()
-
-
-class Page:
-    """What a person does on the editor page."""
-
-    def __init__(self, browser, place):
-        self.browser, self.place = browser, place
-
-    def words(self):
-        self.browser.go("about:blank")
-        self.browser.go(self.place.address)
-        self.browser.until(lambda: self.browser.texts(".kind li"), "words")
-
-    def article(self, word, sentences):
-        self.browser.go(self.place.address + "#/article/" + urllib.parse.quote(word))
-        self.has(sentences)
-
-    def has(self, sentences):
-        self.browser.until(lambda: self.sentences() == sentences, f"the sentences {sentences}, but {self.sentences()}")
-
-    def sentences(self):
-        return self.browser.texts(".sentence .text")
-
-    def statuses(self):
-        return self.browser.texts(".sentence .status")
-
-    def notice(self, part):
-        self.browser.until(lambda: part in " ".join(self.browser.texts("#notices, .news, .extra, .note")), f"a message with {part!r}")
-
-    def actions(self, at):
-        """Opens what can be done with a sentence."""
-        self.browser.script("document.querySelectorAll('.sentence .more')[arguments[0]].focus()", at)
-        if self.browser.script("return document.activeElement.getAttribute('aria-expanded')") == "false":
-            self.browser.keys("Enter")
-
-    def act(self, at, name):
-        self.actions(at)
-        self.browser.button(name, f".sentence:nth-child({at + 1})")
-
-    def editor(self):
-        self.browser.button("Write a sentence")
-        self.settled()
-
-    def settled(self):
-        """Waits until the menu is that of what is typed."""
-        self.browser.until(lambda: self.browser.find('.editor[aria-busy="false"]'), "a menu")
-
-    def typed(self):
-        return (self.browser.texts(".typed-text")[0] + "|" + self.browser.script("return document.querySelector('.next').value")).strip()
-
-    def type(self, *keys):
-        self.browser.keys(*keys)
-        self.settled()
-
-    def options(self, group):
-        return self.browser.texts(f".group:nth-child({group}) [role=option]")
-
-    def marked(self):
-        return self.browser.texts(".menu [aria-selected=true]")
 
 
 def part_words(page, place):
@@ -175,12 +20,16 @@ def part_words(page, place):
     browser.click("#filter")
     browser.keys("IT")
     expect("the filter", browser.texts(".kind li"), ["city"])
+    browser.keys("/")
+    expect("a / in a field", browser.script("return document.activeElement.value"), "IT/")
     browser.script("document.activeElement.blur()")
     browser.keys("/")
-    expect("the key /", browser.script("return document.activeElement.id"), "open-word")
+    expect("the key /", page.focused(), "open-word")
     browser.keys("cities", "Enter")
     page.has(["Every city is a place."])
     expect("any form opens", browser.texts("h1"), ["city"])
+    browser.keys("/", "bonn", "Enter")
+    page.notice("No word has the form \u201cbonn\u201d")
     page.words()
     for kind, text, forms in [("noun", "box", ["box", "boxes"]), ("name", "Inn", ["Inn"]), ("verb", "try", ["tries", "try", "tried"]),
                               ("of", "bank", ["bank"]), ("adjective", "near-to", ["near-to"])]:
@@ -193,39 +42,57 @@ def part_words(page, place):
         page.notice("Added ")
         browser.until(lambda: text in browser.texts(".kind li"), text)
         expect("the word's forms", place.ask(do="find", word=text)["word"]["forms"], forms)
+    changed_before(page, place)
+    suggestions(page)
+
+
+def changed_before(page, place):
+    """A suggested form can be changed before; what is refused is told, with the focus in its field."""
+    browser = page.browser
     browser.click('.word-form input[value="noun"]')
+    browser.click(".word-form .field input")
+    browser.keys("mouse", "Tab")
+    browser.script("document.activeElement.select()")
+    browser.keys("mice", "Enter")
+    browser.until(lambda: "mouse" in browser.texts(".kind li"), "the word")
+    expect("a form that was changed before", place.ask(do="find", word="mice")["word"]["forms"], ["mouse", "mice"])
     browser.click(".word-form .field input")
     browser.keys("Bern", "Enter")
     page.notice("is a form of another word already")
     expect("the field of a refusal", browser.script("return document.activeElement.value"), "Bern")
-    browser.script("document.querySelector('.word-form .field:nth-child(2) input').select()")
+    browser.script("document.activeElement.select()")
     browser.keys("a b", "Enter")
-    suggestions(page, place)
+    page.notice("The form number 1 can't be one")
+    browser.script("document.activeElement.select()")
+    browser.keys("every", "Enter")
+    page.notice("is a word of the grammar")
 
 
-def suggestions(page, place):
+def suggestions(page):
     """The forms that the page suggests for 500 words are those that the wiki gives them."""
     ends = ["a", "s", "x", "z", "ch", "sh", "y", "ay", "ey", "iy", "oy", "uy", "-y", "ty", "e", "ee", "Ay", "\u00e9y", "h", "o"]
     texts = [f"{a}{b}q{end}" for a in "bcdfg" for b in "aeiou" for end in ends]
-    told = {}
-    for place_, text in enumerate(texts):
-        kind = "noun" if place_ % 2 else "verb"
-        place.ask(do="word", kind=kind, forms=[text])
-        told[text] = (kind, place.ask(do="find", word=text)["word"]["forms"])
+    kinds = ["noun" if number % 2 else "verb" for number in range(len(texts))]
+    asked = [[{"do": "word", "kind": kind, "forms": [text]}, {"do": "find", "word": text}] for kind, text in zip(kinds, texts)]
+    told = replayed(sys.argv[1], b"".join(json.dumps(it).encode() + b"\n" for pair in asked for it in pair))[1::2]
     got = page.browser.wait_script("""const { suggested } = await import('/editor/lexicon.js');
-        return given[0].map(([kind, text]) => suggested(kind, text));""", [[kind, text] for text, (kind, _) in told.items()])
-    expect("the suggestions", got, [forms for _, forms in told.values()])
+        return given[0].map(([kind, text]) => suggested(kind, text));""", [list(pair) for pair in zip(kinds, texts)])
+    expect("so many words", len(got), 500)
+    expect("the suggestions", got, [it["word"]["forms"] for it in told])
 
 
 def part_word(page, place):
     browser = page.browser
     page.article("place", [])
     browser.button("Other forms\u2026")
+    expect_in("what can't be changed is told", "A form that a sentence uses can't be changed", " ".join(browser.texts(".panel p")))
     browser.script("document.activeElement.select()")
     browser.keys("spot")
     browser.button("Change the forms")
     page.notice("The forms can't be changed: sentence 1 of city uses one of them")
-    browser.button("Cancel")
+    browser.click("#notices a")
+    page.has(["Every city is a place."])
+    page.article("place", [])
     browser.button("Remove the word\u2026")
     browser.keys("Enter")
     page.notice("The word can't be removed: sentence 1 of city")
@@ -240,14 +107,35 @@ def part_word(page, place):
     browser.button("Remove the word\u2026")
     browser.keys("Enter")
     browser.until(lambda: browser.texts("h1") == ["Words"] and "piece" not in browser.texts(".kind li"), "the words without it")
+    searches(page, place)
+    page.open("#/article/newcomer")
+    browser.until(lambda: browser.find(".word-form"), "a form for a missing word")
+    expect("its text", browser.script("return document.querySelector('.word-form .field input').value"), "newcomer")
+
+
+def searches(page, place):
+    """The sentences that hold a word: told beforehand, with progress, and stopped."""
+    browser, between = page.browser, place.between
+
+    def others():
+        return [it for it in between.seen_of("read") if it["article"] == "Aare"]
+
     page.article("river", ["No river is a city."])
     browser.button("Sentences with it\u2026")
     expect_in("what the search does is told", "all 8 articles are read", " ".join(browser.texts(".panel p")))
+    expect("nothing is read before", others(), [])
     browser.keys("Enter")
     browser.until(lambda: "3 sentences with this word in 8 articles." in browser.texts(".panel p"), "the sentences with a word")
-    page.browser.go(place.address + "#/article/newcomer")
-    browser.until(lambda: browser.find(".word-form"), "a form for a missing word")
-    expect("its text", browser.script("return document.querySelector('.word-form .field input').value"), "newcomer")
+    expect("they are links", browser.texts(".panel li > a"), ["Aare is a river.", "A river crosses a city.", "No river is a city."])
+    browser.button("Sentences with it\u2026")
+    held = threading.Event()
+    between.meddle = lambda request: held.wait(60) and None if request["do"] == "read" and request["article"] == "Basel" else None
+    browser.keys("Enter")
+    browser.until(lambda: browser.script("const it = document.querySelector('progress'); return it && it.value === 2 && it.max === 8"), "progress")
+    browser.button("Stop")
+    held.set()
+    browser.until(lambda: "2 sentences with this word in 3 articles; stopped before the end." in browser.texts(".panel p"), "that it was stopped")
+    between.meddle = None
 
 
 def part_article(page, place):
@@ -256,15 +144,12 @@ def part_article(page, place):
     expect("statuses in words", page.statuses(), ["asserted", "asserted", "contradiction"])
     colours = browser.script("return [...document.querySelectorAll('.status')].map((it) => getComputedStyle(it).color)")
     expect("colours differ", len(set(colours)), 2)
+    expect("each word is a link", browser.texts(".sentence:nth-child(2) .text a"), ["Aare", "crosses", "Bern"])
     browser.click(".sentence:nth-child(2) a:nth-of-type(3)")
     page.has(["Bern is a city.", "What crosses Bern?"])
     expect("answers are links", browser.texts(".answers a"), ["Aare"])
-    page.article("Basel", ["A river crosses a city."])
-    page.act(0, "Details")
-    browser.until(lambda: "Nothing leads from a name" in " ".join(browser.texts(".details")), "the cause in a sentence")
-    page.article("Aare", page.place.texts("Aare"))
-    page.act(1, "Details")
-    browser.until(lambda: "ObjectPropertyAssertion(:cross :Aare :Bern)" in " ".join(browser.texts(".details code")), "the axioms")
+    details(page, place)
+    page.article("Aare", place.texts("Aare"))
     page.act(0, "Retract")
     browser.until(lambda: page.statuses()[0] == "retracted", "a retracted sentence")
     page.act(2, "Reassert")
@@ -285,39 +170,154 @@ def part_article(page, place):
     page.type("Aare crosses Basel.")
     browser.keys("Enter")
     page.has(["Aare crosses Basel.", "Aare is a river.", "Aare crosses Bern.", "Aare is a place."])
-    others(page, place)
 
 
-def others(page, place):
-    """What somebody else changes appears by itself, and isn't overwritten."""
+def details(page, place):
+    """What a sentence means, why it means nothing of OWL's, and the code of its reading."""
     browser = page.browser
-    page.actions(3)
+
+    def shows(article, at, part):
+        page.article(article, place.texts(article))
+        page.act(at, "Details")
+        code = " ".join(map(str, place.ask(do="parse", text=place.texts(article)[at])["code"]))
+        for wanted in (part, code):
+            browser.until(lambda: wanted in " ".join(browser.texts(".details")), f"{wanted} in the details")
+
+    shows("Basel", 0, "Nothing leads from a name")
+    shows("Aare", 1, "ObjectPropertyAssertion(:cross :Aare :Bern)")
+    shows("Bern", 1, place.ask(do="axioms", article="Bern", at=1)["class"])
+
+
+def part_statuses(page, place):
+    """Each status in its own words, an answer that isn't known, and a link for each."""
+    known = ["asserted", "retracted", "contradiction", "budget", "outside", "question", "question-outside"]
+    told = [{"status": it, "text": "Aare is a river."} for it in known]
+    told[5].update(answers=["Bern"], unknown=["Basel"])
+    told[4].update(cause="cycle")
+    place.between.meddle = lambda request: reply("read", revision=7, sentences=told) if request["do"] == "read" else None
+    page.article("city", ["Aare is a river."] * 7)
+    expect("each status in words", page.statuses(), ["asserted", "retracted", "contradiction", "undecided", "outside OWL", "question", "question outside OWL"])
+    expect("answers", page.browser.texts(".answers li"), ["Bern", "Basel not known"])
+    expect("answers are links", page.browser.script("return [...document.querySelectorAll('.answers a')].map((it) => it.hash)"), ["#/article/Bern", "#/article/Basel"])
+    page.actions(4)
+    expect_in("the cause in a sentence", "Its relations go round in a circle", " ".join(page.browser.texts(".details")))
+    for at, name in enumerate(["Retract", "Reassert", "Reassert", "Reassert", None, None, None]):
+        page.actions(at)
+        found = page.browser.texts(f".sentence:nth-child({at + 1}) .actions button")
+        expect("what can be done", [it for it in found if it.endswith("ert") or it == "Retract"], [name] if name else [])
+
+
+def part_others(page, place):
+    """What somebody else changes appears by itself, and isn't overwritten."""
+    browser, between = page.browser, place.between
+    page.article("Aare", place.texts("Aare"))
+    page.actions(2)
     place.ask(do="add", article="Aare", at=0, text="Aare is something.")
-    page.has(["Aare is something.", "Aare crosses Basel.", "Aare is a river.", "Aare crosses Bern.", "Aare is a place."])
+    page.has(["Aare is something.", "Aare is a river.", "Aare crosses Bern.", "Aare is a city."])
     page.notice("Somebody else changed this article")
-    expect("what was open stays open", browser.script("return document.activeElement.innerText"), "Edit")
-    place.between.change_before_read(lambda: place.ask(do="edit", article="Aare", at=4, text="Aare is a river."))
-    browser.keys("Enter")
-    page.type("Backspace", "Backspace", "city.")
-    browser.keys("Enter")
-    page.notice("somebody else changed")
-    expect("nothing is overwritten", place.texts("Aare")[4], "Aare is a river.")
-    place.between.meddle = None
-    page.article("Bern", ["Bern is a city.", "What crosses Bern?"])
+    expect("what was open stays open", page.focused(), "Edit")
+    changes = [("Retract", 2, lambda: place.ask(do="retract", article="Aare", at=2)), ("Reassert", 2, lambda: place.ask(do="remove", article="Aare", at=0)),
+               ("Remove", 1, lambda: place.ask(do="edit", article="Aare", at=1, text="Aare crosses Basel.")),
+               ("Details", 1, lambda: place.ask(do="add", article="Aare", at=0, text="Aare is something."))]
+    for name, at, change in changes:
+        page.quiet()
+        between.before("read", change)
+        page.act(at, name)
+        page.notice("Nothing was sent, since somebody else changed this place", "Somebody else changed this article")
+        between.meddle = None
+        page.again("Aare")
+    expect("nothing was sent", [it["do"] for it in between.seen if it["do"] in ("retract", "reassert", "remove", "axioms")], [])
+    typed_meanwhile(page, place)
+    hit_meanwhile(page, place)
+    page.article("Bern", place.texts("Bern"))
     place.ask(do="add", article="Basel", text="Basel crosses Bern.")
-    browser.until(lambda: browser.texts(".answers a") == ["Aare", "Basel"], "an answer that changed without a revision", 40)
+    browser.until(lambda: browser.texts(".answers a") == ["Aare", "Basel"] or browser.texts(".answers a") == ["Basel"], "an answer that changed without a revision", 60)
+
+
+def typed_meanwhile(page, place):
+    """A sentence that somebody else changes while it is edited here isn't overwritten, nor is one inserted elsewhere."""
+    browser, between = page.browser, place.between
+    now = place.texts("Aare")
+    page.act(1, "Edit")
+    page.settled()
+    between.before("read", lambda: place.ask(do="edit", article="Aare", at=1, text="Aare crosses something."))
+    page.type("Backspace", "Backspace", "place.")
+    browser.keys("Enter")
+    page.notice("omebody else changed")
+    between.meddle = None
+    expect("nothing is overwritten", place.texts("Aare"), [now[0], "Aare crosses something.", *now[2:]])
+    expect("what was typed is there", page.typed(), "Aare is a place.|")
+    page.again("Aare")
+
+
+def hit_meanwhile(page, place):
+    """Where the revision isn't one higher afterwards, what changed is shown."""
+    between = place.between
+    between.before("retract", lambda: place.ask(do="add", article="Aare", text="Aare crosses Aare."))
+    at = page.statuses().index("asserted")
+    page.act(at, "Retract")
+    page.notice("Somebody else changed the article at the same moment. This changed altogether:")
+    expect_in("what changed", "new: Aare crosses Aare.", " ".join(page.browser.texts(".changed")))
+    between.meddle = None
+    page.quiet()
+    page.act(at, "Remove")
+    page.notice("Removed ")
+    between.before("read", lambda: place.ask(do="remove", article="Aare", at=at))
+    page.browser.keys("Enter")
+    page.notice("Nothing was sent, since somebody else changed this place", "Removed ")
+    between.meddle = None
+
+
+WATCHED = """const { watch } = await import('/editor/watch.js');
+    const [real, now] = [window.setTimeout, performance.now.bind(performance)];
+    const pauses = []; let clock = 0;
+    const fire = () => new Promise((resolve) => real(resolve, 0));
+    window.setTimeout = (action, pause) => { pauses.push([Math.round(pause), action]); return 0; };
+    performance.now = () => clock;
+    const end = watch(async () => { clock += given[0][pauses.length - 1]; return 1; }, async () => {}, () => true);
+    for (let turn = 0; turn < given[0].length; turn += 1) { clock += pauses[turn][0]; pauses[turn][1](); await fire(); await fire(); }
+    end(); window.setTimeout = real; performance.now = now;
+    return pauses.map(([pause]) => pause)"""
+
+
+def part_watch(page, place):
+    """An open article is read every 5 s, or ten times as long as the last reading took; never while the page is hidden."""
+    browser = page.browser
+    page.article("Basel", ["A river crosses a city."])
+    expect("pauses", browser.wait_script(WATCHED, [100, 499, 700, 2000, 3]), [5000, 5000, 5000, 7000, 20000, 5000])
+    reads = len(place.between.seen_of("read"))
+    browser.until(lambda: len(place.between.seen_of("read")) > reads, "a reading by itself")
+    browser.call("POST", "/window/minimize", {})
+    browser.until(lambda: browser.script("return document.hidden"), "a hidden page")
+    time.sleep(0.5)
+    reads = len(place.between.seen_of("read"))
+    place.ask(do="add", article="Basel", text="Basel is a city.")
+    time.sleep(7)
+    expect("readings while it is hidden", len(place.between.seen_of("read")), reads)
+    browser.call("POST", "/window/rect", {"width": 1100, "height": 800})
+    page.has(["A river crosses a city.", "Basel is a city."])
 
 
 def part_editor(page, place):
     browser = page.browser
     page.article("Basel", ["A river crosses a city."])
     page.editor()
+    expect("the groups", browser.texts(".group-name"), ["Function words", "Names", "Nouns", "Of-constructs", "Verbs", "Adjectives"])
+    tops = browser.script("return [...document.querySelectorAll('.group')].map((it) => it.getBoundingClientRect()).map((it) => [it.top, it.left])")
+    expect("they stand side by side", (len({top for top, _ in tops}), [left for _, left in tops]), (1, sorted(left for _, left in tops)))
     expect("names first", page.options(2), ["Aare", "Basel", "Bern"])
-    page.type("ba")
+    page.type("a")
+    expect("one field filters all groups", [page.options(group) for group in (1, 2)], [[it for it in page.options(1) if "a" in it.lower()], ["Aare", "Basel"]])
+    page.type("Backspace", "ba")
     expect("the filter", page.marked(), ["Basel"])
+    told = browser.script("""const it = document.querySelector('.next'); const of = (name) => document.getElementById(it.getAttribute(name));
+        return [it.getAttribute('role'), of('aria-controls').getAttribute('role'), of('aria-activedescendant').innerText]""")
+    expect("what a reader of the screen is told", told, ["combobox", "listbox", "Basel"])
     page.type("Enter")
     page.type("Down")
     expect("an arrow", page.marked(), ["does"])
+    page.type("Up", "Down")
+    expect("and back", page.marked(), ["does"])
     page.type("Right")
     expect("the next group", page.marked(), ["crosses"])
     page.type("Left", "Down", "Enter")
@@ -325,16 +325,21 @@ def part_editor(page, place):
     page.type("Backspace")
     page.type("is", "Tab")
     expect("Tab takes a word", page.typed(), "Basel is|")
+    expect("no end yet", browser.texts(".end.lit"), [])
     page.type("a ", "cit", "Tab")
     expect("a sentence that may end", browser.texts(".end.lit"), ["."])
     browser.script("document.querySelector('.next').focus()")
     browser.keys("Tab")
-    expect("Tab leaves the empty field", browser.script("return document.activeElement.innerText"), ".")
+    expect("Tab leaves the empty field", page.focused(), ".")
     browser.keys("Enter")
     page.settled()
     expect("whole", page.typed(), "Basel is a city.|")
+    place.between.seen.clear()
     browser.keys("Enter")
     page.has(["A river crosses a city.", "Basel is a city."])
+    browser.until(lambda: place.between.seen_of("drop"), "an end of the session")
+    expect("what a commit asks for", [it["do"] for it in place.between.seen if it["do"] != "parse"],
+           ["open", "read", "type", "type", "type", "type", "type", "commit", "read", "drop"])
     page.type("every ")
     browser.script("[...document.querySelectorAll('.menu [role=option]')].find((it) => it.innerText === 'river').setAttribute('data-test', '')")
     browser.click("[data-test]")
@@ -342,37 +347,31 @@ def part_editor(page, place):
     expect("a click takes any", page.typed(), "Every river|")
     pasted(page)
     new_word(page, place)
-    expect("no session is left", place.ask(do="open", article="Bern")["session"] - len(place.between.seen_of("open")), 1)
 
 
 def pasted(page):
     browser = page.browser
-    paste(page, "crosses a city that Aare fish")
+    page.paste("crosses a city that Aare fish")
     expect("what can stand stays", page.typed(), "Every river crosses a city that Aare|fish")
     page.notice("\u201cfish\u201d can't stand after")
+    expect("the menu is what may follow", page.options(5), [])
     page.type("Escape")
+    expect("and after that", page.options(5), ["crosses"])
     page.type(*["Backspace"] * 7)
     expect("taken back", page.typed(), "|")
-    paste(page, " ".join(["Aare is a city and"] * 9))
+    page.paste(" ".join(["Aare is a city and"] * 9))
     page.notice("the first 40 were tried")
     page.type("Escape")
     page.type(*["Backspace"] * 40)
-    paste(page, "Which rivers cross Bern?")
+    page.paste("Which rivers cross Bern")
+    expect("a question that may end", browser.texts(".end.lit"), ["?"])
+    page.type("?")
     expect("a whole sentence", page.typed(), "Which rivers cross Bern?|")
     page.type(*["Backspace"] * 5)
 
 
-def paste(page, text):
-    """Pastes a text, which is cut from another field."""
-    browser = page.browser
-    browser.script("const it = document.querySelector('#open-word'); it.value = arguments[0]; it.select()", text)
-    browser.chord("Control", "x")
-    browser.script("document.querySelector('.next').focus()")
-    browser.chord("Control", "v")
-    page.settled()
-
-
 def new_word(page, place):
+    """A word that doesn't exist yet is added without leaving, also one that is part of another one."""
     browser = page.browser
     page.type("Rhine ")
     browser.button("Add the word \u201cRhine\u201d\u2026")
@@ -383,10 +382,45 @@ def new_word(page, place):
     page.type("is a river.")
     browser.keys("Enter")
     page.has(["A river crosses a city.", "Basel is a city.", "Rhine is a river."])
+    page.type("Aar ")
+    expect("a word that is part of another one", page.typed(), "|Aar")
+    browser.button("Add the word \u201cAar\u201d\u2026")
+    browser.button("Cancel", ".editor .word-form")
+    page.type("Escape")
+    browser.keys("Escape")
+    browser.until(lambda: not browser.find(".editor"), "a closed editor")
+
+
+def part_sessions(page, place):
+    """Commits that go wrong: the network fails, tokens are another's, the article isn't this one."""
+    browser, between = page.browser, place.between
+    page.article("Basel", ["A river crosses a city."])
+    page.editor()
+    page.type("Basel is a city.")
+    between.meddle = lambda request: reply("type", tokens=7) if request["do"] == "type" else None
+    browser.keys("Enter")
+    page.notice("Nothing was committed")
+    expect("a session that may be another's isn't touched", [len(between.seen_of(it)) for it in ("type", "commit", "drop")], [1, 0, 0])
+    page.quiet()
+    between.meddle = lambda request: (browser.offline(True), time.sleep(0.5), None)[2] if request["do"] == "type" else None
+    browser.script("document.querySelector('.next').focus()")
+    browser.keys("Enter")
+    page.notice("The wiki can't be reached. Look whether the program runs", "can't reach the wiki")
+    between.meddle = None
+    browser.offline(False)
+    time.sleep(0.5)
+    expect("after a failure of the network the session isn't touched", (len(between.seen_of("drop")), len(between.seen_of("commit"))), (0, 0))
+    expect("what was typed is there", page.typed(), "Basel is a city.|")
+    page.quiet()
+    between.meddle = lambda request: reply("commit", article="city", status="asserted") if request["do"] == "commit" else None
+    browser.script("document.querySelector('.next').focus()")
+    browser.keys("Enter")
+    page.notice("added the sentence to another article")
+    between.meddle = None
 
 
 def part_together(page, place):
-    """Two browsers on one article; sessions that are all taken; pages that are left while they commit."""
+    """Two browsers on one article; sessions that are all taken."""
     browser = page.browser
     other = Page(Browser(browser.driver), place)
     for one in (page, other):
@@ -403,6 +437,7 @@ def part_together(page, place):
         expect_in("what changed is shown", "new: Basel is a city.", " ".join(other.browser.texts(".offer")))
         other.browser.keys("Enter")
     other.has(["A river crosses a city.", "Basel is a city.", "Basel is a place."])
+    other.browser.close()
     moved(page, place)
     full(page, place)
 
@@ -411,48 +446,38 @@ def moved(page, place):
     """The article moves on between its last reading and the commit: what changed is shown, and the sentence goes on."""
     page.has(["A river crosses a city.", "Basel is a city.", "Basel is a place."])
     page.type("Basel is a river.")
-    place.between.change_before_read(lambda: place.ask(do="remove", article="Basel", at=0))
+    place.between.before("read", lambda: place.ask(do="remove", article="Basel", at=0))
     page.browser.keys("Enter")
     page.notice("Somebody else changed the article since it was shown here")
     expect_in("what changed is shown", "gone: A river crosses a city.", " ".join(page.browser.texts(".offer")))
     place.between.meddle = None
     page.browser.keys("Enter")
     page.has(["Basel is a city.", "Basel is a place.", "Basel is a river."])
+    page.type("Basel crosses Aare.")
+    place.between.before("commit", lambda: place.ask(do="add", article="Basel", text="Basel is something."))
+    page.browser.keys("Enter")
+    page.notice("Somebody else changed the article")
+    place.between.meddle = None
+    page.browser.keys("Enter")
+    page.has(["Basel is a city.", "Basel is a place.", "Basel is a river.", "Basel is something.", "Basel crosses Aare."])
 
 
 def full(page, place):
-    between = place.between
+    between, now = place.between, page.sentences()
     page.browser.until(lambda: len(between.seen_of("drop")) == len(between.seen_of("open")), "as many drops as sessions")
     while "session" in place.ask(do="open", article="Bern"):
         pass
     page.type("Basel crosses Bern.")
     page.browser.keys("Enter")
     page.notice("All places for people who write are taken")
+    page.notice("A change between the two isn't noticed")
     page.browser.keys("Enter")
-    page.has(["Basel is a city.", "Basel is a place.", "Basel is a river.", "Basel crosses Bern."])
-
-
-def part_leaving(page, place):
-    """Pages that are left in the midst of a commit leave no session behind."""
-    browser = page.browser
-    place.between.meddle = lambda request: time.sleep(0.5) if request["do"] == "type" else None
-    for _ in range(10):
-        page.article("Basel", ["A river crosses a city."])
-        page.editor()
-        page.type("Basel is a city.")
-        begun = len(place.between.seen_of("type"))
-        browser.keys("Enter")
-        browser.until(lambda: len(place.between.seen_of("type")) > begun, "a token on its way")
-        browser.go("about:blank")
-    place.between.meddle = None
-    browser.until(lambda: len(place.between.seen_of("drop")) == len(place.between.seen_of("open")) == 10, "as many drops as sessions")
-    expect("nothing was committed", place.texts("Basel"), ["A river crosses a city."])
+    page.has([*now, "Basel crosses Bern."])
 
 
 def part_ask(page, place):
     browser = page.browser
-    browser.go("about:blank")
-    browser.go(place.address + "#/ask")
+    page.open("#/ask")
     browser.until(lambda: browser.find(".next"), "the editor")
     page.settled()
     page.type("Which rivers cross a city?")
@@ -466,78 +491,105 @@ def part_ask(page, place):
     page.type("Bern is a city.")
     browser.keys("Enter")
     page.notice("This is a statement and no question")
+    browser.keys("Escape")
 
 
 def part_map(page, place):
     browser = page.browser
-    browser.go("about:blank")
-    browser.go(place.address + "#/map")
-    browser.until(lambda: browser.find("svg .isa"), "the drawing")
+    page.open("#/map")
+    page.drawn()
     drawn = {kind: browser.script("return [...document.querySelectorAll(arguments[0])].map((it) => it.textContent)", kind)
              for kind in (".class-name", ".chip-name", ".relation-name")}
     expect("classes", sorted(drawn[".class-name"]), ["city", "in no class", "place", "river"])
     expect("names", sorted(drawn[".chip-name"]), ["Aare", "Basel", "Bern"])
     expect("relations", drawn[".relation-name"], ["cross"])
+    expect("the hierarchy", len(browser.find("svg .isa")), 1)
     reads = len(place.between.seen_of("axioms"))
     browser.button("Read again")
-    browser.until(lambda: browser.find("svg .isa") and not browser.find("progress"), "the drawing again")
+    page.drawn()
     expect("axioms are kept", len(place.between.seen_of("axioms")), reads)
-    browser.script("document.querySelector('svg a[href=\"#/article/Aare\"]').focus()")
-    browser.keys("Enter")
+    browser.click('svg a[href="#/article/Aare"] text')
     page.has(["Aare is a river.", "Aare crosses Bern.", "Aare is a city."])
 
 
 def part_keyboard(page, place):
-    """Writes, edits, retracts, removes and asks by the keyboard alone, from the first page on."""
+    """Adds a word, writes, edits, inserts, retracts, reasserts, removes and asks by the keyboard alone, from the first page on."""
     browser = page.browser
     page.words()
     browser.script("document.activeElement.blur()")
+    page.to("Filter")
+    browser.keys("rive")
+    page.to("Singular")
+    browser.keys("lake", "Enter")
+    page.notice("Added ")
+    page.to("Add the word")
     browser.keys("/", "Basel", "Enter")
     page.has(["A river crosses a city."])
-    to(page, "Write a sentence")
+    page.to("Write a sentence")
     browser.keys("Enter")
     page.settled()
     page.type("Basel is a city.")
     browser.keys("Enter")
     page.has(["A river crosses a city.", "Basel is a city."])
+    not_trapped(page)
     browser.keys("Escape")
-    to(page, "Actions", 2)
+    page.to("Actions", 2)
     browser.keys("Enter")
-    to(page, "Retract")
+    page.to("Retract")
     browser.keys("Enter")
     browser.until(lambda: page.statuses()[1] == "retracted", "a retracted sentence")
-    to(page, "Actions")
+    page.to("Actions")
+    browser.keys("Enter")
+    page.to("Reassert")
+    browser.keys("Enter")
+    browser.until(lambda: page.statuses()[1] == "asserted", "a sentence taken up again")
+    page.to("Actions")
     browser.keys("Enter", "Enter")
     page.settled()
     page.type("Backspace", "Backspace", "place.")
     browser.keys("Enter")
     page.has(["A river crosses a city.", "Basel is a place."])
-    to(page, "Actions")
+    page.to("Actions")
     browser.keys("Enter")
-    to(page, "Remove")
+    page.to("Insert before")
     browser.keys("Enter")
-    page.has(["A river crosses a city."])
-    to(page, "Ask a question")
+    page.type("Basel is a lake.")
+    browser.keys("Enter")
+    page.has(["A river crosses a city.", "Basel is a lake.", "Basel is a place."])
+    page.to("Actions")
+    browser.keys("Enter")
+    page.to("Remove")
+    browser.keys("Enter")
+    page.has(["A river crosses a city.", "Basel is a place."])
+    page.to("Ask a question")
     browser.keys("Enter")
     page.settled()
     page.type("What crosses Bern?")
     browser.keys("Enter")
-    page.has(["A river crosses a city.", "What crosses Bern?"])
+    page.has(["A river crosses a city.", "Basel is a place.", "What crosses Bern?"])
     browser.until(lambda: browser.texts(".answers a") == ["Aare"], "the answer")
-    names = around(page)
-    expect("the keyboard gets round the page", len(names) > 10, True)
+    expect("the keyboard gets round the page", len(around(page)) > 10, True)
 
 
-def to(page, label, times=1):
-    """Presses Tab until what has the focus has this text, so many times."""
-    for _ in range(120):
-        page.browser.keys("Tab")
-        shown = page.browser.script("const it = document.activeElement; return it.matches('button, a') ? it.innerText.trim() : ''")
-        if label in shown.split("\n"):
-            times -= 1
-            if times == 0:
-                return
-    raise Failed(f"Tab doesn't come to {label}")
+def not_trapped(page):
+    """The editor's field is left by Tab where it is empty or holds what can't be taken, and by Shift and Tab always."""
+    browser = page.browser
+    for typed in ("", "qqq"):
+        page.type(typed) if typed else None
+        expect("the field", page.focused(), "Next word")
+        browser.keys("Tab")
+        expect("Tab leaves it", page.focused() == "Next word", False)
+        browser.chord("Shift", "\ue004")
+        expect("and comes back", page.focused(), "Next word")
+        browser.chord("Shift", "\ue004")
+        expect("Shift and Tab leave it", page.focused() == "Next word", False)
+        browser.keys("Tab")
+    page.type("Escape")
+    page.type("cit")
+    browser.chord("Shift", "\ue004")
+    expect("Shift and Tab leave a filter", page.focused() == "Next word", False)
+    browser.keys("Tab")
+    page.type("Escape")
 
 
 def around(page):
@@ -553,262 +605,39 @@ def around(page):
     raise Failed(f"the focus doesn't come round: {seen[-5:]}")
 
 
-STATUSES = [(401, "You are not signed in"), (403, "The server doesn't let you do this"), (429, "Too many requests"), (502, "can't reach the wiki"),
-            (503, "too many visitors"), (504, "took too long")]
+def parts_of(names):
+    return {name[5:]: part for name, part in names.items() if name.startswith("part_")}
 
 
-def part_errors(page, place):
-    browser, between = page.browser, place.between
-    page.article("Basel", ["A river crosses a city."])
-    for status, part in STATUSES:
-        between.meddle = lambda request, status=status: response(status, "<p>no</p>") if request["do"] == "remove" else None
-        page.act(0, "Remove")
-        page.notice(part)
-        if status >= 500:
-            page.notice("so the change was not done")
-        browser.script("document.querySelectorAll('#notices .close').forEach((it) => it.click())")
-    between.meddle = lambda request: response(200, "<p>Sign in</p>") if request["do"] == "remove" else None
-    page.act(0, "Remove")
-    page.notice("is no answer of the wiki")
-    tries = len(between.seen_of("remove"))
-    expect("a change is sent once", tries, len(STATUSES) + 1)
-    failures = [503, 429]
-    between.meddle = lambda request: response(failures.pop(), "<p>no</p>") if request["do"] == "words" and failures else None
-    page.words()
-    expect("a read is sent again", failures, [])
-    between.meddle = lambda request: time.sleep(7) if request["do"] == "words" else None
-    browser.go("about:blank")
-    browser.go(place.address)
-    browser.until(lambda: "Waiting for the wiki" in " ".join(browser.texts("#waiting")), "that it waits")
-    browser.button("Stop waiting")
-    page.notice("not waited for any longer")
-    between.meddle = None
-    refused(page, place)
+GROUPS = {"acts": parts_of(globals()), "bad": parts_of(vars(client_bad)), "looks": parts_of(vars(client_looks))}
+PARTS = {name: part for group in GROUPS.values() for name, part in group.items()}
 
 
-def refused(page, place):
-    """Each refusal of the wiki is a sentence of its own."""
-    names = ["BadRequest", "NoWord", "BadForm", "Taken", "Reserved", "NoPlace", "NoSession", "Full", "Stale", "NotOffered", "Nothing",
-             "Unfinished", "NotSentence", "InUse", "Breaks", "BadStatus"]
-    told = page.browser.wait_script("""const { explain } = await import('/editor/refusals.js');
-        const { Trouble } = await import('/editor/api.js');
-        const reply = { text: 'fish', word: 'fish', which: 1, length: 1, limit: 5, article: 'fish', at: 0, status: 'asserted' };
-        return given[0].map((name) => document.createElement('p').appendChild(document.createElement('span')) && explain(new Trouble('refused', 'read',
-            { status: 409, reply: { ...reply, name } })).flat(9).map((it) => it.textContent || it).join(''));""", names)
-    if len(set(told)) != len(names) or any(not text.endswith(".") or "refused this" in text for text in told):
-        raise Failed(f"refusals as sentences: {told}")
-
-
-def part_restart(page, place):
-    """The program stops and starts again under an open page."""
-    browser = page.browser
-    page.article("Basel", ["A river crosses a city."])
-    page.editor()
-    page.type("Basel is a city.")
-    journal = place.wiki.kill()
-    browser.keys("Enter")
-    page.notice("can't reach the wiki")
-    browser.until(lambda: browser.find(".lost"), "that the wiki doesn't answer", 40)
-    fresh = Wiki(sys.argv[1], lines() + journal, errors=subprocess.DEVNULL)
-    place.wiki, place.between.wiki = fresh, fresh
-    browser.until(lambda: not browser.find(".lost"), "the wiki again", 60)
-    expect("what was typed is there", page.typed(), "Basel is a city.|")
-    browser.script("document.querySelector('.next').focus()")
-    browser.keys("Enter")
-    page.has(["A river crosses a city.", "Basel is a city."])
-
-
-def part_bad(page, place):
-    """Words that are no good keys, long ones, other directions and letters; many sentences; many words."""
-    browser = page.browser
-    odd = ["constructor", "toString", "w" * 64, "\u05e9\u05dc\u05d5\u05dd", "\u0628\u062d\u0631", "he\u0301", "__proto__"]
-    odd = [it for it in odd if place.ask(do="word", kind="noun", forms=[it, it + "x" if len(it) < 60 else "v" * 64]).get("done")]
-    for word in odd:
-        place.ask(do="add", article=word, text=f"Bern is not a {word}.")
-    page.words()
-    expect_in("a word that objects have", "constructor", browser.texts(".kind li"))
-    expect("no word makes the page wider", browser.script("return document.documentElement.scrollWidth <= innerWidth"), True)
-    for word in odd:
-        page.article(word, [f"Bern is not a {word}."])
-        expect("links of its sentence", browser.texts(".text a"), ["Bern", word])
-    page.editor()
-    page.type("Every constructor is a toString.")
-    expect("odd words typed", page.typed(), "Every constructor is a toString.|")
-    browser.keys("Enter")
-    browser.until(lambda: "Every constructor is a toString." in page.sentences(), "the sentence")
-    many(page, place)
-
-
-# Of each key the least time of five, since a busy machine makes single ones longer.
-MEASURE = """const input = document.querySelector(arguments[0]); const times = arguments[1].map(() => Infinity);
-    for (let round = 0; round < 5; round += 1) {
-        arguments[1].forEach((text, place) => {
-            const begun = performance.now(); input.value = text; input.dispatchEvent(new Event('input')); document.body.offsetHeight;
-            times[place] = Math.min(times[place], performance.now() - begun); }); }
-    return times"""
-
-
-def quick(where, times):
-    print(f"client: a key in {where} takes {max(times):.0f} ms at most")
-    if max(times) > 50:
-        raise Failed(f"a key in {where} takes more than 50 ms")
-
-
-def many(page, place):
-    """The most words and sentences that a wiki can have; what the wiki would tell of them is told in its place."""
-    browser = page.browser
-    names = ["word" + "".join("abcdefghij"[int(digit)] for digit in str(number)) for number in range(4900)]
-    words = [{"kind": "name", "forms": [name]} for name in names] + [{"kind": "noun", "forms": ["city", "cities"]}]
-    sentences = [{"status": "asserted", "text": f"{names[number]} is a city."} for number in range(2000)]
-    menu = {"adjective": [], "function": ["a", "every"], "name": names, "noun": [], "of": [], "verb": []}
-    replies = {"words": {"done": "words", "words": words}, "read": {"done": "read", "revision": 2000, "sentences": sentences},
-               "parse": {"k": 0, "menu": menu, "name": "NotSentence", "refused": 12}}
-    place.between.meddle = lambda request: response(200, json.dumps(replies[request["do"]]), "application/json") if request["do"] in replies else None
-    page.words()
-    typed = ["w", "wo", "wor", "word", "worda", "wordaa", "word", ""]
-    times = browser.script(MEASURE, "#filter", typed)
-    quick(f"the filter of {len(words)} words", times)
-    times = browser.script(MEASURE, "#open-word", typed)
-    quick("the field above", times)
-    begun = time.time()
-    browser.go(place.address + "#/article/city")
-    browser.until(lambda: browser.script("return document.querySelectorAll('.sentence').length") == 2000, "2,000 sentences", 60)
-    print(f"client: an article of 2,000 sentences is there after {time.time() - begun:.1f} s")
-    page.editor()
-    times = browser.script(MEASURE, ".next", typed)
-    quick("the editor", times)
-
-
-def part_large(page, place):
-    """A map of 300 words and 600 sentences. What the wiki would tell is told in its place, so the time is that of the page alone."""
-    spelled = ["".join("abcdefghij"[int(digit)] for digit in f"{number:03d}") for number in range(190)]
-    nouns, names, verbs = [f"noun{it}" for it in spelled[:90]], [f"Name{it}" for it in spelled], [f"verb{it}" for it in spelled[:20]]
-    axioms = {noun: [f"SubClassOf(:{noun} :{nouns[number // 3]})"] for number, noun in enumerate(nouns) if number}
-    for number, name in enumerate(names):
-        axioms[name] = [f"ClassAssertion(:{nouns[number * 7 % 90]} :{name})", f"ObjectPropertyAssertion(:{verbs[number % 20]} :{name} :{names[number * 13 % 190]})"]
-        axioms[name] += [f"ObjectPropertyAssertion(:{verbs[number % 7]} :{name} :{names[number * 11 % 190]})"] if number < 131 else []
-    words = [{"kind": kind, "forms": [form] * count} for kind, forms, count in (("noun", nouns, 2), ("name", names, 1), ("verb", verbs, 3)) for form in forms]
-
-    def told(request):
-        mine = axioms.get(request.get("article"), [])
-        replies = {"words": {"words": words}, "axioms": {"axioms": mine[request.get("at", 0):][:1]},
-                   "read": {"revision": len(mine), "sentences": [{"status": "asserted", "text": "Bern is a city."} for _ in mine]}}
-        return response(200, json.dumps({"done": request["do"], **replies[request["do"]]}), "application/json")
-
-    place.between.meddle = told
-    page.browser.go("about:blank")
-    begun = time.time()
-    page.browser.go(place.address + "#/map")
-    page.browser.until(lambda: page.browser.find("svg .isa"), "the drawing", 90)
-    asked = len(place.between.seen)
-    print(f"client: a map of {len(words)} words and {sum(map(len, axioms.values()))} sentences is there after {time.time() - begun:.1f} s and {asked} requests")
-    expect_in("what is drawn", "90 classes, 190 names, 321 relations", " ".join(page.browser.texts("[role=status]")))
-    crossing = page.browser.script("""const boxes = [...document.querySelectorAll('.box')].map((it) => it.getBBox());
-        return boxes.filter((a, i) => boxes.some((b, j) => j > i && a.x < b.x + b.width && b.x < a.x + a.width && a.y < b.y + b.height && b.y < a.y + a.height)).length""")
-    expect("boxes that lie on each other", crossing, 0)
-    if len(sys.argv) > 2:
-        page.browser.picture(os.path.join(sys.argv[2], "client-large.png"))
-    page.browser.until(lambda: not page.browser.find("progress"), "the end of reading")
-    page.browser.button("Read again")
-    page.browser.until(lambda: page.browser.find("svg .isa") and not page.browser.find("progress"), "the drawing again", 90)
-    expect("axioms are kept", len(place.between.seen_of("axioms")), sum(map(len, axioms.values())))
-
-
-def part_frame(page, place):
-    """In a frame the page does nothing, and its policy keeps everything inline out."""
-    browser = page.browser
-    page.words()
-    browser.script("const it = document.createElement('iframe'); it.id = 'frame'; it.src = location.pathname; document.body.append(it)")
-    browser.until(lambda: "doesn't work inside another page" in browser.script(
-        "const it = document.querySelector('#frame').contentDocument; return it && it.body ? it.body.innerText : ''"), "a page that does nothing")
-    ran = browser.wait_script("""const it = document.createElement('script'); it.textContent = 'window.ran = true'; document.body.append(it);
-        await new Promise((resolve) => setTimeout(resolve, 100)); return window.ran === true""")
-    expect("an inline script", ran, False)
-    browser.go("about:blank")
-    browser.go(place.address + "#/article/" + urllib.parse.quote("<img src=x onerror=ran()>", safe=""))
-    page_text = browser.until(lambda: [it for it in browser.texts("main p") if "No word has the form" in it], "a word that isn't there")
-    expect_in("markup is text", "<img src=x onerror=ran()>", page_text[0])
-    expect("no markup of the address is in the page", len(browser.find("img")), 0)
-    foreign(place)
-
-
-def foreign(place):
-    """tools/client passes `Host` and `Origin` on as they came, so the wiki refuses what a page of another site sends."""
-    address = urllib.parse.urlparse(place.address)
-    for origin, wanted in ((f"http://{address.netloc}", b"200"), ("http://elsewhere", b"403"), ("null", b"403")):
-        with socket.create_connection((address.hostname, address.port), 30) as link:
-            head = f"POST /api HTTP/1.1\r\nHost: {address.netloc}\r\nOrigin: {origin}\r\nContent-Length: 14\r\nConnection: close\r\n\r\n"
-            link.sendall(head.encode() + b'{"do":"words"}')
-            expect(f"a request of {origin}", link.recv(65536).split(b" ")[1], wanted)
-
-
-LABELS = """return [...document.querySelectorAll('input, select, button, a, [role=option], [role=listbox], svg a, progress')].filter((it) => {
-    const name = it.getAttribute('aria-label') || (it.labels && [...it.labels].map((l) => l.textContent).join('')) || it.textContent || it.title;
-    return !name.trim(); }).map((it) => it.outerHTML.slice(0, 120))"""
-CONTRAST = """const light = (c) => { const [r, g, b] = c.match(/[\\d.]+/g).map((v) => v / 255).map((v) => (v <= 0.03928 ? v / 12.92 : ((v + 0.055) / 1.055) ** 2.4));
-        return 0.2126 * r + 0.7152 * g + 0.0722 * b; };
-    const ground = (it) => { for (let e = it; e; e = e.parentElement) { const c = getComputedStyle(e).backgroundColor; if (!/, 0\\)$/.test(c)) { return c; } } return 'rgb(255,255,255)'; };
-    return [...document.querySelectorAll('a, p, h1, h2, small, .status, button, label, .group-name')].filter((it) => it.offsetParent && it.textContent.trim()).map((it) => {
-        const [a, b] = [light(getComputedStyle(it).color), light(ground(it))].sort((x, y) => y - x); return [(a + 0.05) / (b + 0.05), it.className, it.textContent.slice(0, 30)]; })
-        .filter(([ratio]) => ratio < 4.5)"""
-
-
-def part_looks(page, place):
-    """Light and dark, wide and narrow: labels, contrast, no sideways scrolling. Pictures of each page."""
-    for scheme in ("light", "dark"):
-        for width, size in (("wide", (1100, 800)), ("narrow", (390, 800))):
-            page.browser.look(scheme, *size)
-            for name, show in PICTURED:
-                show(page, place)
-                expect(f"labels of {name}", page.browser.script(LABELS), [])
-                expect(f"contrast of {name}, {scheme}", page.browser.script(CONTRAST), [])
-                expect(f"{name} is no wider than a {width} screen", page.browser.script("return document.documentElement.scrollWidth <= innerWidth"), True)
-                if len(sys.argv) > 2:
-                    page.browser.picture(os.path.join(sys.argv[2], f"client-{name}-{scheme}-{width}.png"))
-
-
-def show_editor(page, place):
-    page.article("Aare", ["Aare is a river.", "Aare crosses Bern.", "Aare is a city."])
-    page.editor()
-    page.type("every river ")
-
-
-def show_article(page, place):
-    page.browser.go("about:blank")
-    page.article("Aare", ["Aare is a river.", "Aare crosses Bern.", "Aare is a city."])
-    page.act(2, "Details")
-    page.browser.until(lambda: page.browser.texts(".details code"), "details")
-
-
-def show_map(page, place):
-    page.browser.go(place.address + "#/map")
-    page.browser.until(lambda: page.browser.find("svg .isa"), "the drawing")
-
-
-PICTURED = [("words", lambda page, place: page.words()), ("article", show_article), ("editor", show_editor), ("map", show_map)]
-
-PARTS = {name[5:]: part for name, part in list(globals().items()) if name.startswith("part_")}
+def tell(name, error, browser):
+    print(f"client: {name}: {error}")
+    try:
+        print("client: the page showed:", " | ".join(browser.texts("body"))[:1500])
+        print("client: its console:", browser.logs()[-5:])
+        if "CLIENT_PICTURE" in os.environ:
+            browser.picture(os.environ["CLIENT_PICTURE"])
+    except (Failed, OSError):
+        pass
 
 
 def main():
-    driver = Driver()
-    places = []
+    driver, places, name = Driver(), [], "start"
     try:
         browser = Browser(driver)
-        for name in sys.argv[3:] or PARTS:
+        for name in sys.argv[3:] or GROUPS.get("".join(sys.argv[2:3])) or PARTS:
             begun = time.time()
             places.append(Place())
             PARTS[name](Page(browser, places[-1]), places[-1])
+            places.pop().stop()
             print(f"client: {name} is as it should be, in {time.time() - begun:.1f} s", flush=True)
         return 0
-    except Failed as error:
-        print(f"client: {name}: {error}")
-        try:
-            print("client: the page showed:", " | ".join(browser.texts("body"))[:1500])
-            print("client: its console:", browser.logs()[-5:])
-            browser.picture("/tmp/client-failed.png") if "CLIENT_PICTURE" in os.environ else None
-        except (Failed, OSError, UnboundLocalError):
-            pass
+    except (Failed, Closed) as error:
+        traceback.print_exc()
+        tell(name, error, browser)
         return 1
     finally:
         driver.stop()
@@ -816,4 +645,5 @@ def main():
             place.stop()
 
 
-sys.exit(main())
+if __name__ == "__main__":
+    sys.exit(main())

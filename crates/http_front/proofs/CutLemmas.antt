@@ -11,8 +11,7 @@ use Rattle.http_front.specs.declared.seen.Seen.TheVariants as seen
 use Rattle.http_front.specs.declared.seen.Begun.{Begun}
 use Rattle.http_front.specs.declared.seen.Begun.TheVariants as begun
 use Rattle.http_front.specs.declared.limits.TheConstants.{MOST_HEAD, MOST_FIELDS}
-use Rattle.http_front.specs.Asked.{asked}
-use Rattle.http_front.specs.Front.{refused, half_begun, begun_by_head, head_part, HasTooManyFields, IsNoHead, IsHalfHead, BeginsWith, Begins, Sees, seen_of, seen_after, seen_by}
+use Rattle.http_front.specs.Front.{refused, half_begun, begun_by_head, head_part, HasTooManyFields, IsNoHead, IsHalfHead, BeginsWith, Begins, Sees, seen_with, seen_after, seen_by}
 use Rattle.http_front.specs.Cuts.{HasHead, IsWaitOr, IsRefusedHead, IsCutAnywhere}
 use Rattle.http_front.proofs.HeadLemmas.{prefix_stays}
 
@@ -104,12 +103,12 @@ after_more head before more =
     ltb-false (length (drop head.start before)) head.length in
     choose (nat_lt (length before) head.start) (nat_lt (length (drop head.start before)) head.length) (nat_lt (length (before ++ more)) head.start)
     (nat_lt (length (drop head.start (before ++ more))) head.length)
-    (seen_of head.goal (asked head.goal head.word head.session (take head.length (drop head.start before))))
-    (seen_of head.goal (asked head.goal head.word head.session (take head.length (drop head.start (before ++ more)))))
+    (seen_with head.own head (take head.length (drop head.start before)))
+    (seen_with head.own head (take head.length (drop head.start (before ++ more))))
     (λ a. le-ltb (length (before ++ more)) head.start (omega (arith, there a, longer)))
     (λ a b. le-ltb (length (drop head.start (before ++ more))) head.length
     (omega (arith, whole b, ap length (body a), length-append (drop head.start before) more)))
-    (λ a b. ap (λ bs. seen_of head.goal (asked head.goal head.word head.session bs))
+    (λ a b. ap (seen_with head.own head)
     (sym (ap (take head.length) (body a) ∙ take-append-le head.length (drop head.start before) more (whole b))))
 
 seen_more : (b : Begun) (before more : List ℕ) → (seen_by b before ≡ seen.Wait) ⊎ (seen_by b before ≡ seen_by b (before ++ more))

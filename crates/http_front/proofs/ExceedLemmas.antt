@@ -9,11 +9,11 @@ use Rattle.httparse.specs.Grammar.{LineEnd, crlf, lf, print_end, print_blank, pr
 use Rattle.httparse.specs.Spans.{RequestExceeds}
 use Rattle.http_front.specs.Front.{newlines, is_line_end, after_blank}
 
-newlines-append : (xs ys : List ℕ) → newlines (xs ++ ys) ≡ newlines xs + newlines ys
+pub newlines-append : (xs ys : List ℕ) → newlines (xs ++ ys) ≡ newlines xs + newlines ys
 newlines-append [] ys = omega arith
 newlines-append (x ∷ xs) ys = omega (arith, newlines-append xs ys)
 
-newlines-end : (e : LineEnd) → newlines (print_end e) ≡ 1
+pub newlines-end : (e : LineEnd) → newlines (print_end e) ≡ 1
 newlines-end crlf = refl
 newlines-end lf = refl
 
@@ -52,7 +52,7 @@ newlines-start h =
 thirteen : (b : ℕ) → (b == 13) ≡ true → b ≡ 13
 thirteen b h = grind (arith, nat_tests)
 
-ten : (b : ℕ) → (b == 10) ≡ true → b ≡ 10
+pub ten : (b : ℕ) → (b == 10) ≡ true → b ≡ 10
 ten b h = grind (arith, nat_tests)
 
 either_end : (s t : Bool) (b : ℕ) → (s ≡ true → b ≡ 13) → (t ≡ true → b ≡ 10) → ((s || t) ≡ false) ⊎ ((b ≡ 13) ⊎ (b ≡ 10))
@@ -64,7 +64,7 @@ return_is_none : is_token_byte 13 ≡ true → ⊥
 unfolding is_token_byte
 return_is_none h = cc
 
-newline_is_none : is_token_byte 10 ≡ true → ⊥
+pub newline_is_none : is_token_byte 10 ≡ true → ⊥
 unfolding is_token_byte
 newline_is_none h = cc
 
@@ -74,10 +74,10 @@ token_byte_by b h (inr (inl e)) = absurd (return_is_none (sym (ap is_token_byte 
 token_byte_by b h (inr (inr e)) = absurd (newline_is_none (sym (ap is_token_byte e) ∙ h))
 
 -- no byte of a token ends a line
-token_byte : (b : ℕ) → is_token_byte b ≡ true → is_line_end b ≡ false
+pub token_byte : (b : ℕ) → is_token_byte b ≡ true → is_line_end b ≡ false
 token_byte b h = token_byte_by b h (either_end (b == 13) (b == 10) b (thirteen b) (ten b))
 
-after_blank-blank : (ends : List LineEnd) (b : ℕ) (bytes : List ℕ) → is_line_end b ≡ false → after_blank (print_blank ends ++ (b ∷ bytes)) ≡ b ∷ bytes
+pub after_blank-blank : (ends : List LineEnd) (b : ℕ) (bytes : List ℕ) → is_line_end b ≡ false → after_blank (print_blank ends ++ (b ∷ bytes)) ≡ b ∷ bytes
 after_blank-blank [] b bytes h = ap (λ t. if t then after_blank bytes else b ∷ bytes) h
 after_blank-blank (crlf ∷ ends) b bytes h = after_blank-blank ends b bytes h
 after_blank-blank (lf ∷ ends) b bytes h = after_blank-blank ends b bytes h
@@ -122,7 +122,7 @@ right_nested b m t v e s =
     ∙ append_assoc (b ++ m) t (v ++ (e ++ s))
     ∙ append_assoc b m (t ++ (v ++ (e ++ s)))
 
-print_request-is : (h : RequestHead) → print_request h ++ [] ≡ print_blank h.blank ++ (h.method ++ start_of h)
+pub print_request-is : (h : RequestHead) → print_request h ++ [] ≡ print_blank h.blank ++ (h.method ++ start_of h)
 unfolding print_request
 print_request-is h = right_nested (print_blank h.blank) h.method (space ∷ h.target) (space ∷ print_version h.minor) (print_end h.line_end)
     (print_section h.fields h.last)

@@ -1,6 +1,7 @@
 -- What is known of a head that was read, and that it is read again in what comes later.
-use Rattle.std.proofs.Common.{◌≡◌, ◌⊎◌, ℕ, zero, suc, ◌≤◌, List, [], ◌∷◌, ◌++◌, Bool, true, false, length, take, drop, map, refl, sym, ap, ◌∙◌, subst, arith, inl, inr, Option, Ok, take_all}
+use Rattle.std.proofs.Common.{◌≡◌, ◌⊎◌, ℕ, zero, suc, ◌+◌, ◌<◌, ◌≤◌, List, [], ◌∷◌, ◌++◌, Bool, true, false, length, take, drop, map, refl, sym, ap, ◌∙◌, subst, arith, inl, inr, Option, Ok, take_all}
 use Rattle.std.proofs.lemmas.List.{length-map, length-take-le}
+use Rattle.std.proofs.lemmas.Bool.{cases_lt}
 use Rattle.matchit.proofs.ConflictLemmas.{head-of, tail-of}
 use Rattle.std.specs.Prelude.{if◌then◌else◌, nat_lt, IsUtf8}
 use Rattle.httparse.specs.declared.spans.HeaderSpan.{HeaderSpan}
@@ -8,8 +9,8 @@ use Rattle.httparse.specs.declared.spans.RequestSpans.{RequestSpans}
 use Rattle.httparse.specs.Grammar.{RequestHead, print_request, ReadsRequest, HasNoRequest, NeverHasRequest, MayBecomeRequest}
 use Rattle.httparse.specs.Spans.{span_bytes, header_bytes, name_and_value, IsRequestWithin, IsRequestAt, IsRequestOf, RequestOverflows, RequestExceeds}
 use Rattle.httparse.specs.declared.Status.{Status}
-use Rattle.httparse.specs.declared.Status.TheVariants.{Complete}
-use Rattle.httparse.specs.Outcome.{IfComplete}
+use Rattle.httparse.specs.declared.Status.TheVariants.{Complete, Partial}
+use Rattle.httparse.specs.Outcome.{IfComplete, OnPartial}
 use Rattle.http_front.specs.declared.seen.Head.{Head}
 use Rattle.http_front.specs.declared.goals.Verb.{Verb}
 use Rattle.http_front.specs.declared.seen.Seen.{Seen}
@@ -17,8 +18,9 @@ use Rattle.http_front.specs.declared.seen.Seen.TheVariants as seen
 use Rattle.http_front.specs.declared.seen.Begun.{Begun}
 use Rattle.http_front.specs.declared.seen.Begun.TheVariants as begun
 use Rattle.http_front.specs.declared.limits.TheConstants.{MOST_HEAD, MOST_FIELDS}
-use Rattle.http_front.specs.Front.{refused, half_begun, begun_of, begun_by_head, head_part, IsNoHead, IsHalfHead, BeginsWith, Begins, Sees, seen_after}
+use Rattle.http_front.specs.Front.{refused, half_begun, begun_of, begun_by_head, head_part, newlines, after_blank, IsNoHead, IsHalfHead, BeginsWith, Begins, Sees, seen_after}
 use Rattle.http_front.proofs.ExceedLemmas.{exceeds_newlines}
+use Rattle.http_front.proofs.LineLemmas.{many_fields}
 
 -- so few bytes are all of the bytes in which the head must end
 pub short_part : (bytes : List ℕ) → length bytes ≤ MOST_HEAD → bytes ≡ head_part bytes
@@ -73,14 +75,25 @@ begins_whole bytes part method target headers spans r begun is room cut by at wi
 pub of_complete : {A : Type 0} (E : Type 0) (P : A → Type 0) (s : Status A) (x : A) → s ≡ Complete x → IfComplete {A = A} {E = E} (Ok s) P → P x
 of_complete {A} E P s x is h = subst (λ t. IfComplete {A = A} {E = E} (Ok t) P) is h
 
+-- what holds of an answer that isn't
+pub of_partial : {A : Type 0} (E : Type 0) (P : Type 0) (s : Status A) → s ≡ Partial → OnPartial {A = A} {E = E} (Ok s) P → P
+of_partial {A} E P s is h = subst (λ t. OnPartial {A = A} {E = E} (Ok t) P) is h
+
 -- a target that was read is a text
 pub target_text : (part target : List ℕ) (headers : List HeaderSpan) (r : RequestSpans) → target ≡ span_bytes part r.path → IsRequestOf part headers r
     → IsUtf8 target
 target_text part target headers r at whole = subst IsUtf8 (sym (at ∙ whole.1.path)) whole.1.reads.0.target_text
 
-pub begins_half : (bytes part : List ℕ) (begun : Begun) → part ≡ head_part bytes → HasNoRequest part → MayBecomeRequest part → begun ≡ half_begun (length bytes)
+-- no whole head has come: half of one, or one with too many fields
+pub begins_part : (bytes part : List ℕ) (begun : Begun) → part ≡ head_part bytes → HasNoRequest part → MayBecomeRequest part
+    → (MOST_FIELDS + 2 ≤ newlines (after_blank part) → begun ≡ refused 400)
+    → (newlines (after_blank part) < MOST_FIELDS + 2 → begun ≡ half_begun (length bytes))
     → Begins bytes begun
-begins_half bytes part begun is none may told = inr (inl (subst IsHalfHead is (none, may), told))
+begins_part bytes part begun is none may many few =
+    elim (cases_lt (newlines (after_blank part)) (MOST_FIELDS + 2)) [
+      | inl lines ↦ inr (inl (subst IsHalfHead is (none, may, lines), few lines))
+      | inr lines ↦ inl (subst IsNoHead is (inr (many_fields part none may lines)), many lines)
+    ]
 
 pub begins_never : (bytes part : List ℕ) (begun : Begun) → part ≡ head_part bytes → NeverHasRequest part → begun ≡ refused 400 → Begins bytes begun
 begins_never bytes part begun is never told = inl (subst IsNoHead is (inl never), told)

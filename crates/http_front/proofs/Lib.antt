@@ -1,6 +1,7 @@
 pub mod ExceedLemmas
 pub mod FieldLemmas
 pub mod FormLemmas
+pub mod LineLemmas
 pub mod HeadLemmas
 pub mod OriginLemmas
 pub mod NumberLemmas

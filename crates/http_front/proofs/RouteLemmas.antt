@@ -8,7 +8,7 @@ use Rattle.matchit.specs.Route.{Scan, parse_route}
 use Rattle.matchit.specs.Router.{RouteOf, InsertsRead}
 use Rattle.matchit.specs.declared.error.InsertError.{InsertError}
 use Rattle.http_front.specs.declared.goals.Goal.{Goal}
-use Rattle.http_front.specs.Routes.{with_scan, with_route, segment_of}
+use Rattle.http_front.specs.Routes.{with_scan, with_route, segment_behind}
 
 inserted_by : (parsed : Result Scan InsertError) (goal : Goal) (old new : RowsOf (RouteOf Goal)) (u : Unit {0}) → InsertsRead parsed goal old new (Ok u)
     → new ≡ with_scan goal old parsed
@@ -23,9 +23,9 @@ unfolding with_route
 inserted path goal old new u h = inserted_by (parse_route path) goal old new u h
 
 -- a path that is too short has no segment
-pub short_segment : (path : List ℕ) → length path < 9 → segment_of path ≡ []
-unfolding segment_of
-short_segment path h = ap (before_first (λ b. b == 47)) (drop_all 9 path (omega (arith, h)))
+pub short_segment : (front : ℕ) (path : List ℕ) → length path < front → segment_behind front path ≡ []
+unfolding segment_behind
+short_segment front path h = ap (before_first (λ b. b == 47)) (drop_all front path (omega (arith, h)))
 
 -- what stands before the first question mark
 pub cut_cases : (text : List ℕ) (r : Option (Bor (List ℕ) × Bor (List ℕ))) → MatchOption r (position_or_len (λ b. b == 63) text ≡ length text)

@@ -5,7 +5,7 @@ use Rattle.wiki_talk.specs.declared.requests.Request.{Request}
 use Rattle.wiki_talk.specs.declared.requests.Request.TheVariants as requests
 use Rattle.wire_json.specs.Requests.{request_of}
 use Rattle.http_front.specs.declared.goals.Goal.{Goal}
-use Rattle.http_front.specs.declared.goals.Goal.TheVariants.{Index, NewWord, Line, Article, Session}
+use Rattle.http_front.specs.declared.goals.Goal.TheVariants.{Index, NewWord, Line, Article, Session, Editor, EditorFile}
 use Rattle.http_front.specs.declared.goals.OnArticle.{OnArticle}
 use Rattle.http_front.specs.declared.goals.OnArticle.TheVariants as on_article
 use Rattle.http_front.specs.declared.goals.InSession.{InSession}
@@ -60,10 +60,12 @@ session_asked in_session.Drop session body = Some (requests.Drop session, answer
 unfoldable pub line_asked : List ℕ → Option (Request × Then)
 line_asked body = option_map (λ request. (request, answers.Line)) (request_of body)
 
--- what a body asks at a path, of the word and the session that the path names
+-- what a body asks at a path, of the word and the session that the path names; at a path of the editor page nothing is asked
 abbrev pub asked : Goal → List ℕ → ℕ → List ℕ → Option (Request × Then)
 asked Index word session body = Some (requests.Words, answers.Page 0)
 asked NewWord word session body = word_asked body
 asked Line word session body = line_asked body
 asked (Article on_it) word session body = article_asked on_it word body
 asked (Session in_it) word session body = session_asked in_it session body
+asked Editor word session body = None
+asked EditorFile word session body = None

@@ -1,14 +1,17 @@
 -- The request of a connection's bytes (RFC 9112, with one request a connection and no transfer coding).
-use Rattle.std.specs.Prelude.{◌≡◌, ◌==◌, ◌≤◌, ◌+◌, ◌⊎◌, ◌||◌, ℕ, Bool, true, false, List, [], ◌∷◌, length, map, take, drop, if◌then◌else◌, nat_lt, Option, Some, None}
+use Rattle.std.specs.Prelude.{◌≡◌, ◌==◌, ◌≤◌, ◌+◌, ◌<◌, ◌⊎◌, ◌||◌, ℕ, Bool, true, false, List, [], ◌∷◌, length, map, take, drop, if◌then◌else◌, nat_lt, Option, Some, None, option_map}
 use Rattle.std.specs.Option.{option_map_or}
 use Rattle.std.specs.Str.{bytes_eq}
 use Rattle.httparse.specs.Grammar.{RequestHead, print_request, ReadsRequest, HasNoRequest, NeverHasRequest, MayBecomeRequest}
 use Rattle.httparse.specs.Spans.{name_and_value, RequestOverflows, RequestExceeds}
+use Rattle.editor_names.specs.Names.{file_named}
 use Rattle.wiki_talk.specs.declared.requests.Request.{Request}
 use Rattle.http_front.specs.declared.goals.Verb.{Verb}
 use Rattle.http_front.specs.declared.goals.Goal.{Goal}
-use Rattle.http_front.specs.declared.goals.Goal.TheVariants.{Line, Article, Session}
+use Rattle.http_front.specs.declared.goals.Goal.TheVariants.{Line, Article, Session, Editor, EditorFile}
 use Rattle.http_front.specs.declared.seen.Then.{Then}
+use Rattle.http_front.specs.declared.seen.Own.{Own}
+use Rattle.http_front.specs.declared.seen.Own.TheVariants as own
 use Rattle.http_front.specs.declared.seen.Seen.{Seen}
 use Rattle.http_front.specs.declared.seen.Seen.TheVariants as seen
 use Rattle.http_front.specs.declared.seen.Head.{Head}
@@ -17,7 +20,7 @@ use Rattle.http_front.specs.declared.seen.Begun.TheVariants as begun
 use Rattle.http_front.specs.declared.limits.TheConstants.{MOST_HEAD, MOST_BODY, MOST_FIELDS}
 use Rattle.http_front.specs.Numbers.{short_number}
 use Rattle.http_front.specs.Fields.{has_transfer_coding, is_bad_host, body_length, is_foreign}
-use Rattle.http_front.specs.Routes.{verb_of, verb_name, goal_at, path_of, segment_of}
+use Rattle.http_front.specs.Routes.{verb_of, verb_name, goal_at, path_of, segment_of, file_segment}
 use Rattle.http_front.specs.Forms.{decoded}
 use Rattle.http_front.specs.Asked.{asked}
 
@@ -37,11 +40,29 @@ abbrev pub session_in : Goal → List ℕ → Option ℕ
 session_in (Session in_it) segment = short_number (decoded segment)
 session_in other segment = Some 0
 
+-- the file that a path for this names, if a file of the editor page has its name; the way to the page names none
+abbrev pub own_in : Goal → List ℕ → Option (Option Own)
+own_in Editor segment = Some (Some own.Way)
+own_in EditorFile segment = option_map (λ file. Some (own.File file)) (file_named (decoded segment))
+own_in other segment = Some None
+
+-- the same where the session is known
+unfoldable pub begun_in : Goal → List ℕ → ℕ → ℕ → ℕ → Begun
+begun_in goal path session start length =
+    option_map_or (λ answer. begun.Head (record {
+      goal = goal;
+      word = word_in goal (segment_of path);
+      session = session;
+      own = answer;
+      start = start;
+      length = length;
+    }))
+    (own_in goal (file_segment path)) (refused 404)
+
 -- the head of a request for this, with its path, its number of bytes, and the length of its body
 unfoldable pub begun_for : Goal → List ℕ → ℕ → ℕ → Begun
 begun_for goal path start length =
-    option_map_or (λ session. begun.Head (record { goal = goal; word = word_in goal (segment_of path); session = session; start = start; length = length }))
-    (session_in goal (segment_of path)) (refused 400)
+    option_map_or (λ session. begun_in goal path session start length) (session_in goal (segment_of path)) (refused 400)
 
 -- the method must be that of the path
 unfoldable pub begun_by : Goal → List ℕ → List ℕ → ℕ → ℕ → Begun
@@ -92,9 +113,9 @@ HasTooManyFields bytes = RequestOverflows MOST_FIELDS bytes × RequestExceeds MO
 abbrev pub IsNoHead : List ℕ → Type 0
 IsNoHead bytes = NeverHasRequest bytes ⊎ HasTooManyFields bytes
 
--- these bytes begin with no head yet, but may when they go on
+-- these bytes begin with no head yet, but may when they go on, and fewer lines of it have come than make too many fields
 abbrev pub IsHalfHead : List ℕ → Type 0
-IsHalfHead bytes = HasNoRequest bytes × MayBecomeRequest bytes
+IsHalfHead bytes = HasNoRequest bytes × MayBecomeRequest bytes × (newlines (after_blank bytes) < MOST_FIELDS + 2)
 
 -- where half a head has come, more is waited for unless there are too many bytes already
 abbrev pub half_begun : ℕ → Begun
@@ -127,12 +148,17 @@ abbrev pub seen_of : Goal → Option (Request × Then) → Seen
 seen_of goal None = seen.Refuse 400 None (is_line goal)
 seen_of goal (Some request) = seen.Ask request.0 request.1
 
+-- the request with a head and a body: the program answers it by itself, or the wiki is asked
+abbrev pub seen_with : Option Own → Head → List ℕ → Seen
+seen_with (Some answer) head body = seen.Own answer
+seen_with None head body = seen_of head.goal (asked head.goal head.word head.session body)
+
 -- the request with a head, of the connection's bytes: it waits until the whole body is there, and what comes after isn't looked at
 unfoldable pub seen_after : Head → List ℕ → Seen
 seen_after head bytes =
     if nat_lt (length bytes) head.start then seen.Wait else (
     if nat_lt (length (drop head.start bytes)) head.length then seen.Wait else
-    seen_of head.goal (asked head.goal head.word head.session (take head.length (drop head.start bytes))))
+    seen_with head.own head (take head.length (drop head.start bytes)))
 
 -- what the bytes are, of what they are as a head
 abbrev pub seen_by : Begun → List ℕ → Seen

@@ -11,7 +11,7 @@ use Rattle.matchit.specs.declared.error.InsertError.{InsertError}
 use Rattle.http_front.specs.declared.goals.Verb.{Verb}
 use Rattle.http_front.specs.declared.goals.Verb.TheVariants.{Get, Post}
 use Rattle.http_front.specs.declared.goals.Goal.{Goal}
-use Rattle.http_front.specs.declared.goals.Goal.TheVariants.{Index, NewWord, Line, Article, Session}
+use Rattle.http_front.specs.declared.goals.Goal.TheVariants.{Index, NewWord, Line, Article, Session, Editor, EditorFile}
 use Rattle.http_front.specs.declared.goals.OnArticle.{OnArticle}
 use Rattle.http_front.specs.declared.goals.OnArticle.TheVariants as on_article
 use Rattle.http_front.specs.declared.goals.InSession.{InSession}
@@ -36,17 +36,21 @@ routes =
     ∷ (codes "/session/{n}/commit", Session in_session.Commit)
     ∷ (codes "/session/{n}/drop", Session in_session.Drop)
     ∷ (codes "/api", Line)
+    ∷ (codes "/editor", Editor)
+    ∷ (codes "/editor/{file}", EditorFile)
     ∷ []
 
 -- a row of a table, as a path and what it is for
 abbrev pub route_shown : Bor (List ℕ) × Goal → List ℕ × Goal
 route_shown row = (row.0.now, row.1)
 
--- pages are got, and all else is posted
+-- pages and files are got, and all else is posted
 abbrev pub verb_of : Goal → Verb
 verb_of Index = Get
 verb_of (Article on_article.Read) = Get
 verb_of (Session in_session.Menu) = Get
+verb_of Editor = Get
+verb_of EditorFile = Get
 verb_of other = Post
 
 abbrev pub verb_name : Verb → List ℕ
@@ -73,6 +77,14 @@ goal_at path = option_map (λ route. route.value) (first table path)
 unfoldable pub path_of : List ℕ → List ℕ
 path_of target = before_first (λ b. b == 63) target
 
+-- the segment behind so many bytes
+unfoldable pub segment_behind : ℕ → List ℕ → List ℕ
+segment_behind front path = before_first (λ b. b == 47) (drop front path)
+
 -- the segment behind `/article/` or `/session/`, which are equally long
 unfoldable pub segment_of : List ℕ → List ℕ
-segment_of path = before_first (λ b. b == 47) (drop 9 path)
+segment_of path = segment_behind 9 path
+
+-- the segment behind `/editor/`
+unfoldable pub file_segment : List ℕ → List ℕ
+file_segment path = segment_behind 8 path

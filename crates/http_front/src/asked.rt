@@ -14,7 +14,7 @@ use wire_json::read_request;
 // A request, and the response when it is done.
 pub(crate) type Asked = Option<(Request, Then)>;
 
-/// What a body asks at a path, of the word and the session that the path names.
+/// What a body asks at a path, of the word and the session that the path names. Nothing is asked at one of the editor page.
 pub(crate) fn asked(
     alloc: Global,
     goal: Goal,
@@ -30,6 +30,7 @@ pub(crate) fn asked(
         Goal::Line => line_asked(alloc, body),
         Goal::Article(on_it) => article_asked(alloc, on_it, word, body),
         Goal::Session(in_it) => session_asked(alloc, in_it, session, body),
+        Goal::Editor | Goal::EditorFile => Ok(None),
     }
 }
 

@@ -1,8 +1,8 @@
 // The front of the wiki: the request of a connection's bytes.
-ghost use Rattle.std.specs.Prelude.{◌≡◌, ◌≤◌, ◌++◌, List, ℕ, IfOk, All, length, map, IsUtf8};
+ghost use Rattle.std.specs.Prelude.{◌≡◌, ◌≤◌, ◌<◌, ◌+◌, ◌++◌, List, ℕ, IfOk, All, length, map, IsUtf8};
 ghost use Rattle.httparse.specs.Spans.{IsHeaderWithin, header_bytes};
 ghost use Rattle.http_front.specs.Routes.{table, path_of};
-ghost use Rattle.http_front.specs.Front.{refused, half_begun, word_in, session_in, begun_for, begun_by, begun_at, begun_with, begun_of, head_part, Begins, seen_of, seen_after, Sees, is_line};
+ghost use Rattle.http_front.specs.Front.{refused, half_begun, newlines, after_blank, word_in, session_in, own_in, begun_in, begun_for, begun_by, begun_at, begun_with, begun_of, head_part, Begins, seen_of, seen_with, seen_after, Sees, is_line};
 ghost use Rattle.http_front.specs.Cuts.{IsCutAnywhere};
 ghost use Rattle.http_front.specs.Forms.{decoded};
 
@@ -11,9 +11,11 @@ use crate::fields::{body_length, has_transfer_coding, is_bad_host, is_foreign};
 use crate::forms::decoded;
 use crate::goals::Goal;
 use crate::limits::{MOST_BODY, MOST_FIELDS, MOST_HEAD};
+use crate::lines::{after_blank, newlines};
 use crate::numbers::short_number;
-use crate::routes::{goal_at, path_of, router, segment_of};
-use crate::seen::{Begun, Head, Seen};
+use crate::routes::{file_segment, goal_at, path_of, router, segment_of};
+use crate::seen::{Begun, Head, Own, Seen};
+use editor_names::file_named;
 use httparse::spans::{EMPTY_HEADER_SPAN, HeaderSpan, parse_request};
 use httparse::{Error, Status};
 use matchit::Router;
@@ -61,7 +63,7 @@ impl Front {
     }
 
     /// What the bytes of a connection are, as a head alone.
-    #[tactic(auto, using(crate::proofs::HeadLemmas::begins_whole, crate::proofs::HeadLemmas::begins_half, crate::proofs::HeadLemmas::begins_never, crate::proofs::HeadLemmas::begins_exceeds, crate::proofs::HeadLemmas::target_text))]
+    #[tactic(auto, using(crate::proofs::HeadLemmas::begins_whole, crate::proofs::HeadLemmas::begins_never, crate::proofs::HeadLemmas::begins_exceeds, crate::proofs::HeadLemmas::target_text))]
     pub fn head_of(&self, bytes: &[u8]) -> Result<Begun, Memory>
         ensures { IfOk result (λ begun. Begins bytes.now begun) }
     {
@@ -75,7 +77,7 @@ impl Front {
                 let begun = self.begun_of(part, method, target, head.version, told, head.len)?;
                 Ok(begun)
             }
-            Ok(Status::Partial) => Ok(half_begun(bytes.len())),
+            Ok(Status::Partial) => Ok(part_begun(part, bytes.len())),
             Err(Error::TooManyHeaders) => Ok(refused(400)),
             Err(_) => Ok(refused(400)),
         }
@@ -102,14 +104,18 @@ impl Front {
         if body.len() < head.length {
             return Ok(Seen::Wait);
         }
+        self.seen_with(head, &body[..head.length])
+    }
+
+    // A whole request, by its head and its body.
+    fn seen_with(&self, head: &Head, body: &[u8]) -> Result<Seen, Memory>
+        ensures { IfOk result (λ seen. seen ≡ seen_with head.now.own head.now body.now) }
+    {
+        if let Some(own) = head.own {
+            return Ok(Seen::Own(own));
+        }
         let word = head.word.as_str();
-        let found = asked(
-            self.alloc,
-            head.goal,
-            word,
-            head.session,
-            &body[..head.length],
-        )?;
+        let found = asked(self.alloc, head.goal, word, head.session, body)?;
         Ok(seen_of(head.goal, found))
     }
 
@@ -189,6 +195,18 @@ fn head_part(bytes: &[u8]) -> &[u8]
     }
 }
 
+// Where no whole head has come: too many lines of it make too many fields, however they go on.
+fn part_begun(part: &[u8], come: usize) -> Begun
+    ensures many { MOST_FIELDS + 2 ≤ newlines (after_blank part.now) → result ≡ refused 400 }
+    ensures few { newlines (after_blank part.now) < MOST_FIELDS + 2 → result ≡ half_begun come }
+{
+    if newlines(after_blank(part)) < MOST_FIELDS + 2 {
+        half_begun(come)
+    } else {
+        refused(400)
+    }
+}
+
 fn half_begun(come: usize) -> Begun
     ensures { result ≡ half_begun come }
 {
@@ -240,17 +258,48 @@ fn begun_for(
 ) -> Result<Begun, Memory>
     ensures { IfOk result (λ begun. begun ≡ begun_for goal path.now start length) }
 {
-    let segment = segment_of(path);
-    let Some(session) = session_in(alloc, goal, segment)? else {
-        return Ok(refused(400));
+    match session_in(alloc, goal, segment_of(path))? {
+        Some(session) => begun_in(alloc, goal, path, session, start, length),
+        None => Ok(refused(400)),
+    }
+}
+
+#[tactic(auto, unfolding(crate::specs::Front::begun_in))]
+fn begun_in(
+    alloc: Global,
+    goal: Goal,
+    path: &[u8],
+    session: u32,
+    start: usize,
+    length: usize,
+) -> Result<Begun, Memory>
+    ensures { IfOk result (λ begun. begun ≡ begun_in goal path.now session start length) }
+{
+    let Some(own) = own_in(alloc, goal, file_segment(path))? else {
+        return Ok(refused(404));
     };
     Ok(Begun::Head(Head {
         goal,
-        word: word_in(alloc, goal, segment)?,
+        word: word_in(alloc, goal, segment_of(path))?,
         session,
+        own,
         start,
         length,
     }))
+}
+
+// What the program answers by itself at a path for this; `None` where it is for a file that isn't there.
+fn own_in(alloc: Global, goal: Goal, segment: &[u8]) -> Result<Option<Option<Own>>, Memory>
+    ensures { IfOk result (λ own. own ≡ own_in goal segment.now) }
+{
+    match goal {
+        Goal::Editor => Ok(Some(Some(Own::Way))),
+        Goal::EditorFile => match file_named(decoded(alloc, segment)?.as_bytes()) {
+            Some(file) => Ok(Some(Some(Own::File(file)))),
+            None => Ok(None),
+        },
+        _ => Ok(Some(None)),
+    }
 }
 
 fn word_in(alloc: Global, goal: Goal, segment: &[u8]) -> Result<Text8, Memory>

@@ -42,6 +42,10 @@ pub enum Goal {
     Line,
     Article(OnArticle),
     Session(InSession),
+    /// The way to the editor page.
+    Editor,
+    /// A file of the editor page.
+    EditorFile,
 }
 
 impl Verb {
@@ -66,8 +70,11 @@ impl Goal {
         ensures { result ≡ verb_of self }
     {
         match self {
-            Goal::Index | Goal::Article(OnArticle::Read) | Goal::Session(InSession::Menu) =>
-                Verb::Get,
+            Goal::Index
+            | Goal::Article(OnArticle::Read)
+            | Goal::Session(InSession::Menu)
+            | Goal::Editor
+            | Goal::EditorFile => Verb::Get,
             _ => Verb::Post,
         }
     }

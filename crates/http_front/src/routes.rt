@@ -2,7 +2,7 @@
 ghost use Rattle.std.specs.Prelude.{◌≡◌, IfOk, OnOk, ◌==◌, map, option_map, MatchOption};
 ghost use Rattle.std.specs.List.{before_first};
 ghost use Rattle.matchit.specs.Seek.{first};
-ghost use Rattle.http_front.specs.Routes.{route_shown, routes, with_route, table, goal_at, path_of, segment_of};
+ghost use Rattle.http_front.specs.Routes.{route_shown, routes, with_route, table, goal_at, path_of, segment_of, file_segment, segment_behind};
 
 use crate::goals::{Goal, InSession, OnArticle};
 use matchit::{InsertError, Router};
@@ -33,6 +33,8 @@ fn routes() -> &'static [(&'static str, Goal)]
         ("/session/{n}/commit", Goal::Session(InSession::Commit)),
         ("/session/{n}/drop", Goal::Session(InSession::Drop)),
         ("/api", Goal::Line),
+        ("/editor", Goal::Editor),
+        ("/editor/{file}", Goal::EditorFile),
     ]
 }
 
@@ -89,14 +91,30 @@ fn cut(target: &str) -> Option<(&str, &str)>
 }
 
 /// The segment behind `/article/` or `/session/`.
-#[tactic(auto, unfolding(crate::specs::Routes::segment_of), using(crate::proofs::RouteLemmas::short_segment))]
+#[tactic(auto, unfolding(crate::specs::Routes::segment_of))]
 pub fn segment_of(path: &[u8]) -> &[u8]
     ensures { result.now ≡ segment_of path.now }
 {
-    if path.len() < 9 {
+    segment_behind(path, 9)
+}
+
+/// The segment behind `/editor/`.
+#[tactic(auto, unfolding(crate::specs::Routes::file_segment))]
+pub fn file_segment(path: &[u8]) -> &[u8]
+    ensures { result.now ≡ file_segment path.now }
+{
+    segment_behind(path, 8)
+}
+
+// What stands behind so many bytes, up to a slash.
+#[tactic(auto, unfolding(crate::specs::Routes::segment_behind), using(crate::proofs::RouteLemmas::short_segment))]
+fn segment_behind(path: &[u8], front: usize) -> &[u8]
+    ensures { result.now ≡ segment_behind front path.now }
+{
+    if path.len() < front {
         return &[];
     }
-    before_slash(&path[9..])
+    before_slash(&path[front..])
 }
 
 // The bytes before the first slash, or all where there is none.

@@ -1,5 +1,6 @@
 // What is seen in the bytes of a connection.
 use crate::goals::{Goal, Verb};
+use editor_names::EditorFile;
 use wiki_base::Text8;
 use wiki_talk::Request;
 
@@ -18,6 +19,15 @@ pub enum Then {
     GoArticle,
 }
 
+/// What the program answers by itself, without asking the wiki.
+#[derive(Clone, Copy, Debug, PartialEq, Eq)]
+pub enum Own {
+    /// The way to the editor page.
+    Way,
+    /// A file of the editor page.
+    File(EditorFile),
+}
+
 /// What the bytes of a connection are so far.
 #[derive(Drop)]
 pub enum Seen {
@@ -30,7 +40,9 @@ pub enum Seen {
         allow: Option<Verb>,
         bad_line: bool,
     },
-    /// A request, and the response when it is done.
+    /// A request that the program answers by itself.
+    Own(Own),
+    /// A request to the wiki, and the response when it is done.
     Ask(Request, Then),
 }
 
@@ -43,6 +55,8 @@ pub struct Head {
     pub word: Text8,
     /// The session that its path names; 0 where it names none.
     pub session: u32,
+    /// What the program answers by itself; nothing where the wiki is asked.
+    pub own: Option<Own>,
     /// How many bytes the head has, behind which the body begins.
     pub start: usize,
     /// How many bytes the body has.

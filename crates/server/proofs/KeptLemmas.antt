@@ -85,7 +85,7 @@ closed_piece n piece (c ∷ kept) =
 -- a turn with a response
 pub kept_after_other : (n : ℕ) (piece : List ℕ) (turn : Turn) (kept : List Kept) → (turn ≡ turns.Wait → ⊥) → kept_after n piece turn kept ≡ closed n kept
 kept_after_other n piece turns.Wait kept not_wait = absurd (not_wait refl)
-kept_after_other n piece (turns.Refuse m response) kept not_wait = refl
+kept_after_other n piece (turns.Own m response) kept not_wait = refl
 kept_after_other n piece (turns.Ask m request answer) kept not_wait = refl
 
 -- ---- a piece that comes over the connection at a place

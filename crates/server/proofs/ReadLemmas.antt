@@ -31,11 +31,11 @@ seen_wait n bytes part b same begins is = record {
 
 pub seen_refusal : (n : ℕ) (bytes part : List ℕ) (b : Begun) (status : ℕ) (allow : Option Verb) (response : List ℕ) → part ≡ bytes → Begins part b
     → b ≡ begun.Refuse status allow
-    → response ≡ status_response status allow false → IsSeen n bytes (turns.Refuse n response)
+    → response ≡ status_response status allow false → IsSeen n bytes (turns.Own n response)
 seen_refusal n bytes part b status allow response same begins is told = record {
   seen = seen.Refuse status allow false;
   sees = sees_refusal bytes status allow (subst (λ bs. Begins bs (begun.Refuse status allow)) same (subst (λ x. Begins part x) is begins));
-  turn_is = ap (turns.Refuse n) told;
+  turn_is = ap (turns.Own n) told;
 }
 
 pub begins_head : (bytes part : List ℕ) (b : Begun) (head : Head) → part ≡ bytes → Begins part b → b ≡ begun.Head head → Begins bytes (begun.Head head)

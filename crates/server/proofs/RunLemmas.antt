@@ -53,7 +53,7 @@ own-piece m piece old turns.Wait own among_m keeps = λ n among. by_number m n (
     rw this (subst (λ k. bytes_of k (with_piece m piece old) ≡ own k ++ piece) is
     (bytes_of-piece m piece old among_m ∙ ap (λ bs. bs ++ piece) (keeps m among_m))))
     (λ other. rw other (bytes_of-other_piece n m piece old other ∙ keeps n (sym (ap (λ ns. is_among ns n) (numbers-piece m piece old)) ∙ among)))
-own-piece m piece old (turns.Refuse k response) own among_m keeps =
+own-piece m piece old (turns.Own k response) own among_m keeps =
     own-closed m old own (λ n. own_after n (own n) (Piece m piece)) (λ n other. rw other refl) keeps
 own-piece m piece old (turns.Ask k request answer) own among_m keeps =
     own-closed m old own (λ n. own_after n (own n) (Piece m piece)) (λ n other. rw other refl) keeps

@@ -10,6 +10,10 @@ use Rattle.wiki_talk.specs.Refusals.{title_of, bad_request}
 use Rattle.wire_json.specs.Replies.{reply_line}
 use Rattle.pages.specs.Pages.{page_of, refusal_page}
 use Rattle.http_front.specs.declared.goals.Verb.{Verb}
+use Rattle.editor_names.specs.Names.{content_type}
+use Rattle.editor_files.specs.Texts.{text_of}
+use Rattle.http_front.specs.declared.seen.Own.{Own}
+use Rattle.http_front.specs.declared.seen.Own.TheVariants as own
 use Rattle.http_front.specs.declared.seen.Then.{Then}
 use Rattle.http_front.specs.declared.seen.Then.TheVariants as answers
 use Rattle.http_front.specs.Routes.{verb_name}
@@ -102,3 +106,8 @@ status_response status allow bad_line = response_bytes status html (allow_line a
 -- so many connections are open already
 abbrev pub busy_response : List ℕ
 busy_response = status_response 503 None false
+
+-- the way to the editor page, or a file of it: the bytes that the table of files has for its name
+abbrev pub own_response : Own → List ℕ
+own_response own.Way = way_response (codes "/editor/index.html")
+own_response (own.File file) = response_bytes 200 (content_type file) [] (text_of file)

@@ -5,7 +5,7 @@ ghost use Rattle.server.specs.Responses.{status_response};
 ghost use Rattle.server.specs.Taking.{turn_of};
 ghost use Rattle.server.specs.Reading.{IsRead, IsSeen};
 
-use crate::responses::status_response;
+use crate::responses::{own_response, status_response};
 use crate::turns::Turn;
 use http_front::{Begun, Front, Head, Seen};
 use std::alloc::Global;
@@ -95,7 +95,7 @@ impl Connection {
                 head: None,
             }),
             Begun::Refuse { status, allow } => Ok(Reading {
-                turn: Turn::Refuse(self.number, status_response(alloc, status, allow, false)?),
+                turn: Turn::Own(self.number, status_response(alloc, status, allow, false)?),
                 head: None,
             }),
             Begun::Head(head) => {
@@ -119,7 +119,8 @@ fn turn_of(alloc: Global, number: u32, seen: Seen) -> Result<Turn, Memory>
             status,
             allow,
             bad_line,
-        } => Ok(Turn::Refuse(number, status_response(alloc, status, allow, bad_line)?)),
+        } => Ok(Turn::Own(number, status_response(alloc, status, allow, bad_line)?)),
+        Seen::Own(own) => Ok(Turn::Own(number, own_response(alloc, own)?)),
         Seen::Ask(request, then) => Ok(Turn::Ask(number, request, then)),
     }
 }

@@ -4,11 +4,12 @@ ghost use Rattle.std.specs.String.{string_bytes};
 ghost use Rattle.form_urlencoded.specs.Form.{byte_serialize};
 ghost use Rattle.http_front.specs.Forms.{article_path, session_path};
 ghost use Rattle.wire_json.specs.Replies.{reply_line};
-ghost use Rattle.server.specs.Responses.{phrase_of, html, json, response_bytes, page_response, line_response, way_response, refusal_status, refused_response, session_opened, article_grown, done_response, response_of, allow_line, status_page, status_response, busy_response};
+ghost use Rattle.server.specs.Responses.{phrase_of, html, json, response_bytes, page_response, line_response, way_response, refusal_status, refused_response, session_opened, article_grown, done_response, response_of, allow_line, status_page, status_response, busy_response, own_response};
 
+use editor_files::text_of;
 use form_urlencoded::byte_serialize;
 use http::StatusCode;
-use http_front::{Then, Verb};
+use http_front::{Own, Then, Verb};
 use pages::{page, refusal_page};
 use std::alloc::Global;
 use wiki_base::{Memory, Text8};
@@ -164,6 +165,16 @@ pub(crate) fn busy_response(alloc: Global) -> Result<Text8, Memory>
     ensures { IfOk result (λ response. response ≡ busy_response) }
 {
     status_response(alloc, 503, None, false)
+}
+
+/// The response that the program has without asking the wiki.
+pub(crate) fn own_response(alloc: Global, own: Own) -> Result<Text8, Memory>
+    ensures { IfOk result (λ response. response ≡ own_response own) }
+{
+    match own {
+        Own::Way => way_response(alloc, "/editor/index.html"),
+        Own::File(file) => response_bytes(alloc, 200, file.content_type(), "", text_of(file)),
+    }
 }
 
 fn status_page(alloc: Global, status: u16, bad_line: bool) -> Result<Text8, Memory>

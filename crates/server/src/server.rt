@@ -81,7 +81,7 @@ impl Server {
     {
         if self.kept.len() >= MOST_OPEN {
             let response = busy_response(self.alloc)?;
-            return Ok(Turn::Refuse(number, response));
+            return Ok(Turn::Own(number, response));
         }
         self.kept.push(Connection::new(self.alloc, number))?;
         Ok(Turn::Wait)

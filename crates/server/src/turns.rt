@@ -8,8 +8,8 @@ use wiki_talk::Request;
 pub enum Turn {
     /// Nothing is answered.
     Wait,
-    /// The response on a connection for which the wiki isn't asked.
-    Refuse(u32, Text8),
+    /// The program's own response on a connection, for which the wiki isn't asked.
+    Own(u32, Text8),
     /// A request to the wiki, and the response that its reply has when it is done.
     Ask(u32, Request, Then),
 }

@@ -346,7 +346,8 @@ fn tell_all<R: Print + CpuClock>(rt: &R, alloc: Global, timed: bool) -> Result<(
         let Named { text, base } = named;
         tell(rt, alloc, text, base, timed)?;
     }
-    Ok(())
+    let behind = hidden(alloc, 10_000)?;
+    tell(rt, alloc, "a clash behind 10,000 choices", behind, timed)
 }
 
 fn main(rt: HostRuntime) -> Result<(), Fault> {

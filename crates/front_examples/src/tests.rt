@@ -1,11 +1,14 @@
 // The statuses are those that docs/HTTP.md tells.
-use http_front::{Begun, Front, Seen, Then, Verb};
+use http_front::{Begun, Front, Own, Seen, Then, Verb};
 use std::alloc::Global;
 use std::test::Fail;
 use wiki_talk::Request;
 
 // What a request asks for stands for itself where it is whole.
 const ASKED: u16 = 200;
+
+// So does one that the program answers by itself.
+const OWN: u16 = 1;
 
 const WAITS: u16 = 0;
 
@@ -14,6 +17,7 @@ fn status(front: &Front, bytes: &[u8]) -> Result<u16, Fail> {
     match front.request_of(bytes)? {
         Seen::Wait => Ok(WAITS),
         Seen::Refuse { status, .. } => Ok(status),
+        Seen::Own(_) => Ok(OWN),
         Seen::Ask(_, _) => Ok(ASKED),
     }
 }
@@ -51,6 +55,51 @@ fn refusals_come_in_their_order(rt: HostRuntime) -> Result<(), Fail> {
     ] {
         assert_eq!(rt; status(&front, request.as_bytes())?, wanted);
     }
+    Ok(())
+}
+
+#[test]
+fn the_program_answers_at_paths_of_the_editor_page(rt: HostRuntime) -> Result<(), Fail> {
+    let front = Front::new(rt.alloc())?;
+    for (target, got, posted) in [
+        ("/editor", OWN, 405),
+        ("/editor?x", OWN, 405),
+        ("/editor/index.html", OWN, 405),
+        ("/editor/index%2Ehtml", OWN, 405),
+        ("/editor/index.html?x", OWN, 405),
+        ("/editor/", 404, 404),
+        ("/editor/../", 404, 404),
+        ("/editor/%2e%2e", 404, 405),
+        ("/editor/Index.html", 404, 405),
+    ] {
+        let request = format!(in rt.alloc(); "GET {target} HTTP/1.0\r\n\r\n")?;
+        assert_eq!(rt; status(&front, request.as_bytes())?, got);
+        let request = format!(in rt.alloc(); "POST {target} HTTP/1.0\r\n\r\n")?;
+        assert_eq!(rt; status(&front, request.as_bytes())?, posted);
+    }
+    match front.request_of(b"GET /editor/app.css HTTP/1.0\r\n\r\n")? {
+        Seen::Own(Own::File(file)) => assert_eq!(rt; file.name(), "app.css"),
+        _ => return Err(Fail::new("a file")),
+    }
+    // Its body is waited for, as any other.
+    let told = b"GET /editor HTTP/1.0\r\nContent-Length: 2\r\n\r\na";
+    assert_eq!(rt; status(&front, told)?, WAITS);
+    Ok(())
+}
+
+// 66 lines make 65 fields, which are too many whatever follows.
+#[test]
+fn half_a_head_with_too_many_fields_is_refused(rt: HostRuntime) -> Result<(), Fail> {
+    let front = Front::new(rt.alloc())?;
+    let mut head = String::from_str(rt.alloc(), "GET / HTTP/1.1\n")?;
+    for _ in 0..64 {
+        head.push_str("a:b\n")?;
+    }
+    assert_eq!(rt; status(&front, head.as_bytes())?, WAITS);
+    head.push_str("a:b")?;
+    assert_eq!(rt; status(&front, head.as_bytes())?, WAITS);
+    head.push_str("\n")?;
+    assert_eq!(rt; status(&front, head.as_bytes())?, 400);
     Ok(())
 }
 

@@ -199,10 +199,10 @@ fn unions(alloc: Global, count: u32) -> Result<Axioms, Fail> {
 }
 
 #[test]
-fn ten_thousand_choices_hide_no_clash(rt: HostRuntime) -> Result<(), Fail> {
+fn a_thousand_choices_hide_no_clash(rt: HostRuntime) -> Result<(), Fail> {
     let alloc = rt.alloc();
     let names = names_of(alloc, 1)?;
-    let axioms = unions(alloc, 10_000)?;
+    let axioms = unions(alloc, 1_000)?;
     assert!(rt; are_fit(&names, &axioms));
     let judged = verdict(alloc, axioms, &names, &bare(alloc)?, 1_000_000)?;
     assert!(rt; matches!(judged, Verdict::Inconsistent(_)));

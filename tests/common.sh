@@ -5,13 +5,16 @@
 export PYTHONDONTWRITEBYTECODE=1 no_proxy=127.0.0.1 NO_PROXY=127.0.0.1
 
 # shellcheck disable=SC2034
-commands_of_scripts='python3 cc curl chromium chromedriver'
+commands_of_scripts='python3 cc curl chromium chromedriver eslint nginx openssl git dpkg-deb xz'
 
 package_of() { # COMMAND
     case "$1" in
     cc) echo build-essential ;;
     chromedriver) echo chromium-driver ;;
+    dpkg-deb) echo dpkg ;;
     flock | setpriv) echo util-linux ;;
+    nginx) echo nginx-light ;;
+    xz) echo xz-utils ;;
     *) echo "$1" ;;
     esac
 }
@@ -33,6 +36,16 @@ needs() { # COMMAND..
         fi
         ;;
     esac
+}
+
+# Ends the script where Chromium is there but doesn't start on this machine, which is no fault of ours. From here on its HOME is
+# this folder, since a user's profile is neither needed nor touched.
+starts_chromium() { # FOLDER
+    export HOME="$1"
+    if ! timeout 60 chromium --headless=new --no-sandbox --disable-gpu --dump-dom about:blank >"$1/said" 2>&1; then
+        echo "$(basename "$0" .sh): Chromium is there but doesn't start on this machine: $(tail -n 1 "$1/said" | cut -c1-200)"
+        exit 78
+    fi
 }
 
 # Whether a process listens at a port of 127.0.0.1.

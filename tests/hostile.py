@@ -17,18 +17,26 @@ U32 = 4294967295
 TOKEN = rb"[!#$%&'*+.^_`|~0-9A-Za-z-]+"
 HEAD = re.compile(rb"(?:\r?\n)*(" + TOKEN + rb") ([!-~]+) HTTP/1\.([01])\r?\n((?:" + TOKEN + rb":[ -~\x80-\xff\t]*\r?\n)*)\r?\n")
 FIELD = re.compile(rb"(" + TOKEN + rb"):([ -~\x80-\xff\t]*)\r?\n")
+# So many lines make too many fields, whatever follows.
+TOO_MANY = re.compile(TOKEN + rb" [!-~]+ HTTP/1\.[01]\r\n(?:" + TOKEN + rb":[ -~\t]*\r\n){65}")
 ROUTES = [
     (rb"/", b"GET", {200}), (rb"/word", b"POST", {303, 409}), (rb"/api", b"POST", {200, 404, 409}),
     (rb"/article/[^/]+", b"GET", {200, 404}), (rb"/session/[^/]+", b"GET", {200, 404}),
     (rb"/article/[^/]+/(?:add|edit|remove|retract|reassert)", b"POST", {303, 404, 409}),
+    (rb"/editor", b"GET", {303}), (rb"/editor/[^/]+", b"GET", {200}),
     (rb"/article/[^/]+/open", b"POST", {303, 404, 409}), (rb"/session/[^/]+/(?:type|back|commit|refresh|drop)", b"POST", {303, 404, 409}),
 ]
+# The files of the editor page.
+FILES = {name.encode() for name in os.listdir(os.path.join(os.path.dirname(os.path.realpath(__file__)), "..", "client"))
+         if re.fullmatch(r"[a-z]+\.(?:html|css|js)", name)}
 NEEDS = {b"word": [b"kind", b"forms"], b"add": [b"text"], b"edit": [b"at", b"text"], b"remove": [b"at"], b"retract": [b"at"],
          b"reassert": [b"at"], b"type": [b"token"]}
 
 
 def expected(data):
     """The statuses that may answer these bytes where they are all that comes; WAIT among them where more may be waited for."""
+    if TOO_MANY.match(data[:16384]):
+        return {400}
     head = HEAD.match(data)
     if head is None or head.end() > 16384:
         strict = re.fullmatch(rb"(?:" + TOKEN + rb"(?: (?:[!-~]+(?: (?:H(?:T(?:T(?:P(?:/(?:1(?:\.(?:[01]\r?)?)?)?)?)?)?)?)?)?)?)?)?", data)
@@ -77,6 +85,8 @@ def after_head(head, body):
     segments = path.split(b"/")
     if segments[1] == b"session" and not is_number(decoded(segments[2])):
         return {400}
+    if segments[1] == b"editor" and len(segments) > 2 and decoded(segments[2]) not in FILES:
+        return {404}
     if len(body) < length:
         return {WAIT}
     return after_body(segments, body[:length], found[0][1])
@@ -235,6 +245,7 @@ FORMS = [
     ("/article/cat/remove", ["at=0", "at=00000000000", "at=", "", "a%74=0"]), ("/article/cat/retract", ["at=0", "at=9"]),
     ("/article/dog/reassert", ["at=0", "at=-1"]), ("/article/cat/open", [""]), ("/article/x%2fy/open", [""]),
     ("/session/1/type", ["token=no", "token=cat", "tok=en"]), ("/session/1/back", [""]), ("/session/2/commit", [""]),
+    ("/editor", [""]), ("/editor/app.js", ["", "text=a"]), ("/editor/none", [""]),
     ("/session/1/refresh", [""]), ("/session/1/drop", [""]), ("/session/x/drop", [""]), ("/session/4294967296/back", [""]), ("/none", [""])]
 
 
@@ -244,7 +255,8 @@ def some_http(draw):
     if kind == 0:
         method, path, body = "GET", draw.choice(["/", "/?a=b", "/article/cat", "/article/%63at", "/article/b%c3%a9", "/article/", "/session/1", "/session/a", "/none", "//",
                                            "/article/Ada", "/article/dog", "/article/%c3%a9", "/article/cat/", "/session/2", "/session/00000000001", "/article",
-                                           "/session/4294967295", "/session/99999999999", "/api/", "/word/", "*", "/article/a%2"]), b""
+                                           "/session/4294967295", "/session/99999999999", "/editor", "/editor?x", "/editor/", "/editor/../", "/editor/%2e%2e", "/editor/..",
+                                           "/editor/index.html", "/editor/index%2Ehtml", "/editor/Index.html", "/editor/app.js?x", "/editor/app.js/", "/api/", "/word/", "*", "/article/a%2"]), b""
     elif kind == 1:
         method, path, body = "POST", "/api", some_line(draw).replace(b"\xff", b"\xfe")
     else:

@@ -27,8 +27,16 @@ tools/believed --check || fail "docs/DEFINITIONS.md isn't what tools/believed li
 # The wiki, the server and the program are proved through the contracts of what they stand on alone.
 tools/imports || fail "a definition from inside the chart, the tableau or JSON is named"
 
+# The program serves the files of client/ as they are.
+tools/client --check >/dev/null || { tools/client --check | head -n 3; fail "the crates of the editor page aren't of client/"; }
+
 # No line of a definition, a proof or a clause is over 160 columns.
 tools/columns --check || fail "a line is too long"
+
+# A script that runs Python asks for it first, so that it is skipped where there is none.
+for script in $(grep -lE '(^|exec |timeout .*)python3 ' tests/*.sh); do
+    grep -qE '^needs? .*python3|command -v python3' "$script" || fail "$script runs python3 and doesn't ask for it (needs of tests/common.sh)"
+done
 
 # A reader of the repository has nothing but the repository.
 if command -v git >/dev/null 2>&1; then

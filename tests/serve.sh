@@ -47,7 +47,7 @@ wait_for_words() { # WHAT COUNT
         [ "$(grep -c . <<<"$told")" -ge "$2" ] && break
         sleep 0.05
     done
-    expect "$1" $'*AceWiki: * at http://127.0.0.1:+([0-9])/; end it with Ctrl-C' "$(cat errors)"
+    expect "$1" $'*AceWiki: * at http://127.0.0.1:+([0-9])/; the editor at http://127.0.0.1:+([0-9])/editor; end it with Ctrl-C' "$(cat errors)"
     port="${told##*127.0.0.1:}"
     port="${port%%/*}"
 }

@@ -1,6 +1,8 @@
 """Headless Chromium, driven through chromedriver by the protocol of W3C WebDriver, without libraries."""
 import base64, json, re, subprocess, time, urllib.error, urllib.request
 
+from running import started
+
 KEYS = {"Enter": "\ue007", "Tab": "\ue004", "Escape": "\ue00c", "Backspace": "\ue003", "Left": "\ue012", "Up": "\ue013",
         "Right": "\ue014", "Down": "\ue015", "Shift": "\ue008", "Control": "\ue009"}
 ELEMENT = "element-6066-11e4-a52e-4f735466cecf"
@@ -14,7 +16,7 @@ class Driver:
     """A chromedriver on a port that it found free."""
 
     def __init__(self):
-        self.process = subprocess.Popen(["chromedriver", "--port=0"], stdin=subprocess.DEVNULL, stdout=subprocess.PIPE, stderr=subprocess.DEVNULL, text=True)
+        self.process = started(["chromedriver", "--port=0"], stdin=subprocess.DEVNULL, stdout=subprocess.PIPE, stderr=subprocess.DEVNULL, text=True)
         told = next((found for found in map(re.compile(r"on port ([1-9]\d*)").search, self.process.stdout) if found), None)
         if told is None:
             raise Failed(f"chromedriver ended with status {self.process.wait()}")
@@ -45,18 +47,23 @@ class Driver:
 class Browser:
     """One browser with a profile of its own."""
 
-    def __init__(self, driver, size="1100,800", dark=False):
+    def __init__(self, driver, size="1100,800", dark=False, insecure=False):
         self.driver = driver
         args = ["--headless=new", "--no-sandbox", "--disable-gpu", "--disable-dev-shm-usage", "--disable-background-networking", f"--window-size={size}"]
         if dark:
             args.append("--force-dark-mode")
         options = {"args": args, "prefs": {"profile.default_content_setting_values.clipboard": 1}}
-        wanted = {"browserName": "chrome", "goog:chromeOptions": options, "goog:loggingPrefs": {"browser": "ALL"}, "unhandledPromptBehavior": "accept"}
+        wanted = {"browserName": "chrome", "goog:chromeOptions": options, "goog:loggingPrefs": {"browser": "ALL"}, "unhandledPromptBehavior": "accept",
+                  "acceptInsecureCerts": insecure}
         self.session = "/session/" + driver.call("POST", "/session", {"capabilities": {"alwaysMatch": wanted}})["sessionId"]
         driver.sessions.append(self.session)
 
     def call(self, method, path, body=None):
         return self.driver.call(method, self.session + path, body)
+
+    def close(self):
+        self.driver.call("DELETE", self.session)
+        self.driver.sessions.remove(self.session)
 
     def go(self, address):
         self.call("POST", "/url", {"url": address})
@@ -106,12 +113,53 @@ class Browser:
         order = [("keyDown", KEYS[held]), ("keyDown", key), ("keyUp", key), ("keyUp", KEYS[held])]
         self.call("POST", "/actions", {"actions": [{"type": "key", "id": "keys", "actions": [{"type": it, "value": value} for it, value in order]}]})
 
+    def cdp(self, command, **given):
+        return self.call("POST", "/goog/cdp/execute", {"cmd": command, "params": given})
+
+    def busy(self, action):
+        """How many milliseconds the page's own thread works while something is done."""
+        self.cdp("Performance.enable", timeDomain="threadTicks")
+        before = self.work()
+        action()
+        return 1000 * (self.work() - before)
+
+    def work(self):
+        return next(it["value"] for it in self.cdp("Performance.getMetrics")["metrics"] if it["name"] == "TaskDuration")
+
     def look(self, scheme, width, height):
-        """Takes a colour scheme and the size of a screen."""
-        media = {"features": [{"name": "prefers-color-scheme", "value": scheme}]}
-        self.call("POST", "/goog/cdp/execute", {"cmd": "Emulation.setEmulatedMedia", "params": media})
-        size = {"width": width, "height": height, "deviceScaleFactor": 1, "mobile": False}
-        self.call("POST", "/goog/cdp/execute", {"cmd": "Emulation.setDeviceMetricsOverride", "params": size})
+        """Takes a colour scheme and the size of a screen, and wants as little motion as can be."""
+        wanted = [{"name": "prefers-color-scheme", "value": scheme}, {"name": "prefers-reduced-motion", "value": "reduce"}]
+        self.cdp("Emulation.setEmulatedMedia", features=wanted)
+        self.cdp("Emulation.setDeviceMetricsOverride", width=width, height=height, deviceScaleFactor=1, mobile=False)
+
+    def offline(self, is_off):
+        """Takes the network away, or gives it back."""
+        conditions = {"offline": is_off, "latency": 0, "download_throughput": -1, "upload_throughput": -1}
+        self.call("POST", "/chromium/network_conditions", {"network_conditions": conditions})
+
+    def windows(self):
+        return self.call("GET", "/window/handles")
+
+    def window(self, handle):
+        self.call("POST", "/window", {"handle": handle})
+
+    def new_window(self):
+        """Opens a page in a window of its own, and goes there."""
+        handle = self.call("POST", "/window/new", {"type": "window"})["handle"]
+        self.window(handle)
+        return handle
+
+    def crash(self):
+        """Ends the process of the page, with all pages that it has."""
+        try:
+            self.cdp("Page.crash")
+        except (Failed, OSError):
+            pass
+
+    def enter(self, selector):
+        """Goes into a frame; without one, out of all."""
+        found = self.find(selector)[0] if selector else None
+        self.call("POST", "/frame", {"id": found})
 
     def until(self, test, what, seconds=30):
         """Waits until the test gives something, and returns that."""

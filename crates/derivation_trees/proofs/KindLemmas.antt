@@ -9,7 +9,7 @@ use Rattle.codeco_terms.specs.declared.categories.Ground.{Ground}
 use Rattle.scopes.specs.declared.agreement.Test.{Test}
 use Rattle.scopes.specs.Resolution.{agrees, has_value}
 use Rattle.derivation_trees.specs.Settings.{Setting, matches_preterminal}
-use Rattle.derivation_scenes.specs.Starts.{has_kind}
+use Rattle.derivation_trees.specs.Starts.{has_kind}
 
 some_named : (readings : List Ground) (asked : Test) → list_any (λ reading. agrees reading asked) readings ≡ true
     → list_any (λ reading. reading.name == asked.name) readings ≡ true

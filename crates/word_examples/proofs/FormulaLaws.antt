@@ -2,11 +2,11 @@
 use Rattle.std.proofs.Common.{◌≡◌, ℕ, Bool, not, nat_lt, List, sym, ap, ◌∙◌}
 use Rattle.std.specs.List.{list_all}
 use Rattle.std.proofs.lemmas.List.Folds.{list_all-map}
-use Rattle.list_examples.specs.Formula.{layer_is_true, is_true}
-use Rattle.list_examples.specs.declared.Formula.{Formula}
-use Rattle.list_examples.specs.declared.Formula.TheOpen as layers
-use Rattle.list_examples.specs.declared.Formula.TheVariants as formula
-use Rattle.list_examples.specs.declared.Formula.TheFolds.{fold-roll-Formula}
+use Rattle.word_examples.specs.Formula.{layer_is_true, is_true}
+use Rattle.word_examples.specs.declared.Formula.{Formula}
+use Rattle.word_examples.specs.declared.Formula.TheOpen as layers
+use Rattle.word_examples.specs.declared.Formula.TheVariants as formula
+use Rattle.word_examples.specs.declared.Formula.TheFolds.{fold-roll-Formula}
 
 pub is_true-Letter : (bound : ℕ) (letter : ℕ) → is_true bound (formula.Letter letter) ≡ nat_lt letter bound
 is_true-Letter bound letter =

@@ -1,9 +1,9 @@
 -- When a formula is true where the letters below a bound are.
 use Rattle.std.specs.Prelude.{ℕ, Bool, not, nat_lt}
 use Rattle.std.specs.List.{list_all}
-use Rattle.list_examples.specs.declared.Formula.{Formula}
-use Rattle.list_examples.specs.declared.Formula.TheOpen.{Formula-F, Letter, Not, And}
-use Rattle.list_examples.specs.declared.Formula.TheFolds.{fold-Formula}
+use Rattle.word_examples.specs.declared.Formula.{Formula}
+use Rattle.word_examples.specs.declared.Formula.TheOpen.{Formula-F, Letter, Not, And}
+use Rattle.word_examples.specs.declared.Formula.TheFolds.{fold-Formula}
 
 -- one layer, with the truth of each part in its place
 abbrev pub layer_is_true : ℕ → Formula-F Bool → Bool

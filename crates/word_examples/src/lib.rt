@@ -1,12 +1,21 @@
-//! How types are written with `List` and `Boxed`: plain ones, and a recursive one with a definition that follows it.
+//! Tests of lists, texts and words, and how types are written with `List` and `Boxed`: plain ones, and a recursive one with
+//! a definition that follows it.
 #![tactic(auto)]
 
 ghost use Rattle.std.specs.Prelude.{◌≡◌};
-ghost use Rattle.list_examples.specs.Formula.{is_true};
+ghost use Rattle.word_examples.specs.Formula.{is_true};
 
 use lists::{Boxed, Copied, List, Memory};
 
+#[cfg(test)]
+mod items;
+#[cfg(test)]
+mod live_words;
 mod plain;
+#[cfg(test)]
+mod suggestions;
+#[cfg(test)]
+mod texts;
 
 pub use plain::{Entries, Entry, add_word, copy_entries, sentence_count, words};
 

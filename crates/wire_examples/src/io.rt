@@ -164,9 +164,7 @@ fn script(alloc: Global) -> Result<VecDeque<Event>, Fail>
 }
 
 #[test]
-fn what_cant_come_is_left_out_and_calls_fail_by_their_numbers(
-    rt: HostRuntime,
-) -> Result<(), Fail> {
+fn what_cant_come_is_left_out_and_calls_fail_by_their_numbers(rt: HostRuntime) -> Result<(), Fail> {
     let alloc = rt.alloc();
     let mut fails = Fails::none(alloc);
     fails.next.push(2)?;

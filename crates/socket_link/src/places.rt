@@ -76,11 +76,6 @@ impl<S: Sockets> Places<S> {
         &self.sockets
     }
 
-    #[cfg(test)]
-    pub(crate) fn sockets_again(&mut self) -> &mut S {
-        &mut self.sockets
-    }
-
     pub(crate) fn listen(&mut self, address: &str) -> bool
         ensures events { S.events self.new.sockets ≡ S.events self.old.sockets }
     {

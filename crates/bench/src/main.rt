@@ -5,7 +5,7 @@
 mod choices;
 mod fault;
 mod grammar;
-mod lexicon;
+mod lookup;
 mod mapping;
 mod meaning;
 mod menu;
@@ -28,7 +28,7 @@ fn measure(rt: &HostRuntime, subject: &str, word: Option<&str>) -> Result<(), Fa
     let timed = word.is_some();
     match subject {
         "grammar" => grammar::measure(rt, timed),
-        "lexicon" => lexicon::measure(rt, timed),
+        "lexicon" => lookup::measure(rt, timed),
         "mapping" => mapping::measure(rt, timed),
         "meaning" => meaning::measure(rt, timed),
         "menu" => menu::measure(rt, timed),

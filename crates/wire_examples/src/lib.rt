@@ -2,13 +2,13 @@
 #![tactic(auto)]
 
 #[cfg(test)]
-mod articles;
-#[cfg(test)]
 mod io;
 #[cfg(test)]
 mod json;
 #[cfg(test)]
-mod pages;
+mod page_bytes;
+#[cfg(test)]
+mod revisions;
 #[cfg(test)]
 mod streams;
 #[cfg(test)]

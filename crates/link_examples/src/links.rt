@@ -78,7 +78,9 @@ pub(crate) fn answers<S: Sockets>(link: &mut SocketLink<S>) -> bool {
     }
 }
 
-fn response_to(piece: &[u8]) -> &'static [u8] {
+fn response_to(piece: &[u8]) -> &'static [u8]
+    ensures { 0 < length result.now }
+{
     if piece.starts_with(b"zero") {
         b"to zero"
     } else if piece.starts_with(b"one") {

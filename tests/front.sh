@@ -38,7 +38,8 @@ expect() { # WHAT WANTED GOT
 }
 
 if [ "${2:-}" != install ]; then
-    # What everybody can read, as the package has it.
+    # What everybody can read, as the package has it; tools/serve takes the program beside it.
+    unset ACEWIKI
     mkdir "$work/library"
     cp "$program" "$work/library/acewiki"
     cp -r "$root/tools" "$root/deploy" "$work/library/"

@@ -157,7 +157,9 @@ impl MemorySockets {
 }
 
 impl Sockets for MemorySockets {
-    ghost use Rattle.std.specs.Prelude.{None};
+    ghost use Rattle.std.specs.Prelude.{None, true};
+
+    ghost listens_at = { λ _ _. true };
 
     ghost events = { λ _. None };
 

@@ -9,6 +9,8 @@ use Rattle.wiki_io.specs.Link.{can_come, connections_after_all}
 use Rattle.wiki_io.specs.Memory.{one_more}
 
 pub record HeldLink : Type 0 where
+  -- it listens, at whatever address it was asked to
+  pub is_listening : Bool
   -- the scripted events that are left, and those that were handed in
   pub script : List Event
   pub handed : List Event
@@ -64,6 +66,7 @@ begins_well connections (event ∷ events) = can_come connections event
 
 -- these events were handed in, and nothing else has changed but the script
 pub record HandsIn (old : HeldLink) (events : List Event) (new : HeldLink) : Type 0 where
+  pub listening : new.is_listening ≡ old.is_listening
   pub handed : new.handed ≡ old.handed ++ events
   pub connections : new.connections ≡ connections_after_all old.connections events
   pub sent : new.sent ≡ old.sent

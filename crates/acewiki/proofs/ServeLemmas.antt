@@ -290,10 +290,9 @@ Serves-link first last address most stepped outcome before after done input serv
     subst (λ (o : Outcome). StepsInput first before.input.bytes o after.input.bytes last) done input in
     elim serves [
       | inl heard ↦
-          let served = heard.1 in
-          let ended = served.2 in
-          subst (λ (o : Outcome). Serves first address most o before after) (sym served.1)
-          (Serves-ended first last address most before after all heard.0 served.0 ended.0 ended.1 ended.2 ended.3)
+          let ended = heard.1.2 in
+          subst (λ (o : Outcome). Serves first address most o before after) (sym heard.1.1)
+          (Serves-ended first last address most before after all heard.0 heard.1.0 ended.0 ended.1 ended.2 ended.3)
       | inr unheard ↦
           subst (λ (o : Outcome). Serves first address most o before after) (sym unheard.0)
           (Serves-unheard first last address most before after all unheard.1 unheard.2)

@@ -6,7 +6,7 @@
 # whose many values differ in the last one alone.
 set -eu
 root="$(cd "$(dirname "${BASH_SOURCE[0]}")/.." && pwd)"
-program="$("$root/bench/program" bench_grammar)"
+program="$("$root/bench/program" bench)"
 work="$(mktemp -d)"
 trap 'rm -rf "$work"' EXIT
 
@@ -48,6 +48,6 @@ for kind in comments rules features atoms declarations twice undeclared elements
 done
 printf '%14s %9s %14s  %s\n' text bytes microseconds answer
 for kind in built_in comments rules features atoms declarations twice undeclared elements mixed classes; do
-    "$program" time <"$work/$kind" >"$work/out"
+    "$program" grammar time <"$work/$kind" >"$work/out"
     printf '%14s %9d %14d  %s\n' "$kind" "$(wc -c <"$work/$kind")" "$(tail -1 "$work/out" | cut -d' ' -f1)" "$(head -1 "$work/out")"
 done

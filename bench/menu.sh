@@ -1,7 +1,7 @@
 #!/bin/sh
-# Runs the proved program bench_menu with the word `time`: it takes 10 and 40 tokens of nested relative clauses, of verb phrases
+# Runs the proved program bench with the words `menu time`: it takes 10 and 40 tokens of nested relative clauses, of verb phrases
 # with `and`, and of `a part of a part of ..`, with 5,000 words in the lexicon. It says how many microseconds of processor time the
 # last token and the menu after it took, and how much memory it has had at most, first before any chart.
 set -e
-program="$("$(dirname "$0")/program" bench_menu)"
-"$program" time
+program="$("$(dirname "$0")/program" bench)"
+"$program" menu time

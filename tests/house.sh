@@ -14,7 +14,7 @@ fail() {
 # Each crate has a line in docs/PROVED.md, and edits that the check must refuse where it has more than tests.
 while read -r crate; do
     grep -q "\`$crate\`" docs/PROVED.md || fail "docs/PROVED.md doesn't speak of $crate"
-    case "$crate" in *_examples | bench_*) continue ;; esac
+    case "$crate" in *_examples | bench) continue ;; esac
     ls "crates/$crate/must-fail/"*.edit >/dev/null 2>&1 || fail "$crate has no must-fail edit"
 done < <(sed 's/#.*//' crates.txt | awk -F: 'NF > 1 { split($1, name, " "); print name[1] }')
 

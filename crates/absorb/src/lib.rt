@@ -7,7 +7,5 @@ mod knowledge;
 mod pieces;
 mod representatives;
 mod sorting;
-#[cfg(test)]
-mod tests;
 
 pub use knowledge::absorb;

@@ -10,8 +10,6 @@ mod questions;
 mod relative_clauses;
 mod rows;
 mod statements;
-#[cfg(test)]
-mod tests;
 mod verb_phrases;
 mod whole;
 

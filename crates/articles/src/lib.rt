@@ -4,8 +4,6 @@
 mod article;
 mod articles;
 mod sentences;
-#[cfg(test)]
-mod tests;
 
 pub use article::Article;
 pub use articles::Articles;

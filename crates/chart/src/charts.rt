@@ -14,8 +14,7 @@ use crate::menus::menu_for;
 use chart_table::{same_values, standing_of};
 use codeco_checked::CheckedGrammar;
 use codeco_terms::Ground;
-use derivation_scenes::Scene;
-use derivation_trees::{Menu, readings_of};
+use derivation_trees::{Menu, Setting, readings_of};
 use lexicon::{Lexicon, Readings};
 use lists::List;
 use std::alloc::Global;
@@ -162,7 +161,7 @@ fn derives_nothing(alloc: Global, grammar: &CheckedGrammar) -> Result<bool, Memo
     ensures { IfOk result
         (λ yes. IsTrue yes ↔ ((tree : Node) × IsDerivation (record { grammar = grammar.now; tokens = []; readings = [] }) tree)) }
 {
-    let setting = Scene {
+    let setting = Setting {
         grammar: grammar.grammar(),
         tokens: &[],
         readings: &[],
@@ -230,7 +229,7 @@ fn step_to(grammar: &CheckedGrammar, lexicon: &Lexicon, tokens: &Tokens) -> Resu
 {
     let alloc = tokens.allocator();
     let readings = List::from_vec(readings_of(alloc, lexicon, tokens.as_slice())?);
-    let setting = Scene {
+    let setting = Setting {
         grammar: grammar.grammar(),
         tokens: tokens.as_slice(),
         readings: readings.as_slice(),

@@ -16,8 +16,7 @@ use crate::entries::Entry;
 use chart_table::{Ask, may_follow};
 use codeco_checked::CheckedGrammar;
 use codeco_terms::{Ground, Symbol, Value};
-use derivation_scenes::Scene;
-use derivation_trees::{Group, readings_of};
+use derivation_trees::{Group, Setting, readings_of};
 use lexicon::{Lexicon, Readings, Word};
 use lists::List;
 use scopes::has_value;
@@ -60,12 +59,12 @@ fn told_of(
     longer.push(Token::from_str(alloc, "x")?)?;
     let mut readings = List::from_vec(readings_of(alloc, lexicon, tokens.as_slice())?);
     readings.push(last)?;
-    let scene = Scene {
+    let setting = Setting {
         grammar: grammar.grammar(),
         tokens: longer.as_slice(),
         readings: readings.as_slice(),
     };
-    may_follow(alloc, &scene, tokens.len(), asks)
+    may_follow(alloc, &setting, tokens.len(), asks)
 }
 
 // The asks for the terminals.

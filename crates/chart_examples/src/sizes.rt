@@ -5,8 +5,7 @@ use crate::cases::{tokens_of, words};
 use ace_grammar::built_in;
 use chart_table::{Ask, Size, table_size};
 use codeco_checked::CheckedGrammar;
-use derivation_scenes::Scene;
-use derivation_trees::readings_of;
+use derivation_trees::{Setting, readings_of};
 use lexicon::{Kind, Lexicon};
 use std::alloc::Global;
 use std::process::Abort;
@@ -22,7 +21,7 @@ fn size_of_read(
     requires { length tokens.now ≤ 40 }
 {
     let readings = readings_of(alloc, lexicon, tokens.as_slice())?;
-    let setting = Scene {
+    let setting = Setting {
         grammar: grammar.grammar(),
         tokens: tokens.as_slice(),
         readings: readings.as_slice(),

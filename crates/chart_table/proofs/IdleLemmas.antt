@@ -1,7 +1,7 @@
 -- A rule whose first element that takes tokens can't stand at a place before the end has no phrase there, nor one that is cut off.
 use Rattle.std.proofs.Common.{◌≡◌, ℕ, zero, suc, List, [], ◌∷◌, Bool, true, false, ◌||◌, take, Some, None, refl, sym, ap, ◌∙◌, ◌⊎◌, inl, inr}
 use Rattle.std.specs.Prelude.{◌==◌, option_and_then, slice_get}
-use Rattle.derivation_scenes.proofs.KindLemmas.{kind_there}
+use Rattle.derivation_trees.proofs.KindLemmas.{kind_there}
 use Rattle.codeco_terms.specs.declared.values.Value.{Value}
 use Rattle.codeco_terms.specs.declared.categories.Category.{Category}
 use Rattle.codeco_terms.specs.declared.elements.Element.{Element}
@@ -12,7 +12,7 @@ use Rattle.derivation_trees.specs.Settings.{Setting}
 use Rattle.derivation_trees.specs.Instances.{under, own_values}
 use Rattle.derivation_trees.specs.Derives.{At}
 use Rattle.derivation_trees.specs.Partial.{sub_of}
-use Rattle.derivation_scenes.specs.Starts.{may_start}
+use Rattle.derivation_trees.specs.Starts.{may_start}
 use Rattle.chart_table.specs.declared.states.End.{End}
 use Rattle.chart_table.specs.declared.states.Cut.{Cut}
 use Rattle.chart_table.specs.Leading.{Path, own_past}

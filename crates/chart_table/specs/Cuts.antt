@@ -11,7 +11,7 @@ use Rattle.derivation_trees.specs.Settings.{Setting}
 use Rattle.derivation_trees.specs.Instances.{under, feats_under, own_values, is_instance}
 use Rattle.derivation_trees.specs.Derives.{At, fits}
 use Rattle.derivation_trees.specs.Partial.{next_category, sub_of}
-use Rattle.derivation_scenes.specs.Starts.{may_start}
+use Rattle.derivation_trees.specs.Starts.{may_start}
 use Rattle.chart_table.specs.declared.asks.Ask.{Ask}
 use Rattle.chart_table.specs.declared.asks.Ask.TheVariants as ask
 use Rattle.chart_table.specs.declared.states.State.{State}

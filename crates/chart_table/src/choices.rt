@@ -12,8 +12,7 @@ use crate::branches::values_at;
 use crate::features::{CategoryFeatures, owned_by};
 use crate::states::Feat;
 use codeco_terms::{Declared, Element, Grammar, Ground, Pattern, Rule, Term, Value};
-use derivation_scenes::Scene;
-use derivation_trees::{variables_of, written_variables};
+use derivation_trees::{Setting, variables_of, written_variables};
 use lists::List;
 use std::alloc::Global;
 use wiki_base::{Memory, WordId};
@@ -263,7 +262,7 @@ fn push_words(alloc: Global, readings: &[Ground], out: &mut List<Value>) -> Resu
 }
 
 // Word 0 and the words with a form among the tokens.
-fn word_values(alloc: Global, setting: &Scene<'_>) -> Result<List<Value>, Memory>
+fn word_values(alloc: Global, setting: &Setting<'_>) -> Result<List<Value>, Memory>
     ensures { IfOk result
         (λ values. values ≡ choosing.no_word ∷ flat_map choosing.words_of setting.now.readings) }
 {
@@ -277,7 +276,7 @@ fn word_values(alloc: Global, setting: &Scene<'_>) -> Result<List<Value>, Memory
 
 // The positions 0 to the number of tokens.
 #[tactic(auto, using(crate::proofs::Loops::positions_more))]
-fn position_values(alloc: Global, setting: &Scene<'_>) -> Result<List<Value>, Memory>
+fn position_values(alloc: Global, setting: &Setting<'_>) -> Result<List<Value>, Memory>
     ensures { IfOk result (λ values. values ≡ choosing.all_positions setting.now) }
 {
     let mut values = List::new(alloc);
@@ -301,7 +300,7 @@ fn atom_values(alloc: Global, atoms: &[u16]) -> Result<List<Value>, Memory>
 // The values that are declared so.
 fn declared_values(
     alloc: Global,
-    setting: &Scene<'_>,
+    setting: &Setting<'_>,
     declared: &Declared,
 ) -> Result<List<Value>, Memory>
     ensures { IfOk result (λ values. values ≡ choosing.declared_values setting.now declared.now) }
@@ -315,7 +314,7 @@ fn declared_values(
 }
 
 // The values of the feature with the number.
-fn feature_values(alloc: Global, setting: &Scene<'_>, feature: u16) -> Result<List<Value>, Memory>
+fn feature_values(alloc: Global, setting: &Setting<'_>, feature: u16) -> Result<List<Value>, Memory>
     ensures { IfOk result (λ values. values ≡ choosing.feature_values setting.now feature) }
 {
     match setting.grammar.features().as_slice().get(feature as usize) {
@@ -361,7 +360,7 @@ fn one_value(alloc: Global, value: Value) -> Result<List<Value>, Memory>
 
 fn own_choices(
     alloc: Global,
-    setting: &Scene<'_>,
+    setting: &Setting<'_>,
     feature: Option<u16>,
 ) -> Result<List<Value>, Memory>
     ensures { IfOk result (λ values. values ≡ choosing.own_choices setting.now feature) }
@@ -380,7 +379,7 @@ fn own_feature(own: &[u16], place: usize) -> Option<u16>
 
 fn variable_choices(
     alloc: Global,
-    setting: &Scene<'_>,
+    setting: &Setting<'_>,
     own: &[u16],
     variable: u8,
     feature: Option<u16>,
@@ -406,7 +405,7 @@ fn variable_choices(
 // The values that the term can have.
 pub(crate) fn choices(
     alloc: Global,
-    setting: &Scene<'_>,
+    setting: &Setting<'_>,
     plan: &Plan,
     term: Term,
 ) -> Result<List<Value>, Memory>

@@ -12,8 +12,7 @@ use crate::sameness::same_values;
 use crate::states::{Aim, Bound, Cut, State};
 use crate::steps::close;
 use codeco_terms::{Category, Element, Ground, Rule, Value};
-use derivation_scenes::Scene;
-use derivation_trees::under;
+use derivation_trees::{Setting, under};
 use lists::List;
 use scopes::{Access, TestValues};
 use std::alloc::Global;
@@ -49,7 +48,7 @@ fn guess(alloc: Global, plan: &Plan, bound: &[(u8, Value)]) -> Result<Bound, Mem
 // Whether some instance of the rule extends the assignment.
 fn is_possible(
     alloc: Global,
-    setting: &Scene<'_>,
+    setting: &Setting<'_>,
     rule: &Rule,
     plan: &Plan,
     bound: &[(u8, Value)],
@@ -67,7 +66,7 @@ fn is_possible(
 // Whether some instance of the rule extends the assignment, by trying all.
 fn is_extended(
     alloc: Global,
-    setting: &Scene<'_>,
+    setting: &Setting<'_>,
     rule: &Rule,
     plan: &Plan,
     bound: &[(u8, Value)],
@@ -98,7 +97,7 @@ fn push_cut(number: usize, values: TestValues, cuts: &mut List<Cut>) -> Result<(
 // Adds the head that the assignment tells, where some instance extends it.
 fn push_head(
     alloc: Global,
-    setting: &Scene<'_>,
+    setting: &Setting<'_>,
     rule: &Rule,
     plan: &Plan,
     number: usize,
@@ -123,7 +122,7 @@ fn push_head(
 // Adds the heads that the assignments tell, where some instance extends them.
 fn push_settled(
     alloc: Global,
-    setting: &Scene<'_>,
+    setting: &Setting<'_>,
     rule: &Rule,
     plan: &Plan,
     number: usize,
@@ -143,7 +142,7 @@ fn push_settled(
 // Adds the heads of the instances that extend the assignments.
 fn push_heads(
     alloc: Global,
-    setting: &Scene<'_>,
+    setting: &Setting<'_>,
     rule: &Rule,
     plan: &Plan,
     number: usize,
@@ -222,7 +221,7 @@ fn met_bounds(
 // Adds the phrases of the rule that are cut off in a state, where the next element meets the ask.
 fn push_met(
     alloc: Global,
-    setting: &Scene<'_>,
+    setting: &Setting<'_>,
     rule: &Rule,
     plan: &Plan,
     next: Option<&Element>,
@@ -246,7 +245,7 @@ fn push_met(
 // Adds the phrases of the rule that are cut off in a state, where the next element meets one of the asks.
 fn push_asked(
     alloc: Global,
-    setting: &Scene<'_>,
+    setting: &Setting<'_>,
     asks: &[Ask],
     rule: &Rule,
     plan: &Plan,
@@ -267,7 +266,7 @@ fn push_asked(
 // Adds the phrases of the rule that are cut off in a state, if it stands at the place.
 fn push_cut_here(
     alloc: Global,
-    setting: &Scene<'_>,
+    setting: &Setting<'_>,
     aim: &Aim<'_>,
     rule: &Rule,
     plan: &Plan,
@@ -298,7 +297,7 @@ fn push_cut_here(
 // Adds the phrases of the rule that are cut off in those of the states that stand at the place.
 pub(crate) fn push_cuts_here(
     alloc: Global,
-    setting: &Scene<'_>,
+    setting: &Setting<'_>,
     aim: &Aim<'_>,
     rule: &Rule,
     plan: &Plan,
@@ -319,7 +318,7 @@ pub(crate) fn push_cuts_here(
 // Adds the phrases of the rule whose next element, a category, is cut off so.
 fn push_cut_within(
     alloc: Global,
-    setting: &Scene<'_>,
+    setting: &Setting<'_>,
     rule: &Rule,
     plan: &Plan,
     category: &Category,
@@ -340,7 +339,7 @@ fn push_cut_within(
 // Adds the phrases of the rule whose next element, a category, is cut off in one of these ways.
 pub(crate) fn push_cuts_within(
     alloc: Global,
-    setting: &Scene<'_>,
+    setting: &Setting<'_>,
     rule: &Rule,
     plan: &Plan,
     category: &Category,

@@ -19,8 +19,7 @@ use crate::fits::is_planned;
 use crate::states::{Bound, End, Feat, State};
 use crate::steps::close;
 use codeco_terms::{Rule, Term, Value};
-use derivation_scenes::Scene;
-use derivation_trees::{under, value_under};
+use derivation_trees::{Setting, under, value_under};
 use lists::List;
 use scopes::{Access, Entry};
 use std::alloc::Global;
@@ -63,7 +62,7 @@ pub(crate) fn values_of_all(
 }
 
 /// Whether the values are an instance of the rule, which has this plan.
-pub fn is_instance(setting: &Scene<'_>, rule: &Rule, plan: &Plan, values: &[(u8, Value)]) -> bool
+pub fn is_instance(setting: &Setting<'_>, rule: &Rule, plan: &Plan, values: &[(u8, Value)]) -> bool
     requires { choosing.IsPlan setting.now rule.now plan.now }
     ensures { result ≡ instances.is_instance setting.now rule.now values.now }
 {
@@ -160,7 +159,7 @@ fn end_with(
 // The end in an assignment of all variables, if that is an instance.
 fn finished_one(
     alloc: Global,
-    setting: &Scene<'_>,
+    setting: &Setting<'_>,
     rule: &Rule,
     plan: &Plan,
     before: &Access,
@@ -183,7 +182,7 @@ fn finished_one(
 // The ends in these assignments of all variables, where they are instances.
 fn finished_all(
     alloc: Global,
-    setting: &Scene<'_>,
+    setting: &Setting<'_>,
     rule: &Rule,
     plan: &Plan,
     before: &Access,
@@ -205,7 +204,7 @@ fn finished_all(
 // The ends of phrases of the rule that stand so after the last element.
 pub(crate) fn finished(
     alloc: Global,
-    setting: &Scene<'_>,
+    setting: &Setting<'_>,
     rule: &Rule,
     plan: &Plan,
     before: &Access,

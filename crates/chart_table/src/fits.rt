@@ -11,8 +11,7 @@ ghost use Rattle.chart_table.specs.Choices as choosing;
 use crate::choices::Plan;
 use crate::states::Feat;
 use codeco_terms::{Declared, Ground, Term, Value};
-use derivation_scenes::Scene;
-use derivation_trees::value_under;
+use derivation_trees::{Setting, value_under};
 use lexicon::Readings;
 use scopes::has_value;
 
@@ -34,7 +33,7 @@ fn some_have_word(readings: &[Readings], word: Value) -> bool
         .any(|one| some_has_word(one.as_slice(), word))
 }
 
-fn has_word(setting: &Scene<'_>, word: Value) -> bool
+fn has_word(setting: &Setting<'_>, word: Value) -> bool
     ensures { result ≡ settings.has_word setting.now word }
 {
     some_have_word(setting.readings, word)
@@ -47,7 +46,7 @@ fn has_number(numbers: &[u16], number: u16) -> bool
 }
 
 // Whether the value is one of those that are declared.
-fn is_value(setting: &Scene<'_>, declared: &Declared, value: Value) -> bool
+fn is_value(setting: &Setting<'_>, declared: &Declared, value: Value) -> bool
     ensures { result ≡ settings.is_value setting.now declared.now value }
 {
     match declared {
@@ -68,7 +67,7 @@ fn is_value(setting: &Scene<'_>, declared: &Declared, value: Value) -> bool
 }
 
 // Whether the value is one of the feature with the number.
-fn fits_feature(setting: &Scene<'_>, feature: u16, value: Value) -> bool
+fn fits_feature(setting: &Setting<'_>, feature: u16, value: Value) -> bool
     ensures { result ≡ settings.fits_feature setting.now feature value }
 {
     match setting.grammar.features().as_slice().get(feature as usize) {
@@ -77,7 +76,7 @@ fn fits_feature(setting: &Scene<'_>, feature: u16, value: Value) -> bool
     }
 }
 
-fn term_fits(setting: &Scene<'_>, values: &[(u8, Value)], feature: u16, term: Term) -> bool
+fn term_fits(setting: &Setting<'_>, values: &[(u8, Value)], feature: u16, term: Term) -> bool
     ensures { result ≡ instances.term_fits setting.now values.now (feature, term) }
 {
     match term {
@@ -86,13 +85,13 @@ fn term_fits(setting: &Scene<'_>, values: &[(u8, Value)], feature: u16, term: Te
     }
 }
 
-fn terms_fit(setting: &Scene<'_>, values: &[(u8, Value)], terms: &[Feat]) -> bool
+fn terms_fit(setting: &Setting<'_>, values: &[(u8, Value)], terms: &[Feat]) -> bool
     ensures { result ≡ list_all (instances.term_fits setting.now values.now) terms.now }
 {
     terms.iter().all(|p| term_fits(setting, values, p.0, p.1))
 }
 
-fn is_place(setting: &Scene<'_>, value: Value) -> bool
+fn is_place(setting: &Setting<'_>, value: Value) -> bool
     ensures { result ≡ settings.is_value setting.now declared.Positions value }
 {
     match value {
@@ -101,7 +100,7 @@ fn is_place(setting: &Scene<'_>, value: Value) -> bool
     }
 }
 
-fn places_fit(setting: &Scene<'_>, values: &[(u8, Value)], places: &[u8]) -> bool
+fn places_fit(setting: &Setting<'_>, values: &[(u8, Value)], places: &[u8]) -> bool
     ensures { result
         ≡ list_all (λ x. settings.is_value setting.now declared.Positions (instances.value_under values.now x)) places.now }
 {
@@ -110,7 +109,7 @@ fn places_fit(setting: &Scene<'_>, values: &[(u8, Value)], places: &[u8]) -> boo
         .all(|place| is_place(setting, value_under(values, *place)))
 }
 
-fn own_fit(setting: &Scene<'_>, features: &[u16], values: &[(u8, Value)]) -> bool
+fn own_fit(setting: &Setting<'_>, features: &[u16], values: &[(u8, Value)]) -> bool
     ensures { result ≡ instances.own_fit setting.now features.now values.now }
 {
     for (place, feature) in features.iter().enumerate() {
@@ -155,7 +154,7 @@ fn values_from<'a>(values: &'a [(u8, Value)], first: usize) -> &'a [(u8, Value)]
 }
 
 // Whether the values are an instance of the rule with the plan.
-pub(crate) fn is_planned(setting: &Scene<'_>, plan: &Plan, values: &[(u8, Value)]) -> bool
+pub(crate) fn is_planned(setting: &Setting<'_>, plan: &Plan, values: &[(u8, Value)]) -> bool
     ensures { result ≡ choosing.planned_instance setting.now plan.now values.now }
 {
     have_numbers(values, plan.variables.as_slice())

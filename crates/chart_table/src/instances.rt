@@ -16,7 +16,7 @@ use crate::steps::close;
 use crate::table::{Row, last_states, start_states};
 use codeco_checked::NUMBERS;
 use codeco_terms::{Rule, Value};
-use derivation_scenes::{Scene, may_start};
+use derivation_trees::{Setting, may_start};
 use lists::List;
 use scopes::Access;
 use std::alloc::Global;
@@ -85,7 +85,7 @@ fn push_bounds(
 // Adds the values of all variables in a state, in each way.
 fn push_state(
     alloc: Global,
-    setting: &Scene<'_>,
+    setting: &Setting<'_>,
     rule: &Rule,
     plan: &Plan,
     state: &State,
@@ -103,7 +103,7 @@ fn push_state(
 // Adds the values of all variables in each of the states.
 fn push_states(
     alloc: Global,
-    setting: &Scene<'_>,
+    setting: &Setting<'_>,
     rule: &Rule,
     plan: &Plan,
     states: &[State],
@@ -123,7 +123,7 @@ fn push_states(
 /// more may be made.
 pub fn leading_instances(
     alloc: Global,
-    setting: &Scene<'_>,
+    setting: &Setting<'_>,
     plans: &[Plan],
     rows: &mut List<Row>,
     rule: &Rule,

@@ -15,8 +15,7 @@ use crate::choices::plans_of;
 use crate::states::{Aim, Cut, End};
 use crate::table::{Row, row_of, token_count};
 use codeco_checked::{CheckedGrammar, FIRST_PLAIN};
-use derivation_scenes::Scene;
-use derivation_trees::readings_of;
+use derivation_trees::{Setting, readings_of};
 use lexicon::Lexicon;
 use lists::List;
 use std::alloc::Global;
@@ -45,7 +44,7 @@ pub fn has_derivation(
     ensures { IfOk result (λ yes. IsTrue yes ↔ IsSentence grammar.now lexicon.now tokens.now) }
 {
     let readings = readings_of(alloc, lexicon, tokens.as_slice())?;
-    let setting = Scene {
+    let setting = Setting {
         grammar: grammar.grammar(),
         tokens: tokens.as_slice(),
         readings: readings.as_slice(),
@@ -65,7 +64,7 @@ pub fn begins(
     ensures { IfOk result (λ yes. IsTrue yes ↔ IsBeginning grammar.now lexicon.now tokens.now) }
 {
     let readings = readings_of(alloc, lexicon, tokens.as_slice())?;
-    let setting = Scene {
+    let setting = Setting {
         grammar: grammar.grammar(),
         tokens: tokens.as_slice(),
         readings: readings.as_slice(),
@@ -74,7 +73,7 @@ pub fn begins(
 }
 
 // Whether the setting's tokens have a derivation.
-fn is_sentence(alloc: Global, setting: &Scene<'_>) -> Result<bool, Memory>
+fn is_sentence(alloc: Global, setting: &Setting<'_>) -> Result<bool, Memory>
     ensures { IfOk result (λ yes. IsTrue yes ↔ ((tree : Node) × IsDerivation setting.now tree)) }
 {
     let standing = standing_of(alloc, setting)?;
@@ -82,7 +81,7 @@ fn is_sentence(alloc: Global, setting: &Scene<'_>) -> Result<bool, Memory>
 }
 
 // Whether the setting's tokens have a partial derivation.
-fn is_beginning(alloc: Global, setting: &Scene<'_>) -> Result<bool, Memory>
+fn is_beginning(alloc: Global, setting: &Setting<'_>) -> Result<bool, Memory>
     ensures { IfOk result (λ yes. IsTrue yes ↔ ((cut : CutNode) × IsPartialDerivation setting.now cut)) }
 {
     let standing = standing_of(alloc, setting)?;
@@ -90,7 +89,7 @@ fn is_beginning(alloc: Global, setting: &Scene<'_>) -> Result<bool, Memory>
 }
 
 /// Whether the setting's tokens have a partial derivation, and whether they have a derivation, by one table.
-pub fn standing_of(alloc: Global, setting: &Scene<'_>) -> Result<Standing, Memory>
+pub fn standing_of(alloc: Global, setting: &Setting<'_>) -> Result<Standing, Memory>
     ensures begins { IfOk result (λ standing. IsTrue standing.begins ↔ ((cut : CutNode) × IsPartialDerivation setting.now cut)) }
     ensures derives { IfOk result (λ standing. IsTrue standing.derives ↔ ((tree : Node) × IsDerivation setting.now tree)) }
 {
@@ -109,7 +108,7 @@ pub fn standing_of(alloc: Global, setting: &Scene<'_>) -> Result<Standing, Memor
 }
 
 // The row of the category of sentences from place 0 and the empty list.
-fn text_row(alloc: Global, setting: &Scene<'_>, aim: &Aim<'_>) -> Result<Row, Memory>
+fn text_row(alloc: Global, setting: &Setting<'_>, aim: &Aim<'_>) -> Result<Row, Memory>
     ensures { IfOk result (tables.IsTextRow setting.now aim.now) }
 {
     let plans = plans_of(alloc, setting.grammar)?;
@@ -142,7 +141,7 @@ fn has_ask(cuts: &[Cut], number: usize) -> bool
 /// meets the ask there: by one table.
 pub fn may_follow(
     alloc: Global,
-    setting: &Scene<'_>,
+    setting: &Setting<'_>,
     halt: usize,
     asks: &[Ask],
 ) -> Result<List<bool>, Memory>

@@ -5,7 +5,7 @@ use crate::sentences::DEEPEST;
 use crate::states::Aim;
 use crate::table::{Row, row_of};
 use codeco_checked::FIRST_PLAIN;
-use derivation_scenes::Scene;
+use derivation_trees::Setting;
 use lists::List;
 use std::alloc::Global;
 use std::cell::Cell;
@@ -24,7 +24,7 @@ pub struct Size {
 /// The size of the table by which `may_follow` answers.
 pub fn table_size(
     alloc: Global,
-    setting: &Scene<'_>,
+    setting: &Setting<'_>,
     halt: usize,
     asks: &[Ask],
 ) -> Result<Size, Memory> {

@@ -21,8 +21,7 @@ use crate::branches::{all_know, alone, choose, copy_bound, have, meet, read_as, 
 use crate::choices::{Plan, choices};
 use crate::states::{Bound, End, Feat, State};
 use codeco_terms::{Category, Element, Ground, Pattern, Term, Vals, Value};
-use derivation_scenes::Scene;
-use derivation_trees::{term_value, tests_under, written};
+use derivation_trees::{Setting, term_value, tests_under, written};
 use lists::List;
 use scopes::{Access, Entry, Found, TestList, Tests};
 use std::alloc::Global;
@@ -52,7 +51,7 @@ pub(crate) fn push_placed(
 // The assignments under which the term is known: those under which it isn't have each of its choices.
 fn close_term(
     alloc: Global,
-    setting: &Scene<'_>,
+    setting: &Setting<'_>,
     plan: &Plan,
     term: Term,
     bounds: List<Bound>,
@@ -70,7 +69,7 @@ fn close_term(
 // The assignments under which each term is known: those under which one isn't have each of its choices.
 pub(crate) fn close(
     alloc: Global,
-    setting: &Scene<'_>,
+    setting: &Setting<'_>,
     plan: &Plan,
     feats: &[Feat],
     bounds: List<Bound>,
@@ -87,7 +86,7 @@ pub(crate) fn close(
 
 fn close_patterns(
     alloc: Global,
-    setting: &Scene<'_>,
+    setting: &Setting<'_>,
     plan: &Plan,
     patterns: &[Pattern],
     bounds: List<Bound>,
@@ -103,7 +102,7 @@ fn close_patterns(
 }
 
 // The readings of the token at the place.
-fn readings_at<'a>(setting: &Scene<'a>, place: u16) -> &'a [Ground]
+fn readings_at<'a>(setting: &Setting<'a>, place: u16) -> &'a [Ground]
     ensures { result.now ≡ steps.readings_at setting.now place }
 {
     match setting.readings.get(place as usize) {
@@ -247,7 +246,7 @@ fn push_introduced(
 // `>` and `>>` introduce a referent at the place. The features are those of its category.
 fn introduce(
     alloc: Global,
-    setting: &Scene<'_>,
+    setting: &Setting<'_>,
     plan: &Plan,
     number: u16,
     features: &[u16],
@@ -399,7 +398,7 @@ fn refer_none(
 }
 
 // The place after a token that is the terminal.
-fn after_terminal(setting: &Scene<'_>, terminal: u16, place: u16) -> Option<u16>
+fn after_terminal(setting: &Setting<'_>, terminal: u16, place: u16) -> Option<u16>
     ensures { result ≡ (if settings.matches_terminal setting.now terminal place then Some (place + 1) else None) }
 {
     if (place as usize) < setting.tokens.len()
@@ -412,7 +411,7 @@ fn after_terminal(setting: &Scene<'_>, terminal: u16, place: u16) -> Option<u16>
 }
 
 // Whether the token at the place is the terminal with the number.
-fn matches_terminal(setting: &Scene<'_>, terminal: u16, place: usize) -> bool
+fn matches_terminal(setting: &Setting<'_>, terminal: u16, place: usize) -> bool
     ensures { result ≡ settings.matches_terminal setting.now terminal place }
 {
     let Some(token) = setting.tokens.get(place) else {
@@ -437,7 +436,7 @@ fn same_bytes(bytes: &[u8], other: &[u8]) -> bool
 
 fn push_terminal(
     alloc: Global,
-    setting: &Scene<'_>,
+    setting: &Setting<'_>,
     terminal: u16,
     state: &State,
     out: &mut List<State>,
@@ -457,7 +456,7 @@ fn push_terminal(
 
 fn push_preterminal(
     alloc: Global,
-    setting: &Scene<'_>,
+    setting: &Setting<'_>,
     category: &Category,
     state: &State,
     out: &mut List<State>,
@@ -507,7 +506,7 @@ fn push_opened(alloc: Global, state: &State, out: &mut List<State>) -> Result<()
 
 fn push_back(
     alloc: Global,
-    setting: &Scene<'_>,
+    setting: &Setting<'_>,
     plan: &Plan,
     positive: &[Pattern],
     negative: &[Pattern],
@@ -528,7 +527,7 @@ fn push_back(
 
 fn push_no_back(
     alloc: Global,
-    setting: &Scene<'_>,
+    setting: &Setting<'_>,
     plan: &Plan,
     patterns: &[Pattern],
     state: &State,
@@ -547,7 +546,7 @@ fn push_no_back(
 // Adds the states after an element that is no category.
 pub(crate) fn push_plain(
     alloc: Global,
-    setting: &Scene<'_>,
+    setting: &Setting<'_>,
     plan: &Plan,
     number: u16,
     features: &[u16],

@@ -25,7 +25,7 @@ use crate::sameness::{same_end, same_entries, same_values};
 use crate::states::{Aim, Bound, Cut, End, Feat, State};
 use crate::steps::{extended, push_ends, push_placed, push_plain};
 use codeco_terms::{Category, Element, Rule, Value};
-use derivation_scenes::{Scene, may_start};
+use derivation_trees::{Setting, may_start};
 use lists::List;
 use scopes::{Access, Entry, TestValues};
 use std::alloc::Global;
@@ -141,7 +141,7 @@ fn push_all_new(alloc: Global, ends: &[End], out: &mut List<End>) -> Result<(), 
 // Adds the ends of phrases of the rule that stand in these states after the last element.
 fn push_finished(
     alloc: Global,
-    setting: &Scene<'_>,
+    setting: &Setting<'_>,
     rule: &Rule,
     plan: &Plan,
     before: &Access,
@@ -224,7 +224,7 @@ fn push_new_row(rows: &mut List<Row>, row: Row) -> Result<usize, Memory>
 }
 
 // How many tokens there are.
-pub(crate) fn token_count(setting: &Scene<'_>) -> usize
+pub(crate) fn token_count(setting: &Setting<'_>) -> usize
     ensures { result ≡ length setting.now.tokens }
 {
     setting.tokens.len()
@@ -234,7 +234,7 @@ pub(crate) fn token_count(setting: &Scene<'_>) -> usize
 #[cycle(ends)]
 pub(crate) fn row_of(
     alloc: Global,
-    setting: &Scene<'_>,
+    setting: &Setting<'_>,
     aim: &Aim<'_>,
     plans: &[Plan],
     rows: &mut List<Row>,
@@ -289,7 +289,7 @@ pub(crate) fn row_of(
 #[cycle(ends)]
 fn category_ends(
     alloc: Global,
-    setting: &Scene<'_>,
+    setting: &Setting<'_>,
     aim: &Aim<'_>,
     plans: &[Plan],
     rows: &mut List<Row>,
@@ -320,7 +320,7 @@ fn category_ends(
 }
 
 // Whether phrases are cut off at the place, or the rule's first element that takes tokens may stand there.
-fn may_go(setting: &Scene<'_>, aim: &Aim<'_>, rule: &Rule, place: u16) -> bool
+fn may_go(setting: &Setting<'_>, aim: &Aim<'_>, rule: &Rule, place: u16) -> bool
     ensures { result ≡ false → cutting.IsIdle setting.now aim.now rule.now place }
 {
     if place as usize == aim.halt {
@@ -333,7 +333,7 @@ fn may_go(setting: &Scene<'_>, aim: &Aim<'_>, rule: &Rule, place: u16) -> bool
 #[cycle(ends)]
 fn push_named(
     alloc: Global,
-    setting: &Scene<'_>,
+    setting: &Setting<'_>,
     aim: &Aim<'_>,
     plans: &[Plan],
     rows: &mut List<Row>,
@@ -368,7 +368,7 @@ fn push_named(
 #[cycle(ends)]
 fn push_rule(
     alloc: Global,
-    setting: &Scene<'_>,
+    setting: &Setting<'_>,
     aim: &Aim<'_>,
     plans: &[Plan],
     rows: &mut List<Row>,
@@ -418,7 +418,7 @@ fn count(aim: &Aim<'_>, states: usize) {
 #[cycle(ends)]
 pub(crate) fn last_states(
     alloc: Global,
-    setting: &Scene<'_>,
+    setting: &Setting<'_>,
     aim: &Aim<'_>,
     plans: &[Plan],
     rows: &mut List<Row>,
@@ -477,7 +477,7 @@ pub(crate) fn last_states(
 #[cycle(ends)]
 fn next_states(
     alloc: Global,
-    setting: &Scene<'_>,
+    setting: &Setting<'_>,
     aim: &Aim<'_>,
     plans: &[Plan],
     rows: &mut List<Row>,
@@ -513,7 +513,7 @@ fn next_states(
 #[cycle(ends)]
 fn push_state(
     alloc: Global,
-    setting: &Scene<'_>,
+    setting: &Setting<'_>,
     aim: &Aim<'_>,
     plans: &[Plan],
     rows: &mut List<Row>,
@@ -555,7 +555,7 @@ fn push_state(
 #[cycle(ends)]
 fn push_category(
     alloc: Global,
-    setting: &Scene<'_>,
+    setting: &Setting<'_>,
     aim: &Aim<'_>,
     plans: &[Plan],
     rows: &mut List<Row>,
@@ -625,7 +625,7 @@ fn push_row(
 // Adds what is cut off within a category, by a row.
 fn push_row_cuts(
     alloc: Global,
-    setting: &Scene<'_>,
+    setting: &Setting<'_>,
     rule: &Rule,
     plan: &Plan,
     category: &Category,

@@ -20,7 +20,6 @@ use chart_table::{
     Plan, Row, access_of, leading_instances, plan_for, referents_of, same_entries, same_values,
 };
 use codeco_terms::{Category, Element, Rule, Value};
-use derivation_scenes::Scene;
 use derivation_trees::{Setting, fits, under};
 use lists::List;
 use scopes::{Access, Entry, Test};
@@ -104,46 +103,7 @@ fn may_begin(
     if !fits(&head, asked) {
         return Ok(false);
     }
-    Ok(is_planned(setting, rule, plan, values))
-}
-
-// Whether the values are an instance of the rule.
-fn is_planned(setting: &Setting<'_>, rule: &Rule, plan: &Plan, values: &[(u8, Value)]) -> bool
-    requires { IsPlan setting.now rule.now plan.now }
-    ensures { result ≡ is_instance setting.now rule.now values.now }
-{
-    let scene = Scene {
-        grammar: setting.grammar,
-        tokens: setting.tokens,
-        readings: setting.readings,
-    };
-    chart_table::is_instance(&scene, rule, plan, values)
-}
-
-// Values for all variables of the rule: among them is each instance by which its elements lead somewhere.
-fn instances_of(
-    alloc: Global,
-    setting: &Setting<'_>,
-    plans: &[Plan],
-    ends: &mut List<Row>,
-    rule: &Rule,
-    plan: &Plan,
-    known: &[(u16, Value)],
-    place: u16,
-    list: &Access,
-) -> Result<List<List<(u8, Value)>>, Memory>
-    requires plans { ArePlans setting.now plans.now }
-    requires rows { AreRows setting.now no_asks ends.old }
-    requires plan { IsPlan setting.now rule.now plan.now }
-    ensures rows { OnOk result (AreRows setting.now no_asks ends.new) }
-    ensures instances { IfOk result (HasInstances setting.now rule.now known.now (record { place = place; list = list.now })) }
-{
-    let scene = Scene {
-        grammar: setting.grammar,
-        tokens: setting.tokens,
-        readings: setting.readings,
-    };
-    leading_instances(alloc, &scene, plans, ends, rule, plan, known, place, list)
+    Ok(chart_table::is_instance(setting, rule, plan, values))
 }
 
 // The number of the row of the category, which is made where it isn't there yet.
@@ -267,7 +227,7 @@ fn push_rule(
     ensures tables { OnOk result (tabled.AreTables setting.now tables.new) }
     ensures trees { OnOk result (ends.HasTrees setting.now asked.now (record { place = place; list = start.now }) (ends.IsOfRule number) out.old out.new) }
 {
-    let instances = instances_of(
+    let instances = leading_instances(
         alloc,
         setting,
         plans,

@@ -2,7 +2,5 @@
 #![tactic(auto)]
 
 mod accepting;
-#[cfg(test)]
-mod tests;
 
 pub use accepting::accepts;

@@ -10,6 +10,3 @@ mod rules;
 mod variables;
 
 pub use early::first_early_fault;
-
-#[cfg(test)]
-mod tests;

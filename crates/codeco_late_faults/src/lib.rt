@@ -8,8 +8,6 @@ mod feature_table;
 mod first;
 mod recursion;
 mod references;
-#[cfg(test)]
-mod tests;
 mod writing;
 
 pub use first::first_fault;

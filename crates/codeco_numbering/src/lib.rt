@@ -13,6 +13,3 @@ mod variables;
 mod whole;
 
 pub use whole::number_items;
-
-#[cfg(test)]
-mod tests;

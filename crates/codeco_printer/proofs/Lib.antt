@@ -6,7 +6,6 @@ pub mod Led
 pub mod PrintLaws
 pub mod Spelled
 pub mod Streamed
-pub mod SmallestSound
 pub mod SoundNames
 pub mod OneReading
 pub mod Ordered

@@ -1,4 +1,3 @@
 pub mod Printing
-pub mod Smallest
 pub mod Unnumbered
 pub mod Writing

@@ -3,8 +3,6 @@
 
 mod print_symbols;
 mod printing;
-#[cfg(test)]
-mod tests;
 mod unnumbered;
 
 pub use printing::print_grammar;

@@ -2,10 +2,6 @@
 #![tactic(auto)]
 
 mod reading;
-#[cfg(test)]
-mod tests;
-#[cfg(test)]
-mod texts;
 
 pub use codeco_checked::{CheckedGrammar, GrammarFault};
 pub use codeco_printer::print_grammar;

@@ -10,8 +10,6 @@ mod feature_lists;
 mod grammar;
 mod rules;
 mod symbols;
-#[cfg(test)]
-mod tests;
 mod unification;
 mod values;
 

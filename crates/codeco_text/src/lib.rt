@@ -21,6 +21,3 @@ pub use written::{
     Domain, WrittenCategories, WrittenCategory, WrittenElement, WrittenElements, WrittenFeat,
     WrittenFeats, WrittenItem, WrittenItems, WrittenRule, WrittenTerm,
 };
-
-#[cfg(test)]
-mod tests;

@@ -5,7 +5,5 @@
 mod forcing;
 mod known;
 mod showing;
-#[cfg(test)]
-mod tests;
 
 pub use known::Consequences;

@@ -11,3 +11,5 @@ pub mod CodeLemmas
 pub mod SketchLemmas
 pub mod ValueLemmas
 pub mod ReadingLemmas
+pub mod KindLemmas
+pub mod TruthLemmas

@@ -5,6 +5,7 @@ pub mod Putting
 pub mod Derives
 pub mod Stands
 pub mod Sentences
+pub mod Starts
 pub mod Cutting
 pub mod Partial
 pub mod Menus

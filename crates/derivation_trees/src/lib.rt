@@ -18,6 +18,7 @@ mod showing;
 mod skeletons;
 mod sketch;
 mod stand;
+mod starts;
 mod trees;
 mod variables;
 
@@ -33,6 +34,7 @@ pub use showing::show;
 pub use skeletons::{Skeleton, Skeletons, Words};
 pub use sketch::sketch_of;
 pub use stand::{Progress, pass, takes, written};
+pub use starts::may_start;
 pub use trees::{Binds, Places, Tree, Trees};
 pub use variables::{
     is_instance, own_values, push_own_features, rule_own_features, variables_of, written_variables,

@@ -16,7 +16,8 @@ use wiki_base::Token;
 /// The feature of preterminals that holds the word.
 const WORD_FEATURE: u16 = 3;
 
-/// What a derivation is of: a grammar, at most 40 tokens, and the readings of each token by a lexicon.
+/// What a derivation is of: a grammar, tokens, and the readings of each token by a lexicon. There are at most 41 tokens, one
+/// more than a sentence has, since a menu tries each token behind the others.
 #[derive(Drop)]
 pub struct Setting<'a> {
     pub grammar: &'a Grammar,
@@ -25,16 +26,16 @@ pub struct Setting<'a> {
 }
 
 impl<'a> Model for Setting<'a> {
-    ghost use Rattle.wiki_base.specs.declared.tokens.TheConstants.{MOST_TOKENS};
     ghost use Rattle.derivation_trees.specs.Settings as settings;
 
     ghost Value = { settings.Setting };
 
     ghost view = { λ a. record { grammar = a.grammar.now; tokens = a.tokens.now; readings = a.readings.now } };
 
-    ghost use Rattle.std.specs.Prelude.{◌≡◌, ◌≤◌, length};
+    ghost use Rattle.std.specs.Prelude.{◌≡◌, ◌≤◌, ◌+◌, length};
+    ghost use Rattle.wiki_base.specs.declared.tokens.TheConstants.{MOST_TOKENS};
 
-    ghost invariant = { λ a. (length a.tokens.now ≤ MOST_TOKENS) × (length a.readings.now ≡ length a.tokens.now) };
+    ghost invariant = { λ a. (length a.tokens.now ≤ MOST_TOKENS + 1) × (length a.readings.now ≡ length a.tokens.now) };
 }
 
 impl Setting<'_> {
@@ -63,7 +64,7 @@ impl Setting<'_> {
     }
 
     // Whether the token at the place is the terminal with the number.
-    fn matches_terminal(&self, terminal: u16, place: usize) -> bool
+    pub(crate) fn matches_terminal(&self, terminal: u16, place: usize) -> bool
         ensures { result ≡ settings.matches_terminal self.now terminal place }
     {
         let Some(token) = self.tokens.get(place) else {

@@ -8,7 +8,7 @@ use Rattle.std.proofs.Math.Nat.{suc-mul, mul-le-mul_right}
 use Rattle.std.proofs.lemmas.Bool.{eq-eqb, or_cases, eqb-true}
 use Rattle.std.proofs.lemmas.Option.{same_Some}
 use Rattle.wiki_base.proofs.BoolLaws.{and_first}
-use Rattle.derivation_scenes.proofs.ElementLemmas.{true_is_false}
+use Rattle.derivation_trees.proofs.TruthLemmas.{true_is_false}
 use Rattle.codeco_terms.specs.declared.values.Value.{Value}
 use Rattle.codeco_terms.specs.declared.values.Value.TheVariants.{Pos}
 use Rattle.codeco_terms.specs.declared.categories.Category.{Category}

@@ -15,7 +15,7 @@ use Rattle.derivation_trees.specs.Instances.{under}
 use Rattle.derivation_trees.specs.Derives.{At, Stand, pass, list_after}
 use Rattle.derivation_trees.specs.Stands.{Begins, is_sub}
 use Rattle.derivation_trees.proofs.StandLemmas.{Begins-refl, Begins-trans, pass_begins}
-use Rattle.derivation_scenes.specs.Starts.{may_start}
+use Rattle.derivation_trees.specs.Starts.{may_start}
 use Rattle.derivations.specs.Enumeration.{Path, Outcome, found_at, passed, joined, steps, all_steps, opened, ended_path, instances, may_begin, instance_trees, rule_trees, rules_trees, trees_of}
 
 -- what the members of a list have

@@ -20,7 +20,7 @@ use Rattle.derivation_trees.specs.Trees.{Node, nodes_from}
 use Rattle.derivation_trees.specs.Settings.{Setting, matches_terminal, matches_preterminal}
 use Rattle.derivation_trees.specs.Instances.{value_under, under, tests_under, own_values}
 use Rattle.derivation_trees.specs.Derives.{At, Stand, pass, pass_finding, run, begun, ended, phrase, phrase_of, phrases_of, rule_with, is_found, reference_tests}
-use Rattle.derivation_scenes.specs.Starts.{may_start}
+use Rattle.derivation_trees.specs.Starts.{may_start}
 use Rattle.derivations.specs.Enumeration.{Path, Outcome, found_at, passed, joined, steps, all_steps, opened, ended_path, instances, may_begin, instance_trees, rule_trees, rules_trees, trees_of}
 use Rattle.derivations.proofs.Members.{Among}
 use Rattle.derivations.proofs.StepLemmas.{stand_of, token_commutes, test_commutes, no_test_commutes, refit, Commutes}

@@ -3,7 +3,7 @@ use Rattle.std.proofs.Common.{◌≡◌, ℕ, ◌+◌, List, [], ◌∷◌, Bool
 use Rattle.std.specs.Prelude.{if◌then◌else◌, ◌==◌, option_and_then}
 use Rattle.std.specs.List.{list_any}
 use Rattle.std.proofs.lemmas.Option.{same_Some}
-use Rattle.derivation_scenes.proofs.KindLemmas.{kind_there}
+use Rattle.derivation_trees.proofs.KindLemmas.{kind_there}
 use Rattle.codeco_terms.specs.declared.values.Value.{Value}
 use Rattle.codeco_terms.specs.declared.values.Value.TheVariants.{Pos}
 use Rattle.codeco_terms.specs.declared.categories.Pattern.{Pattern}
@@ -14,7 +14,7 @@ use Rattle.scopes.specs.Resolution.{Finding, closest_finding, is_agreeing}
 use Rattle.derivation_trees.specs.Settings.{Setting, matches_terminal, matches_preterminal}
 use Rattle.derivation_trees.specs.Instances.{value_under, under, tests_under}
 use Rattle.derivation_trees.specs.Derives.{Stand, pass, pass_token, pass_finding, run, is_found, reference_tests}
-use Rattle.derivation_scenes.specs.Starts.{may_start}
+use Rattle.derivation_trees.specs.Starts.{may_start}
 
 token_matched : (b : Bool) (stand mid : Stand) → pass_token b stand ≡ Some mid → b ≡ true
 token_matched true stand mid h = refl

@@ -23,7 +23,7 @@ use Rattle.derivation_trees.specs.Trees.{Node, node, nodes_from}
 use Rattle.derivation_trees.specs.Settings.{Setting}
 use Rattle.derivation_trees.specs.Instances.{under, written_variables, rule_own_features, own_values, is_instance}
 use Rattle.derivation_trees.specs.Derives.{At, pass, reference_tests, fits, list_after}
-use Rattle.derivation_scenes.specs.Starts.{may_start}
+use Rattle.derivation_trees.specs.Starts.{may_start}
 
 -- A node of which some elements are passed: the positions that its references have found, its own variables to come, its
 -- children, and the place and the list where it stands.

@@ -15,8 +15,7 @@ use crate::listing::{may_begin, opened, step_all};
 use crate::paths::Path;
 use codeco_checked::CheckedGrammar;
 use codeco_terms::{Element, Rule, Value};
-use derivation_scenes::Scene;
-use derivation_trees::{readings_of, under};
+use derivation_trees::{Setting, readings_of, under};
 use lexicon::Lexicon;
 use lists::List;
 use scopes::{Access, Test};
@@ -24,13 +23,13 @@ use std::alloc::Global;
 use wiki_base::{Memory, Token};
 
 // Whether the path stands at the end of the tokens.
-fn is_at_end(setting: &Scene<'_>, path: &Path) -> bool
+fn is_at_end(setting: &Setting<'_>, path: &Path) -> bool
     ensures { result ≡ beginnings.is_at_end setting.now (path_of path.now) }
 {
     path.place as usize == setting.tokens.len()
 }
 
-fn any_at_end(setting: &Scene<'_>, paths: &[Path]) -> bool
+fn any_at_end(setting: &Setting<'_>, paths: &[Path]) -> bool
     ensures { result ≡ list_any (beginnings.is_at_end setting.now) (map path_of paths.now) }
 {
     for path in paths {
@@ -45,7 +44,7 @@ fn any_at_end(setting: &Scene<'_>, paths: &[Path]) -> bool
 #[cycle(cut)]
 fn enters(
     alloc: Global,
-    setting: &Scene<'_>,
+    setting: &Setting<'_>,
     depth: usize,
     values: &[(u8, Value)],
     element: &Element,
@@ -68,7 +67,7 @@ fn enters(
 #[cycle(cut)]
 fn any_enters(
     alloc: Global,
-    setting: &Scene<'_>,
+    setting: &Setting<'_>,
     depth: usize,
     values: &[(u8, Value)],
     element: &Element,
@@ -91,7 +90,7 @@ fn any_enters(
 #[cycle(cut)]
 fn goes_from(
     alloc: Global,
-    setting: &Scene<'_>,
+    setting: &Setting<'_>,
     depth: usize,
     values: &[(u8, Value)],
     body: &[Element],
@@ -121,7 +120,7 @@ fn goes_from(
 #[cycle(cut)]
 fn instance_cut(
     alloc: Global,
-    setting: &Scene<'_>,
+    setting: &Setting<'_>,
     depth: usize,
     wanted: &Test,
     place: u16,
@@ -145,7 +144,7 @@ fn instance_cut(
 #[cycle(cut)]
 fn any_instance(
     alloc: Global,
-    setting: &Scene<'_>,
+    setting: &Setting<'_>,
     depth: usize,
     wanted: &Test,
     place: u16,
@@ -180,7 +179,7 @@ fn any_instance(
 #[cycle(cut)]
 fn rule_cut(
     alloc: Global,
-    setting: &Scene<'_>,
+    setting: &Setting<'_>,
     depth: usize,
     wanted: &Test,
     place: u16,
@@ -212,7 +211,7 @@ fn rule_cut(
 #[cycle(cut)]
 fn any_rule(
     alloc: Global,
-    setting: &Scene<'_>,
+    setting: &Setting<'_>,
     depth: usize,
     wanted: &Test,
     place: u16,
@@ -238,7 +237,7 @@ fn any_rule(
 #[cycle(cut)]
 fn cut_of(
     alloc: Global,
-    setting: &Scene<'_>,
+    setting: &Setting<'_>,
     depth: usize,
     wanted: &Test,
     place: u16,
@@ -255,8 +254,8 @@ fn cut_of(
     any_rule(alloc, setting, depth - 1, wanted, place, list, rules)
 }
 
-// Whether the scene's tokens have a partial derivation.
-fn has_partial(alloc: Global, setting: &Scene<'_>) -> Result<bool, Memory>
+// Whether the setting's tokens have a partial derivation.
+fn has_partial(alloc: Global, setting: &Setting<'_>) -> Result<bool, Memory>
     requires { IsLimited setting.now.grammar }
 
     ensures { IfOk result (λ yes. yes ≡ beginnings.has_partial setting.now) }
@@ -279,7 +278,7 @@ pub(crate) fn is_beginning(
     ensures partial { IfOk result (λ yes. IsTrue yes ↔ IsBeginning grammar.now lexicon.now tokens.now) }
 {
     let readings = readings_of(alloc, lexicon, tokens)?;
-    let setting = Scene {
+    let setting = Setting {
         grammar: grammar.grammar(),
         tokens,
         readings: readings.as_slice(),

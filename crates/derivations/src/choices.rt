@@ -7,8 +7,7 @@ ghost use Rattle.derivations.specs.Choices.{choice_of};
 
 use crate::values::{feature_values, given, position_values};
 use codeco_terms::{Element, Pattern, Rule, Term, Value};
-use derivation_scenes::Scene;
-use derivation_trees::{push_own_features, written_variables};
+use derivation_trees::{Setting, push_own_features, written_variables};
 use lists::List;
 use scopes::Test;
 use std::alloc::Global;
@@ -140,7 +139,7 @@ fn fixed_at(pairs: &[(u16, Value)], variable: u8, terms: &[Feat]) -> Option<u16>
 // The values to be tried for the variable where it isn't fixed.
 fn free_values(
     alloc: Global,
-    setting: &Scene<'_>,
+    setting: &Setting<'_>,
     terms: &[Feat],
     variable: u8,
 ) -> Result<List<Value>, Memory>
@@ -155,7 +154,7 @@ fn free_values(
 // The values to be tried for the variable.
 fn tried(
     alloc: Global,
-    setting: &Scene<'_>,
+    setting: &Setting<'_>,
     rule: &Rule,
     terms: &[Feat],
     wanted: &Test,
@@ -185,7 +184,7 @@ fn variable_number(number: usize) -> Result<u8, Memory>
 #[tactic(auto, using(crate::proofs::LoopLemmas::choices_push))]
 fn push_tried(
     alloc: Global,
-    setting: &Scene<'_>,
+    setting: &Setting<'_>,
     rule: &Rule,
     terms: &[Feat],
     wanted: &Test,
@@ -206,7 +205,7 @@ fn push_tried(
 // Adds the written variables with the values to be tried.
 fn push_written(
     alloc: Global,
-    setting: &Scene<'_>,
+    setting: &Setting<'_>,
     rule: &Rule,
     wanted: &Test,
     out: &mut List<Choice>,
@@ -230,7 +229,7 @@ fn push_written(
 // Adds the features of the own variables of the elements.
 fn push_all_own(
     alloc: Global,
-    setting: &Scene<'_>,
+    setting: &Setting<'_>,
     body: &[Element],
     out: &mut Vec<u16>,
 ) -> Result<(), Memory>
@@ -243,7 +242,7 @@ fn push_all_own(
 }
 
 // The features of the rule's own variables.
-fn own_features_of(alloc: Global, setting: &Scene<'_>, rule: &Rule) -> Result<Vec<u16>, Memory>
+fn own_features_of(alloc: Global, setting: &Setting<'_>, rule: &Rule) -> Result<Vec<u16>, Memory>
     ensures { IfOk result (λ features. features.items ≡ enumeration.own_features_of setting.now rule.now) }
 {
     let mut features = Vec::new(alloc);
@@ -255,7 +254,7 @@ fn own_features_of(alloc: Global, setting: &Scene<'_>, rule: &Rule) -> Result<Ve
 #[tactic(auto, using(crate::proofs::LoopLemmas::choices_push, crate::proofs::LoopLemmas::own_next))]
 fn push_own(
     alloc: Global,
-    setting: &Scene<'_>,
+    setting: &Setting<'_>,
     features: &[u16],
     out: &mut List<Choice>,
 ) -> Result<(), Memory>
@@ -275,7 +274,7 @@ fn push_own(
 // The variables of the rule with the values to be tried.
 fn choices(
     alloc: Global,
-    setting: &Scene<'_>,
+    setting: &Setting<'_>,
     rule: &Rule,
     wanted: &Test,
 ) -> Result<List<Choice>, Memory>
@@ -356,7 +355,7 @@ fn chosen(alloc: Global, choices: &[Choice], done: List<Bound>) -> Result<List<B
 // The instances of the rule whose head may fit the category.
 pub(crate) fn instances(
     alloc: Global,
-    setting: &Scene<'_>,
+    setting: &Setting<'_>,
     rule: &Rule,
     wanted: &Test,
 ) -> Result<List<Bound>, Memory>

@@ -15,7 +15,6 @@ ghost use Rattle.wiki_base.specs.declared.tokens.TheConstants.{MOST_TOKENS};
 use crate::listing::trees_of;
 use crate::paths::Outcome;
 use codeco_checked::{CheckedGrammar, FIRST_PLAIN};
-use derivation_scenes::Scene;
 use derivation_trees::{Setting, Skeleton, Tree, check_tree, readings_of, sketch_of};
 use lexicon::Lexicon;
 use lists::List;
@@ -114,16 +113,16 @@ pub(crate) fn depth_for(tokens: usize, rules: usize) -> Result<usize, Memory>
     places.checked_mul(names).ok_or(Memory)
 }
 
-pub(crate) fn token_count(scene: &Scene<'_>) -> usize
-    ensures { result ≡ length scene.now.tokens }
+pub(crate) fn token_count(setting: &Setting<'_>) -> usize
+    ensures { result ≡ length setting.now.tokens }
 {
-    scene.tokens.len()
+    setting.tokens.len()
 }
 
-pub(crate) fn rule_count(scene: &Scene<'_>) -> usize
-    ensures { result ≡ length scene.now.grammar.rules }
+pub(crate) fn rule_count(setting: &Setting<'_>) -> usize
+    ensures { result ≡ length setting.now.grammar.rules }
 {
-    scene.grammar.rules().len()
+    setting.grammar.rules().len()
 }
 
 // The category of sentences, without features.
@@ -137,13 +136,13 @@ pub(crate) fn text(alloc: Global) -> Test
 }
 
 // All trees for `text` from place 0 and the empty list.
-fn all_trees(alloc: Global, scene: &Scene<'_>, depth: usize) -> Result<List<Outcome>, Memory>
-    requires { IsLimited scene.now.grammar }
+fn all_trees(alloc: Global, setting: &Setting<'_>, depth: usize) -> Result<List<Outcome>, Memory>
+    requires { IsLimited setting.now.grammar }
     ensures { IfOk result (λ outcomes. map outcome_of outcomes
-        ≡ enumeration.trees_of scene.now depth text_category (record { place = 0; list = [] })) }
+        ≡ enumeration.trees_of setting.now depth text_category (record { place = 0; list = [] })) }
 {
     let list = Access::empty(alloc);
-    trees_of(alloc, scene, depth, &text(alloc), 0, &list)
+    trees_of(alloc, setting, depth, &text(alloc), 0, &list)
 }
 
 // The least skeleton of the setting's tokens.
@@ -153,19 +152,17 @@ fn least_in(
     lexicon: &Lexicon,
     tokens: &Tokens,
     setting: &Setting<'_>,
-    scene: &Scene<'_>,
 ) -> Result<Option<Skeleton>, Memory>
     requires few { length tokens.now ≤ MOST_TOKENS }
     requires same { setting.now ≡ setting_of grammar.now lexicon.now tokens.now }
-    requires alike { scene.now ≡ setting.now }
     requires sound { IsSound setting.now.grammar }
     requires limited { IsLimited setting.now.grammar }
 
     ensures least { IfOk result (λ least. IfSome least (IsLeast setting.now)) }
     ensures none { IfOk result (λ least. IfNone least ((tree : Node) → IsDerivation setting.now tree → ⊥)) }
 {
-    let depth = depth_for(token_count(scene), rule_count(scene))?;
-    let outcomes = all_trees(alloc, scene, depth)?;
+    let depth = depth_for(token_count(setting), rule_count(setting))?;
+    let outcomes = all_trees(alloc, setting, depth)?;
     least_of(
         alloc,
         grammar,
@@ -198,10 +195,5 @@ pub fn plain_least(
         tokens: tokens.as_slice(),
         readings: readings.as_slice(),
     };
-    let scene = Scene {
-        grammar: grammar.grammar(),
-        tokens: tokens.as_slice(),
-        readings: readings.as_slice(),
-    };
-    least_in(alloc, grammar, lexicon, tokens, &setting, &scene)
+    least_in(alloc, grammar, lexicon, tokens, &setting)
 }

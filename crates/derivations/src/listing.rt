@@ -8,8 +8,9 @@ ghost use Rattle.derivations.specs.Paths.{path_of, outcome_of};
 use crate::choices::{Bound, instances};
 use crate::paths::{Outcome, Path, copy_found, copy_pairs, joined, push_passed};
 use codeco_terms::{Element, Rule, Value};
-use derivation_scenes::{Scene, is_instance, may_start};
-use derivation_trees::{Binds, Places, Tree, Trees, closed, fits, own_values, under};
+use derivation_trees::{
+    Binds, Places, Setting, Tree, Trees, closed, fits, is_instance, may_start, own_values, under,
+};
 use lists::List;
 use scopes::{Access, Test};
 use std::alloc::Global;
@@ -37,7 +38,7 @@ fn push_children(
 #[cycle(listing)]
 fn push_steps(
     alloc: Global,
-    setting: &Scene<'_>,
+    setting: &Setting<'_>,
     depth: usize,
     values: &[(u8, Value)],
     element: &Element,
@@ -64,7 +65,7 @@ fn push_steps(
 #[cycle(listing)]
 pub(crate) fn step_all(
     alloc: Global,
-    setting: &Scene<'_>,
+    setting: &Setting<'_>,
     depth: usize,
     values: &[(u8, Value)],
     element: &Element,
@@ -107,7 +108,7 @@ pub(crate) fn opened(
 #[cycle(listing)]
 fn run_all(
     alloc: Global,
-    setting: &Scene<'_>,
+    setting: &Setting<'_>,
     depth: usize,
     values: &[(u8, Value)],
     body: &[Element],
@@ -200,7 +201,7 @@ fn push_ends(
 // Whether the values are an instance of the rule whose head fits the category.
 pub(crate) fn may_begin(
     alloc: Global,
-    setting: &Scene<'_>,
+    setting: &Setting<'_>,
     rule: &Rule,
     wanted: &Test,
     values: &[(u8, Value)],
@@ -218,7 +219,7 @@ pub(crate) fn may_begin(
 #[tactic(auto, using(crate::proofs::LoopLemmas::nothing_ended))]
 fn push_instance_ends(
     alloc: Global,
-    setting: &Scene<'_>,
+    setting: &Setting<'_>,
     wanted: &Test,
     number: u16,
     rule: &Rule,
@@ -242,7 +243,7 @@ fn push_instance_ends(
 #[cycle(listing)]
 fn push_instance_trees(
     alloc: Global,
-    setting: &Scene<'_>,
+    setting: &Setting<'_>,
     depth: usize,
     wanted: &Test,
     place: u16,
@@ -281,7 +282,7 @@ fn push_instance_trees(
 #[cycle(listing)]
 fn push_rule_trees(
     alloc: Global,
-    setting: &Scene<'_>,
+    setting: &Setting<'_>,
     depth: usize,
     wanted: &Test,
     place: u16,
@@ -318,7 +319,7 @@ fn push_rule_trees(
 #[cycle(listing)]
 fn push_all_instances(
     alloc: Global,
-    setting: &Scene<'_>,
+    setting: &Setting<'_>,
     depth: usize,
     wanted: &Test,
     place: u16,
@@ -363,7 +364,7 @@ fn next_number(number: u16) -> Result<u16, Memory>
 #[cycle(listing)]
 fn push_rules(
     alloc: Global,
-    setting: &Scene<'_>,
+    setting: &Setting<'_>,
     depth: usize,
     wanted: &Test,
     place: u16,
@@ -392,7 +393,7 @@ fn push_rules(
 #[cycle(listing)]
 pub(crate) fn trees_of(
     alloc: Global,
-    setting: &Scene<'_>,
+    setting: &Setting<'_>,
     depth: usize,
     wanted: &Test,
     place: u16,

@@ -8,8 +8,7 @@ ghost use Rattle.derivations.specs.Enumeration as enumeration;
 ghost use Rattle.derivations.specs.Paths.{path_of, outcome_of};
 
 use codeco_terms::{Element, Patterns, Value};
-use derivation_scenes::{Scene, pass};
-use derivation_trees::{Progress, Tree, Trees, tests_under};
+use derivation_trees::{Progress, Setting, Tree, Trees, pass, tests_under};
 use lists::List;
 use scopes::{Access, Found, Tests};
 use std::alloc::Global;
@@ -101,7 +100,7 @@ fn reference_at(
 // What a backward reference finds.
 fn found_at(
     alloc: Global,
-    setting: &Scene<'_>,
+    setting: &Setting<'_>,
     values: &[(u8, Value)],
     element: &Element,
     list: &Access,
@@ -118,7 +117,7 @@ fn found_at(
 // Adds the path after an element that is no category.
 pub(crate) fn push_passed(
     alloc: Global,
-    setting: &Scene<'_>,
+    setting: &Setting<'_>,
     values: &[(u8, Value)],
     element: &Element,
     path: &Path,

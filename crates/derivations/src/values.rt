@@ -5,7 +5,7 @@ ghost use Rattle.codeco_terms.specs.Values.{same_value};
 ghost use Rattle.derivations.specs.Enumeration as enumeration;
 
 use codeco_terms::{Declared, Ground, Value};
-use derivation_scenes::Scene;
+use derivation_trees::Setting;
 use lexicon::Readings;
 use lists::List;
 use std::alloc::Global;
@@ -76,7 +76,7 @@ fn add_all_words(values: &mut List<Value>, all: &[Readings]) -> Result<(), Memor
 }
 
 // Word 0 and the words with a form among the tokens.
-fn word_values(alloc: Global, setting: &Scene<'_>) -> Result<List<Value>, Memory>
+fn word_values(alloc: Global, setting: &Setting<'_>) -> Result<List<Value>, Memory>
     ensures { IfOk result (λ values. values ≡ enumeration.word_values setting.now) }
 {
     let mut values = List::new(alloc);
@@ -86,7 +86,7 @@ fn word_values(alloc: Global, setting: &Scene<'_>) -> Result<List<Value>, Memory
 }
 
 #[tactic(auto, using(crate::proofs::LoopLemmas::positions_more))]
-pub(crate) fn position_values(alloc: Global, setting: &Scene<'_>) -> Result<List<Value>, Memory>
+pub(crate) fn position_values(alloc: Global, setting: &Setting<'_>) -> Result<List<Value>, Memory>
     ensures { IfOk result (λ values. values ≡ enumeration.position_values setting.now) }
 {
     let mut values = List::new(alloc);
@@ -110,7 +110,7 @@ fn atom_values(alloc: Global, atoms: &[u16]) -> Result<List<Value>, Memory>
 // The values that are declared.
 fn declared_values(
     alloc: Global,
-    setting: &Scene<'_>,
+    setting: &Setting<'_>,
     declared: &Declared,
 ) -> Result<List<Value>, Memory>
     ensures { IfOk result (λ values. values ≡ enumeration.declared_values setting.now declared.now) }
@@ -126,7 +126,7 @@ fn declared_values(
 // The values of the feature with the number.
 pub(crate) fn feature_values(
     alloc: Global,
-    setting: &Scene<'_>,
+    setting: &Setting<'_>,
     feature: u16,
 ) -> Result<List<Value>, Memory>
     ensures { IfOk result (λ values. values ≡ enumeration.feature_values setting.now feature) }

@@ -4,7 +4,7 @@ use Rattle.std.proofs.lemmas.List.{take_more, length-take-le, length-map, take-a
 use Rattle.std.proofs.lemmas.Bool.{cases_lt}
 use Rattle.wiki_base.specs.declared.tokens.TheConstants.{MOST_TOKENS}
 use Rattle.chart.proofs.DropLemmas.{first_set}
-use Rattle.derivation_scenes.proofs.ElementLemmas.{true_is_false}
+use Rattle.derivation_trees.proofs.TruthLemmas.{true_is_false}
 use Rattle.codeco_terms.specs.declared.categories.Ground.{Ground}
 use Rattle.codeco_terms.specs.GrammarParts.{GrammarParts}
 use Rattle.codeco_checked.specs.Sound.{IsSound}

@@ -8,7 +8,7 @@ use Rattle.wiki_base.specs.declared.numbers.WordId.{WordId}
 use Rattle.wiki_base.specs.Text.{IsText}
 use Rattle.wiki_base.specs.Token.{IsToken}
 use Rattle.derivations.proofs.TypingLemmas.{form_of_group}
-use Rattle.derivation_scenes.proofs.ElementLemmas.{true_is_false}
+use Rattle.derivation_trees.proofs.TruthLemmas.{true_is_false}
 use Rattle.codeco_text.specs.Names.{is_terminal as is_terminal_text}
 use Rattle.codeco_terms.specs.GrammarParts.{GrammarParts}
 use Rattle.codeco_checked.specs.Sound.{IsSound}

@@ -8,7 +8,7 @@ use Rattle.std.proofs.lemmas.Bool.{cases_lt}
 use Rattle.std.proofs.lemmas.Option.{option_and_then_some, same_Some}
 use Rattle.wiki_base.proofs.ListLaws.{slice_get_mapped}
 use Rattle.chart.proofs.OfferLemmas.{one_terminal}
-use Rattle.derivation_scenes.proofs.ElementLemmas.{true_is_false}
+use Rattle.derivation_trees.proofs.TruthLemmas.{true_is_false}
 use Rattle.codeco_terms.specs.declared.values.Value.{Value}
 use Rattle.codeco_terms.specs.declared.values.Value.TheVariants.{Pos}
 use Rattle.codeco_terms.specs.declared.categories.Pattern.{Pattern}

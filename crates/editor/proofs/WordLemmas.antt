@@ -7,7 +7,7 @@ use Rattle.std.proofs.lemmas.Slice.Eq.{bytes_eq-Decides}
 use Rattle.wiki_base.proofs.OptionLaws.{option_or-first_none, option_or-second_none}
 use Rattle.lexicon.proofs.Adding.{free_texts}
 use Rattle.derivation_trees.proofs.ReadingLemmas.{no_readings, unread}
-use Rattle.derivation_scenes.proofs.ElementLemmas.{true_is_false}
+use Rattle.derivation_trees.proofs.TruthLemmas.{true_is_false}
 use Rattle.codeco_terms.specs.declared.categories.Ground.{Ground}
 use Rattle.codeco_terms.specs.GrammarParts.{GrammarParts}
 use Rattle.lexicon.specs.declared.kinds.Forms.{Forms}

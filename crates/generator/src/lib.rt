@@ -4,8 +4,6 @@
 mod drawn;
 mod requests;
 mod summary;
-#[cfg(test)]
-mod tests;
 
 pub use drawn::next_draw;
 pub use requests::{read_request, sentence_of_kind, word_request};

@@ -74,22 +74,3 @@ impl Copied for Forms {
         })
     }
 }
-
-#[cfg(test)]
-mod tests {
-    use super::*;
-    use std::test::Fail;
-
-    #[test]
-    fn texts_are_lent_and_given_back(rt: HostRuntime) -> Result<(), Fail> {
-        let mut items = Vec::new(rt.alloc());
-        items.push(Text::read(rt.alloc(), "Bern")?)?;
-        let texts = Texts::from_vec(items);
-        assert!(rt; !texts.is_empty());
-        assert_eq!(rt; texts.len(), Kind::Name.form_count());
-        assert_eq!(rt; texts.get(0).as_str(), "Bern");
-        assert_eq!(rt; texts.copy()?.len(), 1);
-        assert_eq!(rt; texts.into_vec().len(), 1);
-        Ok(())
-    }
-}

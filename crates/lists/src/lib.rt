@@ -11,6 +11,3 @@ pub use boxed::Boxed;
 pub use copied::Copied;
 pub use list::List;
 pub use memory::Memory;
-
-#[cfg(test)]
-mod tests;

@@ -11,8 +11,6 @@ mod opposing;
 mod parts;
 mod statements;
 mod structures;
-#[cfg(test)]
-mod tests;
 
 pub use cause::Cause;
 pub use complement::negated;

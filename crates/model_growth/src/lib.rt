@@ -5,7 +5,5 @@
 mod draft;
 mod growing;
 mod mentions;
-#[cfg(test)]
-mod tests;
 
 pub use growing::grow;

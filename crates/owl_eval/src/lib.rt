@@ -8,8 +8,6 @@ mod interp;
 mod membership;
 mod relation;
 mod sorted;
-#[cfg(test)]
-mod tests;
 mod truth;
 
 pub use axioms::{axiom_true, is_model};

@@ -5,8 +5,6 @@ mod article;
 mod html;
 mod index;
 mod session;
-#[cfg(test)]
-mod tests;
 
 ghost use Rattle.std.specs.Prelude.{◌≡◌, IfOk, option_map};
 ghost use Rattle.pages.specs.Pages.{page_of, refusal_body, refusal_page};

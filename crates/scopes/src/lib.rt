@@ -5,8 +5,6 @@
 mod access;
 mod agreement;
 mod entries;
-#[cfg(test)]
-mod tests;
 
 pub use access::{Access, Found};
 pub use agreement::{Test, TestList, TestValues, Tests, agrees, has_value};

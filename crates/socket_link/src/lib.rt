@@ -4,17 +4,11 @@
 
 mod head;
 mod link;
-#[cfg(test)]
-mod memory;
 mod numbers;
 mod place;
 mod places;
 mod socket;
 mod tcp;
-#[cfg(test)]
-mod tests;
-#[cfg(test)]
-mod tests_over_tcp;
 
 pub use link::SocketLink;
 pub use numbers::Numbers;

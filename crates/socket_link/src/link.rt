@@ -6,8 +6,6 @@ ghost use Rattle.wiki_io.specs.Link.{is_among, without, can_all_come, connection
 ghost use Rattle.wiki_io.specs.Sink.{TookFits, IfTook};
 ghost use Rattle.socket_link.specs.Round.{HandsIn};
 
-#[cfg(test)]
-use crate::memory::MemorySockets;
 use crate::place::Times;
 use crate::places::{Places, Turn};
 use crate::socket::{Accepted, Moved, Sockets};
@@ -56,16 +54,6 @@ impl<'a, R: Net + Clock> SocketLink<TcpSockets<'a, R>> {
     }
 }
 
-#[cfg(test)]
-impl SocketLink<MemorySockets> {
-    // Lets so many seconds pass.
-    pub(crate) fn passes(&mut self, seconds: u64)
-        ensures { self.new.connections ≡ self.old.connections }
-    {
-        self.places.sockets_again().passes(seconds);
-    }
-}
-
 impl<S: Sockets> SocketLink<S> {
     /// A link without connections that listens nowhere yet.
     pub fn over(alloc: Global, sockets: S, times: Times) -> Result<Self, Memory>
@@ -80,11 +68,6 @@ impl<S: Sockets> SocketLink<S> {
             faults: 0,
             send_faults: 0,
         })
-    }
-
-    #[cfg(test)]
-    pub(crate) fn sockets(&mut self) -> &mut S {
-        self.places.sockets_again()
     }
 
     /// Waits until what was taken to be sent on closed connections is written, at most for about the time.

@@ -77,11 +77,6 @@ impl<S: Sockets> Places<S> {
         &self.sockets
     }
 
-    #[cfg(test)]
-    pub(crate) fn sockets_again(&mut self) -> &mut S {
-        &mut self.sockets
-    }
-
     pub(crate) fn listen(&mut self, address: &str) -> bool
         ensures ready { IsTrue result → IsTrue (S.listens_at self.new.sockets address.now) }
         ensures unready { result ≡ false → S.listens_at self.new.sockets ≡ S.listens_at self.old.sockets }

@@ -15,6 +15,3 @@ pub fn search_ends()
     ensures nodes { (k : Theory) → IsTrue (is_plain_theory k) → (g : Graph) → IsBranch k g → length g.nodes ≤ most_nodes k }
     ensures ends { (k : Theory) → IsTrue (is_plain_theory k) → (n : ℕ) → enough k ≤ n → ¬ IsLonger k n }
 {}
-
-#[cfg(test)]
-mod tests;

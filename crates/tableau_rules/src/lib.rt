@@ -14,8 +14,6 @@ mod neighbour;
 mod rows;
 mod starting;
 mod step;
-#[cfg(test)]
-mod tests;
 
 pub use blocking::{is_blocked, is_directly_blocked, is_indirectly_blocked};
 pub use branch::{Branch, Edge, Node};

@@ -1,7 +1,14 @@
-//! Derivation trees of the built-in grammar, and trees that break a rule: tests alone.
+//! Derivation trees of the built-in grammar, and trees that break a rule; how texts are cut and shown, what references
+//! find, and sentences that are generated: tests alone.
 #![tactic(auto)]
 
 #[cfg(test)]
+mod generated;
+#[cfg(test)]
+mod referents;
+#[cfg(test)]
 mod rows;
+#[cfg(test)]
+mod showing;
 #[cfg(test)]
 mod tests;

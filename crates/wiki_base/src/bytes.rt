@@ -117,31 +117,3 @@ impl Copied for Text8 {
         })
     }
 }
-
-#[cfg(test)]
-mod tests {
-    use super::*;
-    use std::test::Fail;
-
-    #[test]
-    fn texts_are_added_and_copied(rt: HostRuntime) -> Result<(), Fail> {
-        let mut text = Text8::new(rt.alloc());
-        text.push_str("Zü")?;
-        text.push_str("rich")?;
-        assert_eq!(rt; text.copy()?.as_str(), "Zürich");
-        assert_eq!(rt; text.as_bytes().len(), 7);
-        assert_eq!(rt;
-            Text8::from_str(rt.alloc(), "x")?.into_vec().as_slice(),
-            b"x".as_slice()
-        );
-        Ok(())
-    }
-
-    #[test]
-    fn bytes_that_are_no_utf8_are_no_text(rt: HostRuntime) -> Result<(), Fail> {
-        let text = Text8::from_utf8(b"a".to_vec(rt.alloc())?);
-        assert!(rt; text.is_some_and(|text| text.as_str() == "a"));
-        assert!(rt; Text8::from_utf8([0xC3].to_vec(rt.alloc())?).is_none());
-        Ok(())
-    }
-}

@@ -56,22 +56,3 @@ impl Copied for Token {
 
 /// A list of tokens.
 pub type Tokens = List<Token>;
-
-#[cfg(test)]
-mod tests {
-    use super::*;
-    use std::test::Fail;
-
-    #[test]
-    fn tokens_are_kept_in_order(rt: HostRuntime) -> Result<(), Fail> {
-        let mut tokens = Tokens::new(rt.alloc());
-        tokens.push(Token::from_str(rt.alloc(), "every")?)?;
-        tokens.push(Token::from_str(rt.alloc(), "man")?)?;
-        let copy = tokens.copy()?;
-        assert_eq!(rt; copy.len(), 2);
-        assert!(rt; !copy.is_empty());
-        assert_eq!(rt; copy.get(1).as_str(), "man");
-        assert_eq!(rt; Tokens::from_vec(copy.into_vec()).as_slice().len(), 2);
-        Ok(())
-    }
-}

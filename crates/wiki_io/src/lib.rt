@@ -18,6 +18,3 @@ pub use reader::{Line, LineReader};
 pub use sinks::{Sink, Took, put};
 pub use sources::{Got, Source};
 pub use streams::{ReadSource, WriteSink};
-
-#[cfg(test)]
-mod tests;

@@ -362,35 +362,3 @@ impl Link for MemoryLink {
         shut(&mut self.connections, connection);
     }
 }
-
-#[cfg(test)]
-mod tests {
-    use super::*;
-    use std::test::Fail;
-
-    #[test]
-    fn what_cant_come_is_left_out_and_calls_fail_by_their_numbers(
-        rt: HostRuntime,
-    ) -> Result<(), Fail> {
-        let alloc = rt.alloc();
-        let mut script = VecDeque::new(alloc);
-        script.push_back(Event::Opened(1))?;
-        script.push_back(Event::Opened(1))?;
-        script.push_back(Event::Piece(1, Bytes::from_slice(alloc, b"abc")?))?;
-        script.push_back(Event::Ended(1))?;
-        script.push_back(Event::Piece(1, Bytes::from_slice(alloc, b"d")?))?;
-        let mut fails = Fails::none(alloc);
-        fails.next.push(2)?;
-        fails.send.push(1)?;
-        let mut link = MemoryLink::in_pieces(alloc, script, fails, 2);
-        let mut buffer = [0; 8];
-        assert_eq!(rt; link.listen("anywhere"), Listen::Ready);
-        assert_eq!(rt; link.next(&mut buffer), Next::Opened(1));
-        assert_eq!(rt; link.next(&mut buffer), Next::Failed);
-        assert_eq!(rt; link.next(&mut buffer), Next::Bytes(1, 3));
-        assert_eq!(rt; &buffer[..3], b"abc".as_slice());
-        assert_eq!(rt; link.next(&mut buffer), Next::Ended(1));
-        assert_eq!(rt; link.next(&mut buffer), Next::Over);
-        Ok(())
-    }
-}

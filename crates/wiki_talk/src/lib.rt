@@ -8,8 +8,6 @@ mod refusals;
 mod replies;
 mod requests;
 mod statuses;
-#[cfg(test)]
-mod tests;
 
 pub use causes::cause_name;
 pub use kinds::{kind_name, kind_named};

@@ -7,8 +7,6 @@ mod refusals;
 mod sentences;
 mod sessions;
 mod statuses;
-#[cfg(test)]
-mod tests;
 mod values;
 mod write;
 

@@ -1,5 +1,5 @@
 use Rattle.std.proofs.Common.{◌≡◌, false, rules, sym, ◌∙◌}
-use Rattle.derivation_scenes.proofs.ElementLemmas.{true_is_false}
+use Rattle.derivation_trees.proofs.TruthLemmas.{true_is_false}
 use Rattle.derivations.proofs.LeastLemmas.{lesser_none, lesser_other, lesser_old}
 use Rattle.chart_trees.proofs.skeletons.lesser.Goals as goal
 

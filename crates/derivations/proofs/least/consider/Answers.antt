@@ -1,6 +1,6 @@
 use Rattle.std.proofs.Common.{◌≡◌, true, false, rules, sym, subst, ◌∙◌}
 use Rattle.std.proofs.lemmas.Bool.{not-true, not-false}
-use Rattle.derivation_scenes.proofs.ElementLemmas.{true_is_false}
+use Rattle.derivation_trees.proofs.TruthLemmas.{true_is_false}
 use Rattle.derivation_trees.specs.Trees.{node_of}
 use Rattle.derivation_trees.specs.Derives.{IsDerivation}
 use Rattle.derivations.specs.Listed.{IsLesser}

@@ -1,5 +1,5 @@
 use Rattle.std.proofs.Common.{◌≡◌, ◌+◌, ◌-◌, ◌<◌, ◌≤◌, length, take, true, rules, sym, ◌∙◌, subst, arith}
-use Rattle.derivation_scenes.proofs.ElementLemmas.{true_is_false}
+use Rattle.derivation_trees.proofs.TruthLemmas.{true_is_false}
 use Rattle.derivation_trees.specs.Partial.{IsBeginning}
 use Rattle.derivations.proofs.TypingLemmas.{AreBeginnings, count_stops, count_all, one_beginning_more}
 use Rattle.wiki_parts.proofs.typing.typeable_count.Goals as goal

@@ -1,6 +1,0 @@
-use Rattle.std.proofs.Common.{◌≡◌, map, take}
-use Rattle.codeco_printer.specs.Smallest.{undeclared_feature}
-use Rattle.codeco_printer.proofs.tests.undeclared.Given as goal
-
-abbrev pub invariant-loop-name : goal.invariant-loop-name
-invariant-loop-name l = l.made ≡ map (λ name. undeclared_feature name.now) (take l.name-index l.names)

@@ -1,2 +1,0 @@
-pub mod TokenElements
-pub mod Starts

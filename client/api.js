@@ -30,14 +30,16 @@ export function ask(name, members) {
 // For how long the present request has been waited for, in milliseconds.
 export const waited = () => running ? performance.now() - running.since : 0;
 
-export function stopWaiting() {
-    if (running) { running.controller.abort(); }
-}
+export const stopWaiting = () => running && running.controller.abort();
 
 // For a page that is being left: the answer is not waited for.
-export function tellLast(name, members) {
-    send(name, members, { keepalive: true }).catch(() => {});
-}
+export const tellLast = (name, members) => send(name, members, { keepalive: true }).catch(() => {});
+
+// For what may be refused in this way, which then counts as this reply.
+export const unless = (refusal, reply) => (error) => {
+    if (error.is && error.is(refusal)) { return reply; }
+    throw error;
+};
 
 async function patiently(name, members) {
     for (let left = READS.has(name) ? TRIES_OF_A_READ : 1; ; left -= 1) {

@@ -49,10 +49,7 @@ class ArticleView {
     async begin(place) {
         await load();
         const word = wordOf(this.name);
-        if (!word) {
-            this.showMissing();
-            return;
-        }
+        if (!word) { return this.showMissing(); }
         this.name = nameOf(word);
         fill(this.heading, make('bdi', {}, this.name));
         fill(this.wordPlace, wordPanel(word));
@@ -209,8 +206,7 @@ class ArticleView {
         this.foot.hidden = false;
         [...this.list.children].forEach((it) => it.classList.remove('edited'));
         (this.edited && this.edited.element.isConnected ? this.edited.element : this.foot.firstElementChild).focus();
-        this.editor = null;
-        this.edited = null;
+        Object.assign(this, { editor: null, edited: null });
     }
 
     append(tokens) {

@@ -1,6 +1,6 @@
 // How an article changed, and how one of its sentences is changed without overwriting what somebody else did.
 import { ask } from './api.js';
-import { complain, explained, make } from './page.js';
+import { complain, isDone, make } from './page.js';
 
 export const sameSentence = (one, other) => one !== undefined && other !== undefined && one.text === other.text && one.status === other.status;
 export const sameSentences = (one, other) => one.length === other.length && one.every((sentence, at) => sameSentence(sentence, other[at]));
@@ -37,14 +37,7 @@ export async function change(article, shown, at, name, members) {
         complain('Nothing was sent, since somebody else changed this place of the article. Look at it, and try again.', whatChanged(shown, before));
         return { now: before, done: false };
     }
-    let done = true;
-    try {
-        await ask(name, { article, at, ...members });
-    } catch (error) {
-        if (!error.uncertain) { throw error; }
-        complain(explained(error));
-        done = false;
-    }
+    const done = await isDone(ask(name, { article, at, ...members }));
     const now = await ask('read', { article });
     compare(before, now, done);
     return { now, done };

@@ -5,8 +5,7 @@ import { Menu } from './menu.js';
 import { attempt, button, fill, freshId, make, quoted } from './page.js';
 import { wordForm } from './wordform.js';
 
-const MOST_TOKENS = 40;
-const LONGEST_INPUT = 4000;
+const [MOST_TOKENS, LONGEST_INPUT] = [40, 4000];
 const FIELD = { type: 'text', class: 'next', dir: 'auto', spellcheck: 'false', autocapitalize: 'off', autocomplete: 'off', maxlength: LONGEST_INPUT,
     role: 'combobox', 'aria-label': 'Next word', 'aria-expanded': 'true', 'aria-autocomplete': 'list' };
 
@@ -16,7 +15,7 @@ export class Editor {
         this.settings = settings;
         this.tokens = settings.tokens.slice();
         this.state = { turn: 0, isCurrent: false, isWhole: false, isRunning: false, isPressed: false };
-        this.menu = new Menu((token) => this.take(token), (element) => this.point(element));
+        this.menu = new Menu((token) => this.take(token), (element) => this.input.setAttribute('aria-activedescendant', element ? element.id : ''));
         this.typed = make('bdi', { id: freshId('typed'), class: 'typed-text' });
         this.input = make('input', { ...FIELD, 'aria-controls': this.menu.id, 'aria-describedby': this.typed.id });
         this.note = make('div', { class: 'note', role: 'status' });
@@ -129,12 +128,9 @@ export class Editor {
     }
 
     escape(isEmpty) {
-        if (isEmpty && this.tokens.length === 0) {
-            this.settings.cancel();
-        } else {
-            this.input.value = '';
-            this.changed();
-        }
+        if (isEmpty && this.tokens.length === 0) { return this.settings.cancel(); }
+        this.input.value = '';
+        return this.changed();
     }
 
     changed() {
@@ -187,14 +183,6 @@ export class Editor {
     putBack(place) {
         this.input.value = (this.tokens.slice(place).join(' ') + ' ' + this.input.value).trim();
         this.tokens = this.tokens.slice(0, place);
-    }
-
-    point(element) {
-        if (element) {
-            this.input.setAttribute('aria-activedescendant', element.id);
-        } else {
-            this.input.removeAttribute('aria-activedescendant');
-        }
     }
 
     show() {

@@ -15,8 +15,7 @@ let byForm = new Map();
 let plainForms = new Map();
 
 export async function load() {
-    const reply = await ask('words', {});
-    words = reply.words;
+    ({ words } = await ask('words', {}));
     byForm = new Map(words.flatMap((word) => word.forms.map((form) => [form, word])));
     plainForms = new Map(words.map((word) => [word, word.forms.map(plain)]));
 }

@@ -23,12 +23,9 @@ async function readAndDraw(content, state) {
         [bar.max, bar.value] = [all, read];
         return !state.stopped;
     }).catch((error) => { complain(explained(error)); return null; });
-    if (facts === null) {
-        state.stopped = false;
-        fill(content, make('p', {}, 'Stopped before all was read.'), button('Read on', () => readAndDraw(content, state)));
-        return;
-    }
-    show(content, facts, state);
+    if (facts !== null) { return show(content, facts, state); }
+    state.stopped = false;
+    return fill(content, make('p', {}, 'Stopped before all was read.'), button('Read on', () => readAndDraw(content, state)));
 }
 
 function show(content, facts, state) {
@@ -42,8 +39,7 @@ function show(content, facts, state) {
     let at = ZOOMS.indexOf(1);
     const zoom = (by) => {
         at = Math.min(Math.max(at + by, 0), ZOOMS.length - 1);
-        drawing.element.setAttribute('width', String(drawing.width * ZOOMS[at]));
-        drawing.element.setAttribute('height', String(drawing.height * ZOOMS[at]));
+        ['width', 'height'].forEach((side) => drawing.element.setAttribute(side, String(drawing[side] * ZOOMS[at])));
     };
     zoom(0);
     const others = facts.others === 0 ? '' : ` ${count(facts.others, 'axiom')} of other kinds can't be drawn.`;

@@ -104,8 +104,7 @@ function drawRelation({ role, from, to }, chips) {
     const path = svg('path', { class: 'relation', d: `M ${x} ${one.y} C ${bend} ${one.y}, ${toBend} ${other.y}, ${toX} ${other.y}`, 'marker-end': 'url(#relation-end)' });
     const label = text((x + toX + 3 * (bend + toBend)) / 8, (one.y + other.y) / 2 - 3, 'relation-name', one.box.x === other.box.x ? '' : role);
     const element = svg('g', { class: 'edge' }, path, label);
-    one.edges.push(element);
-    other.edges.push(element);
+    [one, other].forEach((chip) => chip.edges.push(element));
     return { role, element };
 }
 

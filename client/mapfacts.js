@@ -1,42 +1,42 @@
-// What is asserted of classes and names, gathered article by article by `read` and then `axioms`.
-import { ask } from './api.js';
+// What is asserted of classes and names, gathered article by article: by `read`, and by `axioms` for sentences of new shapes.
+import { ask, unless } from './api.js';
 import { allWords, load, nameOf } from './lexicon.js';
-
-// For each article its axioms, kept as long as its sentences and the names of words stay.
-const kept = new Map();
-let keptNames = [];
+import { axiomsOf, forget, learn } from './mapshapes.js';
 
 // Calls `progress` with how many articles were read and how many there are; it tells whether to go on.
 export async function gather(progress) {
     await load();
     const names = allWords().map(nameOf);
-    const present = new Set(names);
-    if (keptNames.some((name) => !present.has(name))) { kept.clear(); }
-    keptNames = names;
     const ofKind = (kind) => allWords().filter((word) => word.kind === kind).map(nameOf);
     const facts = { classes: ofKind('noun'), names: ofKind('name'), below: new Map(), classesOf: new Map(), relations: [], others: 0 };
     for (const [place, article] of names.entries()) {
-        if (!progress(place, names.length)) { return null; }
-        (await axiomsOf(article)).forEach((axiom) => { facts.others += note(facts, parsed(axiom)) ? 0 : 1; });
+        const axioms = await axiomsIn(article, () => progress(place, names.length));
+        if (axioms === null) { return null; }
+        axioms.forEach((axiom) => { facts.others += note(facts, parsed(axiom)) ? 0 : 1; });
     }
     return facts;
 }
 
-async function axiomsOf(article) {
+// The axioms of what an article asserts. Those that are asked for count where its revision is the same afterwards: else they may
+// be those of another sentence, which stood at the place by then.
+async function axiomsIn(article, goesOn) {
+    let [last, asked] = [null, []];
     try {
-        const { revision, sentences } = await ask('read', { article });
-        const key = JSON.stringify([revision, sentences.map((it) => [it.text, it.status])]);
-        if (!kept.has(article) || kept.get(article).key !== key) {
-            const axioms = [];
-            for (const [at, sentence] of sentences.entries()) {
-                if (sentence.status === 'asserted') { axioms.push(...((await ask('axioms', { article, at })).axioms || [])); }
+        while (goesOn()) {
+            const { revision, sentences } = await ask('read', { article }).catch(unless('NoWord', { sentences: [] }));
+            if (revision !== last) { asked.forEach(forget); }
+            [last, asked] = [revision, []];
+            for (const [at, { text, status }] of sentences.entries()) {
+                if (status === 'asserted' && !axiomsOf(text)) {
+                    asked.push(text);
+                    learn(text, (await ask('axioms', { article, at }).catch(unless('NoPlace', {}))).axioms || []);
+                }
             }
-            kept.set(article, { key, axioms });
+            if (asked.length === 0) { return sentences.filter((it) => it.status === 'asserted').flatMap((it) => axiomsOf(it.text)); }
         }
-        return kept.get(article).axioms;
-    } catch (error) {
-        if (error.is && (error.is('NoWord') || error.is('NoPlace'))) { return []; }
-        throw error;
+        return null;
+    } finally {
+        asked.forEach(forget);
     }
 }
 

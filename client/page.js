@@ -24,11 +24,8 @@ export const address = (article, place) => '#/article/' + encodeURIComponent(art
 
 // Opens the page at this address, also where it is open already.
 export function visit(where) {
-    if (location.hash === where) {
-        window.dispatchEvent(new Event('hashchange'));
-    } else {
-        location.hash = where;
-    }
+    if (location.hash === where) { window.dispatchEvent(new Event('hashchange')); }
+    location.hash = where;
 }
 
 export const wordLink = (article, text) => make('a', { href: address(article) }, make('bdi', {}, text || article));
@@ -59,6 +56,18 @@ export async function attempt(action, element) {
     }
 }
 
+// Whether a change was done for certain. Where nobody knows yet, that is told; a refusal is thrown.
+export async function isDone(change) {
+    try {
+        await change;
+        return true;
+    } catch (error) {
+        if (!error.uncertain) { throw error; }
+        complain(explain(error));
+        return false;
+    }
+}
+
 const KEPT_NOTICES = 3;
 
 function notice(kind, role, children) {
@@ -83,9 +92,7 @@ export const say = (...children) => notice('plain', undefined, children);
 export const complain = (...children) => notice('bad', 'alert', children);
 
 // A field with its label before it.
-export function field(label, input, hint) {
-    return make('div', { class: 'field' }, make('label', { for: input.id }, label), input, hint ? make('small', {}, hint) : null);
-}
+export const field = (label, input, hint) => make('div', { class: 'field' }, make('label', { for: input.id }, label), input, hint ? make('small', {}, hint) : null);
 
 let lastNumber = 0;
 
@@ -94,6 +101,4 @@ export function freshId(name) {
     return name + '-' + String(lastNumber);
 }
 
-export function count(n, thing) {
-    return n.toLocaleString('en') + ' ' + thing + (n === 1 ? '' : (thing.endsWith('s') ? 'es' : 's'));
-}
+export const count = (n, thing) => n.toLocaleString('en') + ' ' + thing + (n === 1 ? '' : (thing.endsWith('s') ? 'es' : 's'));

@@ -1,7 +1,7 @@
 // The word of an article: its forms, what can be done with it, and which sentences hold it.
-import { ask } from './api.js';
+import { ask, unless } from './api.js';
 import { allWords, kindOf, load, nameOf, tokensOf, wordOf } from './lexicon.js';
-import { address, button, complain, count, explained, fill, make, placeLink, say, visit } from './page.js';
+import { address, button, complain, count, fill, isDone, make, placeLink, say, visit } from './page.js';
 import { wordForm } from './wordform.js';
 
 export function wordPanel(word) {
@@ -15,10 +15,7 @@ export function wordPanel(word) {
             button('Sentences with it\u2026', () => showUsage(word, below))), below);
 }
 
-function panel(below, ...children) {
-    fill(below, make('div', { class: 'panel' }, ...children));
-}
-
+const panel = (below, ...children) => fill(below, make('div', { class: 'panel' }, ...children));
 const closing = (below) => make('button', { type: 'button', onclick: () => fill(below) }, 'Close');
 
 function showReword(word, below) {
@@ -38,18 +35,14 @@ function showRemove(word, below) {
 }
 
 async function remove(word) {
-    try {
-        await ask('unword', { word: nameOf(word) });
-    } catch (error) {
-        if (!error.uncertain) { throw error; }
-        complain(explained(error));
-        await load();
-        if (wordOf(nameOf(word))) { complain('The word is still there, so it was not removed. Try again.'); }
-        return;
-    }
+    const done = await isDone(ask('unword', { word: nameOf(word) }));
     await load();
-    say('Removed the word ', make('bdi', {}, nameOf(word)), '.');
-    visit('#/');
+    if (done) {
+        say('Removed the word ', make('bdi', {}, nameOf(word)), '.');
+        visit('#/');
+    } else if (wordOf(nameOf(word))) {
+        complain('The word is still there, so it was not removed. Try again.');
+    }
 }
 
 function showUsage(word, below) {
@@ -85,10 +78,7 @@ async function readAll(word, below) {
 
 // A word that was removed meanwhile has no article any more.
 async function readOne(name, word, list, state) {
-    const { sentences } = await ask('read', { article: name }).catch((error) => {
-        if (error.is && error.is('NoWord')) { return { sentences: [] }; }
-        throw error;
-    });
+    const { sentences } = await ask('read', { article: name }).catch(unless('NoWord', { sentences: [] }));
     sentences.forEach((sentence, at) => {
         if (!tokensOf(sentence.text).some((token) => word.forms.includes(token))) { return; }
         state.found += 1;

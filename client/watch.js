@@ -1,7 +1,6 @@
 // Reads something again and again: every 5 seconds, or ten times as long as the last reading took, never while the page is hidden.
 
-const LEAST_PAUSE = 5000;
-const PAUSES = 10;
+const [LEAST_PAUSE, PAUSES] = [5000, 10];
 
 // Calls `received` with each reading, or `lost` with the error, which tells whether to go on. Returns what ends the watch.
 export function watch(read, received, lost) {

@@ -1,7 +1,7 @@
 // The form by which a word is added or gets other forms: each form is suggested from the first one, shown, and can be changed.
 import { ask } from './api.js';
 import { KINDS, kindOf, load, nameOf, suggested, wordOf } from './lexicon.js';
-import { attempt, complain, explained, field, freshId, make } from './page.js';
+import { attempt, complain, field, freshId, isDone, make } from './page.js';
 
 const INPUT = { type: 'text', dir: 'auto', spellcheck: 'false', autocapitalize: 'off', required: true };
 
@@ -33,9 +33,7 @@ function kindChoice(state) {
 }
 
 // The field of the form by which the word is named.
-function given(state) {
-    return state.inputs[kindOf(state.kind).named];
-}
+const given = (state) => state.inputs[kindOf(state.kind).named];
 
 function showFields(state, values) {
     const kind = kindOf(state.kind);
@@ -57,21 +55,15 @@ function typed(state, place) {
 
 async function send(state, done) {
     const forms = state.inputs.map((input) => input.value.trim());
-    try {
-        await (state.word ? ask('reword', { word: nameOf(state.word), forms }) : ask('word', { kind: state.kind, forms }));
-    } catch (error) {
-        if (!error.uncertain) {
-            point(state, error, forms);
-            throw error;
-        }
-        complain(explained(error));
-        await load();
-        const found = wordOf(forms[0]);
-        complain(found && found.forms.join(' ') === forms.join(' ') ? 'A word has these forms now.' : 'No word has these forms, so the change was not done. Try again.');
-        return;
-    }
+    const change = state.word ? ask('reword', { word: nameOf(state.word), forms }) : ask('word', { kind: state.kind, forms });
+    const isSure = await isDone(change).catch((error) => {
+        point(state, error, forms);
+        throw error;
+    });
     await load();
-    await done(forms);
+    if (isSure) { return done(forms); }
+    const found = wordOf(forms[0]);
+    return complain(found && found.forms.join(' ') === forms.join(' ') ? 'A word has these forms now.' : 'No word has these forms, so the change was not done. Try again.');
 }
 
 // The field that a refusal speaks of gets the focus.

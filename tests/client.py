@@ -2,8 +2,8 @@
 
 client.py PROGRAM [acts|bad|looks|long|FOLDER [PART]..]: goes through the parts below (acts), those of client_bad.py (bad) and of
 client_looks.py (looks), or all, each with a wiki of its own, and ends with status 1 at the first page that isn't as it should be.
-Where the program serves the page itself, that one is opened, else the one of tools/client --try. Pictures of the pages go to
-FOLDER; with `long` 60 pages crash at once.
+Where the program serves the page itself, that one is opened, else, or where CLIENT_TRY is set, the one of tools/client --try.
+Pictures of the pages go to FOLDER; with `long` 60 pages crash at once.
 """
 import json, os, sys, threading, time, traceback
 

@@ -1,6 +1,6 @@
 """Parts of the tests of the editor page: statuses and answers that are no good, words and sentences of every kind, pages that
 crash or are left, a program that is slow or stops."""
-import sys, time
+import sys, threading, time
 
 from client_stage import Page, expect, expect_in, lines, reply, response
 from webdriver import Failed
@@ -66,11 +66,13 @@ def part_late(page, place):
     browser.keys("Basel is a city.", "Enter")
     page.settled()
     page.has(["A river crosses a city.", "Basel is a city."])
-    between.meddle = lambda request: time.sleep(6) if request["do"] == "words" else None
+    held = threading.Event()
+    between.meddle = lambda request: held.wait(60) and None if request["do"] == "words" else None
     page.open()
     browser.until(lambda: "Waiting for the wiki" in " ".join(browser.texts("#waiting")), "that it waits")
     browser.button("Stop waiting")
     page.notice("not waited for any longer")
+    held.set()
     between.meddle = None
 
 

@@ -1,12 +1,13 @@
 """Parts of the tests of the editor page: a large map, pages of other sites, and how it looks and reads: contrast, names, focus."""
-import http.server, os, socketserver, sys, threading
+import http.server, json, os, random, re, socketserver, sys, threading
 
 from client_bad import spelled
-from client_stage import HERE, Page, expect, expect_in, lines
+from client_stage import HERE, Page, expect, expect_in, lines, reply
+from running import form_of
 from webdriver import Failed
 
 # Where the program doesn't serve the page itself, the modules come to a page of its own as they stand in client/.
-MODULES = ("api", "lexicon", "page", "mapfacts", "mapdrawing")
+MODULES = ("api", "lexicon", "page", "mapshapes", "mapfacts", "mapdrawing")
 LOADED = """const made = new Map();
     for (const [name, text] of given[0]) {
         const code = text.replace(/from '\\.\\/(\\w+)\\.js'/g, (all, it) => `from '${made.get(it)}'`);
@@ -16,9 +17,12 @@ BARE = """const begun = performance.now();
     for (let it = 0; it < 50; it += 1) { await (await fetch('/api', { method: 'POST', body: '{"do":"find","word":"nounaq"}' })).text(); }
     return (performance.now() - begun) / 50"""
 TIMED = """const { gather } = await import(given[0]); const { draw } = await import(given[1]);
+    const real = window.fetch; let requests = 0; window.fetch = (...all) => { requests += 1; return real(...all); };
     const begun = performance.now(); const facts = await gather(() => true); const read = performance.now();
     const drawing = draw(facts); document.body.replaceChildren(drawing.element); document.body.offsetHeight;
-    return [read - begun, performance.now() - read]"""
+    return [read - begun, performance.now() - read, requests]"""
+# The words, each article, two sentences of each of three shapes and one of a name's relation to itself, and once more their articles.
+MOST_REQUESTS = 1 + 300 + 2 * 7
 
 
 def part_large(page, place):
@@ -48,10 +52,11 @@ def timed(browser, place, what):
     browser.go(f"http://127.0.0.1:{place.wiki.port}/")
     modules = dict(browser.wait_script(LOADED, [[name, text_of(name)] for name in MODULES]))
     bare = browser.wait_script(BARE)
-    read, drawn = browser.wait_script(TIMED, modules["mapfacts"], modules["mapdrawing"])
+    read, drawn, requests = browser.wait_script(TIMED, modules["mapfacts"], modules["mapdrawing"])
     bare = max(bare, browser.wait_script(BARE))
-    print(f"client: {what} are read in {read / 1000:.1f} s and drawn in {drawn / 1000:.1f} s, where a bare request takes {bare:.1f} ms")
-    if read + drawn > max(3000, 900 * bare * 2 + 1000):
+    print(f"client: {what} are read in {read / 1000:.1f} s by {requests} requests and drawn in {drawn / 1000:.1f} s, "
+          f"where a bare request takes {bare:.1f} ms")
+    if requests > MOST_REQUESTS or read + drawn > max(3000, MOST_REQUESTS * bare * 2 + 1000):
         raise Failed("a map takes too long")
 
 
@@ -73,6 +78,99 @@ def readable(browser):
 def keep_picture(page, name):
     if os.path.isdir("".join(sys.argv[2:3])):
         page.browser.picture(os.path.join(sys.argv[2], f"client-{name}.png"))
+
+
+# ---- axioms that the page infers
+
+# Of each kind words with all forms alike, some alike, and none; some that begin with a vowel letter, and some odd ones.
+FORMS = {"noun": [["city", "cities"], ["river", "rivers"], ["animal", "animals"], ["island", "islands"], ["sheep", "sheep"], ["deer", "deer"], ["constructor", "undefined"]],
+         "name": [["Bern"], ["Aare"], ["Mary"], ["toString"], ["\u05e9\u05dc\u05d5\u05dd"]],
+         "verb": [["sees", "see", "seen"], ["owns", "own", "owned"], ["puts", "put", "put"], ["hits", "hit", "hit"], ["cast", "cast", "cast"]],
+         "of": [["part"], ["area"], ["capital"]], "adjective": [["located-in"], ["older-than"]]}
+# A slot is a kind and the place of a form, from 0; a further digit tells words apart, so that one word may stand twice.
+PATTERNS = ["{name0} is a {noun0}.", "Every {noun0} is a {noun0b}.", "{name0} {verb0} {name0b}.", "{name0} {verb0} {name0}.", "{name0} does not {verb1} {name0b}.",
+            "{name0} is {verb2} by {name0b}.", "Every {noun0} {verb0} only {noun1b}.", "Every {noun0} {verb0} only {noun1}.", "{name0} is {adjective0} {name0b}.",
+            "If X {verb0} Y then X {verb0b} Y.", "If X {verb0} Y then Y {verb0} X.", "Every {noun0} is a {of0} of a {noun0b}.", "{name0} is a {of0} of {name0b}.",
+            "{name0} {verb0} a {noun0} or is a {noun0b} that {verb0b} {name0b}.", "Every {noun0} that {name0} {verb0} is a {noun0} that is {verb2b} by {name0}.",
+            "If a {noun0} {verb0} {name0} then the {noun0} is a {noun0b}.", "If {name0} {verb0} a {noun0} then {name0} {verb0b} a {of0} of {name0b}."]
+
+
+def filled(pattern, drawn):
+    """The pattern with words that are drawn: the same for the same slot, and for those that differ in the form alone."""
+    chosen = {}
+
+    def word(found):
+        kind, place, which = found.groups()
+        chosen.setdefault((kind, which), drawn.choice(FORMS[kind]))
+        return chosen[kind, which][int(place)]
+
+    text = re.sub(r"\{([a-z]+?)(\d)(b?)\}", word, pattern)
+    return re.sub(r"\ba (?=[aeiouAEIOU])", "an ", text)
+
+
+def part_shapes(page, place):
+    """What the page infers of sentences by others of their shape is what the wiki tells of them."""
+    drawn = random.Random(7)
+    texts = [filled(pattern, drawn) for pattern in PATTERNS for _ in range(12)]
+    told = [{"do": "word", "kind": kind, "forms": forms} for kind, words in FORMS.items() for forms in words]
+    told += [{"do": "add", "article": "Bern" if number % 3 else "city", "text": text} for number, text in enumerate(texts)]
+    shaped = type(place)(b"".join(json.dumps(it).encode() + b"\n" for it in told), options=("--budget", "100"))
+    try:
+        sentences = inferred(Page(page.browser, shaped), shaped)
+        asked = len(shaped.between.seen_of("axioms"))
+        print(f"client: of {sentences} asserted sentences of many shapes the page asked for {asked}")
+        expect("many are inferred", sentences - asked > 25, True)
+    finally:
+        shaped.stop()
+    unfitting(page, place)
+    moving(page, place)
+
+
+INFERRED = """const { axiomsOf } = await import('/editor/mapshapes.js'); return given[0].map((text) => axiomsOf(text) || null)"""
+
+
+def inferred(page, place):
+    """How many sentences are asserted. Once the map is drawn, the page has the axioms of each of them as the wiki tells them."""
+    page.open("#/map")
+    page.browser.until(lambda: page.browser.find("svg") and not page.browser.find("progress"), "a drawing", 90)
+    told = []
+    for article in map(form_of, place.ask(do="words")["words"]):
+        read = place.ask(do="read", article=article)["sentences"]
+        told += [(it["text"], place.ask(do="axioms", article=article, at=at)["axioms"]) for at, it in enumerate(read) if it["status"] == "asserted"]
+    expect("the axioms", page.browser.wait_script(INFERRED, [text for text, _ in told]), [axioms for _, axioms in told])
+    return len(told)
+
+
+def asked_for(place):
+    return [(it["article"], it["at"]) for it in place.between.seen_of("axioms")]
+
+
+def unfitting(page, place):
+    """Where the axioms of a shape's second sentence aren't those that the first one's lead to, all of the shape are asked for."""
+    for article in ("Bern", "Aare", "Basel"):
+        place.ask(do="add", article=article, text=f"{article} is a place.")
+    other = reply("axioms", axioms=["ClassAssertion(:city :Bern)"])
+    place.between.meddle = lambda request: other if request["do"] == "axioms" and (request["article"], request["at"]) == ("Bern", 2) else None
+    page.open("#/map")
+    page.drawn()
+    expect("what is asked for", asked_for(place), [("Bern", 0), ("Bern", 2), ("Aare", 0), ("Aare", 1), ("Aare", 3), ("Basel", 1), ("city", 0), ("river", 0)])
+    place.between.meddle = None
+
+
+def moving(page, place):
+    """What was asked for while its article changed is forgotten, and the article read and asked for anew, also where it is shorter."""
+    between = place.between
+    for change, again in [({"do": "edit", "article": "Bern", "at": 0, "text": "Bern is not a city."}, [("Bern", 0), ("Bern", 2)] * 2),
+                          ({"do": "remove", "article": "Bern", "at": 2}, [("Bern", 0), ("Bern", 2), ("Bern", 0)])]:
+        between.seen.clear()
+        between.before("axioms", lambda change=change: place.ask(**change))
+        inferred(page, place)
+        expect("what is asked for", [it for it in asked_for(place) if it[0] == "Bern"], again)
+    between.seen.clear()
+    between.before("axioms", lambda: [place.ask(do="remove", article="Bern", at=0), place.ask(do="remove", article="Bern", at=0)])
+    inferred(page, place)
+    expect("what is asked for", [it for it in asked_for(place) if it[0] == "Bern"], [("Bern", 0)])
+    between.meddle = None
 
 
 # ---- other sites

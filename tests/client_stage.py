@@ -101,8 +101,8 @@ def reply(done, **members):
 
 
 class Place:
-    """A wiki, and the address of its editor page: the program's own, or else that of tools/client. Before the program stands what
-    meddles, but where the way shall be straight."""
+    """A wiki, and the address of its editor page: the program's own, or else that of tools/client, which is taken in any case where
+    CLIENT_TRY is set. Before the program stands what meddles, but where the way shall be straight."""
 
     def __init__(self, given=None, options=(), is_straight=False):
         self.wiki = Wiki(sys.argv[1], lines() if given is None else given, errors=subprocess.DEVNULL, options=options)
@@ -118,7 +118,7 @@ class Place:
 
     def is_served(self):
         """Whether the program has the editor page itself."""
-        return self.wiki.page("/editor/index.html")[0] == 200
+        return "CLIENT_TRY" not in os.environ and self.wiki.page("/editor/index.html")[0] == 200
 
     def ask(self, **request):
         return self.wiki.ask(**request)

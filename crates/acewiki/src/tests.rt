@@ -48,6 +48,55 @@ fn link_of(alloc: Global) -> Result<MemoryLink, Fail>
     Ok(MemoryLink::new(alloc, script, Fails::none(alloc)))
 }
 
+// What a run left, as plain data.
+#[derive(Drop)]
+struct Left {
+    status: u8,
+    output: Vec<u8>,
+    errors: Vec<u8>,
+    sent: Vec<u8>,
+}
+
+// A run by the words of the line, or by the line.
+fn left_by(alloc: Global, line: &ToldLine, by_line: bool) -> Result<Left, Fail> {
+    let mut input = MemorySource::new(INPUT.to_vec(alloc)?, Vec::new(alloc));
+    let mut output = MemorySink::new(alloc, Vec::new(alloc));
+    let mut errors = MemorySink::new(alloc, Vec::new(alloc));
+    let mut link = link_of(alloc)?;
+    let status = if by_line {
+        program(alloc, line, &mut input, &mut output, &mut errors, &mut link)
+    } else {
+        run(
+            alloc,
+            &line.words,
+            &mut input,
+            &mut output,
+            &mut errors,
+            &mut link,
+        )
+    };
+    left_in(alloc, status, &output, &errors, &link)
+}
+
+fn left_in(
+    alloc: Global,
+    status: u8,
+    output: &MemorySink,
+    errors: &MemorySink,
+    link: &MemoryLink,
+) -> Result<Left, Fail> {
+    let mut sent = Vec::new(alloc);
+    for (_, bytes) in link.sent() {
+        sent.extend_from_slice(bytes.as_slice())?;
+    }
+    Ok(Left {
+        status,
+        output: output.bytes().to_vec(alloc)?,
+        errors: errors.bytes().to_vec(alloc)?,
+        sent,
+    })
+}
+
 #[test]
 fn the_lines_come_first_and_then_the_link(rt: HostRuntime) -> Result<(), Fail> {
     let alloc = rt.alloc();
@@ -55,38 +104,12 @@ fn the_lines_come_first_and_then_the_link(rt: HostRuntime) -> Result<(), Fail> {
     words.push(Arg::from_slice(alloc, b"serve")?)?;
     words.push(Arg::from_slice(alloc, b"anywhere")?)?;
     let line = ToldLine { words };
-    for by_line in [true, false] {
-        let mut input = MemorySource::new(INPUT.to_vec(alloc)?, Vec::new(alloc));
-        let mut output = MemorySink::new(alloc, Vec::new(alloc));
-        let mut errors = MemorySink::new(alloc, Vec::new(alloc));
-        let mut link = link_of(alloc)?;
-        let status = if by_line {
-            program(
-                alloc,
-                &line,
-                &mut input,
-                &mut output,
-                &mut errors,
-                &mut link,
-            )
-        } else {
-            run(
-                alloc,
-                &line.words,
-                &mut input,
-                &mut output,
-                &mut errors,
-                &mut link,
-            )
-        };
-        assert_eq!(rt; status, 0, "by the line: {by_line}");
-        assert_eq!(rt; output.bytes(), JOURNAL);
-        assert!(rt; errors.bytes().is_empty());
-        let mut sent = Vec::new(alloc);
-        for (_, bytes) in link.sent() {
-            sent.extend_from_slice(bytes.as_slice())?;
-        }
-        assert_eq!(rt; sent.as_slice(), RESPONSE);
+    for by_line in &[true, false] {
+        let left = left_by(alloc, &line, *by_line)?;
+        assert_eq!(rt; left.status, 0, "by the line: {by_line}");
+        assert_eq!(rt; left.output.as_slice(), JOURNAL);
+        assert!(rt; left.errors.is_empty());
+        assert_eq!(rt; left.sent.as_slice(), RESPONSE);
     }
     Ok(())
 }

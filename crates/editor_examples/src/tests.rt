@@ -8,7 +8,7 @@ use wiki_base::Memory;
 // What begins a sentence in a wiki with one name.
 fn beginnings(alloc: Global) -> Result<Menu<'static>, Memory> {
     let mut menu = Menu::new(alloc);
-    for text in [
+    for text in &[
         "X",
         "Y",
         "Z",
@@ -24,7 +24,7 @@ fn beginnings(alloc: Global) -> Result<Menu<'static>, Memory> {
         "which",
         "who",
     ] {
-        menu.push(Group::Function, text)?;
+        menu.push(Group::Function, *text)?;
     }
     menu.push(Group::Name, "Mary")?;
     Ok(menu)
@@ -45,7 +45,7 @@ fn told_from(alloc: Global, menu: &Menu<'_>, prefix: &str) -> Result<String, Mem
 #[test]
 fn entries_that_begin_so_are_kept(rt: HostRuntime) -> Result<(), Fail> {
     let menu = beginnings(rt.alloc())?;
-    for (prefix, kept) in [
+    for (prefix, kept) in &[
         ("ev", "every everything "),
         ("everything", "everything "),
         ("everythings", ""),
@@ -55,7 +55,7 @@ fn entries_that_begin_so_are_kept(rt: HostRuntime) -> Result<(), Fail> {
         ("wh", "what which who "),
     ] {
         let told = told_from(rt.alloc(), &menu, prefix)?;
-        assert_eq!(rt; told.as_str(), kept, "{prefix}");
+        assert_eq!(rt; told.as_str(), *kept, "{prefix}");
     }
     Ok(())
 }

@@ -11,6 +11,7 @@ pub mod LexiconJs
 pub mod MapJs
 pub mod MapdrawingJs
 pub mod MapfactsJs
+pub mod MapshapesJs
 pub mod MenuJs
 pub mod OpenJs
 pub mod PageJs

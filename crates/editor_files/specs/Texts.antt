@@ -1,7 +1,7 @@
 -- Each file of the editor page by its name. tools/client --write wrote this.
 use Rattle.std.specs.Prelude.{ℕ, List}
 use Rattle.editor_names.specs.declared.names.EditorFile.{EditorFile}
-use Rattle.editor_names.specs.declared.names.EditorFile.TheVariants.{ApiJs, AppCss, AppJs, ArticleJs, AskJs, ChangesJs, CommitJs, EditorJs, IndexHtml, LexiconJs, MapJs, MapdrawingJs, MapfactsJs, MenuJs, OpenJs, PageJs, RefusalsJs, SentenceJs, UsageJs, WatchJs, WordformJs, WordsJs}
+use Rattle.editor_names.specs.declared.names.EditorFile.TheVariants.{ApiJs, AppCss, AppJs, ArticleJs, AskJs, ChangesJs, CommitJs, EditorJs, IndexHtml, LexiconJs, MapJs, MapdrawingJs, MapfactsJs, MapshapesJs, MenuJs, OpenJs, PageJs, RefusalsJs, SentenceJs, UsageJs, WatchJs, WordformJs, WordsJs}
 use Rattle.editor_files.specs.ApiJs.{api_js}
 use Rattle.editor_files.specs.AppCss.{app_css}
 use Rattle.editor_files.specs.AppJs.{app_js}
@@ -15,6 +15,7 @@ use Rattle.editor_files.specs.LexiconJs.{lexicon_js}
 use Rattle.editor_files.specs.MapJs.{map_js}
 use Rattle.editor_files.specs.MapdrawingJs.{mapdrawing_js}
 use Rattle.editor_files.specs.MapfactsJs.{mapfacts_js}
+use Rattle.editor_files.specs.MapshapesJs.{mapshapes_js}
 use Rattle.editor_files.specs.MenuJs.{menu_js}
 use Rattle.editor_files.specs.OpenJs.{open_js}
 use Rattle.editor_files.specs.PageJs.{page_js}
@@ -40,6 +41,7 @@ text_of LexiconJs = lexicon_js
 text_of MapJs = map_js
 text_of MapdrawingJs = mapdrawing_js
 text_of MapfactsJs = mapfacts_js
+text_of MapshapesJs = mapshapes_js
 text_of MenuJs = menu_js
 text_of OpenJs = open_js
 text_of PageJs = page_js

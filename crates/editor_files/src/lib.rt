@@ -14,6 +14,7 @@ mod lexicon_js;
 mod map_js;
 mod mapdrawing_js;
 mod mapfacts_js;
+mod mapshapes_js;
 mod menu_js;
 mod open_js;
 mod page_js;

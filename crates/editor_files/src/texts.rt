@@ -4,8 +4,8 @@ ghost use Rattle.editor_files.specs.Texts.{text_of};
 
 use crate::{
     api_js, app_css, app_js, article_js, ask_js, changes_js, commit_js, editor_js, index_html,
-    lexicon_js, map_js, mapdrawing_js, mapfacts_js, menu_js, open_js, page_js, refusals_js,
-    sentence_js, usage_js, watch_js, wordform_js, words_js,
+    lexicon_js, map_js, mapdrawing_js, mapfacts_js, mapshapes_js, menu_js, open_js, page_js,
+    refusals_js, sentence_js, usage_js, watch_js, wordform_js, words_js,
 };
 use editor_names::EditorFile;
 
@@ -27,6 +27,7 @@ pub fn text_of(file: EditorFile) -> &'static str
         EditorFile::MapJs => map_js::text(),
         EditorFile::MapdrawingJs => mapdrawing_js::text(),
         EditorFile::MapfactsJs => mapfacts_js::text(),
+        EditorFile::MapshapesJs => mapshapes_js::text(),
         EditorFile::MenuJs => menu_js::text(),
         EditorFile::OpenJs => open_js::text(),
         EditorFile::PageJs => page_js::text(),

@@ -2,7 +2,7 @@
 use Rattle.std.specs.Prelude.{ℕ, List, [], ◌∷◌, codes, find, Option}
 use Rattle.std.specs.Str.{bytes_eq}
 use Rattle.editor_names.specs.declared.names.EditorFile.{EditorFile}
-use Rattle.editor_names.specs.declared.names.EditorFile.TheVariants.{ApiJs, AppCss, AppJs, ArticleJs, AskJs, ChangesJs, CommitJs, EditorJs, IndexHtml, LexiconJs, MapJs, MapdrawingJs, MapfactsJs, MenuJs, OpenJs, PageJs, RefusalsJs, SentenceJs, UsageJs, WatchJs, WordformJs, WordsJs}
+use Rattle.editor_names.specs.declared.names.EditorFile.TheVariants.{ApiJs, AppCss, AppJs, ArticleJs, AskJs, ChangesJs, CommitJs, EditorJs, IndexHtml, LexiconJs, MapJs, MapdrawingJs, MapfactsJs, MapshapesJs, MenuJs, OpenJs, PageJs, RefusalsJs, SentenceJs, UsageJs, WatchJs, WordformJs, WordsJs}
 
 -- the name of a file, behind `/editor/` in its path
 abbrev pub name_of : EditorFile → List ℕ
@@ -19,6 +19,7 @@ name_of LexiconJs = codes "lexicon.js"
 name_of MapJs = codes "map.js"
 name_of MapdrawingJs = codes "mapdrawing.js"
 name_of MapfactsJs = codes "mapfacts.js"
+name_of MapshapesJs = codes "mapshapes.js"
 name_of MenuJs = codes "menu.js"
 name_of OpenJs = codes "open.js"
 name_of PageJs = codes "page.js"
@@ -44,6 +45,7 @@ content_type LexiconJs = codes "text/javascript; charset=utf-8"
 content_type MapJs = codes "text/javascript; charset=utf-8"
 content_type MapdrawingJs = codes "text/javascript; charset=utf-8"
 content_type MapfactsJs = codes "text/javascript; charset=utf-8"
+content_type MapshapesJs = codes "text/javascript; charset=utf-8"
 content_type MenuJs = codes "text/javascript; charset=utf-8"
 content_type OpenJs = codes "text/javascript; charset=utf-8"
 content_type PageJs = codes "text/javascript; charset=utf-8"
@@ -70,6 +72,7 @@ files =
     MapJs ∷
     MapdrawingJs ∷
     MapfactsJs ∷
+    MapshapesJs ∷
     MenuJs ∷
     OpenJs ∷
     PageJs ∷

@@ -1,5 +1,7 @@
 // One call after the other fails, and heads that are cut, oversized or ambiguous.
-use crate::scripts::{Failing, NOTHING, SENT_AT_ONCE, Script, WRITTEN_AT_ONCE, serve_script};
+use crate::scripts::{
+    Failing, NOTHING, SENT_AT_ONCE, Step, WRITTEN_AT_ONCE, serve_steps, two_at_once,
+};
 use serving::Served;
 use std::alloc::Global;
 use std::test::Fail;
@@ -22,38 +24,21 @@ fn front(bytes: &[u8], count: usize) -> &[u8] {
     &bytes[..count.min(bytes.len())]
 }
 
-// Connection 1 asks for the words in single bytes, and connection 2 says GET between them and ends: 71 events.
-fn two_at_once(alloc: Global) -> Result<Script, Fail> {
-    let mut script = Script::new(alloc);
-    script.open(1)?;
-    script.open(2)?;
-    for (place, byte) in ASKS_WORDS.iter().enumerate() {
-        script.say(1, &[*byte])?;
-        match place {
-            1 => script.say(2, b"G")?,
-            2 => script.say(2, b"E")?,
-            3 => script.say(2, b"T")?,
-            5 => script.end(2)?,
-            _ => {}
-        }
-    }
-    Ok(script)
-}
-
 #[test]
 fn each_wait_that_fails_leaves_what_was_answered_before(rt: HostRuntime) -> Result<(), Fail> {
+    // Connection 1 asks for the words, and connection 2 comes to nothing: 71 events.
+    let steps = two_at_once(rt.alloc(), ASKS_WORDS)?;
     for next in 1..73 {
-        let failing = Failing { next, ..NOTHING };
-        let left = serve_script(two_at_once(rt.alloc())?, failing)?;
+        let left = serve_steps(rt.alloc(), &steps, Failing { next, ..NOTHING })?;
         let sent = if next == 72 {
             TELLS_WORDS
         } else {
             b"".as_slice()
         };
         assert_eq!(rt; left.served, Served::LinkFault, "at {next}");
-        assert_eq!(rt; left.sent_on(1)?.as_slice(), sent, "at {next}");
-        assert!(rt; left.sent_on(2)?.is_empty());
-        assert!(rt; left.journal.bytes().is_empty());
+        assert_eq!(rt; left.sent_on(1), sent, "at {next}");
+        assert!(rt; left.sent_on(2).is_empty());
+        assert!(rt; left.journal.is_empty());
     }
     Ok(())
 }
@@ -62,43 +47,44 @@ fn each_wait_that_fails_leaves_what_was_answered_before(rt: HostRuntime) -> Resu
 fn a_change_that_the_journal_does_not_take_is_answered_by_no_byte(
     rt: HostRuntime,
 ) -> Result<(), Fail> {
+    let steps = [
+        Step::Asks(1, ASKS_WORDS),
+        Step::Asks(2, ADDS_BERN),
+        Step::Asks(3, ASKS_WORDS),
+    ];
     for taken in 0..5u64 {
         let write = taken + 1;
-        let mut script = Script::new(rt.alloc());
-        script.ask(1, ASKS_WORDS)?;
-        script.ask(2, ADDS_BERN)?;
-        script.ask(3, ASKS_WORDS)?;
-        let left = serve_script(script, Failing { write, ..NOTHING })?;
+        let left = serve_steps(rt.alloc(), &steps, Failing { write, ..NOTHING })?;
         let written = front(BERN_WRITTEN, taken as usize * WRITTEN_AT_ONCE);
         assert_eq!(rt; left.served, Served::JournalFault);
-        assert_eq!(rt; left.journal.bytes(), written);
-        assert_eq!(rt; left.sent_on(1)?.as_slice(), TELLS_WORDS);
-        assert!(rt; left.sent_on(2)?.is_empty());
-        assert!(rt; left.sent_on(3)?.is_empty());
+        assert_eq!(rt; left.journal.as_slice(), written);
+        assert_eq!(rt; left.sent_on(1), TELLS_WORDS);
+        assert!(rt; left.sent_on(2).is_empty());
+        assert!(rt; left.sent_on(3).is_empty());
     }
     Ok(())
 }
 
 #[test]
 fn a_send_that_fails_cuts_its_response_alone(rt: HostRuntime) -> Result<(), Fail> {
+    let steps = [
+        Step::Asks(1, ASKS_WORDS),
+        // The number can be another connection's only where it was closed.
+        Step::Asks(1, ADDS_BERN),
+        Step::Asks(2, ASKS_WORDS),
+    ];
     for taken in 0..2u64 {
         let send = taken + 1;
-        let mut script = Script::new(rt.alloc());
-        script.ask(1, ASKS_WORDS)?;
-        // The number can be another connection's only where it was closed.
-        script.ask(1, ADDS_BERN)?;
-        script.ask(2, ASKS_WORDS)?;
-        let left = serve_script(script, Failing { send, ..NOTHING })?;
+        let left = serve_steps(rt.alloc(), &steps, Failing { send, ..NOTHING })?;
         let cut = front(TELLS_WORDS, taken as usize * SENT_AT_ONCE);
-        let on_first = left.sent_on(1)?;
         assert_eq!(rt; left.served, Served::Done);
         assert!(rt;
-            on_first
+            left.sent_on(1)
                 .strip_prefix(cut)
                 .is_some_and(|rest| rest.starts_with(b"HTTP/1.1 303 See Other\r\n"))
         );
-        assert_eq!(rt; left.journal.bytes(), BERN_WRITTEN);
-        assert_eq!(rt; left.sent_on(2)?.as_slice(), TELLS_WORDS);
+        assert_eq!(rt; left.journal.as_slice(), BERN_WRITTEN);
+        assert_eq!(rt; left.sent_on(2), TELLS_WORDS);
     }
     Ok(())
 }
@@ -106,12 +92,10 @@ fn a_send_that_fails_cuts_its_response_alone(rt: HostRuntime) -> Result<(), Fail
 #[test]
 fn a_head_that_is_cut_is_answered_by_nothing(rt: HostRuntime) -> Result<(), Fail> {
     for come in 0..ASKS_WORDS.len() {
-        let mut script = Script::new(rt.alloc());
-        script.ask(1, front(ASKS_WORDS, come))?;
-        script.end(1)?;
-        let left = serve_script(script, NOTHING)?;
+        let steps = [Step::Asks(1, front(ASKS_WORDS, come)), Step::Ends(1)];
+        let left = serve_steps(rt.alloc(), &steps, NOTHING)?;
         assert_eq!(rt; left.served, Served::Done);
-        assert!(rt; left.sent_on(1)?.is_empty(), "at {come}");
+        assert!(rt; left.sent_on(1).is_empty(), "at {come}");
     }
     Ok(())
 }
@@ -135,30 +119,28 @@ fn endless_field(alloc: Global) -> Result<Vec<u8>, Fail> {
 
 // The first line of the response to one request.
 fn status_line(alloc: Global, request: &[u8]) -> Result<Vec<u8>, Fail> {
-    let mut script = Script::new(alloc);
-    script.ask(1, request)?;
-    let left = serve_script(script, NOTHING)?;
-    let mut response = left.sent_on(1)?;
-    let length = response
-        .iter()
-        .position(|byte| *byte == b'\r')
-        .unwrap_or(response.len());
-    response.truncate(length);
-    Ok(response)
+    let left = serve_steps(alloc, &[Step::Asks(1, request)], NOTHING)?;
+    let mut line = Vec::new(alloc);
+    for byte in left.sent_on(1) {
+        if *byte == b'\r' {
+            break;
+        }
+        line.push(*byte)?;
+    }
+    Ok(line)
 }
 
 #[test]
 fn heads_that_are_oversized_are_refused(rt: HostRuntime) -> Result<(), Fail> {
     let alloc = rt.alloc();
-    let endless = status_line(alloc, &endless_field(alloc)?)?;
-    assert_eq!(rt;
-        endless.as_slice(),
-        b"HTTP/1.1 413 Payload Too Large".as_slice()
-    );
-    let most = status_line(alloc, &with_fields(alloc, 63)?)?;
-    assert_eq!(rt; most.as_slice(), b"HTTP/1.1 200 OK".as_slice());
-    let too_many = status_line(alloc, &with_fields(alloc, 64)?)?;
-    assert_eq!(rt; too_many.as_slice(), b"HTTP/1.1 400 Bad Request".as_slice());
+    let cases: [(Vec<u8>, &[u8]); 3] = [
+        (endless_field(alloc)?, b"HTTP/1.1 413 Payload Too Large"),
+        (with_fields(alloc, 63)?, b"HTTP/1.1 200 OK"),
+        (with_fields(alloc, 64)?, b"HTTP/1.1 400 Bad Request"),
+    ];
+    for (request, line) in &cases {
+        assert_eq!(rt; status_line(alloc, request)?.as_slice(), *line);
+    }
     Ok(())
 }
 
@@ -194,28 +176,28 @@ fn heads_that_are_ambiguous_are_refused(rt: HostRuntime) -> Result<(), Fail> {
             b"413 Payload Too Large",
         ),
     ];
-    for (request, status) in cases {
+    for (request, status) in &cases {
         let line = status_line(rt.alloc(), request)?;
-        assert_eq!(rt; line.strip_prefix(b"HTTP/1.1 ".as_slice()), Some(status));
+        assert_eq!(rt; line.strip_prefix(b"HTTP/1.1 ".as_slice()), Some(*status));
     }
     Ok(())
 }
 
 #[test]
 fn a_65th_connection_is_refused_and_the_next_one_is_served(rt: HostRuntime) -> Result<(), Fail> {
-    let mut script = Script::new(rt.alloc());
+    let mut steps = Vec::new(rt.alloc());
     for connection in 1..66u32 {
-        script.open(connection)?;
+        steps.push(Step::Opens(connection))?;
     }
-    script.end(1)?;
-    script.ask(66, ASKS_PAGE)?;
-    let left = serve_script(script, NOTHING)?;
+    steps.push(Step::Ends(1))?;
+    steps.push(Step::Asks(66, ASKS_PAGE))?;
+    let left = serve_steps(rt.alloc(), &steps, NOTHING)?;
     assert_eq!(rt; left.served, Served::Done);
     assert!(rt;
-        left.sent_on(65)?
+        left.sent_on(65)
             .starts_with(b"HTTP/1.1 503 Service Unavailable\r\n")
     );
-    assert!(rt; left.sent_on(66)?.starts_with(b"HTTP/1.1 200 OK\r\n"));
-    assert!(rt; left.sent_on(64)?.is_empty());
+    assert!(rt; left.sent_on(66).starts_with(b"HTTP/1.1 200 OK\r\n"));
+    assert!(rt; left.sent_on(64).is_empty());
     Ok(())
 }

@@ -15,43 +15,82 @@ use wiki_talk::{Refusal, Reply, Request};
 // How many bytes of a response the link takes at once.
 const LARGEST: usize = 100;
 
+// More events than any script has.
+pub(crate) const ALL: u64 = 1_000;
+
+// No connection has a greater number.
+const LAST_NUMBER: u32 = 66;
+
+// What happens on a connection.
+#[derive(Clone, Copy)]
+pub(crate) enum Step<'a> {
+    Opens(u32),
+    // Bytes come in one piece, if there are any.
+    Says(u32, &'a [u8]),
+    // A connection of its own, over which this comes.
+    Asks(u32, &'a [u8]),
+    Ends(u32),
+}
+
+// Two connections: over the first a request comes in single bytes, and the second says GET between them and ends.
+pub(crate) fn two_at_once<'a>(alloc: Global, request: &'a [u8]) -> Result<Vec<Step<'a>>, Fail> {
+    let mut steps = Vec::new(alloc);
+    steps.push(Step::Opens(1))?;
+    steps.push(Step::Opens(2))?;
+    for place in 0..request.len() {
+        steps.push(Step::Says(1, &request[place..place + 1]))?;
+        let beside: Option<Step<'a>> = match place {
+            1 => Some(Step::Says(2, b"G")),
+            2 => Some(Step::Says(2, b"E")),
+            3 => Some(Step::Says(2, b"T")),
+            5 => Some(Step::Ends(2)),
+            _ => None,
+        };
+        if let Some(step) = beside {
+            steps.push(step)?;
+        }
+    }
+    Ok(steps)
+}
+
 // Events, in which no piece is empty.
 #[derive(Drop)]
-pub(crate) struct Script {
+struct Script {
     alloc: Global,
     events: VecDeque<Event>,
     ghost whole: { IsTrue (list_all is_whole events.items) },
 }
 
 impl Script {
-    pub(crate) fn new(alloc: Global) -> Script {
-        Script {
+    fn of(alloc: Global, steps: &[Step<'_>]) -> Result<Script, Fail> {
+        let mut script = Script {
             alloc,
             events: VecDeque::new(alloc),
+        };
+        for step in steps {
+            script.add(*step)?;
+        }
+        Ok(script)
+    }
+
+    fn add(&mut self, step: Step<'_>) -> Result<(), Fail> {
+        match step {
+            Step::Opens(connection) => self.push(Event::Opened(connection)),
+            Step::Says(connection, bytes) => self.say(connection, bytes),
+            Step::Asks(connection, bytes) => {
+                self.push(Event::Opened(connection))?;
+                self.say(connection, bytes)
+            }
+            Step::Ends(connection) => self.push(Event::Ended(connection)),
         }
     }
 
-    pub(crate) fn open(&mut self, connection: u32) -> Result<(), Fail> {
-        self.push(Event::Opened(connection))
-    }
-
-    pub(crate) fn end(&mut self, connection: u32) -> Result<(), Fail> {
-        self.push(Event::Ended(connection))
-    }
-
-    // Bytes that come in one piece, if there are any.
-    pub(crate) fn say(&mut self, connection: u32, bytes: &[u8]) -> Result<(), Fail> {
+    fn say(&mut self, connection: u32, bytes: &[u8]) -> Result<(), Fail> {
         if bytes.is_empty() {
             return Ok(());
         }
         let piece = Bytes::from_slice(self.alloc, bytes)?;
         self.push(Event::Piece(connection, piece))
-    }
-
-    // A connection of its own, over which this comes.
-    pub(crate) fn ask(&mut self, connection: u32, request: &str) -> Result<(), Fail> {
-        self.open(connection)?;
-        self.say(connection, request.as_bytes())
     }
 
     #[tactic(auto, using(crate::proofs::ScriptLemmas::whole_push))]
@@ -89,18 +128,23 @@ impl Machine for Desk {
     }
 }
 
-// What serving left.
+// What serving left, as plain data, so that a test over much of it is proved cheaply.
 #[derive(Drop)]
 pub(crate) struct Left {
     pub served: Served,
-    pub journal: MemorySink,
-    alloc: Global,
-    link: MemoryLink,
+    pub journal: Vec<u8>,
+    // what was sent on each connection's number
+    sent: Vec<Vec<u8>>,
 }
 
-// Serves the events of a script, at most so many, where the sends of these numbers fail.
-pub(crate) fn serve_script(script: Script, failing: &[u64], most: u64) -> Result<Left, Fail> {
-    let alloc = script.alloc;
+// Serves what happens, at most so many events, where the sends of these numbers fail.
+pub(crate) fn serve_steps(
+    alloc: Global,
+    steps: &[Step<'_>],
+    failing: &[u64],
+    most: u64,
+) -> Result<Left, Fail> {
+    let script = Script::of(alloc, steps)?;
     let mut fails = Fails::none(alloc);
     fails.send.extend_from_slice(failing)?;
     let mut desk = Desk {
@@ -112,21 +156,37 @@ pub(crate) fn serve_script(script: Script, failing: &[u64], most: u64) -> Result
     let served = serve(alloc, &mut desk, most, &mut journal, &mut link);
     Ok(Left {
         served,
-        journal,
-        alloc,
-        link,
+        journal: journal.bytes().to_vec(alloc)?,
+        sent: sent_on_each(alloc, link.sent())?,
     })
+}
+
+// What is sent in answer to this.
+pub(crate) fn response_to(alloc: Global, request: &[u8]) -> Result<Vec<u8>, Fail> {
+    let left = serve_steps(alloc, &[Step::Asks(7, request)], &[], ALL)?;
+    Ok(left.sent_on(7).to_vec(alloc)?)
+}
+
+// The bytes of these pieces, by the numbers of their connections.
+fn sent_on_each(alloc: Global, pieces: &[(u32, Bytes)]) -> Result<Vec<Vec<u8>>, Fail> {
+    let mut sent = Vec::new(alloc);
+    for _ in 0..=LAST_NUMBER {
+        sent.push(Vec::new(alloc))?;
+    }
+    for (number, bytes) in pieces {
+        if let Some(all) = sent.get_mut(*number as usize) {
+            all.extend_from_slice(bytes.as_slice())?;
+        }
+    }
+    Ok(sent)
 }
 
 impl Left {
     // What was sent on a connection's number.
-    pub(crate) fn sent_on(&self, connection: u32) -> Result<Vec<u8>, Fail> {
-        let mut all = Vec::new(self.alloc);
-        for (number, bytes) in self.link.sent() {
-            if *number == connection {
-                all.extend_from_slice(bytes.as_slice())?;
-            }
+    pub(crate) fn sent_on(&self, connection: usize) -> &[u8] {
+        match self.sent.get(connection) {
+            Some(all) => all,
+            None => &[],
         }
-        Ok(all)
     }
 }

@@ -5,3 +5,5 @@
 mod asked;
 #[cfg(test)]
 mod tests;
+#[cfg(test)]
+mod transcripts;

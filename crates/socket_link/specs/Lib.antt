@@ -1,3 +1,4 @@
 pub mod Moved
 pub mod Round
 pub mod Told
+pub mod Written

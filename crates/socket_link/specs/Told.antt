@@ -15,3 +15,9 @@ abbrev pub piece_of : ℕ → Moved → List ℕ → List Event
 piece_of n (moved.Bytes size) buffer = Piece n (take size buffer) ∷ []
 piece_of n moved.Nothing buffer = []
 piece_of n moved.End buffer = []
+
+-- what was written of these bytes to the socket of this number, if anything was
+abbrev pub piece_written : ℕ → Moved → List ℕ → List (ℕ × List ℕ)
+piece_written n (moved.Bytes size) bytes = (n, take size bytes) ∷ []
+piece_written n moved.Nothing bytes = []
+piece_written n moved.End bytes = []

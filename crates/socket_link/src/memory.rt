@@ -3,7 +3,7 @@ ghost use Rattle.std.specs.Prelude.{◌≡◌, ◌<◌, ◌≤◌, ◌∷◌, []
 ghost use Rattle.wiki_io.specs.declared.links.Event.{Event};
 ghost use Rattle.wiki_io.specs.Link.{with_more};
 ghost use Rattle.socket_link.specs.Moved.{MovedFits};
-ghost use Rattle.socket_link.specs.Told.{opening_of, piece_of};
+ghost use Rattle.socket_link.specs.Told.{opening_of, piece_of, piece_written};
 
 use crate::socket::{Accepted, Moved, Ready, Sockets};
 use std::alloc::Global;
@@ -162,6 +162,8 @@ impl Sockets for MemorySockets {
     ghost listens_at = { λ _ _. true };
 
     ghost events = { λ _. None };
+
+    ghost written = { λ _. None };
 
     fn listen(&mut self, _address: &str) -> bool {
         !self.fails_now()

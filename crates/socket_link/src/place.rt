@@ -1,9 +1,10 @@
 // One connection: how long it may stand, and what is still to be written to it.
-ghost use Rattle.std.specs.Prelude.{◌≡◌, ◌<◌, ◌≤◌, ◌+◌, ◌++◌, min, IsTrue, OnOk, length};
+ghost use Rattle.std.specs.Prelude.{◌≡◌, ◌<◌, ◌≤◌, ◌+◌, ◌++◌, min, drop, IsTrue, OnOk, length};
 ghost use Rattle.std.specs.Duration.{as_nanos, max_nanos};
 ghost use Rattle.wiki_io.specs.Link.{with_more};
 ghost use Rattle.socket_link.specs.Moved.{MovedFits};
 ghost use Rattle.socket_link.specs.Told.{piece_of};
+ghost use Rattle.socket_link.specs.Written.{WritesFront};
 
 use crate::head::Head;
 use crate::socket::{Moved, Sockets};
@@ -144,6 +145,8 @@ impl Place {
     // Writes what the socket takes now; on a closed connection, before its time is over. False where it has failed.
     pub(crate) fn write<S: Sockets>(&mut self, sockets: &mut S, number: u32, now: Duration) -> bool
         requires in_time { IsTrue self.old.is_closed → as_nanos now < as_nanos self.old.due }
+        ensures written { WritesFront number (drop self.old.written self.old.unsent.items) (S.written sockets.old)
+            (drop self.new.written self.new.unsent.items) (S.written sockets.new) }
         ensures events { S.events sockets.new ≡ S.events sockets.old }
         ensures listening { S.listens_at sockets.new ≡ S.listens_at sockets.old }
     {
@@ -180,6 +183,8 @@ impl Place {
         number: u32,
         now: Duration,
     ) -> bool
+        ensures written { WritesFront number (drop self.old.written self.old.unsent.items) (S.written sockets.old)
+            (drop self.new.written self.new.unsent.items) (S.written sockets.new) }
         ensures events { S.events sockets.new ≡ S.events sockets.old }
         ensures listening { S.listens_at sockets.new ≡ S.listens_at sockets.old }
     {
@@ -199,6 +204,9 @@ impl Place {
 
     // Passes over what has come.
     fn drain<S: Sockets>(&mut self, sockets: &mut S, number: u32)
+        ensures unsent { self.new.unsent ≡ self.old.unsent }
+        ensures from { self.new.written ≡ self.old.written }
+        ensures written { S.written sockets.new ≡ S.written sockets.old }
         ensures events { S.events sockets.new ≡ S.events sockets.old }
         ensures listening { S.listens_at sockets.new ≡ S.listens_at sockets.old }
     {

@@ -3,7 +3,7 @@ ghost use Rattle.std.specs.Prelude.{◌≡◌, ◌<◌, ◌≤◌, ◌∷◌, []
 ghost use Rattle.wiki_io.specs.declared.links.Event.{Event};
 ghost use Rattle.wiki_io.specs.Link.{with_more};
 ghost use Rattle.socket_link.specs.Moved.{MovedFits};
-ghost use Rattle.socket_link.specs.Told.{opening_of, piece_of};
+ghost use Rattle.socket_link.specs.Told.{opening_of, piece_of, piece_written};
 
 use crate::numbers::Numbers;
 use std::io;
@@ -106,31 +106,39 @@ pub trait Sockets: Drop {
     /// is open goes. What is passed over is no part of it.
     ghost events: { Self → Option (List Event) };
 
+    /// What was written: pieces, each with the number of its socket, in order, where they tell it.
+    ghost written: { Self → Option (List (ℕ × List ℕ)) };
+
     /// Begins to listen at the address. False where that fails, and then they listen where they did before.
     fn listen(&mut self, address: &str) -> bool
         ensures ready { IsTrue result → IsTrue (listens_at self.new address.now) }
         ensures unready { result ≡ false → listens_at self.new ≡ listens_at self.old }
-        ensures events { events self.new ≡ events self.old };
+        ensures events { events self.new ≡ events self.old }
+        ensures written { written self.new ≡ written self.old };
 
     /// The time since some start. None where there is no telling.
     fn now(&mut self) -> Option<Duration>
         ensures events { events self.new ≡ events self.old }
-        ensures listening { listens_at self.new ≡ listens_at self.old };
+        ensures listening { listens_at self.new ≡ listens_at self.old }
+        ensures written { written self.new ≡ written self.old };
 
     /// Waits until something becomes ready, or for the time at most. None where that fails.
     fn wait(&mut self, time: Option<Duration>) -> Option<Ready>
         ensures events { events self.new ≡ events self.old }
-        ensures listening { listens_at self.new ≡ listens_at self.old };
+        ensures listening { listens_at self.new ≡ listens_at self.old }
+        ensures written { written self.new ≡ written self.old };
 
     /// Gives a socket to one who waits at the listener.
     fn accept(&mut self) -> Accepted
         ensures events { events self.new ≡ events self.old }
-        ensures listening { listens_at self.new ≡ listens_at self.old };
+        ensures listening { listens_at self.new ≡ listens_at self.old }
+        ensures written { written self.new ≡ written self.old };
 
     /// Names the socket that was accepted last by a number that no other has. False where that fails, and it goes.
     fn settle(&mut self, number: u32) -> bool
         ensures events { events self.new ≡ with_more (events self.old) (opening_of number result) }
-        ensures listening { listens_at self.new ≡ listens_at self.old };
+        ensures listening { listens_at self.new ≡ listens_at self.old }
+        ensures written { written self.new ≡ written self.old };
 
     /// Reads what has come into the front of the buffer.
     fn read(&mut self, number: u32, buf: &mut [u8]) -> Moved
@@ -138,32 +146,38 @@ pub trait Sockets: Drop {
         ensures fits { MovedFits result (length buf.new) }
         ensures room { length buf.new ≡ length buf.old }
         ensures events { events self.new ≡ with_more (events self.old) (piece_of number result buf.new) }
-        ensures listening { listens_at self.new ≡ listens_at self.old };
+        ensures listening { listens_at self.new ≡ listens_at self.old }
+        ensures written { written self.new ≡ written self.old };
 
     /// Reads what has come and passes it over.
     fn pass_over(&mut self, number: u32) -> Moved
         ensures events { events self.new ≡ events self.old }
-        ensures listening { listens_at self.new ≡ listens_at self.old };
+        ensures listening { listens_at self.new ≡ listens_at self.old }
+        ensures written { written self.new ≡ written self.old };
 
     /// Writes from the front of the bytes what the socket takes now.
     fn write(&mut self, number: u32, bytes: &[u8]) -> Moved
         requires { 0 < length bytes.now }
         ensures fits { MovedFits result (length bytes.now) }
         ensures events { events self.new ≡ events self.old }
-        ensures listening { listens_at self.new ≡ listens_at self.old };
+        ensures listening { listens_at self.new ≡ listens_at self.old }
+        ensures written { written self.new ≡ with_more (written self.old) (piece_written number result bytes.now) };
 
     /// Nothing more is written. False where that fails.
     fn shut(&mut self, number: u32) -> bool
         ensures events { events self.new ≡ events self.old }
-        ensures listening { listens_at self.new ≡ listens_at self.old };
+        ensures listening { listens_at self.new ≡ listens_at self.old }
+        ensures written { written self.new ≡ written self.old };
 
     /// The socket of an open connection goes.
     fn end(&mut self, number: u32)
         ensures events { events self.new ≡ with_more (events self.old) (Event.Ended number ∷ []) }
-        ensures listening { listens_at self.new ≡ listens_at self.old };
+        ensures listening { listens_at self.new ≡ listens_at self.old }
+        ensures written { written self.new ≡ written self.old };
 
     /// The socket of a closed connection goes.
     fn release(&mut self, number: u32)
         ensures events { events self.new ≡ events self.old }
-        ensures listening { listens_at self.new ≡ listens_at self.old };
+        ensures listening { listens_at self.new ≡ listens_at self.old }
+        ensures written { written self.new ≡ written self.old };
 }

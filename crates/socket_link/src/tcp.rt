@@ -3,7 +3,7 @@ ghost use Rattle.std.specs.Prelude.{◌≡◌, ◌<◌, ◌≤◌, ◌∷◌, []
 ghost use Rattle.wiki_io.specs.declared.links.Event.{Event};
 ghost use Rattle.wiki_io.specs.Link.{with_more};
 ghost use Rattle.socket_link.specs.Moved.{MovedFits};
-ghost use Rattle.socket_link.specs.Told.{opening_of, piece_of};
+ghost use Rattle.socket_link.specs.Told.{opening_of, piece_of, piece_written};
 
 use crate::socket::{Accepted, Moved, PLACES, Ready, Sockets};
 use mio::net::{TcpListener, TcpStream};
@@ -78,6 +78,8 @@ impl<R: Net + Clock> Sockets for TcpSockets<'_, R> {
     ghost listens_at = { λ s. listens_anywhere (is_some s.listener) };
 
     ghost events = { λ _. None };
+
+    ghost written = { λ _. None };
 
     #[tactic(auto, using(crate::proofs::ToldLemmas::listens_once))]
     fn listen(&mut self, address: &str) -> bool {

@@ -5,6 +5,9 @@ abbrev pub invariant-loop : goal.invariant-loop
 invariant-loop g l =
     let sockets = g.S.Sockets in
     record {
+      unsent : l.self.unsent ≡ l.initial.self.unsent;
+      from : l.self.written ≡ l.initial.self.written;
+      written : sockets.written l.sockets ≡ sockets.written l.initial.sockets;
       events : sockets.events l.sockets ≡ sockets.events l.initial.sockets;
       listening : sockets.listens_at l.sockets ≡ sockets.listens_at l.initial.sockets;
     }

@@ -5,8 +5,8 @@ use Rattle.std.specs.List.{list_any}
 use Rattle.std.proofs.lemmas.Bool.Decides.{Decides-eqb, Decides-like, Decides-not, Decides-and, Decides-or, Decides-by_and, Decides-by_or, Decides-below_and, Decides-below_or}
 use Rattle.std.proofs.lemmas.List.Elements.{Decides-contains}
 use Rattle.logic_terms.specs.declared.expressions.Role.{Role}
-use Rattle.logic_terms.specs.Concept.{Concept, Concepts, Everything, Atomic, ComplementOf, IntersectionOf, UnionOf, SomeValuesFrom, AllValuesFrom, HasValue, no_concept, also_concept, Claim, SubClassOf, SubPropertyOf, ClassAssertion, PropertyAssertion, NegativePropertyAssertion, SameIndividual, DifferentIndividuals}
-use Rattle.logic_terms.specs.Interpretation.{Interpretation, element_of, elements_of, pairs_of, relates, Relates}
+use Rattle.logic_terms.specs.Concept.{Concept, Concepts, Everything, Atomic, ComplementOf, IntersectionOf, UnionOf, SomeValuesFrom, AllValuesFrom, HasValue, no_concept, also_concept, Claim, SubClassOf, SubPropertyOf, ClassAssertion, PropertyAssertion, NegativePropertyAssertion, SameIndividual, DifferentIndividuals, TransitiveProperty}
+use Rattle.logic_terms.specs.Interpretation.{Interpretation, element_of, elements_of, pairs_of, has_pair, relates, Relates}
 use Rattle.logic_terms.specs.Meaning.{some_below, each_below, implies, is_in, is_in_each, is_in_some, holds, all_hold}
 use Rattle.logic_terms.specs.Reading.{IsIn, IsInEach, IsInSome, Holds, IsModel}
 
@@ -92,6 +92,28 @@ holds-Decides i (NegativePropertyAssertion r from to) =
 holds-Decides i (SameIndividual one other) = Decides-eqb (element_of i one) (element_of i other)
 holds-Decides i (DifferentIndividuals one other) =
     Decides-not (element_of i one == element_of i other) (Decides-eqb (element_of i one) (element_of i other))
+holds-Decides i (TransitiveProperty word) =
+    each_below-Decides i.size (λ x. each_below i.size (λ y. implies (has_pair i word x y) (onward x y)))
+    (λ x. (y : ℕ) → y < i.size → Pair x y → Onward x y)
+    (λ x. each_below-Decides i.size (λ y. implies (has_pair i word x y) (onward x y)) (λ y. Pair x y → Onward x y)
+    (λ y. implies-Decides (has_pair i word x y) (onward x y) (Pair x y) (Onward x y) (pair x y) (onward-Decides x y)))
+  where
+    Pair : ℕ → ℕ → Type 0
+    Pair x y = Contains (pairs_of i word) (x, y)
+
+    pair : (x y : ℕ) → Decides (has_pair i word x y) (Pair x y)
+    pair x y = list_any-Contains_pair (pairs_of i word) x y
+
+    onward : ℕ → ℕ → Bool
+    onward x y = each_below i.size (λ z. implies (has_pair i word y z) (has_pair i word x z))
+
+    Onward : ℕ → ℕ → Type 0
+    Onward x y = (z : ℕ) → z < i.size → Pair y z → Pair x z
+
+    onward-Decides : (x y : ℕ) → Decides (onward x y) (Onward x y)
+    onward-Decides x y =
+        each_below-Decides i.size (λ z. implies (has_pair i word y z) (has_pair i word x z)) (λ z. Pair y z → Pair x z)
+        (λ z. implies-Decides (has_pair i word y z) (has_pair i word x z) (Pair y z) (Pair x z) (pair y z) (pair x z))
 
 pub all_hold-Decides : (i : Interpretation) (claims : List Claim) → Decides (all_hold i claims) (IsModel i claims)
 all_hold-Decides i claims =

@@ -23,6 +23,9 @@ pub fn applicable(k: &Knowledge, b: &Branch) -> Option<Step>
     if let Some(step) = first_by(k, b, Rule::All) {
         return Some(step);
     }
+    if let Some(step) = first_by(k, b, Rule::Trans) {
+        return Some(step);
+    }
     if let Some(step) = first_by(k, b, Rule::Value) {
         return Some(step);
     }

@@ -3,6 +3,7 @@
 
 mod blocking;
 mod branch;
+mod carrying;
 mod changes;
 mod clashes;
 mod edges;

@@ -1,0 +1,152 @@
+// What transitive roles carry along.
+ghost use Rattle.std.specs.Prelude.{◌≡◌, ◌&&◌, ◌++◌, map, filter, IfOk};
+ghost use Rattle.std.specs.List.{list_any, flat_map};
+ghost use Rattle.logic_terms.specs.Concept.{AllValuesFrom, ComplementOf, HasValue};
+ghost use Rattle.logic_terms.specs.Known.{theory_of};
+ghost use Rattle.logic_terms.specs.Same.{same_concept, has_concept};
+ghost use Rattle.logic_terms.specs.Shown.{concept_of, concepts_of};
+ghost use Rattle.logic_terms.specs.Theory.{is_below};
+ghost use Rattle.tableau_rules.specs.Carrying.{role_of_all, along, carried};
+ghost use Rattle.tableau_rules.specs.Neighbours.{is_neighbour};
+ghost use Rattle.tableau_rules.specs.Shown.{graph_of};
+
+use crate::branch::Branch;
+use crate::neighbour::is_neighbour;
+use logic_terms::{Class, Classes, Knowledge, Role};
+use std::alloc::Global;
+use wiki_base::{Memory, WordId};
+
+// The role of a class that speaks of all successors.
+pub(crate) fn role_of_all(class: &Class) -> Option<Role>
+    ensures { result ≡ role_of_all (concept_of class.now) }
+{
+    match class {
+        Class::All(role, _) => Some(*role),
+        Class::Not(inner) => role_of_value(inner),
+        _ => None,
+    }
+}
+
+fn role_of_value(inner: &Class) -> Option<Role>
+    ensures { result ≡ role_of_all (ComplementOf (concept_of inner.now)) }
+{
+    match inner {
+        Class::Value(role, _) => Some(*role),
+        _ => None,
+    }
+}
+
+// Whether a label has the class that speaks of the successors by another role.
+pub(crate) fn has_along(label: &[Class], role: Role, class: &Class) -> bool
+    ensures { result ≡ has_concept (map concept_of label.now) (along role (concept_of class.now)) }
+{
+    for own in label {
+        if is_along(own, role, class) {
+            return true;
+        }
+    }
+    false
+}
+
+// Whether a class is another one with this role in its place.
+fn is_along(own: &Class, role: Role, class: &Class) -> bool
+    ensures { result ≡ same_concept (concept_of own.now) (along role (concept_of class.now)) }
+{
+    match class {
+        Class::All(_, inner) => is_all(own, role, inner),
+        Class::Not(inner) => is_not_along(own, role, inner),
+        _ => own.is_same(class),
+    }
+}
+
+fn is_all(own: &Class, role: Role, inner: &Class) -> bool
+    ensures { result ≡ same_concept (concept_of own.now) (AllValuesFrom role (concept_of inner.now)) }
+{
+    match own {
+        Class::All(own_role, own_inner) => own_role.is_same(role) && own_inner.is_same(inner),
+        _ => false,
+    }
+}
+
+fn is_not_along(own: &Class, role: Role, inner: &Class) -> bool
+    ensures { result ≡ same_concept (concept_of own.now) (along role (ComplementOf (concept_of inner.now))) }
+{
+    match own {
+        Class::Not(own_inner) => is_value_along(own_inner, role, inner),
+        _ => false,
+    }
+}
+
+// The same of what the complements stand before.
+fn is_value_along(own: &Class, role: Role, inner: &Class) -> bool
+    ensures { result ≡ same_concept (ComplementOf (concept_of own.now)) (along role (ComplementOf (concept_of inner.now))) }
+{
+    match inner {
+        Class::Value(_, name) => is_value(own, role, *name),
+        _ => own.is_same(inner),
+    }
+}
+
+fn is_value(own: &Class, role: Role, name: WordId) -> bool
+    ensures { result ≡ same_concept (concept_of own.now) (HasValue role name) }
+{
+    match own {
+        Class::Value(own_role, own_name) => own_role.is_same(role) && own_name.0 == name.0,
+        _ => false,
+    }
+}
+
+// The class with this role in the place of its own.
+fn along(alloc: Global, role: Role, class: &Class) -> Result<Class, Memory>
+    ensures { IfOk result (λ made. concept_of made ≡ along role (concept_of class.now)) }
+{
+    match class {
+        Class::All(_, inner) => Ok(Class::All(role, Box::new(alloc, inner.copy(alloc)?)?)),
+        Class::Not(inner) => not_along(alloc, role, inner),
+        other => other.copy(alloc),
+    }
+}
+
+fn not_along(alloc: Global, role: Role, inner: &Class) -> Result<Class, Memory>
+    ensures { IfOk result (λ made. concept_of made ≡ along role (ComplementOf (concept_of inner.now))) }
+{
+    match inner {
+        Class::Value(_, name) => Ok(Class::Not(Box::new(alloc, Class::Value(role, *name))?)),
+        other => Ok(Class::Not(Box::new(alloc, other.copy(alloc)?)?)),
+    }
+}
+
+// What transitive roles below a role carry of a class from one node to another.
+pub(crate) fn carried(
+    k: &Knowledge,
+    b: &Branch,
+    role: Role,
+    class: &Class,
+    node: u64,
+    other: u64,
+) -> Result<Classes, Memory>
+    ensures { IfOk result (λ made. concepts_of made ≡ carried (theory_of k.now) (graph_of b.now) role (concept_of class.now) node other) }
+{
+    let alloc = b.allocator();
+    let mut made = Classes::new(alloc);
+    for word in k.transitive() {
+        let plain = Role {
+            id: *word,
+            inverted: false,
+        };
+        if carries(k, b, role, plain, node, other) {
+            made.push(along(alloc, plain, class)?)?;
+        }
+        if carries(k, b, role, plain.inverse(), node, other) {
+            made.push(along(alloc, plain.inverse(), class)?)?;
+        }
+    }
+    Ok(made)
+}
+
+// Whether a role is below another and makes the one node a neighbour of the other.
+fn carries(k: &Knowledge, b: &Branch, role: Role, carrier: Role, node: u64, other: u64) -> bool
+    ensures { result ≡ (is_below (theory_of k.now) carrier role && is_neighbour (theory_of k.now) (graph_of b.now) carrier node other) }
+{
+    k.is_below(carrier, role) && is_neighbour(k, b, carrier, node, other)
+}

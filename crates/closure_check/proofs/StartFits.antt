@@ -160,6 +160,10 @@ and_all a b c d e f g h =
 sized_by : (i : Interpretation) → is_interpretation i ≡ true → Sized i
 sized_by i h = let p = and_all _ _ _ _ _ _ _ h in sized_is i p.0 p.1
 
+-- each name has an element
+pub named_small : (i : Interpretation) → is_interpretation i ≡ true → (name : WordId) → element_of i name < i.size
+named_small i is name = element_small i (sized_by i is) name
+
 pub start_fits : (i : Interpretation) (k : Theory) → is_interpretation i ≡ true → list_all (λ e. holds i (SameIndividual e.0 e.1)) k.names ≡ true
     → list_all (λ e. holds i (ClassAssertion e.1 e.0)) k.assertions ≡ true → list_all (λ e. holds i (PropertyAssertion e.0 e.1 e.2)) k.edges ≡ true
     → list_all (λ c. holds i (SubClassOf Everything c)) k.general ≡ true → Fits i k (start k) (first_elements i k)

@@ -35,8 +35,7 @@ Holds i (NegativePropertyAssertion r from to) = ¬ Relates i r (element_of i fro
 Holds i (SameIndividual one other) = element_of i one ≡ element_of i other
 Holds i (DifferentIndividuals one other) = element_of i one ≢ element_of i other
 Holds i (TransitiveProperty word) =
-    (x : ℕ) → x < i.size → (y : ℕ) → y < i.size → Contains (pairs_of i word) (x, y) → (z : ℕ) → z < i.size → Contains (pairs_of i word) (y, z)
-    → Contains (pairs_of i word) (x, z)
+    (x y z : ℕ) → Contains (pairs_of i word) (x, y) → Contains (pairs_of i word) (y, z) → Contains (pairs_of i word) (x, z)
 
 -- an interpretation is a model of axioms
 abbrev pub IsModel : Interpretation → List Claim → Type 0

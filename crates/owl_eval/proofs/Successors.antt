@@ -124,7 +124,7 @@ fit_either : (n : ℕ) (b : Bool) (ps : List (ℕ × ℕ)) (other : Option (List
 fit_either n true ps other here there = here
 fit_either n false ps other here there = there
 
-pub fit_lookup : (n : ℕ) (test : WordId → Bool) (es : List (WordId × List (ℕ × ℕ))) → list_all (λ e. ends_fit n e.1) es ≡ true
+fit_lookup : (n : ℕ) (test : WordId → Bool) (es : List (WordId × List (ℕ × ℕ))) → list_all (λ e. ends_fit n e.1) es ≡ true
     → ends_fit n (unwrap_or (lookup test es) []) ≡ true
 fit_lookup n test [] fit = refl
 fit_lookup n test (e ∷ es) fit =

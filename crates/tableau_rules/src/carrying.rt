@@ -1,6 +1,5 @@
 // What transitive roles carry along.
-ghost use Rattle.std.specs.Prelude.{◌≡◌, ◌&&◌, ◌++◌, map, filter, IfOk};
-ghost use Rattle.std.specs.List.{list_any, flat_map};
+ghost use Rattle.std.specs.Prelude.{◌≡◌, ◌&&◌, ◌∷◌, ◌++◌, [], map, IfOk, OnOk, if◌then◌else◌};
 ghost use Rattle.logic_terms.specs.Concept.{AllValuesFrom, ComplementOf, HasValue};
 ghost use Rattle.logic_terms.specs.Known.{theory_of};
 ghost use Rattle.logic_terms.specs.Same.{same_concept, has_concept};
@@ -134,14 +133,28 @@ pub(crate) fn carried(
             id: *word,
             inverted: false,
         };
-        if carries(k, b, role, plain, node, other) {
-            made.push(along(alloc, plain, class)?)?;
-        }
-        if carries(k, b, role, plain.inverse(), node, other) {
-            made.push(along(alloc, plain.inverse(), class)?)?;
-        }
+        carry(&mut made, carries(k, b, role, plain, node, other), plain, class, alloc)?;
+        let inverse = plain.inverse();
+        carry(&mut made, carries(k, b, role, inverse, node, other), inverse, class, alloc)?;
     }
     Ok(made)
+}
+
+// Adds the class along a role, if it is carried.
+fn carry(
+    made: &mut Classes,
+    is_carried: bool,
+    role: Role,
+    class: &Class,
+    alloc: Global,
+) -> Result<(), Memory>
+    ensures { OnOk result (concepts_of made.new ≡ concepts_of made.old ++ (if is_carried then along role (concept_of class.now) ∷ [] else [])) }
+{
+    if is_carried {
+        made.push(along(alloc, role, class)?)
+    } else {
+        Ok(())
+    }
 }
 
 // Whether a role is below another and makes the one node a neighbour of the other.

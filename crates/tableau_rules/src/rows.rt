@@ -154,8 +154,9 @@ fn first_to_get(k: &Knowledge, b: &Branch, role: Role, class: &Class, node: u64)
             id: *word,
             inverted: false,
         };
-        least = lesser_of(least, first_by(k, b, role, plain, class, node));
-        least = lesser_of(least, first_by(k, b, role, plain.inverse(), class, node));
+        let there = first_by(k, b, role, plain, class, node);
+        let back = first_by(k, b, role, plain.inverse(), class, node);
+        least = lesser_of(lesser_of(least, there), back);
     }
     least
 }

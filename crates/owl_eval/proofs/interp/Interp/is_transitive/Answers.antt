@@ -4,7 +4,6 @@ use Rattle.logic_terms.specs.Concept.{TransitiveProperty}
 use Rattle.logic_terms.specs.Interpretation.{Interpretation, is_word}
 use Rattle.logic_terms.specs.Meaning.{holds}
 use Rattle.owl_eval.specs.Pairs.{leads_on}
-use Rattle.owl_eval.proofs.Leading.{leads_on-holds}
 use Rattle.owl_eval.proofs.interp.Interp.is_transitive.Goals as goal
 
 pub returns : goal.returns
@@ -17,5 +16,4 @@ returns c =
     } in
     c.transitive_in.ensures
     ∙ (ap (λ rs. leads_on (unwrap_or (lookup (is_word c.args.word) rs) [])) c.as_slice.ensures.value
-    ∙ (leads_on-holds i c.self.invariant c.args.word
-    ∙ ap (λ j. holds j (TransitiveProperty c.args.word)) c.self.view_is))
+    ∙ ap (λ j. holds j (TransitiveProperty c.args.word)) c.self.view_is)

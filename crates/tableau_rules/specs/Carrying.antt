@@ -17,7 +17,8 @@ role_of_all _ = None
 -- the same of the successors by another role
 abbrev pub along : Role → Concept → Concept
 along role (AllValuesFrom own c) = AllValuesFrom role c
-along role (ComplementOf (HasValue own name)) = ComplementOf (HasValue role name)
+along role (HasValue own name) = HasValue role name
+along role (ComplementOf c) = ComplementOf (along role c)
 along role c = c
 
 -- the roles of a word, the plain one first

@@ -48,12 +48,17 @@ pub(crate) fn has_along(label: &[Class], role: Role, class: &Class) -> bool
 }
 
 // Whether a class is another one with this role in its place.
+#[cycle(finding)]
 fn is_along(own: &Class, role: Role, class: &Class) -> bool
     ensures { result ≡ same_concept (concept_of own.now) (along role (concept_of class.now)) }
 {
     match class {
         Class::All(_, inner) => is_all(own, role, inner),
-        Class::Not(inner) => is_not_along(own, role, inner),
+        Class::Value(_, name) => is_value(own, role, *name),
+        Class::Not(inner) => match own {
+            Class::Not(own_inner) => is_along(own_inner, role, inner),
+            _ => false,
+        },
         _ => own.is_same(class),
     }
 }
@@ -67,25 +72,6 @@ fn is_all(own: &Class, role: Role, inner: &Class) -> bool
     }
 }
 
-fn is_not_along(own: &Class, role: Role, inner: &Class) -> bool
-    ensures { result ≡ same_concept (concept_of own.now) (along role (ComplementOf (concept_of inner.now))) }
-{
-    match own {
-        Class::Not(own_inner) => is_value_along(own_inner, role, inner),
-        _ => false,
-    }
-}
-
-// The same of what the complements stand before.
-fn is_value_along(own: &Class, role: Role, inner: &Class) -> bool
-    ensures { result ≡ same_concept (ComplementOf (concept_of own.now)) (along role (ComplementOf (concept_of inner.now))) }
-{
-    match inner {
-        Class::Value(_, name) => is_value(own, role, *name),
-        _ => own.is_same(inner),
-    }
-}
-
 fn is_value(own: &Class, role: Role, name: WordId) -> bool
     ensures { result ≡ same_concept (concept_of own.now) (HasValue role name) }
 {
@@ -96,22 +82,15 @@ fn is_value(own: &Class, role: Role, name: WordId) -> bool
 }
 
 // The class with this role in the place of its own.
+#[cycle(moving)]
 fn along(alloc: Global, role: Role, class: &Class) -> Result<Class, Memory>
     ensures { IfOk result (λ made. concept_of made ≡ along role (concept_of class.now)) }
 {
     match class {
         Class::All(_, inner) => Ok(Class::All(role, Box::new(alloc, inner.copy(alloc)?)?)),
-        Class::Not(inner) => not_along(alloc, role, inner),
+        Class::Value(_, name) => Ok(Class::Value(role, *name)),
+        Class::Not(inner) => Ok(Class::Not(Box::new(alloc, along(alloc, role, inner)?)?)),
         other => other.copy(alloc),
-    }
-}
-
-fn not_along(alloc: Global, role: Role, inner: &Class) -> Result<Class, Memory>
-    ensures { IfOk result (λ made. concept_of made ≡ along role (ComplementOf (concept_of inner.now))) }
-{
-    match inner {
-        Class::Value(_, name) => Ok(Class::Not(Box::new(alloc, Class::Value(role, *name))?)),
-        other => Ok(Class::Not(Box::new(alloc, other.copy(alloc)?)?)),
     }
 }
 

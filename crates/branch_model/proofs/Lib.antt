@@ -4,6 +4,7 @@ pub mod ExtentsLemmas
 pub mod Labels
 pub mod Made
 pub mod ModelOf
+pub mod Paths
 pub mod Pictured
 pub mod Placing
 pub mod Putting

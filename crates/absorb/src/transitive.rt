@@ -14,7 +14,8 @@ pub(crate) fn in_order(alloc: Global, words: &[WordId]) -> Result<Vec<WordId>, M
 {
     let mut numbers = numbers_of(alloc, words)?;
     put_in_order(&mut numbers);
-    words_of(alloc, numbers.as_slice())
+    let made = words_of(alloc, numbers.as_slice())?;
+    Ok(made)
 }
 
 fn words_of(alloc: Global, numbers: &[u32]) -> Result<Vec<WordId>, Memory>

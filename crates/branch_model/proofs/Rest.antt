@@ -1,9 +1,9 @@
 -- What a branch has where no step applies and no clash is there.
-use Rattle.std.proofs.Common.{◌≡◌, ℕ, zero, suc, ◌+◌, ◌<◌, ◌≤◌, ◌==◌, ◌&&◌, ◌||◌, Bool, true, false, List, [], ◌∷◌, length, Option, Some, None, refl, sym, ap, subst, ◌∙◌, inl, inr, arith}
+use Rattle.std.proofs.Common.{◌≡◌, ℕ, zero, suc, ◌+◌, ◌<◌, ◌≤◌, ◌==◌, ◌&&◌, ◌||◌, Bool, true, false, List, [], ◌∷◌, length, Option, Some, None, refl, sym, ap, ◌∙◌, inl, inr, arith}
 use Rattle.std.specs.Prelude.{not, ◌⊎◌, if◌then◌else◌}
 use Rattle.std.specs.List.{list_any, list_all}
 use Rattle.std.specs.Option.{option_map, option_and_then, option_or}
-use Rattle.std.proofs.lemmas.Bool.{cases_eq, and_parts, and_from, and_cases, or_parts, or_cases, or_left, or_right, not-false, not-true, cond-false}
+use Rattle.std.proofs.lemmas.Bool.{cases_eq, and_parts, and_from, and_cases, or_parts, or_left, or_right, not-false, not-true, cond-false}
 use Rattle.wiki_base.specs.declared.numbers.WordId.{WordId}
 use Rattle.wiki_base.proofs.OptionLaws.{option_or-first_none, option_or-second_none, option_map-none}
 use Rattle.tableau_rules.proofs.Reaching.{some_below_found, some_below_fails}
@@ -15,7 +15,7 @@ use Rattle.logic_terms.specs.Meaning.{some_below}
 use Rattle.logic_terms.specs.Parts.{members_in}
 use Rattle.logic_terms.specs.Same.{same_role, same_concept, has_concept}
 use Rattle.logic_terms.specs.Theory.{Theory}
-use Rattle.logic_terms.proofs.SameLemmas.{role_equal}
+use Rattle.tableau_rules.proofs.Carriers.{none_there}
 use Rattle.tableau_rules.specs.Carrying.{role_of_all, along, carriers}
 use Rattle.tableau_rules.specs.declared.step.Rule.{Rule}
 use Rattle.tableau_rules.specs.declared.step.Rule.TheVariants as rule
@@ -48,16 +48,6 @@ one_there label (c ∷ cs) h = elim (and_cases (not (has_concept label c)) (lack
   | inl here ↦ or_left (has_concept label c) (list_any (has_concept label) cs) (not-false (has_concept label c) here)
   | inr later ↦ or_right (has_concept label c) (list_any (has_concept label) cs) (one_there label cs later)
 ]
-
--- a role of a list fails what none of the list passes
-none_there : (test : Role → Bool) (ts : List Role) (t : Role) → list_any test ts ≡ false → list_any (λ s. same_role s t) ts ≡ true → test t ≡ false
-none_there test [] t none there = cc
-none_there test (s ∷ ts) t none there =
-    let two = or_parts (test s) (list_any test ts) none in
-    elim (or_cases (same_role s t) (list_any (λ r. same_role r t) ts) there) [
-      | inl here ↦ subst (λ r. test r ≡ false) (role_equal s t here) two.0
-      | inr later ↦ none_there test ts t two.1 later
-    ]
 
 module _ (k : Theory) (g : Graph) (done : first_step k g ≡ None) where
   -- the rules before each one have no step

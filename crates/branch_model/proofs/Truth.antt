@@ -66,32 +66,39 @@ module _ (k : Theory) (lawful : IsLawful k) (g : Graph) (i : Interpretation) (pl
         (y, lty, free_y, at_y, subst (Has y) (along_again t c) has_y)
 
   -- what all successors by a role are in, each has that the node is related to
-  all_end : (role : Role) (c : Concept) (x : ℕ) → x < length g.nodes → is_indirectly_blocked k g x ≡ false → Has x (AllValuesFrom role c) → (f : ℕ)
-      → IsRelated k g place role (place x) f → (y : ℕ) × (y < length g.nodes) × (is_indirectly_blocked k g y ≡ false) × (place y ≡ f) × Has y c
-  all_end role c x lt free has f (inl (x1, y, lt1, lty, free1, free_y, at_x, at_y, near)) =
+  all_step : (role : Role) (c : Concept) (x : ℕ) → x < length g.nodes → is_indirectly_blocked k g x ≡ false → Has x (AllValuesFrom role c) → (f : ℕ)
+      → IsStep k g place role (place x) f → (y : ℕ) × (y < length g.nodes) × (is_indirectly_blocked k g y ≡ false) × (place y ≡ f) × Has y c
+  all_step role c x lt free has f (x1, y, lt1, lty, free1, free_y, at_x, at_y, near) =
       let has1 : Has x1 (AllValuesFrom role c) = sym (pictures.same x x1 lt lt1 free free1 (sym at_x) (AllValuesFrom role c)) ∙ has in
       (y, lty, free_y, at_y, all_done k g done x1 lt1 free1 role c has1 y lty near free_y)
-  all_end role c x lt free has f (inr (t, transitive, below, (zero, step))) = all_end role c x lt free has f (inl (step_up k lawful g place t role below (place x) f step))
-  all_end role c x lt free has f (inr (t, transitive, below, (suc n, m, before, (x2, y, lt2, lty, free2, free_y, at_x, at_y, near)))) =
+
+  all_end : (role : Role) (c : Concept) (x : ℕ) → x < length g.nodes → is_indirectly_blocked k g x ≡ false → Has x (AllValuesFrom role c) → (f : ℕ)
+      → IsRelated k g place role (place x) f → (y : ℕ) × (y < length g.nodes) × (is_indirectly_blocked k g y ≡ false) × (place y ≡ f) × Has y c
+  all_end role c x lt free has f (inl step) = all_step role c x lt free has f step
+  all_end role c x lt free has f (inr (t, transitive, below, (zero, step))) = all_step role c x lt free has f (step_up k lawful g place t role below (place x) f step)
+  all_end role c x lt free has f (inr (t, transitive, below, (suc n, (m, before, step)))) =
       let far = path_has (AllValuesFrom role c) role t refl transitive below x lt free has n m before in
-      let has2 : Has x2 (AllValuesFrom t c) = sym (pictures.same far.0 x2 far.1 lt2 far.2 free2 (far.3 ∙ sym at_x) (AllValuesFrom t c)) ∙ far.4 in
-      (y, lty, free_y, at_y, all_done k g done x2 lt2 free2 t c has2 y lty near free_y)
+      all_step t c far.0 far.1 far.2 far.4 f (subst (λ e. IsStep k g place t e f) (sym far.3) step)
 
   -- a name's element that no successor by a role is, none is that the node is related to
-  no_end : (role : Role) (name : WordId) (z : ℕ) → node_of k name ≡ Some z → (x : ℕ) → x < length g.nodes → is_indirectly_blocked k g x ≡ false
-      → Has x (ComplementOf (HasValue role name)) → IsRelated k g place role (place x) (place z) → ⊥
-  no_end role name z node x lt free has (inl (x1, y, lt1, lty, free1, free_y, at_x, at_y, near)) =
+  no_step : (role : Role) (name : WordId) (z : ℕ) → node_of k name ≡ Some z → (x : ℕ) → x < length g.nodes → is_indirectly_blocked k g x ≡ false
+      → Has x (ComplementOf (HasValue role name)) → IsStep k g place role (place x) (place z) → ⊥
+  no_step role name z node x lt free has (x1, y, lt1, lty, free1, free_y, at_x, at_y, near) =
       let has1 : Has x1 (ComplementOf (HasValue role name)) = sym (pictures.same x x1 lt lt1 free free1 (sym at_x) (ComplementOf (HasValue role name))) ∙ has in
       let is_z : y ≡ z = pictures.alone y z name lty free_y node at_y in
       both (ap (is_neighbour k g role x1) (sym is_z) ∙ near) (no_value k g calm x1 lt1 role name z has1 node)
     where
       both : {b : Bool} → b ≡ true → b ≡ false → ⊥
       both t f = cc
+
+  no_end : (role : Role) (name : WordId) (z : ℕ) → node_of k name ≡ Some z → (x : ℕ) → x < length g.nodes → is_indirectly_blocked k g x ≡ false
+      → Has x (ComplementOf (HasValue role name)) → IsRelated k g place role (place x) (place z) → ⊥
+  no_end role name z node x lt free has (inl step) = no_step role name z node x lt free has step
   no_end role name z node x lt free has (inr (t, transitive, below, (zero, step))) =
-      no_end role name z node x lt free has (inl (step_up k lawful g place t role below (place x) (place z) step))
-  no_end role name z node x lt free has (inr (t, transitive, below, (suc n, m, before, (x2, y, lt2, lty, free2, free_y, at_x, at_y, near)))) =
+      no_step role name z node x lt free has (step_up k lawful g place t role below (place x) (place z) step)
+  no_end role name z node x lt free has (inr (t, transitive, below, (suc n, (m, before, step)))) =
       let far = path_has (ComplementOf (HasValue role name)) role t refl transitive below x lt free has n m before in
-      no_end t name z node far.0 far.1 far.2 far.4 (inl (x2, y, lt2, lty, free2, free_y, at_x ∙ sym far.3, at_y, near))
+      no_step t name z node far.0 far.1 far.2 far.4 (subst (λ e. IsStep k g place t e (place z)) (sym far.3) step)
 
   mutual
     pub truth : (c : Concept) → is_normal c ≡ true → names_given k c ≡ true → (x : ℕ) → x < length g.nodes → is_blocked k g x ≡ false

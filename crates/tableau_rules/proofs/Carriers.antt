@@ -1,8 +1,9 @@
 -- Transitive roles, word by word.
-use Rattle.std.proofs.Common.{◌≡◌, ℕ, zero, suc, ◌+◌, ◌<◌, ◌≤◌, ◌&&◌, ◌||◌, Bool, true, false, List, [], ◌∷◌, ◌++◌, map, filter, cond, length, take, get_or, Option, Some, None, subst, refl, sym, ap, ◌∙◌, append_assoc, arith}
+use Rattle.std.proofs.Common.{◌≡◌, ℕ, zero, suc, ◌+◌, ◌<◌, ◌≤◌, ◌&&◌, ◌||◌, Bool, true, false, List, [], ◌∷◌, ◌++◌, map, filter, cond, length, take, get_or, Option, Some, None, subst, refl, sym, ap, ◌∙◌, append_assoc, inl, inr, arith}
 use Rattle.std.specs.Prelude.{min, if◌then◌else◌}
 use Rattle.std.specs.List.{list_any, flat_map}
 use Rattle.std.specs.Option.{option_or, option_map_or}
+use Rattle.std.proofs.lemmas.Bool.{or_parts, or_cases, or_from, or_left, or_right}
 use Rattle.std.proofs.lemmas.List.{take_all, take_more, append-nil}
 use Rattle.std.proofs.lemmas.List.Concat.{flat_map-append}
 use Rattle.std.proofs.lemmas.List.Folds.{list_any-append}
@@ -10,7 +11,9 @@ use Rattle.wiki_base.specs.declared.numbers.WordId.{WordId}
 use Rattle.wiki_base.proofs.ListLaws.{list_any-filter}
 use Rattle.logic_terms.specs.declared.expressions.Role.{Role}
 use Rattle.logic_terms.specs.Concept.{Concept}
+use Rattle.logic_terms.specs.Same.{same_role}
 use Rattle.logic_terms.specs.Theory.{Theory, is_below}
+use Rattle.logic_terms.proofs.SameLemmas.{role_equal, same_role-self}
 use Rattle.tableau_rules.specs.Carrying.{along, both_ways, carriers, carried}
 use Rattle.tableau_rules.specs.First.{first_below, where_true}
 use Rattle.tableau_rules.specs.Graph.{Graph}
@@ -18,6 +21,23 @@ use Rattle.tableau_rules.specs.Least.{lesser_of}
 use Rattle.tableau_rules.specs.Neighbours.{is_neighbour}
 use Rattle.tableau_rules.specs.Rules.{needs}
 use Rattle.tableau_rules.proofs.Firsts.{where_parts}
+
+-- a role of a list fails what none of the list passes
+pub none_there : (test : Role → Bool) (ts : List Role) (t : Role) → list_any test ts ≡ false → list_any (λ s. same_role s t) ts ≡ true → test t ≡ false
+none_there test [] t none there = cc
+none_there test (s ∷ ts) t none there =
+    let two = or_parts (test s) (list_any test ts) none in
+    elim (or_cases (same_role s t) (list_any (λ r. same_role r t) ts) there) [
+      | inl here ↦ subst (λ r. test r ≡ false) (role_equal s t here) two.0
+      | inr later ↦ none_there test ts t two.1 later
+    ]
+
+-- and back
+pub all_fail : (test : Role → Bool) (ts : List Role) → ((t : Role) → list_any (λ s. same_role s t) ts ≡ true → test t ≡ false) → list_any test ts ≡ false
+all_fail test [] each = refl
+all_fail test (s ∷ ts) each =
+    or_from (test s) (list_any test ts) (each s (or_left (same_role s s) (list_any (λ r. same_role r s) ts) (same_role-self s)))
+    (all_fail test ts (λ t there. each t (or_right (same_role s t) (list_any (λ r. same_role r t) ts) there)))
 
 -- the first number that passes a test
 abbrev pub first : ℕ → (ℕ → Bool) → Option ℕ

@@ -15,8 +15,8 @@ use logic_terms::{Class, Classes, Knowledge, Role};
 use std::alloc::Global;
 use wiki_base::{Memory, WordId};
 
-// The role of a class that speaks of all successors.
-pub(crate) fn role_of_all(class: &Class) -> Option<Role>
+/// The role of a class that speaks of all successors: `All`, and the complement of `Value`. It takes no memory.
+pub fn role_of_all(class: &Class) -> Option<Role>
     ensures { result ≡ role_of_all (concept_of class.now) }
 {
     match class {

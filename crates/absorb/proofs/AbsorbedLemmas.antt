@@ -352,7 +352,8 @@ pub absorbed_from : (claims : List Claim) (names : List WordId) (k : Theory) (ns
     → ((r s : Role) → IsAtOrBelow hs r s ↔ Reaches (IsPutBelow inclusions) r s) → AreDistinct hs → k.assertions ≡ (sorted claims).assertions
     → k.edges ≡ (sorted claims).edges → k.differences ≡ (sorted claims).differences → k.unfoldings ≡ (sorted claims).unfoldings
     → k.general ≡ (sorted claims).general → IsAbsorbed claims names k
-absorbed_from claims names k ns equalities hs inclusions ts words same_e same_i same_n same_h same_w same_t rise leads given least closed distinct a e d u g = record {
+absorbed_from claims names k ns equalities hs inclusions ts words same_e same_i same_n same_h same_w same_t rise leads given least closed distinct a e d u g =
+    record {
   given = ap (map (λ (e : WordId × WordId). e.0)) same_n ∙ given;
   representatives = subst (λ es. All (λ e. Represents (sorted claims).equalities e.0 e.1) es) (sym same_n)
       (subst (λ qs. All (λ e. Represents qs e.0 e.1) ns) same_e least);

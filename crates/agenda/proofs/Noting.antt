@@ -57,7 +57,8 @@ module _ (k : Theory) (g : Graph) (branch : IsBranch k g) (r : Rule) where
       change (inl same) = subst (λ f. Changes k g f (λ y. x == y) (λ y. false)) (sym same) (same_changes k g (λ y. x == y) (λ y. false))
       change (inr (cs, is)) = subst (λ f. Changes k g f (λ y. x == y) (λ y. false)) (sym is) (adding_changes k g x cs)
 
-  met_ends : (e : Edge) (h : Graph) (new : Queue) → (reaches_out r ≡ true → IsPut h r new e.from × IsPut h r new e.to) → reaches_out r ≡ true → (y : ℕ) → ends e y ≡ true
+  met_ends : (e : Edge) (h : Graph) (new : Queue) → (reaches_out r ≡ true → IsPut h r new e.from × IsPut h r new e.to) → reaches_out r ≡ true → (y : ℕ)
+      → ends e y ≡ true
       → IsPut h r new y
   met_ends e h new met is y joined = elim (or_cases (e.from == y) (e.to == y) joined) [
     | inl from ↦ subst (IsPut h r new) (eqb-true e.from y from) (met is).0

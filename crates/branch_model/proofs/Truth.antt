@@ -75,7 +75,8 @@ module _ (k : Theory) (lawful : IsLawful k) (g : Graph) (i : Interpretation) (pl
   all_end : (role : Role) (c : Concept) (x : ℕ) → x < length g.nodes → is_indirectly_blocked k g x ≡ false → Has x (AllValuesFrom role c) → (f : ℕ)
       → IsRelated k g place role (place x) f → (y : ℕ) × (y < length g.nodes) × (is_indirectly_blocked k g y ≡ false) × (place y ≡ f) × Has y c
   all_end role c x lt free has f (inl step) = all_step role c x lt free has f step
-  all_end role c x lt free has f (inr (t, transitive, below, (zero, step))) = all_step role c x lt free has f (step_up k lawful g place t role below (place x) f step)
+  all_end role c x lt free has f (inr (t, transitive, below, (zero, step))) =
+      all_step role c x lt free has f (step_up k lawful g place t role below (place x) f step)
   all_end role c x lt free has f (inr (t, transitive, below, (suc n, (m, before, step)))) =
       let far = path_has (AllValuesFrom role c) role t refl transitive below x lt free has n m before in
       all_step t c far.0 far.1 far.2 far.4 f (subst (λ e. IsStep k g place t e f) (sym far.3) step)

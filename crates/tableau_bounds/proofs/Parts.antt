@@ -256,7 +256,8 @@ pub carried_within : (ds : List Concept) (c : Concept) (roles : List Role) → (
     → Within (map (λ t. along t c) roles) ds
 carried_within ds c [] each e h = cc
 carried_within ds c (t ∷ roles) each e h = elim (or_cases (same_concept (along t c) e) (has_concept (map (λ s. along s c) roles) e) h) [
-  | inl same ↦ subst (λ z. has_concept ds z ≡ true) (same_concept-equal (along t c) e same) (each t (or_left (same_role t t) (has_role roles t) (same_role-self t)))
+  | inl same ↦ subst (λ z. has_concept ds z ≡ true) (same_concept-equal (along t c) e same)
+      (each t (or_left (same_role t t) (has_role roles t) (same_role-self t)))
   | inr later ↦ carried_within ds c roles (λ s there. each s (or_right (same_role t s) (has_role roles s) there)) e later
 ]
 

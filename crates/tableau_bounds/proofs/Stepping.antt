@@ -354,7 +354,8 @@ module _ (k : Theory) (g : Graph) (filled : UnionsHaveMembers k) (inside : (y : 
           (any_kept (λ s. same_role s t) (λ s. is_neighbour k g s x z) (carriers k role) there)))
 
       go : (o : Option Role)
-          → option_and_then (λ role. first_below (length g.nodes) (λ z. where_true (list_any (λ t. needs k g t (along t c) x z) (carriers k role)) z)) o ≡ Some y
+          → option_and_then (λ role. first_below (length g.nodes) (λ z. where_true (list_any (λ t. needs k g t (along t c) x z) (carriers k role)) z)) o
+              ≡ Some y
           → IsStep k g (option_map_or (λ role. adding g y (carried k g role c x y)) o g)
       go None on = cc
       go (Some role) on =

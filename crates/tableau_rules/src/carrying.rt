@@ -48,7 +48,6 @@ pub(crate) fn has_along(label: &[Class], role: Role, class: &Class) -> bool
 }
 
 // Whether a class is another one with this role in its place.
-#[cycle(finding)]
 fn is_along(own: &Class, role: Role, class: &Class) -> bool
     ensures { result ≡ same_concept (concept_of own.now) (along role (concept_of class.now)) }
 {
@@ -82,7 +81,6 @@ fn is_value(own: &Class, role: Role, name: WordId) -> bool
 }
 
 // The class with this role in the place of its own.
-#[cycle(moving)]
 fn along(alloc: Global, role: Role, class: &Class) -> Result<Class, Memory>
     ensures { IfOk result (λ made. concept_of made ≡ along role (concept_of class.now)) }
 {

@@ -24,3 +24,14 @@ abbrev pub AreRelated : Theory → Graph → (ℕ → Option ℕ) → Role → �
 AreRelated k g stands role a b =
     AreJoined k g stands role a b
     ⊎ ((t : Role) × IsTrue (is_transitive k t) × IsTrue (is_below k t role) × Reaches (AreJoined k g stands t) a b)
+
+-- the relation is transitive
+abbrev pub IsTransitive : (ℕ → ℕ → Type 0) → Type 0
+IsTransitive related = (a b c : ℕ) → related a b → related b c → related a c
+
+-- a is an element, or related to it; b is one, or it is related to b
+abbrev pub AtOrBefore : (ℕ → ℕ → Type 0) → ℕ → ℕ → Type 0
+AtOrBefore related a element = (a ≡ element) ⊎ related a element
+
+abbrev pub AtOrBehind : (ℕ → ℕ → Type 0) → ℕ → ℕ → Type 0
+AtOrBehind related element b = (element ≡ b) ⊎ related element b

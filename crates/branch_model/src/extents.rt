@@ -6,6 +6,7 @@ ghost use Rattle.owl_eval.specs.Given.{lists_in};
 ghost use Rattle.tableau_rules.specs.Shown.{graph_of};
 ghost use Rattle.branch_model.specs.Extents.{labelled, extents, paired, paired_above, stand_of, linked, links};
 
+use crate::closing::led_to;
 use crate::entries::put;
 use logic_terms::{Class, Knowledge, Role};
 use std::alloc::Global;
@@ -59,6 +60,36 @@ pub(crate) fn role_pairs(
         add_edge(alloc, &mut made, k, stands, *edge)?;
     }
     Ok(made)
+}
+
+// Adds to the pairs of each transitive word, and of the roles above it, those that steps by its pairs lead to.
+pub(crate) fn close(
+    alloc: Global,
+    made: &mut Vec<(WordId, Vec<(u64, u64)>)>,
+    k: &Knowledge,
+) -> Result<(), Memory> {
+    for word in k.transitive() {
+        let role = Role {
+            id: *word,
+            inverted: false,
+        };
+        let led = led_to(alloc, pairs_of(made, *word))?;
+        for pair in &led {
+            add_pair(alloc, made, role, pair.0, pair.1)?;
+            add_above(alloc, made, k.hierarchy(), role, pair.0, pair.1)?;
+        }
+    }
+    Ok(())
+}
+
+// The pairs of a word.
+fn pairs_of(made: &[(WordId, Vec<(u64, u64)>)], word: WordId) -> &[(u64, u64)] {
+    for entry in made {
+        if entry.0.0 == word.0 {
+            return entry.1.as_slice();
+        }
+    }
+    &[]
 }
 
 fn add_edge(

@@ -10,7 +10,7 @@ ghost use Rattle.tableau_rules.specs.Shown.{graph_of};
 ghost use Rattle.branch_model.specs.Named.{named_elements, element_named};
 
 use crate::elements::find_elements;
-use crate::extents::{class_extents, role_pairs, stand};
+use crate::extents::{class_extents, close, role_pairs, stand};
 use logic_terms::Knowledge;
 use owl_eval::Interp;
 use std::alloc::Global;
@@ -31,7 +31,8 @@ pub fn model(alloc: Global, k: &Knowledge, b: &Branch) -> Result<Interp, Memory>
     let placed = find_elements(alloc, k, b)?;
     let names = name_elements(alloc, k, placed.stands.as_slice())?;
     let classes = class_extents(alloc, b, placed.owners.as_slice())?;
-    let relations = role_pairs(alloc, k, b, placed.stands.as_slice())?;
+    let mut relations = role_pairs(alloc, k, b, placed.stands.as_slice())?;
+    close(alloc, &mut relations, k)?;
     Interp::new(alloc, placed.owners.len() as u64, names, classes, relations)
 }
 

@@ -1,4 +1,5 @@
 pub mod Climb
+pub mod Closing
 pub mod EntriesLemmas
 pub mod ExtentsLemmas
 pub mod Labels

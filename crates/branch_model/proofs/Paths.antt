@@ -39,6 +39,12 @@ pub each_step : (P Q : ℕ → ℕ → Type 0) → ((a b : ℕ) → P a b → Q 
 each_step P Q weaker zero a b one = weaker a b one
 each_step P Q weaker (suc n) a b (m, before, last) = (m, each_step P Q weaker n a m before, weaker m b last)
 
+-- a path the other way
+pub turned_way : (P Q : ℕ → ℕ → Type 0) → ((c d : ℕ) → P c d → Q d c) → (n a b : ℕ) → Steps P n a b → Reaches Q b a
+turned_way P Q turn zero a b step = (zero, turn a b step)
+turned_way P Q turn (suc n) a b (m, before, last) =
+    let way = turned_way P Q turn n a m before in joined Q zero way.0 b m a (turn m b last) way.1
+
 -- a role is below itself
 pub below_itself : (k : Theory) (t : Role) → is_below k t t ≡ true
 below_itself k t = or_left (same_role t t) (list_any (λ p. same_role p.0 t && same_role p.1 t) k.hierarchy) (same_role-self t)

@@ -26,6 +26,8 @@ use Rattle.branch_model.proofs.Same.{same_has, same_has_back}
 use Rattle.branch_model.proofs.Sound.{IsSound}
 use Rattle.branch_model.proofs.EntriesLemmas.{items_of, Adds}
 use Rattle.branch_model.proofs.ExtentsLemmas.{Labels, IsPair, IsPairAbove, AreLinks}
+use Rattle.branch_model.specs.Related.{Reaches, straight, IsLed}
+use Rattle.branch_model.proofs.Paths.{IsStep, IsRelated, each_step, turned_way}
 use Rattle.branch_model.proofs.Truth.{Pictures}
 
 -- the element that a node stands for
@@ -230,13 +232,11 @@ module _ (k : Theory) (lawful : IsLawful k) (g : Graph) (sound : IsSound k g) (o
       (es : List (WordId × List ℕ)) (adds_es : Adds [] es (Labels g 0 owners))
       (rs : List (WordId × List (ℕ × ℕ))) (adds_rs : Adds [] rs (AreLinks k stands g.edges))
       (classes : (v : WordId) (x : ℕ) → Contains (elements_of i v) x ↔ Contains (items_of v es) x)
-      (relations : (v : WordId) (p : ℕ × ℕ) → Contains (pairs_of i v) p ↔ Contains (items_of v rs) p)
+      (relations : (v : WordId) (p : ℕ × ℕ) → Contains (pairs_of i v) p ↔ (Contains (items_of v rs) p ⊎ IsLed k rs v p))
       (names : (name : WordId) (y : ℕ) → node_of k name ≡ Some y → element_of i name ≡ place_of stands y) where
-    linked_to : (role : Role) (e f : ℕ) → Relates i role e f
-        → (x : ℕ) × (y : ℕ) × (x < length g.nodes) × (y < length g.nodes) × (is_indirectly_blocked k g x ≡ false) × (is_indirectly_blocked k g y ≡ false)
-        × (place_of stands x ≡ e) × (place_of stands y ≡ f) × (is_neighbour k g role x y ≡ true)
-    linked_to role e f related = elim (adds_rs.only role.id (turned_pair role.inverted e f)
-        ((relations role.id (turned_pair role.inverted e f)).0 (relates_pair i role e f related))) [
+    -- the pairs of edges are steps
+    step_of : (role : Role) (e f : ℕ) → Contains (items_of role.id rs) (turned_pair role.inverted e f) → IsStep k g (place_of stands) role e f
+    step_of role e f has = elim (adds_rs.only role.id (turned_pair role.inverted e f) has) [
           | inl none ↦ absurd (no_items role.id (turned_pair role.inverted e f) none)
           | inr (j, edge, at, (a, b, from, to, pair)) ↦
               (let ends = edge_ends (length g.nodes) g.edges j edge sound.ends at in
@@ -269,8 +269,9 @@ module _ (k : Theory) (lawful : IsLawful k) (g : Graph) (sound : IsSound k g) (o
               ])
         ]
 
+    -- and back
     linked_from : (role : Role) (x y : ℕ) → is_indirectly_blocked k g x ≡ false → is_indirectly_blocked k g y ≡ false → is_neighbour k g role x y ≡ true
-        → Relates i role (place_of stands x) (place_of stands y)
+        → Contains (items_of role.id rs) (turned_pair role.inverted (place_of stands x) (place_of stands y))
     linked_from role x y free_x free_y near =
         let found = edge_found k role x y g.edges near in
         let edge = found.1 in
@@ -318,11 +319,75 @@ module _ (k : Theory) (lawful : IsLawful k) (g : Graph) (sound : IsSound k g) (o
         ]
       where
         shown : (role : Role) (x y a b : ℕ) → stand_of stands x ≡ Some a → stand_of stands y ≡ Some b
-            → AreLinks k stands g.edges role.id (turned_pair role.inverted a b) → Relates i role (place_of stands x) (place_of stands y)
+            → AreLinks k stands g.edges role.id (turned_pair role.inverted a b)
+            → Contains (items_of role.id rs) (turned_pair role.inverted (place_of stands x) (place_of stands y))
         shown role x y a b at_x at_y links =
-            subst (λ e. Relates i role e (place_of stands y)) (sym (placed_at x a at_x))
-            (subst (Relates i role a) (sym (placed_at y b at_y))
-            (pair_relates i role a b ((relations role.id (turned_pair role.inverted a b)).1 (adds_rs.added role.id (turned_pair role.inverted a b) links))))
+            subst (λ e. Contains (items_of role.id rs) (turned_pair role.inverted e (place_of stands y))) (sym (placed_at x a at_x))
+            (subst (λ f. Contains (items_of role.id rs) (turned_pair role.inverted a f)) (sym (placed_at y b at_y))
+            (adds_rs.added role.id (turned_pair role.inverted a b) links))
+
+    step_from : (role : Role) (e f : ℕ) → IsStep k g (place_of stands) role e f → Contains (items_of role.id rs) (turned_pair role.inverted e f)
+    step_from role e f (x, y, ltx, lty, free_x, free_y, at_x, at_y, near) =
+        subst (λ d. Contains (items_of role.id rs) (turned_pair role.inverted d f)) at_x
+        (subst (λ d. Contains (items_of role.id rs) (turned_pair role.inverted (place_of stands x) d)) at_y (linked_from role x y free_x free_y near))
+
+    related_to : (role : Role) (e f : ℕ) → Relates i role e f → IsRelated k g (place_of stands) role e f
+    related_to role e f related = elim ((relations role.id (turned_pair role.inverted e f)).0 (relates_pair i role e f related)) [
+      | inl edge ↦ inl (step_of role e f edge)
+      | inr (word, r, a, b, transitive, below, (n, way), ids, pair) ↦ elim (same_or_turned r role ids) [
+        | inl same ↦ (let is = pair_same role.inverted a b e f (sym (ap (λ (s : Role). turned_pair s.inverted a b) same) ∙ pair) in inr (
+          straight word,
+          transitive,
+          subst (λ s. is_below k (straight word) s ≡ true) same below,
+          subst (λ d. Reaches (IsStep k g (place_of stands) (straight word)) d f) is.0
+              (subst (Reaches (IsStep k g (place_of stands) (straight word)) a) is.1
+              (n, each_step (λ c d. Contains (items_of word rs) (c, d)) (IsStep k g (place_of stands) (straight word)) (step_of (straight word)) n a b way)),
+        ))
+        | inr turned ↦ (let is = pair_turned role.inverted a b e f (sym (ap (λ (s : Role). turned_pair s.inverted a b) turned) ∙ pair) in inr (
+          inverse (straight word),
+          transitive,
+          subst (λ s. is_below k (inverse (straight word)) s ≡ true) (ap inverse turned ∙ inverse_twice role) (lawful.inverses (straight word) r below),
+          subst (λ d. Reaches (IsStep k g (place_of stands) (inverse (straight word))) d f) is.1
+              (subst (Reaches (IsStep k g (place_of stands) (inverse (straight word))) b) is.0
+              (turned_way (λ c d. Contains (items_of word rs) (c, d)) (IsStep k g (place_of stands) (inverse (straight word)))
+              (λ c d has. step_of (inverse (straight word)) d c has) n a b way)),
+        ))
+      ]
+    ]
+
+    related_from : (role : Role) (e f : ℕ) → IsRelated k g (place_of stands) role e f → Relates i role e f
+    related_from role e f (inl step) =
+        pair_relates i role e f ((relations role.id (turned_pair role.inverted e f)).1 (inl (step_from role e f step)))
+    related_from role e f (inr (t, transitive, below, (n, way))) =
+        pair_relates i role e f ((relations role.id (turned_pair role.inverted e f)).1 (inr (by t.inverted refl)))
+      where
+        by : (inverted : Bool) → t.inverted ≡ inverted → IsLed k rs role.id (turned_pair role.inverted e f)
+        by false is =
+            let same : t ≡ straight t.id = λ j. record { id = t.id; inverted = is j } in (
+              t.id,
+              role,
+              e,
+              f,
+              transitive,
+              subst (λ s. is_below k s role ≡ true) same below,
+              (n, each_step (IsStep k g (place_of stands) t) (λ c d. Contains (items_of t.id rs) (c, d))
+              (λ c d step. subst (λ v. Contains (items_of t.id rs) (turned_pair v c d)) is (step_from t c d step)) n e f way),
+              refl,
+              refl,
+            )
+        by true is =
+            let same : inverse t ≡ straight t.id = λ j. record { id = t.id; inverted = not (is j) } in (
+              t.id,
+              inverse role,
+              f,
+              e,
+              transitive,
+              subst (λ s. is_below k s (inverse role) ≡ true) same (lawful.inverses t role below),
+              turned_way (IsStep k g (place_of stands) t) (λ c d. Contains (items_of t.id rs) (c, d))
+                  (λ c d step. subst (λ v. Contains (items_of t.id rs) (turned_pair v c d)) is (step_from t c d step)) n e f way,
+              refl,
+              turn_pair role.inverted f e,
+            )
 
     pub pictures : Pictures k g i (place_of stands)
     pictures = record {
@@ -358,8 +423,8 @@ module _ (k : Theory) (lawful : IsLawful k) (g : Graph) (sound : IsSound k g) (o
                 let own : z ≡ s.1 = same_Some _ _ (sym at ∙ ap (slice_get owners) is ∙ s.3) in
                 labels_of x s.1 s.4 (Atomic word) ∙ ap (λ w. has_concept (label_at g w) (Atomic word)) (sym own) ∙ has)
           ];
-      related = linked_to;
-      relates = linked_from;
+      related = related_to;
+      relates = related_from;
       labelled = λ word x lt free has.
           let s = standing x lt free in
           (classes word (place_of stands x)).1

@@ -1,9 +1,11 @@
 // What a branch's model gives to class words, relation words and names.
-ghost use Rattle.std.specs.Prelude.{◌≡◌, [], map, OnOk, IfOk};
+ghost use Rattle.std.specs.Prelude.{◌≡◌, [], map, OnOk, IfOk, IsTrue};
+ghost use Rattle.logic_terms.specs.Interpretation.{words_rise};
 ghost use Rattle.logic_terms.specs.Known.{theory_of};
 ghost use Rattle.logic_terms.specs.Shown.{concept_of};
 ghost use Rattle.owl_eval.specs.Given.{lists_in};
 ghost use Rattle.tableau_rules.specs.Shown.{graph_of};
+ghost use Rattle.branch_model.specs.Related.{pairs_in, Closes};
 ghost use Rattle.branch_model.specs.Extents.{labelled, extents, paired, paired_above, stand_of, linked, links};
 
 use crate::closing::led_to;
@@ -46,8 +48,22 @@ fn add_label(
     Ok(())
 }
 
-// The pairs of each relation word.
-pub(crate) fn role_pairs(
+// The pairs of each relation word: those of edges, and those that transitive words add to them.
+pub(crate) fn related(
+    alloc: Global,
+    k: &Knowledge,
+    b: &Branch,
+    stands: &[Option<u64>],
+) -> Result<Vec<(WordId, Vec<(u64, u64)>)>, Memory>
+    ensures { IfOk result (λ made. Closes (theory_of k.now) (links (theory_of k.now) stands.now (graph_of b.now).edges []) (lists_in made.items)) }
+{
+    let mut made = role_pairs(alloc, k, b, stands)?;
+    close(alloc, &mut made, k)?;
+    Ok(made)
+}
+
+// The pairs of each relation word by edges alone.
+fn role_pairs(
     alloc: Global,
     k: &Knowledge,
     b: &Branch,
@@ -63,11 +79,14 @@ pub(crate) fn role_pairs(
 }
 
 // Adds to the pairs of each transitive word, and of the roles above it, those that steps by its pairs lead to.
-pub(crate) fn close(
+fn close(
     alloc: Global,
     made: &mut Vec<(WordId, Vec<(u64, u64)>)>,
     k: &Knowledge,
-) -> Result<(), Memory> {
+) -> Result<(), Memory>
+    requires { IsTrue (words_rise (lists_in made.old.items)) }
+    ensures { OnOk result (Closes (theory_of k.now) (lists_in made.old.items) (lists_in made.new.items)) }
+{
     for word in k.transitive() {
         let role = Role {
             id: *word,
@@ -83,7 +102,9 @@ pub(crate) fn close(
 }
 
 // The pairs of a word.
-fn pairs_of(made: &[(WordId, Vec<(u64, u64)>)], word: WordId) -> &[(u64, u64)] {
+fn pairs_of(made: &[(WordId, Vec<(u64, u64)>)], word: WordId) -> &[(u64, u64)]
+    ensures { result.now ≡ pairs_in (lists_in made.now) word }
+{
     for entry in made {
         if entry.0.0 == word.0 {
             return entry.1.as_slice();

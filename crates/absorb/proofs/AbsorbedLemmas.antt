@@ -354,23 +354,23 @@ pub absorbed_from : (claims : List Claim) (names : List WordId) (k : Theory) (ns
     → k.general ≡ (sorted claims).general → IsAbsorbed claims names k
 absorbed_from claims names k ns equalities hs inclusions ts words same_e same_i same_n same_h same_w same_t rise leads given least closed distinct a e d u g =
     record {
-  given = ap (map (λ (e : WordId × WordId). e.0)) same_n ∙ given;
-  representatives = subst (λ es. All (λ e. Represents (sorted claims).equalities e.0 e.1) es) (sym same_n)
-      (subst (λ qs. All (λ e. Represents qs e.0 e.1) ns) same_e least);
-  hierarchy = λ r s. (
-    λ h. subst (λ qs. Reaches (IsPutBelow qs) r s) same_i ((closed r s).0 (subst (λ ps. IsAtOrBelow ps r s) same_h ((is_below-Decides k r s).0 h))),
-    λ h. (is_below-Decides k r s).1 (subst (λ ps. IsAtOrBelow ps r s) (sym same_h) ((closed r s).1 (subst (λ qs. Reaches (IsPutBelow qs) r s) (sym same_i) h))),
-  );
-  different = subst (λ ps. All (λ p. same_role p.0 p.1 ≡ false) ps) (sym same_h) distinct.different;
-  once = subst (λ ps. AllPairs (λ p q. (same_role p.0 q.0 && same_role p.1 q.1) ≡ false) ps) (sym same_h) distinct.once;
-  rising = ap names_rise same_t ∙ rise;
-  transitive = λ w. (
-    λ h. subst (λ vs. Contains vs w) same_w ((leads w).0 (subst (λ vs. Contains vs w) same_t h)),
-    λ h. subst (λ vs. Contains vs w) (sym same_t) ((leads w).1 (subst (λ vs. Contains vs w) (sym same_w) h)),
-  );
-  assertions = a;
-  edges = e;
-  differences = d;
-  unfoldings = u;
-  general = g;
-}
+      given = ap (map (λ (e : WordId × WordId). e.0)) same_n ∙ given;
+      representatives = subst (λ es. All (λ e. Represents (sorted claims).equalities e.0 e.1) es) (sym same_n)
+          (subst (λ qs. All (λ e. Represents qs e.0 e.1) ns) same_e least);
+      hierarchy = λ r s. (
+        λ h. subst (λ qs. Reaches (IsPutBelow qs) r s) same_i ((closed r s).0 (subst (λ ps. IsAtOrBelow ps r s) same_h ((is_below-Decides k r s).0 h))),
+        λ h. (is_below-Decides k r s).1 (subst (λ ps. IsAtOrBelow ps r s) (sym same_h) ((closed r s).1 (subst (λ qs. Reaches (IsPutBelow qs) r s) (sym same_i) h))),
+      );
+      different = subst (λ ps. All (λ p. same_role p.0 p.1 ≡ false) ps) (sym same_h) distinct.different;
+      once = subst (λ ps. AllPairs (λ p q. (same_role p.0 q.0 && same_role p.1 q.1) ≡ false) ps) (sym same_h) distinct.once;
+      rising = ap names_rise same_t ∙ rise;
+      transitive = λ w. (
+        λ h. subst (λ vs. Contains vs w) same_w ((leads w).0 (subst (λ vs. Contains vs w) same_t h)),
+        λ h. subst (λ vs. Contains vs w) (sym same_t) ((leads w).1 (subst (λ vs. Contains vs w) (sym same_w) h)),
+      );
+      assertions = a;
+      edges = e;
+      differences = d;
+      unfoldings = u;
+      general = g;
+    }

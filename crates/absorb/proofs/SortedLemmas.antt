@@ -44,7 +44,7 @@ with_piece-all test s (Equality one other) =
         && (list_all (λ e. test (Related e.0 e.1 e.2)) s.edges
         && (list_all (λ e. test (Difference e.0 e.1)) s.differences
         && (list_all (λ w. test (Transitivity w)) s.transitive
-            && (list_all (λ e. test (Unfolding e.0 e.1)) s.unfoldings && list_all (λ c. test (General c)) s.general)))))
+        && (list_all (λ e. test (Unfolding e.0 e.1)) s.unfoldings && list_all (λ c. test (General c)) s.general)))))
 with_piece-all test s (RoleInclusion one other) =
     let e = list_all (λ e. test (Equality e.0 e.1)) s.equalities in
     let r = list_all (λ e. test (RoleInclusion e.0 e.1)) s.role_inclusions in
@@ -52,7 +52,7 @@ with_piece-all test s (RoleInclusion one other) =
     && (list_all (λ e. test (Related e.0 e.1 e.2)) s.edges
     && (list_all (λ e. test (Difference e.0 e.1)) s.differences
     && (list_all (λ w. test (Transitivity w)) s.transitive
-        && (list_all (λ e. test (Unfolding e.0 e.1)) s.unfoldings && list_all (λ c. test (General c)) s.general)))) in
+    && (list_all (λ e. test (Unfolding e.0 e.1)) s.unfoldings && list_all (λ c. test (General c)) s.general)))) in
     ap (λ b. e && (b && rest)) (list_all-push (λ e. test (RoleInclusion e.0 e.1)) s.role_inclusions (one, other))
     ∙ ap (λ b. e && b) (first r (test (RoleInclusion one other)) rest) ∙ inside e (r && rest) (test (RoleInclusion one other))
 with_piece-all test s (Assertion name c) =
@@ -63,7 +63,7 @@ with_piece-all test s (Assertion name c) =
     let rest = list_all (λ e. test (Related e.0 e.1 e.2)) s.edges
     && (list_all (λ e. test (Difference e.0 e.1)) s.differences
     && (list_all (λ w. test (Transitivity w)) s.transitive
-        && (list_all (λ e. test (Unfolding e.0 e.1)) s.unfoldings && list_all (λ c. test (General c)) s.general))) in
+    && (list_all (λ e. test (Unfolding e.0 e.1)) s.unfoldings && list_all (λ c. test (General c)) s.general))) in
     ap (λ b. e && (r && (b && rest))) (list_all-push (λ e. test (Assertion e.0 e.1)) s.assertions (name, c))
     ∙ ap (λ b. e && (r && b)) (first a t rest) ∙ ap (λ b. e && b) (inside r (a && rest) t) ∙ inside e (r && (a && rest)) t
 with_piece-all test s (Related role from to) =
@@ -74,7 +74,7 @@ with_piece-all test s (Related role from to) =
     let g = list_all (λ e. test (Related e.0 e.1 e.2)) s.edges in
     let rest = list_all (λ e. test (Difference e.0 e.1)) s.differences
     && (list_all (λ w. test (Transitivity w)) s.transitive
-        && (list_all (λ e. test (Unfolding e.0 e.1)) s.unfoldings && list_all (λ c. test (General c)) s.general)) in
+    && (list_all (λ e. test (Unfolding e.0 e.1)) s.unfoldings && list_all (λ c. test (General c)) s.general)) in
     ap (λ b. e && (r && (a && (b && rest)))) (list_all-push (λ e. test (Related e.0 e.1 e.2)) s.edges (role, from, to))
     ∙ ap (λ b. e && (r && (a && b))) (first g t rest) ∙ ap (λ b. e && (r && b)) (inside a (g && rest) t) ∙ ap (λ b. e && b) (inside r (a && (g && rest)) t)
     ∙ inside e (r && (a && (g && rest))) t

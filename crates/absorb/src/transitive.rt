@@ -21,10 +21,7 @@ pub(crate) fn in_order(alloc: Global, words: &[WordId]) -> Result<Vec<WordId>, M
 fn words_of(alloc: Global, numbers: &[u32]) -> Result<Vec<WordId>, Memory>
     ensures { IfOk result (λ made. made.items ≡ map numbered numbers.now) }
 {
-    let made = numbers
-        .iter()
-        .map(|number| WordId(*number))
-        .collect(alloc)?;
+    let made = numbers.iter().map(|number| WordId(*number)).collect(alloc)?;
     Ok(made)
 }
 

@@ -169,5 +169,5 @@ module _ (k : Theory) (lawful : IsLawful k) (plain : is_plain_theory k ≡ true)
         → IfOk made (λ i. AreArranged nat_cmp cs i.classes) → IfOk made (λ i. AreArranged pair_cmp rs i.relations) → IfOk made (λ i. IsModelOf i k)
     lists_model (Ok i) finished size_of names_of classes_of relations_of =
         made_model finished i (size_of ∙ size_is) (names_of ∙ names_are) (subst (λ es. AreArranged nat_cmp es i.classes) classes_are classes_of) rs closes
-            relations_of
+        relations_of
     lists_model (Err e) finished size_of names_of classes_of relations_of = tt

@@ -237,37 +237,37 @@ module _ (k : Theory) (lawful : IsLawful k) (g : Graph) (sound : IsSound k g) (o
     -- the pairs of edges are steps
     step_of : (role : Role) (e f : ℕ) → Contains (items_of role.id rs) (turned_pair role.inverted e f) → IsStep k g (place_of stands) role e f
     step_of role e f has = elim (adds_rs.only role.id (turned_pair role.inverted e f) has) [
-          | inl none ↦ absurd (no_items role.id (turned_pair role.inverted e f) none)
-          | inr (j, edge, at, (a, b, from, to, pair)) ↦
-              (let ends = edge_ends (length g.nodes) g.edges j edge sound.ends at in
-              let above = role_above edge a b role.id (turned_pair role.inverted e f) pair in
-              let free_from = shown_free edge.from a ends.0 from in
-              let free_to = shown_free edge.to b ends.1 to in
-              elim (same_or_turned above.0 role above.2.0) [
-                | inl same ↦ (let is = pair_same role.inverted a b e f (sym (ap (λ (r : Role). turned_pair r.inverted a b) same) ∙ above.2.1) in (
-                  edge.from,
-                  edge.to,
-                  ends.0,
-                  ends.1,
-                  free_from,
-                  free_to,
-                  placed_at edge.from a from ∙ is.0,
-                  placed_at edge.to b to ∙ is.1,
-                  forth role j edge at (subst (λ r. is_below k edge.role r ≡ true) same above.1),
-                ))
-                | inr turned ↦ (let is = pair_turned role.inverted a b e f (sym (ap (λ (r : Role). turned_pair r.inverted a b) turned) ∙ above.2.1) in (
-                  edge.to,
-                  edge.from,
-                  ends.1,
-                  ends.0,
-                  free_to,
-                  free_from,
-                  placed_at edge.to b to ∙ is.1,
-                  placed_at edge.from a from ∙ is.0,
-                  back role j edge at (subst (λ r. is_below k edge.role r ≡ true) turned above.1),
-                ))
-              ])
-        ]
+      | inl none ↦ absurd (no_items role.id (turned_pair role.inverted e f) none)
+      | inr (j, edge, at, (a, b, from, to, pair)) ↦
+          (let ends = edge_ends (length g.nodes) g.edges j edge sound.ends at in
+          let above = role_above edge a b role.id (turned_pair role.inverted e f) pair in
+          let free_from = shown_free edge.from a ends.0 from in
+          let free_to = shown_free edge.to b ends.1 to in
+          elim (same_or_turned above.0 role above.2.0) [
+            | inl same ↦ (let is = pair_same role.inverted a b e f (sym (ap (λ (r : Role). turned_pair r.inverted a b) same) ∙ above.2.1) in (
+              edge.from,
+              edge.to,
+              ends.0,
+              ends.1,
+              free_from,
+              free_to,
+              placed_at edge.from a from ∙ is.0,
+              placed_at edge.to b to ∙ is.1,
+              forth role j edge at (subst (λ r. is_below k edge.role r ≡ true) same above.1),
+            ))
+            | inr turned ↦ (let is = pair_turned role.inverted a b e f (sym (ap (λ (r : Role). turned_pair r.inverted a b) turned) ∙ above.2.1) in (
+              edge.to,
+              edge.from,
+              ends.1,
+              ends.0,
+              free_to,
+              free_from,
+              placed_at edge.to b to ∙ is.1,
+              placed_at edge.from a from ∙ is.0,
+              back role j edge at (subst (λ r. is_below k edge.role r ≡ true) turned above.1),
+            ))
+          ])
+    ]
 
     -- and back
     linked_from : (role : Role) (x y : ℕ) → is_indirectly_blocked k g x ≡ false → is_indirectly_blocked k g y ≡ false → is_neighbour k g role x y ≡ true
@@ -370,8 +370,11 @@ module _ (k : Theory) (lawful : IsLawful k) (g : Graph) (sound : IsSound k g) (o
               f,
               transitive,
               subst (λ s. is_below k s role ≡ true) same below,
-              (n, each_step (IsStep k g (place_of stands) t) (λ c d. Contains (items_of t.id rs) (c, d))
-              (λ c d step. subst (λ v. Contains (items_of t.id rs) (turned_pair v c d)) is (step_from t c d step)) n e f way),
+              (
+                n,
+                each_step (IsStep k g (place_of stands) t) (λ c d. Contains (items_of t.id rs) (c, d))
+                    (λ c d step. subst (λ v. Contains (items_of t.id rs) (turned_pair v c d)) is (step_from t c d step)) n e f way,
+              ),
               refl,
               refl,
             )

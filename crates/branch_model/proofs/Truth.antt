@@ -125,8 +125,17 @@ module _ (k : Theory) (lawful : IsLawful k) (g : Graph) (i : Interpretation) (pl
     truth (HasValue role name) plain given x lt clear has =
         let node = named name given in
         subst (Relates i role (place x)) (sym (pictures.names name node.0 node.1))
-        (pictures.relates role (place x) (place node.0) (inl (x, node.0, lt, node.2, free_of x clear, free_of node.0 node.3, refl, refl,
-        value_done k g done x lt (free_of x clear) role name node.0 has clear node.1)))
+        (pictures.relates role (place x) (place node.0) (inl (
+          x,
+          node.0,
+          lt,
+          node.2,
+          free_of x clear,
+          free_of node.0 node.3,
+          refl,
+          refl,
+          value_done k g done x lt (free_of x clear) role name node.0 has clear node.1,
+        )))
 
     -- a class whose complement is in the label
     untruth : (c : Concept) → is_simple c ≡ true → names_given k c ≡ true → (x : ℕ) → x < length g.nodes → is_blocked k g x ≡ false

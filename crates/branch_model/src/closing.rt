@@ -29,12 +29,7 @@ pub(crate) fn led_to(alloc: Global, pairs: &[(u64, u64)]) -> Result<Vec<(u64, u6
 }
 
 // Adds a pair to those of a transitive relation, and the pairs that make it transitive again.
-fn lead(
-    alloc: Global,
-    led: &mut BTreeSet<(u64, u64)>,
-    from: u64,
-    to: u64,
-) -> Result<(), Memory>
+fn lead(alloc: Global, led: &mut BTreeSet<(u64, u64)>, from: u64, to: u64) -> Result<(), Memory>
     requires { IsTransitive (λ a b. contains pair_cmp led.old (a, b) ≡ true) }
     ensures { OnOk result ((a b : ℕ) → (contains pair_cmp led.new (a, b) ≡ true) ↔ ((contains pair_cmp led.old (a, b) ≡ true)
         ⊎ (AtOrBefore (λ x y. contains pair_cmp led.old (x, y) ≡ true) a from × AtOrBehind (λ x y. contains pair_cmp led.old (x, y) ≡ true) to b))) }
@@ -53,11 +48,7 @@ fn lead(
 }
 
 // An element, and those from which a pair leads to it.
-fn at_or_before(
-    alloc: Global,
-    led: &BTreeSet<(u64, u64)>,
-    element: u64,
-) -> Result<Vec<u64>, Memory>
+fn at_or_before(alloc: Global, led: &BTreeSet<(u64, u64)>, element: u64) -> Result<Vec<u64>, Memory>
     ensures { IfOk result (λ made. (a : ℕ) → Contains made.items a ↔ AtOrBefore (λ x y. contains pair_cmp led.now (x, y) ≡ true) a element) }
 {
     let mut made = Vec::new(alloc);
@@ -71,11 +62,7 @@ fn at_or_before(
 }
 
 // An element, and those to which a pair leads from it.
-fn at_or_behind(
-    alloc: Global,
-    led: &BTreeSet<(u64, u64)>,
-    element: u64,
-) -> Result<Vec<u64>, Memory>
+fn at_or_behind(alloc: Global, led: &BTreeSet<(u64, u64)>, element: u64) -> Result<Vec<u64>, Memory>
     ensures { IfOk result (λ made. (b : ℕ) → Contains made.items b ↔ AtOrBehind (λ x y. contains pair_cmp led.now (x, y) ≡ true) element b) }
 {
     let mut made = Vec::new(alloc);

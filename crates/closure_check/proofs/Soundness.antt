@@ -62,8 +62,14 @@ mutual
   pub closes_breaks : (i : Interpretation) (k : Theory) → Parts i k → (t : Tree) (g : Graph) (f : ℕ → ℕ) → Fits i k g f → closes k g t ≡ true → ⊥
   closes_breaks i k parts (ends c) g f fits h = clash_breaks i k parts.names parts.hierarchy parts.differences g f fits c h
   closes_breaks i k parts (splits s ts) g f fits h =
-      let obeys : Obeys i k = record { hierarchy = parts.hierarchy; transitive = parts.transitive; named = parts.named; unfoldings = parts.unfoldings; general =
-          parts.general } in
+      let obeys : Obeys i k = record {
+        hierarchy = parts.hierarchy;
+        transitive = parts.transitive;
+        named = parts.named;
+        unfoldings = parts.unfoldings;
+        general =
+            parts.general;
+      } in
       let w = step_fits i k obeys g f fits s (and_first (applies k g s) (close_from k g s 0 ts) h) in
       from_breaks i k parts ts g s 0 (and_second (applies k g s) (close_from k g s 0 ts) h) w.0 (omega arith) w.1 w.2.0 w.2.1
 

@@ -28,8 +28,14 @@ module _ (i : Interpretation) (k : Theory) (is : is_interpretation i ≡ true) (
   forced_fits : (g : Graph) → IsForced k g → (f : ℕ → ℕ) × Fits i k g f
   forced_fits _ begun = (first_elements i k, start_fits i k is parts.names parts.assertions parts.edges parts.general)
   forced_fits _ (stepped g s before applied one) =
-      let obeys : Obeys i k = record { hierarchy = parts.hierarchy; transitive = parts.transitive; named = parts.named; unfoldings = parts.unfoldings; general =
-          parts.general } in
+      let obeys : Obeys i k = record {
+        hierarchy = parts.hierarchy;
+        transitive = parts.transitive;
+        named = parts.named;
+        unfoldings = parts.unfoldings;
+        general =
+            parts.general;
+      } in
       let there = forced_fits g before in
       let w = step_fits i k obeys g there.0 there.1 s applied in
       (w.2.0, subst (λ choice. Fits i k (after k g s choice) w.2.0) (first_is w.0 (choices g s) w.1 one) w.2.1)

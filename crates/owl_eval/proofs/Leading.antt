@@ -32,3 +32,12 @@ by_runs x y ps =
     in_run z =
         list_any-filter (λ p. (p.0 == x) && (p.1 == z)) (λ p. p.0 == x) ps
         ∙ ap (λ t. list_any t ps) (λ j p. and_twice (p.0 == x) (p.1 == z) j)
+
+-- whether a pair leads on to the end of each that begins where it ends
+abbrev pub onward : List (ℕ × ℕ) → ℕ × ℕ → Bool
+onward ps p = list_all (λ q. implies (q.0 == p.1) (is_paired ps p.0 q.1)) ps
+
+-- that is told by the runs of its two elements
+pub told : (ps first second : List (ℕ × ℕ)) (p : ℕ × ℕ) (r : Bool) → first ≡ filter (λ q. q.0 == p.0) ps → second ≡ filter (λ q. q.0 == p.1) ps
+    → r ≡ list_all (λ q. is_paired first p.0 q.1) second → r ≡ onward ps p
+told ps first second p r one two h = h ∙ ((λ j. list_all (λ q. is_paired (one j) p.0 q.1) (two j)) ∙ by_runs p.0 p.1 ps)

@@ -355,7 +355,7 @@ module _ (k : Theory) (g : Graph) (filled : UnionsHaveMembers k) (inside : (y : 
 
       go : (o : Option Role)
           → option_and_then (λ role. first_below (length g.nodes) (λ z. where_true (list_any (λ t. needs k g t (along t c) x z) (carriers k role)) z)) o
-              ≡ Some y
+          ≡ Some y
           → IsStep k g (option_map_or (λ role. adding g y (carried k g role c x y)) o g)
       go None on = cc
       go (Some role) on =

@@ -110,9 +110,21 @@ pub(crate) fn carried(
             id: *word,
             inverted: false,
         };
-        carry(&mut made, carries(k, b, role, plain, node, other), plain, class, alloc)?;
+        carry(
+            &mut made,
+            carries(k, b, role, plain, node, other),
+            plain,
+            class,
+            alloc,
+        )?;
         let inverse = plain.inverse();
-        carry(&mut made, carries(k, b, role, inverse, node, other), inverse, class, alloc)?;
+        carry(
+            &mut made,
+            carries(k, b, role, inverse, node, other),
+            inverse,
+            class,
+            alloc,
+        )?;
     }
     Ok(made)
 }

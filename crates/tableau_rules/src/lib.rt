@@ -16,9 +16,9 @@ mod rows;
 mod starting;
 mod step;
 
-pub use carrying::role_of_all;
 pub use blocking::{is_blocked, is_directly_blocked, is_indirectly_blocked};
 pub use branch::{Branch, Edge, Node};
+pub use carrying::role_of_all;
 pub use changes::{apply, choices};
 pub use clashes::{clash, clash_at_node, is_clash};
 pub use finder::{applicable, applies, first_at};

@@ -182,7 +182,13 @@ fn first_by(
 }
 
 // The least neighbour by the carrier that is not indirectly blocked and lacks the class along it.
-fn first_to_get_by(k: &Knowledge, b: &Branch, carrier: Role, class: &Class, node: u64) -> Option<u64>
+fn first_to_get_by(
+    k: &Knowledge,
+    b: &Branch,
+    carrier: Role,
+    class: &Class,
+    node: u64,
+) -> Option<u64>
     ensures { result ≡ first_below (length (graph_of b.now).nodes)
         (λ y. where_true (needs (theory_of k.now) (graph_of b.now) carrier (along carrier (concept_of class.now)) node y) y) }
 {

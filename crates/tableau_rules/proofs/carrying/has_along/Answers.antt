@@ -9,13 +9,13 @@ use Rattle.tableau_rules.proofs.carrying.has_along.Goals as goal
 pub returns-then-is_along : goal.returns-then-is_along
 returns-then-is_along c =
     sym (map_passes concept_of (λ d. same_concept d (along c.args.role (concept_of c.args.class.now))) c.args.label.now c.loop-own.own-index c.own-item.result
-        c.loop-own-test.true
+    c.loop-own-test.true
     c.own-item.is (sym c.is_along.ensures ∙ c.if-is_along.true))
 
 pub loop-own-preserved : goal.loop-own-preserved
 loop-own-preserved c =
     map_some_more concept_of (λ d. same_concept d (along c.args.role (concept_of c.args.class.now))) c.args.label.now c.loop-own.own-index c.own-item.result
-        c.loop-own-test.true
+    c.loop-own-test.true
     c.own-item.is c.loop-own.invariant (sym c.is_along.ensures ∙ c.if-is_along.false)
 
 pub returns : goal.returns

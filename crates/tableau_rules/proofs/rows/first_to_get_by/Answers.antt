@@ -35,5 +35,5 @@ returns c =
     least_all (theory_of c.args.k.now) c.args.carrier (length (graph_of c.args.b.now).nodes) c.args.node
     (λ y. not (is_indirectly_blocked (theory_of c.args.k.now) (graph_of c.args.b.now) y)
     && not (has_concept (label_at (graph_of c.args.b.now) y) (along c.args.carrier (concept_of c.args.class.now)))) (graph_of c.args.b.now).edges
-        c.edges_at-edge-items.result.now
+    c.edges_at-edge-items.result.now
     c.edges_at-edge-items.ensures c.loop-edge.edge-index c.loop-edge.least c.loop-edge-test.false c.loop-edge.invariant

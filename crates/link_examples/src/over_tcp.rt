@@ -31,7 +31,7 @@ fn pieces_come_and_what_was_sent_is_written_after_the_close(rt: HostRuntime) -> 
     let now = Cell::new(0);
     let told = answered(&mut link, &mut buffer, b"reply", &now, 0)?;
     assert_eq!(rt; told, Next::Bytes(0, 3));
-    assert_eq!(rt; &buffer[..3], b"abc".as_slice());
+    assert!(rt; buffer.starts_with(b"abc"));
     let mut reply = [0; 8];
     assert_eq!(rt; near.read(&mut reply)?, 5);
     assert_eq!(rt; &reply[..5], b"reply".as_slice());

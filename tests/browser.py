@@ -7,7 +7,7 @@ index, an article and a session go to FOLDER. The status is 1 at the first page 
 import os, sys, time
 
 from running import Wiki
-from webdriver import Browser, Driver, Failed
+from webdriver import Browser, Driver, Failed, expect
 
 
 class Person:
@@ -37,11 +37,6 @@ class Person:
 
     def picture(self, name):
         self.browser.picture(os.path.join(sys.argv[2], f"{name}.png"))
-
-
-def expect(what, got, wanted):
-    if got != wanted:
-        raise Failed(f"{what}: {got!r}, and not {wanted!r}")
 
 
 def add_word(person, kind, forms):

@@ -8,9 +8,9 @@ Pictures of the pages go to FOLDER; with `long` 60 pages crash at once.
 import json, os, sys, threading, time, traceback
 
 import client_bad, client_looks
-from client_stage import Page, Place, expect, expect_in, reply
+from client_stage import Page, Place, reply
 from running import Closed, replayed
-from webdriver import Browser, Driver, Failed
+from webdriver import Browser, Driver, Failed, expect, expect_in
 
 
 def part_words(page, place):

@@ -2,8 +2,8 @@
 crash or are left, a program that is slow or stops."""
 import sys, threading, time
 
-from client_stage import Page, expect, expect_in, lines, reply, response
-from webdriver import Failed
+from client_stage import Page, lines, reply, response
+from webdriver import Failed, expect, expect_in
 
 STATUSES = [(401, "You are not signed in"), (403, "The server doesn't let you do this"), (429, "Too many requests"), (502, "can't reach the wiki"),
             (503, "too many visitors"), (504, "took too long")]

@@ -2,9 +2,9 @@
 import http.server, json, os, random, re, socketserver, sys, threading
 
 from client_bad import spelled
-from client_stage import HERE, Page, expect, expect_in, lines, reply
+from client_stage import HERE, Page, lines, reply
 from running import form_of
-from webdriver import Failed
+from webdriver import Failed, expect, expect_in
 
 # Where the program doesn't serve the page itself, the modules come to a page of its own as they stand in client/.
 MODULES = ("api", "lexicon", "page", "mapshapes", "mapfacts", "mapdrawing")

@@ -17,16 +17,6 @@ def lines(words=WORDS, texts=TEXTS):
     return b"".join(json.dumps(it).encode() + b"\n" for it in told)
 
 
-def expect(what, got, wanted):
-    if got != wanted:
-        raise Failed(f"{what}: {got!r}, and not {wanted!r}")
-
-
-def expect_in(what, part, whole):
-    if part not in whole:
-        raise Failed(f"{what}: {part!r} isn't in {whole!r}")
-
-
 class Between(socketserver.ThreadingTCPServer):
     """Stands before the wiki. `meddle` gets each request of /api, and may wait, or give a response of its own."""
 

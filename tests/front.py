@@ -4,7 +4,7 @@ with BROWSER the pages are opened in headless Chromium too.
 """
 import atexit, base64, contextlib, hashlib, html, http.client, http.server, json, os, random, re, shutil, signal, socket, ssl, subprocess, sys, tempfile, threading, time
 
-from webdriver import Browser, Driver, Failed
+from webdriver import Browser, Driver, Failed, expect, expect_in
 
 LIBRARY = sys.argv[1]
 FRONT = f"{LIBRARY}/tools/front"
@@ -23,20 +23,6 @@ def clean():
             front.terminate()
             front.wait()
     shutil.rmtree(WORK, ignore_errors=True)
-
-
-class Wrong(Exception):
-    """Something isn't as the document tells it."""
-
-
-def expect(what, got, wanted):
-    if got != wanted:
-        raise Wrong(f"{what}: {got!r}, and not {wanted!r}")
-
-
-def expect_in(what, part, whole):
-    if part not in whole:
-        raise Wrong(f"{what}: {part!r} isn't in {whole!r}")
 
 
 def own(path, text=None, mode=0o600):
@@ -110,7 +96,7 @@ class Front:
         until = time.time() + 60
         while "AceWiki: " not in self.said():
             if self.process.poll() is not None or time.time() > until:
-                raise Wrong(f"the front doesn't start: {self.said()!r}")
+                raise Failed(f"the front doesn't start: {self.said()!r}")
             time.sleep(0.02)
 
     def said(self):
@@ -140,7 +126,7 @@ class Front:
         data = response.read()
         missing = HEADERS - set(response.headers)
         if missing:
-            raise Wrong(f"{method} {path}: {response.status} has no {missing}")
+            raise Failed(f"{method} {path}: {response.status} has no {missing}")
         return response.status, response.headers, data
 
     def status(self, method, path, body=None, **headers):
@@ -183,7 +169,7 @@ class Front:
         until = time.time() + seconds
         while left := [each for each in below if is_running(each)]:
             if time.time() > until:
-                raise Wrong(f"{what}: {[below[each] for each in left]} go on")
+                raise Failed(f"{what}: {[below[each] for each in left]} go on")
             time.sleep(0.05)
 
 
@@ -347,7 +333,7 @@ def passwords_and_tls():
     stranger = ssl.create_default_context()
     try:
         with socket.create_connection(("127.0.0.1", front.port)) as one, stranger.wrap_socket(one, server_hostname="localhost"):
-            raise Wrong("a client that doesn't know the certificate takes it")
+            raise Failed("a client that doesn't know the certificate takes it")
     except ssl.SSLCertVerificationError:
         pass
     front.end("a signal")
@@ -430,7 +416,7 @@ def ends():
         below = front.children()
         victims = sorted(each for each, name in below.items() if name == command)
         if not victims:
-            raise Wrong(f"no {command} is below the front: {below}")
+            raise Failed(f"no {command} is below the front: {below}")
         os.kill(victims[0], signal.SIGKILL)
         front.gone(f"{command} was killed", below)
         expect(f"the status after {command} was killed", front.process.returncode, 1)
@@ -519,7 +505,7 @@ def main():
             continue
         try:
             part()
-        except (Wrong, Failed, OSError, subprocess.SubprocessError, http.client.HTTPException) as error:
+        except (Failed, OSError, subprocess.SubprocessError, http.client.HTTPException) as error:
             print(f"front: {part.__name__.replace('_', ' ')}: {error}")
             sys.exit(1)
     print(f"front: {len(parts)} parts are as docs/OPERATIONS.md tells them")

@@ -9,7 +9,17 @@ ELEMENT = "element-6066-11e4-a52e-4f735466cecf"
 
 
 class Failed(Exception):
-    """What a browser was asked for and couldn't do, or what a page didn't show in time."""
+    """What a browser was asked for and couldn't do, or what isn't as the documents tell it."""
+
+
+def expect(what, got, wanted):
+    if got != wanted:
+        raise Failed(f"{what}: {got!r}, and not {wanted!r}")
+
+
+def expect_in(what, part, whole):
+    if part not in whole:
+        raise Failed(f"{what}: {part!r} isn't in {whole!r}")
 
 
 class Driver:

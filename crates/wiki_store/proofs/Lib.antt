@@ -6,6 +6,7 @@ pub mod ChangeLemmas
 pub mod KeepingLemmas
 pub mod StepLemmas
 pub mod ReadLemmas
+pub mod RememberedLemmas
 pub mod ToldLemmas
 pub mod UnwordLemmas
 pub mod PassedLemmas

@@ -1,11 +1,15 @@
 -- What is kept of the sentences that are told.
-use Rattle.std.proofs.Common.{◌≡◌, ℕ, zero, suc, ◌+◌, ◌<◌, ◌++◌, Bool, true, false, List, [], ◌∷◌, length, take, get_or, Option, Some, refl, sym, ap, subst, ◌∙◌, unwrap_or, arith}
+use Rattle.std.proofs.Common.{◌≡◌, ℕ, zero, suc, ◌+◌, ◌<◌, ◌++◌, Bool, true, false, List, [], ◌∷◌, length, take, get_or, Option, Some, All, Result, Ok, Err, IfOk, refl, sym, ap, subst, ◌∙◌, unwrap_or, arith}
 use Rattle.std.specs.List.{slice_get, AllZip}
 use Rattle.std.proofs.lemmas.List.{take_more}
 use Rattle.std.proofs.lemmas.Option.{get_or_from_slice_get}
 use Rattle.std.proofs.lemmas.Slice.Zip.{all_zipped_more}
 use Rattle.wiki_base.specs.declared.numbers.WordId.{WordId}
 use Rattle.codeco_terms.specs.GrammarParts.{GrammarParts}
+use Rattle.logic_terms.specs.Concept.{Concept, Claim}
+use Rattle.logic_terms.specs.Interpretation.{element_of}
+use Rattle.logic_terms.specs.Reading.{IsIn}
+use Rattle.answers.specs.declared.asking.Answers.{Answers}
 use Rattle.lexicon.specs.Words.{Listed}
 use Rattle.wiki_talk.specs.declared.statuses.Status.{Status}
 use Rattle.wiki_talk.specs.declared.statuses.Status.TheVariants as statuses
@@ -18,9 +22,11 @@ use Rattle.articles.proofs.PlaceLemmas.{article_at}
 use Rattle.wiki_parts.specs.declared.meanings.Sense.{Sense}
 use Rattle.wiki_parts.specs.declared.meanings.Sense.TheVariants as senses
 use Rattle.wiki_parts.specs.Found.{meaning_shown}
-use Rattle.wiki_parts.specs.Holding.{FitsMeaning}
+use Rattle.wiki_parts.specs.Holding.{Holding, FitsMeaning}
+use Rattle.wiki_parts.specs.Knowledge.{Knows, live_names, Answer}
 use Rattle.wiki_parts.specs.Kept.{meanings_in, MeanEach, MeanInEach}
 use Rattle.wiki_parts.specs.Meanings.{Means}
+use Rattle.wiki_store.specs.Remembered.{AreAnswers}
 use Rattle.wiki_store.proofs.AroundLemmas.{mean_at, item}
 
 -- what is kept of the article of a word is the meanings of its sentences
@@ -73,3 +79,20 @@ pub told-more : {V : Type 0} (R : Sentence → V → Type 0) (ss : List Sentence
 told-more R ss views k s view so_far within here holds =
     subst (λ (xs : List Sentence). AllZip R xs (views ++ view ∷ [])) (sym (take_more ss k s within ∙ ap (λ (t : Sentence). take k ss ++ t ∷ []) (sym here)))
     (all_zipped_more R (take k ss) views s view so_far holds)
+
+-- what answers a class by the kept model answers it in the wiki
+pub are-answers : {E : Type 0} (inside wiki : Holding) → inside ≡ wiki → (claims : List Claim) → Knows inside.state claims → (names : List WordId)
+    → names ≡ live_names wiki.state.words
+    → (concept : Concept) (found : Result Answers E) → IfOk found (λ a. Answer claims names inside.state.budget concept a.yes a.unknown)
+    → IfOk found (λ a. All (λ n. IsIn inside.interpretation concept (element_of inside.interpretation n)) a.unknown)
+    → IfOk found (λ a. AreAnswers wiki concept a.yes a.unknown)
+are-answers inside wiki same claims known names live concept (Err none) answer there = tt
+are-answers inside wiki same claims known names live concept (Ok a) answer there =
+    record {
+      claims = claims;
+      known = subst (λ (h : Holding). Knows h.state claims) same known;
+      answer =
+          subst (λ (ns : List WordId). Answer claims ns wiki.state.budget concept a.yes a.unknown) live
+          (subst (λ (h : Holding). Answer claims names h.state.budget concept a.yes a.unknown) same answer);
+      there = subst (λ (h : Holding). All (λ n. IsIn h.interpretation concept (element_of h.interpretation n)) a.unknown) same there;
+    }

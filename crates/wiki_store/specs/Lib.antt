@@ -1,4 +1,5 @@
 pub mod Appending
+pub mod Remembered
 pub mod Spending
 pub mod Step
 pub mod Rewording

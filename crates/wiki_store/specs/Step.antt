@@ -36,6 +36,15 @@ asks_store (requests.Refresh session) = false
 asks_store (requests.Drop session) = false
 asks_store request = true
 
+-- the request is one that tells something, and changes nothing
+abbrev pub only_tells : Request → Bool
+only_tells (requests.Find text) = true
+only_tells requests.Words = true
+only_tells (requests.Parse text) = true
+only_tells (requests.Read article) = true
+only_tells (requests.Axioms article place) = true
+only_tells request = false
+
 -- ---- why a request is refused
 
 -- the refusal tells the first cause that stands against the request

@@ -20,9 +20,9 @@ ghost use Rattle.wiki_store.specs.Spending.{SpendsBeyondKept};
 ghost use Rattle.wiki_store.specs.Step.{Step, Refuses, place_for, with_inserted};
 ghost use Rattle.wiki_store.specs.Unchanged.{KeepsInterpretation};
 
+use crate::base::Base;
 use crate::joining::{is_settled, join, stated, undo};
 use crate::standing::standing;
-use crate::store::Store;
 use articles::{Articles, Sentence};
 use derivation_trees::show;
 use wiki_base::{Memory, Text8, Tokens, WordId};
@@ -38,7 +38,7 @@ pub(crate) struct Fresh {
     pub(crate) sense: Sense,
 }
 
-impl Store {
+impl Base {
     // Inserts the sentence of a text at the place that is given, or at the end of the article.
     pub(crate) fn add_sentence(
         &mut self,

@@ -10,15 +10,15 @@ ghost use Rattle.wiki_parts.specs.Meanings.{Means};
 ghost use Rattle.wiki_store.specs.Appending.{end_of, with_appended, SpendsAtEnd};
 
 use crate::adding::Fresh;
-use crate::store::Store;
+use crate::base::Base;
 use lists::Copied;
 use wiki_base::{Memory, Tokens, WordId};
 use wiki_parts::{Sense, sense_of};
 use wiki_talk::Status;
 
-impl Store {
-    /// Adds tokens that have a derivation as a sentence at the end of a word's article, with the status that they get there.
-    pub fn append(&mut self, word: WordId, tokens: &Tokens) -> Result<Status, Memory>
+impl Base {
+    // Adds tokens that have a derivation as a sentence at the end of a word's article, with the status that they get there.
+    pub(crate) fn append(&mut self, word: WordId, tokens: &Tokens) -> Result<Status, Memory>
         requires open { CanChange self.old.state.articles word }
         requires room { length (sentences_in self.old.state.articles) < MOST_SENTENCES }
         requires few { length tokens.now ≤ MOST_TOKENS }

@@ -6,7 +6,7 @@ ghost use Rattle.lexicon.specs.declared.words.TheConstants.{LAST_NUMBER as the_l
 ghost use Rattle.wiki_parts.specs.Refusing.{may_retract};
 ghost use Rattle.wiki_parts.specs.Words.{full_at};
 
-use crate::store::Store;
+use crate::base::Base;
 use articles::{Article, Sentence};
 use derivations::{Cut, cut};
 use lexicon::LAST_NUMBER;
@@ -15,7 +15,7 @@ use wiki_base::{Text8, Tokens, WordId};
 use wiki_parts::{Fault, Sense, is_faithful, no_sentence, sense_of, too_many_tokens};
 use wiki_talk::{Limit, MOST_SENTENCES, Refusal, Status};
 
-impl Store {
+impl Base {
     ghost use Rattle.lexicon.specs.Words.{IsLexicon, forms_of};
     ghost use Rattle.articles.specs.Articles.{article_of};
     ghost use Rattle.wiki_parts.specs.Faults.{IsFault, IsAbsent};

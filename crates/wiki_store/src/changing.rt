@@ -18,16 +18,16 @@ ghost use Rattle.wiki_store.specs.Step.{Step, Refuses, with_replaced, with_marke
 ghost use Rattle.wiki_store.specs.Unchanged.{KeepsInterpretation};
 
 use crate::adding::Fresh;
+use crate::base::Base;
 use crate::joining::{is_settled, join, stated};
 use crate::removing::model_without;
 use crate::standing::standing;
-use crate::store::Store;
 use articles::Sentence;
 use wiki_base::{Memory, Text8, WordId};
 use wiki_parts::Fault;
 use wiki_talk::{Refusal, Reply, Request, Status};
 
-impl Store {
+impl Base {
     // Puts the sentence of a text in place of the one at a place of an article.
     pub(crate) fn edit(&mut self, form: &Text8, at: u32, text: &Text8) -> Result<Reply, Fault>
         ensures step { IfOk result (λ reply. Step self.old.state (Request.Edit form.now at text.now) reply self.new.state) }

@@ -5,37 +5,37 @@ ghost use Rattle.articles.specs.Articles.{article_of};
 ghost use Rattle.wiki_parts.specs.Knowledge.{sentences_in};
 ghost use Rattle.wiki_parts.specs.State.{IsSound};
 
-use crate::store::Store;
+use crate::base::Base;
 use articles::Article;
 use codeco_checked::CheckedGrammar;
 use lexicon::Lexicon;
 use wiki_base::WordId;
 
-impl Store {
-    /// The grammar of sentences.
-    pub fn grammar(&self) -> &CheckedGrammar
+impl Base {
+    // The grammar of sentences.
+    pub(crate) fn grammar(&self) -> &CheckedGrammar
         ensures { result.now ≡ self.now.state.grammar }
     {
         &self.grammar
     }
 
-    /// The live words.
-    pub fn lexicon(&self) -> &Lexicon
+    // The live words.
+    pub(crate) fn lexicon(&self) -> &Lexicon
         ensures { result.now ≡ self.now.state.words }
     {
         &self.lexicon
     }
 
-    /// The article of a word.
-    pub fn article_of(&self, word: WordId) -> Option<&Article>
+    // The article of a word.
+    pub(crate) fn article_of(&self, word: WordId) -> Option<&Article>
         ensures found { option_copied result ≡ article_of self.now.state.articles word }
         ensures sound { IsSound self.now.state }
     {
         self.articles.article(word)
     }
 
-    /// How many sentences there are, at most `MOST_SENTENCES`.
-    pub fn sentence_count(&self) -> usize
+    // How many sentences there are, at most `MOST_SENTENCES`.
+    pub(crate) fn sentence_count(&self) -> usize
         ensures count { result ≡ length (sentences_in self.now.state.articles) }
         ensures few { result ≤ most_sentences }
     {

@@ -3,11 +3,13 @@
 
 mod adding;
 mod appending;
+mod base;
 mod causes;
 mod changing;
 mod joining;
 mod lending;
 mod reading;
+mod remembered;
 mod removing;
 mod rewording;
 mod sameness;

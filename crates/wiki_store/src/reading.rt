@@ -1,5 +1,5 @@
 // An article as it is told, with the names that answer its questions as of now.
-ghost use Rattle.std.specs.Prelude.{◌≡◌, Bool, true, false, Some, IfOk, IfErr, IfSome, IsSome};
+ghost use Rattle.std.specs.Prelude.{◌≡◌, Bool, true, false, All, Some, IfOk, IfErr, IfSome, IsSome};
 ghost use Rattle.std.specs.List.{AllZip};
 ghost use Rattle.articles.specs.declared.article.Article.{Article as TheArticle};
 ghost use Rattle.articles.specs.Articles.{article_of, HasArticle};
@@ -14,12 +14,15 @@ ghost use Rattle.wiki_parts.specs.Kept.{MeanEach, meanings_in};
 ghost use Rattle.wiki_parts.specs.Knowledge.{live_names};
 ghost use Rattle.wiki_parts.specs.Meanings.{asking, Means};
 ghost use Rattle.wiki_parts.specs.Telling.{TellsSentence, TellsSentences};
+ghost use Rattle.wiki_store.specs.Remembered.{AreAnswers, IsRemembered};
 ghost use Rattle.wiki_store.specs.Settled.{AbsorbsKnown};
 ghost use Rattle.wiki_store.specs.Spending.{KeptHasUnknown, KeptHasEachUnknown};
 ghost use Rattle.wiki_store.specs.Step.{Step, Refuses};
 
-use crate::store::Store;
+use crate::base::Base;
+use crate::remembered::Remembered;
 use absorb::absorb;
+use answers::Answers;
 use articles::Sentence;
 use consequences::Consequences;
 use derivation_trees::show;
@@ -29,17 +32,19 @@ use wiki_base::{Memory, Text8, Text8s, WordId};
 use wiki_parts::{Fault, Sense, Senses, answers_of, live_names, spelled, told_text};
 use wiki_talk::{Reply, Request, SentenceView, SentenceViews};
 
-impl Store {
+impl Base {
     // Tells the article of a word, with the answers to its questions.
-    pub(crate) fn read(&self, form: &Text8) -> Result<Reply, Fault>
+    pub(crate) fn read(&self, remembered: &mut Remembered, form: &Text8) -> Result<Reply, Fault>
+        requires { All (IsRemembered self.now) remembered.old.rows }
         ensures step { IfOk result (λ reply. Step self.now.state (Request.Read form.now) reply self.now.state) }
         ensures unknown { IfOk result (KeptHasEachUnknown self.now (Request.Read form.now)) }
         ensures refused { IfErr result (IsFault (Refuses self.now.state (Request.Read form.now))) }
+        ensures remembered { All (IsRemembered self.now) remembered.new.rows }
     {
         let word = self.named(form)?;
         let article = self.article(word);
         let senses = self.senses_of(word);
-        let sentences = self.views(article.sentences.as_slice(), senses.as_slice())?;
+        let sentences = self.views(remembered, article.sentences.as_slice(), senses.as_slice())?;
         Ok(Reply::Read {
             form: self.canonical_form(word)?,
             revision: article.revision.0,
@@ -70,27 +75,45 @@ impl Store {
     }
 
     // Sentences as they are told, each by what it means.
-    fn views(&self, sentences: &[Sentence], senses: &[Sense]) -> Result<SentenceViews, Memory>
-        requires { MeanEach self.now.state.grammar self.now.state.words sentences.now (meanings_in senses.now) }
+    fn views(
+        &self,
+        remembered: &mut Remembered,
+        sentences: &[Sentence],
+        senses: &[Sense],
+    ) -> Result<SentenceViews, Memory>
+        requires mean { MeanEach self.now.state.grammar self.now.state.words sentences.now (meanings_in senses.now) }
+        requires remembered { All (IsRemembered self.now) remembered.old.rows }
         ensures tells { IfOk result (TellsSentences self.now.state sentences.now) }
         ensures unknown { IfOk result (AllZip (KeptHasUnknown self.now) sentences.now) }
+        ensures remembered { All (IsRemembered self.now) remembered.new.rows }
     {
         let names = live_names(self.alloc, &self.lexicon)?;
-        let known = self.consequences(&names, senses)?;
+        let known = self.consequences(remembered, &names, senses)?;
         let mut views = SentenceViews::new(self.alloc);
         for place in 0..sentences.len() {
-            views.push(self.view(&names, &known, &sentences[place], &senses[place])?)?;
+            views.push(self.view(
+                remembered,
+                &names,
+                &known,
+                &sentences[place],
+                &senses[place],
+            )?)?;
         }
         Ok(views)
     }
 
-    // The consequences of all that is known, with the live names, if one of the sentences is a question. They serve all
-    // questions of an article.
-    fn consequences(&self, names: &Names, senses: &[Sense]) -> Result<Option<Consequences>, Memory>
+    // The consequences of all that is known, with the live names, if one of the sentences is a question whose answers aren't
+    // remembered. They serve all questions of an article.
+    fn consequences(
+        &self,
+        remembered: &Remembered,
+        names: &Names,
+        senses: &[Sense],
+    ) -> Result<Option<Consequences>, Memory>
         requires { names.now ≡ live_names self.now.state.words }
         ensures { IfOk result (λ known. IfSome known (λ k. AbsorbsKnown self.now.state names.now (theory_in k))) }
     {
-        if !asks(senses) {
+        if !asks_anew(remembered, senses) {
             return Ok(None);
         }
         prove!(self.lexicon.len() <= MOST_WORDS);
@@ -103,6 +126,7 @@ impl Store {
     // A sentence as it is told, by what it means.
     fn view(
         &self,
+        remembered: &mut Remembered,
         names: &Names,
         known: &Option<Consequences>,
         sentence: &Sentence,
@@ -112,20 +136,23 @@ impl Store {
         requires absorbed { IfSome known.now (λ k. AbsorbsKnown self.now.state names.now (theory_in k)) }
         requires means { Means self.now.state.grammar self.now.state.words sentence.now.tokens (meaning_shown sense.now) }
         requires fits { FitsMeaning sentence.now.status (meaning_shown sense.now) }
+        requires remembered { All (IsRemembered self.now) remembered.old.rows }
         ensures tells { IfOk result (TellsSentence self.now.state sentence.now) }
         ensures unknown { IfOk result (KeptHasUnknown self.now sentence.now) }
+        ensures remembered { All (IsRemembered self.now) remembered.new.rows }
     {
         match sense {
-            Sense::Asking(class) => self.question_view(names, known, sentence, class),
+            Sense::Asking(class) => self.question_view(remembered, names, known, sentence, class),
             Sense::Stating(_) | Sense::Outside(_) | Sense::AskingOutside(_) => {
                 self.plain_view(sentence)
             }
         }
     }
 
-    // A question that asks for a class as it is told.
+    // A question that asks for a class as it is told. Its answers are looked for where they aren't remembered, and are then.
     fn question_view(
         &self,
+        remembered: &mut Remembered,
         names: &Names,
         known: &Option<Consequences>,
         sentence: &Sentence,
@@ -135,12 +162,52 @@ impl Store {
         requires absorbed { IfSome known.now (λ k. AbsorbsKnown self.now.state names.now (theory_in k)) }
         requires asks { is_question sentence.now.status ≡ true }
         requires means { Means self.now.state.grammar self.now.state.words sentence.now.tokens (asking (concept_of class.now)) }
+        requires remembered { All (IsRemembered self.now) remembered.old.rows }
+        ensures tells { IfOk result (TellsSentence self.now.state sentence.now) }
+        ensures unknown { IfOk result (KeptHasUnknown self.now sentence.now) }
+        ensures remembered { All (IsRemembered self.now) remembered.new.rows }
+    {
+        if let Some(answers) = remembered.find(class) {
+            return self.answered_view(sentence, class, answers);
+        }
+        let answers = self.answers_to(names, known, sentence, class)?;
+        let view = self.answered_view(sentence, class, &answers)?;
+        remembered.keep(self.alloc, class, answers);
+        Ok(view)
+    }
+
+    // The answers to a question for a class.
+    fn answers_to(
+        &self,
+        names: &Names,
+        known: &Option<Consequences>,
+        sentence: &Sentence,
+        class: &Class,
+    ) -> Result<Answers, Memory>
+        requires names { names.now ≡ live_names self.now.state.words }
+        requires absorbed { IfSome known.now (λ k. AbsorbsKnown self.now.state names.now (theory_in k)) }
+        requires means { Means self.now.state.grammar self.now.state.words sentence.now.tokens (asking (concept_of class.now)) }
+        ensures { IfOk result (λ answers. AreAnswers self.now (concept_of class.now) answers.yes answers.unknown) }
+    {
+        prove!(self.lexicon.len() <= MOST_WORDS);
+        let _ = self.grammar.grammar();
+        answers_of(self.alloc, known, class, &self.kept, names, self.budget)
+    }
+
+    // A question for a class with these answers as it is told.
+    fn answered_view(
+        &self,
+        sentence: &Sentence,
+        class: &Class,
+        answers: &Answers,
+    ) -> Result<SentenceView, Memory>
+        requires asks { is_question sentence.now.status ≡ true }
+        requires means { Means self.now.state.grammar self.now.state.words sentence.now.tokens (asking (concept_of class.now)) }
+        requires answers { AreAnswers self.now (concept_of class.now) answers.now.yes answers.now.unknown }
         ensures tells { IfOk result (TellsSentence self.now.state sentence.now) }
         ensures unknown { IfOk result (KeptHasUnknown self.now sentence.now) }
     {
-        prove!(self.lexicon.len() <= MOST_WORDS);
         let grammar = self.grammar.grammar();
-        let answers = answers_of(self.alloc, known, class, &self.kept, names, self.budget)?;
         Ok(SentenceView {
             status: sentence.status,
             text: show(self.alloc, grammar, &sentence.tokens)?,
@@ -164,11 +231,13 @@ impl Store {
     }
 }
 
-// Whether one of the sentences asks for a class.
-fn asks(senses: &[Sense]) -> bool {
+// Whether one of the sentences asks for a class whose answers aren't remembered.
+fn asks_anew(remembered: &Remembered, senses: &[Sense]) -> bool {
     for sense in senses {
-        if let Sense::Asking(_) = sense {
-            return true;
+        if let Sense::Asking(class) = sense {
+            if remembered.find(class).is_none() {
+                return true;
+            }
         }
     }
     false

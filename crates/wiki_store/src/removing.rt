@@ -9,8 +9,8 @@ ghost use Rattle.wiki_parts.specs.Refusing.{may_retract};
 ghost use Rattle.wiki_store.specs.Step.{Step, Refuses};
 ghost use Rattle.wiki_store.specs.Unchanged.{KeepsInterpretation};
 
+use crate::base::Base;
 use crate::joining::leave;
-use crate::store::Store;
 use articles::Article;
 use lists::Copied;
 use logic_terms::Axioms;
@@ -20,7 +20,7 @@ use wiki_base::{Memory, Text8, WordId};
 use wiki_parts::{Fault, Senses, known_around};
 use wiki_talk::{Reply, Request, Status};
 
-impl Store {
+impl Base {
     // Takes the sentence at a place of an article out.
     pub(crate) fn remove(&mut self, form: &Text8, at: u32) -> Result<Reply, Fault>
         ensures step { IfOk result (λ reply. Step self.old.state (Request.Remove form.now at) reply self.new.state) }

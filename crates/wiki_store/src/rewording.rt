@@ -18,8 +18,8 @@ ghost use Rattle.wiki_store.specs.Rewording.{KeepsSentences, KeepsOthers, FindsP
 ghost use Rattle.wiki_store.specs.Step.{Step, Refuses};
 ghost use Rattle.wiki_store.specs.Unchanged.{KeepsInterpretation};
 
+use crate::base::Base;
 use crate::sameness::same_sense;
-use crate::store::Store;
 use articles::{Article, Sentence};
 use codeco_checked::CheckedGrammar;
 use lexicon::{Forms, Kind, LexFault, Lexicon};
@@ -29,11 +29,11 @@ use wiki_base::{Memory, Place, Text, Text8, WordId};
 use wiki_parts::{Fault, Sense, Senses, forms_given, has_form, sense_of, texts_read, told_text};
 use wiki_talk::{Refusal, Reply, Request};
 
-impl Store {
-    /// The words with other forms for the one that has this form, if each sentence keeps its meaning by them. Refused are, in
-    /// this order, a form that no word has, texts that can't be the forms of a word of its kind beside the others, and forms
-    /// by which a sentence has no derivation, or another meaning.
-    pub fn rewording(&self, form: &Text8, texts: &[Text8]) -> Result<Lexicon, Fault>
+impl Base {
+    // The words with other forms for the one that has this form, if each sentence keeps its meaning by them. Refused are, in
+    // this order, a form that no word has, texts that can't be the forms of a word of its kind beside the others, and forms
+    // by which a sentence has no derivation, or another meaning.
+    pub(crate) fn rewording(&self, form: &Text8, texts: &[Text8]) -> Result<Lexicon, Fault>
         ensures step { IfOk result (λ lexicon. Step self.now.state (Request.Reword form.now texts.now) Reply.Reword
             (record self.now.state { words = lexicon })) }
         ensures keeps { IfOk result (KeepsSentences self.now.state) }
@@ -47,8 +47,8 @@ impl Store {
         Ok(lexicon)
     }
 
-    /// Takes in words by which each sentence keeps its meaning.
-    pub fn reworded(&mut self, lexicon: Lexicon)
+    // Takes in words by which each sentence keeps its meaning.
+    pub(crate) fn reworded(&mut self, lexicon: Lexicon)
         requires { KeepsSentences self.old.state lexicon }
         ensures { self.new ≡ record self.old { state = record self.old.state { words = lexicon } } }
     {

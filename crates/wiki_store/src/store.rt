@@ -1,96 +1,65 @@
 // The store and its step.
-ghost use Rattle.std.specs.Prelude.{◌≡◌, ◌≤◌, ◌<◌, ◌+◌, ◌++◌, ◌∷◌, [], ℕ, List, None, Err, IfErr, OnOk, length, find, All, IsTrue, IsSome, IfOk, IfSome, IfNone, OnErr, Some, option_copied, option_map};
+ghost use Rattle.std.specs.Prelude.{◌≡◌, ◌≤◌, ◌<◌, length, IsTrue, IfOk, IfErr, OnErr, Some, option_copied};
 ghost use Rattle.wiki_base.specs.declared.tokens.TheConstants.{MOST_TOKENS};
-ghost use Rattle.lexicon.specs.declared.words.TheConstants.{LAST_NUMBER};
-ghost use Rattle.wiki_talk.specs.declared.refusals.Refusal.{Refusal as TheRefusal};
-ghost use Rattle.wiki_parts.specs.Words.{word_refusal, forms_given};
-ghost use Rattle.wiki_parts.specs.Faults.{IsCause, Tells};
-ghost use Rattle.articles.specs.Articles.{new_article};
-ghost use Rattle.lexicon.specs.Words.{with_word, add_refusal};
+ghost use Rattle.wiki_store.specs.Step.{only_tells};
 
-use articles::Articles;
+use crate::base::Base;
+use crate::remembered::Remembered;
+use articles::Article;
 use codeco_checked::CheckedGrammar;
-use derivations::{Cut, cut};
-use lexicon::{Forms, Kind, Lexicon, MOST_WORDS};
-use lists::Copied;
-use owl_eval::CheckedModel;
+use lexicon::Lexicon;
 use std::alloc::Global;
 use std::marker::Model;
-use wiki_base::{Memory, Place, Text8, Tokens, WordId};
-use wiki_parts::{
-    Fault, Senses, add_word, first_model, first_use, is_faithful, least, no_sentence, told_code,
-    told_text, told_word, told_words, too_many_tokens,
-};
-use wiki_talk::{Refusal, Reply, Request};
+use wiki_base::{Memory, Text8, Tokens, WordId};
+use wiki_parts::Fault;
+use wiki_talk::{Reply, Request, Status};
 
 /// The words and sentences of a wiki. They are seen as its state, which is the grammar, the budget of a search, the live words and their articles, and the
 /// interpretation that it keeps.
 #[derive(Drop)]
 pub struct Store {
-    pub(crate) alloc: Global,
-    pub(crate) grammar: CheckedGrammar,
-    pub(crate) budget: u64,
-    pub(crate) lexicon: Lexicon,
-    pub(crate) articles: Articles,
-    // What the sentences of each article mean.
-    pub(crate) senses: Vec<Senses>,
-    // A model of what is known.
-    pub(crate) kept: CheckedModel,
-    // The last number that was given to a word.
-    pub(crate) last: u32,
+    base: Base,
+    // Answers that were found since the base changed.
+    remembered: Remembered,
 }
 
 impl Model for Store {
-    ghost use Rattle.std.specs.Prelude.{◌≡◌};
+    ghost use Rattle.std.specs.Prelude.{All};
     ghost use Rattle.wiki_parts.specs.Holding.{Holding};
 
     ghost Value = { Holding };
 
-    ghost use Rattle.owl_eval.specs.Checked.{kept_interp};
-    ghost use Rattle.wiki_parts.specs.Kept.{IsKeeping};
+    ghost use Rattle.wiki_store.specs.Remembered.{IsRemembered};
 
-    ghost view = { λ w. record {
-      state = record { grammar = w.grammar; budget = w.budget; words = w.lexicon; articles = w.articles };
-      interpretation = kept_interp w.kept;
-    } };
+    ghost view = { λ w. w.base };
 
-    ghost invariant = { λ w. IsKeeping (record { grammar = w.grammar; budget = w.budget; words = w.lexicon; articles = w.articles }) w.senses.items w.kept
-        × (w.last ≡ w.lexicon.last) };
+    ghost invariant = { λ w. All (IsRemembered w.base) w.remembered.rows };
 }
 
 impl Store {
     ghost use Rattle.codeco_checked.specs.Sound.{is_labelled};
+    ghost use Rattle.derivation_trees.specs.Sentences.{IsSentence};
+    ghost use Rattle.wiki_talk.specs.declared.limits.TheConstants.{MOST_SENTENCES};
+    ghost use Rattle.articles.specs.Articles.{article_of, without_article, CanChange};
+    ghost use Rattle.wiki_parts.specs.Faults.{IsFault};
     ghost use Rattle.wiki_parts.specs.Holding.{first_holding, IsKept};
+    ghost use Rattle.wiki_parts.specs.Knowledge.{sentences_in, GetStatus};
+    ghost use Rattle.wiki_parts.specs.Places.{word_named};
+    ghost use Rattle.wiki_parts.specs.State.{IsSound};
+    ghost use Rattle.wiki_store.specs.Appending.{with_appended, SpendsAtEnd};
+    ghost use Rattle.wiki_store.specs.Rewording.{IsGone, KeepsSentences};
     ghost use Rattle.wiki_store.specs.Spending.{SpendsBeyondKept, KeptHasEachUnknown};
-    ghost use Rattle.wiki_parts.specs.Parsing.{tokens_of};
     ghost use Rattle.wiki_store.specs.Step.{Step, Refuses, asks_store};
     ghost use Rattle.wiki_store.specs.Unchanged.{KeepsInterpretation};
-    ghost use Rattle.wiki_parts.specs.Faults.{IsFault};
-    ghost use Rattle.articles.specs.Articles.{HasArticle};
-    ghost use Rattle.articles.specs.Places.{IsPlaceOf};
-    ghost use Rattle.lexicon.specs.declared.kinds.Forms.{Forms as TheForms};
-    ghost use Rattle.lexicon.specs.Words.{forms_of};
-    ghost use Rattle.wiki_parts.specs.Places.{all_placed, told_place};
-    ghost use Rattle.wiki_parts.specs.Refusing.{uses_word, TellsPlace};
-    ghost use Rattle.wiki_parts.specs.Words.{word_with};
 
     /// A store without words, over a grammar in which each rule has a label. A search may take `budget` steps.
     pub fn new(alloc: Global, grammar: CheckedGrammar, budget: u64) -> Result<Store, Memory>
         requires { IsTrue (is_labelled grammar) }
         ensures { IfOk result (λ store. store ≡ first_holding grammar budget) }
     {
-        let lexicon = Lexicon::new(alloc, grammar.grammar())?;
-        let articles = Articles::new(alloc)?;
-        let kept = first_model(alloc)?;
         Ok(Store {
-            alloc,
-            grammar,
-            budget,
-            lexicon,
-            articles,
-            senses: Vec::new(alloc),
-            kept,
-            last: 0,
+            base: Base::new(alloc, grammar, budget)?,
+            remembered: Remembered::new(alloc),
         })
     }
 
@@ -113,8 +82,7 @@ impl Store {
     pub fn is_kept(&self)
         ensures { IsKept self.now }
     {
-        is_faithful(&self.grammar);
-        let _ = self.kept.interp();
+        self.base.is_kept();
     }
 
     // Does one request, or refuses it.
@@ -126,227 +94,132 @@ impl Store {
         ensures interpretation { IfOk result (λ reply. KeepsInterpretation self.old reply self.new) }
         ensures memory { OnErr result (self.new ≡ self.old) }
     {
-        match request {
-            Request::Word { kind, forms } => self.add(*kind, forms.as_slice()),
-            Request::Find { word } => self.find(word),
-            Request::Words => self.words(),
-            Request::Parse { text } => self.parse(text),
-            Request::Reword { word, forms } => told(self.reword(word, forms.as_slice())),
-            Request::Unword { word } => told(self.unword(word)),
-            Request::Add { article, at, text } => told(self.add_sentence(article, *at, text)),
-            Request::Edit { article, at, text } => told(self.edit(article, *at, text)),
-            Request::Remove { article, at } => told(self.remove(article, *at)),
-            Request::Retract { article, at } => told(self.retract(article, *at)),
-            Request::Reassert { article, at } => told(self.reassert(article, *at)),
-            Request::Read { article } => told(self.read(article)),
-            Request::Axioms { article, at } => told(self.axioms(article, *at)),
-            Request::Begin { .. }
-            | Request::Put { .. }
-            | Request::Back { .. }
-            | Request::Menu { .. }
-            | Request::Commit { .. }
-            | Request::Refresh { .. }
-            | Request::Drop { .. } => unreachable!(),
+        if only_tells(request) {
+            self.base.tell(&mut self.remembered, request)
+        } else {
+            self.change(request)
         }
     }
 
-    // Adds a word, with an empty article.
-    fn add(&mut self, kind: Kind, forms: &[Text8]) -> Result<Reply, Memory>
-        ensures step { IfOk result (λ reply. Step self.old.state (Request.Word kind forms.now) reply self.new.state) }
+    // Does one request that may change the base, or refuses it. Where it is done, the answers are forgotten.
+    fn change(&mut self, request: &Request) -> Result<Reply, Memory>
+        requires asks { IsTrue (asks_store request.now) }
+        requires changes { ¬ IsTrue (only_tells request.now) }
+        ensures step { IfOk result (λ reply. Step self.old.state request.now reply self.new.state) }
+        ensures spent { IfOk result (SpendsBeyondKept self.old request.now) }
+        ensures unknown { IfOk result (KeptHasEachUnknown self.old request.now) }
         ensures interpretation { IfOk result (λ reply. KeepsInterpretation self.old reply self.new) }
         ensures memory { OnErr result (self.new ≡ self.old) }
     {
-        let Some(number) = self.next_number() else {
-            return refuse_word(self.alloc, &mut self.lexicon, kind, forms);
-        };
-        let word = WordId(number);
-        self.senses.push(Senses::new(self.alloc))?;
-        match enter_word(
-            self.alloc,
-            &mut self.articles,
-            &mut self.lexicon,
-            word,
-            kind,
-            forms,
-        ) {
-            Ok(()) => {
-                self.last = number;
-                Ok(Reply::Word)
+        match self.base.change(request) {
+            Ok(Reply::Refused(refusal)) => Ok(Reply::Refused(refusal)),
+            Ok(reply) => {
+                self.remembered.clear();
+                Ok(reply)
             }
-            Err(fault) => {
-                let _ = self.senses.pop();
-                refused(fault)
-            }
+            Err(memory) => Err(memory),
         }
     }
 
-    // The number that the next word gets; none where all are given. It is above those of all articles.
-    fn next_number(&self) -> Option<u32>
-        ensures next { IfSome result (λ next. (next ≡ self.now.state.words.last + 1) × All (λ article. article.word.0 < next) self.now.state.articles) }
-        ensures none { IfNone result (self.now.state.words.last ≡ LAST_NUMBER) }
+    /// Adds tokens that have a derivation as a sentence at the end of a word's article, with the status that they get there.
+    pub fn append(&mut self, word: WordId, tokens: &Tokens) -> Result<Status, Memory>
+        requires open { CanChange self.old.state.articles word }
+        requires room { length (sentences_in self.old.state.articles) < MOST_SENTENCES }
+        requires few { length tokens.now ≤ MOST_TOKENS }
+        requires sentence { IsSentence self.old.state.grammar self.old.state.words tokens.now }
+        ensures status { IfOk result (GetStatus (with_appended self.old.state word tokens.now Status.Asserted) tokens.now) }
+        ensures after { IfOk result (λ status. self.new.state ≡ with_appended self.old.state word tokens.now status) }
+        ensures spent { IfOk result (SpendsAtEnd self.old word tokens.now) }
+        ensures memory { OnErr result (self.new ≡ self.old) }
     {
-        prove!(self.lexicon.len() <= MOST_WORDS);
-        self.last.checked_add(1)
+        let status = self.base.append(word, tokens)?;
+        self.remembered.clear();
+        Ok(status)
     }
 
-    // Where the article of a live word stands.
-    pub(crate) fn place(&self, word: WordId) -> usize
-        requires { HasArticle self.now.state.articles word }
-        ensures { IsPlaceOf self.now.state.articles word result }
+    /// The words with other forms for the one that has this form, if each sentence keeps its meaning by them. Refused are, in
+    /// this order, a form that no word has, texts that can't be the forms of a word of its kind beside the others, and forms
+    /// by which a sentence has no derivation, or another meaning.
+    pub fn rewording(&self, form: &Text8, texts: &[Text8]) -> Result<Lexicon, Fault>
+        ensures step { IfOk result (λ lexicon. Step self.now.state (Request.Reword form.now texts.now) Reply.Reword
+            (record self.now.state { words = lexicon })) }
+        ensures keeps { IfOk result (KeepsSentences self.now.state) }
+        ensures refused { IfErr result (IsFault (Refuses self.now.state (Request.Reword form.now texts.now))) }
     {
-        match self.articles.place_of(word) {
-            Some(place) => place,
-            None => unreachable!(),
-        }
+        self.base.rewording(form, texts)
     }
 
-    // The first place that needs a live word.
-    pub(crate) fn use_of(&self, word: WordId) -> Option<Place>
-        ensures { (forms : TheForms) → forms_of self.now.state.words.live word ≡ Some forms
-            → result ≡ option_map told_place (find (uses_word word forms) (all_placed self.now.state.articles)) }
+    /// Takes in words by which each sentence keeps its meaning.
+    pub fn reworded(&mut self, lexicon: Lexicon)
+        requires { KeepsSentences self.old.state lexicon }
+        ensures { self.new ≡ record self.old { state = record self.old.state { words = lexicon } } }
     {
-        match self.lexicon.word(word) {
-            Some(forms) => first_use(self.articles.as_slice(), word, forms),
-            None => None,
-        }
+        self.remembered.clear();
+        self.base.reworded(lexicon);
     }
 
-    // Tells a place that needs a word.
-    pub(crate) fn in_use(&self, place: Place) -> Result<Refusal, Memory>
-        requires { IsSome (forms_of self.now.state.words.live place.article) }
-        ensures { IfOk result (TellsPlace self.now.state (λ form place. Refusal.InUse form place) place.article place.at) }
+    /// The word that has this form, and the words without it, if no sentence needs it. Refused are, in this order, a form that
+    /// no word has, and a word that a sentence needs.
+    pub fn unwording(&self, form: &Text8) -> Result<(WordId, Lexicon), Fault>
+        ensures named { IfOk result (λ gone. word_named self.now.state form.now ≡ Some gone.0) }
+        ensures step { IfOk result (λ gone. Step self.now.state (Request.Unword form.now) Reply.Unword
+            (record self.now.state { words = gone.1; articles = without_article self.now.state.articles gone.0 })) }
+        ensures gone { IfOk result (λ gone. IsGone self.now.state gone.0 gone.1) }
+        ensures refused { IfErr result (IsFault (Refuses self.now.state (Request.Unword form.now))) }
     {
-        match self.lexicon.word(place.article) {
-            Some(forms) => Ok(Refusal::InUse {
-                article: told_text(self.alloc, forms.canonical())?,
-                at: place.at,
-            }),
-            None => unreachable!(),
-        }
+        self.base.unwording(form)
     }
 
-    // Tells the word that has this form.
-    fn find(&self, word: &Text8) -> Result<Reply, Memory>
-        ensures { IfOk result (λ reply. Step self.now.state (Request.Find word.now) reply self.now.state) }
+    /// Takes in the words without one that no sentence needs, and takes out its empty article.
+    pub fn unworded(&mut self, word: WordId, lexicon: Lexicon)
+        requires { IsGone self.old.state word lexicon }
+        ensures { self.new ≡ record self.old { state = record self.old.state { words = lexicon; articles = without_article self.old.state.articles word } } }
     {
-        match self.found(word.as_str()) {
-            Some(forms) => Ok(Reply::Find {
-                word: told_word(self.alloc, forms)?,
-            }),
-            None => Ok(Reply::Refused(Refusal::NoWord { text: word.copy()? })),
-        }
+        self.remembered.clear();
+        self.base.unworded(word, lexicon);
     }
 
-    // The forms of the word that has this one.
-    fn found(&self, form: &str) -> Option<&Forms>
-        ensures { option_copied result ≡ word_with self.now.state.words form.now }
+    /// The grammar of sentences.
+    pub fn grammar(&self) -> &CheckedGrammar
+        ensures { result.now ≡ self.now.state.grammar }
     {
-        self.lexicon.find(form).and_then(|id| self.lexicon.word(id))
+        self.base.grammar()
     }
 
-    // Tells all words.
-    fn words(&self) -> Result<Reply, Memory>
-        ensures { IfOk result (λ reply. Step self.now.state Request.Words reply self.now.state) }
+    /// The live words.
+    pub fn lexicon(&self) -> &Lexicon
+        ensures { result.now ≡ self.now.state.words }
     {
-        Ok(Reply::Words {
-            words: told_words(self.alloc, &self.lexicon)?,
-        })
+        self.base.lexicon()
     }
 
-    // Tells the code of a text.
-    fn parse(&self, text: &Text8) -> Result<Reply, Memory>
-        ensures { IfOk result (λ reply. Step self.now.state (Request.Parse text.now) reply self.now.state) }
+    /// The article of a word.
+    pub fn article_of(&self, word: WordId) -> Option<&Article>
+        ensures found { option_copied result ≡ article_of self.now.state.articles word }
+        ensures sound { IsSound self.now.state }
     {
-        match cut(self.alloc, self.grammar.grammar(), text.as_str())? {
-            Cut::TooMany => Ok(Reply::Refused(too_many_tokens())),
-            Cut::Tokens(tokens) => self.parse_tokens(&tokens),
-        }
+        self.base.article_of(word)
     }
 
-    // Tells the code of tokens.
-    fn parse_tokens(&self, tokens: &Tokens) -> Result<Reply, Memory>
-        requires { length tokens.now ≤ MOST_TOKENS }
-        ensures { IfOk result (λ reply. (text : List ℕ) → tokens_of self.now.state text ≡ tokens.now
-            → Step self.now.state (Request.Parse text) reply self.now.state) }
+    /// How many sentences there are, at most `MOST_SENTENCES`.
+    pub fn sentence_count(&self) -> usize
+        ensures count { result ≡ length (sentences_in self.now.state.articles) }
+        ensures few { result ≤ MOST_SENTENCES }
     {
-        match least(self.alloc, &self.grammar, &self.lexicon, tokens)? {
-            Some(least) => Ok(Reply::Parse {
-                code: told_code(self.alloc, &least)?,
-            }),
-            None => Ok(Reply::Refused(no_sentence(
-                self.alloc,
-                &self.grammar,
-                &self.lexicon,
-                tokens,
-            )?)),
-        }
+        self.base.sentence_count()
     }
 }
 
-// Adds a word with an empty article. The article comes first, since it can be taken out again.
-fn enter_word(
-    alloc: Global,
-    articles: &mut Articles,
-    lexicon: &mut Lexicon,
-    word: WordId,
-    kind: Kind,
-    forms: &[Text8],
-) -> Result<(), Fault>
-    requires { All (λ other. other.word.0 < word.0) articles.old }
-    ensures article { OnOk result (articles.new ≡ articles.old ++ new_article word ∷ []) }
-    ensures added { OnOk result (lexicon.new ≡ with_word lexicon.old (forms_given kind forms.now)) }
-    ensures accepted { OnOk result (word_refusal lexicon.old kind forms.now ≡ None) }
-    ensures free { OnOk result (add_refusal lexicon.old (forms_given kind forms.now) ≡ None) }
-    ensures refused { IfErr result (IsCause (word_refusal lexicon.old kind forms.now)) }
-    ensures articles { OnErr result (articles.new ≡ articles.old) }
-    ensures lexicon { OnErr result (lexicon.new ≡ lexicon.old) }
+// Whether a request changes nothing.
+fn only_tells(request: &Request) -> bool
+    ensures { result ≡ only_tells request.now }
 {
-    articles.begin(word)?;
-    match add_word(alloc, lexicon, kind, forms) {
-        Ok(()) => Ok(()),
-        Err(fault) => {
-            articles.end(word);
-            Err(fault)
-        }
-    }
-}
-
-// The reply to a request that is done or refused.
-fn told(done: Result<Reply, Fault>) -> Result<Reply, Memory>
-    ensures told { IfOk result (λ reply. Tells done reply) }
-    ensures memory { OnErr result (done ≡ Err Fault.Memory) }
-{
-    match done {
-        Ok(reply) => Ok(reply),
-        Err(fault) => refused(fault),
-    }
-}
-
-// The reply that tells why a request changes nothing.
-fn refused(fault: Fault) -> Result<Reply, Memory>
-    ensures told { IfOk result (λ reply. (refusal : TheRefusal) × (fault ≡ Fault.Refused refusal) × (reply ≡ Reply.Refused refusal)) }
-    ensures memory { OnErr result (fault ≡ Fault.Memory) }
-{
-    match fault {
-        Fault::Refused(refusal) => Ok(Reply::Refused(refusal)),
-        Fault::Memory => Err(Memory),
-    }
-}
-
-// Refuses a word where all numbers are given.
-fn refuse_word(
-    alloc: Global,
-    lexicon: &mut Lexicon,
-    kind: Kind,
-    forms: &[Text8],
-) -> Result<Reply, Memory>
-    requires { lexicon.old.last ≡ LAST_NUMBER }
-    ensures refused { IfOk result (λ reply. (refusal : TheRefusal) × (word_refusal lexicon.old kind forms.now ≡ Some refusal)
-        × (reply ≡ Reply.Refused refusal)) }
-    ensures words { lexicon.new ≡ lexicon.old }
-{
-    match add_word(alloc, lexicon, kind, forms) {
-        Ok(()) => unreachable!(),
-        Err(fault) => refused(fault),
-    }
+    matches!(
+        request,
+        Request::Find { .. }
+            | Request::Words
+            | Request::Parse { .. }
+            | Request::Read { .. }
+            | Request::Axioms { .. }
+    )
 }

@@ -3,12 +3,12 @@ ghost use Rattle.std.specs.Prelude.{IfOk, IfErr};
 ghost use Rattle.wiki_parts.specs.Faults.{IsFault};
 ghost use Rattle.wiki_store.specs.Step.{Step, Refuses};
 
-use crate::store::Store;
+use crate::base::Base;
 use wiki_base::Text8;
 use wiki_parts::{Fault, sense_of, told_meaning};
 use wiki_talk::{Reply, Request};
 
-impl Store {
+impl Base {
     // Tells what the sentence at a place of an article means.
     pub(crate) fn axioms(&self, form: &Text8, at: u32) -> Result<Reply, Fault>
         ensures step { IfOk result (λ reply. Step self.now.state (Request.Axioms form.now at) reply self.now.state) }

@@ -7,17 +7,17 @@ ghost use Rattle.wiki_store.specs.Rewording.{IsGone};
 ghost use Rattle.wiki_store.specs.Step.{Step, Refuses};
 ghost use Rattle.wiki_store.specs.Unchanged.{KeepsInterpretation};
 
-use crate::store::Store;
+use crate::base::Base;
 use lexicon::Lexicon;
 use lists::Copied;
 use wiki_base::{Text8, WordId};
 use wiki_parts::Fault;
 use wiki_talk::{Reply, Request};
 
-impl Store {
-    /// The word that has this form, and the words without it, if no sentence needs it. Refused are, in this order, a form that
-    /// no word has, and a word that a sentence needs.
-    pub fn unwording(&self, form: &Text8) -> Result<(WordId, Lexicon), Fault>
+impl Base {
+    // The word that has this form, and the words without it, if no sentence needs it. Refused are, in this order, a form that
+    // no word has, and a word that a sentence needs.
+    pub(crate) fn unwording(&self, form: &Text8) -> Result<(WordId, Lexicon), Fault>
         ensures named { IfOk result (λ gone. word_named self.now.state form.now ≡ Some gone.0) }
         ensures step { IfOk result (λ gone. Step self.now.state (Request.Unword form.now) Reply.Unword
             (record self.now.state { words = gone.1; articles = without_article self.now.state.articles gone.0 })) }
@@ -35,8 +35,8 @@ impl Store {
         }
     }
 
-    /// Takes in the words without one that no sentence needs, and takes out its empty article.
-    pub fn unworded(&mut self, word: WordId, lexicon: Lexicon)
+    // Takes in the words without one that no sentence needs, and takes out its empty article.
+    pub(crate) fn unworded(&mut self, word: WordId, lexicon: Lexicon)
         requires { IsGone self.old.state word lexicon }
         ensures { self.new ≡ record self.old { state = record self.old.state { words = lexicon; articles = without_article self.old.state.articles word } } }
     {

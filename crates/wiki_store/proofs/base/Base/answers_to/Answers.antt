@@ -1,0 +1,62 @@
+use Rattle.std.proofs.Common.{◌≡◌, List, sym, subst}
+use Rattle.std.proofs.lemmas.Option.{IfSome_then}
+use Rattle.logic_terms.specs.Concept.{Claim}
+use Rattle.logic_terms.specs.Shown.{concept_of}
+use Rattle.owl_eval.specs.Checked.{kept_claims, kept_interp}
+use Rattle.wiki_parts.specs.Holding.{Holding}
+use Rattle.wiki_parts.specs.Knowledge.{live_names, Knows}
+use Rattle.wiki_parts.specs.Meanings.{asking, Means}
+use Rattle.wiki_parts.specs.State.{State}
+use Rattle.wiki_parts.proofs.KnownLemmas.{knows_from_known}
+use Rattle.wiki_parts.proofs.OverLemmas.{answers_over, answers_plain}
+use Rattle.wiki_store.proofs.ReadLemmas.{are-answers}
+use Rattle.wiki_store.proofs.base.Base.answers_to.Goals as goal
+
+pub answers_of-requires-clause-over : goal.answers_of-requires-clause-over
+answers_of-requires-clause-over c =
+    answers_over c.self.inside.grammar c.self.inside.lexicon c.self.inside.articles c.self.inside.senses.items c.grammar.ensures.sound
+    c.len.ensures.lexicon.apart c.self.invariant.0.mean
+    c.args.names.now (kept_claims c.self.inside.kept)
+    (subst (λ (h : Holding). c.args.names.now ≡ live_names h.state.words) (sym c.self.view_is) c.requires.names) c.self.invariant.0.known
+    c.args.sentence.now.tokens (concept_of c.args.class.now)
+    (subst (λ (h : Holding). Means h.state.grammar h.state.words c.args.sentence.now.tokens (asking (concept_of c.args.class.now))) (sym c.self.view_is)
+    c.requires.means)
+
+pub answers_of-requires-clause-plain : goal.answers_of-requires-clause-plain
+answers_of-requires-clause-plain c =
+    answers_plain c.self.inside.grammar c.self.inside.lexicon c.self.inside.articles c.self.inside.senses.items c.grammar.ensures.sound
+    c.len.ensures.lexicon.apart c.self.invariant.0.mean
+    c.args.names.now (kept_claims c.self.inside.kept)
+    (subst (λ (h : Holding). c.args.names.now ≡ live_names h.state.words) (sym c.self.view_is) c.requires.names) c.self.invariant.0.known
+    c.args.sentence.now.tokens (concept_of c.args.class.now)
+    (subst (λ (h : Holding). Means h.state.grammar h.state.words c.args.sentence.now.tokens (asking (concept_of c.args.class.now))) (sym c.self.view_is)
+    c.requires.means)
+
+pub answers_of-requires-clause-absorbed : goal.answers_of-requires-clause-absorbed
+answers_of-requires-clause-absorbed c =
+    let inside : State = record {
+      grammar = c.self.inside.grammar;
+      budget = c.self.inside.budget;
+      words = c.self.inside.lexicon;
+      articles = c.self.inside.articles;
+    } in
+    let claims : List Claim = kept_claims c.self.inside.kept in
+    let known : Knows inside claims =
+    subst (Knows inside) (sym c.self.invariant.0.known)
+    (knows_from_known c.self.inside.grammar c.self.inside.lexicon c.self.inside.articles c.self.inside.senses.items c.self.invariant.0.mean) in
+    IfSome_then c.args.known.now c.requires.absorbed (λ k absorbs. absorbs claims (subst (λ (h : Holding). Knows h.state claims) c.self.view_is known))
+
+pub returns : goal.returns
+returns c =
+    let inside : State = record {
+      grammar = c.self.inside.grammar;
+      budget = c.self.inside.budget;
+      words = c.self.inside.lexicon;
+      articles = c.self.inside.articles;
+    } in
+    let claims : List Claim = kept_claims c.self.inside.kept in
+    let known : Knows inside claims =
+    subst (Knows inside) (sym c.self.invariant.0.known)
+    (knows_from_known c.self.inside.grammar c.self.inside.lexicon c.self.inside.articles c.self.inside.senses.items c.self.invariant.0.mean) in
+    are-answers (record { state = inside; interpretation = kept_interp c.self.inside.kept }) c.args.self.now c.self.view_is claims known c.args.names.now
+    c.requires.names (concept_of c.args.class.now) c.answers_of.result c.answers_of.ensures.answer c.answers_of.ensures.kept_has_unknown

@@ -1,0 +1,17 @@
+use Rattle.std.proofs.Common.{sym, subst, ◌∙◌}
+use Rattle.wiki_parts.specs.Holding.{Holding}
+use Rattle.wiki_parts.specs.State.{State}
+use Rattle.wiki_store.specs.Rewording.{KeepsSentences}
+use Rattle.wiki_store.proofs.WordKeeping.{keeps_reworded}
+use Rattle.wiki_store.proofs.base.Base.reworded.Goals as goal
+
+pub invariant_of-self : goal.invariant_of-self
+invariant_of-self c =
+    let inside : State = record {
+      grammar = c.self.inside.grammar;
+      budget = c.self.inside.budget;
+      words = c.self.inside.lexicon;
+      articles = c.self.inside.articles;
+    } in
+    let keeps : KeepsSentences inside c.args.lexicon = subst (λ (h : Holding). KeepsSentences h.state c.args.lexicon) (sym c.self.view_is) c.requires in
+    (keeps_reworded inside c.self.inside.senses.items c.self.inside.kept c.args.lexicon c.self.invariant.0 keeps, c.self.invariant.1 ∙ sym keeps.last)

@@ -1,0 +1,16 @@
+use Rattle.std.proofs.Common.{◌≡◌, All, sym, subst}
+use Rattle.wiki_parts.specs.Holding.{Holding}
+use Rattle.wiki_store.specs.Remembered.{IsRemembered}
+use Rattle.wiki_store.proofs.RememberedLemmas.{refused-stays}
+use Rattle.wiki_store.proofs.store.Store.change.Goals as goal
+
+pub invariant_of-self : goal.invariant_of-self
+invariant_of-self c =
+    let same : c.change.new.self ≡ c.self.inside.base =
+    refused-stays c.self.inside.base c.change.new.self c.args.request.now c.in-Ok-Refused.field-0 c.in-Ok-Refused.refusal c.in-Ok-Refused.field-0-is
+    c.in-Ok-Refused.ensures.step c.in-Ok-Refused.ensures.interpretation in
+    subst (λ (h : Holding). All (IsRemembered h) c.self.inside.remembered.rows) (sym same) c.self.invariant
+
+pub invariant_of-self-in-Err : goal.invariant_of-self-in-Err
+invariant_of-self-in-Err c =
+    subst (λ (h : Holding). All (IsRemembered h) c.self.inside.remembered.rows) (sym c.in-Err.ensures.memory) c.self.invariant

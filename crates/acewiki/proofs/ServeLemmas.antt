@@ -27,7 +27,7 @@ use Rattle.acewiki.specs.declared.command.Outcome.{Outcome}
 use Rattle.acewiki.specs.declared.command.Outcome.TheVariants as outcomes
 use Rattle.acewiki.specs.Lines.{asked, told, StepsLine, StepsLines}
 use Rattle.acewiki.specs.Steps.{StepsInput, outcome_of, ServesLink}
-use Rattle.acewiki.specs.Theorem.{Stream, Network, World, outside_of, EndsReading, Replays, AnswersAsPlainWiki, EndsAt, IsUntouched, EndsServing, Serves}
+use Rattle.acewiki.specs.Theorem.{Stream, Network, World, outside_of, EndsReading, Replays, AnswersAsPlainWiki, EndsAt, IsUntouched, ListensAt, EndsServing, Serves}
 use Rattle.acewiki.specs.Wiki.{Holding, KeptStep}
 use Rattle.acewiki.proofs.RunLemmas.{Running, Running-line, Replays-none, Replays-end, Replays-end_last, Replays-fault, Replays-too_large, Replays-cut}
 
@@ -149,15 +149,15 @@ none_at outcomes.LinkFault ends old kept outside outside_after same = absurd end
 none_at outcomes.TooMuch ends old kept outside outside_after same = same
 none_at outcomes.Memory ends old kept outside outside_after same = same
 
-untouched : {S K L : Type 0} (outcome : Outcome) → EndsInput outcome → (events : List Event) (most : ℕ) (before after : World S K L)
-    → IsUntouched events before after → EndsServing outcome outcome events most before after
-untouched outcomes.Done ends events most before after same = absurd ends
-untouched outcomes.Usage ends events most before after same = absurd ends
-untouched outcomes.ReadFault ends events most before after same = same
-untouched outcomes.WriteFault ends events most before after same = absurd ends
-untouched outcomes.LinkFault ends events most before after same = absurd ends
-untouched outcomes.TooMuch ends events most before after same = same
-untouched outcomes.Memory ends events most before after same = same
+untouched : {S K L : Type 0} (outcome : Outcome) → EndsInput outcome → (address : List ℕ) (events : List Event) (most : ℕ) (before after : World S K L)
+    → IsUntouched events before after → EndsServing outcome outcome address events most before after
+untouched outcomes.Done ends address events most before after same = absurd ends
+untouched outcomes.Usage ends address events most before after same = absurd ends
+untouched outcomes.ReadFault ends address events most before after same = same
+untouched outcomes.WriteFault ends address events most before after same = absurd ends
+untouched outcomes.LinkFault ends address events most before after same = absurd ends
+untouched outcomes.TooMuch ends address events most before after same = same
+untouched outcomes.Memory ends address events most before after same = same
 
 abbrev outside_with : {K L : Type 0} → Stream K → Network L → Outside
 outside_with out net = record { journal = out.bytes; sent = net.sent; send_faults = net.send_faults }
@@ -167,10 +167,10 @@ outside_same : {S K L : Type 0} (before after : World S K L) → after.output �
 outside_same {K} {L} before after output link =
     ap (λ (out : Stream K). outside_with out after.link) output ∙ ap (λ (net : Network L). outside_with before.output net) link
 
-pub Serves-stopped : {S K L : Type 0} (first : Holding) (most : ℕ) (outcome : Outcome) (before after : World S K L) (last : Holding)
+pub Serves-stopped : {S K L : Type 0} (first : Holding) (address : List ℕ) (most : ℕ) (outcome : Outcome) (before after : World S K L) (last : Holding)
     → StepsInput first before.input.bytes outcome after.input.bytes last → EndsInput outcome → after.output ≡ before.output → after.link ≡ before.link
-    → Serves first most outcome before after
-Serves-stopped {L} first most outcome before after last input ends output link =
+    → Serves first address most outcome before after
+Serves-stopped {L} first address most outcome before after last input ends output link =
     let outside = outside_of before in
     let answers : AnswersAsPlainWiki first input.lines outside [] outside =
     answers_of_run first input.lines input.exchanges input.reached input.steps outside [] input.reached [] outside
@@ -188,12 +188,12 @@ Serves-stopped {L} first most outcome before after last input ends output link =
       outside_then = outside;
       answers = answers;
       at_last = none_at outcome ends answers.last answers.kept outside (outside_of after) (outside_same before after output link);
-      ends = untouched outcome ends [] most before after (refl, output, link);
+      ends = untouched outcome ends address [] most before after (refl, output, link);
     }
 
 -- ---- serving that ends behind the lines of the input
 
-module _ {S K L : Type 0} (first last : Holding) (most : ℕ) (before after : World S K L)
+module _ {S K L : Type 0} (first last : Holding) (address : List ℕ) (most : ℕ) (before after : World S K L)
     (input : StepsInput first before.input.bytes outcomes.Done after.input.bytes last) where
   -- a run of events that begins where the lines end
   events_after : (events : List Event) (end : Holding) (kept : List Kept) (outside_after : Outside)
@@ -213,7 +213,7 @@ module _ {S K L : Type 0} (first last : Holding) (most : ℕ) (before after : Wo
   Serves-all : (outcome : Outcome) (events : List Event) → after.link.handed ≡ with_more before.link.handed events → length events ≤ most
       → RunsAll KeptStep last (outside_of before) events (outside_of after)
       → ((old : Holding) (kept : List Kept) → EndsAt outcome old kept [] (outside_of after) (outside_of after))
-      → EndsServing outcomes.Done outcome events most before after → Serves first most outcome before after
+      → EndsServing outcomes.Done outcome address events most before after → Serves first address most outcome before after
   Serves-all outcome events are_handed few all at_last ends = record {
     read_so = outcomes.Done;
     lines = input.lines;
@@ -235,7 +235,7 @@ module _ {S K L : Type 0} (first last : Holding) (most : ℕ) (before after : Wo
       → after.link.handed ≡ with_more before.link.handed events → length events ≤ most → events ≡ handled ++ event ∷ []
       → RunsEvents KeptStep last [] (outside_of before) handled end kept outside_then
       → EndsAt outcome end kept (event ∷ []) outside_then (outside_of after)
-      → EndsServing outcomes.Done outcome events most before after → Serves first most outcome before after
+      → EndsServing outcomes.Done outcome address events most before after → Serves first address most outcome before after
   Serves-but_last outcome events handled event end kept outside_then are_handed few each run at_last ends = record {
     read_so = outcomes.Done;
     lines = input.lines;
@@ -252,30 +252,51 @@ module _ {S K L : Type 0} (first last : Holding) (most : ℕ) (before after : Wo
     ends = ends;
   }
 
-  Serves-ended : (served_so : Served) (events : List Event) → after.link.handed ≡ with_more before.link.handed events → length events ≤ most
+  Serves-ended : ListensAt address after.link → (served_so : Served) (events : List Event) → after.link.handed ≡ with_more before.link.handed events
+      → length events ≤ most
       → EndsServingSo KeptStep last most (outside_of before) events served_so after.link.coming (outside_of after)
-      → Serves first most (outcome_of served_so) before after
-  Serves-ended served.Done events are_handed few ends = Serves-all outcomes.Done events are_handed few ends.0 (λ old kept. refl) ends.1
-  Serves-ended served.LinkFault events are_handed few ends = Serves-all outcomes.LinkFault events are_handed few ends (λ old kept. refl) tt
-  Serves-ended served.JournalFault events are_handed few ends =
+      → Serves first address most (outcome_of served_so) before after
+  Serves-ended listens served.Done events are_handed few ends =
+      Serves-all outcomes.Done events are_handed few ends.0 (λ old kept. refl) (listens, ends.1)
+  Serves-ended listens served.LinkFault events are_handed few ends =
+      Serves-all outcomes.LinkFault events are_handed few ends (λ old kept. refl) (inl listens)
+  Serves-ended listens served.JournalFault events are_handed few ends =
       Serves-but_last outcomes.WriteFault events ends.handled ends.last_event ends.before ends.kept ends.outside_before are_handed few ends.all ends.run
-      (ends.last, ends.kept_after, ends.cut, ends.unsent.0, ends.unsent.1) tt
-  Serves-ended served.Memory events are_handed few (inl all) = Serves-all outcomes.Memory events are_handed few all (λ old kept. refl) tt
-  Serves-ended served.Memory events are_handed few (inr until) =
+      (ends.last, ends.kept_after, ends.cut, ends.unsent.0, ends.unsent.1) listens
+  Serves-ended listens served.Memory events are_handed few (inl all) = Serves-all outcomes.Memory events are_handed few all (λ old kept. refl) listens
+  Serves-ended listens served.Memory events are_handed few (inr until) =
       Serves-but_last outcomes.Memory events until.handled until.last_event until.before until.kept (outside_of after) are_handed few until.all until.run
-      ((until.last, until.was_handled), refl) tt
+      ((until.last, until.was_handled), refl) listens
+
+  -- the link could not listen
+  Serves-unheard : outside_of after ≡ outside_of before → after.link.handed ≡ before.link.handed → Serves first address most outcomes.LinkFault before after
+  Serves-unheard same same_handed =
+      Serves-all outcomes.LinkFault [] (same_handed ∙ sym (with_more-nil before.link.handed)) (omega arith)
+      (record {
+        last = last;
+        kept = [];
+        run = subst (λ (o : Outside). RunsEvents KeptStep last [] (outside_of before) [] last [] o) (sym same)
+            (RunsEvents-none KeptStep last [] (outside_of before));
+      })
+      (λ old kept. refl) (inr (refl, same))
 
 -- the lines of the input, and then the link
-pub Serves-link : {S K L : Type 0} (first last : Holding) (most : ℕ) (stepped outcome : Outcome) (before after : World S K L)
+pub Serves-link : {S K L : Type 0} (first last : Holding) (address : List ℕ) (most : ℕ) (stepped outcome : Outcome) (before after : World S K L)
     → stepped ≡ outcomes.Done → StepsInput first before.input.bytes stepped after.input.bytes last
-    → ServesLink last most (outside_of before) before.link.handed outcome (outside_of after) after.link.handed after.link.coming
-    → Serves first most outcome before after
-Serves-link first last most stepped outcome before after done input serves =
+    → ServesLink last most (outside_of before) before.link.handed outcome (after.link.listens_at address) (outside_of after) after.link.handed after.link.coming
+    → Serves first address most outcome before after
+Serves-link first last address most stepped outcome before after done input serves =
     let all : StepsInput first before.input.bytes outcomes.Done after.input.bytes last =
     subst (λ (o : Outcome). StepsInput first before.input.bytes o after.input.bytes last) done input in
-    let ended = serves.2 in
-    subst (λ (o : Outcome). Serves first most o before after) (sym serves.1)
-    (Serves-ended first last most before after all serves.0 ended.0 ended.1 ended.2 ended.3)
+    elim serves [
+      | inl heard ↦
+          let ended = heard.1.2 in
+          subst (λ (o : Outcome). Serves first address most o before after) (sym heard.1.1)
+          (Serves-ended first last address most before after all heard.0 heard.1.0 ended.0 ended.1 ended.2 ended.3)
+      | inr unheard ↦
+          subst (λ (o : Outcome). Serves first address most o before after) (sym unheard.0)
+          (Serves-unheard first last address most before after all unheard.1 unheard.2)
+    ]
 
 -- ---- the link
 
@@ -290,20 +311,6 @@ no_read_fault served.Done outcome is fault = cc (is, fault)
 no_read_fault served.LinkFault outcome is fault = cc (is, fault)
 no_read_fault served.JournalFault outcome is fault = cc (is, fault)
 no_read_fault served.Memory outcome is fault = cc (is, fault)
-
--- it could not listen, and nothing was handed in, written or sent
-pub served_nothing : (first : Holding) (most : ℕ) (outside outside_after : Outside) (handed handed_after left : Option (List Event))
-    → outside_after ≡ outside → handed_after ≡ handed → Ended KeptStep first outside handed most handed_after served.LinkFault left outside_after
-served_nothing first most outside outside_after handed handed_after left same same_handed = (
-  [],
-  same_handed ∙ sym (with_more-nil handed),
-  omega arith,
-  record {
-    last = first;
-    kept = [];
-    run = subst (λ (o : Outside). RunsEvents KeptStep first [] outside [] first [] o) (sym same) (RunsEvents-none KeptStep first [] outside);
-  },
-)
 
 -- what the link told before it listened
 pub served_same : (first : Holding) (most : ℕ) (journal : Option (List ℕ)) (sent sent_then : Option (List (ℕ × List ℕ))) (faults faults_then : ℕ)

@@ -39,21 +39,21 @@ pub no_link_fault : (left : Option (List ℕ)) (outcome : Outcome) (left_after :
 no_link_fault left outcome left_after lines reads is = subst (λ (o : Outcome). EndsReading o reads.read left_after lines) is reads.ends
 
 -- serving has no such end
-no_serving : {S K L : Type 0} (read_so : Outcome) (events : List Event) (most : ℕ) (before after : World S K L)
-    → EndsServing read_so outcomes.Usage events most before after → ⊥
-no_serving outcomes.Done events most before after ends = ends
-no_serving outcomes.Usage events most before after ends = ends
-no_serving outcomes.ReadFault events most before after ends = ends
-no_serving outcomes.WriteFault events most before after ends = ends
-no_serving outcomes.LinkFault events most before after ends = ends
-no_serving outcomes.TooMuch events most before after ends = ends
-no_serving outcomes.Memory events most before after ends = ends
+no_serving : {S K L : Type 0} (read_so : Outcome) (address : List ℕ) (events : List Event) (most : ℕ) (before after : World S K L)
+    → EndsServing read_so outcomes.Usage address events most before after → ⊥
+no_serving outcomes.Done address events most before after ends = ends
+no_serving outcomes.Usage address events most before after ends = ends
+no_serving outcomes.ReadFault address events most before after ends = ends
+no_serving outcomes.WriteFault address events most before after ends = ends
+no_serving outcomes.LinkFault address events most before after ends = ends
+no_serving outcomes.TooMuch address events most before after ends = ends
+no_serving outcomes.Memory address events most before after ends = ends
 
 -- no command that there is ends so
 not_usage : {S K L : Type 0} (command : Asked) (before after : World S K L) → Does (Some command) outcomes.Usage before after → ⊥
 not_usage (replay budget) before after does =
     no_reading before.input.bytes outcomes.Usage after.input.bytes does.0.lines does.0.reads refl
-not_usage (serve address budget most) before after does = no_serving does.read_so does.events most before after does.ends
+not_usage (serve address budget most) before after does = no_serving does.read_so address does.events most before after does.ends
 not_usage (make count seed budget) before after does = does.0
 not_usage help before after does = does.0
 
@@ -80,15 +80,15 @@ not_within left left_after lines reads within =
     read_few bytes read None consumes = absurd consumes
     read_few bytes read (Some rest) consumes = omega (arith, ap length consumes, length-append read rest)
 
-serving_too_much : {S K L : Type 0} (read_so : Outcome) (events : List Event) (most : ℕ) (before after : World S K L)
-    → EndsServing read_so outcomes.TooMuch events most before after → read_so ≡ outcomes.TooMuch
-serving_too_much outcomes.Done events most before after ends = absurd ends
-serving_too_much outcomes.Usage events most before after ends = absurd ends
-serving_too_much outcomes.ReadFault events most before after ends = absurd ends
-serving_too_much outcomes.WriteFault events most before after ends = absurd ends
-serving_too_much outcomes.LinkFault events most before after ends = absurd ends
-serving_too_much outcomes.TooMuch events most before after ends = refl
-serving_too_much outcomes.Memory events most before after ends = absurd ends
+serving_too_much : {S K L : Type 0} (read_so : Outcome) (address : List ℕ) (events : List Event) (most : ℕ) (before after : World S K L)
+    → EndsServing read_so outcomes.TooMuch address events most before after → read_so ≡ outcomes.TooMuch
+serving_too_much outcomes.Done address events most before after ends = absurd ends
+serving_too_much outcomes.Usage address events most before after ends = absurd ends
+serving_too_much outcomes.ReadFault address events most before after ends = absurd ends
+serving_too_much outcomes.WriteFault address events most before after ends = absurd ends
+serving_too_much outcomes.LinkFault address events most before after ends = absurd ends
+serving_too_much outcomes.TooMuch address events most before after ends = refl
+serving_too_much outcomes.Memory address events most before after ends = absurd ends
 
 too_much_of : {S K L : Type 0} (command : Option Asked) (before after : World S K L) → Does command outcomes.TooMuch before after
     → ¬ IsWithin before.input.bytes
@@ -98,7 +98,7 @@ too_much_of (Some (replay budget)) before after does within =
 too_much_of (Some (serve address budget most)) before after does within =
     let reads : ReadsLines before.input.bytes outcomes.TooMuch after.input.bytes does.lines =
     subst (λ (o : Outcome). ReadsLines before.input.bytes o after.input.bytes does.lines)
-    (serving_too_much does.read_so does.events most before after does.ends) does.reads in
+    (serving_too_much does.read_so address does.events most before after does.ends) does.reads in
     not_within before.input.bytes after.input.bytes does.lines reads within
 too_much_of (Some (make count seed budget)) before after does within = absurd does.0
 too_much_of (Some help) before after does within = absurd does.0

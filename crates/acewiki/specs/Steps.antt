@@ -1,5 +1,5 @@
 -- What the calls below the commands come to. Only private calls speak of it.
-use Rattle.std.specs.Prelude.{◌≡◌, ℕ, List, Option}
+use Rattle.std.specs.Prelude.{◌≡◌, ◌⊎◌, ℕ, Bool, IsTrue, List, Option}
 use Rattle.wiki_io.specs.declared.links.Event.{Event}
 use Rattle.wiki_io.specs.Lines.{InputLine}
 use Rattle.wiki_talk.specs.declared.requests.Request.{Request}
@@ -32,10 +32,12 @@ outcome_of served.LinkFault = outcomes.LinkFault
 outcome_of served.JournalFault = outcomes.WriteFault
 outcome_of served.Memory = outcomes.Memory
 
--- serving ended so
-abbrev pub ServesLink : Holding → ℕ → Outside → Option (List Event) → Outcome → Outside → Option (List Event) → Option (List Event) → Type 0
-ServesLink first most outside handed outcome outside_after handed_after coming_after =
-    (served_so : Served) × (outcome ≡ outcome_of served_so) × Ended KeptStep first outside handed most handed_after served_so coming_after outside_after
+-- the link listens where it was to, and serving ended so; or it could not, and no event was handed in, and nothing was written or sent
+abbrev pub ServesLink : Holding → ℕ → Outside → Option (List Event) → Outcome → Bool → Outside → Option (List Event) → Option (List Event) → Type 0
+ServesLink first most outside handed outcome listens outside_after handed_after coming_after =
+    (IsTrue listens × ((served_so : Served) × (outcome ≡ outcome_of served_so)
+    × Ended KeptStep first outside handed most handed_after served_so coming_after outside_after))
+    ⊎ ((outcome ≡ outcomes.LinkFault) × (outside_after ≡ outside) × (handed_after ≡ handed))
 
 -- how the program ends where making ends so
 abbrev pub made_outcome : Made → Outcome

@@ -1,5 +1,5 @@
 -- The theorem of the program: what it does, command by command.
-use Rattle.std.specs.Prelude.{◌≡◌, ◌≢◌, ◌↔◌, ◌⊎◌, ℕ, ◌-◌, ◌<◌, ◌≤◌, List, [], ◌∷◌, ◌++◌, length, take, map, Option, Some, None, IfSome, ⊤}
+use Rattle.std.specs.Prelude.{◌≡◌, ◌≢◌, ◌↔◌, ◌⊎◌, ℕ, ◌-◌, ◌<◌, ◌≤◌, Bool, IsTrue, List, [], ◌∷◌, ◌++◌, length, take, map, Option, Some, None, IfSome, ⊤}
 use Rattle.std.specs.List.{flat_map}
 use Rattle.std.specs.Io.KnownBytes.{Consumes, Appends, IsAtEnd}
 use Rattle.wiki_io.specs.declared.limits.TheConstants.{MAX_INPUT}
@@ -37,19 +37,22 @@ pub record Stream (X : Type 0) : Type 0 where
 abbrev pub stream : {X : Type 0} → (X → Option (List ℕ)) → (X → ℕ) → X → Stream X
 stream bytes faults itself = record { itself = itself; bytes = bytes itself; faults = faults itself }
 
--- a link: itself; the events that it has handed in, those that are left, and what it has taken to be sent, where it tells them; and how
--- often it failed, sends apart
+-- a link: itself; whether it listens at an address; the events that it has handed in, those that are left, and what it has taken to be
+-- sent, where it tells them; and how often it failed, sends apart
 pub record Network (X : Type 0) : Type 0 where
   pub itself : X
+  pub listens_at : List ℕ → Bool
   pub handed : Option (List Event)
   pub coming : Option (List Event)
   pub sent : Option (List (ℕ × List ℕ))
   pub faults : ℕ
   pub send_faults : ℕ
 
-abbrev pub network : {X : Type 0} → (X → Option (List Event)) → (X → Option (List Event)) → (X → Option (List (ℕ × List ℕ))) → (X → ℕ) → (X → ℕ) → X → Network X
-network handed coming sent faults send_faults itself = record {
+abbrev pub network : {X : Type 0} → (X → List ℕ → Bool) → (X → Option (List Event)) → (X → Option (List Event)) → (X → Option (List (ℕ × List ℕ)))
+    → (X → ℕ) → (X → ℕ) → X → Network X
+network listens_at handed coming sent faults send_faults itself = record {
   itself = itself;
+  listens_at = listens_at itself;
   handed = handed itself;
   coming = coming itself;
   sent = sent itself;
@@ -150,21 +153,31 @@ EndsAt outcome old kept (event ∷ more) outside outside_after = ⊥
 abbrev pub IsUntouched : {S K L : Type 0} → List Event → World S K L → World S K L → Type 0
 IsUntouched events before after = (events ≡ []) × (after.output ≡ before.output) × (after.link ≡ before.link)
 
--- How serving ends where reading ended so: with reading, and nothing was touched; or behind all lines of the input, and then it is done
--- only where the link is over, or as many events were handled as there are to be.
-abbrev pub EndsServing : {S K L : Type 0} → Outcome → Outcome → List Event → ℕ → World S K L → World S K L → Type 0
-EndsServing Done Done events most before after = IsOver after.link.coming ⊎ (length events ≡ most)
-EndsServing Done WriteFault events most before after = ⊤
-EndsServing Done LinkFault events most before after = ⊤
-EndsServing Done Memory events most before after = ⊤
-EndsServing ReadFault ReadFault events most before after = IsUntouched events before after
-EndsServing TooMuch TooMuch events most before after = IsUntouched events before after
-EndsServing Memory Memory events most before after = IsUntouched events before after
-EndsServing read_so outcome events most before after = ⊥
+-- the link listens at the address
+abbrev pub ListensAt : {L : Type 0} → List ℕ → Network L → Type 0
+ListensAt address link = IsTrue (link.listens_at address)
 
--- `serve`: lines of the input were read, and where these were all, events were handed in, at most so many. The bytes answered to all of
--- them, or to all but a last one that a fault ended, are those of a plain wiki that began with the lines.
-pub record Serves {S K L : Type 0} (first : Holding) (most : ℕ) (outcome : Outcome) (before after : World S K L) : Type 0 where
+-- no event was handed in, and nothing was written or sent
+abbrev pub ReachesNobody : {S K L : Type 0} → List Event → World S K L → World S K L → Type 0
+ReachesNobody events before after = (events ≡ []) × (outside_of after ≡ outside_of before)
+
+-- How serving ends where reading ended so: with reading, and nothing was touched; or behind all lines of the input. Then the link listens
+-- at the address, unless it could not and nobody was reached; and it is done only where the link is over, or as many events were handled
+-- as there are to be.
+abbrev pub EndsServing : {S K L : Type 0} → Outcome → Outcome → List ℕ → List Event → ℕ → World S K L → World S K L → Type 0
+EndsServing Done Done address events most before after = ListensAt address after.link × (IsOver after.link.coming ⊎ (length events ≡ most))
+EndsServing Done WriteFault address events most before after = ListensAt address after.link
+EndsServing Done LinkFault address events most before after = ListensAt address after.link ⊎ ReachesNobody events before after
+EndsServing Done Memory address events most before after = ListensAt address after.link
+EndsServing ReadFault ReadFault address events most before after = IsUntouched events before after
+EndsServing TooMuch TooMuch address events most before after = IsUntouched events before after
+EndsServing Memory Memory address events most before after = IsUntouched events before after
+EndsServing read_so outcome address events most before after = ⊥
+
+-- `serve`: lines of the input were read, and where these were all, the link was to listen at the address, and events were handed in, at
+-- most so many. The bytes answered to all of them, or to all but a last one that a fault ended, are those of a plain wiki that began with
+-- the lines.
+pub record Serves {S K L : Type 0} (first : Holding) (address : List ℕ) (most : ℕ) (outcome : Outcome) (before after : World S K L) : Type 0 where
   pub read_so : Outcome
   pub lines : List InputLine
   pub reads : ReadsLines before.input.bytes read_so after.input.bytes lines
@@ -177,7 +190,7 @@ pub record Serves {S K L : Type 0} (first : Holding) (most : ℕ) (outcome : Out
   pub outside_then : Outside
   pub answers : AnswersAsPlainWiki first lines (outside_of before) answered outside_then
   pub at_last : EndsAt outcome answers.last answers.kept last_event outside_then (outside_of after)
-  pub ends : EndsServing read_so outcome events most before after
+  pub ends : EndsServing read_so outcome address events most before after
 
 -- ---- the other commands
 
@@ -202,7 +215,7 @@ abbrev pub Does : {S K L : Type 0} → Option Asked → Outcome → World S K L 
 Does None outcome before after = (outcome ≡ Usage) × (after ≡ before)
 Does (Some (replay budget)) outcome before after =
     Replays (ace_wiki budget) before.input.bytes before.output.bytes outcome after.input.bytes after.output.bytes × (after.link ≡ before.link)
-Does (Some (serve address budget most)) outcome before after = Serves (ace_wiki budget) most outcome before after
+Does (Some (serve address budget most)) outcome before after = Serves (ace_wiki budget) address most outcome before after
 Does (Some (make count seed budget)) outcome before after =
     MakesSummary (ace_wiki budget) count seed before.output.bytes outcome after.output.bytes × (after.input ≡ before.input) × (after.link ≡ before.link)
 Does (Some help) outcome before after =

@@ -30,13 +30,13 @@ pub fn run<S: Source, K: Sink, E: Sink, L: Link>(
         (record {
           input = stream S.left S.faults input.old;
           output = stream K.taken K.faults output.old;
-          link = network L.handed L.left L.sent L.faults L.send_faults link.old;
+          link = network L.listens_at L.handed L.left L.sent L.faults L.send_faults link.old;
         })
         (stream E.taken E.faults errors.old)
         (record {
           input = stream S.left S.faults input.new;
           output = stream K.taken K.faults output.new;
-          link = network L.handed L.left L.sent L.faults L.send_faults link.new;
+          link = network L.listens_at L.handed L.left L.sent L.faults L.send_faults link.new;
         })
         (stream E.taken E.faults errors.new) }
 {
@@ -57,12 +57,12 @@ fn perform<S: Source, K: Sink, L: Link>(
         (record {
           input = stream S.left S.faults input.old;
           output = stream K.taken K.faults output.old;
-          link = network L.handed L.left L.sent L.faults L.send_faults link.old;
+          link = network L.listens_at L.handed L.left L.sent L.faults L.send_faults link.old;
         })
         (record {
           input = stream S.left S.faults input.new;
           output = stream K.taken K.faults output.new;
-          link = network L.handed L.left L.sent L.faults L.send_faults link.new;
+          link = network L.listens_at L.handed L.left L.sent L.faults L.send_faults link.new;
         }) }
 {
     match Command::from_words(words) {
@@ -101,13 +101,13 @@ pub fn program<C: CommandLine, S: Source, K: Sink, E: Sink, L: Link>(
         (record {
           input = stream S.left S.faults input.old;
           output = stream K.taken K.faults output.old;
-          link = network L.handed L.left L.sent L.faults L.send_faults link.old;
+          link = network L.listens_at L.handed L.left L.sent L.faults L.send_faults link.old;
         })
         (stream E.taken E.faults errors.old)
         (record {
           input = stream S.left S.faults input.new;
           output = stream K.taken K.faults output.new;
-          link = network L.handed L.left L.sent L.faults L.send_faults link.new;
+          link = network L.listens_at L.handed L.left L.sent L.faults L.send_faults link.new;
         })
         (stream E.taken E.faults errors.new) }
 {

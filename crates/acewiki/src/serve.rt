@@ -26,16 +26,16 @@ pub fn serve<S: Source, K: Sink, L: Link>(
     link: &mut L,
 ) -> Outcome
     requires { L.connections link.old ≡ [] }
-    ensures serves { Serves (ace_wiki budget) events result
+    ensures serves { Serves (ace_wiki budget) address.now events result
         (record {
           input = stream S.left S.faults input.old;
           output = stream K.taken K.faults output.old;
-          link = network L.handed L.left L.sent L.faults L.send_faults link.old;
+          link = network L.listens_at L.handed L.left L.sent L.faults L.send_faults link.old;
         })
         (record {
           input = stream S.left S.faults input.new;
           output = stream K.taken K.faults output.new;
-          link = network L.handed L.left L.sent L.faults L.send_faults link.new;
+          link = network L.listens_at L.handed L.left L.sent L.faults L.send_faults link.new;
         }) }
     ensures read_fault { result ≡ Outcome.ReadFault → Rose (S.faults input.old) (S.faults input.new) }
     ensures write_fault { result ≡ Outcome.WriteFault → Rose (K.faults output.old) (K.faults output.new) }
@@ -58,16 +58,16 @@ fn serve_wiki<S: Source, K: Sink, L: Link>(
     link: &mut L,
 ) -> Outcome
     requires { L.connections link.old ≡ [] }
-    ensures serves { Serves wiki.old events result
+    ensures serves { Serves wiki.old address.now events result
         (record {
           input = stream S.left S.faults input.old;
           output = stream K.taken K.faults output.old;
-          link = network L.handed L.left L.sent L.faults L.send_faults link.old;
+          link = network L.listens_at L.handed L.left L.sent L.faults L.send_faults link.old;
         })
         (record {
           input = stream S.left S.faults input.new;
           output = stream K.taken K.faults output.new;
-          link = network L.handed L.left L.sent L.faults L.send_faults link.new;
+          link = network L.listens_at L.handed L.left L.sent L.faults L.send_faults link.new;
         }) }
     ensures read_fault { result ≡ Outcome.ReadFault → Rose (S.faults input.old) (S.faults input.new) }
     ensures write_fault { result ≡ Outcome.WriteFault → Rose (K.faults output.old) (K.faults output.new) }
@@ -91,7 +91,8 @@ fn serve_link<K: Sink, L: Link>(
     requires { L.connections link.old ≡ [] }
     ensures serves { ServesLink wiki.old events
         (record { journal = K.taken output.old; sent = L.sent link.old; send_faults = L.send_faults link.old }) (L.handed link.old)
-        result (record { journal = K.taken output.new; sent = L.sent link.new; send_faults = L.send_faults link.new }) (L.handed link.new) (L.left link.new) }
+        result (L.listens_at link.new address.now)
+        (record { journal = K.taken output.new; sent = L.sent link.new; send_faults = L.send_faults link.new }) (L.handed link.new) (L.left link.new) }
     ensures write_fault { result ≡ Outcome.WriteFault → Rose (K.faults output.old) (K.faults output.new) }
     ensures link_fault { result ≡ Outcome.LinkFault → Rose (L.faults link.old) (L.faults link.new) }
     ensures read_fault { result ≡ Outcome.ReadFault → ⊥ }

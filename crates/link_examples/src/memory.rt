@@ -154,7 +154,9 @@ impl<'a> MemorySockets<'a> {
 }
 
 impl Sockets for MemorySockets<'_> {
-    ghost use Rattle.std.specs.Prelude.{None};
+    ghost use Rattle.std.specs.Prelude.{None, true};
+
+    ghost listens_at = { λ _ _. true };
 
     ghost events = { λ _. None };
 

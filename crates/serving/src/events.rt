@@ -62,6 +62,7 @@ pub fn event<W: Machine, K: Sink, L: Link>(
 
     ensures faults { K.faults journal.old ≤ K.faults journal.new }
     ensures handed { L.handed link.new ≡ L.handed link.old }
+    ensures listening { L.listens_at link.new ≡ L.listens_at link.old }
     ensures link_faults { L.faults link.new ≡ L.faults link.old }
 {
     let Ok(turn) = server.take(event) else {
@@ -113,6 +114,7 @@ fn ask<W: Machine, K: Sink, L: Link>(
     ensures unsent { (result ≡ Handled.Done → ⊥) → link.new ≡ link.old }
     ensures faults { K.faults journal.old ≤ K.faults journal.new }
     ensures handed { L.handed link.new ≡ L.handed link.old }
+    ensures listening { L.listens_at link.new ≡ L.listens_at link.old }
     ensures link_faults { L.faults link.new ≡ L.faults link.old }
 {
     let Ok(told) = reply_to(alloc, machine, request, then) else {

@@ -11,6 +11,7 @@ pub(crate) fn answer<L: Link>(link: &mut L, connection: u32, response: &[u8])
     ensures delivers { Delivers ((connection, response.now) ∷ []) (L.sent link.old) (L.send_faults link.old) (L.sent link.new) (L.send_faults link.new) }
     ensures connections { L.connections link.new ≡ without connection (L.connections link.old) }
     ensures handed { L.handed link.new ≡ L.handed link.old }
+    ensures listening { L.listens_at link.new ≡ L.listens_at link.old }
     ensures faults { L.faults link.new ≡ L.faults link.old }
 {
     send_all(link, connection, response);
@@ -23,6 +24,7 @@ fn send_all<L: Link>(link: &mut L, connection: u32, bytes: &[u8])
     ensures delivers { Delivers ((connection, bytes.now) ∷ []) (L.sent link.old) (L.send_faults link.old) (L.sent link.new) (L.send_faults link.new) }
     ensures connections { L.connections link.new ≡ L.connections link.old }
     ensures handed { L.handed link.new ≡ L.handed link.old }
+    ensures listening { L.listens_at link.new ≡ L.listens_at link.old }
     ensures faults { L.faults link.new ≡ L.faults link.old }
 {
     let mut rest = bytes;

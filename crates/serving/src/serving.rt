@@ -42,6 +42,7 @@ pub fn serve<W: Machine, K: Sink, L: Link>(
         (L.handed link.old)
         most (L.handed link.new) result (L.left link.new)
         (record { journal = K.taken journal.new; sent = L.sent link.new; send_faults = L.send_faults link.new }) }
+    ensures listening { L.listens_at link.new ≡ L.listens_at link.old }
     ensures link_fault { result ≡ Served.LinkFault → Rose (L.faults link.old) (L.faults link.new) }
     ensures journal_fault { result ≡ Served.JournalFault → Rose (K.faults journal.old) (K.faults journal.new) }
 {
@@ -65,6 +66,7 @@ fn serve_with<W: Machine, K: Sink, L: Link>(
         (L.handed link.old)
         most (L.handed link.new) result (L.left link.new)
         (record { journal = K.taken journal.new; sent = L.sent link.new; send_faults = L.send_faults link.new }) }
+    ensures listening { L.listens_at link.new ≡ L.listens_at link.old }
     ensures link_fault { result ≡ Served.LinkFault → Rose (L.faults link.old) (L.faults link.new) }
     ensures journal_fault { result ≡ Served.JournalFault → Rose (K.faults journal.old) (K.faults journal.new) }
 {
@@ -99,6 +101,7 @@ fn serve_events<W: Machine, K: Sink, L: Link>(
         (L.handed link.old)
         most (L.handed link.new) result (L.left link.new)
         (record { journal = K.taken journal.new; sent = L.sent link.new; send_faults = L.send_faults link.new }) }
+    ensures listening { L.listens_at link.new ≡ L.listens_at link.old }
     ensures link_fault { result ≡ Served.LinkFault → Rose (L.faults link.old) (L.faults link.new) }
     ensures journal_fault { result ≡ Served.JournalFault → Rose (K.faults journal.old) (K.faults journal.new) }
 {
@@ -134,6 +137,7 @@ fn next_event<L: Link>(alloc: Global, link: &mut L, buffer: &mut [u8]) -> Come
     ensures handed { (events : List Event) × (L.handed link.new ≡ with_more (L.handed link.old) events) × AreCome result events }
     ensures comes { (come : Event) → result ≡ Come.Event come → IsTrue (can_come (L.connections link.old) come) }
     ensures connections { (come : Event) → result ≡ Come.Event come → L.connections link.new ≡ connections_after (L.connections link.old) come }
+    ensures listening { L.listens_at link.new ≡ L.listens_at link.old }
     ensures sent { L.sent link.new ≡ L.sent link.old }
     ensures over { result ≡ Come.Over → IsOver (L.left link.new) }
     ensures failed { result ≡ Come.Failed → Rose (L.faults link.old) (L.faults link.new) }

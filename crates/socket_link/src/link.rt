@@ -58,6 +58,7 @@ impl<S: Sockets> SocketLink<S> {
     /// A link without connections that listens nowhere yet.
     pub fn over(alloc: Global, sockets: S, times: Times) -> Result<Self, Memory>
         ensures events { IfOk result (λ link. S.events link.places.sockets ≡ S.events sockets) }
+        ensures listening { IfOk result (λ link. S.listens_at link.places.sockets ≡ S.listens_at sockets) }
         ensures connections { IfOk result (λ link. link.connections.items ≡ []) }
         ensures faults { IfOk result (λ link. (link.faults ≡ 0) × (link.send_faults ≡ 0)) }
     {
@@ -72,6 +73,7 @@ impl<S: Sockets> SocketLink<S> {
     /// Waits until what was taken to be sent on closed connections is written, at most for about the time.
     pub fn finish(&mut self, time: Duration)
         ensures events { S.events self.new.places.sockets ≡ S.events self.old.places.sockets }
+        ensures listening { S.listens_at self.new.places.sockets ≡ S.listens_at self.old.places.sockets }
     {
         self.places.finish(time)
     }
@@ -82,6 +84,7 @@ impl<S: Sockets> SocketLink<S> {
         requires { 0 < length buf.old }
         ensures handed { HandsIn self.old.connections.items result buf.new self.new.connections.items }
         ensures told { S.events self.new.places.sockets ≡ with_more (S.events self.old.places.sockets) (event_in result buf.new) }
+        ensures listening { S.listens_at self.new.places.sockets ≡ S.listens_at self.old.places.sockets }
         ensures room { length buf.new ≡ length buf.old }
         ensures faults { self.new.faults ≡ self.old.faults }
         ensures send_faults { self.new.send_faults ≡ self.old.send_faults }
@@ -104,6 +107,7 @@ impl<S: Sockets> SocketLink<S> {
         requires { 0 < length buf.old }
         ensures handed { HandsIn self.old.connections.items result buf.new self.new.connections.items }
         ensures told { S.events self.new.places.sockets ≡ with_more (S.events self.old.places.sockets) (event_in result buf.new) }
+        ensures listening { S.listens_at self.new.places.sockets ≡ S.listens_at self.old.places.sockets }
         ensures room { length buf.new ≡ length buf.old }
         ensures faults { self.new.faults ≡ self.old.faults }
         ensures send_faults { self.new.send_faults ≡ self.old.send_faults }
@@ -128,6 +132,7 @@ impl<S: Sockets> SocketLink<S> {
     fn let_in(&mut self) -> Next
         ensures handed { (buffer : List ℕ) → HandsIn self.old.connections.items result buffer self.new.connections.items }
         ensures told { (buffer : List ℕ) → S.events self.new.places.sockets ≡ with_more (S.events self.old.places.sockets) (event_in result buffer) }
+        ensures listening { S.listens_at self.new.places.sockets ≡ S.listens_at self.old.places.sockets }
         ensures faults { self.new.faults ≡ self.old.faults }
         ensures send_faults { self.new.send_faults ≡ self.old.send_faults }
     {
@@ -151,6 +156,7 @@ impl<S: Sockets> SocketLink<S> {
     fn open(&mut self, number: u32) -> Next
         ensures handed { (buffer : List ℕ) → HandsIn self.old.connections.items result buffer self.new.connections.items }
         ensures told { (buffer : List ℕ) → S.events self.new.places.sockets ≡ with_more (S.events self.old.places.sockets) (event_in result buffer) }
+        ensures listening { S.listens_at self.new.places.sockets ≡ S.listens_at self.old.places.sockets }
         ensures faults { self.new.faults ≡ self.old.faults }
         ensures send_faults { self.new.send_faults ≡ self.old.send_faults }
     {
@@ -174,6 +180,8 @@ fn shut(connections: &mut Vec<u32>, connection: u32)
 
 impl<S: Sockets> Link for SocketLink<S> {
     ghost use Rattle.std.specs.Prelude.{None};
+
+    ghost listens_at = { λ l. S.listens_at l.places.sockets };
 
     ghost handed = { λ l. S.events l.places.sockets };
 
@@ -215,6 +223,7 @@ impl<S: Sockets> Link for SocketLink<S> {
         ensures sent { None ≡ with_more None (piece_taken connection result bytes.now) }
         ensures handed { S.events self.new.places.sockets ≡ S.events self.old.places.sockets }
         ensures connections { self.new.connections.items ≡ self.old.connections.items }
+        ensures listening { S.listens_at self.new.places.sockets ≡ S.listens_at self.old.places.sockets }
         ensures failed { result ≡ Took.Failed → Rose self.old.send_faults self.new.send_faults }
         ensures send_faults { self.old.send_faults ≤ self.new.send_faults }
         ensures faults { self.new.faults ≡ self.old.faults }

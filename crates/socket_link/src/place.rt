@@ -115,6 +115,7 @@ impl Place {
         ensures fits { MovedFits result (length buf.new) }
         ensures room { length buf.new ≡ length buf.old }
         ensures events { S.events sockets.new ≡ with_more (S.events sockets.old) (piece_of number result buf.new) }
+        ensures listening { S.listens_at sockets.new ≡ S.listens_at sockets.old }
     {
         match sockets.read(number, buf) {
             Moved::Nothing if self.is_leaving || self.due <= now => Moved::End,
@@ -144,6 +145,7 @@ impl Place {
     pub(crate) fn write<S: Sockets>(&mut self, sockets: &mut S, number: u32, now: Duration) -> bool
         requires in_time { IsTrue self.old.is_closed → as_nanos now < as_nanos self.old.due }
         ensures events { S.events sockets.new ≡ S.events sockets.old }
+        ensures listening { S.listens_at sockets.new ≡ S.listens_at sockets.old }
     {
         for _ in 0..u64::MAX {
             let rest = self.unsent.get(self.written..).unwrap_or(&[]);
@@ -179,6 +181,7 @@ impl Place {
         now: Duration,
     ) -> bool
         ensures events { S.events sockets.new ≡ S.events sockets.old }
+        ensures listening { S.listens_at sockets.new ≡ S.listens_at sockets.old }
     {
         if self.due.as_nanos() <= now.as_nanos() || !self.write(sockets, number, now) {
             return false;
@@ -197,6 +200,7 @@ impl Place {
     // Passes over what has come.
     fn drain<S: Sockets>(&mut self, sockets: &mut S, number: u32)
         ensures events { S.events sockets.new ≡ S.events sockets.old }
+        ensures listening { S.listens_at sockets.new ≡ S.listens_at sockets.old }
     {
         for _ in 0..u64::MAX {
             if self.has_ended || self.drained > MOST_DRAINED {

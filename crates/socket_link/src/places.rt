@@ -1,7 +1,7 @@
 // The places of the connections: which are taken, on which something may have come, and when the next one's time is over. The
 // work goes round: each round looks at what has become ready, and then each connection with something to be read has one turn,
 // and the listener one. Nothing here goes over all places but where a time is over or one has to go.
-ghost use Rattle.std.specs.Prelude.{◌≡◌, ◌<◌, ◌≤◌, ◌∷◌, [], IfOk, length};
+ghost use Rattle.std.specs.Prelude.{◌≡◌, ◌<◌, ◌≤◌, ◌∷◌, [], IfOk, IsTrue, false, length};
 ghost use Rattle.wiki_io.specs.declared.links.Event.{Event};
 ghost use Rattle.wiki_io.specs.Link.{with_more};
 ghost use Rattle.socket_link.specs.Moved.{MovedFits};
@@ -51,6 +51,7 @@ pub(crate) struct Places<S> {
 impl<S: Sockets> Places<S> {
     pub(crate) fn new(alloc: Global, sockets: S, times: Times) -> Result<Self, Memory>
         ensures events { IfOk result (λ places. S.events places.sockets ≡ S.events sockets) }
+        ensures listening { IfOk result (λ places. S.listens_at places.sockets ≡ S.listens_at sockets) }
     {
         let mut places = Vec::with_capacity(alloc, PLACES as usize)?;
         for _ in 0..PLACES {
@@ -77,6 +78,8 @@ impl<S: Sockets> Places<S> {
     }
 
     pub(crate) fn listen(&mut self, address: &str) -> bool
+        ensures ready { IsTrue result → IsTrue (S.listens_at self.new.sockets address.now) }
+        ensures unready { result ≡ false → S.listens_at self.new.sockets ≡ S.listens_at self.old.sockets }
         ensures events { S.events self.new.sockets ≡ S.events self.old.sockets }
     {
         self.waits = self.sockets.listen(address);
@@ -86,6 +89,7 @@ impl<S: Sockets> Places<S> {
     // Whose turn comes next in this round.
     pub(crate) fn next_turn(&mut self) -> Turn
         ensures events { S.events self.new.sockets ≡ S.events self.old.sockets }
+        ensures listening { S.listens_at self.new.sockets ≡ S.listens_at self.old.sockets }
     {
         if let Some(number) = self.ready.first_from(self.turn) {
             self.turn = number.saturating_add(1);
@@ -108,6 +112,7 @@ impl<S: Sockets> Places<S> {
     // comes anyway. False where that fails.
     pub(crate) fn next_round(&mut self) -> bool
         ensures events { S.events self.new.sockets ≡ S.events self.old.sockets }
+        ensures listening { S.listens_at self.new.sockets ≡ S.listens_at self.old.sockets }
     {
         if self.ready.first_from(0).is_some() || self.may_accept() {
             return self.wait(Some(Duration::from_secs(0)));
@@ -119,6 +124,7 @@ impl<S: Sockets> Places<S> {
     // Waits for the time at most, notes what has become ready, and goes on with what is closed.
     fn wait(&mut self, time: Option<Duration>) -> bool
         ensures events { S.events self.new.sockets ≡ S.events self.old.sockets }
+        ensures listening { S.listens_at self.new.sockets ≡ S.listens_at self.old.sockets }
     {
         let Some(ready) = self.sockets.wait(time) else {
             return false;
@@ -134,12 +140,14 @@ impl<S: Sockets> Places<S> {
 
     fn read_clock(&mut self)
         ensures events { S.events self.new.sockets ≡ S.events self.old.sockets }
+        ensures listening { S.listens_at self.new.sockets ≡ S.listens_at self.old.sockets }
     {
         self.now = self.sockets.now().unwrap_or(self.now);
     }
 
     fn become_ready(&mut self, ready: Ready)
         ensures events { S.events self.new.sockets ≡ S.events self.old.sockets }
+        ensures listening { S.listens_at self.new.sockets ≡ S.listens_at self.old.sockets }
     {
         let mut from = 0;
         for _ in 0..PLACES {
@@ -154,6 +162,7 @@ impl<S: Sockets> Places<S> {
     // Something may be read from the connection's socket, or written to it.
     fn becomes_ready(&mut self, number: u32)
         ensures events { S.events self.new.sockets ≡ S.events self.old.sockets }
+        ensures listening { S.listens_at self.new.sockets ≡ S.listens_at self.old.sockets }
     {
         let Some(Some(place)) = self.places.get_mut(number as usize) else {
             return;
@@ -170,6 +179,7 @@ impl<S: Sockets> Places<S> {
     // How long a wait may last: until a connection's time is over, or until one is accepted again.
     fn time_left(&mut self) -> Option<Duration>
         ensures events { S.events self.new.sockets ≡ S.events self.old.sockets }
+        ensures listening { S.listens_at self.new.sockets ≡ S.listens_at self.old.sockets }
     {
         self.read_clock();
         let left = match self.due {
@@ -186,6 +196,7 @@ impl<S: Sockets> Places<S> {
     // Where a time is over, has the open connections heard whose time that is, and lets the sockets of closed ones go.
     fn look_over(&mut self)
         ensures events { S.events self.new.sockets ≡ S.events self.old.sockets }
+        ensures listening { S.listens_at self.new.sockets ≡ S.listens_at self.old.sockets }
     {
         if self.due.is_none_or(|due| due > self.now) {
             return;
@@ -198,6 +209,7 @@ impl<S: Sockets> Places<S> {
 
     fn look_at(&mut self, number: u32)
         ensures events { S.events self.new.sockets ≡ S.events self.old.sockets }
+        ensures listening { S.listens_at self.new.sockets ≡ S.listens_at self.old.sockets }
     {
         let Some(Some(place)) = self.places.get(number as usize) else {
             return;
@@ -215,6 +227,7 @@ impl<S: Sockets> Places<S> {
     // A connection's time is over then.
     fn note_due(&mut self, time: Duration)
         ensures events { S.events self.new.sockets ≡ S.events self.old.sockets }
+        ensures listening { S.listens_at self.new.sockets ≡ S.listens_at self.old.sockets }
     {
         if self.due.is_none_or(|due| due > time) {
             self.due = Some(time);
@@ -224,6 +237,7 @@ impl<S: Sockets> Places<S> {
     // Has a socket for one who waits, if one does.
     pub(crate) fn accept(&mut self) -> Accepted
         ensures events { S.events self.new.sockets ≡ S.events self.old.sockets }
+        ensures listening { S.listens_at self.new.sockets ≡ S.listens_at self.old.sockets }
     {
         if self.has_guest {
             return Accepted::Guest;
@@ -242,6 +256,7 @@ impl<S: Sockets> Places<S> {
     // first loses its socket.
     pub(crate) fn free_number(&mut self) -> Option<u32>
         ensures events { S.events self.new.sockets ≡ S.events self.old.sockets }
+        ensures listening { S.listens_at self.new.sockets ≡ S.listens_at self.old.sockets }
     {
         if let Some(number) = self.taken.first_missing() {
             return Some(number);
@@ -254,6 +269,7 @@ impl<S: Sockets> Places<S> {
     // Names the socket that was accepted last. False where that fails.
     pub(crate) fn settle(&mut self, number: u32) -> bool
         ensures events { S.events self.new.sockets ≡ with_more (S.events self.old.sockets) (opening_of number result) }
+        ensures listening { S.listens_at self.new.sockets ≡ S.listens_at self.old.sockets }
     {
         self.has_guest = false;
         if !self.sockets.settle(number) {
@@ -275,6 +291,7 @@ impl<S: Sockets> Places<S> {
     // on which nothing has come for longest.
     pub(crate) fn make_room(&mut self)
         ensures events { S.events self.new.sockets ≡ S.events self.old.sockets }
+        ensures listening { S.listens_at self.new.sockets ≡ S.listens_at self.old.sockets }
     {
         let Some(number) = self.first_to_go(false) else {
             return;
@@ -323,6 +340,7 @@ impl<S: Sockets> Places<S> {
         ensures fits { MovedFits result (length buf.new) }
         ensures room { length buf.new ≡ length buf.old }
         ensures events { S.events self.new.sockets ≡ with_more (S.events self.old.sockets) (piece_of number result buf.new) }
+        ensures listening { S.listens_at self.new.sockets ≡ S.listens_at self.old.sockets }
     {
         self.read_clock();
         let Some(Some(place)) = self.places.get_mut(number as usize) else {
@@ -341,6 +359,7 @@ impl<S: Sockets> Places<S> {
     // socket has failed.
     pub(crate) fn send(&mut self, number: u32, bytes: &[u8]) -> bool
         ensures events { S.events self.new.sockets ≡ S.events self.old.sockets }
+        ensures listening { S.listens_at self.new.sockets ≡ S.listens_at self.old.sockets }
     {
         let Some(Some(place)) = self.places.get_mut(number as usize) else {
             return false;
@@ -353,6 +372,7 @@ impl<S: Sockets> Places<S> {
     // The connection is closed; its socket goes once all is written and what comes was passed over.
     pub(crate) fn close(&mut self, number: u32)
         ensures events { S.events self.new.sockets ≡ S.events self.old.sockets }
+        ensures listening { S.listens_at self.new.sockets ≡ S.listens_at self.old.sockets }
     {
         self.ready.remove(number);
         self.read_clock();
@@ -364,6 +384,7 @@ impl<S: Sockets> Places<S> {
 
     fn wind_up(&mut self, number: u32)
         ensures events { S.events self.new.sockets ≡ S.events self.old.sockets }
+        ensures listening { S.listens_at self.new.sockets ≡ S.listens_at self.old.sockets }
     {
         let Some(Some(place)) = self.places.get_mut(number as usize) else {
             return;
@@ -379,6 +400,7 @@ impl<S: Sockets> Places<S> {
     // The socket of an open connection goes.
     pub(crate) fn end(&mut self, number: u32)
         ensures events { S.events self.new.sockets ≡ with_more (S.events self.old.sockets) (Event.Ended number ∷ []) }
+        ensures listening { S.listens_at self.new.sockets ≡ S.listens_at self.old.sockets }
     {
         self.sockets.end(number);
         self.clear(number);
@@ -387,6 +409,7 @@ impl<S: Sockets> Places<S> {
     // The socket of a closed connection goes.
     pub(crate) fn release(&mut self, number: u32)
         ensures events { S.events self.new.sockets ≡ S.events self.old.sockets }
+        ensures listening { S.listens_at self.new.sockets ≡ S.listens_at self.old.sockets }
     {
         self.sockets.release(number);
         self.clear(number);
@@ -394,6 +417,7 @@ impl<S: Sockets> Places<S> {
 
     fn clear(&mut self, number: u32)
         ensures events { S.events self.new.sockets ≡ S.events self.old.sockets }
+        ensures listening { S.listens_at self.new.sockets ≡ S.listens_at self.old.sockets }
     {
         if let Some(place) = self.places.get_mut(number as usize) {
             *place = None;
@@ -406,6 +430,7 @@ impl<S: Sockets> Places<S> {
     // Waits until no closed connection has its socket any more, at most for about the time.
     pub(crate) fn finish(&mut self, time: Duration)
         ensures events { S.events self.new.sockets ≡ S.events self.old.sockets }
+        ensures listening { S.listens_at self.new.sockets ≡ S.listens_at self.old.sockets }
     {
         self.read_clock();
         let end = self.now.saturating_add(time);

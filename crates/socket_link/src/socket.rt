@@ -1,5 +1,5 @@
 // The sockets that a link runs over.
-ghost use Rattle.std.specs.Prelude.{◌≡◌, ◌<◌, ◌≤◌, ◌∷◌, [], ℕ, List, Option, IfOk, length};
+ghost use Rattle.std.specs.Prelude.{◌≡◌, ◌<◌, ◌≤◌, ◌∷◌, [], ℕ, Bool, IsTrue, false, List, Option, IfOk, length};
 ghost use Rattle.wiki_io.specs.declared.links.Event.{Event};
 ghost use Rattle.wiki_io.specs.Link.{with_more};
 ghost use Rattle.socket_link.specs.Moved.{MovedFits};
@@ -99,56 +99,71 @@ impl Ready {
 
 /// A listener and the sockets of its connections, named by numbers below 128. No call waits but `wait`.
 pub trait Sockets: Drop {
+    /// Whether they listen at an address.
+    ghost listens_at: { Self → List ℕ → Bool };
+
     /// What happened on the sockets, in order, where they tell it: one gets its number, bytes are read from it, and one that
     /// is open goes. What is passed over is no part of it.
     ghost events: { Self → Option (List Event) };
 
-    /// Begins to listen at the address. False where that fails.
+    /// Begins to listen at the address. False where that fails, and then they listen where they did before.
     fn listen(&mut self, address: &str) -> bool
+        ensures ready { IsTrue result → IsTrue (listens_at self.new address.now) }
+        ensures unready { result ≡ false → listens_at self.new ≡ listens_at self.old }
         ensures events { events self.new ≡ events self.old };
 
     /// The time since some start. None where there is no telling.
     fn now(&mut self) -> Option<Duration>
-        ensures events { events self.new ≡ events self.old };
+        ensures events { events self.new ≡ events self.old }
+        ensures listening { listens_at self.new ≡ listens_at self.old };
 
     /// Waits until something becomes ready, or for the time at most. None where that fails.
     fn wait(&mut self, time: Option<Duration>) -> Option<Ready>
-        ensures events { events self.new ≡ events self.old };
+        ensures events { events self.new ≡ events self.old }
+        ensures listening { listens_at self.new ≡ listens_at self.old };
 
     /// Gives a socket to one who waits at the listener.
     fn accept(&mut self) -> Accepted
-        ensures events { events self.new ≡ events self.old };
+        ensures events { events self.new ≡ events self.old }
+        ensures listening { listens_at self.new ≡ listens_at self.old };
 
     /// Names the socket that was accepted last by a number that no other has. False where that fails, and it goes.
     fn settle(&mut self, number: u32) -> bool
-        ensures events { events self.new ≡ with_more (events self.old) (opening_of number result) };
+        ensures events { events self.new ≡ with_more (events self.old) (opening_of number result) }
+        ensures listening { listens_at self.new ≡ listens_at self.old };
 
     /// Reads what has come into the front of the buffer.
     fn read(&mut self, number: u32, buf: &mut [u8]) -> Moved
         requires { 0 < length buf.old }
         ensures fits { MovedFits result (length buf.new) }
         ensures room { length buf.new ≡ length buf.old }
-        ensures events { events self.new ≡ with_more (events self.old) (piece_of number result buf.new) };
+        ensures events { events self.new ≡ with_more (events self.old) (piece_of number result buf.new) }
+        ensures listening { listens_at self.new ≡ listens_at self.old };
 
     /// Reads what has come and passes it over.
     fn pass_over(&mut self, number: u32) -> Moved
-        ensures events { events self.new ≡ events self.old };
+        ensures events { events self.new ≡ events self.old }
+        ensures listening { listens_at self.new ≡ listens_at self.old };
 
     /// Writes from the front of the bytes what the socket takes now.
     fn write(&mut self, number: u32, bytes: &[u8]) -> Moved
         requires { 0 < length bytes.now }
         ensures fits { MovedFits result (length bytes.now) }
-        ensures events { events self.new ≡ events self.old };
+        ensures events { events self.new ≡ events self.old }
+        ensures listening { listens_at self.new ≡ listens_at self.old };
 
     /// Nothing more is written. False where that fails.
     fn shut(&mut self, number: u32) -> bool
-        ensures events { events self.new ≡ events self.old };
+        ensures events { events self.new ≡ events self.old }
+        ensures listening { listens_at self.new ≡ listens_at self.old };
 
     /// The socket of an open connection goes.
     fn end(&mut self, number: u32)
-        ensures events { events self.new ≡ with_more (events self.old) (Event.Ended number ∷ []) };
+        ensures events { events self.new ≡ with_more (events self.old) (Event.Ended number ∷ []) }
+        ensures listening { listens_at self.new ≡ listens_at self.old };
 
     /// The socket of a closed connection goes.
     fn release(&mut self, number: u32)
-        ensures events { events self.new ≡ events self.old };
+        ensures events { events self.new ≡ events self.old }
+        ensures listening { listens_at self.new ≡ listens_at self.old };
 }

@@ -1,5 +1,5 @@
 // The sockets of the system. Its calls don't wait, so they aren't interrupted.
-ghost use Rattle.std.specs.Prelude.{◌≡◌, ◌<◌, ◌≤◌, ◌∷◌, [], length};
+ghost use Rattle.std.specs.Prelude.{◌≡◌, ◌<◌, ◌≤◌, ◌∷◌, [], IsTrue, OnOk, OnErr, is_some, length};
 ghost use Rattle.wiki_io.specs.declared.links.Event.{Event};
 ghost use Rattle.wiki_io.specs.Link.{with_more};
 ghost use Rattle.socket_link.specs.Moved.{MovedFits};
@@ -49,7 +49,10 @@ impl<'a, R: Net + Clock> TcpSockets<'a, R> {
     }
 
     // Listens at the first of the address's addresses that can be bound.
-    fn bind(&mut self, address: &str) -> io::Result<()> {
+    fn bind(&mut self, address: &str) -> io::Result<()>
+        ensures bound { OnOk result (IsTrue (is_some self.new.listener)) }
+        ensures unbound { OnErr result (self.new.listener ≡ self.old.listener) }
+    {
         let mut found = Err(io::Error::from(ErrorKind::AddrNotAvailable));
         for socket_address in address.to_socket_addrs(self.host)? {
             found = TcpListener::bind(self.host, socket_address);
@@ -69,9 +72,14 @@ impl<'a, R: Net + Clock> TcpSockets<'a, R> {
 
 impl<R: Net + Clock> Sockets for TcpSockets<'_, R> {
     ghost use Rattle.std.specs.Prelude.{None};
+    ghost use Rattle.std.specs.Prelude.{is_some};
+    ghost use Rattle.wiki_io.specs.Link.{listens_anywhere};
+
+    ghost listens_at = { λ s. listens_anywhere (is_some s.listener) };
 
     ghost events = { λ _. None };
 
+    #[tactic(auto, using(crate::proofs::ToldLemmas::listens_once))]
     fn listen(&mut self, address: &str) -> bool {
         self.bind(address).is_ok()
     }

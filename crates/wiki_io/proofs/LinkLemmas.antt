@@ -1,9 +1,14 @@
--- What is left of a script from the first event that can come.
-use Rattle.std.proofs.Common.{rules, ◌≡◌, refl, sym, ◌∙◌, ℕ, Bool, true, false, IsTrue, if◌then◌else◌, List, [], ◌∷◌, ◌&&◌}
+-- One that listens anywhere, and what is left of a script from the first event that can come.
+use Rattle.std.proofs.Common.{rules, ◌≡◌, refl, sym, ℕ, Bool, true, false, IsTrue, if◌then◌else◌, List, [], ◌∷◌}
 use Rattle.std.specs.List.{list_all}
 use Rattle.wiki_io.specs.declared.links.Event.{Event}
-use Rattle.wiki_io.specs.Link.{can_come}
+use Rattle.wiki_io.specs.Link.{listens_anywhere, can_come}
 use Rattle.wiki_io.specs.MemoryLink.{is_whole, coming, begins_well}
+
+-- one that listens does so at each address
+pub listens_everywhere : (address : List ℕ) → IsTrue (listens_anywhere true address)
+unfolding listens_anywhere
+listens_everywhere address = refl
 
 -- what is left begins with an event that can come
 pub begins_well-coming : (connections : List ℕ) (events : List Event) → IsTrue (begins_well connections (coming connections events))

@@ -8,6 +8,10 @@ use Rattle.wiki_io.specs.declared.links.Next.TheVariants as next
 use Rattle.wiki_io.specs.declared.sinks.Took.{Took}
 use Rattle.wiki_io.specs.declared.sinks.Took.TheVariants as sinks
 
+-- one that listens at whatever address it is asked to listens at each, or at none
+unfoldable pub listens_anywhere : Bool → List ℕ → Bool
+listens_anywhere is_listening address = is_listening
+
 -- the connection is one of these
 abbrev pub is_among : List ℕ → ℕ → Bool
 is_among connections n = list_any (λ m. m == n) connections

@@ -1,6 +1,6 @@
 -- Links in memory: scripted events that come where they can, and calls that fail where that is asked for.
-use Rattle.std.specs.Prelude.{◌≡◌, ℕ, ◌==◌, ◌+◌, ◌-◌, ◌<◌, ◌^◌, min, nat_lt, Bool, true, false, not, IsTrue, List, [], ◌∷◌, ◌++◌, length, take, drop, if◌then◌else◌}
-use Rattle.std.specs.List.{list_any, list_all}
+use Rattle.std.specs.Prelude.{◌≡◌, ℕ, ◌==◌, min, nat_lt, Bool, true, List, [], ◌∷◌, ◌++◌, length, drop, if◌then◌else◌}
+use Rattle.std.specs.List.{list_any}
 use Rattle.wiki_io.specs.declared.links.Event.{Event}
 use Rattle.wiki_io.specs.declared.links.Event.TheVariants.{Opened, Piece, Ended}
 use Rattle.wiki_io.specs.declared.links.Next.{Next}
@@ -9,6 +9,8 @@ use Rattle.wiki_io.specs.Link.{can_come, connections_after_all}
 use Rattle.wiki_io.specs.Memory.{one_more}
 
 pub record HeldLink : Type 0 where
+  -- it listens, at whatever address it was asked to
+  pub is_listening : Bool
   -- the scripted events that are left, and those that were handed in
   pub script : List Event
   pub handed : List Event
@@ -50,11 +52,16 @@ next_of (Opened n ∷ events) room = next.Opened n
 next_of (Piece n bytes ∷ events) room = next.Bytes n (min (length bytes) room)
 next_of (Ended n ∷ events) room = next.Ended n
 
+-- these events behind what is left of a piece, if anything is
+abbrev pub with_rest : ℕ → List ℕ → List Event → List Event
+with_rest n [] events = events
+with_rest n (b ∷ bytes) events = Piece n (b ∷ bytes) ∷ events
+
 -- the events that are left then: of a piece that is longer than the buffer the rest
 abbrev pub after_next : List Event → ℕ → List Event
 after_next [] room = []
 after_next (Opened n ∷ events) room = events
-after_next (Piece n bytes ∷ events) room = if nat_lt room (length bytes) then Piece n (drop room bytes) ∷ events else events
+after_next (Piece n bytes ∷ events) room = with_rest n (drop room bytes) events
 after_next (Ended n ∷ events) room = events
 
 -- the first event, if there is one, can come
@@ -64,6 +71,7 @@ begins_well connections (event ∷ events) = can_come connections event
 
 -- these events were handed in, and nothing else has changed but the script
 pub record HandsIn (old : HeldLink) (events : List Event) (new : HeldLink) : Type 0 where
+  pub listening : new.is_listening ≡ old.is_listening
   pub handed : new.handed ≡ old.handed ++ events
   pub connections : new.connections ≡ connections_after_all old.connections events
   pub sent : new.sent ≡ old.sent

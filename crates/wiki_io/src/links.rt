@@ -1,5 +1,5 @@
 // Connections: opened, bringing bytes and ending, all in one order, and bytes that are sent on them.
-ghost use Rattle.std.specs.Prelude.{◌≡◌, ◌<◌, ◌≤◌, ◌++◌, ◌∷◌, [], ℕ, List, Option, IsTrue, length};
+ghost use Rattle.std.specs.Prelude.{◌≡◌, ◌<◌, ◌≤◌, ◌++◌, ◌∷◌, [], ℕ, Bool, List, Option, IsTrue, length};
 ghost use Rattle.wiki_io.specs.declared.links.Event.{Event};
 ghost use Rattle.wiki_io.specs.Faults.{Rose};
 ghost use Rattle.wiki_io.specs.Link.{is_among, without, can_all_come, connections_after_all, event_in, NextFits, with_more, piece_taken, IsOver};
@@ -41,9 +41,12 @@ pub enum Next {
     Failed,
 }
 
-/// Connections to others. A link tells which connections are open; it may tell proofs what it handed in and took, and it
-/// counts its failures, those of `send` apart.
+/// Connections to others. A link tells where it listens and which connections are open; it may tell proofs what it handed in
+/// and took, and it counts its failures, those of `send` apart.
 pub trait Link {
+    /// Whether the link listens at an address.
+    ghost listens_at: { Self → List ℕ → Bool };
+
     /// The events that were handed in, in order, where the link tells them.
     ghost handed: { Self → Option (List Event) };
 
@@ -62,8 +65,10 @@ pub trait Link {
     /// How often `send` has failed, up to the last value of a `u64`.
     ghost send_faults: { Self → ℕ };
 
-    /// Begins to listen at the address.
+    /// Begins to listen at the address. Where that fails, it listens where it did before.
     fn listen(&mut self, address: &str) -> Listen
+        ensures ready { result ≡ Listen.Ready → IsTrue (listens_at self.new address.now) }
+        ensures unready { result ≡ Listen.Failed → listens_at self.new ≡ listens_at self.old }
         ensures failed { result ≡ Listen.Failed → Rose (faults self.old) (faults self.new) }
         ensures faults { faults self.old ≤ faults self.new }
         ensures handed { handed self.new ≡ handed self.old }
@@ -78,6 +83,7 @@ pub trait Link {
         ensures handed { handed self.new ≡ with_more (handed self.old) (event_in result buf.new) }
         ensures comes { IsTrue (can_all_come (connections self.old) (event_in result buf.new)) }
         ensures connections { connections self.new ≡ connections_after_all (connections self.old) (event_in result buf.new) }
+        ensures listening { listens_at self.new ≡ listens_at self.old }
         ensures sent { sent self.new ≡ sent self.old }
         ensures over { result ≡ Next.Over → IsOver (left self.new) }
         ensures failed { result ≡ Next.Failed → Rose (faults self.old) (faults self.new) }
@@ -92,6 +98,7 @@ pub trait Link {
         ensures sent { sent self.new ≡ with_more (sent self.old) (piece_taken connection result bytes.now) }
         ensures handed { handed self.new ≡ handed self.old }
         ensures connections { connections self.new ≡ connections self.old }
+        ensures listening { listens_at self.new ≡ listens_at self.old }
         ensures failed { result ≡ Took.Failed → Rose (send_faults self.old) (send_faults self.new) }
         ensures send_faults { send_faults self.old ≤ send_faults self.new }
         ensures faults { faults self.new ≡ faults self.old };
@@ -99,6 +106,7 @@ pub trait Link {
     /// Closes a connection, which isn't open afterwards. What was taken is still sent. It takes no memory.
     fn close(&mut self, connection: u32)
         ensures connections { connections self.new ≡ without connection (connections self.old) }
+        ensures listening { listens_at self.new ≡ listens_at self.old }
         ensures handed { handed self.new ≡ handed self.old }
         ensures sent { sent self.new ≡ sent self.old }
         ensures faults { faults self.new ≡ faults self.old }

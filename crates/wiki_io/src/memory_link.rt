@@ -1,10 +1,10 @@
 // A link in memory, whose calls fail where that is asked for.
-ghost use Rattle.std.specs.Prelude.{◌≡◌, ◌<◌, ◌≤◌, ◌++◌, ◌∷◌, [], ◌-◌, ◌^◌, Some, IsTrue, IfOk, OnOk, OnErr, ◌⊎◌, if◌then◌else◌, take, length, min, true};
+ghost use Rattle.std.specs.Prelude.{◌≡◌, ◌<◌, ◌≤◌, ◌++◌, ◌∷◌, [], ◌-◌, ◌^◌, Some, IsTrue, IfOk, OnOk, OnErr, ◌⊎◌, if◌then◌else◌, take, length, min, true, false};
 ghost use Rattle.std.specs.List.{list_all};
 ghost use Rattle.wiki_io.specs.Faults.{Rose};
-ghost use Rattle.wiki_io.specs.Link.{is_among, without, can_come, can_all_come, connections_after_all, event_in, NextFits, with_more, piece_taken, IsOver};
+ghost use Rattle.wiki_io.specs.Link.{listens_anywhere, is_among, without, can_come, can_all_come, connections_after_all, event_in, NextFits, with_more, piece_taken, IsOver};
 ghost use Rattle.wiki_io.specs.Memory.{one_more};
-ghost use Rattle.wiki_io.specs.MemoryLink.{HeldLink, HandsIn, is_whole, coming, begins_well, fails_next, next_of, after_next};
+ghost use Rattle.wiki_io.specs.MemoryLink.{HeldLink, HandsIn, is_whole, coming, begins_well, fails_next, next_of, with_rest, after_next};
 ghost use Rattle.wiki_io.specs.Sink.{TookFits, IfTook};
 
 use crate::links::{Event, Link, Listen, Next};
@@ -14,11 +14,12 @@ use std::collections::VecDeque;
 use std::marker::Model;
 use wiki_base::{Bytes, Memory};
 
-/// A link in memory. Its events are those of a script, without those that can't come when it is their turn: an opening
-/// of a connection that is open, a piece or an end of one that isn't.
+/// A link in memory, which listens at whatever address it is asked to. Its events are those of a script, without those that
+/// can't come when it is their turn: an opening of a connection that is open, a piece or an end of one that isn't.
 #[derive(Drop)]
 pub struct MemoryLink {
     alloc: Global,
+    is_listening: bool,
     script: VecDeque<Event>,
     handed: Vec<Event>,
     connections: Vec<u32>,
@@ -61,6 +62,7 @@ impl Model for MemoryLink {
     ghost Value = { HeldLink };
 
     ghost view = { λ l. record {
+      is_listening = l.is_listening;
       script = l.script.items;
       handed = l.handed.items;
       connections = l.connections.items;
@@ -84,6 +86,7 @@ impl MemoryLink {
     pub fn new(alloc: Global, script: VecDeque<Event>, fails: Fails) -> Self
         requires { IsTrue (list_all is_whole script.items) }
         ensures { result ≡ record {
+          is_listening = false;
           script = script.items;
           handed = [];
           connections = [];
@@ -107,6 +110,7 @@ impl MemoryLink {
         requires largest { 0 < largest }
         requires whole { IsTrue (list_all is_whole script.items) }
         ensures { result ≡ record {
+          is_listening = false;
           script = script.items;
           handed = [];
           connections = [];
@@ -124,6 +128,7 @@ impl MemoryLink {
     {
         MemoryLink {
             alloc,
+            is_listening: false,
             script,
             handed: Vec::new(alloc),
             connections: Vec::new(alloc),
@@ -198,14 +203,33 @@ impl MemoryLink {
     {
         let size = bytes.as_slice().len().min(buf.len());
         let (front, rest) = bytes.as_slice().split_at(size);
-        if !rest.is_empty() {
-            let rest = Bytes::from_slice(self.alloc, rest)?;
-            self.script.push_front(Event::Piece(connection, rest))?;
-        }
-        let piece = Bytes::from_slice(self.alloc, front)?;
-        self.handed.push(Event::Piece(connection, piece))?;
+        self.put_back(connection, rest)?;
+        self.note(connection, front)?;
         buf[..size].copy_from_slice(front);
         Ok(Next::Bytes(connection, size))
+    }
+
+    // What is left of a piece comes next.
+    fn put_back(&mut self, connection: u32, rest: &[u8]) -> Result<(), Memory>
+        ensures ok { OnOk result (self.new ≡ record self.old { script = with_rest connection rest.now self.old.script }) }
+        ensures err { OnErr result (self.new ≡ self.old) }
+    {
+        if rest.is_empty() {
+            return Ok(());
+        }
+        let rest = Bytes::from_slice(self.alloc, rest)?;
+        self.script.push_front(Event::Piece(connection, rest))?;
+        Ok(())
+    }
+
+    // The piece is among what was handed in.
+    fn note(&mut self, connection: u32, piece: &[u8]) -> Result<(), Memory>
+        ensures ok { OnOk result (self.new ≡ record self.old { handed = self.old.handed ++ Event.Piece connection piece.now ∷ [] }) }
+        ensures err { OnErr result (self.new ≡ self.old) }
+    {
+        let piece = Bytes::from_slice(self.alloc, piece)?;
+        self.handed.push(Event::Piece(connection, piece))?;
+        Ok(())
     }
 
     fn take(&mut self, connection: u32, bytes: &[u8]) -> Result<(), Memory>
@@ -250,6 +274,8 @@ fn can_come(connections: &[u32], event: &Event) -> bool
 }
 
 impl Link for MemoryLink {
+    ghost listens_at = { λ l. listens_anywhere l.is_listening };
+
     ghost handed = { λ l. Some l.handed };
 
     ghost left = { λ l. Some l.script };
@@ -262,7 +288,9 @@ impl Link for MemoryLink {
 
     ghost send_faults = { λ l. l.send_faults };
 
-    fn listen(&mut self, _address: &str) -> Listen
+    fn listen(&mut self, address: &str) -> Listen
+        ensures ready { result ≡ Listen.Ready → IsTrue (listens_anywhere self.new.is_listening address.now) }
+        ensures unready { result ≡ Listen.Failed → listens_anywhere self.new.is_listening ≡ listens_anywhere self.old.is_listening }
         ensures failed { result ≡ Listen.Failed → Rose self.old.faults self.new.faults }
         ensures faults { self.old.faults ≤ self.new.faults }
         ensures handed { Some self.new.handed ≡ Some self.old.handed }
@@ -272,13 +300,14 @@ impl Link for MemoryLink {
 
         ensures answer { result ≡ (if fails_next self.old.listens self.old.listen_fails then Listen.Failed else Listen.Ready) }
         ensures calls { self.new.listens ≡ one_more self.old.listens }
-        ensures same { self.new ≡ record self.old { listens = self.new.listens; faults = self.new.faults } }
+        ensures same { self.new ≡ record self.old { is_listening = self.new.is_listening; listens = self.new.listens; faults = self.new.faults } }
     {
         self.listens = self.listens.saturating_add(1);
         if self.fails.listen.contains(&self.listens) {
             self.fault();
             return Listen::Failed;
         }
+        self.is_listening = true;
         Listen::Ready
     }
 
@@ -288,6 +317,7 @@ impl Link for MemoryLink {
         ensures handed { Some self.new.handed ≡ with_more (Some self.old.handed) (event_in result buf.new) }
         ensures comes { IsTrue (can_all_come self.old.connections (event_in result buf.new)) }
         ensures connections { self.new.connections ≡ connections_after_all self.old.connections (event_in result buf.new) }
+        ensures listening { listens_anywhere self.new.is_listening ≡ listens_anywhere self.old.is_listening }
         ensures sent { Some self.new.sent ≡ Some self.old.sent }
         ensures over { result ≡ Next.Over → IsOver (Some self.new.script) }
         ensures failed { result ≡ Next.Failed → Rose self.old.faults self.new.faults }
@@ -321,6 +351,7 @@ impl Link for MemoryLink {
         ensures sent { Some self.new.sent ≡ with_more (Some self.old.sent) (piece_taken connection result bytes.now) }
         ensures handed { Some self.new.handed ≡ Some self.old.handed }
         ensures connections { self.new.connections ≡ self.old.connections }
+        ensures listening { listens_anywhere self.new.is_listening ≡ listens_anywhere self.old.is_listening }
         ensures failed { result ≡ Took.Failed → Rose self.old.send_faults self.new.send_faults }
         ensures send_faults { self.old.send_faults ≤ self.new.send_faults }
         ensures faults { self.new.faults ≡ self.old.faults }
@@ -341,6 +372,7 @@ impl Link for MemoryLink {
 
     fn close(&mut self, connection: u32)
         ensures connections { self.new.connections ≡ without connection self.old.connections }
+        ensures listening { listens_anywhere self.new.is_listening ≡ listens_anywhere self.old.is_listening }
         ensures handed { Some self.new.handed ≡ Some self.old.handed }
         ensures sent { Some self.new.sent ≡ Some self.old.sent }
         ensures faults { self.new.faults ≡ self.old.faults }

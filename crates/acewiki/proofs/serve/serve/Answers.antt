@@ -5,4 +5,4 @@ use Rattle.acewiki.proofs.serve.serve.Goals as goal
 
 pub returns-in-Err-clause-serves : goal.returns-in-Err-clause-serves
 returns-in-Err-clause-serves g c =
-    Serves-stopped _ _ _ _ _ (ace_wiki c.args.budget) (StepsInput-none _ _ (ace_wiki c.args.budget)) tt refl refl
+    Serves-stopped _ _ _ _ _ _ (ace_wiki c.args.budget) (StepsInput-none _ _ (ace_wiki c.args.budget)) tt refl refl

@@ -4,13 +4,14 @@ use Rattle.serving.proofs.DeliverLemmas.{Sending-first, Sending-more, Delivers-s
 use Rattle.serving.proofs.sending.send_all.Goals as goal
 
 pub pieces-init : goal.pieces-init
-pieces-init g c = record { sending = Sending-first _ _ _ _ _ refl; connections = refl; handed = refl; faults = refl }
+pieces-init g c = record { sending = Sending-first _ _ _ _ _ refl; connections = refl; handed = refl; listening = refl; faults = refl }
 
 pub pieces-preserved : goal.pieces-preserved
 pieces-preserved g c = record {
   sending = Sending-more _ c.in-Bytes.size _ _ _ _ _ _ _ _ c.pieces.invariant.sending c.in-Bytes.ensures.sent c.send.ensures.send_faults;
   connections = c.send.ensures.connections ∙ c.pieces.invariant.connections;
   handed = c.send.ensures.handed ∙ c.pieces.invariant.handed;
+  listening = c.send.ensures.listening ∙ c.pieces.invariant.listening;
   faults = c.send.ensures.faults ∙ c.pieces.invariant.faults;
 }
 

@@ -10,6 +10,7 @@ invariant-pieces g l =
       sending : Sending l.connection l.bytes l.rest (link.sent l.fn.link) (link.send_faults l.fn.link) (link.sent l.link) (link.send_faults l.link);
       connections : link.connections l.link ≡ link.connections l.fn.link;
       handed : link.handed l.link ≡ link.handed l.fn.link;
+      listening : link.listens_at l.link ≡ link.listens_at l.fn.link;
       faults : link.faults l.link ≡ link.faults l.fn.link;
     }
 

@@ -1,4 +1,4 @@
-use Rattle.std.proofs.Common.{arith, ◌∙◌}
+use Rattle.std.proofs.Common.{arith}
 use Rattle.wiki_io.proofs.KnownLemmas.{Appends-kept, HasWritten-none, HasWritten-more, HasWritten-prefix}
 use Rattle.wiki_io.proofs.sinks.put.Goals as goal
 

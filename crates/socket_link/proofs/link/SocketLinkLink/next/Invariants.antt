@@ -8,3 +8,4 @@ invariant-loop g l =
     × (l.self.faults ≡ l.initial.self.faults)
     × (l.self.send_faults ≡ l.initial.self.send_faults)
     × (g.S.Sockets.events l.self.places.sockets ≡ g.S.Sockets.events l.initial.self.places.sockets)
+    × (g.S.Sockets.listens_at l.self.places.sockets ≡ g.S.Sockets.listens_at l.initial.self.places.sockets)

@@ -2,4 +2,9 @@ use Rattle.std.proofs.Common.{◌≡◌}
 use Rattle.socket_link.proofs.place.Place.write.Given as goal
 
 abbrev pub invariant-loop : goal.invariant-loop
-invariant-loop g l = g.S.Sockets.events l.sockets ≡ g.S.Sockets.events l.initial.sockets
+invariant-loop g l =
+    let sockets = g.S.Sockets in
+    record {
+      events : sockets.events l.sockets ≡ sockets.events l.initial.sockets;
+      listening : sockets.listens_at l.sockets ≡ sockets.listens_at l.initial.sockets;
+    }

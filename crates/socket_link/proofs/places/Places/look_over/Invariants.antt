@@ -2,4 +2,9 @@ use Rattle.std.proofs.Common.{◌≡◌}
 use Rattle.socket_link.proofs.places.Places.look_over.Given as goal
 
 abbrev pub invariant-loop-number : goal.invariant-loop-number
-invariant-loop-number g l = g.S.Sockets.events l.self.sockets ≡ g.S.Sockets.events l.initial.self.sockets
+invariant-loop-number g l =
+    let sockets = g.S.Sockets in
+    record {
+      events : sockets.events l.self.sockets ≡ sockets.events l.initial.self.sockets;
+      listening : sockets.listens_at l.self.sockets ≡ sockets.listens_at l.initial.self.sockets;
+    }

@@ -11,7 +11,6 @@ use derivations::{plain_least, plain_menu, typeable_count};
 use lexicon::Lexicon;
 use lists::List;
 use std::alloc::Global;
-use std::process::Abort;
 use std::test::Fail;
 use wiki_base::{Token, Tokens};
 
@@ -37,45 +36,42 @@ fn code_of(alloc: Global, least: Option<Skeleton>) -> Result<List<u16>, Fail> {
     }
 }
 
-// Whether there is a least skeleton; its code is the same by the table and by listing.
+// Whether there is a least skeleton, and none where its code isn't the same by the table and by listing.
 fn same_least(
-    rt: &impl Abort,
     alloc: Global,
     grammar: &CheckedGrammar,
     lexicon: &Lexicon,
     tokens: &Tokens,
-    text: &str,
-) -> Result<bool, Fail>
+) -> Result<Option<bool>, Fail>
     requires { length tokens.now ≤ 40 }
 {
     let listed = code_of(alloc, plain_least(alloc, grammar, lexicon, tokens)?)?;
     let code = code_of(alloc, least_of(alloc, grammar, lexicon, tokens)?)?;
-    assert!(rt; code.as_slice() == listed.as_slice(), "the code of {text}");
-    Ok(!code.is_empty())
+    if code.as_slice() == listed.as_slice() {
+        Ok(Some(!code.is_empty()))
+    } else {
+        Ok(None)
+    }
 }
 
-// The menu is the same by the chart and by listing.
+// Whether the menu is the same by the chart and by listing.
 fn same_menu(
-    rt: &impl Abort,
     alloc: Global,
     chart: &Chart,
     grammar: &CheckedGrammar,
     lexicon: &Lexicon,
     tokens: &Tokens,
-    text: &str,
-) -> Result<(), Fail>
+) -> Result<bool, Fail>
     requires kept { chart.now ≡ setting_of grammar.now lexicon.now chart.now.tokens }
     requires few { length tokens.now ≤ 40 }
 {
     let listed = plain_menu(alloc, grammar, lexicon, tokens)?;
     let menu = chart.menu(grammar, lexicon)?;
-    assert!(rt; same_entries(&menu, &listed), "the menu of {text}");
-    Ok(())
+    Ok(same_entries(&menu, &listed))
 }
 
 // Takes the tokens into the chart, and tells how many of them are typeable.
 fn grow(
-    rt: &impl Abort,
     chart: &mut Chart,
     grammar: &CheckedGrammar,
     lexicon: &Lexicon,
@@ -86,7 +82,7 @@ fn grow(
 {
     let mut typeable = 0usize;
     for (place, token) in tokens.iter().enumerate() {
-        let begins = taken(rt, chart, grammar, lexicon, token)?;
+        let begins = taken(chart, grammar, lexicon, token)?;
         if begins && typeable == place {
             typeable = place + 1;
         }
@@ -94,66 +90,53 @@ fn grow(
     Ok(typeable)
 }
 
-// So many tokens are typeable by listing too.
-fn same_count(
-    rt: &impl Abort,
-    alloc: Global,
-    grammar: &CheckedGrammar,
-    lexicon: &Lexicon,
-    tokens: &Tokens,
-    typeable: usize,
-    text: &str,
-) -> Result<(), Fail>
-    requires { length tokens.now ≤ 40 }
-{
-    let counted = typeable_count(alloc, grammar, lexicon, tokens)?;
-    assert_eq!(rt; typeable, counted, "how many are typeable of {text}");
-    Ok(())
-}
-
-// The chart takes the tokens. How many of them are typeable, whether they are a sentence, the least skeleton and the menu are
-// the same by the chart and by listing.
-fn agrees_on(
-    rt: &impl Abort,
+// The chart takes the tokens. What it then tells of them otherwise than the listing.
+fn difference_on(
     alloc: Global,
     chart: &mut Chart,
     grammar: &CheckedGrammar,
     lexicon: &Lexicon,
     tokens: &Tokens,
-    text: &str,
-) -> Result<(), Fail>
+) -> Result<Option<&'static str>, Fail>
     requires kept { chart.old ≡ setting_of grammar.now lexicon.now chart.old.tokens }
     requires few { length tokens.now ≤ 40 }
 {
-    let typeable = grow(rt, chart, grammar, lexicon, tokens.as_slice())?;
-    same_count(rt, alloc, grammar, lexicon, tokens, typeable, text)?;
-    let sentence = same_least(rt, alloc, grammar, lexicon, tokens, text)?;
-    assert_eq!(rt; chart.complete(), sentence, "whether {text} is a sentence");
-    same_menu(rt, alloc, chart, grammar, lexicon, tokens, text)
+    let typeable = grow(chart, grammar, lexicon, tokens.as_slice())?;
+    if typeable != typeable_count(alloc, grammar, lexicon, tokens)? {
+        return Ok(Some("how many tokens are typeable"));
+    }
+    let Some(sentence) = same_least(alloc, grammar, lexicon, tokens)? else {
+        return Ok(Some("the code of the least skeleton"));
+    };
+    if chart.complete() != sentence {
+        return Ok(Some("whether they are a sentence"));
+    }
+    if !same_menu(alloc, chart, grammar, lexicon, tokens)? {
+        return Ok(Some("the menu"));
+    }
+    Ok(None)
 }
 
-fn agrees_from_the_start(
-    rt: &impl Abort,
+fn difference_from_the_start(
     alloc: Global,
     grammar: &CheckedGrammar,
     lexicon: &Lexicon,
     tokens: &Tokens,
-    text: &str,
-) -> Result<(), Fail>
+) -> Result<Option<&'static str>, Fail>
     requires { length tokens.now ≤ 40 }
 {
     let mut chart = started(alloc, grammar, lexicon)?;
-    agrees_on(rt, alloc, &mut chart, grammar, lexicon, tokens, text)
+    difference_on(alloc, &mut chart, grammar, lexicon, tokens)
 }
 
-// The chart and the listing agree on the text's tokens.
-pub(crate) fn agrees(
-    rt: &impl Abort,
+/// What the chart tells of the text's tokens otherwise than the listing of their trees does: how many are typeable, the code of
+/// the least skeleton, whether they are a sentence, or the menu.
+pub fn difference(
     alloc: Global,
     grammar: &CheckedGrammar,
     lexicon: &Lexicon,
     text: &str,
-) -> Result<(), Fail> {
+) -> Result<Option<&'static str>, Fail> {
     let tokens = tokens_of(alloc, grammar, text)?;
-    agrees_from_the_start(rt, alloc, grammar, lexicon, &tokens, text)
+    difference_from_the_start(alloc, grammar, lexicon, &tokens)
 }

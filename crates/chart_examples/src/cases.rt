@@ -8,7 +8,6 @@ use codeco_reader::read_grammar;
 use derivation_trees::{Cut, cut};
 use lexicon::{Kind, Lexicon, forms};
 use std::alloc::Global;
-use std::process::Abort;
 use std::test::Fail;
 use wiki_base::{MOST_TOKENS, Text, Token, Tokens};
 
@@ -34,8 +33,8 @@ fn add(alloc: Global, lexicon: &mut Lexicon, kind: Kind, texts: &[&str]) -> Resu
     Ok(())
 }
 
-// A lexicon of these words.
-pub(crate) fn words(
+/// A lexicon of words, each with its kind and the forms that are given.
+pub fn words(
     alloc: Global,
     grammar: &CheckedGrammar,
     given: &[(Kind, &[&str])],
@@ -71,7 +70,6 @@ pub(crate) fn started(
 
 // Takes the token into the chart, and tells whether the longer list has a partial derivation.
 pub(crate) fn taken(
-    rt: &impl Abort,
     chart: &mut Chart,
     grammar: &CheckedGrammar,
     lexicon: &Lexicon,
@@ -80,7 +78,9 @@ pub(crate) fn taken(
     requires { chart.old ≡ setting_of grammar.now lexicon.now chart.old.tokens }
     ensures { OnOk result (chart.new ≡ setting_of grammar.now lexicon.now chart.new.tokens) }
 {
-    assert!(rt; chart.tokens().len() < MOST_TOKENS);
+    if chart.tokens().len() >= MOST_TOKENS {
+        return Err(Fail::new("at most 40 tokens"));
+    }
     let begins = chart.advance(grammar, lexicon, token)?;
     Ok(begins)
 }

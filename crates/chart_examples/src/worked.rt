@@ -30,7 +30,6 @@ fn least_code(
 
 // Takes the text's tokens into the chart, and tells whether each list of first ones has a partial derivation.
 fn all_taken(
-    rt: &impl Abort,
     alloc: Global,
     chart: &mut Chart,
     grammar: &CheckedGrammar,
@@ -43,7 +42,7 @@ fn all_taken(
     let tokens = tokens_of(alloc, grammar, text)?;
     let mut all = true;
     for token in tokens.as_slice() {
-        let begins = taken(rt, chart, grammar, lexicon, token)?;
+        let begins = taken(chart, grammar, lexicon, token)?;
         all = all && begins;
     }
     Ok(all)
@@ -51,7 +50,6 @@ fn all_taken(
 
 // Takes the text's tokens, or with no text the last token away; tells what the chart answers.
 fn step(
-    rt: &impl Abort,
     alloc: Global,
     chart: &mut Chart,
     grammar: &CheckedGrammar,
@@ -65,7 +63,7 @@ fn step(
         let some = dropped(chart, grammar, lexicon);
         return Ok(some);
     }
-    let all = all_taken(rt, alloc, chart, grammar, lexicon, text)?;
+    let all = all_taken(alloc, chart, grammar, lexicon, text)?;
     Ok(all)
 }
 
@@ -100,7 +98,7 @@ fn steps_go(
     requires { chart.old ≡ setting_of grammar.now lexicon.now chart.old.tokens }
 {
     for (text, told, code) in steps {
-        let answer = step(rt, alloc, chart, grammar, lexicon, *text)?;
+        let answer = step(alloc, chart, grammar, lexicon, *text)?;
         assert_eq!(rt; answer, *told, "what is told of {text}");
         has_code(rt, alloc, chart, grammar, lexicon, *code)?;
     }
@@ -234,7 +232,7 @@ fn many_have_two(
 ) -> Result<(), Fail>
     requires { chart.old ≡ setting_of grammar.now lexicon.now chart.old.tokens }
 {
-    let _ = all_taken(rt, alloc, chart, grammar, lexicon, MANY)?;
+    let _ = all_taken(alloc, chart, grammar, lexicon, MANY)?;
     let two = menu_has_two(chart, grammar, lexicon, "e", "x")?;
     assert!(rt; two);
     Ok(())

@@ -3,4 +3,4 @@ use Rattle.derivation_trees.specs.Sentences.{setting_of}
 use Rattle.chart_examples.proofs.agreement.grow.Given as goal
 
 abbrev pub invariant-loop-place : goal.invariant-loop-place
-invariant-loop-place g l = l.chart ≡ setting_of l.grammar l.lexicon l.chart.tokens
+invariant-loop-place l = l.chart ≡ setting_of l.grammar l.lexicon l.chart.tokens

@@ -1,7 +1,6 @@
 // Sentences of the built-in grammar, with all lists of their first tokens.
-use crate::agreement::agrees;
-use crate::cases::words;
 use ace_grammar::built_in;
+use chart_examples::{difference, words};
 use codeco_checked::CheckedGrammar;
 use lexicon::{Kind, Lexicon};
 use std::alloc::Global;
@@ -16,6 +15,18 @@ const PEOPLE: [(Kind, &[&str]); 6] = [
     (Kind::Verb, &["sees", "see", "seen"]),
     (Kind::Verb, &["owns", "own", "owned"]),
 ];
+
+fn agrees(
+    rt: &impl Abort,
+    alloc: Global,
+    grammar: &CheckedGrammar,
+    lexicon: &Lexicon,
+    text: &str,
+) -> Result<(), Fail> {
+    let other = difference(alloc, grammar, lexicon, text)?;
+    assert!(rt; other.is_none(), "what is told of {text}");
+    Ok(())
+}
 
 // The chart agrees with the listing on the tokens of the text, and on those before each of its spaces.
 fn agrees_on_fronts(

@@ -18,7 +18,7 @@ fn told(alloc: Global, kind: Kind, text: &str) -> Result<String, Fail> {
 
 #[test]
 fn suggestions_follow_the_spelling(rt: HostRuntime) -> Result<(), Fail> {
-    for (kind, text, wanted) in [
+    for (kind, text, wanted) in &[
         (Kind::Noun, "country", " country countries"),
         (Kind::Noun, "city", " city cities"),
         (Kind::Noun, "bus", " bus buses"),
@@ -36,8 +36,8 @@ fn suggestions_follow_the_spelling(rt: HostRuntime) -> Result<(), Fail> {
         (Kind::Verb, "love", " loves love loved"),
         (Kind::Of, "part", " part"),
     ] {
-        let told = told(rt.alloc(), kind, text)?;
-        assert_eq!(rt; told.as_str(), wanted);
+        let told = told(rt.alloc(), *kind, text)?;
+        assert_eq!(rt; told.as_str(), *wanted);
     }
     Ok(())
 }
@@ -57,27 +57,34 @@ fn fault(alloc: Global, kind: Kind, texts: &[&str]) -> Result<FormFault, Fail> {
 #[test]
 fn other_counts_and_long_suggestions_are_refused(rt: HostRuntime) -> Result<(), Fail> {
     let long = "aaaaaaaaaaaaaaaaaaaaaaaaaaaaaaaaaaaaaaaaaaaaaaaaaaaaaaaaaaaaaaaa";
-    let rows: [(Kind, &[&str], FormFault); 4] = [
+    let rows: &[(Kind, &[&str], FormFault)] = &[
         (Kind::Name, &["a", "b"], FormFault::Count(2)),
         (Kind::Verb, &["a", "b"], FormFault::Count(2)),
         (Kind::Noun, &[], FormFault::Count(0)),
         (Kind::Noun, &[long], FormFault::TooLong(1)),
     ];
     for (kind, texts, wanted) in rows {
-        assert_eq!(rt; fault(rt.alloc(), kind, texts)?, wanted);
+        assert_eq!(rt; fault(rt.alloc(), *kind, texts)?, *wanted);
     }
     Ok(())
 }
 
+fn one_text(alloc: Global) -> Result<Texts, Fail> {
+    let mut items = Vec::new(alloc);
+    items.push(Text::read(alloc, "Bern")?)?;
+    Ok(Texts::from_vec(items))
+}
+
+// Whether it is the one text that makes a name.
+fn is_bern(texts: &Texts) -> bool {
+    texts.len() == Kind::Name.form_count() && !texts.is_empty() && texts.get(0).as_str() == "Bern"
+}
+
 #[test]
 fn texts_are_lent_and_given_back(rt: HostRuntime) -> Result<(), Fail> {
-    let mut items = Vec::new(rt.alloc());
-    items.push(Text::read(rt.alloc(), "Bern")?)?;
-    let texts = Texts::from_vec(items);
-    assert!(rt; !texts.is_empty());
-    assert_eq!(rt; texts.len(), Kind::Name.form_count());
-    assert_eq!(rt; texts.get(0).as_str(), "Bern");
-    assert_eq!(rt; texts.copy()?.len(), 1);
-    assert_eq!(rt; texts.into_vec().len(), 1);
+    let texts = one_text(rt.alloc())?;
+    assert!(rt; is_bern(&texts));
+    assert!(rt; texts.copy()?.len() == 1);
+    assert!(rt; texts.into_vec().len() == 1);
     Ok(())
 }

@@ -1,7 +1,7 @@
 // Texts of letters and inner hyphens, texts of UTF-8, and tokens.
 use std::alloc::Global;
 use std::test::Fail;
-use wiki_base::{BadText, Copied, Text, Text8, Token, Tokens};
+use wiki_base::{BadText, Copied, Memory, Text, Text8, Token, Tokens};
 
 // Why this is no text, if it is none.
 fn fault(alloc: Global, text: &str) -> Option<BadText> {
@@ -16,7 +16,7 @@ fn is_read(alloc: Global, text: &str) -> Result<bool, Fail> {
 
 #[test]
 fn the_first_misplaced_character_is_told(rt: HostRuntime) {
-    for (text, wanted) in [
+    for (text, wanted) in &[
         ("", BadText::Empty),
         ("a-", BadText::Letter(1)),
         ("-a", BadText::Letter(0)),
@@ -25,7 +25,7 @@ fn the_first_misplaced_character_is_told(rt: HostRuntime) {
         ("Zürich1", BadText::Letter(7)),
         ("a1b2", BadText::Letter(1)),
     ] {
-        assert_eq!(rt; fault(rt.alloc(), text), Some(wanted), "{text}");
+        assert_eq!(rt; fault(rt.alloc(), text), Some(*wanted), "{text}");
     }
 }
 
@@ -42,23 +42,26 @@ fn sixty_four_bytes_are_the_most(rt: HostRuntime) -> Result<(), Fail> {
 
 #[test]
 fn letters_of_any_script_and_inner_hyphens_are_read(rt: HostRuntime) -> Result<(), Fail> {
-    for text in ["Bern", "located-in", "Zürich", "東京", "a-b-c"] {
+    for text in &["Bern", "located-in", "Zürich", "東京", "a-b-c"] {
         assert!(rt; is_read(rt.alloc(), text)?, "{text}");
     }
     Ok(())
 }
 
-#[test]
-fn texts_are_added_and_copied(rt: HostRuntime) -> Result<(), Fail> {
-    let mut text = Text8::new(rt.alloc());
+fn zurich(alloc: Global) -> Result<Text8, Memory> {
+    let mut text = Text8::new(alloc);
     text.push_str("Zü")?;
     text.push_str("rich")?;
-    assert_eq!(rt; text.copy()?.as_str(), "Zürich");
-    assert_eq!(rt; text.as_bytes().len(), 7);
-    assert_eq!(rt;
-        Text8::from_str(rt.alloc(), "x")?.into_vec().as_slice(),
-        b"x".as_slice()
-    );
+    Ok(text)
+}
+
+#[test]
+fn texts_are_added_and_copied(rt: HostRuntime) -> Result<(), Fail> {
+    let text = zurich(rt.alloc())?.copy()?;
+    assert!(rt; text.as_str() == "Zürich");
+    assert!(rt; text.as_bytes().len() == 7);
+    let bytes = Text8::from_str(rt.alloc(), "x")?.into_vec();
+    assert!(rt; bytes.as_slice() == b"x".as_slice());
     Ok(())
 }
 
@@ -70,16 +73,19 @@ fn bytes_that_are_no_utf8_are_no_text(rt: HostRuntime) -> Result<(), Fail> {
     Ok(())
 }
 
+fn two_tokens(alloc: Global) -> Result<Tokens, Memory> {
+    let mut tokens = Tokens::new(alloc);
+    for token in &["every", "man"] {
+        tokens.push(Token::from_str(alloc, token)?)?;
+    }
+    Ok(tokens)
+}
+
 #[test]
 fn tokens_are_kept_in_order(rt: HostRuntime) -> Result<(), Fail> {
-    let mut tokens = Tokens::new(rt.alloc());
-    for token in ["every", "man"] {
-        tokens.push(Token::from_str(rt.alloc(), token)?)?;
-    }
-    let copy = tokens.copy()?;
-    assert_eq!(rt; copy.len(), 2);
-    assert!(rt; !copy.is_empty());
-    assert_eq!(rt; copy.get(1).as_str(), "man");
-    assert_eq!(rt; Tokens::from_vec(copy.into_vec()).as_slice().len(), 2);
+    let copy = two_tokens(rt.alloc())?.copy()?;
+    assert!(rt; copy.len() == 2 && !copy.is_empty());
+    assert!(rt; copy.get(1).as_str() == "man");
+    assert!(rt; Tokens::from_vec(copy.into_vec()).as_slice().len() == 2);
     Ok(())
 }

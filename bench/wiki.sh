@@ -1,7 +1,7 @@
 #!/usr/bin/env bash
 # How fast `acewiki replay` adds sentences and answers questions, on the proved program: 50 words and 2,000 drawn sentences
 # (names in relations and classes, chains of classes, universal restrictions, and questions), one request after the other
-# through a pipe, then each article is read, and a word that stands in some 100 sentences gets its forms anew.
+# through a pipe, then each article is read twice, and a word that stands in some 100 sentences gets its forms anew.
 set -eu
 root="$(cd "$(dirname "${BASH_SOURCE[0]}")/.." && pwd)"
 program="$("$root/bench/program" acewiki)"
@@ -62,6 +62,7 @@ for word in nouns + names + verbs:
     answers += sum(len(s.get("answers", [])) for s in reply["sentences"])
     unknown += sum(len(s.get("unknown", [])) for s in reply["sentences"])
 whole = time.perf_counter() - whole
+again = [ask(do="read", article=word)[1] for word in nouns + names + verbs]
 finds = [ask(do="find", word=noun + "s")[1] for noun in nouns * 10]
 words = [ask(do="word", kind="name", forms=[f"New{x}{y}"])[1] for x in letters for y in letters[:10]]
 reply, reword = ask(do="reword", word="noune", forms=["noune", "nounes"])
@@ -69,6 +70,7 @@ print(f"{'sentences':32} {count:10} {statuses}, {answers} answers, {unknown} unk
 print(f"{'all requests, s':32} {whole:10.2f}")
 print(f"{'an add, median and worst, ms':32} {statistics.median(adds):10.2f} {max(adds):10.2f}")
 print(f"{'a read, median and worst, ms':32} {statistics.median(reads):10.2f} {max(reads):10.2f}")
+print(f"{'a read again, median and worst, ms':32} {statistics.median(again):8.2f} {max(again):10.2f}")
 print(f"{'a find, median and worst, ms':32} {statistics.median(finds):10.2f} {max(finds):10.2f}")
 print(f"{'a word, median and worst, ms':32} {statistics.median(words):10.2f} {max(words):10.2f}")
 print(f"{'a reword, ms':32} {reword:10.2f} {reply}")

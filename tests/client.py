@@ -614,14 +614,14 @@ PARTS = {name: part for group in GROUPS.values() for name, part in group.items()
 
 
 def tell(name, error, browser):
-    print(f"client: {name}: {error}")
     try:
-        print("client: the page showed:", " | ".join(browser.texts("body"))[:1500])
+        print("client: the page showed:", " | ".join(" ".join(browser.texts("body")).split("\n"))[:1500])
         print("client: its console:", browser.logs()[-5:])
         if "CLIENT_PICTURE" in os.environ:
             browser.picture(os.environ["CLIENT_PICTURE"])
     except (Failed, OSError):
         pass
+    print(f"client: {name}: {error}")
 
 
 def main():

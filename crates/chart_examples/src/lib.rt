@@ -3,8 +3,9 @@
 
 mod agreement;
 mod cases;
-#[cfg(test)]
 mod odd;
+#[cfg(test)]
+mod short_lists;
 #[cfg(test)]
 mod sizes;
 #[cfg(test)]
@@ -12,3 +13,4 @@ mod worked;
 
 pub use agreement::difference;
 pub use cases::words;
+pub use odd::{ODD, Oddity, difference_on_lists};

@@ -101,6 +101,7 @@ fn is_met(draft: &mut Draft, axioms: &Axioms, place: usize) -> Result<bool, Memo
         Axiom::NotRelated(_, _, _) => Ok(false),
         Axiom::Equal(_, _) => Ok(false),
         Axiom::Differ(_, _) => Ok(false),
+        Axiom::Transitive(_) => Ok(false),
     }
 }
 

@@ -43,6 +43,7 @@ impl Mentions {
             Axiom::NotRelated(_, _, _) => Ok(()),
             Axiom::Equal(_, _) => Ok(()),
             Axiom::Differ(_, _) => Ok(()),
+            Axiom::Transitive(word) => self.note_word(place, word.0),
         }
     }
 

@@ -3,6 +3,7 @@ pub mod Assignments
 pub mod Filters
 pub mod Growing
 pub mod Halving
+pub mod Leading
 pub mod Lookups
 pub mod Members
 pub mod Runs

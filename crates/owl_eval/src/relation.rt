@@ -2,7 +2,7 @@
 ghost use Rattle.std.specs.Prelude.{◌≡◌, ℕ, Bool, ◌==◌, ◌&&◌, map, filter, IsSorted, IsPermutation, IfOk};
 ghost use Rattle.std.specs.List.{list_any, list_all};
 ghost use Rattle.logic_terms.specs.Meaning.{implies};
-ghost use Rattle.owl_eval.specs.Pairs.{pair_cmp, swapped};
+ghost use Rattle.owl_eval.specs.Pairs.{pair_cmp, swapped, is_paired, leads_on};
 
 use crate::sorted::has_item;
 use std::alloc::Global;
@@ -79,6 +79,13 @@ impl Relation {
         run_of(self.inverse.as_slice(), to)
     }
 
+    // Whether it is transitive: it has (x, z) wherever it has (x, y) and (y, z).
+    pub(crate) fn is_transitive(&self) -> bool
+        ensures { result ≡ leads_on self.now.1 }
+    {
+        lead_on(self.pairs.as_slice())
+    }
+
     pub(crate) fn copy(&self, alloc: Global) -> Result<Self, Memory>
         ensures { IfOk result (λ copied. copied ≡ self.now) }
     {
@@ -108,4 +115,30 @@ fn run_of(pairs: &[(u64, u64)], first: u64) -> &[(u64, u64)]
     let start = pairs.partition_point(|pair| pair.0 < first);
     let end = pairs.partition_point(|pair| pair.0 <= first);
     &pairs[start..end]
+}
+
+// Whether pairs in rising order have (x, z) wherever they have (x, y) and (y, z). For each pair only two runs are looked at.
+fn lead_on(pairs: &[(u64, u64)]) -> bool
+    requires { IsSorted pair_cmp pairs.now }
+    ensures { result ≡ leads_on pairs.now }
+{
+    for pair in pairs {
+        if !reaches_ends(run_of(pairs, pair.0), pair.0, run_of(pairs, pair.1)) {
+            return false;
+        }
+    }
+    true
+}
+
+// Whether pairs in rising order lead from an element to the end of each of the others.
+fn reaches_ends(own: &[(u64, u64)], first: u64, others: &[(u64, u64)]) -> bool
+    requires { IsSorted pair_cmp own.now }
+    ensures { result ≡ list_all (λ q. is_paired own.now first q.1) others.now }
+{
+    for other in others {
+        if !has_item(own, &(first, other.1)) {
+            return false;
+        }
+    }
+    true
 }

@@ -215,7 +215,7 @@ pub(crate) static TRANSCRIPTS: [(&str, u64, &str); 12] = [
 "#,
     ),
     (
-        "a symmetric verb is stated and a transitive one is outside",
+        "a symmetric verb and a transitive one are stated",
         BUDGET,
         r#"{"do":"word","forms":["border"],"kind":"verb"}
 {"done":"word"}
@@ -224,7 +224,9 @@ pub(crate) static TRANSCRIPTS: [(&str, u64, &str); 12] = [
 {"article":"border","at":0,"do":"axioms"}
 {"axioms":["SubObjectPropertyOf(:border ObjectInverseOf(:border))"],"done":"axioms"}
 {"article":"border","do":"add","text":"If X borders Y and Y borders Z then X borders Z."}
-{"cause":"shared","done":"add","status":"outside"}
+{"done":"add","status":"asserted"}
+{"article":"border","at":1,"do":"axioms"}
+{"axioms":["TransitiveObjectProperty(:border)"],"done":"axioms"}
 "#,
     ),
     (

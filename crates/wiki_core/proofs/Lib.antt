@@ -11,12 +11,14 @@ pub mod KnownTokens
 pub mod LineLemmas
 pub mod MenuLemmas
 pub mod OneStepLemmas
+pub mod PartedSteps
 pub mod PagesLemmas
 pub mod ReadableLemmas
 pub mod ReadyLemmas
 pub mod RunLemmas
 pub mod SeenLemmas
 pub mod StandsLemmas
+pub mod StoredSteps
 pub mod ToldLemmas
 pub mod WholeStepLemmas
 pub mod WordLemmas

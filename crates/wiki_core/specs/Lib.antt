@@ -1,10 +1,8 @@
 pub mod Apart
-pub mod Causes
 pub mod Drafts
 pub mod Holding
 pub mod Journaled
 pub mod Keeping
 pub mod Spending
-pub mod State
 pub mod Step
 pub mod Stepping

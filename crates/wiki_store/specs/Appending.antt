@@ -8,17 +8,17 @@ use Rattle.wiki_talk.specs.declared.statuses.Status.{Status}
 use Rattle.wiki_talk.specs.declared.statuses.Status.TheVariants.{Asserted, RedBudget}
 use Rattle.articles.specs.declared.article.Article.{Article}
 use Rattle.articles.specs.Articles.{article_of}
-use Rattle.wiki_parts.specs.State.{State}
-use Rattle.wiki_parts.specs.Knowledge.{Knows}
+use Rattle.plain_wiki.specs.Stored.{Stored}
+use Rattle.plain_wiki.specs.Knowledge.{Knows}
 use Rattle.wiki_parts.specs.Holding.{Holding}
-use Rattle.wiki_store.specs.Step.{with_inserted}
+use Rattle.plain_wiki.specs.Changes.{with_inserted}
 
 -- the place behind the last sentence of a word's article
 abbrev pub end_of : List Article → WordId → ℕ
 end_of articles word = option_map_or (λ article. length article.sentences) (article_of articles word) 0
 
 -- the wiki with the tokens as a sentence at the end of a word's article
-abbrev pub with_appended : State → WordId → List (List ℕ) → Status → State
+abbrev pub with_appended : Stored → WordId → List (List ℕ) → Status → Stored
 with_appended old word tokens status = with_inserted old word (end_of old.articles word) (record { tokens = tokens; status = status })
 
 -- tokens at the end of a word's article are red for the budget only where the kept interpretation is no model of what is known with them

@@ -2,8 +2,8 @@
 ghost use Rattle.std.specs.Prelude.{◌≡◌, ◌≤◌, length, option_copied};
 ghost use Rattle.wiki_talk.specs.declared.limits.TheConstants.{MOST_SENTENCES as most_sentences};
 ghost use Rattle.articles.specs.Articles.{article_of};
-ghost use Rattle.wiki_parts.specs.Knowledge.{sentences_in};
-ghost use Rattle.wiki_parts.specs.State.{IsSound};
+ghost use Rattle.plain_wiki.specs.Knowledge.{sentences_in};
+ghost use Rattle.plain_wiki.specs.Stored.{IsSound};
 
 use crate::base::Base;
 use articles::Article;

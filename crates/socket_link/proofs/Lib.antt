@@ -1,1 +1,3 @@
+pub mod DeedLemmas
+pub mod SoundLemmas
 pub mod ToldLemmas

@@ -3,7 +3,8 @@ ghost use Rattle.std.specs.Prelude.{◌≡◌, ◌<◌, ◌≤◌, ◌∷◌, []
 ghost use Rattle.wiki_io.specs.declared.links.Event.{Event};
 ghost use Rattle.wiki_io.specs.Link.{with_more};
 ghost use Rattle.socket_link.specs.Moved.{MovedFits};
-ghost use Rattle.socket_link.specs.Told.{opening_of, piece_of};
+ghost use Rattle.socket_link.specs.Deeds.{Takes, Closes, Goes, with_deed};
+ghost use Rattle.socket_link.specs.Told.{opening_of, piece_of, with_time, with_opening, with_writing};
 
 use crate::socket::{Accepted, Moved, PLACES, Ready, Sockets};
 use mio::net::{TcpListener, TcpStream};
@@ -79,6 +80,8 @@ impl<R: Net + Clock> Sockets for TcpSockets<'_, R> {
 
     ghost events = { λ _. None };
 
+    ghost deeds = { λ _. None };
+
     #[tactic(auto, using(crate::proofs::ToldLemmas::listens_once))]
     fn listen(&mut self, address: &str) -> bool {
         self.bind(address).is_ok()
@@ -138,12 +141,16 @@ impl<R: Net + Clock> Sockets for TcpSockets<'_, R> {
         self.read(number, &mut [0; 4096])
     }
 
+    fn take(&mut self, _number: u32, _bytes: &[u8]) {}
+
     fn write(&mut self, number: u32, bytes: &[u8]) -> Moved {
         match self.streams.get_mut(number as usize) {
             Some(Some(stream)) => Moved::from_io(stream.write(bytes)),
             _ => Moved::End,
         }
     }
+
+    fn close(&mut self, _number: u32) {}
 
     fn shut(&mut self, number: u32) -> bool {
         match self.streams.get(number as usize) {

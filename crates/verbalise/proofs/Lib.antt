@@ -1,0 +1,3 @@
+pub mod ExactLemmas
+pub mod PhraseLemmas
+pub mod TruthLemmas

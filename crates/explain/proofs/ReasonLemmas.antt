@@ -10,9 +10,16 @@ use Rattle.logic_terms.specs.Concept.{Claim}
 use Rattle.logic_terms.specs.Interpretation.{Interpretation}
 use Rattle.logic_terms.specs.Reading.{IsModel, Holds}
 use Rattle.reasoner.specs.Verdicts.{IsFiniteModel, HaveNoModel}
-use Rattle.explain.specs.Reasons.{places_from, stated_at, without, IsLeft, IsTried, IsAsked}
+use Rattle.explain.specs.Reasons.{places_from, stated_at, without, IsLeft, IsTried, IsReason, IsAsked}
 use Rattle.tableau_rules.specs.declared.step.Closed.{Closed}
-use Rattle.explain.specs.Narrow.{AreShown, IsShut, IsOnTheWay}
+use Rattle.explain.specs.Narrow.{AreShown, IsShut}
+
+-- the kept parts contradict each other with the rest, each of them is needed, and what is left of both lists is left of all parts
+pub record IsOnTheWay (parts : List (List Claim)) (names : List WordId) (kept rest : List ℕ) (shown : List Interpretation) (tree : Closed) : Type 0 where
+  pub shut : IsShut (stated_at parts (kept ++ rest)) names tree
+  pub shown_each : AreShown parts kept rest shown
+  pub leads : (left : List ℕ) → IsLeft parts kept rest left → IsReason parts left
+  pub asks : (asked : List ℕ) → IsTried parts kept rest asked → IsAsked parts asked
 
 all_parts : {X : Type 0} (P : X → Type 0) (xs ys : List X) → All P (xs ++ ys) → All P xs × All P ys
 all_parts P [] ys h = (All-nil P, h)

@@ -1,4 +1,4 @@
--- What is known on the way to a reason.
+-- What is known of lists of parts on the way to a reason. Only private calls speak of it.
 use Rattle.std.specs.Prelude.{ℕ, ◌+◌, ◌<◌, ◌≤◌, List, All, ◌++◌, drop, length, IsTrue}
 use Rattle.std.specs.List.{AllZip}
 use Rattle.wiki_base.specs.declared.numbers.WordId.{WordId}
@@ -14,7 +14,7 @@ use Rattle.explain.specs.declared.narrowing.Bound.TheVariants.{Model, Undecided}
 use Rattle.explain.specs.declared.narrowing.Edge.{Edge}
 use Rattle.explain.specs.declared.narrowing.Finding.{Finding}
 use Rattle.explain.specs.declared.narrowing.Finding.TheVariants.{Whole, Needed, Unknown}
-use Rattle.explain.specs.Reasons.{stated_at, without, IsLeft, IsTried, IsReason, IsAsked, IsUndecided}
+use Rattle.explain.specs.Reasons.{stated_at, without, IsUndecided}
 
 -- the axioms of all parts are over the names and plain
 pub record AreFit (parts : List (List Claim)) (names : List WordId) : Type 0 where
@@ -50,10 +50,3 @@ IsFound parts names budget kept rest (Unknown low) =
 -- of each kept place an interpretation is a model of the others with the rest
 abbrev pub AreShown : List (List Claim) → List ℕ → List ℕ → List Interpretation → Type 0
 AreShown parts kept rest shown = AllZip (λ place i. IsFiniteModel i (stated_at parts (without place kept ++ rest))) kept shown
-
--- the kept parts contradict each other with the rest, each of them is needed, and what is left of both lists is left of all parts
-pub record IsOnTheWay (parts : List (List Claim)) (names : List WordId) (kept rest : List ℕ) (shown : List Interpretation) (tree : Closed) : Type 0 where
-  pub shut : IsShut (stated_at parts (kept ++ rest)) names tree
-  pub shown_each : AreShown parts kept rest shown
-  pub leads : (left : List ℕ) → IsLeft parts kept rest left → IsReason parts left
-  pub asks : (asked : List ℕ) → IsTried parts kept rest asked → IsAsked parts asked

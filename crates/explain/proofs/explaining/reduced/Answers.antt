@@ -1,11 +1,11 @@
 use Rattle.std.proofs.Common.{◌≡◌, ◌++◌, [], ◌∷◌, ◌+◌, drop, get_or, length, sym, subst, ap, ◌∙◌, le_refl}
 use Rattle.std.proofs.lemmas.List.{drop_all}
 use Rattle.explain.specs.Answers.{claims_in}
-use Rattle.explain.specs.Narrow.{IsFound, IsOnTheWay}
+use Rattle.explain.specs.Narrow.{IsFound}
 use Rattle.owl_eval.specs.Checked.{kept_claims}
 use Rattle.std.specs.List.{AllZip}
 use Rattle.explain.specs.Reasons.{stated_at, without, IsAsked}
-use Rattle.explain.proofs.ReasonLemmas.{on_the_way_more, on_the_way_whole, asked_on_the_way, way_long}
+use Rattle.explain.proofs.ReasonLemmas.{IsOnTheWay, on_the_way_more, on_the_way_whole, asked_on_the_way, way_long}
 use Rattle.explain.proofs.explaining.reduced.Goals as goal
 
 pub models-requires-clause-long : goal.models-requires-clause-long

@@ -1,6 +1,6 @@
 use Rattle.std.proofs.Common.{◌-◌, drop, length}
 use Rattle.explain.specs.Answers.{claims_in}
-use Rattle.explain.specs.Narrow.{IsOnTheWay}
+use Rattle.explain.proofs.ReasonLemmas.{IsOnTheWay}
 use Rattle.explain.proofs.explaining.reduced.Given as goal
 
 abbrev pub invariant-loop-from : goal.invariant-loop-from

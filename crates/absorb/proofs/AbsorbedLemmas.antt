@@ -8,7 +8,7 @@ use Rattle.std.proofs.lemmas.Bool.Decides.{Decides-by_and}
 use Rattle.std.proofs.lemmas.List.Elements.{All-contains, Contains-get_or}
 use Rattle.wiki_base.specs.declared.numbers.WordId.{WordId}
 use Rattle.logic_terms.specs.declared.expressions.Role.{Role}
-use Rattle.logic_terms.specs.Concept.{Concept, Claim, Everything, Atomic, SubClassOf, SubPropertyOf, ClassAssertion, PropertyAssertion, SameIndividual, DifferentIndividuals}
+use Rattle.logic_terms.specs.Concept.{Concept, Claim, Everything, Atomic, SubClassOf, SubPropertyOf, ClassAssertion, PropertyAssertion, SameIndividual, DifferentIndividuals, TransitiveProperty}
 use Rattle.logic_terms.specs.Interpretation.{Interpretation, is_word, words_above, words_rise, element_of, Relates}
 use Rattle.logic_terms.specs.Meaning.{holds}
 use Rattle.logic_terms.specs.Reading.{Holds, IsModel}
@@ -20,7 +20,7 @@ use Rattle.logic_terms.proofs.MeaningLemmas.{holds-Decides, all_hold-Decides}
 use Rattle.absorb.specs.Closure.{Reaches}
 use Rattle.absorb.specs.Hierarchy.{IsAtOrBelow, AreDistinct}
 use Rattle.absorb.specs.Mentioned.{names_in, is_among, are_over}
-use Rattle.absorb.specs.Pieces.{Piece, Equality, RoleInclusion, Assertion, Related, Difference, Unfolding, General}
+use Rattle.absorb.specs.Pieces.{Piece, Equality, RoleInclusion, Assertion, Related, Difference, Transitivity, Unfolding, General}
 use Rattle.absorb.specs.Sorted.{Sorted, sorted}
 use Rattle.absorb.specs.Absorbed.{AreEquated, Represents, IsPutBelow, IsAbsorbed}
 use Rattle.absorb.proofs.ClosureLemmas as closure
@@ -44,6 +44,7 @@ pub record PassEach (test : Piece → Bool) (s : Sorted) : Type 0 where
   pub assertions : All (λ e. test (Assertion e.0 e.1) ≡ true) s.assertions
   pub edges : All (λ e. test (Related e.0 e.1 e.2) ≡ true) s.edges
   pub differences : All (λ e. test (Difference e.0 e.1) ≡ true) s.differences
+  pub transitive : All (λ w. test (Transitivity w) ≡ true) s.transitive
   pub unfoldings : All (λ e. test (Unfolding e.0 e.1) ≡ true) s.unfoldings
   pub general : All (λ c. test (General c) ≡ true) s.general
 
@@ -54,22 +55,25 @@ pass_each test s h =
     let a = list_all (λ e. test (Assertion e.0 e.1)) s.assertions in
     let g = list_all (λ e. test (Related e.0 e.1 e.2)) s.edges in
     let d = list_all (λ e. test (Difference e.0 e.1)) s.differences in
+    let w = list_all (λ w. test (Transitivity w)) s.transitive in
     let u = list_all (λ e. test (Unfolding e.0 e.1)) s.unfoldings in
     let n = list_all (λ c. test (General c)) s.general in
-    let p1 = and_parts e (r && (a && (g && (d && (u && n))))) h in
-    let p2 = and_parts r (a && (g && (d && (u && n)))) p1.1 in
-    let p3 = and_parts a (g && (d && (u && n))) p2.1 in
-    let p4 = and_parts g (d && (u && n)) p3.1 in
-    let p5 = and_parts d (u && n) p4.1 in
-    let p6 = and_parts u n p5.1 in
+    let p1 = and_parts e (r && (a && (g && (d && (w && (u && n)))))) h in
+    let p2 = and_parts r (a && (g && (d && (w && (u && n))))) p1.1 in
+    let p3 = and_parts a (g && (d && (w && (u && n)))) p2.1 in
+    let p4 = and_parts g (d && (w && (u && n))) p3.1 in
+    let p5 = and_parts d (w && (u && n)) p4.1 in
+    let p6 = and_parts w (u && n) p5.1 in
+    let p7 = and_parts u n p6.1 in
     record {
       equalities = each_passes (λ e. test (Equality e.0 e.1)) s.equalities p1.0;
       role_inclusions = each_passes (λ e. test (RoleInclusion e.0 e.1)) s.role_inclusions p2.0;
       assertions = each_passes (λ e. test (Assertion e.0 e.1)) s.assertions p3.0;
       edges = each_passes (λ e. test (Related e.0 e.1 e.2)) s.edges p4.0;
       differences = each_passes (λ e. test (Difference e.0 e.1)) s.differences p5.0;
-      unfoldings = each_passes (λ e. test (Unfolding e.0 e.1)) s.unfoldings p6.0;
-      general = each_passes (λ c. test (General c)) s.general p6.1;
+      transitive = each_passes (λ w. test (Transitivity w)) s.transitive p6.0;
+      unfoldings = each_passes (λ e. test (Unfolding e.0 e.1)) s.unfoldings p7.0;
+      general = each_passes (λ c. test (General c)) s.general p7.1;
     }
 
 pass_all : (test : Piece → Bool) (s : Sorted) → PassEach test s → all_sorted test s ≡ true
@@ -79,14 +83,16 @@ pass_all test s p =
     let a = list_all (λ e. test (Assertion e.0 e.1)) s.assertions in
     let g = list_all (λ e. test (Related e.0 e.1 e.2)) s.edges in
     let d = list_all (λ e. test (Difference e.0 e.1)) s.differences in
+    let w = list_all (λ w. test (Transitivity w)) s.transitive in
     let u = list_all (λ e. test (Unfolding e.0 e.1)) s.unfoldings in
     let n = list_all (λ c. test (General c)) s.general in
-    and_from e (r && (a && (g && (d && (u && n))))) (all_pass (λ e. test (Equality e.0 e.1)) s.equalities p.equalities)
-    (and_from r (a && (g && (d && (u && n)))) (all_pass (λ e. test (RoleInclusion e.0 e.1)) s.role_inclusions p.role_inclusions)
-    (and_from a (g && (d && (u && n))) (all_pass (λ e. test (Assertion e.0 e.1)) s.assertions p.assertions)
-    (and_from g (d && (u && n)) (all_pass (λ e. test (Related e.0 e.1 e.2)) s.edges p.edges)
-    (and_from d (u && n) (all_pass (λ e. test (Difference e.0 e.1)) s.differences p.differences)
-    (and_from u n (all_pass (λ e. test (Unfolding e.0 e.1)) s.unfoldings p.unfoldings) (all_pass (λ c. test (General c)) s.general p.general))))))
+    and_from e (r && (a && (g && (d && (w && (u && n)))))) (all_pass (λ e. test (Equality e.0 e.1)) s.equalities p.equalities)
+    (and_from r (a && (g && (d && (w && (u && n))))) (all_pass (λ e. test (RoleInclusion e.0 e.1)) s.role_inclusions p.role_inclusions)
+    (and_from a (g && (d && (w && (u && n)))) (all_pass (λ e. test (Assertion e.0 e.1)) s.assertions p.assertions)
+    (and_from g (d && (w && (u && n))) (all_pass (λ e. test (Related e.0 e.1 e.2)) s.edges p.edges)
+    (and_from d (w && (u && n)) (all_pass (λ e. test (Difference e.0 e.1)) s.differences p.differences)
+    (and_from w (u && n) (all_pass (λ w. test (Transitivity w)) s.transitive p.transitive)
+    (and_from u n (all_pass (λ e. test (Unfolding e.0 e.1)) s.unfoldings p.unfoldings) (all_pass (λ c. test (General c)) s.general p.general)))))))
 
 pub over_each : (names : List WordId) (claims : List Claim) → are_over names claims ≡ true → PassEach (piece_over names) (sorted claims)
 over_each names claims h = pass_each (piece_over names) (sorted claims) (all_sorted-sorted (piece_over names) claims ∙ over-all_pieces names claims h)
@@ -238,6 +244,7 @@ module _ (claims : List Claim) (names : List WordId) (k : Theory) (made : IsAbso
     names = λ j d lt. same_element (get_or k.names j d).0 (get_or k.names j d).1 (made.representatives j d lt).joined;
     hierarchy = λ j d lt. included (get_or k.hierarchy j d).0 (get_or k.hierarchy j d).1
         (at_or_below (get_or k.hierarchy j d).0 (get_or k.hierarchy j d).1 (inr (Contains-get_or k.hierarchy j d lt)));
+    transitive = λ j d lt. led_on (get_or k.transitive j d) ((made.transitive (get_or k.transitive j d)).0 (Contains-get_or k.transitive j d lt));
     assertions = subst (All (λ e. Holds i (ClassAssertion e.1 e.0))) (sym made.assertions)
         (λ j d lt. true_claim (ClassAssertion (get_or (sorted claims).assertions j d).1 (get_or (sorted claims).assertions j d).0) (each.assertions j d lt));
     edges = subst (All (λ e. Holds i (PropertyAssertion e.0 e.1 e.2))) (sym made.edges)
@@ -259,6 +266,10 @@ module _ (claims : List Claim) (names : List WordId) (k : Theory) (made : IsAbso
 
       true_claim : (claim : Claim) → holds i claim ≡ true → Holds i claim
       true_claim claim h = (holds-Decides i claim).0 h
+
+      led_on : (w : WordId) → Contains (sorted claims).transitive w → Holds i (TransitiveProperty w)
+      led_on w h = true_claim (TransitiveProperty w)
+          (All-contains (λ w. piece_holds i (Transitivity w) ≡ true) (sorted claims).transitive w each.transitive h)
 
       equal : (e : WordId × WordId) → Contains (sorted claims).equalities e → element_of i e.0 ≡ element_of i e.1
       equal e h = true_claim (SameIndividual e.0 e.1)
@@ -302,6 +313,9 @@ module _ (claims : List Claim) (names : List WordId) (k : Theory) (made : IsAbso
             (get_or (sorted claims).edges j d).2) (subst (All (λ e. Holds i (PropertyAssertion e.0 e.1 e.2))) made.edges model.edges j d lt);
         differences = λ j d lt. test (DifferentIndividuals (get_or (sorted claims).differences j d).0 (get_or (sorted claims).differences j d).1)
             (subst (All (λ e. Holds i (DifferentIndividuals e.0 e.1))) made.differences model.differences j d lt);
+        transitive = λ j d lt. test (TransitiveProperty (get_or (sorted claims).transitive j d))
+            (All-contains (λ w. Holds i (TransitiveProperty w)) k.transitive (get_or (sorted claims).transitive j d) model.transitive
+            ((made.transitive (get_or (sorted claims).transitive j d)).1 (Contains-get_or (sorted claims).transitive j d lt)));
         unfoldings = λ j d lt. test (SubClassOf (Atomic (get_or (sorted claims).unfoldings j d).0) (get_or (sorted claims).unfoldings j d).1)
             (subst (All (λ e. Holds i (SubClassOf (Atomic e.0) e.1))) made.unfoldings model.unfoldings j d lt);
         general = λ j d lt. test (SubClassOf Everything (get_or (sorted claims).general j d))
@@ -331,24 +345,33 @@ module _ (claims : List Claim) (names : List WordId) (k : Theory) (made : IsAbso
 
 -- knowledge of the lists that were made is what absorption makes
 pub absorbed_from : (claims : List Claim) (names : List WordId) (k : Theory) (ns equalities : List (WordId × WordId)) (hs inclusions : List (Role × Role))
+    (ts words : List WordId)
     → equalities ≡ (sorted claims).equalities → inclusions ≡ (sorted claims).role_inclusions → k.names ≡ ns → k.hierarchy ≡ hs
+    → words ≡ (sorted claims).transitive → k.transitive ≡ ts → IsTrue (names_rise ts) → ((w : WordId) → Contains ts w ↔ Contains words w)
     → map (λ (e : WordId × WordId). e.0) ns ≡ names → All (λ e. Represents equalities e.0 e.1) ns
     → ((r s : Role) → IsAtOrBelow hs r s ↔ Reaches (IsPutBelow inclusions) r s) → AreDistinct hs → k.assertions ≡ (sorted claims).assertions
     → k.edges ≡ (sorted claims).edges → k.differences ≡ (sorted claims).differences → k.unfoldings ≡ (sorted claims).unfoldings
     → k.general ≡ (sorted claims).general → IsAbsorbed claims names k
-absorbed_from claims names k ns equalities hs inclusions same_e same_i same_n same_h given least closed distinct a e d u g = record {
-  given = ap (map (λ (e : WordId × WordId). e.0)) same_n ∙ given;
-  representatives = subst (λ es. All (λ e. Represents (sorted claims).equalities e.0 e.1) es) (sym same_n)
-      (subst (λ qs. All (λ e. Represents qs e.0 e.1) ns) same_e least);
-  hierarchy = λ r s. (
-    λ h. subst (λ qs. Reaches (IsPutBelow qs) r s) same_i ((closed r s).0 (subst (λ ps. IsAtOrBelow ps r s) same_h ((is_below-Decides k r s).0 h))),
-    λ h. (is_below-Decides k r s).1 (subst (λ ps. IsAtOrBelow ps r s) (sym same_h) ((closed r s).1 (subst (λ qs. Reaches (IsPutBelow qs) r s) (sym same_i) h))),
-  );
-  different = subst (λ ps. All (λ p. same_role p.0 p.1 ≡ false) ps) (sym same_h) distinct.different;
-  once = subst (λ ps. AllPairs (λ p q. (same_role p.0 q.0 && same_role p.1 q.1) ≡ false) ps) (sym same_h) distinct.once;
-  assertions = a;
-  edges = e;
-  differences = d;
-  unfoldings = u;
-  general = g;
-}
+absorbed_from claims names k ns equalities hs inclusions ts words same_e same_i same_n same_h same_w same_t rise leads given least closed distinct a e d u g =
+    record {
+      given = ap (map (λ (e : WordId × WordId). e.0)) same_n ∙ given;
+      representatives = subst (λ es. All (λ e. Represents (sorted claims).equalities e.0 e.1) es) (sym same_n)
+          (subst (λ qs. All (λ e. Represents qs e.0 e.1) ns) same_e least);
+      hierarchy = λ r s. (
+        λ h. subst (λ qs. Reaches (IsPutBelow qs) r s) same_i ((closed r s).0 (subst (λ ps. IsAtOrBelow ps r s) same_h ((is_below-Decides k r s).0 h))),
+        λ h. (is_below-Decides k r s).1 (subst (λ ps. IsAtOrBelow ps r s) (sym same_h)
+            ((closed r s).1 (subst (λ qs. Reaches (IsPutBelow qs) r s) (sym same_i) h))),
+      );
+      different = subst (λ ps. All (λ p. same_role p.0 p.1 ≡ false) ps) (sym same_h) distinct.different;
+      once = subst (λ ps. AllPairs (λ p q. (same_role p.0 q.0 && same_role p.1 q.1) ≡ false) ps) (sym same_h) distinct.once;
+      rising = ap names_rise same_t ∙ rise;
+      transitive = λ w. (
+        λ h. subst (λ vs. Contains vs w) same_w ((leads w).0 (subst (λ vs. Contains vs w) same_t h)),
+        λ h. subst (λ vs. Contains vs w) (sym same_t) ((leads w).1 (subst (λ vs. Contains vs w) (sym same_w) h)),
+      );
+      assertions = a;
+      edges = e;
+      differences = d;
+      unfoldings = u;
+      general = g;
+    }

@@ -2,6 +2,7 @@ pub mod AbsorbedLemmas
 pub mod ClosureLemmas
 pub mod HierarchyLemmas
 pub mod NamedLemmas
+pub mod OrderLemmas
 pub mod PieceClaims
 pub mod PieceLemmas
 pub mod PlaceLemmas

@@ -6,7 +6,7 @@ use Rattle.std.proofs.lemmas.Bool.{and_parts, and_from}
 use Rattle.std.proofs.lemmas.List.Folds.{list_all-append}
 use Rattle.wiki_base.specs.declared.numbers.WordId.{WordId}
 use Rattle.logic_terms.specs.Interpretation.{is_word}
-use Rattle.logic_terms.specs.Concept.{Concept, Concepts, Everything, Atomic, ComplementOf, IntersectionOf, UnionOf, SomeValuesFrom, AllValuesFrom, HasValue, no_concept, also_concept, Claim, SubClassOf, SubPropertyOf, ClassAssertion, PropertyAssertion, NegativePropertyAssertion, SameIndividual, DifferentIndividuals}
+use Rattle.logic_terms.specs.Concept.{Concept, Concepts, Everything, Atomic, ComplementOf, IntersectionOf, UnionOf, SomeValuesFrom, AllValuesFrom, HasValue, no_concept, also_concept, Claim, SubClassOf, SubPropertyOf, ClassAssertion, PropertyAssertion, NegativePropertyAssertion, SameIndividual, DifferentIndividuals, TransitiveProperty}
 use Rattle.logic_terms.specs.Complement.{complement, normal_form, complements, normal_forms, is_normal, is_wide, each_wide, has_two}
 use Rattle.logic_terms.specs.Plain.{is_plain, is_plain_claim, are_plain}
 use Rattle.logic_terms.specs.Same.{inverse}
@@ -14,7 +14,7 @@ use Rattle.logic_terms.specs.Theory.{Theory, is_given, names_given, each_names_g
 use Rattle.logic_terms.proofs.ComplementLemmas.{is_normal-complement, is_wide-complement}
 use Rattle.logic_terms.specs.Parts.{word_part}
 use Rattle.absorb.specs.Mentioned.{names_in, names_in_each, names_in_claim, is_among, are_over}
-use Rattle.absorb.specs.Pieces.{Piece, Equality, Assertion, Related, Difference, Unfolding, General, either, first_word, without_first_word, together, general, guarded, inclusion, inclusions, pieces_of, all_pieces}
+use Rattle.absorb.specs.Pieces.{Piece, Equality, Assertion, Related, Difference, Transitivity, Unfolding, General, either, first_word, without_first_word, together, general, guarded, inclusion, inclusions, pieces_of, all_pieces}
 use Rattle.absorb.proofs.PieceClaims.{claim_in}
 
 -- the complement has the same names
@@ -121,6 +121,7 @@ module _ (names : List WordId) where
   over-pieces_of (NegativePropertyAssertion r from to) h = one_piece (Assertion from (ComplementOf (HasValue r to))) h
   over-pieces_of (SameIndividual one other) h = one_piece (Equality one other) h
   over-pieces_of (DifferentIndividuals one other) h = one_piece (Difference one other) h
+  over-pieces_of (TransitiveProperty word) h = one_piece (Transitivity word) h
 
   pub over-all_pieces : (claims : List Claim) → are_over names claims ≡ true → list_all piece_over (all_pieces claims) ≡ true
   over-all_pieces [] h = refl
@@ -232,6 +233,7 @@ plain-pieces_of (PropertyAssertion r from to) h = refl
 plain-pieces_of (NegativePropertyAssertion r from to) h = refl
 plain-pieces_of (SameIndividual one other) h = refl
 plain-pieces_of (DifferentIndividuals one other) h = refl
+plain-pieces_of (TransitiveProperty word) h = refl
 
 pub plain-all_pieces : (claims : List Claim) → are_plain claims ≡ true → list_all piece_plain (all_pieces claims) ≡ true
 plain-all_pieces [] h = refl

@@ -9,7 +9,7 @@ use Rattle.std.proofs.Math.Bool.{or-false, and-true as and_true}
 use Rattle.wiki_base.specs.declared.numbers.WordId.{WordId}
 use Rattle.wiki_base.proofs.BoolLaws.{and-swap}
 use Rattle.logic_terms.specs.declared.expressions.Role.{Role}
-use Rattle.logic_terms.specs.Concept.{Concept, Concepts, Everything, Atomic, ComplementOf, IntersectionOf, UnionOf, SomeValuesFrom, AllValuesFrom, HasValue, no_concept, also_concept, Claim, SubClassOf, SubPropertyOf, ClassAssertion, PropertyAssertion, NegativePropertyAssertion, SameIndividual, DifferentIndividuals}
+use Rattle.logic_terms.specs.Concept.{Concept, Concepts, Everything, Atomic, ComplementOf, IntersectionOf, UnionOf, SomeValuesFrom, AllValuesFrom, HasValue, no_concept, also_concept, Claim, SubClassOf, SubPropertyOf, ClassAssertion, PropertyAssertion, NegativePropertyAssertion, SameIndividual, DifferentIndividuals, TransitiveProperty}
 use Rattle.logic_terms.specs.Interpretation.{Interpretation, element_of, relates, Relates, has_pair}
 use Rattle.logic_terms.specs.Meaning.{each_below, implies, is_in, is_in_each, is_in_some, holds, all_hold}
 use Rattle.logic_terms.specs.Reading.{Holds}
@@ -189,6 +189,7 @@ holds-pieces_of i (PropertyAssertion r from to) = and_true (holds i (PropertyAss
 holds-pieces_of i (NegativePropertyAssertion r from to) = and_true (holds i (NegativePropertyAssertion r from to))
 holds-pieces_of i (SameIndividual one other) = and_true (holds i (SameIndividual one other))
 holds-pieces_of i (DifferentIndividuals one other) = and_true (holds i (DifferentIndividuals one other))
+holds-pieces_of i (TransitiveProperty word) = and_true (holds i (TransitiveProperty word))
 
 -- each piece is true exactly where each axiom is
 pub holds-all_pieces : (i : Interpretation) (claims : List Claim) → list_all (piece_holds i) (all_pieces claims) ≡ all_hold i claims

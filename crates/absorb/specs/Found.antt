@@ -11,6 +11,7 @@ found pieces = record {
   assertions = stated pieces.assertions.items;
   edges = pieces.edges.items;
   differences = pieces.differences.items;
+  transitive = pieces.transitive.items;
   unfoldings = stated pieces.unfoldings.items;
   general = concepts_of pieces.general;
 }

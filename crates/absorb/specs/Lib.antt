@@ -4,6 +4,7 @@ pub mod FirstWord
 pub mod Found
 pub mod Hierarchy
 pub mod Mentioned
+pub mod Numbered
 pub mod Pieces
 pub mod Renamed
 pub mod Sorted

@@ -3,7 +3,7 @@ use Rattle.std.specs.Prelude.{Bool, List, [], ◌∷◌, ◌++◌}
 use Rattle.std.specs.List.{list_any, list_all, flat_map}
 use Rattle.wiki_base.specs.declared.numbers.WordId.{WordId}
 use Rattle.logic_terms.specs.Interpretation.{is_word}
-use Rattle.logic_terms.specs.Concept.{Concept, Concepts, Everything, Atomic, ComplementOf, IntersectionOf, UnionOf, SomeValuesFrom, AllValuesFrom, HasValue, no_concept, also_concept, Claim, SubClassOf, SubPropertyOf, ClassAssertion, PropertyAssertion, NegativePropertyAssertion, SameIndividual, DifferentIndividuals}
+use Rattle.logic_terms.specs.Concept.{Concept, Concepts, Everything, Atomic, ComplementOf, IntersectionOf, UnionOf, SomeValuesFrom, AllValuesFrom, HasValue, no_concept, also_concept, Claim, SubClassOf, SubPropertyOf, ClassAssertion, PropertyAssertion, NegativePropertyAssertion, SameIndividual, DifferentIndividuals, TransitiveProperty}
 
 -- the names in a class, and in the members of one
 abbrev mutual
@@ -30,6 +30,7 @@ names_in_claim (PropertyAssertion r from to) = from ∷ to ∷ []
 names_in_claim (NegativePropertyAssertion r from to) = from ∷ to ∷ []
 names_in_claim (SameIndividual one other) = one ∷ other ∷ []
 names_in_claim (DifferentIndividuals one other) = one ∷ other ∷ []
+names_in_claim (TransitiveProperty word) = []
 
 -- whether a name is one of these
 abbrev pub is_among : List WordId → WordId → Bool

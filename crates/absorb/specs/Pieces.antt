@@ -4,7 +4,7 @@ use Rattle.std.specs.List.{flat_map}
 use Rattle.std.specs.Option.{option_map_or}
 use Rattle.wiki_base.specs.declared.numbers.WordId.{WordId}
 use Rattle.logic_terms.specs.declared.expressions.Role.{Role}
-use Rattle.logic_terms.specs.Concept.{Concept, Concepts, Everything, Atomic, ComplementOf, IntersectionOf, UnionOf, SomeValuesFrom, AllValuesFrom, HasValue, no_concept, also_concept, Claim, SubClassOf, SubPropertyOf, ClassAssertion, PropertyAssertion, NegativePropertyAssertion, SameIndividual, DifferentIndividuals}
+use Rattle.logic_terms.specs.Concept.{Concept, Concepts, Everything, Atomic, ComplementOf, IntersectionOf, UnionOf, SomeValuesFrom, AllValuesFrom, HasValue, no_concept, also_concept, Claim, SubClassOf, SubPropertyOf, ClassAssertion, PropertyAssertion, NegativePropertyAssertion, SameIndividual, DifferentIndividuals, TransitiveProperty}
 use Rattle.logic_terms.specs.Complement.{complement}
 use Rattle.logic_terms.specs.Parts.{word_part}
 use Rattle.logic_terms.specs.Same.{inverse}
@@ -21,6 +21,8 @@ pub data Piece : Type 0 where
   Related : Role → WordId → WordId → Piece
   -- two names have different elements
   Difference : WordId → WordId → Piece
+  -- a relation word is transitive
+  Transitivity : WordId → Piece
   -- each element of a class word is in a class
   Unfolding : WordId → Concept → Piece
   -- each element is in a class
@@ -80,6 +82,7 @@ pieces_of (PropertyAssertion r from to) = Related r from to ∷ []
 pieces_of (NegativePropertyAssertion r from to) = Assertion from (ComplementOf (HasValue r to)) ∷ []
 pieces_of (SameIndividual one other) = Equality one other ∷ []
 pieces_of (DifferentIndividuals one other) = Difference one other ∷ []
+pieces_of (TransitiveProperty word) = Transitivity word ∷ []
 
 -- axioms, in their order
 abbrev pub all_pieces : List Claim → List Piece

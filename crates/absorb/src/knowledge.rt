@@ -12,6 +12,7 @@ ghost use Rattle.absorb.specs.Mentioned.{are_over};
 use crate::hierarchy::hierarchy;
 use crate::representatives::representatives;
 use crate::sorting::gather;
+use crate::transitive::in_order;
 use logic_terms::{Axioms, Knowledge, Names};
 use std::alloc::Global;
 use wiki_base::Memory;
@@ -29,9 +30,11 @@ pub fn absorb(alloc: Global, axioms: &Axioms, names: &Names) -> Result<Knowledge
     let pieces = gather(alloc, axioms)?;
     let given = representatives(alloc, names, pieces.equalities.as_slice())?;
     let roles = hierarchy(alloc, pieces.role_inclusions.as_slice())?;
+    let transitive = in_order(alloc, pieces.transitive.as_slice())?;
     Ok(Knowledge::new(
         given,
         roles,
+        transitive,
         pieces.assertions,
         pieces.edges,
         pieces.differences,

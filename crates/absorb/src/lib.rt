@@ -7,5 +7,6 @@ mod knowledge;
 mod pieces;
 mod representatives;
 mod sorting;
+mod transitive;
 
 pub use knowledge::absorb;

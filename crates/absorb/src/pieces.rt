@@ -13,13 +13,14 @@ pub(crate) struct Pieces {
     pub(crate) assertions: Vec<(WordId, Class)>,
     pub(crate) edges: Vec<(Role, WordId, WordId)>,
     pub(crate) differences: Vec<(WordId, WordId)>,
+    pub(crate) transitive: Vec<WordId>,
     pub(crate) unfoldings: Vec<(WordId, Class)>,
     pub(crate) general: Classes,
 }
 
 impl Pieces {
     ghost use Rattle.logic_terms.specs.Shown.{concept_of};
-    ghost use Rattle.absorb.specs.Pieces.{Equality, RoleInclusion, Assertion, Related, Difference, Unfolding, General};
+    ghost use Rattle.absorb.specs.Pieces.{Equality, RoleInclusion, Assertion, Related, Difference, Transitivity, Unfolding, General};
     ghost use Rattle.absorb.specs.Sorted.{with_piece, no_pieces};
     ghost use Rattle.absorb.specs.Found.{found};
 
@@ -32,6 +33,7 @@ impl Pieces {
             assertions: Vec::new(alloc),
             edges: Vec::new(alloc),
             differences: Vec::new(alloc),
+            transitive: Vec::new(alloc),
             unfoldings: Vec::new(alloc),
             general: Classes::new(alloc),
         }
@@ -69,6 +71,13 @@ impl Pieces {
         ensures { OnOk result (found self.new ≡ with_piece (found self.old) (Difference one other)) }
     {
         self.differences.push((one, other))?;
+        Ok(())
+    }
+
+    pub(crate) fn lead_on(&mut self, word: WordId) -> Result<(), Memory>
+        ensures { OnOk result (found self.new ≡ with_piece (found self.old) (Transitivity word)) }
+    {
+        self.transitive.push(word)?;
         Ok(())
     }
 

@@ -35,6 +35,7 @@ fn sort(alloc: Global, pieces: &mut Pieces, stated: &Axiom) -> Result<(), Memory
         Axiom::NotRelated(role, from, to) => pieces.assert(*from, not_value(alloc, *role, *to)?),
         Axiom::Equal(one, other) => pieces.equate(*one, *other),
         Axiom::Differ(one, other) => pieces.tell_apart(*one, *other),
+        Axiom::Transitive(word) => pieces.lead_on(*word),
     }
 }
 

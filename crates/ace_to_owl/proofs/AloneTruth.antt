@@ -2,7 +2,8 @@
 use Rattle.std.proofs.Common.{◌≡◌, ℕ, zero, suc, ◌<◌, ◌==◌, ◌&&◌, ◌||◌, Bool, true, false, List, [], ◌∷◌, ◌++◌, Option, Some, None, Result, Ok, Err, Contains, Decides, refl, sym, ap, ◌∙◌, subst, inl, inr, arith}
 use Rattle.std.specs.Prelude.{◌⊎◌, not, if◌then◌else◌}
 use Rattle.std.specs.List.{list_all, filter}
-use Rattle.std.proofs.lemmas.Bool.{cases_eq, eq-eqb, ne_eqb, or_cases, or_right, and_from, eqb-true, both_ways}
+use Rattle.std.specs.Option.{option_or}
+use Rattle.std.proofs.lemmas.Bool.{cases_eq, eq-eqb, ne_eqb, or_cases, or_right, and_from, eqb-true, ltb-true, both_ways}
 use Rattle.std.proofs.lemmas.Option.{same_Some}
 use Rattle.std.proofs.Math.Bool.{and-true}
 use Rattle.wiki_base.specs.declared.numbers.WordId.{WordId}
@@ -14,7 +15,7 @@ use Rattle.logic_terms.specs.Concept.{Concept, Everything, Atomic, Claim, SubCla
 use Rattle.logic_terms.specs.Structure.{Condition, Conditions, Structure, IsA, AreRelated, AreSame, Negation, Implication, Disjunction, no_condition, also_condition, structure, referents_in}
 use Rattle.logic_terms.specs.Free.{is_bound}
 use Rattle.logic_terms.specs.Introduced.{introduced_in, introduced_in_all, introduced_in_condition, all_distinct}
-use Rattle.logic_terms.specs.Interpretation.{Interpretation, element_of, has_pair}
+use Rattle.logic_terms.specs.Interpretation.{Interpretation, is_interpretation, element_of, has_pair}
 use Rattle.logic_terms.specs.Meaning.{each_below, implies, is_in, holds}
 use Rattle.logic_terms.specs.Truth.{giving, some_extension, each_extension, is_true, all_true, condition_true}
 use Rattle.logic_terms.specs.Reading.{Extends}
@@ -24,10 +25,11 @@ use Rattle.ace_to_owl.specs.Outcomes.{next}
 use Rattle.ace_to_owl.specs.Terms.{terms_in, terms_in_condition, first_name, referents_among}
 use Rattle.ace_to_owl.specs.Parts.{straight, inverse}
 use Rattle.ace_to_owl.specs.Rolling.{roll}
-use Rattle.ace_to_owl.specs.Mapping.{without, subclass_claim, member_claim, only_condition, only_fact, denied_claim, is_pair, role_claim, plain_claim, alone, other_claim, leading_claim, nameless_claim, named_claim, used_claim, compound_claim, claim_alone}
+use Rattle.ace_to_owl.specs.Mapping.{without, subclass_claim, member_claim, only_condition, only_fact, denied_claim, is_pair, role_claim, subrole_claim, two_conditions, transitive_claim, plain_claim, alone, other_claim, leading_claim, nameless_claim, named_claim, used_claim, compound_claim, claim_alone}
 use Rattle.ace_to_owl.proofs.RollMeaning.{Went, went, no_err, ok_same, fresh_in, fresh_in_all, fresh_in_condition}
 use Rattle.ace_to_owl.proofs.Fresh.{Among, not_both, not_from, fresh_less, fresh_less_all, bound_filter, filter_bound}
 use Rattle.ace_to_owl.proofs.RollTruth.{roll_true}
+use Rattle.ace_to_owl.proofs.TransitiveTruth.{transitive_says}
 
 no_claim : {X : Type 0} (x : X) → ◌≡◌ {A = Option X} None (Some x) → ⊥
 no_claim x e = let flip : true ≡ false = ap (λ o. elim o [ Some k ↦ false | None ↦ true ]) e in cc
@@ -201,29 +203,38 @@ subrole_by i k l claim (Some c) (Some d) once is_c is_d e =
 subrole_by i k l claim (Some c) None once is_c is_d e = absurd (no_claim claim e)
 subrole_by i k l claim None p once is_c is_d e = absurd (no_claim claim e)
 
+-- an implication between relations
+role_axiom_says : (i : Interpretation) → is_interpretation i ≡ true → (k l : Structure) (claim : Claim) (o : Option Claim)
+    → all_distinct (referents_in k) ≡ true
+    → subrole_claim k l ≡ o → option_or o (transitive_claim k l) ≡ Some claim → Says i claim (Implication k l)
+role_axiom_says i lawful k l claim (Some own) once is e = subrole_by i k l claim (only_condition k) (only_fact l) once refl refl (is ∙ e)
+role_axiom_says i lawful k l claim None once is e =
+    record { truth = transitive_says i lawful k l claim (two_conditions k) (only_fact l) refl refl (λ d is_d f. fact_true i l d is_d f) e }
+
 -- a condition that is an axiom as it stands
-pub plain_says : (i : Interpretation) (c : Condition) (claim : Claim) → all_distinct (introduced_in_condition c) ≡ true → plain_claim c ≡ Some claim
+pub plain_says : (i : Interpretation) → is_interpretation i ≡ true → (c : Condition) (claim : Claim) → all_distinct (introduced_in_condition c) ≡ true
+    → plain_claim c ≡ Some claim
     → Says i claim c
-plain_says i (IsA noun (Name a)) claim once e =
+plain_says i lawful (IsA noun (Name a)) claim once e =
     says_at i (ClassAssertion (Atomic noun) a) claim (IsA noun (Name a)) (same_Some (ClassAssertion (Atomic noun) a) claim e) (record { truth = λ f. refl })
-plain_says i (IsA noun (Ref r)) claim once e = absurd (no_claim claim e)
-plain_says i (AreRelated word (Name a) (Name b)) claim once e =
+plain_says i lawful (IsA noun (Ref r)) claim once e = absurd (no_claim claim e)
+plain_says i lawful (AreRelated word (Name a) (Name b)) claim once e =
     says_at i (PropertyAssertion (straight word) a b) claim (AreRelated word (Name a) (Name b)) (same_Some (PropertyAssertion (straight word) a b) claim e)
     (record { truth = λ f. refl })
-plain_says i (AreRelated word (Name a) (Ref r)) claim once e = absurd (no_claim claim e)
-plain_says i (AreRelated word (Ref r) t) claim once e = absurd (no_claim claim e)
-plain_says i (AreSame (Name a) (Name b)) claim once e =
+plain_says i lawful (AreRelated word (Name a) (Ref r)) claim once e = absurd (no_claim claim e)
+plain_says i lawful (AreRelated word (Ref r) t) claim once e = absurd (no_claim claim e)
+plain_says i lawful (AreSame (Name a) (Name b)) claim once e =
     says_at i (SameIndividual a b) claim (AreSame (Name a) (Name b)) (same_Some (SameIndividual a b) claim e) (record { truth = λ f. refl })
-plain_says i (AreSame (Name a) (Ref r)) claim once e = absurd (no_claim claim e)
-plain_says i (AreSame (Ref r) t) claim once e = absurd (no_claim claim e)
-plain_says i (Negation k) claim once e = negation_by i k claim (only_fact k) refl e
-plain_says i (Implication k l) claim once e =
-    subrole_by i k l claim (only_condition k) (only_fact l)
-    (distinct_in k (Rattle.ace_to_owl.proofs.Fresh.apart_of (introduced_in k) (introduced_in l) once).first) refl refl e
+plain_says i lawful (AreSame (Name a) (Ref r)) claim once e = absurd (no_claim claim e)
+plain_says i lawful (AreSame (Ref r) t) claim once e = absurd (no_claim claim e)
+plain_says i lawful (Negation k) claim once e = negation_by i k claim (only_fact k) refl e
+plain_says i lawful (Implication k l) claim once e =
+    role_axiom_says i lawful k l claim (subrole_claim k l)
+    (distinct_in k (Rattle.ace_to_owl.proofs.Fresh.apart_of (introduced_in k) (introduced_in l) once).first) refl e
   where
     distinct_in : (s : Structure) → all_distinct (introduced_in s) ≡ true → all_distinct (referents_in s) ≡ true
     distinct_in (structure rs cs) h = (Rattle.ace_to_owl.proofs.Fresh.apart_of rs (introduced_in_all cs) h).first
-plain_says i (Disjunction k l) claim once e = absurd (no_claim claim e)
+plain_says i lawful (Disjunction k l) claim once e = absurd (no_claim claim e)
 
 -- a structure of one condition at a root
 alone_fresh : (c : Condition) → fresh_in_condition [] c ≡ true → fresh_in [] (alone c) ≡ true
@@ -412,12 +423,22 @@ compound_says i (AreSame t u) claim pos fresh e = named_says i (AreSame t u) cla
 compound_says i (Negation k) claim pos fresh e = named_says i (Negation k) claim pos fresh e
 compound_says i (Disjunction k l) claim pos fresh e = named_says i (Disjunction k l) claim pos fresh e
 
-alone_by : (i : Interpretation) (c : Condition) (claim : Claim) (o : Option Claim) → 0 < i.size → all_distinct (introduced_in_condition c) ≡ true
+-- an interpretation has an element
+first_of_all : (a b c d e f g : Bool) → ((((((a && b) && c) && d) && e) && f) && g) ≡ true → a ≡ true
+first_of_all a b c d e f g h =
+    and_first a b (and_first (a && b) c (and_first ((a && b) && c) d
+    (and_first (((a && b) && c) && d) e (and_first ((((a && b) && c) && d) && e) f (and_first (((((a && b) && c) && d) && e) && f) g h)))))
+
+pub positive : (i : Interpretation) → is_interpretation i ≡ true → 0 < i.size
+positive i lawful = ltb-true 0 i.size (first_of_all _ _ _ _ _ _ _ lawful)
+
+alone_by : (i : Interpretation) (c : Condition) (claim : Claim) (o : Option Claim) → is_interpretation i ≡ true
+    → all_distinct (introduced_in_condition c) ≡ true
     → fresh_in_condition [] c ≡ true → plain_claim c ≡ o → ◌≡◌ {A = Result Claim Cause} (elim o [ Some plain ↦ Ok plain | None ↦ compound_claim c ]) (Ok claim)
     → Says i claim c
-alone_by i c claim (Some plain) pos once fresh is e = says_at i plain claim c (ok_same plain claim e) (plain_says i c plain once is)
-alone_by i c claim None pos once fresh is e = compound_says i c claim pos fresh e
+alone_by i c claim (Some plain) lawful once fresh is e = says_at i plain claim c (ok_same plain claim e) (plain_says i lawful c plain once is)
+alone_by i c claim None lawful once fresh is e = compound_says i c claim (positive i lawful) fresh e
 
-pub alone_says : (i : Interpretation) (c : Condition) (claim : Claim) → 0 < i.size → all_distinct (introduced_in_condition c) ≡ true
+pub alone_says : (i : Interpretation) (c : Condition) (claim : Claim) → is_interpretation i ≡ true → all_distinct (introduced_in_condition c) ≡ true
     → fresh_in_condition [] c ≡ true → claim_alone c ≡ Ok claim → Says i claim c
-alone_says i c claim pos once fresh e = alone_by i c claim (plain_claim c) pos once fresh refl e
+alone_says i c claim lawful once fresh e = alone_by i c claim (plain_claim c) lawful once fresh refl e

@@ -1,14 +1,12 @@
 -- The laws of truth in the words of the contracts.
-use Rattle.std.proofs.Common.{◌≡◌, ℕ, ◌<◌, ◌==◌, ◌&&◌, ◌||◌, Bool, true, false, List, [], ◌∷◌, Option, Some, None, Ok, Contains, Decides, refl, sym, ap, ◌∙◌, inl, inr}
-use Rattle.std.proofs.lemmas.Bool.{ltb-true, eq-eqb, or_cases, eqb-true, both_ways}
-use Rattle.wiki_base.proofs.BoolLaws.{and_first}
+use Rattle.std.proofs.Common.{◌≡◌, ℕ, ◌==◌, ◌||◌, false, List, [], ◌∷◌, Option, Some, None, Ok, Contains, Decides, refl, sym, ap, ◌∙◌, inl, inr}
+use Rattle.std.proofs.lemmas.Bool.{eq-eqb, or_cases, eqb-true, both_ways}
 use Rattle.logic_terms.specs.declared.structures.Thing.{Thing}
 use Rattle.logic_terms.specs.declared.structures.Thing.TheVariants.{Ref, Name}
 use Rattle.logic_terms.specs.Concept.{Concept, Claim}
 use Rattle.logic_terms.specs.Structure.{Structure, referents_in}
 use Rattle.logic_terms.specs.Free.{is_bound}
 use Rattle.logic_terms.specs.Introduced.{introduced_in, IntroducesOnce}
-use Rattle.logic_terms.specs.Interpretation.{Interpretation, is_interpretation}
 use Rattle.logic_terms.specs.Meaning.{is_in, all_hold}
 use Rattle.logic_terms.specs.Truth.{giving, is_true}
 use Rattle.logic_terms.specs.Reading.{IsIn, IsModel, IsTrueUnder}
@@ -35,17 +33,8 @@ roll_keeps (Some (Ref r)) k c made once outside i f x stands =
     ]))
     (ap (λ b. b || false) (eq-eqb r r refl)) made f x stands
 
--- an interpretation has an element
-first_of_all : (a b c d e f g : Bool) → ((((((a && b) && c) && d) && e) && f) && g) ≡ true → a ≡ true
-first_of_all a b c d e f g h =
-    and_first a b (and_first (a && b) c (and_first ((a && b) && c) d
-    (and_first (((a && b) && c) && d) e (and_first ((((a && b) && c) && d) && e) f (and_first (((((a && b) && c) && d) && e) && f) g h)))))
-
-positive : (i : Interpretation) → is_interpretation i ≡ true → 0 < i.size
-positive i lawful = ltb-true 0 i.size (first_of_all _ _ _ _ _ _ _ lawful)
-
 pub statement_keeps : (k : Structure) (claims : List Claim) → axioms_stated k ≡ Ok claims → IntroducesOnce k → SameTruth k claims
-statement_keeps k claims made once i lawful f = statement_true k claims made once i (positive i lawful) f
+statement_keeps k claims made once i lawful f = statement_true k claims made once i lawful f
 
 pub statement_reads : (k : Structure) (claims : List Claim) → axioms_stated k ≡ Ok claims → IntroducesOnce k → SameReading k claims
 statement_reads k claims made once i lawful f =

@@ -14,6 +14,7 @@ pub mod RollingLemmas
 pub mod StatementTruth
 pub mod TermsLemmas
 pub mod TermsTruth
+pub mod TransitiveTruth
 pub mod TreeBridge
 pub mod TreeLemmas
 pub mod TreeMeaning

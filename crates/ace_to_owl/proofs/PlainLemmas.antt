@@ -2,6 +2,7 @@
 use Rattle.std.proofs.Common.{◌≡◌, ℕ, zero, suc, ◌==◌, ◌&&◌, ◌||◌, Bool, true, false, List, [], ◌∷◌, ◌++◌, length, map, Option, Some, None, Result, Ok, Err, refl, sym, ap, ◌∙◌}
 use Rattle.std.specs.Prelude.{not, if◌then◌else◌}
 use Rattle.std.specs.List.{list_any, list_all, filter_map, cons_option}
+use Rattle.std.specs.Option.{option_or}
 use Rattle.std.proofs.lemmas.List.Folds.{list_all-append}
 use Rattle.std.proofs.lemmas.Bool.{and_from}
 use Rattle.std.proofs.Math.Bool.{and-true}
@@ -12,7 +13,7 @@ use Rattle.logic_terms.specs.declared.structures.Thing.TheVariants.{Ref, Name}
 use Rattle.logic_terms.specs.declared.expressions.Role.{Role}
 use Rattle.logic_terms.specs.declared.cause.Cause.{Cause}
 use Rattle.logic_terms.specs.declared.cause.Cause.TheVariants.{Shared, Cycle, NoRoot}
-use Rattle.logic_terms.specs.Concept.{Concept, Everything, Atomic, UnionOf, SomeValuesFrom, HasValue, no_concept, also_concept, concepts_from, Claim, SubClassOf, SubPropertyOf, ClassAssertion}
+use Rattle.logic_terms.specs.Concept.{Concept, Everything, Atomic, UnionOf, SomeValuesFrom, HasValue, no_concept, also_concept, concepts_from, Claim, SubClassOf, SubPropertyOf, ClassAssertion, TransitiveProperty}
 use Rattle.logic_terms.specs.Complement.{complement, is_normal, each_normal, is_wide, each_wide}
 use Rattle.logic_terms.specs.Plain.{is_plain, is_plain_claim, are_plain}
 use Rattle.logic_terms.specs.Structure.{Condition, Conditions, Structure, IsA, AreRelated, AreSame, Negation, Implication, Disjunction, no_condition, also_condition, structure, conditions_from, condition_list, referents_in}
@@ -21,7 +22,7 @@ use Rattle.ace_to_owl.specs.Outcomes.{next}
 use Rattle.ace_to_owl.specs.Terms.{open_terms, terms_in, terms_in_all, terms_in_condition, first_name, referents_among}
 use Rattle.ace_to_owl.specs.Parts.{Part, At, Edge, straight, inverse, intersection, leads, part_at, class_at, tree_fault, class_of_tree}
 use Rattle.ace_to_owl.specs.Rolling.{member, is_foreign, value_part, edge_part, holder, held, negated_class, either_class, negation_part, roll, roll_with, parts, part_of}
-use Rattle.ace_to_owl.specs.Mapping.{without, class_asked, subclass_claim, member_claim, only_condition, only_fact, denied_claim, is_pair, role_claim, plain_claim, alone, other_claim, leading_claim, nameless_claim, named_claim, used_claim, compound_claim, claim_alone, own_terms, together, referents_with, conditions_with, claim_together, claim_at, claims_after, axioms_stated}
+use Rattle.ace_to_owl.specs.Mapping.{without, class_asked, subclass_claim, member_claim, only_condition, only_fact, denied_claim, is_pair, role_claim, subrole_claim, two_conditions, referents_related, chain_claim, lead_on, transitive_claim, plain_claim, alone, other_claim, leading_claim, nameless_claim, named_claim, used_claim, compound_claim, claim_alone, own_terms, together, referents_with, conditions_with, claim_together, claim_at, claims_after, axioms_stated}
 use Rattle.ace_to_owl.proofs.RollMeaning.{Went, went, no_err, ok_same, never_same}
 
 -- the class that a part gives, and one that may be there
@@ -252,6 +253,29 @@ plain_subrole rs (Some c) (Some d) = plain_role rs c d
 plain_subrole rs (Some c) None = refl
 plain_subrole rs None q = refl
 
+plain_chain : (rs : List ℕ) (o p q : Option (WordId × ℕ × ℕ)) → is_plain_maybe (chain_claim rs o p q) ≡ true
+plain_chain rs (Some o) (Some p) (Some q) = by (lead_on rs o p q || lead_on rs p o q)
+  where
+    by : (b : Bool) → is_plain_maybe (if b then Some (TransitiveProperty o.0) else None) ≡ true
+    by true = refl
+    by false = refl
+plain_chain rs (Some o) (Some p) None = refl
+plain_chain rs (Some o) None q = refl
+plain_chain rs None p q = refl
+
+plain_transitive : (rs : List ℕ) (o : Option (Condition × Condition)) (q : Option Condition)
+    → is_plain_maybe (elim o [
+      | Some p ↦ elim q [ Some e ↦ chain_claim rs (referents_related p.0) (referents_related p.1) (referents_related e) | None ↦ None ]
+      | None ↦ None
+    ]) ≡ true
+plain_transitive rs (Some p) (Some e) = plain_chain rs (referents_related p.0) (referents_related p.1) (referents_related e)
+plain_transitive rs (Some p) None = refl
+plain_transitive rs None q = refl
+
+plain_either_claim : (o p : Option Claim) → is_plain_maybe o ≡ true → is_plain_maybe p ≡ true → is_plain_maybe (option_or o p) ≡ true
+plain_either_claim (Some claim) p h g = h
+plain_either_claim None p h g = g
+
 plain_as_it_stands : (c : Condition) → is_plain_maybe (plain_claim c) ≡ true
 plain_as_it_stands (IsA noun (Name a)) = refl
 plain_as_it_stands (IsA noun (Ref r)) = refl
@@ -262,7 +286,9 @@ plain_as_it_stands (AreSame (Name a) (Name b)) = refl
 plain_as_it_stands (AreSame (Name a) (Ref r)) = refl
 plain_as_it_stands (AreSame (Ref r) t) = refl
 plain_as_it_stands (Negation k) = plain_negation (only_fact k)
-plain_as_it_stands (Implication k l) = plain_subrole (referents_in k) (only_condition k) (only_fact l)
+plain_as_it_stands (Implication k l) =
+    plain_either_claim (subrole_claim k l) (transitive_claim k l) (plain_subrole (referents_in k) (only_condition k) (only_fact l))
+    (plain_transitive (referents_in k) (two_conditions k) (only_fact l))
 plain_as_it_stands (Disjunction k l) = refl
 
 -- the axioms that are made by rolling up

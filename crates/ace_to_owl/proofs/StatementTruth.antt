@@ -13,7 +13,7 @@ use Rattle.logic_terms.specs.Concept.{Concept, Claim, ClassAssertion}
 use Rattle.logic_terms.specs.Structure.{Condition, Conditions, Structure, no_condition, also_condition, structure, conditions_from, condition_list, referents_in}
 use Rattle.logic_terms.specs.Free.{is_bound}
 use Rattle.logic_terms.specs.Introduced.{introduced_in, introduced_in_all, introduced_in_condition, all_distinct}
-use Rattle.logic_terms.specs.Interpretation.{Interpretation, element_of}
+use Rattle.logic_terms.specs.Interpretation.{Interpretation, is_interpretation, element_of}
 use Rattle.logic_terms.specs.Meaning.{is_in, holds, all_hold}
 use Rattle.logic_terms.specs.Truth.{giving, is_true, all_true, condition_true}
 use Rattle.logic_terms.specs.Reading.{Extends}
@@ -29,7 +29,7 @@ use Rattle.ace_to_owl.proofs.RollMeaning.{Went, went, no_err, ok_same, fresh_in,
 use Rattle.ace_to_owl.proofs.Fresh.{Among, Apart, apart_of, fresh_once, fresh_less_condition, bound_filter}
 use Rattle.ace_to_owl.proofs.TermsTruth.{is_used, condition_alike, has_own}
 use Rattle.ace_to_owl.proofs.RollTruth.{roll_true}
-use Rattle.ace_to_owl.proofs.AloneTruth.{alone_says, without_fresh}
+use Rattle.ace_to_owl.proofs.AloneTruth.{positive, alone_says, without_fresh}
 
 -- what groups join has one label
 abbrev pub grouped : List (List ℕ) → ℕ → ℕ
@@ -272,274 +272,276 @@ group_from test (g ∷ gs) h = elim (or_cases (test g) (list_any test gs) h) [
 ]
 
 -- a statement's conditions, each of which is known
-module _ (i : Interpretation) (positive : 0 < i.size) (rs : List ℕ) (all : List Condition) (known : (c : Condition) → Listed c all → Known rs c) where
-  unfoldable inside_of : Condition → List ℕ
-  inside_of c = referents_with (map (own_terms rs) all) (own_terms rs c) rs
+module _ (i : Interpretation) (lawful : is_interpretation i ≡ true) (rs : List ℕ) (all : List Condition) (known : (c : Condition) → Listed c all → Known rs c)
+  where
+    unfoldable inside_of : Condition → List ℕ
+    inside_of c = referents_with (map (own_terms rs) all) (own_terms rs c) rs
 
-  unfoldable with_of : Condition → List Condition
-  with_of c = conditions_with rs (map (own_terms rs) all) (own_terms rs c) all
+    unfoldable with_of : Condition → List Condition
+    with_of c = conditions_with rs (map (own_terms rs) all) (own_terms rs c) all
 
-  inside_among : (c : Condition) → Among (inside_of c) rs
-  unfolding inside_of
-  inside_among c q h = (bound_filter (λ p. list_any (λ r. joined (map (own_terms rs) all) r p) (own_terms rs c)) rs q h).0
+    inside_among : (c : Condition) → Among (inside_of c) rs
+    unfolding inside_of
+    inside_among c q h = (bound_filter (λ p. list_any (λ r. joined (map (own_terms rs) all) r p) (own_terms rs c)) rs q h).0
 
-  inside_joined : (c : Condition) (q : ℕ) → is_bound (inside_of c) q ≡ true → Passing (λ r. joined (map (own_terms rs) all) r q) (own_terms rs c)
-  unfolding inside_of
-  inside_joined c q h =
-      any_from (λ r. joined (map (own_terms rs) all) r q) (own_terms rs c)
-      (bound_filter (λ p. list_any (λ r. joined (map (own_terms rs) all) r p) (own_terms rs c)) rs q h).1
+    inside_joined : (c : Condition) (q : ℕ) → is_bound (inside_of c) q ≡ true → Passing (λ r. joined (map (own_terms rs) all) r q) (own_terms rs c)
+    unfolding inside_of
+    inside_joined c q h =
+        any_from (λ r. joined (map (own_terms rs) all) r q) (own_terms rs c)
+        (bound_filter (λ p. list_any (λ r. joined (map (own_terms rs) all) r p) (own_terms rs c)) rs q h).1
 
-  with_listed : (c d : Condition) → Listed d (with_of c) → Listed d all
-  unfolding with_of
-  with_listed c d h = filter_listed (λ e. together (map (own_terms rs) all) (own_terms rs c) (own_terms rs e)) all d h
+    with_listed : (c d : Condition) → Listed d (with_of c) → Listed d all
+    unfolding with_of
+    with_listed c d h = filter_listed (λ e. together (map (own_terms rs) all) (own_terms rs c) (own_terms rs e)) all d h
 
-  listed_with : (c d : Condition) → together (map (own_terms rs) all) (own_terms rs c) (own_terms rs d) ≡ true → Listed d all → Listed d (with_of c)
-  unfolding with_of
-  listed_with c d t h = listed_filter (λ e. together (map (own_terms rs) all) (own_terms rs c) (own_terms rs e)) all d t h
+    listed_with : (c d : Condition) → together (map (own_terms rs) all) (own_terms rs c) (own_terms rs d) ≡ true → Listed d all → Listed d (with_of c)
+    unfolding with_of
+    listed_with c d t h = listed_filter (λ e. together (map (own_terms rs) all) (own_terms rs c) (own_terms rs e)) all d t h
 
-  alone_true : (c : Condition) (claim : Claim) → Listed c all → claim_alone c ≡ Ok claim → (f : ℕ → ℕ) → holds i claim ≡ condition_true i c f
-  alone_true c claim listed e f =
-      let k : Known rs c = known c listed in
-      (alone_says i c claim positive k.once (fresh_less_condition [] rs c (λ q h. absurd (both_ways false refl h)) k.fresh) e).truth f
+    alone_true : (c : Condition) (claim : Claim) → Listed c all → claim_alone c ≡ Ok claim → (f : ℕ → ℕ) → holds i claim ≡ condition_true i c f
+    alone_true c claim listed e f =
+        let k : Known rs c = known c listed in
+        (alone_says i c claim lawful k.once (fresh_less_condition [] rs c (λ q h. absurd (both_ways false refl h)) k.fresh) e).truth f
 
-  component_true : (c : Condition) (claim : Claim) → claim_together (inside_of c) (with_of c) ≡ Ok claim → (f : ℕ → ℕ)
-      → holds i claim ≡ is_true i (structure (inside_of c) (conditions_from (with_of c))) f
-  component_true c claim e f = component_says i rs (inside_of c) (with_of c) claim (inside_among c) (λ d h. known d (with_listed c d h)) e f
+    component_true : (c : Condition) (claim : Claim) → claim_together (inside_of c) (with_of c) ≡ Ok claim → (f : ℕ → ℕ)
+        → holds i claim ≡ is_true i (structure (inside_of c) (conditions_from (with_of c))) f
+    component_true c claim e f = component_says i rs (inside_of c) (with_of c) claim (inside_among c) (λ d h. known d (with_listed c d h)) e f
 
-  some_inside : (c : Condition) (f : ℕ → ℕ)
-      → Decides (is_true i (structure (inside_of c) (conditions_from (with_of c))) f)
-      ((g : ℕ → ℕ) × Extends i.size (inside_of c) f g × (all_true i (conditions_from (with_of c)) g ≡ true))
-  some_inside c f =
-      some_extension-Decides i.size (inside_of c) (λ g. all_true i (conditions_from (with_of c)) g) (λ g. all_true i (conditions_from (with_of c)) g ≡ true)
-      (λ g. (λ t. t, λ t. t)) f
+    some_inside : (c : Condition) (f : ℕ → ℕ)
+        → Decides (is_true i (structure (inside_of c) (conditions_from (with_of c))) f)
+        ((g : ℕ → ℕ) × Extends i.size (inside_of c) f g × (all_true i (conditions_from (with_of c)) g ≡ true))
+    some_inside c f =
+        some_extension-Decides i.size (inside_of c) (λ g. all_true i (conditions_from (with_of c)) g) (λ g. all_true i (conditions_from (with_of c)) g ≡ true)
+        (λ g. (λ t. t, λ t. t)) f
 
-  -- elements that make all conditions true make all axioms true
-  module _ (g : ℕ → ℕ) (sized : (q : ℕ) → is_bound rs q ≡ true → g q < i.size) (trues : (c : Condition) → Listed c all → condition_true i c g ≡ true) where
-    step_forth : (before : List (List ℕ)) (c : Condition) (o : Option Claim) → Listed c all → Step rs all before c o
-        → (elim o [ Some claim ↦ holds i claim | None ↦ true ]) ≡ true
-    unfolding inside_of with_of
-    step_forth before c o listed (by_itself claim is none e) =
-        ap (λ p. elim p [ Some k ↦ holds i k | None ↦ true ]) is ∙ alone_true c claim listed e g ∙ trues c listed
-    step_forth before c o listed (gone_before is was) = ap (λ p. elim p [ Some k ↦ holds i k | None ↦ true ]) is
-    step_forth before c o listed (new_component claim is q own new e) =
-        ap (λ p. elim p [ Some k ↦ holds i k | None ↦ true ]) is
-        ∙ component_true c claim e g
-        ∙ (some_inside c g).1 (
-          g,
-          record { introduced = λ r h. sized r (inside_among c r ((list_any-Contains (inside_of c) r).1 h)); others = λ r out. refl },
-          each_all_true i (with_of c) g (λ d h. trues d (with_listed c d h)),
-        )
+    -- elements that make all conditions true make all axioms true
+    module _ (g : ℕ → ℕ) (sized : (q : ℕ) → is_bound rs q ≡ true → g q < i.size) (trues : (c : Condition) → Listed c all → condition_true i c g ≡ true) where
+      step_forth : (before : List (List ℕ)) (c : Condition) (o : Option Claim) → Listed c all → Step rs all before c o
+          → (elim o [ Some claim ↦ holds i claim | None ↦ true ]) ≡ true
+      unfolding inside_of with_of
+      step_forth before c o listed (by_itself claim is none e) =
+          ap (λ p. elim p [ Some k ↦ holds i k | None ↦ true ]) is ∙ alone_true c claim listed e g ∙ trues c listed
+      step_forth before c o listed (gone_before is was) = ap (λ p. elim p [ Some k ↦ holds i k | None ↦ true ]) is
+      step_forth before c o listed (new_component claim is q own new e) =
+          ap (λ p. elim p [ Some k ↦ holds i k | None ↦ true ]) is
+          ∙ component_true c claim e g
+          ∙ (some_inside c g).1 (
+            g,
+            record { introduced = λ r h. sized r (inside_among c r ((list_any-Contains (inside_of c) r).1 h)); others = λ r out. refl },
+            each_all_true i (with_of c) g (λ d h. trues d (with_listed c d h)),
+          )
 
-    claims_forth : (before : List (List ℕ)) (cs : List Condition) (claims : List Claim) → ((c : Condition) → Listed c cs → Listed c all)
-        → claims_after rs (map (own_terms rs) all) all before cs ≡ Ok claims → all_hold i claims ≡ true
-    claims_forth before [] claims within e = sym (ap (all_hold i) (ok_same [] claims e))
-    claims_forth before (c ∷ cs) claims within e =
-        let w : Went (claim_at rs (map (own_terms rs) all) all before (own_terms rs c) c)
-        (λ claim. next (claims_after rs (map (own_terms rs) all) all (before ++ own_terms rs c ∷ []) cs) (λ more. Ok (cons_option claim more))) claims =
-        went (claim_at rs (map (own_terms rs) all) all before (own_terms rs c) c)
-        (λ claim. next (claims_after rs (map (own_terms rs) all) all (before ++ own_terms rs c ∷ []) cs) (λ more. Ok (cons_option claim more))) claims e in
-        let v : Went (claims_after rs (map (own_terms rs) all) all (before ++ own_terms rs c ∷ []) cs) (λ more. Ok (cons_option w.from more)) claims =
-        went (claims_after rs (map (own_terms rs) all) all (before ++ own_terms rs c ∷ []) cs) (λ more. Ok (cons_option w.from more)) claims w.after in
-        sym (ap (all_hold i) (ok_same (cons_option w.from v.from) claims v.after))
-        ∙ front_holds i w.from v.from
-        ∙ and_from (elim w.from [ Some claim ↦ holds i claim | None ↦ true ]) (all_hold i v.from)
-        (step_forth before c w.from (within c (inl refl)) (step_of rs all before c w.from w.first))
-        (claims_forth (before ++ own_terms rs c ∷ []) cs v.from (λ d h. within d (inr h)) v.first)
+      claims_forth : (before : List (List ℕ)) (cs : List Condition) (claims : List Claim) → ((c : Condition) → Listed c cs → Listed c all)
+          → claims_after rs (map (own_terms rs) all) all before cs ≡ Ok claims → all_hold i claims ≡ true
+      claims_forth before [] claims within e = sym (ap (all_hold i) (ok_same [] claims e))
+      claims_forth before (c ∷ cs) claims within e =
+          let w : Went (claim_at rs (map (own_terms rs) all) all before (own_terms rs c) c)
+          (λ claim. next (claims_after rs (map (own_terms rs) all) all (before ++ own_terms rs c ∷ []) cs) (λ more. Ok (cons_option claim more))) claims =
+          went (claim_at rs (map (own_terms rs) all) all before (own_terms rs c) c)
+          (λ claim. next (claims_after rs (map (own_terms rs) all) all (before ++ own_terms rs c ∷ []) cs) (λ more. Ok (cons_option claim more))) claims e in
+          let v : Went (claims_after rs (map (own_terms rs) all) all (before ++ own_terms rs c ∷ []) cs) (λ more. Ok (cons_option w.from more)) claims =
+          went (claims_after rs (map (own_terms rs) all) all (before ++ own_terms rs c ∷ []) cs) (λ more. Ok (cons_option w.from more)) claims w.after in
+          sym (ap (all_hold i) (ok_same (cons_option w.from v.from) claims v.after))
+          ∙ front_holds i w.from v.from
+          ∙ and_from (elim w.from [ Some claim ↦ holds i claim | None ↦ true ]) (all_hold i v.from)
+          (step_forth before c w.from (within c (inl refl)) (step_of rs all before c w.from w.first))
+          (claims_forth (before ++ own_terms rs c ∷ []) cs v.from (λ d h. within d (inr h)) v.first)
 
-  -- elements for the referents where all axioms are true
-  module _ (f : ℕ → ℕ) where
-    -- whether a condition belongs together with one of these groups
-    unfoldable is_done : List (List ℕ) → Condition → Bool
-    is_done before d = list_any (together (map (own_terms rs) all) (own_terms rs d)) before
+    -- elements for the referents where all axioms are true
+    module _ (f : ℕ → ℕ) where
+      -- whether a condition belongs together with one of these groups
+      unfoldable is_done : List (List ℕ) → Condition → Bool
+      is_done before d = list_any (together (map (own_terms rs) all) (own_terms rs d)) before
 
-    -- elements that make the conditions true that are done
-    record Found (before : List (List ℕ)) (h : ℕ → ℕ) : Type 0 where
-      extends : Extends i.size rs f h
-      done : (d : Condition) → Listed d all → is_done before d ≡ true → condition_true i d h ≡ true
+      -- elements that make the conditions true that are done
+      record Found (before : List (List ℕ)) (h : ℕ → ℕ) : Type 0 where
+        extends : Extends i.size rs f h
+        done : (d : Condition) → Listed d all → is_done before d ≡ true → condition_true i d h ≡ true
 
-    -- what one more condition needs
-    record Next (before : List (List ℕ)) (c : Condition) : Type 0 where
-      h : ℕ → ℕ
-      found : Found (before ++ own_terms rs c ∷ []) h
-      -- later elements that keep what is done make the condition true
-      keeps : (g : ℕ → ℕ) → ((d : Condition) → Listed d all → is_done (before ++ own_terms rs c ∷ []) d ≡ true → condition_true i d g ≡ true)
-          → condition_true i c g ≡ true
+      -- what one more condition needs
+      record Next (before : List (List ℕ)) (c : Condition) : Type 0 where
+        h : ℕ → ℕ
+        found : Found (before ++ own_terms rs c ∷ []) h
+        -- later elements that keep what is done make the condition true
+        keeps : (g : ℕ → ℕ) → ((d : Condition) → Listed d all → is_done (before ++ own_terms rs c ∷ []) d ≡ true → condition_true i d g ≡ true)
+            → condition_true i c g ≡ true
 
-    -- a condition without referents
-    next_alone : (before : List (List ℕ)) (c : Condition) (claim : Claim) (h : ℕ → ℕ) → Listed c all → own_terms rs c ≡ [] → claim_alone c ≡ Ok claim
-        → holds i claim ≡ true → Found before h → Next before c
-    unfolding is_done
-    next_alone before c claim h listed none e true_claim found = record {
-      h = h;
-      found = record {
-        extends = found.extends;
-        done = λ d in_all was. elim (more_before (together (map (own_terms rs) all) (own_terms rs d)) before (own_terms rs c) was) [
-          | inl old ↦ found.done d in_all old
-          | inr new ↦ (let m : Meeting (map (own_terms rs) all) (own_terms rs d) (own_terms rs c) =
-              meeting (map (own_terms rs) all) (own_terms rs d) (own_terms rs c) new in
-              absurd (both_ways false refl (sym (ap (λ own. is_bound own m.p) none) ∙ m.theirs)))
-        ];
-      };
-      keeps = λ g kept. sym (alone_true c claim listed e g) ∙ true_claim;
-    }
-
-    -- a condition of a component that came up already
-    next_gone : (before : List (List ℕ)) (c : Condition) (h : ℕ → ℕ) → Listed c all → is_done before c ≡ true → Found before h → Next before c
-    unfolding is_done
-    next_gone before c h listed was found = record {
-      h = h;
-      found = record {
-        extends = found.extends;
-        done = λ d in_all now. elim (more_before (together (map (own_terms rs) all) (own_terms rs d)) before (own_terms rs c) now) [
-          | inl old ↦ found.done d in_all old
-          | inr new ↦ (let m : Meeting (map (own_terms rs) all) (own_terms rs d) (own_terms rs c) =
-              meeting (map (own_terms rs) all) (own_terms rs d) (own_terms rs c) new in
-              let w : PassingGroup (together (map (own_terms rs) all) (own_terms rs c)) before =
-              group_from (together (map (own_terms rs) all) (own_terms rs c)) before was in
-              let n : Meeting (map (own_terms rs) all) (own_terms rs c) w.group = meeting (map (own_terms rs) all) (own_terms rs c) w.group w.passes in
-              found.done d in_all
-              (w.carries (together (map (own_terms rs) all) (own_terms rs d))
-              (meet (map (own_terms rs) all) (own_terms rs d) w.group m.q n.p m.mine n.theirs
-              (joined_trans (map (own_terms rs) all) m.q m.p n.p m.join
-              (joined_trans (map (own_terms rs) all) m.p n.q n.p (group_joins rs all c m.p n.q listed m.theirs n.mine) n.join)))))
-        ];
-      };
-      keeps = λ g kept. kept c listed (before_old (together (map (own_terms rs) all) (own_terms rs c)) before (own_terms rs c) was);
-    }
-
-    -- the first condition of a component: elements for its referents
-    next_new : (before : List (List ℕ)) (c : Condition) (claim : Claim) (q : ℕ) (h : ℕ → ℕ) → Listed c all → is_bound (own_terms rs c) q ≡ true
-        → is_done before c ≡ false → claim_together (inside_of c) (with_of c) ≡ Ok claim → holds i claim ≡ true → Found before h → Next before c
-    unfolding is_done
-    next_new before c claim q h listed own new e true_claim found =
-        let w : (g : ℕ → ℕ) × Extends i.size (inside_of c) h g × (all_true i (conditions_from (with_of c)) g ≡ true) =
-        (some_inside c h).0 (sym (component_true c claim e h) ∙ true_claim) in
-        record {
-          h = w.0;
-          found = record {
-            extends = record {
-              introduced = λ r in_rs. elim (cases_Bool (is_bound (inside_of c) r)) [
-                | inl is_so ↦ w.1.introduced r ((list_any-Contains (inside_of c) r).0 is_so)
-                | inr is_not ↦ subst (λ n. n < i.size)
-                    (sym (w.1.others r (λ in_c. both_ways (is_bound (inside_of c) r) is_not ((list_any-Contains (inside_of c) r).1 in_c))))
-                    (found.extends.introduced r in_rs)
-              ];
-              others = λ r out.
-                  w.1.others r (λ in_c. out ((list_any-Contains rs r).0 (inside_among c r ((list_any-Contains (inside_of c) r).1 in_c))))
-                  ∙ found.extends.others r out;
-            };
-            done = λ d in_all now. elim (more_before (together (map (own_terms rs) all) (own_terms rs d)) before (own_terms rs c) now) [
-              | inl old ↦
-                  sym (condition_alike i [] d h w.0
-                  (λ r used. sym (w.1.others r (λ in_c. outside d in_all old r used ((list_any-Contains (inside_of c) r).1 in_c)))))
-                  ∙ found.done d in_all old
-              | inr with_it ↦ (let m : Meeting (map (own_terms rs) all) (own_terms rs d) (own_terms rs c) =
-                  meeting (map (own_terms rs) all) (own_terms rs d) (own_terms rs c) with_it in
-                  all_true_each i (with_of c) w.0 w.2 d
-                  (listed_with c d (meet (map (own_terms rs) all) (own_terms rs c) (own_terms rs d) m.p m.q m.theirs m.mine
-                  (joined_sym (map (own_terms rs) all) m.q m.p m.join)) in_all))
-            ];
-          };
-          keeps = λ g kept.
-              kept c listed
-              (before_new (together (map (own_terms rs) all) (own_terms rs c)) before (own_terms rs c)
-              (meet (map (own_terms rs) all) (own_terms rs c) (own_terms rs c) q q own own (joined_refl (map (own_terms rs) all) q)));
-        }
-      where
-        outside : (d : Condition) → Listed d all → list_any (together (map (own_terms rs) all) (own_terms rs d)) before ≡ true → (r : ℕ)
-            → is_used [] (terms_in_condition [] d) r ≡ true → is_bound (inside_of c) r ≡ true → ⊥
-        outside d in_all old r used in_c =
-            let j : Passing (λ p. joined (map (own_terms rs) all) p r) (own_terms rs c) = inside_joined c r in_c in
-            let mine : is_bound (own_terms rs d) r ≡ true = has_own rs (terms_in_condition [] d) r (inside_among c r in_c) used in
-            let w : PassingGroup (together (map (own_terms rs) all) (own_terms rs d)) before =
-            group_from (together (map (own_terms rs) all) (own_terms rs d)) before old in
-            let n : Meeting (map (own_terms rs) all) (own_terms rs d) w.group = meeting (map (own_terms rs) all) (own_terms rs d) w.group w.passes in
-            both_ways (list_any (together (map (own_terms rs) all) (own_terms rs c)) before) new
-            (w.carries (together (map (own_terms rs) all) (own_terms rs c))
-            (meet (map (own_terms rs) all) (own_terms rs c) w.group j.at n.p j.among n.theirs
-            (joined_trans (map (own_terms rs) all) j.at r n.p j.passes
-            (joined_trans (map (own_terms rs) all) r n.q n.p (group_joins rs all d r n.q in_all mine n.mine) n.join))))
-
-    step_back : (before : List (List ℕ)) (c : Condition) (o : Option Claim) (h : ℕ → ℕ) → Listed c all → Step rs all before c o
-        → (elim o [ Some claim ↦ holds i claim | None ↦ true ]) ≡ true → Found before h → Next before c
-    unfolding inside_of with_of is_done
-    step_back before c o h listed (by_itself claim is none e) t found =
-        next_alone before c claim h listed none e (sym (ap (λ p. elim p [ Some k ↦ holds i k | None ↦ true ]) is) ∙ t) found
-    step_back before c o h listed (gone_before is was) t found = next_gone before c h listed was found
-    step_back before c o h listed (new_component claim is q own new e) t found =
-        next_new before c claim q h listed own new e (sym (ap (λ p. elim p [ Some k ↦ holds i k | None ↦ true ]) is) ∙ t) found
-
-    record Made (before : List (List ℕ)) (cs : List Condition) : Type 0 where
-      g : ℕ → ℕ
-      extends : Extends i.size rs f g
-      done : (d : Condition) → Listed d all → is_done before d ≡ true → condition_true i d g ≡ true
-      trues : (d : Condition) → Listed d cs → condition_true i d g ≡ true
-
-    still : (d c : Condition) (before : List (List ℕ)) → is_done before d ≡ true → is_done (before ++ own_terms rs c ∷ []) d ≡ true
-    unfolding is_done
-    still d c before was = before_old (together (map (own_terms rs) all) (own_terms rs d)) before (own_terms rs c) was
-
-    claims_back : (before : List (List ℕ)) (cs : List Condition) (claims : List Claim) (h : ℕ → ℕ) → ((c : Condition) → Listed c cs → Listed c all)
-        → claims_after rs (map (own_terms rs) all) all before cs ≡ Ok claims → all_hold i claims ≡ true → Found before h → Made before cs
-    claims_back before [] claims h within e t found = record { g = h; extends = found.extends; done = found.done; trues = λ d listed. absurd listed }
-    claims_back before (c ∷ cs) claims h within e t found =
-        let w : Went (claim_at rs (map (own_terms rs) all) all before (own_terms rs c) c)
-        (λ claim. next (claims_after rs (map (own_terms rs) all) all (before ++ own_terms rs c ∷ []) cs) (λ more. Ok (cons_option claim more))) claims =
-        went (claim_at rs (map (own_terms rs) all) all before (own_terms rs c) c)
-        (λ claim. next (claims_after rs (map (own_terms rs) all) all (before ++ own_terms rs c ∷ []) cs) (λ more. Ok (cons_option claim more))) claims e in
-        let v : Went (claims_after rs (map (own_terms rs) all) all (before ++ own_terms rs c ∷ []) cs) (λ more. Ok (cons_option w.from more)) claims =
-        went (claims_after rs (map (own_terms rs) all) all (before ++ own_terms rs c ∷ []) cs) (λ more. Ok (cons_option w.from more)) claims w.after in
-        let two : ((elim w.from [ Some claim ↦ holds i claim | None ↦ true ]) && all_hold i v.from) ≡ true =
-        sym (front_holds i w.from v.from) ∙ ap (all_hold i) (ok_same (cons_option w.from v.from) claims v.after) ∙ t in
-        let n : Next before c =
-        step_back before c w.from h (within c (inl refl)) (step_of rs all before c w.from w.first)
-        (and_first (elim w.from [ Some claim ↦ holds i claim | None ↦ true ]) (all_hold i v.from) two) found in
-        let m : Made (before ++ own_terms rs c ∷ []) cs =
-        claims_back (before ++ own_terms rs c ∷ []) cs v.from n.h (λ d listed. within d (inr listed)) v.first
-        (and_second (elim w.from [ Some claim ↦ holds i claim | None ↦ true ]) (all_hold i v.from) two) n.found in
-        record {
-          g = m.g;
-          extends = m.extends;
-          done = λ d listed was. m.done d listed (still d c before was);
-          trues = λ d listed. elim listed [
-            | inl same ↦ ap (λ b. condition_true i b m.g) same ∙ n.keeps m.g m.done
-            | inr later ↦ m.trues d later
+      -- a condition without referents
+      next_alone : (before : List (List ℕ)) (c : Condition) (claim : Claim) (h : ℕ → ℕ) → Listed c all → own_terms rs c ≡ [] → claim_alone c ≡ Ok claim
+          → holds i claim ≡ true → Found before h → Next before c
+      unfolding is_done
+      next_alone before c claim h listed none e true_claim found = record {
+        h = h;
+        found = record {
+          extends = found.extends;
+          done = λ d in_all was. elim (more_before (together (map (own_terms rs) all) (own_terms rs d)) before (own_terms rs c) was) [
+            | inl old ↦ found.done d in_all old
+            | inr new ↦ (let m : Meeting (map (own_terms rs) all) (own_terms rs d) (own_terms rs c) =
+                meeting (map (own_terms rs) all) (own_terms rs d) (own_terms rs c) new in
+                absurd (both_ways false refl (sym (ap (λ own. is_bound own m.p) none) ∙ m.theirs)))
           ];
-        }
+        };
+        keeps = λ g kept. sym (alone_true c claim listed e g) ∙ true_claim;
+      }
 
-    nothing_done : (d : Condition) → is_done [] d ≡ false
-    unfolding is_done
-    nothing_done d = refl
+      -- a condition of a component that came up already
+      next_gone : (before : List (List ℕ)) (c : Condition) (h : ℕ → ℕ) → Listed c all → is_done before c ≡ true → Found before h → Next before c
+      unfolding is_done
+      next_gone before c h listed was found = record {
+        h = h;
+        found = record {
+          extends = found.extends;
+          done = λ d in_all now. elim (more_before (together (map (own_terms rs) all) (own_terms rs d)) before (own_terms rs c) now) [
+            | inl old ↦ found.done d in_all old
+            | inr new ↦ (let m : Meeting (map (own_terms rs) all) (own_terms rs d) (own_terms rs c) =
+                meeting (map (own_terms rs) all) (own_terms rs d) (own_terms rs c) new in
+                let w : PassingGroup (together (map (own_terms rs) all) (own_terms rs c)) before =
+                group_from (together (map (own_terms rs) all) (own_terms rs c)) before was in
+                let n : Meeting (map (own_terms rs) all) (own_terms rs c) w.group = meeting (map (own_terms rs) all) (own_terms rs c) w.group w.passes in
+                found.done d in_all
+                (w.carries (together (map (own_terms rs) all) (own_terms rs d))
+                (meet (map (own_terms rs) all) (own_terms rs d) w.group m.q n.p m.mine n.theirs
+                (joined_trans (map (own_terms rs) all) m.q m.p n.p m.join
+                (joined_trans (map (own_terms rs) all) m.p n.q n.p (group_joins rs all c m.p n.q listed m.theirs n.mine) n.join)))))
+          ];
+        };
+        keeps = λ g kept. kept c listed (before_old (together (map (own_terms rs) all) (own_terms rs c)) before (own_terms rs c) was);
+      }
 
-    unfoldable first_elements : ℕ → ℕ
-    first_elements q = if is_bound rs q then 0 else f q
+      -- the first condition of a component: elements for its referents
+      next_new : (before : List (List ℕ)) (c : Condition) (claim : Claim) (q : ℕ) (h : ℕ → ℕ) → Listed c all → is_bound (own_terms rs c) q ≡ true
+          → is_done before c ≡ false → claim_together (inside_of c) (with_of c) ≡ Ok claim → holds i claim ≡ true → Found before h → Next before c
+      unfolding is_done
+      next_new before c claim q h listed own new e true_claim found =
+          let w : (g : ℕ → ℕ) × Extends i.size (inside_of c) h g × (all_true i (conditions_from (with_of c)) g ≡ true) =
+          (some_inside c h).0 (sym (component_true c claim e h) ∙ true_claim) in
+          record {
+            h = w.0;
+            found = record {
+              extends = record {
+                introduced = λ r in_rs. elim (cases_Bool (is_bound (inside_of c) r)) [
+                  | inl is_so ↦ w.1.introduced r ((list_any-Contains (inside_of c) r).0 is_so)
+                  | inr is_not ↦ subst (λ n. n < i.size)
+                      (sym (w.1.others r (λ in_c. both_ways (is_bound (inside_of c) r) is_not ((list_any-Contains (inside_of c) r).1 in_c))))
+                      (found.extends.introduced r in_rs)
+                ];
+                others = λ r out.
+                    w.1.others r (λ in_c. out ((list_any-Contains rs r).0 (inside_among c r ((list_any-Contains (inside_of c) r).1 in_c))))
+                    ∙ found.extends.others r out;
+              };
+              done = λ d in_all now. elim (more_before (together (map (own_terms rs) all) (own_terms rs d)) before (own_terms rs c) now) [
+                | inl old ↦
+                    sym (condition_alike i [] d h w.0
+                    (λ r used. sym (w.1.others r (λ in_c. outside d in_all old r used ((list_any-Contains (inside_of c) r).1 in_c)))))
+                    ∙ found.done d in_all old
+                | inr with_it ↦ (let m : Meeting (map (own_terms rs) all) (own_terms rs d) (own_terms rs c) =
+                    meeting (map (own_terms rs) all) (own_terms rs d) (own_terms rs c) with_it in
+                    all_true_each i (with_of c) w.0 w.2 d
+                    (listed_with c d (meet (map (own_terms rs) all) (own_terms rs c) (own_terms rs d) m.p m.q m.theirs m.mine
+                    (joined_sym (map (own_terms rs) all) m.q m.p m.join)) in_all))
+              ];
+            };
+            keeps = λ g kept.
+                kept c listed
+                (before_new (together (map (own_terms rs) all) (own_terms rs c)) before (own_terms rs c)
+                (meet (map (own_terms rs) all) (own_terms rs c) (own_terms rs c) q q own own (joined_refl (map (own_terms rs) all) q)));
+          }
+        where
+          outside : (d : Condition) → Listed d all → list_any (together (map (own_terms rs) all) (own_terms rs d)) before ≡ true → (r : ℕ)
+              → is_used [] (terms_in_condition [] d) r ≡ true → is_bound (inside_of c) r ≡ true → ⊥
+          outside d in_all old r used in_c =
+              let j : Passing (λ p. joined (map (own_terms rs) all) p r) (own_terms rs c) = inside_joined c r in_c in
+              let mine : is_bound (own_terms rs d) r ≡ true = has_own rs (terms_in_condition [] d) r (inside_among c r in_c) used in
+              let w : PassingGroup (together (map (own_terms rs) all) (own_terms rs d)) before =
+              group_from (together (map (own_terms rs) all) (own_terms rs d)) before old in
+              let n : Meeting (map (own_terms rs) all) (own_terms rs d) w.group = meeting (map (own_terms rs) all) (own_terms rs d) w.group w.passes in
+              both_ways (list_any (together (map (own_terms rs) all) (own_terms rs c)) before) new
+              (w.carries (together (map (own_terms rs) all) (own_terms rs c))
+              (meet (map (own_terms rs) all) (own_terms rs c) w.group j.at n.p j.among n.theirs
+              (joined_trans (map (own_terms rs) all) j.at r n.p j.passes
+              (joined_trans (map (own_terms rs) all) r n.q n.p (group_joins rs all d r n.q in_all mine n.mine) n.join))))
 
-    first_found : Found [] first_elements
-    unfolding first_elements
-    first_found = record {
-      extends = record {
-        introduced = λ q own. subst (λ n. n < i.size) (sym (ap (λ b. if b then 0 else f q) ((list_any-Contains rs q).1 own))) positive;
-        others = λ q out. elim (cases_Bool (is_bound rs q)) [
-          | inl is_so ↦ absurd (out ((list_any-Contains rs q).0 is_so))
-          | inr is_not ↦ ap (λ b. if b then 0 else f q) is_not
-        ];
-      };
-      done = λ d listed was. absurd (both_ways (is_done [] d) (nothing_done d) was);
-    }
+      step_back : (before : List (List ℕ)) (c : Condition) (o : Option Claim) (h : ℕ → ℕ) → Listed c all → Step rs all before c o
+          → (elim o [ Some claim ↦ holds i claim | None ↦ true ]) ≡ true → Found before h → Next before c
+      unfolding inside_of with_of is_done
+      step_back before c o h listed (by_itself claim is none e) t found =
+          next_alone before c claim h listed none e (sym (ap (λ p. elim p [ Some k ↦ holds i k | None ↦ true ]) is) ∙ t) found
+      step_back before c o h listed (gone_before is was) t found = next_gone before c h listed was found
+      step_back before c o h listed (new_component claim is q own new e) t found =
+          next_new before c claim q h listed own new e (sym (ap (λ p. elim p [ Some k ↦ holds i k | None ↦ true ]) is) ∙ t) found
 
-    statement_same : (claims : List Claim) → claims_after rs (map (own_terms rs) all) all [] all ≡ Ok claims
-        → is_true i (structure rs (conditions_from all)) f ≡ all_hold i claims
-    statement_same claims e =
-        let some : Decides (is_true i (structure rs (conditions_from all)) f)
-        ((g : ℕ → ℕ) × Extends i.size rs f g × (all_true i (conditions_from all) g ≡ true)) =
-        some_extension-Decides i.size rs (λ g. all_true i (conditions_from all) g) (λ g. all_true i (conditions_from all) g ≡ true) (λ g. (λ t. t, λ t. t)) f in
-        same_tests (is_true i (structure rs (conditions_from all)) f) (all_hold i claims)
-        (λ h.
-        let w : (g : ℕ → ℕ) × Extends i.size rs f g × (all_true i (conditions_from all) g ≡ true) = some.0 h in
-        claims_forth w.0 (λ q own. w.1.introduced q ((list_any-Contains rs q).0 own)) (all_true_each i all w.0 w.2) [] all claims (λ c listed. listed) e)
-        (λ t.
-        let m : Made [] all = claims_back [] all claims first_elements (λ c listed. listed) e t first_found in
-        some.1 (m.g, m.extends, each_all_true i all m.g m.trues))
+      record Made (before : List (List ℕ)) (cs : List Condition) : Type 0 where
+        g : ℕ → ℕ
+        extends : Extends i.size rs f g
+        done : (d : Condition) → Listed d all → is_done before d ≡ true → condition_true i d g ≡ true
+        trues : (d : Condition) → Listed d cs → condition_true i d g ≡ true
+
+      still : (d c : Condition) (before : List (List ℕ)) → is_done before d ≡ true → is_done (before ++ own_terms rs c ∷ []) d ≡ true
+      unfolding is_done
+      still d c before was = before_old (together (map (own_terms rs) all) (own_terms rs d)) before (own_terms rs c) was
+
+      claims_back : (before : List (List ℕ)) (cs : List Condition) (claims : List Claim) (h : ℕ → ℕ) → ((c : Condition) → Listed c cs → Listed c all)
+          → claims_after rs (map (own_terms rs) all) all before cs ≡ Ok claims → all_hold i claims ≡ true → Found before h → Made before cs
+      claims_back before [] claims h within e t found = record { g = h; extends = found.extends; done = found.done; trues = λ d listed. absurd listed }
+      claims_back before (c ∷ cs) claims h within e t found =
+          let w : Went (claim_at rs (map (own_terms rs) all) all before (own_terms rs c) c)
+          (λ claim. next (claims_after rs (map (own_terms rs) all) all (before ++ own_terms rs c ∷ []) cs) (λ more. Ok (cons_option claim more))) claims =
+          went (claim_at rs (map (own_terms rs) all) all before (own_terms rs c) c)
+          (λ claim. next (claims_after rs (map (own_terms rs) all) all (before ++ own_terms rs c ∷ []) cs) (λ more. Ok (cons_option claim more))) claims e in
+          let v : Went (claims_after rs (map (own_terms rs) all) all (before ++ own_terms rs c ∷ []) cs) (λ more. Ok (cons_option w.from more)) claims =
+          went (claims_after rs (map (own_terms rs) all) all (before ++ own_terms rs c ∷ []) cs) (λ more. Ok (cons_option w.from more)) claims w.after in
+          let two : ((elim w.from [ Some claim ↦ holds i claim | None ↦ true ]) && all_hold i v.from) ≡ true =
+          sym (front_holds i w.from v.from) ∙ ap (all_hold i) (ok_same (cons_option w.from v.from) claims v.after) ∙ t in
+          let n : Next before c =
+          step_back before c w.from h (within c (inl refl)) (step_of rs all before c w.from w.first)
+          (and_first (elim w.from [ Some claim ↦ holds i claim | None ↦ true ]) (all_hold i v.from) two) found in
+          let m : Made (before ++ own_terms rs c ∷ []) cs =
+          claims_back (before ++ own_terms rs c ∷ []) cs v.from n.h (λ d listed. within d (inr listed)) v.first
+          (and_second (elim w.from [ Some claim ↦ holds i claim | None ↦ true ]) (all_hold i v.from) two) n.found in
+          record {
+            g = m.g;
+            extends = m.extends;
+            done = λ d listed was. m.done d listed (still d c before was);
+            trues = λ d listed. elim listed [
+              | inl same ↦ ap (λ b. condition_true i b m.g) same ∙ n.keeps m.g m.done
+              | inr later ↦ m.trues d later
+            ];
+          }
+
+      nothing_done : (d : Condition) → is_done [] d ≡ false
+      unfolding is_done
+      nothing_done d = refl
+
+      unfoldable first_elements : ℕ → ℕ
+      first_elements q = if is_bound rs q then 0 else f q
+
+      first_found : Found [] first_elements
+      unfolding first_elements
+      first_found = record {
+        extends = record {
+          introduced = λ q own. subst (λ n. n < i.size) (sym (ap (λ b. if b then 0 else f q) ((list_any-Contains rs q).1 own))) (positive i lawful);
+          others = λ q out. elim (cases_Bool (is_bound rs q)) [
+            | inl is_so ↦ absurd (out ((list_any-Contains rs q).0 is_so))
+            | inr is_not ↦ ap (λ b. if b then 0 else f q) is_not
+          ];
+        };
+        done = λ d listed was. absurd (both_ways (is_done [] d) (nothing_done d) was);
+      }
+
+      statement_same : (claims : List Claim) → claims_after rs (map (own_terms rs) all) all [] all ≡ Ok claims
+          → is_true i (structure rs (conditions_from all)) f ≡ all_hold i claims
+      statement_same claims e =
+          let some : Decides (is_true i (structure rs (conditions_from all)) f)
+          ((g : ℕ → ℕ) × Extends i.size rs f g × (all_true i (conditions_from all) g ≡ true)) =
+          some_extension-Decides i.size rs (λ g. all_true i (conditions_from all) g) (λ g. all_true i (conditions_from all) g ≡ true)
+          (λ g. (λ t. t, λ t. t)) f in
+          same_tests (is_true i (structure rs (conditions_from all)) f) (all_hold i claims)
+          (λ h.
+          let w : (g : ℕ → ℕ) × Extends i.size rs f g × (all_true i (conditions_from all) g ≡ true) = some.0 h in
+          claims_forth w.0 (λ q own. w.1.introduced q ((list_any-Contains rs q).0 own)) (all_true_each i all w.0 w.2) [] all claims (λ c listed. listed) e)
+          (λ t.
+          let m : Made [] all = claims_back [] all claims first_elements (λ c listed. listed) e t first_found in
+          some.1 (m.g, m.extends, each_all_true i all m.g m.trues))
 
 from_list : (cs : Conditions) → conditions_from (condition_list cs) ≡ cs
 from_list no_condition = refl
@@ -547,12 +549,12 @@ from_list (also_condition c cs) = ap (also_condition c) (from_list cs)
 
 -- a statement is true exactly where all its axioms are
 pub statement_true : (k : Structure) (claims : List Claim) → axioms_stated k ≡ Ok claims → all_distinct (introduced_in k) ≡ true → (i : Interpretation)
-    → 0 < i.size → (f : ℕ → ℕ) → is_true i k f ≡ all_hold i claims
-statement_true (structure rs cs) claims e once i positive f =
+    → is_interpretation i ≡ true → (f : ℕ → ℕ) → is_true i k f ≡ all_hold i claims
+statement_true (structure rs cs) claims e once i lawful f =
     let two : Apart rs (introduced_in_all cs) = apart_of rs (introduced_in_all cs) once in
     let fresh : fresh_in [] (structure rs cs) ≡ true = fresh_once [] (structure rs cs) once (λ q none own. both_ways false refl none) in
     ap (λ ds. is_true i (structure rs ds) f) (sym (from_list cs))
-    ∙ statement_same i positive rs (condition_list cs)
+    ∙ statement_same i lawful rs (condition_list cs)
     (all_known rs cs two.second (and_second (list_all (λ r. not (is_bound [] r)) rs) (fresh_in_all rs cs) fresh)) f claims e
 
 -- an element is in a question's class exactly where the structure is true with it for the referent that is asked for

@@ -2,11 +2,14 @@
 -- Semantic Web Language, 2007.
 use Rattle.std.specs.Prelude.{ℕ, ◌==◌, ◌++◌, map, length, ◌&&◌, ◌||◌, Bool, false, not, List, [], ◌∷◌, Option, Some, None, Result, Ok, Err, if◌then◌else◌}
 use Rattle.std.specs.List.{list_any, list_all, filter, cons_option}
+use Rattle.std.specs.Option.{option_or}
 use Rattle.wiki_base.specs.declared.numbers.WordId.{WordId}
 use Rattle.logic_terms.specs.declared.structures.Thing.TheVariants.{Ref, Name}
 use Rattle.logic_terms.specs.declared.cause.Cause.{Cause}
 use Rattle.logic_terms.specs.declared.cause.Cause.TheVariants.{Shared, NoRoot}
-use Rattle.logic_terms.specs.Concept.{Concept, Everything, Atomic, Claim, SubClassOf, SubPropertyOf, ClassAssertion, PropertyAssertion, NegativePropertyAssertion, SameIndividual, DifferentIndividuals}
+use Rattle.logic_terms.specs.Concept.{Concept, Everything, Atomic, Claim, SubClassOf, SubPropertyOf, ClassAssertion, PropertyAssertion, NegativePropertyAssertion, SameIndividual, DifferentIndividuals, TransitiveProperty}
+use Rattle.logic_terms.specs.Free.{is_bound}
+use Rattle.logic_terms.specs.Interpretation.{is_word}
 use Rattle.logic_terms.specs.Structure.{Condition, Structure, IsA, AreRelated, AreSame, Negation, Implication, no_condition, also_condition, structure, conditions_from, condition_list, referents_in}
 use Rattle.ace_to_owl.specs.Outcomes.{next}
 use Rattle.ace_to_owl.specs.Terms.{terms_in, terms_in_all, terms_in_condition, first_name, referents_among}
@@ -71,6 +74,45 @@ subrole_claim k l =
       | None ↦ None
     ]
 
+-- the two conditions of a structure that has just these
+abbrev pub two_conditions : Structure → Option (Condition × Condition)
+two_conditions (structure rs no_condition) = None
+two_conditions (structure rs (also_condition c no_condition)) = None
+two_conditions (structure rs (also_condition c (also_condition d no_condition))) = Some (c, d)
+two_conditions (structure rs (also_condition c (also_condition d (also_condition e cs)))) = None
+
+-- the word of a relation between two referents, and these
+abbrev pub referents_related : Condition → Option (WordId × ℕ × ℕ)
+referents_related (AreRelated word (Ref x) (Ref y)) = Some (word, x, y)
+referents_related c = None
+
+-- whether referents are three different ones, and the only ones of a list
+abbrev pub is_triple : List ℕ → ℕ → ℕ → ℕ → Bool
+is_triple rs x y z =
+    is_bound rs x && is_bound rs y && is_bound rs z && list_all (λ q. (x == q) || (y == q) || (z == q)) rs && not (x == y) && not (y == z) && not (x == z)
+
+-- whether relations by one word are R(x, y), R(y, z) and R(x, z) for the three referents of a list
+abbrev pub lead_on : List ℕ → WordId × ℕ × ℕ → WordId × ℕ × ℕ → WordId × ℕ × ℕ → Bool
+lead_on rs p q r =
+    is_word p.0 q.0 && is_word p.0 r.0 && (p.2 == q.1) && (p.1 == r.1) && (q.2 == r.2) && is_triple rs p.1 p.2 q.2
+
+-- two relations on the left, in either order, and one on the right
+abbrev pub chain_claim : List ℕ → Option (WordId × ℕ × ℕ) → Option (WordId × ℕ × ℕ) → Option (WordId × ℕ × ℕ) → Option Claim
+chain_claim rs (Some p) (Some q) (Some r) = if lead_on rs p q r || lead_on rs q p r then Some (TransitiveProperty p.0) else None
+chain_claim rs (Some p) (Some q) None = None
+chain_claim rs (Some p) None r = None
+chain_claim rs None q r = None
+
+abbrev pub transitive_claim : Structure → Structure → Option Claim
+transitive_claim k l =
+    elim (two_conditions k) [
+      | Some p ↦ elim (only_fact l) [
+        | Some e ↦ chain_claim (referents_in k) (referents_related p.0) (referents_related p.1) (referents_related e)
+        | None ↦ None
+      ]
+      | None ↦ None
+    ]
+
 abbrev pub denied : Structure → Option Claim
 denied k = elim (only_fact k) [ Some c ↦ denied_claim c | None ↦ None ]
 
@@ -80,7 +122,7 @@ plain_claim (IsA noun (Name name)) = Some (ClassAssertion (Atomic noun) name)
 plain_claim (AreRelated word (Name from) (Name to)) = Some (PropertyAssertion (straight word) from to)
 plain_claim (AreSame (Name one) (Name other)) = Some (SameIndividual one other)
 plain_claim (Negation k) = denied k
-plain_claim (Implication k l) = subrole_claim k l
+plain_claim (Implication k l) = option_or (subrole_claim k l) (transitive_claim k l)
 plain_claim c = None
 
 -- a structure of one condition

@@ -1,15 +1,17 @@
 // The axiom of a condition that stands alone.
-ghost use Rattle.std.specs.Prelude.{◌≡◌, ◌==◌, not, IfOk, []};
+ghost use Rattle.std.specs.Prelude.{◌≡◌, ◌==◌, ◌||◌, not, IfOk, []};
 ghost use Rattle.std.specs.List.{filter, list_all};
+ghost use Rattle.std.specs.Option.{option_or};
 ghost use Rattle.logic_terms.specs.Shown.{concept_of, claim_of, structure_of, condition_of, conditions_of};
 ghost use Rattle.logic_terms.specs.Structure.{Implication, referents_in};
 ghost use Rattle.ace_to_owl.specs.Parts.{straight, inverse};
 ghost use Rattle.ace_to_owl.specs.Terms.{referents_among, terms_in};
 ghost use Rattle.ace_to_owl.specs.Answers.{option_shown, Agrees};
 ghost use Rattle.ace_to_owl.specs.Rolling.{roll};
-ghost use Rattle.ace_to_owl.specs.Mapping.{class_asked, subclass_claim, member_claim, only_condition, only_fact, denied, denied_claim, is_pair, pair_claim, role_claim, subrole_claim, plain_claim, alone, other_claim, leading_claim, nameless_claim, named_claim, used_claim, compound_claim, claim_alone};
+ghost use Rattle.ace_to_owl.specs.Mapping.{class_asked, subclass_claim, member_claim, only_condition, only_fact, denied, denied_claim, is_pair, pair_claim, role_claim, subrole_claim, two_conditions, transitive_claim, referents_related, chain_claim, lead_on, is_triple, plain_claim, alone, other_claim, leading_claim, nameless_claim, named_claim, used_claim, compound_claim, claim_alone};
 
 use crate::fault::Fault;
+use crate::part::is_among;
 use crate::rolling::{class_at_root, part_of, rolled};
 use crate::terms::{condition_terms, first_name, referents_among, structure_terms};
 use crate::tree::class_of_tree;
@@ -57,7 +59,7 @@ fn plain_claim(condition: &Cond) -> Option<Axiom>
         }
         Cond::Same(Thing::Name(one), Thing::Name(other)) => Some(Axiom::Equal(*one, *other)),
         Cond::Not(inner) => denied(inner),
-        Cond::Implies(left, right) => subrole_claim(left, right),
+        Cond::Implies(left, right) => role_axiom(left, right),
         _ => None,
     }
 }
@@ -104,6 +106,17 @@ fn only_fact(drs: &Drs) -> Option<&Cond>
         only_condition(drs)
     } else {
         None
+    }
+}
+
+// An implication between relations of referents.
+fn role_axiom(left: &Drs, right: &Drs) -> Option<Axiom>
+    ensures { option_shown claim_of result ≡ option_or (subrole_claim (structure_of left.now) (structure_of right.now))
+        (transitive_claim (structure_of left.now) (structure_of right.now)) }
+{
+    match subrole_claim(left, right) {
+        Some(axiom) => Some(axiom),
+        None => transitive_claim(left, right),
     }
 }
 
@@ -157,6 +170,96 @@ fn is_pair(referents: &[u16], first: u16, second: u16) -> bool
         [one, other] => first == *one && second == *other || first == *other && second == *one,
         _ => false,
     }
+}
+
+// The two conditions of a structure that has just these.
+fn two_conditions(drs: &Drs) -> Option<(&Cond, &Cond)>
+    ensures { option_shown (λ p. (condition_of p.0.now, condition_of p.1.now)) result ≡ two_conditions (structure_of drs.now) }
+{
+    let conditions = drs.conditions();
+    if conditions.len() == 2 {
+        Some((conditions.get(0), conditions.get(1)))
+    } else {
+        None
+    }
+}
+
+fn transitive_claim(left: &Drs, right: &Drs) -> Option<Axiom>
+    ensures { option_shown claim_of result ≡ transitive_claim (structure_of left.now) (structure_of right.now) }
+{
+    let (first, second) = two_conditions(left)?;
+    let last = only_fact(right)?;
+    chain_claim(
+        left.referents().as_slice(),
+        referents_related(first),
+        referents_related(second),
+        referents_related(last),
+    )
+}
+
+// The word of a relation between two referents, and these.
+fn referents_related(condition: &Cond) -> Option<(WordId, u16, u16)>
+    ensures { result ≡ referents_related (condition_of condition.now) }
+{
+    match condition {
+        Cond::Rel(word, Thing::Ref(from), Thing::Ref(to)) => Some((*word, *from, *to)),
+        _ => None,
+    }
+}
+
+// Two relations on the left, in either order, and one on the right.
+fn chain_claim(
+    referents: &[u16],
+    first: Option<(WordId, u16, u16)>,
+    second: Option<(WordId, u16, u16)>,
+    last: Option<(WordId, u16, u16)>,
+) -> Option<Axiom>
+    ensures { option_shown claim_of result ≡ chain_claim referents.now first second last }
+{
+    let first = first?;
+    let second = second?;
+    let last = last?;
+    if lead_on(referents, first, second, last) || lead_on(referents, second, first, last) {
+        Some(Axiom::Transitive(first.0))
+    } else {
+        None
+    }
+}
+
+// Whether relations by one word lead from the first referent to the second, from that to the third, and from the first to
+// the third.
+fn lead_on(
+    referents: &[u16],
+    first: (WordId, u16, u16),
+    second: (WordId, u16, u16),
+    last: (WordId, u16, u16),
+) -> bool
+    ensures { result ≡ lead_on referents.now first second last }
+{
+    first.0.0 == second.0.0
+        && first.0.0 == last.0.0
+        && first.2 == second.1
+        && first.1 == last.1
+        && second.2 == last.2
+        && is_triple(referents, first.1, first.2, second.2)
+}
+
+fn is_triple(referents: &[u16], first: u16, second: u16, third: u16) -> bool
+    ensures { result ≡ is_triple referents.now first second third }
+{
+    is_among(referents, first)
+        && is_among(referents, second)
+        && is_among(referents, third)
+        && are_only(referents, first, second, third)
+        && first != second
+        && second != third
+        && first != third
+}
+
+fn are_only(referents: &[u16], first: u16, second: u16, third: u16) -> bool
+    ensures { result ≡ list_all (λ q. (first == q) || (second == q) || (third == q)) referents.now }
+{
+    referents.iter().all(|other| first == *other || second == *other || third == *other)
 }
 
 fn compound_claim(alloc: Global, condition: &Cond) -> Result<Axiom, Fault>

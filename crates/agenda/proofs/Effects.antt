@@ -1,5 +1,5 @@
 -- What a step adds: classes to one label, an edge, or a node with an edge to it.
-use Rattle.std.proofs.Common.{◌≡◌, ℕ, ◌<◌, ◌==◌, ◌&&◌, ◌⊎◌, Bool, true, false, List, [], ◌∷◌, length, cond, Option, Some, None, subst, refl, sym, ap, ◌∙◌, inl, inr}
+use Rattle.std.proofs.Common.{◌≡◌, ℕ, ◌<◌, ◌==◌, ◌&&◌, ◌⊎◌, Bool, true, false, List, [], ◌∷◌, length, cond, Option, Some, None, subst, refl, sym, ap, inl, inr}
 use Rattle.std.specs.Prelude.{not, option_to_list, slice_get}
 use Rattle.std.specs.Option.{option_and_then, option_map_or}
 use Rattle.std.proofs.lemmas.Option.{same_Some}
@@ -15,6 +15,7 @@ use Rattle.tableau_rules.specs.declared.step.Rule.{Rule}
 use Rattle.tableau_rules.specs.declared.step.Rule.TheVariants as rule
 use Rattle.tableau_rules.specs.declared.step.Step.{Step}
 use Rattle.tableau_rules.specs.First.{where_true}
+use Rattle.tableau_rules.specs.Carrying.{role_of_all, carried}
 use Rattle.tableau_rules.specs.Graph.{Graph, Vertex, label_at, class_at}
 use Rattle.tableau_rules.specs.Neighbours.{node_of, is_neighbour}
 use Rattle.tableau_rules.specs.Blocking.{is_blocked, is_indirectly_blocked}
@@ -52,6 +53,8 @@ module _ (k : Theory) (g : Graph) where
       subst (λ w. IsGrown w (effect k g rule.Unfold x c y choice)) (same_Some x z e) (grown_part x (unfoldings_of k) (word_part c))
   grown_effect rule.All x c y choice z e =
       subst (λ w. IsGrown w (effect k g rule.All x c y choice)) (same_Some y z e) (grown_part y (λ p. p.1 ∷ []) (all_part c))
+  grown_effect rule.Trans x c y choice z e =
+      subst (λ w. IsGrown w (effect k g rule.Trans x c y choice)) (same_Some y z e) (grown_part y (λ role. carried k g role c x y) (role_of_all c))
   grown_effect rule.Value x c y choice z e = cc
   grown_effect rule.Unit x c y choice z e =
       subst (λ w. IsGrown w (effect k g rule.Unit x c y choice)) (same_Some x z e)
@@ -72,6 +75,7 @@ module _ (k : Theory) (g : Graph) where
   linked_effect rule.And x c y choice lt e not_new z on = cc
   linked_effect rule.Unfold x c y choice lt e not_new z on = cc
   linked_effect rule.All x c y choice lt e not_new z on = cc
+  linked_effect rule.Trans x c y choice lt e not_new z on = cc
   linked_effect rule.Value x c y choice lt e not_new z on = go (value_part c) on
     where
       inner : (p : Role × WordId) (o : Option ℕ) → node_of k p.1 ≡ o
@@ -94,6 +98,7 @@ module _ (k : Theory) (g : Graph) where
   sprouted_effect rule.And x c y choice lt new z on = cc
   sprouted_effect rule.Unfold x c y choice lt new z on = cc
   sprouted_effect rule.All x c y choice lt new z on = cc
+  sprouted_effect rule.Trans x c y choice lt new z on = cc
   sprouted_effect rule.Value x c y choice lt new z on = cc
   sprouted_effect rule.Unit x c y choice lt new z on = cc
   sprouted_effect rule.Or x c y choice lt new z on = cc

@@ -4,22 +4,13 @@ use Rattle.std.proofs.lemmas.Bool.{cases_Bool, cases_lt}
 use Rattle.wiki_base.proofs.BoolLaws.{not_both}
 use Rattle.logic_terms.specs.Theory.{Theory}
 use Rattle.tableau_rules.specs.declared.step.Rule.{Rule}
-use Rattle.tableau_rules.specs.declared.step.Rule.TheVariants as rule
 use Rattle.tableau_rules.specs.Graph.{Graph, label_at}
 use Rattle.tableau_bounds.proofs.Stepping.{ParentsBelow}
 use Rattle.agenda.proofs.Changes.{Changes}
 use Rattle.agenda.specs.Resting.{concerns, IsResting, Fits}
+use Rattle.agenda.specs.Steps.{reaches_out}
 use Rattle.agenda.proofs.Changing.{same_changes}
 use Rattle.agenda.proofs.Staying.{NeighboursThere, rest_stays}
-
-pub all_or_other : (r : Rule) → (r ≡ rule.All) ⊎ (r ≡ rule.All → ⊥)
-all_or_other rule.And = inr (λ e. cc)
-all_or_other rule.Unfold = inr (λ e. cc)
-all_or_other rule.All = inl refl
-all_or_other rule.Value = inr (λ e. cc)
-all_or_other rule.Unit = inr (λ e. cc)
-all_or_other rule.Or = inr (λ e. cc)
-all_or_other rule.Some = inr (λ e. cc)
 
 -- a node is due, or its label does not concern the rule
 abbrev pub IsPut : Rule → Graph → (ℕ → Bool) → ℕ → Type 0
@@ -36,7 +27,7 @@ pub record IsNoted (h : Graph) (r : Rule) (grows joins : ℕ → Bool) (due late
   pub kept : (x : ℕ) → due x ≡ true → later x ≡ true
   pub waiting : (z x : ℕ) → grows z ≡ false → waits z x ≡ true → then z x ≡ true
   pub put : (x : ℕ) → grows x ≡ true → IsPut r h later x
-  pub met : r ≡ rule.All → (x : ℕ) → joins x ≡ true → IsPut r h later x
+  pub met : reaches_out r ≡ true → (x : ℕ) → joins x ≡ true → IsPut r h later x
 
 module _ (k : Theory) (g h : Graph) (grows joins : ℕ → Bool) (change : Changes k g h grows joins) (down : ParentsBelow g) (there : NeighboursThere k g) where
   pub fits_after : (r : Rule) (due later : ℕ → Bool) (waits then : ℕ → ℕ → Bool) → IsNoted h r grows joins due later waits then → Fits k g r due waits
@@ -53,10 +44,10 @@ module _ (k : Theory) (g h : Graph) (grows joins : ℕ → Bool) (change : Chang
           | inr calm ↦ elim (cases_Bool (joins x)) [
             | inr apart ↦ inr (inr (rest_stays k g h grows joins change down there waits x calm old rests.own
                 then (λ z still. noted.waiting z x still) r (λ e. apart) rests))
-            | inl joined ↦ elim (all_or_other r) [
+            | inl joined ↦ elim (cases_Bool (reaches_out r)) [
               | inl is ↦ from_put (noted.met is x joined)
               | inr other ↦ inr (inr (rest_stays k g h grows joins change down there waits x calm old rests.own
-                  then (λ z still. noted.waiting z x still) r (λ e. absurd (other e)) rests))
+                  then (λ z still. noted.waiting z x still) r (λ e. absurd (not_both e other)) rests))
             ]
           ]
         ]

@@ -1,5 +1,5 @@
 -- A rule applies for no class that does not concern it.
-use Rattle.std.proofs.Common.{◌≡◌, ℕ, ◌<◌, Bool, true, false, length, cond, Option, Some, None, refl, ap, ◌∙◌}
+use Rattle.std.proofs.Common.{◌≡◌, ℕ, Bool, true, false, length, cond, Option, Some, None, refl, ap}
 use Rattle.std.specs.Prelude.{is_some}
 use Rattle.std.specs.Option.{option_and_then, option_map}
 use Rattle.tableau_rules.proofs.Lists.{none_passes}
@@ -9,6 +9,7 @@ use Rattle.logic_terms.specs.Theory.{Theory}
 use Rattle.tableau_rules.specs.declared.step.Rule.{Rule}
 use Rattle.tableau_rules.specs.declared.step.Rule.TheVariants as rule
 use Rattle.tableau_rules.specs.declared.step.Step.{Step}
+use Rattle.tableau_rules.specs.Carrying.{role_of_all}
 use Rattle.tableau_rules.specs.Graph.{Graph, label_at, class_at}
 use Rattle.tableau_rules.specs.Blocking.{is_indirectly_blocked}
 use Rattle.tableau_rules.specs.Rules.{row, site, site_at, first_at}
@@ -24,6 +25,7 @@ module _ (k : Theory) (g : Graph) (x : ℕ) where
   row_none rule.And c h = none_then _ (intersection_part c) h
   row_none rule.Unfold c h = none_then _ (word_part c) h
   row_none rule.All c h = none_then _ (all_part c) h
+  row_none rule.Trans c h = none_then _ (role_of_all c) h
   row_none rule.Value c h = none_then _ (value_part c) h
   row_none rule.Unit c h = none_then _ (union_part c) h
   row_none rule.Or c h = none_then _ (union_part c) h

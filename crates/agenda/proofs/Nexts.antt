@@ -1,89 +1,33 @@
 -- The first step by a rule is at the least node that is due, and a node rests where no step applies.
-use Rattle.std.proofs.Common.{◌≡◌, ℕ, ◌<◌, ◌≤◌, ◌==◌, ◌&&◌, ◌⊎◌, Bool, true, false, [], length, cond, Option, Some, None, refl, sym, ap, ◌∙◌, inl, inr, arith}
-use Rattle.std.specs.Prelude.{not, nat_lt}
+use Rattle.std.proofs.Common.{◌≡◌, ℕ, ◌<◌, ◌≤◌, ◌&&◌, Bool, true, false, [], length, cond, Option, Some, None, refl, sym, ap, ◌∙◌, inl, inr, arith}
+use Rattle.std.specs.Prelude.{not}
 use Rattle.std.specs.Option.{option_and_then, option_map, option_map_or}
-use Rattle.std.proofs.lemmas.Bool.{cases_Bool, cases_lt, or_right, eqb-true}
+use Rattle.std.proofs.lemmas.Bool.{cases_Bool, cases_lt, or_right}
 use Rattle.std.proofs.lemmas.Option.{slice_get_past}
 use Rattle.wiki_base.proofs.BoolLaws.{not_both}
 use Rattle.logic_terms.specs.Concept.{Concept}
 use Rattle.logic_terms.specs.Meaning.{some_below}
-use Rattle.logic_terms.specs.Parts.{word_part, intersection_part, union_part, some_part, value_part}
 use Rattle.logic_terms.specs.Same.{has_concept}
 use Rattle.logic_terms.specs.Theory.{Theory}
 use Rattle.tableau_rules.specs.declared.step.Rule.{Rule}
 use Rattle.tableau_rules.specs.declared.step.Rule.TheVariants as rule
 use Rattle.tableau_rules.specs.declared.step.Step.{Step}
 use Rattle.tableau_rules.specs.First.{first_below, where_true}
+use Rattle.std.specs.List.{list_any}
+use Rattle.tableau_rules.specs.Carrying.{along, carriers}
+use Rattle.tableau_rules.proofs.Carriers.{none_there}
 use Rattle.tableau_rules.specs.Graph.{Graph, label_at, class_at}
-use Rattle.tableau_rules.specs.Neighbours.{node_of, is_neighbour}
+use Rattle.tableau_rules.specs.Neighbours.{is_neighbour}
 use Rattle.tableau_rules.specs.Blocking.{is_directly_blocked, is_indirectly_blocked, is_blocked}
-use Rattle.tableau_rules.specs.Rules.{lacks_some, lacks_all, unfoldings_of, open_members, serves, needs, row, site, site_at, applies, first_at, first_by}
+use Rattle.tableau_rules.specs.Rules.{serves, needs, row, site, site_at, first_at, first_by}
 use Rattle.tableau_rules.proofs.Firsts.{first_none, first_found, where_none}
 use Rattle.agenda.specs.Resting.{RestsBy, IsResting, Fits, waits_for, way_up}
-use Rattle.agenda.specs.Steps.{is_all, sprouts}
+use Rattle.agenda.specs.Steps.{reaches_out, sprouts}
 use Rattle.agenda.specs.Views.{AreWaitedFor, IsWaitedFor}
 use Rattle.agenda.proofs.Idle.{idle, no_first}
 use Rattle.agenda.proofs.Staying.{NeighboursThere, none_below}
 
--- a rule without a node y adds at 0
-where_zero : (t : Bool) → (where_true {X = ℕ} t 0 ≡ None) ⊎ (where_true {X = ℕ} t 0 ≡ Some 0)
-where_zero true = inr refl
-where_zero false = inl refl
-
-then_zero : {X : Type 0} (f : X → Option ℕ) → ((x : X) → (f x ≡ None) ⊎ (f x ≡ Some 0)) → (o : Option X)
-    → (option_and_then f o ≡ None) ⊎ (option_and_then f o ≡ Some 0)
-then_zero f each None = inl refl
-then_zero f each (Some x) = each x
-
 module _ (k : Theory) (g : Graph) where
-  row_zero : (r : Rule) (x : ℕ) (c : Concept) → is_all r ≡ false → (row k g r x c ≡ None) ⊎ (row k g r x c ≡ Some 0)
-  row_zero rule.And x c e = then_zero (λ cs. where_true (lacks_some (label_at g x) cs) 0) (λ cs. where_zero (lacks_some (label_at g x) cs))
-      (intersection_part c)
-  row_zero rule.Unfold x c e = then_zero (λ word. where_true (lacks_some (label_at g x) (unfoldings_of k word)) 0)
-      (λ word. where_zero (lacks_some (label_at g x) (unfoldings_of k word))) (word_part c)
-  row_zero rule.All x c e = cc
-  row_zero rule.Value x c e =
-      then_zero (λ p. option_and_then {U = ℕ} (λ y. where_true (not (is_blocked k g x) && not (is_neighbour k g p.0 x y)) 0) (node_of k p.1))
-      (λ p. then_zero (λ y. where_true (not (is_blocked k g x) && not (is_neighbour k g p.0 x y)) 0)
-      (λ y. where_zero (not (is_blocked k g x) && not (is_neighbour k g p.0 x y))) (node_of k p.1)) (value_part c)
-  row_zero rule.Unit x c e =
-      then_zero (λ cs. where_true (lacks_all (label_at g x) cs && nat_lt (length (open_members (label_at g x) cs)) 2) 0)
-      (λ cs. where_zero (lacks_all (label_at g x) cs && nat_lt (length (open_members (label_at g x) cs)) 2)) (union_part c)
-  row_zero rule.Or x c e = then_zero (λ cs. where_true (lacks_all (label_at g x) cs) 0) (λ cs. where_zero (lacks_all (label_at g x) cs)) (union_part c)
-  row_zero rule.Some x c e =
-      then_zero (λ p. where_true (not (is_blocked k g x) && not (some_below (length g.nodes) (serves k g p.0 p.1 x))) 0)
-      (λ p. where_zero (not (is_blocked k g x) && not (some_below (length g.nodes) (serves k g p.0 p.1 x)))) (some_part c)
-
-  site_zero : (r : Rule) (x : ℕ) (c : Concept) → is_all r ≡ false → (site k g r x c ≡ None) ⊎ (site k g r x c ≡ Some 0)
-  site_zero r x c e = go (is_indirectly_blocked k g x)
-    where
-      go : (b : Bool) → (cond b None (row k g r x c) ≡ None) ⊎ (cond b None (row k g r x c) ≡ Some 0)
-      go true = inl refl
-      go false = row_zero r x c e
-
-  site_at_zero : (r : Rule) (x place : ℕ) → is_all r ≡ false → (site_at k g r x place ≡ None) ⊎ (site_at k g r x place ≡ Some 0)
-  site_at_zero r x place e = then_zero (site k g r x) (λ c. site_zero r x c e) (class_at g x place)
-
-  zero_step : (s : Step) → s.other ≡ 0 → (o : Option ℕ) → site_at k g s.rule s.node s.class ≡ o → (b : Bool) → applies k g s ≡ b
-      → option_map_or (λ y. y == s.other) o false ≡ b
-  zero_step s zero_is o at b on = sym (ap (λ p. option_map_or (λ y. y == s.other) p false) at) ∙ on
-
-  pub applies_zero : (s : Step) → s.other ≡ 0 → applies k g s ≡ true → Some 0 ≡ site_at k g s.rule s.node s.class
-  applies_zero s zero_is on = go (site_at k g s.rule s.node s.class) refl
-    where
-      go : (o : Option ℕ) → site_at k g s.rule s.node s.class ≡ o → Some 0 ≡ site_at k g s.rule s.node s.class
-      go None at = (let e : false ≡ true = zero_step s zero_is None at true on in cc)
-      go (Some y) at = (let e : (y == s.other) ≡ true = zero_step s zero_is (Some y) at true on in sym (at ∙ ap Some (eqb-true y s.other e ∙ zero_is)))
-
-  pub applies_none : (s : Step) → s.other ≡ 0 → is_all s.rule ≡ false → applies k g s ≡ false → None ≡ site_at k g s.rule s.node s.class
-  applies_none s zero_is other off = elim (site_at_zero s.rule s.node s.class other) [
-    | inl none ↦ sym none
-    | inr some ↦
-        let e : (0 == s.other) ≡ false = zero_step s zero_is (Some 0) some false off in
-        let t : (0 == s.other) ≡ true = Rattle.std.proofs.lemmas.Bool.eq-eqb 0 s.other (sym zero_is) in
-        absurd (not_both t e)
-  ]
-
   -- no step at a node
   pub no_sites : (r : Rule) (x : ℕ) → first_at k g r x ≡ None → (place : ℕ) → site_at k g r x place ≡ None
   no_sites r x none place = elim (cases_lt place (length (label_at g x))) [
@@ -168,6 +112,25 @@ module _ (k : Theory) (g : Graph) where
       ])
     ]
 
+    trans_rests : AreWaitedFor k g waits x → ((place : ℕ) → site_at k g rule.Trans x place ≡ None) → RestsBy k g waits x rule.Trans
+    trans_rests awaited none place c role at part = elim (cases_Bool (is_indirectly_blocked k g x)) [
+      | inl stops ↦ inl stops
+      | inr free ↦ inr (λ t carries y near. elim (cases_Bool (is_indirectly_blocked k g y)) [
+        | inl stops ↦ inr (stops, awaited t y near stops)
+        | inr open_there ↦
+            let row_none : first_below (length g.nodes) (λ z. where_true (list_any (λ s. needs k g s (along s c) x z) (carriers k role)) z) ≡ None =
+            sym (ap (option_and_then {U = ℕ}
+            (λ q. first_below (length g.nodes) (λ z. where_true (list_any (λ s. needs k g s (along s c) x z) (carriers k q)) z))) part)
+            ∙ site_row rule.Trans c free (at_class rule.Trans place c at (none place)) in
+            let all_fail : list_any (λ s. needs k g s (along s c) x y) (carriers k role) ≡ false =
+            where_none (list_any (λ s. needs k g s (along s c) x y) (carriers k role)) y
+            (none_below (length g.nodes) (λ z. where_true (list_any (λ s. needs k g s (along s c) x z) (carriers k role)) z) row_none y (there t x y near)) in
+            let fails : needs k g t (along t c) x y ≡ false =
+            none_there (λ s. needs k g s (along s c) x y) (carriers k role) t all_fail carries in
+            inl (has_it (is_neighbour k g t x y) (is_indirectly_blocked k g y) (has_concept (label_at g y) (along t c)) fails near open_there)
+      ])
+    ]
+
     must_block : (a b : Bool) → (not a && not b) ≡ false → b ≡ false → a ≡ true
     must_block true b e f = refl
     must_block false true e f = cc
@@ -187,11 +150,12 @@ module _ (k : Theory) (g : Graph) where
       ])
     ]
 
-    pub rests_all : (r : Rule) → is_all r ≡ true → first_at k g r x ≡ None → waits_for waits x (way_up g x) ≡ true → AreWaitedFor k g waits x
+    pub rests_all : (r : Rule) → reaches_out r ≡ true → first_at k g r x ≡ None → waits_for waits x (way_up g x) ≡ true → AreWaitedFor k g waits x
         → IsResting k g waits r x
     rests_all rule.And e none own awaited = cc
     rests_all rule.Unfold e none own awaited = cc
     rests_all rule.All e none own awaited = record { none = no_sites rule.All x none; own = own; others = all_rests awaited (no_sites rule.All x none) }
+    rests_all rule.Trans e none own awaited = record { none = no_sites rule.Trans x none; own = own; others = trans_rests awaited (no_sites rule.Trans x none) }
     rests_all rule.Value e none own awaited = cc
     rests_all rule.Unit e none own awaited = cc
     rests_all rule.Or e none own awaited = cc
@@ -202,19 +166,21 @@ module _ (k : Theory) (g : Graph) where
     rests_some rule.And e none own awaited = cc
     rests_some rule.Unfold e none own awaited = cc
     rests_some rule.All e none own awaited = cc
+    rests_some rule.Trans e none own awaited = cc
     rests_some rule.Value e none own awaited = cc
     rests_some rule.Unit e none own awaited = cc
     rests_some rule.Or e none own awaited = cc
     rests_some rule.Some e none own awaited = record { none = no_sites rule.Some x none; own = own; others = some_rests awaited (no_sites rule.Some x none) }
 
-    pub rests_other : (r : Rule) → is_all r ≡ false → sprouts r ≡ false → first_at k g r x ≡ None → waits_for waits x (way_up g x) ≡ true
+    pub rests_other : (r : Rule) → reaches_out r ≡ false → sprouts r ≡ false → first_at k g r x ≡ None → waits_for waits x (way_up g x) ≡ true
         → IsResting k g waits r x
     rests_other r e f none own = record { none = no_sites r x none; own = own; others = others r e f }
       where
-        others : (r : Rule) → is_all r ≡ false → sprouts r ≡ false → RestsBy k g waits x r
+        others : (r : Rule) → reaches_out r ≡ false → sprouts r ≡ false → RestsBy k g waits x r
         others rule.And e f = tt
         others rule.Unfold e f = tt
         others rule.All e f = cc
+        others rule.Trans e f = cc
         others rule.Value e f = tt
         others rule.Unit e f = tt
         others rule.Or e f = tt

@@ -1,5 +1,5 @@
 -- What a queue notes of a step fits the branch after it.
-use Rattle.std.proofs.Common.{◌≡◌, ℕ, ◌<◌, ◌+◌, ◌-◌, ◌==◌, ◌||◌, ◌⊎◌, Bool, true, false, List, [], ◌∷◌, ◌++◌, length, Some, None, slice_get, subst, refl, sym, ap, ◌∙◌, inl, inr, arith, length-append}
+use Rattle.std.proofs.Common.{◌≡◌, ℕ, ◌+◌, ◌-◌, ◌==◌, Bool, true, false, List, [], ◌∷◌, ◌++◌, length, Some, None, slice_get, subst, refl, sym, ap, ◌∙◌, inl, inr, arith, length-append}
 use Rattle.std.specs.Prelude.{IsTrue, if◌then◌else◌}
 use Rattle.std.proofs.lemmas.Bool.{cases_Bool, cases_eq, or_cases, eqb-true, eq-eqb, ne_eqb, cond-false}
 use Rattle.std.proofs.lemmas.Option.{same_Some}
@@ -8,14 +8,13 @@ use Rattle.tableau_rules.proofs.Labels.{get_push_new}
 use Rattle.logic_terms.specs.Theory.{Theory}
 use Rattle.tableau_rules.specs.declared.branch.Edge.{Edge}
 use Rattle.tableau_rules.specs.declared.step.Rule.{Rule}
-use Rattle.tableau_rules.specs.declared.step.Rule.TheVariants as rule
 use Rattle.tableau_rules.specs.declared.step.Step.{Step}
 use Rattle.tableau_rules.specs.Branches.{IsBranch}
 use Rattle.tableau_rules.specs.Graph.{Graph, Vertex}
 use Rattle.tableau_rules.specs.Rules.{applies, with_edge, with_node, after}
 use Rattle.agenda.specs.declared.queue.Queue.{Queue}
 use Rattle.agenda.proofs.Changes.{Changes}
-use Rattle.agenda.specs.Steps.{grown_by, sprouts}
+use Rattle.agenda.specs.Steps.{grown_by, sprouts, reaches_out}
 use Rattle.agenda.specs.Views.{is_due, is_waiting, FitsQueue, FollowsQueue, IsPut, NotesLabel, NotesEdge, last_edge}
 use Rattle.agenda.proofs.Changing.{ends, same_changes, adding_changes, edge_changes, node_changes}
 use Rattle.agenda.proofs.Effects.{IsGrown, growth, linking, sprouting}
@@ -33,7 +32,7 @@ decided_one x waits y = elim (cases_Bool (waits x y)) [
 
 -- where one label grew
 module _ (h : Graph) (r : Rule) (x : ℕ) (old new : Queue) (notes : NotesLabel h r x old new) (joins : ℕ → Bool)
-    (met : r ≡ rule.All → (y : ℕ) → joins y ≡ true → IsPut h r new y) where
+    (met : reaches_out r ≡ true → (y : ℕ) → joins y ≡ true → IsPut h r new y) where
   label_noted : IsNoted h r (λ y. x == y) joins (is_due old) (is_due new) (is_waiting old) (is_waiting new)
   label_noted = record {
     decided = decided_one x (is_waiting old);
@@ -58,7 +57,8 @@ module _ (k : Theory) (g : Graph) (branch : IsBranch k g) (r : Rule) where
       change (inl same) = subst (λ f. Changes k g f (λ y. x == y) (λ y. false)) (sym same) (same_changes k g (λ y. x == y) (λ y. false))
       change (inr (cs, is)) = subst (λ f. Changes k g f (λ y. x == y) (λ y. false)) (sym is) (adding_changes k g x cs)
 
-  met_ends : (e : Edge) (h : Graph) (new : Queue) → (r ≡ rule.All → IsPut h r new e.from × IsPut h r new e.to) → r ≡ rule.All → (y : ℕ) → ends e y ≡ true
+  met_ends : (e : Edge) (h : Graph) (new : Queue) → (reaches_out r ≡ true → IsPut h r new e.from × IsPut h r new e.to) → reaches_out r ≡ true → (y : ℕ)
+      → ends e y ≡ true
       → IsPut h r new y
   met_ends e h new met is y joined = elim (or_cases (e.from == y) (e.to == y) joined) [
     | inl from ↦ subst (IsPut h r new) (eqb-true e.from y from) (met is).0

@@ -10,15 +10,15 @@ use Rattle.std.specs.Ordering.{nat_cmp, is_eq}
 use Rattle.std.proofs.lemmas.Bool.{cases_eq, ne_eqb}
 use Rattle.std.proofs.lemmas.Map.Keys.{le_from_not_gt}
 use Rattle.std.proofs.lemmas.Option.{same_Some}
+use Rattle.wiki_base.proofs.BoolLaws.{not_both}
 use Rattle.logic_terms.specs.Theory.{Theory}
 use Rattle.tableau_rules.specs.declared.branch.Edge.{Edge}
 use Rattle.tableau_rules.specs.declared.step.Rule.{Rule}
-use Rattle.tableau_rules.specs.declared.step.Rule.TheVariants as rule
 use Rattle.tableau_rules.specs.Branches.{IsBranch}
 use Rattle.tableau_rules.specs.Graph.{Graph, label_at}
 use Rattle.agenda.specs.declared.queue.Queue.{Queue}
 use Rattle.agenda.specs.Resting.{IsResting, Fits}
-use Rattle.agenda.specs.Steps.{is_all}
+use Rattle.agenda.specs.Steps.{reaches_out}
 use Rattle.agenda.specs.Views.{is_listed, Lists, is_due, is_waiting, FitsQueue, IsPut, NotesLabel, Meets, NotesEdge}
 use Rattle.agenda.proofs.Fitting.{rest_more}
 use Rattle.agenda.proofs.Shapes.{branch_shaped, shaped_neighbours}
@@ -62,14 +62,11 @@ notes_label g r x old mid new woken kept waiting later same put = record {
   put = put;
 }
 
-all_is : (r : Rule) → is_all r ≡ false → r ≡ rule.All → ⊥
-all_is r e is = (let t : is_all r ≡ true = ap is_all is in let f : true ≡ false = sym t ∙ e in cc)
-
-pub meets_none : (g : Graph) (r : Rule) (e : Edge) (q : Queue) → is_all r ≡ false → Meets g r e q q
+pub meets_none : (g : Graph) (r : Rule) (e : Edge) (q : Queue) → reaches_out r ≡ false → Meets g r e q q
 meets_none g r e q other = record {
   kept = λ y h. h;
   waiting = λ z y h. h;
-  met = λ is. absurd (all_is r other is);
+  met = λ is. absurd (not_both is other);
 }
 
 pub meets_both : (g : Graph) (r : Rule) (e : Edge) (old mid new : Queue) → KeepsDue old mid → mid.waiting ≡ old.waiting → IsPut g r mid e.from

@@ -1,6 +1,7 @@
 -- A node that rests goes on resting where no node that it waits for grows.
-use Rattle.std.proofs.Common.{◌≡◌, ℕ, zero, suc, ◌+◌, ◌<◌, ◌≤◌, ◌&&◌, ◌||◌, ◌⊎◌, Bool, true, false, List, [], ◌∷◌, length, cond, Option, Some, None, slice_get, refl, sym, ap, ◌∙◌, inl, inr, arith}
+use Rattle.std.proofs.Common.{◌≡◌, ℕ, zero, suc, ◌<◌, ◌≤◌, ◌&&◌, ◌||◌, ◌⊎◌, Bool, true, false, List, [], ◌∷◌, length, cond, Option, Some, None, slice_get, refl, sym, ap, ◌∙◌, inl, inr, arith}
 use Rattle.std.specs.Prelude.{not, nat_lt}
+use Rattle.std.specs.List.{list_any}
 use Rattle.std.specs.Option.{option_and_then, option_or}
 use Rattle.std.proofs.lemmas.Bool.{cases_Bool, cases_lt, and_parts, and_from, false_from_ne_true, not-true}
 use Rattle.wiki_base.specs.declared.numbers.WordId.{WordId}
@@ -23,6 +24,9 @@ use Rattle.tableau_rules.proofs.Firsts.{first_none, where_not, where_none}
 use Rattle.tableau_bounds.proofs.Stepping.{ParentsBelow}
 use Rattle.tableau_bounds.proofs.Ways.{ancestors_same}
 use Rattle.agenda.proofs.Changes.{Changes}
+use Rattle.tableau_rules.specs.Carrying.{role_of_all, along, carriers}
+use Rattle.tableau_rules.proofs.Carriers.{all_fail}
+use Rattle.agenda.specs.Steps.{reaches_out}
 use Rattle.agenda.specs.Resting.{way_up, waits_for, RestsBy, IsResting}
 use Rattle.agenda.proofs.Idle.{row_site}
 
@@ -137,7 +141,7 @@ module _ (k : Theory) (g h : Graph) (grows joins : ℕ → Bool) (change : Chang
     through : (a b c : ℕ) → a < b → b ≤ c → a < c
     through a b c l m = omega arith
 
-    row_stays : (r : Rule) → (r ≡ rule.All → joins x ≡ false) → RestsBy k g waits x r → (place : ℕ) (c : Concept) → class_at g x place ≡ Some c
+    row_stays : (r : Rule) → (reaches_out r ≡ true → joins x ≡ false) → RestsBy k g waits x r → (place : ℕ) (c : Concept) → class_at g x place ≡ Some c
         → is_indirectly_blocked k g x ≡ false → row k g r x c ≡ None → row k h r x c ≡ None
     row_stays rule.And apart rests place c at free none =
         ap (λ l. option_and_then {U = ℕ} (λ cs. where_true (lacks_some l cs) 0) (intersection_part c)) label_x ∙ none
@@ -152,6 +156,18 @@ module _ (k : Theory) (g h : Graph) (grows joins : ℕ → Bool) (change : Chang
             (λ y below. where_not (needs k h p.0 p.1 x y) y (elim (rests place c p at part) [
               | inl stops ↦ absurd (not_both stops free)
               | inr each ↦ all_stays (apart refl) p each y
+            ]))
+    row_stays rule.Trans apart rests place c at free none = go (role_of_all c) refl
+      where
+        go : (o : Option Role) → role_of_all c ≡ o
+            → option_and_then {U = ℕ} (λ role. first_below (length h.nodes)
+            (λ y. where_true (list_any (λ t. needs k h t (along t c) x y) (carriers k role)) y)) o ≡ None
+        go None part = refl
+        go (Some role) part = first_none (length h.nodes) (λ y. where_true (list_any (λ t. needs k h t (along t c) x y) (carriers k role)) y)
+            (λ y below. where_not (list_any (λ t. needs k h t (along t c) x y) (carriers k role)) y (elim (rests place c role at part) [
+              | inl stops ↦ absurd (not_both stops free)
+              | inr each ↦ all_fail (λ t. needs k h t (along t c) x y) (carriers k role)
+                  (λ t carries. all_stays (apart refl) (t, along t c) (λ z near. each t carries z near) y)
             ]))
     row_stays rule.Value apart rests place c at free none = value_stays (value_part c) none
     row_stays rule.Unit apart rests place c at free none =
@@ -169,14 +185,14 @@ module _ (k : Theory) (g h : Graph) (grows joins : ℕ → Bool) (change : Chang
               (some_stays p y below served all))
         ])
 
-    site_stays : (r : Rule) → (r ≡ rule.All → joins x ≡ false) → RestsBy k g waits x r → (place : ℕ) (c : Concept) → class_at g x place ≡ Some c
+    site_stays : (r : Rule) → (reaches_out r ≡ true → joins x ≡ false) → RestsBy k g waits x r → (place : ℕ) (c : Concept) → class_at g x place ≡ Some c
         → site k g r x c ≡ None → site k h r x c ≡ None
     site_stays r apart rests place c at none = elim (cases_Bool (is_indirectly_blocked k g x)) [
       | inl stops ↦ ap (λ b. cond b None (row k h r x c)) (indirectly_same x lt own ∙ stops)
       | inr free ↦ row_site k h x r c (row_stays r apart rests place c at free (sym (ap (λ b. cond b None (row k g r x c)) free) ∙ none))
     ]
 
-    none_stays : (r : Rule) → (r ≡ rule.All → joins x ≡ false) → IsResting k g waits r x → (place : ℕ) → site_at k h r x place ≡ None
+    none_stays : (r : Rule) → (reaches_out r ≡ true → joins x ≡ false) → IsResting k g waits r x → (place : ℕ) → site_at k h r x place ≡ None
     none_stays r apart rests place = ap (λ l. option_and_then (site k h r x) (slice_get l place)) label_x ∙ go (class_at g x place) refl (rests.none place)
       where
         go : (o : Option Concept) → class_at g x place ≡ o → option_and_then (site k g r x) o ≡ None → option_and_then (site k h r x) o ≡ None
@@ -194,7 +210,7 @@ module _ (k : Theory) (g h : Graph) (grows joins : ℕ → Bool) (change : Chang
       still_up : (y : ℕ) → y < length g.nodes → waits_for waits x (way_up g y) ≡ true → waits_for later x (way_up h y) ≡ true
       still_up y below all = ap (waits_for later x) (way_same y below) ∙ still_waits (way_up g y) all
 
-      others_stay : (r : Rule) → (r ≡ rule.All → joins x ≡ false) → RestsBy k g waits x r → RestsBy k h later x r
+      others_stay : (r : Rule) → (reaches_out r ≡ true → joins x ≡ false) → RestsBy k g waits x r → RestsBy k h later x r
       others_stay rule.And apart rests = tt
       others_stay rule.Unfold apart rests = tt
       others_stay rule.All apart rests = λ place c p at part. elim (rests place c p (sym (ap (λ l. slice_get l place) label_x) ∙ at) part) [
@@ -202,6 +218,13 @@ module _ (k : Theory) (g h : Graph) (grows joins : ℕ → Bool) (change : Chang
         | inr each ↦ inr (λ y near. let before = change.only p.0 x y (apart refl) near in elim (each y before) [
           | inl has ↦ inl (change.more y p.1 has)
           | inr stops ↦ (let below = there p.0 x y before in inr (indirectly_same y below stops.1 ∙ stops.0, still_up y below stops.1))
+        ])
+      ]
+      others_stay rule.Trans apart rests = λ place c role at part. elim (rests place c role (sym (ap (λ l. slice_get l place) label_x) ∙ at) part) [
+        | inl stops ↦ inl (indirectly_same x lt own ∙ stops)
+        | inr each ↦ inr (λ t carries y near. let before = change.only t x y (apart refl) near in elim (each t carries y before) [
+          | inl has ↦ inl (change.more y (along t c) has)
+          | inr stops ↦ (let below = there t x y before in inr (indirectly_same y below stops.1 ∙ stops.0, still_up y below stops.1))
         ])
       ]
       others_stay rule.Value apart rests = tt
@@ -213,7 +236,7 @@ module _ (k : Theory) (g h : Graph) (grows joins : ℕ → Bool) (change : Chang
             (y, through y (length g.nodes) (length h.nodes) below change.count, some_stays p y below served all, still_up y below all)
       ]
 
-      pub rest_stays : (r : Rule) → (r ≡ rule.All → joins x ≡ false) → IsResting k g waits r x → IsResting k h later r x
+      pub rest_stays : (r : Rule) → (reaches_out r ≡ true → joins x ≡ false) → IsResting k g waits r x → IsResting k h later r x
       rest_stays r apart rests = record {
         none = none_stays r apart rests;
         own = still_up x lt own;

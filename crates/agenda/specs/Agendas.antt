@@ -14,6 +14,7 @@ pub record IsAgendaOf (k : Theory) (g : Graph) (a : Agenda) : Type 0 where
   pub ands : FitsQueue k g rule.And a.ands
   pub unfoldings : FitsQueue k g rule.Unfold a.unfoldings
   pub alls : FitsQueue k g rule.All a.alls
+  pub transes : FitsQueue k g rule.Trans a.transes
   pub values : FitsQueue k g rule.Value a.values
   pub units : FitsQueue k g rule.Unit a.units
   pub ors : FitsQueue k g rule.Or a.ors

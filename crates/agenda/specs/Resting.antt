@@ -4,10 +4,11 @@ use Rattle.std.specs.List.{list_any, list_all}
 use Rattle.logic_terms.specs.declared.expressions.Role.{Role}
 use Rattle.logic_terms.specs.Concept.{Concept}
 use Rattle.logic_terms.specs.Parts.{word_part, intersection_part, union_part, some_part, all_part, value_part}
-use Rattle.logic_terms.specs.Same.{has_concept}
+use Rattle.logic_terms.specs.Same.{same_role, has_concept}
 use Rattle.logic_terms.specs.Theory.{Theory}
 use Rattle.tableau_rules.specs.declared.step.Rule.{Rule}
 use Rattle.tableau_rules.specs.declared.step.Rule.TheVariants as rule
+use Rattle.tableau_rules.specs.Carrying.{role_of_all, along, carriers}
 use Rattle.tableau_rules.specs.Graph.{Graph, label_at, class_at}
 use Rattle.tableau_rules.specs.Neighbours.{is_neighbour}
 use Rattle.tableau_rules.specs.Blocking.{ancestors, is_blocked, is_indirectly_blocked}
@@ -18,6 +19,7 @@ abbrev pub reads : Rule → Concept → Bool
 reads rule.And c = is_some (intersection_part c)
 reads rule.Unfold c = is_some (word_part c)
 reads rule.All c = is_some (all_part c)
+reads rule.Trans c = is_some (role_of_all c)
 reads rule.Value c = is_some (value_part c)
 reads rule.Unit c = is_some (union_part c)
 reads rule.Or c = is_some (union_part c)
@@ -35,14 +37,19 @@ way_up g x = x ∷ ancestors g x
 abbrev pub waits_for : (ℕ → ℕ → Bool) → ℕ → List ℕ → Bool
 waits_for waits x zs = list_all (λ z. waits z x) zs
 
--- what a rule that looks at neighbours found: by `All` each neighbour has the class, or is indirectly blocked and x waits for
--- what blocks it; by `Some` x is blocked, or a neighbour serves and x waits for what may block it
+-- what a rule that looks at neighbours found: by `All` and by `Trans` each neighbour has the class, or is indirectly blocked
+-- and x waits for what blocks it; by `Some` x is blocked, or a neighbour serves and x waits for what may block it
 abbrev pub RestsBy : Theory → Graph → (ℕ → ℕ → Bool) → ℕ → Rule → Type 0
 RestsBy k g waits x rule.All =
     (place : ℕ) (c : Concept) (p : Role × Concept) → class_at g x place ≡ Some c → all_part c ≡ Some p
     → (is_indirectly_blocked k g x ≡ true)
     ⊎ ((y : ℕ) → is_neighbour k g p.0 x y ≡ true
     → (has_concept (label_at g y) p.1 ≡ true) ⊎ ((is_indirectly_blocked k g y ≡ true) × (waits_for waits x (way_up g y) ≡ true)))
+RestsBy k g waits x rule.Trans =
+    (place : ℕ) (c : Concept) (role : Role) → class_at g x place ≡ Some c → role_of_all c ≡ Some role
+    → (is_indirectly_blocked k g x ≡ true)
+    ⊎ ((t : Role) → list_any (λ s. same_role s t) (carriers k role) ≡ true → (y : ℕ) → is_neighbour k g t x y ≡ true
+    → (has_concept (label_at g y) (along t c) ≡ true) ⊎ ((is_indirectly_blocked k g y ≡ true) × (waits_for waits x (way_up g y) ≡ true)))
 RestsBy k g waits x rule.Some =
     (place : ℕ) (c : Concept) (p : Role × Concept) → class_at g x place ≡ Some c → some_part c ≡ Some p
     → (is_blocked k g x ≡ true) ⊎ ((y : ℕ) × (y < length g.nodes) × (serves k g p.0 p.1 x y ≡ true) × (waits_for waits x (way_up g y) ≡ true))

@@ -7,6 +7,7 @@ use Rattle.tableau_rules.specs.declared.step.Step.{Step}
 -- the node whose label a rule makes grow, at a node and with the node y of the rule; none for a rule that adds an edge
 abbrev pub grown_node : Rule → ℕ → ℕ → Option ℕ
 grown_node rule.All x y = Some y
+grown_node rule.Trans x y = Some y
 grown_node rule.Value x y = None
 grown_node rule.Some x y = None
 grown_node _ x _ = Some x
@@ -19,7 +20,8 @@ abbrev pub sprouts : Rule → Bool
 sprouts rule.Some = true
 sprouts _ = false
 
--- whether a rule adds a class to a neighbour
-abbrev pub is_all : Rule → Bool
-is_all rule.All = true
-is_all _ = false
+-- whether a rule adds classes to a neighbour
+abbrev pub reaches_out : Rule → Bool
+reaches_out rule.All = true
+reaches_out rule.Trans = true
+reaches_out _ = false

@@ -10,7 +10,6 @@ use Rattle.logic_terms.specs.Parts.{some_part}
 use Rattle.logic_terms.specs.Theory.{Theory}
 use Rattle.tableau_rules.specs.declared.branch.Edge.{Edge}
 use Rattle.tableau_rules.specs.declared.step.Rule.{Rule}
-use Rattle.tableau_rules.specs.declared.step.Rule.TheVariants as rule
 use Rattle.tableau_rules.specs.declared.step.Step.{Step}
 use Rattle.tableau_rules.specs.Branches.{IsBranch}
 use Rattle.tableau_rules.specs.Blocking.{is_indirectly_blocked}
@@ -19,6 +18,7 @@ use Rattle.tableau_rules.specs.Neighbours.{is_neighbour}
 use Rattle.tableau_rules.specs.Rules.{serves, applies, after}
 use Rattle.agenda.specs.declared.queue.Queue.{Queue}
 use Rattle.agenda.specs.Resting.{concerns, way_up, waits_for, Fits}
+use Rattle.agenda.specs.Steps.{reaches_out}
 
 -- whether x is in the list of z
 abbrev pub is_listed : List (List ℕ) → ℕ → ℕ → Bool
@@ -76,11 +76,11 @@ pub record NotesLabel (g : Graph) (r : Rule) (x : ℕ) (old new : Queue) : Type 
 pub record Meets (g : Graph) (r : Rule) (e : Edge) (old new : Queue) : Type 0 where
   pub kept : (y : ℕ) → is_due old y ≡ true → is_due new y ≡ true
   pub waiting : (z y : ℕ) → is_waiting old z y ≡ true → is_waiting new z y ≡ true
-  pub met : r ≡ rule.All → IsPut g r new e.from × IsPut g r new e.to
+  pub met : reaches_out r ≡ true → IsPut g r new e.from × IsPut g r new e.to
 
 -- what a queue gets where an edge came, to a new node or not
 pub record NotesEdge (g : Graph) (r : Rule) (e : Edge) (is_new : Bool) (old new : Queue) : Type 0 where
   pub kept : (y : ℕ) → is_due old y ≡ true → is_due new y ≡ true
-  pub met : r ≡ rule.All → IsPut g r new e.from × IsPut g r new e.to
+  pub met : reaches_out r ≡ true → IsPut g r new e.from × IsPut g r new e.to
   pub old_to : is_new ≡ false → (z y : ℕ) → is_waiting old z y ≡ true → is_waiting new z y ≡ true
   pub new_to : is_new ≡ true → NotesLabel g r e.to old new

@@ -1,16 +1,14 @@
 // What the edges at a node lead to.
-ghost use Rattle.std.specs.Prelude.{◌≡◌, ◌<◌, ◌&&◌, true, false, not, min, map, length, nat_lt, MatchOption};
+ghost use Rattle.std.specs.Prelude.{◌≡◌, ◌<◌, ◌&&◌, true, false, not, map, length, nat_lt, MatchOption};
 ghost use Rattle.std.specs.List.{list_any};
-ghost use Rattle.std.specs.Option.{option_map_or};
 ghost use Rattle.logic_terms.specs.Known.{theory_of};
 ghost use Rattle.logic_terms.specs.Meaning.{some_below};
 ghost use Rattle.logic_terms.specs.Same.{has_concept};
 ghost use Rattle.logic_terms.specs.Shown.{concept_of};
 ghost use Rattle.tableau_rules.specs.Blocking.{is_indirectly_blocked};
-ghost use Rattle.tableau_rules.specs.First.{first_below, where_true};
 ghost use Rattle.tableau_rules.specs.Graph.{label_at};
 ghost use Rattle.tableau_rules.specs.Neighbours.{makes_neighbour};
-ghost use Rattle.tableau_rules.specs.Rules.{needs, serves};
+ghost use Rattle.tableau_rules.specs.Rules.{serves};
 ghost use Rattle.tableau_rules.specs.Shown.{graph_of};
 ghost use Rattle.tableau_rules.specs.Touching.{far_end, reaches};
 
@@ -45,45 +43,6 @@ fn leads_on(k: &Knowledge, b: &Branch, role: Role, node: u64, edge: Edge) -> boo
 {
     let other = far_end(node, edge);
     makes_neighbour(k, role, node, other, edge) && other < b.len()
-}
-
-// The least neighbour that is not indirectly blocked and lacks the class.
-pub(crate) fn first_in_need(
-    k: &Knowledge,
-    b: &Branch,
-    role: Role,
-    class: &Class,
-    node: u64,
-) -> Option<u64>
-    ensures { result ≡ first_below (length (graph_of b.now).nodes)
-        (λ y. where_true (needs (theory_of k.now) (graph_of b.now) role (concept_of class.now) node y) y) }
-{
-    let mut least = None;
-    for edge in b.edges_at(node) {
-        if is_in_need(k, b, role, class, node, *edge) {
-            least = Some(lesser(least, far_end(node, *edge)));
-        }
-    }
-    least
-}
-
-fn lesser(least: Option<u64>, other: u64) -> u64
-    ensures { result ≡ option_map_or (λ own. min own other) least other }
-{
-    match least {
-        Some(own) => own.min(other),
-        None => other,
-    }
-}
-
-fn is_in_need(k: &Knowledge, b: &Branch, role: Role, class: &Class, node: u64, edge: Edge) -> bool
-    ensures { result ≡ reaches (theory_of k.now) role (length (graph_of b.now).nodes) node
-        (λ y. not (is_indirectly_blocked (theory_of k.now) (graph_of b.now) y) && not (has_concept (label_at (graph_of b.now) y) (concept_of class.now))) edge }
-{
-    let other = far_end(node, edge);
-    leads_on(k, b, role, node, edge)
-        && !has(b.label(other), class)
-        && !is_indirectly_blocked(k, b, other)
 }
 
 // A neighbour that is not indirectly blocked and has the class.

@@ -20,6 +20,7 @@ pub struct Agenda {
     ands: Queue,
     unfoldings: Queue,
     alls: Queue,
+    transes: Queue,
     values: Queue,
     units: Queue,
     ors: Queue,
@@ -35,6 +36,7 @@ impl Agenda {
             ands: Queue::full(alloc, b, Rule::And)?,
             unfoldings: Queue::full(alloc, b, Rule::Unfold)?,
             alls: Queue::full(alloc, b, Rule::All)?,
+            transes: Queue::full(alloc, b, Rule::Trans)?,
             values: Queue::full(alloc, b, Rule::Value)?,
             units: Queue::full(alloc, b, Rule::Unit)?,
             ors: Queue::full(alloc, b, Rule::Or)?,
@@ -59,6 +61,9 @@ impl Agenda {
         if let Some(step) = self.alls.next(k, b, Rule::All)? {
             return Ok(Some(step));
         }
+        if let Some(step) = self.transes.next(k, b, Rule::Trans)? {
+            return Ok(Some(step));
+        }
         if let Some(step) = self.values.next(k, b, Rule::Value)? {
             return Ok(Some(step));
         }
@@ -78,6 +83,7 @@ impl Agenda {
         self.ands.note(b, Rule::And, step)?;
         self.unfoldings.note(b, Rule::Unfold, step)?;
         self.alls.note(b, Rule::All, step)?;
+        self.transes.note(b, Rule::Trans, step)?;
         self.values.note(b, Rule::Value, step)?;
         self.units.note(b, Rule::Unit, step)?;
         self.ors.note(b, Rule::Or, step)?;

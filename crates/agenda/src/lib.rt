@@ -6,7 +6,6 @@ mod edging;
 mod keeping;
 mod queue;
 mod reading;
-mod sites;
 mod stepping;
 mod waiting;
 

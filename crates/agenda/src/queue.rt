@@ -14,14 +14,13 @@ ghost use Rattle.agenda.specs.Resting.{concerns, IsResting};
 ghost use Rattle.agenda.specs.Views.{is_listed, Lists, is_due, is_waiting, FitsQueue, FollowsQueue, NotesLabel, Meets, NotesEdge};
 
 use crate::reading::concerns;
-use crate::sites::{first_at, is_all};
-use crate::stepping::{grown_by, last_edge, sprouts};
+use crate::stepping::{grown_by, last_edge, reaches_out, sprouts};
 use crate::waiting::{empty, wait, wait_for_blocked, wait_for_servers, waiting_for};
 use lists::List;
 use logic_terms::Knowledge;
 use std::alloc::Global;
 use std::collections::BTreeSet;
-use tableau_rules::{Branch, Edge, Rule, Step};
+use tableau_rules::{Branch, Edge, Rule, Step, first_at};
 use wiki_base::Memory;
 
 // For one rule: the nodes that are due to be looked at, and for each node those that wait for it to grow.
@@ -63,7 +62,7 @@ fn rest(
     ensures more { OnOk result (Lists waiting.old.items waiting.new.items) }
 {
     wait(waiting, b, node, node)?;
-    if is_all(rule) {
+    if reaches_out(rule) {
         wait_for_blocked(waiting, k, b, node)
     } else if sprouts(rule) {
         wait_for_servers(waiting, k, b, node)
@@ -169,7 +168,7 @@ impl Queue {
     fn meet(&mut self, b: &Branch, rule: Rule, edge: Edge) -> Result<(), Memory>
         ensures { OnOk result (Meets (graph_of b.now) rule edge self.old self.new) }
     {
-        if is_all(rule) {
+        if reaches_out(rule) {
             self.put(b, rule, edge.from)?;
             self.put(b, rule, edge.to)?;
         }

@@ -4,7 +4,7 @@ ghost use Rattle.logic_terms.specs.Shown.{concept_of};
 ghost use Rattle.agenda.specs.Resting.{reads, concerns};
 
 use logic_terms::Class;
-use tableau_rules::Rule;
+use tableau_rules::{Rule, role_of_all};
 
 // Whether a rule may apply for a class.
 fn reads(rule: Rule, class: &Class) -> bool
@@ -14,6 +14,7 @@ fn reads(rule: Rule, class: &Class) -> bool
         Rule::And => class.intersection().is_some(),
         Rule::Unfold => class.word().is_some(),
         Rule::All => class.universal().is_some(),
+        Rule::Trans => role_of_all(class).is_some(),
         Rule::Value => class.value().is_some(),
         Rule::Unit => class.union().is_some(),
         Rule::Or => class.union().is_some(),

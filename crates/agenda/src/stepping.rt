@@ -1,7 +1,7 @@
 // Which node a step adds classes to.
 ghost use Rattle.std.specs.Prelude.{◌≡◌, slice_get, length, ◌-◌};
 ghost use Rattle.tableau_rules.specs.Shown.{graph_of};
-ghost use Rattle.agenda.specs.Steps.{grown_by, sprouts};
+ghost use Rattle.agenda.specs.Steps.{grown_by, sprouts, reaches_out};
 ghost use Rattle.agenda.specs.Views.{last_edge};
 
 use tableau_rules::{Branch, Edge, Rule, Step};
@@ -14,6 +14,7 @@ pub(crate) fn grown_by(step: &Step) -> Option<u64>
         Rule::And => Some(step.node),
         Rule::Unfold => Some(step.node),
         Rule::All => Some(step.other),
+        Rule::Trans => Some(step.other),
         Rule::Value => None,
         Rule::Unit => Some(step.node),
         Rule::Or => Some(step.node),
@@ -30,9 +31,26 @@ pub(crate) fn sprouts(rule: Rule) -> bool
         Rule::And => false,
         Rule::Unfold => false,
         Rule::All => false,
+        Rule::Trans => false,
         Rule::Value => false,
         Rule::Unit => false,
         Rule::Or => false,
+    }
+}
+
+// Whether a rule adds classes to a neighbour.
+pub(crate) fn reaches_out(rule: Rule) -> bool
+    ensures { result ≡ reaches_out rule }
+{
+    match rule {
+        Rule::All => true,
+        Rule::Trans => true,
+        Rule::And => false,
+        Rule::Unfold => false,
+        Rule::Value => false,
+        Rule::Unit => false,
+        Rule::Or => false,
+        Rule::Some => false,
     }
 }
 

@@ -1,5 +1,5 @@
 -- Knowledge with the denial of a name: what absorption makes of the axioms with it.
-use Rattle.std.proofs.Common.{◌≡◌, ℕ, ◌&&◌, true, false, List, [], ◌∷◌, ◌++◌, All, sym, ap, ◌∙◌, subst, inl, inr}
+use Rattle.std.proofs.Common.{◌≡◌, ℕ, ◌&&◌, true, false, List, [], ◌∷◌, ◌++◌, All, Contains, sym, ap, ◌∙◌, subst, inl, inr}
 use Rattle.std.specs.List.{list_all}
 use Rattle.std.proofs.lemmas.Bool.{cases_Bool, not_from_false, and_parts}
 use Rattle.std.proofs.lemmas.List.Concat.{flat_map-append}
@@ -49,6 +49,11 @@ absorbed_more claims names k c name made =
       );
       different = made.different;
       once = made.once;
+      rising = made.rising;
+      transitive = λ w. (
+        λ h. subst (λ s. Contains s.transitive w) (sym more) ((made.transitive w).0 h),
+        λ h. (made.transitive w).1 (subst (λ s. Contains s.transitive w) more h),
+      );
       assertions = ap (λ entries. entries ++ (name, c) ∷ []) made.assertions ∙ ap (λ s. s.assertions) (sym more);
       edges = made.edges ∙ ap (λ s. s.edges) (sym more);
       differences = made.differences ∙ ap (λ s. s.differences) (sym more);

@@ -9,6 +9,7 @@ abbrev pub with_assertion : Theory → WordId → Concept → Theory
 with_assertion k name c = record {
   names = k.names;
   hierarchy = k.hierarchy;
+  transitive = k.transitive;
   assertions = k.assertions ++ (name, c) ∷ [];
   edges = k.edges;
   differences = k.differences;

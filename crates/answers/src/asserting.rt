@@ -19,6 +19,7 @@ pub(crate) fn asserting(
 {
     let names = Vec::from_slice(alloc, k.names())?;
     let hierarchy = Vec::from_slice(alloc, k.hierarchy())?;
+    let transitive = Vec::from_slice(alloc, k.transitive())?;
     let assertions = one_more(alloc, k.assertions(), name, class)?;
     let edges = Vec::from_slice(alloc, k.edges())?;
     let differences = Vec::from_slice(alloc, k.differences())?;
@@ -27,6 +28,7 @@ pub(crate) fn asserting(
     Ok(Knowledge::new(
         names,
         hierarchy,
+        transitive,
         assertions,
         edges,
         differences,

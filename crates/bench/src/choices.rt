@@ -77,6 +77,25 @@ pub(crate) fn hidden(alloc: Global, unions: u32) -> Result<Base, Fault> {
     })
 }
 
+// So many names with links between them, each of which leads the next one by a transitive word. Where the ends are `denied`,
+// the first name does not lead the last one that is linked.
+pub(crate) fn chain(alloc: Global, count: u32, links: u32, denied: bool) -> Result<Base, Fault> {
+    let leads = 10_001;
+    let mut axioms = Axioms::new(alloc);
+    axioms.push(Axiom::Transitive(WordId(leads)))?;
+    for number in 0..links {
+        let next = WordId(number.saturating_add(1));
+        axioms.push(Axiom::Related(role(leads), WordId(number), next))?;
+    }
+    if denied {
+        axioms.push(Axiom::NotRelated(role(leads), WordId(0), WordId(links)))?;
+    }
+    Ok(Base {
+        axioms,
+        names: numbered(alloc, count)?,
+    })
+}
+
 // The colouring of a graph's vertices with three colours, so that neighbours have different ones.
 pub(crate) fn colouring(alloc: Global, vertices: u32, edges: &[(u32, u32)]) -> Result<Base, Fault> {
     let touches = 10_000;

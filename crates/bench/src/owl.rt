@@ -30,6 +30,10 @@ impl Mentioned {
             }
             Axiom::Equal(_, _) => Ok(()),
             Axiom::Differ(_, _) => Ok(()),
+            Axiom::Transitive(word) => {
+                let _ = self.roles.insert(word.0)?;
+                Ok(())
+            }
         }
     }
 
@@ -139,6 +143,11 @@ fn print_axiom<R: Print>(rt: &R, axiom: &Axiom) -> Result<(), Fault> {
         Axiom::Differ(one, other) => {
             print!(rt; "DifferentIndividuals(")?;
             print_names(rt, &[*one, *other])
+        }
+        Axiom::Transitive(word) => {
+            let number = word.0;
+            println!(rt; "TransitiveObjectProperty(:r{number})")?;
+            Ok(())
         }
     }
 }

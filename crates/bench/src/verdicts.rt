@@ -2,7 +2,7 @@
 // the word `time` there are more of them, and it also tells how much processor time each verdict took. With the word `owl` it
 // prints those axioms as ontologies in functional-style syntax, for other reasoners.
 
-use crate::choices::{Base, drawn_colouring, hidden, path_and_clique, persons};
+use crate::choices::{Base, chain, drawn_colouring, hidden, path_and_clique, persons};
 use crate::fault::Fault;
 use crate::owl::print_base;
 use crate::sentences::{Words, axioms};
@@ -180,6 +180,7 @@ struct Named {
 // Axioms with many names or many choices. Those colourings that are not planted may have none.
 fn bases(alloc: Global, many: bool) -> Result<Vec<Named>, Fault> {
     let (count, unions, path) = if many { (1_000, 100, 20) } else { (10, 4, 4) };
+    let (named, links) = if many { (500, 499) } else { (5, 4) };
     let (vertices, edges, seeds) = if many { (100, 230, 20) } else { (9, 14, 2) };
     let mut bases = Vec::new(alloc);
     add(&mut bases, "persons", persons(alloc, count)?)?;
@@ -196,6 +197,16 @@ fn bases(alloc: Global, many: bool) -> Result<Vec<Named>, Fault> {
             add(&mut bases, "a drawn colouring", drawn)?;
         }
     }
+    Ok(bases)
+}
+
+// Chains under a transitive relation.
+fn chains(alloc: Global, many: bool) -> Result<Vec<Named>, Fault> {
+    let (named, links) = if many { (500, 499) } else { (5, 4) };
+    let mut bases = Vec::new(alloc);
+    add(&mut bases, "a chain", chain(alloc, named, links, false)?)?;
+    let denied = chain(alloc, named, links, true)?;
+    add(&mut bases, "a chain with its ends denied", denied)?;
     Ok(bases)
 }
 
@@ -231,11 +242,34 @@ fn tell_sentences<R: Print + CpuClock>(rt: &R, alloc: Global, timed: bool) -> Re
     Ok(())
 }
 
+// Tells the verdict on a chain with one more link, by a model that grows out of that of the chain.
+fn tell_chain<R: Print + CpuClock>(rt: &R, alloc: Global, timed: bool) -> Result<(), Fault> {
+    let (named, links) = if timed { (500, 499) } else { (5, 4) };
+    let none = bare(alloc)?;
+    let shorter = chain(alloc, named, links - 1, false)?;
+    let (verdict, searched) = judged(rt, alloc, shorter, &none, DEFAULT_BUDGET)?;
+    let model = model_of(verdict)?;
+    let longer = chain(alloc, named, links, false)?;
+    let (verdict, grown) = judged(rt, alloc, longer, &model, 0)?;
+    let elements = model_of(verdict)?.interp().size();
+    println!(rt; "{elements} elements with one more link")?;
+    if timed {
+        println!(rt; "{searched} microseconds for the chain, {grown} with one more link")?;
+    }
+    Ok(())
+}
+
 // Prints all axioms as files in functional-style syntax, each behind a line with its name.
 fn print_all<R: Print>(rt: &R, alloc: Global) -> Result<(), Fault> {
     println!(rt; "# sentences")?;
     print_base(rt, alloc, &sentences(alloc, 2_000)?)?;
-    for named in bases(alloc, true)? {
+    print_each(rt, alloc, bases(alloc, true)?)?;
+    print_each(rt, alloc, chains(alloc, true)?)
+}
+
+// Prints the axioms of these bases.
+fn print_each<R: Print>(rt: &R, alloc: Global, bases: Vec<Named>) -> Result<(), Fault> {
+    for named in bases {
         let text = named.text;
         println!(rt; "# {text}")?;
         print_base(rt, alloc, &named.base)?;
@@ -245,18 +279,31 @@ fn print_all<R: Print>(rt: &R, alloc: Global) -> Result<(), Fault> {
 
 fn tell_all<R: Print + CpuClock>(rt: &R, alloc: Global, timed: bool) -> Result<(), Fault> {
     tell_sentences(rt, alloc, timed)?;
+    tell_chain(rt, alloc, timed)?;
     let count = if timed { 1_000 } else { 10 };
     tell_systematic(rt, alloc, "persons", persons(alloc, count)?, timed)?;
     if timed {
         let more = persons(alloc, 4_000)?;
         tell_systematic(rt, alloc, "four times as many", more, timed)?;
     }
-    for named in bases(alloc, timed)? {
+    tell_each(rt, alloc, bases(alloc, timed)?, timed)?;
+    tell_each(rt, alloc, chains(alloc, timed)?, timed)?;
+    let behind = hidden(alloc, 10_000)?;
+    tell(rt, alloc, "a clash behind 10,000 choices", behind, timed)
+}
+
+// Tells the verdict on each of these bases.
+fn tell_each<R: Print + CpuClock>(
+    rt: &R,
+    alloc: Global,
+    bases: Vec<Named>,
+    timed: bool,
+) -> Result<(), Fault> {
+    for named in bases {
         let Named { text, base } = named;
         tell(rt, alloc, text, base, timed)?;
     }
-    let behind = hidden(alloc, 10_000)?;
-    tell(rt, alloc, "a clash behind 10,000 choices", behind, timed)
+    Ok(())
 }
 
 pub(crate) fn measure(rt: &HostRuntime, word: Option<&str>) -> Result<(), Fault> {

@@ -1,6 +1,6 @@
 -- Blocking, by way of parents: a node is indirectly blocked where its parent is blocked.
-use Rattle.std.proofs.Common.{◌≡◌, ℕ, ◌+◌, ◌<◌, ◌≤◌, ◌&&◌, ◌||◌, true, false, [], ◌∷◌, length, Some, None, sym, ap, ◌∙◌, subst, arith}
-use Rattle.std.specs.Prelude.{not, ◌⊎◌}
+use Rattle.std.proofs.Common.{◌≡◌, ℕ, ◌<◌, ◌≤◌, ◌&&◌, ◌||◌, true, false, length, Some, None, sym, ap, ◌∙◌, subst, arith}
+use Rattle.std.specs.Prelude.{not}
 use Rattle.std.proofs.lemmas.Bool.{and_parts, or_parts, not-true, le-ltb, lt-ltb}
 use Rattle.tableau_rules.proofs.Ancestors.{ancestors-some, ancestors-none, indirectly-some}
 use Rattle.logic_terms.specs.Theory.{Theory}

@@ -1,5 +1,5 @@
 -- What the extents of class words and the pairs of relation words have.
-use Rattle.std.proofs.Common.{◌≡◌, ℕ, zero, suc, ◌+◌, ◌<◌, ◌≤◌, ◌==◌, ◌&&◌, ◌||◌, Bool, true, false, List, [], ◌∷◌, ◌++◌, length, Option, Some, None, slice_get, refl, sym, ap, ◌∙◌, subst, inl, inr, arith}
+use Rattle.std.proofs.Common.{◌≡◌, ℕ, zero, suc, ◌+◌, ◌<◌, ◌≤◌, ◌&&◌, Bool, true, false, List, [], ◌∷◌, length, Option, Some, None, slice_get, refl, sym, ap, ◌∙◌, subst, inl, inr, arith}
 use Rattle.std.specs.Prelude.{◌⊎◌, nat_lt, if◌then◌else◌}
 use Rattle.std.specs.List.{list_all}
 use Rattle.std.specs.Option.{option_map_or}
@@ -219,7 +219,7 @@ module _ (size : ℕ) where
   abbrev pub fit : List (WordId × List (ℕ × ℕ)) → Bool
   fit es = list_all (λ e. list_all (λ p. nat_lt p.0 size && nat_lt p.1 size) e.1) es
 
-  fit_paired : (role : Role) (a b : ℕ) (es : List (WordId × List (ℕ × ℕ))) → a < size → b < size → fit es ≡ true → fit (paired role a b es) ≡ true
+  pub fit_paired : (role : Role) (a b : ℕ) (es : List (WordId × List (ℕ × ℕ))) → a < size → b < size → fit es ≡ true → fit (paired role a b es) ≡ true
   fit_paired role a b es la lb h = by_turn role.inverted
     where
       below : (x y : ℕ) → x < size → y < size → (nat_lt x size && nat_lt y size) ≡ true
@@ -230,7 +230,7 @@ module _ (size : ℕ) where
       by_turn true = all_placed (λ p. nat_lt p.0 size && nat_lt p.1 size) role.id (b, a) es (below b a lb la) h
       by_turn false = all_placed (λ p. nat_lt p.0 size && nat_lt p.1 size) role.id (a, b) es (below a b la lb) h
 
-  fit_above : (ps : List (Role × Role)) (role : Role) (a b : ℕ) (es : List (WordId × List (ℕ × ℕ))) → a < size → b < size → fit es ≡ true
+  pub fit_above : (ps : List (Role × Role)) (role : Role) (a b : ℕ) (es : List (WordId × List (ℕ × ℕ))) → a < size → b < size → fit es ≡ true
       → fit (paired_above ps role a b es) ≡ true
   fit_above [] role a b es la lb h = h
   fit_above (p ∷ ps) role a b es la lb h = fit_above ps role a b (if same_role p.0 role then paired p.1 a b es else es) la lb (by_test (same_role p.0 role))

@@ -1,9 +1,13 @@
+pub mod Above
 pub mod Climb
+pub mod Closures
 pub mod EntriesLemmas
 pub mod ExtentsLemmas
 pub mod Labels
+pub mod Led
 pub mod Made
 pub mod ModelOf
+pub mod Paths
 pub mod Pictured
 pub mod Placing
 pub mod Putting

@@ -21,6 +21,7 @@ use Rattle.tableau_rules.specs.Neighbours.{node_of, place_in, roots}
 use Rattle.tableau_rules.specs.Branches.{IsBranch, is_finished}
 use Rattle.branch_model.specs.Elements.{ArePlaced}
 use Rattle.branch_model.specs.Extents.{extents, links, stand_of}
+use Rattle.branch_model.specs.Related.{Closes}
 use Rattle.branch_model.specs.Named.{element_named, named_elements}
 use Rattle.branch_model.proofs.EntriesLemmas.{items_of}
 use Rattle.branch_model.proofs.ExtentsLemmas.{adds_extents, adds_links, all_extents, fit_links}
@@ -107,65 +108,66 @@ module _ (k : Theory) (lawful : IsLawful k) (plain : is_plain_theory k ≡ true)
       by (Some x) = inner (stand_of stands x) x refl
 
   -- what the lists make is an interpretation
-  pub fits_all : is_interpretation (record {
+  pub fits_all : (rs : List (WordId × List (ℕ × ℕ))) → Closes k (links k stands g.edges []) rs → is_interpretation (record {
     size = length owners;
     names = named_elements k stands k.names;
     classes = extents g 0 owners [];
-    relations = links k stands g.edges [];
+    relations = rs;
   }) ≡ true
-  fits_all =
+  fits_all rs closes =
       and_from (nat_lt 0 (length owners) && words_rise (named_elements k stands k.names) && words_rise (extents g 0 owners [])
-      && words_rise (links k stands g.edges []) && list_all (λ e. nat_lt e.1 (length owners)) (named_elements k stands k.names)
+      && words_rise rs && list_all (λ e. nat_lt e.1 (length owners)) (named_elements k stands k.names)
       && list_all (λ e. list_all (λ x. nat_lt x (length owners)) e.1) (extents g 0 owners []))
-      (list_all (λ e. list_all (λ p. nat_lt p.0 (length owners) && nat_lt p.1 (length owners)) e.1) (links k stands g.edges []))
+      (list_all (λ e. list_all (λ p. nat_lt p.0 (length owners) && nat_lt p.1 (length owners)) e.1) rs)
       (and_from (nat_lt 0 (length owners) && words_rise (named_elements k stands k.names) && words_rise (extents g 0 owners [])
-      && words_rise (links k stands g.edges []) && list_all (λ e. nat_lt e.1 (length owners)) (named_elements k stands k.names))
+      && words_rise rs && list_all (λ e. nat_lt e.1 (length owners)) (named_elements k stands k.names))
       (list_all (λ e. list_all (λ x. nat_lt x (length owners)) e.1) (extents g 0 owners []))
       (and_from (nat_lt 0 (length owners) && words_rise (named_elements k stands k.names) && words_rise (extents g 0 owners [])
-      && words_rise (links k stands g.edges []))
+      && words_rise rs)
       (list_all (λ e. nat_lt e.1 (length owners)) (named_elements k stands k.names))
       (and_from (nat_lt 0 (length owners) && words_rise (named_elements k stands k.names) && words_rise (extents g 0 owners []))
-      (words_rise (links k stands g.edges []))
+      (words_rise rs)
       (and_from (nat_lt 0 (length owners) && words_rise (named_elements k stands k.names)) (words_rise (extents g 0 owners []))
       (and_from (nat_lt 0 (length owners)) (words_rise (named_elements k stands k.names)) (lt-ltb 0 (length owners) some_owner)
       (named_rise k stands k.names ∙ lawful.rising))
-      (adds_extents g 0 owners [] refl).rises) (adds_links k stands g.edges [] refl).rises)
+      (adds_extents g 0 owners [] refl).rises) closes.rises)
       (named_below k.names))
       (all_extents (length owners) g 0 owners [] (zero_plus (length owners)) refl))
-      (fit_links (length owners) k stands (stands_within k lawful g sound owners stands placed) g.edges [] refl)
+      (closes.within (length owners) (fit_links (length owners) k stands (stands_within k lawful g sound owners stands placed) g.edges [] refl))
     where
       zero_plus : (n : ℕ) → 0 + n ≤ n
       zero_plus n = omega arith
 
   -- and so is what puts them in order, a model of the knowledge
   module _ (finished : is_finished k g ≡ true) (i : Interpretation) (size : i.size ≡ length owners) (names : i.names ≡ named_elements k stands k.names)
-      (classes : AreArranged nat_cmp (extents g 0 owners []) i.classes) (relations : AreArranged pair_cmp (links k stands g.edges []) i.relations) where
+      (classes : AreArranged nat_cmp (extents g 0 owners []) i.classes) (rs : List (WordId × List (ℕ × ℕ)))
+      (closes : Closes k (links k stands g.edges []) rs) (relations : AreArranged pair_cmp rs i.relations) where
     pub made_model : IsModelOf i k
     made_model =
         is_model k lawful plain g sound finished i (place_of stands)
         (pictures k lawful g sound owners stands placed i size (extents g 0 owners []) (adds_extents g 0 owners [] refl) (links k stands g.edges [])
         (adds_links k stands g.edges [] refl)
         (λ v x. both_have (items_of v (extents g 0 owners [])) (elements_of i v) x (arranged_items nat_cmp v (extents g 0 owners []) i.classes classes))
-        (λ v p. both_have (items_of v (links k stands g.edges [])) (pairs_of i v) p
-        (arranged_items pair_cmp v (links k stands g.edges []) i.relations relations))
+        (λ v p. let same = both_have (items_of v rs) (pairs_of i v) p (arranged_items pair_cmp v rs i.relations relations) in
+        (λ h. (closes.pairs v p).0 (same.0 h), λ h. same.1 ((closes.pairs v p).1 h)))
         (λ name y at. ap (λ es. unwrap_or (lookup (is_word name) es) 0) names ∙ node_element k stands name y at))
 
     pub made_sound : is_interpretation i ≡ true
     made_sound =
         (λ j. is_interpretation (record { size = size j; names = names j; classes = i.classes; relations = i.relations }))
-        ∙ sym (is_interpretation-arranged (length owners) (named_elements k stands k.names) (extents g 0 owners []) i.classes (links k stands g.edges [])
+        ∙ sym (is_interpretation-arranged (length owners) (named_elements k stands k.names) (extents g 0 owners []) i.classes rs
         i.relations classes relations)
-        ∙ fits_all
+        ∙ fits_all rs closes
 
   -- lists that are these make an interpretation, and `Interp::new` a model
   module _ (size : ℕ) (names : List (WordId × ℕ)) (cs : List (WordId × List ℕ)) (rs : List (WordId × List (ℕ × ℕ))) (size_is : size ≡ length owners)
-      (names_are : names ≡ named_elements k stands k.names) (classes_are : cs ≡ extents g 0 owners []) (relations_are : rs ≡ links k stands g.edges []) where
+      (names_are : names ≡ named_elements k stands k.names) (classes_are : cs ≡ extents g 0 owners []) (closes : Closes k (links k stands g.edges []) rs) where
     pub lists_fit : is_interpretation (record { size = size; names = names; classes = cs; relations = rs }) ≡ true
-    lists_fit = (λ j. is_interpretation (record { size = size_is j; names = names_are j; classes = classes_are j; relations = relations_are j })) ∙ fits_all
+    lists_fit = (λ j. is_interpretation (record { size = size_is j; names = names_are j; classes = classes_are j; relations = rs })) ∙ fits_all rs closes
 
     pub lists_model : {E : Type 0} (made : Result Interpretation E) → is_finished k g ≡ true → IfOk made (λ i. i.size ≡ size) → IfOk made (λ i. i.names ≡ names)
         → IfOk made (λ i. AreArranged nat_cmp cs i.classes) → IfOk made (λ i. AreArranged pair_cmp rs i.relations) → IfOk made (λ i. IsModelOf i k)
     lists_model (Ok i) finished size_of names_of classes_of relations_of =
-        made_model finished i (size_of ∙ size_is) (names_of ∙ names_are) (subst (λ es. AreArranged nat_cmp es i.classes) classes_are classes_of)
-        (subst (λ es. AreArranged pair_cmp es i.relations) relations_are relations_of)
+        made_model finished i (size_of ∙ size_is) (names_of ∙ names_are) (subst (λ es. AreArranged nat_cmp es i.classes) classes_are classes_of) rs closes
+        relations_of
     lists_model (Err e) finished size_of names_of classes_of relations_of = tt

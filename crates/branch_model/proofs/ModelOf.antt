@@ -1,6 +1,6 @@
 -- What pictures a finished branch of lawful knowledge is a model of the knowledge.
 use Rattle.std.proofs.Common.{◌≡◌, ℕ, suc, ◌+◌, ◌<◌, ◌≤◌, ◌==◌, ◌&&◌, ◌||◌, Bool, true, false, List, [], ◌∷◌, ◌++◌, length, get_or, Contains, Some, None, slice_get, refl, sym, ap, ◌∙◌, subst, inl, inr, arith}
-use Rattle.std.specs.Prelude.{◌⊎◌, not, is_some}
+use Rattle.std.specs.Prelude.{not, is_some}
 use Rattle.std.specs.List.{list_any, list_all}
 use Rattle.std.proofs.lemmas.Bool.{and_parts, and_from, or_cases, or_parts, or_left, or_right, not-true, lt-ltb}
 use Rattle.std.proofs.lemmas.List.Elements.{Contains-get_or}
@@ -18,14 +18,14 @@ use Rattle.logic_terms.specs.Interpretation.{Interpretation, is_word, element_of
 use Rattle.logic_terms.specs.Reading.{IsIn}
 use Rattle.logic_terms.specs.Same.{same_role, has_concept, inverse}
 use Rattle.logic_terms.specs.Theory.{Theory, representative, is_below, is_given, names_given, IsLawful, IsModelOf}
-use Rattle.tableau_rules.specs.declared.branch.Edge.{Edge}
 use Rattle.tableau_rules.specs.declared.step.Step.{Step}
 use Rattle.tableau_rules.specs.Graph.{Graph, label_at}
-use Rattle.tableau_rules.specs.Neighbours.{roots, node_of, makes_neighbour, is_neighbour}
+use Rattle.tableau_rules.specs.Neighbours.{roots, node_of}
 use Rattle.tableau_rules.specs.Blocking.{is_anonymous, is_blocked, is_directly_blocked, is_indirectly_blocked, has_twin, ancestors, blocks}
 use Rattle.tableau_rules.specs.Clashes.{passes, are_joined, has_clash}
 use Rattle.tableau_rules.specs.Rules.{unfoldings_of, first_step}
 use Rattle.tableau_rules.specs.Branches.{IsBranch, begun, stepped, is_finished}
+use Rattle.branch_model.proofs.Paths.{related_up, related_on}
 use Rattle.branch_model.proofs.Rest.{unfold_done, differ}
 use Rattle.branch_model.proofs.Sound.{IsSound, fits, after_sound}
 use Rattle.branch_model.proofs.Start.{root_of, given_node, same_node, entry_has, start_sound}
@@ -91,35 +91,10 @@ module _ (k : Theory) (lawful : IsLawful k) (plain : is_plain_theory k ≡ true)
         → IsIn i c (place x)
     true_at c fit x lt clear has =
         let two = and_parts (is_normal c) (names_given k c) fit in
-        truth k g i place pictures ended.1 ended.0 named c two.0 two.1 x lt clear has
+        truth k lawful g i place pictures ended.1 ended.0 named c two.0 two.1 x lt clear has
 
     free_of : (x : ℕ) → is_blocked k g x ≡ false → is_indirectly_blocked k g x ≡ false
     free_of x clear = (or_parts (is_directly_blocked k g x) (is_indirectly_blocked k g x) clear).1
-
-    -- a neighbour by a role is one by a role above it
-    neighbour_up : (r s : Role) (x y : ℕ) → is_below k r s ≡ true → is_neighbour k g r x y ≡ true → is_neighbour k g s x y ≡ true
-    neighbour_up r s x y up h = go g.edges h
-      where
-        one : (e : Edge) → makes_neighbour k r x y e ≡ true → makes_neighbour k s x y e ≡ true
-        one e m = elim (or_cases ((e.from == x) && ((e.to == y) && is_below k e.role r)) ((e.from == y) && ((e.to == x) && is_below k (inverse e.role) r)) m) [
-          | inl forth ↦ (let p = and_parts (e.from == x) ((e.to == y) && is_below k e.role r) forth in
-              let q = and_parts (e.to == y) (is_below k e.role r) p.1 in
-              or_left ((e.from == x) && ((e.to == y) && is_below k e.role s)) ((e.from == y) && ((e.to == x) && is_below k (inverse e.role) s))
-              (and_from (e.from == x) ((e.to == y) && is_below k e.role s) p.0
-              (and_from (e.to == y) (is_below k e.role s) q.0 (lawful.transitive e.role r s q.1 up))))
-          | inr back ↦ (let p = and_parts (e.from == y) ((e.to == x) && is_below k (inverse e.role) r) back in
-              let q = and_parts (e.to == x) (is_below k (inverse e.role) r) p.1 in
-              or_right ((e.from == x) && ((e.to == y) && is_below k e.role s)) ((e.from == y) && ((e.to == x) && is_below k (inverse e.role) s))
-              (and_from (e.from == y) ((e.to == x) && is_below k (inverse e.role) s) p.0
-              (and_from (e.to == x) (is_below k (inverse e.role) s) q.0 (lawful.transitive (inverse e.role) r s q.1 up))))
-        ]
-
-        go : (es : List Edge) → list_any (makes_neighbour k r x y) es ≡ true → list_any (makes_neighbour k s x y) es ≡ true
-        go [] h = cc
-        go (e ∷ es) h = elim (or_cases (makes_neighbour k r x y e) (list_any (makes_neighbour k r x y) es) h) [
-          | inl here ↦ or_left (makes_neighbour k s x y e) (list_any (makes_neighbour k s x y) es) (one e here)
-          | inr later ↦ or_right (makes_neighbour k s x y e) (list_any (makes_neighbour k s x y) es) (go es later)
-        ]
 
     pair_below : (j : ℕ) (d : Role × Role) → j < length k.hierarchy → is_below k (get_or k.hierarchy j d).0 (get_or k.hierarchy j d).1 ≡ true
     pair_below j d lt =
@@ -136,10 +111,13 @@ module _ (k : Theory) (lawful : IsLawful k) (plain : is_plain_theory k ≡ true)
           let node = same_node k lawful j d lt in
           pictures.names (get_or k.names j d).0 node.0 node.1 ∙ sym (pictures.names (get_or k.names j d).1 node.0 node.2);
       hierarchy = λ j d lt e below f low related.
-          let far = pictures.related (get_or k.hierarchy j d).0 e f related in
-          let near = neighbour_up (get_or k.hierarchy j d).0 (get_or k.hierarchy j d).1 far.0 far.1 (pair_below j d lt) far.8 in
-          subst (λ a. Relates i (get_or k.hierarchy j d).1 a f) far.6
-          (subst (Relates i (get_or k.hierarchy j d).1 (place far.0)) far.7 (pictures.relates (get_or k.hierarchy j d).1 far.0 far.1 far.4 far.5 near));
+          pictures.relates (get_or k.hierarchy j d).1 e f
+          (related_up k lawful g place (get_or k.hierarchy j d).0 (get_or k.hierarchy j d).1 (pair_below j d lt) e f
+          (pictures.related (get_or k.hierarchy j d).0 e f related));
+      transitive = λ j d lt x y z one other.
+          let t : Role = record { id = get_or k.transitive j d; inverted = false } in
+          pictures.relates t x z
+          (related_on k lawful g place t (word_there k.transitive j d lt) x y z (pictures.related t x y one) (pictures.related t y z other));
       assertions = λ j d lt.
           let given = and_parts (is_given k (get_or k.assertions j d).0) (names_given k (get_or k.assertions j d).1) (lawful.assertions j d lt) in
           let node = named (get_or k.assertions j d).0 given.0 in
@@ -152,8 +130,8 @@ module _ (k : Theory) (lawful : IsLawful k) (plain : is_plain_theory k ≡ true)
           let other = named (get_or k.edges j d).2 given.1 in
           subst (λ a. Relates i (get_or k.edges j d).0 a (element_of i (get_or k.edges j d).2)) (sym (pictures.names (get_or k.edges j d).1 one.0 one.1))
           (subst (Relates i (get_or k.edges j d).0 (place one.0)) (sym (pictures.names (get_or k.edges j d).2 other.0 other.1))
-          (pictures.relates (get_or k.edges j d).0 one.0 other.0 (free_of one.0 one.3) (free_of other.0 other.3)
-          (sound.stated j d lt one.0 other.0 one.1 other.1)));
+          (pictures.relates (get_or k.edges j d).0 (place one.0) (place other.0)
+          (inl (one.0, other.0, one.2, other.2, free_of one.0 one.3, free_of other.0 other.3, refl, refl, sound.stated j d lt one.0 other.0 one.1 other.1))));
       differences = λ j d lt same. apart j d lt same;
       unfoldings = λ j d lt e below inside.
           let z = pictures.reached e below in
@@ -176,6 +154,10 @@ module _ (k : Theory) (lawful : IsLawful k) (plain : is_plain_theory k ≡ true)
         here : (cs : List Concept) (j : ℕ) (d : Concept) → j < length cs → has_concept cs (get_or cs j d) ≡ true
         here cs j d lt = Rattle.std.proofs.lemmas.List.Folds.list_any_at (λ c. Rattle.logic_terms.specs.Same.same_concept c (get_or cs j d)) cs j d lt
             (same_concept-self (get_or cs j d))
+
+        word_there : (words : List WordId) (j : ℕ) (d : WordId) → j < length words → list_any (is_word (get_or words j d)) words ≡ true
+        word_there words j d lt = Rattle.std.proofs.lemmas.List.Folds.list_any_at (is_word (get_or words j d)) words j d lt
+            (Rattle.std.proofs.lemmas.Bool.eq-eqb (get_or words j d).0 (get_or words j d).0 refl)
 
         both : {b : Bool} → b ≡ true → b ≡ false → ⊥
         both t f = cc

@@ -1,5 +1,5 @@
 -- The interpretation that is made of a branch pictures it.
-use Rattle.std.proofs.Common.{◌≡◌, ℕ, zero, suc, ◌+◌, ◌<◌, ◌≤◌, ◌==◌, ◌&&◌, ◌||◌, Bool, true, false, List, [], ◌∷◌, ◌++◌, length, get_or, Contains, MatchBool, Option, Some, None, slice_get, unwrap_or, refl, sym, ap, ◌∙◌, subst, inl, inr, arith}
+use Rattle.std.proofs.Common.{◌≡◌, ℕ, zero, suc, ◌+◌, ◌<◌, ◌≤◌, ◌==◌, ◌&&◌, Bool, true, false, List, [], ◌∷◌, length, get_or, Contains, MatchBool, Option, Some, None, slice_get, unwrap_or, refl, sym, ap, ◌∙◌, subst, inl, inr, arith}
 use Rattle.std.specs.Prelude.{◌⊎◌, ◌↔◌, nat_lt, if◌then◌else◌, not}
 use Rattle.std.specs.List.{list_any, list_all}
 use Rattle.std.specs.Option.{option_and_then}
@@ -10,11 +10,10 @@ use Rattle.wiki_base.specs.declared.numbers.WordId.{WordId}
 use Rattle.wiki_base.proofs.BoolLaws.{same_tests, not_both}
 use Rattle.tableau_rules.proofs.Roots.{node_within}
 use Rattle.tableau_rules.proofs.Ancestors.{indirectly-none}
-use Rattle.logic_terms.proofs.SameLemmas.{role_equal, same_role-self}
 use Rattle.logic_terms.specs.declared.expressions.Role.{Role}
 use Rattle.logic_terms.specs.Concept.{Concept, Atomic}
 use Rattle.logic_terms.specs.Interpretation.{Interpretation, element_of, elements_of, pairs_of, Relates}
-use Rattle.logic_terms.specs.Same.{same_role, has_concept, inverse}
+use Rattle.logic_terms.specs.Same.{has_concept, inverse}
 use Rattle.logic_terms.specs.Theory.{Theory, is_below, IsLawful}
 use Rattle.tableau_rules.specs.declared.branch.Edge.{Edge}
 use Rattle.tableau_rules.specs.Graph.{Graph, label_at}
@@ -25,7 +24,10 @@ use Rattle.branch_model.specs.Extents.{stand_of, links}
 use Rattle.branch_model.proofs.Same.{same_has, same_has_back}
 use Rattle.branch_model.proofs.Sound.{IsSound}
 use Rattle.branch_model.proofs.EntriesLemmas.{items_of, Adds}
-use Rattle.branch_model.proofs.ExtentsLemmas.{Labels, IsPair, IsPairAbove, AreLinks}
+use Rattle.branch_model.proofs.Above.{role_above, above_role}
+use Rattle.branch_model.proofs.ExtentsLemmas.{Labels, AreLinks}
+use Rattle.branch_model.specs.Related.{Reaches, straight, IsLed}
+use Rattle.branch_model.proofs.Paths.{IsStep, IsRelated, each_step, turned_way}
 use Rattle.branch_model.proofs.Truth.{Pictures}
 
 -- the element that a node stands for
@@ -113,26 +115,6 @@ edge_ends n (f ∷ es) zero e h at =
 edge_ends n (f ∷ es) (suc j) e h at = edge_ends n es j e
     (and_parts (nat_lt f.from n && nat_lt f.to n) (list_all (λ e. nat_lt e.from n && nat_lt e.to n) es) h).1 at
 
-pair_found : (ps : List (Role × Role)) (r s : Role) → list_any (λ p. same_role p.0 r && same_role p.1 s) ps ≡ true
-    → (j : ℕ) × (p : Role × Role) × (slice_get ps j ≡ Some p) × (same_role p.0 r ≡ true) × (p.1 ≡ s)
-pair_found [] r s h = cc
-pair_found (p ∷ ps) r s h = elim (or_cases (same_role p.0 r && same_role p.1 s) (list_any (λ p. same_role p.0 r && same_role p.1 s) ps) h) [
-  | inl here ↦ (let two = and_parts (same_role p.0 r) (same_role p.1 s) here in (0, p, refl, two.0, role_equal p.1 s two.1))
-  | inr later ↦ (let found = pair_found ps r s later in (suc found.0, found.1, found.2, found.3, found.4))
-]
-
-pair_any : (ps : List (Role × Role)) (r : Role) (j : ℕ) (p : Role × Role) → slice_get ps j ≡ Some p → same_role p.0 r ≡ true
-    → list_any (λ q. same_role q.0 r && same_role q.1 p.1) ps ≡ true
-pair_any [] r j p at h = absurd (nothing j at)
-  where
-    nothing : (j : ℕ) → slice_get {X = Role × Role} [] j ≡ Some p → ⊥
-    nothing j q = cc
-pair_any (q ∷ ps) r zero p at h =
-    or_left (same_role q.0 r && same_role q.1 p.1) (list_any (λ q. same_role q.0 r && same_role q.1 p.1) ps)
-    (ap (λ (s : Role × Role). same_role s.0 r && same_role s.1 p.1) (same_Some _ _ at) ∙ and_from (same_role p.0 r) (same_role p.1 p.1) h (same_role-self p.1))
-pair_any (q ∷ ps) r (suc j) p at h = or_right (same_role q.0 r && same_role q.1 p.1) (list_any (λ q. same_role q.0 r && same_role q.1 p.1) ps)
-    (pair_any ps r j p at h)
-
 module _ (k : Theory) (lawful : IsLawful k) (g : Graph) (sound : IsSound k g) (owners : List ℕ) (stands : List (Option ℕ))
     (placed : ArePlaced k g (length g.nodes) owners stands) where
   -- what a node that is not indirectly blocked stands for
@@ -200,77 +182,50 @@ module _ (k : Theory) (lawful : IsLawful k) (g : Graph) (sound : IsSound k g) (o
       (and_from (edge.from == edge.from) ((edge.to == edge.to) && is_below k (inverse edge.role) role) (eq-eqb edge.from edge.from refl)
       (and_from (edge.to == edge.to) (is_below k (inverse edge.role) role) (eq-eqb edge.to edge.to refl) up')))
 
-  -- the role of a pair is the edge's or one above it
-  role_above : (edge : Edge) (a b : ℕ) (v : WordId) (y : ℕ × ℕ) → IsPair edge.role a b v y ⊎ IsPairAbove k.hierarchy edge.role a b v y
-      → (r : Role) × (is_below k edge.role r ≡ true) × IsPair r a b v y
-  role_above edge a b v y h = elim h [
-    | inl own ↦ (
-      edge.role,
-      or_left (same_role edge.role edge.role) (list_any (λ p. same_role p.0 edge.role && same_role p.1 edge.role) k.hierarchy)
-          (same_role-self edge.role),
-      own,
-    )
-    | inr (j, p, at, same, pair) ↦ (
-      p.1,
-      or_right (same_role edge.role p.1) (list_any (λ q. same_role q.0 edge.role && same_role q.1 p.1) k.hierarchy)
-          (pair_any k.hierarchy edge.role j p at same),
-      pair,
-    )
-  ]
-
-  above_role : (edge : Edge) (r : Role) (a b : ℕ) (v : WordId) (y : ℕ × ℕ) → is_below k edge.role r ≡ true → IsPair r a b v y
-      → IsPair edge.role a b v y ⊎ IsPairAbove k.hierarchy edge.role a b v y
-  above_role edge r a b v y up pair = elim (or_cases (same_role edge.role r) (list_any (λ p. same_role p.0 edge.role && same_role p.1 r) k.hierarchy) up) [
-    | inl same ↦ inl (subst (λ q. IsPair q a b v y) (sym (role_equal edge.role r same)) pair)
-    | inr there ↦ (let found = pair_found k.hierarchy edge.role r there in
-        inr (found.0, found.1, found.2, found.3, subst (λ q. IsPair q a b v y) (sym found.4) pair))
-  ]
-
   module _ (i : Interpretation) (size : i.size ≡ length owners)
       (es : List (WordId × List ℕ)) (adds_es : Adds [] es (Labels g 0 owners))
       (rs : List (WordId × List (ℕ × ℕ))) (adds_rs : Adds [] rs (AreLinks k stands g.edges))
       (classes : (v : WordId) (x : ℕ) → Contains (elements_of i v) x ↔ Contains (items_of v es) x)
-      (relations : (v : WordId) (p : ℕ × ℕ) → Contains (pairs_of i v) p ↔ Contains (items_of v rs) p)
+      (relations : (v : WordId) (p : ℕ × ℕ) → Contains (pairs_of i v) p ↔ (Contains (items_of v rs) p ⊎ IsLed k rs v p))
       (names : (name : WordId) (y : ℕ) → node_of k name ≡ Some y → element_of i name ≡ place_of stands y) where
-    linked_to : (role : Role) (e f : ℕ) → Relates i role e f
-        → (x : ℕ) × (y : ℕ) × (x < length g.nodes) × (y < length g.nodes) × (is_indirectly_blocked k g x ≡ false) × (is_indirectly_blocked k g y ≡ false)
-        × (place_of stands x ≡ e) × (place_of stands y ≡ f) × (is_neighbour k g role x y ≡ true)
-    linked_to role e f related = elim (adds_rs.only role.id (turned_pair role.inverted e f)
-        ((relations role.id (turned_pair role.inverted e f)).0 (relates_pair i role e f related))) [
-          | inl none ↦ absurd (no_items role.id (turned_pair role.inverted e f) none)
-          | inr (j, edge, at, (a, b, from, to, pair)) ↦
-              (let ends = edge_ends (length g.nodes) g.edges j edge sound.ends at in
-              let above = role_above edge a b role.id (turned_pair role.inverted e f) pair in
-              let free_from = shown_free edge.from a ends.0 from in
-              let free_to = shown_free edge.to b ends.1 to in
-              elim (same_or_turned above.0 role above.2.0) [
-                | inl same ↦ (let is = pair_same role.inverted a b e f (sym (ap (λ (r : Role). turned_pair r.inverted a b) same) ∙ above.2.1) in (
-                  edge.from,
-                  edge.to,
-                  ends.0,
-                  ends.1,
-                  free_from,
-                  free_to,
-                  placed_at edge.from a from ∙ is.0,
-                  placed_at edge.to b to ∙ is.1,
-                  forth role j edge at (subst (λ r. is_below k edge.role r ≡ true) same above.1),
-                ))
-                | inr turned ↦ (let is = pair_turned role.inverted a b e f (sym (ap (λ (r : Role). turned_pair r.inverted a b) turned) ∙ above.2.1) in (
-                  edge.to,
-                  edge.from,
-                  ends.1,
-                  ends.0,
-                  free_to,
-                  free_from,
-                  placed_at edge.to b to ∙ is.1,
-                  placed_at edge.from a from ∙ is.0,
-                  back role j edge at (subst (λ r. is_below k edge.role r ≡ true) turned above.1),
-                ))
-              ])
-        ]
+    -- the pairs of edges are steps
+    step_of : (role : Role) (e f : ℕ) → Contains (items_of role.id rs) (turned_pair role.inverted e f) → IsStep k g (place_of stands) role e f
+    step_of role e f has = elim (adds_rs.only role.id (turned_pair role.inverted e f) has) [
+      | inl none ↦ absurd (no_items role.id (turned_pair role.inverted e f) none)
+      | inr (j, edge, at, (a, b, from, to, pair)) ↦
+          (let ends = edge_ends (length g.nodes) g.edges j edge sound.ends at in
+          let above = role_above k edge.role a b role.id (turned_pair role.inverted e f) pair in
+          let free_from = shown_free edge.from a ends.0 from in
+          let free_to = shown_free edge.to b ends.1 to in
+          elim (same_or_turned above.0 role above.2.0) [
+            | inl same ↦ (let is = pair_same role.inverted a b e f (sym (ap (λ (r : Role). turned_pair r.inverted a b) same) ∙ above.2.1) in (
+              edge.from,
+              edge.to,
+              ends.0,
+              ends.1,
+              free_from,
+              free_to,
+              placed_at edge.from a from ∙ is.0,
+              placed_at edge.to b to ∙ is.1,
+              forth role j edge at (subst (λ r. is_below k edge.role r ≡ true) same above.1),
+            ))
+            | inr turned ↦ (let is = pair_turned role.inverted a b e f (sym (ap (λ (r : Role). turned_pair r.inverted a b) turned) ∙ above.2.1) in (
+              edge.to,
+              edge.from,
+              ends.1,
+              ends.0,
+              free_to,
+              free_from,
+              placed_at edge.to b to ∙ is.1,
+              placed_at edge.from a from ∙ is.0,
+              back role j edge at (subst (λ r. is_below k edge.role r ≡ true) turned above.1),
+            ))
+          ])
+    ]
 
+    -- and back
     linked_from : (role : Role) (x y : ℕ) → is_indirectly_blocked k g x ≡ false → is_indirectly_blocked k g y ≡ false → is_neighbour k g role x y ≡ true
-        → Relates i role (place_of stands x) (place_of stands y)
+        → Contains (items_of role.id rs) (turned_pair role.inverted (place_of stands x) (place_of stands y))
     linked_from role x y free_x free_y near =
         let found = edge_found k role x y g.edges near in
         let edge = found.1 in
@@ -292,7 +247,7 @@ module _ (k : Theory) (lawful : IsLawful k) (g : Graph) (sound : IsSound k g) (o
                   sy.0,
                   ap (stand_of stands) from_is ∙ sx.2,
                   ap (stand_of stands) to_is ∙ sy.2,
-                  above_role edge role sx.0 sy.0 role.id (turned_pair role.inverted sx.0 sy.0) q.1 (refl, refl),
+                  above_role k edge.role role sx.0 sy.0 role.id (turned_pair role.inverted sx.0 sy.0) q.1 (refl, refl),
                 ),
               ))
           | inr come ↦ (let p = and_parts (edge.from == y) ((edge.to == x) && is_below k (inverse edge.role) role) come in
@@ -312,17 +267,84 @@ module _ (k : Theory) (lawful : IsLawful k) (g : Graph) (sound : IsSound k g) (o
                   sx.0,
                   ap (stand_of stands) from_is ∙ sy.2,
                   ap (stand_of stands) to_is ∙ sx.2,
-                  above_role edge (inverse role) sy.0 sx.0 role.id (turned_pair role.inverted sx.0 sy.0) up (refl, turn_pair role.inverted sy.0 sx.0),
+                  above_role k edge.role (inverse role) sy.0 sx.0 role.id (turned_pair role.inverted sx.0 sy.0) up (refl, turn_pair role.inverted sy.0 sx.0),
                 ),
               ))
         ]
       where
         shown : (role : Role) (x y a b : ℕ) → stand_of stands x ≡ Some a → stand_of stands y ≡ Some b
-            → AreLinks k stands g.edges role.id (turned_pair role.inverted a b) → Relates i role (place_of stands x) (place_of stands y)
+            → AreLinks k stands g.edges role.id (turned_pair role.inverted a b)
+            → Contains (items_of role.id rs) (turned_pair role.inverted (place_of stands x) (place_of stands y))
         shown role x y a b at_x at_y links =
-            subst (λ e. Relates i role e (place_of stands y)) (sym (placed_at x a at_x))
-            (subst (Relates i role a) (sym (placed_at y b at_y))
-            (pair_relates i role a b ((relations role.id (turned_pair role.inverted a b)).1 (adds_rs.added role.id (turned_pair role.inverted a b) links))))
+            subst (λ e. Contains (items_of role.id rs) (turned_pair role.inverted e (place_of stands y))) (sym (placed_at x a at_x))
+            (subst (λ f. Contains (items_of role.id rs) (turned_pair role.inverted a f)) (sym (placed_at y b at_y))
+            (adds_rs.added role.id (turned_pair role.inverted a b) links))
+
+    step_from : (role : Role) (e f : ℕ) → IsStep k g (place_of stands) role e f → Contains (items_of role.id rs) (turned_pair role.inverted e f)
+    step_from role e f (x, y, ltx, lty, free_x, free_y, at_x, at_y, near) =
+        subst (λ d. Contains (items_of role.id rs) (turned_pair role.inverted d f)) at_x
+        (subst (λ d. Contains (items_of role.id rs) (turned_pair role.inverted (place_of stands x) d)) at_y (linked_from role x y free_x free_y near))
+
+    related_to : (role : Role) (e f : ℕ) → Relates i role e f → IsRelated k g (place_of stands) role e f
+    related_to role e f related = elim ((relations role.id (turned_pair role.inverted e f)).0 (relates_pair i role e f related)) [
+      | inl edge ↦ inl (step_of role e f edge)
+      | inr (word, r, a, b, transitive, below, (n, way), ids, pair) ↦ elim (same_or_turned r role ids) [
+        | inl same ↦ (let is = pair_same role.inverted a b e f (sym (ap (λ (s : Role). turned_pair s.inverted a b) same) ∙ pair) in inr (
+          straight word,
+          transitive,
+          subst (λ s. is_below k (straight word) s ≡ true) same below,
+          subst (λ d. Reaches (IsStep k g (place_of stands) (straight word)) d f) is.0
+              (subst (Reaches (IsStep k g (place_of stands) (straight word)) a) is.1
+              (n, each_step (λ c d. Contains (items_of word rs) (c, d)) (IsStep k g (place_of stands) (straight word)) (step_of (straight word)) n a b way)),
+        ))
+        | inr turned ↦ (let is = pair_turned role.inverted a b e f (sym (ap (λ (s : Role). turned_pair s.inverted a b) turned) ∙ pair) in inr (
+          inverse (straight word),
+          transitive,
+          subst (λ s. is_below k (inverse (straight word)) s ≡ true) (ap inverse turned ∙ inverse_twice role) (lawful.inverses (straight word) r below),
+          subst (λ d. Reaches (IsStep k g (place_of stands) (inverse (straight word))) d f) is.1
+              (subst (Reaches (IsStep k g (place_of stands) (inverse (straight word))) b) is.0
+              (turned_way (λ c d. Contains (items_of word rs) (c, d)) (IsStep k g (place_of stands) (inverse (straight word)))
+              (λ c d has. step_of (inverse (straight word)) d c has) n a b way)),
+        ))
+      ]
+    ]
+
+    related_from : (role : Role) (e f : ℕ) → IsRelated k g (place_of stands) role e f → Relates i role e f
+    related_from role e f (inl step) =
+        pair_relates i role e f ((relations role.id (turned_pair role.inverted e f)).1 (inl (step_from role e f step)))
+    related_from role e f (inr (t, transitive, below, (n, way))) =
+        pair_relates i role e f ((relations role.id (turned_pair role.inverted e f)).1 (inr (by t.inverted refl)))
+      where
+        by : (inverted : Bool) → t.inverted ≡ inverted → IsLed k rs role.id (turned_pair role.inverted e f)
+        by false is =
+            let same : t ≡ straight t.id = λ j. record { id = t.id; inverted = is j } in (
+              t.id,
+              role,
+              e,
+              f,
+              transitive,
+              subst (λ s. is_below k s role ≡ true) same below,
+              (
+                n,
+                each_step (IsStep k g (place_of stands) t) (λ c d. Contains (items_of t.id rs) (c, d))
+                    (λ c d step. subst (λ v. Contains (items_of t.id rs) (turned_pair v c d)) is (step_from t c d step)) n e f way,
+              ),
+              refl,
+              refl,
+            )
+        by true is =
+            let same : inverse t ≡ straight t.id = λ j. record { id = t.id; inverted = not (is j) } in (
+              t.id,
+              inverse role,
+              f,
+              e,
+              transitive,
+              subst (λ s. is_below k s (inverse role) ≡ true) same (lawful.inverses t role below),
+              turned_way (IsStep k g (place_of stands) t) (λ c d. Contains (items_of t.id rs) (c, d))
+                  (λ c d step. subst (λ v. Contains (items_of t.id rs) (turned_pair v c d)) is (step_from t c d step)) n e f way,
+              refl,
+              turn_pair role.inverted f e,
+            )
 
     pub pictures : Pictures k g i (place_of stands)
     pictures = record {
@@ -358,8 +380,8 @@ module _ (k : Theory) (lawful : IsLawful k) (g : Graph) (sound : IsSound k g) (o
                 let own : z ≡ s.1 = same_Some _ _ (sym at ∙ ap (slice_get owners) is ∙ s.3) in
                 labels_of x s.1 s.4 (Atomic word) ∙ ap (λ w. has_concept (label_at g w) (Atomic word)) (sym own) ∙ has)
           ];
-      related = linked_to;
-      relates = linked_from;
+      related = related_to;
+      relates = related_from;
       labelled = λ word x lt free has.
           let s = standing x lt free in
           (classes word (place_of stands x)).1

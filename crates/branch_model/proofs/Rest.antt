@@ -1,6 +1,6 @@
 -- What a branch has where no step applies and no clash is there.
 use Rattle.std.proofs.Common.{◌≡◌, ℕ, zero, suc, ◌+◌, ◌<◌, ◌≤◌, ◌==◌, ◌&&◌, ◌||◌, Bool, true, false, List, [], ◌∷◌, length, Option, Some, None, refl, sym, ap, ◌∙◌, inl, inr, arith}
-use Rattle.std.specs.Prelude.{not, ◌⊎◌, if◌then◌else◌}
+use Rattle.std.specs.Prelude.{not}
 use Rattle.std.specs.List.{list_any, list_all}
 use Rattle.std.specs.Option.{option_map, option_and_then, option_or}
 use Rattle.std.proofs.lemmas.Bool.{cases_eq, and_parts, and_from, and_cases, or_parts, or_left, or_right, not-false, not-true, cond-false}
@@ -13,11 +13,12 @@ use Rattle.logic_terms.specs.declared.expressions.Role.{Role}
 use Rattle.logic_terms.specs.Concept.{Concept, Concepts, Everything, Atomic, ComplementOf, IntersectionOf, UnionOf, SomeValuesFrom, AllValuesFrom, HasValue}
 use Rattle.logic_terms.specs.Meaning.{some_below}
 use Rattle.logic_terms.specs.Parts.{members_in}
-use Rattle.logic_terms.specs.Same.{same_concept, has_concept}
+use Rattle.logic_terms.specs.Same.{same_role, same_concept, has_concept}
 use Rattle.logic_terms.specs.Theory.{Theory}
+use Rattle.tableau_rules.proofs.Carriers.{none_there}
+use Rattle.tableau_rules.specs.Carrying.{role_of_all, along, carriers}
 use Rattle.tableau_rules.specs.declared.step.Rule.{Rule}
 use Rattle.tableau_rules.specs.declared.step.Rule.TheVariants as rule
-use Rattle.tableau_rules.specs.declared.step.Step.{Step}
 use Rattle.tableau_rules.specs.First.{first_below, where_true}
 use Rattle.tableau_rules.specs.Graph.{Graph, label_at}
 use Rattle.tableau_rules.specs.Neighbours.{node_of, is_neighbour}
@@ -48,33 +49,37 @@ one_there label (c ∷ cs) h = elim (and_cases (not (has_concept label c)) (lack
 ]
 
 module _ (k : Theory) (g : Graph) (done : first_step k g ≡ None) where
+  -- the rules before each one have no step
+  past_and : option_or (first_by k g rule.Unfold) (option_or (first_by k g rule.All) (option_or (first_by k g rule.Trans) (option_or (first_by k g rule.Value)
+      (option_or (first_by k g rule.Unit) (option_or (first_by k g rule.Or) (first_by k g rule.Some)))))) ≡ None
+  past_and = option_or-second_none (first_by k g rule.And) _ done
+
+  past_unfold : option_or (first_by k g rule.All) (option_or (first_by k g rule.Trans) (option_or (first_by k g rule.Value)
+      (option_or (first_by k g rule.Unit) (option_or (first_by k g rule.Or) (first_by k g rule.Some))))) ≡ None
+  past_unfold = option_or-second_none (first_by k g rule.Unfold) _ past_and
+
+  past_all : option_or (first_by k g rule.Trans) (option_or (first_by k g rule.Value)
+      (option_or (first_by k g rule.Unit) (option_or (first_by k g rule.Or) (first_by k g rule.Some)))) ≡ None
+  past_all = option_or-second_none (first_by k g rule.All) _ past_unfold
+
+  past_trans : option_or (first_by k g rule.Value) (option_or (first_by k g rule.Unit) (option_or (first_by k g rule.Or) (first_by k g rule.Some))) ≡ None
+  past_trans = option_or-second_none (first_by k g rule.Trans) _ past_all
+
+  past_value : option_or (first_by k g rule.Unit) (option_or (first_by k g rule.Or) (first_by k g rule.Some)) ≡ None
+  past_value = option_or-second_none (first_by k g rule.Value) _ past_trans
+
+  past_unit : option_or (first_by k g rule.Or) (first_by k g rule.Some) ≡ None
+  past_unit = option_or-second_none (first_by k g rule.Unit) _ past_value
+
   no_first : (r : Rule) → first_by k g r ≡ None
-  no_first rule.And = option_or-first_none (first_by k g rule.And) rest1 done
-    where
-      rest1 : Option Step
-      rest1 = option_or (first_by k g rule.Unfold)
-          (option_or (first_by k g rule.All)
-          (option_or (first_by k g rule.Value) (option_or (first_by k g rule.Unit) (option_or (first_by k g rule.Or) (first_by k g rule.Some)))))
-  no_first rule.Unfold = option_or-first_none (first_by k g rule.Unfold) _ (option_or-second_none (first_by k g rule.And) _ done)
-  no_first rule.All = option_or-first_none (first_by k g rule.All) _
-      (option_or-second_none (first_by k g rule.Unfold) _ (option_or-second_none (first_by k g rule.And) _ done))
-  no_first rule.Value = option_or-first_none (first_by k g rule.Value) _
-      (option_or-second_none (first_by k g rule.All) _
-      (option_or-second_none (first_by k g rule.Unfold) _ (option_or-second_none (first_by k g rule.And) _ done)))
-  no_first rule.Unit = option_or-first_none (first_by k g rule.Unit) _
-      (option_or-second_none (first_by k g rule.Value) _
-      (option_or-second_none (first_by k g rule.All) _
-      (option_or-second_none (first_by k g rule.Unfold) _ (option_or-second_none (first_by k g rule.And) _ done))))
-  no_first rule.Or = option_or-first_none (first_by k g rule.Or) _
-      (option_or-second_none (first_by k g rule.Unit) _
-      (option_or-second_none (first_by k g rule.Value) _
-      (option_or-second_none (first_by k g rule.All) _
-      (option_or-second_none (first_by k g rule.Unfold) _ (option_or-second_none (first_by k g rule.And) _ done)))))
-  no_first rule.Some = option_or-second_none (first_by k g rule.Or) _
-      (option_or-second_none (first_by k g rule.Unit) _
-      (option_or-second_none (first_by k g rule.Value) _
-      (option_or-second_none (first_by k g rule.All) _
-      (option_or-second_none (first_by k g rule.Unfold) _ (option_or-second_none (first_by k g rule.And) _ done)))))
+  no_first rule.And = option_or-first_none (first_by k g rule.And) _ done
+  no_first rule.Unfold = option_or-first_none (first_by k g rule.Unfold) _ past_and
+  no_first rule.All = option_or-first_none (first_by k g rule.All) _ past_unfold
+  no_first rule.Trans = option_or-first_none (first_by k g rule.Trans) _ past_all
+  no_first rule.Value = option_or-first_none (first_by k g rule.Value) _ past_trans
+  no_first rule.Unit = option_or-first_none (first_by k g rule.Unit) _ past_value
+  no_first rule.Or = option_or-first_none (first_by k g rule.Or) _ past_unit
+  no_first rule.Some = option_or-second_none (first_by k g rule.Or) _ past_unit
 
   -- no rule has a row for a class of the label of a node that is not indirectly blocked
   no_row : (r : Rule) (x : ℕ) (c : Concept) → x < length g.nodes → is_indirectly_blocked k g x ≡ false → has_concept (label_at g x) c ≡ true
@@ -102,11 +107,10 @@ module _ (k : Theory) (g : Graph) (done : first_step k g ≡ None) where
     or_done cs has =
         one_there (label_at g x) (members_in cs) (where_none (lacks_all (label_at g x) (members_in cs)) 0 (no_row rule.Or x (UnionOf cs) lt free has))
 
-    pub all_done : (role : Role) (c : Concept) → has_concept (label_at g x) (AllValuesFrom role c) ≡ true → (y : ℕ) → y < length g.nodes
-        → is_neighbour k g role x y ≡ true → is_indirectly_blocked k g y ≡ false → has_concept (label_at g y) c ≡ true
-    all_done role c has y below near clear =
-        let none = where_none (needs k g role c x y) y
-        (first_none (length g.nodes) (λ y. where_true (needs k g role c x y) y) (no_row rule.All x (AllValuesFrom role c) lt free has) y below) in
+    -- a neighbour that is not in need has the class
+    not_in_need : (role : Role) (c : Concept) (y : ℕ) → needs k g role c x y ≡ false → is_neighbour k g role x y ≡ true → is_indirectly_blocked k g y ≡ false
+        → has_concept (label_at g y) c ≡ true
+    not_in_need role c y none near clear =
         elim (and_cases (is_neighbour k g role x y) (not (is_indirectly_blocked k g y) && not (has_concept (label_at g y) c)) none) [
           | inl far ↦ absurd (both near far)
           | inr rest ↦ elim (and_cases (not (is_indirectly_blocked k g y)) (not (has_concept (label_at g y) c)) rest) [
@@ -117,6 +121,31 @@ module _ (k : Theory) (g : Graph) (done : first_step k g ≡ None) where
       where
         both : {b : Bool} → b ≡ true → b ≡ false → ⊥
         both t f = cc
+
+    pub all_done : (role : Role) (c : Concept) → has_concept (label_at g x) (AllValuesFrom role c) ≡ true → (y : ℕ) → y < length g.nodes
+        → is_neighbour k g role x y ≡ true → is_indirectly_blocked k g y ≡ false → has_concept (label_at g y) c ≡ true
+    all_done role c has y below near clear =
+        not_in_need role c y
+        (where_none (needs k g role c x y) y
+        (first_none (length g.nodes) (λ y. where_true (needs k g role c x y) y) (no_row rule.All x (AllValuesFrom role c) lt free has) y below))
+        near clear
+
+    pub trans_done : (c : Concept) (role t : Role) → has_concept (label_at g x) c ≡ true → role_of_all c ≡ Some role
+        → list_any (λ s. same_role s t) (carriers k role) ≡ true → (y : ℕ) → y < length g.nodes → is_neighbour k g t x y ≡ true
+        → is_indirectly_blocked k g y ≡ false → has_concept (label_at g y) (along t c) ≡ true
+    trans_done c role t has is carries y below near clear =
+        not_in_need t (along t c) y
+        (none_there (λ s. needs k g s (along s c) x y) (carriers k role) t
+        (where_none (list_any (λ s. needs k g s (along s c) x y) (carriers k role)) y
+        (first_none (length g.nodes) (λ z. where_true (list_any (λ s. needs k g s (along s c) x z) (carriers k role)) z) none y below))
+        carries)
+        near clear
+      where
+        none : first_below (length g.nodes) (λ z. where_true (list_any (λ s. needs k g s (along s c) x z) (carriers k role)) z) ≡ None
+        none =
+            sym (ap (λ o. option_and_then
+            (λ r. first_below (length g.nodes) (λ z. where_true (list_any (λ s. needs k g s (along s c) x z) (carriers k r)) z)) o) is)
+            ∙ no_row rule.Trans x c lt free has
 
     pub value_done : (role : Role) (name : WordId) (y : ℕ) → has_concept (label_at g x) (HasValue role name) ≡ true → is_blocked k g x ≡ false
         → node_of k name ≡ Some y → is_neighbour k g role x y ≡ true

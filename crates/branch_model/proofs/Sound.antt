@@ -1,5 +1,5 @@
 -- What every branch of lawful knowledge keeps.
-use Rattle.std.proofs.Common.{◌≡◌, ℕ, zero, suc, ◌+◌, ◌<◌, ◌≤◌, ◌==◌, ◌&&◌, ◌||◌, Bool, true, false, List, [], ◌∷◌, ◌++◌, map, length, set, All, Option, Some, None, slice_get, refl, sym, ap, ◌∙◌, subst, inl, inr, arith, length-append, length-set}
+use Rattle.std.proofs.Common.{◌≡◌, ℕ, zero, suc, ◌+◌, ◌<◌, ◌≤◌, ◌&&◌, Bool, true, false, List, [], ◌∷◌, ◌++◌, map, length, set, All, Option, Some, None, slice_get, refl, sym, ap, ◌∙◌, subst, inl, inr, arith, length-append, length-set}
 use Rattle.std.specs.Prelude.{◌⊎◌, filter, not, nat_lt, if◌then◌else◌}
 use Rattle.std.specs.List.{list_all}
 use Rattle.std.specs.Option.{option_map_or, option_and_then, option_to_list, option_or}
@@ -9,12 +9,13 @@ use Rattle.std.proofs.lemmas.List.Folds.{list_any-append, list_all-append}
 use Rattle.wiki_base.specs.declared.numbers.WordId.{WordId}
 use Rattle.tableau_rules.proofs.Labels.{get_set_same, get_set_other, get_push_old, get_push_new, each_has, has_here, has_node, neighbour_more}
 use Rattle.logic_terms.specs.declared.expressions.Role.{Role}
-use Rattle.logic_terms.specs.Concept.{Concept, Concepts, IntersectionOf, UnionOf, SomeValuesFrom, AllValuesFrom, no_concept, also_concept}
-use Rattle.logic_terms.specs.Complement.{complement, is_normal, each_normal}
+use Rattle.logic_terms.specs.Concept.{Concept, Concepts, ComplementOf, IntersectionOf, UnionOf, SomeValuesFrom, AllValuesFrom, HasValue, no_concept, also_concept}
+use Rattle.logic_terms.specs.Complement.{complement, is_simple, is_normal, each_normal}
 use Rattle.logic_terms.specs.Interpretation.{is_word}
 use Rattle.logic_terms.specs.Parts.{members_in, word_part, intersection_part, union_part, some_part, all_part, value_part}
 use Rattle.logic_terms.specs.Same.{has_concept}
 use Rattle.logic_terms.specs.Theory.{Theory, names_given, each_names_given}
+use Rattle.tableau_rules.specs.Carrying.{role_of_all, along, carriers, carried}
 use Rattle.tableau_rules.specs.declared.branch.Edge.{Edge}
 use Rattle.tableau_rules.specs.declared.step.Rule.{Rule}
 use Rattle.tableau_rules.specs.declared.step.Rule.TheVariants as rule
@@ -347,6 +348,30 @@ either_fits : (k : Theory) (a b : Option Concept) → list_all (fits k) (option_
 either_fits k None b p q = q
 either_fits k (Some c) b p q = p
 
+-- a class along a role fits where it does
+simple_along : (t : Role) (c : Concept) → is_simple (along t c) ≡ is_simple c
+simple_along t (ComplementOf c) = refl
+simple_along t (AllValuesFrom role c) = refl
+simple_along t (HasValue role name) = refl
+simple_along t _ = refl
+
+normal_along : (t : Role) (c : Concept) → is_normal (along t c) ≡ is_normal c
+normal_along t (ComplementOf c) = simple_along t c
+normal_along t (AllValuesFrom role c) = refl
+normal_along t (HasValue role name) = refl
+normal_along t _ = refl
+
+given_along : (k : Theory) (t : Role) (c : Concept) → names_given k (along t c) ≡ names_given k c
+given_along k t (ComplementOf c) = given_along k t c
+given_along k t (AllValuesFrom role c) = refl
+given_along k t (HasValue role name) = refl
+given_along k t _ = refl
+
+carried_fit : (k : Theory) (c : Concept) → fits k c ≡ true → (ts : List Role) → list_all (fits k) (map (λ t. along t c) ts) ≡ true
+carried_fit k c h [] = refl
+carried_fit k c h (t ∷ ts) =
+    and_from (fits k (along t c)) (list_all (fits k) (map (λ s. along s c) ts)) ((λ j. normal_along t c j && given_along k t c j) ∙ h) (carried_fit k c h ts)
+
 -- every step keeps what a branch keeps
 module _ (k : Theory) (g : Graph) (sound : IsSound k g) (fit_unfoldings : list_all (λ e. fits k e.1) k.unfoldings ≡ true)
     (fit_general : list_all (fits k) k.general ≡ true) (noded : (name : WordId) (y : ℕ) → node_of k name ≡ Some y → y < length (roots k)) where
@@ -366,6 +391,12 @@ module _ (k : Theory) (g : Graph) (sound : IsSound k g) (fit_unfoldings : list_a
       go : (o : Option (Role × Concept)) → all_part c ≡ o → IsSound k (option_map_or (λ p. adding g y (p.1 ∷ [])) o g)
       go None e = sound
       go (Some p) e = adding_sound k g y (p.1 ∷ []) (and_from (fits k p.1) true (all_fits k c p (sound.fit x c has) e) refl) sound
+  effect_sound rule.Trans x c y choice has = go (role_of_all c)
+    where
+      go : (o : Option Role) → IsSound k (option_map_or (λ role. adding g y (carried k g role c x y)) o g)
+      go None = sound
+      go (Some role) =
+          adding_sound k g y (carried k g role c x y) (carried_fit k c (sound.fit x c has) (filter (λ t. is_neighbour k g t x y) (carriers k role))) sound
   effect_sound rule.Value x c y choice has = go (value_part c)
     where
       inner : (role : Role) (name : WordId) (o : Option ℕ) → node_of k name ≡ o

@@ -30,6 +30,11 @@ abbrev pub paired_above : List (Role × Role) → Role → ℕ → ℕ → List 
 paired_above [] role a b es = es
 paired_above (p ∷ ps) role a b es = paired_above ps role a b (if same_role p.0 role then paired p.1 a b es else es)
 
+-- these pairs of a role, each with those of the roles above it
+abbrev pub paired_all : List (Role × Role) → Role → List (ℕ × ℕ) → List (WordId × List (ℕ × ℕ)) → List (WordId × List (ℕ × ℕ))
+paired_all hierarchy role [] es = es
+paired_all hierarchy role (p ∷ ps) es = paired_all hierarchy role ps (paired_above hierarchy role p.0 p.1 (paired role p.0 p.1 es))
+
 -- the element that a node stands for
 abbrev pub stand_of : List (Option ℕ) → ℕ → Option ℕ
 stand_of stands x = option_and_then (λ s. s) (slice_get stands x)

@@ -2,3 +2,4 @@ pub mod Elements
 pub mod Entries
 pub mod Extents
 pub mod Named
+pub mod Related

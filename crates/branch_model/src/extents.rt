@@ -1,11 +1,14 @@
 // What a branch's model gives to class words, relation words and names.
-ghost use Rattle.std.specs.Prelude.{◌≡◌, [], map, OnOk, IfOk};
+ghost use Rattle.std.specs.Prelude.{◌≡◌, [], map, OnOk, IfOk, IsTrue};
+ghost use Rattle.logic_terms.specs.Interpretation.{words_rise};
 ghost use Rattle.logic_terms.specs.Known.{theory_of};
 ghost use Rattle.logic_terms.specs.Shown.{concept_of};
 ghost use Rattle.owl_eval.specs.Given.{lists_in};
 ghost use Rattle.tableau_rules.specs.Shown.{graph_of};
-ghost use Rattle.branch_model.specs.Extents.{labelled, extents, paired, paired_above, stand_of, linked, links};
+ghost use Rattle.branch_model.specs.Related.{pairs_in, Closes};
+ghost use Rattle.branch_model.specs.Extents.{labelled, extents, paired, paired_above, paired_all, stand_of, linked, links};
 
+use crate::closing::led_to;
 use crate::entries::put;
 use logic_terms::{Class, Knowledge, Role};
 use std::alloc::Global;
@@ -45,8 +48,23 @@ fn add_label(
     Ok(())
 }
 
-// The pairs of each relation word.
-pub(crate) fn role_pairs(
+// The pairs of each relation word: those of edges, and those that transitive words add to them.
+pub(crate) fn related(
+    alloc: Global,
+    k: &Knowledge,
+    b: &Branch,
+    stands: &[Option<u64>],
+) -> Result<Vec<(WordId, Vec<(u64, u64)>)>, Memory>
+    ensures { IfOk result (λ made. Closes (theory_of k.now) (links (theory_of k.now) stands.now (graph_of b.now).edges []) (lists_in made.items)) }
+{
+    let edges = role_pairs(alloc, k, b, stands)?;
+    let mut made = role_pairs(alloc, k, b, stands)?;
+    close(alloc, &mut made, edges.as_slice(), k)?;
+    Ok(made)
+}
+
+// The pairs of each relation word by edges alone.
+fn role_pairs(
     alloc: Global,
     k: &Knowledge,
     b: &Branch,
@@ -59,6 +77,57 @@ pub(crate) fn role_pairs(
         add_edge(alloc, &mut made, k, stands, *edge)?;
     }
     Ok(made)
+}
+
+// Adds to the pairs of edges, for each transitive word and the roles above it, the pairs that steps by the word's lead to.
+fn close(
+    alloc: Global,
+    made: &mut Vec<(WordId, Vec<(u64, u64)>)>,
+    edges: &[(WordId, Vec<(u64, u64)>)],
+    k: &Knowledge,
+) -> Result<(), Memory>
+    requires edges { lists_in made.old.items ≡ lists_in edges.now }
+    requires rise { IsTrue (words_rise (lists_in edges.now)) }
+    ensures { OnOk result (Closes (theory_of k.now) (lists_in edges.now) (lists_in made.new.items)) }
+{
+    for word in k.transitive() {
+        let role = Role {
+            id: *word,
+            inverted: false,
+        };
+        let led = led_to(alloc, pairs_of(edges, *word))?;
+        add_each(alloc, made, k.hierarchy(), role, led.as_slice())?;
+    }
+    Ok(())
+}
+
+// Adds pairs of a role, and of the roles above it.
+fn add_each(
+    alloc: Global,
+    made: &mut Vec<(WordId, Vec<(u64, u64)>)>,
+    hierarchy: &[(Role, Role)],
+    role: Role,
+    pairs: &[(u64, u64)],
+) -> Result<(), Memory>
+    ensures { OnOk result (lists_in made.new.items ≡ paired_all hierarchy.now role pairs.now (lists_in made.old.items)) }
+{
+    for pair in pairs {
+        add_pair(alloc, made, role, pair.0, pair.1)?;
+        add_above(alloc, made, hierarchy, role, pair.0, pair.1)?;
+    }
+    Ok(())
+}
+
+// The pairs of a word.
+fn pairs_of(made: &[(WordId, Vec<(u64, u64)>)], word: WordId) -> &[(u64, u64)]
+    ensures { result.now ≡ pairs_in (lists_in made.now) word }
+{
+    for entry in made {
+        if entry.0.0 == word.0 {
+            return entry.1.as_slice();
+        }
+    }
+    &[]
 }
 
 fn add_edge(

@@ -1,6 +1,7 @@
 //! Models of finished branches.
 #![tactic(auto)]
 
+mod closing;
 mod elements;
 mod entries;
 mod extents;

@@ -10,7 +10,7 @@ ghost use Rattle.tableau_rules.specs.Shown.{graph_of};
 ghost use Rattle.branch_model.specs.Named.{named_elements, element_named};
 
 use crate::elements::find_elements;
-use crate::extents::{class_extents, role_pairs, stand};
+use crate::extents::{class_extents, related, stand};
 use logic_terms::Knowledge;
 use owl_eval::Interp;
 use std::alloc::Global;
@@ -19,7 +19,8 @@ use wiki_base::{Memory, WordId};
 
 /// A model of lawful knowledge, from a branch of it that has no clash and to which no rule applies. Its elements are the
 /// nodes that are not blocked; an edge to or from a directly blocked node goes to or from the node that blocks it, and
-/// edges of indirectly blocked nodes are left out. Equal labels are enough for that, since no class counts successors.
+/// edges of indirectly blocked nodes are left out. A relation word has the pairs of its edges, and those that steps by a
+/// transitive word lead to. Equal labels are enough for that, since no class counts successors.
 pub fn model(alloc: Global, k: &Knowledge, b: &Branch) -> Result<Interp, Memory>
     requires lawful { IsLawful (theory_of k.now) }
     requires plain { IsTrue (is_plain_theory (theory_of k.now)) }
@@ -31,7 +32,7 @@ pub fn model(alloc: Global, k: &Knowledge, b: &Branch) -> Result<Interp, Memory>
     let placed = find_elements(alloc, k, b)?;
     let names = name_elements(alloc, k, placed.stands.as_slice())?;
     let classes = class_extents(alloc, b, placed.owners.as_slice())?;
-    let relations = role_pairs(alloc, k, b, placed.stands.as_slice())?;
+    let relations = related(alloc, k, b, placed.stands.as_slice())?;
     Interp::new(alloc, placed.owners.len() as u64, names, classes, relations)
 }
 

@@ -124,7 +124,7 @@ adding_fits i k g f fits x cs hold = go (slice_get g.nodes x) refl
     }
 
 -- a pair of a role below is a pair of the role above
-sub_role : (i : Interpretation) (k : Theory) → list_all (λ p. holds i (SubPropertyOf p.0 p.1)) k.hierarchy ≡ true → (r s : Role) (a b : ℕ) → a < i.size
+pub sub_role : (i : Interpretation) (k : Theory) → list_all (λ p. holds i (SubPropertyOf p.0 p.1)) k.hierarchy ≡ true → (r s : Role) (a b : ℕ) → a < i.size
     → b < i.size → is_below k r s ≡ true → relates i r a b ≡ true → relates i s a b ≡ true
 sub_role i k all r s a b la lb below is = elim (or_cases (same_role r s) (list_any (λ p. same_role p.0 r && same_role p.1 s) k.hierarchy) below) [
   | inl same ↦ subst (λ t. relates i t a b ≡ true) (role_equal r s same) is

@@ -1,4 +1,5 @@
 pub mod Basics
+pub mod CarryFits
 pub mod ClashFits
 pub mod Fitting
 pub mod Soundness

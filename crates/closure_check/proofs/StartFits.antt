@@ -1,6 +1,6 @@
 -- A model fits the first branch.
 use Rattle.std.proofs.Common.{◌≡◌, ℕ, zero, suc, ◌<◌, ◌≤◌, ◌&&◌, Bool, true, false, List, [], ◌∷◌, ◌++◌, length, map, filter, cond, Option, Some, None, slice_get, subst, refl, sym, ap, ◌∙◌, arith}
-use Rattle.std.specs.Prelude.{nat_lt, if◌then◌else◌, filter_map, unwrap_or}
+use Rattle.std.specs.Prelude.{nat_lt, filter_map, unwrap_or}
 use Rattle.std.specs.List.{list_all, cons_option}
 use Rattle.std.specs.Option.{option_map_or, option_and_then, option_map}
 use Rattle.std.proofs.lemmas.Bool.{lt-ltb, ltb-true, and_from}
@@ -159,6 +159,10 @@ and_all a b c d e f g h =
 
 sized_by : (i : Interpretation) → is_interpretation i ≡ true → Sized i
 sized_by i h = let p = and_all _ _ _ _ _ _ _ h in sized_is i p.0 p.1
+
+-- each name has an element
+pub named_small : (i : Interpretation) → is_interpretation i ≡ true → (name : WordId) → element_of i name < i.size
+named_small i is name = element_small i (sized_by i is) name
 
 pub start_fits : (i : Interpretation) (k : Theory) → is_interpretation i ≡ true → list_all (λ e. holds i (SameIndividual e.0 e.1)) k.names ≡ true
     → list_all (λ e. holds i (ClassAssertion e.1 e.0)) k.assertions ≡ true → list_all (λ e. holds i (PropertyAssertion e.0 e.1 e.2)) k.edges ≡ true

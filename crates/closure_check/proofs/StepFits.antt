@@ -10,7 +10,7 @@ use Rattle.closure_check.proofs.ClashFits.{word_in}
 use Rattle.tableau_rules.proofs.Reaching.{some_below_found}
 use Rattle.tableau_rules.proofs.Roots.{node_within}
 use Rattle.logic_terms.specs.declared.expressions.Role.{Role}
-use Rattle.logic_terms.specs.Concept.{Concept, Concepts, Everything, Atomic, IntersectionOf, UnionOf, SomeValuesFrom, AllValuesFrom, HasValue, no_concept, also_concept, SubClassOf, SubPropertyOf}
+use Rattle.logic_terms.specs.Concept.{Concept, Concepts, Everything, Atomic, IntersectionOf, UnionOf, SomeValuesFrom, AllValuesFrom, HasValue, no_concept, also_concept, SubClassOf, SubPropertyOf, TransitiveProperty}
 use Rattle.logic_terms.specs.Interpretation.{Interpretation, element_of, has_element, relates, is_word}
 use Rattle.logic_terms.specs.Meaning.{is_in, is_in_each, is_in_some, implies, holds}
 use Rattle.logic_terms.specs.Parts.{members_in, word_part, intersection_part, union_part, some_part, all_part, value_part}
@@ -26,8 +26,10 @@ use Rattle.tableau_rules.specs.First.{first_below, where_true}
 use Rattle.tableau_rules.specs.Graph.{Graph, label_at, class_at}
 use Rattle.tableau_rules.specs.Neighbours.{node_of, is_neighbour}
 use Rattle.tableau_rules.specs.Blocking.{is_indirectly_blocked}
+use Rattle.tableau_rules.specs.Carrying.{role_of_all, carried}
 use Rattle.tableau_rules.specs.Rules.{lacks_all, unfoldings_of, open_members, unit_member, needs, row, site, applies, with_classes, adding, with_edge, with_node, choices_for, choices, effect, after}
 use Rattle.closure_check.proofs.Basics.{implied, not_both, any_at, any_kept, only_one, each_at, first_passes, where_holds}
+use Rattle.closure_check.proofs.CarryFits.{carried_in}
 use Rattle.closure_check.proofs.Fitting.{Fits, class_fits, class_within, has_fits, with_classes_all, adding_fits, neighbours_pair, with_edge_fits, and_at, with_node_fits}
 
 each_in : (i : Interpretation) (cs : Concepts) (a : ℕ) → is_in_each i cs a ≡ list_all (λ c. is_in i c a) (members_in cs)
@@ -111,6 +113,8 @@ general_in i a lt (c ∷ cs) h =
 -- the parts of a model that the rules rest on
 pub record Obeys (i : Interpretation) (k : Theory) : Type 0 where
   pub hierarchy : list_all (λ p. holds i (SubPropertyOf p.0 p.1)) k.hierarchy ≡ true
+  pub transitive : list_all (λ w. holds i (TransitiveProperty w)) k.transitive ≡ true
+  pub named : (name : WordId) → element_of i name < i.size
   pub unfoldings : list_all (λ e. holds i (SubClassOf (Atomic e.0) e.1)) k.unfoldings ≡ true
   pub general : list_all (λ c. holds i (SubClassOf Everything c)) k.general ≡ true
 
@@ -136,6 +140,13 @@ module _ (i : Interpretation) (k : Theory) (obeys : Obeys i k) (g : Graph) (f : 
       neighbours_pair i k f fits.elements obeys.hierarchy g fits.edges p.0 x y
       (and_first (is_neighbour k g p.0 x y) (not (is_indirectly_blocked k g y) && not (has_concept (label_at g y) p.1)) need) in
       adding_fits i k g f fits y (p.1 ∷ []) (and_from (is_in i p.1 (f y)) true (all_in i c p (f x) (f y) e inside (fits.elements y) pair) refl)
+
+  trans_fits : (y : ℕ) (o : Option Role) → role_of_all c ≡ o → Fits i k (option_map_or (λ role. adding g y (carried k g role c x y)) o g) f
+  trans_fits y None e = fits
+  trans_fits y (Some role) e =
+      adding_fits i k g f fits y (carried k g role c x y)
+      (carried_in i k obeys.hierarchy obeys.named c role e (f x) (f y) (fits.elements x) inside (λ t. is_neighbour k g t x y)
+      (λ t near. neighbours_pair i k f fits.elements obeys.hierarchy g fits.edges t x y near) k.transitive obeys.transitive)
 
   value_fits : x < length g.nodes → (o : Option (Role × WordId)) → value_part c ≡ o
       → Fits i k (option_map_or (λ p. option_map_or (λ z. with_edge g (record { from = x; role = p.0; to = z })) (node_of k p.1) g) o g) f
@@ -202,6 +213,7 @@ module _ (i : Interpretation) (k : Theory) (obeys : Obeys i k) (g : Graph) (f : 
   rule_fits lt rule.And y h = (0, omega arith, (f, and_fits (intersection_part c) refl))
   rule_fits lt rule.Unfold y h = (0, omega arith, (f, unfold_fits (word_part c) refl))
   rule_fits lt rule.All y h = (0, omega arith, (f, all_fits y (all_part c) refl h))
+  rule_fits lt rule.Trans y h = (0, omega arith, (f, trans_fits y (role_of_all c) refl))
   rule_fits lt rule.Value y h = (0, omega arith, (f, value_fits lt (value_part c) refl))
   rule_fits lt rule.Unit y h = (0, omega arith, (f, unit_fits (union_part c) refl y h))
   rule_fits lt rule.Or y h = let w = or_fits (union_part c) refl in (w.0, w.1, (f, w.2))

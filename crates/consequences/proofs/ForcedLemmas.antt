@@ -28,7 +28,13 @@ module _ (i : Interpretation) (k : Theory) (is : is_interpretation i ≡ true) (
   forced_fits : (g : Graph) → IsForced k g → (f : ℕ → ℕ) × Fits i k g f
   forced_fits _ begun = (first_elements i k, start_fits i k is parts.names parts.assertions parts.edges parts.general)
   forced_fits _ (stepped g s before applied one) =
-      let obeys : Obeys i k = record { hierarchy = parts.hierarchy; unfoldings = parts.unfoldings; general = parts.general } in
+      let obeys : Obeys i k = record {
+        hierarchy = parts.hierarchy;
+        transitive = parts.transitive;
+        named = parts.named;
+        unfoldings = parts.unfoldings;
+        general = parts.general;
+      } in
       let there = forced_fits g before in
       let w = step_fits i k obeys g there.0 there.1 s applied in
       (w.2.0, subst (λ choice. Fits i k (after k g s choice) w.2.0) (first_is w.0 (choices g s) w.1 one) w.2.1)
@@ -37,7 +43,7 @@ module _ (i : Interpretation) (k : Theory) (is : is_interpretation i ≡ true) (
 pub shown_in_each : (k : Theory) (g : Graph) → ∥ IsForced k g ∥₁ → (c : Concept) (name : WordId) (x : ℕ) → node_of k name ≡ Some x → shows k g c x ≡ true
     → HasInEachModel k c name
 shown_in_each k g forced c name x at shown i is model =
-    let parts : Parts i k = parts_of i k model in
+    let parts : Parts i k = parts_of i k is model in
     let fits : IsForced k g → is_in i c (element_of i name) ≡ true = λ h. (
     let there = forced_fits i k is parts g h in
     subst (λ e. is_in i c e ≡ true) (there.1.names name x at) (shown_fits i k g there.0 there.1 parts.hierarchy c x shown)) in

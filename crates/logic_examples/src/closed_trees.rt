@@ -25,6 +25,7 @@ fn about(
     Ok(Knowledge::new(
         vec![in alloc; (BERN, BERN)]?,
         Vec::new(alloc),
+        Vec::new(alloc),
         asserted,
         Vec::new(alloc),
         Vec::new(alloc),
@@ -112,6 +113,7 @@ fn the_place_of_the_edge_is_checked(rt: HostRuntime) -> Result<(), Fail> {
     let no_value = not(alloc, Class::Value(role, BERN))?;
     let k = Knowledge::new(
         vec![in alloc; (BERN, BERN)]?,
+        Vec::new(alloc),
         Vec::new(alloc),
         vec![in alloc; (BERN, no_value)]?,
         vec![in alloc; (role.inverse(), BERN, BERN)]?,

@@ -16,4 +16,6 @@ mod shown;
 #[cfg(test)]
 mod terms;
 #[cfg(test)]
+mod transitive;
+#[cfg(test)]
 mod truths;

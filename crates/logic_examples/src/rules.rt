@@ -48,6 +48,7 @@ fn about(
     Ok(Knowledge::new(
         vec![in alloc; (BERN, BERN)]?,
         Vec::new(alloc),
+        Vec::new(alloc),
         asserted,
         Vec::new(alloc),
         Vec::new(alloc),
@@ -210,6 +211,7 @@ fn clashing_names(alloc: Global) -> Result<Knowledge, Fail> {
     let no_value = not(alloc, Class::Value(role(), BONN))?;
     Ok(Knowledge::new(
         vec![in alloc; (BERN, BERN), (BONN, BERN)]?,
+        Vec::new(alloc),
         Vec::new(alloc),
         vec![in alloc; (BONN, no_value)]?,
         vec![in alloc; (role(), BERN, BONN)]?,

@@ -48,6 +48,7 @@ fn known(alloc: Global) -> Result<Knowledge, Fail> {
             (role(31, false), role(32, false)),
             (role(31, true), role(32, true)),
         ]?,
+        Vec::new(alloc),
         assertions,
         vec![in alloc; (role(31, false), ANNA, BERN)]?,
         Vec::new(alloc),

@@ -139,6 +139,7 @@ fn some_knowledge(alloc: Global) -> Result<Knowledge, Fail> {
     Ok(Knowledge::new(
         vec![in alloc; (WordId(5), WordId(5)), (WordId(6), WordId(5))]?,
         vec![in alloc; (OWN, STRAIGHT)]?,
+        vec![in alloc; WordId(2), WordId(3)]?,
         vec![in alloc; (WordId(6), Class::Named(WordId(9)))]?,
         vec![in alloc; (OWN, WordId(5), WordId(6))]?,
         vec![in alloc; (WordId(5), WordId(6))]?,
@@ -148,10 +149,11 @@ fn some_knowledge(alloc: Global) -> Result<Knowledge, Fail> {
 }
 
 // How long the lists of knowledge are, in the order of `Knowledge::new`.
-fn lengths(k: &Knowledge) -> [usize; 7] {
+fn lengths(k: &Knowledge) -> [usize; 8] {
     [
         k.names().len(),
         k.hierarchy().len(),
+        k.transitive().len(),
         k.assertions().len(),
         k.edges().len(),
         k.differences().len(),
@@ -164,7 +166,7 @@ fn lengths(k: &Knowledge) -> [usize; 7] {
 fn knowledge_lends_its_lists_and_is_copied(rt: HostRuntime) -> Result<(), Fail> {
     let alloc = rt.alloc();
     let k = some_knowledge(alloc)?;
-    assert_eq!(rt; lengths(&k.copy(alloc)?), [2, 1, 1, 1, 1, 1, 1]);
+    assert_eq!(rt; lengths(&k.copy(alloc)?), [2, 1, 2, 1, 1, 1, 1, 1]);
     for (name, want) in [(6, Some(WordId(5))), (7, None)] {
         assert!(rt; k.representative(WordId(name)) == want, "{name}");
     }

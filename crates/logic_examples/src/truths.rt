@@ -354,6 +354,10 @@ fn a_checked_model_is_made_of_a_model_alone(rt: HostRuntime) -> Result<(), Fail>
     };
     assert_eq!(rt; checked.interp().size(), 3);
     assert_eq!(rt; checked.axioms().len(), 2);
+    let copied = checked.copy()?;
+    assert_eq!(rt; copied.interp().size(), 3);
+    assert!(rt; is_model(copied.interp(), checked.axioms()));
+    assert_eq!(rt; copied.axioms().len(), 2);
     axioms.push(Axiom::Equal(MARY, REX))?;
     assert!(rt; !is_model(&world, &axioms));
     let Err((interp, axioms)) = CheckedModel::new(world, axioms) else {

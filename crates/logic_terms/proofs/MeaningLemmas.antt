@@ -1,11 +1,11 @@
 -- The tests of `Meaning` decide the facts of `Reading`.
-use Rattle.std.proofs.Common.{◌≡◌, ℕ, ◌<◌, ◌==◌, ◌&&◌, Bool, true, false, List, Contains, MatchBool, refl, ap, Decides}
+use Rattle.std.proofs.Common.{◌≡◌, ℕ, ◌<◌, ◌==◌, ◌&&◌, Bool, true, false, List, get_or, All, Contains, MatchBool, refl, ap, subst, Decides}
 use Rattle.std.specs.Prelude.{if◌then◌else◌}
-use Rattle.std.specs.List.{list_any}
+use Rattle.std.specs.List.{list_any, list_all}
 use Rattle.std.proofs.lemmas.Bool.Decides.{Decides-eqb, Decides-like, Decides-not, Decides-and, Decides-or, Decides-by_and, Decides-by_or, Decides-below_and, Decides-below_or}
-use Rattle.std.proofs.lemmas.List.Elements.{Decides-contains}
+use Rattle.std.proofs.lemmas.List.Elements.{All-contains, Contains-get_or, Decides-contains}
 use Rattle.logic_terms.specs.declared.expressions.Role.{Role}
-use Rattle.logic_terms.specs.Concept.{Concept, Concepts, Everything, Atomic, ComplementOf, IntersectionOf, UnionOf, SomeValuesFrom, AllValuesFrom, HasValue, no_concept, also_concept, Claim, SubClassOf, SubPropertyOf, ClassAssertion, PropertyAssertion, NegativePropertyAssertion, SameIndividual, DifferentIndividuals}
+use Rattle.logic_terms.specs.Concept.{Concept, Concepts, Everything, Atomic, ComplementOf, IntersectionOf, UnionOf, SomeValuesFrom, AllValuesFrom, HasValue, no_concept, also_concept, Claim, SubClassOf, SubPropertyOf, ClassAssertion, PropertyAssertion, NegativePropertyAssertion, SameIndividual, DifferentIndividuals, TransitiveProperty}
 use Rattle.logic_terms.specs.Interpretation.{Interpretation, element_of, elements_of, pairs_of, relates, Relates}
 use Rattle.logic_terms.specs.Meaning.{some_below, each_below, implies, is_in, is_in_each, is_in_some, holds, all_hold}
 use Rattle.logic_terms.specs.Reading.{IsIn, IsInEach, IsInSome, Holds, IsModel}
@@ -76,6 +76,29 @@ mutual
   is_in_some-Decides i (also_concept c cs) x =
       Decides-or (is_in i c x) (is_in_some i cs x) (is_in-Decides i c x) (is_in_some-Decides i cs x)
 
+-- pairs lead on where (x, z) is one of them whenever (x, y) and (y, z) are
+leads_on-Decides : (ps : List (ℕ × ℕ))
+    → Decides (list_all (λ p. list_all (λ q. implies (q.0 == p.1) (list_any (λ r. (r.0 == p.0) && (r.1 == q.1)) ps)) ps) ps)
+    ((x y z : ℕ) → Contains ps (x, y) → Contains ps (y, z) → Contains ps (x, z))
+leads_on-Decides ps =
+    Decides-like (list_all (λ p. list_all (λ q. implies (q.0 == p.1) (list_any (λ r. (r.0 == p.0) && (r.1 == q.1)) ps)) ps) ps)
+    (λ all x y z one other. All-contains (λ q. q.0 ≡ y → Contains ps (x, q.1)) ps (y, z) (All-contains Onward ps (x, y) all one) other refl)
+    (λ leads k d lt l e within same. leads (get_or ps k d).0 (get_or ps k d).1 (get_or ps l e).1 (Contains-get_or ps k d lt)
+    (subst (λ y. Contains ps (y, (get_or ps l e).1)) same (Contains-get_or ps l e within)))
+    (Decides-by_and (λ p. list_all (λ q. implies (q.0 == p.1) (list_any (λ r. (r.0 == p.0) && (r.1 == q.1)) ps)) ps) Onward
+    (list_all (λ p. list_all (λ q. implies (q.0 == p.1) (list_any (λ r. (r.0 == p.0) && (r.1 == q.1)) ps)) ps)) onward refl (λ _ _. refl) ps)
+  where
+    Onward : ℕ × ℕ → Type 0
+    Onward p = All (λ q. q.0 ≡ p.1 → Contains ps (p.0, q.1)) ps
+
+    onward : (p : ℕ × ℕ) → Decides (list_all (λ q. implies (q.0 == p.1) (list_any (λ r. (r.0 == p.0) && (r.1 == q.1)) ps)) ps) (Onward p)
+    onward p =
+        Decides-by_and (λ q. implies (q.0 == p.1) (list_any (λ r. (r.0 == p.0) && (r.1 == q.1)) ps)) (λ q. q.0 ≡ p.1 → Contains ps (p.0, q.1))
+        (list_all (λ q. implies (q.0 == p.1) (list_any (λ r. (r.0 == p.0) && (r.1 == q.1)) ps)))
+        (λ q. implies-Decides (q.0 == p.1) (list_any (λ r. (r.0 == p.0) && (r.1 == q.1)) ps) (q.0 ≡ p.1) (Contains ps (p.0, q.1)) (Decides-eqb q.0 p.1)
+        (list_any-Contains_pair ps p.0 q.1))
+        refl (λ _ _. refl) ps
+
 pub holds-Decides : (i : Interpretation) (claim : Claim) → Decides (holds i claim) (Holds i claim)
 holds-Decides i (SubClassOf c d) =
     each_below-Decides i.size (λ x. implies (is_in i c x) (is_in i d x)) (λ x. IsIn i c x → IsIn i d x)
@@ -92,6 +115,7 @@ holds-Decides i (NegativePropertyAssertion r from to) =
 holds-Decides i (SameIndividual one other) = Decides-eqb (element_of i one) (element_of i other)
 holds-Decides i (DifferentIndividuals one other) =
     Decides-not (element_of i one == element_of i other) (Decides-eqb (element_of i one) (element_of i other))
+holds-Decides i (TransitiveProperty word) = leads_on-Decides (pairs_of i word)
 
 pub all_hold-Decides : (i : Interpretation) (claims : List Claim) → Decides (all_hold i claims) (IsModel i claims)
 all_hold-Decides i claims =

@@ -34,3 +34,4 @@ pub data Claim : Type 0 where
   NegativePropertyAssertion : Role → WordId → WordId → Claim
   SameIndividual : WordId → WordId → Claim
   DifferentIndividuals : WordId → WordId → Claim
+  TransitiveProperty : WordId → Claim

@@ -16,6 +16,7 @@ abbrev pub theory_of : Knowledge → Theory
 theory_of k = record {
   names = k.names.items;
   hierarchy = k.hierarchy.items;
+  transitive = k.transitive.items;
   assertions = stated k.assertions.items;
   edges = k.edges.items;
   differences = k.differences.items;

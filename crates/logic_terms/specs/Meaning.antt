@@ -2,8 +2,8 @@
 -- After OWL 2, Direct Semantics, sections 2.2 and 2.3.
 use Rattle.std.specs.Prelude.{ℕ, zero, suc, ◌==◌, ◌&&◌, ◌||◌, Bool, true, false, not, List}
 use Rattle.std.specs.List.{list_all}
-use Rattle.logic_terms.specs.Concept.{Concept, Concepts, Everything, Atomic, ComplementOf, IntersectionOf, UnionOf, SomeValuesFrom, AllValuesFrom, HasValue, no_concept, also_concept, Claim, SubClassOf, SubPropertyOf, ClassAssertion, PropertyAssertion, NegativePropertyAssertion, SameIndividual, DifferentIndividuals}
-use Rattle.logic_terms.specs.Interpretation.{Interpretation, element_of, has_element, relates}
+use Rattle.logic_terms.specs.Concept.{Concept, Concepts, Everything, Atomic, ComplementOf, IntersectionOf, UnionOf, SomeValuesFrom, AllValuesFrom, HasValue, no_concept, also_concept, Claim, SubClassOf, SubPropertyOf, ClassAssertion, PropertyAssertion, NegativePropertyAssertion, SameIndividual, DifferentIndividuals, TransitiveProperty}
+use Rattle.logic_terms.specs.Interpretation.{Interpretation, element_of, pairs_of, has_element, has_pair, relates}
 
 -- whether some number below a bound passes a test, and whether each does
 abbrev pub some_below : ℕ → (ℕ → Bool) → Bool
@@ -46,6 +46,8 @@ holds i (PropertyAssertion r from to) = relates i r (element_of i from) (element
 holds i (NegativePropertyAssertion r from to) = not (relates i r (element_of i from) (element_of i to))
 holds i (SameIndividual one other) = element_of i one == element_of i other
 holds i (DifferentIndividuals one other) = not (element_of i one == element_of i other)
+holds i (TransitiveProperty word) =
+    list_all (λ p. list_all (λ q. implies (q.0 == p.1) (has_pair i word p.0 q.1)) (pairs_of i word)) (pairs_of i word)
 
 -- whether every axiom is true
 abbrev pub all_hold : Interpretation → List Claim → Bool

@@ -1,6 +1,6 @@
 -- The same meanings as facts, word for word as the standards state them.
 use Rattle.std.specs.Prelude.{ℕ, ◌≡◌, ◌≢◌, ◌<◌, ◌⊎◌, List, All, Contains}
-use Rattle.logic_terms.specs.Concept.{Concept, Concepts, Everything, Atomic, ComplementOf, IntersectionOf, UnionOf, SomeValuesFrom, AllValuesFrom, HasValue, no_concept, also_concept, Claim, SubClassOf, SubPropertyOf, ClassAssertion, PropertyAssertion, NegativePropertyAssertion, SameIndividual, DifferentIndividuals}
+use Rattle.logic_terms.specs.Concept.{Concept, Concepts, Everything, Atomic, ComplementOf, IntersectionOf, UnionOf, SomeValuesFrom, AllValuesFrom, HasValue, no_concept, also_concept, Claim, SubClassOf, SubPropertyOf, ClassAssertion, PropertyAssertion, NegativePropertyAssertion, SameIndividual, DifferentIndividuals, TransitiveProperty}
 use Rattle.logic_terms.specs.Interpretation.{Interpretation, element_of, elements_of, pairs_of, Relates}
 use Rattle.logic_terms.specs.Structure.{Condition, Conditions, Structure, IsA, AreRelated, AreSame, Negation, Implication, Disjunction, no_condition, also_condition, structure}
 use Rattle.logic_terms.specs.Truth.{thing_in}
@@ -34,6 +34,8 @@ Holds i (PropertyAssertion r from to) = Relates i r (element_of i from) (element
 Holds i (NegativePropertyAssertion r from to) = ¬ Relates i r (element_of i from) (element_of i to)
 Holds i (SameIndividual one other) = element_of i one ≡ element_of i other
 Holds i (DifferentIndividuals one other) = element_of i one ≢ element_of i other
+Holds i (TransitiveProperty word) =
+    (x y z : ℕ) → Contains (pairs_of i word) (x, y) → Contains (pairs_of i word) (y, z) → Contains (pairs_of i word) (x, z)
 
 -- an interpretation is a model of axioms
 abbrev pub IsModel : Interpretation → List Claim → Type 0

@@ -4,9 +4,9 @@ use Rattle.logic_terms.specs.declared.expressions.Class.{Class}
 use Rattle.logic_terms.specs.declared.expressions.Class.TheOpen.{Class-F, Classes-F, Thing, Named, Not, And, Or, Some, All, Value}
 use Rattle.logic_terms.specs.declared.expressions.Class.TheFolds.{fold-Class}
 use Rattle.logic_terms.specs.declared.expressions.Classes.{Classes}
-use Rattle.logic_terms.specs.Concept.{Concept, Concepts, Everything, Atomic, ComplementOf, IntersectionOf, UnionOf, SomeValuesFrom, AllValuesFrom, HasValue, concepts_from, Claim, SubClassOf, SubPropertyOf, ClassAssertion, PropertyAssertion, NegativePropertyAssertion, SameIndividual, DifferentIndividuals}
+use Rattle.logic_terms.specs.Concept.{Concept, Concepts, Everything, Atomic, ComplementOf, IntersectionOf, UnionOf, SomeValuesFrom, AllValuesFrom, HasValue, concepts_from, Claim, SubClassOf, SubPropertyOf, ClassAssertion, PropertyAssertion, NegativePropertyAssertion, SameIndividual, DifferentIndividuals, TransitiveProperty}
 use Rattle.logic_terms.specs.declared.statements.Axiom.{Axiom}
-use Rattle.logic_terms.specs.declared.statements.Axiom.TheVariants.{SubClass, SubRole, Member, Related, NotRelated, Equal, Differ}
+use Rattle.logic_terms.specs.declared.statements.Axiom.TheVariants.{SubClass, SubRole, Member, Related, NotRelated, Equal, Differ, Transitive}
 use Rattle.logic_terms.specs.declared.statements.Axioms.{Axioms}
 use Rattle.logic_terms.specs.Structure.{Condition, Conditions, Structure, IsA, AreRelated, AreSame, Negation, Implication, Disjunction, structure, conditions_from}
 use Rattle.logic_terms.specs.declared.structures.Cond.{Cond}
@@ -46,6 +46,7 @@ claim_of (Related role from to) = PropertyAssertion role from to
 claim_of (NotRelated role from to) = NegativePropertyAssertion role from to
 claim_of (Equal one other) = SameIndividual one other
 claim_of (Differ one other) = DifferentIndividuals one other
+claim_of (Transitive word) = TransitiveProperty word
 
 -- the claims of a list of axioms, in order
 abbrev pub claims_of : Axioms → List Claim

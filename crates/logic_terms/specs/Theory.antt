@@ -4,7 +4,7 @@ use Rattle.std.specs.List.{list_any, list_all}
 use Rattle.std.specs.Map.{lookup}
 use Rattle.wiki_base.specs.declared.numbers.WordId.{WordId}
 use Rattle.logic_terms.specs.declared.expressions.Role.{Role}
-use Rattle.logic_terms.specs.Concept.{Concept, Concepts, Everything, Atomic, ComplementOf, IntersectionOf, UnionOf, SomeValuesFrom, AllValuesFrom, HasValue, no_concept, also_concept, SubClassOf, SubPropertyOf, ClassAssertion, PropertyAssertion, SameIndividual, DifferentIndividuals}
+use Rattle.logic_terms.specs.Concept.{Concept, Concepts, Everything, Atomic, ComplementOf, IntersectionOf, UnionOf, SomeValuesFrom, AllValuesFrom, HasValue, no_concept, also_concept, SubClassOf, SubPropertyOf, ClassAssertion, PropertyAssertion, SameIndividual, DifferentIndividuals, TransitiveProperty}
 use Rattle.logic_terms.specs.Interpretation.{Interpretation, is_word, words_rise}
 use Rattle.logic_terms.specs.Meaning.{holds}
 use Rattle.logic_terms.specs.Reading.{Holds}
@@ -16,6 +16,8 @@ pub record Theory : Type 0 where
   pub names : List (WordId × WordId)
   -- pairs of different roles, the one below first
   pub hierarchy : List (Role × Role)
+  -- the relation words that are transitive
+  pub transitive : List WordId
   -- the class that a name is in
   pub assertions : List (WordId × Concept)
   -- two names that are a pair of a role
@@ -35,12 +37,17 @@ representative k name = lookup (is_word name) k.names
 abbrev pub is_below : Theory → Role → Role → Bool
 is_below k r s = same_role r s || list_any (λ p. same_role p.0 r && same_role p.1 s) k.hierarchy
 
+-- whether a role is transitive: its word is
+abbrev pub is_transitive : Theory → Role → Bool
+is_transitive k r = list_any (is_word r.id) k.transitive
+
 -- an interpretation is a model of the knowledge: names have the elements of their representatives, the pairs of the
--- hierarchy are inclusions, assertions, edges and differences hold, each unfolding is an inclusion, and each general
--- class has all elements
+-- hierarchy are inclusions, the relations of the transitive words are transitive, assertions, edges and differences hold,
+-- each unfolding is an inclusion, and each general class has all elements
 pub record IsModelOf (i : Interpretation) (k : Theory) : Type 0 where
   pub names : All (λ e. Holds i (SameIndividual e.0 e.1)) k.names
   pub hierarchy : All (λ p. Holds i (SubPropertyOf p.0 p.1)) k.hierarchy
+  pub transitive : All (λ w. Holds i (TransitiveProperty w)) k.transitive
   pub assertions : All (λ e. Holds i (ClassAssertion e.1 e.0)) k.assertions
   pub edges : All (λ e. Holds i (PropertyAssertion e.0 e.1 e.2)) k.edges
   pub differences : All (λ d. Holds i (DifferentIndividuals d.0 d.1)) k.differences
@@ -52,11 +59,12 @@ abbrev pub is_model_of : Interpretation → Theory → Bool
 is_model_of i k =
     list_all (λ e. holds i (SameIndividual e.0 e.1)) k.names
     && (list_all (λ p. holds i (SubPropertyOf p.0 p.1)) k.hierarchy
+    && (list_all (λ w. holds i (TransitiveProperty w)) k.transitive
     && (list_all (λ e. holds i (ClassAssertion e.1 e.0)) k.assertions
     && (list_all (λ e. holds i (PropertyAssertion e.0 e.1 e.2)) k.edges
     && (list_all (λ d. holds i (DifferentIndividuals d.0 d.1)) k.differences
     && (list_all (λ e. holds i (SubClassOf (Atomic e.0) e.1)) k.unfoldings
-    && list_all (λ c. holds i (SubClassOf Everything c)) k.general)))))
+    && list_all (λ c. holds i (SubClassOf Everything c)) k.general))))))
 
 -- whether a name is one of the given names
 abbrev pub is_given : Theory → WordId → Bool

@@ -4,7 +4,7 @@ ghost use Rattle.std.specs.List.{list_any};
 ghost use Rattle.logic_terms.specs.Shown.{concept_of, concepts_of};
 ghost use Rattle.logic_terms.specs.Known.{theory_of, stated};
 ghost use Rattle.logic_terms.specs.Same.{same_role};
-ghost use Rattle.logic_terms.specs.Theory.{representative, is_below};
+ghost use Rattle.logic_terms.specs.Theory.{representative, is_below, is_transitive};
 
 use crate::expressions::{Class, Classes, Role};
 use std::alloc::Global;
@@ -15,6 +15,7 @@ use wiki_base::{Memory, WordId};
 pub struct Knowledge {
     names: Vec<(WordId, WordId)>,
     hierarchy: Vec<(Role, Role)>,
+    transitive: Vec<WordId>,
     assertions: Vec<(WordId, Class)>,
     edges: Vec<(Role, WordId, WordId)>,
     differences: Vec<(WordId, WordId)>,
@@ -27,6 +28,7 @@ impl Knowledge {
     pub fn new(
         names: Vec<(WordId, WordId)>,
         hierarchy: Vec<(Role, Role)>,
+        transitive: Vec<WordId>,
         assertions: Vec<(WordId, Class)>,
         edges: Vec<(Role, WordId, WordId)>,
         differences: Vec<(WordId, WordId)>,
@@ -35,6 +37,7 @@ impl Knowledge {
     ) -> Self
         ensures names { (theory_of result).names ≡ names.items }
         ensures hierarchy { (theory_of result).hierarchy ≡ hierarchy.items }
+        ensures transitive { (theory_of result).transitive ≡ transitive.items }
         ensures assertions { (theory_of result).assertions ≡ stated assertions.items }
         ensures edges { (theory_of result).edges ≡ edges.items }
         ensures differences { (theory_of result).differences ≡ differences.items }
@@ -44,6 +47,7 @@ impl Knowledge {
         Knowledge {
             names,
             hierarchy,
+            transitive,
             assertions,
             edges,
             differences,
@@ -64,6 +68,13 @@ impl Knowledge {
         ensures { result.now ≡ (theory_of self.now).hierarchy }
     {
         self.hierarchy.as_slice()
+    }
+
+    /// The relation words that are transitive.
+    pub fn transitive(&self) -> &[WordId]
+        ensures { result.now ≡ (theory_of self.now).transitive }
+    {
+        self.transitive.as_slice()
     }
 
     /// Names with the classes that they are in.
@@ -128,6 +139,13 @@ impl Knowledge {
             .any(|pair| pair.0.is_same(below) && pair.1.is_same(above))
     }
 
+    /// Whether a role is transitive: its word is. It takes no memory.
+    pub fn is_transitive(&self, role: Role) -> bool
+        ensures { result ≡ is_transitive (theory_of self.now) role }
+    {
+        self.transitive.iter().any(|word| role.id.0 == word.0)
+    }
+
     /// Equal knowledge in memory of its own.
     pub fn copy(&self, alloc: Global) -> Result<Knowledge, Memory>
         ensures { IfOk result (λ copied. theory_of copied ≡ theory_of self.now) }
@@ -135,6 +153,7 @@ impl Knowledge {
         Ok(Knowledge {
             names: Vec::from_slice(alloc, self.names.as_slice())?,
             hierarchy: Vec::from_slice(alloc, self.hierarchy.as_slice())?,
+            transitive: Vec::from_slice(alloc, self.transitive.as_slice())?,
             assertions: copied(alloc, self.assertions.as_slice())?,
             edges: Vec::from_slice(alloc, self.edges.as_slice())?,
             differences: Vec::from_slice(alloc, self.differences.as_slice())?,

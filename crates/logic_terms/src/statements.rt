@@ -23,6 +23,8 @@ pub enum Axiom {
     Equal(WordId, WordId),
     /// The two names have different elements.
     Differ(WordId, WordId),
+    /// The relation word leads on: where it relates one to another and that to a third, it relates the one to the third.
+    Transitive(WordId),
 }
 
 impl Axiom {
@@ -41,6 +43,7 @@ impl Axiom {
             Axiom::NotRelated(role, from, to) => Ok(Axiom::NotRelated(*role, *from, *to)),
             Axiom::Equal(one, other) => Ok(Axiom::Equal(*one, *other)),
             Axiom::Differ(one, other) => Ok(Axiom::Differ(*one, *other)),
+            Axiom::Transitive(word) => Ok(Axiom::Transitive(*word)),
         }
     }
 }

@@ -223,6 +223,53 @@ fn a_cycle_is_told_from_what_is_shared(rt: HostRuntime) -> Result<(), Fail> {
     Ok(())
 }
 
+// Two relations on the left with three referents, and one on the right.
+fn chain(alloc: Global, first: Cond, second: Cond, last: Cond) -> Result<Drs, Fail> {
+    let left = drs(vec![in alloc; 1, 2, 3]?, vec![in alloc; first, second]?);
+    let right = drs(Vec::new(alloc), vec![in alloc; last]?);
+    Ok(drs(Vec::new(alloc), vec![in alloc; Cond::Implies(left, right)]?))
+}
+
+#[test]
+fn what_leads_on_is_transitive(rt: HostRuntime) -> Result<(), Fail> {
+    let alloc = rt.alloc();
+    let statement = chain(
+        alloc,
+        relation(SEE, 1, 2),
+        relation(SEE, 2, 3),
+        relation(SEE, 1, 3),
+    )?;
+    assert_eq!(rt;
+        printed(alloc, &statement)?.as_str(),
+        "TransitiveObjectProperty(:see);"
+    );
+    let turned = chain(
+        alloc,
+        relation(SEE, 1, 2),
+        relation(SEE, 3, 1),
+        relation(SEE, 3, 2),
+    )?;
+    assert_eq!(rt;
+        printed(alloc, &turned)?.as_str(),
+        "TransitiveObjectProperty(:see);"
+    );
+    let back = chain(
+        alloc,
+        relation(SEE, 1, 2),
+        relation(SEE, 2, 3),
+        relation(SEE, 3, 1),
+    )?;
+    assert_eq!(rt; printed(alloc, &back)?.as_str(), "shared");
+    let other = chain(
+        alloc,
+        relation(SEE, 1, 2),
+        relation(OWN, 2, 3),
+        relation(SEE, 1, 3),
+    )?;
+    assert_eq!(rt; printed(alloc, &other)?.as_str(), "shared");
+    Ok(())
+}
+
 #[test]
 fn a_man_owns_a_dog_without_a_root(rt: HostRuntime) -> Result<(), Fail> {
     let alloc = rt.alloc();

@@ -1,10 +1,13 @@
-// An interpretation that can grow.
+// An interpretation, and what it gets more of.
 use logic_terms::{Class, Classes, Role};
 use owl_eval::Interp;
 use std::alloc::Global;
 use std::collections::{BTreeMap, BTreeSet};
 use std::mem;
 use wiki_base::{Memory, WordId};
+
+// How many pairs may be looked at to make relation words transitive.
+const MOST_PAIRS: u64 = 2_000_000;
 
 // Where pairs begin: a relation word, whether its pairs are read backwards, and an element.
 #[derive(Clone, Copy, Debug, PartialEq, Eq, PartialOrd, Ord)]
@@ -14,66 +17,69 @@ struct Origin {
     element: u64,
 }
 
-#[derive(Drop)]
-pub(crate) struct Draft {
-    alloc: Global,
-    size: u64,
-    // The element of each name.
-    names: BTreeMap<u32, u64>,
-    // Class words with their elements.
-    members: BTreeSet<(u32, u64)>,
-    // The elements at the other end of pairs.
-    ends: BTreeMap<Origin, Vec<u64>>,
-    // The words that got an element or a pair.
-    grown: Vec<u32>,
+// A pair that a relation word got.
+#[derive(Clone, Copy, Debug, PartialEq, Eq)]
+pub(crate) struct Pair {
+    pub(crate) word: u32,
+    pub(crate) from: u64,
+    pub(crate) to: u64,
+    // Whether steps by other pairs of the word lead from the one element to the other.
+    pub(crate) is_led: bool,
 }
 
-impl Draft {
-    // What an interpretation has, so far.
-    pub(crate) fn new(alloc: Global, interp: &Interp) -> Result<Draft, Memory> {
-        let mut draft = Draft {
+#[derive(Drop)]
+pub(crate) struct Draft<'a> {
+    alloc: Global,
+    interp: &'a Interp,
+    // Class words with the elements that they got.
+    members: BTreeSet<(u32, u64)>,
+    // Relation words with the pairs that they got.
+    pairs: BTreeSet<(u32, u64, u64)>,
+    // The elements at the other end of these.
+    ends: BTreeMap<Origin, Vec<u64>>,
+    // The words that got an element or a pair, and the pairs, since they were last taken.
+    grown: BTreeSet<u32>,
+    fresh: Vec<Pair>,
+    // How many pairs may still be looked at.
+    left: u64,
+}
+
+impl<'a> Draft<'a> {
+    // The interpretation as it is.
+    pub(crate) fn new(alloc: Global, interp: &'a Interp) -> Draft<'a> {
+        Draft {
             alloc,
-            size: interp.size(),
-            names: BTreeMap::new(alloc),
+            interp,
             members: BTreeSet::new(alloc),
+            pairs: BTreeSet::new(alloc),
             ends: BTreeMap::new(alloc),
-            grown: Vec::new(alloc),
-        };
-        for entry in interp.names() {
-            let _ = draft.names.insert(entry.0.0, entry.1)?;
+            grown: BTreeSet::new(alloc),
+            fresh: Vec::new(alloc),
+            left: MOST_PAIRS,
         }
-        for place in 0..interp.class_count() {
-            let (word, elements) = interp.class_at(place);
-            for element in elements {
-                let _ = draft.members.insert((word.0, *element))?;
-            }
-        }
-        for place in 0..interp.relation_count() {
-            let (word, pairs) = interp.relation_at(place);
-            for pair in pairs {
-                draft.link(word.0, pair.0, pair.1)?;
-            }
-        }
-        draft.grown.clear();
-        Ok(draft)
     }
 
     pub(crate) fn size(&self) -> u64 {
-        self.size
+        self.interp.size()
     }
 
     // The words that got an element or a pair since they were last taken.
-    pub(crate) fn take_grown(&mut self) -> Vec<u32> {
-        mem::replace(&mut self.grown, Vec::new(self.alloc))
+    pub(crate) fn take_grown(&mut self) -> BTreeSet<u32> {
+        mem::replace(&mut self.grown, BTreeSet::new(self.alloc))
+    }
+
+    // A pair that wasn't taken yet.
+    pub(crate) fn take_fresh(&mut self) -> Option<Pair> {
+        self.fresh.pop()
     }
 
     // The element of a name; 0 where it has none.
     pub(crate) fn element(&self, name: WordId) -> u64 {
-        self.names.get(&name.0).copied().unwrap_or(0)
+        self.interp.element(name)
     }
 
-    // The elements to which an element is related by a role.
-    fn successors(&self, role: Role, element: u64) -> &[u64] {
+    // The elements to which an element got related by a role.
+    fn new_ends(&self, role: Role, element: u64) -> &[u64] {
         let origin = Origin {
             word: role.id.0,
             inverted: role.inverted,
@@ -85,8 +91,29 @@ impl Draft {
         }
     }
 
-    pub(crate) fn relates(&self, role: Role, from: u64, to: u64) -> bool {
-        self.successors(role, from).contains(&to)
+    // All elements to which an element is related by a role.
+    fn ends(&self, role: Role, element: u64) -> Result<Vec<u64>, Memory> {
+        let mut ends = Vec::from_slice(self.alloc, self.new_ends(role, element))?;
+        for pair in self.interp.successors(role, element) {
+            ends.push(pair.1)?;
+        }
+        Ok(ends)
+    }
+
+    fn has_pair(&self, word: u32, from: u64, to: u64) -> bool {
+        self.pairs.contains(&(word, from, to)) || self.interp.has_pair(WordId(word), from, to)
+    }
+
+    fn relates(&self, role: Role, from: u64, to: u64) -> bool {
+        if role.inverted {
+            self.has_pair(role.id.0, to, from)
+        } else {
+            self.has_pair(role.id.0, from, to)
+        }
+    }
+
+    fn has_element(&self, word: u32, element: u64) -> bool {
+        self.members.contains(&(word, element)) || self.interp.has_element(WordId(word), element)
     }
 
     // Whether an element is in a class.
@@ -94,12 +121,18 @@ impl Draft {
     pub(crate) fn has(&self, class: &Class, element: u64) -> bool {
         match class {
             Class::Thing => true,
-            Class::Named(word) => self.members.contains(&(word.0, element)),
+            Class::Named(word) => self.has_element(word.0, element),
             Class::Not(inner) => !self.has(inner, element),
             Class::And(members) => self.has_each(members, element),
             Class::Or(members) => self.has_some(members, element),
-            Class::Some(role, inner) => self.has_end(inner, self.successors(*role, element)),
-            Class::All(role, inner) => self.has_ends(inner, self.successors(*role, element)),
+            Class::Some(role, inner) => {
+                self.has_end(inner, self.interp.successors(*role, element))
+                    || self.has_new_end(inner, self.new_ends(*role, element))
+            }
+            Class::All(role, inner) => {
+                self.has_ends(inner, self.interp.successors(*role, element))
+                    && self.has_new_ends(inner, self.new_ends(*role, element))
+            }
             Class::Value(role, name) => self.relates(*role, element, self.element(*name)),
         }
     }
@@ -124,9 +157,20 @@ impl Draft {
         false
     }
 
+    // Whether one of these pairs ends in a class.
+    #[cycle(reading)]
+    fn has_end(&self, class: &Class, pairs: &[(u64, u64)]) -> bool {
+        for pair in pairs {
+            if self.has(class, pair.1) {
+                return true;
+            }
+        }
+        false
+    }
+
     // Whether one of these elements is in a class.
     #[cycle(reading)]
-    fn has_end(&self, class: &Class, elements: &[u64]) -> bool {
+    fn has_new_end(&self, class: &Class, elements: &[u64]) -> bool {
         for element in elements {
             if self.has(class, *element) {
                 return true;
@@ -135,9 +179,20 @@ impl Draft {
         false
     }
 
+    // Whether each of these pairs ends in a class.
+    #[cycle(reading)]
+    fn has_ends(&self, class: &Class, pairs: &[(u64, u64)]) -> bool {
+        for pair in pairs {
+            if !self.has(class, pair.1) {
+                return false;
+            }
+        }
+        true
+    }
+
     // Whether each of these elements is in a class.
     #[cycle(reading)]
-    fn has_ends(&self, class: &Class, elements: &[u64]) -> bool {
+    fn has_new_ends(&self, class: &Class, elements: &[u64]) -> bool {
         for element in elements {
             if !self.has(class, *element) {
                 return false;
@@ -182,7 +237,7 @@ impl Draft {
     // Puts the elements to which an element is related by a role into a class.
     #[cycle(making)]
     fn put_ends(&mut self, role: Role, class: &Class, element: u64) -> Result<bool, Memory> {
-        let ends = Vec::from_slice(self.alloc, self.successors(role, element))?;
+        let ends = self.ends(role, element)?;
         for end in &ends {
             if !self.put(class, *end)? {
                 return Ok(false);
@@ -193,47 +248,109 @@ impl Draft {
 
     // Gives a class word an element.
     fn join(&mut self, word: u32, element: u64) -> Result<(), Memory> {
-        if self.members.insert((word, element))? {
-            self.grown.push(word)?;
+        if self.has_element(word, element) {
+            return Ok(());
         }
+        let _ = self.members.insert((word, element))?;
+        let _ = self.grown.insert(word)?;
         Ok(())
     }
 
     // Relates two elements by a role.
     pub(crate) fn relate(&mut self, role: Role, from: u64, to: u64) -> Result<(), Memory> {
-        if self.relates(role, from, to) {
-            return Ok(());
-        }
-        if role.inverted {
-            self.link(role.id.0, to, from)
+        let (from, to) = if role.inverted {
+            (to, from)
         } else {
-            self.link(role.id.0, from, to)
-        }
+            (from, to)
+        };
+        self.link(Pair {
+            word: role.id.0,
+            from,
+            to,
+            is_led: false,
+        })
     }
 
     // Relates the elements of each pair of one role by another.
     pub(crate) fn include(&mut self, below: Role, above: Role) -> Result<(), Memory> {
-        for from in 0..self.size {
-            let ends = Vec::from_slice(self.alloc, self.successors(below, from))?;
-            for to in &ends {
-                self.relate(above, from, *to)?;
-            }
+        let pairs = self.pairs_of(below)?;
+        for pair in &pairs {
+            self.relate(above, pair.0, pair.1)?;
         }
         Ok(())
     }
 
-    // Gives a relation word a pair that it lacks.
-    fn link(&mut self, word: u32, from: u64, to: u64) -> Result<(), Memory> {
-        self.lead(word, false, from, to)?;
-        self.lead(word, true, to, from)?;
-        self.grown.push(word)?;
+    // Makes a relation word transitive, if that isn't too much. Answers whether it is not.
+    pub(crate) fn close(&mut self, word: WordId) -> Result<bool, Memory> {
+        let pairs = self.pairs_of(straight(word.0))?;
+        for pair in &pairs {
+            if !self.lead(word.0, pair.0, pair.1)? {
+                return Ok(false);
+            }
+        }
+        Ok(true)
+    }
+
+    // All pairs of a role.
+    fn pairs_of(&self, role: Role) -> Result<Vec<(u64, u64)>, Memory> {
+        let mut pairs = Vec::new(self.alloc);
+        for from in 0..self.size() {
+            let ends = self.ends(role, from)?;
+            for to in &ends {
+                pairs.push((from, *to))?;
+            }
+        }
+        Ok(pairs)
+    }
+
+    // Adds the pairs that a pair of a transitive relation word leads to by steps, if these aren't too many. Answers whether they
+    // are not.
+    pub(crate) fn lead(&mut self, word: u32, from: u64, to: u64) -> Result<bool, Memory> {
+        let mut starts = self.ends(straight(word).inverse(), from)?;
+        starts.push(from)?;
+        let mut ends = self.ends(straight(word), to)?;
+        ends.push(to)?;
+        let count = (starts.len() as u64).saturating_mul(ends.len() as u64);
+        if count > self.left {
+            return Ok(false);
+        }
+        self.left = self.left.saturating_sub(count);
+        for start in &starts {
+            for end in &ends {
+                self.link(Pair {
+                    word,
+                    from: *start,
+                    to: *end,
+                    is_led: true,
+                })?;
+            }
+        }
+        Ok(true)
+    }
+
+    // Gives a relation word a pair.
+    fn link(&mut self, pair: Pair) -> Result<(), Memory> {
+        let Pair {
+            word,
+            from,
+            to,
+            is_led: _,
+        } = pair;
+        if self.has_pair(word, from, to) {
+            return Ok(());
+        }
+        let _ = self.pairs.insert((word, from, to))?;
+        self.note_end(straight(word), from, to)?;
+        self.note_end(straight(word).inverse(), to, from)?;
+        let _ = self.grown.insert(word)?;
+        self.fresh.push(pair)?;
         Ok(())
     }
 
-    fn lead(&mut self, word: u32, inverted: bool, element: u64, end: u64) -> Result<(), Memory> {
+    fn note_end(&mut self, role: Role, element: u64, end: u64) -> Result<(), Memory> {
         let origin = Origin {
-            word,
-            inverted,
+            word: role.id.0,
+            inverted: role.inverted,
             element,
         };
         if let Some(ends) = self.ends.get_mut(&origin) {
@@ -246,67 +363,119 @@ impl Draft {
         Ok(())
     }
 
-    // The interpretation.
+    // The interpretation with all that it got.
     pub(crate) fn finished(&self) -> Result<Option<Interp>, Memory> {
-        let names = self.name_elements()?;
+        let size = self.interp.size();
+        let names = Vec::from_slice(self.alloc, self.interp.names())?;
         let classes = self.class_elements()?;
         let relations = self.relation_pairs()?;
         if !Interp::fits(
-            self.size,
+            size,
             names.as_slice(),
             classes.as_slice(),
             relations.as_slice(),
         ) {
             return Ok(None);
         }
-        let interp = Interp::new(self.alloc, self.size, names, classes, relations)?;
+        let interp = Interp::new(self.alloc, size, names, classes, relations)?;
         Ok(Some(interp))
     }
 
-    fn name_elements(&self) -> Result<Vec<(WordId, u64)>, Memory> {
-        let mut made = Vec::new(self.alloc);
-        for (word, element) in self.names.iter() {
-            made.push((WordId(*word), *element))?;
-        }
-        Ok(made)
-    }
-
     fn class_elements(&self) -> Result<Vec<(WordId, Vec<u64>)>, Memory> {
-        let mut made = Vec::new(self.alloc);
-        for member in self.members.iter() {
-            add(self.alloc, &mut made, member.0, member.1)?;
+        let mut lists = BTreeMap::new(self.alloc);
+        for place in 0..self.interp.class_count() {
+            let (word, elements) = self.interp.class_at(place);
+            let _ = lists.insert(word.0, Vec::from_slice(self.alloc, elements)?)?;
         }
-        Ok(made)
+        for member in self.members.iter() {
+            add(self.alloc, &mut lists, member.0, member.1)?;
+        }
+        in_order(self.alloc, lists)
     }
 
+    // The pairs of each relation word, in rising order.
     fn relation_pairs(&self) -> Result<Vec<(WordId, Vec<(u64, u64)>)>, Memory> {
-        let mut made = Vec::new(self.alloc);
-        for (origin, ends) in self.ends.iter() {
-            if !origin.inverted {
-                for end in ends {
-                    add(self.alloc, &mut made, origin.word, (origin.element, *end))?;
-                }
-            }
+        let mut lists = BTreeMap::new(self.alloc);
+        for pair in self.pairs.iter() {
+            add(self.alloc, &mut lists, pair.0, (pair.1, pair.2))?;
         }
-        Ok(made)
+        for place in 0..self.interp.relation_count() {
+            let (word, pairs) = self.interp.relation_at(place);
+            let more = lists.remove(&word.0).unwrap_or(Vec::new(self.alloc));
+            let all = merged(self.alloc, pairs, more.as_slice())?;
+            let _ = lists.insert(word.0, all)?;
+        }
+        in_order(self.alloc, lists)
     }
 }
 
-// Adds an item to the list of a word, which is the last one or comes behind it.
+// Two lists of pairs in rising order as one.
+fn merged(
+    alloc: Global,
+    pairs: &[(u64, u64)],
+    more: &[(u64, u64)],
+) -> Result<Vec<(u64, u64)>, Memory> {
+    let mut made = Vec::new(alloc);
+    let mut next = 0;
+    for pair in pairs {
+        next = push_below(&mut made, more, next, *pair)?;
+        made.push(*pair)?;
+    }
+    for place in next..more.len() {
+        made.push(more[place])?;
+    }
+    Ok(made)
+}
+
+// Adds pairs from a place on that are below one, and answers where the others begin.
+fn push_below(
+    made: &mut Vec<(u64, u64)>,
+    more: &[(u64, u64)],
+    start: usize,
+    bound: (u64, u64),
+) -> Result<usize, Memory> {
+    for place in start..more.len() {
+        if more[place] >= bound {
+            return Ok(place);
+        }
+        made.push(more[place])?;
+    }
+    Ok(more.len())
+}
+
+// The role of a relation word that isn't inverted.
+fn straight(word: u32) -> Role {
+    Role {
+        id: WordId(word),
+        inverted: false,
+    }
+}
+
+// Adds an item to the list of a word.
 fn add<T: Drop>(
     alloc: Global,
-    made: &mut Vec<(WordId, Vec<T>)>,
+    lists: &mut BTreeMap<u32, Vec<T>>,
     word: u32,
     item: T,
 ) -> Result<(), Memory> {
-    if let Some(last) = made.last_mut() {
-        if last.0.0 == word {
-            last.1.push(item)?;
-            return Ok(());
-        }
+    if let Some(items) = lists.get_mut(&word) {
+        items.push(item)?;
+        return Ok(());
     }
     let mut items = Vec::new(alloc);
     items.push(item)?;
-    made.push((WordId(word), items))?;
+    let _ = lists.insert(word, items)?;
     Ok(())
+}
+
+// The lists of words in order.
+fn in_order<T: Drop>(
+    alloc: Global,
+    lists: BTreeMap<u32, Vec<T>>,
+) -> Result<Vec<(WordId, Vec<T>)>, Memory> {
+    let mut made = Vec::new(alloc);
+    for (word, items) in lists {
+        made.push((WordId(word), items))?;
+    }
+    Ok(made)
 }

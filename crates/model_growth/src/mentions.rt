@@ -4,11 +4,13 @@ use std::alloc::Global;
 use std::collections::BTreeMap;
 use wiki_base::Memory;
 
-// For each word the places of the axioms that may become false when it gets an element or a pair.
+// For each word the places of the axioms that may become false when it gets an element or a pair, and of these by themselves
+// those that only ask for pairs where a pair is.
 #[derive(Drop)]
 pub(crate) struct Mentions {
     alloc: Global,
     places: BTreeMap<u32, Vec<usize>>,
+    leading: BTreeMap<u32, Vec<usize>>,
 }
 
 impl Mentions {
@@ -16,6 +18,7 @@ impl Mentions {
         let mut mentions = Mentions {
             alloc,
             places: BTreeMap::new(alloc),
+            leading: BTreeMap::new(alloc),
         };
         for place in 0..axioms.len() {
             mentions.note(place, axioms.get(place))?;
@@ -23,12 +26,14 @@ impl Mentions {
         Ok(mentions)
     }
 
-    // The places of the axioms that mention a word.
+    // The places of the axioms that mention a word, but for those that only ask for pairs.
     pub(crate) fn at(&self, word: u32) -> &[usize] {
-        match self.places.get(&word) {
-            Some(places) => places.as_slice(),
-            None => &[],
-        }
+        noted(&self.places, word)
+    }
+
+    // The places of the axioms that ask for pairs where this word has one.
+    pub(crate) fn leading(&self, word: u32) -> &[usize] {
+        noted(&self.leading, word)
     }
 
     fn note(&mut self, place: usize, axiom: &Axiom) -> Result<(), Memory> {
@@ -37,12 +42,13 @@ impl Mentions {
                 self.note_class(place, below)?;
                 self.note_class(place, above)
             }
-            Axiom::SubRole(below, _) => self.note_word(place, below.id.0),
+            Axiom::SubRole(below, _) => self.note_leading(place, below.id.0),
             Axiom::Member(class, _) => self.note_class(place, class),
             Axiom::Related(_, _, _) => Ok(()),
             Axiom::NotRelated(_, _, _) => Ok(()),
             Axiom::Equal(_, _) => Ok(()),
             Axiom::Differ(_, _) => Ok(()),
+            Axiom::Transitive(word) => self.note_leading(place, word.0),
         }
     }
 
@@ -75,13 +81,35 @@ impl Mentions {
     }
 
     fn note_word(&mut self, place: usize, word: u32) -> Result<(), Memory> {
-        if let Some(places) = self.places.get_mut(&word) {
-            places.push(place)?;
-            return Ok(());
-        }
-        let mut places = Vec::new(self.alloc);
-        places.push(place)?;
-        let _ = self.places.insert(word, places)?;
-        Ok(())
+        note(self.alloc, &mut self.places, place, word)
     }
+
+    fn note_leading(&mut self, place: usize, word: u32) -> Result<(), Memory> {
+        note(self.alloc, &mut self.leading, place, word)
+    }
+}
+
+// The places of a word.
+fn noted(places: &BTreeMap<u32, Vec<usize>>, word: u32) -> &[usize] {
+    match places.get(&word) {
+        Some(found) => found.as_slice(),
+        None => &[],
+    }
+}
+
+// Adds a place to those of a word.
+fn note(
+    alloc: Global,
+    places: &mut BTreeMap<u32, Vec<usize>>,
+    place: usize,
+    word: u32,
+) -> Result<(), Memory> {
+    if let Some(found) = places.get_mut(&word) {
+        found.push(place)?;
+        return Ok(());
+    }
+    let mut made = Vec::new(alloc);
+    made.push(place)?;
+    let _ = places.insert(word, made)?;
+    Ok(())
 }

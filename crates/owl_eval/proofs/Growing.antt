@@ -1,5 +1,5 @@
 -- Lists that grow and shrink, by what each item is mapped to and what is true of each.
-use Rattle.std.proofs.Common.{◌≡◌, ℕ, zero, suc, Bool, true, Result, Ok, Err, OnOk, OnErr, List, [], ◌∷◌, ◌++◌, ◌&&◌, take, drop, map, refl, ap, ◌∙◌}
+use Rattle.std.proofs.Common.{◌≡◌, ℕ, zero, suc, Bool, true, Result, Ok, Err, OnOk, OnErr, List, [], ◌∷◌, ◌++◌, take, drop, map, refl, ap, ◌∙◌}
 use Rattle.std.specs.List.{list_all, insert_slice, remove_range}
 use Rattle.std.proofs.lemmas.Bool.{and_from, and_parts}
 use Rattle.std.proofs.lemmas.List.{map-append}

@@ -3,7 +3,10 @@ pub mod Assignments
 pub mod Filters
 pub mod Growing
 pub mod Halving
+pub mod Leading
 pub mod Lookups
 pub mod Members
 pub mod Runs
+pub mod Spanning
 pub mod Successors
+pub mod Walking

@@ -52,6 +52,7 @@ fn is_true(interp: &Interp, stated: &Axiom) -> bool
         }
         Axiom::Equal(one, other) => interp.element(*one) == interp.element(*other),
         Axiom::Differ(one, other) => interp.element(*one) != interp.element(*other),
+        Axiom::Transitive(word) => interp.is_transitive(*word),
     }
 }
 

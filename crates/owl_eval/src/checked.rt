@@ -54,6 +54,16 @@ impl CheckedModel {
         &self.axioms
     }
 
+    /// An equal model in memory of its own. The axioms are not looked at again.
+    pub fn copy(&self) -> Result<CheckedModel, Memory>
+        ensures interp { IfOk result (λ copied. kept_interp copied ≡ kept_interp self.now) }
+        ensures axioms { IfOk result (λ copied. kept_claims copied ≡ kept_claims self.now) }
+    {
+        let interp = self.interp.copy()?;
+        let axioms = self.axioms.copy()?;
+        Ok(CheckedModel { interp, axioms })
+    }
+
     /// Puts axioms in at a place, if each of them is true in the interpretation, and answers whether they are. Those that are
     /// there already are not looked at. After any answer but true all is as before.
     pub fn insert(&mut self, at: usize, more: Axioms) -> Result<bool, Memory>

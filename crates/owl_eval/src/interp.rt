@@ -1,13 +1,14 @@
 // Interpretations.
-ghost use Rattle.std.specs.Prelude.{◌≡◌, ◌==◌, ℕ, Bool, ◌<◌, ◌&&◌, length, IsTrue, IfOk, Some, slice_get, unwrap_or, nat_lt};
+ghost use Rattle.std.specs.Prelude.{◌≡◌, ◌==◌, ℕ, Bool, [], ◌<◌, ◌&&◌, length, IsTrue, IfOk, Some, slice_get, unwrap_or, nat_lt};
 ghost use Rattle.std.specs.Option.{option_map};
 ghost use Rattle.std.specs.Map.{lookup};
 ghost use Rattle.std.specs.Ordering.{nat_cmp};
 ghost use Rattle.std.specs.List.{list_any, list_all};
+ghost use Rattle.logic_terms.specs.Concept.{TransitiveProperty};
 ghost use Rattle.logic_terms.specs.Interpretation.{is_interpretation, is_word, words_rise, element_of, has_element, has_pair, relates};
-ghost use Rattle.logic_terms.specs.Meaning.{implies, some_below, each_below};
+ghost use Rattle.logic_terms.specs.Meaning.{implies, some_below, each_below, holds};
 ghost use Rattle.owl_eval.specs.Given.{given, lists_in, AreArranged, MeansSame};
-ghost use Rattle.owl_eval.specs.Pairs.{pair_cmp, pairs_along};
+ghost use Rattle.owl_eval.specs.Pairs.{pair_cmp, pairs_along, leads_on};
 
 use crate::extent::Extent;
 use crate::relation::Relation;
@@ -202,8 +203,16 @@ impl Interp {
         }
     }
 
-    // The pairs by which an element has its successors by a role: that element, then the successor.
-    pub(crate) fn successors(&self, role: Role, element: u64) -> &[(u64, u64)]
+    // Whether a relation word is transitive: where it relates one element to another and that to a third, it relates the
+    // one to the third.
+    pub(crate) fn is_transitive(&self, word: WordId) -> bool
+        ensures { result ≡ holds self.now (TransitiveProperty word) }
+    {
+        transitive_in(self.relations.as_slice(), word)
+    }
+
+    /// The pairs by which an element has its successors by a role: that element, then the successor.
+    pub fn successors(&self, role: Role, element: u64) -> &[(u64, u64)]
         ensures some { (test : ℕ → Bool) → list_any (λ p. test p.1) result.now ≡ some_below self.now.size (λ y. relates self.now role element y && test y) }
         ensures each { (test : ℕ → Bool)
             → list_all (λ p. test p.1) result.now ≡ each_below self.now.size (λ y. implies (relates self.now role element y) (test y)) }
@@ -242,6 +251,17 @@ fn relation_in(relations: &[Relation], word: WordId) -> Option<&Relation>
     match relations.binary_search_by_key(&word.0, |relation| relation.word().0) {
         Ok(place) => Some(&relations[place]),
         Err(_) => None,
+    }
+}
+
+// Whether the pairs of a relation word among these lead on; those of a word without any do.
+fn transitive_in(relations: &[Relation], word: WordId) -> bool
+    requires { IsTrue (words_rise relations.now) }
+    ensures { result ≡ leads_on (unwrap_or (lookup (is_word word) relations.now) []) }
+{
+    match relation_in(relations, word) {
+        Some(relation) => relation.is_transitive(),
+        None => true,
     }
 }
 

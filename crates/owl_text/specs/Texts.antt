@@ -3,7 +3,7 @@
 use Rattle.std.specs.Prelude.{ℕ, ◌++◌, List, [], ◌∷◌, Option, codes, unwrap_or, if◌then◌else◌}
 use Rattle.wiki_base.specs.declared.numbers.WordId.{WordId}
 use Rattle.logic_terms.specs.declared.expressions.Role.{Role}
-use Rattle.logic_terms.specs.Concept.{Concept, Concepts, Everything, Atomic, ComplementOf, IntersectionOf, UnionOf, SomeValuesFrom, AllValuesFrom, HasValue, no_concept, also_concept, Claim, SubClassOf, SubPropertyOf, ClassAssertion, PropertyAssertion, NegativePropertyAssertion, SameIndividual, DifferentIndividuals}
+use Rattle.logic_terms.specs.Concept.{Concept, Concepts, Everything, Atomic, ComplementOf, IntersectionOf, UnionOf, SomeValuesFrom, AllValuesFrom, HasValue, no_concept, also_concept, Claim, SubClassOf, SubPropertyOf, ClassAssertion, PropertyAssertion, NegativePropertyAssertion, SameIndividual, DifferentIndividuals, TransitiveProperty}
 
 -- a word: a colon and its canonical form. A word without a form is a colon alone.
 abbrev pub word_text : (WordId → Option (List ℕ)) → WordId → List ℕ
@@ -52,3 +52,4 @@ claim_text form (NegativePropertyAssertion r from to) =
     three_arguments (codes "NegativeObjectPropertyAssertion(") (role_text form r) (word_text form from) (word_text form to)
 claim_text form (SameIndividual one other) = two_arguments (codes "SameIndividual(") (word_text form one) (word_text form other)
 claim_text form (DifferentIndividuals one other) = two_arguments (codes "DifferentIndividuals(") (word_text form one) (word_text form other)
+claim_text form (TransitiveProperty word) = one_argument (codes "TransitiveObjectProperty(") (word_text form word)

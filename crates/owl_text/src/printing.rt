@@ -40,13 +40,13 @@ fn put_role<L: Spelled>(out: &mut Text8, role: Role, lexicon: &L) -> Result<(), 
     ensures { OnOk result (out.new ≡ out.old ++ role_text (L.canonical_form lexicon.now) role) }
 {
     if role.inverted {
-        put_inverse(out, "ObjectInverseOf(", role.id, lexicon)
+        put_about(out, "ObjectInverseOf(", role.id, lexicon)
     } else {
         put_word(out, role.id, lexicon)
     }
 }
 
-fn put_inverse<L: Spelled>(
+fn put_about<L: Spelled>(
     out: &mut Text8,
     name: &str,
     word: WordId,
@@ -186,6 +186,7 @@ fn put_axiom<L: Spelled>(out: &mut Text8, stated: &Axiom, lexicon: &L) -> Result
         ),
         Axiom::Equal(one, other) => put_names(out, "SameIndividual(", *one, *other, lexicon),
         Axiom::Differ(one, other) => put_names(out, "DifferentIndividuals(", *one, *other, lexicon),
+        Axiom::Transitive(word) => put_about(out, "TransitiveObjectProperty(", *word, lexicon),
     }
 }
 

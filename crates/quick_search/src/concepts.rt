@@ -36,6 +36,8 @@ pub(crate) struct Concept {
     pub(crate) opposite: Option<u64>,
     // The node of a value's name.
     pub(crate) named: Option<u64>,
+    // The transitive roles that carry the class along, and what each carries.
+    carried: Vec<(Role, u64)>,
 }
 
 // The classes by their numbers.
@@ -86,6 +88,22 @@ impl Concepts {
         match self.get(number) {
             Some(concept) => concept.parts.len() as u64,
             None => 0,
+        }
+    }
+
+    // How many transitive roles carry a class along.
+    pub(crate) fn carrier_count(&self, number: u64) -> usize {
+        match self.get(number) {
+            Some(concept) => concept.carried.len(),
+            None => 0,
+        }
+    }
+
+    // One of these roles, and the class that it carries.
+    pub(crate) fn carried(&self, number: u64, place: usize) -> Option<(Role, u64)> {
+        match self.get(number) {
+            Some(concept) => concept.carried.get(place).copied(),
+            None => None,
         }
     }
 
@@ -145,6 +163,7 @@ impl Concepts {
             denial: None,
             opposite: None,
             named: None,
+            carried: Vec::new(self.alloc),
         })?;
         self.numbers.insert(form, number)?;
         Ok(number)
@@ -191,8 +210,12 @@ impl Concepts {
         Ok(())
     }
 
-    // Finds the complements of the members of unions, the nodes of values, and the classes that clash.
+    // Finds what is carried along, the complements of the members of unions, the nodes of values, and the classes that clash.
     pub(crate) fn complete(&mut self, k: &Knowledge) -> Result<(), Memory> {
+        let given = self.entries.len() as u64;
+        self.carry_all(k, 0, given)?;
+        let end = self.entries.len() as u64;
+        self.carry_all(k, given, end)?;
         for number in 0..self.entries.len() as u64 {
             match self.form(number) {
                 Form::Or(_) => self.deny_members(number)?,
@@ -209,6 +232,62 @@ impl Concepts {
             }
         }
         Ok(())
+    }
+
+    // Finds what transitive roles carry of the classes with these numbers.
+    fn carry_all(&mut self, k: &Knowledge, first: u64, end: u64) -> Result<(), Memory> {
+        for number in first..end {
+            if let Some(role) = self.role_of_all(number) {
+                for word in k.transitive() {
+                    self.carry(k, number, role, role_of(word.0, false))?;
+                    self.carry(k, number, role, role_of(word.0, true))?;
+                }
+            }
+        }
+        Ok(())
+    }
+
+    // The role of a class that speaks of all successors.
+    fn role_of_all(&self, number: u64) -> Option<Role> {
+        match self.form(number) {
+            Form::All(word, inverted, _) => Some(role_of(word, inverted)),
+            Form::Not(inner) => match self.form(inner) {
+                Form::Value(word, inverted, _) => Some(role_of(word, inverted)),
+                _ => None,
+            },
+            _ => None,
+        }
+    }
+
+    fn carry(
+        &mut self,
+        k: &Knowledge,
+        number: u64,
+        role: Role,
+        carrier: Role,
+    ) -> Result<(), Memory> {
+        if k.is_below(carrier, role) {
+            let along = self.along(number, carrier)?;
+            if let Some(concept) = self.entries.get_mut(number as usize) {
+                concept.carried.push((carrier, along))?;
+            }
+        }
+        Ok(())
+    }
+
+    // The class that speaks of the successors by another role.
+    fn along(&mut self, number: u64, role: Role) -> Result<u64, Memory> {
+        match self.form(number) {
+            Form::All(_, _, part) => self.numbered(Form::All(role.id.0, role.inverted, part)),
+            Form::Not(inner) => match self.form(inner) {
+                Form::Value(_, _, name) => {
+                    let value = self.numbered(Form::Value(role.id.0, role.inverted, name))?;
+                    self.numbered(Form::Not(value))
+                }
+                _ => Ok(number),
+            },
+            _ => Ok(number),
+        }
     }
 
     fn set_named(&mut self, number: u64, named: Option<u64>) {

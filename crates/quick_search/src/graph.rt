@@ -12,10 +12,18 @@ pub(crate) enum Rank {
     And,
     Unfold,
     All,
+    Trans,
     Value,
     Unit,
     Or,
     Some,
+}
+
+impl Rank {
+    // Whether the rule adds classes to a neighbour.
+    pub(crate) fn reaches_out(self) -> bool {
+        self == Rank::All || self == Rank::Trans
+    }
 }
 
 // A rule, a node, and a place in its label: steps go in the order of these.
@@ -226,8 +234,8 @@ impl Graph {
             }
         }
         self.trail.push(Change::Edge)?;
-        self.put_rank(link.from, Rank::All)?;
-        self.put_rank(link.to, Rank::All)
+        self.put_for_neighbours(link.from)?;
+        self.put_for_neighbours(link.to)
     }
 
     pub(crate) fn add_node(&mut self, parent: Option<u64>) -> Result<(), Memory> {
@@ -400,20 +408,39 @@ impl Graph {
                 self.put_at(Rank::Or, node, place)
             }
             Form::Some(_, _, _) => self.put_at(Rank::Some, node, place),
-            Form::All(_, _, _) => self.put_at(Rank::All, node, place),
+            Form::All(_, _, _) => {
+                self.put_at(Rank::All, node, place)?;
+                self.put_carried(node, place, concept)
+            }
             Form::Value(_, _, _) => self.put_at(Rank::Value, node, place),
+            Form::Not(_) => self.put_carried(node, place, concept),
             _ => Ok(()),
         }
+    }
+
+    // Puts in the step for a class that a transitive role carries along.
+    fn put_carried(&mut self, node: u64, place: u64, concept: u64) -> Result<(), Memory> {
+        if self.concepts.carrier_count(concept) > 0 {
+            self.put_at(Rank::Trans, node, place)?;
+        }
+        Ok(())
+    }
+
+    // Puts in the steps at a node that add to neighbours.
+    fn put_for_neighbours(&mut self, node: u64) -> Result<(), Memory> {
+        self.put_rank(node, Rank::All)?;
+        self.put_rank(node, Rank::Trans)
     }
 
     // Puts in the steps by one rule at a node.
     fn put_rank(&mut self, node: u64, rank: Rank) -> Result<(), Memory> {
         for place in 0..self.label_len(node) {
             if let Some(concept) = self.class(node, place) {
-                let fits = match self.concepts.form(concept) {
-                    Form::All(_, _, _) => rank == Rank::All,
-                    Form::Some(_, _, _) => rank == Rank::Some,
-                    Form::Value(_, _, _) => rank == Rank::Value,
+                let fits = match (rank, self.concepts.form(concept)) {
+                    (Rank::All, Form::All(_, _, _)) => true,
+                    (Rank::Some, Form::Some(_, _, _)) => true,
+                    (Rank::Value, Form::Value(_, _, _)) => true,
+                    (Rank::Trans, _) => self.concepts.carrier_count(concept) > 0,
                     _ => false,
                 };
                 if fits {
@@ -486,7 +513,7 @@ impl Graph {
                 } else {
                     link.from
                 };
-                self.put_rank(other, Rank::All)?;
+                self.put_for_neighbours(other)?;
                 self.put_rank(other, Rank::Some)?;
             }
         }

@@ -260,6 +260,7 @@ fn rule_of(rank: Rank) -> Rule {
         Rank::And => Rule::And,
         Rank::Unfold => Rule::Unfold,
         Rank::All => Rule::All,
+        Rank::Trans => Rule::Trans,
         Rank::Value => Rule::Value,
         Rank::Unit => Rule::Unit,
         Rank::Or => Rule::Or,

@@ -28,6 +28,7 @@ impl Graph {
             (Rank::All, Form::All(word, inverted, part)) => {
                 self.least_in_need(k, role_of(word, inverted), node, part)
             }
+            (Rank::Trans, _) => self.least_to_get(k, node, concept),
             (Rank::Value, Form::Value(word, inverted, _)) => {
                 self.value_site(k, role_of(word, inverted), node, concept)
             }
@@ -123,6 +124,19 @@ impl Graph {
                     if is_less && !self.has(other, part) && !self.is_shadowed(other) {
                         least = Some(other);
                     }
+                }
+            }
+        }
+        least
+    }
+
+    // The least neighbour that is not indirectly blocked and lacks what a transitive role carries to it.
+    pub(crate) fn least_to_get(&self, k: &Knowledge, node: u64, concept: u64) -> Option<u64> {
+        let mut least: Option<u64> = None;
+        for place in 0..self.concepts.carrier_count(concept) {
+            if let Some(entry) = self.concepts.carried(concept, place) {
+                if let Some(other) = self.least_in_need(k, entry.0, node, entry.1) {
+                    least = Some(least.unwrap_or(other).min(other));
                 }
             }
         }

@@ -35,7 +35,7 @@ impl Graph {
         let Some(concept) = self.class(node, candidate.place) else {
             return Ok(None);
         };
-        let grown = if candidate.rank == Rank::All {
+        let grown = if candidate.rank.reaches_out() {
             other
         } else {
             node
@@ -46,6 +46,10 @@ impl Graph {
             (Rank::Unfold, _) => self.add_parts(node, concept, maker)?,
             (Rank::All, Form::All(_, _, part)) => {
                 self.add_class(other, part, maker)?;
+                self.put(candidate)?;
+            }
+            (Rank::Trans, _) => {
+                self.add_carried(k, node, concept, other, maker)?;
                 self.put(candidate)?;
             }
             (Rank::Value, Form::Value(word, inverted, _)) => {
@@ -74,6 +78,25 @@ impl Graph {
     fn add_parts(&mut self, node: u64, concept: u64, maker: u64) -> Result<(), Memory> {
         for place in 0..self.concepts.part_count(concept) {
             self.add_part(node, concept, place, maker)?;
+        }
+        Ok(())
+    }
+
+    // Adds what transitive roles carry of a class to a neighbour.
+    fn add_carried(
+        &mut self,
+        k: &Knowledge,
+        node: u64,
+        concept: u64,
+        other: u64,
+        maker: u64,
+    ) -> Result<(), Memory> {
+        for place in 0..self.concepts.carrier_count(concept) {
+            if let Some(entry) = self.concepts.carried(concept, place) {
+                if self.link(k, entry.0, node, other).is_some() {
+                    self.add_class(other, entry.1, maker)?;
+                }
+            }
         }
         Ok(())
     }
@@ -150,11 +173,31 @@ impl Graph {
                         makers.push(self.link_maker(node, place))?;
                     }
                 }
+                (Rank::Trans, _) => self.add_links(k, node, concept, other, &mut makers)?,
                 (Rank::Unit, _) => self.add_deniers(node, concept, &mut makers)?,
                 _ => {}
             }
         }
         Ok(makers)
+    }
+
+    // The steps that made edges by which transitive roles carry a class to a neighbour.
+    fn add_links(
+        &self,
+        k: &Knowledge,
+        node: u64,
+        concept: u64,
+        other: u64,
+        makers: &mut Vec<u64>,
+    ) -> Result<(), Memory> {
+        for place in 0..self.concepts.carrier_count(concept) {
+            if let Some(entry) = self.concepts.carried(concept, place) {
+                if let Some(link) = self.link(k, entry.0, node, other) {
+                    makers.push(self.link_maker(node, link))?;
+                }
+            }
+        }
+        Ok(())
     }
 
     fn link_maker(&self, node: u64, place: usize) -> u64 {

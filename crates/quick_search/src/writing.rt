@@ -144,7 +144,7 @@ fn found_again(
         node,
         place,
     };
-    let wanted = if split.rank == Rank::All {
+    let wanted = if split.rank.reaches_out() {
         moved.now(split.other)
     } else {
         0
@@ -176,9 +176,9 @@ fn led(
     wanted: u64,
 ) -> Result<List<Step>, Memory> {
     let mut early = List::new(graph.alloc);
-    if let Form::All(word, inverted, part) = graph.concepts.form(concept) {
+    if candidate.rank.reaches_out() {
         for _ in 0..graph.edge_count(candidate.node) {
-            match graph.least_in_need(k, role_of(word, inverted), candidate.node, part) {
+            match next_to_get(graph, k, candidate, concept) {
                 Some(other) if other < wanted => {
                     let _ = graph.take(k, candidate, other, 0, 0)?;
                     early.push(step_of(candidate, other))?;
@@ -188,6 +188,17 @@ fn led(
         }
     }
     Ok(early)
+}
+
+// The least neighbour that a step by a class of all successors adds to.
+fn next_to_get(graph: &Graph, k: &Knowledge, candidate: Candidate, concept: u64) -> Option<u64> {
+    match (candidate.rank, graph.concepts.form(concept)) {
+        (Rank::All, Form::All(word, inverted, part)) => {
+            graph.least_in_need(k, role_of(word, inverted), candidate.node, part)
+        }
+        (Rank::Trans, _) => graph.least_to_get(k, candidate.node, concept),
+        _ => None,
+    }
 }
 
 // Takes a choice of a step, if the step is needed.

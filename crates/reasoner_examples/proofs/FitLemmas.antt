@@ -10,7 +10,7 @@ use Rattle.logic_terms.specs.declared.expressions.Class.{Class}
 use Rattle.logic_terms.specs.declared.expressions.Classes.{Classes}
 use Rattle.logic_terms.specs.declared.expressions.Class.TheVariants as class
 use Rattle.logic_terms.specs.Complement.{is_simple, is_normal, is_wide, has_two, each_normal, each_wide}
-use Rattle.logic_terms.specs.Concept.{Concept, Concepts, Everything, Atomic, ComplementOf, IntersectionOf, UnionOf, SomeValuesFrom, AllValuesFrom, HasValue, no_concept, also_concept, concepts_from, Claim, SubClassOf, SubPropertyOf, ClassAssertion, PropertyAssertion, NegativePropertyAssertion, SameIndividual, DifferentIndividuals}
+use Rattle.logic_terms.specs.Concept.{Concept, Concepts, Everything, Atomic, ComplementOf, IntersectionOf, UnionOf, SomeValuesFrom, AllValuesFrom, HasValue, no_concept, also_concept, concepts_from, Claim, SubClassOf, SubPropertyOf, ClassAssertion, PropertyAssertion, NegativePropertyAssertion, SameIndividual, DifferentIndividuals, TransitiveProperty}
 use Rattle.logic_terms.specs.Plain.{is_plain_claim, are_plain}
 use Rattle.logic_terms.specs.Shown.{concept_of, concepts_of}
 use Rattle.logic_terms.proofs.ShownLemmas.{concept_of-And, concept_of-Or}
@@ -120,6 +120,7 @@ module _ (names : List WordId) where
   claim_plain (NegativePropertyAssertion r from to) h = refl
   claim_plain (SameIndividual one other) h = refl
   claim_plain (DifferentIndividuals one other) h = refl
+  claim_plain (TransitiveProperty word) h = refl
 
   pub claim_over : (claim : Claim) → fits names claim ≡ true → list_all (is_among names) (names_in_claim claim) ≡ true
   claim_over (SubClassOf c d) h =
@@ -133,6 +134,7 @@ module _ (names : List WordId) where
   claim_over (NegativePropertyAssertion r from to) h = two from to h
   claim_over (SameIndividual one other) h = two one other h
   claim_over (DifferentIndividuals one other) h = two one other h
+  claim_over (TransitiveProperty word) h = refl
 
 -- fit axioms, one by one
 module _ (names : List WordId) where

@@ -3,7 +3,7 @@ use Rattle.std.specs.Prelude.{◌&&◌, Bool, true, List, length, nat_lt, not}
 use Rattle.std.specs.List.{list_all}
 use Rattle.wiki_base.specs.declared.numbers.WordId.{WordId}
 use Rattle.logic_terms.specs.Complement.{is_simple, has_two}
-use Rattle.logic_terms.specs.Concept.{Concept, Concepts, Everything, Atomic, ComplementOf, IntersectionOf, UnionOf, SomeValuesFrom, AllValuesFrom, HasValue, no_concept, also_concept, Claim, SubClassOf, SubPropertyOf, ClassAssertion, PropertyAssertion, NegativePropertyAssertion, SameIndividual, DifferentIndividuals}
+use Rattle.logic_terms.specs.Concept.{Concept, Concepts, Everything, Atomic, ComplementOf, IntersectionOf, UnionOf, SomeValuesFrom, AllValuesFrom, HasValue, no_concept, also_concept, Claim, SubClassOf, SubPropertyOf, ClassAssertion, PropertyAssertion, NegativePropertyAssertion, SameIndividual, DifferentIndividuals, TransitiveProperty}
 use Rattle.absorb.specs.Mentioned.{is_among}
 
 -- whether a class is in negation normal form, has two members in each intersection and union, and names given names alone
@@ -35,3 +35,4 @@ fits names (PropertyAssertion r from to) = is_among names from && is_among names
 fits names (NegativePropertyAssertion r from to) = is_among names from && is_among names to
 fits names (SameIndividual one other) = is_among names one && is_among names other
 fits names (DifferentIndividuals one other) = is_among names one && is_among names other
+fits names (TransitiveProperty word) = true

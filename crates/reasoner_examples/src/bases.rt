@@ -5,7 +5,7 @@
 /// A row of the table.
 pub type Base = (u8, &'static str, u64, u64);
 
-pub static BASES: [Base; 47] = [
+pub static BASES: [Base; 58] = [
     // No city (A) is a country (B), and Bern is a city, a country, or both.
     (1, "AB!< A1:", 1, 1),
     (1, "AB!< A1: B1:", 1, 0),
@@ -49,6 +49,19 @@ pub static BASES: [Base; 47] = [
     (1, "Ar?1: Br*1: AB!<", 3, 0),
     (2, "12r+ A2: Ar?1:", 0, 2),
     (2, "12r+ Ar?1:", 1, 3),
+    // A transitive word: steps of it are a pair of its role, straight and inverted, and of the roles above it.
+    (3, "r@ 12r+ 23r+", 0, 3),
+    (3, "r@ 12r+ 23r+ 13r-", 1, 0),
+    (3, "r@ 12r+ 23r+ 31R-", 1, 0),
+    (3, "r@ 12r+ 23r+ 31r-", 0, 3),
+    (3, "r@ 12r+ 23r+ Ar*1: A!3:", 3, 0),
+    (3, "r@ 12r+ 23r+ AR*3: A!1:", 3, 0),
+    (3, "s@ sr^ 12s+ 23s+ Ar*1: A!3:", 3, 0),
+    (3, "r@ sr^ 12s+ 23s+ As*1: A!3:", 1, 3),
+    (2, "r@ 12r+ 21r+", 0, 2),
+    (2, "r@ 12r+ 21r+ 11r-", 1, 0),
+    // What it carries goes down a path to where it is blocked.
+    (1, "r@ A1: Br*1: AAr?<", 9, 2),
     // Blocked nodes: with edges on, with a label that grows, with a value, and behind choices.
     (1, "A1: AAr?<", 5, 2),
     (1, "A1: AAr?< ABR*<", 10, 2),

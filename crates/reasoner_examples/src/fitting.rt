@@ -34,6 +34,7 @@ fn fits(names: &Names, given: &Axiom) -> bool
         Axiom::NotRelated(_, from, to) => is_given(names, *from) && is_given(names, *to),
         Axiom::Equal(one, other) => is_given(names, *one) && is_given(names, *other),
         Axiom::Differ(one, other) => is_given(names, *one) && is_given(names, *other),
+        Axiom::Transitive(_) => true,
     }
 }
 

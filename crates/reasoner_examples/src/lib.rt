@@ -3,6 +3,7 @@
 
 mod bases;
 mod fitting;
+mod leading;
 mod models;
 mod reading;
 #[cfg(test)]
@@ -10,5 +11,6 @@ mod tests;
 
 pub use bases::{BASES, Base, NESTED};
 pub use fitting::are_fit;
+pub use leading::{LEADING, Worked};
 pub use models::has_small_model;
 pub use reading::{first_names, names_of, read};

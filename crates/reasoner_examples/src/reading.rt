@@ -35,7 +35,8 @@ pub fn first_names(alloc: Global, count: u32) -> Result<Names, Fail> {
 /// The axioms of a text. `T` is everything, `A` to `H` are class words, digits are names, `r`, `s` and `t` are relation
 /// words, and `R`, `S` and `U` their inverses. `!`, `&` and `|` take one or two classes, `?` (some) and `*` (all) a role and
 /// a class, `=` (value) a role and a name. Axioms: `<` two classes, `^` two roles, `:` a class and a name, `+` (related) and
-/// `-` (not related) a role and two names, `~` (equal) and `#` (different) two names. What is taken stands in order.
+/// `-` (not related) a role and two names, `~` (equal) and `#` (different) two names, `@` (transitive) a role. What is taken
+/// stands in order.
 pub fn read(alloc: Global, text: &str) -> Result<Axioms, Fail> {
     let mut shelf = Shelf {
         classes: Vec::new(alloc),
@@ -51,7 +52,7 @@ pub fn read(alloc: Global, text: &str) -> Result<Axioms, Fail> {
             b'R' => shelf.roles.push(role(b'r', true))?,
             b'S' => shelf.roles.push(role(b's', true))?,
             b'U' => shelf.roles.push(role(b't', true))?,
-            b'<' | b'^' | b':' | b'+' | b'-' | b'~' | b'#' => {
+            b'<' | b'^' | b':' | b'+' | b'-' | b'~' | b'#' | b'@' => {
                 let axiom = axiom_of(&mut shelf, *sign)?;
                 shelf.axioms.push(axiom)?;
             }
@@ -96,6 +97,7 @@ fn axiom_of(shelf: &mut Shelf, sign: u8) -> Result<Axiom, Fail> {
             Ok(Axiom::SubRole(last_role(shelf)?, above))
         }
         b':' => Ok(Axiom::Member(class(shelf)?, name(shelf)?)),
+        b'@' => Ok(Axiom::Transitive(last_role(shelf)?.id)),
         _ => {
             let to = name(shelf)?;
             let from = name(shelf)?;

@@ -1,6 +1,7 @@
 // How searches over small knowledge bases end, and what verdicts say of them.
 use crate::bases::{BASES, NESTED};
 use crate::fitting::are_fit;
+use crate::leading::LEADING;
 use crate::models::has_small_model;
 use crate::reading::{first_names, names_of, read};
 use absorb::absorb;
@@ -167,6 +168,26 @@ fn no_small_model_is_overlooked(rt: HostRuntime) -> Result<(), Fail> {
         let axioms = read(alloc, text)?;
         if has_small_model(alloc, &axioms, *names, text)? {
             assert!(rt; *size > 0, "{text}");
+        }
+    }
+    Ok(())
+}
+
+#[test]
+fn transitive_words_have_the_verdicts_of_an_exhaustive_search(rt: HostRuntime) -> Result<(), Fail> {
+    let alloc = rt.alloc();
+    let kept = bare(alloc)?;
+    for (names, text, consistent) in LEADING.iter() {
+        let axioms = read(alloc, text)?;
+        assert_eq!(rt;
+            has_small_model(alloc, &axioms, *names, text)?,
+            *consistent,
+            "{text}"
+        );
+        match judged(alloc, *names, text, &kept, 1_000)? {
+            Verdict::Consistent(_) => assert!(rt; *consistent, "{text}"),
+            Verdict::Inconsistent(_) => assert!(rt; !*consistent, "{text}"),
+            Verdict::Spent(_) => assert!(rt; false, "{text}"),
         }
     }
     Ok(())

@@ -9,7 +9,16 @@ use Rattle.tableau_rules.specs.Searching.{begun_search, next_search, searched, I
 
 -- the knowledge that each element is in a union without members
 abbrev nowhere : Theory
-nowhere = record { names = []; hierarchy = []; assertions = []; edges = []; differences = []; unfoldings = []; general = UnionOf no_concept ∷ [] }
+nowhere = record {
+  names = [];
+  hierarchy = [];
+  transitive = [];
+  assertions = [];
+  edges = [];
+  differences = [];
+  unfoldings = [];
+  general = UnionOf no_concept ∷ [];
+}
 
 as_before : next_search nowhere (begun_search nowhere) ≡ Some (begun_search nowhere)
 as_before = refl

@@ -48,13 +48,16 @@ module _ (k : Theory) (g : Graph) where
       | inl a ↦ found_by rule.Unfold s a
       | inr h2 ↦ elim (from_or (first_by k g rule.All) _ s h2) [
         | inl a ↦ found_by rule.All s a
-        | inr h3 ↦ elim (from_or (first_by k g rule.Value) _ s h3) [
-          | inl a ↦ found_by rule.Value s a
-          | inr h4 ↦ elim (from_or (first_by k g rule.Unit) _ s h4) [
-            | inl a ↦ found_by rule.Unit s a
-            | inr h5 ↦ elim (from_or (first_by k g rule.Or) _ s h5) [
-              | inl a ↦ found_by rule.Or s a
-              | inr a ↦ found_by rule.Some s a
+        | inr h3 ↦ elim (from_or (first_by k g rule.Trans) _ s h3) [
+          | inl a ↦ found_by rule.Trans s a
+          | inr h4 ↦ elim (from_or (first_by k g rule.Value) _ s h4) [
+            | inl a ↦ found_by rule.Value s a
+            | inr h5 ↦ elim (from_or (first_by k g rule.Unit) _ s h5) [
+              | inl a ↦ found_by rule.Unit s a
+              | inr h6 ↦ elim (from_or (first_by k g rule.Or) _ s h6) [
+                | inl a ↦ found_by rule.Or s a
+                | inr a ↦ found_by rule.Some s a
+              ]
             ]
           ]
         ]

@@ -1,8 +1,9 @@
 -- Plain knowledge: each union among its class occurrences has a member.
-use Rattle.std.proofs.Common.{◌≡◌, ◌<◌, ◌&&◌, true, List, [], ◌∷◌, map, length, Some, ◌∙◌, subst, inl, inr, arith}
-use Rattle.std.specs.List.{list_all}
+use Rattle.std.proofs.Common.{◌≡◌, ◌<◌, ◌&&◌, true, List, [], ◌∷◌, map, length, Some, refl, sym, ◌∙◌, subst, inl, inr, arith}
+use Rattle.std.specs.List.{list_all, flat_map}
 use Rattle.std.proofs.lemmas.Bool.{and_parts, and_from, or_cases}
 use Rattle.std.proofs.lemmas.List.Folds.{list_all-append, list_all-map}
+use Rattle.logic_terms.specs.declared.expressions.Role.{Role}
 use Rattle.logic_terms.specs.Complement.{is_normal, is_wide, each_wide, has_two}
 use Rattle.logic_terms.specs.Concept.{Concept, Concepts, Everything, Atomic, ComplementOf, IntersectionOf, UnionOf, SomeValuesFrom, AllValuesFrom, HasValue, no_concept, also_concept}
 use Rattle.logic_terms.specs.Parts.{members_in, union_part}
@@ -10,8 +11,9 @@ use Rattle.logic_terms.specs.Plain.{is_plain, is_plain_theory}
 use Rattle.logic_terms.specs.Same.{same_concept, has_concept}
 use Rattle.logic_terms.specs.Theory.{Theory}
 use Rattle.logic_terms.proofs.SameLemmas.{same_concept-equal}
-use Rattle.tableau_bounds.specs.Enough.{occurrences, member_occurrences, all_occurrences, given_classes}
-use Rattle.tableau_bounds.proofs.Parts.{in_one}
+use Rattle.tableau_rules.specs.Carrying.{along, both_ways}
+use Rattle.tableau_bounds.specs.Enough.{occurrences, member_occurrences, all_occurrences, given_classes, own_occurrences, class_occurrences}
+use Rattle.tableau_bounds.proofs.Parts.{in_one, moved, moved_found}
 use Rattle.tableau_bounds.proofs.Stepping.{UnionsHaveMembers}
 
 top : (d : Concept) (rest : List Concept) → is_wide d ≡ true → ((c : Concept) → has_concept rest c ≡ true → is_wide c ≡ true) → (c : Concept)
@@ -74,5 +76,20 @@ has_member (UnionOf (also_concept d ds)) cs wide part = subst (λ l. 0 < length 
     one a b e = cc
 has_member _ cs wide part = cc
 
+-- another role in its place leaves a class's intersections and unions as they are
+wide_along : (t : Role) (d : Concept) → is_wide (along t d) ≡ is_wide d
+wide_along t (ComplementOf d) = wide_along t d
+wide_along t (AllValuesFrom role d) = refl
+wide_along t (HasValue role name) = refl
+wide_along t _ = refl
+
+wide_occurrence : (k : Theory) → is_plain_theory k ≡ true → (c : Concept) → has_concept (class_occurrences k) c ≡ true → is_wide c ≡ true
+wide_occurrence k plain c h = elim (in_one (own_occurrences k) (moved (own_occurrences k) (flat_map both_ways k.transitive)) c h) [
+  | inl own ↦ wide_all (given_classes k) (given_plain k plain) c own
+  | inr other ↦
+      let found = moved_found (own_occurrences k) (flat_map both_ways k.transitive) c other in
+      subst (λ z. is_wide z ≡ true) (sym found.4) (wide_along found.0 found.1 ∙ wide_all (given_classes k) (given_plain k plain) found.1 found.3)
+]
+
 pub unions_have_members : (k : Theory) → is_plain_theory k ≡ true → UnionsHaveMembers k
-unions_have_members k plain c cs h part = has_member c cs (wide_all (given_classes k) (given_plain k plain) c h) part
+unions_have_members k plain c cs h part = has_member c cs (wide_occurrence k plain c h) part

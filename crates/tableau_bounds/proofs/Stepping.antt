@@ -1,7 +1,7 @@
 -- What each step does to a branch.
-use Rattle.std.proofs.Common.{◌≡◌, ℕ, zero, suc, ◌+◌, ◌<◌, ◌≤◌, ◌==◌, ◌&&◌, ◌⊎◌, Bool, true, false, List, [], ◌∷◌, ◌++◌, length, set, cond, Option, Some, None, slice_get, refl, sym, ap, ◌∙◌, subst, inl, inr, arith, length-append, length-set, append-nil}
+use Rattle.std.proofs.Common.{◌≡◌, ℕ, zero, suc, ◌+◌, ◌<◌, ◌≤◌, ◌==◌, ◌&&◌, ◌⊎◌, Bool, true, false, List, [], ◌∷◌, ◌++◌, map, filter, length, set, cond, Option, Some, None, slice_get, refl, sym, ap, ◌∙◌, subst, inl, inr, arith, length-append, length-set, append-nil}
 use Rattle.std.specs.Prelude.{not, nat_lt, option_to_list}
-use Rattle.std.specs.List.{list_any}
+use Rattle.std.specs.List.{list_any, flat_map}
 use Rattle.std.specs.Option.{option_map_or, option_and_then, option_or}
 use Rattle.std.proofs.lemmas.Bool.{cases_eq, cases_lt, and_parts, and_from, or_cases, or_left, or_right, eqb-true, eq-eqb, not-true}
 use Rattle.std.proofs.lemmas.Option.{slice_get_within, slice_get_past}
@@ -24,11 +24,12 @@ use Rattle.tableau_rules.specs.declared.step.Step.{Step}
 use Rattle.tableau_rules.specs.First.{first_below, where_true}
 use Rattle.tableau_rules.specs.Graph.{Graph, Vertex, label_at, class_at, parent_of}
 use Rattle.tableau_rules.specs.Neighbours.{node_of, makes_neighbour, is_neighbour}
+use Rattle.tableau_rules.specs.Carrying.{role_of_all, along, both_ways, carriers, carried}
 use Rattle.tableau_rules.specs.Clashes.{passes}
 use Rattle.tableau_rules.specs.Blocking.{is_blocked, is_indirectly_blocked}
 use Rattle.tableau_rules.specs.Rules.{lacks_some, lacks_all, unfoldings_of, open_members, unit_member, serves, needs, row, site, applies, with_classes, adding, with_edge, with_node, choices_for, choices, effect, after}
 use Rattle.tableau_bounds.specs.Enough.{class_occurrences}
-use Rattle.tableau_bounds.proofs.Parts.{Within, general_within, unfoldings_within, intersection_within, union_within, some_within, all_class_within}
+use Rattle.tableau_bounds.proofs.Parts.{Within, general_within, unfoldings_within, intersection_within, union_within, some_within, all_class_within, along_within, carried_within, any_kept}
 use Rattle.tableau_bounds.proofs.Labels.{filter_within, one_within, new_classes, only_classes, BeginsWith, with_classes_begins, lacking_grows, lacks_one, lacks_member, Unique, unique_classes}
 
 -- whether the node of a value class is a neighbour by its role
@@ -275,6 +276,33 @@ unit_found label cs pos = go (slice_get (open_members label cs) 0) refl
     go (Some d) is = (d, refl, filter_within (λ c. not (has_concept label (complement c))) cs d (has_here (open_members label cs) 0 d is))
     go None is = let first = there_is cs 0 pos in (first.0, first.1, has_here cs 0 first.0 first.1)
 
+-- a role by which y lacks what is carried to it is one by which y is a neighbour
+lacks_carried : (k : Theory) (g : Graph) (c : Concept) (x y : ℕ) (ts : List Role) → list_any (λ t. needs k g t (along t c) x y) ts ≡ true
+    → lacks_some (label_at g y) (map (λ t. along t c) (filter (λ t. is_neighbour k g t x y) ts)) ≡ true
+lacks_carried k g c x y [] h = cc
+lacks_carried k g c x y (t ∷ ts) h =
+    go (is_neighbour k g t x y) refl (or_cases (needs k g t (along t c) x y) (list_any (λ s. needs k g s (along s c) x y) ts) h) (lacks_carried k g c x y ts)
+  where
+    others : List Concept
+    others = map (λ s. along s c) (filter (λ s. is_neighbour k g s x y) ts)
+
+    lacks : needs k g t (along t c) x y ≡ true → not (has_concept (label_at g y) (along t c)) ≡ true
+    lacks here =
+        (and_parts (not (is_indirectly_blocked k g y)) (not (has_concept (label_at g y) (along t c)))
+        (and_parts (is_neighbour k g t x y) (not (is_indirectly_blocked k g y) && not (has_concept (label_at g y) (along t c))) here).1).1
+
+    near : needs k g t (along t c) x y ≡ true → is_neighbour k g t x y ≡ true
+    near here = (and_parts (is_neighbour k g t x y) (not (is_indirectly_blocked k g y) && not (has_concept (label_at g y) (along t c))) here).0
+
+    go : (b : Bool) → is_neighbour k g t x y ≡ b → (needs k g t (along t c) x y ≡ true) ⊎ (list_any (λ s. needs k g s (along s c) x y) ts ≡ true)
+        → (list_any (λ s. needs k g s (along s c) x y) ts ≡ true → lacks_some (label_at g y) others ≡ true)
+        → lacks_some (label_at g y) (map (λ s. along s c) (cond b (t ∷ filter (λ s. is_neighbour k g s x y) ts) (filter (λ s. is_neighbour k g s x y) ts)))
+        ≡ true
+    go true e (inl here) rest = or_left (not (has_concept (label_at g y) (along t c))) (lacks_some (label_at g y) others) (lacks here)
+    go true e (inr later) rest = or_right (not (has_concept (label_at g y) (along t c))) (lacks_some (label_at g y) others) (rest later)
+    go false e (inl here) rest = let is : is_neighbour k g t x y ≡ true = near here in cc
+    go false e (inr later) rest = rest later
+
 -- each union among the class occurrences has a member
 abbrev pub UnionsHaveMembers : Theory → Type 0
 UnionsHaveMembers k = (c : Concept) (cs : List Concept) → has_concept (class_occurrences k) c ≡ true → union_part c ≡ Some cs → 0 < length cs
@@ -316,6 +344,25 @@ module _ (k : Theory) (g : Graph) (filled : UnionsHaveMembers k) (inside : (y : 
           subst (λ z. IsStep k g (adding g z (p.1 ∷ []))) is.1
           (adding_step k g found.0 (p.1 ∷ []) found.1 (lacks_one (label_at g found.0) p.1 (not-true (has_concept (label_at g found.0) p.1) two.1))
           (one_within p.1 (class_occurrences k) (all_class_within k c p (inside x c has) part)))
+  effect_step rule.Trans x c y choice has applies choose = go (role_of_all c) applies
+    where
+      within : (role : Role) (z : ℕ) → Within (carried k g role c x z) (class_occurrences k)
+      within role z =
+          carried_within (class_occurrences k) c (filter (λ t. is_neighbour k g t x z) (carriers k role))
+          (λ t there. along_within k c t (inside x c has)
+          (any_kept (λ s. same_role s t) (λ s. is_below k s role) (flat_map both_ways k.transitive)
+          (any_kept (λ s. same_role s t) (λ s. is_neighbour k g s x z) (carriers k role) there)))
+
+      go : (o : Option Role)
+          → option_and_then (λ role. first_below (length g.nodes) (λ z. where_true (list_any (λ t. needs k g t (along t c) x z) (carriers k role)) z)) o
+          ≡ Some y
+          → IsStep k g (option_map_or (λ role. adding g y (carried k g role c x y)) o g)
+      go None on = cc
+      go (Some role) on =
+          let found = found_below (length g.nodes) (λ z. where_true (list_any (λ t. needs k g t (along t c) x z) (carriers k role)) z) y on in
+          let is = where_parts (list_any (λ t. needs k g t (along t c) x found.0) (carriers k role)) found.0 y found.2 in
+          subst (λ z. IsStep k g (adding g z (carried k g role c x z))) is.1
+          (adding_step k g found.0 (carried k g role c x found.0) found.1 (lacks_carried k g c x found.0 (carriers k role) is.0) (within role found.0))
   effect_step rule.Value x c y choice has applies choose = go (value_part c) refl applies
     where
       inner : (p : Role × WordId) → value_part c ≡ Some p → (o : Option ℕ) → node_of k p.1 ≡ o

@@ -1,7 +1,9 @@
 -- How many rule applications always end the systematic search.
 use Rattle.std.specs.Prelude.{ℕ, ◌+◌, ◌*◌, ◌^◌, List, [], ◌∷◌, ◌++◌, map, length}
 use Rattle.logic_terms.specs.Concept.{Concept, Concepts, Everything, Atomic, ComplementOf, IntersectionOf, UnionOf, SomeValuesFrom, AllValuesFrom, HasValue, no_concept, also_concept}
+use Rattle.std.specs.List.{flat_map}
 use Rattle.logic_terms.specs.Theory.{Theory}
+use Rattle.tableau_rules.specs.Carrying.{along, both_ways}
 use Rattle.tableau_rules.specs.Branches.{start}
 
 -- a class and its parts, one for each occurrence
@@ -30,10 +32,14 @@ abbrev pub given_classes : Theory → List Concept
 given_classes k = map (λ e. e.1) k.assertions ++ (map (λ e. e.1) k.unfoldings ++ k.general)
 
 -- the class occurrences of the knowledge, parts of classes included
-abbrev pub class_occurrences : Theory → List Concept
-class_occurrences k = all_occurrences (given_classes k)
+abbrev pub own_occurrences : Theory → List Concept
+own_occurrences k = all_occurrences (given_classes k)
 
--- how many there are
+-- these, and each of them along each transitive role: labels have no other classes
+abbrev pub class_occurrences : Theory → List Concept
+class_occurrences k = own_occurrences k ++ flat_map (λ t. map (along t) (own_occurrences k)) (flat_map both_ways k.transitive)
+
+-- how many there are: c * (1 + 2 * t), where c is the number of the first and t that of the transitive words
 abbrev pub class_count : Theory → ℕ
 class_count k = length (class_occurrences k)
 

@@ -1,4 +1,5 @@
 pub mod Ancestors
+pub mod Carriers
 pub mod Climbing
 pub mod Firsts
 pub mod Growing

@@ -19,6 +19,7 @@ use Rattle.tableau_rules.specs.First.{first_below, where_true}
 use Rattle.tableau_rules.specs.Graph.{Graph, Vertex, label_at, class_at}
 use Rattle.tableau_rules.specs.Neighbours.{node_of, is_neighbour}
 use Rattle.tableau_rules.specs.Blocking.{is_blocked, is_indirectly_blocked}
+use Rattle.tableau_rules.specs.Carrying.{role_of_all, along, carriers, carried}
 
 -- whether one of these classes is missing in a label, and whether all are
 abbrev pub lacks_some : List Concept → List Concept → Bool
@@ -52,6 +53,8 @@ abbrev pub row : Theory → Graph → Rule → ℕ → Concept → Option ℕ
 row k g rule.And x c = option_and_then (λ cs. where_true (lacks_some (label_at g x) cs) 0) (intersection_part c)
 row k g rule.Unfold x c = option_and_then (λ word. where_true (lacks_some (label_at g x) (unfoldings_of k word)) 0) (word_part c)
 row k g rule.All x c = option_and_then (λ p. first_below (length g.nodes) (λ y. where_true (needs k g p.0 p.1 x y) y)) (all_part c)
+row k g rule.Trans x c =
+    option_and_then (λ role. first_below (length g.nodes) (λ y. where_true (list_any (λ t. needs k g t (along t c) x y) (carriers k role)) y)) (role_of_all c)
 row k g rule.Value x c =
     option_and_then (λ p. option_and_then (λ y. where_true (not (is_blocked k g x) && not (is_neighbour k g p.0 x y)) 0) (node_of k p.1)) (value_part c)
 row k g rule.Unit x c =
@@ -83,8 +86,8 @@ first_by k g r = first_below (length g.nodes) (first_at k g r)
 -- the first applicable step, by rule, then node, then place in the label
 abbrev pub first_step : Theory → Graph → Option Step
 first_step k g =
-    option_or (first_by k g rule.And) (option_or (first_by k g rule.Unfold) (option_or (first_by k g rule.All) (option_or (first_by k g rule.Value)
-    (option_or (first_by k g rule.Unit) (option_or (first_by k g rule.Or) (first_by k g rule.Some))))))
+    option_or (first_by k g rule.And) (option_or (first_by k g rule.Unfold) (option_or (first_by k g rule.All) (option_or (first_by k g rule.Trans)
+    (option_or (first_by k g rule.Value) (option_or (first_by k g rule.Unit) (option_or (first_by k g rule.Or) (first_by k g rule.Some)))))))
 
 -- a label with a class that it may have already, and with each of several
 abbrev pub with_class : List Concept → Concept → List Concept
@@ -127,6 +130,7 @@ abbrev pub effect : Theory → Graph → Rule → ℕ → Concept → ℕ → �
 effect k g rule.And x c y choice = option_map_or (adding g x) (intersection_part c) g
 effect k g rule.Unfold x c y choice = option_map_or (λ word. adding g x (unfoldings_of k word)) (word_part c) g
 effect k g rule.All x c y choice = option_map_or (λ p. adding g y (p.1 ∷ [])) (all_part c) g
+effect k g rule.Trans x c y choice = option_map_or (λ role. adding g y (carried k g role c x y)) (role_of_all c) g
 effect k g rule.Value x c y choice =
     option_map_or (λ p. option_map_or (λ z. with_edge g (record { from = x; role = p.0; to = z })) (node_of k p.1) g) (value_part c) g
 effect k g rule.Unit x c y choice = option_map_or (λ cs. adding g x (option_to_list (unit_member (label_at g x) cs))) (union_part c) g

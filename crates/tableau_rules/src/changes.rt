@@ -5,6 +5,7 @@ ghost use Rattle.logic_terms.specs.Parts.{word_part, intersection_part, union_pa
 ghost use Rattle.logic_terms.specs.Known.{theory_of};
 ghost use Rattle.logic_terms.specs.Shown.{concept_of, concepts_of};
 ghost use Rattle.tableau_rules.specs.Branches.{IsBranch};
+ghost use Rattle.tableau_rules.specs.Carrying.{role_of_all, carried};
 ghost use Rattle.tableau_rules.specs.Changes.{changed};
 ghost use Rattle.tableau_rules.specs.Graph.{label_at};
 ghost use Rattle.tableau_rules.specs.Rules.{adding, with_edge, with_node, applies, choices_for, choices, effect, after, with_classes, unfoldings_of, unit_member};
@@ -13,6 +14,7 @@ ghost use Rattle.tableau_rules.specs.Shown.{graph_of};
 ghost use Rattle.tableau_rules.specs.declared.step.Rule.TheVariants as rule;
 
 use crate::branch::{Branch, Edge, Node};
+use crate::carrying::{carried, role_of_all};
 use crate::grown::{missing, missing_of, missing_unfoldings, unit_member};
 use crate::names::node_of;
 use crate::starting::label_with;
@@ -47,6 +49,7 @@ fn choices_for(rule: Rule, class: &Class) -> u64
         Rule::And => 1,
         Rule::Unfold => 1,
         Rule::All => 1,
+        Rule::Trans => 1,
         Rule::Value => 1,
         Rule::Unit => 1,
         Rule::Some => 1,
@@ -110,6 +113,7 @@ fn planned_by(
         Rule::And => by_and(b, node, class),
         Rule::Unfold => by_unfold(k, b, node, class),
         Rule::All => by_all(b, step.other, class),
+        Rule::Trans => by_trans(k, b, node, step.other, class),
         Rule::Value => by_value(k, b, node, class),
         Rule::Unit => by_unit(b, node, class),
         Rule::Or => by_or(b, node, class, choice),
@@ -143,6 +147,26 @@ fn by_all(b: &Branch, other: u64, class: &Class) -> Result<Change, Memory>
 {
     match class.universal() {
         Some(parts) => growing_by(b, other, Some(parts.1)),
+        None => Ok(Change::Nothing),
+    }
+}
+
+fn by_trans(
+    k: &Knowledge,
+    b: &Branch,
+    node: u64,
+    other: u64,
+    class: &Class,
+) -> Result<Change, Memory>
+    ensures { IfOk result (λ change. changed (graph_of b.now) change
+        ≡ option_map_or (λ role. adding (graph_of b.now) other (carried (theory_of k.now) (graph_of b.now) role (concept_of class.now) node other))
+        (role_of_all (concept_of class.now)) (graph_of b.now)) }
+{
+    match role_of_all(class) {
+        Some(role) => {
+            let classes = carried(k, b, role, class, node, other)?;
+            growing(b, other, classes.as_slice())
+        }
         None => Ok(Change::Nothing),
     }
 }

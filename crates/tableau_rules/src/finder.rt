@@ -23,6 +23,9 @@ pub fn applicable(k: &Knowledge, b: &Branch) -> Option<Step>
     if let Some(step) = first_by(k, b, Rule::All) {
         return Some(step);
     }
+    if let Some(step) = first_by(k, b, Rule::Trans) {
+        return Some(step);
+    }
     if let Some(step) = first_by(k, b, Rule::Value) {
         return Some(step);
     }
@@ -57,8 +60,8 @@ fn first_by(k: &Knowledge, b: &Branch, rule: Rule) -> Option<Step>
     None
 }
 
-// The first step by a rule at a node.
-fn first_at(k: &Knowledge, b: &Branch, rule: Rule, node: u64) -> Option<Step>
+/// The first step by a rule at a node: that of the first place in its label. It takes no memory.
+pub fn first_at(k: &Knowledge, b: &Branch, rule: Rule, node: u64) -> Option<Step>
     ensures { result ≡ first_at (theory_of k.now) (graph_of b.now) rule node }
 {
     for class in 0..b.label_len(node) {

@@ -3,6 +3,7 @@
 
 mod blocking;
 mod branch;
+mod carrying;
 mod changes;
 mod clashes;
 mod edges;
@@ -17,9 +18,10 @@ mod step;
 
 pub use blocking::{is_blocked, is_directly_blocked, is_indirectly_blocked};
 pub use branch::{Branch, Edge, Node};
+pub use carrying::role_of_all;
 pub use changes::{apply, choices};
 pub use clashes::{clash, clash_at_node, is_clash};
-pub use finder::{applicable, applies};
+pub use finder::{applicable, applies, first_at};
 pub use label::same_set;
 pub use names::{node_of, root_count};
 pub use neighbour::{is_neighbour, makes_neighbour};

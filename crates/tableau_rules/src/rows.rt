@@ -6,17 +6,21 @@ ghost use Rattle.logic_terms.specs.Interpretation.{is_word};
 ghost use Rattle.logic_terms.specs.Known.{theory_of};
 ghost use Rattle.logic_terms.specs.Meaning.{some_below};
 ghost use Rattle.logic_terms.specs.Same.{has_concept};
+ghost use Rattle.logic_terms.specs.Theory.{is_below};
 ghost use Rattle.logic_terms.specs.Shown.{concept_of, concepts_of};
 ghost use Rattle.tableau_rules.specs.Shown.{graph_of};
 ghost use Rattle.tableau_rules.specs.First.{first_below, where_true};
 ghost use Rattle.tableau_rules.specs.Graph.{label_at};
 ghost use Rattle.tableau_rules.specs.Blocking.{is_indirectly_blocked};
+ghost use Rattle.tableau_rules.specs.Carrying.{role_of_all, along, both_ways, carriers};
+ghost use Rattle.tableau_rules.specs.Least.{lesser_of};
 ghost use Rattle.tableau_rules.specs.Rules.{lacks_some, unfoldings_of, needs, serves, row, site};
 ghost use Rattle.tableau_rules.specs.Touching.{reaches};
 ghost use Rattle.tableau_rules.specs.declared.step.Rule.TheVariants as rule;
 
 use crate::blocking::{is_blocked, is_indirectly_blocked};
 use crate::branch::{Branch, Edge};
+use crate::carrying::{has_along, role_of_all};
 use crate::label::{has, lacks_all_of, lacks_some_of, leaves_at_most_one};
 use crate::names::node_of;
 use crate::neighbour::{far_end, is_neighbour, leads_on};
@@ -42,6 +46,7 @@ fn row(k: &Knowledge, b: &Branch, rule: Rule, node: u64, class: &Class) -> Optio
         Rule::And => by_and(k, b, node, class),
         Rule::Unfold => by_unfold(k, b, node, class),
         Rule::All => by_all(k, b, node, class),
+        Rule::Trans => by_trans(k, b, node, class),
         Rule::Value => by_value(k, b, node, class),
         Rule::Unit => by_unit(k, b, node, class),
         Rule::Or => by_or(k, b, node, class),
@@ -126,6 +131,102 @@ fn is_in_need(k: &Knowledge, b: &Branch, role: Role, class: &Class, node: u64, e
     leads_on(k, b, role, node, edge)
         && !has(b.label(other), class)
         && !is_indirectly_blocked(k, b, other)
+}
+
+fn by_trans(k: &Knowledge, b: &Branch, node: u64, class: &Class) -> Option<u64>
+    ensures { result ≡ row (theory_of k.now) (graph_of b.now) rule.Trans node (concept_of class.now) }
+{
+    match role_of_all(class) {
+        Some(role) => first_to_get(k, b, role, class, node),
+        None => None,
+    }
+}
+
+// The least node that lacks what a transitive role below this one carries to it.
+fn first_to_get(k: &Knowledge, b: &Branch, role: Role, class: &Class, node: u64) -> Option<u64>
+    ensures { result ≡ first_below (length (graph_of b.now).nodes)
+        (λ y. where_true (list_any (λ t. needs (theory_of k.now) (graph_of b.now) t (along t (concept_of class.now)) node y)
+        (carriers (theory_of k.now) role)) y) }
+{
+    let mut least = None;
+    for word in k.transitive() {
+        let plain = Role {
+            id: *word,
+            inverted: false,
+        };
+        let there = first_by(k, b, role, plain, class, node);
+        let back = first_by(k, b, role, plain.inverse(), class, node);
+        least = lesser_of(lesser_of(least, there), back);
+    }
+    least
+}
+
+// The least node that lacks what a role carries to it, if the role is below this one.
+fn first_by(
+    k: &Knowledge,
+    b: &Branch,
+    role: Role,
+    carrier: Role,
+    class: &Class,
+    node: u64,
+) -> Option<u64>
+    ensures { result ≡ first_below (length (graph_of b.now).nodes)
+        (λ y. where_true (is_below (theory_of k.now) carrier role
+        && needs (theory_of k.now) (graph_of b.now) carrier (along carrier (concept_of class.now)) node y) y) }
+{
+    if k.is_below(carrier, role) {
+        first_to_get_by(k, b, carrier, class, node)
+    } else {
+        None
+    }
+}
+
+// The least neighbour by the carrier that is not indirectly blocked and lacks the class along it.
+fn first_to_get_by(
+    k: &Knowledge,
+    b: &Branch,
+    carrier: Role,
+    class: &Class,
+    node: u64,
+) -> Option<u64>
+    ensures { result ≡ first_below (length (graph_of b.now).nodes)
+        (λ y. where_true (needs (theory_of k.now) (graph_of b.now) carrier (along carrier (concept_of class.now)) node y) y) }
+{
+    let mut least = None;
+    for edge in b.edges_at(node) {
+        if lacks_along(k, b, carrier, class, node, *edge) {
+            least = Some(lesser(least, far_end(node, *edge)));
+        }
+    }
+    least
+}
+
+fn lacks_along(
+    k: &Knowledge,
+    b: &Branch,
+    carrier: Role,
+    class: &Class,
+    node: u64,
+    edge: Edge,
+) -> bool
+    ensures { result ≡ reaches (theory_of k.now) carrier (length (graph_of b.now).nodes) node
+        (λ y. not (is_indirectly_blocked (theory_of k.now) (graph_of b.now) y)
+        && not (has_concept (label_at (graph_of b.now) y) (along carrier (concept_of class.now)))) edge }
+{
+    let other = far_end(node, edge);
+    leads_on(k, b, carrier, node, edge)
+        && !has_along(b.label(other), carrier, class)
+        && !is_indirectly_blocked(k, b, other)
+}
+
+// The lesser of two numbers, where there are any.
+fn lesser_of(one: Option<u64>, two: Option<u64>) -> Option<u64>
+    ensures { result ≡ lesser_of one two }
+{
+    match two {
+        Some(other) => Some(lesser(one, other)),
+        None => one,
+    }
 }
 
 fn by_value(k: &Knowledge, b: &Branch, node: u64, class: &Class) -> Option<u64>

@@ -8,6 +8,7 @@ pub enum Rule {
     And,
     Unfold,
     All,
+    Trans,
     Value,
     Unit,
     Or,
@@ -21,7 +22,7 @@ pub struct Step {
     pub node: u64,
     /// The class's place in the label.
     pub class: u64,
-    /// The neighbour that `Rule::All` adds to, and 0 for every other rule.
+    /// The neighbour that `Rule::All` or `Rule::Trans` adds to, and 0 for every other rule.
     pub other: u64,
 }
 

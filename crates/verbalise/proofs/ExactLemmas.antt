@@ -2,7 +2,7 @@
 use Rattle.std.proofs.Common.{◌≡◌, ◌&&◌, Bool, true, false, List, [], ◌∷◌, IsTrue, ◌↔◌, refl, sym, ap, ◌∙◌}
 use Rattle.std.proofs.lemmas.Bool.{and_parts, and_from}
 use Rattle.wiki_base.specs.declared.numbers.WordId.{WordId}
-use Rattle.logic_terms.specs.Concept.{Claim, SubClassOf, SubPropertyOf, ClassAssertion, PropertyAssertion, NegativePropertyAssertion, SameIndividual, DifferentIndividuals}
+use Rattle.logic_terms.specs.Concept.{Claim, SubClassOf, SubPropertyOf, ClassAssertion, PropertyAssertion, NegativePropertyAssertion, SameIndividual, DifferentIndividuals, TransitiveProperty}
 use Rattle.logic_terms.specs.Interpretation.{is_word}
 use Rattle.logic_terms.specs.Same.{same_role, same_concept}
 use Rattle.logic_terms.proofs.SameLemmas.{word_equal, role_equal, same_concept-equal, same_word, same_role-self, same_concept-self}
@@ -34,6 +34,7 @@ same_claim-equal (NegativePropertyAssertion r a b) (NegativePropertyAssertion s 
     ap (λ k. NegativePropertyAssertion k a b) (role_equal r s p.0) ∙ words_equal (NegativePropertyAssertion s) a b c d p.1
 same_claim-equal (SameIndividual a b) (SameIndividual c d) h = words_equal SameIndividual a b c d h
 same_claim-equal (DifferentIndividuals a b) (DifferentIndividuals c d) h = words_equal DifferentIndividuals a b c d h
+same_claim-equal (TransitiveProperty v) (TransitiveProperty w) h = ap TransitiveProperty (word_equal v w h)
 same_claim-equal _ _ h = cc
 
 -- each axiom is the same as itself
@@ -48,6 +49,7 @@ same_claim-self (PropertyAssertion r a b) = ap (λ x. x && (is_word a a && is_wo
 same_claim-self (NegativePropertyAssertion r a b) = ap (λ x. x && (is_word a a && is_word b b)) (same_role-self r) ∙ words_self a b
 same_claim-self (SameIndividual a b) = words_self a b
 same_claim-self (DifferentIndividuals a b) = words_self a b
+same_claim-self (TransitiveProperty w) = same_word w
 
 -- axioms are just this one exactly where the test says so
 pub just-is : (claims : List Claim) (claim : Claim) → are_just claims claim ≡ true → claims ≡ claim ∷ []

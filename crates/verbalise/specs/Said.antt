@@ -5,7 +5,7 @@ use Rattle.std.specs.Prelude.{ℕ, Bool, true, false, List, [], Some, None, if�
 use Rattle.wiki_base.specs.declared.numbers.WordId.{WordId}
 use Rattle.lexicon.specs.declared.words.Word.{Word}
 use Rattle.logic_terms.specs.declared.expressions.Role.{Role}
-use Rattle.logic_terms.specs.Concept.{Concept, Concepts, Everything, Atomic, ComplementOf, IntersectionOf, UnionOf, SomeValuesFrom, AllValuesFrom, HasValue, no_concept, also_concept, Claim, SubClassOf, SubPropertyOf, ClassAssertion, PropertyAssertion, NegativePropertyAssertion, SameIndividual, DifferentIndividuals}
+use Rattle.logic_terms.specs.Concept.{Concept, Concepts, Everything, Atomic, ComplementOf, IntersectionOf, UnionOf, SomeValuesFrom, AllValuesFrom, HasValue, no_concept, also_concept, Claim, SubClassOf, SubPropertyOf, ClassAssertion, PropertyAssertion, NegativePropertyAssertion, SameIndividual, DifferentIndividuals, TransitiveProperty}
 use Rattle.logic_terms.specs.Same.{inverse}
 use Rattle.verbalise.specs.Phrases.{Phrase, ◌⋅◌, the}
 use Rattle.verbalise.specs.Vocabulary.{name, singular, a_singular, plural, third, related, not_related, where_straight, where_inverted}
@@ -66,6 +66,12 @@ inclusion live below above =
     the "if" ⋅ (the "X" ⋅ related live below (the "Y")) ⋅ the "then"
     ⋅ (if above.inverted then the "Y" ⋅ related live (inverse above) (the "X") else the "X" ⋅ related live above (the "Y")) ⋅ the "."
 
+-- a word that leads on: from X to Y and from there to Z, and then from X to Z
+abbrev pub chain : List Word → Role → Phrase
+chain live role =
+    the "if" ⋅ (the "X" ⋅ related live role (the "Y")) ⋅ the "and" ⋅ (the "Y" ⋅ related live role (the "Z")) ⋅ the "then"
+    ⋅ (the "X" ⋅ related live role (the "Z")) ⋅ the "."
+
 -- the sentence of an axiom
 abbrev pub said : List Word → Claim → Phrase
 said live (ClassAssertion c a) = name live a ⋅ membership live c ⋅ the "."
@@ -78,3 +84,4 @@ said live (SubClassOf Everything c) = the "everything" ⋅ phrase live c ⋅ the
 said live (SubClassOf (HasValue role a) (Atomic noun)) = where_inverted role (name live a ⋅ only live role.id noun ⋅ the ".")
 said live (SubClassOf _ _) = None
 said live (SubPropertyOf below above) = where_straight below (inclusion live below above)
+said live (TransitiveProperty word) = chain live (record { id = word; inverted = false })

@@ -2,7 +2,7 @@
 ghost use Rattle.std.specs.Prelude.{◌≡◌, ◌∷◌, [], Some, IfOk};
 ghost use Rattle.wiki_base.specs.Token.{IsToken};
 ghost use Rattle.logic_terms.specs.Shown.{claim_of, concept_of};
-ghost use Rattle.logic_terms.specs.Concept.{Atomic, HasValue, SubClassOf, SubPropertyOf, ClassAssertion, PropertyAssertion, NegativePropertyAssertion, SameIndividual, DifferentIndividuals};
+ghost use Rattle.logic_terms.specs.Concept.{Atomic, HasValue, SubClassOf, SubPropertyOf, ClassAssertion, PropertyAssertion, NegativePropertyAssertion, SameIndividual, DifferentIndividuals, TransitiveProperty};
 ghost use Rattle.verbalise.specs.Phrases.{◌⋅◌, the};
 ghost use Rattle.verbalise.specs.Vocabulary.{related};
 ghost use Rattle.verbalise.specs.Said.{said};
@@ -27,6 +27,7 @@ pub(crate) fn said(alloc: Global, words: &Lexicon, axiom: &Axiom) -> Result<Phra
         Axiom::NotRelated(role, a, b) => relates_not(alloc, words, *role, *a, *b),
         Axiom::Equal(a, b) => equals(alloc, words, *a, *b),
         Axiom::Differ(a, b) => differs(alloc, words, *a, *b),
+        Axiom::Transitive(word) => leads_on(alloc, words, *word),
     }
 }
 
@@ -144,6 +145,21 @@ fn subrole(alloc: Global, words: &Lexicon, below: Role, above: Role) -> Result<P
         of_two(alloc, words, "X", above, "Y")?
     };
     implied(alloc, first, second)
+}
+
+// One word that leads on.
+fn leads_on(alloc: Global, words: &Lexicon, word: WordId) -> Result<Phrase, Memory>
+    ensures { IfOk result (λ sentence. sentence ≡ said words.now.live (TransitiveProperty word)) }
+{
+    let role = Role {
+        id: word,
+        inverted: false,
+    };
+    let first = of_two(alloc, words, "X", role, "Y")?;
+    let second = of_two(alloc, words, "Y", role, "Z")?;
+    let start = then(then(the(alloc, "if")?, first)?, the(alloc, "and")?)?;
+    let start = then(then(start, second)?, the(alloc, "then")?)?;
+    ended(alloc, start, of_two(alloc, words, "X", role, "Z")?)
 }
 
 // A role between two variables.

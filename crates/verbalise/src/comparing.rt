@@ -1,7 +1,7 @@
 // Which axioms are written alike.
 ghost use Rattle.std.specs.Prelude.{◌≡◌, ◌&&◌, map};
 ghost use Rattle.logic_terms.specs.Shown.{claim_of, concept_of};
-ghost use Rattle.logic_terms.specs.Concept.{SubClassOf, SubPropertyOf, ClassAssertion, PropertyAssertion, NegativePropertyAssertion, SameIndividual, DifferentIndividuals};
+ghost use Rattle.logic_terms.specs.Concept.{SubClassOf, SubPropertyOf, ClassAssertion, PropertyAssertion, NegativePropertyAssertion, SameIndividual, DifferentIndividuals, TransitiveProperty};
 ghost use Rattle.logic_terms.specs.Interpretation.{is_word};
 ghost use Rattle.logic_terms.specs.Same.{same_role};
 ghost use Rattle.verbalise.specs.Same.{same_claim, are_just};
@@ -30,6 +30,16 @@ fn is_same(one: &Axiom, other: &Axiom) -> bool
         Axiom::NotRelated(role, from, to) => is_not_related(other, *role, *from, *to),
         Axiom::Equal(one, another) => is_equal(other, *one, *another),
         Axiom::Differ(one, another) => is_differ(other, *one, *another),
+        Axiom::Transitive(word) => is_transitive(other, *word),
+    }
+}
+
+fn is_transitive(axiom: &Axiom, word: WordId) -> bool
+    ensures { result ≡ same_claim (TransitiveProperty word) (claim_of «axiom».now) }
+{
+    match axiom {
+        Axiom::Transitive(other) => word.0 == other.0,
+        _ => false,
     }
 }
 

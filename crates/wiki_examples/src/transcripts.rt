@@ -3,7 +3,7 @@
 // How many steps a search may take where no more is said.
 pub(crate) const BUDGET: u64 = 1_000_000;
 
-pub(crate) static TRANSCRIPTS: [(&str, u64, &str); 12] = [
+pub(crate) static TRANSCRIPTS: [(&str, u64, &str); 13] = [
     (
         "a question is answered",
         BUDGET,
@@ -215,7 +215,7 @@ pub(crate) static TRANSCRIPTS: [(&str, u64, &str); 12] = [
 "#,
     ),
     (
-        "a symmetric verb is stated and a transitive one is outside",
+        "a symmetric verb and a transitive one are stated",
         BUDGET,
         r#"{"do":"word","forms":["border"],"kind":"verb"}
 {"done":"word"}
@@ -224,7 +224,36 @@ pub(crate) static TRANSCRIPTS: [(&str, u64, &str); 12] = [
 {"article":"border","at":0,"do":"axioms"}
 {"axioms":["SubObjectPropertyOf(:border ObjectInverseOf(:border))"],"done":"axioms"}
 {"article":"border","do":"add","text":"If X borders Y and Y borders Z then X borders Z."}
-{"cause":"shared","done":"add","status":"outside"}
+{"done":"add","status":"asserted"}
+{"article":"border","at":1,"do":"axioms"}
+{"axioms":["TransitiveObjectProperty(:border)"],"done":"axioms"}
+"#,
+    ),
+    (
+        "what leads on is denied and is an answer",
+        BUDGET,
+        r#"{"do":"word","forms":["Ann"],"kind":"name"}
+{"done":"word"}
+{"do":"word","forms":["Bob"],"kind":"name"}
+{"done":"word"}
+{"do":"word","forms":["Cid"],"kind":"name"}
+{"done":"word"}
+{"do":"word","forms":["leads","lead","led"],"kind":"verb"}
+{"done":"word"}
+{"article":"Ann","do":"add","text":"If X leads Y and Y leads Z then X leads Z."}
+{"done":"add","status":"asserted"}
+{"article":"Ann","at":0,"do":"axioms"}
+{"axioms":["TransitiveObjectProperty(:lead)"],"done":"axioms"}
+{"article":"Ann","do":"add","text":"Ann leads Bob."}
+{"done":"add","status":"asserted"}
+{"article":"Ann","do":"add","text":"Bob leads Cid."}
+{"done":"add","status":"asserted"}
+{"article":"Ann","do":"add","text":"Ann does not lead Cid."}
+{"done":"add","status":"contradiction"}
+{"article":"Ann","do":"add","text":"Who leads Cid?"}
+{"done":"add","status":"question"}
+{"article":"Ann","do":"read"}
+{"done":"read","revision":5,"sentences":[{"status":"asserted","text":"If X leads Y and Y leads Z then X leads Z."},{"status":"asserted","text":"Ann leads Bob."},{"status":"asserted","text":"Bob leads Cid."},{"status":"contradiction","text":"Ann does not lead Cid."},{"answers":["Ann","Bob"],"status":"question","text":"Who leads Cid?","unknown":[]}]}
 "#,
     ),
     (

@@ -2,6 +2,7 @@
 use Rattle.std.proofs.Common.{◌≡◌, ℕ, zero, suc, ◌==◌, ◌&&◌, ◌||◌, Bool, true, false, List, [], ◌∷◌, ◌++◌, length, map, Option, Some, None, Result, Ok, Err, refl, sym, ap, ◌∙◌}
 use Rattle.std.specs.Prelude.{not, if◌then◌else◌, filter}
 use Rattle.std.specs.List.{list_any, list_all, filter_map, cons_option}
+use Rattle.std.specs.Option.{option_or}
 use Rattle.std.proofs.lemmas.List.Folds.{list_all-append}
 use Rattle.std.proofs.lemmas.Bool.{and_from}
 use Rattle.std.proofs.Math.Bool.{and-true}
@@ -13,7 +14,7 @@ use Rattle.logic_terms.specs.declared.structures.Thing.TheVariants.{Ref, Name}
 use Rattle.logic_terms.specs.declared.expressions.Role.{Role}
 use Rattle.logic_terms.specs.declared.cause.Cause.{Cause}
 use Rattle.logic_terms.specs.declared.cause.Cause.TheVariants.{Shared, Cycle, NoRoot}
-use Rattle.logic_terms.specs.Concept.{Concept, Everything, Atomic, UnionOf, SomeValuesFrom, HasValue, no_concept, also_concept, concepts_from, Claim, SubClassOf, SubPropertyOf, ClassAssertion}
+use Rattle.logic_terms.specs.Concept.{Concept, Everything, Atomic, UnionOf, SomeValuesFrom, HasValue, no_concept, also_concept, concepts_from, Claim, SubClassOf, SubPropertyOf, ClassAssertion, TransitiveProperty}
 use Rattle.logic_terms.specs.Complement.{complement}
 use Rattle.logic_terms.specs.Free.{is_bound}
 use Rattle.logic_terms.specs.Structure.{Condition, Conditions, Structure, IsA, AreRelated, AreSame, Negation, Implication, Disjunction, no_condition, also_condition, structure, conditions_from, condition_list, referents_in}
@@ -22,7 +23,7 @@ use Rattle.ace_to_owl.specs.Outcomes.{next}
 use Rattle.ace_to_owl.specs.Terms.{open_terms, terms_of, terms_in, terms_in_all, terms_in_condition, first_name, referents_among}
 use Rattle.ace_to_owl.specs.Parts.{Part, At, Edge, straight, inverse, intersection, leads, part_at, class_at, tree_fault, class_of_tree}
 use Rattle.ace_to_owl.specs.Rolling.{member, is_foreign, value_part, edge_part, holder, held, negated_class, either_class, negation_part, roll, roll_with, parts, part_of}
-use Rattle.ace_to_owl.specs.Mapping.{without, class_asked, subclass_claim, member_claim, only_condition, only_fact, denied_claim, is_pair, role_claim, plain_claim, alone, other_claim, leading_claim, nameless_claim, named_claim, used_claim, compound_claim, claim_alone, own_terms, together, referents_with, conditions_with, claim_together, claim_at, claims_after, axioms_stated}
+use Rattle.ace_to_owl.specs.Mapping.{without, class_asked, subclass_claim, member_claim, only_condition, only_fact, denied_claim, is_pair, role_claim, subrole_claim, two_conditions, referents_related, lead_on, chain_claim, transitive_claim, plain_claim, alone, other_claim, leading_claim, nameless_claim, named_claim, used_claim, compound_claim, claim_alone, own_terms, together, referents_with, conditions_with, claim_together, claim_at, claims_after, axioms_stated}
 use Rattle.ace_to_owl.proofs.RollMeaning.{Went, went, no_err, ok_same, never_same}
 use Rattle.wiki_parts.proofs.Mentions.{thing_passes, names_pass, names_pass_all, names_pass_in}
 
@@ -278,6 +279,32 @@ module _ (test : WordId → Bool) where
   subrole_passes rs (Some c) None = refl
   subrole_passes rs None q = refl
 
+  chain_ends_passes : (b : Bool) (word : WordId) → maybe_passes (if b then Some (TransitiveProperty word) else None) ≡ true
+  chain_ends_passes true word = refl
+  chain_ends_passes false word = refl
+
+  chain_passes : (rs : List ℕ) (o p q : Option (WordId × ℕ × ℕ)) → maybe_passes (chain_claim rs o p q) ≡ true
+  chain_passes rs (Some one) (Some other) (Some whole) = chain_ends_passes (lead_on rs one other whole || lead_on rs other one whole) one.0
+  chain_passes rs (Some one) (Some other) None = refl
+  chain_passes rs (Some one) None q = refl
+  chain_passes rs None p q = refl
+
+  transitive_passes : (rs : List ℕ) (o : Option (Condition × Condition)) (q : Option Condition)
+      → maybe_passes (elim o [
+        | Some p ↦ elim q [
+          | Some e ↦ chain_claim rs (referents_related p.0) (referents_related p.1) (referents_related e)
+          | None ↦ None
+        ]
+        | None ↦ None
+      ]) ≡ true
+  transitive_passes rs (Some p) (Some e) = chain_passes rs (referents_related p.0) (referents_related p.1) (referents_related e)
+  transitive_passes rs (Some p) None = refl
+  transitive_passes rs None q = refl
+
+  first_passes : (o p : Option Claim) → maybe_passes o ≡ true → maybe_passes p ≡ true → maybe_passes (option_or o p) ≡ true
+  first_passes (Some claim) p h g = h
+  first_passes None p h g = g
+
   as_it_stands_passes : (c : Condition) → names_pass_in test c ≡ true → maybe_passes (plain_claim c) ≡ true
   as_it_stands_passes (IsA noun (Name a)) ok = and-true (test a) ∙ ok
   as_it_stands_passes (IsA noun (Ref r)) ok = refl
@@ -288,7 +315,9 @@ module _ (test : WordId → Bool) where
   as_it_stands_passes (AreSame (Name a) (Ref r)) ok = refl
   as_it_stands_passes (AreSame (Ref r) t) ok = refl
   as_it_stands_passes (Negation k) ok = negation_passes (only_fact k) (fact_passes k ok)
-  as_it_stands_passes (Implication k l) ok = subrole_passes (referents_in k) (only_condition k) (only_fact l)
+  as_it_stands_passes (Implication k l) ok =
+      first_passes (subrole_claim k l) (transitive_claim k l) (subrole_passes (referents_in k) (only_condition k) (only_fact l))
+      (transitive_passes (referents_in k) (two_conditions k) (only_fact l))
   as_it_stands_passes (Disjunction k l) ok = refl
 
   -- the first name among terms

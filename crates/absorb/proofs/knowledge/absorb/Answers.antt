@@ -16,10 +16,12 @@ representatives-requires c =
 pub returns-clause-exact : goal.returns-clause-exact
 returns-clause-exact c =
     absorbed_from (claims_of c.args.axioms.now) c.args.names.now (theory_of c.new.result) c.in_ok-given.given.items c.as_slice.result.now
-    c.in_ok-roles.roles.items c.as_slice-2.result.now
+    c.in_ok-roles.roles.items c.as_slice-2.result.now c.in_ok-transitive.transitive.items c.as_slice-3.result.now
     (c.as_slice.ensures.value ∙ ap (λ s. s.equalities) c.in_ok-pieces.ensures)
     (c.as_slice-2.ensures.value ∙ ap (λ s. s.role_inclusions) c.in_ok-pieces.ensures)
-    c.new.ensures.names c.new.ensures.hierarchy c.in_ok-given.ensures.given c.in_ok-given.ensures.least c.in_ok-roles.ensures.closed
+    c.new.ensures.names c.new.ensures.hierarchy
+    (c.as_slice-3.ensures.value ∙ ap (λ s. s.transitive) c.in_ok-pieces.ensures) c.new.ensures.transitive c.in_ok-transitive.ensures.rising
+    c.in_ok-transitive.ensures.same c.in_ok-given.ensures.given c.in_ok-given.ensures.least c.in_ok-roles.ensures.closed
     c.in_ok-roles.ensures.distinct
     (c.new.ensures.assertions ∙ ap (λ s. s.assertions) c.in_ok-pieces.ensures)
     (c.new.ensures.edges ∙ ap (λ s. s.edges) c.in_ok-pieces.ensures)

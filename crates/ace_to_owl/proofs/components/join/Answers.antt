@@ -1,7 +1,6 @@
 use Rattle.std.proofs.Common.{◌≡◌, take, get_or, sym, ap, ◌∙◌}
 use Rattle.std.proofs.lemmas.List.{take_more}
 use Rattle.ace_to_owl.specs.Moves.{moved, moved_by}
-use Rattle.ace_to_owl.proofs.Labels.{moved_by-append}
 use Rattle.ace_to_owl.proofs.GroupLemmas.{gathered_to, gathered_more}
 use Rattle.ace_to_owl.proofs.components.join.Goals as goal
 

@@ -8,13 +8,13 @@ use Rattle.agenda.proofs.Shapes.{branch_shaped, shaped_neighbours}
 use Rattle.agenda.proofs.Waits.{on_both, waits_more}
 use Rattle.agenda.proofs.queue.rest.Goals as goal
 
-pub returns-then-is_all-clause-there : goal.returns-then-is_all-clause-there
-returns-then-is_all-clause-there c =
+pub returns-then-reaches_out-clause-there : goal.returns-then-reaches_out-clause-there
+returns-then-reaches_out-clause-there c =
     let k = theory_of c.args.k.now in
     let g = graph_of c.args.b.now in
     on_both c.wait_for_blocked.result
     (λ awaited more. rests_all k g (shaped_neighbours k g (branch_shaped k g c.requires.branch)) (is_listed c.wait_for_blocked.new.waiting.items) c.args.node
-    c.args.rule (sym c.is_all.ensures ∙ c.if-is_all.true) c.requires.none
+    c.args.rule (sym c.reaches_out.ensures ∙ c.if-reaches_out.true) c.requires.none
     (waits_more (is_listed c.wait.new.waiting.items) (is_listed c.wait_for_blocked.new.waiting.items) c.args.node more (way_up g c.args.node)
     c.in_ok-wait.ensures.there) awaited)
     c.wait_for_blocked.ensures.there c.wait_for_blocked.ensures.more
@@ -35,4 +35,4 @@ returns-else-sprouts-clause-there c =
     let k = theory_of c.args.k.now in
     let g = graph_of c.args.b.now in
     rests_other k g (shaped_neighbours k g (branch_shaped k g c.requires.branch)) (is_listed c.wait.new.waiting.items) c.args.node c.args.rule
-    (sym c.is_all.ensures ∙ c.if-is_all.false) (sym c.sprouts.ensures ∙ c.if-sprouts.false) c.requires.none c.in_ok-wait.ensures.there
+    (sym c.reaches_out.ensures ∙ c.if-reaches_out.false) (sym c.sprouts.ensures ∙ c.if-sprouts.false) c.requires.none c.in_ok-wait.ensures.there

@@ -1,8 +1,9 @@
-use Rattle.std.proofs.Common.{◌≡◌, List, [], length, sym, ap, ◌∙◌, arith}
+use Rattle.std.proofs.Common.{◌≡◌, [], length, ap, subst, ◌∙◌, arith}
 use Rattle.logic_terms.specs.Known.{theory_of}
 use Rattle.tableau_rules.specs.Shown.{graph_of}
 use Rattle.owl_eval.specs.Given.{lists_in}
 use Rattle.branch_model.specs.Extents.{extents, links}
+use Rattle.branch_model.specs.Related.{Closes}
 use Rattle.branch_model.specs.Named.{named_elements}
 use Rattle.branch_model.proofs.ModelOf.{branch_sound}
 use Rattle.branch_model.proofs.Made.{lists_fit, lists_model}
@@ -23,7 +24,7 @@ new-requires c =
     size_is
     (c.in_ok-names.ensures ∙ ap (λ s. named_elements k s k.names) c.as_slice.ensures.value)
     (c.in_ok-classes.ensures ∙ ap (λ o. extents g 0 o []) c.as_slice-2.ensures.value)
-    (c.in_ok-relations.ensures ∙ ap (λ s. links k s g.edges []) c.as_slice-3.ensures.value)
+    (subst (λ s. Closes k (links k s g.edges []) (lists_in c.in_ok-relations.relations.items)) c.as_slice-3.ensures.value c.in_ok-relations.ensures)
 
 pub returns-clause-model : goal.returns-clause-model
 returns-clause-model c =
@@ -37,5 +38,5 @@ returns-clause-model c =
     size_is
     (c.in_ok-names.ensures ∙ ap (λ s. named_elements k s k.names) c.as_slice.ensures.value)
     (c.in_ok-classes.ensures ∙ ap (λ o. extents g 0 o []) c.as_slice-2.ensures.value)
-    (c.in_ok-relations.ensures ∙ ap (λ s. links k s g.edges []) c.as_slice-3.ensures.value)
+    (subst (λ s. Closes k (links k s g.edges []) (lists_in c.in_ok-relations.relations.items)) c.as_slice-3.ensures.value c.in_ok-relations.ensures)
     c.new.result c.requires.finished c.new.ensures.size c.new.ensures.names c.new.ensures.classes c.new.ensures.relations

@@ -1,7 +1,6 @@
 pub mod Rows
 pub mod Names
 pub mod Notation
-pub mod Words
 pub mod Statements
 pub mod VerbPhrases
 pub mod Predicates

@@ -24,7 +24,44 @@ terminal_texts = codes "." ∷ codes "?" ∷ codes "if" ∷ codes "then" ∷ cod
     codes "X" ∷ codes "Y" ∷ codes "Z" ∷ codes "every" ∷ codes "no" ∷ codes "everything" ∷ codes "nothing" ∷
     codes "what" ∷ codes "which" ∷ []
 
--- the kinds of words, text, and the others in the order of their first occurrence in the rules
+-- The kinds of words, text, and the others in the order of their first occurrence in the rules. What each is:
+-- name: a word that is a name
+-- noun: a word that is a noun
+-- of: a word that is a noun which takes `of`
+-- verb: a word that is a verb
+-- adj: a word that is an adjective, which takes an object
+-- text: a statement with its full stop, or a question with its question mark
+-- s: a statement, without its full stop: a clause, or clauses behind `if` and behind `then`
+-- q: a question, without its question mark
+-- c: a clause: a subject with its verb phrases
+-- cs: clauses with `and` between them
+-- np: a subject
+-- vps: the verb phrases of a subject, with `and` or `or` between them
+-- vpa: verb phrases with `and` between them
+-- vpo: verb phrases with `and` between them, as one of those with `or` between them
+-- vpr: the verb phrases behind an `or`
+-- vp: a verb phrase
+-- obj: an object
+-- rnoun: a referent that a noun introduces
+-- do: `does` or `do`
+-- vi: a verb in the infinitive with its object
+-- be: `is` or `are`
+-- pr: a predicate: what stands behind `is` or `are`
+-- det: `a` or `an`
+-- pb: a noun of a predicate, with what belongs to it
+-- rels: relative clauses, with `and` or `or` between them
+-- term: a name, a variable, or a noun behind `the`
+-- pron: `it` or `itself` as an object
+-- rel: a relative clause
+-- relo: a relative clause, as one of those with `or` between them
+-- relr: the relative clauses behind an `or`
+-- rp: `that` or `who`
+-- qp: a noun phrase with a quantifier, `a` and `something` among them
+-- rname: a referent that a name introduces
+-- rthing: a referent that `something`, `everything`, `nothing`, `what` or `who` introduces
+-- rvar: a referent that a variable introduces
+-- nb: a noun behind a quantifier, with what belongs to it
+-- nq: a noun behind `which`
 abbrev pub category_names : List (List ℕ)
 category_names = codes "name" ∷ codes "noun" ∷ codes "of" ∷ codes "verb" ∷ codes "adj" ∷ codes "text" ∷
     codes "s" ∷ codes "q" ∷ codes "c" ∷ codes "cs" ∷ codes "np" ∷ codes "vps" ∷ codes "vpa" ∷ codes "vpo" ∷

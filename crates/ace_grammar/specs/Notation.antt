@@ -1,15 +1,19 @@
 -- How a rule is written: a label, a head with its features, an arrow, and the elements of the body.
 use Prim.Native.String.{String}
 use Rattle.std.specs.Prelude.{ℕ, true, false, List, [], ◌∷◌, ◌++◌, codes, Some}
+use Rattle.codeco_terms.specs.declared.values.Value.TheVariants.{Atom}
 use Rattle.codeco_terms.specs.declared.values.Term.{Term}
+use Rattle.codeco_terms.specs.declared.values.Term.TheVariants.{Val, Var}
 use Rattle.codeco_terms.specs.declared.categories.Category.{Category}
 use Rattle.codeco_terms.specs.declared.categories.Pattern.{Pattern}
 use Rattle.codeco_terms.specs.declared.elements.Element.{Element}
 use Rattle.codeco_terms.specs.declared.elements.Element.TheVariants.{Terminal}
 use Rattle.codeco_terms.specs.declared.rules.Label.{Label}
 use Rattle.codeco_terms.specs.declared.rules.Rule.{Rule}
-use Rattle.ace_grammar.specs.Names.{place_of, feature_names, terminal_texts}
+use Rattle.ace_grammar.specs.Names.{place_of, feature_names, atom_names, terminal_texts, category_names}
 
+infix 80 ◌∶◌
+infix 80 ◌≔◌
 infixl 70 ◌&◌
 infixl 70 ◌&?id◌
 infix 2 ⟨◌⟩◌⟶◌
@@ -18,7 +22,19 @@ infix 2 ⟨◌⟩◌⟿◌
 abbrev pub token : String → Element
 token s = Terminal (place_of terminal_texts (codes s))
 
--- a category with one more feature: vp & num-sg & sub S is vp(num: sg, sub: S)
+-- a category by its name, without features; category_names says what each is
+abbrev pub cat : String → Category
+cat s = record { name = place_of category_names (codes s); feats = [] }
+
+-- a feature with a variable: sub: S
+abbrev pub ◌∶◌ : String → ℕ → ℕ × Term
+s ∶ x = (place_of feature_names (codes s), Var x)
+
+-- a feature with an atom: num: sg
+abbrev pub ◌≔◌ : String → String → ℕ × Term
+s ≔ a = (place_of feature_names (codes s), Val (Atom (place_of atom_names (codes a))))
+
+-- a category with one more feature: cat "vp" & "num" ≔ "sg" & "sub" ∶ S is vp(num: sg, sub: S)
 abbrev pub ◌&◌ : Category → ℕ × Term → Category
 c & f = record { name = c.name; feats = c.feats ++ f ∷ [] }
 
@@ -26,7 +42,7 @@ c & f = record { name = c.name; feats = c.feats ++ f ∷ [] }
 abbrev pub plain : Category → Pattern
 plain c = record { cat = c; taken = [] }
 
--- a pattern whose id is marked: rnoun & w W &?id I is rnoun(w: W, id: ?I)
+-- a pattern whose id is marked: cat "rnoun" & "w" ∶ W &?id I is rnoun(w: W, id: ?I)
 abbrev pub ◌&?id◌ : Category → ℕ → Pattern
 c &?id x = record { cat = c; taken = (place_of feature_names (codes "id"), x) ∷ [] }
 

@@ -3,52 +3,51 @@ use Rattle.std.specs.Prelude.{List, [], ◌∷◌}
 use Rattle.codeco_terms.specs.declared.elements.Element.TheVariants.{Preterminal, Sub, Position, Forward, Strong, Back, NoBack}
 use Rattle.codeco_terms.specs.declared.rules.Rule.{Rule}
 use Rattle.codeco_terms.specs.declared.rules.Label.TheVariants.{Pass, Refer, Name, Var}
-use Rattle.ace_grammar.specs.Notation.{over-1, over-2, ⟨◌⟩◌⟶◌, ◌&◌, ◌&?id◌, plain, token}
-use Rattle.ace_grammar.specs.Words.{np, term, qp, rname, rnoun, rthing, rvar, obj, pron, $name, $noun, $of, id, sub, w, num-sg, v-x, v-y, v-z}
+use Rattle.ace_grammar.specs.Notation.{over-1, over-2, ⟨◌⟩◌⟶◌, cat, ◌∶◌, ◌≔◌, ◌&◌, ◌&?id◌, plain, token}
 
 unfoldable pub noun_phrases : List Rule
 noun_phrases =
     -- 48
-    (over-1 λ I. ⟨ Pass ⟩ np & id I ⟶ Sub (term & id I) ∷ []) ∷
+    (over-1 λ I. ⟨ Pass ⟩ cat "np" & "id" ∶ I ⟶ Sub (cat "term" & "id" ∶ I) ∷ []) ∷
     -- 49
-    (over-1 λ I. ⟨ Pass ⟩ np & id I ⟶ Sub (qp & id I) ∷ []) ∷
+    (over-1 λ I. ⟨ Pass ⟩ cat "np" & "id" ∶ I ⟶ Sub (cat "qp" & "id" ∶ I) ∷ []) ∷
     -- 50
-    (over-1 λ I. ⟨ Refer ⟩ np & id I ⟶ Back (rname &?id I ∷ rnoun &?id I ∷ rthing &?id I ∷ rvar &?id I ∷ []) [] ∷
+    (over-1 λ I. ⟨ Refer ⟩ cat "np" & "id" ∶ I ⟶ Back (cat "rname" &?id I ∷ cat "rnoun" &?id I ∷ cat "rthing" &?id I ∷ cat "rvar" &?id I ∷ []) [] ∷
     token "it" ∷ []) ∷
     -- 51
-    (⟨ Pass ⟩ obj ⟶ Sub term ∷ []) ∷
+    (⟨ Pass ⟩ cat "obj" ⟶ Sub (cat "term") ∷ []) ∷
     -- 52
-    (⟨ Pass ⟩ obj ⟶ Sub qp ∷ []) ∷
+    (⟨ Pass ⟩ cat "obj" ⟶ Sub (cat "qp") ∷ []) ∷
     -- 53
-    (over-1 λ S. ⟨ Pass ⟩ obj & sub S ⟶ Sub (pron & sub S) ∷ []) ∷
+    (over-1 λ S. ⟨ Pass ⟩ cat "obj" & "sub" ∶ S ⟶ Sub (cat "pron" & "sub" ∶ S) ∷ []) ∷
     -- 54
-    (over-2 λ S I. ⟨ Refer ⟩ pron & sub S ⟶ Back (rname &?id I ∷ rnoun &?id I ∷ rthing &?id I ∷ rvar &?id I ∷
-    []) (plain (rname & id S) ∷ plain (rnoun & id S) ∷ plain (rthing & id S) ∷ plain (rvar & id S) ∷ []) ∷
+    (over-2 λ S I. ⟨ Refer ⟩ cat "pron" & "sub" ∶ S ⟶ Back (cat "rname" &?id I ∷ cat "rnoun" &?id I ∷ cat "rthing" &?id I ∷ cat "rvar" &?id I ∷
+    []) (plain (cat "rname" & "id" ∶ S) ∷ plain (cat "rnoun" & "id" ∶ S) ∷ plain (cat "rthing" & "id" ∶ S) ∷ plain (cat "rvar" & "id" ∶ S) ∷ []) ∷
     token "it" ∷ []) ∷
     -- 55
-    (over-1 λ S. ⟨ Refer ⟩ pron & sub S ⟶ Back (plain (rname & id S) ∷ plain (rnoun & id S) ∷
-    plain (rthing & id S) ∷ plain (rvar & id S) ∷ []) [] ∷ token "itself" ∷ []) ∷
+    (over-1 λ S. ⟨ Refer ⟩ cat "pron" & "sub" ∶ S ⟶ Back (plain (cat "rname" & "id" ∶ S) ∷ plain (cat "rnoun" & "id" ∶ S) ∷
+    plain (cat "rthing" & "id" ∶ S) ∷ plain (cat "rvar" & "id" ∶ S) ∷ []) [] ∷ token "itself" ∷ []) ∷
     -- 56
-    (over-2 λ P W. ⟨ Name ⟩ term & id P ⟶ Preterminal ($name & w W) ∷ Position P ∷ Strong (rname & w W & id P) ∷ []) ∷
+    (over-2 λ P W. ⟨ Name ⟩ cat "term" & "id" ∶ P ⟶ Preterminal (cat "name" & "w" ∶ W) ∷ Position P ∷ Strong (cat "rname" & "w" ∶ W & "id" ∶ P) ∷ []) ∷
     -- 57
-    (over-2 λ I W. ⟨ Refer ⟩ term & id I ⟶ Back (rnoun & w W &?id I ∷ []) [] ∷ token "the" ∷
-    Preterminal ($noun & num-sg & w W) ∷ []) ∷
+    (over-2 λ I W. ⟨ Refer ⟩ cat "term" & "id" ∶ I ⟶ Back (cat "rnoun" & "w" ∶ W &?id I ∷ []) [] ∷ token "the" ∷
+    Preterminal (cat "noun" & "num" ≔ "sg" & "w" ∶ W) ∷ []) ∷
     -- 58
-    (over-2 λ I W. ⟨ Refer ⟩ term & id I ⟶ Back (rnoun & w W &?id I ∷ []) [] ∷ token "the" ∷
-    Preterminal ($of & w W) ∷ []) ∷
+    (over-2 λ I W. ⟨ Refer ⟩ cat "term" & "id" ∶ I ⟶ Back (cat "rnoun" & "w" ∶ W &?id I ∷ []) [] ∷ token "the" ∷
+    Preterminal (cat "of" & "w" ∶ W) ∷ []) ∷
     -- 59
-    (over-1 λ P. ⟨ Var ⟩ term & id P ⟶ NoBack (plain (rvar & v-x) ∷ []) ∷ token "X" ∷ Position P ∷
-    Forward (rvar & v-x & id P) ∷ []) ∷
+    (over-1 λ P. ⟨ Var ⟩ cat "term" & "id" ∶ P ⟶ NoBack (plain (cat "rvar" & "v" ≔ "x") ∷ []) ∷ token "X" ∷ Position P ∷
+    Forward (cat "rvar" & "v" ≔ "x" & "id" ∶ P) ∷ []) ∷
     -- 60
-    (over-1 λ I. ⟨ Refer ⟩ term & id I ⟶ Back (rvar & v-x &?id I ∷ []) [] ∷ token "X" ∷ []) ∷
+    (over-1 λ I. ⟨ Refer ⟩ cat "term" & "id" ∶ I ⟶ Back (cat "rvar" & "v" ≔ "x" &?id I ∷ []) [] ∷ token "X" ∷ []) ∷
     -- 61
-    (over-1 λ P. ⟨ Var ⟩ term & id P ⟶ NoBack (plain (rvar & v-y) ∷ []) ∷ token "Y" ∷ Position P ∷
-    Forward (rvar & v-y & id P) ∷ []) ∷
+    (over-1 λ P. ⟨ Var ⟩ cat "term" & "id" ∶ P ⟶ NoBack (plain (cat "rvar" & "v" ≔ "y") ∷ []) ∷ token "Y" ∷ Position P ∷
+    Forward (cat "rvar" & "v" ≔ "y" & "id" ∶ P) ∷ []) ∷
     -- 62
-    (over-1 λ I. ⟨ Refer ⟩ term & id I ⟶ Back (rvar & v-y &?id I ∷ []) [] ∷ token "Y" ∷ []) ∷
+    (over-1 λ I. ⟨ Refer ⟩ cat "term" & "id" ∶ I ⟶ Back (cat "rvar" & "v" ≔ "y" &?id I ∷ []) [] ∷ token "Y" ∷ []) ∷
     -- 63
-    (over-1 λ P. ⟨ Var ⟩ term & id P ⟶ NoBack (plain (rvar & v-z) ∷ []) ∷ token "Z" ∷ Position P ∷
-    Forward (rvar & v-z & id P) ∷ []) ∷
+    (over-1 λ P. ⟨ Var ⟩ cat "term" & "id" ∶ P ⟶ NoBack (plain (cat "rvar" & "v" ≔ "z") ∷ []) ∷ token "Z" ∷ Position P ∷
+    Forward (cat "rvar" & "v" ≔ "z" & "id" ∶ P) ∷ []) ∷
     -- 64
-    (over-1 λ I. ⟨ Refer ⟩ term & id I ⟶ Back (rvar & v-z &?id I ∷ []) [] ∷ token "Z" ∷ []) ∷
+    (over-1 λ I. ⟨ Refer ⟩ cat "term" & "id" ∶ I ⟶ Back (cat "rvar" & "v" ≔ "z" &?id I ∷ []) [] ∷ token "Z" ∷ []) ∷
     []

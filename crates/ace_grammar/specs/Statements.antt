@@ -3,23 +3,22 @@ use Rattle.std.specs.Prelude.{List, [], ◌∷◌}
 use Rattle.codeco_terms.specs.declared.elements.Element.TheVariants.{Sub, Opener}
 use Rattle.codeco_terms.specs.declared.rules.Rule.{Rule}
 use Rattle.codeco_terms.specs.declared.rules.Label.TheVariants.{Statement, Ask, Pass, If, And, Say}
-use Rattle.ace_grammar.specs.Notation.{over-1, ⟨◌⟩◌⟶◌, ⟨◌⟩◌⟿◌, ◌&◌, token}
-use Rattle.ace_grammar.specs.Words.{text, s, q, c, cs, np, vps, id, num-sg, sub}
+use Rattle.ace_grammar.specs.Notation.{over-1, ⟨◌⟩◌⟶◌, ⟨◌⟩◌⟿◌, cat, ◌∶◌, ◌≔◌, ◌&◌, token}
 
 unfoldable pub statements : List Rule
 statements =
     -- 1
-    (⟨ Statement ⟩ text ⟶ Sub s ∷ token "." ∷ []) ∷
+    (⟨ Statement ⟩ cat "text" ⟶ Sub (cat "s") ∷ token "." ∷ []) ∷
     -- 2
-    (⟨ Ask ⟩ text ⟶ Sub q ∷ token "?" ∷ []) ∷
+    (⟨ Ask ⟩ cat "text" ⟶ Sub (cat "q") ∷ token "?" ∷ []) ∷
     -- 3
-    (⟨ Pass ⟩ s ⟶ Sub c ∷ []) ∷
+    (⟨ Pass ⟩ cat "s" ⟶ Sub (cat "c") ∷ []) ∷
     -- 4
-    (⟨ If ⟩ s ⟿ token "if" ∷ Opener ∷ Sub cs ∷ token "then" ∷ Sub cs ∷ []) ∷
+    (⟨ If ⟩ cat "s" ⟿ token "if" ∷ Opener ∷ Sub (cat "cs") ∷ token "then" ∷ Sub (cat "cs") ∷ []) ∷
     -- 5
-    (⟨ Pass ⟩ cs ⟶ Sub c ∷ []) ∷
+    (⟨ Pass ⟩ cat "cs" ⟶ Sub (cat "c") ∷ []) ∷
     -- 6
-    (⟨ And ⟩ cs ⟶ Sub c ∷ token "and" ∷ Sub cs ∷ []) ∷
+    (⟨ And ⟩ cat "cs" ⟶ Sub (cat "c") ∷ token "and" ∷ Sub (cat "cs") ∷ []) ∷
     -- 7
-    (over-1 λ I. ⟨ Say ⟩ c ⟿ Sub (np & id I) ∷ Sub (vps & num-sg & sub I) ∷ []) ∷
+    (over-1 λ I. ⟨ Say ⟩ cat "c" ⟿ Sub (cat "np" & "id" ∶ I) ∷ Sub (cat "vps" & "num" ≔ "sg" & "sub" ∶ I) ∷ []) ∷
     []
